@@ -1,0 +1,220 @@
+ghost use Rattle.std.specs.Prelude.{◌≡◌, ◌≤◌, ◌%◌, sum, IfOk, false};
+ghost use Rattle.std.specs.List.{list_all};
+ghost use Rattle.presence_base.specs.Names.{is_node_name, is_name_byte, is_short_text, guarded};
+
+use crate::text::Text;
+use std::alloc::{AllocError, Global};
+use std::marker::Model;
+
+/// The longest name of a node, in bytes.
+pub const MAX_NAME_BYTES: usize = 32;
+
+/// The longest topic or key, in bytes of UTF-8.
+pub const MAX_TEXT_BYTES: usize = 255;
+
+/// The name of a node: 1 to 32 lower case letters and digits.
+#[derive(PartialEq, Eq, PartialOrd, Ord, Debug, Drop)]
+pub struct NodeName {
+    text: Text,
+}
+
+impl Model for NodeName {
+    ghost use Rattle.std.specs.Prelude.{List, ℕ, IsTrue};
+    ghost use Rattle.presence_base.specs.Names.{is_node_name};
+
+    ghost Value = { List ℕ };
+
+    ghost view = { λ s. s.text };
+
+    ghost invariant = { λ s. IsTrue (is_node_name s.text) };
+
+    ghost inverse = { λ t. record { text = t } };
+}
+
+impl Clone for NodeName {
+    ghost use Rattle.std.specs.Prelude.{◌≡◌};
+
+    ghost is_clone = { λ s t. t ≡ s };
+
+    fn clone(&self) -> Result<NodeName, AllocError> {
+        let text = self.text.clone()?;
+        Ok(NodeName { text })
+    }
+}
+
+// Whether the byte may stand in a name.
+fn may_be_in_name(byte: u8) -> bool
+    ensures { result ≡ is_name_byte byte }
+{
+    byte.is_ascii_lowercase() || byte.is_ascii_digit()
+}
+
+// Whether each byte may stand in a name.
+fn all_may_be_in_name(bytes: &[u8]) -> bool
+    ensures { result ≡ list_all is_name_byte bytes.now }
+{
+    bytes.iter().all(|b| may_be_in_name(*b))
+}
+
+// Whether these bytes are a name.
+pub(crate) fn is_name(bytes: &[u8]) -> bool
+    ensures { result ≡ is_node_name bytes.now }
+{
+    if bytes.is_empty() || bytes.len() > MAX_NAME_BYTES {
+        return false;
+    }
+    all_may_be_in_name(bytes)
+}
+
+impl NodeName {
+    ghost use Rattle.std.specs.Prelude.{◌≡◌, IfOk, IsTrue, false};
+    ghost use Rattle.presence_base.specs.Names.{is_node_name, guarded};
+
+    /// The name that the text is, or `None` where it is none.
+    pub fn new(alloc: Global, text: &str) -> Result<Option<NodeName>, AllocError>
+        ensures name { IfOk result (λ o. o ≡ guarded (is_node_name text.now) text.now) }
+        ensures none { is_node_name text.now ≡ false → result ≡ Ok None }
+    {
+        if !is_name(text.as_bytes()) {
+            return Ok(None);
+        }
+        let text = Text::new(alloc, text)?;
+        Ok(Some(NodeName { text }))
+    }
+
+    pub fn as_str(&self) -> &str
+        ensures text { result.now ≡ self.now }
+        ensures limits { IsTrue (is_node_name self.now) }
+    {
+        self.text.as_str()
+    }
+}
+
+// The text, where it is no longer than a topic or a key may be.
+fn short_text(alloc: Global, text: &str) -> Result<Option<Text>, AllocError>
+    ensures text { IfOk result (λ o. o ≡ guarded (is_short_text text.now) text.now) }
+    ensures none { is_short_text text.now ≡ false → result ≡ Ok None }
+{
+    if text.is_empty() || text.len() > MAX_TEXT_BYTES {
+        return Ok(None);
+    }
+    Ok(Some(Text::new(alloc, text)?))
+}
+
+/// A topic: a text of 1 to 255 bytes.
+#[derive(PartialEq, Eq, PartialOrd, Ord, Debug, Drop)]
+pub struct Topic {
+    text: Text,
+}
+
+impl Model for Topic {
+    ghost use Rattle.std.specs.Prelude.{List, ℕ, IsTrue};
+    ghost use Rattle.presence_base.specs.Names.{is_short_text};
+
+    ghost Value = { List ℕ };
+
+    ghost view = { λ s. s.text };
+
+    ghost invariant = { λ s. IsTrue (is_short_text s.text) };
+
+    ghost inverse = { λ t. record { text = t } };
+}
+
+impl Clone for Topic {
+    ghost use Rattle.std.specs.Prelude.{◌≡◌};
+
+    ghost is_clone = { λ s t. t ≡ s };
+
+    fn clone(&self) -> Result<Topic, AllocError> {
+        let text = self.text.clone()?;
+        Ok(Topic { text })
+    }
+}
+
+impl Topic {
+    ghost use Rattle.std.specs.Prelude.{◌≡◌, IfOk, IsTrue, false};
+    ghost use Rattle.presence_base.specs.Names.{is_short_text, guarded};
+
+    /// The topic that the text is, or `None` where it is empty or longer than 255 bytes.
+    pub fn new(alloc: Global, text: &str) -> Result<Option<Topic>, AllocError>
+        ensures text { IfOk result (λ o. o ≡ guarded (is_short_text text.now) text.now) }
+        ensures none { is_short_text text.now ≡ false → result ≡ Ok None }
+    {
+        match short_text(alloc, text)? {
+            Some(text) => Ok(Some(Topic { text })),
+            None => Ok(None),
+        }
+    }
+
+    pub fn as_str(&self) -> &str
+        ensures text { result.now ≡ self.now }
+        ensures limits { IsTrue (is_short_text self.now) }
+    {
+        self.text.as_str()
+    }
+}
+
+/// A key under which presences are tracked: a text of 1 to 255 bytes.
+#[derive(PartialEq, Eq, PartialOrd, Ord, Debug, Drop)]
+pub struct Key {
+    text: Text,
+}
+
+impl Model for Key {
+    ghost use Rattle.std.specs.Prelude.{List, ℕ, IsTrue};
+    ghost use Rattle.presence_base.specs.Names.{is_short_text};
+
+    ghost Value = { List ℕ };
+
+    ghost view = { λ s. s.text };
+
+    ghost invariant = { λ s. IsTrue (is_short_text s.text) };
+
+    ghost inverse = { λ t. record { text = t } };
+}
+
+impl Clone for Key {
+    ghost use Rattle.std.specs.Prelude.{◌≡◌};
+
+    ghost is_clone = { λ s t. t ≡ s };
+
+    fn clone(&self) -> Result<Key, AllocError> {
+        let text = self.text.clone()?;
+        Ok(Key { text })
+    }
+}
+
+impl Key {
+    ghost use Rattle.std.specs.Prelude.{◌≡◌, IfOk, IsTrue, false};
+    ghost use Rattle.presence_base.specs.Names.{is_short_text, guarded};
+
+    /// The key that the text is, or `None` where it is empty or longer than 255 bytes.
+    pub fn new(alloc: Global, text: &str) -> Result<Option<Key>, AllocError>
+        ensures text { IfOk result (λ o. o ≡ guarded (is_short_text text.now) text.now) }
+        ensures none { is_short_text text.now ≡ false → result ≡ Ok None }
+    {
+        match short_text(alloc, text)? {
+            Some(text) => Ok(Some(Key { text })),
+            None => Ok(None),
+        }
+    }
+
+    pub fn as_str(&self) -> &str
+        ensures text { result.now ≡ self.now }
+        ensures limits { IsTrue (is_short_text self.now) }
+    {
+        self.text.as_str()
+    }
+}
+
+/// The shard that has the topic: the sum of the topic's bytes modulo the number of shards.
+pub fn shard_of(topic: &Topic, shards: u32) -> u32
+    requires { 1 ≤ shards }
+    ensures { result ≡ sum topic.now % shards }
+{
+    let mut total: u32 = 0;
+    for byte in topic.as_str().as_bytes() {
+        total += u32::from(*byte);
+    }
+    total % shards
+}
