@@ -1,0 +1,9 @@
+use Rattle.std.proofs.Common.{◌≡◌, length}
+use Rattle.dot_context.specs.Forms.{vector_of}
+use Rattle.dot_context.proofs.views.next_range.Given as goal
+
+abbrev pub invariant-loop-replica : goal.invariant-loop-replica
+invariant-loop-replica l = vector_of l.entries ≡ vector_of l.fn.entries
+
+abbrev pub decreases-loop-replica : goal.decreases-loop-replica
+decreases-loop-replica l = length l.entries

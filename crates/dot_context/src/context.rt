@@ -1,0 +1,128 @@
+ghost use Rattle.std.specs.Prelude.{◌≡◌, ◌≤◌, ◌+◌, ℕ, true, false, OnOk, OnErr};
+ghost use Rattle.std.specs.FinSet as set;
+ghost use Rattle.dot_context.specs.Sets.{DotSet, range, without};
+ghost use Rattle.dot_context.specs.Forms.{vector_of, cloud_of, HasOneForm, IfFormed};
+
+use crate::replicas::{covers_dot, join_all, put_range, take_out, top_of_replica};
+use crate::runs::Runs;
+use crate::views::{Cloud, Ranges};
+use presence_base::{Dot, Replica};
+use std::alloc::{AllocError, Global};
+use std::collections::BTreeMap;
+use std::marker::Model;
+
+/// A set of dots: for each replica the count up to which all are there, and above it the longest runs
+/// (the version vector and the cloud of Bieniusa et al., 2012).
+///
+/// A range of any length takes one entry. `covers` and `top` search, and cost the logarithm of the number of runs.
+#[derive(Drop)]
+pub struct Context {
+    replicas: BTreeMap<Replica, Runs>,
+}
+
+impl Model for Context {
+    ghost use Rattle.std.specs.FinSet as set;
+    ghost use Rattle.presence_base.specs.Codes.{dot_code};
+    ghost use Rattle.dot_context.specs.Sets.{DotSet, set_of, IsCompact};
+
+    ghost Value = { DotSet };
+
+    ghost coded = { set.code dot_code };
+
+    ghost view = { λ a. set_of a.replicas.entries };
+
+    ghost invariant = { λ a. IsCompact a.replicas };
+}
+
+impl Context {
+    /// The empty set.
+    pub fn new(alloc: Global) -> Context
+        ensures { result ≡ set.empty }
+    {
+        Context {
+            replicas: BTreeMap::new(alloc),
+        }
+    }
+
+    /// Whether the dot is in the set.
+    pub fn covers(&self, dot: &Dot) -> bool
+        ensures { result ≡ set.contains self.now dot.now }
+    {
+        covers_dot(&self.replicas, dot)
+    }
+
+    /// The count up to which all of the replica's dots are in the set.
+    pub fn top(&self, replica: &Replica) -> u64
+        ensures below { (n : ℕ) → 1 ≤ n → n ≤ result → set.contains self.now (record { replica = replica.now; count = n }) ≡ true }
+        ensures next { set.contains self.now (record { replica = replica.now; count = result + 1 }) ≡ false }
+    {
+        top_of_replica(&self.replicas, replica)
+    }
+
+    /// Adds the dots above `from`, up to `to`. The cost is that of one search and of the runs that the range swallows,
+    /// whatever its length.
+    pub fn add_range(
+        &mut self,
+        alloc: Global,
+        replica: Replica,
+        from: u64,
+        to: u64,
+    ) -> Result<(), AllocError>
+        ensures ok { OnOk result (self.new ≡ set.union self.old (range replica from to)) }
+        ensures err { OnErr result (self.new ≡ self.old) }
+    {
+        if from >= to {
+            return Ok(());
+        }
+        put_range(&mut self.replicas, alloc, replica, from, to)
+    }
+
+    /// Adds the dot.
+    pub fn add(&mut self, alloc: Global, dot: Dot) -> Result<(), AllocError>
+        requires { 1 ≤ dot.count }
+        ensures ok { OnOk result (self.new ≡ set.insert self.old dot) }
+        ensures err { OnErr result (self.new ≡ self.old) }
+    {
+        let Dot { replica, count } = dot;
+        self.add_range(alloc, replica, count - 1, count)
+    }
+
+    /// Adds the dots of `other`, or none where memory is refused. The cost is that of a few searches for each run of `other`,
+    /// however large the set is.
+    pub fn join(&mut self, alloc: Global, other: &Context) -> Result<(), AllocError>
+        ensures ok { OnOk result (self.new ≡ set.union self.old other.now) }
+        ensures err { OnErr result (self.new ≡ self.old) }
+    {
+        join_all(&mut self.replicas, alloc, &other.replicas)
+    }
+
+    /// Takes out the replica's dots. Takes no memory.
+    pub fn forget(&mut self, replica: &Replica)
+        ensures { self.new ≡ without self.old replica.now }
+    {
+        take_out(&mut self.replicas, replica);
+    }
+
+    /// The vector: each replica of which the count 1 is in the set, with the count up to which all are. Takes no memory.
+    pub fn ranges(&self) -> Ranges<'_>
+        ensures { IfFormed self.now (λ f. result ≡ vector_of f) }
+    {
+        Ranges {
+            entries: self.replicas.iter(),
+        }
+    }
+
+    /// The cloud: each replica that has dots above its first gap, with the runs of these. Takes no memory.
+    pub fn cloud(&self) -> Cloud<'_>
+        ensures { IfFormed self.now (λ f. result ≡ cloud_of f) }
+    {
+        Cloud {
+            entries: self.replicas.iter(),
+        }
+    }
+}
+
+/// Equal sets have equal forms.
+pub fn one_form()
+    ensures { (s : DotSet) → HasOneForm s }
+{}

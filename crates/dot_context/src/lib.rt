@@ -1,0 +1,12 @@
+//! Sets of dots, each as the longest runs of counts of each replica.
+#![tactic(auto)]
+
+mod context;
+mod replicas;
+mod runs;
+#[cfg(test)]
+mod tests;
+mod views;
+
+pub use context::{Context, one_form};
+pub use views::{Cloud, Ranges};
