@@ -1,0 +1,359 @@
+-- Histories as lists, and what a legal entry does.
+use Rattle.std.proofs.Common.{◌≡◌, ℕ, zero, suc, ◌+◌, ◌-◌, slice_get, ◌<◌, ◌≤◌, ◌^◌, Bool, true, false, cond, ◌&&◌, ◌||◌, nat_lt, nat_le, List, [], ◌∷◌, ◌++◌, Option, Some, None, refl, sym, ◌∙◌, ap, subst, arith, length, inl, inr}
+use Rattle.std.specs.Prelude.{◌⊎◌}
+use Rattle.std.specs.List.{AllByRecursion}
+use Rattle.std.proofs.lemmas.Bool.{and_parts, or_left, or_parts, lt-leb, leb-false, and_from, or_cases, ltb-true, leb-true, lt-ltb, le-leb}
+use Rattle.std.proofs.lemmas.Option.{same_Some, slice_get_within}
+use Rattle.presence_base.specs.declared.dots.Replica.{Replica}
+use Rattle.presence_base.specs.declared.dots.Dot.{Dot}
+use Rattle.presence_base.specs.declared.row.Row.{Row}
+use Rattle.presence_base.specs.Order.{same_dot, same_replica}
+use Rattle.presence_journal.specs.declared.step.Step.TheVariants as steps_are
+use Rattle.presence_journal.specs.declared.entry.Outcome.TheVariants as outcomes_are
+use Rattle.presence_journal.specs.Steps.{Step, Outcome, Entry, Start}
+use Rattle.presence_journal.specs.History.{History, Begin, Then, onto, start_of, own, is_full, count, counts_used, last_number, entry_count, next_dot, is_counted, known, first_some, has_dot, row_made, row_added, dot_removed, removed, row, shown}
+use Rattle.presence_journal.specs.Present.{listed, dots_of}
+use Rattle.presence_journal.specs.Queue.{Waiting, Behind, Queued, queue, topic_of}
+use Rattle.presence_journal.specs.Table.{rows_of_pid, rows_of_key, listed_key, counting, tracked, updated, untracked, take_outcome, for_present, outcome_of, next_entry, accepted, after, is_step, IsLegal}
+use Rattle.presence_journal.specs.Walk.{dots_taken}
+use Rattle.presence_journal.proofs.Same.{same_dot-true, same_replica-true, same_replica-refl}
+use Rattle.presence_journal.proofs.PresentLemmas.{shown-row, IsOwnListed, own_rows, own_rows_of_key}
+
+-- entries in order upon a history
+
+pub onto-append : (h : History) (xs ys : List Entry) → onto h (xs ++ ys) ≡ onto (onto h xs) ys
+onto-append h [] ys = refl
+onto-append h (x ∷ xs) ys = onto-append (Then h x) xs ys
+
+pub legal_before : (h : History) (xs : List Entry) → IsLegal (onto h xs) → IsLegal h
+legal_before h [] l = l
+legal_before h (x ∷ xs) l = (legal_before (Then h x) xs l).0
+
+pub start_of-onto : (h : History) (xs : List Entry) → start_of (onto h xs) ≡ start_of h
+start_of-onto h [] = refl
+start_of-onto h (x ∷ xs) = start_of-onto (Then h x) xs
+
+pub own-start_of : (h : History) → own h ≡ (start_of h).own
+unfolding own
+own-start_of (Begin s) = refl
+own-start_of (Then h e) = own-start_of h
+
+pub entry_count-onto : (h : History) (xs : List Entry) → entry_count (onto h xs) ≡ entry_count h + length xs
+unfolding entry_count
+entry_count-onto h [] = omega arith
+entry_count-onto h (x ∷ xs) = omega (arith, entry_count-onto (Then h x) xs)
+
+pub last_number-onto : (h : History) (xs : List Entry) → IsLegal (onto h xs) → last_number (onto h xs) ≡ last_number h + length xs
+unfolding last_number
+last_number-onto h [] l = omega arith
+last_number-onto h (e ∷ es) l = let p = (legal_before (Then h e) es l).2 in last_number-onto (Then h e) es l ∙ omega (arith, p)
+
+-- counted dots
+
+pub counted_parts : (r : Replica) (n : ℕ) (d : Dot) → is_counted r n d ≡ true → (d.replica ≡ r) × (0 < d.count) × (d.count ≤ n)
+counted_parts r n d h =
+    let p = and_parts (same_replica d.replica r) (nat_lt 0 d.count && nat_le d.count n) h in
+    let q = and_parts (nat_lt 0 d.count) (nat_le d.count n) p.1 in
+    (same_replica-true d.replica r p.0, ltb-true 0 d.count q.0, leb-true d.count n q.1)
+
+pub counted_from : (r : Replica) (n : ℕ) (d : Dot) → d.replica ≡ r → 0 < d.count → d.count ≤ n → is_counted r n d ≡ true
+counted_from r n d p l m = and_from (same_replica d.replica r) (nat_lt 0 d.count && nat_le d.count n) (ap (λ q. same_replica q r) p ∙ same_replica-refl r) (and_from (nat_lt 0 d.count) (nat_le d.count n) (lt-ltb 0 d.count l) (le-leb d.count n m))
+
+pub known_parts : (h : History) (d : Dot) → known h d ≡ true → (d.replica ≡ own h) × (0 < d.count) × (d.count ≤ count h)
+unfolding known
+known_parts h d k = counted_parts (own h) (count h) d k
+
+pub known_from : (h : History) (d : Dot) → d.replica ≡ own h → 0 < d.count → d.count ≤ count h → known h d ≡ true
+unfolding known
+known_from h d p l m = counted_from (own h) (count h) d p l m
+
+pub own-then : (h : History) (e : Entry) → own (Then h e) ≡ own h
+unfolding own
+own-then h e = refl
+
+pub count-then : (h : History) (e : Entry) → count (Then h e) ≡ count h + counts_used e.outcome
+unfolding count
+count-then h e = refl
+
+pub known_then : (h : History) (e : Entry) (d : Dot) → known h d ≡ true → known (Then h e) d ≡ true
+known_then h e d k = let p = known_parts h d k in known_from (Then h e) d (p.0 ∙ sym (own-then h e)) p.1 (omega (arith, p.2, count-then h e))
+
+-- the next dot is known once it is used
+next_known : (h : History) (e : Entry) (d : Dot) → d ≡ next_dot h → counts_used e.outcome ≡ 1 → known (Then h e) d ≡ true
+next_known h e d p u =
+    let c : d.count ≡ count h + 1 = ap (λ (z : Dot). z.count) p in
+    known_from (Then h e) d (ap (λ (z : Dot). z.replica) p ∙ sym (own-then h e)) (omega (arith, c)) (omega (arith, c, u, count-then h e))
+
+next_unknown : (h : History) → known h (next_dot h) ≡ true → ⊥
+next_unknown h k = let p = (known_parts h (next_dot h) k).2 in omega (arith, p)
+
+-- the four kinds of entry
+
+abbrev pub is_quiet : Outcome → Bool
+is_quiet (outcomes_are.Added d) = false
+is_quiet (outcomes_are.Replaced d old) = false
+is_quiet (outcomes_are.Removed (d ∷ ds)) = false
+is_quiet _ = true
+
+-- an own row that is shown
+pub record IsOwnShown (h : History) (d : Dot) : Type 0 where
+  pub row : Row
+  pub shown : shown h d ≡ Some row
+  pub own : d.replica ≡ own h
+
+-- an entry adds a row, replaces one, takes some out, or changes no row
+pub data Kind (h : History) (s : Step) (o : Outcome) : Type 0 where
+  Adds : (r : Row) → row_made s None ≡ Some r → o ≡ outcomes_are.Added (next_dot h) → count h < 2 ^ 62 → Kind h s o
+  Replaces : (r : Row) (old : Dot) → row_made s (Some old) ≡ Some r → o ≡ outcomes_are.Replaced (next_dot h) old → count h < 2 ^ 62 → IsOwnShown h old → Kind h s o
+  Removes : (d : Dot) (ds : List Dot) → o ≡ outcomes_are.Removed (d ∷ ds) → count h < 2 ^ 62 → AllByRecursion (IsOwnShown h) (d ∷ ds) → Kind h s o
+  Quiet : is_quiet o ≡ true → Kind h s o
+
+counted_one : (h : History) (o p : Outcome) → counting h o ≡ Some p → (p ≡ o) × (count h < 2 ^ 62)
+counted_one h o p e = go (nat_lt (count h) (2 ^ 62)) refl e
+  where
+    go : (b : Bool) → nat_lt (count h) (2 ^ 62) ≡ b → cond b (Some o) None ≡ Some p → (p ≡ o) × (count h < 2 ^ 62)
+    go true f g = (same_Some p o (sym g), ltb-true (count h) (2 ^ 62) f)
+    go false f g = cc
+
+own_shown : (h : History) (t : List ℕ) (xs : List (Dot × Row)) → AllByRecursion (IsOwnListed h t) xs → AllByRecursion (IsOwnShown h) (dots_of xs)
+own_shown h t [] a = tt
+own_shown h t (x ∷ xs) a = (record { row = x.1; shown = a.0.listed.shown; own = a.0.own }, own_shown h t xs a.1)
+
+kind_tracked : (h : History) (s : Step) (o : Outcome) (r : Row) (xs : List (Dot × Row)) → row_made s None ≡ Some r → tracked h xs ≡ Some o → Kind h s o
+kind_tracked h s o r [] m e = let p = counted_one h (outcomes_are.Added (next_dot h)) o e in Adds r m p.0 p.1
+kind_tracked h s o r (x ∷ xs) m e = Quiet (ap is_quiet (same_Some o outcomes_are.AlreadyTracked (sym e)))
+
+kind_updated : (h : History) (s : Step) (o : Outcome) (t : List ℕ) (r : Dot → Row) (xs : List (Dot × Row)) → ((old : Dot) → row_made s (Some old) ≡ Some (r old)) → AllByRecursion (IsOwnListed h t) xs → updated h xs ≡ Some o → Kind h s o
+kind_updated h s o t r [] m a e = Quiet (ap is_quiet (same_Some o outcomes_are.NoPresence (sym e)))
+kind_updated h s o t r (x ∷ xs) m a e = let p = counted_one h (outcomes_are.Replaced (next_dot h) x.0) o e in Replaces (r x.0) x.0 (m x.0) p.0 p.1 (record { row = x.1; shown = a.0.listed.shown; own = a.0.own })
+
+kind_untracked : (h : History) (s : Step) (o : Outcome) (ds : List Dot) → AllByRecursion (IsOwnShown h) ds → untracked h ds ≡ Some o → Kind h s o
+kind_untracked h s o [] a e = Quiet (ap is_quiet (same_Some o (outcomes_are.Removed []) (sym e)))
+kind_untracked h s o (d ∷ ds) a e = let p = counted_one h (outcomes_are.Removed (d ∷ ds)) o e in Removes d ds p.0 p.1 a
+
+quiet_present : (h : History) (s : Step) (o q : Outcome) (t : Option (List ℕ)) → is_quiet q ≡ true → for_present t q ≡ Some o → Kind h s o
+quiet_present h s o q None f e = cc
+quiet_present h s o q (Some t) f e = Quiet (ap is_quiet (same_Some o q (sym e)) ∙ f)
+
+quiet_took : (n : ℕ) (w : Waiting) → is_quiet (take_outcome n w) ≡ true
+quiet_took n Behind = refl
+quiet_took n (Queued q) = refl
+
+-- what the table answers is of one of the four kinds
+pub kind_of : (h : History) (s : Step) (o : Outcome) → outcome_of h s ≡ Some o → Kind h s o
+unfolding outcome_of
+kind_of h (steps_are.Track pid topic key meta) o e = kind_tracked h (steps_are.Track pid topic key meta) o _ (rows_of_key h pid topic key) refl e
+kind_of h (steps_are.Update pid topic key meta) o e = kind_updated h (steps_are.Update pid topic key meta) o topic (λ old. record { topic = topic; key = key; pid = pid; meta = meta; prev = Some old }) (rows_of_key h pid topic key) (λ old. refl) (own_rows_of_key h pid topic key) e
+kind_of h (steps_are.Untrack pid topic key) o e = kind_untracked h (steps_are.Untrack pid topic key) o (dots_of (rows_of_key h pid topic key)) (own_shown h topic (rows_of_key h pid topic key) (own_rows_of_key h pid topic key)) e
+kind_of h (steps_are.UntrackAll pid topic) o e = kind_untracked h (steps_are.UntrackAll pid topic) o (dots_of (rows_of_pid h pid topic)) (own_shown h topic (rows_of_pid h pid topic) (own_rows h pid topic)) e
+kind_of h (steps_are.List topic) o e = Quiet (ap is_quiet (same_Some o (outcomes_are.Shown (dots_of (listed h topic))) (sym e)))
+kind_of h (steps_are.Get topic key) o e = Quiet (ap is_quiet (same_Some o (outcomes_are.Shown (dots_of (listed_key h topic key))) (sym e)))
+kind_of h (steps_are.Subscribe topic) o e = Quiet (ap is_quiet (same_Some o (outcomes_are.Subscribed (last_number h + 1)) (sym e)))
+kind_of h (steps_are.Take n max) o e = quiet_present h (steps_are.Take n max) o (take_outcome max (queue h n)) (topic_of h n) (quiet_took max (queue h n)) e
+kind_of h (steps_are.Unsubscribe n) o e = quiet_present h (steps_are.Unsubscribe n) o outcomes_are.Ended (topic_of h n) refl e
+kind_of h (steps_are.Shout topic payload) o e = Quiet (ap is_quiet (same_Some o outcomes_are.Sent (sym e)))
+
+-- what a quiet outcome leaves alone
+
+quiet_row : (s : Step) (o : Outcome) (d : Dot) → is_quiet o ≡ true → row_added s o d ≡ None
+quiet_row s (outcomes_are.Added a) d q = cc
+quiet_row s (outcomes_are.Replaced a b) d q = cc
+quiet_row s _ d q = refl
+
+quiet_removed : (o : Outcome) (n d : Dot) → is_quiet o ≡ true → dot_removed o n d ≡ false
+quiet_removed (outcomes_are.Replaced a b) n d q = cc
+quiet_removed (outcomes_are.Removed (y ∷ ys)) n d q = cc
+quiet_removed (outcomes_are.Removed []) n d q = refl
+quiet_removed _ n d q = refl
+
+quiet_taken : (o : Outcome) → is_quiet o ≡ true → dots_taken o ≡ []
+quiet_taken (outcomes_are.Replaced a b) q = cc
+quiet_taken (outcomes_are.Removed (y ∷ ys)) q = cc
+quiet_taken (outcomes_are.Removed []) q = refl
+quiet_taken _ q = refl
+
+all_has_dot : (P : Dot → Type 0) (ds : List Dot) (d : Dot) → AllByRecursion P ds → has_dot ds d ≡ true → P d
+all_has_dot P [] d a h = cc
+all_has_dot P (x ∷ xs) d a h = go (all_has_dot P xs d a.1) (or_cases (same_dot d x) (has_dot xs d) h)
+  where
+    go : (has_dot xs d ≡ true → P d) → (same_dot d x ≡ true) ⊎ (has_dot xs d ≡ true) → P d
+    go ih (inl e) = subst P (sym (same_dot-true d x e)) a.0
+    go ih (inr e) = ih e
+
+-- in a legal history each dot with a row is known, and so is each dot that is removed
+pub record KnowsItsDots (h : History) : Type 0 where
+  pub of_row : (d : Dot) (r : Row) → row h d ≡ Some r → known h d ≡ true
+  pub of_removed : (d : Dot) → removed h d ≡ true → known h d ≡ true
+
+begin_knows : (s : Start) → KnowsItsDots (Begin s)
+unfolding row removed
+begin_knows s = record { of_row = λ d r e. cc; of_removed = λ d e. cc }
+
+one_added : (h : History) (e : Entry) (d : Dot) (r : Row) → Kind h e.step e.outcome → row_added e.step e.outcome d ≡ Some r → (d ≡ next_dot h) × (counts_used e.outcome ≡ 1)
+one_added h e d r (Adds x m o l) g = (here (same_dot d (next_dot h)) refl (sym (ap (λ y. row_added e.step y d) o) ∙ g), ap counts_used o)
+  where
+    here : (b : Bool) → same_dot d (next_dot h) ≡ b → cond b (row_made e.step None) None ≡ Some r → d ≡ next_dot h
+    here true p f = same_dot-true d (next_dot h) p
+    here false p f = cc
+one_added h e d r (Replaces x old m o l w) g = (here (same_dot d (next_dot h)) refl (sym (ap (λ y. row_added e.step y d) o) ∙ g), ap counts_used o)
+  where
+    here : (b : Bool) → same_dot d (next_dot h) ≡ b → cond b (row_made e.step (Some old)) None ≡ Some r → d ≡ next_dot h
+    here true p f = same_dot-true d (next_dot h) p
+    here false p f = cc
+one_added h e d r (Removes y ys o l a) g = let f : None ≡ Some r = sym (ap (λ z. row_added e.step z d) o) ∙ g in cc
+one_added h e d r (Quiet q) g = let f : None ≡ Some r = sym (quiet_row e.step e.outcome d q) ∙ g in cc
+
+shown_known : (h : History) → KnowsItsDots h → (d : Dot) → IsOwnShown h d → known h d ≡ true
+shown_known h k d w = k.of_row d w.row (shown-row h d w.row w.shown).0
+
+removed_known : (h : History) (e : Entry) (d : Dot) → KnowsItsDots h → Kind h e.step e.outcome → dot_removed e.outcome (next_dot h) d ≡ true → known (Then h e) d ≡ true
+removed_known h e d k (Adds x m o l) g = let f : false ≡ true = sym (ap (λ y. dot_removed y (next_dot h) d) o) ∙ g in cc
+removed_known h e d k (Replaces x old m o l w) g =
+    let f : same_dot d old ≡ true = sym (ap (λ y. dot_removed y (next_dot h) d) o) ∙ g in
+    known_then h e d (ap (known h) (same_dot-true d old f) ∙ shown_known h k old w)
+removed_known h e d k (Removes y ys o l a) g = go (or_cases (same_dot d (next_dot h)) (has_dot (y ∷ ys) d) (sym (ap (λ z. dot_removed z (next_dot h) d) o) ∙ g))
+  where
+    go : (same_dot d (next_dot h) ≡ true) ⊎ (has_dot (y ∷ ys) d ≡ true) → known (Then h e) d ≡ true
+    go (inl f) = next_known h e d (same_dot-true d (next_dot h) f) (ap counts_used o)
+    go (inr f) = known_then h e d (shown_known h k d (all_has_dot (IsOwnShown h) (y ∷ ys) d a f))
+removed_known h e d k (Quiet q) g = let f : false ≡ true = sym (quiet_removed e.outcome (next_dot h) d q) ∙ g in cc
+
+pub knows_then : (h : History) (e : Entry) → KnowsItsDots h → Kind h e.step e.outcome → KnowsItsDots (Then h e)
+unfolding row removed
+knows_then h e k kind = record { of_row = λ d r f. at_row d r (row h d) refl f; of_removed = λ d f. at_removed d (or_cases (removed h d) (dot_removed e.outcome (next_dot h) d) f) }
+  where
+    at_row : (d : Dot) (r : Row) (o : Option Row) → row h d ≡ o → first_some o (row_added e.step e.outcome d) ≡ Some r → known (Then h e) d ≡ true
+    at_row d r (Some x) p f = known_then h e d (k.of_row d x p)
+    at_row d r None p f = let w = one_added h e d r kind f in next_known h e d w.0 w.1
+
+    at_removed : (d : Dot) → (removed h d ≡ true) ⊎ (dot_removed e.outcome (next_dot h) d ≡ true) → known (Then h e) d ≡ true
+    at_removed d (inl f) = known_then h e d (k.of_removed d f)
+    at_removed d (inr f) = removed_known h e d k kind f
+
+pub legal_knows : (h : History) → IsLegal h → KnowsItsDots h
+legal_knows (Begin s) l = begin_knows s
+legal_knows (Then h e) l = knows_then h e (legal_knows h l.0) (kind_of h e.step e.outcome l.1)
+
+-- the next dot has no row and is not removed
+
+pub row-next : (h : History) → KnowsItsDots h → row h (next_dot h) ≡ None
+row-next h k = go (row h (next_dot h)) refl
+  where
+    go : (o : Option Row) → row h (next_dot h) ≡ o → o ≡ None
+    go None e = refl
+    go (Some x) e = absurd (next_unknown h (k.of_row (next_dot h) x e))
+
+pub removed-next : (h : History) → KnowsItsDots h → removed h (next_dot h) ≡ false
+removed-next h k = go (removed h (next_dot h)) refl
+  where
+    go : (b : Bool) → removed h (next_dot h) ≡ b → b ≡ false
+    go false e = refl
+    go true e = absurd (next_unknown h (k.of_removed (next_dot h) e))
+
+pub shown-next : (h : History) → KnowsItsDots h → shown h (next_dot h) ≡ None
+unfolding shown
+shown-next h k = rw (removed-next h k, row-next h k)
+
+-- what one legal entry does to the rows that are shown: those taken out go, and then the added one comes
+
+shape_new : (a : Bool) (o : Option Row) (r : Row) (b : Bool) → a ≡ false → o ≡ None → b ≡ false → cond (a || b) None (first_some o (Some r)) ≡ Some r
+shape_new a o r b p q s = rw (p, q, s)
+
+shape_old : (a b : Bool) (o : Option Row) → cond (a || b) None (first_some o None) ≡ cond b None (cond a None o)
+shape_old true true o = refl
+shape_old true false o = refl
+shape_old false true o = refl
+shape_old false false None = refl
+shape_old false false (Some x) = refl
+
+shape_drop : (a b c : Bool) (o : Option Row) → (b ≡ true → cond a None o ≡ None) → cond (a || (b || c)) None (first_some o None) ≡ cond c None (cond a None o)
+shape_drop a true true o f = shape_old a true o
+shape_drop a true false o f = shape_old a true o ∙ sym (f refl)
+shape_drop a false c o f = shape_old a c o
+
+none_or : (o : Option Row) → first_some None o ≡ o
+none_or o = refl
+
+no_more : (c : Bool) → (c || false) ≡ c
+no_more true = refl
+no_more false = refl
+
+pub shown_by : (h : History) (e : Entry) (d : Dot) → KnowsItsDots h → Kind h e.step e.outcome → shown (Then h e) d ≡ first_some (row_added e.step e.outcome d) (cond (has_dot (dots_taken e.outcome) d) None (shown h d))
+unfolding shown row removed
+shown_by h e d k (Adds r m o l) = rw (o, m) (go (same_dot d (next_dot h)) refl)
+  where
+    go : (b : Bool) → same_dot d (next_dot h) ≡ b → cond (removed h d || false) None (first_some (row h d) (cond b (Some r) None)) ≡ first_some (cond b (Some r) None) (cond false None (cond (removed h d) None (row h d)))
+    go true p = let z = same_dot-true d (next_dot h) p in shape_new (removed h d) (row h d) r false (ap (removed h) z ∙ removed-next h k) (ap (row h) z ∙ row-next h k) refl
+    go false p = shape_old (removed h d) false (row h d)
+shown_by h e d k (Replaces r old m o l w) = rw (o, m, no_more) (go (same_dot d (next_dot h)) refl)
+  where
+    apart : d ≡ next_dot h → (b : Bool) → same_dot d old ≡ b → b ≡ false
+    apart z false p = refl
+    apart z true p = absurd (next_unknown h (ap (known h) (sym z ∙ same_dot-true d old p) ∙ shown_known h k old w))
+
+    go : (b : Bool) → same_dot d (next_dot h) ≡ b → cond (removed h d || same_dot d old) None (first_some (row h d) (cond b (Some r) None)) ≡ first_some (cond b (Some r) None) (cond (same_dot d old) None (cond (removed h d) None (row h d)))
+    go true p = let z = same_dot-true d (next_dot h) p in shape_new (removed h d) (row h d) r (same_dot d old) (ap (removed h) z ∙ removed-next h k) (ap (row h) z ∙ row-next h k) (apart z (same_dot d old) refl)
+    go false p = shape_old (removed h d) (same_dot d old) (row h d)
+shown_by h e d k (Removes y ys o l a) = rw o (shape_drop (removed h d) (same_dot d (next_dot h)) (has_dot (y ∷ ys) d) (row h d) (λ p. let z = same_dot-true d (next_dot h) p in ap (shown h) z ∙ shown-next h k))
+shown_by h e d k (Quiet q) = rw (quiet_row e.step e.outcome d q, quiet_removed e.outcome (next_dot h) d q, quiet_taken e.outcome q) (shape_old (removed h d) false (row h d))
+
+-- an added row's dot showed nothing before
+pub added_fresh : (h : History) (e : Entry) (d : Dot) (r : Row) → KnowsItsDots h → Kind h e.step e.outcome → row_added e.step e.outcome d ≡ Some r → shown h d ≡ None
+added_fresh h e d r k kind f = ap (shown h) (one_added h e d r kind f).0 ∙ shown-next h k
+
+-- the last number, by the last entry
+
+last_from : (h : History) (es : List Entry) (n : ℕ) (e : Entry) → n + 1 ≡ length es → slice_get es n ≡ Some e → last_number (onto h es) ≡ e.number
+unfolding last_number
+last_from h [] n e l g = absurd (omega arith)
+last_from h (x ∷ []) zero e l g = ap (λ (y : Entry). y.number) (same_Some x e g)
+last_from h (x ∷ y ∷ ys) zero e l g = absurd (omega arith)
+last_from h (x ∷ xs) (suc n) e l g = last_from (Then h x) xs n e (omega arith) g
+
+pub last_number-some : (s : Start) (es : List Entry) (whole : History) (e : Entry) → onto (Begin s) es ≡ whole → Some e ≡ slice_get es (length es - 1) → e.number ≡ last_number whole
+last_number-some s es whole e w g =
+    let within = slice_get_within es (length es - 1) e (sym g) in
+    sym (last_from (Begin s) es (length es - 1) e (omega arith) (sym g)) ∙ ap last_number w
+
+no_entries : (es : List Entry) → length es ≤ 0 → es ≡ []
+no_entries [] l = refl
+no_entries (x ∷ es) l = absurd (omega arith)
+
+pub last_number-none : (s : Start) (es : List Entry) (whole : History) → onto (Begin s) es ≡ whole → length es ≤ 0 → s.number ≡ last_number whole
+unfolding last_number
+last_number-none s es whole w l = ap last_number (ap (onto (Begin s)) (sym (no_entries es l)) ∙ w)
+
+-- whether an entry can follow
+
+pub entries_here : (s : Start) (es : List Entry) (whole : History) → onto (Begin s) es ≡ whole → entry_count whole ≡ length es + 1
+unfolding entry_count
+entries_here s es whole w = ap entry_count (sym w) ∙ (entry_count-onto (Begin s) es ∙ omega arith)
+
+pub full_by_entries : (s : Start) (es : List Entry) (whole : History) → onto (Begin s) es ≡ whole → 262143 ≤ length es → is_full whole ≡ true
+full_by_entries s es whole w l = or_left (nat_le 262144 (entry_count whole)) (nat_le (2 ^ 62) (last_number whole)) (le-leb 262144 (entry_count whole) (omega (arith, entries_here s es whole w)))
+
+pub full_by_number : (s : Start) (es : List Entry) (whole : History) → onto (Begin s) es ≡ whole → length es < 262143 → is_full whole ≡ nat_le (2 ^ 62) (last_number whole)
+full_by_number s es whole w l = ap (λ b. b || nat_le (2 ^ 62) (last_number whole)) (lt-leb 262144 (entry_count whole) (omega (arith, entries_here s es whole w)))
+
+pub room_below : (h : History) → is_full h ≡ false → last_number h < 2 ^ 62
+room_below h f = leb-false (2 ^ 62) (last_number h) (or_parts (nat_le 262144 (entry_count h)) (nat_le (2 ^ 62) (last_number h)) f).1
+
+-- one entry more
+
+pub pushed_legal : (s : Start) (es : List Entry) (e : Entry) (whole : History) → onto (Begin s) es ≡ whole → IsLegal whole → outcome_of whole e.step ≡ Some e.outcome → e.number ≡ last_number whole + 1 → is_full whole ≡ false → is_step e.step ≡ true → IsLegal (onto (Begin s) (es ++ e ∷ []))
+pushed_legal s es e whole w l o n f i = subst IsLegal (ap (λ h. Then h e) (sym w) ∙ sym (onto-append (Begin s) es (e ∷ []))) (l, o, n, f, i)
+
+-- a step that the table accepts is one entry more
+pub after-accepted : (h : History) (s : Step) (seat : Option ℕ) (o : Outcome) → outcome_of h s ≡ Some o → is_full h ≡ false → after h s seat ≡ Then h (next_entry h s seat o)
+unfolding after accepted
+after-accepted h s seat o e f = rw (f, e)
+
+pub pushed_after : (s : Start) (es : List Entry) (e : Entry) (whole : History) → onto (Begin s) es ≡ whole → outcome_of whole e.step ≡ Some e.outcome → e.number ≡ last_number whole + 1 → is_full whole ≡ false → onto (Begin s) (es ++ e ∷ []) ≡ after whole e.step e.seat
+pushed_after s es e whole w o n f =
+    onto-append (Begin s) es (e ∷ [])
+    ∙ (ap (λ h. Then h e) w ∙ ((λ i. Then whole (record { number = n i; seat = e.seat; step = e.step; outcome = e.outcome })) ∙ sym (after-accepted whole e.step e.seat e.outcome o f)))
+
+pub last_number-limit : (h : History) → IsLegal h → last_number h ≤ 2 ^ 62
+unfolding last_number
+last_number-limit (Begin s) l = l.number
+last_number-limit (Then h e) l = let r = room_below h l.3 in omega (arith, r, l.2)

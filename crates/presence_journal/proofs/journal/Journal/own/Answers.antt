@@ -1,0 +1,10 @@
+use Rattle.std.proofs.Common.{sym, ◌∙◌, ap}
+use Rattle.presence_journal.specs.Steps.{Start}
+use Rattle.presence_journal.specs.History.{Begin, start_of}
+use Rattle.presence_journal.proofs.HistoryLemmas.{own-start_of, start_of-onto}
+use Rattle.presence_journal.proofs.journal.Journal.own.Goals as goal
+
+pub returns : goal.returns
+returns c =
+    let j = c.self.inside in
+    ap (λ (s : Start). s.own) (sym (start_of-onto (Begin j.start) j.entries.items) ∙ ap start_of c.self.view_is) ∙ sym (own-start_of c.args.self.now)

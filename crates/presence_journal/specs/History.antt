@@ -1,0 +1,122 @@
+-- What a history says of each dot. Every function goes over the entries, the newest outermost.
+use Rattle.std.specs.Prelude.{◌≡◌, ℕ, ◌+◌, ◌^◌, Bool, false, cond, ◌&&◌, ◌||◌, nat_lt, nat_le, List, [], ◌∷◌, Option, Some, None, refl}
+use Rattle.std.specs.List.{list_any}
+use Rattle.std.specs.Coded.{Coded, code_by}
+use Rattle.std.proofs.Common.{ap}
+use Rattle.presence_base.specs.declared.dots.Replica.{Replica}
+use Rattle.presence_base.specs.declared.dots.Dot.{Dot}
+use Rattle.presence_base.specs.declared.row.Row.{Row}
+use Rattle.presence_base.specs.Order.{same_replica, same_dot}
+use Rattle.presence_journal.specs.declared.step.Step.TheVariants as steps_are
+use Rattle.presence_journal.specs.declared.entry.Outcome.TheVariants as outcomes_are
+use Rattle.presence_journal.specs.Steps.{Step, Outcome, Entry, Start}
+
+-- A Start, and then entries
+pub data History : Type 0 where
+  Begin : (start : Start) → History
+  Then : (before : History) (entry : Entry) → History
+
+-- the entries in order, the oldest first, upon a history
+abbrev pub onto : History → List Entry → History
+onto h [] = h
+onto h (e ∷ es) = onto (Then h e) es
+
+-- how the logic stores a history: as its Start with its entries, the newest first
+abbrev pub start_of : History → Start
+start_of (Begin s) = s
+start_of (Then h e) = start_of h
+
+abbrev pub newest_first : History → List Entry
+newest_first (Begin s) = []
+newest_first (Then h e) = e ∷ newest_first h
+
+abbrev pub from_newest : Start → List Entry → History
+from_newest s [] = Begin s
+from_newest s (e ∷ es) = Then (from_newest s es) e
+
+pub from_newest-newest_first : (h : History) → from_newest (start_of h) (newest_first h) ≡ h
+from_newest-newest_first (Begin s) = refl
+from_newest-newest_first (Then h e) = ap (λ g. Then g e) (from_newest-newest_first h)
+
+abbrev pub history_code : Coded (Start × List Entry) → Coded History
+history_code c = code_by (Start × List Entry) c (λ h. (start_of h, newest_first h)) (λ p. from_newest p.0 p.1) from_newest-newest_first
+
+-- the replica that counts here
+unfoldable pub own : History → Replica
+own (Begin s) = s.own
+own (Then h e) = own h
+
+-- how many counts an outcome uses: each row that is added or replaced, and each removal, has its own
+abbrev pub counts_used : Outcome → ℕ
+counts_used (outcomes_are.Added d) = 1
+counts_used (outcomes_are.Replaced d old) = 1
+counts_used (outcomes_are.Removed (d ∷ ds)) = 1
+counts_used _ = 0
+
+unfoldable pub count : History → ℕ
+count (Begin s) = 0
+count (Then h e) = count h + counts_used e.outcome
+
+unfoldable pub last_number : History → ℕ
+last_number (Begin s) = s.number
+last_number (Then h e) = e.number
+
+-- how many entries there are, the Start among them
+unfoldable pub entry_count : History → ℕ
+entry_count (Begin s) = 1
+entry_count (Then h e) = entry_count h + 1
+
+-- no entry can follow: the journal has its most entries, or its last number is the highest
+abbrev pub is_full : History → Bool
+is_full h = nat_le 262144 (entry_count h) || nat_le (2 ^ 62) (last_number h)
+
+-- the dot of the next count
+abbrev pub next_dot : History → Dot
+next_dot h = record { replica = own h; count = count h + 1 }
+
+-- a dot of the replica whose count is one of 1 to n
+abbrev pub is_counted : Replica → ℕ → Dot → Bool
+is_counted r n d = same_replica d.replica r && (nat_lt 0 d.count && nat_le d.count n)
+
+-- the own dots that were counted
+unfoldable pub known : History → Dot → Bool
+known h d = is_counted (own h) (count h) d
+
+abbrev pub has_dot : List Dot → Dot → Bool
+has_dot ds d = list_any (same_dot d) ds
+
+-- the row that a step makes, which replaces the row of `prev`
+abbrev pub row_made : Step → Option Dot → Option Row
+row_made (steps_are.Track pid topic key meta) prev = Some (record { topic = topic; key = key; pid = pid; meta = meta; prev = prev })
+row_made (steps_are.Update pid topic key meta) prev = Some (record { topic = topic; key = key; pid = pid; meta = meta; prev = prev })
+row_made _ prev = None
+
+-- the row that an entry adds under a dot
+abbrev pub row_added : Step → Outcome → Dot → Option Row
+row_added s (outcomes_are.Added new) d = cond (same_dot d new) (row_made s None) None
+row_added s (outcomes_are.Replaced new old) d = cond (same_dot d new) (row_made s (Some old)) None
+row_added s _ d = None
+
+-- the dots that an outcome takes rows from; `next` is a removal's own count
+abbrev pub dot_removed : Outcome → Dot → Dot → Bool
+dot_removed (outcomes_are.Replaced new old) next d = same_dot d old
+dot_removed (outcomes_are.Removed (x ∷ xs)) next d = same_dot d next || has_dot (x ∷ xs) d
+dot_removed _ next d = false
+
+unfoldable pub removed : History → Dot → Bool
+removed (Begin s) d = false
+removed (Then h e) d = removed h d || dot_removed e.outcome (next_dot h) d
+
+-- the first of two that is there
+abbrev pub first_some : {A : Type 0} → Option A → Option A → Option A
+first_some (Some x) o = Some x
+first_some None o = o
+
+-- the row in the first entry that adds the dot
+unfoldable pub row : History → Dot → Option Row
+row (Begin s) d = None
+row (Then h e) d = first_some (row h d) (row_added e.step e.outcome d)
+
+-- the row, where it is not removed
+unfoldable pub shown : History → Dot → Option Row
+shown h d = cond (removed h d) None (row h d)

@@ -1,0 +1,101 @@
+-- The sequential presence table: what each step comes to, and the histories that keep to it.
+use Rattle.std.specs.Prelude.{◌≡◌, ◌≤◌, ℕ, ◌+◌, ◌^◌, Bool, true, false, cond, ◌&&◌, nat_eq, nat_lt, nat_le, min, IsTrue, List, [], ◌∷◌, length, filter, Option, Some, None}
+use Rattle.presence_base.specs.declared.dots.Dot.{Dot}
+use Rattle.presence_base.specs.declared.row.Row.{Row}
+use Rattle.presence_base.specs.Names.{is_node_name}
+use Rattle.presence_base.specs.Order.{same_text, same_replica}
+use Rattle.presence_base.specs.Refs.{IsCount}
+use Rattle.presence_journal.specs.declared.step.Step.TheVariants as steps_are
+use Rattle.presence_journal.specs.declared.entry.Outcome.TheVariants as outcomes_are
+use Rattle.presence_journal.specs.Steps.{Step, Outcome, Entry, Start}
+use Rattle.presence_journal.specs.History.{History, Begin, Then, own, count, next_dot, last_number, is_full}
+use Rattle.presence_journal.specs.Present.{listed, dots_of}
+use Rattle.presence_journal.specs.Queue.{Waiting, Behind, Queued, queue, topic_of}
+
+-- an own row of this pid
+abbrev pub is_mine : History → ℕ → Dot × Row → Bool
+is_mine h pid x = same_replica x.0.replica (own h) && nat_eq x.1.pid pid
+
+abbrev pub has_key : List ℕ → Dot × Row → Bool
+has_key key x = same_text x.1.key key
+
+-- the own present rows of a pid and topic, and of a key too
+unfoldable pub rows_of_pid : History → ℕ → List ℕ → List (Dot × Row)
+rows_of_pid h pid t = filter (is_mine h pid) (listed h t)
+
+unfoldable pub rows_of_key : History → ℕ → List ℕ → List ℕ → List (Dot × Row)
+rows_of_key h pid t key = filter (has_key key) (rows_of_pid h pid t)
+
+-- the present rows of one key
+unfoldable pub listed_key : History → List ℕ → List ℕ → List (Dot × Row)
+listed_key h t key = filter (has_key key) (listed h t)
+
+-- where a count is used, one has to be left
+abbrev pub counting : History → Outcome → Option Outcome
+counting h o = cond (nat_lt (count h) (2 ^ 62)) (Some o) None
+
+abbrev pub tracked : History → List (Dot × Row) → Option Outcome
+tracked h [] = counting h (outcomes_are.Added (next_dot h))
+tracked h (x ∷ xs) = Some outcomes_are.AlreadyTracked
+
+abbrev pub updated : History → List (Dot × Row) → Option Outcome
+updated h [] = Some outcomes_are.NoPresence
+updated h (x ∷ xs) = counting h (outcomes_are.Replaced (next_dot h) x.0)
+
+abbrev pub untracked : History → List Dot → Option Outcome
+untracked h [] = Some (outcomes_are.Removed [])
+untracked h (d ∷ ds) = counting h (outcomes_are.Removed (d ∷ ds))
+
+abbrev pub take_outcome : ℕ → Waiting → Outcome
+take_outcome max Behind = outcomes_are.Taken true 1
+take_outcome max (Queued q) = outcomes_are.Taken false (min max (length q))
+
+abbrev pub for_present : Option (List ℕ) → Outcome → Option Outcome
+for_present None o = None
+for_present (Some t) o = Some o
+
+-- What a step comes to where its entry has room, or None where no count is left or no present subscriber has the
+-- number. (A subscriber is found by its slot too: that half is the shard's.)
+unfoldable pub outcome_of : History → Step → Option Outcome
+outcome_of h (steps_are.Track pid topic key meta) = tracked h (rows_of_key h pid topic key)
+outcome_of h (steps_are.Update pid topic key meta) = updated h (rows_of_key h pid topic key)
+outcome_of h (steps_are.Untrack pid topic key) = untracked h (dots_of (rows_of_key h pid topic key))
+outcome_of h (steps_are.UntrackAll pid topic) = untracked h (dots_of (rows_of_pid h pid topic))
+outcome_of h (steps_are.List topic) = Some (outcomes_are.Shown (dots_of (listed h topic)))
+outcome_of h (steps_are.Get topic key) = Some (outcomes_are.Shown (dots_of (listed_key h topic key)))
+outcome_of h (steps_are.Subscribe topic) = Some (outcomes_are.Subscribed (last_number h + 1))
+outcome_of h (steps_are.Take n max) = for_present (topic_of h n) (take_outcome max (queue h n))
+outcome_of h (steps_are.Unsubscribe n) = for_present (topic_of h n) outcomes_are.Ended
+outcome_of h (steps_are.Shout topic payload) = Some outcomes_are.Sent
+
+abbrev pub next_entry : History → Step → Option ℕ → Outcome → Entry
+next_entry h s seat o = record { number = last_number h + 1; seat = seat; step = s; outcome = o }
+
+abbrev pub with_outcome : History → Step → Option ℕ → Option Outcome → History
+with_outcome h s seat None = h
+with_outcome h s seat (Some o) = Then h (next_entry h s seat o)
+
+-- no entry can follow a full journal
+unfoldable pub accepted : History → Step → Option Outcome
+accepted h s = cond (is_full h) None (outcome_of h s)
+
+-- the history after a step, the same where it is refused
+unfoldable pub after : History → Step → Option ℕ → History
+after h s seat = with_outcome h s seat (accepted h s)
+
+-- a session's number, which a row keeps, is at most 2^62
+abbrev pub is_step : Step → Bool
+is_step (steps_are.Track pid topic key meta) = nat_le pid (2 ^ 62)
+is_step (steps_are.Update pid topic key meta) = nat_le pid (2 ^ 62)
+is_step _ = true
+
+-- the limits of what a journal begins with
+pub record IsStart (s : Start) : Type 0 where
+  pub name : IsTrue (is_node_name s.own.name)
+  pub incarnation : IsCount s.own.incarnation
+  pub number : s.number ≤ 2 ^ 62
+
+-- each entry has the outcome of the table and the next number, and stands where there was room for it
+abbrev pub IsLegal : History → Type 0
+IsLegal (Begin s) = IsStart s
+IsLegal (Then h e) = IsLegal h × (outcome_of h e.step ≡ Some e.outcome) × (e.number ≡ last_number h + 1) × (is_full h ≡ false) × (is_step e.step ≡ true)

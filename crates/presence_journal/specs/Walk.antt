@@ -1,0 +1,64 @@
+-- What one entry does to the rows of a topic, and how rows by dot become a table by place.
+use Rattle.std.specs.Prelude.{◌+◌, nat_eq, ◌≡◌, ℕ, cond, List, [], ◌∷◌, Option, Some, None}
+use Rattle.std.specs.FinMap as map
+use Rattle.std.specs.BTreeMap.{insert_entry}
+use Rattle.presence_base.specs.declared.dots.Dot.{Dot}
+use Rattle.presence_base.specs.declared.row.Row.{Row}
+use Rattle.presence_base.specs.Order.{same_text, same_dot}
+use Rattle.presence_journal.specs.declared.entry.Outcome.TheVariants as outcomes_are
+use Rattle.presence_journal.specs.declared.rows.Place.{Place}
+use Rattle.presence_journal.specs.declared.rows.RowDiff.{RowDiff}
+use Rattle.presence_journal.specs.Queue.{diff_of}
+use Rattle.presence_journal.specs.Steps.{Outcome, Entry}
+use Rattle.presence_journal.specs.History.{History, Begin, Then, entry_count, first_some, has_dot, row_added, shown}
+use Rattle.presence_journal.specs.Present.{place_cmp, RowMap, place_of, of_topic}
+
+-- the dots that an outcome names as taken out
+abbrev pub dots_taken : Outcome → List Dot
+dots_taken (outcomes_are.Replaced new old) = old ∷ []
+dots_taken (outcomes_are.Removed ds) = ds
+dots_taken _ = []
+
+-- the row of a topic that is added under a dot
+abbrev pub joined : Entry → List ℕ → Dot → Option Row
+joined e t d = of_topic t (row_added e.step e.outcome d)
+
+-- what stays of the rows that f gives
+abbrev pub without : List Dot → (Dot → Option Row) → Dot → Option Row
+without ds f d = cond (has_dot ds d) None (f d)
+
+-- what goes of the rows that f gives
+abbrev pub among : List Dot → (Dot → Option Row) → Dot → Option Row
+among ds f d = cond (has_dot ds d) (f d) None
+
+-- the rows of a topic after an entry, where f gives those before it
+abbrev pub rows_after : Entry → List ℕ → (Dot → Option Row) → Dot → Option Row
+rows_after e t f d = first_some (joined e t d) (without (dots_taken e.outcome) f d)
+
+-- the rows of a topic that are shown
+abbrev pub shown_of : History → List ℕ → Dot → Option Row
+shown_of h t d = of_topic t (shown h d)
+
+-- what one row under its dot gives
+abbrev pub row_at : Option (Dot × Row) → Dot → Option Row
+row_at None d = None
+row_at (Some x) d = cond (same_dot d x.0) (Some x.1) None
+
+-- the row, where it has this key
+abbrev pub keyed : List ℕ → Option Row → Option Row
+keyed k None = None
+keyed k (Some r) = cond (same_text k r.key) (Some r) None
+
+-- the table by place of the rows that f gives by dot
+abbrev pub IsTableOf : (Dot → Option Row) → RowMap → Type 0
+IsTableOf f m = (p : Place) → map.get m p ≡ keyed p.key (f p.dot)
+
+-- rows put to their places, one after another
+abbrev pub placed : List (Place × Row) → List (Dot × Row) → List (Place × Row)
+placed es [] = es
+placed es (x ∷ xs) = placed (insert_entry place_cmp es (place_of x.0 x.1) x.1) xs
+
+-- how the entry at a place after the Start changed the present rows of a topic; where no entry is, nothing changed
+unfoldable pub diff_at : History → ℕ → List ℕ → RowDiff
+diff_at (Begin s) i t = record { joins = []; leaves = [] }
+diff_at (Then h e) i t = cond (nat_eq (i + 1) (entry_count h)) (diff_of h e t) (diff_at h i t)

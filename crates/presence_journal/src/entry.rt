@@ -1,0 +1,144 @@
+ghost use Rattle.std.specs.Prelude.{◌≡◌, IfOk};
+
+use crate::step::Step;
+use presence_base::{Dot, Replica};
+use std::alloc::AllocError;
+use std::marker::Model;
+
+/// A list of dots.
+#[derive(Debug, Drop)]
+pub struct Dots {
+    items: Vec<Dot>,
+}
+
+impl Model for Dots {
+    ghost use Rattle.std.specs.Prelude.{List};
+    ghost use Rattle.std.specs.Coded.{coded_list};
+    ghost use Rattle.presence_base.specs.declared.dots.Dot.{Dot};
+    ghost use Rattle.presence_base.specs.Codes.{dot_code};
+
+    ghost Value = { List Dot };
+
+    ghost coded = { coded_list dot_code };
+
+    ghost view = { λ d. d.items.items };
+}
+
+impl Dots {
+    ghost use Rattle.std.specs.Prelude.{◌≡◌};
+
+    pub fn new(items: Vec<Dot>) -> Dots
+        ensures { result ≡ items.items }
+    {
+        Dots { items }
+    }
+
+    pub fn as_slice(&self) -> &[Dot]
+        ensures { result.now ≡ self.now }
+    {
+        self.items.as_slice()
+    }
+
+    pub fn into_vec(self) -> Vec<Dot>
+        ensures { result.items ≡ self }
+    {
+        self.items
+    }
+}
+
+/// What a step came to.
+#[derive(Debug, Drop)]
+pub enum Outcome {
+    /// A track added a row under this dot.
+    Added(Dot),
+    /// A track whose pid has a row under the topic and key.
+    AlreadyTracked,
+    /// An update put a row under the first dot in the place of the row under the second.
+    Replaced(Dot, Dot),
+    /// An update whose pid has no row under the topic and key.
+    NoPresence,
+    /// An untrack took out the rows under these dots.
+    Removed(Dots),
+    /// A list or a get answered the rows under these dots.
+    Shown(Dots),
+    /// The subscriber's number.
+    Subscribed(u64),
+    /// Whether the take gave a state, and how many items it gave in all.
+    Taken(bool, u64),
+    Ended,
+    Sent,
+}
+
+/// One step of a shard, with what it came to.
+#[derive(Debug, Drop)]
+pub struct Entry {
+    pub number: u64,
+    /// The caller's seat, where the step was made through one.
+    pub seat: Option<u32>,
+    pub step: Step,
+    pub outcome: Outcome,
+}
+
+/// What a journal begins with: the replica that the shard is, and the number of this first entry.
+#[derive(Debug, Drop)]
+pub struct Start {
+    pub number: u64,
+    pub own: Replica,
+}
+
+impl Clone for Dots {
+    ghost use Rattle.std.specs.Prelude.{◌≡◌};
+
+    ghost is_clone = { λ d e. e ≡ d };
+
+    fn clone(&self) -> Result<Dots, AllocError> {
+        let items = self.items.clone()?;
+        Ok(Dots { items })
+    }
+}
+
+impl Clone for Outcome {
+    ghost use Rattle.std.specs.Prelude.{◌≡◌};
+
+    ghost is_clone = { λ o p. p ≡ o };
+
+    fn clone(&self) -> Result<Outcome, AllocError> {
+        match self {
+            Outcome::Added(dot) => Ok(Outcome::Added(dot.clone()?)),
+            Outcome::AlreadyTracked => Ok(Outcome::AlreadyTracked),
+            Outcome::Replaced(dot, old) => clone_replaced(dot, old),
+            Outcome::NoPresence => Ok(Outcome::NoPresence),
+            Outcome::Removed(dots) => Ok(Outcome::Removed(dots.clone()?)),
+            Outcome::Shown(dots) => Ok(Outcome::Shown(dots.clone()?)),
+            Outcome::Subscribed(number) => Ok(Outcome::Subscribed(*number)),
+            Outcome::Taken(state, items) => Ok(Outcome::Taken(*state, *items)),
+            Outcome::Ended => Ok(Outcome::Ended),
+            Outcome::Sent => Ok(Outcome::Sent),
+        }
+    }
+}
+
+fn clone_replaced(dot: &Dot, old: &Dot) -> Result<Outcome, AllocError>
+    ensures { IfOk result (λ o. o ≡ Outcome.Replaced dot.now old.now) }
+{
+    let dot = dot.clone()?;
+    let old = old.clone()?;
+    Ok(Outcome::Replaced(dot, old))
+}
+
+impl Clone for Entry {
+    ghost use Rattle.std.specs.Prelude.{◌≡◌};
+
+    ghost is_clone = { λ e f. f ≡ e };
+
+    fn clone(&self) -> Result<Entry, AllocError> {
+        let step = self.step.clone()?;
+        let outcome = self.outcome.clone()?;
+        Ok(Entry {
+            number: self.number,
+            seat: self.seat,
+            step,
+            outcome,
+        })
+    }
+}

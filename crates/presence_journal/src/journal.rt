@@ -1,0 +1,127 @@
+ghost use Rattle.std.specs.Prelude.{◌≡◌, ◌++◌, ◌∷◌, [], OnOk, OnErr};
+
+use crate::entry::{Entry, Outcome, Start};
+use crate::step::Step;
+use presence_base::{MAX_COUNT, Replica};
+use std::alloc::{AllocError, Global};
+use std::marker::Model;
+
+/// How many entries a journal may have, the Start among them.
+pub const MAX_ENTRIES: usize = 262_144;
+
+/// What was asked of a shard, in order, each with the outcome of the sequential presence table.
+#[derive(Drop)]
+pub struct Journal {
+    start: Start,
+    entries: Vec<Entry>,
+}
+
+impl Model for Journal {
+    ghost use Rattle.std.specs.Coded.{coded_list, coded×};
+    ghost use Rattle.presence_journal.specs.contracts.entry.Entry as one_entry;
+    ghost use Rattle.presence_journal.specs.contracts.entry.Start as beginning;
+    ghost use Rattle.presence_journal.specs.History.{History, history_code};
+
+    ghost Value = { History };
+
+    ghost coded = { history_code (coded× beginning.the_row.coded (coded_list one_entry.the_row.coded)) };
+
+    ghost use Rattle.presence_journal.specs.History.{Begin, onto};
+    ghost use Rattle.presence_journal.specs.Table.{IsLegal};
+
+    ghost view = { λ j. onto (Begin j.start) j.entries.items };
+
+    ghost invariant = { λ j. IsLegal (onto (Begin j.start) j.entries.items) };
+}
+
+// Puts an entry at the end.
+fn push_entry(entries: &mut Vec<Entry>, entry: Entry) -> Result<(), AllocError>
+    ensures ok { OnOk result (entries.new.items ≡ entries.old.items ++ entry ∷ []) }
+    ensures err { OnErr result (entries.new.items ≡ entries.old.items) }
+{
+    entries.push(entry)?;
+    Ok(())
+}
+
+impl Journal {
+    ghost use Rattle.std.specs.Prelude.{◌≡◌, ◌≤◌, ◌^◌, ◌+◌, length, true, false, Some, OnOk, OnErr};
+    ghost use Rattle.presence_base.specs.Refs.{IsCount};
+    ghost use Rattle.presence_journal.specs.History.{Begin, onto, start_of, own, last_number, entry_count, is_full};
+    ghost use Rattle.presence_journal.specs.Table.{IsLegal, outcome_of, after, is_step};
+
+    /// The journal of a new shard: an empty Start with number 0.
+    pub fn new(alloc: Global, own: Replica) -> Journal
+        requires { IsCount own.incarnation }
+        ensures { result ≡ Begin (record { number = 0; own = own }) }
+    {
+        let _name = own.name.as_str();
+        Journal {
+            start: Start { number: 0, own },
+            entries: Vec::new(alloc),
+        }
+    }
+
+    /// The first entry.
+    pub fn start(&self) -> &Start
+        ensures { result.now ≡ start_of self.now }
+    {
+        &self.start
+    }
+
+    /// The entries after the Start, the oldest first.
+    pub fn entries(&self) -> &[Entry]
+        ensures history { onto (Begin (start_of self.now)) result.now ≡ self.now }
+        ensures legal { IsLegal self.now }
+        ensures count { length result.now + 1 ≡ entry_count self.now }
+    {
+        self.entries.as_slice()
+    }
+
+    /// The replica that counts here.
+    pub fn own(&self) -> &Replica
+        ensures { result.now ≡ own self.now }
+    {
+        &self.start.own
+    }
+
+    /// The number of the newest entry.
+    pub fn last_number(&self) -> u64
+        ensures number { result ≡ last_number self.now }
+        ensures limit { result ≤ 2 ^ 62 }
+    {
+        match self.entries.last() {
+            Some(entry) => entry.number,
+            None => self.start.number,
+        }
+    }
+
+    /// Whether no entry can follow: the journal has its most entries, or its last number is the highest.
+    pub fn is_full(&self) -> bool
+        ensures { result ≡ is_full self.now }
+    {
+        self.entries.len() >= MAX_ENTRIES - 1 || self.last_number() >= MAX_COUNT
+    }
+
+    /// Adds the entry of a step with its outcome.
+    pub fn append(
+        &mut self,
+        seat: Option<u32>,
+        step: Step,
+        outcome: Outcome,
+    ) -> Result<(), AllocError>
+        requires legal { outcome_of self.old step ≡ Some outcome }
+        requires room { is_full self.old ≡ false }
+        requires step { is_step step ≡ true }
+        ensures ok { OnOk result (self.new ≡ after self.old step seat) }
+        ensures err { OnErr result (self.new ≡ self.old) }
+    {
+        let number = self.last_number() + 1;
+        let entry = Entry {
+            number,
+            seat,
+            step,
+            outcome,
+        };
+        push_entry(&mut self.entries, entry)
+    }
+}

@@ -1,0 +1,335 @@
+use crate::{
+    Journal, Outcome, Payload, Pending, Step, TakeLimit, walk_count, walk_diff, walk_get,
+    walk_list, walk_next_dot, walk_outcome, walk_own_row, walk_own_rows, walk_pending, walk_topic,
+};
+use presence_base::{
+    Dot, Json, Key, Meta, NodeName, Replica, Row, Topic, has_float, is_within_depth, ref_text,
+};
+use serde_json::Value;
+use std::alloc::{AllocError, Global};
+use std::test::Fail;
+
+// What is asked of the room in a test.
+#[derive(Clone, Copy)]
+enum Ask {
+    Track(u64, &'static str),
+    Update(u64, &'static str),
+    Untrack(u64, &'static str),
+    UntrackAll(u64),
+    List,
+    Get(&'static str),
+    Subscribe,
+    Take(u64),
+    Unsubscribe(u64),
+    Shout,
+}
+
+fn topic(alloc: Global) -> Result<Topic, Fail> {
+    Ok(Topic::new(alloc, "room:lobby")?.ok_or("a topic")?)
+}
+
+fn key(alloc: Global, text: &str) -> Result<Key, Fail> {
+    Ok(Key::new(alloc, text)?.ok_or("a key")?)
+}
+
+fn meta(alloc: Global) -> Result<Meta, Fail> {
+    let value = Value::from_str(alloc, "{\"x\":1}")?;
+    Ok(Meta::new(alloc, value)?.ok_or("a meta")?)
+}
+
+fn track(alloc: Global, pid: u64, name: &str) -> Result<Step, Fail> {
+    let topic = topic(alloc)?;
+    let key = key(alloc, name)?;
+    let meta = meta(alloc)?;
+    Ok(Step::Track {
+        pid,
+        topic,
+        key,
+        meta,
+    })
+}
+
+fn update(alloc: Global, pid: u64, name: &str) -> Result<Step, Fail> {
+    let topic = topic(alloc)?;
+    let key = key(alloc, name)?;
+    let meta = meta(alloc)?;
+    Ok(Step::Update {
+        pid,
+        topic,
+        key,
+        meta,
+    })
+}
+
+fn untrack(alloc: Global, pid: u64, name: &str) -> Result<Step, Fail> {
+    let topic = topic(alloc)?;
+    let key = key(alloc, name)?;
+    Ok(Step::Untrack { pid, topic, key })
+}
+
+fn get(alloc: Global, name: &str) -> Result<Step, Fail> {
+    let topic = topic(alloc)?;
+    let key = key(alloc, name)?;
+    Ok(Step::Get { topic, key })
+}
+
+fn payload(alloc: Global) -> Result<Payload, Fail> {
+    let value = Value::from_str(alloc, "[1]")?;
+    if !is_within_depth(&value, 64) || has_float(&value) {
+        return Err("a payload".into());
+    }
+    Ok(Payload::new(Json::new(value)))
+}
+
+fn shout(alloc: Global) -> Result<Step, Fail> {
+    let topic = topic(alloc)?;
+    let payload = payload(alloc)?;
+    Ok(Step::Shout { topic, payload })
+}
+
+fn step_of(alloc: Global, ask: Ask) -> Result<Step, Fail> {
+    match ask {
+        Ask::Track(pid, name) => track(alloc, pid, name),
+        Ask::Update(pid, name) => update(alloc, pid, name),
+        Ask::Untrack(pid, name) => untrack(alloc, pid, name),
+        Ask::UntrackAll(pid) => Ok(Step::UntrackAll {
+            pid,
+            topic: topic(alloc)?,
+        }),
+        Ask::List => Ok(Step::List {
+            topic: topic(alloc)?,
+        }),
+        Ask::Get(name) => get(alloc, name),
+        Ask::Subscribe => Ok(Step::Subscribe {
+            topic: topic(alloc)?,
+        }),
+        Ask::Take(subscriber) => Ok(Step::Take {
+            subscriber,
+            max: TakeLimit::new(256),
+        }),
+        Ask::Unsubscribe(subscriber) => Ok(Step::Unsubscribe { subscriber }),
+        Ask::Shout => shout(alloc),
+    }
+}
+
+fn empty_journal(alloc: Global) -> Result<Journal, Fail> {
+    let name = NodeName::new(alloc, "a")?.ok_or("a name")?;
+    Ok(Journal::new(
+        alloc,
+        Replica {
+            name,
+            incarnation: 1,
+        },
+    ))
+}
+
+// Makes a step, and tells whether it was accepted.
+fn make(alloc: Global, journal: &mut Journal, step: Step) -> Result<bool, AllocError> {
+    if journal.is_full() || !step.is_within_limits() {
+        return Ok(false);
+    }
+    match walk_outcome(alloc, journal, &step)? {
+        Some(outcome) => {
+            journal.append(None, step, outcome)?;
+            Ok(true)
+        }
+        None => Ok(false),
+    }
+}
+
+// The journal of these steps; a refused one is left out.
+fn journal_of(alloc: Global, asks: &[Ask]) -> Result<Journal, Fail> {
+    let mut journal = empty_journal(alloc)?;
+    for ask in asks {
+        let step = step_of(alloc, *ask)?;
+        let _accepted = make(alloc, &mut journal, step)?;
+    }
+    Ok(journal)
+}
+
+fn outcome_at(journal: &Journal, place: usize) -> Option<&Outcome> {
+    let entry = journal.entries().get(place)?;
+    Some(&entry.outcome)
+}
+
+// The references of rows, each with a space after it.
+fn references(alloc: Global, rows: &[(Dot, Row)]) -> Result<String, AllocError> {
+    let mut text = String::new(alloc);
+    for row in rows {
+        let reference = ref_text(alloc, &row.0)?;
+        text.push_str(reference.as_str())?;
+        text.push(' ')?;
+    }
+    Ok(text)
+}
+
+fn listed(alloc: Global, journal: &Journal) -> Result<String, Fail> {
+    let topic = topic(alloc)?;
+    let rows = walk_list(alloc, journal, &topic)?;
+    Ok(references(alloc, &rows)?)
+}
+
+fn of_key(alloc: Global, journal: &Journal, name: &str) -> Result<String, Fail> {
+    let topic = topic(alloc)?;
+    let key = key(alloc, name)?;
+    let rows = walk_get(alloc, journal, &topic, &key)?;
+    Ok(references(alloc, &rows)?)
+}
+
+fn of_pid(alloc: Global, journal: &Journal, pid: u64) -> Result<String, Fail> {
+    let topic = topic(alloc)?;
+    let rows = walk_own_rows(alloc, journal, pid, &topic)?;
+    Ok(references(alloc, &rows)?)
+}
+
+fn of_pid_and_key(alloc: Global, journal: &Journal, pid: u64, name: &str) -> Result<String, Fail> {
+    let topic = topic(alloc)?;
+    let key = key(alloc, name)?;
+    let rows = walk_own_row(alloc, journal, pid, &topic, &key)?;
+    Ok(references(alloc, &rows)?)
+}
+
+// The references that joined and left by an entry.
+fn difference(
+    alloc: Global,
+    journal: &Journal,
+    place: usize,
+) -> Result<Option<(String, String)>, Fail> {
+    if place >= journal.entries().len() {
+        return Ok(None);
+    }
+    let topic = topic(alloc)?;
+    let diff = walk_diff(alloc, journal, place, &topic)?;
+    let joins = references(alloc, diff.joins.as_slice())?;
+    let leaves = references(alloc, diff.leaves.as_slice())?;
+    Ok(Some((joins, leaves)))
+}
+
+// How many items wait, none where the subscriber is behind or not present.
+fn waiting(alloc: Global, journal: &Journal, number: u64) -> Result<Option<usize>, AllocError> {
+    let Some(topic) = walk_topic(journal, number) else {
+        return Ok(None);
+    };
+    match walk_pending(alloc, journal, number, topic)? {
+        Pending::Behind => Ok(None),
+        Pending::Items(items) => Ok(Some(items.len())),
+    }
+}
+
+#[test]
+fn the_journal_of_the_first_run(rt: HostRuntime) -> Result<(), Fail> {
+    let asks = [
+        Ask::Subscribe,
+        Ask::Take(1),
+        Ask::Track(1, "u1"),
+        Ask::Take(1),
+        Ask::List,
+    ];
+    let journal = journal_of(rt.alloc(), &asks)?;
+    assert_eq!(rt; journal.start().number, 0);
+    assert!(rt; matches!(outcome_at(&journal, 0), Some(Outcome::Subscribed(1))));
+    assert!(rt; matches!(outcome_at(&journal, 1), Some(Outcome::Taken(true, 1))));
+    assert!(rt; matches!(outcome_at(&journal, 3), Some(Outcome::Taken(false, 1))));
+    assert_eq!(rt; journal.last_number(), 5);
+    assert_eq!(rt; walk_count(&journal), 1);
+    assert!(rt; listed(rt.alloc(), &journal)?.as_str() == "a.1.1 ");
+    Ok(())
+}
+
+#[test]
+fn two_pids_on_one_key(rt: HostRuntime) -> Result<(), Fail> {
+    let asks = [
+        Ask::Track(1, "u1"),
+        Ask::Track(2, "u1"),
+        Ask::Track(2, "u1"),
+        Ask::Get("u1"),
+    ];
+    let journal = journal_of(rt.alloc(), &asks)?;
+    assert!(rt; matches!(outcome_at(&journal, 2), Some(Outcome::AlreadyTracked)));
+    assert!(rt; of_key(rt.alloc(), &journal, "u1")?.as_str() == "a.1.1 a.1.2 ");
+    assert!(rt; of_pid(rt.alloc(), &journal, 1)?.as_str() == "a.1.1 ");
+    assert!(rt; of_pid_and_key(rt.alloc(), &journal, 2, "u1")?.as_str() == "a.1.2 ");
+    Ok(())
+}
+
+#[test]
+fn an_untrack_leaves_the_other_pid(rt: HostRuntime) -> Result<(), Fail> {
+    let asks = [
+        Ask::Track(1, "u1"),
+        Ask::Track(2, "u1"),
+        Ask::Untrack(1, "u1"),
+        Ask::UntrackAll(7),
+    ];
+    let journal = journal_of(rt.alloc(), &asks)?;
+    assert!(rt; listed(rt.alloc(), &journal)?.as_str() == "a.1.2 ");
+    assert!(rt; walk_next_dot(&journal)?.is_some_and(|dot| dot.count == 4));
+    Ok(())
+}
+
+#[test]
+fn an_update_and_its_difference(rt: HostRuntime) -> Result<(), Fail> {
+    let asks = [
+        Ask::Track(1, "u1"),
+        Ask::Update(1, "u1"),
+        Ask::Update(1, "u9"),
+    ];
+    let journal = journal_of(rt.alloc(), &asks)?;
+    assert!(rt; matches!(outcome_at(&journal, 2), Some(Outcome::NoPresence)));
+    let (joins, leaves) = difference(rt.alloc(), &journal, 1)?.ok_or("an entry")?;
+    assert!(rt; joins.as_str() == "a.1.2 ");
+    assert!(rt; leaves.as_str() == "a.1.1 ");
+    Ok(())
+}
+
+#[test]
+fn what_waits_for_a_subscriber(rt: HostRuntime) -> Result<(), Fail> {
+    let asks = [
+        Ask::Take(1),
+        Ask::Subscribe,
+        Ask::Take(1),
+        Ask::Track(1, "u1"),
+        Ask::Shout,
+    ];
+    let journal = journal_of(rt.alloc(), &asks)?;
+    assert_eq!(rt; journal.last_number(), 4);
+    assert!(rt; waiting(rt.alloc(), &journal, 1)? == Some(2));
+    assert!(rt; walk_topic(&journal, 2).is_none());
+    Ok(())
+}
+
+#[test]
+fn an_ended_subscriber_has_no_topic(rt: HostRuntime) -> Result<(), Fail> {
+    let journal = journal_of(rt.alloc(), &[Ask::Subscribe, Ask::Unsubscribe(1)])?;
+    assert!(rt; matches!(outcome_at(&journal, 1), Some(Outcome::Ended)));
+    assert!(rt; walk_topic(&journal, 1).is_none());
+    Ok(())
+}
+
+// A subscriber that took its state, and this many shouts.
+fn shouted(alloc: Global, count: u32) -> Result<Journal, Fail> {
+    let mut journal = journal_of(alloc, &[Ask::Subscribe, Ask::Take(1)])?;
+    for _ in 0..count {
+        let step = shout(alloc)?;
+        let _accepted = make(alloc, &mut journal, step)?;
+    }
+    Ok(journal)
+}
+
+#[test]
+fn the_257th_item_makes_a_subscriber_behind(rt: HostRuntime) -> Result<(), Fail> {
+    let most = shouted(rt.alloc(), 256)?;
+    assert!(rt; waiting(rt.alloc(), &most, 1)? == Some(256));
+    let more = shouted(rt.alloc(), 257)?;
+    assert!(rt; waiting(rt.alloc(), &more, 1)?.is_none());
+    Ok(())
+}
+
+#[test]
+fn an_entry_is_cloned(rt: HostRuntime) -> Result<(), Fail> {
+    let journal = journal_of(rt.alloc(), &[Ask::Track(3, "u1"), Ask::UntrackAll(3)])?;
+    let entry = journal.entries().get(1).ok_or("an entry")?;
+    let copy = entry.clone()?;
+    assert_eq!(rt; copy.number, 2);
+    assert!(rt; matches!(copy.step, Step::UntrackAll { pid: 3, .. }));
+    Ok(())
+}
