@@ -1,0 +1,4 @@
+pub mod Seen
+pub mod Lookups
+pub mod FoldLaws
+pub mod ReadBack

@@ -1,0 +1,7 @@
+pub mod Codes
+pub mod Listing
+pub mod Rows
+pub mod Values
+pub mod Frames
+pub mod Fold
+pub mod Laws

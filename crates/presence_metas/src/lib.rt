@@ -1,0 +1,17 @@
+//! The presence list as a client keeps it (Phoenix.Presence): the objects of states and diffs, the
+//! frames that carry them, and the mirror that folds them.
+#![tactic(auto)]
+
+mod frame;
+pub mod laws;
+mod members;
+mod mirror;
+mod presences;
+#[cfg(test)]
+mod tests;
+mod tracked;
+
+pub use frame::{Frame, FrameFault, read_frame};
+pub use mirror::Mirror;
+pub use presences::{Diff, Presences, diff_value, state_value, value_of_metas};
+pub use tracked::TrackedMeta;

@@ -1,0 +1,32 @@
+ghost use Rattle.std.specs.Prelude.{◌≡◌, OnOk};
+ghost use Rattle.serde_json.specs.Data.{put};
+ghost use Rattle.serde_json.specs.View.{view, members_view};
+ghost use Rattle.presence_metas.specs.Rows.{members_in};
+
+use serde_json::{Map, Value};
+use std::alloc::{AllocError, Global};
+
+// The members of a value, none where it is no object.
+pub(crate) fn members_of(alloc: Global, value: Value) -> Map<String, Value>
+    ensures { members_view result.entries ≡ members_in (view value) }
+{
+    match value {
+        Value::Object(members) => members,
+        _ => Map::new(alloc),
+    }
+}
+
+// Puts a value under a name.
+pub(crate) fn put_member(
+    alloc: Global,
+    members: &mut Map<String, Value>,
+    name: &str,
+    value: Value,
+) -> Result<(), AllocError>
+    ensures { OnOk result (members_view members.new.entries
+        ≡ put name.now (view value) (members_view members.old.entries)) }
+{
+    let name = String::from_str(alloc, name)?;
+    members.insert(name, value)?;
+    Ok(())
+}
