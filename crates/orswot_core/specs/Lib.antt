@@ -1,0 +1,5 @@
+pub mod Limits
+pub mod Telling
+pub mod Checks
+pub mod Sets
+pub mod Laws

@@ -1,0 +1,72 @@
+-- An observed-remove set: the dots that it covers, and the rows that are live.
+use Rattle.std.specs.Prelude.{◌≡◌, Bool, true, false, cond, not, is_some, ◌&&◌, ◌||◌, List, [], ◌∷◌, Option, Some, None, refl}
+use Rattle.std.specs.FinSet as set
+use Rattle.std.specs.FinMap as map
+use Rattle.std.specs.Coded.{Coded, code_by, coded×}
+use Rattle.presence_base.specs.declared.dots.Dot.{Dot}
+use Rattle.presence_base.specs.declared.row.Row.{Row}
+use Rattle.presence_base.specs.declared.dots.Replica.{Replica}
+use Rattle.presence_base.specs.Order.{dot_cmp, same_replica}
+use Rattle.presence_base.specs.Codes.{dot_code, row_code}
+use Rattle.dot_context.specs.Sets.{DotSet, without}
+use Rattle.orswot_core.specs.Limits.{is_dot, is_row}
+
+abbrev pub LiveRows : Type 0
+LiveRows = map.FinMap dot_cmp Row
+
+abbrev pub rows_of : List (Dot × Row) → LiveRows
+rows_of es = map.from_entries {R = dot_cmp} es
+
+pub record DotRows : Type 0 where
+  pub covered : DotSet
+  pub live : LiveRows
+
+abbrev pub rows_code : Coded DotRows
+rows_code = code_by (DotSet × LiveRows) (coded× (set.code dot_code) (map.code dot_code row_code)) (λ s. (s.covered, s.live)) (λ p. record { covered = p.0; live = p.1 }) (λ _. refl)
+
+abbrev pub with_dot : DotRows → Dot → Row → DotRows
+with_dot s d r = record { covered = set.insert s.covered d; live = map.insert s.live d r }
+
+abbrev pub without_rows : LiveRows → List Dot → LiveRows
+without_rows m [] = m
+without_rows m (d ∷ ds) = map.remove (without_rows m ds) d
+
+-- the dots lose their rows; they and the event are covered
+abbrev pub removed : DotRows → List Dot → Dot → DotRows
+removed s ds event = record { covered = set.insert (set.union s.covered (set.from_list ds)) event; live = without_rows s.live ds }
+
+-- the other replicas' dots and rows
+abbrev pub without_replica : DotRows → Replica → DotRows
+without_replica s r = record { covered = without s.covered r; live = map.retain_keys s.live (λ d. not (same_replica d.replica r)) }
+
+-- what a join leaves at a dot, where each side may cover it and have a row for it
+abbrev pub joined_row : Option Row → Bool → Option Row → Bool → Option Row
+joined_row (Some r) covers (Some r') covers' = Some r
+joined_row (Some r) covers None covers' = cond covers' None (Some r)
+joined_row None covers (Some r') covers' = cond covers None (Some r')
+joined_row None covers None covers' = None
+
+abbrev pub first_row : Option Row → Option Row → Option Row
+first_row (Some r) o = Some r
+first_row None o = o
+
+-- a row that is live here and not there
+abbrev pub is_left : Option Row → Option Row → Bool
+is_left here there = is_some here && not (is_some there)
+
+-- what a set may have at a dot: a row only where it covers, and all within their limits
+abbrev pub is_sound : Dot → Bool → Option Row → Bool
+is_sound d false None = true
+is_sound d false (Some r) = false
+is_sound d true None = is_dot d
+is_sound d true (Some r) = is_dot d && is_row r
+
+abbrev pub IsSound : DotSet → LiveRows → Type 0
+IsSound s m = (d : Dot) → is_sound d (set.contains s d) (map.get m d) ≡ true
+
+-- s' is s joined with what covers these dots and has these rows: covered is the union, and live are those
+-- that are live on one side and that the other doesn't cover or also holds live, the first row first
+abbrev pub IsJoin : DotRows → (Dot → Bool) → (Dot → Option Row) → DotRows → Type 0
+IsJoin s covers row s' =
+    (d : Dot) → (set.contains s'.covered d ≡ (set.contains s.covered d || covers d))
+    × (map.get s'.live d ≡ joined_row (map.get s.live d) (set.contains s.covered d) (row d) (covers d))

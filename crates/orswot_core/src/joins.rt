@@ -1,0 +1,340 @@
+// Steps on covered dots and live rows. What is refused for memory is taken back without any.
+ghost use Rattle.std.specs.Prelude.{◌≡◌, ◌≤◌, Bool, true, false, cond, not, ◌&&◌, ◌||◌, Some, None, is_some, OnOk, OnErr, IfOk, ◌++◌, ◌∷◌, []};
+ghost use Rattle.std.specs.List.{list_any, list_all};
+ghost use Rattle.std.specs.Map.{lookup};
+ghost use Rattle.std.specs.BTreeMap.{get, IsUnchanged};
+ghost use Rattle.std.specs.FinSet as set;
+ghost use Rattle.presence_base.specs.Order.{dot_cmp, same_dot, same_replica};
+ghost use Rattle.presence_base.specs.declared.dots.Dot.{Dot as DotValue};
+ghost use Rattle.orswot_core.specs.Limits.{is_dot};
+ghost use Rattle.orswot_core.specs.Telling.{range_has, covers, live_row};
+ghost use Rattle.orswot_core.specs.Checks.{IsTold, is_forward};
+ghost use Rattle.orswot_core.specs.Sets.{joined_row, first_row, is_left};
+
+use crate::told::{Told, add_dots, told_context};
+use dot_context::Context;
+use presence_base::{Dot, Replica, Row};
+use std::alloc::{AllocError, Global};
+use std::collections::BTreeMap;
+use std::ops::Bound;
+
+fn insert_row(live: &mut BTreeMap<Dot, Row>, dot: Dot, row: Row) -> Result<(), AllocError>
+    ensures ok { OnOk result ((q : DotValue) → get dot_cmp live.new q ≡ cond (same_dot dot q) (Some row) (get dot_cmp live.old q)) }
+    ensures err { OnErr result (IsUnchanged live.old live.new) }
+{
+    match live.insert(dot, row) {
+        Ok(_) => Ok(()),
+        Err(_) => Err(AllocError),
+    }
+}
+
+fn take_row(live: &mut BTreeMap<Dot, Row>, dot: &Dot)
+    ensures { (q : DotValue) → get dot_cmp live.new q ≡ cond (same_dot dot.now q) None (get dot_cmp live.old q) }
+{
+    live.remove(dot);
+}
+
+// Adds the row first, since a row can be taken out again without memory.
+pub(crate) fn add_row(
+    covered: &mut Context,
+    live: &mut BTreeMap<Dot, Row>,
+    alloc: Global,
+    dot: Dot,
+    row: Row,
+) -> Result<(), AllocError>
+    requires counted { 1 ≤ dot.count }
+    requires new { get dot_cmp live.old dot ≡ None }
+    ensures ok { OnOk result ((covered.new ≡ set.insert covered.old dot) × ((q : DotValue) → get dot_cmp live.new q ≡ cond (same_dot dot q) (Some row) (get dot_cmp live.old q))) }
+    ensures err { OnErr result ((covered.new ≡ covered.old) × ((q : DotValue) → get dot_cmp live.new q ≡ get dot_cmp live.old q)) }
+{
+    let key = dot.clone()?;
+    let back = dot.clone()?;
+    insert_row(live, key, row)?;
+    match covered.add(alloc, dot) {
+        Ok(()) => Ok(()),
+        Err(e) => {
+            take_row(live, &back);
+            Err(e)
+        }
+    }
+}
+
+// Keeps the rows whose dots are covered.
+fn keep_covered(live: &mut BTreeMap<Dot, Row>, covered: &Context)
+    ensures { (q : DotValue) → get dot_cmp live.new q ≡ cond (set.contains covered.now q) (get dot_cmp live.old q) None }
+{
+    live.retain(|dot, _row| covered.covers(dot));
+}
+
+// Takes out the rows whose dots the other set covers and does not hold.
+fn drop_removed(live: &mut BTreeMap<Dot, Row>, covered: &Context, others: &BTreeMap<Dot, Row>)
+    ensures { (q : DotValue) → get dot_cmp live.new q ≡ cond (not (set.contains covered.now q) || is_some (get dot_cmp others.now q)) (get dot_cmp live.old q) None }
+{
+    live.retain(|dot, _row| !covered.covers(dot) || others.contains_key(dot));
+}
+
+// Takes out the replica's rows.
+pub(crate) fn forget_rows(live: &mut BTreeMap<Dot, Row>, replica: &Replica)
+    ensures { (q : DotValue) → get dot_cmp live.new q ≡ cond (not (same_replica q.replica replica.now)) (get dot_cmp live.old q) None }
+{
+    live.retain(|dot, _row| !dot.replica.cmp(replica).is_eq());
+}
+
+// Takes out the rows of these dots.
+fn drop_dots(live: &mut BTreeMap<Dot, Row>, dots: &[Dot])
+    ensures { (q : DotValue) → get dot_cmp live.new q ≡ cond (list_any (same_dot q) dots.now) None (get dot_cmp live.old q) }
+{
+    for dot in dots {
+        take_row(live, dot);
+    }
+}
+
+// Adds the rows whose dots are not covered.
+fn insert_missing(
+    live: &mut BTreeMap<Dot, Row>,
+    covered: &Context,
+    others: &BTreeMap<Dot, Row>,
+) -> Result<(), AllocError>
+    ensures ok { OnOk result ((q : DotValue) → set.contains covered.now q ≡ false → get dot_cmp live.old q ≡ None → get dot_cmp live.new q ≡ get dot_cmp others.now q) }
+    ensures kept { (q : DotValue) → set.contains covered.now q ≡ true → get dot_cmp live.new q ≡ get dot_cmp live.old q }
+{
+    for (dot, row) in others.iter() {
+        if !covered.covers(dot) {
+            let dot = dot.clone()?;
+            let row = row.clone()?;
+            insert_row(live, dot, row)?;
+        }
+    }
+    Ok(())
+}
+
+// Adds what is missing, covers, and then takes out what the other set removed. What is refused is taken back.
+pub(crate) fn join_rows(
+    covered: &mut Context,
+    live: &mut BTreeMap<Dot, Row>,
+    alloc: Global,
+    other: &Context,
+    others: &BTreeMap<Dot, Row>,
+) -> Result<(), AllocError>
+    requires { (q : DotValue) → is_some (get dot_cmp live.old q) ≡ true → set.contains covered.old q ≡ true }
+    ensures ok { OnOk result ((covered.new ≡ set.union covered.old other.now) × ((q : DotValue) → get dot_cmp live.new q ≡ joined_row (get dot_cmp live.old q) (set.contains covered.old q) (get dot_cmp others.now q) (set.contains other.now q))) }
+    ensures err { OnErr result ((covered.new ≡ covered.old) × ((q : DotValue) → get dot_cmp live.new q ≡ get dot_cmp live.old q)) }
+{
+    match insert_missing(live, covered, others) {
+        Ok(()) => {}
+        Err(e) => {
+            keep_covered(live, covered);
+            return Err(e);
+        }
+    }
+    match covered.join(alloc, other) {
+        Ok(()) => {
+            drop_removed(live, other, others);
+            Ok(())
+        }
+        Err(e) => {
+            keep_covered(live, covered);
+            Err(e)
+        }
+    }
+}
+
+// Inserts the row where its dot has none yet.
+fn keep_first(live: &mut BTreeMap<Dot, Row>, row: &(Dot, Row)) -> Result<(), AllocError>
+    ensures { OnOk result ((q : DotValue) → get dot_cmp live.new q ≡ first_row (get dot_cmp live.old q) (cond (same_dot q row.now.0) (Some row.now.1) None)) }
+{
+    if live.contains_key(&row.0) {
+        return Ok(());
+    }
+    let dot = row.0.clone()?;
+    let row = row.1.clone()?;
+    insert_row(live, dot, row)
+}
+
+// The told rows by their dots, the first of each.
+fn told_rows(alloc: Global, rows: &[(Dot, Row)]) -> Result<BTreeMap<Dot, Row>, AllocError>
+    ensures { IfOk result (λ m. (q : DotValue) → get dot_cmp m q ≡ lookup (same_dot q) rows.now) }
+{
+    let mut live = BTreeMap::new(alloc);
+    for row in rows {
+        keep_first(&mut live, row)?;
+    }
+    Ok(live)
+}
+
+fn push_dot(dots: &mut Vec<Dot>, dot: &Dot) -> Result<(), AllocError>
+    ensures { OnOk result (dots.new.items ≡ dots.old.items ++ dot.now ∷ []) }
+{
+    let dot = dot.clone()?;
+    dots.push(dot)?;
+    Ok(())
+}
+
+// Gathers the dot where it is live here and not told live.
+fn gather_dot(
+    gone: &mut Vec<Dot>,
+    live: &BTreeMap<Dot, Row>,
+    told: &BTreeMap<Dot, Row>,
+    dot: &Dot,
+) -> Result<(), AllocError>
+    ensures { OnOk result ((q : DotValue) → list_any (same_dot q) gone.new.items ≡ (list_any (same_dot q) gone.old.items || (is_left (get dot_cmp live.now q) (get dot_cmp told.now q) && same_dot q dot.now))) }
+{
+    if !is_row_left(live, told, dot) {
+        return Ok(());
+    }
+    push_dot(gone, dot)
+}
+
+fn is_row_left(live: &BTreeMap<Dot, Row>, told: &BTreeMap<Dot, Row>, dot: &Dot) -> bool
+    ensures { result ≡ is_left (get dot_cmp live.now dot.now) (get dot_cmp told.now dot.now) }
+{
+    live.contains_key(dot) && !told.contains_key(dot)
+}
+
+fn gather_extras(
+    gone: &mut Vec<Dot>,
+    live: &BTreeMap<Dot, Row>,
+    told: &BTreeMap<Dot, Row>,
+    extras: &[Dot],
+) -> Result<(), AllocError>
+    ensures { OnOk result ((q : DotValue) → list_any (same_dot q) gone.new.items ≡ (list_any (same_dot q) gone.old.items || (is_left (get dot_cmp live.now q) (get dot_cmp told.now q) && list_any (same_dot q) extras.now))) }
+{
+    for dot in extras {
+        gather_dot(gone, live, told, dot)?;
+    }
+    Ok(())
+}
+
+// Looks only at the live rows that lie in the range.
+fn gather_range(
+    gone: &mut Vec<Dot>,
+    live: &BTreeMap<Dot, Row>,
+    told: &BTreeMap<Dot, Row>,
+    range: &(Replica, u64, u64),
+) -> Result<(), AllocError>
+    requires { is_forward range.now ≡ true }
+    ensures { OnOk result ((q : DotValue) → list_any (same_dot q) gone.new.items ≡ (list_any (same_dot q) gone.old.items || (is_left (get dot_cmp live.now q) (get dot_cmp told.now q) && range_has q range.now))) }
+{
+    let low = Dot {
+        replica: range.0.clone()?,
+        count: range.1,
+    };
+    let high = Dot {
+        replica: range.0.clone()?,
+        count: range.2,
+    };
+    for (dot, _row) in live.range((Bound::Excluded(low), Bound::Included(high))) {
+        gather_dot(gone, live, told, dot)?;
+    }
+    Ok(())
+}
+
+fn gather_ranges(
+    gone: &mut Vec<Dot>,
+    live: &BTreeMap<Dot, Row>,
+    told: &BTreeMap<Dot, Row>,
+    ranges: &[(Replica, u64, u64)],
+) -> Result<(), AllocError>
+    requires { list_all is_forward ranges.now ≡ true }
+    ensures { OnOk result ((q : DotValue) → list_any (same_dot q) gone.new.items ≡ (list_any (same_dot q) gone.old.items || (is_left (get dot_cmp live.now q) (get dot_cmp told.now q) && list_any (range_has q) ranges.now))) }
+{
+    for range in ranges {
+        gather_range(gone, live, told, range)?;
+    }
+    Ok(())
+}
+
+// The dots of the rows that the told value takes out.
+fn removed_dots(
+    alloc: Global,
+    live: &BTreeMap<Dot, Row>,
+    rows: &BTreeMap<Dot, Row>,
+    told: &Told,
+) -> Result<Vec<Dot>, AllocError>
+    ensures { IfOk result (λ gone. (q : DotValue) → list_any (same_dot q) gone.items ≡ (is_left (get dot_cmp live.now q) (get dot_cmp rows.now q) && covers told.now q)) }
+{
+    let mut gone = Vec::new(alloc);
+    gather_ranges(&mut gone, live, rows, told.ranges())?;
+    gather_extras(&mut gone, live, rows, told.extras())?;
+    Ok(gone)
+}
+
+// Finds what goes, adds what is missing, covers, and only then takes out. It looks at no live row
+// outside what is told.
+pub(crate) fn join_told(
+    covered: &mut Context,
+    live: &mut BTreeMap<Dot, Row>,
+    alloc: Global,
+    told: &Told,
+) -> Result<(), AllocError>
+    requires { (q : DotValue) → is_some (get dot_cmp live.old q) ≡ true → set.contains covered.old q ≡ true }
+    ensures ok { OnOk result ((q : DotValue) → (set.contains covered.new q ≡ (set.contains covered.old q || covers told.now q)) × (get dot_cmp live.new q ≡ joined_row (get dot_cmp live.old q) (set.contains covered.old q) (live_row told.now q) (covers told.now q))) }
+    ensures told { IsTold told.now }
+    ensures err { OnErr result ((covered.new ≡ covered.old) × ((q : DotValue) → get dot_cmp live.new q ≡ get dot_cmp live.old q)) }
+{
+    let heard = told_context(alloc, told.ranges(), told.extras())?;
+    let rows = told_rows(alloc, told.live())?;
+    let gone = removed_dots(alloc, live, &rows, told)?;
+    match insert_missing(live, covered, &rows) {
+        Ok(()) => {}
+        Err(e) => {
+            keep_covered(live, covered);
+            return Err(e);
+        }
+    }
+    match covered.join(alloc, &heard) {
+        Ok(()) => {
+            drop_dots(live, &gone);
+            Ok(())
+        }
+        Err(e) => {
+            keep_covered(live, covered);
+            Err(e)
+        }
+    }
+}
+
+fn are_covered(covered: &Context, dots: &[Dot]) -> bool
+    ensures { result ≡ list_all (set.contains covered.now) dots.now }
+{
+    dots.iter().all(|dot| covered.covers(dot))
+}
+
+// Dots that are covered already cost nothing.
+fn cover_dots(
+    covered: &mut Context,
+    alloc: Global,
+    dots: &[Dot],
+    event: Dot,
+) -> Result<(), AllocError>
+    requires dots { list_all is_dot dots.now ≡ true }
+    requires event { 1 ≤ event.count }
+    ensures ok { OnOk result ((q : DotValue) → set.contains covered.new q ≡ (same_dot q event || (set.contains covered.old q || list_any (same_dot q) dots.now))) }
+    ensures err { OnErr result (covered.new ≡ covered.old) }
+{
+    if are_covered(covered, dots) {
+        return covered.add(alloc, event);
+    }
+    let mut more = Context::new(alloc);
+    add_dots(&mut more, alloc, dots)?;
+    more.add(alloc, event)?;
+    covered.join(alloc, &more)
+}
+
+// Covers first: the rows are then taken out without memory.
+pub(crate) fn remove_rows(
+    covered: &mut Context,
+    live: &mut BTreeMap<Dot, Row>,
+    alloc: Global,
+    dots: &[Dot],
+    event: Dot,
+) -> Result<(), AllocError>
+    requires dots { list_all is_dot dots.now ≡ true }
+    requires event { 1 ≤ event.count }
+    ensures ok { OnOk result ((q : DotValue) → (set.contains covered.new q ≡ (same_dot q event || (set.contains covered.old q || list_any (same_dot q) dots.now))) × (get dot_cmp live.new q ≡ cond (list_any (same_dot q) dots.now) None (get dot_cmp live.old q))) }
+    ensures err { OnErr result ((covered.new ≡ covered.old) × ((q : DotValue) → get dot_cmp live.new q ≡ get dot_cmp live.old q)) }
+{
+    cover_dots(covered, alloc, dots, event)?;
+    drop_dots(live, dots);
+    Ok(())
+}

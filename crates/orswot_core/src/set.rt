@@ -1,0 +1,122 @@
+ghost use Rattle.std.specs.Prelude.{◌≡◌, ◌≤◌, ℕ, true, false, cond, Some, None, OnOk, OnErr, option_copied, ◌+◌};
+ghost use Rattle.std.specs.List.{list_all};
+ghost use Rattle.std.specs.FinSet as set;
+ghost use Rattle.std.specs.FinMap as map;
+ghost use Rattle.presence_base.specs.Order.{same_replica};
+ghost use Rattle.presence_base.specs.declared.dots.Dot.{Dot as DotValue};
+ghost use Rattle.dot_context.specs.Sets.{without};
+ghost use Rattle.orswot_core.specs.Limits.{is_dot, is_row};
+ghost use Rattle.orswot_core.specs.Telling.{covers, live_row};
+ghost use Rattle.orswot_core.specs.Sets.{with_dot, removed, IsJoin, without_replica};
+
+use crate::joins::{add_row, forget_rows, join_rows, join_told, remove_rows};
+use crate::told::Told;
+use dot_context::Context;
+use presence_base::{Dot, Replica, Row};
+use std::alloc::{AllocError, Global};
+use std::collections::BTreeMap;
+use std::marker::Model;
+
+/// An observed-remove set of rows: the dots that are covered, and the rows that are live at some of
+/// them. A dot that is covered and not live was removed; nothing is kept of its row.
+#[derive(Drop)]
+pub struct Orswot {
+    covered: Context,
+    live: BTreeMap<Dot, Row>,
+}
+
+impl Model for Orswot {
+    ghost use Rattle.orswot_core.specs.Sets.{DotRows, rows_code, rows_of, IsSound};
+
+    ghost Value = { DotRows };
+
+    ghost coded = { rows_code };
+
+    ghost view = { λ a. record { covered = a.covered; live = rows_of a.live.entries } };
+
+    ghost invariant = { λ a. IsSound a.covered (rows_of a.live.entries) };
+}
+
+impl Orswot {
+    pub fn new(alloc: Global) -> Orswot
+        ensures { result ≡ record { covered = set.empty; live = map.empty } }
+    {
+        Orswot {
+            covered: Context::new(alloc),
+            live: BTreeMap::new(alloc),
+        }
+    }
+
+    /// Whether the dot is covered.
+    pub fn covers(&self, dot: &Dot) -> bool
+        ensures { result ≡ set.contains self.now.covered dot.now }
+    {
+        self.covered.covers(dot)
+    }
+
+    /// The count up to which all of the replica's dots are covered.
+    pub fn top(&self, replica: &Replica) -> u64
+        ensures below { (n : ℕ) → 1 ≤ n → n ≤ result → set.contains self.now.covered (record { replica = replica.now; count = n }) ≡ true }
+        ensures next { set.contains self.now.covered (record { replica = replica.now; count = result + 1 }) ≡ false }
+    {
+        self.covered.top(replica)
+    }
+
+    /// The row that is live at the dot.
+    pub fn row(&self, dot: &Dot) -> Option<&Row>
+        ensures { option_copied result ≡ map.get self.now.live dot.now }
+    {
+        self.live.get(dot)
+    }
+
+    /// Covers the dot, and adds the row at it.
+    pub fn add(&mut self, alloc: Global, dot: Dot, row: Row) -> Result<(), AllocError>
+        requires new { set.contains self.old.covered dot ≡ false }
+        requires dot { is_dot dot ≡ true }
+        requires row { is_row row ≡ true }
+        ensures ok { OnOk result (self.new ≡ with_dot self.old dot row) }
+        ensures err { OnErr result (self.new ≡ self.old) }
+    {
+        add_row(&mut self.covered, &mut self.live, alloc, dot, row)
+    }
+
+    /// Takes out the rows of the dots, and covers the dots and the event of their removal.
+    pub fn remove(&mut self, alloc: Global, dots: &[Dot], event: Dot) -> Result<(), AllocError>
+        requires dots { list_all is_dot dots.now ≡ true }
+        requires event { is_dot event ≡ true }
+        ensures ok { OnOk result (self.new ≡ removed self.old dots.now event) }
+        ensures err { OnErr result (self.new ≡ self.old) }
+    {
+        remove_rows(&mut self.covered, &mut self.live, alloc, dots, event)
+    }
+
+    /// Takes in what is told. It costs what the told value costs, whatever the set holds.
+    pub fn join(&mut self, alloc: Global, told: &Told) -> Result<(), AllocError>
+        ensures ok { OnOk result (IsJoin self.old (covers told.now) (live_row told.now) self.new) }
+        ensures err { OnErr result (self.new ≡ self.old) }
+    {
+        join_told(&mut self.covered, &mut self.live, alloc, told)
+    }
+
+    /// Takes in the other set.
+    pub fn join_all(&mut self, alloc: Global, other: &Orswot) -> Result<(), AllocError>
+        ensures ok { OnOk result (IsJoin self.old (set.contains other.now.covered) (map.get other.now.live) self.new) }
+        ensures err { OnErr result (self.new ≡ self.old) }
+    {
+        join_rows(
+            &mut self.covered,
+            &mut self.live,
+            alloc,
+            &other.covered,
+            &other.live,
+        )
+    }
+
+    /// Takes out the replica's dots and rows.
+    pub fn forget(&mut self, replica: &Replica)
+        ensures { self.new ≡ without_replica self.old replica.now }
+    {
+        self.covered.forget(replica);
+        forget_rows(&mut self.live, replica);
+    }
+}

@@ -1,0 +1,95 @@
+use dot_context::Context;
+use orswot_core::{Orswot, RawRow, RawTold, Told, ToldFault};
+use presence_base::{Dot, NodeName, Replica};
+use serde_json::{Map, Value};
+use std::alloc::{AllocError, Global};
+
+/// How many rows one told value brings.
+const ROWS_AT_ONCE: u64 = 50_000;
+
+fn node_b(alloc: Global) -> Result<Option<Replica>, AllocError> {
+    match NodeName::new(alloc, "b")? {
+        Some(name) => Ok(Some(Replica {
+            name,
+            incarnation: 1,
+        })),
+        None => Ok(None),
+    }
+}
+
+/// Adds the dots of the counts 1 to `count`, in order.
+pub fn add_in_order(alloc: Global, count: u64) -> Result<Context, AllocError> {
+    let mut context = Context::new(alloc);
+    if let Some(replica) = node_b(alloc)? {
+        for n in 0..count {
+            context.add_range(alloc, replica.clone()?, n, n.saturating_add(1))?;
+        }
+    }
+    Ok(context)
+}
+
+/// Adds `count` runs of one dot each, none touching the next, in falling order, above `low`.
+pub fn add_in_reverse(alloc: Global, count: u64, low: u64) -> Result<Context, AllocError> {
+    let mut context = Context::new(alloc);
+    if let Some(replica) = node_b(alloc)? {
+        for n in 0..count {
+            let from = low.saturating_add((count - n).saturating_mul(4));
+            context.add_range(alloc, replica.clone()?, from, from.saturating_add(1))?;
+        }
+    }
+    Ok(context)
+}
+
+fn row_of(alloc: Global, count: u64) -> Result<RawRow, AllocError> {
+    let topic = String::from_str(alloc, "room:a")?;
+    let key = format!(in alloc; "u{count}")?;
+    Ok(RawRow {
+        topic,
+        key,
+        pid: 1,
+        meta: Value::Object(Map::new(alloc)),
+        prev: None,
+    })
+}
+
+// What tells a row for each count above `from`, up to `to`, before it is checked.
+fn raw_rows(alloc: Global, from: u64, to: u64) -> Result<RawTold, AllocError> {
+    let mut ranges = Vec::new(alloc);
+    let mut live = Vec::new(alloc);
+    if let Some(replica) = node_b(alloc)? {
+        for n in from..to {
+            let count = n.saturating_add(1);
+            let dot = Dot {
+                replica: replica.clone()?,
+                count,
+            };
+            live.push((dot, row_of(alloc, count)?))?;
+        }
+        ranges.push((replica, from, to))?;
+    }
+    Ok(RawTold {
+        ranges,
+        extras: Vec::new(alloc),
+        live,
+    })
+}
+
+/// What tells a row for each count above `from`, up to `to`.
+pub fn rows_told(alloc: Global, from: u64, to: u64) -> Result<Told, ToldFault> {
+    let raw = raw_rows(alloc, from, to)?;
+    Told::check(alloc, raw, 0, 1)
+}
+
+/// A set of `count` rows.
+pub fn set_of_rows(alloc: Global, count: u64) -> Result<Orswot, ToldFault> {
+    let mut set = Orswot::new(alloc);
+    let parts = count / ROWS_AT_ONCE;
+    for part in 0..parts {
+        let from = part.saturating_mul(ROWS_AT_ONCE);
+        let told = rows_told(alloc, from, from.saturating_add(ROWS_AT_ONCE))?;
+        set.join(alloc, &told)?;
+    }
+    let told = rows_told(alloc, parts.saturating_mul(ROWS_AT_ONCE), count)?;
+    set.join(alloc, &told)?;
+    Ok(set)
+}

@@ -1,0 +1,83 @@
+//! Times the sets, for `bench/run sets`: `set_bench adds|reverse|join|delta COUNT` prints microseconds.
+#![tactic(auto)]
+
+mod cases;
+
+use cases::{add_in_order, add_in_reverse, rows_told, set_of_rows};
+use orswot_core::ToldFault;
+use std::env::Env;
+use std::process::ExitCode;
+use std::time::{Clock, Duration, Instant};
+use std::{env, io};
+
+// The words of the command line, the program's own first.
+fn words_of<R: Env + AllocGlobal>(rt: &R) -> io::Result<Vec<String>> {
+    let mut words = Vec::new(rt.alloc());
+    for word in env::args(rt)? {
+        words.push(word)?;
+    }
+    Ok(words)
+}
+
+// How long it takes to add dots in order.
+fn time_adds<R: Clock + AllocGlobal>(rt: &R, count: u64) -> io::Result<Duration> {
+    let start = Instant::now(rt)?;
+    let _context = add_in_order(rt.alloc(), count)?;
+    start.elapsed(rt)
+}
+
+// How long it takes to add runs in falling order.
+fn time_reverse<R: Clock + AllocGlobal>(rt: &R, count: u64) -> io::Result<Duration> {
+    let start = Instant::now(rt)?;
+    let _context = add_in_reverse(rt.alloc(), count, 0)?;
+    start.elapsed(rt)
+}
+
+// How long it takes to join a context of runs with another, whose runs lie between them.
+fn time_join<R: Clock + AllocGlobal>(rt: &R, count: u64) -> io::Result<Duration> {
+    let alloc = rt.alloc();
+    let mut context = add_in_reverse(alloc, count, 0)?;
+    let other = add_in_reverse(alloc, count, 2)?;
+    let start = Instant::now(rt)?;
+    context.join(alloc, &other)?;
+    start.elapsed(rt)
+}
+
+fn io_error(fault: ToldFault) -> io::Error {
+    match fault {
+        ToldFault::OutOfMemory => io::Error::from(io::ErrorKind::OutOfMemory),
+        _ => io::Error::from(io::ErrorKind::InvalidData),
+    }
+}
+
+// How long it takes to join a set of rows with a delta of 100 more.
+fn time_delta<R: Clock + AllocGlobal>(rt: &R, count: u64) -> io::Result<Duration> {
+    let alloc = rt.alloc();
+    let mut set = set_of_rows(alloc, count).map_err(io_error)?;
+    let told = rows_told(alloc, count, count.saturating_add(100)).map_err(io_error)?;
+    let start = Instant::now(rt)?;
+    set.join(alloc, &told)?;
+    start.elapsed(rt)
+}
+
+fn main(rt: HostRuntime) -> io::Result<ExitCode> {
+    let words = words_of(&rt)?;
+    if words.len() != 3 {
+        rt.eprintln("usage: set_bench adds|reverse|join|delta COUNT")?;
+        return Ok(ExitCode::from(1));
+    }
+    let Ok(count) = words[2].as_str().parse::<u32>() else {
+        rt.eprintln("COUNT is a whole number of 32 bits")?;
+        return Ok(ExitCode::from(1));
+    };
+    let count = u64::from(count);
+    let took = match words[1].as_str() {
+        "adds" => time_adds(&rt, count)?,
+        "reverse" => time_reverse(&rt, count)?,
+        "join" => time_join(&rt, count)?,
+        _ => time_delta(&rt, count)?,
+    };
+    let micros = took.as_micros();
+    println!(rt; "{micros}")?;
+    Ok(ExitCode::from(0))
+}
