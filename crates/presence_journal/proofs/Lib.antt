@@ -5,3 +5,12 @@ pub mod HistoryLemmas
 pub mod Walking
 pub mod Diffs
 pub mod Topics
+mod FoldOrder
+mod FoldTables
+mod FoldPresent
+mod Fold
+mod FoldOthers
+mod WorkedTables
+mod Worked
+pub mod WaitsLemmas
+pub mod Tallies

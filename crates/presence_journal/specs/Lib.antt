@@ -6,3 +6,5 @@ pub mod Queue
 pub mod Table
 pub mod Walk
 pub mod Pending
+pub mod Laws
+pub mod Waits

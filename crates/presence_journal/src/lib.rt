@@ -4,6 +4,7 @@
 mod diff;
 mod entry;
 mod journal;
+pub mod laws;
 mod outcome;
 mod pending;
 mod rows;
@@ -11,6 +12,7 @@ mod selection;
 mod step;
 #[cfg(test)]
 mod tests;
+mod waits;
 mod walk;
 
 pub use diff::walk_diff;
@@ -21,4 +23,5 @@ pub use pending::{MAX_WAITING, Pending, walk_pending, walk_topic};
 pub use rows::{Item, Place, RowDiff, Rows};
 pub use selection::{walk_get, walk_own_row, walk_own_rows};
 pub use step::{MAX_PAYLOAD_DEPTH, MAX_TAKEN, Payload, Step, TakeLimit};
+pub use waits::walk_waits;
 pub use walk::{walk_count, walk_list};

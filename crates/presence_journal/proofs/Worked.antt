@@ -1,0 +1,42 @@
+-- The worked runs, computed.
+use Rattle.std.proofs.Common.{◌≡◌, List, [], ◌∷◌, length, ◌∙◌, ap}
+use Rattle.std.proofs.lemmas.Bool.{cond-true, cond-false, lt-ltb, le-ltb}
+use Rattle.presence_journal.specs.Steps.{Step}
+use Rattle.presence_journal.specs.History.{own, count, removed, row, shown, last_number, entry_count}
+use Rattle.presence_journal.specs.Present.{dots, listed}
+use Rattle.presence_journal.specs.Queue.{most_waiting, topic_of, queue, taken}
+use Rattle.presence_journal.specs.Table.{outcome_of}
+use Rattle.presence_journal.specs.Laws.{HoldsMost, AsWorked, ran, outcomes, begun, room, subscribe, take_all, track, update, untrack, shouts}
+use Rattle.presence_journal.specs.declared.step.Step.TheVariants as steps_are
+use Rattle.presence_journal.proofs.WorkedTables.{rows_now, listed_now, queue_now, queue_is, taken_now, taken_is, ran_now, ran_is}
+
+pub holds_most : HoldsMost
+holds_most q = (λ l. cond-false _ _ _ (le-ltb most_waiting (length q) l), λ l. cond-true _ _ _ (lt-ltb most_waiting (length q) l))
+
+outcomes_run : (ss : List Step) → outcomes (ran begun ss) ≡ outcomes (ran_now begun ss)
+outcomes_run ss = ap outcomes (ran_is begun ss)
+
+listed_run : (ss : List Step) → listed (ran begun ss) room ≡ rows_now (ran_now begun ss) room
+listed_run ss = ap (λ h. listed h room) (ran_is begun ss) ∙ listed_now (ran_now begun ss) room
+
+queue_run : (ss : List Step) → queue (ran begun ss) 1 ≡ queue_now (ran_now begun ss) 1
+queue_run ss = ap (λ h. queue h 1) (ran_is begun ss) ∙ queue_is (ran_now begun ss) 1
+
+taken_run : (ss : List Step) → taken (ran begun ss) 1 ≡ taken_now (ran_now begun ss) 1
+taken_run ss = ap (λ h. taken h 1) (ran_is begun ss) ∙ taken_is (ran_now begun ss) 1
+
+pub as_worked : AsWorked
+unfolding own count removed row shown last_number entry_count dots topic_of outcome_of
+as_worked = record {
+  first_outcomes = outcomes_run (subscribe ∷ take_all ∷ track 1 ∷ take_all ∷ steps_are.List room ∷ []);
+  first_items = taken_run (subscribe ∷ take_all ∷ track 1 ∷ take_all ∷ steps_are.List room ∷ []);
+  update_replaces = outcomes_run (subscribe ∷ track 1 ∷ take_all ∷ update 1 ∷ []);
+  update_shows = listed_run (subscribe ∷ track 1 ∷ take_all ∷ update 1 ∷ []);
+  update_waits = queue_run (subscribe ∷ track 1 ∷ take_all ∷ update 1 ∷ []);
+  second_track = outcomes_run (track 1 ∷ track 1 ∷ []);
+  removal_counts = outcomes_run (track 1 ∷ untrack 1 ∷ track 1 ∷ []);
+  both_present = listed_run (track 1 ∷ track 2 ∷ []);
+  own_leaves = listed_run (track 1 ∷ track 2 ∷ untrack 1 ∷ []);
+  just_holds = queue_run (subscribe ∷ take_all ∷ shouts 256);
+  falls_behind = queue_run (subscribe ∷ take_all ∷ shouts 257);
+}

@@ -1,0 +1,11 @@
+use Rattle.presence_journal.proofs.FoldOthers.{others_stay, others_hear_nothing, refused_stays}
+use Rattle.presence_journal.proofs.laws.nothing_else_changes.Goals as goal
+
+pub returns-clause-others : goal.returns-clause-others
+returns-clause-others c = others_stay
+
+pub returns-clause-items : goal.returns-clause-items
+returns-clause-items c = others_hear_nothing
+
+pub returns-clause-refused : goal.returns-clause-refused
+returns-clause-refused c = refused_stays

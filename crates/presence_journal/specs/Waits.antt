@@ -1,0 +1,43 @@
+-- What waits for a subscriber, counted entry by entry.
+use Rattle.std.specs.Prelude.{ℕ, ◌+◌, ◌-◌, Bool, true, false, cond, ◌&&◌, nat_eq, nat_lt, List, ◌∷◌, length, Option, Some, None}
+use Rattle.presence_journal.specs.declared.step.Step.TheVariants as steps_are
+use Rattle.presence_journal.specs.declared.entry.Outcome.TheVariants as outcomes_are
+use Rattle.presence_journal.specs.declared.waits.Tally.{Tally}
+use Rattle.presence_journal.specs.declared.waits.Tally.TheVariants as tallies_are
+use Rattle.presence_journal.specs.Steps.{Step, Outcome}
+use Rattle.presence_journal.specs.Queue.{Waiting, Behind, Queued, most_waiting}
+use Rattle.presence_journal.specs.Laws.{reaches}
+
+-- the outcome changes rows or sends a shout
+abbrev pub is_heard : Outcome → Bool
+is_heard (outcomes_are.Added d) = true
+is_heard (outcomes_are.Replaced d old) = true
+is_heard (outcomes_are.Removed (d ∷ ds)) = true
+is_heard outcomes_are.Sent = true
+is_heard _ = false
+
+-- an entry of this step and outcome makes an item for a subscriber of the topic
+abbrev pub makes_one : Step → Outcome → Option (List ℕ) → Bool
+makes_one s o None = false
+makes_one s o (Some t) = is_heard o && reaches s t
+
+abbrev pub tally_of : Waiting → Tally
+tally_of Behind = tallies_are.Behind
+tally_of (Queued q) = tallies_are.Items (length q)
+
+abbrev pub tally_pushed : Bool → Tally → Tally
+tally_pushed b tallies_are.Behind = tallies_are.Behind
+tally_pushed b (tallies_are.Items n) = cond b (cond (nat_lt n most_waiting) (tallies_are.Items (n + 1)) tallies_are.Behind) (tallies_are.Items n)
+
+abbrev pub tally_left : ℕ → Tally → Tally
+tally_left max tallies_are.Behind = tallies_are.Items 0
+tally_left max (tallies_are.Items n) = tallies_are.Items (n - max)
+
+abbrev pub tally_after : Step → ℕ → ℕ → Bool → Tally → Tally
+tally_after (steps_are.Subscribe topic) number n b w = cond (nat_eq number n) tallies_are.Behind (tally_pushed b w)
+tally_after (steps_are.Take m max) number n b w = cond (nat_eq m n) (tally_left max w) (tally_pushed b w)
+tally_after _ number n b w = tally_pushed b w
+
+abbrev pub tally_waits : Tally → Bool
+tally_waits tallies_are.Behind = true
+tally_waits (tallies_are.Items n) = nat_lt 0 n

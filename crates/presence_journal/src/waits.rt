@@ -1,0 +1,155 @@
+ghost use Rattle.std.specs.Prelude.{◌≡◌, option_map, option_copied};
+ghost use Rattle.presence_journal.specs.Laws.{reaches};
+ghost use Rattle.presence_journal.specs.Queue.{topic_after, topic_of, queue, is_waiting};
+ghost use Rattle.presence_journal.specs.Waits.{is_heard, makes_one, tally_of, tally_pushed, tally_left, tally_after, tally_waits};
+
+use crate::entry::{Entry, Outcome};
+use crate::journal::Journal;
+use crate::pending::MAX_WAITING;
+use crate::step::Step;
+use presence_base::Topic;
+
+#[cfg(test)]
+mod tests;
+
+// What waits for a subscriber, counted.
+#[derive(Clone, Copy)]
+enum Tally {
+    Behind,
+    Items(u64),
+}
+
+impl Tally {
+    // One item more where an entry makes one.
+    fn pushed(self, makes: bool) -> Tally
+        ensures { result ≡ tally_pushed makes self }
+    {
+        match self {
+            Tally::Behind => Tally::Behind,
+            Tally::Items(count) => {
+                if !makes {
+                    Tally::Items(count)
+                } else if count < MAX_WAITING as u64 {
+                    Tally::Items(count + 1)
+                } else {
+                    Tally::Behind
+                }
+            }
+        }
+    }
+
+    // What a take of at most so many items leaves.
+    fn left(self, max: u64) -> Tally
+        ensures { result ≡ tally_left max self }
+    {
+        match self {
+            Tally::Behind => Tally::Items(0),
+            Tally::Items(count) => Tally::Items(count.saturating_sub(max)),
+        }
+    }
+
+    // Whether the subscriber is behind or has something waiting.
+    fn waits(self) -> bool
+        ensures { result ≡ tally_waits self }
+    {
+        match self {
+            Tally::Behind => true,
+            Tally::Items(count) => count > 0,
+        }
+    }
+}
+
+// What the entries say of a subscriber: its topic while it is present, and what waits for it.
+#[derive(Drop)]
+struct Followed<'a> {
+    topic: Option<&'a Topic>,
+    tally: Tally,
+}
+
+// Whether a step may make an item for the subscribers of a topic.
+fn reaches_topic(step: &Step, topic: &Topic) -> bool
+    ensures { result ≡ reaches step.now topic.now }
+{
+    match step {
+        Step::Track { topic: reached, .. }
+        | Step::Update { topic: reached, .. }
+        | Step::Untrack { topic: reached, .. }
+        | Step::UntrackAll { topic: reached, .. }
+        | Step::Shout { topic: reached, .. } => reached.cmp(topic).is_eq(),
+        _ => false,
+    }
+}
+
+// Whether an outcome changes rows or sends a shout.
+fn is_heard_of(outcome: &Outcome) -> bool
+    ensures { result ≡ is_heard outcome.now }
+{
+    match outcome {
+        Outcome::Added(_) | Outcome::Replaced(_, _) | Outcome::Sent => true,
+        Outcome::Removed(dots) => !dots.as_slice().is_empty(),
+        _ => false,
+    }
+}
+
+// Whether an entry makes an item for a subscriber of the topic.
+fn makes_item(entry: &Entry, topic: Option<&Topic>) -> bool
+    ensures { result ≡ makes_one entry.now.step entry.now.outcome (option_copied topic.entry) }
+{
+    match topic {
+        Some(topic) => is_heard_of(&entry.outcome) && reaches_topic(&entry.step, topic),
+        None => false,
+    }
+}
+
+// The topic of a subscriber after an entry.
+fn next_topic<'a>(entry: &'a Entry, subscriber: u64, topic: Option<&'a Topic>) -> Option<&'a Topic>
+    ensures { option_copied result ≡ topic_after entry.now.step entry.now.number subscriber (option_copied topic.entry) }
+{
+    match &entry.step {
+        Step::Subscribe { topic: subscribed } if entry.number == subscriber => Some(subscribed),
+        Step::Unsubscribe { subscriber: ended } if *ended == subscriber => None,
+        _ => topic,
+    }
+}
+
+// What waits for a subscriber after an entry.
+fn next_tally(entry: &Entry, subscriber: u64, makes: bool, tally: Tally) -> Tally
+    ensures { result ≡ tally_after entry.now.step entry.now.number subscriber makes tally }
+{
+    match &entry.step {
+        Step::Subscribe { .. } if entry.number == subscriber => Tally::Behind,
+        Step::Take {
+            subscriber: taker,
+            max,
+        } if *taker == subscriber => tally.left(u64::from(max.get())),
+        _ => tally.pushed(makes),
+    }
+}
+
+// Goes over the entries for one subscriber.
+fn follow(journal: &Journal, subscriber: u64) -> Followed<'_>
+    ensures topic { option_copied result.topic ≡ topic_of journal.now subscriber }
+    ensures tally { result.tally ≡ tally_of (queue journal.now subscriber) }
+{
+    let entries = journal.entries();
+    let mut topic = None;
+    let mut tally = Tally::Behind;
+    for entry in entries {
+        let makes = makes_item(entry, topic);
+        tally = next_tally(entry, subscriber, makes, tally);
+        topic = next_topic(entry, subscriber, topic);
+    }
+    Followed { topic, tally }
+}
+
+/// Whether a present subscriber is behind or has something waiting, or `None` where no present
+/// subscriber has the number.
+pub fn walk_waits(journal: &Journal, subscriber: u64) -> Option<bool>
+    ensures { result ≡ option_map (λ _. is_waiting (queue journal.now subscriber)) (topic_of journal.now subscriber) }
+{
+    let followed = follow(journal, subscriber);
+    match followed.topic {
+        Some(_) => Some(followed.tally.waits()),
+        None => None,
+    }
+}

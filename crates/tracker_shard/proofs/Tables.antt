@@ -1,0 +1,204 @@
+-- What the table comes to, by what a shard looks up, and which refusals stand.
+use Rattle.std.proofs.Common.{◌≡◌, ℕ, ◌+◌, ◌^◌, Bool, true, false, cond, nat_eq, ◌&&◌, List, [], ◌∷◌, Option, Some, None, refl, sym, ◌∙◌, ap}
+use Rattle.std.specs.Prelude.{nat_lt, is_some, option_map, Result, Ok, Err, OnOk, OnErr, IfOk, IfErr}
+use Rattle.serde_json.specs.Data.{Data}
+use Rattle.presence_base.specs.declared.dots.Dot.{Dot}
+use Rattle.presence_base.specs.declared.row.Row.{Row}
+use Rattle.presence_journal.specs.declared.step.Step.{Step}
+use Rattle.presence_journal.specs.declared.step.Step.TheVariants as steps_are
+use Rattle.presence_journal.specs.declared.entry.Outcome.{Outcome}
+use Rattle.presence_journal.specs.declared.entry.Outcome.TheVariants as outcomes_are
+use Rattle.presence_journal.specs.History.{History, count, is_full, next_dot, last_number}
+use Rattle.presence_journal.specs.Present.{listed, dots_of}
+use Rattle.presence_journal.specs.Queue.{Waiting, queue, topic_of, is_waiting}
+use Rattle.presence_journal.specs.Table.{IsLegal, take_outcome, for_present, is_step, outcome_of, accepted, after, rows_of_key, rows_of_pid, listed_key, tracked, updated, untracked, counting}
+use Rattle.presence_journal.proofs.HistoryLemmas.{after-accepted}
+use Rattle.tracker_shard.specs.Steps.{Made, Answers, IsDue, new_dot, refusal, first_dot, next_counted, slot_of, is_found, found_topic}
+use Rattle.tracker_shard.specs.declared.fault.ShardFault.TheVariants.{ClockFull, JournalFull, NoSub, OutOfMemory}
+use Rattle.tracker_shard.specs.declared.fault.ShardFault.{ShardFault}
+
+pub made : (h : History) (s : Step) (seat : Option ℕ) (o : Outcome) → outcome_of h s ≡ Some o → is_full h ≡ false → (new : History) → new ≡ after h s seat → Made h new seat s
+unfolding accepted
+made h s seat o e room new is = record { accepted = rw (room, e) refl; journal = is }
+
+pub made_legal : (h : History) (s : Step) (seat : Option ℕ) (o : Outcome) → IsLegal h → outcome_of h s ≡ Some o → is_full h ≡ false → is_step s ≡ true → IsLegal (after h s seat)
+made_legal h s seat o legal e room limits = rw (after-accepted h s seat o e room) (legal, e, refl, room, limits)
+
+next_is : (h : History) (d : Dot) (o : Dot → Outcome) → next_counted h ≡ Some d → counting h (o (next_dot h)) ≡ Some (o d)
+next_is h d o e = go (nat_lt (count h) (2 ^ 62)) e
+  where
+    go : (b : Bool) → cond b (Some (next_dot h)) None ≡ Some d → cond b (Some (o (next_dot h))) None ≡ Some (o d)
+    go true p = let same : next_dot h ≡ d = cc in ap (λ x. Some (o x)) same
+    go false p = absurd (cc)
+
+none_left : (h : History) (o : Outcome) → next_counted h ≡ None → counting h o ≡ None
+none_left h o e = go (nat_lt (count h) (2 ^ 62)) e
+  where
+    go : (b : Bool) → cond b (Some (next_dot h)) None ≡ None → cond b (Some o) None ≡ None
+    go true p = absurd (cc)
+    go false p = refl
+
+pub track_added : (h : History) (pid : ℕ) (topic key : List ℕ) (meta : Data) (d : Dot) → first_dot (rows_of_key h pid topic key) ≡ None → next_counted h ≡ Some d → outcome_of h (steps_are.Track pid topic key meta) ≡ Some (outcomes_are.Added d)
+unfolding outcome_of
+track_added h pid topic key meta d none next = go (rows_of_key h pid topic key) none
+  where
+    go : (rows : List (Dot × Row)) → first_dot rows ≡ None → tracked h rows ≡ Some (outcomes_are.Added d)
+    go [] p = next_is h d outcomes_are.Added next
+    go (x ∷ xs) p = absurd (cc)
+
+pub track_full : (h : History) (pid : ℕ) (topic key : List ℕ) (meta : Data) → first_dot (rows_of_key h pid topic key) ≡ None → next_counted h ≡ None → outcome_of h (steps_are.Track pid topic key meta) ≡ None
+unfolding outcome_of
+track_full h pid topic key meta none next = go (rows_of_key h pid topic key) none
+  where
+    go : (rows : List (Dot × Row)) → first_dot rows ≡ None → tracked h rows ≡ None
+    go [] p = none_left h (outcomes_are.Added (next_dot h)) next
+    go (x ∷ xs) p = absurd (cc)
+
+pub track_again : (h : History) (pid : ℕ) (topic key : List ℕ) (meta : Data) → is_some (first_dot (rows_of_key h pid topic key)) ≡ true → outcome_of h (steps_are.Track pid topic key meta) ≡ Some outcomes_are.AlreadyTracked
+unfolding outcome_of
+track_again h pid topic key meta some = go (rows_of_key h pid topic key) some
+  where
+    go : (rows : List (Dot × Row)) → is_some (first_dot rows) ≡ true → tracked h rows ≡ Some outcomes_are.AlreadyTracked
+    go [] p = absurd (cc)
+    go (x ∷ xs) p = refl
+
+pub update_replaced : (h : History) (pid : ℕ) (topic key : List ℕ) (meta : Data) (d old : Dot) → first_dot (rows_of_key h pid topic key) ≡ Some old → next_counted h ≡ Some d → outcome_of h (steps_are.Update pid topic key meta) ≡ Some (outcomes_are.Replaced d old)
+unfolding outcome_of
+update_replaced h pid topic key meta d old some next = go (rows_of_key h pid topic key) some
+  where
+    go : (rows : List (Dot × Row)) → first_dot rows ≡ Some old → updated h rows ≡ Some (outcomes_are.Replaced d old)
+    go [] p = absurd (cc)
+    go (x ∷ xs) p = let same : x.0 ≡ old = cc in next_is h d (λ n. outcomes_are.Replaced n x.0) next ∙ ap (λ y. Some (outcomes_are.Replaced d y)) same
+
+pub update_full : (h : History) (pid : ℕ) (topic key : List ℕ) (meta : Data) (old : Dot) → first_dot (rows_of_key h pid topic key) ≡ Some old → next_counted h ≡ None → outcome_of h (steps_are.Update pid topic key meta) ≡ None
+unfolding outcome_of
+update_full h pid topic key meta old some next = go (rows_of_key h pid topic key) some
+  where
+    go : (rows : List (Dot × Row)) → first_dot rows ≡ Some old → updated h rows ≡ None
+    go [] p = absurd (cc)
+    go (x ∷ xs) p = none_left h (outcomes_are.Replaced (next_dot h) x.0) next
+
+pub update_none : (h : History) (pid : ℕ) (topic key : List ℕ) (meta : Data) → first_dot (rows_of_key h pid topic key) ≡ None → outcome_of h (steps_are.Update pid topic key meta) ≡ Some outcomes_are.NoPresence
+unfolding outcome_of
+update_none h pid topic key meta none = go (rows_of_key h pid topic key) none
+  where
+    go : (rows : List (Dot × Row)) → first_dot rows ≡ None → updated h rows ≡ Some outcomes_are.NoPresence
+    go [] p = refl
+    go (x ∷ xs) p = absurd (cc)
+
+pub list_shown : (h : History) (topic : List ℕ) → outcome_of h (steps_are.List topic) ≡ Some (outcomes_are.Shown (dots_of (listed h topic)))
+unfolding outcome_of
+list_shown h topic = refl
+
+pub get_shown : (h : History) (topic key : List ℕ) → outcome_of h (steps_are.Get topic key) ≡ Some (outcomes_are.Shown (dots_of (listed_key h topic key)))
+unfolding outcome_of
+get_shown h topic key = refl
+
+pub shout_sent : (h : History) (topic : List ℕ) (payload : Data) → outcome_of h (steps_are.Shout topic payload) ≡ Some outcomes_are.Sent
+unfolding outcome_of
+shout_sent h topic payload = refl
+
+pub subscribe_number : (h : History) (topic : List ℕ) → outcome_of h (steps_are.Subscribe topic) ≡ Some (outcomes_are.Subscribed (last_number h + 1))
+unfolding outcome_of
+subscribe_number h topic = refl
+
+pub untrack_is : (h : History) (pid : ℕ) (topic key : List ℕ) → outcome_of h (steps_are.Untrack pid topic key) ≡ untracked h (dots_of (rows_of_key h pid topic key))
+unfolding outcome_of
+untrack_is h pid topic key = refl
+
+pub untrack_all_is : (h : History) (pid : ℕ) (topic : List ℕ) → outcome_of h (steps_are.UntrackAll pid topic) ≡ untracked h (dots_of (rows_of_pid h pid topic))
+unfolding outcome_of
+untrack_all_is h pid topic = refl
+
+pub taken_is : (h : History) (n max : ℕ) (t : List ℕ) (w : Waiting) (o : Outcome) → topic_of h n ≡ Some t → w ≡ queue h n → o ≡ take_outcome max w → outcome_of h (steps_are.Take n max) ≡ Some o
+unfolding outcome_of
+taken_is h n max t w o topic is gives = rw (topic) (ap Some (sym (gives ∙ ap (take_outcome max) is)))
+
+-- a subscriber that is found has a topic there
+pub found_is : (h : History) (slot n : ℕ) (t : List ℕ) → found_topic h slot n ≡ Some t → topic_of h n ≡ Some t
+found_is h slot n t e = go (nat_eq slot (slot_of n)) e
+  where
+    go : (b : Bool) → cond b (topic_of h n) None ≡ Some t → topic_of h n ≡ Some t
+    go true p = p
+    go false p = absurd (cc)
+
+pub found_some : (h : History) (slot n : ℕ) (t : List ℕ) → found_topic h slot n ≡ Some t → is_found h slot n ≡ true
+found_some h slot n t e = go (nat_eq slot (slot_of n)) e
+  where
+    go : (b : Bool) → cond b (topic_of h n) None ≡ Some t → is_some (topic_of h n) && b ≡ true
+    go true p = rw (p) refl
+    go false p = absurd (cc)
+
+pub found_none : (h : History) (slot n : ℕ) → found_topic h slot n ≡ None → is_found h slot n ≡ false
+found_none h slot n e = go (nat_eq slot (slot_of n)) (topic_of h n) e
+  where
+    go : (b : Bool) (o : Option (List ℕ)) → cond b o None ≡ None → is_some o && b ≡ false
+    go true None p = refl
+    go true (Some x) p = absurd (cc)
+    go false None p = refl
+    go false (Some x) p = refl
+
+pub ended : (h : History) (n : ℕ) (t : List ℕ) → topic_of h n ≡ Some t → outcome_of h (steps_are.Unsubscribe n) ≡ Some outcomes_are.Ended
+unfolding outcome_of
+ended h n t topic = ap (λ o. for_present o outcomes_are.Ended) topic
+
+pub ended_found : (h : History) (slot n : ℕ) (t : List ℕ) → found_topic h slot n ≡ Some t → outcome_of h (steps_are.Unsubscribe n) ≡ Some outcomes_are.Ended
+ended_found h slot n t e = ended h n t (found_is h slot n t e)
+
+pub none_stands : (h : History) (s : Step) (o : Outcome) → outcome_of h s ≡ Some o → is_full h ≡ false → refusal true h s ≡ None
+none_stands h s o e room = rw (room, e) refl
+
+pub full_stands : (h : History) (s : Step) → is_full h ≡ true → refusal true h s ≡ Some JournalFull
+full_stands h s full = rw full refl
+
+pub clock_stands : (h : History) (s : Step) → outcome_of h s ≡ None → is_full h ≡ false → refusal true h s ≡ Some ClockFull
+clock_stands h s e room = rw (room, e) refl
+
+-- the refusals of a call that names a subscriber
+pub sub_none_stands : (h : History) (slot n : ℕ) (s : Step) (t : List ℕ) (o : Outcome) → found_topic h slot n ≡ Some t → outcome_of h s ≡ Some o → is_full h ≡ false → refusal (is_found h slot n) h s ≡ None
+sub_none_stands h slot n s t o found e room = rw (found_some h slot n t found) (none_stands h s o e room)
+
+pub sub_full_stands : (h : History) (slot n : ℕ) (s : Step) (t : List ℕ) → found_topic h slot n ≡ Some t → is_full h ≡ true → refusal (is_found h slot n) h s ≡ Some JournalFull
+sub_full_stands h slot n s t found full = rw (found_some h slot n t found) (full_stands h s full)
+
+pub no_sub_stands : (h : History) (slot n : ℕ) (s : Step) → found_topic h slot n ≡ None → refusal (is_found h slot n) h s ≡ Some NoSub
+no_sub_stands h slot n s none = rw (found_none h slot n none) refl
+
+-- what the walk says of whether something waits
+pub waits_found : (h : History) (n : ℕ) (w : Bool) → option_map (λ _. is_waiting (queue h n)) (topic_of h n) ≡ Some w → (is_some (topic_of h n) ≡ true) × (w ≡ is_waiting (queue h n))
+waits_found h n w e = go (topic_of h n) e
+  where
+    go : (o : Option (List ℕ)) → option_map (λ _. is_waiting (queue h n)) o ≡ Some w → (is_some o ≡ true) × (w ≡ is_waiting (queue h n))
+    go None p = absurd (cc)
+    go (Some t) p = (refl, cc)
+
+pub waits_missing : (h : History) (n : ℕ) → option_map (λ _. is_waiting (queue h n)) (topic_of h n) ≡ None → is_some (topic_of h n) ≡ false
+waits_missing h n e = go (topic_of h n) e
+  where
+    go : (o : Option (List ℕ)) → option_map (λ _. is_waiting (queue h n)) o ≡ None → is_some o ≡ false
+    go None p = refl
+    go (Some t) p = absurd (cc)
+
+pub ruleset tables = (list_shown, get_shown, shout_sent, subscribe_number, track_added, track_full, track_again, update_replaced, update_full, update_none, untrack_is, untrack_all_is, found_is, ended_found, none_stands, full_stands, clock_stands, sub_none_stands, sub_full_stands, no_sub_stands)
+
+-- whether the entry was written or refused, the journal is legal
+pub legal_new : {A E : Type 0} (h new : History) (s : Step) (seat : Option ℕ) (o : Outcome) (r : Result A E) → OnOk r (new ≡ after h s seat) → OnErr r (new ≡ h) → IsLegal h → outcome_of h s ≡ Some o → is_full h ≡ false → is_step s ≡ true → IsLegal new
+legal_new h new s seat o (Ok x) ok err legal e room limits = rw ok (made_legal h s seat o legal e room limits)
+legal_new h new s seat o (Err x) ok err legal e room limits = rw err legal
+
+-- the same, where the history is known by another name
+pub legal_seen : {A E : Type 0} (h now new : History) (s : Step) (seat : Option ℕ) (o : Outcome) (r : Result A E) → h ≡ now → OnOk r (new ≡ after h s seat) → OnErr r (new ≡ h) → IsLegal h → outcome_of now s ≡ Some o → is_full now ≡ false → is_step s ≡ true → IsLegal new
+legal_seen h now new s seat o r view ok err legal e room limits = legal_new h new s seat o r ok err legal (ap (λ x. outcome_of x s) view ∙ e) (ap is_full view ∙ room) limits
+
+pub made_seen : (h now new : History) (s : Step) (seat : Option ℕ) (o : Outcome) → h ≡ now → outcome_of now s ≡ Some o → is_full now ≡ false → new ≡ after h s seat → Made now new seat s
+made_seen h now new s seat o view e room is = made now s seat o e room new (is ∙ ap (λ x. after x s seat) view)
+
+-- the dot that was written is the one that the table names
+pub answer_dot : (P : Type 0) (h : History) (s : Step) (o : Outcome) (dot : Dot) (r : Result Dot ShardFault) → outcome_of h s ≡ Some o → new_dot (Some o) ≡ Some dot → IfOk r (λ d. P × (d ≡ dot)) → IfErr r (λ e. e ≡ OutOfMemory) → Answers (λ d. new_dot (outcome_of h s) ≡ Some d) (outcome_of h s) r
+answer_dot P h s o dot (Ok d) e named ok err = let same : d ≡ dot = ok.1 in ap new_dot e ∙ named ∙ ap Some (sym same)
+answer_dot P h s o dot (Err f) e named ok err = rw err tt
+
+-- nothing stands against a step that was written, or memory ran out
+pub due_dot : (h : History) (s : Step) (o : Outcome) (r : Result Dot ShardFault) → outcome_of h s ≡ Some o → is_full h ≡ false → IfErr r (λ e. e ≡ OutOfMemory) → IsDue r (refusal true h s)
+due_dot h s o (Ok d) e room err = none_stands h s o e room
+due_dot h s o (Err f) e room err = rw (err, none_stands h s o e room) tt

@@ -1,0 +1,83 @@
+-- What a call of a shard answers and leaves.
+use Rattle.std.specs.Prelude.{◌≡◌, ℕ, Bool, true, cond, ◌&&◌, nat_eq, nat_lt, ◌^◌, List, [], ◌∷◌, Option, Some, None, is_some, Result, Ok, Err}
+use Rattle.presence_base.specs.declared.dots.Dot.{Dot}
+use Rattle.presence_base.specs.declared.row.Row.{Row}
+use Rattle.presence_journal.specs.declared.entry.Outcome.TheVariants as outcomes_are
+use Rattle.presence_journal.specs.declared.step.Step.{Step}
+use Rattle.presence_journal.specs.declared.entry.Outcome.{Outcome}
+use Rattle.presence_journal.specs.History.{History, is_full, count, next_dot}
+use Rattle.presence_journal.specs.Table.{outcome_of, accepted, after}
+use Rattle.presence_journal.specs.Queue.{topic_of}
+use Rattle.tracker_shard.specs.declared.fault.ShardFault.{ShardFault}
+use Rattle.tracker_shard.specs.declared.fault.ShardFault.TheVariants.{AlreadyTracked, NoPresence, ClockFull, JournalFull, NoSub, OutOfMemory}
+
+-- the step was made: the journal has one entry more, with its outcome and seat
+pub record Made (old new : History) (seat : Option ℕ) (step : Step) : Type 0 where
+  pub accepted : is_some (accepted old step) ≡ true
+  pub journal : new ≡ after old step seat
+
+-- accepted calls, and those that the table itself refuses, are steps; any other refusal changes nothing
+abbrev pub Stepped : {A : Type 0} → History → History → Option ℕ → Step → Result A ShardFault → Type 0
+Stepped old new seat step (Ok x) = Made old new seat step
+Stepped old new seat step (Err AlreadyTracked) = Made old new seat step
+Stepped old new seat step (Err NoPresence) = Made old new seat step
+Stepped old new seat step (Err ClockFull) = new ≡ old
+Stepped old new seat step (Err JournalFull) = new ≡ old
+Stepped old new seat step (Err NoSub) = new ≡ old
+Stepped old new seat step (Err OutOfMemory) = new ≡ old
+
+-- what is answered is the table's outcome, as `Gives` ties them where the call is accepted
+abbrev pub Answers : {A : Type 0} → (A → Type 0) → Option Outcome → Result A ShardFault → Type 0
+Answers Gives o (Ok x) = Gives x
+Answers Gives o (Err AlreadyTracked) = o ≡ Some outcomes_are.AlreadyTracked
+Answers Gives o (Err NoPresence) = o ≡ Some outcomes_are.NoPresence
+Answers Gives o (Err ClockFull) = Unit {0}
+Answers Gives o (Err JournalFull) = Unit {0}
+Answers Gives o (Err NoSub) = Unit {0}
+Answers Gives o (Err OutOfMemory) = Unit {0}
+
+-- The refusal that stands against a step, in the order in which they are tried. `found` tells whether its subscriber is there.
+abbrev pub refusal : Bool → History → Step → Option ShardFault
+refusal found h s = cond found (cond (is_full h) (Some JournalFull) (cond (is_some (outcome_of h s)) None (Some ClockFull))) (Some NoSub)
+
+-- want of memory may come in place of any answer but these two
+abbrev pub MayRunOut : Option ShardFault → Type 0
+MayRunOut (Some NoSub) = ⊥
+MayRunOut (Some JournalFull) = ⊥
+MayRunOut _ = Unit {0}
+
+-- each refusal is given where it is the one that stands
+abbrev pub IsDue : {A : Type 0} → Result A ShardFault → Option ShardFault → Type 0
+IsDue (Ok x) r = r ≡ None
+IsDue (Err AlreadyTracked) r = r ≡ None
+IsDue (Err NoPresence) r = r ≡ None
+IsDue (Err ClockFull) r = r ≡ Some ClockFull
+IsDue (Err JournalFull) r = r ≡ Some JournalFull
+IsDue (Err NoSub) r = r ≡ Some NoSub
+IsDue (Err OutOfMemory) r = MayRunOut r
+
+-- the dot that an outcome names as new
+abbrev pub new_dot : Option Outcome → Option Dot
+new_dot (Some (outcomes_are.Added d)) = Some d
+new_dot (Some (outcomes_are.Replaced d old)) = Some d
+new_dot _ = None
+
+-- a subscriber is found at this slot
+abbrev pub slot_of : ℕ → ℕ
+slot_of number = 0
+
+abbrev pub is_found : History → ℕ → ℕ → Bool
+is_found h slot number = is_some (topic_of h number) && nat_eq slot (slot_of number)
+
+-- the topic of a subscriber that is found
+abbrev pub found_topic : History → ℕ → ℕ → Option (List ℕ)
+found_topic h slot number = cond (nat_eq slot (slot_of number)) (topic_of h number) None
+
+-- the dot of the first row
+abbrev pub first_dot : List (Dot × Row) → Option Dot
+first_dot [] = None
+first_dot (x ∷ xs) = Some x.0
+
+-- the dot of the next count, where one is left
+abbrev pub next_counted : History → Option Dot
+next_counted h = cond (nat_lt (count h) (2 ^ 62)) (Some (next_dot h)) None

@@ -1,0 +1,170 @@
+ghost use Rattle.std.specs.Prelude.{◌≡◌, [], ◌∷◌, IfOk, IsTrue};
+ghost use Rattle.presence_journal.specs.Limits.{is_payload};
+ghost use Rattle.presence_journal.specs.Pending.{waiting_of};
+ghost use Rattle.presence_journal.specs.Present.{dots_of, listed};
+ghost use Rattle.presence_journal.specs.Queue.{given};
+ghost use Rattle.presence_journal.specs.Table.{take_outcome};
+ghost use Rattle.tracker_shard.specs.Steps.{first_dot};
+
+use crate::fault::ShardFault;
+use presence_base::{Dot, Json, Key, Meta, Row, Topic};
+use presence_journal::{Item, Journal, Outcome, Payload, Pending, Rows, Step, walk_list};
+use std::alloc::{AllocError, Global};
+
+impl From<AllocError> for ShardFault {
+    ghost use Rattle.std.specs.Prelude.{◌≡◌};
+    ghost use Rattle.tracker_shard.specs.declared.fault.ShardFault.TheVariants.{OutOfMemory};
+
+    ghost from_gives = { λ e f. f ≡ OutOfMemory };
+
+    fn from(_e: AllocError) -> ShardFault {
+        ShardFault::OutOfMemory
+    }
+}
+
+// The dots of these rows.
+pub(crate) fn dots_of_rows(alloc: Global, rows: &[(Dot, Row)]) -> Result<Vec<Dot>, AllocError>
+    ensures { IfOk result (λ v. v.items ≡ dots_of rows.now) }
+{
+    let mut dots = Vec::new(alloc);
+    for row in rows {
+        let dot = row.0.clone()?;
+        dots.push(dot)?;
+    }
+    Ok(dots)
+}
+
+// The dot of the first row, where there is one.
+pub(crate) fn first_dot_of(rows: &[(Dot, Row)]) -> Result<Option<Dot>, AllocError>
+    ensures { IfOk result (λ o. o ≡ first_dot rows.now) }
+{
+    match rows.first() {
+        Some(row) => Ok(Some(row.0.clone()?)),
+        None => Ok(None),
+    }
+}
+
+// The state of a topic, as the one item of a take.
+fn state_item(alloc: Global, journal: &Journal, topic: &Topic) -> Result<Vec<Item>, AllocError>
+    ensures { IfOk result (λ v. v.items ≡ Item.State (listed journal.now topic.now) ∷ []) }
+{
+    let rows = walk_list(alloc, journal, topic)?;
+    let mut items = Vec::new(alloc);
+    items.push(Item::State(Rows::new(rows)))?;
+    Ok(items)
+}
+
+// What a take of at most `max` items gives of what waits.
+pub(crate) fn given_items(
+    alloc: Global,
+    journal: &Journal,
+    topic: &Topic,
+    pending: Pending,
+    max: u32,
+) -> Result<Vec<Item>, AllocError>
+    ensures { IfOk result (λ v. v.items ≡ given (listed journal.now topic.now) max (waiting_of pending)) }
+{
+    match pending {
+        Pending::Behind => state_item(alloc, journal, topic),
+        Pending::Items(mut items) => {
+            items.truncate(max as usize);
+            Ok(items)
+        }
+    }
+}
+
+// What a take of at most `max` items comes to.
+pub(crate) fn taken_outcome(pending: &Pending, max: u32) -> Outcome
+    ensures { result ≡ take_outcome max (waiting_of pending.now) }
+{
+    match pending {
+        Pending::Behind => Outcome::Taken(true, 1),
+        Pending::Items(items) => Outcome::Taken(false, (max as u64).min(items.len() as u64)),
+    }
+}
+
+// The steps, made of what a caller lends.
+
+pub(crate) fn track_step(
+    pid: u64,
+    topic: &Topic,
+    key: &Key,
+    meta: &Meta,
+) -> Result<Step, AllocError>
+    ensures { IfOk result (λ s. s ≡ Step.Track pid topic.now key.now meta.now) }
+{
+    let topic = topic.clone()?;
+    let key = key.clone()?;
+    let meta = meta.clone()?;
+    Ok(Step::Track {
+        pid,
+        topic,
+        key,
+        meta,
+    })
+}
+
+pub(crate) fn update_step(
+    pid: u64,
+    topic: &Topic,
+    key: &Key,
+    meta: &Meta,
+) -> Result<Step, AllocError>
+    ensures { IfOk result (λ s. s ≡ Step.Update pid topic.now key.now meta.now) }
+{
+    let topic = topic.clone()?;
+    let key = key.clone()?;
+    let meta = meta.clone()?;
+    Ok(Step::Update {
+        pid,
+        topic,
+        key,
+        meta,
+    })
+}
+
+pub(crate) fn untrack_step(pid: u64, topic: &Topic, key: &Key) -> Result<Step, AllocError>
+    ensures { IfOk result (λ s. s ≡ Step.Untrack pid topic.now key.now) }
+{
+    let topic = topic.clone()?;
+    let key = key.clone()?;
+    Ok(Step::Untrack { pid, topic, key })
+}
+
+pub(crate) fn untrack_all_step(pid: u64, topic: &Topic) -> Result<Step, AllocError>
+    ensures { IfOk result (λ s. s ≡ Step.UntrackAll pid topic.now) }
+{
+    let topic = topic.clone()?;
+    Ok(Step::UntrackAll { pid, topic })
+}
+
+pub(crate) fn list_step(topic: &Topic) -> Result<Step, AllocError>
+    ensures { IfOk result (λ s. s ≡ Step.List topic.now) }
+{
+    let topic = topic.clone()?;
+    Ok(Step::List { topic })
+}
+
+pub(crate) fn get_step(topic: &Topic, key: &Key) -> Result<Step, AllocError>
+    ensures { IfOk result (λ s. s ≡ Step.Get topic.now key.now) }
+{
+    let topic = topic.clone()?;
+    let key = key.clone()?;
+    Ok(Step::Get { topic, key })
+}
+
+pub(crate) fn subscribe_step(topic: &Topic) -> Result<Step, AllocError>
+    ensures { IfOk result (λ s. s ≡ Step.Subscribe topic.now) }
+{
+    let topic = topic.clone()?;
+    Ok(Step::Subscribe { topic })
+}
+
+pub(crate) fn shout_step(topic: &Topic, payload: &Json) -> Result<Step, AllocError>
+    requires { IsTrue (is_payload payload.now) }
+    ensures { IfOk result (λ s. s ≡ Step.Shout topic.now payload.now) }
+{
+    let topic = topic.clone()?;
+    let payload = Payload::new(payload.clone()?);
+    Ok(Step::Shout { topic, payload })
+}

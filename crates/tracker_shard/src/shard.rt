@@ -1,0 +1,477 @@
+use crate::answers::{
+    dots_of_rows, first_dot_of, get_step, given_items, list_step, shout_step, subscribe_step,
+    taken_outcome, track_step, untrack_all_step, untrack_step, update_step,
+};
+use crate::fault::ShardFault;
+use presence_base::{Dot, Json, Key, MAX_COUNT, Meta, Replica, Row, Topic};
+use presence_journal::{
+    Dots, Item, Journal, Outcome, Step, TakeLimit, walk_count, walk_get, walk_list, walk_own_row,
+    walk_own_rows, walk_pending, walk_topic, walk_waits,
+};
+use std::alloc::{AllocError, Global};
+use std::marker::Model;
+
+/// A subscriber: the number of the entry that made it, which names it, and the slot where it is found.
+#[derive(Clone, Copy, Debug, PartialEq, Eq)]
+pub struct Sub {
+    pub slot: u64,
+    pub number: u64,
+}
+
+/// One shard's table of presences, seen by contracts as its journal's history.
+///
+/// This body answers by walking its journal: each call costs the length of the journal.
+#[derive(Drop)]
+pub struct Shard {
+    journal: Journal,
+}
+
+impl Model for Shard {
+    ghost use Rattle.std.specs.Coded.{coded_list, coded×};
+    ghost use Rattle.presence_journal.specs.contracts.entry.Entry as one_entry;
+    ghost use Rattle.presence_journal.specs.contracts.entry.Start as beginning;
+    ghost use Rattle.presence_journal.specs.History.{History, history_code};
+
+    ghost Value = { History };
+
+    ghost coded = { history_code (coded× beginning.the_row.coded (coded_list one_entry.the_row.coded)) };
+
+    ghost use Rattle.presence_journal.specs.Table.{IsLegal};
+
+    ghost view = { λ s. s.journal };
+
+    ghost invariant = { λ s. IsLegal s.journal };
+}
+
+impl Shard {
+    ghost use Rattle.std.specs.Prelude.{◌≡◌, ◌≤◌, ◌^◌, ◌+◌, true, false, ◌&&◌, Some, None, is_some, nat_eq, option_copied, cond, IfOk, IfErr, OnOk, OnErr, IsTrue};
+    ghost use Rattle.presence_base.specs.Refs.{IsCount};
+    ghost use Rattle.presence_journal.specs.History.{Begin, last_number, is_full};
+    ghost use Rattle.presence_journal.specs.Limits.{is_payload, is_take_limit};
+    ghost use Rattle.presence_journal.specs.Present.{listed, dots_of};
+    ghost use Rattle.presence_journal.specs.Queue.{topic_of, queue, items_given, is_waiting};
+    ghost use Rattle.presence_journal.specs.Table.{IsLegal, outcome_of, is_step, listed_key, rows_of_key, rows_of_pid, untracked};
+    ghost use Rattle.tracker_shard.specs.Steps.{Made, Stepped, Answers, IsDue, refusal, new_dot, first_dot, next_counted, slot_of, is_found, found_topic};
+
+    /// A shard of the replica with an empty journal.
+    pub fn new(alloc: Global, own: Replica) -> Shard
+        requires { IsCount own.incarnation }
+        ensures { result ≡ Begin (record { number = 0; own = own }) }
+    {
+        let journal = Journal::new(alloc, own);
+        let _entries = journal.entries();
+        Shard { journal }
+    }
+
+    /// The journal, in which each entry has the outcome of the sequential presence table.
+    pub fn journal(&self) -> &Journal
+        ensures journal { result.now ≡ self.now }
+        ensures legal { IsLegal self.now }
+    {
+        &self.journal
+    }
+
+    // Writes the entry of a step that the table accepts.
+    fn write(&mut self, seat: Option<u32>, step: Step, outcome: Outcome) -> Result<(), ShardFault>
+        requires table { outcome_of self.old step ≡ Some outcome }
+        requires room { is_full self.old ≡ false }
+        requires limits { is_step step ≡ true }
+        ensures made { OnOk result (Made self.old self.new seat step) }
+        ensures err { OnErr result (self.new ≡ self.old) }
+        ensures memory { IfErr result (λ e. e ≡ ShardFault.OutOfMemory) }
+    {
+        self.journal.append(seat, step, outcome)?;
+        Ok(())
+    }
+
+    // The dot under which the pid has the key, where it does.
+    fn own_dot(
+        &self,
+        alloc: Global,
+        pid: u64,
+        topic: &Topic,
+        key: &Key,
+    ) -> Result<Option<Dot>, AllocError>
+        ensures { IfOk result (λ o. o ≡ first_dot (rows_of_key self.now pid topic.now key.now)) }
+    {
+        let mine = walk_own_row(alloc, &self.journal, pid, topic, key)?;
+        first_dot_of(&mine)
+    }
+
+    // The dot of the next count, or `None` where no count is left.
+    fn next_dot(&self) -> Result<Option<Dot>, AllocError>
+        ensures { IfOk result (λ o. o ≡ next_counted self.now) }
+    {
+        let count = walk_count(&self.journal);
+        if count >= MAX_COUNT {
+            return Ok(None);
+        }
+        let replica = self.journal.own().clone()?;
+        Ok(Some(Dot {
+            replica,
+            count: count + 1,
+        }))
+    }
+
+    // What taking these rows out comes to, `None` where a count is needed and none is left.
+    fn removal(&self, alloc: Global, rows: &[(Dot, Row)]) -> Result<Option<Outcome>, AllocError>
+        ensures { IfOk result (λ o. o ≡ untracked self.now (dots_of rows.now)) }
+    {
+        let dots = dots_of_rows(alloc, rows)?;
+        if !dots.is_empty() && walk_count(&self.journal) >= MAX_COUNT {
+            return Ok(None);
+        }
+        Ok(Some(Outcome::Removed(Dots::new(dots))))
+    }
+
+    // The topic of a subscriber, `None` where no present subscriber has this slot and number.
+    fn topic_of_sub(&self, sub: &Sub) -> Option<&Topic>
+        ensures { option_copied result ≡ found_topic self.now sub.now.slot sub.now.number }
+    {
+        if sub.slot != 0 {
+            return None;
+        }
+        walk_topic(&self.journal, sub.number)
+    }
+
+    // Writes the entry of a step that names a new dot, and answers the dot.
+    fn write_dot(
+        &mut self,
+        seat: Option<u32>,
+        step: Step,
+        outcome: Outcome,
+        dot: Dot,
+    ) -> Result<Dot, ShardFault>
+        requires table { outcome_of self.old step ≡ Some outcome }
+        requires room { is_full self.old ≡ false }
+        requires limits { is_step step ≡ true }
+        ensures made { IfOk result (λ d. Made self.old self.new seat step × (d ≡ dot)) }
+        ensures err { OnErr result (self.new ≡ self.old) }
+        ensures memory { IfErr result (λ e. e ≡ ShardFault.OutOfMemory) }
+    {
+        match self.write(seat, step, outcome) {
+            Ok(()) => Ok(dot),
+            Err(e) => Err(e),
+        }
+    }
+
+    /// Tracks the pid under the key on the topic, and answers the dot of the new row.
+    ///
+    /// It refuses in this order: `JournalFull`; `AlreadyTracked`, which makes an entry; `ClockFull`;
+    /// `OutOfMemory` in place of any answer but the first.
+    #[tactic(auto, using(crate::proofs::Tables::tables))]
+    pub fn track(
+        &mut self,
+        alloc: Global,
+        seat: Option<u32>,
+        pid: u64,
+        topic: &Topic,
+        key: &Key,
+        meta: &Meta,
+    ) -> Result<Dot, ShardFault>
+        requires { pid ≤ 2 ^ 62 }
+        ensures step { Stepped self.old self.new seat (Step.Track pid topic.now key.now meta.now) result }
+        ensures answer { let o = outcome_of self.old (Step.Track pid topic.now key.now meta.now) in Answers (λ d. new_dot o ≡ Some d) o result }
+        ensures due { IsDue result (refusal true self.old (Step.Track pid topic.now key.now meta.now)) }
+    {
+        if self.journal.is_full() {
+            return Err(ShardFault::JournalFull);
+        }
+        if self.own_dot(alloc, pid, topic, key)?.is_some() {
+            let step = track_step(pid, topic, key, meta)?;
+            self.write(seat, step, Outcome::AlreadyTracked)?;
+            return Err(ShardFault::AlreadyTracked);
+        }
+        let Some(dot) = self.next_dot()? else {
+            return Err(ShardFault::ClockFull);
+        };
+        let kept = dot.clone()?;
+        let step = track_step(pid, topic, key, meta)?;
+        self.write_dot(seat, step, Outcome::Added(kept), dot)
+    }
+
+    /// Replaces what the pid tells under the key on the topic, and answers the dot of the new row.
+    ///
+    /// It refuses in this order: `JournalFull`; `NoPresence`, which makes an entry; `ClockFull`;
+    /// `OutOfMemory` in place of any answer but the first.
+    #[tactic(auto, using(crate::proofs::Tables::tables))]
+    pub fn update(
+        &mut self,
+        alloc: Global,
+        seat: Option<u32>,
+        pid: u64,
+        topic: &Topic,
+        key: &Key,
+        meta: &Meta,
+    ) -> Result<Dot, ShardFault>
+        requires { pid ≤ 2 ^ 62 }
+        ensures step { Stepped self.old self.new seat (Step.Update pid topic.now key.now meta.now) result }
+        ensures answer { let o = outcome_of self.old (Step.Update pid topic.now key.now meta.now) in Answers (λ d. new_dot o ≡ Some d) o result }
+        ensures due { IsDue result (refusal true self.old (Step.Update pid topic.now key.now meta.now)) }
+    {
+        if self.journal.is_full() {
+            return Err(ShardFault::JournalFull);
+        }
+        let Some(old) = self.own_dot(alloc, pid, topic, key)? else {
+            let step = update_step(pid, topic, key, meta)?;
+            self.write(seat, step, Outcome::NoPresence)?;
+            return Err(ShardFault::NoPresence);
+        };
+        let Some(dot) = self.next_dot()? else {
+            return Err(ShardFault::ClockFull);
+        };
+        let kept = dot.clone()?;
+        let step = update_step(pid, topic, key, meta)?;
+        self.write_dot(seat, step, Outcome::Replaced(kept, old), dot)
+    }
+
+    /// Takes out the pid's row under the key on the topic, and answers its dot, or none where there is no such row.
+    ///
+    /// It refuses in this order: `JournalFull`; `ClockFull`, where a row would go; `OutOfMemory` in
+    /// place of any answer but the first.
+    #[tactic(auto, using(crate::proofs::Tables::tables))]
+    pub fn untrack(
+        &mut self,
+        alloc: Global,
+        seat: Option<u32>,
+        pid: u64,
+        topic: &Topic,
+        key: &Key,
+    ) -> Result<Vec<Dot>, ShardFault>
+        ensures step { Stepped self.old self.new seat (Step.Untrack pid topic.now key.now) result }
+        ensures answer { Answers (λ dots. dots.items ≡ dots_of (rows_of_key self.old pid topic.now key.now)) (outcome_of self.old (Step.Untrack pid topic.now key.now)) result }
+        ensures due { IsDue result (refusal true self.old (Step.Untrack pid topic.now key.now)) }
+    {
+        if self.journal.is_full() {
+            return Err(ShardFault::JournalFull);
+        }
+        let rows = walk_own_row(alloc, &self.journal, pid, topic, key)?;
+        let Some(outcome) = self.removal(alloc, &rows)? else {
+            return Err(ShardFault::ClockFull);
+        };
+        let dots = dots_of_rows(alloc, &rows)?;
+        let step = untrack_step(pid, topic, key)?;
+        self.write(seat, step, outcome)?;
+        Ok(dots)
+    }
+
+    /// Takes out each row of the pid on the topic, and answers their dots in order of key and then dot.
+    ///
+    /// It refuses in this order: `JournalFull`; `ClockFull`, where a row would go; `OutOfMemory` in
+    /// place of any answer but the first.
+    #[tactic(auto, using(crate::proofs::Tables::tables))]
+    pub fn untrack_all(
+        &mut self,
+        alloc: Global,
+        seat: Option<u32>,
+        pid: u64,
+        topic: &Topic,
+    ) -> Result<Vec<Dot>, ShardFault>
+        ensures step { Stepped self.old self.new seat (Step.UntrackAll pid topic.now) result }
+        ensures answer { Answers (λ dots. dots.items ≡ dots_of (rows_of_pid self.old pid topic.now)) (outcome_of self.old (Step.UntrackAll pid topic.now)) result }
+        ensures due { IsDue result (refusal true self.old (Step.UntrackAll pid topic.now)) }
+    {
+        if self.journal.is_full() {
+            return Err(ShardFault::JournalFull);
+        }
+        let rows = walk_own_rows(alloc, &self.journal, pid, topic)?;
+        let Some(outcome) = self.removal(alloc, &rows)? else {
+            return Err(ShardFault::ClockFull);
+        };
+        let dots = dots_of_rows(alloc, &rows)?;
+        let step = untrack_all_step(pid, topic)?;
+        self.write(seat, step, outcome)?;
+        Ok(dots)
+    }
+
+    /// The rows that are present on the topic, in order of key and then dot.
+    ///
+    /// It refuses with `JournalFull`, else with `OutOfMemory`.
+    #[tactic(auto, using(crate::proofs::Tables::tables))]
+    pub fn list(
+        &mut self,
+        alloc: Global,
+        seat: Option<u32>,
+        topic: &Topic,
+    ) -> Result<Vec<(Dot, Row)>, ShardFault>
+        ensures step { Stepped self.old self.new seat (Step.List topic.now) result }
+        ensures answer { Answers (λ rows. rows.items ≡ listed self.old topic.now) (outcome_of self.old (Step.List topic.now)) result }
+        ensures due { IsDue result (refusal true self.old (Step.List topic.now)) }
+    {
+        if self.journal.is_full() {
+            return Err(ShardFault::JournalFull);
+        }
+        let rows = walk_list(alloc, &self.journal, topic)?;
+        let dots = dots_of_rows(alloc, &rows)?;
+        let step = list_step(topic)?;
+        self.write(seat, step, Outcome::Shown(Dots::new(dots)))?;
+        Ok(rows)
+    }
+
+    /// The rows that are present under the key on the topic, in order of dot.
+    ///
+    /// It refuses with `JournalFull`, else with `OutOfMemory`.
+    #[tactic(auto, using(crate::proofs::Tables::tables))]
+    pub fn get(
+        &mut self,
+        alloc: Global,
+        seat: Option<u32>,
+        topic: &Topic,
+        key: &Key,
+    ) -> Result<Vec<(Dot, Row)>, ShardFault>
+        ensures step { Stepped self.old self.new seat (Step.Get topic.now key.now) result }
+        ensures answer { Answers (λ rows. rows.items ≡ listed_key self.old topic.now key.now) (outcome_of self.old (Step.Get topic.now key.now)) result }
+        ensures due { IsDue result (refusal true self.old (Step.Get topic.now key.now)) }
+    {
+        if self.journal.is_full() {
+            return Err(ShardFault::JournalFull);
+        }
+        let rows = walk_get(alloc, &self.journal, topic, key)?;
+        let dots = dots_of_rows(alloc, &rows)?;
+        let step = get_step(topic, key)?;
+        self.write(seat, step, Outcome::Shown(Dots::new(dots)))?;
+        Ok(rows)
+    }
+
+    /// Sends the payload to each subscriber of the topic.
+    ///
+    /// It refuses with `JournalFull`, else with `OutOfMemory`.
+    #[tactic(auto, using(crate::proofs::Tables::tables))]
+    pub fn shout(
+        &mut self,
+        alloc: Global,
+        seat: Option<u32>,
+        topic: &Topic,
+        payload: &Json,
+    ) -> Result<(), ShardFault>
+        requires { IsTrue (is_payload payload.now) }
+        ensures step { Stepped self.old self.new seat (Step.Shout topic.now payload.now) result }
+        ensures answer { Answers (λ _. Unit {0}) (outcome_of self.old (Step.Shout topic.now payload.now)) result }
+        ensures due { IsDue result (refusal true self.old (Step.Shout topic.now payload.now)) }
+    {
+        if self.journal.is_full() {
+            return Err(ShardFault::JournalFull);
+        }
+        let step = shout_step(topic, payload)?;
+        self.write(seat, step, Outcome::Sent)
+    }
+
+    /// A new subscriber of the topic. It is behind: its first take gives the whole state.
+    ///
+    /// It refuses with `JournalFull`, else with `OutOfMemory`.
+    #[tactic(auto, using(crate::proofs::Tables::tables))]
+    pub fn subscribe(
+        &mut self,
+        alloc: Global,
+        seat: Option<u32>,
+        topic: &Topic,
+    ) -> Result<Sub, ShardFault>
+        ensures step { Stepped self.old self.new seat (Step.Subscribe topic.now) result }
+        ensures answer { Answers (λ sub. (sub.number ≡ last_number self.old + 1) × (sub.slot ≡ slot_of sub.number)) (outcome_of self.old (Step.Subscribe topic.now)) result }
+        ensures due { IsDue result (refusal true self.old (Step.Subscribe topic.now)) }
+    {
+        if self.journal.is_full() {
+            return Err(ShardFault::JournalFull);
+        }
+        let number = self.journal.last_number() + 1;
+        let step = subscribe_step(topic)?;
+        self.write(seat, step, Outcome::Subscribed(number))?;
+        Ok(Sub { slot: 0, number })
+    }
+
+    /// Ends a subscriber: what waited for it is dropped.
+    ///
+    /// It refuses in this order: `NoSub`, `JournalFull`, `OutOfMemory`.
+    #[tactic(auto, using(crate::proofs::Tables::tables))]
+    pub fn unsubscribe(
+        &mut self,
+        _alloc: Global,
+        seat: Option<u32>,
+        sub: &Sub,
+    ) -> Result<(), ShardFault>
+        ensures step { Stepped self.old self.new seat (Step.Unsubscribe sub.now.number) result }
+        ensures answer { Answers (λ _. Unit {0}) (outcome_of self.old (Step.Unsubscribe sub.now.number)) result }
+        ensures due { IsDue result (refusal (is_found self.old sub.now.slot sub.now.number) self.old (Step.Unsubscribe sub.now.number)) }
+    {
+        let shard = &*self;
+        let Some(_) = shard.topic_of_sub(sub) else {
+            return Err(ShardFault::NoSub);
+        };
+        if shard.journal.is_full() {
+            return Err(ShardFault::JournalFull);
+        }
+        let step = Step::Unsubscribe {
+            subscriber: sub.number,
+        };
+        self.write(seat, step, Outcome::Ended)
+    }
+
+    // What a take of at most `max` items gives a subscriber of the topic, and its outcome.
+    #[tactic(auto, using(crate::proofs::Tables::taken_is))]
+    fn taken(
+        &self,
+        alloc: Global,
+        number: u64,
+        topic: &Topic,
+        max: u32,
+    ) -> Result<(Vec<Item>, Outcome), AllocError>
+        requires { topic_of self.now number ≡ Some topic.now }
+        ensures items { IfOk result (λ t. t.0.items ≡ items_given self.now number max) }
+        ensures outcome { IfOk result (λ t. outcome_of self.now (Step.Take number max) ≡ Some t.1) }
+    {
+        let pending = walk_pending(alloc, &self.journal, number, topic)?;
+        let outcome = taken_outcome(&pending, max);
+        let items = given_items(alloc, &self.journal, topic, pending, max)?;
+        Ok((items, outcome))
+    }
+
+    /// Up to `max` of the items that wait for a subscriber, the oldest first, or its topic's whole
+    /// state as the one item where it is behind.
+    ///
+    /// It refuses in this order: `NoSub`, `JournalFull`, `OutOfMemory`.
+    #[tactic(auto, using(crate::proofs::Tables::tables))]
+    pub fn take(
+        &mut self,
+        alloc: Global,
+        seat: Option<u32>,
+        sub: &Sub,
+        max: u32,
+    ) -> Result<Vec<Item>, ShardFault>
+        requires { IsTrue (is_take_limit max) }
+        ensures step { Stepped self.old self.new seat (Step.Take sub.now.number max) result }
+        ensures answer { Answers (λ items. items.items ≡ items_given self.old sub.now.number max) (outcome_of self.old (Step.Take sub.now.number max)) result }
+        ensures due { IsDue result (refusal (is_found self.old sub.now.slot sub.now.number) self.old (Step.Take sub.now.number max)) }
+    {
+        let shard = &*self;
+        let Some(topic) = shard.topic_of_sub(sub) else {
+            return Err(ShardFault::NoSub);
+        };
+        if shard.journal.is_full() {
+            return Err(ShardFault::JournalFull);
+        }
+        let (items, outcome) = shard.taken(alloc, sub.number, topic, max)?;
+        let step = Step::Take {
+            subscriber: sub.number,
+            max: TakeLimit::new(max),
+        };
+        self.write(seat, step, outcome)?;
+        Ok(items)
+    }
+
+    /// Whether a subscriber is behind or has something waiting. It is no step.
+    #[tactic(auto, using(crate::proofs::Tables::waits_found, crate::proofs::Tables::waits_missing))]
+    pub fn waits(&self, sub: &Sub) -> Result<bool, ShardFault>
+        ensures found { OnOk result (is_found self.now sub.now.slot sub.now.number ≡ true) }
+        ensures value { IfOk result (λ w. w ≡ is_waiting (queue self.now sub.now.number)) }
+        ensures missing { OnErr result (is_found self.now sub.now.slot sub.now.number ≡ false) }
+        ensures refusal { IfErr result (λ e. e ≡ ShardFault.NoSub) }
+    {
+        if sub.slot != 0 {
+            return Err(ShardFault::NoSub);
+        }
+        match walk_waits(&self.journal, sub.number) {
+            Some(waits) => Ok(waits),
+            None => Err(ShardFault::NoSub),
+        }
+    }
+}
