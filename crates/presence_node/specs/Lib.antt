@@ -1,0 +1,12 @@
+pub mod Lines
+pub mod Bytes
+pub mod Reading
+pub mod Session
+pub mod Run
+pub mod Told
+pub mod Limits
+pub mod Asked
+pub mod StateObject
+pub mod ShardAnswers
+pub mod InForce
+pub mod Channel

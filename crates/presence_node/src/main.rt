@@ -1,0 +1,98 @@
+//! A node that serves Phoenix Channels with Presence.
+#![tactic(auto)]
+
+mod asked;
+mod channel;
+mod command_line;
+mod fault;
+mod lines;
+mod node;
+mod options;
+mod reading;
+mod replies;
+mod session;
+mod shard;
+mod state_object;
+mod stdio;
+#[cfg(test)]
+mod tests;
+
+use command_line::{UsageFault, options_of};
+use fault::StdioFault;
+use options::{Options, StdioOptions};
+use std::alloc::{AllocError, Global};
+use std::env::Env;
+use std::io::{BufReader, ErrorKind};
+use std::process::ExitCode;
+use std::{env, io};
+use stdio::{run_stdio, status_of, told_line};
+
+// The words of the command line.
+fn words_of(rt: &(impl Env + AllocGlobal)) -> io::Result<Vec<String>> {
+    let mut words = Vec::new(rt.alloc());
+    for word in env::args(rt)? {
+        words.push(word)?;
+    }
+    Ok(words)
+}
+
+fn texts_of(alloc: Global, words: &[String]) -> Result<Vec<&str>, AllocError> {
+    let mut texts = Vec::new(alloc);
+    for word in words {
+        texts.push(word.as_str())?;
+    }
+    Ok(texts)
+}
+
+// Tells why a run ended early.
+fn tell<R: Eprint + AllocGlobal>(rt: &R, fault: &StdioFault) -> io::Result<()> {
+    match told_line(rt.alloc(), fault)? {
+        Some(line) => rt.eprintln(line.as_str()),
+        None => rt.eprintln(fault),
+    }
+}
+
+// Runs one session over the standard streams, and gives the status to end with. Each reply goes
+// out before the next line is read, so nothing is buffered behind the session.
+fn serve_stdio<R: Input + Print + Eprint + AllocGlobal>(
+    rt: &R,
+    options: &StdioOptions,
+) -> io::Result<u8> {
+    let alloc = rt.alloc();
+    let mut reader = BufReader::new(alloc, rt.reader())?;
+    let mut writer = io::writer(rt);
+    match run_stdio(alloc, &mut reader, &mut writer, options) {
+        Ok(_) => Ok(0),
+        Err(fault) => {
+            let _told = tell(rt, &fault);
+            Ok(status_of(&fault))
+        }
+    }
+}
+
+// Does what the words of the command line ask for, and gives the status to end with.
+fn run<R: Env + Input + Print + Eprint + AllocGlobal>(rt: &R) -> io::Result<u8> {
+    let alloc = rt.alloc();
+    let words = words_of(rt)?;
+    let texts = texts_of(alloc, words.as_slice())?;
+    match options_of(alloc, texts.as_slice()) {
+        Ok(Options::Help(text)) => {
+            rt.println(text.as_str())?;
+            Ok(0)
+        }
+        Ok(Options::Stdio(options)) => serve_stdio(rt, &options),
+        Err(UsageFault::Usage(text)) => {
+            rt.eprintln(text.as_str())?;
+            Ok(1)
+        }
+        Err(UsageFault::Memory) => Ok(2),
+    }
+}
+
+fn main(rt: HostRuntime) -> ExitCode {
+    match run(&rt) {
+        Ok(status) => ExitCode::from(status),
+        Err(e) if e.kind() == ErrorKind::OutOfMemory => ExitCode::from(2),
+        Err(_) => ExitCode::from(1),
+    }
+}
