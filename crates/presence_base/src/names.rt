@@ -102,7 +102,7 @@ fn short_text(alloc: Global, text: &str) -> Result<Option<Text>, AllocError>
 }
 
 /// A topic: a text of 1 to 255 bytes.
-#[derive(PartialEq, Eq, PartialOrd, Ord, Debug, Drop)]
+#[derive(PartialEq, Eq, Hash, PartialOrd, Ord, Debug, Drop)]
 pub struct Topic {
     text: Text,
 }
