@@ -101,3 +101,8 @@ applied_as_map ls d rises joins_rise leaves_rise k r =
       last_joined (at ls k) (at d.joins k) r,
     )
     refl
+
+-- the keys stay in order
+pub applied_rises : (ls : Listing) (d : Diff) → Rises ls → Rises (applied ls d)
+unfolding applied
+applied_rises ls d rises = fold_rises left_metas (fold join_key ls d.joins) d.leaves (fold_rises joined_metas ls d.joins rises)

@@ -1,8 +1,9 @@
 -- The objects that tell presences.
-use Rattle.std.specs.Prelude.{ℕ, List, map, codes}
-use Rattle.std.specs.List.{fold}
+use Rattle.std.specs.Prelude.{◌≡◌, ℕ, List, map, false, codes}
+use Rattle.std.specs.List.{fold, AllByRecursion}
 use Rattle.serde_json.specs.Data.{Data, array, object, Members, no_members, member, put as put_member}
 use Rattle.serde_json.specs.View.{items_of}
+use Rattle.serde_json.specs.Written.{has_float}
 use Rattle.presence_base.specs.declared.dots.Dot.{Dot}
 use Rattle.presence_base.specs.declared.row.Row.{Row}
 use Rattle.presence_metas.specs.declared.tracked.TrackedMeta.{TrackedMeta}
@@ -19,6 +20,13 @@ with_key ms e = put_member e.0 (metas_value e.1) ms
 -- the object from keys to their metas
 abbrev pub listing_value : Listing → Data
 listing_value ls = object (fold with_key no_members ls)
+
+-- the metas hold no number that isn't a whole one of 64 bits
+abbrev pub AreWhole : List TrackedMeta → Type 0
+AreWhole ts = AllByRecursion (λ t. has_float t.meta ≡ false) ts
+
+abbrev pub AllWhole : Listing → Type 0
+AllWhole ls = AllByRecursion (λ e. AreWhole e.1) ls
 
 -- the object that tells the rows of a topic
 abbrev pub state_of : List (Dot × Row) → Data

@@ -1,13 +1,14 @@
-ghost use Rattle.std.specs.Prelude.{◌≡◌, ◌++◌, ◌∷◌, [], IfOk, OnOk, List, ℕ, map};
+ghost use Rattle.std.specs.Prelude.{◌≡◌, ◌++◌, ◌∷◌, [], false, IfOk, OnOk, List, ℕ, map};
 ghost use Rattle.std.specs.List.{fold};
 ghost use Rattle.serde_json.specs.View.{view};
+ghost use Rattle.serde_json.specs.Written.{has_float};
 ghost use Rattle.presence_metas.specs.Listing.{at, without, entered, put, join_key, leave_key, applied};
 ghost use Rattle.std.specs.List.Sorted.{IsStrictlySortedBy};
 ghost use Rattle.std.specs.Map.{keys_of};
 ghost use Rattle.presence_base.specs.Order.{text_cmp};
 ghost use Rattle.presence_metas.specs.Fold.{meta_at, folded};
-ghost use Rattle.presence_metas.specs.Rows.{listing_of};
-ghost use Rattle.presence_metas.specs.Values.{metas_value, listing_value, state_of, diff_of};
+ghost use Rattle.presence_metas.specs.Rows.{add_row, listing_of};
+ghost use Rattle.presence_metas.specs.Values.{metas_value, listing_value, AllWhole, state_of, diff_of};
 
 use crate::members::put_member;
 use crate::tracked::{TrackedMeta, leave_out, take_in, tracked_meta};
@@ -218,16 +219,26 @@ impl Presences {
         Ok(next)
     }
 
+    // Adds a row's meta to those of its key.
+    #[tactic(auto, using(crate::proofs::Whole::whole_added))]
+    fn add_row(&mut self, alloc: Global, dot: &Dot, row: &Row) -> Result<(), AllocError>
+        ensures lists { OnOk result (self.new ≡ add_row self.old (dot.now, row.now)) }
+        ensures whole { OnOk result (AllWhole self.old → AllWhole self.new) }
+    {
+        let key = Text::new(alloc, row.key.as_str())?;
+        let meta = tracked_meta(alloc, dot, row)?;
+        self.add(alloc, &key, meta)
+    }
+
     /// The presences that these rows are: each key's metas in the order of the rows.
     #[tactic(auto, unfolding(crate::specs::Rows::listing_of))]
     pub fn of_rows(alloc: Global, rows: &[(Dot, Row)]) -> Result<Presences, AllocError>
-        ensures { IfOk result (λ p. p ≡ listing_of rows.now) }
+        ensures lists { IfOk result (λ p. p ≡ listing_of rows.now) }
+        ensures whole { IfOk result (λ p. has_float (listing_value p) ≡ false) }
     {
         let mut presences = Presences::new(alloc);
         for (dot, row) in rows {
-            let key = Text::new(alloc, row.key.as_str())?;
-            let meta = tracked_meta(alloc, dot, row)?;
-            presences.add(alloc, &key, meta)?;
+            presences.add_row(alloc, dot, row)?;
         }
         Ok(presences)
     }
@@ -247,7 +258,8 @@ impl Presences {
 
 /// The state object of these rows.
 pub fn state_value(alloc: Global, rows: &[(Dot, Row)]) -> Result<Value, AllocError>
-    ensures { IfOk result (λ v. view v ≡ state_of rows.now) }
+    ensures value { IfOk result (λ v. view v ≡ state_of rows.now) }
+    ensures whole { IfOk result (λ v. has_float (view v) ≡ false) }
 {
     let presences = Presences::of_rows(alloc, rows)?;
     presences.to_value(alloc)
@@ -259,7 +271,8 @@ pub fn diff_value(
     joins: &[(Dot, Row)],
     leaves: &[(Dot, Row)],
 ) -> Result<Value, AllocError>
-    ensures { IfOk result (λ v. view v ≡ diff_of joins.now leaves.now) }
+    ensures value { IfOk result (λ v. view v ≡ diff_of joins.now leaves.now) }
+    ensures whole { IfOk result (λ v. has_float (view v) ≡ false) }
 {
     let joins = state_value(alloc, joins)?;
     let leaves = state_value(alloc, leaves)?;

@@ -1,5 +1,6 @@
-ghost use Rattle.std.specs.Prelude.{◌≡◌, IfOk, OnOk};
+ghost use Rattle.std.specs.Prelude.{◌≡◌, IsTrue, IfOk, OnOk};
 ghost use Rattle.serde_json.specs.View.{members_view};
+ghost use Rattle.presence_base.specs.Metas.{is_meta};
 ghost use Rattle.presence_metas.specs.Rows.{with_prev, tracked_of};
 ghost use Rattle.presence_metas.specs.Listing.{is_named, left_metas, joined_metas};
 
@@ -47,7 +48,8 @@ fn put_prev(
 
 // A row's meta with its reference, and with that of the row that it replaced.
 pub(crate) fn tracked_meta(alloc: Global, dot: &Dot, row: &Row) -> Result<TrackedMeta, AllocError>
-    ensures { IfOk result (λ t. t ≡ tracked_of dot.now row.now) }
+    ensures meta { IfOk result (λ t. t ≡ tracked_of dot.now row.now) }
+    ensures limits { IsTrue (is_meta row.now.meta) }
 {
     let value = row.meta.as_value().clone()?;
     let mut members = members_of(alloc, value);
