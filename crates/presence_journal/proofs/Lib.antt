@@ -6,10 +6,10 @@ pub mod Walking
 pub mod Diffs
 pub mod Topics
 mod FoldOrder
-mod FoldTables
-mod FoldPresent
-mod Fold
-mod FoldOthers
+pub mod FoldTables
+pub mod FoldPresent
+pub mod Fold
+pub mod FoldOthers
 mod WorkedTables
 mod Worked
 pub mod WaitsLemmas

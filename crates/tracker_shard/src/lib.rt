@@ -4,6 +4,8 @@
 mod answers;
 mod fault;
 mod shard;
+#[cfg(test)]
+mod tests;
 
 pub use fault::ShardFault;
 pub use shard::{Shard, Sub};
