@@ -54,7 +54,7 @@ and_or : (a b c : Bool) → ((a && b) || (a && c)) ≡ (a && (b || c))
 and_or true b c = refl
 and_or false b c = refl
 
-any_append : (p : Dot → Bool) (xs ys : List Dot) → list_any p (xs ++ ys) ≡ (list_any p xs || list_any p ys)
+pub any_append : (p : Dot → Bool) (xs ys : List Dot) → list_any p (xs ++ ys) ≡ (list_any p xs || list_any p ys)
 any_append p [] ys = refl
 any_append p (x ∷ xs) ys = ap (λ b. p x || b) (any_append p xs ys) ∙ groups (p x) (list_any p xs) (list_any p ys)
   where
@@ -65,7 +65,7 @@ any_append p (x ∷ xs) ys = ap (λ b. p x || b) (any_append p xs ys) ∙ groups
 next_or : (from n k : ℕ) → (eqb n (suc from) || (ltb (suc from) n && leb n (suc from + k))) ≡ (ltb from n && leb n (from + suc k))
 next_or from n k = grind (arith, nat_tests)
 
-and_false : (a : Bool) → false ≡ (a && false)
+pub and_false : (a : Bool) → false ≡ (a && false)
 and_false true = refl
 and_false false = refl
 
@@ -90,7 +90,7 @@ pub contains-range : (r : Replica) (from to : ℕ) (q : Dot) → set.contains (r
 unfolding range
 contains-range r from to q = set.contains-from_list dot_total (span r from (to - from)) q ∙ in_span_to q r from to
 
-in_run_dots : (q : Dot) (r : Replica) (rs : List (ℕ × ℕ)) → list_any (eq_by_cmp dot_cmp q) (run_dots r rs) ≡ (same_replica q.replica r && holds rs q.count)
+pub in_run_dots : (q : Dot) (r : Replica) (rs : List (ℕ × ℕ)) → list_any (eq_by_cmp dot_cmp q) (run_dots r rs) ≡ (same_replica q.replica r && holds rs q.count)
 in_run_dots q r [] = and_false (same_replica q.replica r)
 in_run_dots q r (x ∷ xs) =
     any_append (eq_by_cmp dot_cmp q) (span r x.0 (x.1 - x.0)) (run_dots r xs)

@@ -1,5 +1,5 @@
 -- The one compact form of a set of dots.
-use Rattle.std.specs.Prelude.{◌≡◌, ℕ, ◌<◌, cond, nat_lt, List, [], ◌∷◌, length}
+use Rattle.std.specs.Prelude.{◌≡◌, ℕ, ◌<◌, cond, nat_lt, List, [], ◌∷◌, length, map}
 use Rattle.std.specs.List.{All}
 use Rattle.std.specs.List.Sorted.{IsStrictlySortedBy}
 use Rattle.std.specs.Map.{keys_of}
@@ -29,7 +29,11 @@ abbrev pub cloud_of : Form → Form
 cloud_of [] = []
 cloud_of (e ∷ es) = cond (nat_lt 0 (length (above_top e.1))) ((e.0, above_top e.1) ∷ cloud_of es) (cloud_of es)
 
--- what an entry of the vector shows
+-- each replica that is there with the count up to which all are, which is 0 where the count 1 is not
+abbrev pub tops_of : Form → List (Replica × ℕ)
+tops_of f = map (λ e. (e.0, top_count e.1)) f
+
+-- what an entry of the vector, or of the tops, shows
 abbrev pub range_shown : Bor Replica × ℕ → Replica × ℕ
 range_shown p = (p.0.now, p.1)
 

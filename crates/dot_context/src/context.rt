@@ -1,11 +1,11 @@
 ghost use Rattle.std.specs.Prelude.{◌≡◌, ◌≤◌, ◌+◌, ℕ, true, false, OnOk, OnErr};
 ghost use Rattle.std.specs.FinSet as set;
 ghost use Rattle.dot_context.specs.Sets.{DotSet, range, without};
-ghost use Rattle.dot_context.specs.Forms.{vector_of, cloud_of, HasOneForm, IfFormed};
+ghost use Rattle.dot_context.specs.Forms.{vector_of, cloud_of, tops_of, HasOneForm, IfFormed};
 
 use crate::replicas::{covers_dot, join_all, put_range, take_out, top_of_replica};
 use crate::runs::Runs;
-use crate::views::{Cloud, Ranges};
+use crate::views::{Cloud, Ranges, Tops};
 use presence_base::{Dot, Replica};
 use std::alloc::{AllocError, Global};
 use std::collections::BTreeMap;
@@ -108,6 +108,15 @@ impl Context {
         ensures { IfFormed self.now (λ f. result ≡ vector_of f) }
     {
         Ranges {
+            entries: self.replicas.iter(),
+        }
+    }
+
+    /// The tops: each replica that has dots in the set, with the count up to which all are, which may be 0. Takes no memory.
+    pub fn tops(&self) -> Tops<'_>
+        ensures { IfFormed self.now (λ f. result ≡ tops_of f) }
+    {
+        Tops {
             entries: self.replicas.iter(),
         }
     }

@@ -9,4 +9,4 @@ mod tests;
 mod views;
 
 pub use context::{Context, one_form};
-pub use views::{Cloud, Ranges};
+pub use views::{Cloud, Ranges, Tops};

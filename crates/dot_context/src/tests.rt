@@ -24,6 +24,32 @@ fn dot(b: &Replica, count: u64) -> Result<Dot, AllocError>
     })
 }
 
+// The tops, the vector and the runs of the cloud, of one replica.
+type Seen = (Vec<u64>, Vec<u64>, Vec<(u64, u64)>);
+
+fn seen(alloc: Global, context: &Context) -> Result<Seen, AllocError> {
+    let tops = context.tops().map(|top| top.1).collect(alloc)?;
+    let vector = context.ranges().map(|top| top.1).collect(alloc)?;
+    let mut cloud = Vec::new(alloc);
+    for (_, runs) in context.cloud() {
+        for (from, to) in runs {
+            cloud.push((*from, *to))?;
+        }
+    }
+    Ok((tops, vector, cloud))
+}
+
+fn is_seen(
+    alloc: Global,
+    context: &Context,
+    tops: &[u64],
+    vector: &[u64],
+    cloud: &[(u64, u64)],
+) -> Result<bool, AllocError> {
+    let seen = seen(alloc, context)?;
+    Ok(seen.0.as_slice() == tops && seen.1.as_slice() == vector && seen.2.as_slice() == cloud)
+}
+
 #[test]
 fn fills_the_gap(rt: HostRuntime) -> Result<(), Fail> {
     let alloc = rt.alloc();
@@ -34,13 +60,13 @@ fn fills_the_gap(rt: HostRuntime) -> Result<(), Fail> {
     context.add(alloc, dot(&b, 3)?)?;
     assert_eq!(rt; context.top(&b), 0);
     assert!(rt; context.covers(&dot(&b, 3)?));
-    assert!(rt; context.ranges().next().is_none());
-    assert!(rt; context.cloud().next().is_some());
+    assert!(rt; is_seen(alloc, &context, &[0], &[], &[(2, 3)])?);
     context.add_range(alloc, b.clone()?, 0, 2)?;
     assert_eq!(rt; context.top(&b), 3);
-    assert!(rt; context.cloud().next().is_none());
+    assert!(rt; is_seen(alloc, &context, &[3], &[3], &[])?);
     context.forget(&b);
     assert_eq!(rt; context.top(&b), 0);
+    assert!(rt; is_seen(alloc, &context, &[], &[], &[])?);
     Ok(())
 }
 
@@ -78,19 +104,6 @@ fn joins_two_contexts(rt: HostRuntime) -> Result<(), Fail> {
     assert_eq!(rt; first.top(&b), 2);
     assert!(rt; !first.covers(&dot(&b, 3)?));
     assert!(rt; first.covers(&dot(&b, 4)?));
-    let mut tops: u64 = 0;
-    for (_, top) in first.ranges() {
-        assert_eq!(rt; top, 2);
-        tops = tops.saturating_add(1);
-    }
-    assert_eq!(rt; tops, 1);
-    let mut counts: u64 = 0;
-    for (_, runs) in first.cloud() {
-        for (from, to) in runs {
-            assert_eq!(rt; *from, 3);
-            counts = counts.saturating_add(*to);
-        }
-    }
-    assert_eq!(rt; counts, 4);
+    assert!(rt; is_seen(alloc, &first, &[2], &[2], &[(3, 4)])?);
     Ok(())
 }

@@ -2,7 +2,7 @@
 ghost use Rattle.std.specs.Prelude.{◌≡◌, ◌<◌, length, Some, None, true, false};
 ghost use Rattle.std.specs.Bool.{MatchBool};
 ghost use Rattle.std.specs.Map.Iter.{TakesFirst};
-ghost use Rattle.dot_context.specs.Forms.{vector_of, cloud_of, range_shown, cloud_shown};
+ghost use Rattle.dot_context.specs.Forms.{vector_of, cloud_of, tops_of, range_shown, cloud_shown};
 
 use crate::runs::Runs;
 use presence_base::Replica;
@@ -57,6 +57,53 @@ fn next_range<'a>(entries: &mut Iter<'a, Replica, Runs>) -> Option<(&'a Replica,
         }
     }
     None
+}
+
+/// The tops of a context: each replica that has dots in the set, with the count up to which all are. It is 0 where the
+/// count 1 is not in the set.
+#[derive(Drop)]
+pub struct Tops<'a> {
+    pub(crate) entries: Iter<'a, Replica, Runs>,
+}
+
+impl<'a> Model for Tops<'a> {
+    ghost use Rattle.std.specs.Prelude.{ℕ, List};
+    ghost use Rattle.presence_base.specs.declared.dots.Replica.{Replica};
+    ghost use Rattle.presence_base.specs.Codes.{replica_code};
+    ghost use Rattle.std.specs.Coded.{coded_ℕ, coded_list, coded×};
+    ghost use Rattle.dot_context.specs.Forms.{tops_of};
+
+    ghost Value = { List (Replica × ℕ) };
+
+    ghost coded = { coded_list (coded× replica_code coded_ℕ) };
+
+    ghost view = { λ a. tops_of a.entries };
+}
+
+impl<'a> Iterator for Tops<'a> {
+    ghost use Rattle.std.specs.Prelude.{length};
+    ghost use Rattle.std.specs.Iterator.{at_most};
+    ghost use Rattle.std.specs.Map.Iter.{TakesFirst};
+    ghost use Rattle.dot_context.specs.Forms.{range_shown};
+
+    type Item = (&'a Replica, u64);
+
+    ghost next_gives = { TakesFirst range_shown };
+
+    ghost remaining = { λ s. at_most (length s) };
+
+    fn next(&mut self) -> Option<(&'a Replica, u64)> {
+        next_top(&mut self.entries)
+    }
+}
+
+fn next_top<'a>(entries: &mut Iter<'a, Replica, Runs>) -> Option<(&'a Replica, u64)>
+    ensures { TakesFirst range_shown (tops_of entries.old) result (tops_of entries.new) }
+{
+    match entries.next() {
+        Some((replica, runs)) => Some((replica, runs.top())),
+        None => None,
+    }
 }
 
 /// The cloud of a context: each replica that has dots above its first gap, with the runs of these.

@@ -1,16 +1,17 @@
 -- The laws of joins: dot by dot, by cases on what each side has, and then for whole sets.
-use Rattle.std.proofs.Common.{◌≡◌, Bool, true, false, ◌||◌, Option, Some, None, is_some, refl, sym, ◌∙◌, ap, cond, true≢false}
+use Rattle.std.proofs.Common.{◌≡◌, Bool, true, false, ◌||◌, List, [], ◌∷◌, Option, Some, None, is_some, refl, sym, ◌∙◌, ap, subst, cond, true≢false}
 use Rattle.std.specs.FinSet as set
 use Rattle.std.specs.FinMap as map
 use Rattle.presence_base.specs.declared.dots.Dot.{Dot}
 use Rattle.presence_base.specs.declared.row.Row.{Row}
 use Rattle.orswot_core.specs.Telling.{ToldValue, covers, live_row}
-use Rattle.orswot_core.specs.Checks.{IsTold}
-use Rattle.orswot_core.specs.Sets.{DotRows, is_sound, joined_row}
-use Rattle.orswot_core.specs.Laws.{Agree, IsSet, IsUnion, TakesIn, Idempotent, Commutative, Associative, RemovedStays, OldChangesNothing}
-use Rattle.orswot_core.proofs.OrderFacts.{dot_total, dot_antisymmetric}
+use Rattle.orswot_core.specs.Sets.{DotRows, joined_row}
+use Rattle.orswot_core.specs.Laws.{TakesInAll, Knows, Idempotent, Commutative, Associative, RemovedStays, Learns, JoinsKeepKnown, StepsKeepKnown, KnownChangesNothing, OldChangesNothing}
+use Rattle.std.specs.List.{list_any}
+use Rattle.presence_base.specs.Order.{dot_cmp, same_dot}
+use Rattle.orswot_core.proofs.OrderFacts.{dot_total, dot_antisymmetric, dots_equal}
 use Rattle.orswot_core.proofs.RowFacts.{same_rows}
-use Rattle.orswot_core.proofs.SoundFacts.{only_covered, told_sound}
+use Rattle.orswot_core.proofs.SoundFacts.{only_covered, told_sound, without_rows_at}
 
 -- two sets that have the same at each dot are the same
 pub same_at : (x y : DotRows) → ((d : Dot) → (set.contains x.covered d ≡ set.contains y.covered d) × (map.get x.live d ≡ map.get y.live d)) → x ≡ y
@@ -94,106 +95,92 @@ associative a b c ab bc x y ha hb hc hab hx hbc hy = same_at x y (λ d. (
       ∙ sym ((hy d).1),
 ))
 
+-- a dot that is covered and has no row gets none
+stays_removed : (c : Bool) (o o' : Option Row) (b' : Bool) → c ≡ true → o ≡ None → joined_row o c o' b' ≡ None
+stays_removed c o o' b' covered none = ap (λ v. joined_row v c o' b') none ∙ ap (λ v. joined_row None v o' b') covered ∙ row_stays o' b'
+
 pub removed_stays : RemovedStays
-removed_stays s x t d covered none h = (
-  (h d).0 ∙ ap (λ v. v || covers t d) covered,
-  (h d).1 ∙ ap (λ v. joined_row v (set.contains s.covered d) (live_row t d) (covers t d)) none ∙ ap (λ v. joined_row None v (live_row t d) (covers t d)) covered ∙ row_stays (live_row t d) (covers t d),
+removed_stays s x has row d covered none h = (
+  (h d).0 ∙ ap (λ v. v || has d) covered,
+  (h d).1 ∙ stays_removed (set.contains s.covered d) (map.get s.live d) (row d) (has d) covered none,
 )
 
-or_again : (c o p : Bool) → (((c || o) || p) || o) ≡ ((c || o) || p)
-or_again true o p = refl
-or_again false true p = refl
-or_again false false p = or_none p
+or_last : (a : Bool) → (a || true) ≡ true
+or_last true = refl
+or_last false = refl
+
+pub learns : Learns
+learns s x t h d has = (
+  (h d).0 ∙ ap (λ b. set.contains s.covered d || b) has ∙ or_last (set.contains s.covered d),
+  λ none.
+      (h d).1 ∙ ap (λ o. joined_row (map.get s.live d) (set.contains s.covered d) o (covers t d)) none
+      ∙ ap (joined_row (map.get s.live d) (set.contains s.covered d) None) has
+      ∙ taken_out (map.get s.live d) (set.contains s.covered d),
+)
   where
-    or_none : (a : Bool) → (a || false) ≡ a
-    or_none true = refl
-    or_none false = refl
+    taken_out : (o : Option Row) (c : Bool) → joined_row o c None true ≡ None
+    taken_out None c = refl
+    taken_out (Some r) c = refl
 
--- at one dot: first joined with the old, then with another, then with the old again
-row_again : (r o p : Option Row) (c oc pc : Bool) → (is_some r ≡ true → c ≡ true) → (is_some o ≡ true → oc ≡ true) → (is_some p ≡ true → pc ≡ true)
-    → joined_row (joined_row (joined_row r c o oc) (c || oc) p pc) ((c || oc) || pc) o oc ≡ joined_row (joined_row r c o oc) (c || oc) p pc
-row_again None None None true true true f g h = refl
-row_again None None None true true false f g h = refl
-row_again None None None true false true f g h = refl
-row_again None None None true false false f g h = refl
-row_again None None None false true true f g h = refl
-row_again None None None false true false f g h = refl
-row_again None None None false false true f g h = refl
-row_again None None None false false false f g h = refl
-row_again None None (Some p) true true true f g h = refl
-row_again None None (Some p) true true false f g h = absurd (true≢false (sym (h refl)))
-row_again None None (Some p) true false true f g h = refl
-row_again None None (Some p) true false false f g h = absurd (true≢false (sym (h refl)))
-row_again None None (Some p) false true true f g h = refl
-row_again None None (Some p) false true false f g h = absurd (true≢false (sym (h refl)))
-row_again None None (Some p) false false true f g h = refl
-row_again None None (Some p) false false false f g h = absurd (true≢false (sym (h refl)))
-row_again None (Some o) None true true true f g h = refl
-row_again None (Some o) None true true false f g h = refl
-row_again None (Some o) None true false true f g h = absurd (true≢false (sym (g refl)))
-row_again None (Some o) None true false false f g h = absurd (true≢false (sym (g refl)))
-row_again None (Some o) None false true true f g h = refl
-row_again None (Some o) None false true false f g h = refl
-row_again None (Some o) None false false true f g h = absurd (true≢false (sym (g refl)))
-row_again None (Some o) None false false false f g h = absurd (true≢false (sym (g refl)))
-row_again None (Some o) (Some p) true true true f g h = refl
-row_again None (Some o) (Some p) true true false f g h = absurd (true≢false (sym (h refl)))
-row_again None (Some o) (Some p) true false true f g h = absurd (true≢false (sym (g refl)))
-row_again None (Some o) (Some p) true false false f g h = absurd (true≢false (sym (g refl)))
-row_again None (Some o) (Some p) false true true f g h = refl
-row_again None (Some o) (Some p) false true false f g h = absurd (true≢false (sym (h refl)))
-row_again None (Some o) (Some p) false false true f g h = absurd (true≢false (sym (g refl)))
-row_again None (Some o) (Some p) false false false f g h = absurd (true≢false (sym (g refl)))
-row_again (Some r) None None true true true f g h = refl
-row_again (Some r) None None true true false f g h = refl
-row_again (Some r) None None true false true f g h = refl
-row_again (Some r) None None true false false f g h = refl
-row_again (Some r) None None false true true f g h = absurd (true≢false (sym (f refl)))
-row_again (Some r) None None false true false f g h = absurd (true≢false (sym (f refl)))
-row_again (Some r) None None false false true f g h = absurd (true≢false (sym (f refl)))
-row_again (Some r) None None false false false f g h = absurd (true≢false (sym (f refl)))
-row_again (Some r) None (Some p) true true true f g h = refl
-row_again (Some r) None (Some p) true true false f g h = absurd (true≢false (sym (h refl)))
-row_again (Some r) None (Some p) true false true f g h = refl
-row_again (Some r) None (Some p) true false false f g h = absurd (true≢false (sym (h refl)))
-row_again (Some r) None (Some p) false true true f g h = absurd (true≢false (sym (f refl)))
-row_again (Some r) None (Some p) false true false f g h = absurd (true≢false (sym (f refl)))
-row_again (Some r) None (Some p) false false true f g h = absurd (true≢false (sym (f refl)))
-row_again (Some r) None (Some p) false false false f g h = absurd (true≢false (sym (f refl)))
-row_again (Some r) (Some o) None true true true f g h = refl
-row_again (Some r) (Some o) None true true false f g h = refl
-row_again (Some r) (Some o) None true false true f g h = absurd (true≢false (sym (g refl)))
-row_again (Some r) (Some o) None true false false f g h = absurd (true≢false (sym (g refl)))
-row_again (Some r) (Some o) None false true true f g h = absurd (true≢false (sym (f refl)))
-row_again (Some r) (Some o) None false true false f g h = absurd (true≢false (sym (f refl)))
-row_again (Some r) (Some o) None false false true f g h = absurd (true≢false (sym (f refl)))
-row_again (Some r) (Some o) None false false false f g h = absurd (true≢false (sym (f refl)))
-row_again (Some r) (Some o) (Some p) true true true f g h = refl
-row_again (Some r) (Some o) (Some p) true true false f g h = absurd (true≢false (sym (h refl)))
-row_again (Some r) (Some o) (Some p) true false true f g h = absurd (true≢false (sym (g refl)))
-row_again (Some r) (Some o) (Some p) true false false f g h = absurd (true≢false (sym (g refl)))
-row_again (Some r) (Some o) (Some p) false true true f g h = absurd (true≢false (sym (f refl)))
-row_again (Some r) (Some o) (Some p) false true false f g h = absurd (true≢false (sym (f refl)))
-row_again (Some r) (Some o) (Some p) false false true f g h = absurd (true≢false (sym (f refl)))
-row_again (Some r) (Some o) (Some p) false false false f g h = absurd (true≢false (sym (f refl)))
+pub joins_keep : JoinsKeepKnown
+joins_keep s x t has row known h d told =
+    let here = known d told in (
+      (h d).0 ∙ ap (λ b. b || has d) here.0,
+      λ none. (h d).1 ∙ stays_removed (set.contains s.covered d) (map.get s.live d) (row d) (has d) here.0 (here.1 none),
+    )
 
--- the state at one dot after a join
-after : (s x : DotRows) (t : ToldValue) (d : Dot) → TakesIn s t x → (c : Bool) (o : Option Row) → set.contains s.covered d ≡ c → map.get s.live d ≡ o
-    → (set.contains x.covered d ≡ (c || covers t d)) × (map.get x.live d ≡ joined_row o c (live_row t d) (covers t d))
-after s x t d h c o e e' = (
-  (h d).0 ∙ ap (λ v. v || covers t d) e,
-  (h d).1 ∙ ap (λ v. joined_row v (set.contains s.covered d) (live_row t d) (covers t d)) e' ∙ ap (λ v. joined_row o v (live_row t d) (covers t d)) e,
+pub steps_keep : StepsKeepKnown
+steps_keep s t known = (
+  λ d r new q told.
+      let here = known q told in
+      let other : same_dot q d ≡ false = differs q d here.0 new in (
+        set.contains-insert dot_total s.covered d q ∙ ap (λ b. same_dot q d || b) here.0 ∙ or_last (same_dot q d),
+        λ none. map.get-insert dot_total s.live d r q ∙ ap (λ b. cond b (Some r) (map.get s.live q)) other ∙ here.1 none,
+      ),
+  λ ds event q told.
+      let here = known q told in (
+        set.contains-insert dot_total (set.union s.covered (set.from_list ds)) event q
+            ∙ ap (λ b. same_dot q event || b) (set.contains-union dot_total s.covered (set.from_list ds) q ∙ ap (λ b. b || set.contains (set.from_list {R = dot_cmp} ds) q) here.0)
+            ∙ or_last (same_dot q event),
+        λ none. without_rows_at s.live ds q ∙ none_either (list_any (same_dot q) ds) (map.get s.live q) (here.1 none),
+      ),
 )
+  where
+    differs : (q d : Dot) → set.contains s.covered q ≡ true → set.contains s.covered d ≡ false → same_dot q d ≡ false
+    differs q d has new = apart (same_dot q d) (λ same. true≢false (sym has ∙ ap (set.contains s.covered) (dots_equal q d same) ∙ new))
+      where
+        apart : (b : Bool) → (b ≡ true → ⊥) → b ≡ false
+        apart true f = absurd (f refl)
+        apart false f = refl
+
+    none_either : (b : Bool) (o : Option Row) → o ≡ None → cond b None o ≡ None
+    none_either true o e = refl
+    none_either false o e = e
+
+-- at one dot: what is known there changes nothing
+nothing_new : (o r : Option Row) (c t : Bool) → (t ≡ true → c ≡ true) → (t ≡ true → r ≡ None → o ≡ None) → (is_some r ≡ true → t ≡ true) → joined_row o c r t ≡ o
+nothing_new (Some x) (Some y) c t f g h = refl
+nothing_new (Some x) None c true f g h = sym (g refl refl)
+nothing_new (Some x) None c false f g h = refl
+nothing_new None (Some y) c true f g h = ap (λ b. cond b None (Some y)) (f refl)
+nothing_new None (Some y) c false f g h = absurd (true≢false (sym (h refl)))
+nothing_new None None c t f g h = refl
+
+covered_before : (c t : Bool) → (t ≡ true → c ≡ true) → (c || t) ≡ c
+covered_before true t f = refl
+covered_before false true f = sym (f refl)
+covered_before false false f = refl
+
+pub known_changes_nothing : KnownChangesNothing
+known_changes_nothing s x t told known h = same_at x s (λ d. (
+  (h d).0 ∙ covered_before (set.contains s.covered d) (covers t d) (λ has. (known d has).0),
+  (h d).1 ∙ nothing_new (map.get s.live d) (live_row t d) (set.contains s.covered d) (covers t d) (λ has. (known d has).0) (λ has. (known d has).1)
+      (only_covered d (covers t d) (live_row t d) (told_sound t told d)),
+))
+
+all_keep : (x y : DotRows) (t : ToldValue) (others : List ToldValue) → Knows x t → TakesInAll x others y → Knows y t
+all_keep x y t [] known h = subst (λ s. Knows s t) (sym h) known
+all_keep x y t (u ∷ us) known h = all_keep h.0 y t us (joins_keep x h.0 t (covers u) (live_row u) known h.1) h.2
 
 pub old_changes_nothing : OldChangesNothing
-old_changes_nothing s x y z old other hs ho hp hx hy hz = same_at z y (λ d.
-    let first = after s x old d hx (set.contains s.covered d) (map.get s.live d) refl refl in
-    let second = after x y other d hy (set.contains s.covered d || covers old d) (joined_row (map.get s.live d) (set.contains s.covered d) (live_row old d) (covers old d)) first.0 first.1 in
-    let third = after y z old d hz ((set.contains s.covered d || covers old d) || covers other d)
-    (joined_row (joined_row (map.get s.live d) (set.contains s.covered d) (live_row old d) (covers old d)) (set.contains s.covered d || covers old d) (live_row other d) (covers other d)) second.0 second.1 in (
-      third.0 ∙ or_again (set.contains s.covered d) (covers old d) (covers other d) ∙ sym second.0,
-      third.1
-          ∙ row_again (map.get s.live d) (live_row old d) (live_row other d) (set.contains s.covered d) (covers old d) (covers other d)
-          (only_covered d (set.contains s.covered d) (map.get s.live d) (hs d)) (only_covered d (covers old d) (live_row old d) (told_sound old ho d)) (only_covered d (covers other d) (live_row other d) (told_sound other hp d))
-          ∙ sym second.1,
-    ))
+old_changes_nothing s x y z old others told hx hy hz = known_changes_nothing y z old told (all_keep x y old others (learns s x old hx) hy) hz

@@ -5,3 +5,7 @@ pub mod GatherFacts
 pub mod CoverFacts
 pub mod SoundFacts
 pub mod LawFacts
+pub mod ListedFacts
+pub mod OrderedFacts
+pub mod FullFacts
+pub mod OneFullFacts

@@ -1,8 +1,6 @@
 -- The rows that are live, as a map from dots.
-use Rattle.std.proofs.Common.{◌≡◌, ℕ, ◌≤◌, Bool, true, false, not, cond, ◌&&◌, ◌||◌, List, [], ◌∷◌, arith, refl, sym, ◌∙◌, ap, subst, Option, Some, None, Ordering, Result, Ok, Err, OnOk, OnErr, is_some, true≢false}
+use Rattle.std.proofs.Common.{◌≡◌, Bool, true, false, not, cond, ◌&&◌, ◌||◌, List, [], ◌∷◌, refl, sym, ◌∙◌, ap, Option, Some, None, Result, Ok, Err, OnOk, OnErr, is_some, true≢false}
 use Rattle.std.specs.Ordering.{eq_by_cmp, is_eq}
-use Rattle.std.specs.declared.cmp.Ordering.TheVariants.{Less, Equal, Greater}
-use Rattle.std.specs.Cmp.{eq_by_cmp_equiv}
 use Rattle.std.specs.FinSet as set
 use Rattle.std.specs.FinMap as map
 use Rattle.std.specs.BTreeMap.{BTreeMap, get}
@@ -10,11 +8,8 @@ use Rattle.std.specs.Map.{lookup}
 use Rattle.std.proofs.lemmas.Map.Entries.{lookup-filter-keys}
 use Rattle.std.specs.List.{filter, list_any}
 use Rattle.presence_base.specs.declared.dots.Dot.{Dot}
-use Rattle.presence_base.specs.declared.dots.Replica.{Replica}
 use Rattle.presence_base.specs.Order.{dot_cmp, same_dot}
-use Rattle.dot_context.specs.Sets.{DotSet, without}
-use Rattle.presence_base.specs.Order.{same_replica}
-use Rattle.dot_context.proofs.SetFacts.{contains-without}
+use Rattle.dot_context.specs.Sets.{DotSet}
 use Rattle.orswot_core.proofs.OrderFacts.{dot_total, dot_antisymmetric, is_tied, flipped, dots_equal}
 use Rattle.presence_base.specs.declared.row.Row.{Row}
 use Rattle.orswot_core.specs.Sets.{LiveRows, DotRows, rows_of, first_row, joined_row, is_left}
@@ -22,7 +17,7 @@ use Rattle.orswot_core.specs.Sets.{LiveRows, DotRows, rows_of, first_row, joined
 abbrev pub Rows : Type 0
 Rows = BTreeMap Dot Row
 
-find_is : (es : List (Dot × Row)) (q : Dot) → map.find dot_cmp q es ≡ lookup (λ k. is_eq (dot_cmp q k)) es
+pub find_is : (es : List (Dot × Row)) (q : Dot) → map.find dot_cmp q es ≡ lookup (λ k. is_eq (dot_cmp q k)) es
 find_is [] q = refl
 find_is (e ∷ es) q = ap (cond (eq_by_cmp dot_cmp q e.0) (Some e.1)) (find_is es q)
 

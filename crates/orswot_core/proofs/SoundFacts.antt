@@ -1,5 +1,5 @@
 -- What a set holds stays sound: a row only where it covers, and all within their limits.
-use Rattle.std.proofs.Common.{◌≡◌, ℕ, ◌^◌, ◌<◌, ◌≤◌, Bool, true, false, not, cond, ◌&&◌, ◌||◌, nat_le, nat_lt, List, [], ◌∷◌, refl, sym, ◌∙◌, ap, subst, Option, Some, None, Result, Ok, Err, OnOk, OnErr, is_some, true≢false, arith}
+use Rattle.std.proofs.Common.{◌≡◌, ℕ, ◌^◌, ◌≤◌, Bool, true, false, not, cond, ◌&&◌, ◌||◌, nat_le, nat_lt, List, [], ◌∷◌, refl, sym, ◌∙◌, ap, Option, Some, None, is_some, true≢false, arith}
 use Rattle.std.proofs.lemmas.Bool.Decides.{nat_tests}
 use Rattle.std.specs.List.{list_any, list_all}
 use Rattle.std.specs.Map.{lookup}
@@ -15,7 +15,7 @@ use Rattle.dot_context.proofs.SetFacts.{contains-without}
 use Rattle.orswot_core.specs.Limits.{is_count, is_dot, is_row, is_range}
 use Rattle.orswot_core.specs.Telling.{Range, ToldValue, range_has, covers, live_row}
 use Rattle.orswot_core.specs.Checks.{IsTold}
-use Rattle.orswot_core.specs.Sets.{DotRows, LiveRows, rows_of, is_sound, IsSound, joined_row, IsJoin, with_dot, without_rows, removed, without_replica}
+use Rattle.orswot_core.specs.Sets.{DotRows, LiveRows, rows_of, is_sound, IsSound, joined_row, IsJoin, without_rows, removed, without_replica}
 use Rattle.orswot_core.proofs.OrderFacts.{dot_total, dot_antisymmetric, dots_equal, replicas_equal, flipped}
 use Rattle.orswot_core.proofs.RowFacts.{Rows, seen_row, same_rows}
 
@@ -210,7 +210,7 @@ remove_keeps s t m n ds event hds he h step = sound_by t n (λ q.
     (any_of_all is_dot (same_dot q) (λ x limited same. ap is_dot (dots_equal q x same) ∙ limited) ds hds)
     (sound_at s m h q))
 
-without_rows_at : (m : LiveRows) (ds : List Dot) (q : Dot) → map.get (without_rows m ds) q ≡ cond (list_any (same_dot q) ds) None (map.get m q)
+pub without_rows_at : (m : LiveRows) (ds : List Dot) (q : Dot) → map.get (without_rows m ds) q ≡ cond (list_any (same_dot q) ds) None (map.get m q)
 without_rows_at m [] q = refl
 without_rows_at m (d ∷ ds) q = map.get-remove dot_total (without_rows m ds) d q ∙ ap (cond (same_dot q d) None) (without_rows_at m ds q) ∙ either (same_dot q d) (list_any (same_dot q) ds) (map.get m q)
   where

@@ -1,12 +1,13 @@
 -- What joins keep, whatever is joined, in any order and number.
-use Rattle.std.specs.Prelude.{◌≡◌, ◌≢◌, Bool, true, Option, Some, None, is_some}
+use Rattle.std.specs.Prelude.{◌≡◌, Bool, true, false, List, [], ◌∷◌, Option, Some, None}
 use Rattle.std.specs.FinSet as set
 use Rattle.std.specs.FinMap as map
 use Rattle.presence_base.specs.declared.dots.Dot.{Dot}
 use Rattle.presence_base.specs.declared.row.Row.{Row}
 use Rattle.orswot_core.specs.Telling.{ToldValue, covers, live_row}
 use Rattle.orswot_core.specs.Checks.{IsTold}
-use Rattle.orswot_core.specs.Sets.{DotRows, IsSound, IsJoin}
+use Rattle.orswot_core.specs.Full.{IsFull}
+use Rattle.orswot_core.specs.Sets.{DotRows, IsSound, IsJoin, with_dot, removed}
 
 -- y is the set x joined with the set s
 abbrev pub IsUnion : DotRows → DotRows → DotRows → Type 0
@@ -32,11 +33,41 @@ Commutative = (a b x y : DotRows) → Agree a b → IsUnion a b x → IsUnion b 
 abbrev pub Associative : Type 0
 Associative = (a b c ab bc x y : DotRows) → IsSet a → IsSet b → IsSet c → IsUnion a b ab → IsUnion ab c x → IsUnion b c bc → IsUnion a bc y → x ≡ y
 
--- what was covered without a row never gets one, whatever is told
+-- what was covered without a row never gets one, whatever is joined: these dots covered, with these rows
 abbrev pub RemovedStays : Type 0
-RemovedStays = (s x : DotRows) (t : ToldValue) (d : Dot) → set.contains s.covered d ≡ true → map.get s.live d ≡ None → TakesIn s t x
+RemovedStays = (s x : DotRows) (has : Dot → Bool) (row : Dot → Option Row) (d : Dot) → set.contains s.covered d ≡ true → map.get s.live d ≡ None → IsJoin s has row x
     → (set.contains x.covered d ≡ true) × (map.get x.live d ≡ None)
 
--- a told value that comes again, after another one, changes nothing
+-- the set knows what is told: it covers each dot that is covered there, and none that is removed there is live
+abbrev pub Knows : DotRows → ToldValue → Type 0
+Knows s t = (d : Dot) → covers t d ≡ true → (set.contains s.covered d ≡ true) × (live_row t d ≡ None → map.get s.live d ≡ None)
+
+-- a set that takes in what is told knows it
+abbrev pub Learns : Type 0
+Learns = (s x : DotRows) (t : ToldValue) → TakesIn s t x → Knows x t
+
+-- what a set knows it keeps knowing, whatever is joined
+abbrev pub JoinsKeepKnown : Type 0
+JoinsKeepKnown = (s x : DotRows) (t : ToldValue) (has : Dot → Bool) (row : Dot → Option Row) → Knows s t → IsJoin s has row x → Knows x t
+
+-- and whatever it adds or removes
+abbrev pub StepsKeepKnown : Type 0
+StepsKeepKnown = (s : DotRows) (t : ToldValue) → Knows s t
+    → ((d : Dot) (r : Row) → set.contains s.covered d ≡ false → Knows (with_dot s d r) t) × ((ds : List Dot) (event : Dot) → Knows (removed s ds event) t)
+
+-- what a set knows changes nothing when it is told
+abbrev pub KnownChangesNothing : Type 0
+KnownChangesNothing = (s x : DotRows) (t : ToldValue) → IsTold t → Knows s t → TakesIn s t x → x ≡ s
+
+-- y is the set x that took in each of these told values in turn
+abbrev pub TakesInAll : DotRows → List ToldValue → DotRows → Type 0
+TakesInAll x [] y = y ≡ x
+TakesInAll x (t ∷ ts) y = (z : DotRows) × TakesIn x t z × TakesInAll z ts y
+
+-- a told value that comes again, after any others, changes nothing
 abbrev pub OldChangesNothing : Type 0
-OldChangesNothing = (s x y z : DotRows) (old other : ToldValue) → IsSet s → IsTold old → IsTold other → TakesIn s old x → TakesIn x other y → TakesIn y old z → z ≡ y
+OldChangesNothing = (s x y z : DotRows) (old : ToldValue) (others : List ToldValue) → IsTold old → TakesIn s old x → TakesInAll x others y → TakesIn y old z → z ≡ y
+
+-- two values that each tell all of a set are one
+abbrev pub OneFull : Type 0
+OneFull = (s : DotRows) (t u : ToldValue) → IsFull s t → IsFull s u → t ≡ u

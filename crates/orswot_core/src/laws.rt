@@ -1,4 +1,4 @@
-ghost use Rattle.orswot_core.specs.Laws.{Idempotent, Commutative, Associative, RemovedStays, OldChangesNothing};
+ghost use Rattle.orswot_core.specs.Laws.{Idempotent, Commutative, Associative, RemovedStays, Learns, JoinsKeepKnown, StepsKeepKnown, KnownChangesNothing, OldChangesNothing, OneFull};
 
 /// Sets join in any order and number: with itself a set stays as it is, two of them join to the
 /// same either way where their rows agree, and three join to the same in either grouping.
@@ -8,12 +8,26 @@ pub fn joins_in_any_order()
     ensures associative { Associative }
 {}
 
-/// A dot that is covered and not live never becomes live again by anything told.
+/// A dot that is covered and not live never becomes live again by any join.
 pub fn removed_stays_removed()
     ensures { RemovedStays }
 {}
 
-/// What was told before changes nothing when it comes again.
+/// A set that took in a told value knows what it tells, and keeps knowing it through joins, adds and removals. What a set
+/// knows changes nothing when it is told again.
+pub fn told_stays_known()
+    ensures learns { Learns }
+    ensures joins { JoinsKeepKnown }
+    ensures steps { StepsKeepKnown }
+    ensures nothing { KnownChangesNothing }
+{}
+
+/// What was told before changes nothing when it comes again, whatever was told in between.
 pub fn old_told_changes_nothing()
     ensures { OldChangesNothing }
+{}
+
+/// All that is told of a set is one told value: no order and no choice is left.
+pub fn told_whole_in_one_way()
+    ensures { OneFull }
 {}

@@ -1,6 +1,7 @@
 //! The observed-remove set of presence rows, and what is told of it (Bieniusa et al., 2012).
 #![tactic(auto)]
 
+mod full;
 mod joins;
 pub mod laws;
 mod limits;

@@ -1,4 +1,4 @@
-ghost use Rattle.std.specs.Prelude.{◌≡◌, ◌≤◌, ℕ, true, false, cond, Some, None, OnOk, OnErr, option_copied, ◌+◌};
+ghost use Rattle.std.specs.Prelude.{◌≡◌, ◌≤◌, ℕ, true, false, cond, Some, None, OnOk, OnErr, IfOk, option_copied, ◌+◌};
 ghost use Rattle.std.specs.List.{list_all};
 ghost use Rattle.std.specs.FinSet as set;
 ghost use Rattle.std.specs.FinMap as map;
@@ -7,8 +7,10 @@ ghost use Rattle.presence_base.specs.declared.dots.Dot.{Dot as DotValue};
 ghost use Rattle.dot_context.specs.Sets.{without};
 ghost use Rattle.orswot_core.specs.Limits.{is_dot, is_row};
 ghost use Rattle.orswot_core.specs.Telling.{covers, live_row};
+ghost use Rattle.orswot_core.specs.Full.{IsFull};
 ghost use Rattle.orswot_core.specs.Sets.{with_dot, removed, IsJoin, without_replica};
 
+use crate::full::full_told;
 use crate::joins::{add_row, forget_rows, join_rows, join_told, remove_rows};
 use crate::told::Told;
 use dot_context::Context;
@@ -110,6 +112,16 @@ impl Orswot {
             &other.covered,
             &other.live,
         )
+    }
+
+    /// All that is told of the set. It costs what it gives, and needs memory for each covered dot above its replica's first
+    /// gap: a set that heard of a huge run above a gap can't be told in whole.
+    pub fn told(&self, alloc: Global) -> Result<Told, AllocError>
+        ensures full { IfOk result (λ t. IsFull self.now t) }
+        ensures covers { IfOk result (λ t. (d : DotValue) → covers t d ≡ set.contains self.now.covered d) }
+        ensures rows { IfOk result (λ t. (d : DotValue) → live_row t d ≡ map.get self.now.live d) }
+    {
+        full_told(alloc, &self.covered, &self.live)
     }
 
     /// Takes out the replica's dots and rows.

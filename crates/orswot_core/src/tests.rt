@@ -1,11 +1,13 @@
 ghost use Rattle.std.specs.Prelude.{◌≡◌, ◌≤◌, ◌^◌, true, IfOk};
 ghost use Rattle.orswot_core.specs.Limits.{is_dot, is_row};
 
-use crate::{MAX_ROWS, Orswot, RawRow, RawTold, Told, ToldFault};
-use presence_base::{Dot, Key, MAX_COUNT, Meta, NodeName, Replica, Row, Topic};
+use crate::{Orswot, RawRow, RawTold, Told};
+use presence_base::{Dot, Key, Meta, NodeName, Replica, Row, Topic};
 use serde_json::{Map, Value};
-use std::alloc::Global;
+use std::alloc::{AllocError, Global};
 use std::test::Fail;
+
+mod checks;
 
 // The replica `b`, incarnation 1.
 fn replica(alloc: Global) -> Result<Replica, Fail>
@@ -79,13 +81,6 @@ fn told(alloc: Global, raw: RawTold) -> Result<Told, Fail> {
     }
 }
 
-fn fault_of(alloc: Global, raw: RawTold) -> Option<ToldFault> {
-    match Told::check(alloc, raw, 0, 2) {
-        Ok(_) => None,
-        Err(fault) => Some(fault),
-    }
-}
-
 // The range up to 2 with the rows `b.1.1` and `b.1.2`.
 fn first_two(alloc: Global) -> Result<Told, Fail> {
     let mut raw = empty(alloc);
@@ -113,166 +108,246 @@ fn removing(alloc: Global, count: u64) -> Result<Told, Fail>
     told(alloc, raw)
 }
 
+// Whether these ranges, extras and live rows of `b.1` are told, in this order, and nothing else.
+fn lists(told: &Told, ranges: &[(u64, u64)], extras: &[u64], live: &[u64]) -> bool {
+    told.ranges().len() == ranges.len()
+        && told.extras().len() == extras.len()
+        && told.live().len() == live.len()
+        && has_ranges(told, ranges)
+        && has_extras(told, extras)
+        && has_live(told, live)
+}
+
+fn has_ranges(told: &Told, ranges: &[(u64, u64)]) -> bool {
+    told.ranges()
+        .iter()
+        .zip(ranges)
+        .all(|(range, ends)| range.1 == ends.0 && range.2 == ends.1)
+}
+
+fn has_extras(told: &Told, extras: &[u64]) -> bool {
+    told.extras()
+        .iter()
+        .zip(extras)
+        .all(|(dot, count)| dot.count == *count)
+}
+
+fn has_live(told: &Told, live: &[u64]) -> bool {
+    told.live()
+        .iter()
+        .zip(live)
+        .all(|(row, count)| row.0.count == *count)
+}
+
+// Whether the set tells these.
+fn tells(
+    alloc: Global,
+    set: &Orswot,
+    ranges: &[(u64, u64)],
+    extras: &[u64],
+    live: &[u64],
+) -> Result<bool, AllocError> {
+    let told = set.told(alloc)?;
+    Ok(lists(&told, ranges, extras, live))
+}
+
+// The set that hears these in turn.
+fn hears(alloc: Global, first: &Told, second: &Told) -> Result<Orswot, AllocError> {
+    let mut set = Orswot::new(alloc);
+    set.join(alloc, first)?;
+    set.join(alloc, second)?;
+    Ok(set)
+}
+
+// The set after the second of two deltas alone, which leaves a gap.
+fn with_gap(alloc: Global) -> Result<Orswot, Fail> {
+    let last = removing(alloc, 3)?;
+    let mut set = Orswot::new(alloc);
+    set.join(alloc, &last)?;
+    Ok(set)
+}
+
+// The set after both, the second one first.
+fn after_gap(alloc: Global) -> Result<Orswot, Fail> {
+    let last = removing(alloc, 3)?;
+    let first = first_two(alloc)?;
+    Ok(hears(alloc, &last, &first)?)
+}
+
+// Whether the range up to 3 is told with the row `b.1.2` and nothing else.
+fn is_filled(alloc: Global, set: &Orswot) -> Result<bool, AllocError> {
+    tells(alloc, set, &[(0, 3)], &[], &[2])
+}
+
+// What the set answers of one dot: its replica's top, whether it is covered, and whether it has a row.
+fn asked(alloc: Global, set: &Orswot, count: u64) -> Result<(u64, bool, bool), Fail>
+    requires { (1 ≤ count) × (count ≤ 2 ^ 62) }
+{
+    let at = dot(alloc, count)?;
+    Ok((
+        set.top(&at.replica),
+        set.covers(&at),
+        set.row(&at).is_some(),
+    ))
+}
+
+#[test]
+fn a_gap_is_not_known(rt: HostRuntime) -> Result<(), Fail> {
+    let alloc = rt.alloc();
+    let set = with_gap(alloc)?;
+    assert!(rt; asked(alloc, &set, 2)? == (1, false, false));
+    assert!(rt; asked(alloc, &set, 3)? == (1, true, false));
+    assert!(rt; tells(alloc, &set, &[(0, 1)], &[3], &[])?);
+    Ok(())
+}
+
 #[test]
 fn a_late_gap_fills(rt: HostRuntime) -> Result<(), Fail> {
     let alloc = rt.alloc();
-    let b = replica(alloc)?;
-    let mut set = Orswot::new(alloc);
-    set.join(alloc, &removing(alloc, 3)?)?;
-    assert_eq!(rt; set.top(&b), 1);
-    assert!(rt; !set.covers(&dot(alloc, 2)?));
-    assert!(rt; set.covers(&dot(alloc, 3)?));
-    set.join(alloc, &first_two(alloc)?)?;
-    assert_eq!(rt; set.top(&b), 3);
-    assert!(rt; set.row(&dot(alloc, 1)?).is_none());
-    assert!(rt; set.row(&dot(alloc, 2)?).is_some());
+    let set = after_gap(alloc)?;
+    assert!(rt; asked(alloc, &set, 1)? == (3, true, false));
+    assert!(rt; asked(alloc, &set, 2)? == (3, true, true));
+    assert!(rt; is_filled(alloc, &set)?);
+    Ok(())
+}
+
+// Tells the set whole to an empty one, and clones what was told on the way.
+fn retold(alloc: Global, set: &Orswot) -> Result<Orswot, Fail> {
+    let told = set.told(alloc)?;
+    let copy = told.clone()?;
+    Ok(hears(alloc, &copy, &told)?)
+}
+
+#[test]
+fn a_set_told_whole_is_the_set(rt: HostRuntime) -> Result<(), Fail> {
+    let alloc = rt.alloc();
+    let set = after_gap(alloc)?;
+    let other = retold(alloc, &set)?;
+    assert!(rt; is_filled(alloc, &other)?);
+    Ok(())
+}
+
+// The extras `b.1.4` and `b.1.3`.
+fn cloud_alone(alloc: Global) -> Result<Told, Fail> {
+    let mut raw = empty(alloc);
+    raw.extras.push(dot(alloc, 4)?)?;
+    raw.extras.push(dot(alloc, 3)?)?;
+    told(alloc, raw)
+}
+
+#[test]
+fn a_cloud_alone_is_told_with_an_empty_range(rt: HostRuntime) -> Result<(), Fail> {
+    let alloc = rt.alloc();
+    let cloud = cloud_alone(alloc)?;
+    let set = hears(alloc, &cloud, &cloud)?;
+    assert!(rt; tells(alloc, &set, &[(0, 0)], &[3, 4], &[])?);
+    Ok(())
+}
+
+#[test]
+fn an_empty_set_tells_nothing(rt: HostRuntime) -> Result<(), Fail> {
+    let alloc = rt.alloc();
+    let set = Orswot::new(alloc);
+    assert!(rt; tells(alloc, &set, &[], &[], &[])?);
     Ok(())
 }
 
 #[test]
 fn deltas_in_order_end_the_same(rt: HostRuntime) -> Result<(), Fail> {
     let alloc = rt.alloc();
-    let mut set = Orswot::new(alloc);
-    set.join(alloc, &first_two(alloc)?)?;
-    assert!(rt; set.row(&dot(alloc, 1)?).is_some());
-    set.join(alloc, &removing(alloc, 3)?)?;
-    assert_eq!(rt; set.top(&replica(alloc)?), 3);
-    assert!(rt; set.row(&dot(alloc, 1)?).is_none());
-    assert!(rt; set.row(&dot(alloc, 2)?).is_some());
+    let first = first_two(alloc)?;
+    let last = removing(alloc, 3)?;
+    let set = hears(alloc, &first, &last)?;
+    assert!(rt; is_filled(alloc, &set)?);
     Ok(())
 }
 
 #[test]
 fn a_repeated_delta_restores_nothing(rt: HostRuntime) -> Result<(), Fail> {
     let alloc = rt.alloc();
-    let mut set = Orswot::new(alloc);
-    set.join(alloc, &removing(alloc, 2)?)?;
-    set.join(alloc, &first_one(alloc)?)?;
-    assert!(rt; set.row(&dot(alloc, 1)?).is_none());
-    set.join(alloc, &first_one(alloc)?)?;
-    assert_eq!(rt; set.top(&replica(alloc)?), 2);
-    assert!(rt; set.row(&dot(alloc, 1)?).is_none());
+    let first = first_one(alloc)?;
+    let second = removing(alloc, 2)?;
+    let mut set = hears(alloc, &second, &first)?;
+    assert!(rt; tells(alloc, &set, &[(0, 2)], &[], &[])?);
+    set.join(alloc, &first)?;
+    assert!(rt; tells(alloc, &set, &[(0, 2)], &[], &[])?);
     Ok(())
 }
 
 #[test]
 fn sets_join_either_way(rt: HostRuntime) -> Result<(), Fail> {
     let alloc = rt.alloc();
-    let b = replica(alloc)?;
-    let mut one = Orswot::new(alloc);
-    one.join(alloc, &removing(alloc, 3)?)?;
-    let mut both = Orswot::new(alloc);
-    both.join(alloc, &first_two(alloc)?)?;
+    let mut one = with_gap(alloc)?;
+    let mut both = after_gap(alloc)?;
     both.join_all(alloc, &one)?;
+    assert!(rt; is_filled(alloc, &both)?);
     one.join_all(alloc, &both)?;
-    assert_eq!(rt; one.top(&b), 3);
-    assert!(rt; one.row(&dot(alloc, 1)?).is_none());
-    assert!(rt; one.row(&dot(alloc, 2)?).is_some());
-    assert!(rt; both.row(&dot(alloc, 1)?).is_none());
-    one.forget(&b);
-    assert_eq!(rt; one.top(&b), 0);
-    assert!(rt; one.row(&dot(alloc, 2)?).is_none());
+    assert!(rt; is_filled(alloc, &one)?);
     Ok(())
+}
+
+#[test]
+fn a_forgotten_replica_is_not_told(rt: HostRuntime) -> Result<(), Fail> {
+    let alloc = rt.alloc();
+    let b = replica(alloc)?;
+    let mut set = after_gap(alloc)?;
+    set.forget(&b);
+    assert!(rt; asked(alloc, &set, 2)? == (0, false, false));
+    assert!(rt; tells(alloc, &set, &[], &[], &[])?);
+    Ok(())
+}
+
+// The set with the row `b.1.1` alone.
+fn with_one(alloc: Global) -> Result<Orswot, Fail> {
+    let one = dot(alloc, 1)?;
+    let row = row(alloc, "u1")?;
+    let mut set = Orswot::new(alloc);
+    if !set.covers(&one) {
+        set.add(alloc, one, row)?;
+    }
+    Ok(set)
 }
 
 #[test]
 fn a_removal_covers_its_event(rt: HostRuntime) -> Result<(), Fail> {
     let alloc = rt.alloc();
-    let b = replica(alloc)?;
-    let mut set = Orswot::new(alloc);
-    let one = dot(alloc, 1)?;
-    if !set.covers(&one) {
-        set.add(alloc, one, row(alloc, "u1")?)?;
-    }
-    assert!(rt; set.row(&dot(alloc, 1)?).is_some());
+    let event = dot(alloc, 2)?;
     let gone = [dot(alloc, 1)?];
-    set.remove(alloc, &gone, dot(alloc, 2)?)?;
-    assert!(rt; set.row(&dot(alloc, 1)?).is_none());
-    assert_eq!(rt; set.top(&b), 2);
+    let mut set = with_one(alloc)?;
+    assert!(rt; tells(alloc, &set, &[(0, 1)], &[], &[1])?);
+    set.remove(alloc, &gone, event)?;
+    assert!(rt; tells(alloc, &set, &[(0, 2)], &[], &[])?);
     Ok(())
 }
 
-// Extras of one dot, so many times.
-fn extras(alloc: Global, times: usize) -> Result<RawTold, Fail> {
-    let mut raw = empty(alloc);
-    for _ in 0..times {
-        raw.extras.push(dot(alloc, 1)?)?;
+fn add_row(alloc: Global, set: &mut Orswot, count: u64) -> Result<(), Fail>
+    requires { (1 ≤ count) × (count ≤ 2 ^ 62) }
+{
+    let at = dot(alloc, count)?;
+    let row = row(alloc, "u1")?;
+    if !set.covers(&at) {
+        set.add(alloc, at, row)?;
     }
-    Ok(raw)
-}
-
-fn with_range(alloc: Global, raw: RawTold, from: u64, to: u64) -> Result<RawTold, Fail> {
-    let mut raw = raw;
-    raw.ranges.push((replica(alloc)?, from, to))?;
-    Ok(raw)
-}
-
-fn with_row(alloc: Global, raw: RawTold, key: &str, pid: u64) -> Result<RawTold, Fail> {
-    let mut raw = raw;
-    let (at, mut row) = raw_row(alloc, 1, key)?;
-    row.pid = pid;
-    raw.live.push((at, row))?;
-    Ok(raw)
-}
-
-#[test]
-fn the_most_rows_and_extras_are_taken(rt: HostRuntime) -> Result<(), Fail> {
-    let alloc = rt.alloc();
-    let told = told(alloc, extras(alloc, MAX_ROWS)?)?;
-    assert_eq!(rt; told.extras().len(), MAX_ROWS);
-    assert!(rt; told.ranges().is_empty());
-    assert!(rt; told.live().is_empty());
     Ok(())
 }
 
-#[test]
-fn one_row_more_is_refused(rt: HostRuntime) -> Result<(), Fail> {
-    let alloc = rt.alloc();
-    let raw = with_row(alloc, extras(alloc, MAX_ROWS)?, "u1", 5)?;
-    assert_eq!(rt; fault_of(alloc, raw), Some(ToldFault::TooMany));
-    Ok(())
+// What a set tells of the rows `b.1.1` up to one count.
+fn told_rows(alloc: Global, rows: u64) -> Result<Told, Fail>
+    requires { rows ≤ 2 ^ 32 }
+{
+    let mut set = Orswot::new(alloc);
+    for row in 0..rows {
+        add_row(alloc, &mut set, row + 1)?;
+    }
+    Ok(set.told(alloc)?)
 }
 
 #[test]
-fn two_ranges_are_refused(rt: HostRuntime) -> Result<(), Fail> {
+fn more_rows_than_may_come_in_are_told(rt: HostRuntime) -> Result<(), Fail> {
     let alloc = rt.alloc();
-    let raw = with_range(alloc, empty(alloc), 0, 2)?;
-    let raw = with_range(alloc, raw, 2, 4)?;
-    assert_eq!(rt; fault_of(alloc, raw), Some(ToldFault::TwoRanges));
-    Ok(())
-}
-
-#[test]
-fn a_range_may_be_empty(rt: HostRuntime) -> Result<(), Fail> {
-    let alloc = rt.alloc();
-    assert_eq!(rt;
-        fault_of(alloc, with_range(alloc, empty(alloc), 2, 2)?),
-        None
-    );
-    assert_eq!(rt;
-        fault_of(alloc, with_range(alloc, empty(alloc), 3, 2)?),
-        Some(ToldFault::BadRange)
-    );
-    Ok(())
-}
-
-#[test]
-fn a_pid_has_a_limit(rt: HostRuntime) -> Result<(), Fail> {
-    let alloc = rt.alloc();
-    let raw = with_row(alloc, extras(alloc, 1)?, "u1", MAX_COUNT)?;
-    assert_eq!(rt; fault_of(alloc, raw), None);
-    let raw = with_row(alloc, extras(alloc, 1)?, "u1", MAX_COUNT + 1)?;
-    assert_eq!(rt; fault_of(alloc, raw), Some(ToldFault::RowLimits));
-    Ok(())
-}
-
-#[test]
-fn a_live_row_is_covered_and_stands_once(rt: HostRuntime) -> Result<(), Fail> {
-    let alloc = rt.alloc();
-    let raw = with_row(alloc, empty(alloc), "u1", 5)?;
-    assert_eq!(rt; fault_of(alloc, raw), Some(ToldFault::LiveNotCovered));
-    let raw = with_row(alloc, extras(alloc, 1)?, "u1", 5)?;
-    let raw = with_row(alloc, raw, "u1", 5)?;
-    assert_eq!(rt; fault_of(alloc, raw), Some(ToldFault::LiveTwice));
+    let told = told_rows(alloc, 65_537)?;
+    assert_eq!(rt; told.live().len(), 65_537);
+    assert!(rt; has_ranges(&told, &[(0, 65_537)]));
+    assert!(rt; told.extras().is_empty());
     Ok(())
 }

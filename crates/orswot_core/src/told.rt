@@ -17,6 +17,8 @@ use std::fmt;
 use std::marker::Model;
 use thiserror::Error;
 
+mod clones;
+
 /// The most rows and extras together that a told value may bring from outside.
 pub const MAX_ROWS: usize = 65_536;
 

@@ -1,4 +1,4 @@
-use Rattle.std.proofs.Common.{◌≡◌, ◌||◌, not, is_some, rules, ap, sym, ◌∙◌, filter}
+use Rattle.std.proofs.Common.{◌||◌, not, is_some, rules}
 use Rattle.std.proofs.lemmas.Map.Made.{filter_same_pairs}
 use Rattle.std.specs.FinSet as set
 use Rattle.std.specs.BTreeMap.{get}

@@ -1,8 +1,5 @@
-use Rattle.std.proofs.Common.{◌≡◌, ◌||◌, not, is_some, rules, ap, sym, ◌∙◌, filter}
+use Rattle.std.proofs.Common.{not, rules}
 use Rattle.std.proofs.lemmas.Map.Made.{filter_same_pairs}
-use Rattle.std.specs.FinSet as set
-use Rattle.std.specs.BTreeMap.{get}
-use Rattle.presence_base.specs.Order.{dot_cmp}
 use Rattle.orswot_core.proofs.RowFacts.{after_filter}
 use Rattle.presence_base.specs.Order.{same_replica}
 use Rattle.orswot_core.proofs.joins.forget_rows.Goals as goal

@@ -1,4 +1,4 @@
-use Rattle.std.proofs.Common.{◌≡◌, sym, ◌∙◌}
+use Rattle.std.proofs.Common.{sym, ◌∙◌}
 use Rattle.orswot_core.proofs.RowFacts.{on_ok}
 use Rattle.orswot_core.proofs.GatherFacts.{gathered, passed_over}
 use Rattle.orswot_core.proofs.joins.gather_dot.Goals as goal

@@ -1,4 +1,4 @@
-use Rattle.std.proofs.Common.{◌≡◌, ◌+◌, drop, ◌∙◌, sym}
+use Rattle.std.proofs.Common.{◌+◌, drop, ◌∙◌}
 use Rattle.orswot_core.proofs.LoopFacts.{next_rest}
 use Rattle.orswot_core.proofs.GatherFacts.{next_gathered}
 use Rattle.orswot_core.proofs.joins.gather_extras.Goals as goal

@@ -1,4 +1,4 @@
-use Rattle.std.proofs.Common.{◌≡◌, ◌||◌, ◌∙◌, sym, ap, true}
+use Rattle.std.proofs.Common.{◌||◌, ◌∙◌, ap}
 use Rattle.std.specs.List.{list_any}
 use Rattle.presence_base.specs.Order.{same_dot}
 use Rattle.orswot_core.proofs.GatherFacts.{in_between, next_keys, forward_ends}

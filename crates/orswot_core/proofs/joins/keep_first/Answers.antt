@@ -1,4 +1,4 @@
-use Rattle.std.proofs.Common.{◌≡◌, sym, ◌∙◌}
+use Rattle.std.proofs.Common.{sym, ◌∙◌}
 use Rattle.orswot_core.proofs.RowFacts.{had_first, gets_first, on_ok}
 use Rattle.orswot_core.proofs.joins.keep_first.Goals as goal
 

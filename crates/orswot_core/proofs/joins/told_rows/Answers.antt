@@ -1,4 +1,4 @@
-use Rattle.std.proofs.Common.{◌≡◌, ◌+◌, drop, ◌∙◌, sym}
+use Rattle.std.proofs.Common.{◌+◌, drop, ◌∙◌}
 use Rattle.orswot_core.proofs.LoopFacts.{next_rest}
 use Rattle.orswot_core.proofs.RowFacts.{kept_first}
 use Rattle.orswot_core.proofs.joins.told_rows.Goals as goal

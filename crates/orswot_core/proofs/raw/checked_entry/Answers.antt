@@ -1,4 +1,4 @@
-use Rattle.std.proofs.Common.{◌≡◌, ℕ, ◌%◌, true, false, ◌&&◌, nat_eq, sum, refl, sym, ◌∙◌, ap, arith}
+use Rattle.std.proofs.Common.{◌≡◌, ℕ, ◌%◌, true, false, ◌&&◌, nat_eq, sum, sym, ◌∙◌, ap, arith}
 use Rattle.std.proofs.lemmas.Bool.Decides.{nat_tests}
 use Rattle.presence_base.specs.declared.row.Row.{Row}
 use Rattle.orswot_core.specs.Limits.{is_dot, is_row, are_texts, is_on_shard}

@@ -1,7 +1,5 @@
-use Rattle.std.proofs.Common.{◌≡◌, Bool, true, false, not, cond, ◌++◌, ◌∷◌, [], Some, None, refl, sym, ◌∙◌, ap, append_assoc}
-use Rattle.std.specs.List.{list_all}
+use Rattle.std.proofs.Common.{not, cond, ◌++◌, ◌∷◌, [], Some, None, sym, ◌∙◌, ap, append_assoc}
 use Rattle.orswot_core.specs.Checks.{is_raw_row}
-use Rattle.orswot_core.specs.declared.told.ToldFault.{ToldFault}
 use Rattle.orswot_core.specs.declared.told.ToldFault.TheVariants.{RowLimits}
 use Rattle.orswot_core.proofs.LoopFacts.{first_false, first_true, not_guarded, found_row}
 use Rattle.orswot_core.proofs.raw.checked_rows.Goals as goal

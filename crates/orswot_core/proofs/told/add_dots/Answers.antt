@@ -1,5 +1,4 @@
-use Rattle.std.proofs.Common.{◌≡◌, ◌||◌, refl, sym, ◌∙◌, drop, ◌+◌}
-use Rattle.std.specs.List.{list_any}
+use Rattle.std.proofs.Common.{refl, sym, ◌∙◌, drop, ◌+◌}
 use Rattle.std.specs.FinSet as set
 use Rattle.presence_base.specs.Order.{same_dot}
 use Rattle.orswot_core.proofs.LoopFacts.{next_rest, dot_added, none_left}

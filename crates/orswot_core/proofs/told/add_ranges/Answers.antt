@@ -1,4 +1,4 @@
-use Rattle.std.proofs.Common.{◌≡◌, ◌||◌, refl, sym, ◌∙◌, ap, drop, ◌+◌}
+use Rattle.std.proofs.Common.{refl, sym, ◌∙◌, ap, drop, ◌+◌}
 use Rattle.std.specs.FinSet as set
 use Rattle.dot_context.specs.Sets.{range}
 use Rattle.orswot_core.specs.Telling.{range_has}

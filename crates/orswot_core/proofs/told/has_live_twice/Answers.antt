@@ -1,10 +1,10 @@
-use Rattle.std.proofs.Common.{◌≡◌, ◌||◌, true, false, cond, refl, sym, ◌∙◌, ap, drop, ◌+◌, [], ◌∷◌}
+use Rattle.std.proofs.Common.{◌||◌, sym, ◌∙◌, ap, drop, ◌+◌}
 use Rattle.std.proofs.lemmas.List.{drop_all}
 use Rattle.std.specs.List.{list_any}
 use Rattle.std.specs.Ordering.{is_eq}
 use Rattle.std.specs.BTreeSet.{contains}
 use Rattle.presence_base.specs.Order.{dot_cmp, same_dot}
-use Rattle.orswot_core.specs.Checks.{has_repeat, dots_of}
+use Rattle.orswot_core.specs.Checks.{dots_of}
 use Rattle.orswot_core.proofs.LoopFacts.{next_rest, meets, seen_one, seen_before, nothing_seen, in_cond}
 use Rattle.orswot_core.proofs.told.has_live_twice.Goals as goal
 

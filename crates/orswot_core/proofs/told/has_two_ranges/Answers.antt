@@ -1,10 +1,10 @@
-use Rattle.std.proofs.Common.{◌≡◌, ◌||◌, true, false, cond, refl, sym, ◌∙◌, ap, drop, ◌+◌, [], ◌∷◌}
+use Rattle.std.proofs.Common.{◌||◌, sym, ◌∙◌, ap, drop, ◌+◌}
 use Rattle.std.proofs.lemmas.List.{drop_all}
 use Rattle.std.specs.List.{list_any}
 use Rattle.std.specs.Ordering.{is_eq}
 use Rattle.std.specs.BTreeSet.{contains}
 use Rattle.presence_base.specs.Order.{replica_cmp, same_replica}
-use Rattle.orswot_core.specs.Checks.{has_repeat, replicas_of}
+use Rattle.orswot_core.specs.Checks.{replicas_of}
 use Rattle.orswot_core.proofs.LoopFacts.{next_rest, meets, seen_one, seen_before, nothing_seen, in_cond}
 use Rattle.orswot_core.proofs.told.has_two_ranges.Goals as goal
 

@@ -1,4 +1,4 @@
-use Rattle.std.proofs.Common.{sym, ◌∙◌, ap, refl}
+use Rattle.std.proofs.Common.{◌∙◌, ap}
 use Rattle.orswot_core.proofs.RowFacts.{rows_same, by_result, on_ok, on_err, same_rows}
 use Rattle.orswot_core.proofs.SoundFacts.{sound_like, remove_keeps, is_removed, dot_counted}
 use Rattle.orswot_core.proofs.set.Orswot.remove.Goals as goal

@@ -1,0 +1,9 @@
+use Rattle.std.proofs.Common.{ap}
+use Rattle.dot_context.specs.Forms.{tops_of}
+use Rattle.dot_context.proofs.FormFacts.{runs_formed}
+use Rattle.dot_context.proofs.context.Context.tops.Goals as goal
+
+pub returns : goal.returns
+returns c =
+    let m = c.self.inside.replicas in
+    (m.entries, record { dots = c.self.view_is; replicas = c.iter.ensures.ordered; runs = runs_formed m c.self.invariant c.iter.ensures.found }, ap tops_of c.iter.ensures.rest)

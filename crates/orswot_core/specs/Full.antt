@@ -1,0 +1,50 @@
+-- The full told value of a set: all that is told of it, each thing once and in order.
+use Rattle.std.specs.Prelude.{◌≡◌, ℕ, ◌+◌, ◌≤◌, true, false, not, ◌&&◌, List, [], ◌∷◌, ◌++◌, map as each_of}
+use Rattle.std.specs.List.{All, list_any}
+use Rattle.std.specs.List.Sorted.{IsStrictlySortedBy}
+use Rattle.std.specs.FinSet as set
+use Rattle.std.specs.FinMap as map
+use Rattle.presence_base.specs.declared.dots.Replica.{Replica}
+use Rattle.presence_base.specs.declared.dots.Dot.{Dot}
+use Rattle.presence_base.specs.Order.{replica_cmp, dot_cmp, same_replica, same_dot}
+use Rattle.dot_context.specs.Sets.{DotSet, run_dots}
+use Rattle.dot_context.specs.Forms.{Form, tops_of, cloud_of}
+use Rattle.orswot_core.specs.Telling.{Range, ToldValue, range_has}
+use Rattle.orswot_core.specs.Checks.{replicas_of}
+use Rattle.orswot_core.specs.Sets.{DotRows}
+
+abbrev pub dot_of : Replica → ℕ → Dot
+dot_of r n = record { replica = r; count = n }
+
+-- the range of a replica that has a covered dot: from the count 1 to its first gap, and empty where the count 1 is not covered
+pub record IsTopRange (s : DotSet) (g : Range) : Type 0 where
+  pub some : (n : ℕ) × (set.contains s (dot_of g.0 n) ≡ true)
+  pub from : g.1 ≡ 0
+  pub below : (n : ℕ) → 1 ≤ n → n ≤ g.2 → set.contains s (dot_of g.0 n) ≡ true
+  pub next : set.contains s (dot_of g.0 (g.2 + 1)) ≡ false
+
+-- a range up to its top for each replica that has a covered dot, the covered dots that lie in no range, and the live rows:
+-- the ranges in order of replica, extras and rows in order of dot, each once
+pub record IsFull (s : DotRows) (t : ToldValue) : Type 0 where
+  pub ranges : All (IsTopRange s.covered) t.ranges
+  pub replicas : (d : Dot) → set.contains s.covered d ≡ true → list_any (same_replica d.replica) (replicas_of t.ranges) ≡ true
+  pub ranges_in_order : IsStrictlySortedBy replica_cmp (replicas_of t.ranges)
+  pub extras : (d : Dot) → list_any (same_dot d) t.extras ≡ (set.contains s.covered d && not (list_any (range_has d) t.ranges))
+  pub extras_in_order : IsStrictlySortedBy dot_cmp t.extras
+  pub live : t.live ≡ map.entries s.live
+
+-- the range up to a replica's top
+abbrev pub up_to_top : Replica × ℕ → Range
+up_to_top p = (p.0, 0, p.1)
+
+-- the dots of the runs of each replica, one after another
+abbrev pub dots_of_runs : Form → List Dot
+dots_of_runs [] = []
+dots_of_runs (e ∷ es) = run_dots e.0 e.1 ++ dots_of_runs es
+
+-- what a form lists
+abbrev pub top_ranges : Form → List Range
+top_ranges f = each_of up_to_top (tops_of f)
+
+abbrev pub dots_above : Form → List Dot
+dots_above f = dots_of_runs (cloud_of f)

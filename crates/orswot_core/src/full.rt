@@ -1,0 +1,114 @@
+// The whole set as a told value, by one walk over its runs and one over its live rows.
+ghost use Rattle.std.specs.Prelude.{◌≡◌, ◌++◌, ◌∷◌, ◌-◌, [], map, OnOk, IfOk};
+ghost use Rattle.std.specs.List.Sorted.{IsStrictlySortedBy};
+ghost use Rattle.std.specs.Map.{keys_of};
+ghost use Rattle.presence_base.specs.Order.{dot_cmp};
+ghost use Rattle.orswot_core.specs.Sets.{IsSound, rows_of};
+ghost use Rattle.orswot_core.specs.Full.{IsFull, up_to_top, dots_of_runs};
+ghost use Rattle.dot_context.specs.Sets.{span, run_dots};
+
+use crate::told::Told;
+use dot_context::{Cloud, Context, Tops};
+use presence_base::{Dot, Replica, Row};
+use std::alloc::{AllocError, Global};
+use std::collections::BTreeMap;
+use std::collections::btree_map::Range;
+
+fn push_range(
+    ranges: &mut Vec<(Replica, u64, u64)>,
+    replica: &Replica,
+    top: u64,
+) -> Result<(), AllocError>
+    ensures { OnOk result (ranges.new.items ≡ ranges.old.items ++ up_to_top (replica.now, top) ∷ []) }
+{
+    let replica = replica.clone()?;
+    ranges.push((replica, 0, top))?;
+    Ok(())
+}
+
+// The range of each replica, up to its top.
+fn ranges_up_to(alloc: Global, tops: Tops<'_>) -> Result<Vec<(Replica, u64, u64)>, AllocError>
+    ensures { IfOk result (λ v. v.items ≡ map up_to_top tops.entry) }
+{
+    let mut ranges = Vec::new(alloc);
+    for (replica, top) in tops {
+        push_range(&mut ranges, replica, top)?;
+    }
+    Ok(ranges)
+}
+
+fn push_count(dots: &mut Vec<Dot>, replica: &Replica, count: u64) -> Result<(), AllocError>
+    ensures { OnOk result (dots.new.items ≡ dots.old.items ++ record { replica = replica.now; count = count } ∷ []) }
+{
+    let replica = replica.clone()?;
+    dots.push(Dot { replica, count })?;
+    Ok(())
+}
+
+fn push_run(dots: &mut Vec<Dot>, replica: &Replica, from: u64, to: u64) -> Result<(), AllocError>
+    ensures { OnOk result (dots.new.items ≡ dots.old.items ++ span replica.now from (to - from)) }
+{
+    for count in from..to {
+        push_count(dots, replica, count + 1)?;
+    }
+    Ok(())
+}
+
+fn push_runs(
+    dots: &mut Vec<Dot>,
+    replica: &Replica,
+    runs: Range<'_, u64, u64>,
+) -> Result<(), AllocError>
+    ensures { OnOk result (dots.new.items ≡ dots.old.items ++ run_dots replica.now runs.entry) }
+{
+    for (from, to) in runs {
+        push_run(dots, replica, *from, *to)?;
+    }
+    Ok(())
+}
+
+// The dots of the cloud, one by one.
+fn dots_in(alloc: Global, cloud: Cloud<'_>) -> Result<Vec<Dot>, AllocError>
+    ensures { IfOk result (λ v. v.items ≡ dots_of_runs cloud.entry) }
+{
+    let mut dots = Vec::new(alloc);
+    for (replica, runs) in cloud {
+        push_runs(&mut dots, replica, runs)?;
+    }
+    Ok(dots)
+}
+
+fn push_live(rows: &mut Vec<(Dot, Row)>, dot: &Dot, row: &Row) -> Result<(), AllocError>
+    ensures { OnOk result (rows.new.items ≡ rows.old.items ++ (dot.now, row.now) ∷ []) }
+{
+    let dot = dot.clone()?;
+    let row = row.clone()?;
+    rows.push((dot, row))?;
+    Ok(())
+}
+
+// The live rows, in order of dot.
+fn rows_in(alloc: Global, live: &BTreeMap<Dot, Row>) -> Result<Vec<(Dot, Row)>, AllocError>
+    ensures rows { IfOk result (λ v. v.items ≡ live.now.entries) }
+    ensures ordered { IfOk result (λ _. IsStrictlySortedBy dot_cmp (keys_of live.now.entries)) }
+{
+    let mut rows = Vec::new(alloc);
+    for (dot, row) in live.iter() {
+        push_live(&mut rows, dot, row)?;
+    }
+    Ok(rows)
+}
+
+pub(crate) fn full_told(
+    alloc: Global,
+    covered: &Context,
+    live: &BTreeMap<Dot, Row>,
+) -> Result<Told, AllocError>
+    requires { IsSound covered.now (rows_of live.now.entries) }
+    ensures { IfOk result (λ t. IsFull (record { covered = covered.now; live = rows_of live.now.entries }) t) }
+{
+    let ranges = ranges_up_to(alloc, covered.tops())?;
+    let extras = dots_in(alloc, covered.cloud())?;
+    let live = rows_in(alloc, live)?;
+    Ok(Told::new(ranges, extras, live))
+}
