@@ -1,0 +1,74 @@
+-- Deltas whose lists are in order of dot are joined to one whose lists are.
+use Rattle.std.proofs.Common.{◌≡◌, ℕ, ◌<◌, Bool, true, false, not, cond, ◌&&◌, nat_le, nat_lt, nat_eq, List, [], ◌∷◌, ◌++◌, sym, ◌∙◌, ap, arith}
+use Rattle.std.proofs.lemmas.Bool.Decides.{nat_tests}
+use Rattle.std.specs.Ordering.{nat_cmp, ordering_then}
+use Rattle.std.specs.declared.cmp.Ordering.TheVariants.{Less, Equal, Greater}
+use Rattle.std.specs.Cmp.{tied_itself}
+use Rattle.std.specs.List.{list_all, filter}
+use Rattle.std.specs.List.Sorted.{IsStrictlySortedBy}
+use Rattle.presence_base.specs.declared.dots.Dot.{Dot}
+use Rattle.presence_base.specs.declared.row.Row.{Row}
+use Rattle.presence_base.specs.Order.{dot_cmp, replica_cmp, same_replica}
+use Rattle.orswot_core.specs.Telling.{covers}
+use Rattle.orswot_core.specs.Checks.{dots_of}
+use Rattle.orswot_core.proofs.OrderFacts.{replica_total, replicas_equal}
+use Rattle.delta_range.specs.Deltas.{DeltaValue, telling, GoesOn}
+use Rattle.delta_range.specs.Joining.{joined}
+use Rattle.delta_range.specs.Laws.{StaysInOrder}
+use Rattle.delta_range.proofs.DeltaFacts.{both}
+use Rattle.delta_range.proofs.InOrder.{Ascend, AllAbove, in_order_ascends}
+use Rattle.delta_range.proofs.JoinFacts.{has}
+
+above_all : (p : Dot → Bool) (d : Dot) (xs : List (Dot × Row)) → ((e : Dot) → p e ≡ true → dot_cmp d e ≡ Less) → list_all (λ x. p x.0) xs ≡ true → AllAbove d (dots_of xs)
+above_all p d [] f h = tt
+above_all p d (x ∷ xs) f h = let parts = both (p x.0) (list_all (λ y. p y.0) xs) h in (f x.0 parts.0, above_all p d xs f parts.1)
+
+above_left : (keep : Dot × Row → Bool) (d : Dot) (xs ys : List (Dot × Row)) → AllAbove d (dots_of xs) → AllAbove d (dots_of ys) → AllAbove d (dots_of (filter keep xs ++ ys))
+above_left keep d [] ys f g = g
+above_left keep d (x ∷ xs) ys f g =
+    elim (keep x) as (λ b. AllAbove d (dots_of (cond b (x ∷ filter keep xs) (filter keep xs) ++ ys))) [
+      | true ↦ (f.0, above_left keep d xs ys f.1 g)
+      | false ↦ above_left keep d xs ys f.1 g
+    ]
+
+-- what is left of rows in order, before others in order at higher dots, is in order
+left_ascend : (keep : Dot × Row → Bool) (p q : Dot → Bool) (xs ys : List (Dot × Row)) → ((d e : Dot) → p d ≡ true → q e ≡ true → dot_cmp d e ≡ Less)
+    → list_all (λ x. p x.0) xs ≡ true → list_all (λ y. q y.0) ys ≡ true → Ascend (dots_of xs) → Ascend (dots_of ys) → Ascend (dots_of (filter keep xs ++ ys))
+unfolding IsStrictlySortedBy
+left_ascend keep p q [] ys f h k s t = t
+left_ascend keep p q (x ∷ xs) ys f h k s t =
+    let parts = both (p x.0) (list_all (λ y. p y.0) xs) h in
+    let rest = left_ascend keep p q xs ys f parts.1 k s.1 t in
+    elim (keep x) as (λ b. Ascend (dots_of (cond b (x ∷ filter keep xs) (filter keep xs) ++ ys))) [
+      | true ↦ (above_left keep x.0 xs ys s.0 (above_all q x.0 ys (λ e here. f x.0 e parts.0 here) k), rest)
+      | false ↦ rest
+    ]
+
+counted_below : (m n : ℕ) → m < n → nat_cmp m n ≡ Less
+counted_below m n lt = ap (λ b. cond b Less (cond (nat_eq m n) Equal Greater)) (tests m n lt)
+  where
+    tests : (m n : ℕ) → m < n → nat_lt m n ≡ true
+    tests m n lt = grind (arith, nat_tests)
+
+lower : (d e : Dot) → d.replica ≡ e.replica → d.count < e.count → dot_cmp d e ≡ Less
+lower d e same lt =
+    ap (λ r. ordering_then (replica_cmp r e.replica) (nat_cmp d.count e.count)) same
+    ∙ ap (λ o. ordering_then o (nat_cmp d.count e.count)) (tied_itself replica_total e.replica)
+    ∙ counted_below d.count e.count lt
+
+ranges_ascend : (a b : DeltaValue) → GoesOn a.owner a.to b → (d e : Dot) → has a d ≡ true → has b e ≡ true → dot_cmp d e ≡ Less
+ranges_ascend a b next d e first second =
+    let one = both (same_replica d.replica a.owner) (nat_lt a.from d.count && nat_le d.count a.to) first in
+    let two = both (same_replica e.replica b.owner) (nat_lt b.from e.count && nat_le e.count b.to) second in
+    lower d e (replicas_equal d.replica a.owner one.0 ∙ sym next.owned ∙ sym (replicas_equal e.replica b.owner two.0))
+    (between d.count e.count a.to b.from next.begins ((both (nat_lt a.from d.count) (nat_le d.count a.to) one.1).1) ((both (nat_lt b.from e.count) (nat_le e.count b.to) two.1).0))
+  where
+    between : (m n to from : ℕ) → from ≡ to → nat_le m to ≡ true → nat_lt from n ≡ true → m < n
+    between m n to from e f g = grind (arith, nat_tests)
+
+pub stays_in_order : StaysInOrder
+unfolding joined
+stays_in_order a b ha hb next oa ob = record {
+  extras = in_order_ascends (filter (λ d. nat_le d.count a.from) (a.extras ++ b.extras));
+  rows = left_ascend (λ x. not (covers (telling b) x.0)) (has a) (has b) a.live b.live (ranges_ascend a b next) ha.within hb.within oa.rows ob.rows;
+}

@@ -1,0 +1,192 @@
+-- The set view of a joined delta: it covers what either covers, and tells what each in turn tells.
+use Rattle.std.proofs.Common.{◌≡◌, ℕ, ◌+◌, ◌≤◌, Bool, true, false, not, cond, ◌&&◌, ◌||◌, nat_le, nat_lt, List, [], ◌∷◌, ◌++◌, length, refl, sym, ◌∙◌, ap, subst, Option, Some, None, is_some, arith, true≢false, length-append}
+use Rattle.std.proofs.lemmas.Bool.Decides.{nat_tests}
+use Rattle.std.specs.Ordering.{match_ordering}
+use Rattle.std.specs.declared.cmp.Ordering.TheVariants.{Less, Equal, Greater}
+use Rattle.std.specs.BTreeSet.{insert_key}
+use Rattle.std.specs.List.{list_any, list_all, filter}
+use Rattle.std.specs.Map.{lookup}
+use Rattle.std.specs.FinSet as set
+use Rattle.std.specs.FinMap as map
+use Rattle.std.proofs.lemmas.Map.Entries.{lookup-filter-keys}
+use Rattle.presence_base.specs.declared.dots.Dot.{Dot}
+use Rattle.presence_base.specs.declared.row.Row.{Row}
+use Rattle.presence_base.specs.Order.{dot_cmp, same_replica, same_dot}
+use Rattle.orswot_core.specs.Telling.{covers, live_row}
+use Rattle.orswot_core.specs.Sets.{first_row, joined_row}
+use Rattle.orswot_core.proofs.OrderFacts.{dots_equal}
+use Rattle.orswot_core.proofs.RowFacts.{first_done}
+use Rattle.orswot_core.proofs.SoundFacts.{told_sound, only_covered, none_uncovered}
+use Rattle.orswot_core.proofs.LawFacts.{same_at}
+use Rattle.delta_range.specs.Deltas.{DeltaValue, telling, is_older, IsDelta, GoesOn}
+use Rattle.delta_range.specs.Joining.{in_order, not_covered, joined, Joined}
+use Rattle.delta_range.specs.Laws.{TellsInTurn, IsNoLarger}
+use Rattle.delta_range.proofs.DeltaFacts.{both, and_both}
+use Rattle.delta_range.proofs.JoinFacts.{has, runs_up, found_has, two_ranges, between, apart, extra_of}
+
+either_range : (s x y z : Bool) → x ≡ (y || z) → (s && x) ≡ ((s && y) || (s && z))
+either_range true x y z e = e
+either_range false x y z e = refl
+
+-- what the joined delta covers, by what its ranges, its start and the extras of both say of a dot
+merged : (ra rb low ea eb : Bool) → (ea ≡ true → low ≡ true) → (eb ≡ true → low ≡ false → ra ≡ true)
+    → (((ra || rb) || false) || (low && (ea || eb))) ≡ (((ra || false) || ea) || ((rb || false) || eb))
+merged true rb low ea eb f g = refl
+merged false true low true eb f g = refl
+merged false true low false eb f g = refl
+merged false false true ea eb f g = refl
+merged false false false true eb f g = absurd (true≢false (sym (f refl)))
+merged false false false false true f g = absurd (true≢false (sym (g refl refl)))
+merged false false false false false f g = refl
+
+lookup_append : (t : Dot → Bool) (xs ys : List (Dot × Row)) → lookup t (xs ++ ys) ≡ first_row (lookup t xs) (lookup t ys)
+lookup_append t [] ys = refl
+lookup_append t (x ∷ xs) ys =
+    elim (t x.0) as (λ b. cond b (Some x.1) (lookup t (xs ++ ys)) ≡ first_row (cond b (Some x.1) (lookup t xs)) (lookup t ys)) [ true ↦ refl | false ↦ lookup_append t xs ys ]
+
+second_first : (c : Bool) (o o' : Option Row) → (c ≡ false → o' ≡ None) → first_row (cond (not c) o None) o' ≡ cond c o' o
+second_first true o o' f = refl
+second_first false o o' f = ap (first_row o) (f refl) ∙ first_done o
+
+neither : (x y : Bool) → (x ≡ true → ⊥) → (y ≡ true → ⊥) → ((x || false) || y) ≡ false
+neither true y f g = absurd (f refl)
+neither false true f g = absurd (g refl)
+neither false false f g = refl
+
+too_late : (n from to from' to' : ℕ) (s s' : Bool) → from ≤ to → from' ≡ to → (s && (nat_lt from' n && nat_le n to')) ≡ true → (s' && nat_le n from) ≡ true → ⊥
+too_late n from to from' to' s s' f e h g =
+    above n from to from' f e ((both (nat_lt from' n) (nat_le n to') ((both s (nat_lt from' n && nat_le n to') h).1)).0) ((both s' (nat_le n from) g).1)
+  where
+    above : (n from to mid : ℕ) → from ≤ to → mid ≡ to → nat_lt mid n ≡ true → nat_le n from ≡ true → ⊥
+    above n from to mid f e g h = grind (arith, nat_tests)
+
+pick : {Q : Type 0} (s : Bool) (r : Row) (o : Option Row) → is_some (cond s (Some r) o) ≡ true → (s ≡ true → Q) → (is_some o ≡ true → Q) → Q
+pick true r o h f g = f refl
+pick false r o h f g = g h
+
+row_has : (b : DeltaValue) (d : Dot) (xs : List (Dot × Row)) → list_all (λ x. has b x.0) xs ≡ true → is_some (lookup (same_dot d) xs) ≡ true → has b d ≡ true
+row_has b d [] h some = absurd (cc)
+row_has b d (x ∷ xs) h some =
+    let parts = both (has b x.0) (list_all (λ y. has b y.0) xs) h in
+    pick (same_dot d x.0) x.1 (lookup (same_dot d) xs) some (λ same. ap (has b) (dots_equal d x.0 same) ∙ parts.0) (row_has b d xs parts.1)
+
+module _ (a b : DeltaValue) (ha : IsDelta a) (hb : IsDelta b) (next : GoesOn a.owner a.to b) where
+  one_of_both : (d : Dot) → has (joined a b) d ≡ (has a d || has b d)
+  unfolding joined
+  one_of_both d =
+      let mid : a.to ≤ b.to = subst (λ n. n ≤ b.to) next.begins (runs_up b hb) in
+      either_range (same_replica d.replica a.owner) (nat_lt a.from d.count && nat_le d.count b.to) (nat_lt a.from d.count && nat_le d.count a.to) (nat_lt a.to d.count && nat_le d.count b.to) (two_ranges d.count a.from a.to b.to (runs_up a ha) mid)
+      ∙ ap (λ r. has a d || (same_replica d.replica r && (nat_lt a.to d.count && nat_le d.count b.to))) (sym next.owned)
+      ∙ ap (λ n. has a d || (same_replica d.replica b.owner && (nat_lt n d.count && nat_le d.count b.to))) (sym next.begins)
+
+  in_first : (d : Dot) → list_any (same_dot d) b.extras ≡ true → nat_le d.count a.from ≡ false → has a d ≡ true
+  in_first d e low =
+      let parts = both (same_replica d.replica b.owner) (nat_le d.count b.from) (found_has (is_older b.owner b.from) d b.extras hb.older e) in
+      and_both (same_replica d.replica a.owner) (nat_lt a.from d.count && nat_le d.count a.to)
+      (ap (same_replica d.replica) (sym next.owned) ∙ parts.0)
+      (between d.count a.from a.to (ap (nat_le d.count) (sym next.begins) ∙ parts.1) low)
+
+  pub union_at : (d : Dot) → covers (telling (joined a b)) d ≡ (covers (telling a) d || covers (telling b) d)
+  union_at d =
+      ap (λ x. (x || false) || list_any (same_dot d) (joined a b).extras) (one_of_both d)
+      ∙ ap (λ x. ((has a d || has b d) || false) || x) (extra_of a b ha hb next d)
+      ∙ merged (has a d) (has b d) (nat_le d.count a.from) (list_any (same_dot d) a.extras) (list_any (same_dot d) b.extras)
+      (λ e. (both (same_replica d.replica a.owner) (nat_le d.count a.from) (found_has (is_older a.owner a.from) d a.extras ha.older e)).1)
+      (in_first d)
+
+  pub row_at : (d : Dot) → live_row (telling (joined a b)) d ≡ cond (covers (telling b) d) (live_row (telling b) d) (live_row (telling a) d)
+  unfolding joined
+  row_at d =
+      let p = λ (k : Dot). not (covers (telling b) k) in
+      lookup_append (same_dot d) (not_covered (telling b) a.live) b.live
+      ∙ ap (λ o. first_row o (lookup (same_dot d) b.live)) (lookup-filter-keys (same_dot d) p (p d) (λ k same. ap p (sym (dots_equal d k same))) a.live)
+      ∙ second_first (covers (telling b) d) (live_row (telling a) d) (live_row (telling b) d) (none_uncovered d (covers (telling b) d) (live_row (telling b) d) (told_sound (telling b) hb.told d))
+
+  pub tells_both : Joined a b (joined a b)
+  tells_both = record { union = union_at; rows = row_at }
+
+  -- what the next delta tells live, the first doesn't cover
+  fresh : (d : Dot) → is_some (live_row (telling b) d) ≡ true → covers (telling a) d ≡ false
+  fresh d some =
+      let inside : has b d ≡ true = row_has b d b.live hb.within some in
+      neither (has a d) (list_any (same_dot d) a.extras)
+      (λ e. true≢false (sym inside ∙ apart a b ha hb next d e))
+      (λ e. too_late d.count a.from a.to b.from b.to (same_replica d.replica b.owner) (same_replica d.replica a.owner) (runs_up a ha) next.begins inside (found_has (is_older a.owner a.from) d a.extras ha.older e))
+
+or_groups : (a b c : Bool) → (a || (b || c)) ≡ ((a || b) || c)
+or_groups true b c = refl
+or_groups false b c = refl
+
+-- at one dot: what the joined delta leaves is what its two parts leave in turn
+in_turn : (r o o' : Option Row) (c oc oc' : Bool) → (is_some o ≡ true → oc ≡ true) → (is_some o' ≡ true → oc' ≡ true) → (is_some o' ≡ true → oc ≡ false)
+    → joined_row r c (cond oc' o' o) (oc || oc') ≡ joined_row (joined_row r c o oc) (c || oc) o' oc'
+in_turn r o (Some y) c oc false f g h = absurd (true≢false (sym (g refl)))
+in_turn r o (Some y) c true true f g h = absurd (true≢false (h refl))
+in_turn r (Some x) (Some y) c false true f g h = absurd (true≢false (sym (f refl)))
+in_turn None None (Some y) true false true f g h = refl
+in_turn None None (Some y) false false true f g h = refl
+in_turn (Some r) None (Some y) c false true f g h = refl
+in_turn None None None c oc true f g h = refl
+in_turn None (Some x) None true oc true f g h = refl
+in_turn None (Some x) None false oc true f g h = refl
+in_turn (Some r) None None c true true f g h = refl
+in_turn (Some r) None None c false true f g h = refl
+in_turn (Some r) (Some x) None c true true f g h = refl
+in_turn (Some r) (Some x) None c false true f g h = refl
+in_turn None None None c oc false f g h = refl
+in_turn None (Some x) None true oc false f g h = refl
+in_turn None (Some x) None false oc false f g h = refl
+in_turn (Some r) None None c true false f g h = refl
+in_turn (Some r) None None c false false f g h = refl
+in_turn (Some r) (Some x) None c oc false f g h = refl
+
+pub tells_in_turn : TellsInTurn
+tells_in_turn s x y z a b ha hb next hx hy hz = same_at z y (λ d.
+    let c = set.contains s.covered d in
+    let r = map.get s.live d in
+    let oc = covers (telling a) d in
+    let oc' = covers (telling b) d in
+    let o = live_row (telling a) d in
+    let o' = live_row (telling b) d in (
+      (hz d).0 ∙ ap (λ v. c || v) (union_at a b ha hb next d) ∙ or_groups c oc oc' ∙ ap (λ v. v || oc') (sym ((hx d).0)) ∙ sym ((hy d).0),
+      (hz d).1
+          ∙ ap (λ v. joined_row r c v (covers (telling (joined a b)) d)) (row_at a b ha hb next d)
+          ∙ ap (λ v. joined_row r c (cond oc' o' o) v) (union_at a b ha hb next d)
+          ∙ in_turn r o o' c oc oc' (only_covered d oc o (told_sound (telling a) ha.told d)) (only_covered d oc' o' (told_sound (telling b) hb.told d)) (fresh a b ha hb next d)
+          ∙ ap (λ v. joined_row v (c || oc) o' oc') (sym ((hx d).1))
+          ∙ ap (λ v. joined_row (map.get x.live d) v o' oc') (sym ((hx d).0))
+          ∙ sym ((hy d).1),
+    ))
+
+-- ---- sizes
+
+length_inserted : (k : Dot) (ds : List Dot) → length (insert_key dot_cmp ds k) ≤ length ds + 1
+length_inserted k [] = omega arith
+length_inserted k (x ∷ ds) =
+    let rest : length (insert_key dot_cmp ds k) ≤ length ds + 1 = length_inserted k ds in
+    elim (dot_cmp k x) as (λ o. length (match_ordering o (k ∷ x ∷ ds) (x ∷ ds) (x ∷ insert_key dot_cmp ds k)) ≤ length (x ∷ ds) + 1) [ Less ↦ omega arith | Equal ↦ omega arith | Greater ↦ omega arith ]
+
+length_in_order : (ds : List Dot) → length (in_order ds) ≤ length ds
+length_in_order [] = omega arith
+length_in_order (d ∷ ds) =
+    let one : length (insert_key dot_cmp (in_order ds) d) ≤ length (in_order ds) + 1 = length_inserted d (in_order ds) in
+    let rest : length (in_order ds) ≤ length ds = length_in_order ds in
+    omega arith
+
+length_left : {A : Type 0} (p : A → Bool) (xs : List A) → length (filter p xs) ≤ length xs
+length_left p [] = omega arith
+length_left p (x ∷ xs) =
+    let rest : length (filter p xs) ≤ length xs = length_left p xs in
+    elim (p x) as (λ b. length (cond b (x ∷ filter p xs) (filter p xs)) ≤ length (x ∷ xs)) [ true ↦ omega arith | false ↦ omega arith ]
+
+pub no_larger : IsNoLarger
+unfolding joined
+no_larger a b =
+    let older = filter (λ (d : Dot). nat_le d.count a.from) (a.extras ++ b.extras) in
+    let left = not_covered (telling b) a.live in
+    let ordered : length (in_order older) ≤ length older = length_in_order older in
+    let some : length older ≤ length (a.extras ++ b.extras) = length_left (λ (d : Dot). nat_le d.count a.from) (a.extras ++ b.extras) in
+    let extras : length (a.extras ++ b.extras) ≡ length a.extras + length b.extras = length-append a.extras b.extras in
+    let fewer : length left ≤ length a.live = length_left (λ x. not (covers (telling b) x.0)) a.live in
+    let live : length (left ++ b.live) ≡ length left + length b.live = length-append left b.live in
+    omega arith

@@ -1,0 +1,70 @@
+-- Generations: three joined deltas, of which a shorter one begins later.
+use Rattle.std.specs.Prelude.{◌≡◌, ℕ, ◌+◌, ◌≤◌, cond, nat_le, length, Option, Some, None, refl}
+use Rattle.std.specs.Coded.{Coded, code_by, coded×, coded_ℕ, coded_option}
+use Rattle.presence_base.specs.declared.dots.Replica.{Replica}
+use Rattle.presence_base.specs.Names.{guarded}
+use Rattle.presence_base.specs.Codes.{replica_code}
+use Rattle.delta_range.specs.Deltas.{DeltaValue, delta_code, GoesOn}
+use Rattle.delta_range.specs.Joining.{joined}
+
+-- where the last delta that was pushed ended, and what each generation keeps
+pub record Kept : Type 0 where
+  pub last : Option (Replica × ℕ)
+  pub short : Option DeltaValue
+  pub middle : Option DeltaValue
+  pub long : Option DeltaValue
+
+abbrev pub kept_code : Coded Kept
+kept_code =
+    code_by (Option (Replica × ℕ) × (Option DeltaValue × (Option DeltaValue × Option DeltaValue)))
+    (coded× (coded_option (coded× replica_code coded_ℕ)) (coded× (coded_option delta_code) (coded× (coded_option delta_code) (coded_option delta_code))))
+    (λ k. (k.last, (k.short, (k.middle, k.long)))) (λ p. record { last = p.0; short = p.1.0; middle = p.1.1.0; long = p.1.1.1 }) (λ _. refl)
+
+-- its live rows and extras together
+abbrev pub size : DeltaValue → ℕ
+size d = length d.extras + length d.live
+
+-- the delta, where it is within the cap
+abbrev pub alone : ℕ → DeltaValue → Option DeltaValue
+alone cap d = guarded (nat_le (size d) cap) d
+
+-- a generation becomes its join with the delta, or the delta alone where that join would pass its cap
+abbrev pub grown : ℕ → Option DeltaValue → DeltaValue → Option DeltaValue
+grown cap None d = alone cap d
+grown cap (Some old) d = cond (nat_le (size (joined old d)) cap) (Some (joined old d)) (alone cap d)
+
+abbrev pub pushed : Kept → DeltaValue → Kept
+pushed k d = record { last = Some (d.owner, d.to); short = grown 100 k.short d; middle = grown 1000 k.middle d; long = grown 10000 k.long d }
+
+-- the delta goes on from the last one that was pushed
+abbrev pub IsNext : Option (Replica × ℕ) → DeltaValue → Type 0
+IsNext None d = Unit {0}
+IsNext (Some e) d = GoesOn e.0 e.1 d
+
+-- what a generation keeps ends with the last delta, and is within its cap
+abbrev pub EndsWithin : Option (Replica × ℕ) → ℕ → Option DeltaValue → Type 0
+EndsWithin last cap None = Unit {0}
+EndsWithin last cap (Some d) = (last ≡ Some (d.owner, d.to)) × (size d ≤ cap)
+
+pub record AreKept (k : Kept) : Type 0 where
+  pub short : EndsWithin k.last 100 k.short
+  pub middle : EndsWithin k.last 1000 k.middle
+  pub long : EndsWithin k.last 10000 k.long
+
+-- what a generation keeps, where it begins at or below a count
+abbrev pub begun : ℕ → Option DeltaValue → Option DeltaValue
+begun n None = None
+begun n (Some d) = guarded (nat_le d.from n) d
+
+abbrev pub first_of_both : Option DeltaValue → Option DeltaValue → Option DeltaValue
+first_of_both (Some d) other = Some d
+first_of_both None other = other
+
+-- of those that begin at or below a count, the one with the smallest cap
+abbrev pub from_count : Kept → ℕ → Option DeltaValue
+from_count k n = first_of_both (begun n k.short) (first_of_both (begun n k.middle) (begun n k.long))
+
+-- the delta goes on from what a generation keeps
+abbrev pub GoesOnFrom : Option DeltaValue → DeltaValue → Type 0
+GoesOnFrom None d = Unit {0}
+GoesOnFrom (Some old) d = GoesOn old.owner old.to d

@@ -1,0 +1,4 @@
+pub mod Deltas
+pub mod Joining
+pub mod Keeping
+pub mod Laws

@@ -1,0 +1,14 @@
+//! Deltas of the observed-remove set: what an owner tells of a range of its counts, and joined deltas.
+#![tactic(auto)]
+
+mod delta;
+mod fault;
+mod generations;
+mod joining;
+pub mod laws;
+#[cfg(test)]
+mod tests;
+
+pub use delta::Delta;
+pub use fault::DeltaFault;
+pub use generations::Generations;
