@@ -1,0 +1,55 @@
+-- A delivery, topic by topic.
+use Rattle.std.proofs.Common.{◌≡◌, ◌+◌, ◌++◌, ℕ, List, [], ◌∷◌, false, true, map, drop, Some, Result, Ok, Err, refl, sym}
+use Rattle.std.specs.List.{slice_get}
+use Rattle.std.proofs.lemmas.Option.{slice_get_within, get_or_from_slice_get}
+use Rattle.presence_journal.proofs.Walking.{drop_next}
+use Rattle.presence_journal.specs.declared.rows.Item.{Item}
+use Rattle.tracker_shard.specs.declared.fault.ShardFault.{ShardFault}
+use Rattle.channel_session.specs.Asks.{Ask, Answer, waits, take}
+use Rattle.channel_session.specs.Delivery.{frame, then_frames, then_take, delivers}
+use Rattle.channel_session.specs.InForce.{Entry, InForce}
+use Rattle.channel_session.specs.Outcome.{Follows, Gives, MayWant, spoilt}
+use Rattle.channel_session.specs.Rules.{End, unsaid}
+use Rattle.channel_session.specs.declared.fault.Stop.{Stop}
+use Rattle.channel_session.specs.declared.fault.StopKind.TheVariants.{OutOfMemory}
+use Rattle.channel_session.proofs.Once.{unasked, once, more, more_clean}
+
+-- the topics from a place on, where one stands there
+pub here : (js : List Entry) (i : ℕ) (j : Entry) → Some j ≡ slice_get js i → drop i js ≡ j ∷ drop (i + 1) js
+here js i j at = drop_next js i j (slice_get_within js i j (sym at)) (sym (get_or_from_slice_get js i j j (sym at)))
+
+may_want : (max : ℕ) (s : InForce) (js : List Entry) (before : List (List ℕ)) → MayWant (delivers max s js before)
+may_want max s [] before = tt
+may_want max s (j ∷ js) before = tt
+
+module _ {P : Type 0} (step : P → (q : Ask) → Answer q → P → Type 0) (max : ℕ) (s : InForce) (j : Entry) (js all : List Entry) (all_is : all ≡ j ∷ js) (before : List (List ℕ)) where
+  pub waits_refused : (e : ShardFault) (stop : Stop) (old new : P) → step old (waits j.topic j.sub) (Err e) new → Gives (unsaid e) false (Err stop)
+      → Follows step (delivers max s all before) old new (Err stop)
+  waits_refused e stop old new h g = rw all_is (once step (waits j.topic j.sub) (then_take max j before (delivers max s js)) (Err e) (unsaid e) old new (Err stop) h refl g)
+
+  pub take_refused : (e : ShardFault) (stop : Stop) (old mid new : P) → step old (waits j.topic j.sub) (Ok true) mid → step mid (take j.topic j.sub max) (Err e) new → Gives (unsaid e) false (Err stop)
+      → Follows step (delivers max s all before) old new (Err stop)
+  take_refused e stop old mid new h h2 g =
+      rw all_is
+      (more_clean step (waits j.topic j.sub) (then_take max j before (delivers max s js)) (Ok true) old mid new (Err stop) h refl
+      (once step (take j.topic j.sub max) (then_frames j before (delivers max s js)) (Err e) (unsaid e) mid new (Err stop) h2 refl g))
+
+  pub none_waits : (old mid new : P) (r : Result End Stop) → step old (waits j.topic j.sub) (Ok false) mid → Follows step (delivers max s js before) mid new r
+      → Follows step (delivers max s all before) old new r
+  none_waits old mid new r h f = rw all_is (more_clean step (waits j.topic j.sub) (then_take max j before (delivers max s js)) (Ok false) old mid new r h refl f)
+
+  pub took : (items : List Item) (old mid after new : P) (r : Result End Stop) → step old (waits j.topic j.sub) (Ok true) mid → step mid (take j.topic j.sub max) (Ok items) after
+      → Follows step (delivers max s js (before ++ map (frame j) items)) after new r → Follows step (delivers max s all before) old new (spoilt r)
+  took items old mid after new r h h2 f =
+      rw all_is
+      (more_clean step (waits j.topic j.sub) (then_take max j before (delivers max s js)) (Ok true) old mid new (spoilt r) h refl
+      (more step (take j.topic j.sub max) (then_frames j before (delivers max s js)) (Ok items) mid after new r h2 refl f))
+
+  -- memory that runs out after an accepted take
+  pub took_in_vain : (items : List Item) (stop : Stop) (old mid after : P) → step old (waits j.topic j.sub) (Ok true) mid → step mid (take j.topic j.sub max) (Ok items) after
+      → stop.kind ≡ OutOfMemory → stop.spoiled ≡ true → Follows step (delivers max s all before) old after (Err stop)
+  took_in_vain items stop old mid after h h2 k sp =
+      let rest : Follows step (delivers max s js (before ++ map (frame j) items)) after after (Err (record { kind = OutOfMemory; spoiled = false })) = unasked step _ after _ (may_want max s js _) refl refl in
+      let all_of : Follows step (delivers max s all before) old after (Err (record { kind = OutOfMemory; spoiled = true })) = took items old mid after after _ h h2 rest in
+      let same : Follows step (delivers max s all before) old after (Err (record { kind = stop.kind; spoiled = stop.spoiled })) = rw (k, sp) all_of in
+      same

@@ -1,0 +1,72 @@
+-- The topics in force as a map.
+use Rattle.std.proofs.Common.{◌≡◌, ℕ, List, [], ◌∷◌, ◌++◌, Bool, true, false, cond, map, Option, Some, None, option_map, refl, sym, ap, ◌∙◌, rules}
+use Rattle.std.specs.Borrow.{Bor}
+use Rattle.std.specs.Option.{option_copied}
+use Rattle.std.specs.Cmp.Rules.{comparing}
+use Rattle.std.specs.Cmp.Lexicographic.{pointwise}
+use Rattle.std.specs.Prelude.{nat_eq, Result, Ok, Err, IsOk, OnOk}
+use Rattle.indexmap.specs.IndexMap.{IndexMap, insert_entry}
+use Rattle.indexmap.proofs.CallerLemmas.{insert_entry-new}
+use Rattle.std.specs.Map.{keys_of, lookup, remove_entry}
+use Rattle.presence_base.specs.Order.{same_text}
+use Rattle.presence_journal.proofs.Same.{same_text-true}
+use Rattle.channel_session.specs.InForce.{Entry, entry_of, find, without}
+use Rattle.channel_session.specs.declared.topics.Seat.{Seat}
+
+pub same-bytes : (a b : List ℕ) → pointwise nat_eq a b ≡ same_text a b
+same-bytes a b = search (comparing, rules)
+
+found_at : (t k : List ℕ) (seat : Seat) (b : Bool) (rest : Option Seat) (others : Option Entry) → (b ≡ true → t ≡ k) → option_map (λ s. entry_of (t, s)) rest ≡ others
+    → option_map (λ s. entry_of (t, s)) (cond b (Some seat) rest) ≡ cond b (Some (entry_of (k, seat))) others
+found_at t k seat true rest others same h = ap (λ (x : List ℕ). Some (entry_of (x, seat))) (same refl)
+found_at t k seat false rest others same h = h
+
+gone_at : (b : Bool) (e : List ℕ × Seat) (es rest : List (List ℕ × Seat)) (others : List Entry) → map entry_of rest ≡ others
+    → map entry_of (cond b es (e ∷ rest)) ≡ cond b (map entry_of es) (entry_of e ∷ others)
+gone_at true e es rest others h = refl
+gone_at false e es rest others h = ap (λ js. entry_of e ∷ js) h
+
+module _ (t : List ℕ) (test : List ℕ → Bool) (is : (k : List ℕ) → test k ≡ same_text t k) where
+  pub find-lookup : (es : List (List ℕ × Seat)) → option_map (λ s. entry_of (t, s)) (lookup test es) ≡ find t (map entry_of es)
+  find-lookup [] = refl
+  find-lookup (e ∷ es) = rw (is e.0) (found_at t e.0 e.1 (same_text t e.0) (lookup test es) (find t (map entry_of es)) (same_text-true t e.0) (find-lookup es))
+
+  pub without-remove : (es : List (List ℕ × Seat)) → map entry_of (remove_entry test es) ≡ without t (map entry_of es)
+  without-remove [] = refl
+  without-remove (e ∷ es) = rw (is e.0) (gone_at (same_text t e.0) e es (remove_entry test es) (without t (map entry_of es)) (without-remove es))
+
+  pub find-copied : (o : Option (Bor Seat)) (es : List (List ℕ × Seat)) → option_copied o ≡ lookup test es → option_map (λ (s : Bor Seat). entry_of (t, s.now)) o ≡ find t (map entry_of es)
+  find-copied None es h = ap (option_map (λ (s : Seat). entry_of (t, s))) h ∙ find-lookup es
+  find-copied (Some s) es h = ap (option_map (λ (s : Seat). entry_of (t, s))) h ∙ find-lookup es
+
+  pub find-none : (es : List (List ℕ × Seat)) → lookup test es ≡ None → find t (map entry_of es) ≡ None
+  find-none es h = sym (find-lookup es) ∙ ap (option_map (λ (s : Seat). entry_of (t, s))) h
+
+  none_of : (o : Option Seat) → option_map (λ s. entry_of (t, s)) o ≡ None → o ≡ None
+  none_of None h = refl
+  none_of (Some s) h = absurd (cc)
+
+  pub lookup-none : (es : List (List ℕ × Seat)) → find t (map entry_of es) ≡ None → lookup test es ≡ None
+  lookup-none es h = none_of (lookup test es) (find-lookup es ∙ h)
+
+pub map-append : (es : List (List ℕ × Seat)) (e : List ℕ × Seat) → map entry_of (es ++ e ∷ []) ≡ map entry_of es ++ entry_of e ∷ []
+map-append [] e = refl
+map-append (x ∷ es) e = ap (λ js. entry_of x ∷ js) (map-append es e)
+
+is_there : {A E : Type 0} (X : Type 0) (r : Result A E) → IsOk r → OnOk r X → X
+is_there X (Ok x) h k = k
+is_there X (Err e) h k = absurd (cc)
+
+-- a new topic goes last
+pub joined-last : {S A E : Type 0} (eq : List ℕ → List ℕ → Bool) → ((a b : List ℕ) → eq a b ≡ same_text a b) → (m : IndexMap (List ℕ) Seat S) (t : List ℕ) (seat : Seat) (after : List (List ℕ × Seat)) (r : Result A E)
+    → find t (map entry_of m.entries) ≡ None → IsOk r → OnOk r (after ≡ insert_entry eq m.entries t seat)
+    → map entry_of after ≡ map entry_of m.entries ++ entry_of (t, seat) ∷ []
+joined-last eq is m t seat after r none is_ok entries =
+    let absent : lookup (eq t) m.entries ≡ None = lookup-none t (eq t) (is t) m.entries none in
+    let last : after ≡ m.entries ++ (t, seat) ∷ [] = is_there _ r is_ok entries ∙ insert_entry-new eq m t seat absent in
+    ap (map entry_of) last ∙ map-append m.entries (t, seat)
+
+-- the topics by name
+pub map-topics : (es : List (List ℕ × Seat)) → keys_of es ≡ map (λ (j : Entry). j.topic) (map entry_of es)
+map-topics [] = refl
+map-topics (e ∷ es) = ap (λ ts. e.0 ∷ ts) (map-topics es)

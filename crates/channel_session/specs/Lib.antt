@@ -1,0 +1,17 @@
+pub mod Asks
+pub mod Script
+pub mod Answers
+pub mod Local
+pub mod Frames
+pub mod Laws
+pub mod InForce
+pub mod Asked
+pub mod Rules
+pub mod Outcome
+pub mod Delivery
+pub mod Replies
+pub mod Joining
+pub mod Mirrors
+pub mod Ran
+pub mod Ending
+pub mod Keeping

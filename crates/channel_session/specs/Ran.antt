@@ -1,0 +1,61 @@
+-- What a text did: the calls, the texts, and what is left after a fault.
+use Rattle.std.specs.Prelude.{◌≡◌, ◌⊎◌, ℕ, List, true, false, Option, None, Some, Result, Ok, Err, if◌then◌else◌}
+use Rattle.phx_message.specs.declared.message.Message.{Message}
+use Rattle.phx_message.specs.declared.message.MessageFault.{MessageFault}
+use Rattle.channel_session.specs.Asks.{Ask, Answer}
+use Rattle.channel_session.specs.Script.{Script}
+use Rattle.channel_session.specs.Rules.{InForce, Entry, End, answers, find, rules}
+use Rattle.channel_session.specs.Outcome.{Follows}
+use Rattle.channel_session.specs.declared.fault.Stop.{Stop}
+use Rattle.channel_session.specs.declared.fault.StopKind.{StopKind}
+use Rattle.channel_session.specs.declared.fault.StopKind.TheVariants as kinds
+use Rattle.channel_session.specs.declared.fault.SessionFault.{SessionFault}
+use Rattle.channel_session.specs.declared.fault.SessionFault.TheVariants.{BadMessage, OutOfMemory, ShardFull, Failed}
+
+-- a topic that is not in force is named as cut short
+abbrev pub cut_short : Option Entry → Option (List ℕ) → List ℕ → Option (List ℕ)
+cut_short (Some j) half t = half
+cut_short None half t = Some t
+
+abbrev pub failed_at : InForce → List ℕ → InForce
+failed_at s t = record { pid = s.pid; failed = true; joined = s.joined; half = cut_short (find t s.joined) s.half t }
+
+abbrev pub fault_of : StopKind → SessionFault
+fault_of kinds.OutOfMemory = OutOfMemory
+fault_of kinds.ShardFull = ShardFull
+
+-- A fault: the calls up to it, and a session that has failed where one of them left something behind, and else is as before.
+pub record Faulted {P : Type 0} (step : P → (q : Ask) → Answer q → P → Type 0) (script : Script End) (topic : List ℕ) (s : InForce) (old new : P) (after : InForce) (fault : SessionFault) : Type 0 where
+  pub stop : Stop
+  pub fault_is : fault ≡ fault_of stop.kind
+  pub calls : Follows step script old new (Err stop)
+  pub left : after ≡ (if stop.spoiled then failed_at s topic else s)
+
+-- nothing was asked, and nothing changed
+pub record Untouched {P : Type 0} (s : InForce) (old new : P) (after : InForce) : Type 0 where
+  pub port : new ≡ old
+  pub session : after ≡ s
+
+-- What a message does: the calls of the rules were made, and their texts are given.
+abbrev pub MessageRan : {P : Type 0} → (P → (q : Ask) → Answer q → P → Type 0) → List (List ℕ × ℕ) → InForce → Message → P → P → InForce → Result (List (List ℕ)) SessionFault → Type 0
+MessageRan step routes s m old new after (Ok texts) = Follows step (rules routes s m) old new (Ok (answers texts after)) × (after.failed ≡ s.failed)
+MessageRan step routes s m old new after (Err fault) = Faulted step (rules routes s m) m.topic s old new after fault
+
+-- The message that a text is read as was handled so.
+pub record ReadAs {P : Type 0} (step : P → (q : Ask) → Answer q → P → Type 0) (routes : List (List ℕ × ℕ)) (s : InForce) (reading : Result Message MessageFault) (old new : P) (after : InForce) (result : Result (List (List ℕ)) SessionFault) : Type 0 where
+  pub message : Message
+  pub read : reading ≡ Ok message
+  pub ran : MessageRan step routes s message old new after result
+
+-- What a text does, by how it ended. Memory may run out before anything is asked.
+abbrev pub EndedSo : {P : Type 0} → (P → (q : Ask) → Answer q → P → Type 0) → List (List ℕ × ℕ) → InForce → Result Message MessageFault → P → P → InForce → Result (List (List ℕ)) SessionFault → Type 0
+EndedSo step routes s reading old new after (Err Failed) = (s.failed ≡ true) × Untouched s old new after
+EndedSo step routes s reading old new after (Err (BadMessage f)) = (s.failed ≡ false) × (reading ≡ Err f) × Untouched s old new after
+EndedSo step routes s reading old new after (Err ShardFull) = (s.failed ≡ false) × ReadAs step routes s reading old new after (Err ShardFull)
+EndedSo step routes s reading old new after (Err OutOfMemory) = (s.failed ≡ false) × (Untouched s old new after ⊎ ReadAs step routes s reading old new after (Err OutOfMemory))
+EndedSo step routes s reading old new after (Ok texts) = (s.failed ≡ false) × ReadAs step routes s reading old new after (Ok texts)
+
+-- the texts by their bytes
+abbrev pub texts_given : {T : Type 0} → (T → List (List ℕ)) → Result T SessionFault → Result (List (List ℕ)) SessionFault
+texts_given view (Ok texts) = Ok (view texts)
+texts_given view (Err fault) = Err fault

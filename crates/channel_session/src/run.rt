@@ -1,0 +1,117 @@
+ghost use Rattle.std.specs.Prelude.{◌≡◌, [], ◌≤◌, ◌+◌, map, string_bytes, vec_capacity, IsTrue, if◌then◌else◌};
+ghost use Rattle.presence_journal.specs.Limits.{is_payload};
+ghost use Rattle.phx_message.specs.Reading.{decoded};
+ghost use Rattle.channel_session.specs.Replies.{texts_of};
+ghost use Rattle.channel_session.specs.Ran.{MessageRan, EndedSo, texts_given, failed_at, fault_of as fault_of_kind};
+
+use crate::acting::act;
+use crate::fault::{SessionFault, Stop, StopKind};
+use crate::port::Port;
+use crate::replies::Reply;
+use crate::session::Session;
+use hook_registry::Routes;
+use phx_message::{Limits, Message, MessageFault, decode};
+use presence_base::Topic;
+use std::alloc::Global;
+
+// The texts of a reply, in the list that was made for them.
+fn list_texts(mut texts: Vec<String>, reply: Reply) -> Vec<String>
+    requires empty { texts.items ≡ [] }
+    requires room { 2 ≤ vec_capacity texts }
+    ensures { map string_bytes result.items ≡ texts_of reply }
+{
+    match reply {
+        Reply::Nothing => texts,
+        Reply::One(text) => {
+            let _pushed = texts.push(text);
+            texts
+        }
+        Reply::Two(text, next) => {
+            let _pushed = texts.push(text);
+            let _then = texts.push(next);
+            texts
+        }
+    }
+}
+
+// The fault that a rule's fault is.
+fn fault_of(stop: &Stop) -> SessionFault
+    ensures { result ≡ fault_of_kind stop.now.kind }
+{
+    match stop.kind {
+        StopKind::OutOfMemory => SessionFault::OutOfMemory,
+        StopKind::ShardFull => SessionFault::ShardFull,
+    }
+}
+
+// Leaves a session behind in which a fault left something of this topic.
+fn fail(session: &mut Session, topic: Topic)
+    ensures { session.new ≡ failed_at session.old topic }
+{
+    let known = session.topics.find(&topic).is_some();
+    session.failed = true;
+    if !known {
+        session.half = Some(topic);
+    }
+}
+
+// What a fault leaves.
+fn leave_behind(session: &mut Session, topic: Topic, stop: &Stop) -> SessionFault
+    ensures after { session.new ≡ (if stop.now.spoiled then failed_at session.old topic else session.old) }
+    ensures fault { result ≡ fault_of_kind stop.now.kind }
+{
+    if stop.spoiled {
+        fail(session, topic);
+    }
+    fault_of(stop)
+}
+
+// Answers a message.
+fn run_message<P: Port>(
+    alloc: Global,
+    session: &mut Session,
+    port: &mut P,
+    routes: &Routes,
+    message: Message,
+    texts: Vec<String>,
+) -> Result<Vec<String>, SessionFault>
+    requires payload { IsTrue (is_payload message.payload) }
+    requires empty { texts.items ≡ [] }
+    requires room { 2 ≤ vec_capacity texts }
+    ensures { MessageRan P.step routes.now session.old message port.old port.new session.new (texts_given (λ v. map string_bytes v.items) result) }
+{
+    match act(alloc, session, port, routes, &message) {
+        Ok(reply) => Ok(list_texts(texts, reply)),
+        Err(stop) => Err(leave_behind(session, message.topic, &stop)),
+    }
+}
+
+/// Answers a text of a client by the rules of the built-in channel: the texts for the client, in
+/// the order in which they are to be sent.
+///
+/// A topic is joined where one of the routes matches it. A client's limits are those of
+/// `Limits::CLIENT`. A fault leaves the session and the port as they were, unless a call was made
+/// that leaves something behind: one that was accepted (asking what waits is none), or one of the
+/// two that end a join, accepted or not. Then the session has failed, the topic is among those
+/// that `joined` names, and only `end` acts.
+pub fn run_text<P: Port>(
+    alloc: Global,
+    session: &mut Session,
+    port: &mut P,
+    routes: &Routes,
+    text: &str,
+) -> Result<Vec<String>, SessionFault>
+    ensures { EndedSo P.step routes.now session.old (decoded Limits.CLIENT text.now) port.old port.new session.new (texts_given (λ v. map string_bytes v.items) result) }
+{
+    if session.failed {
+        return Err(SessionFault::Failed);
+    }
+    let Ok(texts) = Vec::with_capacity(alloc, 2) else {
+        return Err(SessionFault::OutOfMemory);
+    };
+    match decode(alloc, text, Limits::CLIENT) {
+        Err(MessageFault::OutOfMemory) => Err(SessionFault::OutOfMemory),
+        Err(fault) => Err(SessionFault::BadMessage(fault)),
+        Ok(message) => run_message(alloc, session, port, routes, message, texts),
+    }
+}

@@ -1,0 +1,109 @@
+use channel_session::{LocalPort, Session, SessionFault, deliver, run_text};
+use hook_registry::{RouteFault, Routes};
+use presence_base::{Key, Meta, NodeName, Replica, Topic};
+use serde_json::{Map, Value};
+use std::alloc::{AllocError, Global};
+use tracker_shard::{Shard, ShardFault};
+
+/// The session that tracks the keys.
+const OTHER: u64 = 2;
+
+/// What a case needs, where it can be made.
+#[derive(Drop)]
+pub struct Room {
+    shard: Shard,
+    topic: Topic,
+}
+
+fn empty_meta(alloc: Global) -> Result<Option<Meta>, AllocError> {
+    Meta::new(alloc, Value::Object(Map::new(alloc)))
+}
+
+fn new_shard(alloc: Global) -> Result<Option<Shard>, AllocError> {
+    match NodeName::new(alloc, "a")? {
+        Some(name) => Ok(Some(Shard::new(
+            alloc,
+            Replica {
+                name,
+                incarnation: 1,
+            },
+        ))),
+        None => Ok(None),
+    }
+}
+
+/// An empty room.
+pub fn new_room(alloc: Global) -> Result<Option<Room>, AllocError> {
+    let Some(topic) = Topic::new(alloc, "room:a")? else {
+        return Ok(None);
+    };
+    match new_shard(alloc)? {
+        Some(shard) => Ok(Some(Room { shard, topic })),
+        None => Ok(None),
+    }
+}
+
+fn track(alloc: Global, room: &mut Room, n: u32) -> Result<(), ShardFault> {
+    let key = format!(in alloc; "u{n}")?;
+    let (Some(key), Some(meta)) = (Key::new(alloc, key.as_str())?, empty_meta(alloc)?) else {
+        return Ok(());
+    };
+    room.shard
+        .track(alloc, None, OTHER, &room.topic, &key, &meta)?;
+    Ok(())
+}
+
+/// Tracks `keys` keys of another session, and lists an empty topic `lists` times, which makes the
+/// journal longer.
+pub fn fill(alloc: Global, room: &mut Room, keys: u32, lists: u32) -> Result<(), ShardFault> {
+    for n in 0..keys {
+        track(alloc, room, n)?;
+    }
+    let Some(empty) = Topic::new(alloc, "room:b")? else {
+        return Ok(());
+    };
+    for _ in 0..lists {
+        room.shard.list(alloc, None, &empty)?;
+    }
+    Ok(())
+}
+
+/// The route of all rooms.
+pub fn rooms(alloc: Global) -> Result<Routes, RouteFault> {
+    let mut routes = Routes::new(alloc);
+    routes.add(alloc, "room:*", 0)?;
+    Ok(routes)
+}
+
+// Asks to join.
+fn ask_to_join(
+    alloc: Global,
+    session: &mut Session,
+    shard: &mut Shard,
+    routes: &Routes,
+) -> Result<Vec<String>, SessionFault> {
+    let mut port = LocalPort::new(shard);
+    let text = r#"["1","1","room:a","phx_join",{}]"#;
+    run_text(alloc, session, &mut port, routes, text)
+}
+
+// Takes what waits.
+fn take_state(
+    alloc: Global,
+    session: &mut Session,
+    shard: &mut Shard,
+) -> Result<Vec<String>, SessionFault> {
+    let mut port = LocalPort::new(shard);
+    match deliver(alloc, session, &mut port, 256) {
+        Ok(delivery) => Ok(delivery.texts),
+        Err(fault) => Err(fault),
+    }
+}
+
+/// Joins the room, and answers how many texts the reply and the state are.
+pub fn join(alloc: Global, room: &mut Room, routes: &Routes) -> Result<usize, SessionFault> {
+    let mut session = Session::new(alloc, 1);
+    let replies = ask_to_join(alloc, &mut session, &mut room.shard, routes)?;
+    let frames = take_state(alloc, &mut session, &mut room.shard)?;
+    Ok(replies.len().saturating_add(frames.len()))
+}

@@ -1,0 +1,68 @@
+//! Times a join, for `bench/run joins`: `session_bench KEYS LISTS` prints microseconds.
+#![tactic(auto)]
+
+mod cases;
+
+use cases::{Room, fill, join, new_room, rooms};
+use hook_registry::Routes;
+use std::env::Env;
+use std::process::ExitCode;
+use std::time::{Clock, Duration, Instant};
+use std::{env, io};
+
+fn broken() -> io::Error {
+    io::Error::from(io::ErrorKind::InvalidData)
+}
+
+// The words of the command line, the program's own first.
+fn words_of<R: Env + AllocGlobal>(rt: &R) -> io::Result<Vec<String>> {
+    let mut words = Vec::new(rt.alloc());
+    for word in env::args(rt)? {
+        words.push(word)?;
+    }
+    Ok(words)
+}
+
+// A room of so many keys, in a journal with so many entries more, and the routes to it.
+fn filled<R: AllocGlobal>(rt: &R, keys: u32, lists: u32) -> io::Result<(Room, Routes)> {
+    let alloc = rt.alloc();
+    let Some(mut room) = new_room(alloc)? else {
+        return Err(broken());
+    };
+    if fill(alloc, &mut room, keys, lists).is_err() {
+        return Err(broken());
+    }
+    match rooms(alloc) {
+        Ok(routes) => Ok((room, routes)),
+        Err(_) => Err(broken()),
+    }
+}
+
+// How long it takes to join the room, up to the text of its state.
+fn time_join<R: Clock + AllocGlobal>(rt: &R, keys: u32, lists: u32) -> io::Result<Duration> {
+    let (mut room, routes) = filled(rt, keys, lists)?;
+    let start = Instant::now(rt)?;
+    match join(rt.alloc(), &mut room, &routes) {
+        Ok(_) => start.elapsed(rt),
+        Err(_) => Err(broken()),
+    }
+}
+
+fn main(rt: HostRuntime) -> io::Result<ExitCode> {
+    let words = words_of(&rt)?;
+    if words.len() != 3 {
+        rt.eprintln("usage: session_bench KEYS LISTS")?;
+        return Ok(ExitCode::from(1));
+    }
+    let (Ok(keys), Ok(lists)) = (
+        words[1].as_str().parse::<u32>(),
+        words[2].as_str().parse::<u32>(),
+    ) else {
+        rt.eprintln("KEYS and LISTS are whole numbers of 32 bits")?;
+        return Ok(ExitCode::from(1));
+    };
+    let took = time_join(&rt, keys, lists)?;
+    let micros = took.as_micros();
+    println!(rt; "{micros}")?;
+    Ok(ExitCode::from(0))
+}
