@@ -1,10 +1,8 @@
 -- Known bytes over several calls.
-use Rattle.std.proofs.Common.{◌≡◌, ◌+◌, ◌-◌, ◌≤◌, min, subst, ℕ, List, [], ◌++◌, length, take, drop, Option, Some, None, refl, sym, ap, ◌∙◌, append_assoc, rules, arith}
-use Rattle.std.proofs.Math.Seq.{take-add, take-append-add}
-use Rattle.std.proofs.lemmas.List.{take-append-le, take_min}
+use Rattle.std.proofs.Common.{◌≡◌, ◌+◌, ◌-◌, ◌≤◌, subst, ℕ, List, [], ◌++◌, length, take, drop, Option, Some, None, refl, sym, ap, ◌∙◌, append_assoc, rules, arith}
+use Rattle.std.proofs.Math.Seq.{take-add}
 use Rattle.std.proofs.lemmas.Grind.{common_steps}
 use Rattle.std.specs.Io.KnownBytes.{Keeps, Consumes, IsAtEnd, Appends}
-use Rattle.presence_node.specs.Bytes.{AppendsPart}
 
 pub keeps-itself : (o : Option (List ℕ)) → Keeps o o
 keeps-itself None = tt
@@ -54,6 +52,12 @@ consumes-then (Some xs) None c bs cs h k = absurd h
 consumes-then (Some xs) (Some ys) None bs cs h k = absurd k
 consumes-then (Some xs) (Some ys) (Some zs) bs cs h k = h ∙ ap (λ v. bs ++ v) k ∙ sym (append_assoc bs cs zs)
 
+pub consumes-keeps : (a b c : Option (List ℕ)) (bs : List ℕ) → Consumes a b bs → Keeps b c → Consumes a c bs
+consumes-keeps None b c bs h k = tt
+consumes-keeps (Some xs) None c bs h k = absurd h
+consumes-keeps (Some xs) (Some ys) None bs h k = absurd k
+consumes-keeps (Some xs) (Some ys) (Some zs) bs h k = h ∙ ap (λ v. bs ++ v) (sym k)
+
 -- a write of some bytes after those that went out before
 pub appends-more : (a b c : Option (List ℕ)) (i n : ℕ) (bytes : List ℕ) → i ≤ length bytes → Appends a b (take i bytes) → Appends b c (take n (take (length bytes - i) (drop i bytes))) → Appends a c (take (i + n) bytes)
 appends-more a b c i n bytes h p q =
@@ -66,12 +70,12 @@ appends-keeps (Some xs) None c bs h k = absurd h
 appends-keeps (Some xs) (Some ys) None bs h k = absurd k
 appends-keeps (Some xs) (Some ys) (Some zs) bs h k = k ∙ h
 
-pub part_bound : (i n : ℕ) (bytes : List ℕ) → i ≤ length bytes → n ≤ length (take (length bytes - i) (drop i bytes)) → i + n ≤ length bytes
-part_bound i n bytes h k = grind (arith, common_steps)
+pub front_itself : (a : Option (List ℕ)) (bytes : List ℕ) → Appends a a (take 0 bytes)
+front_itself a bytes = appends-itself a
 
--- some bytes went out, and then a front of others
-pub appends-part : (a b c : Option (List ℕ)) (bs cs more : List ℕ) → Appends a b bs → AppendsPart b c cs → AppendsPart a c (bs ++ (cs ++ more))
-appends-part a b c bs cs more h p = (length bs + min p.0 (length cs), subst (λ xs. Appends a c xs) (sym (front bs cs more p.0)) (appends-then a b c bs (take p.0 cs) h p.1))
+-- all of the bytes went out
+pub appends-whole : (a b : Option (List ℕ)) (n : ℕ) (bytes : List ℕ) → length bytes ≤ n → Appends a b (take n bytes) → Appends a b bytes
+appends-whole a b n bytes h p = subst (Appends a b) (whole n bytes h) p
   where
-    front : (xs ys zs : List ℕ) (n : ℕ) → take (length xs + min n (length ys)) (xs ++ (ys ++ zs)) ≡ xs ++ take n ys
-    front xs ys zs n = take-append-add xs (ys ++ zs) (min n (length ys)) ∙ ap (λ v. xs ++ v) (take-append-le (min n (length ys)) ys zs (omega arith) ∙ take_min n ys)
+    whole : (n : ℕ) (xs : List ℕ) → length xs ≤ n → take n xs ≡ xs
+    whole n xs h = grind (arith, common_steps)

@@ -1,8 +1,12 @@
 pub mod Known
 pub mod Splits
+pub mod Taken
 pub mod Messages
+pub mod Nodes
 pub mod Sessions
 pub mod Turns
-pub mod Objects
-pub mod Tables
-pub mod Joins
+pub mod Inputs
+pub mod Whole
+pub mod Folds
+pub mod Patterns
+pub mod Mirroring

@@ -3,10 +3,8 @@ pub mod Bytes
 pub mod Reading
 pub mod Session
 pub mod Run
+pub mod Mirrors
+pub mod Folding
 pub mod Told
 pub mod Limits
-pub mod Asked
-pub mod StateObject
-pub mod ShardAnswers
-pub mod InForce
-pub mod Channel
+pub mod Mirrored

@@ -1,11 +1,12 @@
-ghost use Rattle.std.specs.Prelude.{IfOk, IsTrue};
+ghost use Rattle.std.specs.Prelude.{◌≡◌, ◌≤◌, IfOk, IsTrue, length, map};
 ghost use Rattle.presence_base.specs.Names.{is_node_name};
 ghost use Rattle.presence_base.specs.Refs.{IsCount};
-ghost use Rattle.presence_node.specs.Limits.{IsWithin, AreWithin};
+ghost use Rattle.presence_node.specs.Limits.{IsWithin, AreWithin, numbered};
 
 use crate::options::{Options, StdioOptions};
 use clap::error::ErrorKind;
 use clap::{Arg, ArgAction, ArgMatches, Command, Error};
+use hook_registry::{MAX_PATTERN_BYTES, MAX_ROUTES, RouteFault, Routes};
 use presence_base::{MAX_COUNT, NodeName};
 use std::alloc::{AllocError, Global};
 use thiserror::Error;
@@ -18,6 +19,13 @@ pub enum UsageFault {
     #[error("out of memory")]
     Memory,
 }
+
+// How `stdio` is called.
+const USAGE: &str = "presence_node stdio [--name NAME] [--incarnation NUMBER] [--route PATTERN]..";
+
+// How the program is called.
+const USAGES: &str =
+    "presence_node stdio [--name NAME] [--incarnation NUMBER] [--route PATTERN]..\n       presence_node fold";
 
 // The command `stdio` with its options.
 fn stdio_command<'a>(alloc: Global) -> Result<Command<'a>, AllocError> {
@@ -33,11 +41,29 @@ fn stdio_command<'a>(alloc: Global) -> Result<Command<'a>, AllocError> {
         .action(ArgAction::Set)
         .default_value("1")
         .help("Which life of the node this is, 1 to 4611686018427387904; never use one twice");
+    let route = Arg::new(alloc, "route")
+        .long("route")
+        .value_name("PATTERN")
+        .action(ArgAction::Append)
+        .default_value("room:*")
+        .help(
+            "A topic that may be joined, or the front of such topics with one * behind it, of 1 to 255 bytes in all; up to 64 times",
+        );
     Command::new(alloc, "stdio")
         .about("Answers the messages on standard input, one a line, on standard output")
-        .override_usage("presence_node stdio [--name NAME] [--incarnation NUMBER]")
+        .override_usage(USAGE)
         .arg(name)?
-        .arg(incarnation)
+        .arg(incarnation)?
+        .arg(route)
+}
+
+// The command `fold`, which has none.
+fn fold_command<'a>(alloc: Global) -> Command<'a> {
+    Command::new(alloc, "fold")
+        .about(
+            "Folds the presence frames on standard input, one a line, and prints one object from topic to map",
+        )
+        .override_usage("presence_node fold")
 }
 
 // The whole command line.
@@ -45,9 +71,10 @@ fn command_of<'a>(alloc: Global) -> Result<Command<'a>, AllocError> {
     let stdio = stdio_command(alloc)?;
     Command::new(alloc, "presence_node")
         .about("A server of Phoenix Channels with Presence")
-        .override_usage("presence_node stdio [--name NAME] [--incarnation NUMBER]")
+        .override_usage(USAGES)
         .subcommand_required(true)
-        .subcommand(stdio)
+        .subcommand(stdio)?
+        .subcommand(fold_command(alloc))
 }
 
 // A usage fault with this text.
@@ -60,7 +87,7 @@ fn usage_of(text: Result<String, AllocError>) -> UsageFault {
 
 // What each command takes.
 const ALLOWED: &str =
-    "stdio takes --name NAME, 1 to 32 characters of a-z, 0-9, and --incarnation NUMBER, 1 to 4611686018427387904";
+    "stdio takes --name NAME, 1 to 32 characters of a-z, 0-9, --incarnation NUMBER, 1 to 4611686018427387904, and up to 64 times --route PATTERN, a topic or the front of topics with one * behind it, of 1 to 255 bytes; fold takes no options";
 
 // What the parser says is wrong, and what is allowed.
 fn wrong_words(alloc: Global, e: &Error) -> Result<String, AllocError> {
@@ -115,13 +142,58 @@ fn incarnation_of(alloc: Global, text: &str) -> Result<u64, UsageFault>
     Err(usage_of(format!(in alloc; "--incarnation {text}: an incarnation is 1 to {MAX_COUNT}")))
 }
 
+// What is wrong with a pattern that the routes refuse.
+fn wrong_route(alloc: Global, pattern: &str, fault: RouteFault) -> UsageFault {
+    match fault {
+        RouteFault::BadPattern => usage_of(format!(in alloc;
+            "--route {pattern}: a pattern is a topic, or the front of topics with one * behind it, of 1 to {MAX_PATTERN_BYTES} bytes"
+        )),
+        RouteFault::TooMany => usage_of(format!(in alloc;
+            "--route {pattern}: there are {MAX_ROUTES} routes before it, and no more are allowed"
+        )),
+        RouteFault::OutOfMemory => UsageFault::Memory,
+    }
+}
+
+// The routes of these patterns, of which each has its position as its kind.
+#[tactic(auto, using(crate::proofs::Patterns::few_before))]
+fn routes_of(alloc: Global, patterns: &[&str]) -> Result<Routes, UsageFault>
+    ensures routes { IfOk result (λ routes. routes ≡ numbered 0 (map (λ p. p.now) patterns.now)) }
+    ensures few { IfOk result (λ routes. length routes ≤ 64) }
+{
+    let mut routes = Routes::new(alloc);
+    let mut kind: u32 = 0;
+    for pattern in patterns {
+        match routes.add(alloc, pattern, kind) {
+            Ok(()) => kind += 1,
+            Err(fault) => return Err(wrong_route(alloc, pattern, fault)),
+        }
+    }
+    Ok(routes)
+}
+
+// The routes of the patterns that are given, or the default.
+fn given_routes(alloc: Global, matches: &ArgMatches<'_>) -> Result<Routes, UsageFault>
+    ensures { IfOk result (λ routes. length routes ≤ 64) }
+{
+    match matches.get_strs("route") {
+        Some(patterns) => routes_of(alloc, patterns),
+        None => routes_of(alloc, &["room:*"]),
+    }
+}
+
 // The options of the words behind `stdio`.
 fn stdio_options(alloc: Global, matches: &ArgMatches<'_>) -> Result<StdioOptions, UsageFault>
     ensures { IfOk result IsWithin }
 {
     let name = name_of(alloc, matches.get_str("name").unwrap_or("a"))?;
     let incarnation = incarnation_of(alloc, matches.get_str("incarnation").unwrap_or("1"))?;
-    Ok(StdioOptions { name, incarnation })
+    let routes = given_routes(alloc, matches)?;
+    Ok(StdioOptions {
+        name,
+        incarnation,
+        routes,
+    })
 }
 
 /// What the words of a command line ask for, the program's own word first.
@@ -140,6 +212,10 @@ pub fn options_of<'a>(alloc: Global, words: &'a [&'a str]) -> Result<Options, Us
     };
     match matches.subcommand() {
         Some(("stdio", inner)) => Ok(Options::Stdio(stdio_options(alloc, inner)?)),
-        _ => Err(usage_of(String::from_str(alloc, "presence_node: a command is wanted: stdio"))),
+        Some(("fold", _)) => Ok(Options::Fold),
+        _ => Err(usage_of(String::from_str(
+            alloc,
+            "presence_node: a command is wanted: stdio or fold",
+        ))),
     }
 }

@@ -1,4 +1,6 @@
+use channel_session::SessionFault;
 use phx_message::MessageFault;
+use presence_metas::FrameFault;
 use thiserror::Error;
 
 /// Why a stream went no further.
@@ -12,12 +14,41 @@ pub(crate) enum StreamFault {
     Memory,
 }
 
+/// Why a line ends a run.
+#[derive(Clone, Copy, PartialEq, Eq, Debug, Error)]
+pub enum LineFault {
+    /// The line is no message that a client may send.
+    #[error("{0}")]
+    Message(MessageFault),
+    /// The session answers nothing further.
+    #[error("{0}")]
+    Session(SessionFault),
+}
+
 /// Why a run over a reader and a writer ended before its input did.
 #[derive(Clone, Copy, PartialEq, Eq, Debug, Error)]
 pub enum StdioFault {
+    /// The line of this number, from 1, ended the run.
+    #[error("line {0}: {1}")]
+    Line(u64, LineFault),
+    /// The reader failed, or the input has more than 1,048,576 lines.
+    #[error("the input could not be read, or has more than 1048576 lines")]
+    Read,
+    #[error("the output could not be written")]
+    Write,
+    #[error("out of memory")]
+    Memory,
+}
+
+/// Why frames could not be folded.
+#[derive(Clone, Copy, PartialEq, Eq, Debug, Error)]
+pub enum FoldFault {
     /// The line of this number, from 1, is no message.
     #[error("line {0}: {1}")]
     Line(u64, MessageFault),
+    /// The line of this number is no frame, though its event is one of a frame.
+    #[error("line {0}: {1}")]
+    Frame(u64, FrameFault),
     /// The reader failed, or the input has more than 1,048,576 lines.
     #[error("the input could not be read, or has more than 1048576 lines")]
     Read,

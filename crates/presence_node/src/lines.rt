@@ -1,6 +1,6 @@
-ghost use Rattle.std.specs.Prelude.{◌≡◌, ◌<◌, ◌^◌, ℕ, List, [], IfOk, option_map, MatchOption, MatchResult, IsTrue};
-ghost use Rattle.std.specs.Io.KnownBytes.{Appends, IsAtEnd};
-ghost use Rattle.presence_node.specs.Bytes.{TakesByte, TakesLine, AppendsPart};
+ghost use Rattle.std.specs.Prelude.{◌<◌, ◌^◌, MatchResult};
+ghost use Rattle.std.specs.Io.KnownBytes.{Appends};
+ghost use Rattle.presence_node.specs.Bytes.{TakesByte, AsksEnd, EndsHere, TakesNext, AppendsFront};
 
 use crate::fault::StreamFault;
 use std::alloc::Global;
@@ -30,9 +30,24 @@ fn next_byte<R: Read>(reader: &mut R) -> Result<Option<u8>, StreamFault>
 
 /// Whether nothing is left. A byte that was left is read.
 pub(crate) fn is_at_end<R: Read>(reader: &mut R) -> Result<bool, StreamFault>
-    ensures { IfOk result (λ b. IsTrue b → IsAtEnd (R.remaining reader.old)) }
+    ensures { AsksEnd (R.remaining reader.old) (R.remaining reader.new) result }
 {
-    Ok(next_byte(reader)?.is_none())
+    match next_byte(reader) {
+        Ok(None) => Ok(true),
+        Ok(Some(_)) => Ok(false),
+        Err(fault) => Err(fault),
+    }
+}
+
+/// Refuses an input that goes on. A byte that was left is read.
+pub(crate) fn expect_end<R: Read>(reader: &mut R) -> Result<(), StreamFault>
+    ensures { EndsHere (R.remaining reader.old) (R.remaining reader.new) result }
+{
+    match is_at_end(reader) {
+        Ok(true) => Ok(()),
+        Ok(false) => Err(StreamFault::Read),
+        Err(fault) => Err(fault),
+    }
 }
 
 /// The next line without its line feed, or none at the end. Of a line above the limit one byte more than the limit is kept.
@@ -42,39 +57,49 @@ pub(crate) fn read_line<R: Read>(
     limit: usize,
 ) -> Result<Option<Vec<u8>>, StreamFault>
     requires { limit < 2 ^ 63 }
-    ensures { IfOk result (λ o. TakesLine limit (R.remaining reader.old) (R.remaining reader.new)
-        (option_map (λ line. line.items) o)) }
+    ensures { TakesNext limit (R.remaining reader.old) (R.remaining reader.new) result
+        (λ line. line.items) }
 {
     let mut line = Vec::new(alloc);
     for _turn in 0..limit + 1 {
-        match next_byte(reader)? {
-            None => {
+        match next_byte(reader) {
+            Ok(None) => {
                 if line.is_empty() {
                     return Ok(None);
                 }
                 return Ok(Some(line));
             }
-            Some(b'\n') => return Ok(Some(line)),
-            Some(byte) => line.push(byte).map_err(|_| StreamFault::Memory)?,
+            Ok(Some(b'\n')) => return Ok(Some(line)),
+            Ok(Some(byte)) => {
+                if line.push(byte).is_err() {
+                    return Err(StreamFault::Memory);
+                }
+            }
+            Err(fault) => return Err(fault),
         }
     }
     Ok(Some(line))
 }
 
-/// Writes these bytes. A fault may leave some of them written.
+/// Writes these bytes. A fault may leave some of them written, and never all.
 pub(crate) fn write_bytes<W: Write>(writer: &mut W, bytes: &[u8]) -> Result<(), StreamFault>
     ensures { MatchResult result
         (λ _. Appends (W.contents writer.old) (W.contents writer.new) bytes.now)
-        (λ _. AppendsPart (W.contents writer.old) (W.contents writer.new) bytes.now) }
+        (λ _. AppendsFront (W.contents writer.old) (W.contents writer.new) bytes.now) }
 {
+    if bytes.is_empty() {
+        return Ok(());
+    }
     let mut done = 0;
     for _ in 0..u64::MAX {
-        if done >= bytes.len() {
-            return Ok(());
-        }
         match writer.write(&bytes[done..]) {
             Ok(0) => return Err(StreamFault::Write),
-            Ok(n) => done += n,
+            Ok(n) => {
+                done += n;
+                if done >= bytes.len() {
+                    return Ok(());
+                }
+            }
             Err(e) => {
                 if e.kind() != ErrorKind::Interrupted {
                     return Err(StreamFault::Write);

@@ -1,24 +1,26 @@
 //! A node that serves Phoenix Channels with Presence.
 #![tactic(auto)]
 
-mod asked;
-mod channel;
+#[cfg(test)]
+mod channel_tests;
 mod command_line;
 mod fault;
+mod fold;
+#[cfg(test)]
+mod fold_tests;
+mod laws;
 mod lines;
+mod mirrors;
 mod node;
 mod options;
 mod reading;
-mod replies;
-mod session;
-mod shard;
-mod state_object;
 mod stdio;
 #[cfg(test)]
 mod tests;
 
 use command_line::{UsageFault, options_of};
-use fault::StdioFault;
+use fault::{FoldFault, StdioFault};
+use fold::{fold_status_of, fold_told_line, run_fold};
 use options::{Options, StdioOptions};
 use std::alloc::{AllocError, Global};
 use std::env::Env;
@@ -70,6 +72,28 @@ fn serve_stdio<R: Input + Print + Eprint + AllocGlobal>(
     }
 }
 
+// Tells why a fold ended early.
+fn tell_fold<R: Eprint + AllocGlobal>(rt: &R, fault: &FoldFault) -> io::Result<()> {
+    match fold_told_line(rt.alloc(), fault)? {
+        Some(line) => rt.eprintln(line.as_str()),
+        None => rt.eprintln(fault),
+    }
+}
+
+// Folds the frames on standard input, and gives the status to end with.
+fn fold_stdin<R: Input + Print + Eprint + AllocGlobal>(rt: &R) -> io::Result<u8> {
+    let alloc = rt.alloc();
+    let mut reader = BufReader::new(alloc, rt.reader())?;
+    let mut writer = io::writer(rt);
+    match run_fold(alloc, &mut reader, &mut writer) {
+        Ok(()) => Ok(0),
+        Err(fault) => {
+            let _told = tell_fold(rt, &fault);
+            Ok(fold_status_of(&fault))
+        }
+    }
+}
+
 // Does what the words of the command line ask for, and gives the status to end with.
 fn run<R: Env + Input + Print + Eprint + AllocGlobal>(rt: &R) -> io::Result<u8> {
     let alloc = rt.alloc();
@@ -81,6 +105,7 @@ fn run<R: Env + Input + Print + Eprint + AllocGlobal>(rt: &R) -> io::Result<u8> 
             Ok(0)
         }
         Ok(Options::Stdio(options)) => serve_stdio(rt, &options),
+        Ok(Options::Fold) => fold_stdin(rt),
         Err(UsageFault::Usage(text)) => {
             rt.eprintln(text.as_str())?;
             Ok(1)

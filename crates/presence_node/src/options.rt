@@ -1,12 +1,15 @@
 ghost use Rattle.presence_base.specs.Refs.{IsCount};
 
+use hook_registry::Routes;
 use presence_base::NodeName;
 
-/// What `stdio` runs as: the node's name and its incarnation, from 1 to `MAX_COUNT`.
+/// What `stdio` runs as: the node's name, its incarnation, from 1 to `MAX_COUNT`, and the routes of
+/// its topics, of which each has its position, from 0, as its kind.
 #[derive(Debug, Drop)]
 pub struct StdioOptions {
     pub name: NodeName,
     pub incarnation: u64,
+    pub routes: Routes,
     ghost is_count: { IsCount incarnation },
 }
 
@@ -16,4 +19,5 @@ pub enum Options {
     /// The text that tells how to call the program.
     Help(String),
     Stdio(StdioOptions),
+    Fold,
 }

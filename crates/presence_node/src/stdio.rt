@@ -1,13 +1,15 @@
 ghost use Rattle.std.specs.Prelude.{◌≡◌, ◌≤◌, ℕ, List, IfOk, IfSome, option_map, string_bytes, ◌++◌, codes, decimal};
-ghost use Rattle.presence_node.specs.Lines.{lines_of};
+ghost use Rattle.presence_node.specs.Mirrored.{MirroredBehindLines};
 ghost use Rattle.presence_node.specs.Session.{start};
-ghost use Rattle.presence_node.specs.Told.{fault_number, told_of, status_number};
-ghost use Rattle.presence_node.specs.Run.{Tells, AnswerOf, TurnOf, EndsAtLimit};
+ghost use Rattle.presence_node.specs.Told.{fault_number, session_number, told_line, told_of, status_number};
+ghost use Rattle.presence_node.specs.Run.{Tells, TellsInput, AnswerOf, TurnOf};
 
-use crate::fault::{StdioFault, StreamFault};
-use crate::lines::{is_at_end, read_line, write_bytes};
+use crate::fault::{LineFault, StdioFault, StreamFault};
+use crate::laws::joined_topics_are_mirrored;
+use crate::lines::{expect_end, read_line, write_bytes};
 use crate::node::Node;
 use crate::options::StdioOptions;
+use channel_session::SessionFault;
 use phx_message::{Limits, MessageFault};
 use std::alloc::{AllocError, Global};
 use std::io::{Read, Write};
@@ -47,8 +49,8 @@ fn turn<R: Read, W: Write>(
     writer: &mut W,
     n: u64,
 ) -> Result<bool, StdioFault>
-    ensures { IfSome (R.remaining reader.old) (λ input. TurnOf n node.old node.new input
-        (R.remaining reader.new) (W.contents writer.old) (W.contents writer.new) result) }
+    ensures { TurnOf n node.old node.new (R.remaining reader.old) (R.remaining reader.new)
+        (W.contents writer.old) (W.contents writer.new) result }
 {
     let line = match read_line(alloc, reader, Limits::CLIENT.bytes) {
         Ok(Some(line)) => line,
@@ -62,45 +64,63 @@ fn turn<R: Read, W: Write>(
     }
 }
 
-// What a run comes to that has read as many lines as it may.
-fn after_last_line<R: Read>(reader: &mut R) -> Result<u64, StdioFault>
-    ensures { EndsAtLimit (R.remaining reader.old) result }
+/// Answers each line of the input, of which at most `max` are read.
+pub(crate) fn run_lines<R: Read, W: Write>(
+    alloc: Global,
+    node: &mut Node,
+    reader: &mut R,
+    writer: &mut W,
+    max: u64,
+) -> Result<u64, StdioFault>
+    ensures { Tells max node.old (R.remaining reader.old) (R.remaining reader.new)
+        (W.contents writer.old) (W.contents writer.new) result }
 {
-    match is_at_end(reader) {
-        Ok(true) => Ok(MAX_LINES),
-        Ok(false) => Err(StdioFault::Read),
+    for n in 0..max {
+        match turn(alloc, node, reader, writer, n + 1) {
+            Ok(true) => {}
+            Ok(false) => return Ok(n),
+            Err(fault) => return Err(fault),
+        }
+    }
+    match expect_end(reader) {
+        Ok(()) => Ok(max),
         Err(_) => Err(StdioFault::Read),
     }
 }
 
+// What stands behind each answered line, whatever the input is.
+fn mirrored(options: &StdioOptions)
+    ensures { MirroredBehindLines options.now }
+{
+    let _name = options.name.as_str();
+    joined_topics_are_mirrored();
+}
+
 /// Answers each line of the input up to its end, to the first line that is refused or to a fault,
-/// and says how many lines there were. What a line is answered is written before the next one is
-/// read.
+/// and says how many lines there were. What a line is answered, and what is delivered behind it, is
+/// written before the next one is read.
 pub fn run_stdio<R: Read, W: Write>(
     alloc: Global,
     reader: &mut R,
     writer: &mut W,
     options: &StdioOptions,
 ) -> Result<u64, StdioFault>
-    ensures { IfSome (R.remaining reader.old) (λ input. Tells (start options.now)
-        (W.contents writer.old) (W.contents writer.new) (lines_of input) result) }
+    ensures input { IfSome (R.remaining reader.old) (λ input. TellsInput 1048576 (start options.now)
+        (W.contents writer.old) (W.contents writer.new) input result) }
+    ensures lines { Tells 1048576 (start options.now) (R.remaining reader.old)
+        (R.remaining reader.new) (W.contents writer.old) (W.contents writer.new) result }
+    ensures mirrors { MirroredBehindLines options.now }
 {
+    mirrored(options);
     let mut node = match Node::new(alloc, options) {
         Ok(node) => node,
         Err(_) => return Err(StdioFault::Memory),
     };
-    for n in 0..MAX_LINES {
-        match turn(alloc, &mut node, reader, writer, n + 1) {
-            Ok(true) => {}
-            Ok(false) => return Ok(n),
-            Err(fault) => return Err(fault),
-        }
-    }
-    after_last_line(reader)
+    run_lines(alloc, &mut node, reader, writer, MAX_LINES)
 }
 
-// The number of a refusal, as it is told.
-fn number_of(fault: MessageFault) -> u8
+/// The number of a refusal, as it is told.
+pub(crate) fn number_of(fault: MessageFault) -> u8
     ensures { result ≡ fault_number fault }
 {
     match fault {
@@ -116,19 +136,44 @@ fn number_of(fault: MessageFault) -> u8
     }
 }
 
-// A refusal as it is told.
-fn refusal_line(alloc: Global, n: u64, number: u8) -> Result<String, AllocError>
+/// A refusal as it is told.
+pub(crate) fn refusal_line(alloc: Global, n: u64, number: u8) -> Result<String, AllocError>
     ensures { IfOk result (λ s. string_bytes s ≡ codes "line " ++ (decimal n ++ (codes ": M" ++ decimal number))) }
 {
     format!(in alloc; "line {n}: M{number}")
 }
 
-/// What is told of a refused line: its number and that of its refusal.
+// The number of a session's fault, as it is told.
+fn session_number_of(fault: SessionFault) -> u8
+    ensures { result ≡ session_number fault }
+{
+    match fault {
+        SessionFault::BadMessage(_) => 1,
+        SessionFault::OutOfMemory => 2,
+        SessionFault::ShardFull => 3,
+        SessionFault::Failed => 4,
+    }
+}
+
+// What is told of a line that ended the run.
+fn line_told(alloc: Global, n: u64, fault: LineFault) -> Result<String, AllocError>
+    ensures { IfOk result (λ s. string_bytes s ≡ told_line n fault) }
+{
+    match fault {
+        LineFault::Message(refusal) => refusal_line(alloc, n, number_of(refusal)),
+        LineFault::Session(stop) => {
+            let number = session_number_of(stop);
+            format!(in alloc; "line {n}: C{number}")
+        }
+    }
+}
+
+/// What is told of a line that ended the run: its number and that of its fault.
 pub fn told_line(alloc: Global, fault: &StdioFault) -> Result<Option<String>, AllocError>
     ensures { IfOk result (λ o. option_map string_bytes o ≡ told_of fault.now) }
 {
     match fault {
-        StdioFault::Line(n, refusal) => Ok(Some(refusal_line(alloc, *n, number_of(*refusal))?)),
+        StdioFault::Line(n, fault) => Ok(Some(line_told(alloc, *n, *fault)?)),
         StdioFault::Read | StdioFault::Write | StdioFault::Memory => Ok(None),
     }
 }

@@ -1,7 +1,8 @@
 use crate::command_line::{UsageFault, options_of};
-use crate::fault::StdioFault;
+use crate::fault::{LineFault, StdioFault};
+use crate::node::Node;
 use crate::options::{Options, StdioOptions};
-use crate::stdio::{run_stdio, status_of, told_line};
+use crate::stdio::{run_lines, run_stdio, status_of, told_line};
 use phx_message::MessageFault;
 use std::alloc::{AllocError, Global};
 use std::io;
@@ -12,16 +13,19 @@ const INPUT: &str =
     "[null,\"1\",\"phoenix\",\"heartbeat\",{}]\n[\"2\",\"2\",\"room:lobby\",\"phx_join\",{}]\n[\"2\",\"3\",\"room:lobby\",\"track\",{\"key\":\"u1\",\"meta\":{\"x\":1}}]\n[\"2\",\"4\",\"room:lobby\",\"list\",{}]\n";
 
 const REPLIES: &str =
-    "[null,\"1\",\"phoenix\",\"phx_reply\",{\"response\":{},\"status\":\"ok\"}]\n[\"2\",\"2\",\"room:lobby\",\"phx_reply\",{\"response\":{},\"status\":\"ok\"}]\n[\"2\",\"3\",\"room:lobby\",\"phx_reply\",{\"response\":{\"phx_ref\":\"a.1.1\"},\"status\":\"ok\"}]\n[\"2\",\"4\",\"room:lobby\",\"phx_reply\",{\"response\":{\"u1\":{\"metas\":[{\"phx_ref\":\"a.1.1\",\"x\":1}]}},\"status\":\"ok\"}]\n";
+    "[null,\"1\",\"phoenix\",\"phx_reply\",{\"response\":{},\"status\":\"ok\"}]\n[\"2\",\"2\",\"room:lobby\",\"phx_reply\",{\"response\":{},\"status\":\"ok\"}]\n[\"2\",null,\"room:lobby\",\"presence_state\",{}]\n[\"2\",\"3\",\"room:lobby\",\"phx_reply\",{\"response\":{\"phx_ref\":\"a.1.1\"},\"status\":\"ok\"}]\n[null,null,\"room:lobby\",\"presence_diff\",{\"joins\":{\"u1\":{\"metas\":[{\"phx_ref\":\"a.1.1\",\"x\":1}]}},\"leaves\":{}}]\n[\"2\",\"4\",\"room:lobby\",\"phx_reply\",{\"response\":{\"u1\":{\"metas\":[{\"phx_ref\":\"a.1.1\",\"x\":1}]}},\"status\":\"ok\"}]\n";
+
+// How many of its lines are out after each line of the input.
+const OUT: [usize; 5] = [0, 1, 3, 5, 6];
 
 // Gives the rest a byte a call, after some interrupted calls each. The call of number `fails` fails.
 #[derive(Drop)]
-struct Source<'a> {
-    rest: &'a [u8],
-    interrupts: u32,
-    waited: u32,
-    calls: usize,
-    fails: usize,
+pub(crate) struct Source<'a> {
+    pub rest: &'a [u8],
+    pub interrupts: u32,
+    pub waited: u32,
+    pub calls: usize,
+    pub fails: usize,
 }
 
 impl io::Read for Source<'_> {
@@ -44,11 +48,11 @@ impl io::Read for Source<'_> {
 
 // Takes at most `step` bytes a call. The call of number `fails` fails.
 #[derive(Drop)]
-struct Sink {
-    taken: Vec<u8>,
-    step: usize,
-    calls: usize,
-    fails: usize,
+pub(crate) struct Sink {
+    pub taken: Vec<u8>,
+    pub step: usize,
+    pub calls: usize,
+    pub fails: usize,
 }
 
 impl io::Write for Sink {
@@ -70,7 +74,7 @@ impl io::Write for Sink {
 }
 
 // The options that these words give.
-fn options_for(alloc: Global, words: &[&str]) -> Option<StdioOptions> {
+pub(crate) fn options_for(alloc: Global, words: &[&str]) -> Option<StdioOptions> {
     match options_of(alloc, words) {
         Ok(Options::Stdio(options)) => Some(options),
         _ => None,
@@ -86,7 +90,7 @@ fn help_for(alloc: Global, words: &[&str]) -> Option<String> {
 }
 
 // What is told where these words are wrong.
-fn told_for(alloc: Global, words: &[&str]) -> Option<String> {
+pub(crate) fn told_for(alloc: Global, words: &[&str]) -> Option<String> {
     match options_of(alloc, words) {
         Err(UsageFault::Usage(text)) => Some(text),
         _ => None,
@@ -105,11 +109,19 @@ fn run_on(alloc: Global, input: &[u8]) -> (Option<Result<u64, StdioFault>>, Vec<
     (Some(end), output)
 }
 
-// Two texts, one behind the other.
-fn joined(alloc: Global, a: &str, b: &str) -> Result<String, AllocError> {
-    let mut text = String::from_str(alloc, a)?;
-    text.push_str(b)?;
-    Ok(text)
+// How a run of node `a` ends that may read so many lines, and what it writes.
+fn run_few(alloc: Global, input: &[u8], max: u64) -> (Option<Result<u64, StdioFault>>, Vec<u8>) {
+    let mut output = Vec::new(alloc);
+    let words = ["presence_node", "stdio"];
+    let Some(options) = options_for(alloc, words.as_slice()) else {
+        return (None, output);
+    };
+    let Ok(mut node) = Node::new(alloc, &options) else {
+        return (None, output);
+    };
+    let mut reader = input;
+    let end = run_lines(alloc, &mut node, &mut reader, &mut output, max);
+    (Some(end), output)
 }
 
 // A message whose topic has this many bytes.
@@ -162,39 +174,7 @@ fn a_name_and_an_incarnation_stand_in_the_reference(rt: HostRuntime) -> Result<(
     let want =
         "[\"2\",\"3\",\"room:lobby\",\"phx_reply\",{\"response\":{\"phx_ref\":\"b2.7.1\"},\"status\":\"ok\"}]";
     let text = str::from_utf8(output.as_slice()).unwrap_or("");
-    assert!(rt; text.lines().nth(2) == Some(want));
-    Ok(())
-}
-
-#[test]
-fn second_track(rt: HostRuntime) -> Result<(), Fail> {
-    let alloc = rt.alloc();
-    let input = joined(
-        alloc,
-        INPUT,
-        "[\"2\",\"5\",\"room:lobby\",\"track\",{\"key\":\"u1\"}]\n[\"2\",\"6\",\"room:lobby\",\"track\",{\"key\":\"u2\",\"meta\":{\"phx_ref\":\"z\"}}]\n[\"2\",\"7\",\"room:lobby\",\"list\",{}]",
-    )?;
-    let want = joined(
-        alloc,
-        REPLIES,
-        "[\"2\",\"5\",\"room:lobby\",\"phx_reply\",{\"response\":{\"reason\":\"already tracked\"},\"status\":\"error\"}]\n[\"2\",\"6\",\"room:lobby\",\"phx_reply\",{\"response\":{\"phx_ref\":\"a.1.2\"},\"status\":\"ok\"}]\n[\"2\",\"7\",\"room:lobby\",\"phx_reply\",{\"response\":{\"u1\":{\"metas\":[{\"phx_ref\":\"a.1.1\",\"x\":1}]},\"u2\":{\"metas\":[{\"phx_ref\":\"a.1.2\"}]}},\"status\":\"ok\"}]\n",
-    )?;
-    let (end, output) = run_on(alloc, input.as_bytes());
-    assert!(rt; end == Some(Ok(7)));
-    assert!(rt; output.as_slice() == want.as_bytes());
-    Ok(())
-}
-
-#[test]
-fn number_references_and_refused_joins(rt: HostRuntime) -> Result<(), Fail> {
-    let alloc = rt.alloc();
-    let input =
-        "[7,7,\"room:a\",\"phx_join\",{}]\n[null,8,\"room:b\",\"phx_join\",{\"key\":\"k\",\"meta\":null}]\n[\"9\",9,\"other\",\"phx_join\",{}]\n[null,10,\"room:a\",\"phx_join\",{}]\n[1,11,\"room:c\",\"phx_leave\",{}]\n[1,12,\"room:d\",\"phx_join\",{\"key\":\"k\"}]\n";
-    let want =
-        "[7,7,\"room:a\",\"phx_reply\",{\"response\":{},\"status\":\"ok\"}]\n[8,8,\"room:b\",\"phx_reply\",{\"response\":{\"reason\":\"bad payload\"},\"status\":\"error\"}]\n[\"9\",9,\"other\",\"phx_reply\",{\"response\":{\"reason\":\"unmatched topic\"},\"status\":\"error\"}]\n[7,10,\"room:a\",\"phx_reply\",{\"response\":{\"reason\":\"unknown event\"},\"status\":\"error\"}]\n[1,11,\"room:c\",\"phx_reply\",{\"response\":{\"reason\":\"unmatched topic\"},\"status\":\"error\"}]\n[1,12,\"room:d\",\"phx_reply\",{\"response\":{\"phx_ref\":\"a.1.1\"},\"status\":\"ok\"}]\n";
-    let (end, output) = run_on(alloc, input.as_bytes());
-    assert!(rt; end == Some(Ok(6)));
-    assert!(rt; output.as_slice() == want.as_bytes());
+    assert!(rt; text.lines().nth(3) == Some(want));
     Ok(())
 }
 
@@ -211,9 +191,9 @@ fn one_topic_too_many(rt: HostRuntime) -> Result<(), Fail> {
     let text = str::from_utf8(output.as_slice()).unwrap_or("");
     let full =
         "[64,64,\"room:64\",\"phx_reply\",{\"response\":{\"reason\":\"too many topics\"},\"status\":\"error\"}]";
-    assert!(rt; text.lines().nth(64) == Some(full));
+    assert!(rt; text.lines().nth(128) == Some(full));
     let last = "[63,63,\"room:63\",\"phx_reply\",{\"response\":{},\"status\":\"ok\"}]";
-    assert!(rt; text.lines().nth(63) == Some(last));
+    assert!(rt; text.lines().nth(126) == Some(last));
     Ok(())
 }
 
@@ -221,7 +201,7 @@ fn one_topic_too_many(rt: HostRuntime) -> Result<(), Fail> {
 fn refused_second_line(rt: HostRuntime) -> Result<(), Fail> {
     let alloc = rt.alloc();
     let (end, output) = run_on(alloc, b"[null,\"1\",\"phoenix\",\"heartbeat\",{}]\n]\n[");
-    let fault = StdioFault::Line(2, MessageFault::NotJson);
+    let fault = StdioFault::Line(2, LineFault::Message(MessageFault::NotJson));
     assert!(rt; end == Some(Err(fault)));
     assert!(rt; status_of(&fault) == 1);
     let told = told_line(alloc, &fault)?;
@@ -237,7 +217,7 @@ fn refused_second_line(rt: HostRuntime) -> Result<(), Fail> {
 fn refused_texts(rt: HostRuntime) -> Result<(), Fail> {
     let alloc = rt.alloc();
     let (end, output) = run_on(alloc, b"\n");
-    assert!(rt; end == Some(Err(StdioFault::Line(1, MessageFault::NotJson))));
+    assert!(rt; end == Some(Err(StdioFault::Line(1, LineFault::Message(MessageFault::NotJson)))));
     assert!(rt; output.is_empty());
     for (text, fault) in [
         ("[null,\"1\",\"phoenix\",\"heartb", MessageFault::NotJson),
@@ -268,7 +248,10 @@ fn refused_texts(rt: HostRuntime) -> Result<(), Fail> {
         ),
     ] {
         let (end, output) = run_on(alloc, text.as_bytes());
-        assert!(rt; end == Some(Err(StdioFault::Line(1, fault))), "{text}");
+        assert!(rt;
+            end == Some(Err(StdioFault::Line(1, LineFault::Message(fault)))),
+            "{text}"
+        );
         assert!(rt; output.is_empty(), "{text}");
     }
     Ok(())
@@ -280,13 +263,13 @@ fn texts_at_their_limits(rt: HostRuntime) -> Result<(), Fail> {
     let (end, _output) = run_on(alloc, with_topic(alloc, 255)?.as_bytes());
     assert!(rt; end == Some(Ok(1)));
     let (end, _output) = run_on(alloc, with_topic(alloc, 256)?.as_bytes());
-    assert!(rt; end == Some(Err(StdioFault::Line(1, MessageFault::BadTopic))));
+    assert!(rt; end == Some(Err(StdioFault::Line(1, LineFault::Message(MessageFault::BadTopic)))));
     let (end, _output) = run_on(alloc, with_bytes(alloc, 65_536)?.as_bytes());
     assert!(rt; end == Some(Ok(1)));
     let (end, _output) = run_on(alloc, with_bytes(alloc, 65_537)?.as_bytes());
-    assert!(rt; end == Some(Err(StdioFault::Line(1, MessageFault::TooLong))));
+    assert!(rt; end == Some(Err(StdioFault::Line(1, LineFault::Message(MessageFault::TooLong)))));
     let (end, _output) = run_on(alloc, b"\xff");
-    assert!(rt; end == Some(Err(StdioFault::Line(1, MessageFault::NotJson))));
+    assert!(rt; end == Some(Err(StdioFault::Line(1, LineFault::Message(MessageFault::NotJson)))));
     Ok(())
 }
 
@@ -316,13 +299,27 @@ fn a_read_fails_at_each_call(rt: HostRuntime) -> Result<(), Fail> {
             .filter(|b| **b == b'\n')
             .count();
         let told = output.iter().filter(|b| **b == b'\n').count();
-        assert!(rt; told == lines, "{fails}");
+        assert!(rt; OUT.get(lines) == Some(&told), "{fails}");
         assert!(rt;
             REPLIES.as_bytes().starts_with(output.as_slice()),
             "{fails}"
         );
         assert!(rt; output.last().is_none_or(|b| *b == b'\n'), "{fails}");
     }
+    Ok(())
+}
+
+#[test]
+fn one_line_too_many(rt: HostRuntime) -> Result<(), Fail> {
+    let alloc = rt.alloc();
+    let (end, output) = run_few(alloc, INPUT.as_bytes(), 4);
+    assert!(rt; end == Some(Ok(4)));
+    assert!(rt; output.as_slice() == REPLIES.as_bytes());
+    let (end, output) = run_few(alloc, INPUT.as_bytes(), 3);
+    assert!(rt; end == Some(Err(StdioFault::Read)));
+    let told = output.iter().filter(|b| **b == b'\n').count();
+    assert!(rt; told == 5);
+    assert!(rt; REPLIES.as_bytes().starts_with(output.as_slice()));
     Ok(())
 }
 
@@ -418,9 +415,10 @@ fn wrong_command_lines(rt: HostRuntime) -> Result<(), Fail> {
         ),
         (
             "--route",
-            "a*",
-            "error: unexpected argument '--route' found",
+            "a*b",
+            "--route a*b: a pattern is a topic, or the front of topics with one * behind it, of 1 to 255 bytes",
         ),
+        ("--port", "1", "error: unexpected argument '--port' found"),
     ] {
         let words = ["p", "stdio", word, value];
         let text = told_for(alloc, words.as_slice());
@@ -433,11 +431,30 @@ fn wrong_command_lines(rt: HostRuntime) -> Result<(), Fail> {
 }
 
 #[test]
+fn fold_takes_no_options(rt: HostRuntime) -> Result<(), Fail> {
+    let alloc = rt.alloc();
+    let words = ["p", "fold"];
+    assert!(rt; matches!(options_of(alloc, words.as_slice()), Ok(Options::Fold)));
+    let words = ["p", "fold", "--help"];
+    let text = help_for(alloc, words.as_slice());
+    assert!(rt; text.is_some_and(|text| text.as_str().contains("presence_node fold")));
+    for word in ["--name", "more"] {
+        let words = ["p", "fold", word];
+        let text = told_for(alloc, words.as_slice());
+        assert!(rt;
+            text.is_some_and(|text| text.as_str().contains("fold takes no options")),
+            "{word}"
+        );
+    }
+    Ok(())
+}
+
+#[test]
 fn help_for_stdio(rt: HostRuntime) -> Result<(), Fail> {
     let alloc = rt.alloc();
     for words in [["p", "stdio", "--help"], ["p", "help", "stdio"]] {
         let text = help_for(alloc, words.as_slice());
-        assert!(rt; text.is_some_and(|text| text.as_str().contains("--incarnation")));
+        assert!(rt; text.is_some_and(|text| text.as_str().contains("--route")));
     }
     Ok(())
 }

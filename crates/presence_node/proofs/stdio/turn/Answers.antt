@@ -1,10 +1,8 @@
-use Rattle.presence_node.proofs.Turns.{turn_answered, turn_refused}
+use Rattle.presence_node.proofs.Turns.{turn_refused}
 use Rattle.presence_node.proofs.stdio.turn.Goals as goal
 
 pub returns-in-Ok : goal.returns-in-Ok
-returns-in-Ok g c =
-    turn_answered c.args.node.now c.answer_line.new.node (g.R.Read.remaining c.args.reader.now) (g.R.Read.remaining c.read_line.new.reader) (g.W.Write.contents c.args.writer.now)
-    (g.W.Write.contents c.answer_line.new.writer) c.in-Ok-Some.line.items (rw c.in-Ok-Some.field-0-is at c.in-Ok-Some.ensures) (rw c.as_slice.ensures.value at c.in-Ok.ensures)
+returns-in-Ok g c = record { line = c.in-Ok-Some.line.items; read = rw c.in-Ok-Some.field-0-is at c.in-Ok-Some.ensures; answers = rw c.as_slice.ensures.value at c.in-Ok.ensures }
 
 pub returns : goal.returns
 returns g c =

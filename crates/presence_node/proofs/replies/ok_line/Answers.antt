@@ -1,4 +1,0 @@
-use Rattle.presence_node.proofs.replies.ok_line.Goals as goal
-
-pub returns : goal.returns
-returns c = rw c.in_ok-reply.ensures at c.message_line.ensures
