@@ -1,5 +1,5 @@
 use super::deliver;
-use crate::{LocalPort, Session, run_text};
+use crate::{LocalPort, Session, SessionFault, run_text};
 use hook_registry::Routes;
 use presence_base::{NodeName, Replica};
 use std::alloc::{AllocError, Global};
@@ -33,17 +33,47 @@ fn new_client(alloc: Global) -> Result<Option<Client>, AllocError> {
     }))
 }
 
+// Asks over the shard.
+fn ask(
+    alloc: Global,
+    session: &mut Session,
+    shard: &mut Shard,
+    routes: &Routes,
+    text: &str,
+) -> Result<Vec<String>, SessionFault> {
+    let mut port = LocalPort::new(shard);
+    run_text(alloc, session, &mut port, routes, text)
+}
+
+// Takes what waits in the shard.
+fn take(
+    alloc: Global,
+    session: &mut Session,
+    shard: &mut Shard,
+) -> Result<Vec<String>, SessionFault> {
+    let mut port = LocalPort::new(shard);
+    match deliver(alloc, session, &mut port, 256) {
+        Ok(delivery) => Ok(delivery.texts),
+        Err(fault) => Err(fault),
+    }
+}
+
 // Whether a text is answered.
 fn answers(alloc: Global, client: &mut Client, text: &str) -> bool {
-    let mut port = LocalPort::new(&mut client.shard);
-    run_text(alloc, &mut client.session, &mut port, &client.routes, text).is_ok()
+    ask(
+        alloc,
+        &mut client.session,
+        &mut client.shard,
+        &client.routes,
+        text,
+    )
+    .is_ok()
 }
 
 // The last text of a delivery.
 fn told(alloc: Global, client: &mut Client) -> Option<String> {
-    let mut port = LocalPort::new(&mut client.shard);
-    match deliver(alloc, &mut client.session, &mut port, 256) {
-        Ok(mut delivery) => delivery.texts.pop(),
+    match take(alloc, &mut client.session, &mut client.shard) {
+        Ok(mut texts) => texts.pop(),
         Err(_) => None,
     }
 }
