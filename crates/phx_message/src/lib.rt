@@ -4,6 +4,7 @@
 
 mod decoding;
 mod encoding;
+pub mod laws;
 mod making;
 mod message;
 #[cfg(test)]

@@ -118,6 +118,20 @@ fn limits_of_a_client(rt: HostRuntime) -> Result<(), Fail> {
 }
 
 #[test]
+fn depths_of_a_frame(rt: HostRuntime) -> Result<(), Fail> {
+    let alloc = rt.alloc();
+    for (depth, is_read) in [(96, true), (97, false)] {
+        let payload = nested(alloc, depth)?;
+        let text = text_of(alloc, "a", "b", payload.as_str())?;
+        match decode(alloc, text.as_str(), Limits::FRAME) {
+            Ok(_) => assert!(rt; is_read),
+            Err(fault) => assert!(rt; !is_read && fault == MessageFault::TooDeep),
+        }
+    }
+    Ok(())
+}
+
+#[test]
 fn sizes_of_a_client(rt: HostRuntime) -> Result<(), Fail> {
     let alloc = rt.alloc();
     let shallow = nested(alloc, 64)?;

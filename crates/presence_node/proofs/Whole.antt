@@ -19,7 +19,7 @@ use Rattle.phx_message.specs.declared.message.MessageFault.{MessageFault}
 use Rattle.phx_message.specs.declared.message.MessageFault.TheVariants.{TooLong, NotJson}
 use Rattle.phx_message.specs.declared.message.TheConstants.Limits as the_limits
 use Rattle.phx_message.specs.Reading.{decoded}
-use Rattle.phx_message.proofs.Laws.{decoded_found}
+use Rattle.phx_message.proofs.Decoded.{decoded_found}
 use Rattle.presence_metas.specs.declared.tracked.TrackedMeta.{TrackedMeta}
 use Rattle.presence_metas.specs.declared.presences.Diff.{Diff}
 use Rattle.presence_metas.specs.declared.frame.Frame.{Frame}

@@ -1,4 +1,4 @@
-use Rattle.phx_message.proofs.Laws.{decoded_only, found_from_answer}
+use Rattle.phx_message.proofs.Decoded.{decoded_only, found_from_answer}
 use Rattle.phx_message.proofs.decoding.decode.Goals as goal
 
 pub returns-clause-found : goal.returns-clause-found

@@ -1,7 +1,7 @@
 use Rattle.std.proofs.Common.{string_bytes}
 use Rattle.std.proofs.lemmas.Result.{IfOk-weaker}
 use Rattle.serde_json.specs.View.{view}
-use Rattle.phx_message.proofs.Laws.{reads_again}
+use Rattle.phx_message.proofs.Decoded.{reads_again}
 use Rattle.phx_message.proofs.encoding.encode.Goals as goal
 
 pub returns-clause-again : goal.returns-clause-again

@@ -2,11 +2,12 @@
 use Rattle.std.proofs.Common.{◌≡◌, ◌≢◌, ◌≤◌, ℕ, List, [], ◌∷◌, length, Bool, true, false, cond, nat_lt, nat_le, Option, Some, None, Result, Ok, Err, IfOk, refl, sym, ap, ◌∙◌, arith}
 use Rattle.std.proofs.lemmas.Bool.Decides.{nat_tests}
 use Rattle.serde_json.specs.Data.{unsigned, negative, float, Data, null, boolean, number, string, array, object, Items, no_items, item, depth}
-use Rattle.serde_json.specs.Written.{has_float}
+use Rattle.serde_json.specs.Written.{has_float, compact_text}
 use Rattle.serde_json.specs.Read.{read}
 use Rattle.serde_json.specs.View.{items_view}
 use Rattle.serde_json.specs.declared.value.Value.{Value}
 use Rattle.presence_base.specs.Names.{is_short_text}
+use Rattle.phx_message.specs.Laws.{DecodedIsOrderly, ReadsBack}
 use Rattle.phx_message.specs.Message.{is_event, ref_value, value_of, IsWithin}
 use Rattle.phx_message.specs.declared.message.MsgRef.{MsgRef}
 use Rattle.phx_message.specs.declared.message.MsgRef.TheVariants.{Text, Number}
@@ -16,6 +17,8 @@ use Rattle.phx_message.specs.declared.message.Limits.{Limits}
 use Rattle.phx_message.specs.declared.message.TheConstants.Limits as the_limits
 use Rattle.phx_message.specs.declared.message.MessageFault.{MessageFault}
 use Rattle.phx_message.specs.declared.message.MessageFault.TheVariants.{TooLong, NotFive, BadTopic, BadEvent, TooDeep, Fraction}
+use Rattle.phx_message.proofs.Orderly.{read_orderly}
+use Rattle.phx_message.proofs.Texts.{text_again}
 
 pub not_five : (vs : List Value) → length vs ≢ 5 → five_items (items_view vs) ≡ Err NotFive
 not_five [] h = refl
@@ -159,3 +162,20 @@ depth-value_of m h = rw (depth-ref_value m.join_ref, depth-ref_value m.msg_ref) 
 -- a text that reads as the message's array is read as the message
 pub reads_again : (s : List ℕ) (m : Message) (d : Data) → d ≡ value_of m → (depth d ≤ 127 → read s ≡ Some d) → IsWithin the_limits.FRAME.depth m → length s ≤ the_limits.FRAME.bytes → decoded the_limits.FRAME s ≡ Ok m
 reads_again s m d e h within short = decoded_only the_limits.FRAME s m within short (rw e at h (depth-value_of m within.shallow))
+
+-- ---- the laws
+
+pub decoded_orderly : DecodedIsOrderly
+decoded_orderly limits s m e = let b = decoded_found limits s m e in (b.within, read_orderly s (value_of m) b.reads)
+
+ref_whole : (r : Option MsgRef) → has_float (ref_value r) ≡ false
+ref_whole None = refl
+ref_whole (Some (Text s)) = refl
+ref_whole (Some (Number n)) = refl
+
+value_whole : (m : Message) → has_float m.payload ≡ false → has_float (value_of m) ≡ false
+value_whole m h = rw (ref_whole m.join_ref, ref_whole m.msg_ref, h) refl
+
+pub reads_back : ReadsBack
+reads_back m within orderly short =
+    decoded_only the_limits.FRAME (compact_text (value_of m)) m within short (text_again (value_of m) orderly (value_whole m within.whole) (depth-value_of m within.shallow))
