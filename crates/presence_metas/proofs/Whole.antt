@@ -33,7 +33,7 @@ right_false false b h = h
 
 -- ---- objects
 
-put_whole : (k : List ℕ) (d : Data) (ms : Members) → has_float d ≡ false → members_have_float ms ≡ false → members_have_float (put_member k d ms) ≡ false
+pub put_whole : (k : List ℕ) (d : Data) (ms : Members) → has_float d ≡ false → members_have_float ms ≡ false → members_have_float (put_member k d ms) ≡ false
 put_whole k d no_members h i = or_false (has_float d) false h refl
 put_whole k d (member l e ms) h i =
     at_order (text_cmp k l) (put_whole k d ms h (right_false (has_float e) (members_have_float ms) i))

@@ -1,6 +1,8 @@
-use crate::{FrameFault, Mirror, Presences, diff_value, read_frame, state_value};
+use crate::{
+    Diff, FrameFault, Mirror, Presences, diff_value, read_frame, state_value, value_of_metas,
+};
 use phx_message::{Limits, decode};
-use presence_base::{Dot, Key, Meta, NodeName, Replica, Row, Topic};
+use presence_base::{Dot, Key, Meta, NodeName, Replica, Row, Text, Topic};
 use serde_json::{Value, json};
 use std::alloc::Global;
 use std::test::Fail;
@@ -137,6 +139,39 @@ fn joined_metas_follow_those_that_stay(rt: HostRuntime) -> Result<(), Fail> {
     assert_eq!(rt;
         text_of(alloc, &value)?.as_str(),
         "{\"k\":{\"metas\":[{\"phx_ref\":\"q\"},{\"phx_ref\":\"p\",\"x\":2},{\"phx_ref\":\"r\"}]}}"
+    );
+    Ok(())
+}
+
+// The key `u1` with one meta, of this count.
+fn one_presence(alloc: Global, count: u64, x: u64) -> Result<Presences, Fail> {
+    let mut rows = Vec::new(alloc);
+    rows.push((dot(alloc, count)?, row(alloc, "u1", x, None)?))?;
+    Ok(Presences::of_rows(alloc, rows.as_slice())?)
+}
+
+#[test]
+fn a_state_and_a_diff_that_no_frame_brings(rt: HostRuntime) -> Result<(), Fail> {
+    let alloc = rt.alloc();
+    let before = one_presence(alloc, 1, 1)?;
+    let mut mirror = Mirror::new(alloc);
+    mirror.set_state(before.clone()?);
+    let diff = Diff {
+        joins: one_presence(alloc, 2, 2)?,
+        leaves: before.clone()?,
+    };
+    mirror.apply(alloc, &diff)?;
+    let value = mirror.to_value(alloc)?;
+    assert_eq!(rt;
+        text_of(alloc, &value)?.as_str(),
+        "{\"u1\":{\"metas\":[{\"phx_ref\":\"a.1.2\",\"x\":2}]}}"
+    );
+    let key = Text::new(alloc, "u1")?;
+    let metas = before.as_map().get(&key).ok_or("a key")?;
+    let value = value_of_metas(alloc, metas.as_slice())?;
+    assert_eq!(rt;
+        text_of(alloc, &value)?.as_str(),
+        "{\"metas\":[{\"phx_ref\":\"a.1.1\",\"x\":1}]}"
     );
     Ok(())
 }
