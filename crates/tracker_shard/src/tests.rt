@@ -2,7 +2,7 @@ use crate::{Shard, ShardFault, Sub};
 use presence_base::{
     Dot, Json, Key, Meta, NodeName, Replica, Row, Topic, has_float, is_within_depth, ref_text,
 };
-use presence_journal::{Item, Outcome};
+use presence_journal::{Entry, Item, Outcome, Step};
 use serde_json::Value;
 use std::alloc::{AllocError, Global};
 use std::test::Fail;
@@ -223,9 +223,46 @@ fn answers(alloc: Global, asks: &[Ask]) -> Result<String, Fail> {
     said(alloc, &mut shard, asks)
 }
 
-fn outcome_at(shard: &Shard, place: usize) -> Option<&Outcome> {
-    let entry = shard.journal().entries().get(place)?;
-    Some(&entry.outcome)
+fn step_name(step: &Step) -> &'static str {
+    match step {
+        Step::Track { .. } => "track",
+        Step::List { .. } => "list",
+        Step::Subscribe { .. } => "subscribe",
+        Step::Take { .. } => "take",
+        _ => "other",
+    }
+}
+
+// The outcome, with references in the place of its dots.
+fn outcome_text(alloc: Global, outcome: &Outcome) -> Result<String, AllocError> {
+    match outcome {
+        Outcome::Added(dot) => {
+            let reference = ref_text(alloc, dot)?;
+            format!(in alloc; "added {reference}")
+        }
+        Outcome::Shown(dots) => {
+            let shown = references(alloc, dots.as_slice())?;
+            format!(in alloc; "shown {shown}")
+        }
+        other => format!(in alloc; "{other:?}"),
+    }
+}
+
+fn entry_text(alloc: Global, entry: &Entry) -> Result<String, AllocError> {
+    let number = entry.number;
+    let step = step_name(&entry.step);
+    let outcome = outcome_text(alloc, &entry.outcome)?;
+    format!(in alloc; "{number} {step} {outcome};")
+}
+
+// The number of each entry after the Start, its step and its outcome, each with a semicolon after it.
+fn journal_text(alloc: Global, shard: &Shard) -> Result<String, AllocError> {
+    let mut text = String::new(alloc);
+    for entry in shard.journal().entries() {
+        let entry = entry_text(alloc, entry)?;
+        text.push_str(entry.as_str())?;
+    }
+    Ok(text)
 }
 
 // The shard after these calls.
@@ -246,11 +283,10 @@ fn the_journal_of_the_first_run(rt: HostRuntime) -> Result<(), Fail> {
     ];
     let shard = shard_after(rt.alloc(), &asks)?;
     assert_eq!(rt; shard.journal().start().number, 0);
-    assert!(rt; matches!(outcome_at(&shard, 0), Some(Outcome::Subscribed(1))));
-    assert!(rt; matches!(outcome_at(&shard, 1), Some(Outcome::Taken(true, 1))));
-    assert!(rt; matches!(outcome_at(&shard, 2), Some(Outcome::Added(_))));
-    assert!(rt; matches!(outcome_at(&shard, 3), Some(Outcome::Taken(false, 1))));
-    assert!(rt; matches!(outcome_at(&shard, 4), Some(Outcome::Shown(_))));
+    let text = journal_text(rt.alloc(), &shard)?;
+    let want =
+        "1 subscribe Subscribed(1);2 take Taken(true, 1);3 track added a.1.1;4 take Taken(false, 1);5 list shown a.1.1 ;";
+    assert_eq!(rt; text.as_str(), want);
     assert_eq!(rt; shard.journal().last_number(), 5);
     Ok(())
 }
