@@ -320,6 +320,93 @@ fn a_meta_has_depth_32_at_most(rt: HostRuntime) -> Result<(), Fail> {
     Ok(())
 }
 
+// Of the range of `b.1` up to 2, and one of this replica.
+fn second_range_fault(
+    alloc: Global,
+    name: &str,
+    incarnation: u64,
+) -> Result<Option<ToldFault>, Fail> {
+    let second = named(alloc, name, incarnation)?;
+    let mut ranges = Vec::new(alloc);
+    ranges.push((replica(alloc)?, 0, 2))?;
+    ranges.push((second, 2, 4))?;
+    let mut raw = empty(alloc);
+    raw.ranges = ranges;
+    Ok(fault_of(alloc, raw))
+}
+
+#[test]
+fn a_replica_has_one_range(rt: HostRuntime) -> Result<(), Fail> {
+    let alloc = rt.alloc();
+    assert_eq!(rt; second_range_fault(alloc, "c", 1)?, None);
+    assert_eq!(rt; second_range_fault(alloc, "b", 2)?, None);
+    assert_eq!(rt;
+        second_range_fault(alloc, "b", 1)?,
+        Some(ToldFault::TwoRanges)
+    );
+    Ok(())
+}
+
+// Of the range of `b.1` above one count, up to another, with live rows at these counts.
+fn rows_fault(
+    alloc: Global,
+    from: u64,
+    to: u64,
+    counts: &[u64],
+) -> Result<Option<ToldFault>, Fail> {
+    let mut live = Vec::new(alloc);
+    for count in counts {
+        live.push((any_dot(alloc, 1, *count)?, plain_row(alloc)?))?;
+    }
+    let mut ranges = Vec::new(alloc);
+    ranges.push((replica(alloc)?, from, to))?;
+    Ok(fault_of(
+        alloc,
+        RawTold {
+            ranges,
+            extras: Vec::new(alloc),
+            live,
+        },
+    ))
+}
+
+#[test]
+fn a_range_covers_the_rows_above_its_start(rt: HostRuntime) -> Result<(), Fail> {
+    let alloc = rt.alloc();
+    let beside = Some(ToldFault::LiveNotCovered);
+    for (count, fault) in [(2, beside), (3, None), (4, None), (5, beside)] {
+        assert_eq!(rt; rows_fault(alloc, 2, 4, &[count])?, fault);
+    }
+    Ok(())
+}
+
+#[test]
+fn a_dot_has_one_live_row(rt: HostRuntime) -> Result<(), Fail> {
+    let alloc = rt.alloc();
+    let twice = Some(ToldFault::LiveTwice);
+    assert_eq!(rt; rows_fault(alloc, 0, 3, &[2, 1, 3])?, None);
+    assert_eq!(rt; rows_fault(alloc, 0, 3, &[1, 1])?, twice);
+    assert_eq!(rt; rows_fault(alloc, 0, 3, &[1, 2, 1])?, twice);
+    Ok(())
+}
+
+// Of a live row for each count up to this one, all in a range.
+fn many_rows_fault(alloc: Global, rows: u64) -> Result<Option<ToldFault>, Fail> {
+    let mut counts = Vec::new(alloc);
+    for below in 0..rows {
+        counts.push(below.saturating_add(1))?;
+    }
+    rows_fault(alloc, 0, rows, counts.as_slice())
+}
+
+#[test]
+fn the_most_rows_are_taken_without_extras(rt: HostRuntime) -> Result<(), Fail> {
+    let alloc = rt.alloc();
+    assert_eq!(rt; many_rows_fault(alloc, 65_536)?, None);
+    assert_eq!(rt; many_rows_fault(alloc, 65_537)?, Some(ToldFault::TooMany));
+    Ok(())
+}
+
 // What a told value of `b.1` holds: each part may be spoiled, for one refusal after another.
 fn ranges_spoiled(alloc: Global, spoiled: u32) -> Result<Vec<(Replica, u64, u64)>, Fail> {
     let mut ranges = Vec::new(alloc);
