@@ -1,7 +1,8 @@
 -- A delivery that is answered: nothing waits after it, and the client's lists are those of what was taken.
-use Rattle.std.proofs.Common.{◌≡◌, Option, ℕ, Bool, true, false, cond, ◌&&◌, is_some, List, [], ◌∷◌, ◌++◌, map, Some, None, Result, Ok, Err, refl, sym, ◌∙◌, ap, subst, append-nil, append_assoc}
+use Rattle.std.proofs.Common.{◌≡◌, Option, ℕ, Bool, true, false, cond, ◌&&◌, is_some, List, [], ◌∷◌, ◌++◌, map, Some, None, Result, Ok, Err, IsTrue, refl, sym, ◌∙◌, ap, subst, append-nil, append_assoc}
 use Rattle.std.specs.Prelude.{nat_eq}
 use Rattle.std.specs.List.{AllByRecursion}
+use Rattle.presence_base.specs.Names.{is_short_text}
 use Rattle.presence_base.specs.Order.{same_text}
 use Rattle.phx_message.specs.declared.message.Message.{Message}
 use Rattle.phx_message.specs.declared.message.MsgRef.{MsgRef}
@@ -28,6 +29,9 @@ use Rattle.channel_session.proofs.KeptAsks.{lists_of, Fits, fits_stays, all_of, 
 use Rattle.channel_session.proofs.KeptRules.{map-more, all_and}
 use Rattle.channel_session.proofs.KeptTakes.{took_items, took_history, took_topic, took_taken, took_all}
 use Rattle.channel_session.proofs.KeptFrames.{client-more, client_own, client_others, given_leads, frames_of}
+use Rattle.channel_session.proofs.SoundRows.{HistorySound, ItemsAreSound, items_given_sound}
+use Rattle.channel_session.proofs.SoundSteps.{EntrySound, StateSound, after_sound}
+use Rattle.channel_session.proofs.SoundValues.{IsFramed, RefSound, item_framed}
 
 -- nothing waits for the topic's subscriber, and the client has what was taken
 pub record Even (lists : List ℕ → Listing) (h : History) (j : Entry) : Type 0 where
@@ -46,39 +50,43 @@ even_fits lists h j e = record { topic = e.topic; slot = e.slot; lists_are = λ 
 pub even_same : (lists others : List ℕ → Listing) (h : History) → ((t : List ℕ) → others t ≡ lists t) → (j : Entry) → Even lists h j → Even others h j
 even_same lists others h same j e = record { topic = e.topic; slot = e.slot; served = e.served; lists_are = same j.topic ∙ e.lists_are }
 
--- what a delivery of these topics, behind these texts, makes
-pub record Dealt (lists : List ℕ → Listing) (s : InForce) (before : List (List ℕ)) (ds js : List Entry) (texts : List (List ℕ)) (after_it : InForce) (g : History) : Type 0 where
+-- what a delivery of these topics, behind these texts, makes; where F holds, it is sound
+pub record Dealt (F : Type 0) (lists : List ℕ → Listing) (s : InForce) (before : List (List ℕ)) (ds js : List Entry) (texts : List (List ℕ)) (after_it : InForce) (g : History) : Type 0 where
   pub messages : List Message
   pub texts_are : texts ≡ before ++ map text_of messages
   pub told_all : AllByRecursion IsTold messages
+  pub framed : F → AllByRecursion IsFramed messages
   pub session : after_it ≡ s
   pub legal : IsLegal g
+  pub history : F → HistorySound g
   pub done_before : AllByRecursion (Even (told lists messages) g) ds
   pub done_now : AllByRecursion (Even (told lists messages) g) js
 
-abbrev pub Deals : (List ℕ → Listing) → InForce → List (List ℕ) → List Entry → List Entry → End → History → Type 0
-Deals lists s before ds js (answers texts after_it) g = Dealt lists s before ds js texts after_it g
-Deals lists s before ds js full g = Unit {0}
-Deals lists s before ds js memory g = Unit {0}
+abbrev pub Deals : Type 0 → (List ℕ → Listing) → InForce → List (List ℕ) → List Entry → List Entry → End → History → Type 0
+Deals F lists s before ds js (answers texts after_it) g = Dealt F lists s before ds js texts after_it g
+Deals F lists s before ds js full g = Unit {0}
+Deals F lists s before ds js memory g = Unit {0}
 
-abbrev DealsPlayed : (List ℕ → Listing) → InForce → List (List ℕ) → List Entry → List Entry → Script End → History → Type 0
-DealsPlayed lists s before ds js script h = Deals lists s before ds js (played script h).0 (played script h).1
+abbrev DealsPlayed : Type 0 → (List ℕ → Listing) → InForce → List (List ℕ) → List Entry → List Entry → Script End → History → Type 0
+DealsPlayed F lists s before ds js script h = Deals F lists s before ds js (played script h).0 (played script h).1
 
 -- no later topic is the entry's
 abbrev NotIn : List Entry → Entry → Type 0
 NotIn js d = find d.topic js ≡ None
 
 -- what the delivery starts from
-record Starts (lists : List ℕ → Listing) (h : History) (ds js : List Entry) : Type 0 where
+record Starts (F : Type 0) (lists : List ℕ → Listing) (h : History) (ds js : List Entry) : Type 0 where
   legal : IsLegal h
+  history : F → HistorySound h
+  entries : F → AllByRecursion EntrySound js
   done_before : AllByRecursion (Even lists h) ds
   waiting : AllByRecursion (Fits lists h) js
   apart : AreApart js
   not_in : AllByRecursion (NotIn js) ds
 
-unsaid_deals : (lists : List ℕ → Listing) (s : InForce) (before : List (List ℕ)) (ds js : List Entry) (h : History) (e : ShardFault) → Deals lists s before ds js (unsaid e) h
-unsaid_deals lists s before ds js h shard_faults_are.OutOfMemory = tt
-unsaid_deals lists s before ds js h _ = tt
+unsaid_deals : (F : Type 0) (lists : List ℕ → Listing) (s : InForce) (before : List (List ℕ)) (ds js : List Entry) (h : History) (e : ShardFault) → Deals F lists s before ds js (unsaid e) h
+unsaid_deals F lists s before ds js h shard_faults_are.OutOfMemory = tt
+unsaid_deals F lists s before ds js h _ = tt
 
 not_in_more : (j : Entry) (js : List Entry) (d : Entry) → NotIn (j ∷ js) d → (same_text d.topic j.topic ≡ false) × NotIn js d
 not_in_more j js d e = go (same_text d.topic j.topic) refl e
@@ -88,15 +96,17 @@ not_in_more j js d e = go (same_text d.topic j.topic) refl e
     go false p f = (p, f)
 
 -- the end of a delivery
-ends_even : (lists : List ℕ → Listing) (s : InForce) (before : List (List ℕ)) (ds : List Entry) (h : History) → Starts lists h ds [] → Dealt lists s before ds [] before s h
-ends_even lists s before ds h st = record { messages = []; texts_are = sym (append-nil before); told_all = tt; session = refl; legal = st.legal; done_before = st.done_before; done_now = tt }
+ends_even : (F : Type 0) (lists : List ℕ → Listing) (s : InForce) (before : List (List ℕ)) (ds : List Entry) (h : History) → Starts F lists h ds [] → Dealt F lists s before ds [] before s h
+ends_even F lists s before ds h st = record { messages = []; texts_are = sym (append-nil before); told_all = tt; framed = λ f. tt; session = refl; legal = st.legal; history = st.history; done_before = st.done_before; done_now = tt }
 
 -- ---- a topic for which nothing waits
 
-module _ (lists : List ℕ → Listing) (s : InForce) (h : History) (j : Entry) (js ds : List Entry) (st : Starts lists h ds (j ∷ js)) where
-  quiet_starts : queue h j.sub.number ≡ Queued [] → Starts lists h (j ∷ ds) js
+module _ (F : Type 0) (lists : List ℕ → Listing) (s : InForce) (h : History) (j : Entry) (js ds : List Entry) (st : Starts F lists h ds (j ∷ js)) where
+  quiet_starts : queue h j.sub.number ≡ Queued [] → Starts F lists h (j ∷ ds) js
   quiet_starts served = record {
     legal = st.legal;
+    history = st.history;
+    entries = λ f. (st.entries f).1;
     done_before = (record { topic = st.waiting.0.topic; slot = st.waiting.0.slot; served = served; lists_are = st.waiting.0.lists_are [] served }, st.done_before);
     waiting = st.waiting.1;
     apart = st.apart.1;
@@ -104,10 +114,10 @@ module _ (lists : List ℕ → Listing) (s : InForce) (h : History) (j : Entry) 
   }
 
 -- the entry just served goes among those that are served now
-quiet_dealt : (lists : List ℕ → Listing) (s : InForce) (before : List (List ℕ)) (j : Entry) (js ds : List Entry) (e : End) (g : History) → Deals lists s before (j ∷ ds) js e g → Deals lists s before ds (j ∷ js) e g
-quiet_dealt lists s before j js ds (answers texts after_it) g d = record { messages = d.messages; texts_are = d.texts_are; told_all = d.told_all; session = d.session; legal = d.legal; done_before = d.done_before.1; done_now = (d.done_before.0, d.done_now) }
-quiet_dealt lists s before j js ds full g d = tt
-quiet_dealt lists s before j js ds memory g d = tt
+quiet_dealt : (F : Type 0) (lists : List ℕ → Listing) (s : InForce) (before : List (List ℕ)) (j : Entry) (js ds : List Entry) (e : End) (g : History) → Deals F lists s before (j ∷ ds) js e g → Deals F lists s before ds (j ∷ js) e g
+quiet_dealt F lists s before j js ds (answers texts after_it) g d = record { messages = d.messages; texts_are = d.texts_are; told_all = d.told_all; framed = d.framed; session = d.session; legal = d.legal; history = d.history; done_before = d.done_before.1; done_now = (d.done_before.0, d.done_now) }
+quiet_dealt F lists s before j js ds full g d = tt
+quiet_dealt F lists s before j js ds memory g d = tt
 
 -- ---- a topic whose items are taken
 
@@ -120,22 +130,28 @@ items_told : (r : Option MsgRef) (t : List ℕ) (is : List Item) → AllByRecurs
 items_told r t [] = tt
 items_told r t (i ∷ is) = ((r, t, i, refl), items_told r t is)
 
-taken_dealt : (lists : List ℕ → Listing) (s : InForce) (before : List (List ℕ)) (j : Entry) (js ds : List Entry) (items : List Item) (e : End) (g : History)
-    → Deals (told lists (map (message_of j.join_ref j.topic) items)) s (before ++ map (frame j) items) (j ∷ ds) js e g → Deals lists s before ds (j ∷ js) e g
-taken_dealt lists s before j js ds items (answers texts after_it) g d = record {
+items_framed : (r : Option MsgRef) (t : List ℕ) (is : List Item) → IsTrue (is_short_text t) → RefSound r → ItemsAreSound is → AllByRecursion IsFramed (map (message_of r t) is)
+items_framed r t [] short ref h = tt
+items_framed r t (i ∷ is) short ref h = (item_framed r t i short ref h.0, items_framed r t is short ref h.1)
+
+taken_dealt : (F : Type 0) (lists : List ℕ → Listing) (s : InForce) (before : List (List ℕ)) (j : Entry) (js ds : List Entry) (items : List Item) (e : End) (g : History)
+    → (F → AllByRecursion IsFramed (map (message_of j.join_ref j.topic) items)) → Deals F (told lists (map (message_of j.join_ref j.topic) items)) s (before ++ map (frame j) items) (j ∷ ds) js e g → Deals F lists s before ds (j ∷ js) e g
+taken_dealt F lists s before j js ds items (answers texts after_it) g k d = record {
   messages = map (message_of j.join_ref j.topic) items ++ d.messages;
   texts_are = d.texts_are ∙ frames_before before j items d.messages;
   told_all = all_and IsTold (map (message_of j.join_ref j.topic) items) d.messages (items_told j.join_ref j.topic items) d.told_all;
+  framed = λ f. all_and IsFramed (map (message_of j.join_ref j.topic) items) d.messages (k f) (d.framed f);
   session = d.session;
   legal = d.legal;
+  history = d.history;
   done_before = all_of _ _ (even_same (told (told lists (map (message_of j.join_ref j.topic) items)) d.messages) (told lists (map (message_of j.join_ref j.topic) items ++ d.messages)) g same) ds d.done_before.1;
   done_now = (even_same (told (told lists (map (message_of j.join_ref j.topic) items)) d.messages) (told lists (map (message_of j.join_ref j.topic) items ++ d.messages)) g same j d.done_before.0, all_of _ _ (even_same (told (told lists (map (message_of j.join_ref j.topic) items)) d.messages) (told lists (map (message_of j.join_ref j.topic) items ++ d.messages)) g same) js d.done_now);
 }
   where
     same : (t : List ℕ) → told lists (map (message_of j.join_ref j.topic) items ++ d.messages) t ≡ told (told lists (map (message_of j.join_ref j.topic) items)) d.messages t
     same t = client-more t (lists t) (map (message_of j.join_ref j.topic) items) d.messages
-taken_dealt lists s before j js ds items full g d = tt
-taken_dealt lists s before j js ds items memory g d = tt
+taken_dealt F lists s before j js ds items full g k d = tt
+taken_dealt F lists s before j js ds items memory g k d = tt
 
 module _ (lists : List ℕ → Listing) (h : History) (legal : IsLegal h) (j : Entry) (own : Fits lists h j) (items : List Item) (is : answer_in h (take j.topic j.sub 256) ≡ Ok items) where
   later : History
@@ -186,10 +202,12 @@ module _ (lists : List ℕ → Listing) (h : History) (legal : IsLegal h) (j : E
       let kept : Fits lists later d = fits_stays lists h later d (other_stays d f.topic other) f in
       record { topic = kept.topic; slot = kept.slot; lists_are = λ q e. other_lists d f.topic other ∙ kept.lists_are q e }
 
-  taken_starts : (js ds : List Entry) → Starts lists h ds (j ∷ js) → Starts now later (j ∷ ds) js
+  taken_starts : (F : Type 0) (js ds : List Entry) → Starts F lists h ds (j ∷ js) → Starts F now later (j ∷ ds) js
   unfolding later now
-  taken_starts js ds st = record {
+  taken_starts F js ds st = record {
     legal = legal_after h (steps_are.Take j.sub.number 256) legal refl;
+    history = λ f. after_sound h (steps_are.Take j.sub.number 256) (st.history f) tt;
+    entries = λ f. (st.entries f).1;
     done_before = (own_even, all_both (Even lists h) (NotIn (j ∷ js)) (Even now later) (λ d e n. other_even d (same_text-sym d.topic j.topic (not_in_more j js d n).0) e) ds st.done_before st.not_in);
     waiting = all_both (Fits lists h) (IsOf j.topic) (Fits now later) (λ d f n. other_fits d n f) js st.waiting.1 (all_others j.topic js st.apart.0);
     apart = st.apart.1;
@@ -211,34 +229,39 @@ unfolding answer_in
 waits_answer h j there slot = λ i. cond (is_some (there i) && nat_eq (slot i) 0) (Ok (is_waiting (queue h j.sub.number))) (Err NoSub)
 
 -- the delivery of the topics that follow
-abbrev Rest : InForce → List Entry → Type 0
-Rest s js = (lists : List ℕ → Listing) (h : History) (ds : List Entry) (before : List (List ℕ)) → Starts lists h ds js → DealsPlayed lists s before ds js (delivers 256 s js before) h
+abbrev Rest : Type 0 → InForce → List Entry → Type 0
+Rest F s js = (lists : List ℕ → Listing) (h : History) (ds : List Entry) (before : List (List ℕ)) → Starts F lists h ds js → DealsPlayed F lists s before ds js (delivers 256 s js before) h
 
-module _ (lists : List ℕ → Listing) (s : InForce) (h : History) (j : Entry) (js ds : List Entry) (before : List (List ℕ)) (st : Starts lists h ds (j ∷ js)) (rest : Rest s js) where
-  frames_deal : (a : Result (List Item) ShardFault) → answer_in h (take j.topic j.sub 256) ≡ a → DealsPlayed lists s before ds (j ∷ js) (then_frames j before (delivers 256 s js) a) (after_in h (take j.topic j.sub 256))
+module _ (F : Type 0) (lists : List ℕ → Listing) (s : InForce) (h : History) (j : Entry) (js ds : List Entry) (before : List (List ℕ)) (st : Starts F lists h ds (j ∷ js)) (rest : Rest F s js) where
+  taken_framed : (items : List Item) → answer_in h (take j.topic j.sub 256) ≡ Ok items → F → AllByRecursion IsFramed (map (message_of j.join_ref j.topic) items)
+  taken_framed items is f =
+      items_framed j.join_ref j.topic items (st.entries f).0.0 (st.entries f).0.1
+      (subst ItemsAreSound (sym (took_items h j.sub j.topic j.topic st.waiting.0.topic st.waiting.0.slot 256 items is)) (items_given_sound h j.sub.number 256 (st.history f)))
+
+  frames_deal : (a : Result (List Item) ShardFault) → answer_in h (take j.topic j.sub 256) ≡ a → DealsPlayed F lists s before ds (j ∷ js) (then_frames j before (delivers 256 s js) a) (after_in h (take j.topic j.sub 256))
   unfolding later now
   frames_deal (Ok items) is =
-      subst (λ g. DealsPlayed lists s before ds (j ∷ js) (delivers 256 s js (before ++ map (frame j) items)) g) (sym (took_history h j.sub j.topic j.topic st.waiting.0.topic st.waiting.0.slot 256 items is))
-      (taken_dealt lists s before j js ds items _ _
-      (rest (told lists (map (message_of j.join_ref j.topic) items)) (after h (steps_are.Take j.sub.number 256) None) (j ∷ ds) (before ++ map (frame j) items) (taken_starts lists h st.legal j st.waiting.0 items is js ds st)))
-  frames_deal (Err e) is = unsaid_deals lists s before ds (j ∷ js) (after_in h (take j.topic j.sub 256)) e
+      subst (λ g. DealsPlayed F lists s before ds (j ∷ js) (delivers 256 s js (before ++ map (frame j) items)) g) (sym (took_history h j.sub j.topic j.topic st.waiting.0.topic st.waiting.0.slot 256 items is))
+      (taken_dealt F lists s before j js ds items _ _ (taken_framed items is)
+      (rest (told lists (map (message_of j.join_ref j.topic) items)) (after h (steps_are.Take j.sub.number 256) None) (j ∷ ds) (before ++ map (frame j) items) (taken_starts lists h st.legal j st.waiting.0 items is F js ds st)))
+  frames_deal (Err e) is = unsaid_deals F lists s before ds (j ∷ js) (after_in h (take j.topic j.sub 256)) e
 
-  take_deals : (a : Result Bool ShardFault) → answer_in h (waits j.topic j.sub) ≡ a → DealsPlayed lists s before ds (j ∷ js) (then_take 256 j before (delivers 256 s js) a) h
+  take_deals : (a : Result Bool ShardFault) → answer_in h (waits j.topic j.sub) ≡ a → DealsPlayed F lists s before ds (j ∷ js) (then_take 256 j before (delivers 256 s js) a) h
   take_deals (Ok true) is = frames_deal (answer_in h (take j.topic j.sub 256)) refl
   take_deals (Ok false) is =
-      quiet_dealt lists s before j js ds _ _
+      quiet_dealt F lists s before j js ds _ _
       (rest lists h (j ∷ ds) before
-      (quiet_starts lists s h j js ds st (is_served (queue h j.sub.number) (same_answer false (is_waiting (queue h j.sub.number)) (sym is ∙ waits_answer h j st.waiting.0.topic st.waiting.0.slot)))))
-  take_deals (Err e) is = unsaid_deals lists s before ds (j ∷ js) h e
+      (quiet_starts F lists s h j js ds st (is_served (queue h j.sub.number) (same_answer false (is_waiting (queue h j.sub.number)) (sym is ∙ waits_answer h j st.waiting.0.topic st.waiting.0.slot)))))
+  take_deals (Err e) is = unsaid_deals F lists s before ds (j ∷ js) h e
 
-  one_deals : DealsPlayed lists s before ds (j ∷ js) (delivers 256 s (j ∷ js) before) h
+  one_deals : DealsPlayed F lists s before ds (j ∷ js) (delivers 256 s (j ∷ js) before) h
   unfolding after_in
   one_deals = take_deals (answer_in h (waits j.topic j.sub)) refl
 
-all_deal : (s : InForce) (js : List Entry) → Rest s js
-all_deal s [] lists h ds before st = ends_even lists s before ds h st
-all_deal s (j ∷ js) lists h ds before st = one_deals lists s h j js ds before st (all_deal s js)
+all_deal : (F : Type 0) (s : InForce) (js : List Entry) → Rest F s js
+all_deal F s [] lists h ds before st = ends_even F lists s before ds h st
+all_deal F s (j ∷ js) lists h ds before st = one_deals F lists s h j js ds before st (all_deal F s js)
 
 -- one delivery of what is in force
-pub delivery_deals : (lists : List ℕ → Listing) (s : InForce) (h : History) → IsLegal h → AllByRecursion (Fits lists h) s.joined → AreApart s.joined → DealsPlayed lists s [] [] s.joined (delivers 256 s s.joined []) h
-delivery_deals lists s h legal waiting apart = all_deal s s.joined lists h [] [] (record { legal = legal; done_before = tt; waiting = waiting; apart = apart; not_in = tt })
+pub delivery_deals : (F : Type 0) (lists : List ℕ → Listing) (s : InForce) (h : History) → (F → StateSound s h) → IsLegal h → AllByRecursion (Fits lists h) s.joined → AreApart s.joined → DealsPlayed F lists s [] [] s.joined (delivers 256 s s.joined []) h
+delivery_deals F lists s h sound legal waiting apart = all_deal F s s.joined lists h [] [] (record { legal = legal; history = λ f. (sound f).history; entries = λ f. (sound f).joined; done_before = tt; waiting = waiting; apart = apart; not_in = tt })

@@ -3,7 +3,6 @@ pub mod Objects
 pub mod Once
 pub mod Seats
 pub mod Delivered
-pub mod Fractions
 pub mod Ended
 pub mod Heeding
 pub mod Shown
@@ -14,6 +13,9 @@ pub mod Givings
 pub mod Endings
 pub mod Played
 pub mod Lent
+pub mod SoundValues
+pub mod SoundRows
+pub mod SoundSteps
 pub mod KeptSteps
 pub mod KeptAsks
 pub mod KeptRules

@@ -1,6 +1,6 @@
 -- What the function of a rule promises.
 use Rattle.std.specs.Prelude.{◌≡◌, List, Bool, true, Result, Ok, Err}
-use Rattle.channel_session.specs.Asks.{Ask, Answer, Call, Made, some_spoils}
+use Rattle.channel_session.specs.Asks.{Ask, untrack_all, take, Answer, Call, Made, some_spoils}
 use Rattle.channel_session.specs.Script.{Script, done, ask, Plays, Begins}
 use Rattle.channel_session.specs.Rules.{End, answers, full, memory}
 use Rattle.channel_session.specs.declared.fault.Stop.{Stop}
@@ -18,9 +18,15 @@ CanWant (answers texts after) = Unit {0}
 CanWant full = ⊥
 CanWant memory = Unit {0}
 
+-- Nothing is made between the two calls that end a join, nor between the question what waits and its take.
+abbrev pub CanWantBefore : Ask → Type 0
+CanWantBefore (untrack_all pid t) = ⊥
+CanWantBefore (take t s n) = ⊥
+CanWantBefore _ = Unit {0}
+
 abbrev pub MayWant : Script End → Type 0
 MayWant (done end) = CanWant end
-MayWant (ask q next) = Unit {0}
+MayWant (ask q next) = CanWantBefore q
 
 -- a fault comes where the script says so, or where memory runs out
 abbrev pub Stopped : StopKind → Script End → List Call → Type 0

@@ -6,7 +6,7 @@ ghost use Rattle.channel_session.specs.InForce.{InForce, entries_of};
 ghost use Rattle.channel_session.specs.Outcome.{Follows, seen};
 ghost use Rattle.channel_session.specs.Rules.{answers};
 
-use crate::fault::{SessionFault, Stop, StopKind, spoiling};
+use crate::fault::{SessionFault, Stop, spoiling};
 use crate::frames::add_frames;
 use crate::port::Port;
 use crate::reasons::stop_of;
@@ -62,17 +62,14 @@ fn deliver_from<P: Port>(
 }
 
 // What a fault leaves.
-fn leave_behind(session: &mut Session, stop: Stop) -> SessionFault
-    ensures after { session.new ≡ (if stop.spoiled then failing session.old else session.old) }
-    ensures fault { result ≡ fault_of stop.kind }
+fn leave_behind(session: &mut Session, stop: &Stop) -> SessionFault
+    ensures after { session.new ≡ (if stop.now.spoiled then failing session.old else session.old) }
+    ensures fault { result ≡ fault_of stop.now.kind }
 {
     if stop.spoiled {
         session.failed = true;
     }
-    match stop.kind {
-        StopKind::OutOfMemory => SessionFault::OutOfMemory,
-        StopKind::ShardFull => SessionFault::ShardFull,
-    }
+    stop.fault()
 }
 
 // The texts of a delivery.
@@ -87,7 +84,7 @@ fn deliver_texts<P: Port>(
 {
     match deliver_from(alloc, &session.topics, 0, port, max, Vec::new(alloc)) {
         Ok(texts) => Ok(texts),
-        Err(stop) => Err(leave_behind(session, stop)),
+        Err(stop) => Err(leave_behind(session, &stop)),
     }
 }
 

@@ -98,8 +98,9 @@ fn end_calls<P: Port>(alloc: Global, session: &mut Session, port: &mut P) -> Res
     }
 }
 
-/// Ends a session: its subscribers and rows go, topic by topic, in order of joining. A topic is
-/// dropped when both its calls are done, an unknown subscriber counting as gone.
+/// Ends a session: the rows of a join that a fault cut short go first, and then, topic by topic in
+/// order of joining, its subscribers and rows. A topic is dropped when both its calls are done, an
+/// unknown subscriber counting as gone.
 ///
 /// It may be called again: a refusal keeps the topic and those behind it, and the session has
 /// failed then.

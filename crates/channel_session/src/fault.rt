@@ -37,6 +37,21 @@ pub(crate) struct Stop {
     pub spoiled: bool,
 }
 
+impl Stop {
+    ghost use Rattle.std.specs.Prelude.{◌≡◌};
+    ghost use Rattle.channel_session.specs.Ran.{fault_of};
+
+    /// What a session answers where a rule was left so.
+    pub fn fault(&self) -> SessionFault
+        ensures { result ≡ fault_of self.now.kind }
+    {
+        match self.kind {
+            StopKind::OutOfMemory => SessionFault::OutOfMemory,
+            StopKind::ShardFull => SessionFault::ShardFull,
+        }
+    }
+}
+
 impl From<AllocError> for Stop {
     ghost use Rattle.std.specs.Prelude.{◌≡◌, false};
     ghost use Rattle.channel_session.specs.declared.fault.StopKind.TheVariants.{OutOfMemory};

@@ -23,7 +23,6 @@ mod spoil;
 #[cfg(test)]
 mod tests;
 mod topics;
-mod whole;
 
 pub use delivering::{Delivery, deliver};
 pub use ending::end;

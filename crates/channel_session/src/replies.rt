@@ -4,7 +4,6 @@ ghost use Rattle.phx_message.specs.Making.{closing};
 ghost use Rattle.presence_metas.specs.Values.{state_of};
 ghost use Rattle.channel_session.specs.Rules.{text_of, ok as ok_message, error as error_message, told_ref, empty as empty_of};
 
-use crate::whole::rows_are_whole;
 use phx_message::{Message, MsgRef, close_of, encode, reply_error, reply_ok};
 use presence_base::{Dot, Json, Row, Topic, ref_text};
 use presence_metas::state_value;
@@ -119,7 +118,6 @@ pub(crate) fn state_response(alloc: Global, rows: &[(Dot, Row)]) -> Result<Json,
     ensures state { IfOk result (λ v. v ≡ state_of rows.now) }
     ensures whole { IfOk result (λ v. float_within v ≡ false) }
 {
-    rows_are_whole(rows);
     let state = state_value(alloc, rows)?;
     Ok(Json::new(state))
 }

@@ -2,10 +2,10 @@ ghost use Rattle.std.specs.Prelude.{◌≡◌, [], ◌≤◌, ◌+◌, map, stri
 ghost use Rattle.presence_journal.specs.Limits.{is_payload};
 ghost use Rattle.phx_message.specs.Reading.{decoded};
 ghost use Rattle.channel_session.specs.Replies.{texts_of};
-ghost use Rattle.channel_session.specs.Ran.{MessageRan, EndedSo, texts_given, failed_at, fault_of as fault_of_kind};
+ghost use Rattle.channel_session.specs.Ran.{MessageRan, EndedSo, texts_given, failed_at, fault_of};
 
 use crate::acting::act;
-use crate::fault::{SessionFault, Stop, StopKind};
+use crate::fault::{SessionFault, Stop};
 use crate::port::Port;
 use crate::replies::Reply;
 use crate::session::Session;
@@ -34,16 +34,6 @@ fn list_texts(mut texts: Vec<String>, reply: Reply) -> Vec<String>
     }
 }
 
-// The fault that a rule's fault is.
-fn fault_of(stop: &Stop) -> SessionFault
-    ensures { result ≡ fault_of_kind stop.now.kind }
-{
-    match stop.kind {
-        StopKind::OutOfMemory => SessionFault::OutOfMemory,
-        StopKind::ShardFull => SessionFault::ShardFull,
-    }
-}
-
 // Leaves a session behind in which a fault left something of this topic.
 fn fail(session: &mut Session, topic: Topic)
     ensures { session.new ≡ failed_at session.old topic }
@@ -58,12 +48,12 @@ fn fail(session: &mut Session, topic: Topic)
 // What a fault leaves.
 fn leave_behind(session: &mut Session, topic: Topic, stop: &Stop) -> SessionFault
     ensures after { session.new ≡ (if stop.now.spoiled then failed_at session.old topic else session.old) }
-    ensures fault { result ≡ fault_of_kind stop.now.kind }
+    ensures fault { result ≡ fault_of stop.now.kind }
 {
     if stop.spoiled {
         fail(session, topic);
     }
-    fault_of(stop)
+    stop.fault()
 }
 
 // Answers a message.

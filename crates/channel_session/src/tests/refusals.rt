@@ -1,0 +1,260 @@
+//! Each call that a text makes of the port refused in turn, and what that leaves.
+
+use super::desk::{Desk, desk_of};
+use super::texts::{CLOSE, JOIN, JOINED, LATE, LEAVE, LEFT, REJOIN, REJOINED, UPDATE, UPDATED};
+use crate::SessionFault;
+use std::alloc::Global;
+use tracker_shard::ShardFault;
+
+// A text of a session, on `room:lobby`.
+#[derive(Clone, Copy)]
+struct Case {
+    // Texts before it, and the topics that are joined behind them.
+    before: &'static [&'static str],
+    joined: &'static [&'static str],
+    text: &'static str,
+    answer: &'static [&'static str],
+    // How many calls it makes.
+    calls: u32,
+    // The reply if its first call is refused for want of room, none if that call ends a join.
+    full: Option<&'static str>,
+}
+
+// A tracked join, one without a key, an update, a leave and a second join.
+const CASES: [Case; 5] = [
+    Case {
+        before: &[],
+        joined: &[],
+        text: JOIN,
+        answer: &[JOINED],
+        calls: 2,
+        full: Some(
+            r#"["1","1","room:lobby","phx_reply",{"response":{"reason":"full"},"status":"error"}]"#,
+        ),
+    },
+    Case {
+        before: &[],
+        joined: &[],
+        text: r#"[null,6,"room:lobby","phx_join",{}]"#,
+        answer: &[r#"[6,6,"room:lobby","phx_reply",{"response":{},"status":"ok"}]"#],
+        calls: 1,
+        full: Some(
+            r#"[6,6,"room:lobby","phx_reply",{"response":{"reason":"full"},"status":"error"}]"#,
+        ),
+    },
+    Case {
+        before: &[JOIN],
+        joined: &["room:lobby"],
+        text: UPDATE,
+        answer: &[UPDATED],
+        calls: 1,
+        full: Some(
+            r#"["1","2","room:lobby","phx_reply",{"response":{"reason":"full"},"status":"error"}]"#,
+        ),
+    },
+    Case {
+        before: &[JOIN],
+        joined: &["room:lobby"],
+        text: LEAVE,
+        answer: &[LEFT, CLOSE],
+        calls: 2,
+        full: None,
+    },
+    Case {
+        before: &[JOIN],
+        joined: &["room:lobby"],
+        text: REJOIN,
+        answer: &[CLOSE, REJOINED],
+        calls: 4,
+        full: None,
+    },
+];
+
+// The session's fault for a refusal that no reply stands for.
+pub(super) fn fault_for(fault: ShardFault) -> SessionFault {
+    if fault == ShardFault::OutOfMemory {
+        SessionFault::OutOfMemory
+    } else {
+        SessionFault::ShardFull
+    }
+}
+
+// A desk after these texts.
+fn desk_after(alloc: Global, texts: &[&str]) -> Option<Desk> {
+    let mut desk = desk_of(alloc)?;
+    for text in texts {
+        if desk.fault(alloc, text).is_some() {
+            return None;
+        }
+    }
+    Some(desk)
+}
+
+// Whether the refusal of the first call is told, by a reply where one stands for it, and changes
+// nothing: the same text is answered afterwards.
+fn is_kept(alloc: Global, desk: &mut Desk, case: &Case, full: &str, fault: ShardFault) -> bool {
+    let told = if fault == ShardFault::OutOfMemory {
+        desk.fault(alloc, case.text) == Some(SessionFault::OutOfMemory)
+    } else {
+        desk.answers(alloc, case.text, &[full])
+    };
+    told && !desk.session.failed()
+        && desk.names(case.joined)
+        && desk.answers(alloc, case.text, case.answer)
+}
+
+// Whether a session has failed that may have left something on `room:lobby`, and its end leaves
+// nothing there.
+fn has_failed(alloc: Global, desk: &mut Desk) -> bool {
+    desk.session.failed()
+        && desk.names(&["room:lobby"])
+        && desk.fault(alloc, JOIN) == Some(SessionFault::Failed)
+        && desk.delivery_fault(alloc) == Some(SessionFault::Failed)
+        && desk.end(alloc) == Ok(())
+        && desk.names(&[])
+        && desk.is_clear(alloc, "room:lobby")
+        && desk.fault(alloc, JOIN) == Some(SessionFault::Failed)
+}
+
+// Whether the text with its call of this number refused is answered as it should be, and leaves what
+// it should.
+fn holds(alloc: Global, case: &Case, call: u32, fault: ShardFault) -> bool {
+    let Some(mut desk) = desk_after(alloc, case.before) else {
+        return false;
+    };
+    desk.refuse(call, fault);
+    if call >= case.calls {
+        return desk.answers(alloc, case.text, case.answer);
+    }
+    let full = if call == 0 { case.full } else { None };
+    match full {
+        Some(full) => is_kept(alloc, &mut desk, case, full, fault),
+        None => {
+            desk.fault(alloc, case.text) == Some(fault_for(fault)) && has_failed(alloc, &mut desk)
+        }
+    }
+}
+
+// Whether the text holds with its call of this number refused in each of these ways.
+fn holds_for_all(alloc: Global, case: &Case, call: u32, faults: &[ShardFault]) -> bool {
+    for fault in faults {
+        if !holds(alloc, case, call, *fault) {
+            return false;
+        }
+    }
+    true
+}
+
+// Each of its calls is refused in turn, and then the one behind them, which isn't made.
+#[test]
+fn each_call_of_a_text_refused(rt: HostRuntime) {
+    let alloc = rt.alloc();
+    let faults = [
+        ShardFault::JournalFull,
+        ShardFault::ClockFull,
+        ShardFault::OutOfMemory,
+    ];
+    for case in CASES {
+        for call in 0..case.calls.saturating_add(1) {
+            let text = case.text;
+            assert!(rt; holds_for_all(alloc, &case, call, &faults), "{call} {text}");
+        }
+    }
+}
+
+// A port that doesn't know the subscriber has refused a call that ends a join, in a leave and in a
+// second join.
+#[test]
+fn an_unknown_subscriber_at_the_end_of_a_join(rt: HostRuntime) {
+    let alloc = rt.alloc();
+    for case in CASES {
+        if case.full.is_none() {
+            let text = case.text;
+            assert!(rt; holds(alloc, &case, 0, ShardFault::NoSub), "{text}");
+            assert!(rt; holds(alloc, &case, 1, ShardFault::NoSub), "{text}");
+        }
+    }
+}
+
+// A second join whose track the port refuses because the key is tracked has ended the old join, and
+// isn't joined itself. The session goes on.
+#[test]
+fn a_second_join_of_a_tracked_key(rt: HostRuntime) {
+    let alloc = rt.alloc();
+    let Some(mut desk) = desk_after(alloc, &[JOIN]) else {
+        assert!(rt; false);
+        return;
+    };
+    desk.refuse(2, ShardFault::AlreadyTracked);
+    let reply =
+        r#"["4","4","room:lobby","phx_reply",{"response":{"reason":"already tracked"},"status":"error"}]"#;
+    assert!(rt; desk.answers(alloc, REJOIN, &[CLOSE, reply]));
+    assert!(rt; !desk.session.failed());
+    assert!(rt; desk.names(&[]));
+    assert!(rt; desk.is_clear(alloc, "room:lobby"));
+    assert!(rt; desk.answers(alloc, REJOIN, &[REJOINED]));
+}
+
+#[test]
+fn a_refused_subscription_behind_a_track(rt: HostRuntime) {
+    let alloc = rt.alloc();
+    let Some(mut desk) = desk_after(alloc, &[JOIN]) else {
+        assert!(rt; false);
+        return;
+    };
+    desk.refuse(1, ShardFault::JournalFull);
+    assert!(rt; desk.fault(alloc, LATE) == Some(SessionFault::ShardFull));
+    assert!(rt; desk.session.failed());
+    assert!(rt; desk.names(&["room:lobby", "room:x"]));
+    assert!(rt; desk.fault(alloc, LATE) == Some(SessionFault::Failed));
+    desk.refuse(1, ShardFault::JournalFull);
+    assert!(rt; desk.end(alloc) == Err(SessionFault::ShardFull));
+    assert!(rt; desk.names(&["room:lobby"]));
+    assert!(rt; desk.end(alloc) == Ok(()));
+    assert!(rt; desk.names(&[]));
+    assert!(rt; desk.is_clear(alloc, "room:lobby"));
+    assert!(rt; desk.is_clear(alloc, "room:x"));
+}
+
+// Whether the end of a session of two topics, its call of this number refused, keeps the topic of
+// that call and the one behind it, and may be repeated.
+fn ends_again(alloc: Global, call: u32, fault: ShardFault) -> bool {
+    let Some(mut desk) = desk_after(alloc, &[JOIN, LATE]) else {
+        return false;
+    };
+    desk.refuse(call, fault);
+    let kept = if call < 2 {
+        desk.end(alloc) == Err(fault_for(fault)) && desk.names(&["room:lobby", "room:x"])
+    } else {
+        desk.end(alloc) == Err(fault_for(fault)) && desk.names(&["room:x"])
+    };
+    kept && desk.end(alloc) == Ok(()) && is_gone(alloc, &mut desk)
+}
+
+// Whether nothing is left of a session of two topics.
+fn is_gone(alloc: Global, desk: &mut Desk) -> bool {
+    desk.names(&[]) && desk.is_clear(alloc, "room:lobby") && desk.is_clear(alloc, "room:x")
+}
+
+#[test]
+fn each_call_of_an_end_refused(rt: HostRuntime) {
+    let alloc = rt.alloc();
+    for call in 0..4 {
+        for fault in [ShardFault::JournalFull, ShardFault::OutOfMemory] {
+            assert!(rt; ends_again(alloc, call, fault), "{call} {fault}");
+        }
+    }
+}
+
+// An unknown subscriber counts as gone.
+#[test]
+fn an_end_of_an_unknown_subscriber(rt: HostRuntime) {
+    let alloc = rt.alloc();
+    let Some(mut desk) = desk_after(alloc, &[JOIN]) else {
+        assert!(rt; false);
+        return;
+    };
+    desk.refuse(0, ShardFault::NoSub);
+    assert!(rt; desk.end(alloc) == Ok(()));
+    assert!(rt; desk.names(&[]));
+}
