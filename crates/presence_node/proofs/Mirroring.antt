@@ -1,6 +1,12 @@
 -- The lines of a run are a session's lines over its shard's history.
-use Rattle.std.proofs.Common.{◌≡◌, ◌≤◌, ◌^◌, ℕ, Bool, true, false, cond, List, [], ◌∷◌, ◌++◌, Option, Some, None, Result, Ok, Err, refl, sym, ◌∙◌, ap, subst, arith, append-nil, append_assoc}
+use Rattle.std.proofs.Common.{◌≡◌, ◌≤◌, ◌^◌, ℕ, Bool, true, false, cond, List, [], ◌∷◌, ◌++◌, length, nat_lt, Option, Some, None, Result, Ok, Err, refl, sym, ◌∙◌, ap, subst, arith, append-nil, append_assoc}
 use Rattle.std.proofs.lemmas.Option.{same_Some}
+use Rattle.std.specs.List.{AllByRecursion}
+use Rattle.std.specs.Str.{is_utf8}
+use Rattle.phx_message.proofs.Decoded.{decoded_orderly, reads_back}
+use Rattle.phx_message.specs.Reading.{decoded}
+use Rattle.phx_message.specs.declared.message.TheConstants.Limits as the_limits
+use Rattle.phx_message.specs.declared.message.MessageFault.TheVariants.{TooLong, NotJson}
 use Rattle.phx_message.specs.declared.message.Message.{Message}
 use Rattle.phx_message.specs.declared.message.MessageFault.{MessageFault}
 use Rattle.presence_journal.specs.History.{History}
@@ -10,9 +16,11 @@ use Rattle.channel_session.specs.Keeping.{Past, behind, then_past, served, lined
 use Rattle.channel_session.specs.Keeping as keeping
 use Rattle.channel_session.specs.Local.{played}
 use Rattle.channel_session.specs.Rules.{End, answers, full, memory, rules}
-use Rattle.channel_session.proofs.Kept.{fresh_in_step, stays_in_step, joined_are_mirrored}
-use Rattle.presence_node.specs.Mirrored.{goes_on, after_lines, JoinedAreMirrored}
-use Rattle.presence_node.specs.Reading.{line_message}
+use Rattle.channel_session.proofs.Kept.{MirroredWhere, fresh_in_step, stays_in_step, mirrored_where}
+use Rattle.channel_session.proofs.KeptAsks.{all_of}
+use Rattle.channel_session.proofs.SoundValues.{IsFramed, IsHeard}
+use Rattle.presence_node.specs.Mirrored.{goes_on, after_lines, IsReadBack, JoinedAreMirrored}
+use Rattle.presence_node.specs.Reading.{message_in, line_message}
 use Rattle.presence_node.specs.Run.{run, run_next}
 use Rattle.presence_node.specs.Session.{State, Answer, start, printed, ends, delivered, ruled, answer_to, answer}
 use Rattle.channel_session.specs.declared.fault.SessionFault.TheVariants.{Failed}
@@ -62,38 +70,57 @@ module _ (routes : List (List ℕ × ℕ)) (before : List (List ℕ)) where
   ruled_is full g t is = absurd (stopped _ t is)
   ruled_is memory g t is = absurd (stopped _ t is)
 
-module _ (s : State) (before : List (List ℕ)) (t : State) where
-  read_is : (r : Result Message MessageFault) → (answer_to s r).next ≡ Ok t → (m : Message) × LineIs s.routes before (lined s.routes (past before s) m) (answer_to s r).text t
-  read_is (Ok m) is = (m, ruled_is s.routes before (played (rules s.routes s.session m) s.shard).0 (played (rules s.routes s.session m) s.shard).1 t is)
-  read_is (Err f) is = absurd (stopped _ t is)
+no_message : (f : MessageFault) (m : Message) → ◌≡◌ {A = Result Message MessageFault} (Err f) (Ok m) → ⊥
+no_message f m e = cc
 
-  line_is : (line : List ℕ) → (answer s line).next ≡ Ok t → (m : Message) × LineIs s.routes before (lined s.routes (past before s) m) (answer s line).text t
+-- the message of a line was decoded
+line_heard : (line : List ℕ) (m : Message) → line_message line ≡ Ok m → IsHeard m
+unfolding message_in
+line_heard line m = go (nat_lt the_limits.CLIENT.bytes (length line)) (is_utf8 line)
+  where
+    go : (long text : Bool) → cond long (Err TooLong) (cond text (decoded the_limits.CLIENT line) (Err NotJson)) ≡ Ok m → IsHeard m
+    go true text e = absurd (no_message TooLong m e)
+    go false true e = decoded_orderly the_limits.CLIENT line m e
+    go false false e = absurd (no_message NotJson m e)
+
+module _ (s : State) (before : List (List ℕ)) (t : State) where
+  -- the message of a line, and what it did
+  abbrev OfLine : Answer → Type 0
+  OfLine a = (m : Message) × IsHeard m × LineIs s.routes before (lined s.routes (past before s) m) a.text t
+
+  read_is : (r : Result Message MessageFault) → ((m : Message) → r ≡ Ok m → IsHeard m) → (answer_to s r).next ≡ Ok t → OfLine (answer_to s r)
+  read_is (Ok m) heard is = (m, heard m refl, ruled_is s.routes before (played (rules s.routes s.session m) s.shard).0 (played (rules s.routes s.session m) s.shard).1 t is)
+  read_is (Err f) heard is = absurd (stopped _ t is)
+
+  line_is : (line : List ℕ) → (answer s line).next ≡ Ok t → OfLine (answer s line)
   line_is line is = go s.session.failed is
     where
-      go : (b : Bool) → (cond b failed_already (answer_to s (line_message line))).next ≡ Ok t → (m : Message) × LineIs s.routes before (lined s.routes (past before s) m) (cond b failed_already (answer_to s (line_message line))).text t
+      go : (b : Bool) → (cond b failed_already (answer_to s (line_message line))).next ≡ Ok t → OfLine (cond b failed_already (answer_to s (line_message line)))
       go true e = absurd (stopped _ t e)
-      go false e = read_is (line_message line) e
+      go false e = read_is (line_message line) (line_heard line) e
 
 -- ---- all lines
 
 record LinesAre (s : State) (before : List (List ℕ)) (ls : List (List ℕ)) (t : State) : Type 0 where
   messages : List Message
+  heard : AllByRecursion IsHeard messages
   texts : List (List ℕ)
   lined_so : all_lined s.routes (past before s) messages ≡ Some (past (before ++ texts) t)
   text_is : (run s ls).text ≡ printed texts
 
 module _ (s : State) (before : List (List ℕ)) (l : List ℕ) (ls : List (List ℕ)) (t : State) where
-  more_lines : (u : State) → (answer s l).next ≡ Ok u → (line : (m : Message) × LineIs s.routes before (lined s.routes (past before s) m) (answer s l).text u) → LinesAre u (before ++ line.1.texts) ls t → LinesAre s before (l ∷ ls) t
+  more_lines : (u : State) → (answer s l).next ≡ Ok u → (line : OfLine s before u (answer s l)) → LinesAre u (before ++ line.2.texts) ls t → LinesAre s before (l ∷ ls) t
   more_lines u e line rest = record {
     messages = line.0 ∷ rest.messages;
-    texts = line.1.texts ++ rest.texts;
+    heard = (line.1, rest.heard);
+    texts = line.2.texts ++ rest.texts;
     lined_so =
-        ap (λ o. then_past o (λ q. all_lined s.routes q rest.messages)) line.1.lined_so
-        ∙ (ap (λ r. all_lined r (past (before ++ line.1.texts) u) rest.messages) (sym line.1.routes_are)
-        ∙ (rest.lined_so ∙ ap (λ ts. Some (past ts t)) (append_assoc before line.1.texts rest.texts)));
+        ap (λ o. then_past o (λ q. all_lined s.routes q rest.messages)) line.2.lined_so
+        ∙ (ap (λ r. all_lined r (past (before ++ line.2.texts) u) rest.messages) (sym line.2.routes_are)
+        ∙ (rest.lined_so ∙ ap (λ ts. Some (past ts t)) (append_assoc before line.2.texts rest.texts)));
     text_is =
         ap (λ r. (run_next (answer s l).text r (λ after. run after ls)).text) e
-        ∙ ((λ i. line.1.text_is i ++ rest.text_is i) ∙ printed-more line.1.texts rest.texts);
+        ∙ ((λ i. line.2.text_is i ++ rest.text_is i) ∙ printed-more line.2.texts rest.texts);
   }
 
 no_state : (t : State) → ◌≡◌ {A = Option State} None (Some t) → ⊥
@@ -102,6 +129,7 @@ no_state t e = cc
 lines_are : (ls : List (List ℕ)) (s t : State) (before : List (List ℕ)) → after_lines s ls ≡ Some t → LinesAre s before ls t
 lines_are [] s t before is = subst (λ u. LinesAre s before [] u) (same_Some s t is) (record {
   messages = [];
+  heard = tt;
   texts = [];
   lined_so = ap (λ ts. Some (past ts s)) (sym (append-nil before));
   text_is = refl;
@@ -110,7 +138,7 @@ lines_are (l ∷ ls) s t before is = go (answer s l).next refl is (λ u b e. lin
   where
     go : (r : Result State LineFault) → (answer s l).next ≡ r → goes_on r (λ u. after_lines u ls) ≡ Some t
         → ((u : State) (b : List (List ℕ)) → after_lines u ls ≡ Some t → LinesAre u b ls t) → LinesAre s before (l ∷ ls) t
-    go (Ok u) e f rest = let line : (m : Message) × LineIs s.routes before (lined s.routes (past before s) m) (answer s l).text u = line_is s before u l e in more_lines s before l ls t u e line (rest u (before ++ line.1.texts) f)
+    go (Ok u) e f rest = let line : OfLine s before u (answer s l) = line_is s before u l e in more_lines s before l ls t u e line (rest u (before ++ line.2.texts) f)
     go (Err x) e f rest = absurd (no_state t f)
 
 pub mirrored : JoinedAreMirrored
@@ -118,9 +146,11 @@ mirrored o name incarnation lines s is =
     let all : LinesAre (start o) [] lines s = lines_are lines (start o) s [] is in
     let legal : IsLegal (start o).shard = record { name = name; incarnation = incarnation; number = omega arith } in
     let low : 1 ≤ 2 ^ 62 = omega arith in
-    let kept : keeping.IsMirrored (past all.texts s) = joined_are_mirrored o.routes 1 (start o).shard low legal all.messages (past all.texts s) all.lined_so in
+    let told : MirroredWhere (Unit {0}) (past all.texts s) = mirrored_where (Unit {0}) o.routes 1 (start o).shard low legal (λ u. tt) all.messages (past all.texts s) (λ u. all.heard) all.lined_so in
+    let kept : keeping.IsMirrored (past all.texts s) = told.mirrored in
     record {
       messages = kept.messages;
+      read_back = all_of IsFramed IsReadBack (λ m f. reads_back m f.0 f.1) kept.messages (told.framed tt);
       lines = all.text_is ∙ ap printed kept.texts;
       said = kept.said;
       in_step = stays_in_step o.routes (fresh 1) (start o).shard (fresh_in_step 1 (start o).shard low legal) all.messages (past all.texts s) all.lined_so;

@@ -7,4 +7,5 @@ pub mod Mirrors
 pub mod Folding
 pub mod Told
 pub mod Limits
+pub mod Given
 pub mod Mirrored

@@ -140,6 +140,17 @@ fn ping_and_unknown_events(rt: HostRuntime) -> Result<(), Fail> {
 }
 
 #[test]
+fn get_and_update_of_nobody(rt: HostRuntime) -> Result<(), Fail> {
+    let alloc = rt.alloc();
+    let input =
+        "[\"1\",\"1\",\"room:lobby\",\"phx_join\",{\"key\":\"u1\",\"meta\":{\"x\":1}}]\n[\"1\",\"2\",\"room:lobby\",\"get\",{\"key\":\"u9\"}]\n[\"1\",\"3\",\"room:lobby\",\"update\",{\"key\":\"u9\",\"meta\":{}}]\n";
+    let want =
+        "[\"1\",\"1\",\"room:lobby\",\"phx_reply\",{\"response\":{\"phx_ref\":\"a.1.1\"},\"status\":\"ok\"}]\n[\"1\",null,\"room:lobby\",\"presence_state\",{\"u1\":{\"metas\":[{\"phx_ref\":\"a.1.1\",\"x\":1}]}}]\n[\"1\",\"2\",\"room:lobby\",\"phx_reply\",{\"response\":{},\"status\":\"ok\"}]\n[\"1\",\"3\",\"room:lobby\",\"phx_reply\",{\"response\":{\"reason\":\"no presence\"},\"status\":\"error\"}]\n";
+    assert!(rt; gives(alloc, input, 3, want));
+    Ok(())
+}
+
+#[test]
 fn given_routes_replace_the_default(rt: HostRuntime) -> Result<(), Fail> {
     let alloc = rt.alloc();
     let words = ["p", "stdio", "--route", "chat", "--route", "a:*"];

@@ -1,7 +1,9 @@
-ghost use Rattle.std.specs.Prelude.{◌≡◌, ◌≤◌, IfOk, IsTrue, length, map};
+ghost use Rattle.std.specs.Prelude.{◌≡◌, ◌≤◌, ◌<◌, ◌++◌, [], ◌∷◌, IfOk, OnOk, IsTrue, length, map};
 ghost use Rattle.presence_base.specs.Names.{is_node_name};
 ghost use Rattle.presence_base.specs.Refs.{IsCount};
-ghost use Rattle.presence_node.specs.Limits.{IsWithin, AreWithin, numbered};
+ghost use Rattle.clap.specs.Words.{found_of};
+ghost use Rattle.presence_node.specs.Given.{IsGiven, number_in, patterns_given};
+ghost use Rattle.presence_node.specs.Limits.{IsWithin, ArePatterns, AreRoutes, AreWithin, numbered};
 
 use crate::options::{Options, StdioOptions};
 use clap::error::ErrorKind;
@@ -39,6 +41,7 @@ fn stdio_command<'a>(alloc: Global) -> Result<Command<'a>, AllocError> {
         .long("incarnation")
         .value_name("NUMBER")
         .action(ArgAction::Set)
+        .allow_hyphen_values(true)
         .default_value("1")
         .help("Which life of the node this is, 1 to 4611686018427387904; never use one twice");
     let route = Arg::new(alloc, "route")
@@ -119,7 +122,8 @@ fn refusal_of(alloc: Global, e: Error) -> Result<Options, UsageFault>
 
 // The name that a text is.
 fn name_of(alloc: Global, text: &str) -> Result<NodeName, UsageFault>
-    ensures { IfOk result (λ name. IsTrue (is_node_name name)) }
+    ensures name { IfOk result (λ name. name ≡ text.now) }
+    ensures limits { IfOk result (λ name. IsTrue (is_node_name name)) }
 {
     match NodeName::new(alloc, text) {
         Ok(Some(name)) => Ok(name),
@@ -132,7 +136,8 @@ fn name_of(alloc: Global, text: &str) -> Result<NodeName, UsageFault>
 
 // The incarnation that a text is.
 fn incarnation_of(alloc: Global, text: &str) -> Result<u64, UsageFault>
-    ensures { IfOk result IsCount }
+    ensures number { IfOk result (λ n. n ≡ number_in text.now) }
+    ensures limits { IfOk result IsCount }
 {
     if let Ok(incarnation) = text.parse::<u64>() {
         if incarnation >= 1 && incarnation <= MAX_COUNT {
@@ -155,26 +160,47 @@ fn wrong_route(alloc: Global, pattern: &str, fault: RouteFault) -> UsageFault {
     }
 }
 
+// Adds a route, or says what is wrong with its pattern.
+#[tactic(auto, using(crate::proofs::Patterns::few_before, crate::proofs::Patterns::patterns_more))]
+fn add_route(alloc: Global, routes: &mut Routes, pattern: &str, kind: u32) -> Result<(), UsageFault>
+    ensures added { OnOk result (routes.new ≡ routes.old ++ (pattern.now, kind) ∷ []) }
+    ensures few { OnOk result (length routes.old < 64) }
+    ensures patterns { OnOk result (ArePatterns routes.old → ArePatterns routes.new) }
+{
+    match routes.add(alloc, pattern, kind) {
+        Ok(()) => Ok(()),
+        Err(fault) => Err(wrong_route(alloc, pattern, fault)),
+    }
+}
+
 // The routes of these patterns, of which each has its position as its kind.
-#[tactic(auto, using(crate::proofs::Patterns::few_before))]
-fn routes_of(alloc: Global, patterns: &[&str]) -> Result<Routes, UsageFault>
+fn numbered_routes(alloc: Global, patterns: &[&str]) -> Result<Routes, UsageFault>
     ensures routes { IfOk result (λ routes. routes ≡ numbered 0 (map (λ p. p.now) patterns.now)) }
     ensures few { IfOk result (λ routes. length routes ≤ 64) }
+    ensures patterns { IfOk result ArePatterns }
 {
     let mut routes = Routes::new(alloc);
     let mut kind: u32 = 0;
     for pattern in patterns {
-        match routes.add(alloc, pattern, kind) {
-            Ok(()) => kind += 1,
-            Err(fault) => return Err(wrong_route(alloc, pattern, fault)),
-        }
+        add_route(alloc, &mut routes, pattern, kind)?;
+        kind += 1;
     }
     Ok(routes)
 }
 
+// The same, which are within their limits.
+#[tactic(auto, using(crate::proofs::Patterns::routes_within))]
+fn routes_of(alloc: Global, patterns: &[&str]) -> Result<Routes, UsageFault>
+    ensures routes { IfOk result (λ routes. routes ≡ numbered 0 (map (λ p. p.now) patterns.now)) }
+    ensures within { IfOk result AreRoutes }
+{
+    numbered_routes(alloc, patterns)
+}
+
 // The routes of the patterns that are given, or the default.
 fn given_routes(alloc: Global, matches: &ArgMatches<'_>) -> Result<Routes, UsageFault>
-    ensures { IfOk result (λ routes. length routes ≤ 64) }
+    ensures routes { IfOk result (λ routes. routes ≡ numbered 0 (patterns_given (found_of matches.now))) }
+    ensures within { IfOk result AreRoutes }
 {
     match matches.get_strs("route") {
         Some(patterns) => routes_of(alloc, patterns),
@@ -184,7 +210,8 @@ fn given_routes(alloc: Global, matches: &ArgMatches<'_>) -> Result<Routes, Usage
 
 // The options of the words behind `stdio`.
 fn stdio_options(alloc: Global, matches: &ArgMatches<'_>) -> Result<StdioOptions, UsageFault>
-    ensures { IfOk result IsWithin }
+    ensures given { IfOk result (λ o. IsGiven (found_of matches.now) o) }
+    ensures limits { IfOk result IsWithin }
 {
     let name = name_of(alloc, matches.get_str("name").unwrap_or("a"))?;
     let incarnation = incarnation_of(alloc, matches.get_str("incarnation").unwrap_or("1"))?;

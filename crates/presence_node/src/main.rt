@@ -18,6 +18,8 @@ mod stdio;
 #[cfg(test)]
 mod tests;
 
+ghost use Rattle.std.specs.Prelude.{◌≡◌, IfOk, map, string_bytes};
+
 use command_line::{UsageFault, options_of};
 use fault::{FoldFault, StdioFault};
 use fold::{fold_status_of, fold_told_line, run_fold};
@@ -38,7 +40,9 @@ fn words_of(rt: &(impl Env + AllocGlobal)) -> io::Result<Vec<String>> {
     Ok(words)
 }
 
-fn texts_of(alloc: Global, words: &[String]) -> Result<Vec<&str>, AllocError> {
+fn texts_of(alloc: Global, words: &[String]) -> Result<Vec<&str>, AllocError>
+    ensures { IfOk result (λ texts. map (λ t. t.now) texts.items ≡ map string_bytes words.now) }
+{
     let mut texts = Vec::new(alloc);
     for word in words {
         texts.push(word.as_str())?;
@@ -114,10 +118,22 @@ fn run<R: Env + Input + Print + Eprint + AllocGlobal>(rt: &R) -> io::Result<u8> 
     }
 }
 
+// Tells why the words were not read or the help was not written, and gives the status to end with.
+fn status_of_error<R: Eprint>(rt: &R, kind: ErrorKind) -> u8 {
+    let why = match kind {
+        ErrorKind::OutOfMemory => return 2,
+        ErrorKind::InvalidData => {
+            "presence_node: a word of the command line is not UTF-8, as each must be; presence_node --help tells the words"
+        }
+        _ => "presence_node: the output could not be written",
+    };
+    let _told = rt.eprintln(why);
+    1
+}
+
 fn main(rt: HostRuntime) -> ExitCode {
     match run(&rt) {
         Ok(status) => ExitCode::from(status),
-        Err(e) if e.kind() == ErrorKind::OutOfMemory => ExitCode::from(2),
-        Err(_) => ExitCode::from(1),
+        Err(e) => ExitCode::from(status_of_error(&rt, e.kind())),
     }
 }
