@@ -1,6 +1,7 @@
 use crate::{
-    Journal, Outcome, Payload, Pending, Step, TakeLimit, walk_count, walk_diff, walk_get,
-    walk_list, walk_next_dot, walk_outcome, walk_own_row, walk_own_rows, walk_pending, walk_topic,
+    Journal, MAX_PAYLOAD_DEPTH, MAX_TAKEN, Outcome, Payload, Pending, Rows, Step, TakeLimit,
+    walk_count, walk_diff, walk_get, walk_list, walk_next_dot, walk_outcome, walk_own_row,
+    walk_own_rows, walk_pending, walk_topic,
 };
 use presence_base::{
     Dot, Json, Key, Meta, NodeName, Replica, Row, Topic, has_float, is_within_depth, ref_text,
@@ -73,12 +74,17 @@ fn get(alloc: Global, name: &str) -> Result<Step, Fail> {
     Ok(Step::Get { topic, key })
 }
 
+// The value as a payload, where it is one.
+fn payload_of(value: Value) -> Option<Payload> {
+    if !is_within_depth(&value, MAX_PAYLOAD_DEPTH) || has_float(&value) {
+        return None;
+    }
+    Some(Payload::new(Json::new(value)))
+}
+
 fn payload(alloc: Global) -> Result<Payload, Fail> {
     let value = Value::from_str(alloc, "[1]")?;
-    if !is_within_depth(&value, 64) || has_float(&value) {
-        return Err("a payload".into());
-    }
-    Ok(Payload::new(Json::new(value)))
+    Ok(payload_of(value).ok_or("a payload")?)
 }
 
 fn shout(alloc: Global) -> Result<Step, Fail> {
@@ -105,7 +111,7 @@ fn step_of(alloc: Global, ask: Ask) -> Result<Step, Fail> {
         }),
         Ask::Take(subscriber) => Ok(Step::Take {
             subscriber,
-            max: TakeLimit::new(256),
+            max: TakeLimit::new(MAX_TAKEN),
         }),
         Ask::Unsubscribe(subscriber) => Ok(Step::Unsubscribe { subscriber }),
         Ask::Shout => shout(alloc),
@@ -331,5 +337,59 @@ fn an_entry_is_cloned(rt: HostRuntime) -> Result<(), Fail> {
     let copy = entry.clone()?;
     assert_eq!(rt; copy.number, 2);
     assert!(rt; matches!(copy.step, Step::UntrackAll { pid: 3, .. }));
+    Ok(())
+}
+
+#[test]
+fn a_take_of_the_most_items(rt: HostRuntime) -> Result<(), Fail> {
+    let alloc = rt.alloc();
+    let mut journal = shouted(alloc, MAX_TAKEN)?;
+    let step = step_of(alloc, Ask::Take(1))?;
+    assert!(rt; make(alloc, &mut journal, step)?);
+    assert!(rt; matches!(outcome_at(&journal, 258), Some(Outcome::Taken(false, 256))));
+    assert!(rt; waiting(alloc, &journal, 1)? == Some(0));
+    Ok(())
+}
+
+// Arrays one within the other, so deep.
+fn nested(alloc: Global, depth: u32) -> Result<Value, Fail> {
+    let mut text = String::new(alloc);
+    for _ in 0..depth {
+        text.push('[')?;
+    }
+    for _ in 0..depth {
+        text.push(']')?;
+    }
+    Ok(Value::from_str(alloc, text.as_str())?)
+}
+
+#[test]
+fn the_deepest_payload(rt: HostRuntime) -> Result<(), Fail> {
+    let deepest = nested(rt.alloc(), MAX_PAYLOAD_DEPTH)?;
+    assert!(rt; payload_of(deepest).is_some());
+    let deeper = nested(rt.alloc(), MAX_PAYLOAD_DEPTH + 1)?;
+    assert!(rt; payload_of(deeper).is_none());
+    Ok(())
+}
+
+#[test]
+fn what_was_put_in_is_given_back(rt: HostRuntime) -> Result<(), Fail> {
+    let alloc = rt.alloc();
+    let asks = [Ask::Track(1, "u1"), Ask::Track(2, "u1"), Ask::UntrackAll(1)];
+    let journal = journal_of(alloc, &asks)?;
+    assert_eq!(rt; journal.own().name.as_str(), "a");
+    assert_eq!(rt; journal.own().incarnation, 1);
+    let topic = topic(alloc)?;
+    let rows = Rows::new(walk_list(alloc, &journal, &topic)?).into_vec();
+    assert_eq!(rt; references(alloc, &rows)?.as_str(), "a.1.2 ");
+    let Some(Outcome::Removed(removed)) = outcome_at(&journal, 2) else {
+        return Err("an untrack".into());
+    };
+    let dots = removed.clone()?.into_vec();
+    assert_eq!(rt; dots.len(), 1);
+    assert!(rt; dots.first().is_some_and(|dot| dot.count == 1));
+    let payload = payload(alloc)?;
+    let text = payload.as_json().as_value().to_string(alloc)?;
+    assert_eq!(rt; text.as_str(), "[1]");
     Ok(())
 }
