@@ -15,9 +15,6 @@ use crate::spoil::spoil;
 use crate::topics::Topics;
 use std::alloc::Global;
 
-#[cfg(test)]
-mod tests;
-
 /// What a delivery gives.
 #[derive(Debug, Drop)]
 pub struct Delivery {

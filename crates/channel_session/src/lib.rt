@@ -20,8 +20,6 @@ mod replies;
 mod run;
 mod session;
 mod spoil;
-#[cfg(test)]
-mod tests;
 mod topics;
 
 pub use delivering::{Delivery, deliver};

@@ -1,8 +1,8 @@
 //! A session at its desk: over a shard of its own, by way of a port that can refuse a call.
 
-use super::port::TestPort;
-use super::texts::{JOIN, JOINED, error_reply, message, ok_reply};
-use crate::{Delivery, Session, SessionFault, deliver, end, run_text};
+use crate::port::TestPort;
+use crate::texts::{JOIN, JOINED, error_reply, message, ok_reply};
+use channel_session::{Delivery, Session, SessionFault, deliver, end, run_text};
 use hook_registry::Routes;
 use presence_base::{NodeName, Replica, Topic};
 use presence_journal::walk_topic;

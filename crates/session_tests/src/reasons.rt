@@ -1,8 +1,8 @@
 //! Each reason of an error reply, with all that it is answered for.
 
-use super::desk::{Desk, desk_of, joined_desk};
-use super::refusals::fault_for;
-use super::texts::{JOIN, JOINED, error_reply, message};
+use crate::desk::{Desk, desk_of, joined_desk};
+use crate::refusals::fault_for;
+use crate::texts::{JOIN, JOINED, error_reply, message};
 use std::alloc::Global;
 use tracker_shard::ShardFault;
 

@@ -1,5 +1,6 @@
-use super::deliver;
-use crate::{LocalPort, Session, SessionFault, run_text};
+//! Deliveries over a lent shard.
+
+use channel_session::{LocalPort, Session, SessionFault, deliver, run_text};
 use hook_registry::Routes;
 use presence_base::{NodeName, Replica};
 use std::alloc::{AllocError, Global};

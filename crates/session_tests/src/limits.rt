@@ -1,8 +1,8 @@
 //! Keys, metas and payloads at their limits.
 
-use super::desk::{Desk, joined_desk};
-use super::texts::message;
-use crate::SessionFault;
+use crate::desk::{Desk, joined_desk};
+use crate::texts::message;
+use channel_session::SessionFault;
 use phx_message::MessageFault;
 use std::alloc::{AllocError, Global};
 

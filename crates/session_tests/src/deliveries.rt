@@ -1,8 +1,8 @@
 //! Deliveries: what waits for each topic, in order of joining.
 
-use super::desk::{Desk, desk_of};
-use super::refusals::fault_for;
-use super::texts::{JOIN, JOINED, LATE, LATE_STATE, STATE};
+use crate::desk::{Desk, desk_of};
+use crate::refusals::fault_for;
+use crate::texts::{JOIN, JOINED, LATE, LATE_STATE, STATE};
 use std::alloc::{AllocError, Global};
 use tracker_shard::ShardFault;
 

@@ -1,8 +1,8 @@
 //! Each call that a text makes of the port refused in turn, and what that leaves.
 
-use super::desk::{Desk, desk_of};
-use super::texts::{CLOSE, JOIN, JOINED, LATE, LEAVE, LEFT, REJOIN, REJOINED, UPDATE, UPDATED};
-use crate::SessionFault;
+use crate::desk::{Desk, desk_of};
+use crate::texts::{CLOSE, JOIN, JOINED, LATE, LEAVE, LEFT, REJOIN, REJOINED, UPDATE, UPDATED};
+use channel_session::SessionFault;
 use std::alloc::Global;
 use tracker_shard::ShardFault;
 

@@ -1,7 +1,7 @@
 //! Joins, second joins and leaves.
 
-use super::desk::{Desk, desk_of, joined_desk};
-use super::texts::{
+use crate::desk::{Desk, desk_of, joined_desk};
+use crate::texts::{
     CLOSE, JOIN, JOINED, LEAVE, LEFT, NEXT_STATE, REJOIN, REJOINED, STATE, message,
 };
 use std::alloc::Global;

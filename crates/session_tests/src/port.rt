@@ -1,6 +1,6 @@
 //! A port over a shard that refuses one of its calls.
 
-use crate::Port;
+use channel_session::Port;
 use presence_base::{Dot, Json, Key, Meta, Row, Topic};
 use presence_journal::Item;
 use std::alloc::Global;

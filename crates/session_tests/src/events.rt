@@ -1,7 +1,7 @@
 //! Events of a joined topic, heartbeats, and what they are answered.
 
-use super::desk::{Desk, joined_desk};
-use super::texts::{STATE, message};
+use crate::desk::{Desk, joined_desk};
+use crate::texts::{STATE, message};
 use std::alloc::Global;
 
 #[test]
