@@ -1,6 +1,6 @@
 use crate::{
-    Limits, Message, MessageFault, MsgRef, Status, broadcast, close_of, decode, encode, push,
-    reply, reply_error, reply_ok,
+    Limits, MessageFault, MsgRef, Status, broadcast, close_of, decode, encode, push, reply,
+    reply_error, reply_ok,
 };
 use presence_base::{Json, Text, Topic};
 use serde_json::{Value, json};
@@ -30,14 +30,6 @@ fn nested(alloc: Global, depth: usize) -> Result<String, AllocError> {
     let opened = "[".repeat(alloc, depth)?;
     let closed = "]".repeat(alloc, depth)?;
     format!(in alloc; "{opened}{closed}")
-}
-
-fn lobby(alloc: Global) -> Result<Topic, Fail> {
-    Ok(Topic::new(alloc, "room:lobby")?.ok_or("a topic")?)
-}
-
-fn join_one(alloc: Global) -> Result<Option<MsgRef>, Fail> {
-    Ok(Some(MsgRef::Text(Text::new(alloc, "1")?)))
 }
 
 #[test]
@@ -131,109 +123,148 @@ fn depths_of_a_frame(rt: HostRuntime) -> Result<(), Fail> {
     Ok(())
 }
 
+fn fault_at_depth(alloc: Global, depth: usize) -> Result<Option<MessageFault>, AllocError> {
+    let payload = nested(alloc, depth)?;
+    let text = text_of(alloc, "a", "b", payload.as_str())?;
+    Ok(fault_of(alloc, text.as_str()))
+}
+
+#[test]
+fn depths_of_a_client(rt: HostRuntime) -> Result<(), Fail> {
+    let alloc = rt.alloc();
+    assert_eq!(rt; fault_at_depth(alloc, 64)?, None);
+    assert_eq!(rt; fault_at_depth(alloc, 65)?, Some(MessageFault::TooDeep));
+    Ok(())
+}
+
+// A message with so many spaces in its payload, which is 21 bytes longer.
+fn spaced(alloc: Global, spaces: usize) -> Result<String, AllocError> {
+    let spaces = " ".repeat(alloc, spaces)?;
+    let payload = format!(in alloc; "{}{spaces}", "{}")?;
+    text_of(alloc, "a", "b", payload.as_str())
+}
+
 #[test]
 fn sizes_of_a_client(rt: HostRuntime) -> Result<(), Fail> {
     let alloc = rt.alloc();
-    let shallow = nested(alloc, 64)?;
-    let deep = nested(alloc, 65)?;
-    let text = text_of(alloc, "a", "b", shallow.as_str())?;
-    assert_eq!(rt; fault_of(alloc, text.as_str()), None);
-    let text = text_of(alloc, "a", "b", deep.as_str())?;
-    assert_eq!(rt; fault_of(alloc, text.as_str()), Some(MessageFault::TooDeep));
-    let spaces = " ".repeat(alloc, 65_515)?;
-    let payload = format!(in alloc; "{}{spaces}", "{}")?;
-    let text = text_of(alloc, "a", "b", payload.as_str())?;
-    assert_eq!(rt; text.len(), 65_536);
-    assert_eq!(rt; fault_of(alloc, text.as_str()), None);
-    let text = format!(in alloc; "{text} ")?;
-    assert_eq!(rt; fault_of(alloc, text.as_str()), Some(MessageFault::TooLong));
+    for (spaces, bytes, fault) in [
+        (65_515, 65_536, None),
+        (65_516, 65_537, Some(MessageFault::TooLong)),
+    ] {
+        let text = spaced(alloc, spaces)?;
+        assert!(rt; text.len() == bytes);
+        assert!(rt; fault_of(alloc, text.as_str()) == fault);
+    }
     Ok(())
 }
+
+const NUMBERED: &str = "[7,18446744073709551615,\"room:a\",\"phx_join\",{\"b\":2,\"a\":1}]";
 
 #[test]
 fn number_references(rt: HostRuntime) -> Result<(), Fail> {
-    let alloc = rt.alloc();
-    let text = "[7,18446744073709551615,\"room:a\",\"phx_join\",{\"b\":2,\"a\":1}]";
-    let message = decode(alloc, text, Limits::CLIENT)?;
-    assert_eq!(rt; message.join_ref, Some(MsgRef::Number(7)));
-    assert_eq!(rt; message.msg_ref, Some(MsgRef::Number(u64::MAX)));
-    assert_eq!(rt; message.topic.as_str(), "room:a");
-    assert_eq!(rt; message.event.as_str(), "phx_join");
-    let copy = message.clone()?;
-    let written = encode(alloc, &copy)?;
-    assert_eq!(rt;
-        written.as_str(),
-        "[7,18446744073709551615,\"room:a\",\"phx_join\",{\"a\":1,\"b\":2}]"
-    );
+    let message = decode(rt.alloc(), NUMBERED, Limits::CLIENT)?;
+    assert!(rt; message.join_ref == Some(MsgRef::Number(7)));
+    assert!(rt; message.msg_ref == Some(MsgRef::Number(u64::MAX)));
+    assert!(rt; message.topic.as_str() == "room:a");
+    assert!(rt; message.event.as_str() == "phx_join");
     Ok(())
 }
 
-// The text of a made message.
-fn text_of_made(alloc: Global, message: Message) -> Result<String, AllocError> {
-    encode(alloc, &message)
+// The text of a clone of what is read.
+fn written_again(alloc: Global, text: &str) -> Result<Option<String>, AllocError> {
+    let Ok(message) = decode(alloc, text, Limits::CLIENT) else {
+        return Ok(None);
+    };
+    let copy = message.clone()?;
+    Ok(Some(encode(alloc, &copy)?))
+}
+
+#[test]
+fn a_clone_is_written_in_order(rt: HostRuntime) -> Result<(), Fail> {
+    let want = "[7,18446744073709551615,\"room:a\",\"phx_join\",{\"a\":1,\"b\":2}]";
+    let text = written_again(rt.alloc(), NUMBERED)?;
+    assert!(rt; text.is_some_and(|text| text.as_str() == want));
+    Ok(())
+}
+
+fn empty(alloc: Global) -> Result<Json, AllocError> {
+    Ok(Json::new(json!(in alloc; {})?))
+}
+
+fn join_one(alloc: Global) -> Result<Option<MsgRef>, AllocError> {
+    Ok(Some(MsgRef::Text(Text::new(alloc, "1")?)))
+}
+
+fn topic(alloc: Global, text: &str) -> Result<Topic, Fail> {
+    Ok(Topic::new(alloc, text)?.ok_or("a topic")?)
+}
+
+fn ok_text(alloc: Global, topic: Topic) -> Result<String, AllocError> {
+    let msg_ref = join_one(alloc)?;
+    let made = reply_ok(alloc, None, msg_ref, topic, empty(alloc)?)?;
+    encode(alloc, &made)
+}
+
+fn error_text(alloc: Global, topic: Topic) -> Result<String, AllocError> {
+    let made = reply_error(alloc, join_one(alloc)?, None, topic, "already tracked")?;
+    encode(alloc, &made)
+}
+
+fn null_text(alloc: Global, topic: Topic) -> Result<String, AllocError> {
+    let answer = Json::new(Value::Null);
+    let made = reply(alloc, None, None, topic, Status::Error, answer)?;
+    encode(alloc, &made)
 }
 
 #[test]
 fn texts_of_replies(rt: HostRuntime) -> Result<(), Fail> {
     let alloc = rt.alloc();
-    let phoenix = Topic::new(alloc, "phoenix")?.ok_or("a topic")?;
-    let response = Json::new(json!(in alloc; {})?);
-    let made = reply_ok(alloc, None, join_one(alloc)?, phoenix, response)?;
-    let text = text_of_made(alloc, made)?;
     assert_eq!(rt;
-        text.as_str(),
+        ok_text(alloc, topic(alloc, "phoenix")?)?.as_str(),
         "[null,\"1\",\"phoenix\",\"phx_reply\",{\"response\":{},\"status\":\"ok\"}]"
     );
-    let refused = reply_error(
-        alloc,
-        join_one(alloc)?,
-        None,
-        lobby(alloc)?,
-        "already tracked",
-    )?;
-    let text = text_of_made(alloc, refused)?;
     assert_eq!(rt;
-        text.as_str(),
+        error_text(alloc, topic(alloc, "room:lobby")?)?.as_str(),
         "[\"1\",null,\"room:lobby\",\"phx_reply\",{\"response\":{\"reason\":\"already tracked\"},\"status\":\"error\"}]"
     );
+    assert_eq!(rt;
+        null_text(alloc, topic(alloc, "room:lobby")?)?.as_str(),
+        "[null,null,\"room:lobby\",\"phx_reply\",{\"response\":null,\"status\":\"error\"}]"
+    );
     Ok(())
+}
+
+fn state_text(alloc: Global, topic: Topic) -> Result<String, AllocError> {
+    let join_ref = join_one(alloc)?;
+    let made = push(alloc, join_ref, topic, "presence_state", empty(alloc)?)?;
+    encode(alloc, &made)
+}
+
+fn shout_text(alloc: Global, topic: Topic) -> Result<String, AllocError> {
+    let payload = Json::new(json!(in alloc; {"b": 2})?);
+    let made = broadcast(alloc, topic, "shout", payload)?;
+    encode(alloc, &made)
+}
+
+fn close_text(alloc: Global, topic: Topic) -> Result<String, AllocError> {
+    let made = close_of(alloc, join_one(alloc)?, topic)?;
+    encode(alloc, &made)
 }
 
 #[test]
 fn texts_of_other_messages(rt: HostRuntime) -> Result<(), Fail> {
     let alloc = rt.alloc();
-    let state = Json::new(json!(in alloc; {})?);
-    let made = push(
-        alloc,
-        join_one(alloc)?,
-        lobby(alloc)?,
-        "presence_state",
-        state,
-    )?;
-    let text = text_of_made(alloc, made)?;
     assert_eq!(rt;
-        text.as_str(),
+        state_text(alloc, topic(alloc, "room:lobby")?)?.as_str(),
         "[\"1\",null,\"room:lobby\",\"presence_state\",{}]"
     );
-    let shout = Json::new(json!(in alloc; {"b": 2})?);
-    let made = broadcast(alloc, lobby(alloc)?, "shout", shout)?;
-    let text = text_of_made(alloc, made)?;
     assert_eq!(rt;
-        text.as_str(),
+        shout_text(alloc, topic(alloc, "room:lobby")?)?.as_str(),
         "[null,null,\"room:lobby\",\"shout\",{\"b\":2}]"
     );
-    let made = close_of(alloc, join_one(alloc)?, lobby(alloc)?)?;
-    let text = text_of_made(alloc, made)?;
     assert_eq!(rt;
-        text.as_str(),
+        close_text(alloc, topic(alloc, "room:lobby")?)?.as_str(),
         "[\"1\",\"1\",\"room:lobby\",\"phx_close\",{}]"
-    );
-    let answer = Json::new(Value::Null);
-    let made = reply(alloc, None, None, lobby(alloc)?, Status::Error, answer)?;
-    let text = text_of_made(alloc, made)?;
-    assert_eq!(rt;
-        text.as_str(),
-        "[null,null,\"room:lobby\",\"phx_reply\",{\"response\":null,\"status\":\"error\"}]"
     );
     Ok(())
 }

@@ -1,3 +1,5 @@
+ghost use Rattle.std.specs.Prelude.{◌<◌};
+
 use crate::{
     Dot, Json, Key, MAX_COUNT, Meta, NodeName, Replica, Row, Text, Topic, has_float,
     is_within_depth, read_ref, ref_text, shard_of,
@@ -16,19 +18,23 @@ fn dot(alloc: Global, name: &str, incarnation: u64, count: u64) -> Result<Option
     }
 }
 
+// Whether the text is a name, and the name's text.
 fn is_name(alloc: Global, text: &str) -> Result<bool, AllocError> {
-    Ok(NodeName::new(alloc, text)?.is_some())
+    Ok(NodeName::new(alloc, text)?.is_some_and(|name| name.as_str() == text))
 }
 
 #[test]
 fn names_within_their_limits(rt: HostRuntime) -> Result<(), Fail> {
     let alloc = rt.alloc();
-    let name = NodeName::new(alloc, "a9")?.ok_or("a name")?;
-    assert!(rt; name.as_str() == "a9");
-    assert!(rt; is_name(alloc, "abcdefghijklmnopqrstuvwxyz012345")?);
-    assert!(rt; !is_name(alloc, "abcdefghijklmnopqrstuvwxyz0123456")?);
-    assert!(rt; !is_name(alloc, "")?);
-    assert!(rt; !is_name(alloc, "aB")?);
+    for (text, want) in [
+        ("a9", true),
+        ("abcdefghijklmnopqrstuvwxyz012345", true),
+        ("abcdefghijklmnopqrstuvwxyz0123456", false),
+        ("", false),
+        ("aB", false),
+    ] {
+        assert!(rt; is_name(alloc, text)? == want, "{text}");
+    }
     Ok(())
 }
 
@@ -72,24 +78,59 @@ fn texts_in_order_of_bytes(rt: HostRuntime) -> Result<(), Fail> {
     Ok(())
 }
 
+fn ref_of(
+    alloc: Global,
+    name: &str,
+    incarnation: u64,
+    count: u64,
+) -> Result<Option<String>, AllocError> {
+    match dot(alloc, name, incarnation, count)? {
+        Some(dot) => Ok(Some(ref_text(alloc, &dot)?)),
+        None => Ok(None),
+    }
+}
+
 #[test]
 fn references(rt: HostRuntime) -> Result<(), Fail> {
     let alloc = rt.alloc();
-    let first = dot(alloc, "a", 1, 1)?.ok_or("a dot")?;
-    let last = dot(alloc, "b2", 7, MAX_COUNT)?.ok_or("a dot")?;
-    assert!(rt; ref_text(alloc, &first)?.as_str() == "a.1.1");
-    assert!(rt; ref_text(alloc, &last)?.as_str() == "b2.7.4611686018427387904");
-    assert!(rt; first < last);
-    assert!(rt; first.clone()? == first);
+    let first = ref_of(alloc, "a", 1, 1)?;
+    assert!(rt; first.is_some_and(|text| text.as_str() == "a.1.1"));
+    let last = ref_of(alloc, "b2", 7, MAX_COUNT)?;
+    assert!(rt; last.is_some_and(|text| text.as_str() == "b2.7.4611686018427387904"));
+    Ok(())
+}
+
+#[test]
+fn dots_in_order(rt: HostRuntime) -> Result<(), Fail> {
+    let alloc = rt.alloc();
+    let first = dot(alloc, "a", 1, 1)?;
+    let last = dot(alloc, "b2", 7, 1)?;
+    assert!(rt; first.is_some_and(|first| last.is_some_and(|last| first < last)));
+    Ok(())
+}
+
+// Whether a clone of the dot is equal to it.
+fn clones_alike(dot: &Dot) -> Result<bool, AllocError> {
+    Ok(dot.clone()? == *dot)
+}
+
+#[test]
+fn dots_are_cloned_whole(rt: HostRuntime) -> Result<(), Fail> {
+    let alloc = rt.alloc();
+    match dot(alloc, "b2", 7, MAX_COUNT)? {
+        Some(dot) => {
+            let alike = clones_alike(&dot)?;
+            assert!(rt; alike);
+        }
+        None => assert!(rt; false),
+    }
     Ok(())
 }
 
 #[test]
 fn references_are_read(rt: HostRuntime) -> Result<(), Fail> {
-    let parts = read_ref("b2.7.10").ok_or("a reference")?;
-    assert!(rt; parts.name == "b2");
-    assert_eq!(rt; parts.incarnation, 7);
-    assert_eq!(rt; parts.count, 10);
+    let parts = read_ref("b2.7.10");
+    assert!(rt; parts.is_some_and(|it| it.name == "b2" && it.incarnation == 7 && it.count == 10));
     for bad in [
         "a.1",
         "a.1.1.1",
@@ -106,15 +147,21 @@ fn references_are_read(rt: HostRuntime) -> Result<(), Fail> {
     Ok(())
 }
 
+fn shard_of_text(alloc: Global, text: &str, shards: u32) -> Result<Option<u32>, AllocError>
+    requires { 0 < shards }
+{
+    match Topic::new(alloc, text)? {
+        Some(topic) => Ok(Some(shard_of(&topic, shards))),
+        None => Ok(None),
+    }
+}
+
 #[test]
 fn shard_numbers(rt: HostRuntime) -> Result<(), Fail> {
     let alloc = rt.alloc();
-    let lobby = Topic::new(alloc, "room:lobby")?.ok_or("a topic")?;
-    assert_eq!(rt; shard_of(&lobby, 4), 3);
-    let room_a = Topic::new(alloc, "room:a")?.ok_or("a topic")?;
-    assert_eq!(rt; shard_of(&room_a, 2), 0);
-    let room_b = Topic::new(alloc, "room:b")?.ok_or("a topic")?;
-    assert_eq!(rt; shard_of(&room_b, 2), 1);
+    assert!(rt; shard_of_text(alloc, "room:lobby", 4)? == Some(3));
+    assert!(rt; shard_of_text(alloc, "room:a", 2)? == Some(0));
+    assert!(rt; shard_of_text(alloc, "room:b", 2)? == Some(1));
     Ok(())
 }
 
@@ -127,11 +174,18 @@ fn is_meta(alloc: Global, text: &str) -> Result<bool, Fail> {
     Ok(meta_of(alloc, text)?.is_some())
 }
 
+fn meta_written(alloc: Global, text: &str) -> Result<Option<String>, Fail> {
+    match meta_of(alloc, text)? {
+        Some(meta) => Ok(Some(meta.as_value().to_string(alloc)?)),
+        None => Ok(None),
+    }
+}
+
 #[test]
 fn metas_are_plain_objects(rt: HostRuntime) -> Result<(), Fail> {
     let alloc = rt.alloc();
-    let meta = meta_of(alloc, "{\"x\":1}")?.ok_or("a meta")?;
-    assert!(rt; meta.as_value().to_string(alloc)?.as_str() == "{\"x\":1}");
+    let text = meta_written(alloc, "{\"x\":1}")?;
+    assert!(rt; text.is_some_and(|text| text.as_str() == "{\"x\":1}"));
     for bad in [
         "null",
         "[]",
@@ -197,18 +251,38 @@ fn depth_of_values(rt: HostRuntime) -> Result<(), Fail> {
     Ok(())
 }
 
+fn row_of(topic: Topic, key: Key, meta: Meta, prev: Option<Dot>) -> Row {
+    Row {
+        topic,
+        key,
+        pid: 5,
+        meta,
+        prev,
+    }
+}
+
+fn some_row(alloc: Global) -> Result<Row, Fail> {
+    let topic = Topic::new(alloc, "room:a")?.ok_or("a topic")?;
+    let key = Key::new(alloc, "u1")?.ok_or("a key")?;
+    let meta = meta_of(alloc, "{}")?.ok_or("a meta")?;
+    let prev = dot(alloc, "a", 1, 3)?;
+    Ok(row_of(topic, key, meta, prev))
+}
+
+fn are_alike(row: &Row, other: &Row) -> bool {
+    row.topic == other.topic && row.key == other.key && row.pid == other.pid
+}
+
+fn replaces(row: &Row, count: u64) -> bool {
+    row.prev.as_ref().is_some_and(|dot| dot.count == count)
+}
+
 #[test]
 fn rows_are_cloned_whole(rt: HostRuntime) -> Result<(), Fail> {
     let alloc = rt.alloc();
-    let row = Row {
-        topic: Topic::new(alloc, "room:a")?.ok_or("a topic")?,
-        key: Key::new(alloc, "u1")?.ok_or("a key")?,
-        pid: 5,
-        meta: meta_of(alloc, "{}")?.ok_or("a meta")?,
-        prev: dot(alloc, "a", 1, 3)?,
-    };
+    let row = some_row(alloc)?;
     let copy = row.clone()?;
-    assert!(rt; copy.topic == row.topic && copy.key == row.key && copy.pid == 5);
-    assert!(rt; copy.prev.is_some_and(|dot| dot.count == 3));
+    assert!(rt; copy.pid == 5 && are_alike(&copy, &row));
+    assert!(rt; replaces(&copy, 3));
     Ok(())
 }

@@ -1,7 +1,7 @@
 use crate::{
-    Journal, MAX_PAYLOAD_DEPTH, MAX_TAKEN, Outcome, Payload, Pending, Rows, Step, TakeLimit,
-    walk_count, walk_diff, walk_get, walk_list, walk_next_dot, walk_outcome, walk_own_row,
-    walk_own_rows, walk_pending, walk_topic,
+    Entry, Journal, MAX_PAYLOAD_DEPTH, MAX_TAKEN, Outcome, Payload, Pending, RowDiff, Rows, Step,
+    TakeLimit, walk_count, walk_diff, walk_get, walk_list, walk_next_dot, walk_outcome,
+    walk_own_row, walk_own_rows, walk_pending, walk_topic,
 };
 use presence_base::{
     Dot, Json, Key, Meta, NodeName, Replica, Row, Topic, has_float, is_within_depth, ref_text,
@@ -158,6 +158,11 @@ fn outcome_at(journal: &Journal, place: usize) -> Option<&Outcome> {
     Some(&entry.outcome)
 }
 
+// Whether a text is the wanted one.
+fn is_text(text: String, want: &str) -> bool {
+    text.as_str() == want
+}
+
 // The references of rows, each with a space after it.
 fn references(alloc: Global, rows: &[(Dot, Row)]) -> Result<String, AllocError> {
     let mut text = String::new(alloc);
@@ -195,20 +200,35 @@ fn of_pid_and_key(alloc: Global, journal: &Journal, pid: u64, name: &str) -> Res
     Ok(references(alloc, &rows)?)
 }
 
-// The references that joined and left by an entry.
-fn difference(
-    alloc: Global,
-    journal: &Journal,
-    place: usize,
-) -> Result<Option<(String, String)>, Fail> {
+// How the room changed by an entry.
+fn difference(alloc: Global, journal: &Journal, place: usize) -> Result<Option<RowDiff>, Fail> {
     if place >= journal.entries().len() {
         return Ok(None);
     }
     let topic = topic(alloc)?;
-    let diff = walk_diff(alloc, journal, place, &topic)?;
-    let joins = references(alloc, diff.joins.as_slice())?;
-    let leaves = references(alloc, diff.leaves.as_slice())?;
-    Ok(Some((joins, leaves)))
+    Ok(Some(walk_diff(alloc, journal, place, &topic)?))
+}
+
+// Whether these are the references of the rows that joined and left.
+fn tells(alloc: Global, diff: &RowDiff, joins: &str, leaves: &str) -> Result<bool, AllocError> {
+    if !is_text(references(alloc, diff.joins.as_slice())?, joins) {
+        return Ok(false);
+    }
+    Ok(is_text(references(alloc, diff.leaves.as_slice())?, leaves))
+}
+
+// Whether these references joined and left by an entry.
+fn changes_so(
+    alloc: Global,
+    journal: &Journal,
+    place: usize,
+    joins: &str,
+    leaves: &str,
+) -> Result<bool, Fail> {
+    match difference(alloc, journal, place)? {
+        Some(diff) => Ok(tells(alloc, &diff, joins, leaves)?),
+        None => Ok(false),
+    }
 }
 
 // How many items wait, none where the subscriber is behind or not present.
@@ -238,7 +258,7 @@ fn the_journal_of_the_first_run(rt: HostRuntime) -> Result<(), Fail> {
     assert!(rt; matches!(outcome_at(&journal, 3), Some(Outcome::Taken(false, 1))));
     assert_eq!(rt; journal.last_number(), 5);
     assert_eq!(rt; walk_count(&journal), 1);
-    assert!(rt; listed(rt.alloc(), &journal)?.as_str() == "a.1.1 ");
+    assert!(rt; is_text(listed(rt.alloc(), &journal)?, "a.1.1 "));
     Ok(())
 }
 
@@ -252,9 +272,9 @@ fn two_pids_on_one_key(rt: HostRuntime) -> Result<(), Fail> {
     ];
     let journal = journal_of(rt.alloc(), &asks)?;
     assert!(rt; matches!(outcome_at(&journal, 2), Some(Outcome::AlreadyTracked)));
-    assert!(rt; of_key(rt.alloc(), &journal, "u1")?.as_str() == "a.1.1 a.1.2 ");
-    assert!(rt; of_pid(rt.alloc(), &journal, 1)?.as_str() == "a.1.1 ");
-    assert!(rt; of_pid_and_key(rt.alloc(), &journal, 2, "u1")?.as_str() == "a.1.2 ");
+    assert!(rt; is_text(of_key(rt.alloc(), &journal, "u1")?, "a.1.1 a.1.2 "));
+    assert!(rt; is_text(of_pid(rt.alloc(), &journal, 1)?, "a.1.1 "));
+    assert!(rt; is_text(of_pid_and_key(rt.alloc(), &journal, 2, "u1")?, "a.1.2 "));
     Ok(())
 }
 
@@ -267,7 +287,7 @@ fn an_untrack_leaves_the_other_pid(rt: HostRuntime) -> Result<(), Fail> {
         Ask::UntrackAll(7),
     ];
     let journal = journal_of(rt.alloc(), &asks)?;
-    assert!(rt; listed(rt.alloc(), &journal)?.as_str() == "a.1.2 ");
+    assert!(rt; is_text(listed(rt.alloc(), &journal)?, "a.1.2 "));
     assert!(rt; walk_next_dot(&journal)?.is_some_and(|dot| dot.count == 4));
     Ok(())
 }
@@ -281,9 +301,7 @@ fn an_update_and_its_difference(rt: HostRuntime) -> Result<(), Fail> {
     ];
     let journal = journal_of(rt.alloc(), &asks)?;
     assert!(rt; matches!(outcome_at(&journal, 2), Some(Outcome::NoPresence)));
-    let (joins, leaves) = difference(rt.alloc(), &journal, 1)?.ok_or("an entry")?;
-    assert!(rt; joins.as_str() == "a.1.2 ");
-    assert!(rt; leaves.as_str() == "a.1.1 ");
+    assert!(rt; changes_so(rt.alloc(), &journal, 1, "a.1.2 ", "a.1.1 ")?);
     Ok(())
 }
 
@@ -321,22 +339,31 @@ fn shouted(alloc: Global, count: u32) -> Result<Journal, Fail> {
     Ok(journal)
 }
 
+// How many items wait behind this many shouts.
+fn waiting_behind(alloc: Global, count: u32) -> Result<Option<usize>, Fail> {
+    let journal = shouted(alloc, count)?;
+    Ok(waiting(alloc, &journal, 1)?)
+}
+
 #[test]
 fn the_257th_item_makes_a_subscriber_behind(rt: HostRuntime) -> Result<(), Fail> {
-    let most = shouted(rt.alloc(), 256)?;
-    assert!(rt; waiting(rt.alloc(), &most, 1)? == Some(256));
-    let more = shouted(rt.alloc(), 257)?;
-    assert!(rt; waiting(rt.alloc(), &more, 1)?.is_none());
+    assert!(rt; waiting_behind(rt.alloc(), 256)? == Some(256));
+    assert!(rt; waiting_behind(rt.alloc(), 257)?.is_none());
     Ok(())
+}
+
+// Whether a clone of the entry has this number, and an untrack of session 3.
+fn clone_untracks(entry: &Entry, number: u64) -> bool {
+    entry.clone().is_ok_and(|copy| {
+        copy.number == number && matches!(copy.step, Step::UntrackAll { pid: 3, .. })
+    })
 }
 
 #[test]
 fn an_entry_is_cloned(rt: HostRuntime) -> Result<(), Fail> {
     let journal = journal_of(rt.alloc(), &[Ask::Track(3, "u1"), Ask::UntrackAll(3)])?;
-    let entry = journal.entries().get(1).ok_or("an entry")?;
-    let copy = entry.clone()?;
-    assert_eq!(rt; copy.number, 2);
-    assert!(rt; matches!(copy.step, Step::UntrackAll { pid: 3, .. }));
+    let entry = journal.entries().get(1);
+    assert!(rt; entry.is_some_and(|entry| clone_untracks(entry, 2)));
     Ok(())
 }
 
@@ -373,23 +400,42 @@ fn the_deepest_payload(rt: HostRuntime) -> Result<(), Fail> {
 }
 
 #[test]
-fn what_was_put_in_is_given_back(rt: HostRuntime) -> Result<(), Fail> {
-    let alloc = rt.alloc();
-    let asks = [Ask::Track(1, "u1"), Ask::Track(2, "u1"), Ask::UntrackAll(1)];
-    let journal = journal_of(alloc, &asks)?;
-    assert_eq!(rt; journal.own().name.as_str(), "a");
-    assert_eq!(rt; journal.own().incarnation, 1);
+fn a_journal_names_its_own_replica(rt: HostRuntime) -> Result<(), Fail> {
+    let journal = empty_journal(rt.alloc())?;
+    assert!(rt; journal.own().name.as_str() == "a" && journal.own().incarnation == 1);
+    Ok(())
+}
+
+// The references of the present rows, which were put into a list and given back by it.
+fn given_back(alloc: Global, journal: &Journal) -> Result<String, Fail> {
     let topic = topic(alloc)?;
-    let rows = Rows::new(walk_list(alloc, &journal, &topic)?).into_vec();
-    assert_eq!(rt; references(alloc, &rows)?.as_str(), "a.1.2 ");
-    let Some(Outcome::Removed(removed)) = outcome_at(&journal, 2) else {
-        return Err("an untrack".into());
+    let rows = Rows::new(walk_list(alloc, journal, &topic)?);
+    Ok(references(alloc, &rows.into_vec())?)
+}
+
+// Whether the dots of a removal, given back by their list, are one dot of this count.
+fn removes(outcome: &Outcome, count: u64) -> bool {
+    let Outcome::Removed(removed) = outcome else {
+        return false;
     };
-    let dots = removed.clone()?.into_vec();
-    assert_eq!(rt; dots.len(), 1);
-    assert!(rt; dots.first().is_some_and(|dot| dot.count == 1));
-    let payload = payload(alloc)?;
-    let text = payload.as_json().as_value().to_string(alloc)?;
-    assert_eq!(rt; text.as_str(), "[1]");
+    removed.clone().is_ok_and(|removed| {
+        let dots = removed.into_vec();
+        dots.len() == 1 && dots.first().is_some_and(|dot| dot.count == count)
+    })
+}
+
+#[test]
+fn lists_give_back_what_was_put_in(rt: HostRuntime) -> Result<(), Fail> {
+    let asks = [Ask::Track(1, "u1"), Ask::Track(2, "u1"), Ask::UntrackAll(1)];
+    let journal = journal_of(rt.alloc(), &asks)?;
+    assert!(rt; is_text(given_back(rt.alloc(), &journal)?, "a.1.2 "));
+    assert!(rt; outcome_at(&journal, 2).is_some_and(|outcome| removes(outcome, 1)));
+    Ok(())
+}
+
+#[test]
+fn a_payload_lends_its_value(rt: HostRuntime) -> Result<(), Fail> {
+    let payload = payload(rt.alloc())?;
+    assert!(rt; is_text(payload.as_json().as_value().to_string(rt.alloc())?, "[1]"));
     Ok(())
 }
