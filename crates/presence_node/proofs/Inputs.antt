@@ -4,8 +4,9 @@ use Rattle.std.proofs.lemmas.Grind.{common_steps}
 use Rattle.std.proofs.lemmas.Bool.Decides.{nat_tests}
 use Rattle.std.specs.Io.KnownBytes.{IsAtEnd}
 use Rattle.presence_node.specs.declared.fault.LineFault.{LineFault}
+use Rattle.presence_node.specs.declared.fault.LineFault.TheVariants.{Message as no_message, Session as stopped_by}
 use Rattle.presence_node.specs.declared.fault.StdioFault.{StdioFault}
-use Rattle.presence_node.specs.declared.fault.StdioFault.TheVariants.{Line, Read, Write, Memory}
+use Rattle.presence_node.specs.declared.fault.StdioFault.TheVariants.{Line, Session, Read, Write, Memory}
 use Rattle.presence_node.specs.Bytes.{IsWhole, HasRead}
 use Rattle.presence_node.specs.Lines.{lines_of, first_line, after_line, lacks_feed}
 use Rattle.presence_node.specs.Session.{State, Answer, answer}
@@ -106,8 +107,11 @@ refused_input s input rest lines part f h w ends =
 tells_input : (max : ℕ) (s : State) (input : List ℕ) (left old new : Option (List ℕ)) (r : Result ℕ StdioFault) → Tells max s (Some input) left old new r → TellsInput max s old new input r
 tells_input max s input left old new (Ok n) t = subst (λ ls. TellsAll max old new (run s ls) n finished) (sym (all_lines 65536 input left t.lines t.part t.read t.told.0 t.told.1)) t.told.2
 tells_input max s input None old new (Err (Line n f)) t = absurd t.read.splits
+tells_input max s input None old new (Err (Session n f)) t = absurd t.read.splits
 tells_input max s input (Some rest) old new (Err (Line n f)) t =
-    subst (λ (r : Run). TellsAll max old new r n (refused f)) (sym (refused_input s input rest t.lines t.part f t.read t.told.0 t.told.1.ends)) t.told.1
+    subst (λ (r : Run). TellsAll max old new r n (refused (no_message f))) (sym (refused_input s input rest t.lines t.part (no_message f) t.read t.told.0 t.told.1.ends)) t.told.1
+tells_input max s input (Some rest) old new (Err (Session n f)) t =
+    subst (λ (r : Run). TellsAll max old new r n (refused (stopped_by f))) (sym (refused_input s input rest t.lines t.part (stopped_by f) t.read t.told.0 t.told.1.ends)) t.told.1
 tells_input max s input left old new (Err Read) t = tt
 tells_input max s input left old new (Err Write) t = tt
 tells_input max s input left old new (Err Memory) t = tt

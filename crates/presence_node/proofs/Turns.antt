@@ -3,22 +3,28 @@ use Rattle.std.proofs.Common.{◌≡◌, ◌≤◌, ◌<◌, ◌+◌, ℕ, suc, 
 use Rattle.std.proofs.lemmas.Grind.{common_steps}
 use Rattle.std.specs.Io.KnownBytes.{Keeps, Consumes, Appends}
 use Rattle.presence_node.specs.declared.fault.LineFault.{LineFault}
+use Rattle.presence_node.specs.declared.fault.LineFault.TheVariants.{Message as no_message, Session as stopped_by}
 use Rattle.presence_node.specs.declared.fault.StdioFault.{StdioFault}
-use Rattle.presence_node.specs.declared.fault.StdioFault.TheVariants.{Line, Read, Write, Memory}
+use Rattle.presence_node.specs.declared.fault.StdioFault.TheVariants.{Line, Session, Read, Write, Memory}
 use Rattle.presence_node.specs.Bytes.{FindsEnd, TakesLine, AppendsFront, HasRead}
 use Rattle.presence_node.specs.Lines.{first_line}
 use Rattle.presence_node.specs.Session.{State, answer}
-use Rattle.presence_node.specs.Run.{Ending, finished, refused, Run, behind, run_next, run, TellsAll, Tells, AnswersLine, AnswerOf, TurnsLine, TurnOf}
+use Rattle.presence_node.specs.Run.{Ending, finished, refused, Run, behind, run_next, run, TellsAll, RefusesLine, Tells, AnswersLine, AnswerOf, TurnsLine, TurnOf}
 use Rattle.presence_node.proofs.Known.{appends-itself, appends-then, appends-keeps}
 use Rattle.presence_node.proofs.Taken.{reads_none, reads_part, reads_more, one_part}
 use Rattle.presence_node.proofs.Sessions.{is_whole}
 
 -- ---- one turn
 
+-- what was read is the line that was shown
+turned_line : (s : State) (next : Result State LineFault) (before left old new : Option (List ℕ)) (line shown : List ℕ) → TakesLine 65536 before left line → shown ≡ line → AnswersLine s next old new shown → TurnsLine s next before left old new
+turned_line s next before left old new line shown t e a = record { line = line; read = t; answers = subst (λ v. AnswersLine s next old new v) e a }
+
 -- a line was read, and a fault came
 pub turn_refused : (n : ℕ) (s after : State) (before left old new : Option (List ℕ)) (line shown : List ℕ) (fault : StdioFault) → TakesLine 65536 before left line → shown ≡ line
     → AnswerOf {T = Unit {0}} n s after old new shown (Err fault) → TurnOf n s after before left old new (Err fault)
-turn_refused n s after before left old new line shown (Line k f) t e a = (a.0, record { line = line; read = t; answers = subst (λ v. AnswersLine s (Err f) old new v) e a.1 })
+turn_refused n s after before left old new line shown (Line k f) t e a = (a.0, turned_line s (Err (no_message f)) before left old new line shown t e a.1)
+turn_refused n s after before left old new line shown (Session k f) t e a = (a.0, turned_line s (Err (stopped_by f)) before left old new line shown t e a.1)
 turn_refused n s after before left old new line shown Read t e a = absurd a
 turn_refused n s after before left old new line shown Write t e a = record { line = line; read = t; part = subst (λ v. AppendsFront old new (answer s v).text) e a }
 turn_refused n s after before left old new line shown Memory t e a = record { part = t.part; taken = t.taken; is_part = t.is_whole.is_part; kept = a }
@@ -144,26 +150,36 @@ line_text s l = told (answer s l).text (answer s l).next
     told text (Ok t) = none_more text
     told text (Err f) = refl
 
+-- a refused line in a turn
+told_refused : (max : ℕ) (from : State) (before mid left old between new : Option (List ℕ)) (s : State) (n k : ℕ) (f : LineFault) (st : Stands from before mid old between s n) → n < max → k ≡ n + 1 → (t : TurnsLine s (Err f) mid left between new)
+    → RefusesLine max from st.lines t.read.part left old new k f
+told_refused max from before mid left old between new s n k f st few same t =
+    let shown = subst (λ v. AnswersLine s (Err f) between new v) (sym t.read.is_line) t.answers in
+    let whole = st.going.goes (first_line t.read.part ∷ []) ∙ ap (further (length st.lines) st.done) (last_line_run s f (first_line t.read.part) [] shown.follows) in (
+      t.read.is_whole,
+      record {
+        text = rw whole (appends-then old between new st.done (answer s (first_line t.read.part)).text st.text shown.text);
+        lines = ap (λ (r : Run). r.lines) whole ∙ ap (λ i. i + 1) st.count ∙ sym same;
+        ends = ap (λ (r : Run). r.ending) whole;
+        few = omega (arith, few, same);
+      },
+    )
+
 -- a fault in a turn
 pub tells_fault : (max : ℕ) (from : State) (before mid left old between new : Option (List ℕ)) (s after : State) (n : ℕ) (fault : StdioFault) → Stands from before mid old between s n → n < max
     → TurnOf (n + 1) s after mid left between new (Err fault) → Tells max from before left old new (Err fault)
-tells_fault max from before mid left old between new s after n (Line k f) st few turned =
-    let t = turned.1 in
-    let shown = subst (λ v. AnswersLine s (Err f) between new v) (sym t.read.is_line) t.answers in
-    let whole = st.going.goes (first_line t.read.part ∷ []) ∙ ap (further (length st.lines) st.done) (last_line_run s f (first_line t.read.part) [] shown.follows) in record {
-      lines = st.lines;
-      part = t.read.part;
-      read = reads_part 65536 before mid left st.lines t.read.part st.read t.read.taken;
-      told = (
-        t.read.is_whole,
-        record {
-          text = rw whole (appends-then old between new st.done (answer s (first_line t.read.part)).text st.text shown.text);
-          lines = ap (λ (r : Run). r.lines) whole ∙ ap (λ i. i + 1) st.count ∙ sym turned.0;
-          ends = ap (λ (r : Run). r.ending) whole;
-          few = let same = turned.0 in omega arith;
-        },
-      );
-    }
+tells_fault max from before mid left old between new s after n (Line k f) st few turned = record {
+  lines = st.lines;
+  part = turned.1.read.part;
+  read = reads_part 65536 before mid left st.lines turned.1.read.part st.read turned.1.read.taken;
+  told = told_refused max from before mid left old between new s n k (no_message f) st few turned.0 turned.1;
+}
+tells_fault max from before mid left old between new s after n (Session k f) st few turned = record {
+  lines = st.lines;
+  part = turned.1.read.part;
+  read = reads_part 65536 before mid left st.lines turned.1.read.part st.read turned.1.read.taken;
+  told = told_refused max from before mid left old between new s n k (stopped_by f) st few turned.0 turned.1;
+}
 tells_fault max from before mid left old between new s after n Read st few turned = record {
   lines = st.lines;
   part = turned.0.part;

@@ -2,11 +2,12 @@
 use Rattle.std.specs.Prelude.{◌≡◌, ◌≤◌, ◌<◌, ℕ, suc, List, [], ◌∷◌, ◌++◌, length, take, Bool, true, false, Option, Result, Ok, Err}
 use Rattle.std.specs.Io.KnownBytes.{Keeps, Consumes, Appends, IsAtEnd}
 use Rattle.presence_node.specs.declared.fault.LineFault.{LineFault}
+use Rattle.presence_node.specs.declared.fault.LineFault.TheVariants.{Message as no_message, Session as stopped_by}
 use Rattle.presence_node.specs.Bytes.{FindsEnd, IsPart, IsWhole, TakesLine, BreaksLine, HasRead, AppendsFront}
 use Rattle.presence_node.specs.Lines.{lines_of, first_line, lacks_feed}
 use Rattle.presence_node.specs.Session.{State, Answer, answer}
 use Rattle.presence_node.specs.declared.fault.StdioFault.{StdioFault}
-use Rattle.presence_node.specs.declared.fault.StdioFault.TheVariants.{Line, Read, Write, Memory}
+use Rattle.presence_node.specs.declared.fault.StdioFault.TheVariants.{Line, Session, Read, Write, Memory}
 
 pub data Ending : Type 0 where
   finished : Ending
@@ -53,10 +54,15 @@ pub record BreaksOff (s : State) (old new : Option (List ℕ)) (lines : List (Li
   pub fewer : count < length next
   pub text : Appends old new (done ++ take count next)
 
+-- the next line was refused, and its text went out
+abbrev pub RefusesLine : ℕ → State → List (List ℕ) → List ℕ → Option (List ℕ) → Option (List ℕ) → Option (List ℕ) → ℕ → LineFault → Type 0
+RefusesLine max s lines part left old new n f = IsWhole 65536 part left × TellsAll max old new (run s (lines ++ first_line part ∷ [])) n (refused f)
+
 -- What was written where these lines were read and answered, and then these bytes were read. Of more lines than are allowed a byte is read.
 abbrev pub ToldBy : ℕ → State → List (List ℕ) → List ℕ → Option (List ℕ) → Option (List ℕ) → Option (List ℕ) → Result ℕ StdioFault → Type 0
 ToldBy max s lines part left old new (Ok n) = (part ≡ []) × IsAtEnd left × TellsAll max old new (run s lines) n finished
-ToldBy max s lines part left old new (Err (Line n f)) = IsWhole 65536 part left × TellsAll max old new (run s (lines ++ first_line part ∷ [])) n (refused f)
+ToldBy max s lines part left old new (Err (Line n f)) = RefusesLine max s lines part left old new n (no_message f)
+ToldBy max s lines part left old new (Err (Session n f)) = RefusesLine max s lines part left old new n (stopped_by f)
 ToldBy max s lines part left old new (Err Read) =
     TellsAll max old new (run s lines) (length lines) finished × IsPart 65536 part × (length lines < max → lacks_feed part ≡ true) × (length lines ≡ max → length part ≤ 1)
 ToldBy max s lines part left old new (Err Write) = IsWhole 65536 part left × BreaksOff s old new lines (first_line part) × (length lines < max)
@@ -72,7 +78,8 @@ pub record Tells (max : ℕ) (s : State) (before left old new : Option (List ℕ
 -- a run that comes to the end or to a refused line tells what the lines of the whole input do
 abbrev pub TellsInput : ℕ → State → Option (List ℕ) → Option (List ℕ) → List ℕ → Result ℕ StdioFault → Type 0
 TellsInput max s old new input (Ok n) = TellsAll max old new (run s (lines_of input)) n finished
-TellsInput max s old new input (Err (Line n f)) = TellsAll max old new (run s (lines_of input)) n (refused f)
+TellsInput max s old new input (Err (Line n f)) = TellsAll max old new (run s (lines_of input)) n (refused (no_message f))
+TellsInput max s old new input (Err (Session n f)) = TellsAll max old new (run s (lines_of input)) n (refused (stopped_by f))
 TellsInput max s old new input (Err Read) = Unit {0}
 TellsInput max s old new input (Err Write) = Unit {0}
 TellsInput max s old new input (Err Memory) = Unit {0}
@@ -86,7 +93,8 @@ pub record AnswersLine (s : State) (next : Result State LineFault) (old new : Op
 
 abbrev pub AnswerOf : {T : Type 0} → ℕ → State → State → Option (List ℕ) → Option (List ℕ) → List ℕ → Result T StdioFault → Type 0
 AnswerOf n s after old new line (Ok x) = AnswersLine s (Ok after) old new line
-AnswerOf n s after old new line (Err (Line k f)) = (k ≡ n) × AnswersLine s (Err f) old new line
+AnswerOf n s after old new line (Err (Line k f)) = (k ≡ n) × AnswersLine s (Err (no_message f)) old new line
+AnswerOf n s after old new line (Err (Session k f)) = (k ≡ n) × AnswersLine s (Err (stopped_by f)) old new line
 AnswerOf n s after old new line (Err Read) = ⊥
 AnswerOf n s after old new line (Err Write) = AppendsFront old new (answer s line).text
 AnswerOf n s after old new line (Err Memory) = Keeps old new
@@ -113,7 +121,8 @@ pub record Stops (before left old new : Option (List ℕ)) : Type 0 where
 abbrev pub TurnOf : ℕ → State → State → Option (List ℕ) → Option (List ℕ) → Option (List ℕ) → Option (List ℕ) → Result Bool StdioFault → Type 0
 TurnOf n s after before left old new (Ok true) = TurnsLine s (Ok after) before left old new
 TurnOf n s after before left old new (Ok false) = FindsEnd before left × Keeps old new
-TurnOf n s after before left old new (Err (Line k f)) = (k ≡ n) × TurnsLine s (Err f) before left old new
+TurnOf n s after before left old new (Err (Line k f)) = (k ≡ n) × TurnsLine s (Err (no_message f)) before left old new
+TurnOf n s after before left old new (Err (Session k f)) = (k ≡ n) × TurnsLine s (Err (stopped_by f)) before left old new
 TurnOf n s after before left old new (Err Read) = BreaksLine 65536 before left × Keeps old new
 TurnOf n s after before left old new (Err Write) = LosesLine s before left old new
 TurnOf n s after before left old new (Err Memory) = Stops before left old new

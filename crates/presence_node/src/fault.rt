@@ -15,22 +15,23 @@ pub(crate) enum StreamFault {
 }
 
 /// Why a line ends a run.
-#[derive(Clone, Copy, PartialEq, Eq, Debug, Error)]
-pub enum LineFault {
+#[derive(Clone, Copy, PartialEq, Eq, Debug)]
+pub(crate) enum LineFault {
     /// The line is no message that a client may send.
-    #[error("{0}")]
     Message(MessageFault),
     /// The session answers nothing further.
-    #[error("{0}")]
     Session(SessionFault),
 }
 
 /// Why a run over a reader and a writer ended before its input did.
 #[derive(Clone, Copy, PartialEq, Eq, Debug, Error)]
 pub enum StdioFault {
-    /// The line of this number, from 1, ended the run.
+    /// The line of this number, from 1, is no message that a client may send.
     #[error("line {0}: {1}")]
-    Line(u64, LineFault),
+    Line(u64, MessageFault),
+    /// The session answers nothing further, from the line of this number on.
+    #[error("line {0}: {1}")]
+    Session(u64, SessionFault),
     /// The reader failed, or the input has more than 1,048,576 lines.
     #[error("the input could not be read, or has more than 1048576 lines")]
     Read,

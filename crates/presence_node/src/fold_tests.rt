@@ -4,6 +4,7 @@ use crate::tests::{Sink, Source};
 use phx_message::MessageFault;
 use presence_metas::FrameFault;
 use std::alloc::Global;
+use std::io::ErrorKind;
 use std::test::Fail;
 
 // A tracked join and the update after it, as a client reads them.
@@ -135,6 +136,7 @@ fn a_write_fails_at_each_call(rt: HostRuntime) -> Result<(), Fail> {
             step: 1,
             calls: 0,
             fails,
+            so: Some(ErrorKind::ConnectionReset),
         };
         let end = run_fold(alloc, &mut reader, &mut sink);
         if fails < FOLDED.len() {

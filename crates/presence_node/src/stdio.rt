@@ -1,7 +1,7 @@
 ghost use Rattle.std.specs.Prelude.{◌≡◌, ◌≤◌, ℕ, List, IfOk, IfSome, option_map, string_bytes, ◌++◌, codes, decimal};
 ghost use Rattle.presence_node.specs.Mirrored.{MirroredBehindLines};
 ghost use Rattle.presence_node.specs.Session.{start};
-ghost use Rattle.presence_node.specs.Told.{fault_number, session_number, told_line, told_of, status_number};
+ghost use Rattle.presence_node.specs.Told.{fault_number, session_number, told_of, status_number};
 ghost use Rattle.presence_node.specs.Run.{Tells, TellsInput, AnswerOf, TurnOf};
 
 use crate::fault::{LineFault, StdioFault, StreamFault};
@@ -37,7 +37,8 @@ fn answer_line<W: Write>(
     }
     match output.fault {
         None => Ok(()),
-        Some(fault) => Err(StdioFault::Line(n, fault)),
+        Some(LineFault::Message(refusal)) => Err(StdioFault::Line(n, refusal)),
+        Some(LineFault::Session(stop)) => Err(StdioFault::Session(n, stop)),
     }
 }
 
@@ -155,17 +156,12 @@ fn session_number_of(fault: SessionFault) -> u8
     }
 }
 
-// What is told of a line that ended the run.
-fn line_told(alloc: Global, n: u64, fault: LineFault) -> Result<String, AllocError>
-    ensures { IfOk result (λ s. string_bytes s ≡ told_line n fault) }
+// What is told of a line at which the session stopped.
+fn stop_line(alloc: Global, n: u64, stop: SessionFault) -> Result<String, AllocError>
+    ensures { IfOk result (λ s. string_bytes s ≡ codes "line " ++ (decimal n ++ (codes ": C" ++ decimal (session_number stop)))) }
 {
-    match fault {
-        LineFault::Message(refusal) => refusal_line(alloc, n, number_of(refusal)),
-        LineFault::Session(stop) => {
-            let number = session_number_of(stop);
-            format!(in alloc; "line {n}: C{number}")
-        }
-    }
+    let number = session_number_of(stop);
+    format!(in alloc; "line {n}: C{number}")
 }
 
 /// What is told of a line that ended the run: its number and that of its fault.
@@ -173,7 +169,8 @@ pub fn told_line(alloc: Global, fault: &StdioFault) -> Result<Option<String>, Al
     ensures { IfOk result (λ o. option_map string_bytes o ≡ told_of fault.now) }
 {
     match fault {
-        StdioFault::Line(n, fault) => Ok(Some(line_told(alloc, *n, *fault)?)),
+        StdioFault::Line(n, refusal) => Ok(Some(refusal_line(alloc, *n, number_of(*refusal))?)),
+        StdioFault::Session(n, stop) => Ok(Some(stop_line(alloc, *n, *stop)?)),
         StdioFault::Read | StdioFault::Write | StdioFault::Memory => Ok(None),
     }
 }
@@ -184,6 +181,7 @@ pub fn status_of(fault: &StdioFault) -> u8
 {
     match fault {
         StdioFault::Memory => 2,
-        StdioFault::Line(_, _) | StdioFault::Read | StdioFault::Write => 1,
+        StdioFault::Line(_, _) | StdioFault::Session(_, _) | StdioFault::Read | StdioFault::Write =>
+            1,
     }
 }

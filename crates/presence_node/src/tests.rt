@@ -1,8 +1,9 @@
 use crate::command_line::{UsageFault, options_of};
-use crate::fault::{LineFault, StdioFault};
+use crate::fault::StdioFault;
 use crate::node::Node;
 use crate::options::{Options, StdioOptions};
 use crate::stdio::{run_lines, run_stdio, status_of, told_line};
+use channel_session::SessionFault;
 use phx_message::MessageFault;
 use std::alloc::{AllocError, Global};
 use std::io;
@@ -18,7 +19,7 @@ const REPLIES: &str =
 // How many of its lines are out after each line of the input.
 const OUT: [usize; 5] = [0, 1, 3, 5, 6];
 
-// Gives the rest a byte a call, after some interrupted calls each. The call of number `fails` fails.
+// Gives the rest a byte a call, after some interrupted calls each. The call of number `fails` fails, and no other.
 #[derive(Drop)]
 pub(crate) struct Source<'a> {
     pub rest: &'a [u8],
@@ -31,6 +32,7 @@ pub(crate) struct Source<'a> {
 impl io::Read for Source<'_> {
     fn read(&mut self, buf: &mut [u8]) -> io::Result<usize> {
         if self.calls == self.fails {
+            self.calls = self.calls.saturating_add(1);
             return Err(io::Error::from(ErrorKind::ConnectionReset));
         }
         if self.waited < self.interrupts {
@@ -46,21 +48,26 @@ impl io::Read for Source<'_> {
     }
 }
 
-// Takes at most `step` bytes a call. The call of number `fails` fails.
+// Takes at most `step` bytes a call. The call of number `fails`, and no other, takes none, or fails so.
 #[derive(Drop)]
 pub(crate) struct Sink {
     pub taken: Vec<u8>,
     pub step: usize,
     pub calls: usize,
     pub fails: usize,
+    pub so: Option<ErrorKind>,
 }
 
 impl io::Write for Sink {
     fn write(&mut self, buf: &[u8]) -> io::Result<usize> {
-        if self.calls == self.fails {
-            return Err(io::Error::from(ErrorKind::ConnectionReset));
-        }
+        let call = self.calls;
         self.calls = self.calls.saturating_add(1);
+        if call == self.fails {
+            return match self.so {
+                Some(kind) => Err(io::Error::from(kind)),
+                None => Ok(0),
+            };
+        }
         let n = buf.len().min(self.step);
         if self.taken.extend_from_slice(&buf[..n]).is_err() {
             return Err(io::Error::from(ErrorKind::OutOfMemory));
@@ -201,13 +208,17 @@ fn one_topic_too_many(rt: HostRuntime) -> Result<(), Fail> {
 fn refused_second_line(rt: HostRuntime) -> Result<(), Fail> {
     let alloc = rt.alloc();
     let (end, output) = run_on(alloc, b"[null,\"1\",\"phoenix\",\"heartbeat\",{}]\n]\n[");
-    let fault = StdioFault::Line(2, LineFault::Message(MessageFault::NotJson));
+    let fault = StdioFault::Line(2, MessageFault::NotJson);
     assert!(rt; end == Some(Err(fault)));
     assert!(rt; status_of(&fault) == 1);
     let told = told_line(alloc, &fault)?;
     assert!(rt; told.is_some_and(|line| line.as_str() == "line 2: M2"));
     let reply = "[null,\"1\",\"phoenix\",\"phx_reply\",{\"response\":{},\"status\":\"ok\"}]\n";
     assert!(rt; output.as_slice() == reply.as_bytes());
+    let stopped = StdioFault::Session(7, SessionFault::ShardFull);
+    assert!(rt; status_of(&stopped) == 1);
+    let told = told_line(alloc, &stopped)?;
+    assert!(rt; told.is_some_and(|line| line.as_str() == "line 7: C3"));
     assert!(rt; status_of(&StdioFault::Memory) == 2);
     assert!(rt; told_line(alloc, &StdioFault::Read)?.is_none());
     Ok(())
@@ -217,7 +228,7 @@ fn refused_second_line(rt: HostRuntime) -> Result<(), Fail> {
 fn refused_texts(rt: HostRuntime) -> Result<(), Fail> {
     let alloc = rt.alloc();
     let (end, output) = run_on(alloc, b"\n");
-    assert!(rt; end == Some(Err(StdioFault::Line(1, LineFault::Message(MessageFault::NotJson)))));
+    assert!(rt; end == Some(Err(StdioFault::Line(1, MessageFault::NotJson))));
     assert!(rt; output.is_empty());
     for (text, fault) in [
         ("[null,\"1\",\"phoenix\",\"heartb", MessageFault::NotJson),
@@ -248,10 +259,7 @@ fn refused_texts(rt: HostRuntime) -> Result<(), Fail> {
         ),
     ] {
         let (end, output) = run_on(alloc, text.as_bytes());
-        assert!(rt;
-            end == Some(Err(StdioFault::Line(1, LineFault::Message(fault)))),
-            "{text}"
-        );
+        assert!(rt; end == Some(Err(StdioFault::Line(1, fault))), "{text}");
         assert!(rt; output.is_empty(), "{text}");
     }
     Ok(())
@@ -263,13 +271,13 @@ fn texts_at_their_limits(rt: HostRuntime) -> Result<(), Fail> {
     let (end, _output) = run_on(alloc, with_topic(alloc, 255)?.as_bytes());
     assert!(rt; end == Some(Ok(1)));
     let (end, _output) = run_on(alloc, with_topic(alloc, 256)?.as_bytes());
-    assert!(rt; end == Some(Err(StdioFault::Line(1, LineFault::Message(MessageFault::BadTopic)))));
+    assert!(rt; end == Some(Err(StdioFault::Line(1, MessageFault::BadTopic))));
     let (end, _output) = run_on(alloc, with_bytes(alloc, 65_536)?.as_bytes());
     assert!(rt; end == Some(Ok(1)));
     let (end, _output) = run_on(alloc, with_bytes(alloc, 65_537)?.as_bytes());
-    assert!(rt; end == Some(Err(StdioFault::Line(1, LineFault::Message(MessageFault::TooLong)))));
+    assert!(rt; end == Some(Err(StdioFault::Line(1, MessageFault::TooLong))));
     let (end, _output) = run_on(alloc, b"\xff");
-    assert!(rt; end == Some(Err(StdioFault::Line(1, LineFault::Message(MessageFault::NotJson)))));
+    assert!(rt; end == Some(Err(StdioFault::Line(1, MessageFault::NotJson))));
     Ok(())
 }
 
@@ -346,6 +354,25 @@ fn interrupted_reads(rt: HostRuntime) -> Result<(), Fail> {
     Ok(())
 }
 
+// How the first run ends, and what it writes, where the write of number `fails` fails so.
+fn run_into(
+    alloc: Global,
+    options: &StdioOptions,
+    fails: usize,
+    so: Option<ErrorKind>,
+) -> (Result<u64, StdioFault>, Vec<u8>) {
+    let mut input = INPUT.as_bytes();
+    let mut sink = Sink {
+        taken: Vec::new(alloc),
+        step: 1,
+        calls: 0,
+        fails,
+        so,
+    };
+    let end = run_stdio(alloc, &mut input, &mut sink, options);
+    (end, sink.taken)
+}
+
 #[test]
 fn a_write_fails_at_each_call(rt: HostRuntime) -> Result<(), Fail> {
     let alloc = rt.alloc();
@@ -354,25 +381,29 @@ fn a_write_fails_at_each_call(rt: HostRuntime) -> Result<(), Fail> {
         assert!(rt; false);
         return Ok(());
     };
-    for fails in 0..REPLIES.len() + 1 {
-        let mut input = INPUT.as_bytes();
-        let mut sink = Sink {
-            taken: Vec::new(alloc),
-            step: 1,
-            calls: 0,
-            fails,
-        };
-        let end = run_stdio(alloc, &mut input, &mut sink, &options);
-        if fails < REPLIES.len() {
+    for so in [Some(ErrorKind::ConnectionReset), None] {
+        for fails in 0..REPLIES.len() {
+            let (end, taken) = run_into(alloc, &options, fails, so);
             assert!(rt; end == Err(StdioFault::Write), "{fails}");
-        } else {
-            assert!(rt; end == Ok(4), "{fails}");
+            assert!(rt; taken.len() == fails, "{fails}");
+            assert!(rt; REPLIES.as_bytes().starts_with(taken.as_slice()), "{fails}");
         }
-        assert!(rt; sink.taken.len() == fails, "{fails}");
-        assert!(rt;
-            REPLIES.as_bytes().starts_with(sink.taken.as_slice()),
-            "{fails}"
-        );
+    }
+    Ok(())
+}
+
+#[test]
+fn an_interrupted_write_is_tried_again(rt: HostRuntime) -> Result<(), Fail> {
+    let alloc = rt.alloc();
+    let words = ["presence_node", "stdio"];
+    let Some(options) = options_for(alloc, words.as_slice()) else {
+        assert!(rt; false);
+        return Ok(());
+    };
+    for fails in 0..REPLIES.len() + 1 {
+        let (end, taken) = run_into(alloc, &options, fails, Some(ErrorKind::Interrupted));
+        assert!(rt; end == Ok(4), "{fails}");
+        assert!(rt; taken.as_slice() == REPLIES.as_bytes(), "{fails}");
     }
     Ok(())
 }
