@@ -25,25 +25,25 @@ may_want max s (j ∷ js) before = tt
 module _ {P : Type 0} (step : P → (q : Ask) → Answer q → P → Type 0) (max : ℕ) (s : InForce) (j : Entry) (js all : List Entry) (all_is : all ≡ j ∷ js) (before : List (List ℕ)) where
   pub waits_refused : (e : ShardFault) (stop : Stop) (old new : P) → step old (waits j.topic j.sub) (Err e) new → Gives (unsaid e) false (Err stop)
       → Follows step (delivers max s all before) old new (Err stop)
-  waits_refused e stop old new h g = rw all_is (once step (waits j.topic j.sub) (then_take max j before (delivers max s js)) (Err e) (unsaid e) old new (Err stop) h refl g)
+  waits_refused e stop old new h g = rw all_is (once step (waits j.topic j.sub) (then_take max j before (delivers max s js)) (Err e) (unsaid e) old new (Err stop) h refl refl g)
 
   pub take_refused : (e : ShardFault) (stop : Stop) (old mid new : P) → step old (waits j.topic j.sub) (Ok true) mid → step mid (take j.topic j.sub max) (Err e) new → Gives (unsaid e) false (Err stop)
       → Follows step (delivers max s all before) old new (Err stop)
   take_refused e stop old mid new h h2 g =
       rw all_is
-      (more_clean step (waits j.topic j.sub) (then_take max j before (delivers max s js)) (Ok true) old mid new (Err stop) h refl
-      (once step (take j.topic j.sub max) (then_frames j before (delivers max s js)) (Err e) (unsaid e) mid new (Err stop) h2 refl g))
+      (more_clean step (waits j.topic j.sub) (then_take max j before (delivers max s js)) (Ok true) old mid new (Err stop) h refl refl
+      (once step (take j.topic j.sub max) (then_frames j before (delivers max s js)) (Err e) (unsaid e) mid new (Err stop) h2 refl refl g))
 
   pub none_waits : (old mid new : P) (r : Result End Stop) → step old (waits j.topic j.sub) (Ok false) mid → Follows step (delivers max s js before) mid new r
       → Follows step (delivers max s all before) old new r
-  none_waits old mid new r h f = rw all_is (more_clean step (waits j.topic j.sub) (then_take max j before (delivers max s js)) (Ok false) old mid new r h refl f)
+  none_waits old mid new r h f = rw all_is (more_clean step (waits j.topic j.sub) (then_take max j before (delivers max s js)) (Ok false) old mid new r h refl refl f)
 
   pub took : (items : List Item) (old mid after new : P) (r : Result End Stop) → step old (waits j.topic j.sub) (Ok true) mid → step mid (take j.topic j.sub max) (Ok items) after
       → Follows step (delivers max s js (before ++ map (frame j) items)) after new r → Follows step (delivers max s all before) old new (spoilt r)
   took items old mid after new r h h2 f =
       rw all_is
-      (more_clean step (waits j.topic j.sub) (then_take max j before (delivers max s js)) (Ok true) old mid new (spoilt r) h refl
-      (more step (take j.topic j.sub max) (then_frames j before (delivers max s js)) (Ok items) mid after new r h2 refl f))
+      (more_clean step (waits j.topic j.sub) (then_take max j before (delivers max s js)) (Ok true) old mid new (spoilt r) h refl refl
+      (more step (take j.topic j.sub max) (then_frames j before (delivers max s js)) (Ok items) mid after new r h2 refl refl f))
 
   -- memory that runs out after an accepted take
   pub took_in_vain : (items : List Item) (stop : Stop) (old mid after : P) → step old (waits j.topic j.sub) (Ok true) mid → step mid (take j.topic j.sub max) (Ok items) after

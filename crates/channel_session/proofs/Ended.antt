@@ -23,21 +23,21 @@ spoilt_twice (Err s) = refl
 module _ {P : Type 0} (step : P → (q : Ask) → Answer q → P → Type 0) (pid : ℕ) (topic : List ℕ) (sub : Sub) where
   pub first_refused : (e : ShardFault) (stop : Stop) (old new : P)
       → step old (unsubscribe topic sub) (Err e) new → Gives (unsaid e) true (Err stop) → Leads step pid topic sub old new (Err stop)
-  first_refused e stop old new h g = λ next. once step (unsubscribe topic sub) (then_next (ask (untrack_all pid topic) (then_next next))) (Err e) (unsaid e) old new (Err stop) h refl g
+  first_refused e stop old new h g = λ next. once step (unsubscribe topic sub) (then_next (ask (untrack_all pid topic) (then_next next))) (Err e) (unsaid e) old new (Err stop) h refl refl g
 
   pub second_refused : (u : Unit {0}) (e : ShardFault) (stop : Stop) (old mid new : P)
       → step old (unsubscribe topic sub) (Ok u) mid → step mid (untrack_all pid topic) (Err e) new → Gives (unsaid e) true (Err stop) → Leads step pid topic sub old new (Err stop)
   second_refused u e stop old mid new h h2 g = λ next.
-      let second : Follows step (ask (untrack_all pid topic) (then_next next)) mid new (Err stop) = once step (untrack_all pid topic) (then_next next) (Err e) (unsaid e) mid new (Err stop) h2 refl g in
+      let second : Follows step (ask (untrack_all pid topic) (then_next next)) mid new (Err stop) = once step (untrack_all pid topic) (then_next next) (Err e) (unsaid e) mid new (Err stop) h2 refl refl g in
       subst (λ (r : Result End Stop). Follows step (ended pid topic sub next) old new r) (spoilt_same stop g.1)
-      (more step (unsubscribe topic sub) (then_next (ask (untrack_all pid topic) (then_next next))) (Ok u) old mid new (Err stop) h refl second)
+      (more step (unsubscribe topic sub) (then_next (ask (untrack_all pid topic) (then_next next))) (Ok u) old mid new (Err stop) h refl refl second)
 
   pub both_accepted : (u v : Unit {0}) (old mid new : P)
       → step old (unsubscribe topic sub) (Ok u) mid → step mid (untrack_all pid topic) (Ok v) new → Leads step pid topic sub old new (Ok tt)
   both_accepted u v old mid new h h2 = λ next last r f.
-      let second : Follows step (ask (untrack_all pid topic) (then_next next)) mid last (spoilt r) = more step (untrack_all pid topic) (then_next next) (Ok v) mid new last r h2 refl f in
+      let second : Follows step (ask (untrack_all pid topic) (then_next next)) mid last (spoilt r) = more step (untrack_all pid topic) (then_next next) (Ok v) mid new last r h2 refl refl f in
       subst (λ (q : Result End Stop). Follows step (ended pid topic sub next) old last q) (spoilt_twice r)
-      (more step (unsubscribe topic sub) (then_next (ask (untrack_all pid topic) (then_next next))) (Ok u) old mid last (spoilt r) h refl second)
+      (more step (unsubscribe topic sub) (then_next (ask (untrack_all pid topic) (then_next next))) (Ok u) old mid last (spoilt r) h refl refl second)
 
 pub leaves_so : {P : Type 0} (step : P → (q : Ask) → Answer q → P → Type 0) (pid : ℕ) (j : Entry) (m : Message) (s after : InForce) (u : Unit {0}) (given : End) (old new : P)
     → Leads step pid m.topic j.sub old new (Ok u) → after ≡ left s m.topic

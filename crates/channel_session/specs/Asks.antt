@@ -57,6 +57,15 @@ spoils (unsubscribe t s) a = true
 spoils (waits t s) a = false
 spoils (shout t p) a = is_ok a
 
+-- a call that makes a subscriber
+abbrev pub enters : (q : Ask) → Answer q → Bool
+enters (subscribe t) a = is_ok a
+enters _ a = false
+
+abbrev pub some_enters : List Call → Bool
+some_enters [] = false
+some_enters (c ∷ cs) = enters c.ask c.answer || some_enters cs
+
 abbrev pub some_spoils : List Call → Bool
 some_spoils [] = false
 some_spoils (c ∷ cs) = spoils c.ask c.answer || some_spoils cs

@@ -1,6 +1,6 @@
 -- What the function of a rule promises.
-use Rattle.std.specs.Prelude.{◌≡◌, List, Bool, true, Result, Ok, Err}
-use Rattle.channel_session.specs.Asks.{Ask, untrack_all, take, Answer, Call, Made, some_spoils}
+use Rattle.std.specs.Prelude.{◌≡◌, List, Bool, true, false, Result, Ok, Err}
+use Rattle.channel_session.specs.Asks.{Ask, untrack_all, take, Answer, Call, Made, some_spoils, some_enters}
 use Rattle.channel_session.specs.Script.{Script, done, ask, Plays, Begins}
 use Rattle.channel_session.specs.Rules.{End, answers, full, memory}
 use Rattle.channel_session.specs.declared.fault.Stop.{Stop}
@@ -28,9 +28,9 @@ abbrev pub MayWant : Script End → Type 0
 MayWant (done end) = CanWant end
 MayWant (ask q next) = CanWantBefore q
 
--- a fault comes where the script says so, or where memory runs out
+-- A fault comes where the script says so, or where memory runs out, which it never does behind a subscriber that was made: nobody would know of it.
 abbrev pub Stopped : StopKind → Script End → List Call → Type 0
-Stopped OutOfMemory script made = Begins MayWant script made
+Stopped OutOfMemory script made = Begins MayWant script made × (some_enters made ≡ false)
 Stopped ShardFull script made = Plays script made full
 
 -- With the answers of these calls the script comes to this end, or to the fault.

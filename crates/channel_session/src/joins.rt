@@ -1,4 +1,4 @@
-ghost use Rattle.std.specs.Prelude.{◌≡◌, ◌++◌, ◌≤◌, ◌^◌, ℕ, List, [], ◌∷◌, IfOk, string_bytes, option_map, is_ok, false, true, Some};
+ghost use Rattle.std.specs.Prelude.{◌≡◌, ◌++◌, ◌≤◌, ◌^◌, ℕ, List, [], ◌∷◌, IfOk, IfErr, string_bytes, option_map, is_ok, false, true, Some};
 ghost use Rattle.serde_json.specs.Written.{has_float as float_within};
 ghost use Rattle.serde_json.specs.Data.{Data};
 ghost use Rattle.phx_message.specs.Making.{closing};
@@ -91,8 +91,9 @@ fn subscribed(
     text: String,
     answer: Result<Sub, ShardFault>,
 ) -> Result<JoinReply, Stop>
-    ensures { (response : Data) → string_bytes text ≡ text_of (ok_message (join_ref_in message.now) message.now response)
+    ensures gives { (response : Data) → string_bytes text ≡ text_of (ok_message (join_ref_in message.now) message.now response)
         → (before : List (List ℕ)) (s : InForce) → Gives (after_subscribe first before s message.now response answer) (is_ok answer) (seen (join_end before s message.now) result) }
+    ensures heeds { IfErr result (λ _. is_ok answer ≡ false) }
 {
     match answer {
         Ok(sub) => Ok(JoinReply {

@@ -3,4 +3,4 @@ use Rattle.channel_session.proofs.Once.{once}
 use Rattle.channel_session.proofs.events.list.Goals as goal
 
 pub returns : goal.returns
-returns g c = λ s. once _ _ _ _ _ _ _ _ c.list-answer.ensures refl (c.listed.ensures s)
+returns g c = λ s. once _ _ _ _ _ _ _ _ c.list-answer.ensures refl refl (c.listed.ensures s)

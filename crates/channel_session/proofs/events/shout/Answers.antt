@@ -3,4 +3,4 @@ use Rattle.channel_session.proofs.Once.{once}
 use Rattle.channel_session.proofs.events.shout.Goals as goal
 
 pub returns : goal.returns
-returns g c = λ s. once _ _ _ _ _ _ _ _ c.shout-answer.ensures refl (c.shouted.ensures s)
+returns g c = λ s. once _ _ _ _ _ _ _ _ c.shout-answer.ensures refl refl (c.shouted.ensures s)

@@ -3,4 +3,4 @@ use Rattle.channel_session.proofs.Once.{once}
 use Rattle.channel_session.proofs.events.update_asked.Goals as goal
 
 pub returns-in-Wants : goal.returns-in-Wants
-returns-in-Wants g c = λ s. rw c.in-Wants.is (once _ _ _ _ _ _ _ _ c.update-answer.ensures refl (c.updated.ensures s))
+returns-in-Wants g c = λ s. rw c.in-Wants.is (once _ _ _ _ _ _ _ _ c.update-answer.ensures refl refl (c.updated.ensures s))
