@@ -1,6 +1,6 @@
 use crate::options::StdioOptions;
 use crate::stdio::run_stdio;
-use crate::tests::{options_for, told_for};
+use crate::tests::{INPUT, REPLIES, options_for, told_for};
 use std::alloc::{AllocError, Global};
 use std::test::Fail;
 
@@ -73,6 +73,13 @@ fn leave_of_nothing(rt: HostRuntime) -> Result<(), Fail> {
     Ok(())
 }
 
+// Tracks of a key that the first run has tracked, and of another.
+const TRACKS: &str =
+    "[\"2\",\"5\",\"room:lobby\",\"track\",{\"key\":\"u1\"}]\n[\"2\",\"6\",\"room:lobby\",\"track\",{\"key\":\"u2\"}]\n";
+
+const TRACKED: &str =
+    "[\"2\",\"5\",\"room:lobby\",\"phx_reply\",{\"response\":{\"reason\":\"already tracked\"},\"status\":\"error\"}]\n[\"2\",\"6\",\"room:lobby\",\"phx_reply\",{\"response\":{\"phx_ref\":\"a.1.2\"},\"status\":\"ok\"}]\n[null,null,\"room:lobby\",\"presence_diff\",{\"joins\":{\"u2\":{\"metas\":[{\"phx_ref\":\"a.1.2\"}]}},\"leaves\":{}}]\n";
+
 #[test]
 fn second_track(rt: HostRuntime) -> Result<(), Fail> {
     let alloc = rt.alloc();
@@ -81,6 +88,15 @@ fn second_track(rt: HostRuntime) -> Result<(), Fail> {
     let want =
         "[\"1\",\"1\",\"room:lobby\",\"phx_reply\",{\"response\":{\"phx_ref\":\"a.1.1\"},\"status\":\"ok\"}]\n[\"1\",null,\"room:lobby\",\"presence_state\",{\"u1\":{\"metas\":[{\"phx_ref\":\"a.1.1\",\"x\":1}]}}]\n[\"1\",\"2\",\"room:lobby\",\"phx_reply\",{\"response\":{\"reason\":\"already tracked\"},\"status\":\"error\"}]\n[\"1\",\"3\",\"room:lobby\",\"phx_reply\",{\"response\":{\"phx_ref\":\"a.1.2\"},\"status\":\"ok\"}]\n[null,null,\"room:lobby\",\"presence_diff\",{\"joins\":{\"u2\":{\"metas\":[{\"phx_ref\":\"a.1.2\"}]}},\"leaves\":{}}]\n";
     assert!(rt; gives(alloc, input, 3, want));
+    Ok(())
+}
+
+#[test]
+fn tracks_after_the_first_run(rt: HostRuntime) -> Result<(), Fail> {
+    let alloc = rt.alloc();
+    let input = format!(in alloc; "{INPUT}{TRACKS}")?;
+    let want = format!(in alloc; "{REPLIES}{TRACKED}")?;
+    assert!(rt; gives(alloc, input.as_str(), 6, want.as_str()));
     Ok(())
 }
 

@@ -19,7 +19,7 @@ pub(crate) enum StreamFault {
 pub(crate) enum LineFault {
     /// The line is no message that a client may send.
     Message(MessageFault),
-    /// The session answers nothing further.
+    /// The shard refused a call, and no reply stands for that.
     Session(SessionFault),
 }
 
@@ -29,7 +29,7 @@ pub enum StdioFault {
     /// The line of this number, from 1, is no message that a client may send.
     #[error("line {0}: {1}")]
     Line(u64, MessageFault),
-    /// The session answers nothing further, from the line of this number on.
+    /// The shard refused a call for the line of this number, and no reply stands for that.
     #[error("line {0}: {1}")]
     Session(u64, SessionFault),
     /// The reader failed, or the input has more than 1,048,576 lines.

@@ -12,6 +12,8 @@ mod laws;
 mod lines;
 mod mirrors;
 mod node;
+#[cfg(test)]
+mod node_tests;
 mod options;
 mod reading;
 mod stdio;

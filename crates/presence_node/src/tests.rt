@@ -10,10 +10,10 @@ use std::io;
 use std::io::ErrorKind;
 use std::test::Fail;
 
-const INPUT: &str =
+pub(crate) const INPUT: &str =
     "[null,\"1\",\"phoenix\",\"heartbeat\",{}]\n[\"2\",\"2\",\"room:lobby\",\"phx_join\",{}]\n[\"2\",\"3\",\"room:lobby\",\"track\",{\"key\":\"u1\",\"meta\":{\"x\":1}}]\n[\"2\",\"4\",\"room:lobby\",\"list\",{}]\n";
 
-const REPLIES: &str =
+pub(crate) const REPLIES: &str =
     "[null,\"1\",\"phoenix\",\"phx_reply\",{\"response\":{},\"status\":\"ok\"}]\n[\"2\",\"2\",\"room:lobby\",\"phx_reply\",{\"response\":{},\"status\":\"ok\"}]\n[\"2\",null,\"room:lobby\",\"presence_state\",{}]\n[\"2\",\"3\",\"room:lobby\",\"phx_reply\",{\"response\":{\"phx_ref\":\"a.1.1\"},\"status\":\"ok\"}]\n[null,null,\"room:lobby\",\"presence_diff\",{\"joins\":{\"u1\":{\"metas\":[{\"phx_ref\":\"a.1.1\",\"x\":1}]}},\"leaves\":{}}]\n[\"2\",\"4\",\"room:lobby\",\"phx_reply\",{\"response\":{\"u1\":{\"metas\":[{\"phx_ref\":\"a.1.1\",\"x\":1}]}},\"status\":\"ok\"}]\n";
 
 // How many of its lines are out after each line of the input.
@@ -458,6 +458,10 @@ fn wrong_command_lines(rt: HostRuntime) -> Result<(), Fail> {
             "{word} {value}"
         );
     }
+    let words = ["p", "stdio", "--name"];
+    let text = told_for(alloc, words.as_slice());
+    let wrong = "error: a value is required for '--name <NAME>'";
+    assert!(rt; text.is_some_and(|text| text.as_str().starts_with(wrong)));
     Ok(())
 }
 
