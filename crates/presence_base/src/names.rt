@@ -4,7 +4,10 @@ ghost use Rattle.presence_base.specs.Names.{is_node_name, is_name_byte, is_short
 
 use crate::text::Text;
 use std::alloc::{AllocError, Global};
+use std::cmp::Ordering;
+use std::fmt::{self, Debug, Formatter, Write};
 use std::marker::Model;
+use std::str;
 
 /// The longest name of a node, in bytes.
 pub const MAX_NAME_BYTES: usize = 32;
@@ -13,32 +16,90 @@ pub const MAX_NAME_BYTES: usize = 32;
 pub const MAX_TEXT_BYTES: usize = 255;
 
 /// The name of a node: 1 to 32 lower case letters and digits.
-#[derive(PartialEq, Eq, PartialOrd, Ord, Debug, Drop)]
+///
+/// The bytes lie in the value itself, with zeros after them, so that equal names are equal throughout and a name is copied.
+#[derive(Clone, Copy)]
 pub struct NodeName {
-    text: Text,
+    bytes: [u8; MAX_NAME_BYTES],
+    len: u8,
 }
 
 impl Model for NodeName {
-    ghost use Rattle.std.specs.Prelude.{List, ℕ, IsTrue};
-    ghost use Rattle.presence_base.specs.Names.{is_node_name};
+    ghost use Rattle.std.specs.Prelude.{List, ℕ, length, take};
+    ghost use Rattle.std.proofs.Common.{sym, length-take-le};
+    ghost use Rattle.presence_base.specs.Names.{IsPadded, padded};
 
     ghost Value = { List ℕ };
 
-    ghost view = { λ s. s.text };
+    ghost view = { λ n. take n.len n.bytes };
 
-    ghost invariant = { λ s. IsTrue (is_node_name s.text) };
+    ghost invariant = { λ n. IsPadded n.len n.bytes };
 
-    ghost inverse = { λ t. record { text = t } };
+    ghost inverse = { λ s. record { bytes = padded s; len = length s } };
+
+    ghost inverse_ok = { λ n h i. record { bytes = sym h.zeros i; len = length-take-le n.len n.bytes h.fits i } };
 }
 
-impl Clone for NodeName {
-    ghost use Rattle.std.specs.Prelude.{◌≡◌};
+impl PartialEq for NodeName {
+    ghost use Rattle.std.specs.Prelude.{◌==◌};
+    ghost use Rattle.std.proofs.Common.{rules};
+    ghost use Rattle.std.specs.Cmp.Rules.{comparing};
+    ghost use lib.Pointwise.{pointwise};
 
-    ghost is_clone = { λ s t. t ≡ s };
+    ghost eq = { pointwise ◌==◌ };
 
-    fn clone(&self) -> Result<NodeName, AllocError> {
-        let text = self.text.clone()?;
-        Ok(NodeName { text })
+    ghost laws = { Prim.search (comparing, rules) };
+
+    fn eq(&self, other: &NodeName) -> bool {
+        self.as_str() == other.as_str()
+    }
+}
+
+impl Eq for NodeName {
+    ghost use Rattle.std.proofs.Common.{rules};
+    ghost use Rattle.std.specs.Cmp.Rules.{comparing};
+
+    ghost laws = { Prim.search (comparing, rules) };
+}
+
+impl PartialOrd for NodeName {
+    ghost use Rattle.std.proofs.Common.{rules};
+    ghost use Rattle.std.specs.Cmp.{partial_order_from_own_ties};
+    ghost use Rattle.std.specs.Cmp.Rules.{comparing};
+    ghost use Rattle.std.specs.Ordering.{nat_cmp, as_partial_cmp};
+    ghost use Rattle.std.specs.Cmp.Lexicographic.{slice_cmp};
+
+    ghost partial_cmp = { as_partial_cmp (slice_cmp nat_cmp) };
+
+    ghost laws = { partial_order_from_own_ties (Prim.search (comparing, rules)) (Prim.search (comparing, rules)) };
+
+    fn partial_cmp(&self, other: &NodeName) -> Option<Ordering> {
+        Some(self.cmp(other))
+    }
+}
+
+impl Ord for NodeName {
+    ghost use Rattle.std.proofs.Common.{rules};
+    ghost use Rattle.std.specs.Cmp.Rules.{comparing};
+    ghost use Rattle.std.specs.Ordering.{nat_cmp};
+    ghost use Rattle.std.specs.Cmp.Lexicographic.{slice_cmp};
+
+    ghost cmp = { slice_cmp nat_cmp };
+
+    ghost total = { Prim.search (comparing, rules) };
+
+    ghost matches_partial_cmp = { Prim.search (comparing, rules) };
+
+    ghost matches_eq = { Prim.search (comparing, rules) };
+
+    fn cmp(&self, other: &NodeName) -> Ordering {
+        self.as_str().cmp(other.as_str())
+    }
+}
+
+impl Debug for NodeName {
+    fn fmt<W: Write>(&self, f: &mut Formatter<W>) -> fmt::Result {
+        self.as_str().fmt(f)
     }
 }
 
@@ -67,26 +128,39 @@ pub(crate) fn is_name(bytes: &[u8]) -> bool
 }
 
 impl NodeName {
-    ghost use Rattle.std.specs.Prelude.{◌≡◌, IfOk, IsTrue, false};
+    ghost use Rattle.std.specs.Prelude.{◌≡◌, IsTrue};
     ghost use Rattle.presence_base.specs.Names.{is_node_name, guarded};
 
-    /// The name that the text is, or `None` where it is none.
-    pub fn new(alloc: Global, text: &str) -> Result<Option<NodeName>, AllocError>
-        ensures name { IfOk result (λ o. o ≡ guarded (is_node_name text.now) text.now) }
-        ensures none { is_node_name text.now ≡ false → result ≡ Ok None }
+    /// The name that the text is, or `None` where it is none. The allocator is not asked for anything.
+    pub fn new(_alloc: Global, text: &str) -> Result<Option<NodeName>, AllocError>
+        ensures { result ≡ Ok (guarded (is_node_name text.now) text.now) }
     {
-        if !is_name(text.as_bytes()) {
+        let text = text.as_bytes();
+        if !is_name(text) {
             return Ok(None);
         }
-        let text = Text::new(alloc, text)?;
-        Ok(Some(NodeName { text }))
+        let len = text.len();
+        let mut bytes = [0; MAX_NAME_BYTES];
+        bytes[..len].copy_from_slice(text);
+        Ok(Some(NodeName {
+            bytes,
+            len: len as u8,
+        }))
     }
 
+    pub fn as_bytes(&self) -> &[u8]
+        ensures bytes { result.now ≡ self.now }
+        ensures limits { IsTrue (is_node_name self.now) }
+    {
+        &self.bytes[..self.len as usize]
+    }
+
+    #[tactic(auto, using(crate::proofs::Inline::name_is_utf8))]
     pub fn as_str(&self) -> &str
         ensures text { result.now ≡ self.now }
         ensures limits { IsTrue (is_node_name self.now) }
     {
-        self.text.as_str()
+        unsafe { str::from_utf8_unchecked(self.as_bytes()) }
     }
 }
 
