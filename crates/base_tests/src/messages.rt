@@ -1,4 +1,7 @@
-use crate::{
+//! Messages that are read, refused, made and written.
+
+use crate::texts::{letters, nested};
+use phx_message::{
     Limits, MessageFault, MsgRef, Status, broadcast, close_of, decode, encode, push, reply,
     reply_error, reply_ok,
 };
@@ -15,21 +18,9 @@ fn fault_of(alloc: Global, text: &str) -> Option<MessageFault> {
     }
 }
 
-// A text of this many bytes.
-fn letters(alloc: Global, count: usize) -> Result<String, AllocError> {
-    "a".repeat(alloc, count)
-}
-
 // The text of a message with this topic, event and payload.
 fn text_of(alloc: Global, topic: &str, event: &str, payload: &str) -> Result<String, AllocError> {
     format!(in alloc; "[null,\"1\",\"{topic}\",\"{event}\",{payload}]")
-}
-
-// So many arrays, one in the other.
-fn nested(alloc: Global, depth: usize) -> Result<String, AllocError> {
-    let opened = "[".repeat(alloc, depth)?;
-    let closed = "]".repeat(alloc, depth)?;
-    format!(in alloc; "{opened}{closed}")
 }
 
 #[test]
