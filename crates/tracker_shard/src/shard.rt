@@ -95,22 +95,21 @@ impl Shard {
         ensures { IfOk result (λ o. o ≡ first_dot (rows_of_key self.now pid topic.now key.now)) }
     {
         let mine = walk_own_row(alloc, &self.journal, pid, topic, key)?;
-        first_dot_of(&mine)
+        Ok(first_dot_of(&mine))
     }
 
     // The dot of the next count, or `None` where no count is left.
-    fn next_dot(&self) -> Result<Option<Dot>, AllocError>
-        ensures { IfOk result (λ o. o ≡ next_counted self.now) }
+    fn next_dot(&self) -> Option<Dot>
+        ensures { result ≡ next_counted self.now }
     {
         let count = walk_count(&self.journal);
         if count >= MAX_COUNT {
-            return Ok(None);
+            return None;
         }
-        let replica = self.journal.own().clone()?;
-        Ok(Some(Dot {
-            replica,
+        Some(Dot {
+            replica: *self.journal.own(),
             count: count + 1,
-        }))
+        })
     }
 
     // What taking these rows out comes to, `None` where a count is needed and none is left.
@@ -182,12 +181,11 @@ impl Shard {
             self.write(seat, step, Outcome::AlreadyTracked)?;
             return Err(ShardFault::AlreadyTracked);
         }
-        let Some(dot) = self.next_dot()? else {
+        let Some(dot) = self.next_dot() else {
             return Err(ShardFault::ClockFull);
         };
-        let kept = dot.clone()?;
         let step = track_step(pid, topic, key, meta)?;
-        self.write_dot(seat, step, Outcome::Added(kept), dot)
+        self.write_dot(seat, step, Outcome::Added(dot), dot)
     }
 
     /// Replaces what the pid tells under the key on the topic, and answers the dot of the new row.
@@ -217,12 +215,11 @@ impl Shard {
             self.write(seat, step, Outcome::NoPresence)?;
             return Err(ShardFault::NoPresence);
         };
-        let Some(dot) = self.next_dot()? else {
+        let Some(dot) = self.next_dot() else {
             return Err(ShardFault::ClockFull);
         };
-        let kept = dot.clone()?;
         let step = update_step(pid, topic, key, meta)?;
-        self.write_dot(seat, step, Outcome::Replaced(kept, old), dot)
+        self.write_dot(seat, step, Outcome::Replaced(dot, old), dot)
     }
 
     /// Takes out the pid's row under the key on the topic, and answers its dot, or none where there is no such row.
