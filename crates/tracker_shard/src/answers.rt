@@ -43,6 +43,13 @@ pub(crate) fn first_dot_of(rows: &[(Dot, Row)]) -> Option<Dot>
     }
 }
 
+// What an update comes to that puts a row under the dot in the place of the old one.
+pub(crate) fn replaced(dot: &Dot, old: &Dot) -> Outcome
+    ensures { result ≡ Outcome.Replaced dot.now old.now }
+{
+    Outcome::Replaced(*dot, *old)
+}
+
 // The state of a topic, as the one item of a take.
 fn state_item(alloc: Global, journal: &Journal, topic: &Topic) -> Result<Vec<Item>, AllocError>
     ensures { IfOk result (λ v. v.items ≡ Item.State (listed journal.now topic.now) ∷ []) }

@@ -1,6 +1,6 @@
 use crate::answers::{
-    dots_of_rows, first_dot_of, get_step, given_items, list_step, shout_step, subscribe_step,
-    taken_outcome, track_step, untrack_all_step, untrack_step, update_step,
+    dots_of_rows, first_dot_of, get_step, given_items, list_step, replaced, shout_step,
+    subscribe_step, taken_outcome, track_step, untrack_all_step, untrack_step, update_step,
 };
 use crate::fault::ShardFault;
 use presence_base::{Dot, Json, Key, MAX_COUNT, Meta, Replica, Row, Topic};
@@ -133,27 +133,6 @@ impl Shard {
         walk_topic(&self.journal, sub.number)
     }
 
-    // Writes the entry of a step that names a new dot, and answers the dot.
-    fn write_dot(
-        &mut self,
-        seat: Option<u32>,
-        step: Step,
-        outcome: Outcome,
-        dot: Dot,
-    ) -> Result<Dot, ShardFault>
-        requires table { outcome_of self.old step ≡ Some outcome }
-        requires room { is_full self.old ≡ false }
-        requires limits { is_step step ≡ true }
-        ensures made { IfOk result (λ d. Made self.old self.new seat step × (d ≡ dot)) }
-        ensures err { OnErr result (self.new ≡ self.old) }
-        ensures memory { IfErr result (λ e. e ≡ ShardFault.OutOfMemory) }
-    {
-        match self.write(seat, step, outcome) {
-            Ok(()) => Ok(dot),
-            Err(e) => Err(e),
-        }
-    }
-
     /// Tracks the pid under the key on the topic, and answers the dot of the new row.
     ///
     /// It refuses in this order: `JournalFull`; `AlreadyTracked`, which makes an entry; `ClockFull`;
@@ -185,7 +164,8 @@ impl Shard {
             return Err(ShardFault::ClockFull);
         };
         let step = track_step(pid, topic, key, meta)?;
-        self.write_dot(seat, step, Outcome::Added(dot), dot)
+        self.write(seat, step, Outcome::Added(dot))?;
+        Ok(dot)
     }
 
     /// Replaces what the pid tells under the key on the topic, and answers the dot of the new row.
@@ -219,7 +199,8 @@ impl Shard {
             return Err(ShardFault::ClockFull);
         };
         let step = update_step(pid, topic, key, meta)?;
-        self.write_dot(seat, step, Outcome::Replaced(dot, old), dot)
+        self.write(seat, step, replaced(&dot, &old))?;
+        Ok(dot)
     }
 
     /// Takes out the pid's row under the key on the topic, and answers its dot, or none where there is no such row.
