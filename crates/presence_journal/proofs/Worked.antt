@@ -7,7 +7,7 @@ use Rattle.presence_journal.specs.Present.{dots, listed}
 use Rattle.presence_journal.specs.Queue.{most_waiting, topic_of, queue, taken}
 use Rattle.presence_journal.specs.Table.{outcome_of}
 use Rattle.presence_journal.specs.Laws.{HoldsMost, AsWorked, ran, outcomes, begun, room, subscribe, take_all, track, update, untrack, shouts}
-use Rattle.presence_journal.specs.declared.step.Step.TheVariants as steps_are
+use Rattle.presence_journal_data.specs.declared.step.Step.TheVariants as steps_are
 use Rattle.presence_journal.proofs.WorkedTables.{rows_now, listed_now, queue_now, queue_is, taken_now, taken_is, ran_now, ran_is}
 
 pub holds_most : HoldsMost

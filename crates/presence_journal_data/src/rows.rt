@@ -1,4 +1,4 @@
-use crate::step::Payload;
+use crate::limits::Payload;
 use presence_base::{Dot, Key, Row};
 use std::marker::Model;
 

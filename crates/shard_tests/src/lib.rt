@@ -1,0 +1,7 @@
+//! Tests of a shard and its journal, by their public calls.
+#![tactic(auto)]
+
+#[cfg(test)]
+mod calls;
+#[cfg(test)]
+mod journal;
