@@ -184,7 +184,7 @@ shown_elsewhere h e t d spared added = go (removed h d) (dot_removed e.outcome (
     go false false (Some r) f = refl
 
 -- an accepted step has its outcome and room
-accepted_is : (h : History) (s : Step) (o : Outcome) → accepted h s ≡ Some o → (is_full h ≡ false) × (outcome_of h s ≡ Some o)
+pub accepted_is : (h : History) (s : Step) (o : Outcome) → accepted h s ≡ Some o → (is_full h ≡ false) × (outcome_of h s ≡ Some o)
 unfolding accepted
 accepted_is h s o e = go (is_full h) e
   where

@@ -79,12 +79,12 @@ pub known_then : (h : History) (e : Entry) (d : Dot) → known h d ≡ true → 
 known_then h e d k = let p = known_parts h d k in known_from (Then h e) d (p.0 ∙ sym (own-then h e)) p.1 (omega (arith, p.2, count-then h e))
 
 -- the next dot is known once it is used
-next_known : (h : History) (e : Entry) (d : Dot) → d ≡ next_dot h → counts_used e.outcome ≡ 1 → known (Then h e) d ≡ true
+pub next_known : (h : History) (e : Entry) (d : Dot) → d ≡ next_dot h → counts_used e.outcome ≡ 1 → known (Then h e) d ≡ true
 next_known h e d p u =
     let c : d.count ≡ count h + 1 = ap (λ (z : Dot). z.count) p in
     known_from (Then h e) d (ap (λ (z : Dot). z.replica) p ∙ sym (own-then h e)) (omega (arith, c)) (omega (arith, c, u, count-then h e))
 
-next_unknown : (h : History) → known h (next_dot h) ≡ true → ⊥
+pub next_unknown : (h : History) → known h (next_dot h) ≡ true → ⊥
 next_unknown h k = let p = (known_parts h (next_dot h) k).2 in omega (arith, p)
 
 -- the four kinds of entry

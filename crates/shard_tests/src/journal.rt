@@ -1,78 +1,16 @@
-use crate::{
+use crate::desk::{Ask, key, row_references, shard_after, shout, take, topic};
+use presence_base::{Json, NodeName, Replica, has_float, is_within_depth};
+use presence_journal::{
     Entry, Journal, MAX_PAYLOAD_DEPTH, MAX_TAKEN, Outcome, Payload, Pending, RowDiff, Rows, Step,
-    TakeLimit, walk_count, walk_diff, walk_get, walk_list, walk_next_dot, walk_outcome,
-    walk_own_row, walk_own_rows, walk_pending, walk_topic,
-};
-use presence_base::{
-    Dot, Json, Key, Meta, NodeName, Replica, Row, Topic, has_float, is_within_depth, ref_text,
+    walk_count, walk_diff, walk_get, walk_list, walk_own_row, walk_own_rows, walk_pending,
+    walk_topic, walk_waits,
 };
 use serde_json::Value;
 use std::alloc::{AllocError, Global};
 use std::test::Fail;
+use tracker_shard::Shard;
 
-// What is asked of the room in a test.
-#[derive(Clone, Copy)]
-enum Ask {
-    Track(u64, &'static str),
-    Update(u64, &'static str),
-    Untrack(u64, &'static str),
-    UntrackAll(u64),
-    List,
-    Get(&'static str),
-    Subscribe,
-    Take(u64),
-    Unsubscribe(u64),
-    Shout,
-}
-
-fn topic(alloc: Global) -> Result<Topic, Fail> {
-    Ok(Topic::new(alloc, "room:lobby")?.ok_or("a topic")?)
-}
-
-fn key(alloc: Global, text: &str) -> Result<Key, Fail> {
-    Ok(Key::new(alloc, text)?.ok_or("a key")?)
-}
-
-fn meta(alloc: Global) -> Result<Meta, Fail> {
-    let value = Value::from_str(alloc, "{\"x\":1}")?;
-    Ok(Meta::new(alloc, value)?.ok_or("a meta")?)
-}
-
-fn track(alloc: Global, pid: u64, name: &str) -> Result<Step, Fail> {
-    let topic = topic(alloc)?;
-    let key = key(alloc, name)?;
-    let meta = meta(alloc)?;
-    Ok(Step::Track {
-        pid,
-        topic,
-        key,
-        meta,
-    })
-}
-
-fn update(alloc: Global, pid: u64, name: &str) -> Result<Step, Fail> {
-    let topic = topic(alloc)?;
-    let key = key(alloc, name)?;
-    let meta = meta(alloc)?;
-    Ok(Step::Update {
-        pid,
-        topic,
-        key,
-        meta,
-    })
-}
-
-fn untrack(alloc: Global, pid: u64, name: &str) -> Result<Step, Fail> {
-    let topic = topic(alloc)?;
-    let key = key(alloc, name)?;
-    Ok(Step::Untrack { pid, topic, key })
-}
-
-fn get(alloc: Global, name: &str) -> Result<Step, Fail> {
-    let topic = topic(alloc)?;
-    let key = key(alloc, name)?;
-    Ok(Step::Get { topic, key })
-}
+const ROOM: &str = "room:lobby";
 
 // The value as a payload, where it is one.
 fn payload_of(value: Value) -> Option<Payload> {
@@ -80,77 +18,6 @@ fn payload_of(value: Value) -> Option<Payload> {
         return None;
     }
     Some(Payload::new(Json::new(value)))
-}
-
-fn payload(alloc: Global) -> Result<Payload, Fail> {
-    let value = Value::from_str(alloc, "[1]")?;
-    Ok(payload_of(value).ok_or("a payload")?)
-}
-
-fn shout(alloc: Global) -> Result<Step, Fail> {
-    let topic = topic(alloc)?;
-    let payload = payload(alloc)?;
-    Ok(Step::Shout { topic, payload })
-}
-
-fn step_of(alloc: Global, ask: Ask) -> Result<Step, Fail> {
-    match ask {
-        Ask::Track(pid, name) => track(alloc, pid, name),
-        Ask::Update(pid, name) => update(alloc, pid, name),
-        Ask::Untrack(pid, name) => untrack(alloc, pid, name),
-        Ask::UntrackAll(pid) => Ok(Step::UntrackAll {
-            pid,
-            topic: topic(alloc)?,
-        }),
-        Ask::List => Ok(Step::List {
-            topic: topic(alloc)?,
-        }),
-        Ask::Get(name) => get(alloc, name),
-        Ask::Subscribe => Ok(Step::Subscribe {
-            topic: topic(alloc)?,
-        }),
-        Ask::Take(subscriber) => Ok(Step::Take {
-            subscriber,
-            max: TakeLimit::new(MAX_TAKEN),
-        }),
-        Ask::Unsubscribe(subscriber) => Ok(Step::Unsubscribe { subscriber }),
-        Ask::Shout => shout(alloc),
-    }
-}
-
-fn empty_journal(alloc: Global) -> Result<Journal, Fail> {
-    let name = NodeName::new(alloc, "a")?.ok_or("a name")?;
-    Ok(Journal::new(
-        alloc,
-        Replica {
-            name,
-            incarnation: 1,
-        },
-    ))
-}
-
-// Makes a step, and tells whether it was accepted.
-fn make(alloc: Global, journal: &mut Journal, step: Step) -> Result<bool, AllocError> {
-    if journal.is_full() || !step.is_within_limits() {
-        return Ok(false);
-    }
-    match walk_outcome(alloc, journal, &step)? {
-        Some(outcome) => {
-            journal.append(None, step, outcome)?;
-            Ok(true)
-        }
-        None => Ok(false),
-    }
-}
-
-// The journal of these steps; a refused one is left out.
-fn journal_of(alloc: Global, asks: &[Ask]) -> Result<Journal, Fail> {
-    let mut journal = empty_journal(alloc)?;
-    for ask in asks {
-        let step = step_of(alloc, *ask)?;
-        let _accepted = make(alloc, &mut journal, step)?;
-    }
-    Ok(journal)
 }
 
 fn outcome_at(journal: &Journal, place: usize) -> Option<&Outcome> {
@@ -163,41 +30,30 @@ fn is_text(text: String, want: &str) -> bool {
     text.as_str() == want
 }
 
-// The references of rows, each with a space after it.
-fn references(alloc: Global, rows: &[(Dot, Row)]) -> Result<String, AllocError> {
-    let mut text = String::new(alloc);
-    for row in rows {
-        let reference = ref_text(alloc, &row.0)?;
-        text.push_str(reference.as_str())?;
-        text.push(' ')?;
-    }
-    Ok(text)
-}
-
 fn listed(alloc: Global, journal: &Journal) -> Result<String, Fail> {
-    let topic = topic(alloc)?;
+    let topic = topic(alloc, ROOM)?;
     let rows = walk_list(alloc, journal, &topic)?;
-    Ok(references(alloc, &rows)?)
+    Ok(row_references(alloc, &rows)?)
 }
 
 fn of_key(alloc: Global, journal: &Journal, name: &str) -> Result<String, Fail> {
-    let topic = topic(alloc)?;
+    let topic = topic(alloc, ROOM)?;
     let key = key(alloc, name)?;
     let rows = walk_get(alloc, journal, &topic, &key)?;
-    Ok(references(alloc, &rows)?)
+    Ok(row_references(alloc, &rows)?)
 }
 
 fn of_pid(alloc: Global, journal: &Journal, pid: u64) -> Result<String, Fail> {
-    let topic = topic(alloc)?;
+    let topic = topic(alloc, ROOM)?;
     let rows = walk_own_rows(alloc, journal, pid, &topic)?;
-    Ok(references(alloc, &rows)?)
+    Ok(row_references(alloc, &rows)?)
 }
 
 fn of_pid_and_key(alloc: Global, journal: &Journal, pid: u64, name: &str) -> Result<String, Fail> {
-    let topic = topic(alloc)?;
+    let topic = topic(alloc, ROOM)?;
     let key = key(alloc, name)?;
     let rows = walk_own_row(alloc, journal, pid, &topic, &key)?;
-    Ok(references(alloc, &rows)?)
+    Ok(row_references(alloc, &rows)?)
 }
 
 // How the room changed by an entry.
@@ -205,16 +61,16 @@ fn difference(alloc: Global, journal: &Journal, place: usize) -> Result<Option<R
     if place >= journal.entries().len() {
         return Ok(None);
     }
-    let topic = topic(alloc)?;
+    let topic = topic(alloc, ROOM)?;
     Ok(Some(walk_diff(alloc, journal, place, &topic)?))
 }
 
 // Whether these are the references of the rows that joined and left.
 fn tells(alloc: Global, diff: &RowDiff, joins: &str, leaves: &str) -> Result<bool, AllocError> {
-    if !is_text(references(alloc, diff.joins.as_slice())?, joins) {
+    if !is_text(row_references(alloc, diff.joins.as_slice())?, joins) {
         return Ok(false);
     }
-    Ok(is_text(references(alloc, diff.leaves.as_slice())?, leaves))
+    Ok(is_text(row_references(alloc, diff.leaves.as_slice())?, leaves))
 }
 
 // Whether these references joined and left by an entry.
@@ -245,20 +101,21 @@ fn waiting(alloc: Global, journal: &Journal, number: u64) -> Result<Option<usize
 #[test]
 fn the_journal_of_the_first_run(rt: HostRuntime) -> Result<(), Fail> {
     let asks = [
-        Ask::Subscribe,
+        Ask::Subscribe(ROOM),
         Ask::Take(1),
         Ask::Track(1, "u1"),
         Ask::Take(1),
         Ask::List,
     ];
-    let journal = journal_of(rt.alloc(), &asks)?;
+    let shard = shard_after(rt.alloc(), &asks)?;
+    let journal = shard.journal();
     assert_eq!(rt; journal.start().number, 0);
-    assert!(rt; matches!(outcome_at(&journal, 0), Some(Outcome::Subscribed(1))));
-    assert!(rt; matches!(outcome_at(&journal, 1), Some(Outcome::Taken(true, 1))));
-    assert!(rt; matches!(outcome_at(&journal, 3), Some(Outcome::Taken(false, 1))));
+    assert!(rt; matches!(outcome_at(journal, 0), Some(Outcome::Subscribed(1))));
+    assert!(rt; matches!(outcome_at(journal, 1), Some(Outcome::Taken(true, 1))));
+    assert!(rt; matches!(outcome_at(journal, 3), Some(Outcome::Taken(false, 1))));
     assert_eq!(rt; journal.last_number(), 5);
-    assert_eq!(rt; walk_count(&journal), 1);
-    assert!(rt; is_text(listed(rt.alloc(), &journal)?, "a.1.1 "));
+    assert_eq!(rt; walk_count(journal), 1);
+    assert!(rt; is_text(listed(rt.alloc(), journal)?, "a.1.1 "));
     Ok(())
 }
 
@@ -270,11 +127,12 @@ fn two_pids_on_one_key(rt: HostRuntime) -> Result<(), Fail> {
         Ask::Track(2, "u1"),
         Ask::Get("u1"),
     ];
-    let journal = journal_of(rt.alloc(), &asks)?;
-    assert!(rt; matches!(outcome_at(&journal, 2), Some(Outcome::AlreadyTracked)));
-    assert!(rt; is_text(of_key(rt.alloc(), &journal, "u1")?, "a.1.1 a.1.2 "));
-    assert!(rt; is_text(of_pid(rt.alloc(), &journal, 1)?, "a.1.1 "));
-    assert!(rt; is_text(of_pid_and_key(rt.alloc(), &journal, 2, "u1")?, "a.1.2 "));
+    let shard = shard_after(rt.alloc(), &asks)?;
+    let journal = shard.journal();
+    assert!(rt; matches!(outcome_at(journal, 2), Some(Outcome::AlreadyTracked)));
+    assert!(rt; is_text(of_key(rt.alloc(), journal, "u1")?, "a.1.1 a.1.2 "));
+    assert!(rt; is_text(of_pid(rt.alloc(), journal, 1)?, "a.1.1 "));
+    assert!(rt; is_text(of_pid_and_key(rt.alloc(), journal, 2, "u1")?, "a.1.2 "));
     Ok(())
 }
 
@@ -286,9 +144,10 @@ fn an_untrack_leaves_the_other_pid(rt: HostRuntime) -> Result<(), Fail> {
         Ask::Untrack(1, "u1"),
         Ask::UntrackAll(7),
     ];
-    let journal = journal_of(rt.alloc(), &asks)?;
-    assert!(rt; is_text(listed(rt.alloc(), &journal)?, "a.1.2 "));
-    assert!(rt; walk_next_dot(&journal)?.is_some_and(|dot| dot.count == 4));
+    let shard = shard_after(rt.alloc(), &asks)?;
+    let journal = shard.journal();
+    assert!(rt; is_text(listed(rt.alloc(), journal)?, "a.1.2 "));
+    assert_eq!(rt; walk_count(journal), 3);
     Ok(())
 }
 
@@ -299,9 +158,10 @@ fn an_update_and_its_difference(rt: HostRuntime) -> Result<(), Fail> {
         Ask::Update(1, "u1"),
         Ask::Update(1, "u9"),
     ];
-    let journal = journal_of(rt.alloc(), &asks)?;
-    assert!(rt; matches!(outcome_at(&journal, 2), Some(Outcome::NoPresence)));
-    assert!(rt; changes_so(rt.alloc(), &journal, 1, "a.1.2 ", "a.1.1 ")?);
+    let shard = shard_after(rt.alloc(), &asks)?;
+    let journal = shard.journal();
+    assert!(rt; matches!(outcome_at(journal, 2), Some(Outcome::NoPresence)));
+    assert!(rt; changes_so(rt.alloc(), journal, 1, "a.1.2 ", "a.1.1 ")?);
     Ok(())
 }
 
@@ -309,40 +169,41 @@ fn an_update_and_its_difference(rt: HostRuntime) -> Result<(), Fail> {
 fn what_waits_for_a_subscriber(rt: HostRuntime) -> Result<(), Fail> {
     let asks = [
         Ask::Take(1),
-        Ask::Subscribe,
+        Ask::Subscribe(ROOM),
         Ask::Take(1),
         Ask::Track(1, "u1"),
-        Ask::Shout,
+        Ask::Shout(ROOM),
     ];
-    let journal = journal_of(rt.alloc(), &asks)?;
+    let shard = shard_after(rt.alloc(), &asks)?;
+    let journal = shard.journal();
     assert_eq!(rt; journal.last_number(), 4);
-    assert!(rt; waiting(rt.alloc(), &journal, 1)? == Some(2));
-    assert!(rt; walk_topic(&journal, 2).is_none());
+    assert!(rt; waiting(rt.alloc(), journal, 1)? == Some(2));
+    assert!(rt; walk_topic(journal, 2).is_none());
     Ok(())
 }
 
 #[test]
 fn an_ended_subscriber_has_no_topic(rt: HostRuntime) -> Result<(), Fail> {
-    let journal = journal_of(rt.alloc(), &[Ask::Subscribe, Ask::Unsubscribe(1)])?;
-    assert!(rt; matches!(outcome_at(&journal, 1), Some(Outcome::Ended)));
-    assert!(rt; walk_topic(&journal, 1).is_none());
+    let shard = shard_after(rt.alloc(), &[Ask::Subscribe(ROOM), Ask::Unsubscribe(1)])?;
+    let journal = shard.journal();
+    assert!(rt; matches!(outcome_at(journal, 1), Some(Outcome::Ended)));
+    assert!(rt; walk_topic(journal, 1).is_none());
     Ok(())
 }
 
-// A subscriber that took its state, and this many shouts.
-fn shouted(alloc: Global, count: u32) -> Result<Journal, Fail> {
-    let mut journal = journal_of(alloc, &[Ask::Subscribe, Ask::Take(1)])?;
+// A shard whose subscriber took its state, and this many shouts.
+fn shouted(alloc: Global, count: u32) -> Result<Shard, Fail> {
+    let mut shard = shard_after(alloc, &[Ask::Subscribe(ROOM), Ask::Take(1)])?;
     for _ in 0..count {
-        let step = shout(alloc)?;
-        let _accepted = make(alloc, &mut journal, step)?;
+        shout(alloc, &mut shard, ROOM)?;
     }
-    Ok(journal)
+    Ok(shard)
 }
 
 // How many items wait behind this many shouts.
 fn waiting_behind(alloc: Global, count: u32) -> Result<Option<usize>, Fail> {
-    let journal = shouted(alloc, count)?;
-    Ok(waiting(alloc, &journal, 1)?)
+    let shard = shouted(alloc, count)?;
+    Ok(waiting(alloc, shard.journal(), 1)?)
 }
 
 #[test]
@@ -361,8 +222,8 @@ fn clone_untracks(entry: &Entry, number: u64) -> bool {
 
 #[test]
 fn an_entry_is_cloned(rt: HostRuntime) -> Result<(), Fail> {
-    let journal = journal_of(rt.alloc(), &[Ask::Track(3, "u1"), Ask::UntrackAll(3)])?;
-    let entry = journal.entries().get(1);
+    let shard = shard_after(rt.alloc(), &[Ask::Track(3, "u1"), Ask::UntrackAll(3)])?;
+    let entry = shard.journal().entries().get(1);
     assert!(rt; entry.is_some_and(|entry| clone_untracks(entry, 2)));
     Ok(())
 }
@@ -370,11 +231,12 @@ fn an_entry_is_cloned(rt: HostRuntime) -> Result<(), Fail> {
 #[test]
 fn a_take_of_the_most_items(rt: HostRuntime) -> Result<(), Fail> {
     let alloc = rt.alloc();
-    let mut journal = shouted(alloc, MAX_TAKEN)?;
-    let step = step_of(alloc, Ask::Take(1))?;
-    assert!(rt; make(alloc, &mut journal, step)?);
-    assert!(rt; matches!(outcome_at(&journal, 258), Some(Outcome::Taken(false, 256))));
-    assert!(rt; waiting(alloc, &journal, 1)? == Some(0));
+    let mut shard = shouted(alloc, MAX_TAKEN)?;
+    take(alloc, &mut shard, 1)?;
+    let journal = shard.journal();
+    assert!(rt; matches!(outcome_at(journal, 258), Some(Outcome::Taken(false, 256))));
+    assert!(rt; waiting(alloc, journal, 1)? == Some(0));
+    assert_eq!(rt; walk_waits(journal, 1), Some(false));
     Ok(())
 }
 
@@ -400,17 +262,23 @@ fn the_deepest_payload(rt: HostRuntime) -> Result<(), Fail> {
 }
 
 #[test]
-fn a_journal_names_its_own_replica(rt: HostRuntime) -> Result<(), Fail> {
-    let journal = empty_journal(rt.alloc())?;
+fn an_empty_journal(rt: HostRuntime) -> Result<(), Fail> {
+    let name = NodeName::new(rt.alloc(), "a")?.ok_or("a name")?;
+    let own = Replica {
+        name,
+        incarnation: 1,
+    };
+    let journal = Journal::new(rt.alloc(), own);
     assert!(rt; journal.own().name.as_str() == "a" && journal.own().incarnation == 1);
+    assert!(rt; !journal.is_full() && journal.entries().is_empty());
     Ok(())
 }
 
 // The references of the present rows, which were put into a list and given back by it.
 fn given_back(alloc: Global, journal: &Journal) -> Result<String, Fail> {
-    let topic = topic(alloc)?;
+    let topic = topic(alloc, ROOM)?;
     let rows = Rows::new(walk_list(alloc, journal, &topic)?);
-    Ok(references(alloc, &rows.into_vec())?)
+    Ok(row_references(alloc, &rows.into_vec())?)
 }
 
 // Whether the dots of a removal, given back by their list, are one dot of this count.
@@ -427,15 +295,9 @@ fn removes(outcome: &Outcome, count: u64) -> bool {
 #[test]
 fn lists_give_back_what_was_put_in(rt: HostRuntime) -> Result<(), Fail> {
     let asks = [Ask::Track(1, "u1"), Ask::Track(2, "u1"), Ask::UntrackAll(1)];
-    let journal = journal_of(rt.alloc(), &asks)?;
-    assert!(rt; is_text(given_back(rt.alloc(), &journal)?, "a.1.2 "));
-    assert!(rt; outcome_at(&journal, 2).is_some_and(|outcome| removes(outcome, 1)));
-    Ok(())
-}
-
-#[test]
-fn a_payload_lends_its_value(rt: HostRuntime) -> Result<(), Fail> {
-    let payload = payload(rt.alloc())?;
-    assert!(rt; is_text(payload.as_json().as_value().to_string(rt.alloc())?, "[1]"));
+    let shard = shard_after(rt.alloc(), &asks)?;
+    let journal = shard.journal();
+    assert!(rt; is_text(given_back(rt.alloc(), journal)?, "a.1.2 "));
+    assert!(rt; outcome_at(journal, 2).is_some_and(|outcome| removes(outcome, 1)));
     Ok(())
 }

@@ -4,4 +4,6 @@
 #[cfg(test)]
 mod calls;
 #[cfg(test)]
+mod desk;
+#[cfg(test)]
 mod journal;
