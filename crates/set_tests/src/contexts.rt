@@ -1,6 +1,6 @@
-ghost use Rattle.std.specs.Prelude.{◌≡◌, IfOk};
+ghost use Rattle.std.specs.Prelude.{◌≡◌};
 
-use crate::Context;
+use dot_context::Context;
 use presence_base::{Dot, NodeName, Replica};
 use std::alloc::{AllocError, Global};
 use std::test::Fail;
@@ -15,10 +15,10 @@ fn replica(alloc: Global, name: &str) -> Result<Option<Replica>, AllocError> {
     }
 }
 
-fn dot(b: &Replica, count: u64) -> Result<Dot, AllocError>
-    ensures { IfOk result (λ d. d.count ≡ count) }
+fn dot(replica: Replica, count: u64) -> Dot
+    ensures { result.count ≡ count }
 {
-    Ok(Dot { replica: *b, count })
+    Dot { replica, count }
 }
 
 // The tops, the vector and the runs of the cloud, of one replica.
@@ -54,9 +54,9 @@ fn fills_the_gap(rt: HostRuntime) -> Result<(), Fail> {
         return Ok(());
     };
     let mut context = Context::new(alloc);
-    context.add(alloc, dot(&b, 3)?)?;
+    context.add(alloc, dot(b, 3))?;
     assert_eq!(rt; context.top(&b), 0);
-    assert!(rt; context.covers(&dot(&b, 3)?));
+    assert!(rt; context.covers(&dot(b, 3)));
     assert!(rt; is_seen(alloc, &context, &[0], &[], &[(2, 3)])?);
     context.add_range(alloc, b, 0, 2)?;
     assert_eq!(rt; context.top(&b), 3);
@@ -79,8 +79,8 @@ fn takes_runs_in_falling_order(rt: HostRuntime) -> Result<(), Fail> {
         context.add_range(alloc, b, count - 1, count)?;
     }
     assert_eq!(rt; context.top(&b), 0);
-    assert!(rt; context.covers(&dot(&b, 60_002)?));
-    assert!(rt; !context.covers(&dot(&b, 60_003)?));
+    assert!(rt; context.covers(&dot(b, 60_002)));
+    assert!(rt; !context.covers(&dot(b, 60_003)));
     context.add_range(alloc, b, 0, 4_611_686_018_427_387_904)?;
     assert_eq!(rt; context.top(&b), 4_611_686_018_427_387_904);
     Ok(())
@@ -93,14 +93,14 @@ fn joins_two_contexts(rt: HostRuntime) -> Result<(), Fail> {
         return Ok(());
     };
     let mut first = Context::new(alloc);
-    first.add(alloc, dot(&b, 1)?)?;
+    first.add(alloc, dot(b, 1))?;
     let mut second = Context::new(alloc);
-    second.add(alloc, dot(&b, 2)?)?;
-    second.add(alloc, dot(&b, 4)?)?;
+    second.add(alloc, dot(b, 2))?;
+    second.add(alloc, dot(b, 4))?;
     first.join(alloc, &second)?;
     assert_eq!(rt; first.top(&b), 2);
-    assert!(rt; !first.covers(&dot(&b, 3)?));
-    assert!(rt; first.covers(&dot(&b, 4)?));
+    assert!(rt; !first.covers(&dot(b, 3)));
+    assert!(rt; first.covers(&dot(b, 4)));
     assert!(rt; is_seen(alloc, &first, &[2], &[2], &[(3, 4)])?);
     Ok(())
 }

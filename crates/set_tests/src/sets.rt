@@ -1,16 +1,14 @@
 ghost use Rattle.std.specs.Prelude.{◌≡◌, ◌≤◌, ◌^◌, true, IfOk};
 ghost use Rattle.orswot_core.specs.Limits.{is_dot, is_row};
 
-use crate::{Orswot, RawRow, RawTold, Told};
+use orswot_core::{Orswot, RawRow, RawTold, Told};
 use presence_base::{Dot, Key, Meta, NodeName, Replica, Row, Topic};
 use serde_json::{Map, Value};
 use std::alloc::{AllocError, Global};
 use std::test::Fail;
 
-mod checks;
-
 // The replica `b`, incarnation 1.
-fn replica(alloc: Global) -> Result<Replica, Fail>
+pub(crate) fn replica(alloc: Global) -> Result<Replica, Fail>
     ensures { IfOk result (λ r. r.incarnation ≡ 1) }
 {
     match NodeName::new(alloc, "b")? {
@@ -32,7 +30,7 @@ fn dot(alloc: Global, count: u64) -> Result<Dot, Fail>
     })
 }
 
-fn raw_row(alloc: Global, count: u64, key: &str) -> Result<(Dot, RawRow), Fail>
+pub(crate) fn raw_row(alloc: Global, count: u64, key: &str) -> Result<(Dot, RawRow), Fail>
     requires { (1 ≤ count) × (count ≤ 2 ^ 62) }
 {
     let raw = RawRow {
@@ -66,7 +64,7 @@ fn row(alloc: Global, key: &str) -> Result<Row, Fail>
     })
 }
 
-fn empty(alloc: Global) -> RawTold {
+pub(crate) fn empty(alloc: Global) -> RawTold {
     RawTold {
         ranges: Vec::new(alloc),
         extras: Vec::new(alloc),

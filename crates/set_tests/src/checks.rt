@@ -1,6 +1,6 @@
 // The check of told values: each refusal at its limit and one past it, and their order.
-use super::{empty, raw_row, replica};
-use crate::{MAX_ROWS, RawRow, RawTold, Told, ToldFault};
+use crate::sets::{empty, raw_row, replica};
+use orswot_core::{MAX_ROWS, RawRow, RawTold, Told, ToldFault};
 use presence_base::{Dot, MAX_COUNT, NodeName, Replica};
 use serde_json::Value;
 use std::alloc::{AllocError, Global};
