@@ -4,8 +4,6 @@
 mod context;
 mod replicas;
 mod runs;
-#[cfg(test)]
-mod tests;
 mod views;
 
 pub use context::{Context, one_form};

@@ -7,8 +7,6 @@ pub mod laws;
 mod limits;
 mod raw;
 mod set;
-#[cfg(test)]
-mod tests;
 mod told;
 
 pub use raw::{RawRow, RawTold};
