@@ -162,7 +162,7 @@ pub(crate) fn join_contiguous(
 {
     let (from, to) = (first.from(), next.to());
     let (earlier, later) = (first.told(), next.told());
-    let ranges = one_range(alloc, first.owner(), from, to)?;
+    let ranges = one_range(alloc, *first.owner(), from, to)?;
     let extras = older_dots(alloc, earlier.extras(), later.extras(), from)?;
     let live = joined_rows(alloc, earlier.live(), later.extras(), later.live())?;
     Ok(Delta {

@@ -10,21 +10,13 @@ use presence_base::{Dot, Replica, Row};
 use std::alloc::{AllocError, Global};
 use std::collections::BTreeSet;
 
-fn push_dot(dots: &mut Vec<Dot>, dot: &Dot) -> Result<(), AllocError>
-    ensures { OnOk result (dots.new.items ≡ dots.old.items ++ dot.now ∷ []) }
-{
-    let dot = dot.clone()?;
-    dots.push(dot)?;
-    Ok(())
-}
-
 // Adds the dots that are at or below `from`.
 fn push_older(dots: &mut Vec<Dot>, more: &[Dot], from: u64) -> Result<(), AllocError>
     ensures { OnOk result (dots.new.items ≡ dots.old.items ++ filter (λ d. nat_le d.count from) more.now) }
 {
     for dot in more {
         if dot.count <= from {
-            push_dot(dots, dot)?;
+            dots.push(*dot)?;
         }
     }
     Ok(())
@@ -62,8 +54,7 @@ fn dot_set(alloc: Global, dots: &[Dot]) -> Result<BTreeSet<Dot>, AllocError>
 {
     let mut set = BTreeSet::new(alloc);
     for dot in dots {
-        let dot = dot.clone()?;
-        set.insert(dot)?;
+        set.insert(*dot)?;
     }
     Ok(set)
 }
@@ -111,13 +102,12 @@ pub(crate) fn joined_rows(
 
 pub(crate) fn one_range(
     alloc: Global,
-    owner: &Replica,
+    owner: Replica,
     from: u64,
     to: u64,
 ) -> Result<Vec<(Replica, u64, u64)>, AllocError>
-    ensures { IfOk result (λ v. v.items ≡ (owner.now, from, to) ∷ []) }
+    ensures { IfOk result (λ v. v.items ≡ (owner, from, to) ∷ []) }
 {
-    let owner = owner.clone()?;
     let mut ranges = Vec::new(alloc);
     ranges.push((owner, from, to))?;
     Ok(ranges)

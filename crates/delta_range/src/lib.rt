@@ -11,4 +11,4 @@ mod tests;
 
 pub use delta::Delta;
 pub use fault::DeltaFault;
-pub use generations::Generations;
+pub use generations::{Generations, LONG_CAP, MIDDLE_CAP, SHORT_CAP};
