@@ -94,8 +94,7 @@ fn room_in(
     }
     let mut own = Runs::new(alloc);
     own.make_room_for(runs)?;
-    let replica = replica.clone()?;
-    insert_new(replicas, replica, own)
+    insert_new(replicas, *replica, own)
 }
 
 fn room_for_all(

@@ -18,10 +18,7 @@ fn replica(alloc: Global, name: &str) -> Result<Option<Replica>, AllocError> {
 fn dot(b: &Replica, count: u64) -> Result<Dot, AllocError>
     ensures { IfOk result (λ d. d.count ≡ count) }
 {
-    Ok(Dot {
-        replica: b.clone()?,
-        count,
-    })
+    Ok(Dot { replica: *b, count })
 }
 
 // The tops, the vector and the runs of the cloud, of one replica.
@@ -61,7 +58,7 @@ fn fills_the_gap(rt: HostRuntime) -> Result<(), Fail> {
     assert_eq!(rt; context.top(&b), 0);
     assert!(rt; context.covers(&dot(&b, 3)?));
     assert!(rt; is_seen(alloc, &context, &[0], &[], &[(2, 3)])?);
-    context.add_range(alloc, b.clone()?, 0, 2)?;
+    context.add_range(alloc, b, 0, 2)?;
     assert_eq!(rt; context.top(&b), 3);
     assert!(rt; is_seen(alloc, &context, &[3], &[3], &[])?);
     context.forget(&b);
@@ -79,12 +76,12 @@ fn takes_runs_in_falling_order(rt: HostRuntime) -> Result<(), Fail> {
     let mut context = Context::new(alloc);
     for k in 0..20_000 {
         let count = 100_000 - 2 * k;
-        context.add_range(alloc, b.clone()?, count - 1, count)?;
+        context.add_range(alloc, b, count - 1, count)?;
     }
     assert_eq!(rt; context.top(&b), 0);
     assert!(rt; context.covers(&dot(&b, 60_002)?));
     assert!(rt; !context.covers(&dot(&b, 60_003)?));
-    context.add_range(alloc, b.clone()?, 0, 4_611_686_018_427_387_904)?;
+    context.add_range(alloc, b, 0, 4_611_686_018_427_387_904)?;
     assert_eq!(rt; context.top(&b), 4_611_686_018_427_387_904);
     Ok(())
 }

@@ -1,2 +1,7 @@
+pub mod Codes
 pub mod Patterns
 pub mod Routes
+pub mod Extras
+pub mod Noted
+pub mod Rendered
+pub mod Laws

@@ -95,12 +95,10 @@ between_by Equal from to n = counts_within from to n
 between_by Greater from to n = refl
 
 -- the dots between two dots of a replica are those of its range
-pub between_dots : (r low high : Replica) (from to : ℕ) (q : Dot) → low ≡ r → high ≡ r
-    → range_contains dot_cmp (Excluded (record { replica = low; count = from })) (Included (record { replica = high; count = to })) q ≡ range_has q (r, from, to)
-between_dots r low high from to q e e' =
-    ap (λ x. is_lt (ordering_then (replica_cmp x q.replica) (nat_cmp from q.count)) && not (is_lt (ordering_then (replica_cmp high q.replica) (nat_cmp to q.count)))) e
-    ∙ ap (λ x. is_lt (ordering_then (replica_cmp r q.replica) (nat_cmp from q.count)) && not (is_lt (ordering_then (replica_cmp x q.replica) (nat_cmp to q.count)))) e'
-    ∙ between_by (replica_cmp r q.replica) from to q.count
+pub between_dots : (r : Replica) (from to : ℕ) (q : Dot)
+    → range_contains dot_cmp (Excluded (record { replica = r; count = from })) (Included (record { replica = r; count = to })) q ≡ range_has q (r, from, to)
+between_dots r from to q =
+    between_by (replica_cmp r q.replica) from to q.count
     ∙ ap (λ b. b && (nat_lt from q.count && nat_le q.count to)) ((eq_by_cmp_equiv replica_total).symm r q.replica)
 
 some_cond : (b : Bool) (o : Option Row) → is_some (cond b o None) ≡ (is_some o && b)
@@ -114,14 +112,14 @@ left_and true there here' b e = ap (λ x. not there && x) e
 left_and false there here' b e = refl
 
 -- the live rows between the two ends are the live ones of the range
-pub in_between : (here there : Rows) (g : Range) (low high : Replica) (es : List (Dot × Row)) (q : Dot) → low ≡ g.0 → high ≡ g.0
-    → es ≡ entries_between dot_cmp (Excluded (record { replica = low; count = g.1 })) (Included (record { replica = high; count = g.2 })) here.entries
+pub in_between : (here there : Rows) (g : Range) (es : List (Dot × Row)) (q : Dot)
+    → es ≡ entries_between dot_cmp (Excluded (record { replica = g.0; count = g.1 })) (Included (record { replica = g.0; count = g.2 })) here.entries
     → (is_left (get dot_cmp here q) (get dot_cmp there q) && list_any (same_dot q) (keys_of es)) ≡ (is_left (get dot_cmp here q) (get dot_cmp there q) && range_has q g)
-in_between here there g low high es q e e' is =
+in_between here there g es q is =
     left_and (is_some (get dot_cmp here q)) (is_some (get dot_cmp there q)) (list_any (same_dot q) (keys_of es)) (range_has q g)
     (sym (is_some-lookup (same_dot q) es) ∙ ap (λ l. is_some (lookup (same_dot q) l)) is
-    ∙ ap is_some (lookup-filter-keys (same_dot q) (range_contains dot_cmp (Excluded (record { replica = low; count = g.1 })) (Included (record { replica = high; count = g.2 }))) (range_has q g)
-    (λ k same. ap (range_contains dot_cmp (Excluded (record { replica = low; count = g.1 })) (Included (record { replica = high; count = g.2 }))) (sym (dots_equal q k same)) ∙ between_dots g.0 low high g.1 g.2 q e e') here.entries)
+    ∙ ap is_some (lookup-filter-keys (same_dot q) (range_contains dot_cmp (Excluded (record { replica = g.0; count = g.1 })) (Included (record { replica = g.0; count = g.2 }))) (range_has q g)
+    (λ k same. ap (range_contains dot_cmp (Excluded (record { replica = g.0; count = g.1 })) (Included (record { replica = g.0; count = g.2 }))) (sym (dots_equal q k same)) ∙ between_dots g.0 g.1 g.2 q) here.entries)
     ∙ some_cond (range_has q g) (get dot_cmp here q))
 
 -- of the rows in a range, one more is done
@@ -141,5 +139,5 @@ no_greater o from to e le = ap (λ x. is_gt (ordering_then x (nat_cmp from to)))
     at_most : (m n : ℕ) → nat_le m n ≡ true → (nat_lt m n || m == n) ≡ true
     at_most m n h = grind (arith, nat_tests)
 
-pub forward_ends : (low high : Replica) (g : Range) → low ≡ g.0 → high ≡ g.0 → is_forward g ≡ true → is_gt (dot_cmp (record { replica = low; count = g.1 }) (record { replica = high; count = g.2 })) ≡ false
-forward_ends low high g e e' forward = no_greater (replica_cmp low high) g.1 g.2 (ap (λ x. replica_cmp x high) e ∙ ap (replica_cmp g.0) e' ∙ tied_itself replica_total g.0) forward
+pub forward_ends : (g : Range) → is_forward g ≡ true → is_gt (dot_cmp (record { replica = g.0; count = g.1 }) (record { replica = g.0; count = g.2 })) ≡ false
+forward_ends g forward = no_greater (replica_cmp g.0 g.0) g.1 g.2 (tied_itself replica_total g.0) forward

@@ -30,10 +30,10 @@ or_none true = refl
 or_none false = refl
 
 -- one more dot is added, and one fewer is left
-pub dot_added : (s t : DotSet) (d added : Dot) (xs rest : List Dot) (q : Dot) → xs ≡ d ∷ rest → added ≡ d → t ≡ set.insert s added
+pub dot_added : (s t : DotSet) (d : Dot) (xs rest : List Dot) (q : Dot) → xs ≡ d ∷ rest → t ≡ set.insert s d
     → (set.contains t q || list_any (same_dot q) rest) ≡ (set.contains s q || list_any (same_dot q) xs)
-dot_added s t d added xs rest q split e step =
-    ap (λ x. set.contains x q || list_any (same_dot q) rest) (step ∙ ap (set.insert s) e)
+dot_added s t d xs rest q split step =
+    ap (λ x. set.contains x q || list_any (same_dot q) rest) step
     ∙ ap (λ b. b || list_any (same_dot q) rest) (set.contains-insert dot_total s d q)
     ∙ or_swap (same_dot q d) (set.contains s q) (list_any (same_dot q) rest)
     ∙ ap (λ l. set.contains s q || list_any (same_dot q) l) (sym split)

@@ -47,13 +47,11 @@ pub(crate) fn add_row(
     ensures ok { OnOk result ((covered.new ≡ set.insert covered.old dot) × ((q : DotValue) → get dot_cmp live.new q ≡ cond (same_dot dot q) (Some row) (get dot_cmp live.old q))) }
     ensures err { OnErr result ((covered.new ≡ covered.old) × ((q : DotValue) → get dot_cmp live.new q ≡ get dot_cmp live.old q)) }
 {
-    let key = dot.clone()?;
-    let back = dot.clone()?;
-    insert_row(live, key, row)?;
+    insert_row(live, dot, row)?;
     match covered.add(alloc, dot) {
         Ok(()) => Ok(()),
         Err(e) => {
-            take_row(live, &back);
+            take_row(live, &dot);
             Err(e)
         }
     }
@@ -100,9 +98,8 @@ fn insert_missing(
 {
     for (dot, row) in others.iter() {
         if !covered.covers(dot) {
-            let dot = dot.clone()?;
             let row = row.clone()?;
-            insert_row(live, dot, row)?;
+            insert_row(live, *dot, row)?;
         }
     }
     Ok(())
@@ -146,7 +143,7 @@ fn keep_first(live: &mut BTreeMap<Dot, Row>, row: &(Dot, Row)) -> Result<(), All
     if live.contains_key(&row.0) {
         return Ok(());
     }
-    let dot = row.0.clone()?;
+    let dot = row.0;
     let row = row.1.clone()?;
     insert_row(live, dot, row)
 }
@@ -165,8 +162,7 @@ fn told_rows(alloc: Global, rows: &[(Dot, Row)]) -> Result<BTreeMap<Dot, Row>, A
 fn push_dot(dots: &mut Vec<Dot>, dot: &Dot) -> Result<(), AllocError>
     ensures { OnOk result (dots.new.items ≡ dots.old.items ++ dot.now ∷ []) }
 {
-    let dot = dot.clone()?;
-    dots.push(dot)?;
+    dots.push(*dot)?;
     Ok(())
 }
 
@@ -216,11 +212,11 @@ fn gather_range(
     ensures { OnOk result ((q : DotValue) → list_any (same_dot q) gone.new.items ≡ (list_any (same_dot q) gone.old.items || (is_left (get dot_cmp live.now q) (get dot_cmp told.now q) && range_has q range.now))) }
 {
     let low = Dot {
-        replica: range.0.clone()?,
+        replica: range.0,
         count: range.1,
     };
     let high = Dot {
-        replica: range.0.clone()?,
+        replica: range.0,
         count: range.2,
     };
     for (dot, _row) in live.range((Bound::Excluded(low), Bound::Included(high))) {

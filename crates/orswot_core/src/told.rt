@@ -156,8 +156,7 @@ fn has_two_ranges(alloc: Global, ranges: &[(Replica, u64, u64)]) -> Result<bool,
         if seen.contains(&range.0) {
             return Ok(true);
         }
-        let replica = range.0.clone()?;
-        seen.insert(replica)?;
+        seen.insert(range.0)?;
     }
     Ok(false)
 }
@@ -171,8 +170,7 @@ fn has_live_twice(alloc: Global, live: &[(Dot, Row)]) -> Result<bool, AllocError
         if seen.contains(&row.0) {
             return Ok(true);
         }
-        let dot = row.0.clone()?;
-        seen.insert(dot)?;
+        seen.insert(row.0)?;
     }
     Ok(false)
 }
@@ -220,8 +218,7 @@ fn add_ranges(
     ensures { OnOk result ((q : DotValue) → set.contains covered.new q ≡ (set.contains covered.old q || list_any (range_has q) ranges.now)) }
 {
     for range in ranges {
-        let replica = range.0.clone()?;
-        covered.add_range(alloc, replica, range.1, range.2)?;
+        covered.add_range(alloc, range.0, range.1, range.2)?;
     }
     Ok(())
 }
@@ -231,8 +228,7 @@ pub(crate) fn add_dots(covered: &mut Context, alloc: Global, dots: &[Dot]) -> Re
     ensures { OnOk result ((q : DotValue) → set.contains covered.new q ≡ (set.contains covered.old q || list_any (same_dot q) dots.now)) }
 {
     for dot in dots {
-        let dot = dot.clone()?;
-        covered.add(alloc, dot)?;
+        covered.add(alloc, *dot)?;
     }
     Ok(())
 }

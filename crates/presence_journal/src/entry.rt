@@ -1,5 +1,3 @@
-ghost use Rattle.std.specs.Prelude.{◌≡◌, IfOk};
-
 use crate::step::Step;
 use presence_base::{Dot, Replica};
 use std::alloc::AllocError;
@@ -104,9 +102,9 @@ impl Clone for Outcome {
 
     fn clone(&self) -> Result<Outcome, AllocError> {
         match self {
-            Outcome::Added(dot) => Ok(Outcome::Added(dot.clone()?)),
+            Outcome::Added(dot) => Ok(Outcome::Added(*dot)),
             Outcome::AlreadyTracked => Ok(Outcome::AlreadyTracked),
-            Outcome::Replaced(dot, old) => clone_replaced(dot, old),
+            Outcome::Replaced(dot, old) => Ok(Outcome::Replaced(*dot, *old)),
             Outcome::NoPresence => Ok(Outcome::NoPresence),
             Outcome::Removed(dots) => Ok(Outcome::Removed(dots.clone()?)),
             Outcome::Shown(dots) => Ok(Outcome::Shown(dots.clone()?)),
@@ -116,14 +114,6 @@ impl Clone for Outcome {
             Outcome::Sent => Ok(Outcome::Sent),
         }
     }
-}
-
-fn clone_replaced(dot: &Dot, old: &Dot) -> Result<Outcome, AllocError>
-    ensures { IfOk result (λ o. o ≡ Outcome.Replaced dot.now old.now) }
-{
-    let dot = dot.clone()?;
-    let old = old.clone()?;
-    Ok(Outcome::Replaced(dot, old))
 }
 
 impl Clone for Entry {

@@ -21,9 +21,8 @@ pub fn walk_next_dot(journal: &Journal) -> Result<Option<Dot>, AllocError>
     if used >= MAX_COUNT {
         return Ok(None);
     }
-    let replica = journal.own().clone()?;
     Ok(Some(Dot {
-        replica,
+        replica: *journal.own(),
         count: used + 1,
     }))
 }
@@ -55,9 +54,8 @@ fn replace_first(journal: &Journal, rows: &[(Dot, Row)]) -> Result<Option<Outcom
     let Some(row) = rows.first() else {
         return Ok(Some(Outcome::NoPresence));
     };
-    let old = row.0.clone()?;
     match walk_next_dot(journal)? {
-        Some(dot) => Ok(Some(Outcome::Replaced(dot, old))),
+        Some(dot) => Ok(Some(Outcome::Replaced(dot, row.0))),
         None => Ok(None),
     }
 }

@@ -88,12 +88,12 @@ fn made_row(step: &Step, prev: Option<Dot>, topic: &Topic) -> Result<Option<Row>
 }
 
 // The row under a dot.
-fn under_dot(dot: &Dot, row: Option<Row>) -> Result<Option<(Dot, Row)>, AllocError>
-    ensures { IfOk result (λ o. (d : Dot) → row_at o d ≡ cond (same_dot d dot.now) row None) }
+fn under_dot(dot: Dot, row: Option<Row>) -> Option<(Dot, Row)>
+    ensures { (d : Dot) → row_at result d ≡ cond (same_dot d dot) row None }
 {
     match row {
-        Some(row) => Ok(Some((dot.clone()?, row))),
-        None => Ok(None),
+        Some(row) => Some((dot, row)),
+        None => None,
     }
 }
 
@@ -102,10 +102,13 @@ pub(crate) fn added_row(entry: &Entry, topic: &Topic) -> Result<Option<(Dot, Row
     ensures { IfOk result (λ o. (d : Dot) → row_at o d ≡ joined entry.now topic.now d) }
 {
     match &entry.outcome {
-        Outcome::Added(new) => under_dot(new, made_row(&entry.step, None, topic)?),
+        Outcome::Added(new) => {
+            let row = made_row(&entry.step, None, topic)?;
+            Ok(under_dot(*new, row))
+        }
         Outcome::Replaced(new, old) => {
-            let prev = old.clone()?;
-            under_dot(new, made_row(&entry.step, Some(prev), topic)?)
+            let row = made_row(&entry.step, Some(*old), topic)?;
+            Ok(under_dot(*new, row))
         }
         _ => Ok(None),
     }
@@ -134,7 +137,7 @@ fn move_row(
     ensures taken { OnOk result ((d : Dot) → get dot_cmp taken.new d ≡ first_some (among (dot.now ∷ []) (get dot_cmp rows.old) d) (get dot_cmp taken.old d)) }
 {
     let row = rows.remove(dot);
-    let added = under_dot(dot, row)?;
+    let added = under_dot(*dot, row);
     put_row(taken, added)
 }
 

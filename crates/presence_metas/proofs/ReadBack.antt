@@ -50,14 +50,14 @@ named_object (string s) r h = cc
 named_object (array ds) r h = cc
 named_object (object ms) r h = refl
 
-objects : (ts : List TrackedMeta) → AllNamed ts → all_objects (items_of (map (λ t. t.meta) ts)) ≡ true
+pub objects : (ts : List TrackedMeta) → AllNamed ts → all_objects (items_of (map (λ t. t.meta) ts)) ≡ true
 objects [] h = refl
 objects (t ∷ ts) h = rw (named_object t.meta t.reference h.0) (objects ts h.1)
 
 named_in : (t : TrackedMeta) → Named t → tracked_in t.meta ≡ Ok t
 named_in t h = rw h refl
 
-metas_back : (us ts : List TrackedMeta) → AllNamed ts → metas_into us (items_of (map (λ t. t.meta) ts)) ≡ Ok (us ++ ts)
+pub metas_back : (us ts : List TrackedMeta) → AllNamed ts → metas_into us (items_of (map (λ t. t.meta) ts)) ≡ Ok (us ++ ts)
 metas_back us [] h = ap Ok (sym (append-nil us))
 metas_back us (t ∷ ts) h = rw (named_in t h.0) (metas_back (us ++ t ∷ []) ts h.1 ∙ ap Ok (append_assoc us (t ∷ []) ts))
 

@@ -19,15 +19,15 @@ use Rattle.presence_metas.specs.Rows.{members_in, with_prev, tracked_of, add_row
 use Rattle.presence_metas.specs.Values.{metas_value, with_key, listing_value, AreWhole, AllWhole}
 use Rattle.presence_metas.proofs.Lookups.{same, bool_cases, order_cases}
 
-or_false : (a b : Bool) → a ≡ false → b ≡ false → (a || b) ≡ false
+pub or_false : (a b : Bool) → a ≡ false → b ≡ false → (a || b) ≡ false
 or_false true b h k = h
 or_false false b h k = k
 
-left_false : (a b : Bool) → (a || b) ≡ false → a ≡ false
+pub left_false : (a b : Bool) → (a || b) ≡ false → a ≡ false
 left_false true b h = h
 left_false false b h = refl
 
-right_false : (a b : Bool) → (a || b) ≡ false → b ≡ false
+pub right_false : (a b : Bool) → (a || b) ≡ false → b ≡ false
 right_false true b h = cc
 right_false false b h = h
 

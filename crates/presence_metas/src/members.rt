@@ -1,4 +1,4 @@
-ghost use Rattle.std.specs.Prelude.{◌≡◌, OnOk};
+ghost use Rattle.std.specs.Prelude.{◌≡◌, OnOk, string_bytes};
 ghost use Rattle.serde_json.specs.Data.{put};
 ghost use Rattle.serde_json.specs.View.{view, members_view};
 ghost use Rattle.presence_metas.specs.Rows.{members_in};
@@ -16,8 +16,21 @@ pub(crate) fn members_of(alloc: Global, value: Value) -> Map<String, Value>
     }
 }
 
-// Puts a value under a name.
-pub(crate) fn put_member(
+/// Puts a value under a name.
+pub fn insert_member(
+    members: &mut Map<String, Value>,
+    name: String,
+    value: Value,
+) -> Result<(), AllocError>
+    ensures { OnOk result (members_view members.new.entries
+        ≡ put (string_bytes name) (view value) (members_view members.old.entries)) }
+{
+    members.insert(name, value)?;
+    Ok(())
+}
+
+/// Puts a value under a copy of a name.
+pub fn put_member(
     alloc: Global,
     members: &mut Map<String, Value>,
     name: &str,
@@ -27,6 +40,5 @@ pub(crate) fn put_member(
         ≡ put name.now (view value) (members_view members.old.entries)) }
 {
     let name = String::from_str(alloc, name)?;
-    members.insert(name, value)?;
-    Ok(())
+    insert_member(members, name, value)
 }

@@ -59,8 +59,8 @@ pub struct Diff {
     pub leaves: Presences,
 }
 
-// The values of a key's metas.
-fn values_of(alloc: Global, metas: &[TrackedMeta]) -> Result<Vec<Value>, AllocError>
+/// The values of a key's metas.
+pub fn values_of(alloc: Global, metas: &[TrackedMeta]) -> Result<Vec<Value>, AllocError>
     ensures { IfOk result (λ v. map view v.items ≡ map (λ t. t.meta) metas.now) }
 {
     let mut values = Vec::new(alloc);

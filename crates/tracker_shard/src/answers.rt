@@ -28,20 +28,26 @@ pub(crate) fn dots_of_rows(alloc: Global, rows: &[(Dot, Row)]) -> Result<Vec<Dot
 {
     let mut dots = Vec::new(alloc);
     for row in rows {
-        let dot = row.0.clone()?;
-        dots.push(dot)?;
+        dots.push(row.0)?;
     }
     Ok(dots)
 }
 
 // The dot of the first row, where there is one.
-pub(crate) fn first_dot_of(rows: &[(Dot, Row)]) -> Result<Option<Dot>, AllocError>
-    ensures { IfOk result (λ o. o ≡ first_dot rows.now) }
+pub(crate) fn first_dot_of(rows: &[(Dot, Row)]) -> Option<Dot>
+    ensures { result ≡ first_dot rows.now }
 {
     match rows.first() {
-        Some(row) => Ok(Some(row.0.clone()?)),
-        None => Ok(None),
+        Some(row) => Some(row.0),
+        None => None,
     }
+}
+
+// What an update comes to that puts a row under the dot in the place of the old one.
+pub(crate) fn replaced(dot: &Dot, old: &Dot) -> Outcome
+    ensures { result ≡ Outcome.Replaced dot.now old.now }
+{
+    Outcome::Replaced(*dot, *old)
 }
 
 // The state of a topic, as the one item of a take.

@@ -1,6 +1,6 @@
 use crate::answers::{
-    dots_of_rows, first_dot_of, get_step, given_items, list_step, shout_step, subscribe_step,
-    taken_outcome, track_step, untrack_all_step, untrack_step, update_step,
+    dots_of_rows, first_dot_of, get_step, given_items, list_step, replaced, shout_step,
+    subscribe_step, taken_outcome, track_step, untrack_all_step, untrack_step, update_step,
 };
 use crate::fault::ShardFault;
 use presence_base::{Dot, Json, Key, MAX_COUNT, Meta, Replica, Row, Topic};
@@ -95,22 +95,21 @@ impl Shard {
         ensures { IfOk result (λ o. o ≡ first_dot (rows_of_key self.now pid topic.now key.now)) }
     {
         let mine = walk_own_row(alloc, &self.journal, pid, topic, key)?;
-        first_dot_of(&mine)
+        Ok(first_dot_of(&mine))
     }
 
     // The dot of the next count, or `None` where no count is left.
-    fn next_dot(&self) -> Result<Option<Dot>, AllocError>
-        ensures { IfOk result (λ o. o ≡ next_counted self.now) }
+    fn next_dot(&self) -> Option<Dot>
+        ensures { result ≡ next_counted self.now }
     {
         let count = walk_count(&self.journal);
         if count >= MAX_COUNT {
-            return Ok(None);
+            return None;
         }
-        let replica = self.journal.own().clone()?;
-        Ok(Some(Dot {
-            replica,
+        Some(Dot {
+            replica: *self.journal.own(),
             count: count + 1,
-        }))
+        })
     }
 
     // What taking these rows out comes to, `None` where a count is needed and none is left.
@@ -132,27 +131,6 @@ impl Shard {
             return None;
         }
         walk_topic(&self.journal, sub.number)
-    }
-
-    // Writes the entry of a step that names a new dot, and answers the dot.
-    fn write_dot(
-        &mut self,
-        seat: Option<u32>,
-        step: Step,
-        outcome: Outcome,
-        dot: Dot,
-    ) -> Result<Dot, ShardFault>
-        requires table { outcome_of self.old step ≡ Some outcome }
-        requires room { is_full self.old ≡ false }
-        requires limits { is_step step ≡ true }
-        ensures made { IfOk result (λ d. Made self.old self.new seat step × (d ≡ dot)) }
-        ensures err { OnErr result (self.new ≡ self.old) }
-        ensures memory { IfErr result (λ e. e ≡ ShardFault.OutOfMemory) }
-    {
-        match self.write(seat, step, outcome) {
-            Ok(()) => Ok(dot),
-            Err(e) => Err(e),
-        }
     }
 
     /// Tracks the pid under the key on the topic, and answers the dot of the new row.
@@ -182,12 +160,12 @@ impl Shard {
             self.write(seat, step, Outcome::AlreadyTracked)?;
             return Err(ShardFault::AlreadyTracked);
         }
-        let Some(dot) = self.next_dot()? else {
+        let Some(dot) = self.next_dot() else {
             return Err(ShardFault::ClockFull);
         };
-        let kept = dot.clone()?;
         let step = track_step(pid, topic, key, meta)?;
-        self.write_dot(seat, step, Outcome::Added(kept), dot)
+        self.write(seat, step, Outcome::Added(dot))?;
+        Ok(dot)
     }
 
     /// Replaces what the pid tells under the key on the topic, and answers the dot of the new row.
@@ -217,12 +195,12 @@ impl Shard {
             self.write(seat, step, Outcome::NoPresence)?;
             return Err(ShardFault::NoPresence);
         };
-        let Some(dot) = self.next_dot()? else {
+        let Some(dot) = self.next_dot() else {
             return Err(ShardFault::ClockFull);
         };
-        let kept = dot.clone()?;
         let step = update_step(pid, topic, key, meta)?;
-        self.write_dot(seat, step, Outcome::Replaced(kept, old), dot)
+        self.write(seat, step, replaced(&dot, &old))?;
+        Ok(dot)
     }
 
     /// Takes out the pid's row under the key on the topic, and answers its dot, or none where there is no such row.

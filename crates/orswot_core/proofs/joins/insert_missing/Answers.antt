@@ -19,17 +19,17 @@ loop-dot-init c =
       moved = λ q h none. moved_first c.args.live.now c.args.others.now c.into_iter-dot-iterator.result q all none;
     }
 
-pub loop-dot-preserved-in-Continue-branch-3 : goal.loop-dot-preserved-in-Continue-branch-3
-loop-dot-preserved-in-Continue-branch-3 c =
+pub loop-dot-preserved-in-Continue-branch-2 : goal.loop-dot-preserved-in-Continue-branch-2
+loop-dot-preserved-in-Continue-branch-2 c =
     let split = c.in-Some.ensures.steps in
     let before = c.loop-dot.invariant in
     let here = All-head (Found c.args.others.now) (c.in-Some.dot.now, c.in-Some.row.now) c.next.new.self (All-same (Found c.args.others.now) _ _ (sym split) before.found) in
     record {
       found = All-rest (Found c.args.others.now) (c.in-Some.dot.now, c.in-Some.row.now) c.next.new.self c.loop-dot.dot-iterator split before.found;
-      kept = λ q h. kept_one c.loop-dot.live c.insert_row.new.live c.args.live.now c.args.covered.now c.in-Some.dot.now c.in_ok-dot.dot c.in_ok-row.row q c.in_ok-dot.ensures.cases
+      kept = λ q h. kept_one c.loop-dot.live c.insert_row.new.live c.args.live.now c.args.covered.now c.in-Some.dot.now c.in_ok-row.row q
           (sym c.covers.ensures ∙ c.if-not-covers.true) h c.in_ok-insert_row.ensures.ok (before.kept q h);
-      moved = λ q h none. moved_one c.loop-dot.live c.insert_row.new.live c.args.others.now c.in-Some.dot.now c.in_ok-dot.dot c.in-Some.row.now c.in_ok-row.row c.loop-dot.dot-iterator c.next.new.self q
-          c.in_ok-dot.ensures.cases c.in_ok-row.ensures.cases here split c.in_ok-insert_row.ensures.ok (before.moved q h none);
+      moved = λ q h none. moved_one c.loop-dot.live c.insert_row.new.live c.args.others.now c.in-Some.dot.now c.in-Some.row.now c.in_ok-row.row c.loop-dot.dot-iterator c.next.new.self q
+          c.in_ok-row.ensures.cases here split c.in_ok-insert_row.ensures.ok (before.moved q h none);
     }
 
 pub loop-dot-preserved : goal.loop-dot-preserved

@@ -9,8 +9,8 @@ loop-dot-init c = λ q. refl
 
 pub loop-dot-preserved : goal.loop-dot-preserved
 loop-dot-preserved c = λ q.
-    dot_added c.loop-dot.covered c.add.new.self c.dot-item.result c.in_ok-dot.dot (drop c.loop-dot.dot-index c.args.dots.now) (drop (c.loop-dot.dot-index + 1) c.args.dots.now) q
-    (next_rest c.args.dots.now c.loop-dot.dot-index c.dot-item.result c.loop-dot-test.true c.dot-item.is) c.in_ok-dot.ensures.cases c.in_ok-add.ensures.ok
+    dot_added c.loop-dot.covered c.add.new.self c.dot-item.result (drop c.loop-dot.dot-index c.args.dots.now) (drop (c.loop-dot.dot-index + 1) c.args.dots.now) q
+    (next_rest c.args.dots.now c.loop-dot.dot-index c.dot-item.result c.loop-dot-test.true c.dot-item.is) c.in_ok-add.ensures.ok
     ∙ c.loop-dot.invariant q
 
 pub returns : goal.returns

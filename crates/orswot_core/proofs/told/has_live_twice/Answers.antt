@@ -1,4 +1,4 @@
-use Rattle.std.proofs.Common.{◌||◌, sym, ◌∙◌, ap, drop, ◌+◌}
+use Rattle.std.proofs.Common.{sym, ◌∙◌, ap, drop, ◌+◌}
 use Rattle.std.proofs.lemmas.List.{drop_all}
 use Rattle.std.specs.List.{list_any}
 use Rattle.std.specs.Ordering.{is_eq}
@@ -21,7 +21,7 @@ pub loop-row-preserved : goal.loop-row-preserved
 loop-row-preserved c =
     seen_one same_dot (contains dot_cmp c.loop-row.seen) (contains dot_cmp c.insert.new.self) c.row-item.result.0 (dots_of (drop (c.loop-row.row-index + 1) c.args.live.now))
     (sym c.contains.ensures ∙ c.if-contains.false)
-    (λ q. c.in_ok-insert.ensures.updates.0 q ∙ in_cond (same_dot c.in_ok-dot.dot q) (contains dot_cmp c.loop-row.seen q) ∙ ap (λ r. same_dot r q || contains dot_cmp c.loop-row.seen q) c.in_ok-dot.ensures.cases)
+    (λ q. c.in_ok-insert.ensures.updates.0 q ∙ in_cond (same_dot c.row-item.result.0 q) (contains dot_cmp c.loop-row.seen q))
     ∙ ap (λ l. meets same_dot (contains dot_cmp c.loop-row.seen) (dots_of l)) (sym (next_rest c.args.live.now c.loop-row.row-index c.row-item.result c.loop-row-test.true c.row-item.is))
     ∙ c.loop-row.invariant
 

@@ -1,4 +1,4 @@
-use Rattle.std.proofs.Common.{◌||◌, sym, ◌∙◌, ap, drop, ◌+◌}
+use Rattle.std.proofs.Common.{sym, ◌∙◌, ap, drop, ◌+◌}
 use Rattle.std.proofs.lemmas.List.{drop_all}
 use Rattle.std.specs.List.{list_any}
 use Rattle.std.specs.Ordering.{is_eq}
@@ -21,7 +21,7 @@ pub loop-range-preserved : goal.loop-range-preserved
 loop-range-preserved c =
     seen_one same_replica (contains replica_cmp c.loop-range.seen) (contains replica_cmp c.insert.new.self) c.range-item.result.0 (replicas_of (drop (c.loop-range.range-index + 1) c.args.ranges.now))
     (sym c.contains.ensures ∙ c.if-contains.false)
-    (λ q. c.in_ok-insert.ensures.updates.0 q ∙ in_cond (same_replica c.in_ok-replica.replica q) (contains replica_cmp c.loop-range.seen q) ∙ ap (λ r. same_replica r q || contains replica_cmp c.loop-range.seen q) c.in_ok-replica.ensures.cases)
+    (λ q. c.in_ok-insert.ensures.updates.0 q ∙ in_cond (same_replica c.range-item.result.0 q) (contains replica_cmp c.loop-range.seen q))
     ∙ ap (λ l. meets same_replica (contains replica_cmp c.loop-range.seen) (replicas_of l)) (sym (next_rest c.args.ranges.now c.loop-range.range-index c.range-item.result c.loop-range-test.true c.range-item.is))
     ∙ c.loop-range.invariant
 

@@ -10,5 +10,5 @@ returns-clause-rows c = on_ok_weaker c.put_row.result (λ _. without_one (get do
 pub returns-clause-taken : goal.returns-clause-taken
 returns-clause-taken c =
     on_ok_weaker c.put_row.result
-    (λ put. moved_one (get dot_cmp c.args.rows.now) (get dot_cmp c.args.taken.now) (get dot_cmp c.put_row.new.rows) c.args.dot.now c.remove-row.result c.in_ok-added.added c.remove-row.ensures.value c.in_ok-added.ensures put)
+    (λ put. moved_one (get dot_cmp c.args.rows.now) (get dot_cmp c.args.taken.now) (get dot_cmp c.put_row.new.rows) c.args.dot.now c.remove-row.result c.under_dot-added.result c.remove-row.ensures.value c.under_dot-added.ensures put)
     c.put_row.ensures

@@ -1,0 +1,5 @@
+pub mod Gathering
+pub mod RenderedBack
+pub mod Choosing
+pub mod Short
+pub mod Noticing
