@@ -16,14 +16,12 @@ pub struct Journal {
 }
 
 impl Model for Journal {
-    ghost use Rattle.std.specs.Coded.{coded_list, coded×};
-    ghost use Rattle.presence_journal_data.specs.contracts.entry.Entry as one_entry;
-    ghost use Rattle.presence_journal_data.specs.contracts.entry.Start as beginning;
-    ghost use Rattle.presence_journal.specs.History.{History, history_code};
+    ghost use Rattle.presence_journal.specs.History.{History};
+    ghost use Rattle.presence_journal.specs.Codes.{history_code};
 
     ghost Value = { History };
 
-    ghost coded = { history_code (coded× beginning.the_row.coded (coded_list one_entry.the_row.coded)) };
+    ghost coded = { history_code };
 
     ghost use Rattle.presence_journal.specs.History.{Begin, onto};
     ghost use Rattle.presence_journal.specs.Table.{IsLegal};
