@@ -1,5 +1,5 @@
 -- New dots, and the rows that a step leaves.
-use Rattle.std.proofs.Common.{◌≡◌, ℕ, ◌+◌, ◌<◌, ◌≤◌, ◌^◌, Bool, true, false, cond, ◌||◌, List, [], ◌∷◌, ◌++◌, Option, Some, None, refl, sym, ◌∙◌, ap, arith}
+use Rattle.std.proofs.Common.{◌≡◌, ℕ, ◌<◌, ◌^◌, Bool, true, false, cond, ◌||◌, List, [], ◌∷◌, ◌++◌, Option, Some, None, refl, sym, ◌∙◌, ap, arith}
 use Rattle.std.specs.Fmt.{decimal}
 use Rattle.std.specs.FinMap as map
 use Rattle.std.proofs.lemmas.Fmt.{decimal_injective}
@@ -10,11 +10,10 @@ use Rattle.presence_base.specs.declared.row.Row.{Row}
 use Rattle.presence_base.specs.Order.{same_dot}
 use Rattle.presence_base.specs.Refs.{text_of, ref_of}
 use Rattle.presence_journal_data.specs.declared.entry.Outcome.TheVariants as outcomes_are
-use Rattle.presence_journal_data.specs.declared.rows.Place.{Place}
-use Rattle.presence_journal.specs.Steps.{Step, Outcome, Entry}
-use Rattle.presence_journal.specs.History.{History, Then, own, count, counts_used, next_dot, known, has_dot, first_some, row, row_made, row_added, shown}
+use Rattle.presence_journal.specs.Steps.{Step, Outcome}
+use Rattle.presence_journal.specs.History.{History, Then, counts_used, next_dot, known, has_dot, first_some, row_made, row_added, shown}
 use Rattle.presence_journal.specs.Present.{of_topic, present, dots_added, dots_taken}
-use Rattle.presence_journal.specs.Table.{IsLegal, outcome_of, accepted, next_entry, after}
+use Rattle.presence_journal.specs.Table.{IsLegal, outcome_of, next_entry}
 use Rattle.presence_journal.specs.Walk.{keyed, shown_of}
 use Rattle.presence_journal.specs.Laws.{NewIsUnknown, NewIsCounted, RowsAreKnown, RefsAreDistinct, OnlyNamedLeave}
 use Rattle.presence_journal.proofs.Same.{same_dot-true}

@@ -15,7 +15,8 @@ use Rattle.presence_journal.specs.Steps.{Step, Outcome, Entry}
 use Rattle.presence_journal.specs.History.{History, Begin, Then, newest_first, known, has_dot, row, shown}
 use Rattle.presence_journal.specs.Present.{RowMap, of_topic, present, listed, changes, dots_added, dots_taken}
 use Rattle.presence_journal.specs.Queue.{Behind, Queued, most_waiting, topic_of, queue, taken, fold, apply_item, diff_of, items_made}
-use Rattle.presence_journal.specs.Table.{IsLegal, is_step, accepted, next_entry, after}
+use Rattle.presence_journal.specs.Limits.{is_within_limits}
+use Rattle.presence_journal.specs.Table.{IsLegal, IsKept, is_step, accepted, next_entry, after}
 
 -- what a subscriber took since its last State, followed by what waits for it, folds to the present rows of its topic
 abbrev pub FoldsToPresent : Type 0
@@ -73,6 +74,10 @@ RefusedStays = (h : History) (s : Step) (seat : Option ℕ) → accepted h s ≡
 -- a step within its limits leads from a legal history to a legal one
 abbrev pub StaysLegal : Type 0
 StaysLegal = (h : History) → IsLegal h → (s : Step) (seat : Option ℕ) → is_step s ≡ true → IsLegal (after h s seat)
+
+-- and one that is within all its limits leads from what a journal keeps to what it keeps
+abbrev pub StaysKept : Type 0
+StaysKept = (h : History) → IsKept h → (s : Step) (seat : Option ℕ) → is_within_limits s ≡ true → IsKept (after h s seat)
 
 -- a dot that a step adds was not counted before it
 abbrev pub NewIsUnknown : Type 0

@@ -7,7 +7,7 @@ use Rattle.presence_base.specs.Order.{same_text, same_replica}
 use Rattle.presence_base.specs.Refs.{IsCount}
 use Rattle.presence_journal_data.specs.declared.step.Step.TheVariants as steps_are
 use Rattle.presence_journal_data.specs.declared.entry.Outcome.TheVariants as outcomes_are
-pub use Rattle.presence_journal_data.specs.StepLimits.{is_step}
+use Rattle.presence_journal_data.specs.StepLimits.{is_within_limits}
 use Rattle.presence_journal.specs.Steps.{Step, Outcome, Entry, Start}
 use Rattle.presence_journal.specs.History.{History, Begin, Then, own, count, next_dot, last_number, is_full}
 use Rattle.presence_journal.specs.Present.{listed, dots_of}
@@ -84,6 +84,12 @@ accepted h s = cond (is_full h) None (outcome_of h s)
 unfoldable pub after : History → Step → Option ℕ → History
 after h s seat = with_outcome h s seat (accepted h s)
 
+-- a session's number, which a row keeps, is at most 2^62
+abbrev pub is_step : Step → Bool
+is_step (steps_are.Track pid topic key meta) = nat_le pid (2 ^ 62)
+is_step (steps_are.Update pid topic key meta) = nat_le pid (2 ^ 62)
+is_step _ = true
+
 -- the limits of what a journal begins with
 pub record IsStart (s : Start) : Type 0 where
   pub name : IsTrue (is_node_name s.own.name)
@@ -94,3 +100,13 @@ pub record IsStart (s : Start) : Type 0 where
 abbrev pub IsLegal : History → Type 0
 IsLegal (Begin s) = IsStart s
 IsLegal (Then h e) = IsLegal h × (outcome_of h e.step ≡ Some e.outcome) × (e.number ≡ last_number h + 1) × (is_full h ≡ false) × (is_step e.step ≡ true)
+
+-- each step is within all its limits
+abbrev pub AreWithinLimits : History → Type 0
+AreWithinLimits (Begin s) = Unit {0}
+AreWithinLimits (Then h e) = AreWithinLimits h × (is_within_limits e.step ≡ true)
+
+-- what a journal keeps: it is legal, and it has no step that a shard couldn't make
+pub record IsKept (h : History) : Type 0 where
+  pub legal : IsLegal h
+  pub limits : AreWithinLimits h

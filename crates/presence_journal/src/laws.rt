@@ -4,7 +4,7 @@ ghost use Rattle.presence_journal.specs.Laws.{FoldsToPresent, PresentIsShown, Ch
 ghost use Rattle.presence_journal.specs.Laws.{NewIsUnknown, NewIsCounted, RowsAreKnown, RefsAreDistinct};
 ghost use Rattle.presence_journal.specs.Laws.{OnlyNamedLeave, OthersStay, OthersHearNothing, RefusedStays};
 ghost use Rattle.presence_journal.specs.Laws.{HoldsMost, QueuesItems, FallsBehind, StaysBehind};
-ghost use Rattle.presence_journal.specs.Laws.{StaysLegal, AsWorked};
+ghost use Rattle.presence_journal.specs.Laws.{StaysLegal, StaysKept, AsWorked};
 
 /// What a subscriber took since its last state, followed by what waits for it, folds to the present
 /// rows of its topic.
@@ -42,9 +42,10 @@ pub fn nothing_else_changes()
     ensures refused { RefusedStays }
 {}
 
-/// A step within its limits leads from a legal history to a legal one.
+/// A step within its limits leads from a legal history to a legal one, and from what a journal keeps to what it keeps.
 pub fn steps_stay_legal()
-    ensures { StaysLegal }
+    ensures legal { StaysLegal }
+    ensures kept { StaysKept }
 {}
 
 /// At most `MAX_WAITING` items wait for a subscriber. An entry puts what it makes behind them, and where

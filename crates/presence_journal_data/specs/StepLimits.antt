@@ -15,14 +15,14 @@ is_row_made pid topic key meta = is_short_text topic && (is_short_text key && (i
 abbrev pub is_asked : ℕ → List ℕ → Bool
 is_asked pid topic = is_short_text topic && nat_lt pid (2 ^ 64)
 
-abbrev pub is_step : Step → Bool
-is_step (steps_are.Track pid topic key meta) = is_row_made pid topic key meta
-is_step (steps_are.Update pid topic key meta) = is_row_made pid topic key meta
-is_step (steps_are.Untrack pid topic key) = is_short_text key && is_asked pid topic
-is_step (steps_are.UntrackAll pid topic) = is_asked pid topic
-is_step (steps_are.List topic) = is_short_text topic
-is_step (steps_are.Get topic key) = is_short_text topic && is_short_text key
-is_step (steps_are.Subscribe topic) = is_short_text topic
-is_step (steps_are.Take subscriber max) = is_take_limit max
-is_step (steps_are.Unsubscribe subscriber) = true
-is_step (steps_are.Shout topic payload) = is_short_text topic && is_payload payload
+abbrev pub is_within_limits : Step → Bool
+is_within_limits (steps_are.Track pid topic key meta) = is_row_made pid topic key meta
+is_within_limits (steps_are.Update pid topic key meta) = is_row_made pid topic key meta
+is_within_limits (steps_are.Untrack pid topic key) = is_short_text key && is_asked pid topic
+is_within_limits (steps_are.UntrackAll pid topic) = is_asked pid topic
+is_within_limits (steps_are.List topic) = is_short_text topic
+is_within_limits (steps_are.Get topic key) = is_short_text topic && is_short_text key
+is_within_limits (steps_are.Subscribe topic) = is_short_text topic
+is_within_limits (steps_are.Take subscriber max) = is_take_limit max
+is_within_limits (steps_are.Unsubscribe subscriber) = true
+is_within_limits (steps_are.Shout topic payload) = is_short_text topic && is_payload payload

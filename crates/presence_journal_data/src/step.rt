@@ -54,12 +54,12 @@ pub enum Step {
 impl Step {
     ghost use Rattle.std.specs.Prelude.{◌≡◌, ◌^◌, true, nat_le, IfOk, IsTrue};
     ghost use Rattle.presence_journal_data.specs.Limits.{is_payload, is_take_limit};
-    ghost use Rattle.presence_journal_data.specs.StepLimits.{is_step};
+    ghost use Rattle.presence_journal_data.specs.StepLimits.{is_within_limits};
 
     /// A track of a key.
     pub fn track(pid: u64, topic: &Topic, key: &Key, meta: &Meta) -> Result<Step, AllocError>
         ensures step { IfOk result (λ s. s ≡ Step.Track pid topic.now key.now meta.now) }
-        ensures limits { IfOk result (λ s. is_step s ≡ nat_le pid (2 ^ 62)) }
+        ensures limits { IfOk result (λ s. is_within_limits s ≡ nat_le pid (2 ^ 62)) }
     {
         let (_topic, _key, _meta) = (topic.as_str(), key.as_str(), meta.as_value());
         let topic = topic.clone()?;
@@ -76,7 +76,7 @@ impl Step {
     /// An update of what a session tells under a key.
     pub fn update(pid: u64, topic: &Topic, key: &Key, meta: &Meta) -> Result<Step, AllocError>
         ensures step { IfOk result (λ s. s ≡ Step.Update pid topic.now key.now meta.now) }
-        ensures limits { IfOk result (λ s. is_step s ≡ nat_le pid (2 ^ 62)) }
+        ensures limits { IfOk result (λ s. is_within_limits s ≡ nat_le pid (2 ^ 62)) }
     {
         let (_topic, _key, _meta) = (topic.as_str(), key.as_str(), meta.as_value());
         let topic = topic.clone()?;
@@ -93,7 +93,7 @@ impl Step {
     /// An untrack of a key.
     pub fn untrack(pid: u64, topic: &Topic, key: &Key) -> Result<Step, AllocError>
         ensures step { IfOk result (λ s. s ≡ Step.Untrack pid topic.now key.now) }
-        ensures limits { IfOk result (λ s. is_step s ≡ true) }
+        ensures limits { IfOk result (λ s. is_within_limits s ≡ true) }
     {
         let (_topic, _key) = (topic.as_str(), key.as_str());
         let topic = topic.clone()?;
@@ -104,7 +104,7 @@ impl Step {
     /// An untrack of all keys of a session.
     pub fn untrack_all(pid: u64, topic: &Topic) -> Result<Step, AllocError>
         ensures step { IfOk result (λ s. s ≡ Step.UntrackAll pid topic.now) }
-        ensures limits { IfOk result (λ s. is_step s ≡ true) }
+        ensures limits { IfOk result (λ s. is_within_limits s ≡ true) }
     {
         let _topic = topic.as_str();
         let topic = topic.clone()?;
@@ -114,7 +114,7 @@ impl Step {
     /// A list of a topic's rows.
     pub fn list(topic: &Topic) -> Result<Step, AllocError>
         ensures step { IfOk result (λ s. s ≡ Step.List topic.now) }
-        ensures limits { IfOk result (λ s. is_step s ≡ true) }
+        ensures limits { IfOk result (λ s. is_within_limits s ≡ true) }
     {
         let _topic = topic.as_str();
         let topic = topic.clone()?;
@@ -124,7 +124,7 @@ impl Step {
     /// A list of the rows under a key.
     pub fn get(topic: &Topic, key: &Key) -> Result<Step, AllocError>
         ensures step { IfOk result (λ s. s ≡ Step.Get topic.now key.now) }
-        ensures limits { IfOk result (λ s. is_step s ≡ true) }
+        ensures limits { IfOk result (λ s. is_within_limits s ≡ true) }
     {
         let (_topic, _key) = (topic.as_str(), key.as_str());
         let topic = topic.clone()?;
@@ -135,7 +135,7 @@ impl Step {
     /// A new subscriber of a topic.
     pub fn subscribe(topic: &Topic) -> Result<Step, AllocError>
         ensures step { IfOk result (λ s. s ≡ Step.Subscribe topic.now) }
-        ensures limits { IfOk result (λ s. is_step s ≡ true) }
+        ensures limits { IfOk result (λ s. is_within_limits s ≡ true) }
     {
         let _topic = topic.as_str();
         let topic = topic.clone()?;
@@ -146,7 +146,7 @@ impl Step {
     pub fn take(subscriber: u64, max: u32) -> Step
         requires { IsTrue (is_take_limit max) }
         ensures step { result ≡ Step.Take subscriber max }
-        ensures limits { is_step result ≡ true }
+        ensures limits { is_within_limits result ≡ true }
     {
         Step::Take {
             subscriber,
@@ -158,7 +158,7 @@ impl Step {
     pub fn shout(topic: &Topic, payload: &Json) -> Result<Step, AllocError>
         requires { IsTrue (is_payload payload.now) }
         ensures step { IfOk result (λ s. s ≡ Step.Shout topic.now payload.now) }
-        ensures limits { IfOk result (λ s. is_step s ≡ true) }
+        ensures limits { IfOk result (λ s. is_within_limits s ≡ true) }
     {
         let _topic = topic.as_str();
         let topic = topic.clone()?;

@@ -24,30 +24,28 @@ pub struct Shard {
 }
 
 impl Model for Shard {
-    ghost use Rattle.std.specs.Coded.{coded_list, coded×};
-    ghost use Rattle.presence_journal_data.specs.contracts.entry.Entry as one_entry;
-    ghost use Rattle.presence_journal_data.specs.contracts.entry.Start as beginning;
-    ghost use Rattle.presence_journal.specs.History.{History, history_code};
+    ghost use Rattle.presence_journal.specs.History.{History};
+    ghost use Rattle.presence_journal.specs.Codes.{history_code};
 
     ghost Value = { History };
 
-    ghost coded = { history_code (coded× beginning.the_row.coded (coded_list one_entry.the_row.coded)) };
+    ghost coded = { history_code };
 
-    ghost use Rattle.presence_journal.specs.Table.{IsLegal};
+    ghost use Rattle.presence_journal.specs.Table.{IsKept};
 
     ghost view = { λ s. s.journal };
 
-    ghost invariant = { λ s. IsLegal s.journal };
+    ghost invariant = { λ s. IsKept s.journal };
 }
 
 impl Shard {
     ghost use Rattle.std.specs.Prelude.{◌≡◌, ◌≤◌, ◌^◌, true, false, Some, option_copied, IfOk, IfErr, OnOk, OnErr, IsTrue};
     ghost use Rattle.presence_base.specs.Refs.{IsCount};
     ghost use Rattle.presence_journal.specs.History.{Begin, is_full};
-    ghost use Rattle.presence_journal.specs.Limits.{is_payload, is_take_limit};
+    ghost use Rattle.presence_journal.specs.Limits.{is_payload, is_take_limit, is_within_limits};
     ghost use Rattle.presence_journal.specs.Present.{dots_of};
     ghost use Rattle.presence_journal.specs.Queue.{topic_of, queue, items_given, is_waiting};
-    ghost use Rattle.presence_journal.specs.Table.{IsLegal, outcome_of, is_step, rows_of_key, untracked};
+    ghost use Rattle.presence_journal.specs.Table.{IsLegal, AreWithinLimits, outcome_of, rows_of_key, untracked};
     ghost use Rattle.tracker_shard.specs.Steps.{Made, Stepped, Answers, IsDue, refusal, refusal_at, is_found};
     ghost use Rattle.tracker_shard.specs.Steps.{AnswersDot, AnswersRowsOfKey, AnswersRowsOfPid, AnswersListed};
     ghost use Rattle.tracker_shard.specs.Steps.{AnswersListedKey, AnswersItems, AnswersSub};
@@ -67,6 +65,7 @@ impl Shard {
     pub fn journal(&self) -> &Journal
         ensures journal { result.now ≡ self.now }
         ensures legal { IsLegal self.now }
+        ensures limits { AreWithinLimits self.now }
     {
         &self.journal
     }
@@ -75,7 +74,7 @@ impl Shard {
     fn write(&mut self, seat: Option<u32>, step: Step, outcome: Outcome) -> Result<(), ShardFault>
         requires table { outcome_of self.old step ≡ Some outcome }
         requires room { is_full self.old ≡ false }
-        requires limits { is_step step ≡ true }
+        requires limits { is_within_limits step ≡ true }
         ensures made { OnOk result (Made self.old self.new seat step) }
         ensures err { OnErr result (self.new ≡ self.old) }
         ensures memory { IfErr result (λ e. e ≡ ShardFault.OutOfMemory) }
