@@ -1,10 +1,10 @@
--- Deltas whose lists are in order of dot are joined to one whose lists are.
+-- Deltas whose rows are in order of dot are joined to one whose rows are.
 use Rattle.std.proofs.Common.{◌≡◌, ℕ, ◌<◌, Bool, true, false, not, cond, ◌&&◌, nat_le, nat_lt, nat_eq, List, [], ◌∷◌, ◌++◌, sym, ◌∙◌, ap, arith}
 use Rattle.std.proofs.lemmas.Bool.Decides.{nat_tests}
 use Rattle.std.specs.Ordering.{nat_cmp, ordering_then}
 use Rattle.std.specs.declared.cmp.Ordering.TheVariants.{Less, Equal, Greater}
 use Rattle.std.specs.Cmp.{tied_itself}
-use Rattle.std.specs.List.{list_all, filter}
+use Rattle.std.specs.List.{list_all, filter, AllByRecursion}
 use Rattle.std.specs.List.Sorted.{IsStrictlySortedBy}
 use Rattle.presence_base.specs.declared.dots.Dot.{Dot}
 use Rattle.presence_base.specs.declared.row.Row.{Row}
@@ -15,9 +15,14 @@ use Rattle.orswot_core.proofs.OrderFacts.{replica_total, replicas_equal}
 use Rattle.delta_range.specs.Deltas.{DeltaValue, telling, GoesOn}
 use Rattle.delta_range.specs.Joining.{joined}
 use Rattle.delta_range.specs.Laws.{StaysInOrder}
-use Rattle.delta_range.proofs.DeltaFacts.{both}
-use Rattle.delta_range.proofs.InOrder.{Ascend, AllAbove, in_order_ascends}
+use Rattle.delta_range.proofs.BoolFacts.{both}
 use Rattle.delta_range.proofs.JoinFacts.{has}
+
+abbrev Ascend : List Dot → Type 0
+Ascend = IsStrictlySortedBy dot_cmp
+
+abbrev AllAbove : Dot → List Dot → Type 0
+AllAbove d ds = AllByRecursion (λ e. dot_cmp d e ≡ Less) ds
 
 above_all : (p : Dot → Bool) (d : Dot) (xs : List (Dot × Row)) → ((e : Dot) → p e ≡ true → dot_cmp d e ≡ Less) → list_all (λ x. p x.0) xs ≡ true → AllAbove d (dots_of xs)
 above_all p d [] f h = tt
@@ -68,7 +73,4 @@ ranges_ascend a b next d e first second =
 
 pub stays_in_order : StaysInOrder
 unfolding joined
-stays_in_order a b ha hb next oa ob = record {
-  extras = in_order_ascends (filter (λ d. nat_le d.count a.from) (a.extras ++ b.extras));
-  rows = left_ascend (λ x. not (covers (telling b) x.0)) (has a) (has b) a.live b.live (ranges_ascend a b next) ha.within hb.within oa.rows ob.rows;
-}
+stays_in_order a b ha hb next oa ob = left_ascend (λ x. not (covers (telling b) x.0)) (has a) (has b) a.live b.live (ranges_ascend a b next) ha.within hb.within oa ob
