@@ -4,15 +4,15 @@ use Rattle.tracker_shard.specs.declared.shard.Sub.{Sub}
 use Rattle.tracker_shard.specs.declared.fault.ShardFault.{ShardFault}
 use Rattle.tracker_shard.specs.declared.fault.ShardFault.TheVariants.{NoSub}
 use Rattle.tracker_shard.specs.declared.fault.ShardFault.TheVariants as refusals
-use Rattle.channel_session.specs.Asks.{Ask, Answer, Call, Made, unsubscribe, untrack_all}
-use Rattle.channel_session.specs.Script.{Script, done, ask, Plays}
-use Rattle.channel_session.specs.Rules.{InForce, Entry}
+use Rattle.channel_session_rules.specs.Asks.{Ask, Answer, Call, Made, unsubscribe, untrack_all}
+use Rattle.channel_session_rules.specs.Script.{Script, done, ask, Plays}
+use Rattle.channel_session_rules.specs.Rules.{InForce, Joined}
 use Rattle.channel_session.specs.declared.fault.SessionFault.{SessionFault}
 use Rattle.channel_session.specs.declared.fault.SessionFault.TheVariants.{OutOfMemory, ShardFull}
 
 -- the topics in force, in order of joining, and then the one whose join was cut short
 abbrev pub topics_named : InForce → List (List ℕ)
-topics_named s = map (λ j. j.topic) s.joined ++ option_to_list s.half
+topics_named s = map (λ j. j.topic) s.joined ++ option_to_list s.cut_short
 
 -- From the one port to the other just the calls of the script were made, and they led to this end.
 pub record Played {P E : Type 0} (step : P → (q : Ask) → Answer q → P → Type 0) (script : Script E) (old new : P) (end : E) : Type 0 where
@@ -27,32 +27,32 @@ pub record Ended : Type 0 where
 
 -- what is left while these topics are to be ended yet
 abbrev pub Leaving : Type 0
-Leaving = List Entry → Result (Unit {0}) ShardFault → Ended
+Leaving = List Joined → Result (Unit {0}) ShardFault → Ended
 
 -- the topic goes where its rows did
-abbrev pub then_drop : Leaving → List Entry → Script Ended → Result (Unit {0}) ShardFault → Script Ended
+abbrev pub then_drop : Leaving → List Joined → Script Ended → Result (Unit {0}) ShardFault → Script Ended
 then_drop leaving js next (Ok u) = next
 then_drop leaving js next (Err e) = done (leaving js (Err e))
 
 -- an unknown subscriber counts as gone
-abbrev pub then_rows : ℕ → List ℕ → Leaving → List Entry → Script Ended → Result (Unit {0}) ShardFault → Script Ended
+abbrev pub then_rows : ℕ → List ℕ → Leaving → List Joined → Script Ended → Result (Unit {0}) ShardFault → Script Ended
 then_rows pid topic leaving js next (Ok u) = ask (untrack_all pid topic) (then_drop leaving js next)
 then_rows pid topic leaving js next (Err NoSub) = ask (untrack_all pid topic) (then_drop leaving js next)
 then_rows pid topic leaving js next (Err e) = done (leaving js (Err e))
 
 -- both calls for a topic
-abbrev pub ends_topic : ℕ → List ℕ → Sub → Leaving → List Entry → Script Ended → Script Ended
+abbrev pub ends_topic : ℕ → List ℕ → Sub → Leaving → List Joined → Script Ended → Script Ended
 ends_topic pid topic sub leaving js next = ask (unsubscribe topic sub) (then_rows pid topic leaving js next)
 
 -- both calls for each topic, in order of joining
-abbrev pub ends_topics : ℕ → Leaving → List Entry → Script Ended
+abbrev pub ends_topics : ℕ → Leaving → List Joined → Script Ended
 ends_topics pid leaving [] = done (leaving [] (Ok tt))
 ends_topics pid leaving (j ∷ js) = ends_topic pid j.topic j.sub leaving (j ∷ js) (ends_topics pid leaving js)
 
 -- Both calls for a topic: whatever follows them is made from here on, or one was refused.
 abbrev pub Gone : {P : Type 0} → (P → (q : Ask) → Answer q → P → Type 0) → ℕ → List ℕ → Sub → P → P → Result (Unit {0}) ShardFault → Type 0
-Gone {P} step pid topic sub old new (Ok u) = (leaving : Leaving) (js : List Entry) (next : Script Ended) (last : P) (e : Ended) → Played step next new last e → Played step (ends_topic pid topic sub leaving js next) old last e
-Gone step pid topic sub old new (Err e) = (leaving : Leaving) (js : List Entry) (next : Script Ended) → Played step (ends_topic pid topic sub leaving js next) old new (leaving js (Err e))
+Gone {P} step pid topic sub old new (Ok u) = (leaving : Leaving) (js : List Joined) (next : Script Ended) (last : P) (e : Ended) → Played step next new last e → Played step (ends_topic pid topic sub leaving js next) old last e
+Gone step pid topic sub old new (Err e) = (leaving : Leaving) (js : List Joined) (next : Script Ended) → Played step (ends_topic pid topic sub leaving js next) old new (leaving js (Err e))
 
 -- a session whose end was refused has failed
 abbrev pub failed_by : Bool → Result (Unit {0}) ShardFault → Bool
@@ -60,19 +60,19 @@ failed_by failed (Ok u) = failed
 failed_by failed (Err e) = true
 
 abbrev pub left_with : InForce → Option (List ℕ) → Leaving
-left_with s half js a = record { after = record { pid = s.pid; failed = failed_by s.failed a; joined = js; half = half }; answer = a }
+left_with s cut_short js a = record { after = record { pid = s.pid; failed = failed_by s.failed a; joined = js; cut_short = cut_short }; answer = a }
 
 abbrev pub then_topics : InForce → List ℕ → Result (Unit {0}) ShardFault → Script Ended
 then_topics s t (Ok u) = ends_topics s.pid (left_with s None) s.joined
 then_topics s t (Err e) = done (left_with s (Some t) s.joined (Err e))
 
 -- The rows of a join that was cut short go first: it has no subscriber.
-abbrev pub ends_half : InForce → Option (List ℕ) → Script Ended
-ends_half s None = ends_topics s.pid (left_with s None) s.joined
-ends_half s (Some t) = ask (untrack_all s.pid t) (then_topics s t)
+abbrev pub ends_cut_short : InForce → Option (List ℕ) → Script Ended
+ends_cut_short s None = ends_topics s.pid (left_with s None) s.joined
+ends_cut_short s (Some t) = ask (untrack_all s.pid t) (then_topics s t)
 
 abbrev pub ends : InForce → Script Ended
-ends s = ends_half s s.half
+ends s = ends_cut_short s s.cut_short
 
 -- the fault of a refusal
 abbrev pub fault_of_refusal : ShardFault → SessionFault

@@ -1,11 +1,10 @@
 ghost use Rattle.std.specs.Prelude.{◌≡◌, [], OnOk};
 ghost use Rattle.channel_session.specs.Ending.{Played, Gone, EndedBy, Leaving, ends_topics, ends, fault_of_refusal as fault_in, left_with, topics_named};
-ghost use Rattle.channel_session.specs.InForce.{entries_of};
+ghost use Rattle.channel_session_rules.specs.InForce.{joined_in};
 
 use crate::fault::SessionFault;
-use crate::port::Port;
 use crate::session::Session;
-use crate::topics::{Seat, Topics};
+use channel_session_rules::{Place, Port, Topics};
 use presence_base::Topic;
 use std::alloc::Global;
 use tracker_shard::ShardFault;
@@ -15,12 +14,12 @@ fn end_topic<P: Port>(
     alloc: Global,
     pid: u64,
     topic: &Topic,
-    seat: &Seat,
+    place: &Place,
     port: &mut P,
 ) -> Result<(), ShardFault>
-    ensures { Gone P.step pid topic.now seat.now.sub port.old port.new result }
+    ensures { Gone P.step pid topic.now place.now.sub port.old port.new result }
 {
-    match port.unsubscribe(alloc, topic, &seat.sub) {
+    match port.unsubscribe(alloc, topic, &place.sub) {
         Ok(()) => port.untrack_all(alloc, pid, topic),
         Err(ShardFault::NoSub) => port.untrack_all(alloc, pid, topic),
         Err(fault) => Err(fault),
@@ -34,13 +33,13 @@ fn end_topics<P: Port>(
     topics: &mut Topics,
     port: &mut P,
 ) -> Result<(), ShardFault>
-    ensures empty { OnOk result (entries_of topics.new ≡ []) }
-    ensures played { (leaving : Leaving) → Played P.step (ends_topics pid leaving (entries_of topics.old)) port.old port.new (leaving (entries_of topics.new) result) }
+    ensures empty { OnOk result (joined_in topics.new ≡ []) }
+    ensures played { (leaving : Leaving) → Played P.step (ends_topics pid leaving (joined_in topics.old)) port.old port.new (leaving (joined_in topics.new) result) }
 {
-    let Some((topic, seat)) = topics.at(0) else {
+    let Some((topic, place)) = topics.at(0) else {
         return Ok(());
     };
-    match end_topic(alloc, pid, topic, seat, port) {
+    match end_topic(alloc, pid, topic, place, port) {
         Ok(()) => {
             topics.drop_first();
             end_topics(alloc, pid, topics, port)
@@ -66,8 +65,8 @@ fn fault_of_refusal(fault: ShardFault) -> SessionFault
 // Ends the topics in force.
 fn end_rest<P: Port>(alloc: Global, session: &mut Session, port: &mut P) -> Result<(), ShardFault>
     ensures empty { OnOk result (session.new.joined ≡ []) }
-    ensures half { session.new.half ≡ session.old.half }
-    ensures played { Played P.step (ends_topics session.old.pid (left_with session.old session.old.half) session.old.joined) port.old port.new (record { after = session.new; answer = result }) }
+    ensures cut_short { session.new.cut_short ≡ session.old.cut_short }
+    ensures played { Played P.step (ends_topics session.old.pid (left_with session.old session.old.cut_short) session.old.joined) port.old port.new (record { after = session.new; answer = result }) }
 {
     match end_topics(alloc, session.pid, &mut session.topics, port) {
         Ok(()) => Ok(()),
@@ -83,11 +82,11 @@ fn end_calls<P: Port>(alloc: Global, session: &mut Session, port: &mut P) -> Res
     ensures empty { OnOk result (topics_named session.new ≡ []) }
     ensures played { Played P.step (ends session.old) port.old port.new (record { after = session.new; answer = result }) }
 {
-    match &session.half {
+    match &session.cut_short {
         None => end_rest(alloc, session, port),
         Some(topic) => match port.untrack_all(alloc, session.pid, topic) {
             Ok(()) => {
-                session.half = None;
+                session.cut_short = None;
                 end_rest(alloc, session, port)
             }
             Err(fault) => {

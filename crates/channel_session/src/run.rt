@@ -1,14 +1,13 @@
 ghost use Rattle.std.specs.Prelude.{◌≡◌, [], ◌≤◌, ◌+◌, map, string_bytes, vec_capacity, IsTrue, if◌then◌else◌};
 ghost use Rattle.presence_journal.specs.Limits.{is_payload};
 ghost use Rattle.phx_message.specs.Reading.{decoded};
-ghost use Rattle.channel_session.specs.Replies.{texts_of};
+ghost use Rattle.channel_session_rules.specs.Replies.{texts_of};
 ghost use Rattle.channel_session.specs.Ran.{MessageRan, EndedSo, texts_given, failed_at, fault_of};
 
 use crate::acting::act;
-use crate::fault::{SessionFault, Stop};
-use crate::port::Port;
-use crate::replies::Reply;
+use crate::fault::{SessionFault, fault_of_stop};
 use crate::session::Session;
+use channel_session_rules::{Port, Reply, Stop};
 use hook_registry::Routes;
 use phx_message::{Limits, Message, MessageFault, decode};
 use presence_base::Topic;
@@ -41,7 +40,7 @@ fn fail(session: &mut Session, topic: Topic)
     let known = session.topics.find(&topic).is_some();
     session.failed = true;
     if !known {
-        session.half = Some(topic);
+        session.cut_short = Some(topic);
     }
 }
 
@@ -53,7 +52,7 @@ fn leave_behind(session: &mut Session, topic: Topic, stop: &Stop) -> SessionFaul
     if stop.spoiled {
         fail(session, topic);
     }
-    stop.fault()
+    fault_of_stop(stop)
 }
 
 // Answers a message.

@@ -15,10 +15,10 @@ use Rattle.presence_base.specs.declared.dots.Dot.{Dot}
 use Rattle.presence_base.specs.declared.dots.Replica.{Replica}
 use Rattle.presence_base.specs.declared.row.Row.{Row}
 use Rattle.presence_base.specs.Order.{dot_cmp, replica_cmp, same_dot}
-use Rattle.orswot_core.specs.Telling.{Range, range_has}
+use Rattle.orswot_core_told.specs.Telling.{Range, range_has}
 use Rattle.orswot_core.specs.Sets.{is_left}
-use Rattle.orswot_core.specs.Checks.{is_forward}
-use Rattle.orswot_core.proofs.OrderFacts.{dots_equal, replica_total}
+use Rattle.orswot_core_told.specs.Checks.{is_forward}
+use Rattle.orswot_core_told.proofs.OrderFacts.{dots_equal, replica_total}
 use Rattle.orswot_core.proofs.RowFacts.{Rows}
 
 any_push : (p : Dot → Bool) (xs : List Dot) (d : Dot) → list_any p (xs ++ d ∷ []) ≡ (list_any p xs || p d)

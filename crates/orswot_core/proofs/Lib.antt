@@ -1,5 +1,5 @@
-pub mod OrderFacts
-pub mod LoopFacts
+pub use Rattle.orswot_core_told.proofs.OrderFacts
+pub use Rattle.orswot_core_told.proofs.LoopFacts
 pub mod RowFacts
 pub mod GatherFacts
 pub mod CoverFacts

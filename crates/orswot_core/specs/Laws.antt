@@ -4,8 +4,8 @@ use Rattle.std.specs.FinSet as set
 use Rattle.std.specs.FinMap as map
 use Rattle.presence_base.specs.declared.dots.Dot.{Dot}
 use Rattle.presence_base.specs.declared.row.Row.{Row}
-use Rattle.orswot_core.specs.Telling.{ToldValue, covers, live_row}
-use Rattle.orswot_core.specs.Checks.{IsTold}
+use Rattle.orswot_core_told.specs.Telling.{ToldValue, covers, live_row}
+use Rattle.orswot_core_told.specs.Checks.{IsTold}
 use Rattle.orswot_core.specs.Full.{IsFull}
 use Rattle.orswot_core.specs.Sets.{DotRows, IsSound, IsJoin, with_dot, removed}
 

@@ -9,7 +9,7 @@ use Rattle.presence_base.specs.declared.dots.Replica.{Replica}
 use Rattle.presence_base.specs.Order.{dot_cmp, same_replica}
 use Rattle.presence_base.specs.Codes.{dot_code, row_code}
 use Rattle.dot_context.specs.Sets.{DotSet, without}
-use Rattle.orswot_core.specs.Limits.{is_dot, is_row}
+use Rattle.orswot_core_told.specs.Limits.{is_dot, is_row}
 
 abbrev pub LiveRows : Type 0
 LiveRows = map.FinMap dot_cmp Row

@@ -6,12 +6,12 @@ ghost use Rattle.std.specs.BTreeMap.{get, IsUnchanged};
 ghost use Rattle.std.specs.FinSet as set;
 ghost use Rattle.presence_base.specs.Order.{dot_cmp, same_dot, same_replica};
 ghost use Rattle.presence_base.specs.declared.dots.Dot.{Dot as DotValue};
-ghost use Rattle.orswot_core.specs.Limits.{is_dot};
-ghost use Rattle.orswot_core.specs.Telling.{range_has, covers, live_row};
-ghost use Rattle.orswot_core.specs.Checks.{IsTold, is_forward};
+ghost use Rattle.orswot_core_told.specs.Limits.{is_dot};
+ghost use Rattle.orswot_core_told.specs.Telling.{range_has, covers, live_row};
+ghost use Rattle.orswot_core_told.specs.Checks.{IsTold, is_forward};
 ghost use Rattle.orswot_core.specs.Sets.{joined_row, first_row, is_left};
 
-use crate::told::{Told, add_dots, told_context};
+use orswot_core_told::{Told, add_dots, told_context};
 use dot_context::Context;
 use presence_base::{Dot, Replica, Row};
 use std::alloc::{AllocError, Global};

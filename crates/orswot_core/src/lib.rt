@@ -4,11 +4,7 @@
 mod full;
 mod joins;
 pub mod laws;
-mod limits;
-mod raw;
 mod set;
-mod told;
 
-pub use raw::{RawRow, RawTold};
+pub use orswot_core_told::{MAX_ROWS, RawRow, RawTold, Told, ToldFault};
 pub use set::Orswot;
-pub use told::{MAX_ROWS, Told, ToldFault};

@@ -5,14 +5,14 @@ ghost use Rattle.std.specs.FinMap as map;
 ghost use Rattle.presence_base.specs.Order.{same_replica};
 ghost use Rattle.presence_base.specs.declared.dots.Dot.{Dot as DotValue};
 ghost use Rattle.dot_context.specs.Sets.{without};
-ghost use Rattle.orswot_core.specs.Limits.{is_dot, is_row};
-ghost use Rattle.orswot_core.specs.Telling.{covers, live_row};
+ghost use Rattle.orswot_core_told.specs.Limits.{is_dot, is_row};
+ghost use Rattle.orswot_core_told.specs.Telling.{covers, live_row};
 ghost use Rattle.orswot_core.specs.Full.{IsFull};
 ghost use Rattle.orswot_core.specs.Sets.{with_dot, removed, IsJoin, without_replica};
 
 use crate::full::full_told;
 use crate::joins::{add_row, forget_rows, join_rows, join_told, remove_rows};
-use crate::told::Told;
+use orswot_core_told::Told;
 use dot_context::Context;
 use presence_base::{Dot, Replica, Row};
 use std::alloc::{AllocError, Global};

@@ -9,9 +9,9 @@ use Rattle.std.proofs.lemmas.List.Elements.{All-nil, All-cons, All-head, All-tai
 use Rattle.presence_base.specs.declared.dots.Dot.{Dot}
 use Rattle.presence_base.specs.declared.row.Row.{Row}
 use Rattle.presence_base.specs.Order.{same_text, same_dot}
-use Rattle.presence_journal.specs.declared.step.Step.TheVariants as steps_are
-use Rattle.presence_journal.specs.declared.entry.Outcome.TheVariants as outcomes_are
-use Rattle.presence_journal.specs.declared.rows.Place.{Place}
+use Rattle.presence_journal_data.specs.declared.step.Step.TheVariants as steps_are
+use Rattle.presence_journal_data.specs.declared.entry.Outcome.TheVariants as outcomes_are
+use Rattle.presence_journal_data.specs.declared.rows.Place.{Place}
 use Rattle.presence_journal.specs.Steps.{Step, Outcome, Entry}
 use Rattle.presence_journal.specs.History.{History, Begin, Then, count, counts_used, next_dot, is_full, has_dot, first_some, row, row_made, row_added, dot_removed, removed, shown}
 use Rattle.presence_journal.specs.Present.{of_topic, present, listed, in_order, dots_of}
@@ -184,7 +184,7 @@ shown_elsewhere h e t d spared added = go (removed h d) (dot_removed e.outcome (
     go false false (Some r) f = refl
 
 -- an accepted step has its outcome and room
-accepted_is : (h : History) (s : Step) (o : Outcome) → accepted h s ≡ Some o → (is_full h ≡ false) × (outcome_of h s ≡ Some o)
+pub accepted_is : (h : History) (s : Step) (o : Outcome) → accepted h s ≡ Some o → (is_full h ≡ false) × (outcome_of h s ≡ Some o)
 unfolding accepted
 accepted_is h s o e = go (is_full h) e
   where

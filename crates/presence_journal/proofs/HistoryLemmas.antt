@@ -8,14 +8,14 @@ use Rattle.presence_base.specs.declared.dots.Replica.{Replica}
 use Rattle.presence_base.specs.declared.dots.Dot.{Dot}
 use Rattle.presence_base.specs.declared.row.Row.{Row}
 use Rattle.presence_base.specs.Order.{same_dot, same_replica}
-use Rattle.presence_journal.specs.declared.step.Step.TheVariants as steps_are
-use Rattle.presence_journal.specs.declared.entry.Outcome.TheVariants as outcomes_are
+use Rattle.presence_journal_data.specs.declared.step.Step.TheVariants as steps_are
+use Rattle.presence_journal_data.specs.declared.entry.Outcome.TheVariants as outcomes_are
 use Rattle.presence_journal.specs.Steps.{Step, Outcome, Entry, Start}
 use Rattle.presence_journal.specs.History.{History, Begin, Then, onto, start_of, own, is_full, count, counts_used, last_number, entry_count, next_dot, is_counted, known, first_some, has_dot, row_made, row_added, dot_removed, removed, row, shown}
 use Rattle.presence_journal.specs.Present.{listed, dots_of}
 use Rattle.presence_journal.specs.Queue.{Waiting, Behind, Queued, queue, topic_of}
 use Rattle.presence_journal.specs.Table.{rows_of_pid, rows_of_key, listed_key, counting, tracked, updated, untracked, take_outcome, for_present, outcome_of, next_entry, accepted, after, is_step, IsLegal}
-use Rattle.presence_journal.specs.Walk.{dots_taken}
+use Rattle.presence_journal.specs.Present.{dots_taken}
 use Rattle.presence_journal.proofs.Same.{same_dot-true, same_replica-true, same_replica-refl}
 use Rattle.presence_journal.proofs.PresentLemmas.{shown-row, IsOwnListed, own_rows, own_rows_of_key}
 
@@ -79,12 +79,12 @@ pub known_then : (h : History) (e : Entry) (d : Dot) → known h d ≡ true → 
 known_then h e d k = let p = known_parts h d k in known_from (Then h e) d (p.0 ∙ sym (own-then h e)) p.1 (omega (arith, p.2, count-then h e))
 
 -- the next dot is known once it is used
-next_known : (h : History) (e : Entry) (d : Dot) → d ≡ next_dot h → counts_used e.outcome ≡ 1 → known (Then h e) d ≡ true
+pub next_known : (h : History) (e : Entry) (d : Dot) → d ≡ next_dot h → counts_used e.outcome ≡ 1 → known (Then h e) d ≡ true
 next_known h e d p u =
     let c : d.count ≡ count h + 1 = ap (λ (z : Dot). z.count) p in
     known_from (Then h e) d (ap (λ (z : Dot). z.replica) p ∙ sym (own-then h e)) (omega (arith, c)) (omega (arith, c, u, count-then h e))
 
-next_unknown : (h : History) → known h (next_dot h) ≡ true → ⊥
+pub next_unknown : (h : History) → known h (next_dot h) ≡ true → ⊥
 next_unknown h k = let p = (known_parts h (next_dot h) k).2 in omega (arith, p)
 
 -- the four kinds of entry

@@ -7,8 +7,9 @@ use Rattle.presence_base.specs.declared.dots.Replica.{Replica}
 use Rattle.presence_base.specs.declared.dots.Dot.{Dot}
 use Rattle.presence_base.specs.declared.row.Row.{Row}
 use Rattle.presence_base.specs.Order.{same_replica, same_dot}
-use Rattle.presence_journal.specs.declared.step.Step.TheVariants as steps_are
-use Rattle.presence_journal.specs.declared.entry.Outcome.TheVariants as outcomes_are
+use Rattle.presence_journal_data.specs.declared.step.Step.TheVariants as steps_are
+use Rattle.presence_journal_data.specs.declared.entry.Outcome.TheVariants as outcomes_are
+use Rattle.presence_journal.specs.declared.journal.TheConstants.{MAX_ENTRIES}
 use Rattle.presence_journal.specs.Steps.{Step, Outcome, Entry, Start}
 
 -- A Start, and then entries
@@ -68,7 +69,7 @@ entry_count (Then h e) = entry_count h + 1
 
 -- no entry can follow: the journal has its most entries, or its last number is the highest
 abbrev pub is_full : History → Bool
-is_full h = nat_le 262144 (entry_count h) || nat_le (2 ^ 62) (last_number h)
+is_full h = nat_le MAX_ENTRIES (entry_count h) || nat_le (2 ^ 62) (last_number h)
 
 -- the dot of the next count
 abbrev pub next_dot : History → Dot

@@ -5,8 +5,9 @@ use Rattle.presence_base.specs.declared.row.Row.{Row}
 use Rattle.presence_base.specs.Names.{is_node_name}
 use Rattle.presence_base.specs.Order.{same_text, same_replica}
 use Rattle.presence_base.specs.Refs.{IsCount}
-use Rattle.presence_journal.specs.declared.step.Step.TheVariants as steps_are
-use Rattle.presence_journal.specs.declared.entry.Outcome.TheVariants as outcomes_are
+use Rattle.presence_journal_data.specs.declared.step.Step.TheVariants as steps_are
+use Rattle.presence_journal_data.specs.declared.entry.Outcome.TheVariants as outcomes_are
+pub use Rattle.presence_journal_data.specs.StepLimits.{is_step}
 use Rattle.presence_journal.specs.Steps.{Step, Outcome, Entry, Start}
 use Rattle.presence_journal.specs.History.{History, Begin, Then, own, count, next_dot, last_number, is_full}
 use Rattle.presence_journal.specs.Present.{listed, dots_of}
@@ -82,12 +83,6 @@ accepted h s = cond (is_full h) None (outcome_of h s)
 -- the history after a step, the same where it is refused
 unfoldable pub after : History → Step → Option ℕ → History
 after h s seat = with_outcome h s seat (accepted h s)
-
--- a session's number, which a row keeps, is at most 2^62
-abbrev pub is_step : Step → Bool
-is_step (steps_are.Track pid topic key meta) = nat_le pid (2 ^ 62)
-is_step (steps_are.Update pid topic key meta) = nat_le pid (2 ^ 62)
-is_step _ = true
 
 -- the limits of what a journal begins with
 pub record IsStart (s : Start) : Type 0 where

@@ -1,8 +1,7 @@
 ghost use Rattle.std.specs.Prelude.{◌≡◌, ◌++◌, ◌∷◌, [], OnOk, OnErr};
 
-use crate::entry::{Entry, Outcome, Start};
-use crate::step::Step;
 use presence_base::{MAX_COUNT, Replica};
+use presence_journal_data::{Entry, Outcome, Start, Step};
 use std::alloc::{AllocError, Global};
 use std::marker::Model;
 
@@ -18,8 +17,8 @@ pub struct Journal {
 
 impl Model for Journal {
     ghost use Rattle.std.specs.Coded.{coded_list, coded×};
-    ghost use Rattle.presence_journal.specs.contracts.entry.Entry as one_entry;
-    ghost use Rattle.presence_journal.specs.contracts.entry.Start as beginning;
+    ghost use Rattle.presence_journal_data.specs.contracts.entry.Entry as one_entry;
+    ghost use Rattle.presence_journal_data.specs.contracts.entry.Start as beginning;
     ghost use Rattle.presence_journal.specs.History.{History, history_code};
 
     ghost Value = { History };

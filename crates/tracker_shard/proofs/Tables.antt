@@ -4,10 +4,10 @@ use Rattle.std.specs.Prelude.{nat_lt, is_some, option_map, Result, Ok, Err, OnOk
 use Rattle.serde_json.specs.Data.{Data}
 use Rattle.presence_base.specs.declared.dots.Dot.{Dot}
 use Rattle.presence_base.specs.declared.row.Row.{Row}
-use Rattle.presence_journal.specs.declared.step.Step.{Step}
-use Rattle.presence_journal.specs.declared.step.Step.TheVariants as steps_are
-use Rattle.presence_journal.specs.declared.entry.Outcome.{Outcome}
-use Rattle.presence_journal.specs.declared.entry.Outcome.TheVariants as outcomes_are
+use Rattle.presence_journal_data.specs.declared.step.Step.{Step}
+use Rattle.presence_journal_data.specs.declared.step.Step.TheVariants as steps_are
+use Rattle.presence_journal_data.specs.declared.entry.Outcome.{Outcome}
+use Rattle.presence_journal_data.specs.declared.entry.Outcome.TheVariants as outcomes_are
 use Rattle.presence_journal.specs.History.{History, count, is_full, next_dot, last_number}
 use Rattle.presence_journal.specs.Present.{listed, dots_of}
 use Rattle.presence_journal.specs.Queue.{Waiting, queue, topic_of, is_waiting}
@@ -37,6 +37,10 @@ none_left h o e = go (nat_lt (count h) (2 ^ 62)) e
     go : (b : Bool) → cond b (Some (next_dot h)) None ≡ None → cond b (Some o) None ≡ None
     go true p = absurd (cc)
     go false p = refl
+
+pub none_is : {A : Type 0} (o : Option A) → is_some o ≡ false → o ≡ None
+none_is None e = refl
+none_is (Some x) e = absurd (cc)
 
 pub track_added : (h : History) (pid : ℕ) (topic key : List ℕ) (meta : Data) (d : Dot) → first_dot (rows_of_key h pid topic key) ≡ None → next_counted h ≡ Some d → outcome_of h (steps_are.Track pid topic key meta) ≡ Some (outcomes_are.Added d)
 unfolding outcome_of
@@ -192,13 +196,3 @@ legal_seen h now new s seat o r view ok err legal e room limits = legal_new h ne
 
 pub made_seen : (h now new : History) (s : Step) (seat : Option ℕ) (o : Outcome) → h ≡ now → outcome_of now s ≡ Some o → is_full now ≡ false → new ≡ after h s seat → Made now new seat s
 made_seen h now new s seat o view e room is = made now s seat o e room new (is ∙ ap (λ x. after x s seat) view)
-
--- the dot that was written is the one that the table names
-pub answer_dot : (P : Type 0) (h : History) (s : Step) (o : Outcome) (dot : Dot) (r : Result Dot ShardFault) → outcome_of h s ≡ Some o → new_dot (Some o) ≡ Some dot → IfOk r (λ d. P × (d ≡ dot)) → IfErr r (λ e. e ≡ OutOfMemory) → Answers (λ d. new_dot (outcome_of h s) ≡ Some d) (outcome_of h s) r
-answer_dot P h s o dot (Ok d) e named ok err = let same : d ≡ dot = ok.1 in ap new_dot e ∙ named ∙ ap Some (sym same)
-answer_dot P h s o dot (Err f) e named ok err = rw err tt
-
--- nothing stands against a step that was written, or memory ran out
-pub due_dot : (h : History) (s : Step) (o : Outcome) (r : Result Dot ShardFault) → outcome_of h s ≡ Some o → is_full h ≡ false → IfErr r (λ e. e ≡ OutOfMemory) → IsDue r (refusal true h s)
-due_dot h s o (Ok d) e room err = none_stands h s o e room
-due_dot h s o (Err f) e room err = rw (err, none_stands h s o e room) tt

@@ -4,9 +4,9 @@ use Rattle.std.specs.Map.{lookup}
 use Rattle.std.specs.BTreeMap.{get}
 use Rattle.std.specs.FinSet as set
 use Rattle.presence_base.specs.Order.{dot_cmp, same_dot}
-use Rattle.orswot_core.specs.Telling.{range_has, covers}
+use Rattle.orswot_core_told.specs.Telling.{range_has, covers}
 use Rattle.orswot_core.specs.Sets.{joined_row}
-use Rattle.orswot_core.proofs.OrderFacts.{dot_total}
+use Rattle.orswot_core_told.proofs.OrderFacts.{dot_total}
 use Rattle.orswot_core.proofs.RowFacts.{told_at, put_back_at}
 use Rattle.orswot_core.proofs.joins.join_told.Goals as goal
 

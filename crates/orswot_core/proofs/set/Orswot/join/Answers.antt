@@ -1,5 +1,5 @@
 use Rattle.std.proofs.Common.{◌∙◌, ap}
-use Rattle.orswot_core.specs.Telling.{covers, live_row}
+use Rattle.orswot_core_told.specs.Telling.{covers, live_row}
 use Rattle.orswot_core.proofs.RowFacts.{rows_same, by_result, on_ok, on_err, same_rows}
 use Rattle.orswot_core.proofs.SoundFacts.{sound_like, live_is_covered, join_keeps, is_join, told_sound}
 use Rattle.orswot_core.proofs.set.Orswot.join.Goals as goal
