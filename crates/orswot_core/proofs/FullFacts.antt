@@ -1,5 +1,5 @@
 -- The full told value: what a form lists is all that is told of the set, and what follows of it.
-use Rattle.std.proofs.Common.{◌≡◌, ℕ, ◌+◌, ◌^◌, ◌<◌, ◌≤◌, suc, Bool, T, true, false, not, cond, ◌&&◌, ◌||◌, nat_lt, nat_le, List, [], ◌∷◌, length, map as each_of, arith, refl, sym, ◌∙◌, ap, subst, zero, Option, Some, None, is_some, true≢false, Ordering}
+use Rattle.std.proofs.Common.{◌≡◌, ℕ, ◌+◌, ◌<◌, ◌≤◌, suc, Bool, T, true, false, not, cond, ◌&&◌, ◌||◌, nat_lt, nat_le, List, [], ◌∷◌, length, map as each_of, arith, refl, sym, ◌∙◌, ap, subst, zero, Option, Some, None, is_some, true≢false, Ordering}
 use Rattle.std.proofs.lemmas.Bool.Decides.{nat_tests}
 use Rattle.std.proofs.lemmas.List.Elements.{All-from_recursion, recursion_from_All}
 use Rattle.std.proofs.lemmas.Map.Made.{is_some-lookup}
@@ -13,6 +13,7 @@ use Rattle.std.specs.FinMap as map
 use Rattle.std.specs.FinMap.Entries.{is_sorted, below_all, same_entries}
 use Rattle.std.specs.Map.{lookup, keys_of}
 use Rattle.presence_base.specs.declared.dots.Replica.{Replica}
+use Rattle.presence_base.specs.declared.dots.TheConstants.{MAX_COUNT}
 use Rattle.presence_base.specs.declared.dots.Dot.{Dot}
 use Rattle.presence_base.specs.declared.row.Row.{Row}
 use Rattle.presence_base.specs.Order.{replica_cmp, dot_cmp, same_replica, same_dot}
@@ -235,10 +236,10 @@ live_dot s sound d r has = by_parts (set.contains s.covered d) (map.get s.live d
     by_parts false (Some x) e h = absurd (cc)
 
 top_limits : (s : DotRows) → IsSound s.covered s.live → (g : Range) → IsTopRange s.covered g → is_range g ≡ true
-top_limits s sound g h = join (is_count g.0.incarnation) (nat_le g.1 (2 ^ 62)) (nat_le g.2 (2 ^ 62))
+top_limits s sound g h = join (is_count g.0.incarnation) (nat_le g.1 MAX_COUNT) (nat_le g.2 MAX_COUNT)
     (both_parts (is_count g.0.incarnation) (is_count h.some.0) (covered_dot s sound (dot_of g.0 h.some.0) h.some.1)).0
-    (ap (λ n. nat_le n (2 ^ 62)) h.from)
-    (top_small (2 ^ 62) g.2 (λ some. (both_parts (nat_le 1 g.2) (nat_le g.2 (2 ^ 62)) (both_parts (is_count g.0.incarnation) (is_count g.2) (covered_dot s sound (dot_of g.0 g.2) (h.below g.2 some (omega arith)))).1).1))
+    (ap (λ n. nat_le n MAX_COUNT) h.from)
+    (top_small MAX_COUNT g.2 (λ some. (both_parts (nat_le 1 g.2) (nat_le g.2 MAX_COUNT) (both_parts (is_count g.0.incarnation) (is_count g.2) (covered_dot s sound (dot_of g.0 g.2) (h.below g.2 some (omega arith)))).1).1))
   where
     join : (a b c : Bool) → a ≡ true → b ≡ true → c ≡ true → (a && (b && c)) ≡ true
     join true true true e e' e'' = refl

@@ -4,6 +4,7 @@ pub mod RowFacts
 pub mod GatherFacts
 pub mod CoverFacts
 pub mod SoundFacts
+pub mod PlanFacts
 pub mod LawFacts
 pub mod ListedFacts
 pub mod OrderedFacts

@@ -5,13 +5,17 @@ use Rattle.presence_base.specs.declared.dots.Replica.{Replica}
 use Rattle.presence_base.specs.declared.dots.Dot.{Dot}
 use Rattle.presence_base.specs.declared.row.Row.{Row}
 use Rattle.presence_base.specs.Order.{same_replica, same_dot}
+use Rattle.orswot_core_told.specs.declared.told.TheConstants.{MAX_ROWS}
 use Rattle.orswot_core_told.specs.declared.told.ToldFault.{ToldFault}
 use Rattle.orswot_core_told.specs.declared.told.ToldFault.TheVariants.{TooMany, TwoRanges, BadRange, RowLimits, LiveNotCovered, LiveTwice, OutOfMemory}
 use Rattle.orswot_core_told.specs.Limits.{is_dot, is_row, are_texts, is_on_shard, is_range}
 use Rattle.orswot_core_told.specs.Telling.{Range, ToldValue, covers}
 
 abbrev pub is_too_many : ToldValue → Bool
-is_too_many t = nat_lt 65536 (length t.extras + length t.live)
+is_too_many t = nat_lt MAX_ROWS (length t.extras + length t.live)
+
+abbrev pub LimitOfRows : Type 0
+LimitOfRows = MAX_ROWS ≡ 65536
 
 -- whether one stands twice in the list
 abbrev pub has_repeat : {A : Type 0} → (A → A → Bool) → List A → Bool

@@ -1,5 +1,6 @@
 -- The limits of dots, rows and ranges.
-use Rattle.std.specs.Prelude.{ℕ, ◌^◌, ◌%◌, Bool, true, ◌&&◌, nat_le, nat_eq, sum, Option, Some, None}
+use Rattle.std.specs.Prelude.{ℕ, ◌%◌, Bool, true, ◌&&◌, nat_le, nat_eq, sum, Option, Some, None}
+use Rattle.presence_base.specs.declared.dots.TheConstants.{MAX_COUNT}
 use Rattle.presence_base.specs.declared.dots.Replica.{Replica}
 use Rattle.presence_base.specs.declared.dots.Dot.{Dot}
 use Rattle.presence_base.specs.declared.row.Row.{Row}
@@ -8,7 +9,7 @@ use Rattle.presence_base.specs.Metas.{is_meta}
 
 -- an incarnation or a count
 abbrev pub is_count : ℕ → Bool
-is_count n = nat_le 1 n && nat_le n (2 ^ 62)
+is_count n = nat_le 1 n && nat_le n MAX_COUNT
 
 abbrev pub is_dot : Dot → Bool
 is_dot d = is_count d.replica.incarnation && is_count d.count
@@ -19,7 +20,7 @@ is_prev (Some d) = is_dot d
 
 -- the numbers of a row: its pid, and the dot of the row that it replaced
 abbrev pub is_row : Row → Bool
-is_row r = nat_le r.pid (2 ^ 62) && is_prev r.prev
+is_row r = nat_le r.pid MAX_COUNT && is_prev r.prev
 
 -- its texts and its meta, whose limits a row's type keeps
 abbrev pub are_texts : Row → Bool
@@ -30,4 +31,4 @@ abbrev pub is_on_shard : ℕ → ℕ → Row → Bool
 is_on_shard shard n r = nat_eq (sum r.topic % n) shard
 
 abbrev pub is_range : Replica × ℕ × ℕ → Bool
-is_range g = is_count g.0.incarnation && (nat_le g.1 (2 ^ 62) && nat_le g.2 (2 ^ 62))
+is_range g = is_count g.0.incarnation && (nat_le g.1 MAX_COUNT && nat_le g.2 MAX_COUNT)
