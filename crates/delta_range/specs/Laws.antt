@@ -7,7 +7,7 @@ use Rattle.orswot_core.specs.Telling.{ToldValue, covers}
 use Rattle.orswot_core.specs.Checks.{IsTold, dots_of}
 use Rattle.orswot_core.specs.Sets.{DotRows}
 use Rattle.orswot_core.specs.Laws.{TakesIn}
-use Rattle.delta_range.specs.Deltas.{DeltaValue, telling, IsDelta, GoesOn, delta_of, is_delta}
+use Rattle.delta_range.specs.Deltas.{DeltaValue, telling, older_dots, IsDelta, GoesOn, delta_of, is_delta}
 use Rattle.delta_range.specs.Joining.{joined}
 use Rattle.delta_range.specs.Keeping.{size}
 
@@ -23,6 +23,10 @@ IsInOrder d = IsStrictlySortedBy dot_cmp (dots_of d.live)
 -- the rows of a joined delta are in order where those of both parts are
 abbrev pub StaysInOrder : Type 0
 StaysInOrder = (a b : DeltaValue) → IsDelta a → IsDelta b → GoesOn a.owner a.to b → IsInOrder a → IsInOrder b → IsInOrder (joined a b)
+
+-- the older dots of every delta are in order, each once
+abbrev pub OlderInOrder : Type 0
+OlderInOrder = (d : DeltaValue) → IsDelta d → IsStrictlySortedBy dot_cmp (older_dots d)
 
 -- the joined delta has no more rows and older runs than both together
 abbrev pub IsNoLarger : Type 0

@@ -1,4 +1,4 @@
-ghost use Rattle.delta_range.specs.Laws.{TellsInTurn, IsNoLarger, StaysInOrder, CoversTheSame};
+ghost use Rattle.delta_range.specs.Laws.{TellsInTurn, IsNoLarger, StaysInOrder, OlderInOrder, CoversTheSame};
 
 /// A joined delta tells a set what its two parts tell it in turn.
 pub fn joined_deltas_tell_in_turn()
@@ -18,4 +18,9 @@ pub fn joined_deltas_stay_in_order()
 /// The delta of a told value covers what the told value covers.
 pub fn delta_of_told_covers_the_same()
     ensures { CoversTheSame }
+{}
+
+/// The older dots that a delta tells are in order, each once.
+pub fn older_dots_are_in_order()
+    ensures { OlderInOrder }
 {}
