@@ -21,9 +21,9 @@ kept_code =
     (coded× (coded_option (coded× replica_code coded_ℕ)) (coded× (coded_option delta_code) (coded× (coded_option delta_code) (coded_option delta_code))))
     (λ k. (k.last, (k.short, (k.middle, k.long)))) (λ p. record { last = p.0; short = p.1.0; middle = p.1.1.0; long = p.1.1.1 }) (λ _. refl)
 
--- its live rows and extras together
+-- its live rows and older runs together
 abbrev pub size : DeltaValue → ℕ
-size d = length d.extras + length d.live
+size d = length d.older + length d.live
 
 -- the delta, where it is within the cap
 abbrev pub alone : ℕ → DeltaValue → Option DeltaValue

@@ -8,7 +8,7 @@ use presence_base::Replica;
 use std::alloc::{AllocError, Global};
 use std::marker::Model;
 
-/// The most rows and extras that the shortest generation keeps.
+/// The most rows and older runs that the shortest generation keeps.
 pub const SHORT_CAP: usize = 100;
 
 /// The most that the middle one keeps.
@@ -17,7 +17,7 @@ pub const MIDDLE_CAP: usize = 1_000;
 /// The most that the longest one keeps.
 pub const LONG_CAP: usize = 10_000;
 
-/// The last deltas of one owner, joined in three generations, each of which keeps live rows and extras together up to its
+/// The last deltas of one owner, joined in three generations, each of which keeps live rows and older runs together up to its
 /// cap.
 #[derive(Drop)]
 pub struct Generations {
@@ -59,7 +59,7 @@ impl Generations {
         ensures ok { OnOk result (self.new ≡ pushed self.old delta) }
         ensures err { OnErr result (self.new ≡ self.old) }
     {
-        let end = (*delta.owner(), delta.to());
+        let end = (delta.owner(), delta.to());
         let short = next_generation(alloc, &self.short, &delta, SHORT_CAP)?;
         let middle = next_generation(alloc, &self.middle, &delta, MIDDLE_CAP)?;
         let long = next_generation(alloc, &self.long, &delta, LONG_CAP)?;
@@ -121,9 +121,8 @@ fn begun_by(kept: &Option<Delta>, count: u64) -> Option<&Delta>
 fn is_within(delta: &Delta, cap: usize) -> bool
     ensures { result ≡ nat_le (size delta.now) cap }
 {
-    let told = delta.told();
-    let extras = told.extras().len();
-    extras <= cap && told.live().len() <= cap - extras
+    let runs = delta.older().len();
+    runs <= cap && delta.live().len() <= cap - runs
 }
 
 fn alone_within(delta: &Delta, cap: usize) -> Result<Option<Delta>, AllocError>

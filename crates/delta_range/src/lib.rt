@@ -6,8 +6,7 @@ mod fault;
 mod generations;
 mod joining;
 pub mod laws;
-#[cfg(test)]
-mod tests;
+mod runs;
 
 pub use delta::Delta;
 pub use fault::DeltaFault;
