@@ -7,8 +7,6 @@ pub mod laws;
 mod members;
 mod mirror;
 mod presences;
-#[cfg(test)]
-mod tests;
 mod tracked;
 
 pub use frame::{Frame, FrameFault, read_frame};

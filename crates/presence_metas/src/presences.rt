@@ -2,6 +2,7 @@ ghost use Rattle.std.specs.Prelude.{◌≡◌, ◌++◌, ◌∷◌, [], false, I
 ghost use Rattle.std.specs.List.{fold};
 ghost use Rattle.serde_json.specs.View.{view};
 ghost use Rattle.serde_json.specs.Written.{has_float};
+ghost use Rattle.presence_metas.specs.Lists.{AreFilled};
 ghost use Rattle.presence_metas.specs.Listing.{at, without, entered, put, join_key, leave_key, applied};
 ghost use Rattle.std.specs.List.Sorted.{IsStrictlySortedBy};
 ghost use Rattle.std.specs.Map.{keys_of};
@@ -26,11 +27,9 @@ pub struct Presences {
 
 impl Model for Presences {
     ghost use Rattle.std.specs.Prelude.{List, ℕ, map};
-    ghost use Rattle.std.specs.List.Sorted.{IsStrictlySortedBy};
-    ghost use Rattle.std.specs.Map.{keys_of};
-    ghost use Rattle.presence_base.specs.Order.{text_cmp};
     ghost use Rattle.presence_metas.specs.declared.tracked.TrackedMeta.{TrackedMeta};
     ghost use Rattle.presence_metas.specs.Codes.{listing_code};
+    ghost use Rattle.presence_metas.specs.Lists.{AreLists};
 
     ghost Value = { List (List ℕ × List TrackedMeta) };
 
@@ -38,7 +37,7 @@ impl Model for Presences {
 
     ghost view = { λ p. map (λ e. (e.0, e.1.items)) p.lists.entries };
 
-    ghost invariant = { λ p. IsStrictlySortedBy text_cmp (keys_of p.lists.entries) };
+    ghost invariant = { λ p. AreLists (map (λ e. (e.0, e.1.items)) p.lists.entries) };
 }
 
 impl Clone for Presences {
@@ -98,6 +97,13 @@ impl Presences {
     /// The keys rise by their bytes.
     pub fn keys_rise(&self)
         ensures { IsStrictlySortedBy text_cmp (keys_of self.now) }
+    {
+        let _lists = &self.lists;
+    }
+
+    /// No key is without metas.
+    pub fn lists_are_filled(&self)
+        ensures { AreFilled self.now }
     {
         let _lists = &self.lists;
     }
