@@ -1,310 +1,204 @@
-use crate::{
-    Diff, Frame, FrameFault, Mirror, Presences, diff_value, read_frame, state_value, value_of_metas,
-};
+use crate::rows::{rows_of, tracked, updated};
 use phx_message::{Limits, decode};
-use presence_base::{Dot, Key, Meta, NodeName, Replica, Row, Text, Topic};
-use serde_json::json;
+use presence_base::{Dot, Row, Text};
+use presence_metas::{
+    Diff, Frame, Mirror, Presences, diff_value, read_frame, state_value, value_of_metas,
+};
+use serde_json::Value;
 use std::alloc::{AllocError, Global};
 use std::test::Fail;
 
-// A dot of the first life of node `a`.
-fn dot(alloc: Global, count: u64) -> Result<Option<Dot>, AllocError> {
-    let Some(name) = NodeName::new(alloc, "a")? else {
-        return Ok(None);
+// The text of a value that was made for this.
+fn text_of(alloc: Global, value: Result<Value, AllocError>) -> Option<String> {
+    let Ok(value) = value else {
+        return None;
     };
-    Ok(Some(Dot {
-        replica: Replica {
-            name,
-            incarnation: 1,
-        },
-        count,
-    }))
+    let Ok(text) = value.to_string(alloc) else {
+        return None;
+    };
+    Some(text)
 }
 
-// The meta `{"x":x}`.
-fn meta(alloc: Global, x: u64) -> Result<Option<Meta>, AllocError> {
-    Meta::new(alloc, json!(in alloc; {"x": x})?)
-}
-
-// A row of `room:lobby`.
-fn row(alloc: Global, key: &str, meta: Meta, prev: Option<Dot>) -> Result<Option<Row>, AllocError> {
-    let Some(topic) = Topic::new(alloc, "room:lobby")? else {
-        return Ok(None);
-    };
-    let Some(key) = Key::new(alloc, key)? else {
-        return Ok(None);
-    };
-    Ok(Some(Row {
-        topic,
-        key,
-        pid: 1,
-        meta,
-        prev,
-    }))
-}
-
-// Adds a row with its dot.
-fn push_row(
-    rows: &mut Vec<(Dot, Row)>,
-    dot: Option<Dot>,
-    row: Option<Row>,
-) -> Result<(), AllocError> {
-    if let Some(dot) = dot {
-        if let Some(row) = row {
-            rows.push((dot, row))?;
-        }
+// Whether the value that was made for this has this text.
+fn is_told(alloc: Global, value: Result<Value, AllocError>, want: &str) -> bool {
+    match text_of(alloc, value) {
+        Some(text) => text.as_str() == want,
+        None => false,
     }
-    Ok(())
-}
-
-// Adds a row of this count, with the meta `{"x":x}`.
-fn add_row(
-    alloc: Global,
-    rows: &mut Vec<(Dot, Row)>,
-    key: &str,
-    count: u64,
-    x: u64,
-    prev: Option<Dot>,
-) -> Result<(), AllocError> {
-    let Some(meta) = meta(alloc, x)? else {
-        return Ok(());
-    };
-    let row = row(alloc, key, meta, prev)?;
-    push_row(rows, dot(alloc, count)?, row)
 }
 
 // The frame that a text is, if it is one.
 fn frame_of(alloc: Global, text: &str) -> Option<Frame> {
-    match decode(alloc, text, Limits::FRAME) {
-        Ok(message) => read_frame(alloc, &message).ok(),
-        Err(_) => None,
-    }
+    let Ok(message) = decode(alloc, text, Limits::FRAME) else {
+        return None;
+    };
+    let Ok(frame) = read_frame(alloc, &message) else {
+        return None;
+    };
+    Some(frame)
 }
 
 // Folds a frame's text into the mirror, and says whether it is one.
-fn fold_text(alloc: Global, mirror: &mut Mirror, text: &str) -> Result<bool, AllocError> {
+pub(super) fn folds(alloc: Global, mirror: &mut Mirror, text: &str) -> bool {
     match frame_of(alloc, text) {
-        Some(frame) => {
-            mirror.take_frame(alloc, frame)?;
-            Ok(true)
-        }
-        None => Ok(false),
+        Some(frame) => mirror.take_frame(alloc, frame).is_ok(),
+        None => false,
     }
 }
 
-// What is wrong with a frame's text.
-fn fault_of(alloc: Global, text: &str) -> Option<FrameFault> {
-    match decode(alloc, text, Limits::FRAME) {
-        Ok(message) => read_frame(alloc, &message).err(),
-        Err(_) => None,
+// Whether the mirror's lists have this text.
+pub(super) fn holds(alloc: Global, mirror: &Mirror, want: &str) -> bool {
+    is_told(alloc, mirror.to_value(alloc), want)
+}
+
+// Whether the state of these rows has this text.
+fn is_state(alloc: Global, rows: Option<Vec<(Dot, Row)>>, want: &str) -> bool {
+    match rows {
+        Some(rows) => is_told(alloc, state_value(alloc, rows.as_slice()), want),
+        None => false,
     }
 }
 
-// The text of a mirror's lists.
-fn text_of(alloc: Global, mirror: &Mirror) -> Result<String, AllocError> {
-    mirror.to_value(alloc)?.to_string(alloc)
-}
-
-fn state_text(alloc: Global, rows: &[(Dot, Row)]) -> Result<String, AllocError> {
-    state_value(alloc, rows)?.to_string(alloc)
-}
-
-fn diff_text(
-    alloc: Global,
-    joins: &[(Dot, Row)],
-    leaves: &[(Dot, Row)],
-) -> Result<String, AllocError> {
-    diff_value(alloc, joins, leaves)?.to_string(alloc)
+// Whether the diff of the update has this text.
+fn is_update(alloc: Global, want: &str) -> bool {
+    let Some(joins) = updated(alloc) else {
+        return false;
+    };
+    let Some(leaves) = tracked(alloc) else {
+        return false;
+    };
+    is_told(
+        alloc,
+        diff_value(alloc, joins.as_slice(), leaves.as_slice()),
+        want,
+    )
 }
 
 #[test]
 fn objects_of_the_tracked_join_and_its_update(rt: HostRuntime) -> Result<(), Fail> {
     let alloc = rt.alloc();
-    let mut before = Vec::new(alloc);
-    add_row(alloc, &mut before, "u1", 1, 1, None)?;
-    let mut after = Vec::new(alloc);
-    add_row(alloc, &mut after, "u1", 2, 2, dot(alloc, 1)?)?;
-    assert_eq!(rt;
-        state_text(alloc, before.as_slice())?.as_str(),
-        "{\"u1\":{\"metas\":[{\"phx_ref\":\"a.1.1\",\"x\":1}]}}"
-    );
-    assert_eq!(rt;
-        diff_text(alloc, after.as_slice(), before.as_slice())?.as_str(),
-        "{\"joins\":{\"u1\":{\"metas\":[{\"phx_ref\":\"a.1.2\",\"phx_ref_prev\":\"a.1.1\",\"x\":2}]}},\"leaves\":{\"u1\":{\"metas\":[{\"phx_ref\":\"a.1.1\",\"x\":1}]}}}"
-    );
+    let state = r#"{"u1":{"metas":[{"phx_ref":"a.1.1","x":1}]}}"#;
+    assert!(rt; is_state(alloc, tracked(alloc), state));
+    let diff =
+        r#"{"joins":{"u1":{"metas":[{"phx_ref":"a.1.2","phx_ref_prev":"a.1.1","x":2}]}},"leaves":{"u1":{"metas":[{"phx_ref":"a.1.1","x":1}]}}}"#;
+    assert!(rt; is_update(alloc, diff));
     Ok(())
 }
 
-// The lists of these rows, as an object.
-fn lists_text(alloc: Global, rows: &[(Dot, Row)]) -> Result<String, AllocError> {
-    let presences = Presences::of_rows(alloc, rows)?;
-    presences.to_value(alloc)?.to_string(alloc)
+// The lists of rows of these keys, counts and metas.
+fn lists_of(alloc: Global, given: &[(&str, u64, u64)]) -> Option<Presences> {
+    let rows = rows_of(alloc, given)?;
+    let Ok(lists) = Presences::of_rows(alloc, rows.as_slice()) else {
+        return None;
+    };
+    Some(lists)
+}
+
+// Whether the lists of such rows have this text.
+fn are_lists(alloc: Global, given: &[(&str, u64, u64)], want: &str) -> bool {
+    match lists_of(alloc, given) {
+        Some(lists) => is_told(alloc, lists.to_value(alloc), want),
+        None => false,
+    }
 }
 
 #[test]
 fn rows_of_one_key_stand_together(rt: HostRuntime) -> Result<(), Fail> {
-    let alloc = rt.alloc();
-    let mut rows = Vec::new(alloc);
-    add_row(alloc, &mut rows, "u1", 2, 1, None)?;
-    add_row(alloc, &mut rows, "u1", 3, 2, None)?;
-    add_row(alloc, &mut rows, "u2", 1, 3, None)?;
-    assert_eq!(rt;
-        lists_text(alloc, rows.as_slice())?.as_str(),
-        "{\"u1\":{\"metas\":[{\"phx_ref\":\"a.1.2\",\"x\":1},{\"phx_ref\":\"a.1.3\",\"x\":2}]},\"u2\":{\"metas\":[{\"phx_ref\":\"a.1.1\",\"x\":3}]}}"
-    );
+    let rows = [("u1", 2, 1), ("u1", 3, 2), ("u2", 1, 3)];
+    let lists =
+        r#"{"u1":{"metas":[{"phx_ref":"a.1.2","x":1},{"phx_ref":"a.1.3","x":2}]},"u2":{"metas":[{"phx_ref":"a.1.1","x":3}]}}"#;
+    assert!(rt; are_lists(rt.alloc(), &rows, lists));
     Ok(())
 }
+
+const TRACKED_FRAME: &str =
+    r#"["1",null,"room:lobby","presence_state",{"u1":{"metas":[{"phx_ref":"a.1.1","x":1}]}}]"#;
+
+const UPDATE_FRAME: &str =
+    r#"[null,null,"room:lobby","presence_diff",{"joins":{"u1":{"metas":[{"phx_ref":"a.1.2","phx_ref_prev":"a.1.1","x":2}]}},"leaves":{"u1":{"metas":[{"phx_ref":"a.1.1","x":1}]}}}]"#;
+
+const UNTRACK_FRAME: &str =
+    r#"[null,null,"room:lobby","presence_diff",{"joins":{},"leaves":{"u1":{"metas":[{"phx_ref":"a.1.2"}]}}}]"#;
 
 #[test]
 fn fold_of_the_update_and_the_untrack(rt: HostRuntime) -> Result<(), Fail> {
     let alloc = rt.alloc();
     let mut mirror = Mirror::new(alloc);
-    assert!(rt;
-        fold_text(
-            alloc,
-            &mut mirror,
-            "[\"1\",null,\"room:lobby\",\"presence_state\",{\"u1\":{\"metas\":[{\"phx_ref\":\"a.1.1\",\"x\":1}]}}]"
-        )?
-    );
-    assert!(rt;
-        fold_text(
-            alloc,
-            &mut mirror,
-            "[null,null,\"room:lobby\",\"presence_diff\",{\"joins\":{\"u1\":{\"metas\":[{\"phx_ref\":\"a.1.2\",\"phx_ref_prev\":\"a.1.1\",\"x\":2}]}},\"leaves\":{\"u1\":{\"metas\":[{\"phx_ref\":\"a.1.1\",\"x\":1}]}}}]"
-        )?
-    );
-    assert_eq!(rt;
-        text_of(alloc, &mirror)?.as_str(),
-        "{\"u1\":{\"metas\":[{\"phx_ref\":\"a.1.2\",\"phx_ref_prev\":\"a.1.1\",\"x\":2}]}}"
-    );
-    assert!(rt;
-        fold_text(
-            alloc,
-            &mut mirror,
-            "[null,null,\"room:lobby\",\"presence_diff\",{\"joins\":{},\"leaves\":{\"u1\":{\"metas\":[{\"phx_ref\":\"a.1.2\"}]}}}]"
-        )?
-    );
-    assert_eq!(rt; text_of(alloc, &mirror)?.as_str(), "{}");
+    assert!(rt; folds(alloc, &mut mirror, TRACKED_FRAME));
+    assert!(rt; folds(alloc, &mut mirror, UPDATE_FRAME));
+    let updated = r#"{"u1":{"metas":[{"phx_ref":"a.1.2","phx_ref_prev":"a.1.1","x":2}]}}"#;
+    assert!(rt; holds(alloc, &mirror, updated));
+    assert!(rt; folds(alloc, &mut mirror, UNTRACK_FRAME));
+    assert!(rt; holds(alloc, &mirror, "{}"));
     Ok(())
 }
+
+const STATE_WITH_MORE: &str =
+    r#"[null,null,"t","presence_state",{"k":{"metas":[{"phx_ref":"p","x":1},{"phx_ref":"q"}],"user":{}},"gone":{"metas":[]}}]"#;
+
+const DIFF_WITH_MORE: &str =
+    r#"[null,null,"t","presence_diff",{"joins":{"k":{"metas":[{"phx_ref":"p","x":2},{"phx_ref":"r"}]}},"leaves":{"other":{"metas":[{"phx_ref":"q"}]}},"more":1}]"#;
 
 #[test]
 fn joined_metas_follow_those_that_stay(rt: HostRuntime) -> Result<(), Fail> {
     let alloc = rt.alloc();
     let mut mirror = Mirror::new(alloc);
-    assert!(rt;
-        fold_text(
-            alloc,
-            &mut mirror,
-            "[null,null,\"t\",\"presence_state\",{\"k\":{\"metas\":[{\"phx_ref\":\"p\",\"x\":1},{\"phx_ref\":\"q\"}],\"user\":{}},\"gone\":{\"metas\":[]}}]"
-        )?
-    );
-    assert!(rt;
-        fold_text(
-            alloc,
-            &mut mirror,
-            "[null,null,\"t\",\"presence_diff\",{\"joins\":{\"k\":{\"metas\":[{\"phx_ref\":\"p\",\"x\":2},{\"phx_ref\":\"r\"}]}},\"leaves\":{\"other\":{\"metas\":[{\"phx_ref\":\"q\"}]}},\"more\":1}]"
-        )?
-    );
-    assert_eq!(rt;
-        text_of(alloc, &mirror)?.as_str(),
-        "{\"k\":{\"metas\":[{\"phx_ref\":\"q\"},{\"phx_ref\":\"p\",\"x\":2},{\"phx_ref\":\"r\"}]}}"
-    );
+    assert!(rt; folds(alloc, &mut mirror, STATE_WITH_MORE));
+    assert!(rt; folds(alloc, &mut mirror, DIFF_WITH_MORE));
+    let lists = r#"{"k":{"metas":[{"phx_ref":"q"},{"phx_ref":"p","x":2},{"phx_ref":"r"}]}}"#;
+    assert!(rt; holds(alloc, &mirror, lists));
     Ok(())
 }
 
-// The key `u1` with one meta, of this count.
-fn one_presence(alloc: Global, count: u64, x: u64) -> Result<Presences, AllocError> {
-    let mut rows = Vec::new(alloc);
-    add_row(alloc, &mut rows, "u1", count, x, None)?;
-    Presences::of_rows(alloc, rows.as_slice())
+// The diff in which count 2 joins and count 1 leaves, both of `u1`.
+fn second_for_first(alloc: Global) -> Option<Diff> {
+    let joins = lists_of(alloc, &[("u1", 2, 2)])?;
+    let leaves = lists_of(alloc, &[("u1", 1, 1)])?;
+    Some(Diff { joins, leaves })
 }
 
-// A diff in which this count joins and that one leaves.
-fn diff_of(alloc: Global, joined: u64, left: u64) -> Result<Diff, AllocError> {
-    let joins = one_presence(alloc, joined, 2)?;
-    let leaves = one_presence(alloc, left, 1)?;
-    Ok(Diff { joins, leaves })
+// The mirror with count 1, and then with the diff.
+fn second_mirror(alloc: Global) -> Option<Mirror> {
+    let mut mirror = Mirror::new(alloc);
+    mirror.set_state(lists_of(alloc, &[("u1", 1, 1)])?);
+    let diff = second_for_first(alloc)?;
+    let Ok(()) = mirror.apply(alloc, &diff) else {
+        return None;
+    };
+    Some(mirror)
 }
 
 #[test]
 fn a_state_and_a_diff_that_no_frame_brings(rt: HostRuntime) -> Result<(), Fail> {
     let alloc = rt.alloc();
-    let mut mirror = Mirror::new(alloc);
-    mirror.set_state(one_presence(alloc, 1, 1)?);
-    mirror.apply(alloc, &diff_of(alloc, 2, 1)?)?;
-    assert_eq!(rt;
-        text_of(alloc, &mirror)?.as_str(),
-        "{\"u1\":{\"metas\":[{\"phx_ref\":\"a.1.2\",\"x\":2}]}}"
-    );
+    let want = r#"{"u1":{"metas":[{"phx_ref":"a.1.2","x":2}]}}"#;
+    assert!(rt; second_mirror(alloc).is_some_and(|mirror| holds(alloc, &mirror, want)));
     Ok(())
 }
 
-// The object of the metas of this key in a clone of the lists.
-fn metas_text(alloc: Global, lists: &Presences, key: &str) -> Result<Option<String>, AllocError> {
-    let copy = lists.clone()?;
-    let key = Text::new(alloc, key)?;
-    match copy.as_map().get(&key) {
-        Some(metas) => Ok(Some(value_of_metas(alloc, metas.as_slice())?.to_string(alloc)?)),
-        None => Ok(None),
-    }
+// The text of the metas of this key, if the lists have it.
+fn metas_text(alloc: Global, lists: &Presences, key: &str) -> Option<String> {
+    let Ok(key) = Text::new(alloc, key) else {
+        return None;
+    };
+    let metas = lists.as_map().get(&key)?;
+    text_of(alloc, value_of_metas(alloc, metas.as_slice()))
+}
+
+// Whether a clone of the lists has these metas at `u1`, and none at `u2`.
+fn has_metas(alloc: Global, lists: &Presences, want: &str) -> bool {
+    let Ok(copy) = lists.clone() else {
+        return false;
+    };
+    metas_text(alloc, &copy, "u2").is_none()
+        && metas_text(alloc, &copy, "u1").is_some_and(|text| text.as_str() == want)
 }
 
 #[test]
 fn the_metas_of_one_key(rt: HostRuntime) -> Result<(), Fail> {
     let alloc = rt.alloc();
-    let lists = one_presence(alloc, 1, 1)?;
-    let want = "{\"metas\":[{\"phx_ref\":\"a.1.1\",\"x\":1}]}";
-    assert!(rt; metas_text(alloc, &lists, "u1")?.is_some_and(|text| text.as_str() == want));
-    assert!(rt; metas_text(alloc, &lists, "u2")?.is_none());
-    Ok(())
-}
-
-#[test]
-fn refused_frames(rt: HostRuntime) -> Result<(), Fail> {
-    let alloc = rt.alloc();
-    let rows = [
-        ("[null,null,\"t\",\"shout\",{}]", FrameFault::NotPresence),
-        (
-            "[null,null,\"t\",\"presence_state\",[]]",
-            FrameFault::BadShape,
-        ),
-        (
-            "[null,null,\"t\",\"presence_state\",{\"k\":[]}]",
-            FrameFault::BadShape,
-        ),
-        (
-            "[null,null,\"t\",\"presence_state\",{\"k\":{\"metas\":{}}}]",
-            FrameFault::BadShape,
-        ),
-        (
-            "[null,null,\"t\",\"presence_diff\",{\"joins\":{}}]",
-            FrameFault::BadShape,
-        ),
-        (
-            "[null,null,\"t\",\"presence_diff\",{\"leaves\":{}}]",
-            FrameFault::BadShape,
-        ),
-        (
-            "[null,null,\"t\",\"presence_state\",{\"k\":{\"metas\":[{}]}}]",
-            FrameFault::NoRef,
-        ),
-        (
-            "[null,null,\"t\",\"presence_state\",{\"k\":{\"metas\":[{\"phx_ref\":1}]}}]",
-            FrameFault::NoRef,
-        ),
-        // The shape of the whole frame is looked at before any reference.
-        (
-            "[null,null,\"t\",\"presence_state\",{\"k\":{\"metas\":[{}]},\"l\":{\"metas\":[1]}}]",
-            FrameFault::BadShape,
-        ),
-        (
-            "[null,null,\"t\",\"presence_diff\",{\"joins\":{\"k\":{\"metas\":[{}]}},\"leaves\":{\"k\":{}}}]",
-            FrameFault::BadShape,
-        ),
-    ];
-    for (text, fault) in rows {
-        assert_eq!(rt; fault_of(alloc, text), Some(fault), "{text}");
-    }
+    let want = r#"{"metas":[{"phx_ref":"a.1.1","x":1}]}"#;
+    let lists = lists_of(alloc, &[("u1", 1, 1)]);
+    assert!(rt; lists.is_some_and(|lists| has_metas(alloc, &lists, want)));
     Ok(())
 }
