@@ -9,7 +9,7 @@ ghost use Rattle.std.specs.Map.{keys_of};
 ghost use Rattle.presence_base.specs.Order.{text_cmp};
 ghost use Rattle.presence_metas.specs.Fold.{meta_at, folded};
 ghost use Rattle.presence_metas.specs.Rows.{add_row, listing_of};
-ghost use Rattle.presence_metas.specs.Values.{metas_value, listing_value, AllWhole, state_of, diff_of};
+ghost use Rattle.presence_metas.specs.Values.{metas_value, listing_value, AllWhole, state_of, diff_object_of, diff_of};
 
 use crate::members::put_member;
 use crate::tracked::{TrackedMeta, leave_out, take_in, tracked_meta};
@@ -271,6 +271,13 @@ pub fn state_value(alloc: Global, rows: &[(Dot, Row)]) -> Result<Value, AllocErr
     presences.to_value(alloc)
 }
 
+/// The object `{"joins": .., "leaves": ..}`.
+pub fn diff_object(alloc: Global, joins: Value, leaves: Value) -> Result<Value, AllocError>
+    ensures { IfOk result (λ v. view v ≡ diff_object_of (view joins) (view leaves)) }
+{
+    json!(in alloc; {"joins": joins, "leaves": leaves})
+}
+
 /// The diff object of the rows that came and those that went.
 pub fn diff_value(
     alloc: Global,
@@ -282,5 +289,5 @@ pub fn diff_value(
 {
     let joins = state_value(alloc, joins)?;
     let leaves = state_value(alloc, leaves)?;
-    json!(in alloc; {"joins": joins, "leaves": leaves})
+    diff_object(alloc, joins, leaves)
 }
