@@ -3,4 +3,16 @@
 #![tactic(auto)]
 
 #[cfg(test)]
+mod extras;
+#[cfg(test)]
+mod fetching;
+#[cfg(test)]
+mod folding;
+#[cfg(test)]
+mod frames;
+#[cfg(test)]
+mod noting;
+#[cfg(test)]
 mod routes;
+#[cfg(test)]
+mod rows;
