@@ -22,7 +22,7 @@ use Rattle.node_links_lines.specs.declared.lines.LinkFault.TheVariants.{LineTooL
 use Rattle.node_links_lines.specs.declared.lines.TheConstants.{MAX_LINE_BYTES, MAX_SHARDS}
 use Rattle.node_links_lines.specs.Limits.{is_from_to, is_counted, is_bound, is_replica, is_told_range, is_told_dot, is_told_prev, is_told_row, is_told, is_sound, is_delta, is_within}
 use Rattle.node_links_lines.specs.Members.{number_in, count_in, bound_in, name_in, replica_in, dot_in}
-use Rattle.node_links_lines.specs.Reading.{shard_in, line_in, value_in, decoded}
+use Rattle.node_links_lines.specs.Reading.{shard_in, line_in, value_in, decoded, IsLine}
 use Rattle.node_links_lines.specs.Results.{◌>>=◌, or_bad, Answers}
 use Rattle.node_links_lines.specs.Telling.{range_in, extra_in, prev_in, object_in, row_of, row_in, each_in, list_in}
 use Rattle.node_links_lines.specs.Told.{raw_told_in, unless, sound, told_in, is_delta_of, own_delta, delta_in}
@@ -143,11 +143,12 @@ line_again n (lines_are.PermDown r) h = rw (replica_again r h) refl
 line_again n (lines_are.Gone r) h = rw (replica_again r h) refl
 line_again n lines_are.Ok h = refl
 
-pub decoded_only : (n : ℕ) (s : List ℕ) (line : Line) → is_within n line ≡ true → length s ≤ MAX_LINE_BYTES → read s ≡ Some (value_of line) → decoded n s ≡ Ok line
-decoded_only n s line within short reads =
+pub decoded_only : (n : ℕ) (s : List ℕ) (line : Line) → IsLine n s line → decoded n s ≡ Ok line
+decoded_only n s line h =
+    let short = h.short in
     let fits : nat_lt MAX_LINE_BYTES (length s) ≡ false = grind (arith, nat_tests) in
-    let is_value : value_in s ≡ Ok (value_of line) = rw (fits, reads) refl in
-    ap (λ r. r >>= line_in n) is_value ∙ line_again n line within
+    let is_value : value_in s ≡ Ok (value_of line) = rw (fits, h.reads) refl in
+    ap (λ r. r >>= line_in n) is_value ∙ line_again n line h.within
 
 -- where a line's text is too long, and where it isn't
 pub too_long : (line : Line) (s : List ℕ) → s ≡ text_of line → MAX_LINE_BYTES < length s → encoded line ≡ Err LineTooLong
@@ -162,7 +163,6 @@ fits_well line s is short =
     let test : nat_lt MAX_LINE_BYTES (length (text_of line)) ≡ false = grind (arith, nat_tests) in
     ap (λ b. cond b (Err LineTooLong) (Ok (text_of line))) test ∙ ap (λ x. Ok x) (sym is)
 
-pub found_from_answer : (n : ℕ) (s : List ℕ) (r : Result Line LinkFault) → Answers r (decoded n s)
-    → IfOk r (λ line. (is_within n line ≡ true) × (length s ≤ MAX_LINE_BYTES) × (read s ≡ Some (value_of line)))
-found_from_answer n s (Ok line) h = let b = decoded_found n s line h in (b.within, b.short, b.reads)
+pub found_from_answer : (n : ℕ) (s : List ℕ) (r : Result Line LinkFault) → Answers r (decoded n s) → IfOk r (IsLine n s)
+found_from_answer n s (Ok line) h = decoded_found n s line h
 found_from_answer n s (Err e) h = tt

@@ -24,7 +24,7 @@ use Rattle.node_links_lines.specs.Arrays.{Three, three_in, Four, four_in, Five, 
 use Rattle.node_links_lines.specs.Kinds.{kind_named, kind_first, kind_of_all, kind_in}
 use Rattle.node_links_lines.specs.Limits.{is_from_to, is_bound, is_replica, is_told_range, is_told_dot, is_told_row, is_told, is_sound, is_delta, is_within}
 use Rattle.node_links_lines.specs.Members.{whole_in, number_in, bound_in, replica_in}
-use Rattle.node_links_lines.specs.Reading.{below, shard_in, hello_in, beat_in, want_in, told_line_in, permdown_in, gone_in, ok_items, ok_in, line_of_kind, line_in, found_value, value_in, decoded}
+use Rattle.node_links_lines.specs.Reading.{below, shard_in, hello_in, beat_in, want_in, told_line_in, permdown_in, gone_in, ok_items, ok_in, line_of_kind, line_in, found_value, value_in, decoded, IsLine}
 use Rattle.node_links_lines.specs.Results.{◌>>=◌, or_bad, Answers}
 use Rattle.node_links_lines.specs.Telling.{range_in, extra_in, row_in, list_in}
 use Rattle.node_links_lines.specs.Told.{raw_told_in, unless, sound, told_in, is_delta_of, own_delta, delta_in}
@@ -306,12 +306,6 @@ value_ok s d h = go (nat_lt MAX_LINE_BYTES (length s)) refl h
     go : (b : Bool) → nat_lt MAX_LINE_BYTES (length s) ≡ b → cond b (Err LineTooLong) (found_value (read s)) ≡ Ok d → (length s ≤ MAX_LINE_BYTES) × (read s ≡ Some d)
     go true was e = absurd (cc)
     go false was e = (grind (arith, nat_tests), found_value_ok (read s) d e)
-
--- the line is the text's, and may come to a node with n shards
-pub record IsLine (n : ℕ) (s : List ℕ) (line : Line) : Type 0 where
-  pub within : is_within n line ≡ true
-  pub short : length s ≤ MAX_LINE_BYTES
-  pub reads : read s ≡ Some (value_of line)
 
 pub decoded_found : (n : ℕ) (s : List ℕ) (line : Line) → decoded n s ≡ Ok line → IsLine n s line
 decoded_found n s line h =

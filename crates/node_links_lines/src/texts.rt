@@ -1,9 +1,9 @@
-ghost use Rattle.std.specs.Prelude.{◌≡◌, ◌≤◌, ℕ, length, true, Some, Ok, IfOk, string_bytes};
+ghost use Rattle.std.specs.Prelude.{◌≡◌, ◌≤◌, ℕ, true, Some, Ok, IfOk, IfErr, string_bytes};
 ghost use Rattle.serde_json.specs.Read.{read};
 ghost use Rattle.serde_json.specs.View.{view};
 ghost use Rattle.node_links_lines.specs.declared.lines.Line.{Line as LineValue};
 ghost use Rattle.node_links_lines.specs.Limits.{is_within};
-ghost use Rattle.node_links_lines.specs.Reading.{value_in, decoded};
+ghost use Rattle.node_links_lines.specs.Reading.{IsLine, IsTextFault, value_in, decoded};
 ghost use Rattle.node_links_lines.specs.Results.{Answers, Gives};
 ghost use Rattle.node_links_lines.specs.Values.{value_of};
 ghost use Rattle.node_links_lines.specs.Writing.{text_of, encoded};
@@ -44,11 +44,10 @@ fn decode_exactly(alloc: Global, text: &str, shards: u32) -> Result<Line, LinkFa
 /// the text. Want of memory is answered in place of any answer.
 pub fn decode_line(alloc: Global, text: &str, shards: u32) -> Result<Line, LinkFault>
     requires { 1 ≤ shards }
-    ensures found { IfOk result (λ line. (is_within shards line ≡ true)
-        × (length text.now ≤ MAX_LINE_BYTES) × (read text.now ≡ Some (value_of line))) }
-    ensures only { (line : LineValue) → is_within shards line ≡ true → length text.now ≤ MAX_LINE_BYTES
-        → read text.now ≡ Some (value_of line) → Answers result (Ok line) }
+    ensures found { IfOk result (IsLine shards text.now) }
+    ensures only { (line : LineValue) → IsLine shards text.now line → Answers result (Ok line) }
     ensures exact { Answers result (decoded shards text.now) }
+    ensures faults { IfErr result (IsTextFault text.now) }
 {
     decode_exactly(alloc, text, shards)
 }

@@ -9,4 +9,4 @@ pub returns-clause-exact : goal.returns-clause-exact
 returns-clause-exact c = fits_well c.args.line.now (string_bytes c.in-Ok.text) c.in-Ok.ensures.text (omega arith)
 
 pub returns-clause-again : goal.returns-clause-again
-returns-clause-again c = λ n within. decoded_only n (string_bytes c.in-Ok.text) c.args.line.now within (omega arith) c.in-Ok.ensures.reads
+returns-clause-again c = λ n within. decoded_only n (string_bytes c.in-Ok.text) c.args.line.now (record { within = within; short = omega arith; reads = c.in-Ok.ensures.reads })
