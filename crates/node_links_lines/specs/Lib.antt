@@ -8,3 +8,4 @@ pub mod RowMembers
 pub mod Telling
 pub mod Told
 pub mod Values
+pub mod Writing

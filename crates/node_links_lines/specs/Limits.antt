@@ -67,7 +67,11 @@ is_within n lines_are.Ok = true
 abbrev pub are_metas : List (Dot × Row) → Bool
 are_metas rows = list_all (λ x. is_meta x.1.meta) rows
 
+abbrev pub delta_metas : Option ToldValue → Bool
+delta_metas None = true
+delta_metas (Some t) = are_metas t.live
+
 abbrev pub has_metas : Line → Bool
-has_metas (lines_are.Beat k r c (Some t)) = are_metas t.live
+has_metas (lines_are.Beat k r c t) = delta_metas t
 has_metas (lines_are.Told k t) = are_metas t.live
 has_metas _ = true

@@ -1,5 +1,5 @@
 -- Which line a text is, or the first thing that is wrong with it.
-use Rattle.std.specs.Prelude.{ℕ, List, length, nat_lt, if◌then◌else◌, Option, Some, None, Result, Ok, Err}
+use Rattle.std.specs.Prelude.{◌≡◌, ◌≤◌, ◌<◌, ℕ, List, length, true, nat_lt, if◌then◌else◌, Option, Some, None, Result, Ok, Err}
 
 use Rattle.serde_json.specs.Data.{Data, array, Items, no_items, item}
 use Rattle.serde_json.specs.Read.{read}
@@ -7,15 +7,17 @@ use Rattle.presence_base.specs.Names.{guarded}
 use Rattle.node_links_lines.specs.declared.lines.Line.{Line}
 use Rattle.node_links_lines.specs.declared.lines.Line.TheVariants as lines_are
 use Rattle.node_links_lines.specs.declared.lines.LinkFault.{LinkFault}
-use Rattle.node_links_lines.specs.declared.lines.LinkFault.TheVariants.{LineTooLong, NotJson, BadLine}
+use Rattle.node_links_lines.specs.declared.lines.LinkFault.TheVariants.{LineTooLong, NotJson, BadLine, BadTold, OutOfMemory}
 use Rattle.node_links_lines.specs.declared.lines.TheConstants.{MAX_LINE_BYTES, MAX_SHARDS}
 use Rattle.node_links_lines.specs.declared.kinds.Kind.{Kind}
 use Rattle.node_links_lines.specs.declared.kinds.Kind.TheVariants as kinds_are
 use Rattle.node_links_lines.specs.Arrays.{three_in, four_in, five_in, six_in}
+use Rattle.node_links_lines.specs.Limits.{is_within}
 use Rattle.node_links_lines.specs.Kinds.{kind_in}
 use Rattle.node_links_lines.specs.Members.{whole_in, number_in, bound_in, replica_in}
 use Rattle.node_links_lines.specs.Results.{◌>>=◌, or_bad}
 use Rattle.node_links_lines.specs.Told.{told_in, delta_in}
+use Rattle.node_links_lines.specs.Values.{value_of}
 
 -- the number of one of n shards
 abbrev pub below : ℕ → ℕ → Option ℕ
@@ -98,6 +100,21 @@ found_value (Some d) = Ok d
 abbrev pub value_in : List ℕ → Result Data LinkFault
 value_in s = if nat_lt MAX_LINE_BYTES (length s) then Err LineTooLong else found_value (read s)
 
+-- a fault that a text can have
+abbrev pub IsTextFault : List ℕ → LinkFault → Type 0
+IsTextFault s LineTooLong = MAX_LINE_BYTES < length s
+IsTextFault s NotJson = Unit {0}
+IsTextFault s BadLine = Unit {0}
+IsTextFault s (BadTold f) = Unit {0}
+IsTextFault s OutOfMemory = Unit {0}
+IsTextFault s _ = ⊥
+
 -- the line that a text is, at a node with n shards
 abbrev pub decoded : ℕ → List ℕ → Result Line LinkFault
 decoded n s = value_in s >>= line_in n
+
+-- the text is the line's, which may come to a node with n shards
+pub record IsLine (n : ℕ) (s : List ℕ) (line : Line) : Type 0 where
+  pub within : is_within n line ≡ true
+  pub short : length s ≤ MAX_LINE_BYTES
+  pub reads : read s ≡ Some (value_of line)

@@ -7,7 +7,9 @@ mod lines;
 mod members;
 mod reading;
 mod telling;
+mod texts;
 mod told;
 mod values;
 
 pub use lines::{Line, LinkFault, MAX_LINE_BYTES, MAX_SHARDS};
+pub use texts::{decode_line, encode_line};

@@ -2,7 +2,8 @@
 ghost use Rattle.std.specs.Prelude.{◌≡◌, map, true, IfOk};
 ghost use Rattle.serde_json.specs.View.{view};
 ghost use Rattle.presence_base.specs.Metas.{is_meta};
-ghost use Rattle.node_links_lines.specs.Limits.{are_metas, has_metas};
+ghost use Rattle.node_links_lines.specs.declared.lines.Line.TheVariants as lines_are;
+ghost use Rattle.node_links_lines.specs.Limits.{are_metas, delta_metas, has_metas};
 ghost use Rattle.node_links_lines.specs.Values.{array_of, range_value, dot_value, prev_value, row_value, told_value, delta_value, value_of};
 
 use crate::lines::Line;
@@ -96,4 +97,100 @@ fn value_of_told(alloc: Global, told: &Told) -> Result<Value, AllocError>
     let extras = Value::Array(values_of_dots(alloc, told.extras())?);
     let live = Value::Array(values_of_rows(alloc, told.live())?);
     json!(in alloc; [ranges, extras, live])
+}
+
+fn value_of_delta(alloc: Global, delta: &Option<Told>) -> Result<Value, AllocError>
+    ensures value { IfOk result (λ v. view v ≡ delta_value delta.now) }
+    ensures metas { IfOk result (λ v. delta_metas delta.now ≡ true) }
+{
+    match delta {
+        Some(told) => value_of_told(alloc, told),
+        None => Ok(Value::Null),
+    }
+}
+
+fn value_of_beat(
+    alloc: Global,
+    shard: u32,
+    replica: &Replica,
+    count: u64,
+    delta: &Option<Told>,
+) -> Result<Value, AllocError>
+    ensures value { IfOk result (λ v. view v ≡ value_of (lines_are.Beat shard replica.now count delta.now)) }
+    ensures metas { IfOk result (λ v. delta_metas delta.now ≡ true) }
+{
+    let name = replica.name.as_str();
+    let incarnation = replica.incarnation;
+    let delta = value_of_delta(alloc, delta)?;
+    json!(in alloc; ["beat", shard, name, incarnation, count, delta])
+}
+
+fn value_of_want(
+    alloc: Global,
+    shard: u32,
+    replica: &Replica,
+    top: u64,
+) -> Result<Value, AllocError>
+    ensures { IfOk result (λ v. view v ≡ value_of (lines_are.Want shard replica.now top)) }
+{
+    let name = replica.name.as_str();
+    let incarnation = replica.incarnation;
+    json!(in alloc; ["want", shard, name, incarnation, top])
+}
+
+fn value_of_told_line(alloc: Global, shard: u32, told: &Told) -> Result<Value, AllocError>
+    ensures value { IfOk result (λ v. view v ≡ value_of (lines_are.Told shard told.now)) }
+    ensures metas { IfOk result (λ v. are_metas told.now.live ≡ true) }
+{
+    let told = value_of_told(alloc, told)?;
+    json!(in alloc; ["told", shard, told])
+}
+
+fn value_of_hello(alloc: Global, replica: &Replica, shards: u32) -> Result<Value, AllocError>
+    ensures { IfOk result (λ v. view v ≡ value_of (lines_are.Hello replica.now shards)) }
+{
+    let name = replica.name.as_str();
+    let incarnation = replica.incarnation;
+    json!(in alloc; ["hello", name, incarnation, shards])
+}
+
+fn value_of_permdown(alloc: Global, replica: &Replica) -> Result<Value, AllocError>
+    ensures { IfOk result (λ v. view v ≡ value_of (lines_are.PermDown replica.now)) }
+{
+    let name = replica.name.as_str();
+    let incarnation = replica.incarnation;
+    json!(in alloc; ["permdown", name, incarnation])
+}
+
+fn value_of_gone(alloc: Global, replica: &Replica) -> Result<Value, AllocError>
+    ensures { IfOk result (λ v. view v ≡ value_of (lines_are.Gone replica.now)) }
+{
+    let name = replica.name.as_str();
+    let incarnation = replica.incarnation;
+    json!(in alloc; ["gone", name, incarnation])
+}
+
+// The array that the line is written as.
+pub(crate) fn value_of_line(alloc: Global, line: &Line) -> Result<Value, AllocError>
+    ensures value { IfOk result (λ v. view v ≡ value_of line.now) }
+    ensures metas { IfOk result (λ v. has_metas line.now ≡ true) }
+{
+    match line {
+        Line::Hello { replica, shards } => value_of_hello(alloc, replica, *shards),
+        Line::Beat {
+            shard,
+            replica,
+            count,
+            delta,
+        } => value_of_beat(alloc, *shard, replica, *count, delta),
+        Line::Want {
+            shard,
+            replica,
+            top,
+        } => value_of_want(alloc, *shard, replica, *top),
+        Line::Told { shard, told } => value_of_told_line(alloc, *shard, told),
+        Line::PermDown { replica } => value_of_permdown(alloc, replica),
+        Line::Gone { replica } => value_of_gone(alloc, replica),
+        Line::Ok => json!(in alloc; ["ok"]),
+    }
 }
