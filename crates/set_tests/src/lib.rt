@@ -1,4 +1,4 @@
-//! Tests of contexts, sets and told values, by their public names. They have a crate of their own, so that the
+//! Tests of contexts, sets, told values and deltas, by their public names. They have a crate of their own, so that the
 //! libraries aren't proved anew with them.
 #![tactic(auto)]
 
@@ -6,5 +6,7 @@
 mod checks;
 #[cfg(test)]
 mod contexts;
+#[cfg(test)]
+mod deltas;
 #[cfg(test)]
 mod sets;
