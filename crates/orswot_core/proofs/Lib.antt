@@ -10,3 +10,4 @@ pub mod ListedFacts
 pub mod OrderedFacts
 pub mod FullFacts
 pub mod OneFullFacts
+pub mod ReplicaRows

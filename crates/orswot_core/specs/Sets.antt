@@ -3,7 +3,7 @@ use Rattle.std.specs.Prelude.{◌≡◌, Bool, true, false, cond, not, is_some, 
 use Rattle.std.specs.FinSet as set
 use Rattle.std.specs.FinMap as map
 use Rattle.std.specs.BTreeMap.{BTreeMap, get}
-use Rattle.std.specs.List.{list_any}
+use Rattle.std.specs.List.{filter, list_any}
 use Rattle.std.specs.Coded.{Coded, code_by, coded×}
 use Rattle.presence_base.specs.declared.dots.Dot.{Dot}
 use Rattle.presence_base.specs.declared.row.Row.{Row}
@@ -31,6 +31,10 @@ rows_code = code_by (DotSet × LiveRows) (coded× (set.code dot_code) (map.code 
 
 abbrev pub with_dot : DotRows → Dot → Row → DotRows
 with_dot s d r = record { covered = set.insert s.covered d; live = map.insert s.live d r }
+
+-- the live rows of a replica, in order of dot
+abbrev pub rows_by : LiveRows → Replica → List (Dot × Row)
+rows_by m r = filter (λ e. same_replica e.0.replica r) (map.entries m)
 
 abbrev pub without_rows : LiveRows → List Dot → LiveRows
 without_rows m [] = m

@@ -5,8 +5,9 @@ mod full;
 mod joins;
 pub mod laws;
 mod plan;
+mod rows;
 mod set;
 
-pub use orswot_core_told::{MAX_ROWS, RawRow, RawTold, Told, ToldFault};
+pub use orswot_core_told::{MAX_ROWS, RawRow, RawTold, ReplicaTest, Told, ToldFault};
 pub use plan::JoinPlan;
 pub use set::Orswot;

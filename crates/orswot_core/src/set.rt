@@ -6,18 +6,21 @@ ghost use Rattle.presence_base.specs.Order.{same_replica};
 ghost use Rattle.presence_base.specs.declared.dots.Dot.{Dot as DotValue};
 ghost use Rattle.dot_context.specs.Sets.{without};
 ghost use Rattle.orswot_core_told.specs.Limits.{is_dot, is_row};
-ghost use Rattle.orswot_core_told.specs.Telling.{covers, live_row};
+ghost use Rattle.orswot_core_told.specs.Telling.{covers, live_row, cut_to};
 ghost use Rattle.orswot_core.specs.Full.{IsFull};
-ghost use Rattle.orswot_core.specs.Sets.{with_dot, removed, IsJoin, without_replica};
+ghost use Rattle.orswot_core.specs.Laws.{TakesIn};
+ghost use Rattle.orswot_core.specs.Sets.{with_dot, removed, IsJoin, without_replica, rows_by};
 
 use crate::full::full_told;
 use crate::joins::{add_row, forget_rows, join_rows, parts_of, remove_rows};
 use crate::plan::{JoinPlan, plan_parts};
+use crate::rows::rows_in_range;
 use dot_context::Context;
-use orswot_core_told::Told;
+use orswot_core_told::{ReplicaTest, Told};
 use presence_base::{Dot, Replica, Row};
 use std::alloc::{AllocError, Global};
 use std::collections::BTreeMap;
+use std::collections::btree_map::Range;
 use std::marker::Model;
 use std::mem;
 
@@ -73,6 +76,13 @@ impl Orswot {
         self.live.get(dot)
     }
 
+    /// The live rows of the replica, in order of dot. Takes no memory, and looks at no other rows.
+    pub fn rows_of(&self, replica: &Replica) -> Range<'_, Dot, Row>
+        ensures { result ≡ rows_by self.now.live replica.now }
+    {
+        rows_in_range(&self.live, replica)
+    }
+
     /// Covers the dot, and adds the row at it.
     pub fn add(&mut self, alloc: Global, dot: Dot, row: Row) -> Result<(), AllocError>
         requires new { set.contains self.old.covered dot ≡ false }
@@ -98,7 +108,7 @@ impl Orswot {
     /// what the told value costs, whatever the set holds.
     pub fn plan_join(self, alloc: Global, told: &Told) -> Result<JoinPlan, Orswot>
         ensures before { IfOk result (λ p. p.before ≡ self) }
-        ensures joined { IfOk result (λ p. IsJoin self (covers told.now) (live_row told.now) p.after) }
+        ensures joined { IfOk result (λ p. TakesIn self told.now p.after) }
         ensures err { IfErr result (λ s. s ≡ self) }
     {
         let Orswot { covered, live } = self;
@@ -110,7 +120,7 @@ impl Orswot {
 
     /// Takes in what is told. It costs what the told value costs, whatever the set holds.
     pub fn join(&mut self, alloc: Global, told: &Told) -> Result<(), AllocError>
-        ensures ok { OnOk result (IsJoin self.old (covers told.now) (live_row told.now) self.new) }
+        ensures ok { OnOk result (TakesIn self.old told.now self.new) }
         ensures err { OnErr result (self.new ≡ self.old) }
     {
         let set = mem::replace(self, Orswot::new(alloc));
@@ -124,6 +134,37 @@ impl Orswot {
                 Err(AllocError)
             }
         }
+    }
+
+    /// Takes all the memory that a join with what is told of some replicas needs: of those that the test takes.
+    pub fn plan_join_some<T: ReplicaTest>(
+        self,
+        alloc: Global,
+        told: &Told,
+        test: &T,
+    ) -> Result<JoinPlan, Orswot>
+        ensures before { IfOk result (λ p. p.before ≡ self) }
+        ensures joined { IfOk result (λ p. TakesIn self (cut_to (T.picks test.now) told.now) p.after) }
+        ensures err { IfErr result (λ s. s ≡ self) }
+    {
+        match told.cut_to(alloc, test) {
+            Ok(cut) => self.plan_join(alloc, &cut),
+            Err(_) => Err(self),
+        }
+    }
+
+    /// Takes in what is told of the replicas that the test takes.
+    pub fn join_some<T: ReplicaTest>(
+        &mut self,
+        alloc: Global,
+        told: &Told,
+        test: &T,
+    ) -> Result<(), AllocError>
+        ensures ok { OnOk result (TakesIn self.old (cut_to (T.picks test.now) told.now) self.new) }
+        ensures err { OnErr result (self.new ≡ self.old) }
+    {
+        let cut = told.cut_to(alloc, test)?;
+        self.join(alloc, &cut)
     }
 
     /// Takes in the other set.

@@ -1,2 +1,3 @@
 pub mod OrderFacts
 pub mod LoopFacts
+pub mod CutFacts

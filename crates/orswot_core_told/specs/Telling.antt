@@ -1,6 +1,6 @@
 -- Telling: what a told value covers, and which adds and removes it tells (Bieniusa et al., 2012).
-use Rattle.std.specs.Prelude.{ℕ, Bool, ◌&&◌, ◌||◌, List, Option, is_none, refl}
-use Rattle.std.specs.List.{list_any}
+use Rattle.std.specs.Prelude.{◌≡◌, ℕ, Bool, cond, ◌&&◌, ◌||◌, List, Option, None, is_none, refl}
+use Rattle.std.specs.List.{filter, list_any}
 use Rattle.std.specs.Map.{lookup}
 use Rattle.std.specs.Coded.{Coded, code_by, coded×, coded_ℕ, coded_list}
 use Rattle.presence_base.specs.declared.dots.Replica.{Replica}
@@ -39,3 +39,16 @@ live_row t d = lookup (same_dot d) t.live
 -- what is covered and not live is told as removed
 abbrev pub tells_removed : ToldValue → Dot → Bool
 tells_removed t d = covers t d && is_none (live_row t d)
+
+-- what is told of some replicas alone
+abbrev pub cut_to : (Replica → Bool) → ToldValue → ToldValue
+cut_to picks t = record {
+  ranges = filter (λ g. picks g.0) t.ranges;
+  extras = filter (λ d. picks d.replica) t.extras;
+  live = filter (λ x. picks x.0.replica) t.live;
+}
+
+-- it covers their dots, and tells their rows
+abbrev pub CutTellsOfSome : Type 0
+CutTellsOfSome = (picks : Replica → Bool) (t : ToldValue) (d : Dot)
+    → (covers (cut_to picks t) d ≡ (picks d.replica && covers t d)) × (live_row (cut_to picks t) d ≡ cond (picks d.replica) (live_row t d) None)

@@ -4,9 +4,10 @@ ghost use Rattle.std.specs.FinSet as set;
 ghost use Rattle.presence_base.specs.Order.{same_replica, same_dot};
 ghost use Rattle.presence_base.specs.declared.dots.Dot.{Dot as DotValue};
 ghost use Rattle.orswot_core_told.specs.Limits.{is_dot};
-ghost use Rattle.orswot_core_told.specs.Telling.{range_has};
+ghost use Rattle.orswot_core_told.specs.Telling.{range_has, cut_to};
 ghost use Rattle.orswot_core_told.specs.Checks.{IsAnswer, IsTold, AreRows, first_fault, has_repeat, replicas_of, dots_of};
 
+use crate::cut::{ReplicaTest, cut_extras, cut_ranges, cut_rows};
 use crate::limits::{are_dots_within, are_ranges_forward, are_ranges_within};
 use crate::raw::{RawTold, checked_rows};
 use dot_context::Context;
@@ -122,6 +123,16 @@ impl Told {
             extras,
             live,
         }
+    }
+
+    /// What is told of the replicas that the test takes.
+    pub fn cut_to<T: ReplicaTest>(&self, alloc: Global, test: &T) -> Result<Told, AllocError>
+        ensures { IfOk result (λ t. t ≡ cut_to (T.picks test.now) self.now) }
+    {
+        let ranges = cut_ranges(alloc, &self.ranges, test)?;
+        let extras = cut_extras(alloc, &self.extras, test)?;
+        let live = cut_rows(alloc, &self.live, test)?;
+        Ok(Told::new(ranges, extras, live))
     }
 
     /// The replicas with the counts that they are covered above, and up to.

@@ -14,14 +14,14 @@ fn fault_of(alloc: Global, raw: RawTold) -> Option<ToldFault> {
     }
 }
 
-fn named(alloc: Global, name: &str, incarnation: u64) -> Result<Replica, Fail> {
+fn named(alloc: Global, name: &str, incarnation: u64) -> Result<Replica, AllocError> {
     match NodeName::new(alloc, name)? {
         Some(name) => Ok(Replica { name, incarnation }),
-        None => Err(Fail::new("no name")),
+        None => Err(AllocError),
     }
 }
 
-fn any_dot(alloc: Global, incarnation: u64, count: u64) -> Result<Dot, Fail> {
+fn any_dot(alloc: Global, incarnation: u64, count: u64) -> Result<Dot, AllocError> {
     Ok(Dot {
         replica: named(alloc, "b", incarnation)?,
         count,
@@ -29,7 +29,7 @@ fn any_dot(alloc: Global, incarnation: u64, count: u64) -> Result<Dot, Fail> {
 }
 
 // The extra `b.1.1`, so many times.
-fn extras(alloc: Global, times: usize) -> Result<Vec<Dot>, Fail> {
+fn extras(alloc: Global, times: usize) -> Result<Vec<Dot>, AllocError> {
     let mut dots = Vec::new(alloc);
     for _ in 0..times {
         dots.push(any_dot(alloc, 1, 1)?)?;
@@ -45,7 +45,7 @@ fn with_extras(alloc: Global, extras: Vec<Dot>) -> RawTold {
     }
 }
 
-fn extras_fault(alloc: Global, times: usize) -> Result<Option<ToldFault>, Fail> {
+fn extras_fault(alloc: Global, times: usize) -> Result<Option<ToldFault>, AllocError> {
     let extras = extras(alloc, times)?;
     Ok(fault_of(alloc, with_extras(alloc, extras)))
 }
@@ -62,7 +62,7 @@ fn live_fault(
     times: usize,
     at: Dot,
     row: RawRow,
-) -> Result<Option<ToldFault>, Fail> {
+) -> Result<Option<ToldFault>, AllocError> {
     let live = listed(alloc, at, row)?;
     let extras = extras(alloc, times)?;
     let raw = RawTold {
@@ -73,53 +73,61 @@ fn live_fault(
     Ok(fault_of(alloc, raw))
 }
 
-fn row_fault(alloc: Global, row: RawRow) -> Result<Option<ToldFault>, Fail> {
+fn row_fault(alloc: Global, row: RawRow) -> Result<Option<ToldFault>, AllocError> {
     match any_dot(alloc, 1, 1) {
         Ok(at) => live_fault(alloc, 1, at, row),
         Err(e) => Err(e),
     }
 }
 
-fn plain_row(alloc: Global) -> Result<RawRow, Fail> {
+fn plain_row(alloc: Global) -> Result<RawRow, AllocError> {
     let (_, row) = raw_row(alloc, 1, "u1")?;
     Ok(row)
 }
 
-fn topic_fault(alloc: Global, topic: &str) -> Result<Option<ToldFault>, Fail> {
+fn topic_fault(alloc: Global, topic: &str) -> Result<Option<ToldFault>, AllocError> {
     let topic = String::from_str(alloc, topic)?;
     let mut row = plain_row(alloc)?;
     row.topic = topic;
     row_fault(alloc, row)
 }
 
-fn key_fault(alloc: Global, key: &str) -> Result<Option<ToldFault>, Fail> {
+fn key_fault(alloc: Global, key: &str) -> Result<Option<ToldFault>, AllocError> {
     let key = String::from_str(alloc, key)?;
     let mut row = plain_row(alloc)?;
     row.key = key;
     row_fault(alloc, row)
 }
 
-fn pid_fault(alloc: Global, pid: u64) -> Result<Option<ToldFault>, Fail> {
+fn pid_fault(alloc: Global, pid: u64) -> Result<Option<ToldFault>, AllocError> {
     let mut row = plain_row(alloc)?;
     row.pid = pid;
     row_fault(alloc, row)
 }
 
-fn meta_fault(alloc: Global, meta: &str) -> Result<Option<ToldFault>, Fail> {
+fn meta_fault(alloc: Global, meta: &str) -> Result<Option<ToldFault>, AllocError> {
     let meta = Value::from_str(alloc, meta)?;
     let mut row = plain_row(alloc)?;
     row.meta = meta;
     row_fault(alloc, row)
 }
 
-fn prev_fault(alloc: Global, incarnation: u64, count: u64) -> Result<Option<ToldFault>, Fail> {
+fn prev_fault(
+    alloc: Global,
+    incarnation: u64,
+    count: u64,
+) -> Result<Option<ToldFault>, AllocError> {
     let prev = any_dot(alloc, incarnation, count)?;
     let mut row = plain_row(alloc)?;
     row.prev = Some(prev);
     row_fault(alloc, row)
 }
 
-fn extra_fault(alloc: Global, incarnation: u64, count: u64) -> Result<Option<ToldFault>, Fail> {
+fn extra_fault(
+    alloc: Global,
+    incarnation: u64,
+    count: u64,
+) -> Result<Option<ToldFault>, AllocError> {
     let extra = any_dot(alloc, incarnation, count)?;
     let mut extras = Vec::new(alloc);
     extras.push(extra)?;
@@ -127,14 +135,18 @@ fn extra_fault(alloc: Global, incarnation: u64, count: u64) -> Result<Option<Tol
 }
 
 // Of a live row at this dot, beside the extra `b.1.1`.
-fn live_dot_fault(alloc: Global, incarnation: u64, count: u64) -> Result<Option<ToldFault>, Fail> {
+fn live_dot_fault(
+    alloc: Global,
+    incarnation: u64,
+    count: u64,
+) -> Result<Option<ToldFault>, AllocError> {
     let at = any_dot(alloc, incarnation, count)?;
     let row = plain_row(alloc)?;
     live_fault(alloc, 1, at, row)
 }
 
 // Of the extra `b.1.1`, so many times, and a row at it.
-fn crowd_fault(alloc: Global, times: usize) -> Result<Option<ToldFault>, Fail> {
+fn crowd_fault(alloc: Global, times: usize) -> Result<Option<ToldFault>, AllocError> {
     let at = any_dot(alloc, 1, 1)?;
     let row = plain_row(alloc)?;
     live_fault(alloc, times, at, row)
@@ -145,7 +157,7 @@ fn range_fault(
     incarnation: u64,
     from: u64,
     to: u64,
-) -> Result<Option<ToldFault>, Fail> {
+) -> Result<Option<ToldFault>, AllocError> {
     let b = named(alloc, "b", incarnation)?;
     let mut ranges = Vec::new(alloc);
     ranges.push((b, from, to))?;
@@ -325,7 +337,7 @@ fn second_range_fault(
     alloc: Global,
     name: &str,
     incarnation: u64,
-) -> Result<Option<ToldFault>, Fail> {
+) -> Result<Option<ToldFault>, AllocError> {
     let second = named(alloc, name, incarnation)?;
     let mut ranges = Vec::new(alloc);
     ranges.push((replica(alloc)?, 0, 2))?;
@@ -353,7 +365,7 @@ fn rows_fault(
     from: u64,
     to: u64,
     counts: &[u64],
-) -> Result<Option<ToldFault>, Fail> {
+) -> Result<Option<ToldFault>, AllocError> {
     let mut live = Vec::new(alloc);
     for count in counts {
         live.push((any_dot(alloc, 1, *count)?, plain_row(alloc)?))?;
@@ -391,7 +403,7 @@ fn a_dot_has_one_live_row(rt: HostRuntime) -> Result<(), Fail> {
 }
 
 // Of a live row for each count up to this one, all in a range.
-fn many_rows_fault(alloc: Global, rows: u64) -> Result<Option<ToldFault>, Fail> {
+fn many_rows_fault(alloc: Global, rows: u64) -> Result<Option<ToldFault>, AllocError> {
     let mut counts = Vec::new(alloc);
     for below in 0..rows {
         counts.push(below.saturating_add(1))?;
@@ -408,7 +420,7 @@ fn the_most_rows_are_taken_without_extras(rt: HostRuntime) -> Result<(), Fail> {
 }
 
 // What a told value of `b.1` holds: each part may be spoiled, for one refusal after another.
-fn ranges_spoiled(alloc: Global, spoiled: u32) -> Result<Vec<(Replica, u64, u64)>, Fail> {
+fn ranges_spoiled(alloc: Global, spoiled: u32) -> Result<Vec<(Replica, u64, u64)>, AllocError> {
     let mut ranges = Vec::new(alloc);
     ranges.push((replica(alloc)?, 0, 2))?;
     if spoiled >= 4 {
@@ -420,7 +432,7 @@ fn ranges_spoiled(alloc: Global, spoiled: u32) -> Result<Vec<(Replica, u64, u64)
     Ok(ranges)
 }
 
-fn extras_spoiled(alloc: Global, spoiled: u32) -> Result<Vec<Dot>, Fail> {
+fn extras_spoiled(alloc: Global, spoiled: u32) -> Result<Vec<Dot>, AllocError> {
     let count = if spoiled >= 6 { MAX_ROWS } else { 1 };
     let mut dots = extras(alloc, count)?;
     if spoiled >= 3 {
@@ -429,7 +441,7 @@ fn extras_spoiled(alloc: Global, spoiled: u32) -> Result<Vec<Dot>, Fail> {
     Ok(dots)
 }
 
-fn live_spoiled(alloc: Global, spoiled: u32) -> Result<Vec<(Dot, RawRow)>, Fail> {
+fn live_spoiled(alloc: Global, spoiled: u32) -> Result<Vec<(Dot, RawRow)>, AllocError> {
     let mut live = Vec::new(alloc);
     live.push(raw_row(alloc, 1, "u1")?)?;
     if spoiled >= 1 {
@@ -441,7 +453,7 @@ fn live_spoiled(alloc: Global, spoiled: u32) -> Result<Vec<(Dot, RawRow)>, Fail>
     Ok(live)
 }
 
-fn spoiled_fault(alloc: Global, spoiled: u32) -> Result<Option<ToldFault>, Fail> {
+fn spoiled_fault(alloc: Global, spoiled: u32) -> Result<Option<ToldFault>, AllocError> {
     let ranges = ranges_spoiled(alloc, spoiled)?;
     let extras = extras_spoiled(alloc, spoiled)?;
     let live = live_spoiled(alloc, spoiled)?;

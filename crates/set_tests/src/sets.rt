@@ -1,14 +1,14 @@
 ghost use Rattle.std.specs.Prelude.{◌≡◌, ◌≤◌, ◌^◌, true, IfOk};
 ghost use Rattle.orswot_core.specs.Limits.{is_dot, is_row};
 
-use orswot_core::{Orswot, RawRow, RawTold, Told};
+use orswot_core::{Orswot, RawRow, RawTold, ReplicaTest, Told};
 use presence_base::{Dot, Key, Meta, NodeName, Replica, Row, Topic};
 use serde_json::{Map, Value};
 use std::alloc::{AllocError, Global};
 use std::test::Fail;
 
 // The replica `b`, incarnation 1.
-pub(crate) fn replica(alloc: Global) -> Result<Replica, Fail>
+pub(crate) fn replica(alloc: Global) -> Result<Replica, AllocError>
     ensures { IfOk result (λ r. r.incarnation ≡ 1) }
 {
     match NodeName::new(alloc, "b")? {
@@ -16,11 +16,11 @@ pub(crate) fn replica(alloc: Global) -> Result<Replica, Fail>
             name,
             incarnation: 1,
         }),
-        None => Err(Fail::new("no name")),
+        None => Err(AllocError),
     }
 }
 
-fn dot(alloc: Global, count: u64) -> Result<Dot, Fail>
+fn dot(alloc: Global, count: u64) -> Result<Dot, AllocError>
     requires { (1 ≤ count) × (count ≤ 2 ^ 62) }
     ensures { IfOk result (λ d. is_dot d ≡ true) }
 {
@@ -30,7 +30,7 @@ fn dot(alloc: Global, count: u64) -> Result<Dot, Fail>
     })
 }
 
-pub(crate) fn raw_row(alloc: Global, count: u64, key: &str) -> Result<(Dot, RawRow), Fail>
+pub(crate) fn raw_row(alloc: Global, count: u64, key: &str) -> Result<(Dot, RawRow), AllocError>
     requires { (1 ≤ count) × (count ≤ 2 ^ 62) }
 {
     let raw = RawRow {
@@ -43,17 +43,17 @@ pub(crate) fn raw_row(alloc: Global, count: u64, key: &str) -> Result<(Dot, RawR
     Ok((dot(alloc, count)?, raw))
 }
 
-fn row(alloc: Global, key: &str) -> Result<Row, Fail>
+fn row(alloc: Global, key: &str) -> Result<Row, AllocError>
     ensures { IfOk result (λ r. is_row r ≡ true) }
 {
     let Some(topic) = Topic::new(alloc, "room:a")? else {
-        return Err(Fail::new("no topic"));
+        return Err(AllocError);
     };
     let Some(key) = Key::new(alloc, key)? else {
-        return Err(Fail::new("no key"));
+        return Err(AllocError);
     };
     let Some(meta) = Meta::new(alloc, Value::Object(Map::new(alloc)))? else {
-        return Err(Fail::new("no meta"));
+        return Err(AllocError);
     };
     Ok(Row {
         topic,
@@ -72,15 +72,15 @@ pub(crate) fn empty(alloc: Global) -> RawTold {
     }
 }
 
-fn told(alloc: Global, raw: RawTold) -> Result<Told, Fail> {
+fn told(alloc: Global, raw: RawTold) -> Result<Told, AllocError> {
     match Told::check(alloc, raw, 0, 2) {
         Ok(told) => Ok(told),
-        Err(fault) => Err(Fail::new(fault)),
+        Err(_) => Err(AllocError),
     }
 }
 
 // The range up to 2 with the rows `b.1.1` and `b.1.2`.
-fn first_two(alloc: Global) -> Result<Told, Fail> {
+fn first_two(alloc: Global) -> Result<Told, AllocError> {
     let mut raw = empty(alloc);
     raw.ranges.push((replica(alloc)?, 0, 2))?;
     raw.live.push(raw_row(alloc, 1, "u2")?)?;
@@ -89,7 +89,7 @@ fn first_two(alloc: Global) -> Result<Told, Fail> {
 }
 
 // The range up to one count, in which `b.1.1` is live.
-fn first_one(alloc: Global) -> Result<Told, Fail> {
+fn first_one(alloc: Global) -> Result<Told, AllocError> {
     let mut raw = empty(alloc);
     raw.ranges.push((replica(alloc)?, 0, 1))?;
     raw.live.push(raw_row(alloc, 1, "u2")?)?;
@@ -97,7 +97,7 @@ fn first_one(alloc: Global) -> Result<Told, Fail> {
 }
 
 // A range of one count that removed `b.1.1`.
-fn removing(alloc: Global, count: u64) -> Result<Told, Fail>
+fn removing(alloc: Global, count: u64) -> Result<Told, AllocError>
     requires { (1 ≤ count) × (count ≤ 2 ^ 62) }
 {
     let mut raw = empty(alloc);
@@ -158,7 +158,7 @@ fn hears(alloc: Global, first: &Told, second: &Told) -> Result<Orswot, AllocErro
 }
 
 // The set after the second of two deltas alone, which leaves a gap.
-fn with_gap(alloc: Global) -> Result<Orswot, Fail> {
+fn with_gap(alloc: Global) -> Result<Orswot, AllocError> {
     let last = removing(alloc, 3)?;
     let mut set = Orswot::new(alloc);
     set.join(alloc, &last)?;
@@ -166,10 +166,10 @@ fn with_gap(alloc: Global) -> Result<Orswot, Fail> {
 }
 
 // The set after both, the second one first.
-fn after_gap(alloc: Global) -> Result<Orswot, Fail> {
+fn after_gap(alloc: Global) -> Result<Orswot, AllocError> {
     let last = removing(alloc, 3)?;
     let first = first_two(alloc)?;
-    Ok(hears(alloc, &last, &first)?)
+    hears(alloc, &last, &first)
 }
 
 // Whether the range up to 3 is told with the row `b.1.2` and nothing else.
@@ -178,7 +178,7 @@ fn is_filled(alloc: Global, set: &Orswot) -> Result<bool, AllocError> {
 }
 
 // What the set answers of one dot: its replica's top, whether it is covered, and whether it has a row.
-fn asked(alloc: Global, set: &Orswot, count: u64) -> Result<(u64, bool, bool), Fail>
+fn asked(alloc: Global, set: &Orswot, count: u64) -> Result<(u64, bool, bool), AllocError>
     requires { (1 ≤ count) × (count ≤ 2 ^ 62) }
 {
     let at = dot(alloc, count)?;
@@ -210,10 +210,10 @@ fn a_late_gap_fills(rt: HostRuntime) -> Result<(), Fail> {
 }
 
 // Tells the set whole to an empty one, and clones what was told on the way.
-fn retold(alloc: Global, set: &Orswot) -> Result<Orswot, Fail> {
+fn retold(alloc: Global, set: &Orswot) -> Result<Orswot, AllocError> {
     let told = set.told(alloc)?;
     let copy = told.clone()?;
-    Ok(hears(alloc, &copy, &told)?)
+    hears(alloc, &copy, &told)
 }
 
 #[test]
@@ -226,7 +226,7 @@ fn a_set_told_whole_is_the_set(rt: HostRuntime) -> Result<(), Fail> {
 }
 
 // The extras `b.1.4` and `b.1.3`.
-fn cloud_alone(alloc: Global) -> Result<Told, Fail> {
+fn cloud_alone(alloc: Global) -> Result<Told, AllocError> {
     let mut raw = empty(alloc);
     raw.extras.push(dot(alloc, 4)?)?;
     raw.extras.push(dot(alloc, 3)?)?;
@@ -296,7 +296,7 @@ fn a_forgotten_replica_is_not_told(rt: HostRuntime) -> Result<(), Fail> {
 }
 
 // The set with the row `b.1.1` alone.
-fn with_one(alloc: Global) -> Result<Orswot, Fail> {
+fn with_one(alloc: Global) -> Result<Orswot, AllocError> {
     let one = dot(alloc, 1)?;
     let row = row(alloc, "u1")?;
     let mut set = Orswot::new(alloc);
@@ -318,7 +318,7 @@ fn a_removal_covers_its_event(rt: HostRuntime) -> Result<(), Fail> {
     Ok(())
 }
 
-fn add_row(alloc: Global, set: &mut Orswot, count: u64) -> Result<(), Fail>
+fn add_row(alloc: Global, set: &mut Orswot, count: u64) -> Result<(), AllocError>
     requires { (1 ≤ count) × (count ≤ 2 ^ 62) }
 {
     let at = dot(alloc, count)?;
@@ -330,14 +330,14 @@ fn add_row(alloc: Global, set: &mut Orswot, count: u64) -> Result<(), Fail>
 }
 
 // What a set tells of the rows `b.1.1` up to one count.
-fn told_rows(alloc: Global, rows: u64) -> Result<Told, Fail>
+fn told_rows(alloc: Global, rows: u64) -> Result<Told, AllocError>
     requires { rows ≤ 2 ^ 32 }
 {
     let mut set = Orswot::new(alloc);
     for row in 0..rows {
         add_row(alloc, &mut set, row + 1)?;
     }
-    Ok(set.told(alloc)?)
+    set.told(alloc)
 }
 
 #[test]
@@ -347,5 +347,59 @@ fn more_rows_than_may_come_in_are_told(rt: HostRuntime) -> Result<(), Fail> {
     assert_eq!(rt; told.live().len(), 65_537);
     assert!(rt; has_ranges(&told, &[(0, 65_537)]));
     assert!(rt; told.extras().is_empty());
+    Ok(())
+}
+
+// All replicas but one.
+struct OtherThan {
+    own: Replica,
+}
+
+impl ReplicaTest for OtherThan {
+    ghost use Rattle.std.specs.Prelude.{not};
+    ghost use Rattle.presence_base.specs.Order.{same_replica};
+
+    ghost picks = { λ s r. not (same_replica r s.own) };
+
+    fn takes(&self, replica: &Replica) -> bool {
+        !replica.cmp(&self.own).is_eq()
+    }
+}
+
+// What an empty set tells that took in a told value, but not what it tells of one replica of that name.
+fn without(alloc: Global, told: &Told, name: &str) -> Result<(u64, usize), AllocError> {
+    let own = named(alloc, name)?;
+    let mut set = Orswot::new(alloc);
+    set.join_some(alloc, told, &OtherThan { own })?;
+    let rows = set.rows_of(&replica(alloc)?).count();
+    Ok((set.top(&replica(alloc)?), rows))
+}
+
+#[test]
+fn what_is_told_of_a_replica_is_left_out(rt: HostRuntime) -> Result<(), Fail> {
+    let alloc = rt.alloc();
+    let told = first_two(alloc)?;
+    assert!(rt; without(alloc, &told, "b")? == (0, 0));
+    assert!(rt; without(alloc, &told, "c")? == (2, 2));
+    Ok(())
+}
+
+// The set after a planned join, which is made or not.
+fn planned(alloc: Global, told: &Told, made: bool) -> Result<Orswot, AllocError> {
+    match Orswot::new(alloc).plan_join(alloc, told) {
+        Ok(plan) if made => Ok(plan.commit()),
+        Ok(plan) => Ok(plan.undo()),
+        Err(_) => Err(AllocError),
+    }
+}
+
+#[test]
+fn a_planned_join_is_made_or_undone(rt: HostRuntime) -> Result<(), Fail> {
+    let alloc = rt.alloc();
+    let told = first_two(alloc)?;
+    let joined = planned(alloc, &told, true)?;
+    assert!(rt; tells(alloc, &joined, &[(0, 2)], &[], &[1, 2])?);
+    let undone = planned(alloc, &told, false)?;
+    assert!(rt; tells(alloc, &undone, &[], &[], &[])?);
     Ok(())
 }
