@@ -3,26 +3,26 @@ use Rattle.std.proofs.Common.{◌≡◌, ◌+◌, ◌++◌, ℕ, List, [], ◌�
 use Rattle.std.specs.List.{slice_get}
 use Rattle.std.proofs.lemmas.Option.{slice_get_within, get_or_from_slice_get}
 use Rattle.presence_journal.proofs.Walking.{drop_next}
-use Rattle.presence_journal.specs.declared.rows.Item.{Item}
+use Rattle.presence_journal_data.specs.declared.rows.Item.{Item}
 use Rattle.tracker_shard.specs.declared.fault.ShardFault.{ShardFault}
-use Rattle.channel_session.specs.Asks.{Ask, Answer, waits, take}
-use Rattle.channel_session.specs.Delivery.{frame, then_frames, then_take, delivers}
-use Rattle.channel_session.specs.InForce.{Entry, InForce}
-use Rattle.channel_session.specs.Outcome.{Follows, Gives, MayWant, spoilt}
-use Rattle.channel_session.specs.Rules.{End, unsaid}
-use Rattle.channel_session.specs.declared.fault.Stop.{Stop}
-use Rattle.channel_session.specs.declared.fault.StopKind.TheVariants.{OutOfMemory}
-use Rattle.channel_session.proofs.Once.{unasked, once, more, more_clean}
+use Rattle.channel_session_rules.specs.Asks.{Ask, Answer, waits, take}
+use Rattle.channel_session_rules.specs.Delivering.{frame, then_frames, then_take, delivers}
+use Rattle.channel_session_rules.specs.InForce.{Joined, InForce}
+use Rattle.channel_session_rules.specs.Outcome.{Follows, Gives, MayWant, spoilt}
+use Rattle.channel_session_rules.specs.Rules.{End, unsaid}
+use Rattle.channel_session_rules.specs.declared.stop.Stop.{Stop}
+use Rattle.channel_session_rules.specs.declared.stop.StopKind.TheVariants.{OutOfMemory}
+use Rattle.channel_session_rules.proofs.Once.{unasked, once, more, more_clean}
 
 -- the topics from a place on, where one stands there
-pub here : (js : List Entry) (i : ℕ) (j : Entry) → Some j ≡ slice_get js i → drop i js ≡ j ∷ drop (i + 1) js
+pub here : (js : List Joined) (i : ℕ) (j : Joined) → Some j ≡ slice_get js i → drop i js ≡ j ∷ drop (i + 1) js
 here js i j at = drop_next js i j (slice_get_within js i j (sym at)) (sym (get_or_from_slice_get js i j j (sym at)))
 
-may_want : (max : ℕ) (s : InForce) (js : List Entry) (before : List (List ℕ)) → MayWant (delivers max s js before)
+may_want : (max : ℕ) (s : InForce) (js : List Joined) (before : List (List ℕ)) → MayWant (delivers max s js before)
 may_want max s [] before = tt
 may_want max s (j ∷ js) before = tt
 
-module _ {P : Type 0} (step : P → (q : Ask) → Answer q → P → Type 0) (max : ℕ) (s : InForce) (j : Entry) (js all : List Entry) (all_is : all ≡ j ∷ js) (before : List (List ℕ)) where
+module _ {P : Type 0} (step : P → (q : Ask) → Answer q → P → Type 0) (max : ℕ) (s : InForce) (j : Joined) (js all : List Joined) (all_is : all ≡ j ∷ js) (before : List (List ℕ)) where
   pub waits_refused : (e : ShardFault) (stop : Stop) (old new : P) → step old (waits j.topic j.sub) (Err e) new → Gives (unsaid e) false (Err stop)
       → Follows step (delivers max s all before) old new (Err stop)
   waits_refused e stop old new h g = rw all_is (once step (waits j.topic j.sub) (then_take max j before (delivers max s js)) (Err e) (unsaid e) old new (Err stop) h refl refl g)

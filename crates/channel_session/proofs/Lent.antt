@@ -3,19 +3,19 @@ use Rattle.std.proofs.Common.{◌≡◌, ℕ, List, Bool, true, false, Result, O
 use Rattle.phx_message.specs.declared.message.Message.{Message}
 use Rattle.phx_message.specs.declared.message.MessageFault.{MessageFault}
 use Rattle.presence_journal.specs.History.{History}
-use Rattle.channel_session.specs.Asks.{Ask, Answer}
+use Rattle.channel_session_rules.specs.Asks.{Ask, Answer}
 use Rattle.channel_session.specs.Delivery.{Delivered, CutShort, delivery}
-use Rattle.channel_session.specs.InForce.{InForce}
-use Rattle.channel_session.specs.Local.{LocalStep, played}
-use Rattle.channel_session.specs.Outcome.{Follows}
+use Rattle.channel_session_rules.specs.InForce.{InForce}
+use Rattle.channel_session_laws.specs.Local.{LocalStep, played}
+use Rattle.channel_session_rules.specs.Outcome.{Follows}
 use Rattle.channel_session.specs.Ran.{EndedSo, ReadAs, MessageRan, Faulted, Untouched, fault_of}
-use Rattle.channel_session.specs.Rules.{End, answers, full, rules}
+use Rattle.channel_session_rules.specs.Rules.{End, answers, full, rules}
 use Rattle.channel_session.specs.declared.fault.SessionFault.{SessionFault}
 use Rattle.channel_session.specs.declared.fault.SessionFault.TheVariants.{BadMessage, OutOfMemory, ShardFull, Failed}
-use Rattle.channel_session.specs.declared.fault.Stop.{Stop}
-use Rattle.channel_session.specs.declared.fault.StopKind.{StopKind}
-use Rattle.channel_session.specs.declared.fault.StopKind.TheVariants as kinds_are
-use Rattle.channel_session.proofs.Played.{ComesTo, follows_local, follows_keeps, rules_played, delivery_played}
+use Rattle.channel_session_rules.specs.declared.stop.Stop.{Stop}
+use Rattle.channel_session_rules.specs.declared.stop.StopKind.{StopKind}
+use Rattle.channel_session_rules.specs.declared.stop.StopKind.TheVariants as kinds_are
+use Rattle.channel_session_laws.proofs.Played.{ComesTo, follows_local, follows_keeps, rules_played, delivery_played}
 
 -- ---- a port that holds a shard
 

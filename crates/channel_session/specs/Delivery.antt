@@ -1,41 +1,18 @@
--- A delivery: each topic in force is asked whether something waits, in order of joining, and where it does there is one take.
-use Rattle.std.specs.Prelude.{◌≡◌, ◌++◌, ℕ, List, [], ◌∷◌, map, Bool, true, false, if◌then◌else◌, Result, Ok, Err}
-use Rattle.presence_journal.specs.declared.rows.Item.{Item}
-use Rattle.tracker_shard.specs.declared.fault.ShardFault.{ShardFault}
-use Rattle.channel_session.specs.Asks.{Ask, Answer, waits, take}
-use Rattle.channel_session.specs.Frames.{frame_of}
-use Rattle.channel_session.specs.InForce.{Entry, InForce}
-use Rattle.channel_session.specs.Outcome.{Follows}
+-- What a delivery did: the calls, the texts, and what is left after a fault.
+use Rattle.std.specs.Prelude.{◌≡◌, ℕ, List, true, if◌then◌else◌, Result, Ok, Err}
+use Rattle.channel_session_rules.specs.Asks.{Ask, Answer}
+use Rattle.channel_session_rules.specs.Outcome.{Follows}
+use Rattle.channel_session_rules.specs.Rules.{End, answers}
+use Rattle.channel_session_rules.specs.Script.{Script}
+use Rattle.channel_session_rules.specs.declared.stop.Stop.{Stop}
 use Rattle.channel_session.specs.Ran.{fault_of}
-use Rattle.channel_session.specs.Rules.{End, answers, unsaid}
-use Rattle.channel_session.specs.Script.{Script, done, ask}
 use Rattle.channel_session.specs.declared.fault.SessionFault.{SessionFault}
-use Rattle.channel_session.specs.declared.fault.Stop.{Stop}
+pub use Rattle.channel_session_rules.specs.InForce.{InForce}
+pub use Rattle.channel_session_rules.specs.Delivering.{frame, then_frames, then_take, delivers, delivery}
 
--- an item as the text that tells it to a join
-abbrev pub frame : Entry → Item → List ℕ
-frame j item = frame_of j.join_ref j.topic item
-
-abbrev pub then_frames : Entry → List (List ℕ) → (List (List ℕ) → Script End) → Result (List Item) ShardFault → Script End
-then_frames j before next (Ok items) = next (before ++ map (frame j) items)
-then_frames j before next (Err e) = done (unsaid e)
-
-abbrev pub then_take : ℕ → Entry → List (List ℕ) → (List (List ℕ) → Script End) → Result Bool ShardFault → Script End
-then_take max j before next (Ok true) = ask (take j.topic j.sub max) (then_frames j before next)
-then_take max j before next (Ok false) = next before
-then_take max j before next (Err e) = done (unsaid e)
-
--- the deliveries of these topics, after the texts before them
-abbrev pub delivers : ℕ → InForce → List Entry → List (List ℕ) → Script End
-delivers max s [] before = done (answers before s)
-delivers max s (j ∷ js) before = ask (waits j.topic j.sub) (then_take max j before (delivers max s js))
-
--- one delivery of a session
-abbrev pub delivery : ℕ → InForce → Script End
-delivery max s = delivers max s s.joined []
-
+-- the session, which has failed
 abbrev pub failing : InForce → InForce
-failing s = record { pid = s.pid; failed = true; joined = s.joined; half = s.half }
+failing s = record { pid = s.pid; failed = true; joined = s.joined; cut_short = s.cut_short }
 
 -- A fault: the calls up to it, and a session that has failed where one of them left something behind, and else is as before.
 pub record CutShort {P : Type 0} (step : P → (q : Ask) → Answer q → P → Type 0) (script : Script End) (s : InForce) (old new : P) (after : InForce) (fault : SessionFault) : Type 0 where

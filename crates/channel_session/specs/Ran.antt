@@ -1,24 +1,25 @@
 -- What a text did: the calls, the texts, and what is left after a fault.
-use Rattle.std.specs.Prelude.{◌≡◌, ◌⊎◌, ℕ, List, true, false, Option, None, Some, Result, Ok, Err, if◌then◌else◌}
+use Rattle.std.specs.Prelude.{◌≡◌, ◌⊎◌, ℕ, List, map, true, false, Option, None, Some, Result, Ok, Err, if◌then◌else◌, String, string_bytes, Vec}
+use Rattle.std.specs.Global.{Global}
 use Rattle.phx_message.specs.declared.message.Message.{Message}
 use Rattle.phx_message.specs.declared.message.MessageFault.{MessageFault}
-use Rattle.channel_session.specs.Asks.{Ask, Answer}
-use Rattle.channel_session.specs.Script.{Script}
-use Rattle.channel_session.specs.Rules.{InForce, Entry, End, answers, find, rules}
-use Rattle.channel_session.specs.Outcome.{Follows}
-use Rattle.channel_session.specs.declared.fault.Stop.{Stop}
-use Rattle.channel_session.specs.declared.fault.StopKind.{StopKind}
-use Rattle.channel_session.specs.declared.fault.StopKind.TheVariants as kinds
+use Rattle.channel_session_rules.specs.Asks.{Ask, Answer}
+use Rattle.channel_session_rules.specs.Script.{Script}
+use Rattle.channel_session_rules.specs.Rules.{InForce, Joined, End, answers, find, rules}
+use Rattle.channel_session_rules.specs.Outcome.{Follows}
+use Rattle.channel_session_rules.specs.declared.stop.Stop.{Stop}
+use Rattle.channel_session_rules.specs.declared.stop.StopKind.{StopKind}
+use Rattle.channel_session_rules.specs.declared.stop.StopKind.TheVariants as kinds
 use Rattle.channel_session.specs.declared.fault.SessionFault.{SessionFault}
 use Rattle.channel_session.specs.declared.fault.SessionFault.TheVariants.{BadMessage, OutOfMemory, ShardFull, Failed}
 
 -- a topic that is not in force is named as cut short
-abbrev pub cut_short : Option Entry → Option (List ℕ) → List ℕ → Option (List ℕ)
-cut_short (Some j) half t = half
-cut_short None half t = Some t
+abbrev pub left_named : Option Joined → Option (List ℕ) → List ℕ → Option (List ℕ)
+left_named (Some j) cut_short t = cut_short
+left_named None cut_short t = Some t
 
 abbrev pub failed_at : InForce → List ℕ → InForce
-failed_at s t = record { pid = s.pid; failed = true; joined = s.joined; half = cut_short (find t s.joined) s.half t }
+failed_at s t = record { pid = s.pid; failed = true; joined = s.joined; cut_short = left_named (find t s.joined) s.cut_short t }
 
 abbrev pub fault_of : StopKind → SessionFault
 fault_of kinds.OutOfMemory = OutOfMemory
@@ -55,7 +56,11 @@ EndedSo step routes s reading old new after (Err ShardFull) = (s.failed ≡ fals
 EndedSo step routes s reading old new after (Err OutOfMemory) = (s.failed ≡ false) × (Untouched s old new after ⊎ ReadAs step routes s reading old new after (Err OutOfMemory))
 EndedSo step routes s reading old new after (Ok texts) = (s.failed ≡ false) × ReadAs step routes s reading old new after (Ok texts)
 
--- the texts by their bytes
+-- texts by their bytes
+abbrev pub texts_in : Vec (String Global) Global → List (List ℕ)
+texts_in texts = map string_bytes texts.items
+
+-- the texts that were given
 abbrev pub texts_given : {T : Type 0} → (T → List (List ℕ)) → Result T SessionFault → Result (List (List ℕ)) SessionFault
 texts_given view (Ok texts) = Ok (view texts)
 texts_given view (Err fault) = Err fault

@@ -1,29 +1,25 @@
 ghost use Rattle.std.specs.Prelude.{◌≡◌, ◌≤◌, ◌^◌, ◌-◌, length, None, Some, IsTrue, IfOk, OnErr, option_map};
 ghost use Rattle.presence_journal.specs.Limits.{is_payload};
-ghost use Rattle.channel_session.specs.Asked.{asked as asked_of};
-ghost use Rattle.channel_session.specs.InForce.{entry_of};
-ghost use Rattle.channel_session.specs.Outcome.{Follows, seen};
-ghost use Rattle.channel_session.specs.Replies.{reply_end};
-ghost use Rattle.channel_session.specs.Rules.{find, on_leave, on_join, by_kind, rules};
+ghost use Rattle.channel_session_rules.specs.InForce.{joined_of};
+ghost use Rattle.channel_session_rules.specs.Replies.{Acts};
+ghost use Rattle.channel_session_rules.specs.Rules.{find, join_at, join_rule, leave_rule, topic_rule, kind_rule, rules};
 
-use crate::dispatch::{heartbeat, topic_message, unmatched};
-use crate::fault::Stop;
-use crate::joins::{join, join_ref_for, leave, leave_nothing, rejoin};
-use crate::kind::{EventKind, is_phoenix, kind_of};
-use crate::port::Port;
-use crate::replies::Reply;
 use crate::session::Session;
-use crate::topics::Seat;
+use channel_session_events::{
+    heartbeat, join, join_ref_for, leave, leave_nothing, rejoin, topic_event, unmatched,
+};
+use channel_session_rules::{EventKind, Place, Port, Reply, Stop, TopicEvent, is_phoenix, kind_of};
 use hook_registry::Routes;
 use phx_message::Message;
 use std::alloc::{AllocError, Global};
 
 // The present join of the message's topic.
-fn seat_of(session: &Session, message: &Message) -> Result<Option<Seat>, AllocError>
-    ensures { IfOk result (λ o. option_map (λ s. entry_of (message.now.topic, s)) o ≡ find message.now.topic session.now.joined) }
+fn place_of(session: &Session, message: &Message) -> Result<Option<Place>, AllocError>
+    ensures { IfOk result (λ o.
+        option_map (λ s. joined_of (message.now.topic, s)) o ≡ join_at session.now message.now) }
 {
     match session.topics.find(&message.topic) {
-        Some(seat) => Ok(Some(seat.clone()?)),
+        Some(place) => Ok(Some(place.clone()?)),
         None => Ok(None),
     }
 }
@@ -37,7 +33,7 @@ fn run_join<P: Port>(
     message: &Message,
 ) -> Result<Reply, Stop>
     requires absent { find message.now.topic session.old.joined ≡ None }
-    ensures ran { Follows P.step (on_join session.old.pid (length session.old.joined) session.old None message.now (asked_of message.now.payload)) port.old port.new (seen (reply_end session.new) result) }
+    ensures ran { Acts P.step (join_rule session.old None message.now) port.old port.new session.new result }
     ensures err { OnErr result (session.new ≡ session.old) }
     ensures failed { session.new.failed ≡ session.old.failed }
 {
@@ -54,15 +50,17 @@ fn run_join<P: Port>(
     }
 }
 
-// A join of a topic that is joined. Its seat is left, and then the new one is taken.
+// A join of a topic that is joined. Its place is left, and then the new one is taken.
 fn run_rejoin<P: Port>(
     alloc: Global,
     session: &mut Session,
     port: &mut P,
     message: &Message,
-    seat: &Seat,
+    place: &Place,
 ) -> Result<Reply, Stop>
-    ensures ran { Follows P.step (on_join session.old.pid (length session.old.joined) session.old (Some (entry_of (message.now.topic, seat.now))) message.now (asked_of message.now.payload)) port.old port.new (seen (reply_end session.new) result) }
+    ensures ran { Acts P.step
+        (join_rule session.old (Some (joined_of (message.now.topic, place.now))) message.now)
+        port.old port.new session.new result }
     ensures err { OnErr result (session.new ≡ session.old) }
     ensures failed { session.new.failed ≡ session.old.failed }
 {
@@ -70,7 +68,7 @@ fn run_rejoin<P: Port>(
     let topic = message.topic.clone()?;
     let join_ref = join_ref_for(message).clone()?;
     let others = session.topics.len().saturating_sub(1);
-    match rejoin(alloc, session.pid, others, seat, port, message) {
+    match rejoin(alloc, session.pid, others, place, port, message) {
         Ok(reply) => {
             session.topics.leave(&message.topic);
             session.topics.enter(topic, join_ref, reply.join.sub);
@@ -87,12 +85,14 @@ fn run_any_join<P: Port>(
     port: &mut P,
     message: &Message,
 ) -> Result<Reply, Stop>
-    ensures ran { Follows P.step (on_join session.old.pid (length session.old.joined) session.old (find message.now.topic session.old.joined) message.now (asked_of message.now.payload)) port.old port.new (seen (reply_end session.new) result) }
+    ensures ran { Acts P.step
+        (join_rule session.old (join_at session.old message.now) message.now)
+        port.old port.new session.new result }
     ensures err { OnErr result (session.new ≡ session.old) }
     ensures failed { session.new.failed ≡ session.old.failed }
 {
-    match seat_of(session, message)? {
-        Some(seat) => run_rejoin(alloc, session, port, message, &seat),
+    match place_of(session, message)? {
+        Some(place) => run_rejoin(alloc, session, port, message, &place),
         None => run_join(alloc, session, port, message),
     }
 }
@@ -103,13 +103,15 @@ fn run_leave<P: Port>(
     session: &mut Session,
     port: &mut P,
     message: &Message,
-    seat: &Seat,
+    place: &Place,
 ) -> Result<Reply, Stop>
-    ensures ran { Follows P.step (on_leave session.old.pid session.old (Some (entry_of (message.now.topic, seat.now))) message.now) port.old port.new (seen (reply_end session.new) result) }
+    ensures ran { Acts P.step
+        (leave_rule session.old (Some (joined_of (message.now.topic, place.now))) message.now)
+        port.old port.new session.new result }
     ensures err { OnErr result (session.new ≡ session.old) }
     ensures failed { session.new.failed ≡ session.old.failed }
 {
-    match leave(alloc, session.pid, seat, port, message) {
+    match leave(alloc, session.pid, place, port, message) {
         Ok(reply) => {
             session.topics.leave(&message.topic);
             Ok(reply)
@@ -125,13 +127,32 @@ fn run_any_leave<P: Port>(
     port: &mut P,
     message: &Message,
 ) -> Result<Reply, Stop>
-    ensures ran { Follows P.step (on_leave session.old.pid session.old (find message.now.topic session.old.joined) message.now) port.old port.new (seen (reply_end session.new) result) }
+    ensures ran { Acts P.step
+        (leave_rule session.old (join_at session.old message.now) message.now)
+        port.old port.new session.new result }
     ensures err { OnErr result (session.new ≡ session.old) }
     ensures failed { session.new.failed ≡ session.old.failed }
 {
-    match seat_of(session, message)? {
-        Some(seat) => run_leave(alloc, session, port, message, &seat),
+    match place_of(session, message)? {
+        Some(place) => run_leave(alloc, session, port, message, &place),
         None => leave_nothing(alloc, message),
+    }
+}
+
+// A message to a topic, joined or not, that is no join and no leave.
+fn topic_message<P: Port>(
+    alloc: Global,
+    session: &Session,
+    port: &mut P,
+    message: &Message,
+    event: TopicEvent,
+) -> Result<Reply, Stop>
+    requires { IsTrue (is_payload message.now.payload) }
+    ensures { Acts P.step (topic_rule session.now message.now event) port.old port.new session.now result }
+{
+    match session.topics.find(&message.topic) {
+        Some(place) => topic_event(alloc, session.pid, &place.join_ref, port, message, event),
+        None => unmatched(alloc, message),
     }
 }
 
@@ -146,7 +167,9 @@ fn act_on<P: Port>(
     kind: EventKind,
 ) -> Result<Reply, Stop>
     requires { IsTrue (is_payload message.now.payload) }
-    ensures ran { Follows P.step (by_kind phoenix routed session.old.pid (length session.old.joined) session.old (find message.now.topic session.old.joined) message.now kind) port.old port.new (seen (reply_end session.new) result) }
+    ensures ran { Acts P.step
+        (kind_rule phoenix routed session.old message.now kind)
+        port.old port.new session.new result }
     ensures err { OnErr result (session.new ≡ session.old) }
     ensures failed { session.new.failed ≡ session.old.failed }
 {
@@ -155,7 +178,7 @@ fn act_on<P: Port>(
             if phoenix {
                 heartbeat(alloc, message)
             } else {
-                topic_message(alloc, session, port, message, kind)
+                topic_message(alloc, session, port, message, TopicEvent::Unknown)
             }
         }
         EventKind::Join => {
@@ -166,19 +189,12 @@ fn act_on<P: Port>(
             }
         }
         EventKind::Leave => run_any_leave(alloc, session, port, message),
-        EventKind::Ping => topic_message(alloc, session, port, message, kind),
-        EventKind::Shout => topic_message(alloc, session, port, message, kind),
-        EventKind::Track => topic_message(alloc, session, port, message, kind),
-        EventKind::Update => topic_message(alloc, session, port, message, kind),
-        EventKind::Untrack => topic_message(alloc, session, port, message, kind),
-        EventKind::List => topic_message(alloc, session, port, message, kind),
-        EventKind::Get => topic_message(alloc, session, port, message, kind),
-        EventKind::Unknown => topic_message(alloc, session, port, message, kind),
+        EventKind::Topic(event) => topic_message(alloc, session, port, message, event),
     }
 }
 
 /// Answers a message by the rules. After an `Err` the session is as before.
-#[tactic(auto, unfolding(crate::specs::Rules::rules))]
+#[tactic(auto, unfolding(channel_session_rules::specs::Rules::rules))]
 pub(crate) fn act<P: Port>(
     alloc: Global,
     session: &mut Session,
@@ -187,7 +203,7 @@ pub(crate) fn act<P: Port>(
     message: &Message,
 ) -> Result<Reply, Stop>
     requires { IsTrue (is_payload message.now.payload) }
-    ensures ran { Follows P.step (rules routes.now session.old message.now) port.old port.new (seen (reply_end session.new) result) }
+    ensures ran { Acts P.step (rules routes.now session.old message.now) port.old port.new session.new result }
     ensures err { OnErr result (session.new ≡ session.old) }
     ensures failed { session.new.failed ≡ session.old.failed }
 {

@@ -1,18 +1,15 @@
 ghost use Rattle.std.specs.Prelude.{◌≡◌, ◌++◌, [], ℕ, List, map, drop, true, false, string_bytes, if◌then◌else◌, IsTrue, IfOk, Err};
 ghost use Rattle.presence_journal.specs.Limits.{is_take_limit};
 ghost use Rattle.channel_session.specs.Delivery.{delivers, Delivered, failing};
-ghost use Rattle.channel_session.specs.Ran.{fault_of, texts_given};
-ghost use Rattle.channel_session.specs.InForce.{InForce, entries_of};
-ghost use Rattle.channel_session.specs.Outcome.{Follows, seen};
-ghost use Rattle.channel_session.specs.Rules.{answers};
+ghost use Rattle.channel_session.specs.Ran.{fault_of, texts_given, texts_in};
+ghost use Rattle.channel_session_rules.specs.InForce.{InForce, joined_in};
+ghost use Rattle.channel_session_rules.specs.Outcome.{Follows, seen};
+ghost use Rattle.channel_session_rules.specs.Rules.{answers};
 
-use crate::fault::{SessionFault, Stop, spoiling};
-use crate::frames::add_frames;
-use crate::port::Port;
-use crate::reasons::stop_of;
+use crate::fault::{SessionFault, fault_of_stop};
 use crate::session::Session;
-use crate::spoil::spoil;
-use crate::topics::Topics;
+use channel_session_events::add_frames;
+use channel_session_rules::{Port, Stop, Topics, spoil, spoiling, stop_of};
 use std::alloc::Global;
 
 /// What a delivery gives.
@@ -34,20 +31,22 @@ fn deliver_from<P: Port>(
     texts: Vec<String>,
 ) -> Result<Vec<String>, Stop>
     requires { IsTrue (is_take_limit max) }
-    ensures { (s : InForce) → Follows P.step (delivers max s (drop index (entries_of topics.now)) (map string_bytes texts.items)) port.old port.new (seen (λ out. answers (map string_bytes out.items) s) result) }
+    ensures { (s : InForce) → Follows P.step
+        (delivers max s (drop index (joined_in topics.now)) (texts_in texts))
+        port.old port.new (seen (λ out. answers (texts_in out) s) result) }
 {
     if index >= topics.len() {
         return Ok(texts);
     }
-    let Some((topic, seat)) = topics.at(index) else {
+    let Some((topic, place)) = topics.at(index) else {
         return Ok(texts);
     };
-    match port.waits(topic, &seat.sub) {
+    match port.waits(topic, &place.sub) {
         Err(fault) => Err(stop_of(fault, false)),
         Ok(false) => deliver_from(alloc, topics, index + 1, port, max, texts),
-        Ok(true) => match port.take(alloc, topic, &seat.sub, max) {
+        Ok(true) => match port.take(alloc, topic, &place.sub, max) {
             Err(fault) => Err(stop_of(fault, false)),
-            Ok(items) => match spoiling(add_frames(alloc, &seat.join_ref, topic, &items, texts)) {
+            Ok(items) => match spoiling(add_frames(alloc, &place.join_ref, topic, &items, texts)) {
                 Err(stop) => Err(stop),
                 Ok(texts) => {
                     let rest = deliver_from(alloc, topics, index + 1, port, max, texts);
@@ -66,7 +65,7 @@ fn leave_behind(session: &mut Session, stop: &Stop) -> SessionFault
     if stop.spoiled {
         session.failed = true;
     }
-    stop.fault()
+    fault_of_stop(stop)
 }
 
 // The texts of a delivery.
@@ -77,7 +76,7 @@ fn deliver_texts<P: Port>(
     max: u32,
 ) -> Result<Vec<String>, SessionFault>
     requires { IsTrue (is_take_limit max) }
-    ensures { Delivered P.step max session.old port.old port.new session.new (texts_given (λ v. map string_bytes v.items) result) }
+    ensures { Delivered P.step max session.old port.old port.new session.new (texts_given texts_in result) }
 {
     match deliver_from(alloc, &session.topics, 0, port, max, Vec::new(alloc)) {
         Ok(texts) => Ok(texts),
@@ -97,8 +96,10 @@ pub fn deliver<P: Port>(
     max: u32,
 ) -> Result<Delivery, SessionFault>
     requires { IsTrue (is_take_limit max) }
-    ensures failed { session.old.failed ≡ true → (result ≡ Err SessionFault.Failed) × (session.new ≡ session.old) × (port.new ≡ port.old) }
-    ensures delivered { session.old.failed ≡ false → Delivered P.step max session.old port.old port.new session.new (texts_given (λ d. map string_bytes d.texts.items) result) }
+    ensures failed { session.old.failed ≡ true
+        → (result ≡ Err SessionFault.Failed) × (session.new ≡ session.old) × (port.new ≡ port.old) }
+    ensures delivered { session.old.failed ≡ false → Delivered P.step max session.old
+        port.old port.new session.new (texts_given (λ d. texts_in d.texts) result) }
     ensures notices { IfOk result (λ d. d.notices.items ≡ []) }
 {
     if session.failed {

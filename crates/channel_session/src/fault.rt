@@ -1,8 +1,8 @@
-ghost use Rattle.std.specs.Prelude.{◌≡◌, true, IfOk, IfErr, Ok};
-ghost use Rattle.channel_session.specs.declared.fault.StopKind.TheVariants.{OutOfMemory};
+ghost use Rattle.std.specs.Prelude.{◌≡◌};
+ghost use Rattle.channel_session.specs.Ran.{fault_of};
 
+use channel_session_rules::{Stop, StopKind};
 use phx_message::MessageFault;
-use std::alloc::AllocError;
 use thiserror::Error;
 
 /// Why a session answers nothing.
@@ -24,58 +24,12 @@ pub enum SessionFault {
     Failed,
 }
 
-#[derive(Clone, Copy, Debug, PartialEq, Eq)]
-pub(crate) enum StopKind {
-    OutOfMemory,
-    ShardFull,
-}
-
-/// Why a rule was left, and whether a call was made that leaves something behind.
-#[derive(Clone, Copy, Debug, PartialEq, Eq)]
-pub(crate) struct Stop {
-    pub kind: StopKind,
-    pub spoiled: bool,
-}
-
-impl Stop {
-    ghost use Rattle.std.specs.Prelude.{◌≡◌};
-    ghost use Rattle.channel_session.specs.Ran.{fault_of};
-
-    /// What a session answers where a rule was left so.
-    pub fn fault(&self) -> SessionFault
-        ensures { result ≡ fault_of self.now.kind }
-    {
-        match self.kind {
-            StopKind::OutOfMemory => SessionFault::OutOfMemory,
-            StopKind::ShardFull => SessionFault::ShardFull,
-        }
-    }
-}
-
-impl From<AllocError> for Stop {
-    ghost use Rattle.std.specs.Prelude.{◌≡◌, false};
-    ghost use Rattle.channel_session.specs.declared.fault.StopKind.TheVariants.{OutOfMemory};
-
-    ghost from_gives = { λ _ s. (s.kind ≡ OutOfMemory) × (s.spoiled ≡ false) };
-
-    fn from(_: AllocError) -> Self {
-        Stop {
-            kind: StopKind::OutOfMemory,
-            spoiled: false,
-        }
-    }
-}
-
-/// What was made after a call that leaves something behind.
-pub(crate) fn spoiling<T: Drop>(made: Result<T, AllocError>) -> Result<T, Stop>
-    ensures ok { IfOk result (λ x. made ≡ Ok x) }
-    ensures err { IfErr result (λ s. (s.kind ≡ OutOfMemory) × (s.spoiled ≡ true)) }
+/// What a session answers where a rule was left so.
+pub(crate) fn fault_of_stop(stop: &Stop) -> SessionFault
+    ensures { result ≡ fault_of stop.now.kind }
 {
-    match made {
-        Ok(x) => Ok(x),
-        Err(_) => Err(Stop {
-            kind: StopKind::OutOfMemory,
-            spoiled: true,
-        }),
+    match stop.kind {
+        StopKind::OutOfMemory => SessionFault::OutOfMemory,
+        StopKind::ShardFull => SessionFault::ShardFull,
     }
 }

@@ -1,6 +1,6 @@
 //! The topics that a session names, handed out without memory.
 
-use crate::topics::Seat;
+use channel_session_rules::Place;
 use indexmap::map::Keys;
 use presence_base::Topic;
 use std::iter::Iterator;
@@ -9,8 +9,8 @@ use std::marker::Model;
 /// The topics in force, in order of joining, and then the one whose join a fault cut short.
 #[derive(Drop)]
 pub struct JoinedTopics<'a> {
-    pub(crate) topics: Keys<'a, Topic, Seat>,
-    pub(crate) half: Option<&'a Topic>,
+    pub(crate) topics: Keys<'a, Topic, Place>,
+    pub(crate) cut_short: Option<&'a Topic>,
 }
 
 impl<'a> Model for JoinedTopics<'a> {
@@ -19,7 +19,7 @@ impl<'a> Model for JoinedTopics<'a> {
 
     ghost Value = { List (List ℕ) };
 
-    ghost view = { λ a. a.topics ++ option_to_list (option_copied a.half) };
+    ghost view = { λ a. a.topics ++ option_to_list (option_copied a.cut_short) };
 }
 
 impl<'a> Iterator for JoinedTopics<'a> {
@@ -36,7 +36,7 @@ impl<'a> Iterator for JoinedTopics<'a> {
     fn next(&mut self) -> Option<&'a Topic> {
         match self.topics.next() {
             Some(topic) => Some(topic),
-            None => self.half.take(),
+            None => self.cut_short.take(),
         }
     }
 }

@@ -1,33 +1,24 @@
 //! One client's session over the topics that it joins, answered by the rules of the built-in channel.
+//!
+//! It stands on three crates of its own: `channel_session_rules` (the rules, the port's questions),
+//! `channel_session_events` (their functions over any port) and `channel_session_laws` (a lent shard
+//! and the laws over it). What its contracts cite: `specs/Rules` the rules, `specs/Ran` what a text
+//! does, `specs/Delivery` a delivery, `specs/Ending` the end.
 #![tactic(auto)]
 
 mod acting;
-mod asked;
 mod delivering;
-mod dispatch;
 mod ending;
-mod events;
 mod fault;
-mod frames;
 mod joined;
-mod joins;
-mod kind;
-pub mod laws;
-mod local;
-mod port;
-mod reasons;
-mod replies;
 mod run;
 mod session;
-mod spoil;
-mod topics;
 
+pub use channel_session_laws::{LocalPort, laws};
+pub use channel_session_rules::{MAX_TOPICS, Port};
 pub use delivering::{Delivery, deliver};
 pub use ending::end;
 pub use fault::SessionFault;
 pub use joined::JoinedTopics;
-pub use joins::MAX_TOPICS;
-pub use local::LocalPort;
-pub use port::Port;
 pub use run::run_text;
 pub use session::Session;

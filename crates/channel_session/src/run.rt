@@ -1,14 +1,13 @@
 ghost use Rattle.std.specs.Prelude.{◌≡◌, [], ◌≤◌, ◌+◌, map, string_bytes, vec_capacity, IsTrue, if◌then◌else◌};
 ghost use Rattle.presence_journal.specs.Limits.{is_payload};
 ghost use Rattle.phx_message.specs.Reading.{decoded};
-ghost use Rattle.channel_session.specs.Replies.{texts_of};
-ghost use Rattle.channel_session.specs.Ran.{MessageRan, EndedSo, texts_given, failed_at, fault_of};
+ghost use Rattle.channel_session_rules.specs.Replies.{texts_of};
+ghost use Rattle.channel_session.specs.Ran.{MessageRan, EndedSo, texts_given, failed_at, fault_of, texts_in};
 
 use crate::acting::act;
-use crate::fault::{SessionFault, Stop};
-use crate::port::Port;
-use crate::replies::Reply;
+use crate::fault::{SessionFault, fault_of_stop};
 use crate::session::Session;
+use channel_session_rules::{Port, Reply, Stop};
 use hook_registry::Routes;
 use phx_message::{Limits, Message, MessageFault, decode};
 use presence_base::Topic;
@@ -18,7 +17,7 @@ use std::alloc::Global;
 fn list_texts(mut texts: Vec<String>, reply: Reply) -> Vec<String>
     requires empty { texts.items ≡ [] }
     requires room { 2 ≤ vec_capacity texts }
-    ensures { map string_bytes result.items ≡ texts_of reply }
+    ensures { texts_in result ≡ texts_of reply }
 {
     match reply {
         Reply::Nothing => texts,
@@ -41,7 +40,7 @@ fn fail(session: &mut Session, topic: Topic)
     let known = session.topics.find(&topic).is_some();
     session.failed = true;
     if !known {
-        session.half = Some(topic);
+        session.cut_short = Some(topic);
     }
 }
 
@@ -53,7 +52,7 @@ fn leave_behind(session: &mut Session, topic: Topic, stop: &Stop) -> SessionFaul
     if stop.spoiled {
         fail(session, topic);
     }
-    stop.fault()
+    fault_of_stop(stop)
 }
 
 // Answers a message.
@@ -68,7 +67,8 @@ fn run_message<P: Port>(
     requires payload { IsTrue (is_payload message.payload) }
     requires empty { texts.items ≡ [] }
     requires room { 2 ≤ vec_capacity texts }
-    ensures { MessageRan P.step routes.now session.old message port.old port.new session.new (texts_given (λ v. map string_bytes v.items) result) }
+    ensures { MessageRan P.step routes.now session.old message
+        port.old port.new session.new (texts_given texts_in result) }
 {
     match act(alloc, session, port, routes, &message) {
         Ok(reply) => Ok(list_texts(texts, reply)),
@@ -91,7 +91,8 @@ pub fn run_text<P: Port>(
     routes: &Routes,
     text: &str,
 ) -> Result<Vec<String>, SessionFault>
-    ensures { EndedSo P.step routes.now session.old (decoded Limits.CLIENT text.now) port.old port.new session.new (texts_given (λ v. map string_bytes v.items) result) }
+    ensures { EndedSo P.step routes.now session.old (decoded Limits.CLIENT text.now)
+        port.old port.new session.new (texts_given texts_in result) }
 {
     if session.failed {
         return Err(SessionFault::Failed);

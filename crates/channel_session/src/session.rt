@@ -1,5 +1,5 @@
 use crate::joined::JoinedTopics;
-use crate::topics::Topics;
+use channel_session_rules::Topics;
 use presence_base::Topic;
 use std::alloc::Global;
 use std::marker::Model;
@@ -11,16 +11,16 @@ pub struct Session {
     pub(crate) failed: bool,
     pub(crate) topics: Topics,
     // The topic of a join that a fault cut short.
-    pub(crate) half: Option<Topic>,
+    pub(crate) cut_short: Option<Topic>,
 }
 
 impl Model for Session {
     ghost use Rattle.std.specs.Prelude.{◌≤◌, ◌^◌, map};
-    ghost use Rattle.channel_session.specs.InForce.{InForce, entry_of};
+    ghost use Rattle.channel_session_rules.specs.InForce.{InForce, joined_of};
 
     ghost Value = { InForce };
 
-    ghost view = { λ s. record { pid = s.pid; failed = s.failed; joined = map entry_of s.topics.seats.entries; half = s.half } };
+    ghost view = { λ s. record { pid = s.pid; failed = s.failed; joined = map joined_of s.topics.places.entries; cut_short = s.cut_short } };
 
     ghost invariant = { λ s. s.pid ≤ 2 ^ 62 };
 }
@@ -32,13 +32,13 @@ impl Session {
     /// A session of this number that has joined nothing.
     pub fn new(alloc: Global, pid: u64) -> Session
         requires { pid ≤ 2 ^ 62 }
-        ensures { result ≡ record { pid = pid; failed = false; joined = []; half = None } }
+        ensures { result ≡ record { pid = pid; failed = false; joined = []; cut_short = None } }
     {
         Session {
             pid,
             failed: false,
             topics: Topics::new(alloc),
-            half: None,
+            cut_short: None,
         }
     }
 
@@ -54,8 +54,8 @@ impl Session {
         ensures { result ≡ topics_named self.now }
     {
         JoinedTopics {
-            topics: self.topics.seats.keys(),
-            half: self.half.as_ref(),
+            topics: self.topics.places.keys(),
+            cut_short: self.cut_short.as_ref(),
         }
     }
 }

@@ -3,19 +3,16 @@ use Rattle.std.proofs.Common.{◌≡◌, Bool, true, false, not, cond, ◌&&◌,
 use Rattle.std.specs.Ordering.{eq_by_cmp, is_eq}
 use Rattle.std.specs.FinSet as set
 use Rattle.std.specs.FinMap as map
-use Rattle.std.specs.BTreeMap.{BTreeMap, get}
+use Rattle.std.specs.BTreeMap.{get}
 use Rattle.std.specs.Map.{lookup}
 use Rattle.std.proofs.lemmas.Map.Entries.{lookup-filter-keys}
 use Rattle.std.specs.List.{filter, list_any}
 use Rattle.presence_base.specs.declared.dots.Dot.{Dot}
 use Rattle.presence_base.specs.Order.{dot_cmp, same_dot}
 use Rattle.dot_context.specs.Sets.{DotSet}
-use Rattle.orswot_core.proofs.OrderFacts.{dot_total, dot_antisymmetric, is_tied, flipped, dots_equal}
+use Rattle.orswot_core_told.proofs.OrderFacts.{dot_total, dot_antisymmetric, is_tied, flipped, dots_equal}
 use Rattle.presence_base.specs.declared.row.Row.{Row}
-use Rattle.orswot_core.specs.Sets.{LiveRows, DotRows, rows_of, first_row, joined_row, is_left}
-
-abbrev pub Rows : Type 0
-Rows = BTreeMap Dot Row
+use Rattle.orswot_core.specs.Sets.{Rows, LiveRows, DotRows, rows_of, first_row, joined_row, is_left, is_missing}
 
 pub find_is : (es : List (Dot × Row)) (q : Dot) → map.find dot_cmp q es ≡ lookup (λ k. is_eq (dot_cmp q k)) es
 find_is [] q = refl
@@ -39,13 +36,13 @@ back_again : (same : Bool) (o : Option Row) (r : Row) → (same ≡ true → o �
 back_again true o r f = sym (f refl)
 back_again false o r f = refl
 
-pub taken_back : (old mid new : Rows) (d key back : Dot) (r : Row) → get dot_cmp old d ≡ None → key ≡ d → back ≡ d
-    → ((q : Dot) → get dot_cmp mid q ≡ cond (eq_by_cmp dot_cmp key q) (Some r) (get dot_cmp old q))
-    → ((q : Dot) → get dot_cmp new q ≡ cond (eq_by_cmp dot_cmp back q) None (get dot_cmp mid q))
+pub taken_back : (old mid new : Rows) (d : Dot) (r : Row) → get dot_cmp old d ≡ None
+    → ((q : Dot) → get dot_cmp mid q ≡ cond (eq_by_cmp dot_cmp d q) (Some r) (get dot_cmp old q))
+    → ((q : Dot) → get dot_cmp new q ≡ cond (eq_by_cmp dot_cmp d q) None (get dot_cmp mid q))
     → (q : Dot) → get dot_cmp new q ≡ get dot_cmp old q
-taken_back old mid new d key back r none e e' step step' q =
-    step' q ∙ ap (λ b. cond (eq_by_cmp dot_cmp b q) None (get dot_cmp mid q)) e'
-    ∙ ap (cond (eq_by_cmp dot_cmp d q) None) (step q ∙ ap (λ k. cond (eq_by_cmp dot_cmp k q) (Some r) (get dot_cmp old q)) e)
+taken_back old mid new d r none step step' q =
+    step' q
+    ∙ ap (cond (eq_by_cmp dot_cmp d q) None) (step q)
     ∙ back_again (eq_by_cmp dot_cmp d q) (get dot_cmp old q) r (λ same. ap (get dot_cmp old) (sym (dot_antisymmetric d q (is_tied (dot_cmp d q) same))) ∙ none)
 
 pub by_result : {A E P Q X : Type 0} (r : Result A E) → OnOk r P → OnErr r Q → (P → X) → (Q → X) → X
@@ -82,11 +79,11 @@ row_in es q = lookup (λ k. is_eq (dot_cmp q k)) es
 pub moved_first : (m others : Rows) (es : List (Dot × Row)) (q : Dot) → es ≡ others.entries → get dot_cmp m q ≡ None → first_row (get dot_cmp m q) (row_in es q) ≡ get dot_cmp others q
 moved_first m others es q e none = ap (λ o. first_row o (row_in es q)) none ∙ ap (λ l. row_in l q) e
 
-pub moved_one : (m n others : Rows) (k key : Dot) (r row : Row) (all es : List (Dot × Row)) (q : Dot) → key ≡ k → row ≡ r → get dot_cmp others k ≡ Some r → all ≡ (k, r) ∷ es
-    → ((x : Dot) → get dot_cmp n x ≡ cond (eq_by_cmp dot_cmp key x) (Some row) (get dot_cmp m x))
+pub moved_one : (m n others : Rows) (k : Dot) (r row : Row) (all es : List (Dot × Row)) (q : Dot) → row ≡ r → get dot_cmp others k ≡ Some r → all ≡ (k, r) ∷ es
+    → ((x : Dot) → get dot_cmp n x ≡ cond (eq_by_cmp dot_cmp k x) (Some row) (get dot_cmp m x))
     → first_row (get dot_cmp m q) (row_in all q) ≡ get dot_cmp others q → first_row (get dot_cmp n q) (row_in es q) ≡ get dot_cmp others q
-moved_one m n others k key r row all es q e e' found split step before =
-    ap (λ o. first_row o (row_in es q)) (step q ∙ ap (λ x. cond (eq_by_cmp dot_cmp x q) (Some row) (get dot_cmp m q)) e ∙ ap (λ x. cond (eq_by_cmp dot_cmp k q) (Some x) (get dot_cmp m q)) e' ∙ ap (λ b. cond b (Some r) (get dot_cmp m q)) (flipped k q))
+moved_one m n others k r row all es q e' found split step before =
+    ap (λ o. first_row o (row_in es q)) (step q ∙ ap (λ x. cond (eq_by_cmp dot_cmp k q) (Some x) (get dot_cmp m q)) e' ∙ ap (λ b. cond b (Some r) (get dot_cmp m q)) (flipped k q))
     ∙ stepped (eq_by_cmp dot_cmp q k) (get dot_cmp m q) (row_in es q) (get dot_cmp others q) r
     (λ same. sym found ∙ ap (get dot_cmp others) (sym (dot_antisymmetric q k (is_tied (dot_cmp q k) same))))
     (ap (λ l. first_row (get dot_cmp m q) (row_in l q)) (sym split) ∙ before)
@@ -102,14 +99,20 @@ not_same : (same : Bool) (a b : Option Row) → (same ≡ true → ⊥) → cond
 not_same true a b f = absurd (f refl)
 not_same false a b f = refl
 
-pub kept_one : (m n old : Rows) (s : DotSet) (k key : Dot) (row : Row) (q : Dot) → key ≡ k → set.contains s k ≡ false → set.contains s q ≡ true
-    → ((x : Dot) → get dot_cmp n x ≡ cond (eq_by_cmp dot_cmp key x) (Some row) (get dot_cmp m x)) → get dot_cmp m q ≡ get dot_cmp old q → get dot_cmp n q ≡ get dot_cmp old q
-kept_one m n old s k key row q e not_covered covered step before =
-    step q ∙ ap (λ x. cond (eq_by_cmp dot_cmp x q) (Some row) (get dot_cmp m q)) e
-    ∙ not_same (eq_by_cmp dot_cmp k q) (Some row) (get dot_cmp m q) (λ same. true≢false (sym covered ∙ ap (set.contains s) (sym (dot_antisymmetric k q (is_tied (dot_cmp k q) same))) ∙ not_covered))
+pub kept_one : (m n old : Rows) (p : Dot → Bool) (k : Dot) (row : Row) (q : Dot) → p k ≡ true → p q ≡ false
+    → ((x : Dot) → get dot_cmp n x ≡ cond (eq_by_cmp dot_cmp k x) (Some row) (get dot_cmp m x)) → get dot_cmp m q ≡ get dot_cmp old q → get dot_cmp n q ≡ get dot_cmp old q
+kept_one m n old p k row q there not_there step before =
+    step q
+    ∙ not_same (eq_by_cmp dot_cmp k q) (Some row) (get dot_cmp m q) (λ same. true≢false (sym there ∙ ap p (dot_antisymmetric k q (is_tied (dot_cmp k q) same)) ∙ not_there))
     ∙ before
 
-uncovered_none : (o : Option Row) (c : Bool) → (is_some o ≡ true → c ≡ true) → c ≡ false → o ≡ None
+pub missing_found : (covers : Bool) (o : Option Row) (r : Row) → covers ≡ false → o ≡ Some r → is_missing covers o ≡ true
+missing_found covers o r e e' = ap (λ b. is_missing b o) e ∙ ap (is_missing false) e'
+
+pub none_missing : (o : Option Row) → is_missing true o ≡ false
+none_missing o = refl
+
+pub uncovered_none : (o : Option Row) (c : Bool) → (is_some o ≡ true → c ≡ true) → c ≡ false → o ≡ None
 uncovered_none None c f e = refl
 uncovered_none (Some r) c f e = absurd (true≢false (sym (f refl) ∙ e))
 
@@ -184,10 +187,10 @@ gets_one true (Some x) r f = absurd (true≢false (f refl))
 gets_one false None r f = refl
 gets_one false (Some x) r f = refl
 
-pub gets_first : (m n : Rows) (x : Dot × Row) (key : Dot) (row : Row) (q : Dot) → is_some (get dot_cmp m x.0) ≡ false → key ≡ x.0 → row ≡ x.1
-    → get dot_cmp n q ≡ cond (same_dot key q) (Some row) (get dot_cmp m q) → get dot_cmp n q ≡ first_row (get dot_cmp m q) (cond (same_dot q x.0) (Some x.1) None)
-gets_first m n x key row q none e e' step =
-    step ∙ ap (λ d. cond (same_dot d q) (Some row) (get dot_cmp m q)) e ∙ ap (λ r. cond (same_dot x.0 q) (Some r) (get dot_cmp m q)) e' ∙ ap (λ b. cond b (Some x.1) (get dot_cmp m q)) (flipped x.0 q)
+pub gets_first : (m n : Rows) (x : Dot × Row) (row : Row) (q : Dot) → is_some (get dot_cmp m x.0) ≡ false → row ≡ x.1
+    → get dot_cmp n q ≡ cond (same_dot x.0 q) (Some row) (get dot_cmp m q) → get dot_cmp n q ≡ first_row (get dot_cmp m q) (cond (same_dot q x.0) (Some x.1) None)
+gets_first m n x row q none e' step =
+    step ∙ ap (λ r. cond (same_dot x.0 q) (Some r) (get dot_cmp m q)) e' ∙ ap (λ b. cond b (Some x.1) (get dot_cmp m q)) (flipped x.0 q)
     ∙ gets_one (same_dot q x.0) (get dot_cmp m q) x.1 (λ same. ap (λ d. is_some (get dot_cmp m d)) (dots_equal q x.0 same) ∙ none)
 
 pub first_done : (o : Option Row) → first_row o None ≡ o

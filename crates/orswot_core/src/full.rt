@@ -7,8 +7,8 @@ ghost use Rattle.orswot_core.specs.Sets.{IsSound, rows_of};
 ghost use Rattle.orswot_core.specs.Full.{IsFull, up_to_top, dots_of_runs};
 ghost use Rattle.dot_context.specs.Sets.{span, run_dots};
 
-use crate::told::Told;
 use dot_context::{Cloud, Context, Tops};
+use orswot_core_told::Told;
 use presence_base::{Dot, Replica, Row};
 use std::alloc::{AllocError, Global};
 use std::collections::BTreeMap;
@@ -21,8 +21,7 @@ fn push_range(
 ) -> Result<(), AllocError>
     ensures { OnOk result (ranges.new.items ≡ ranges.old.items ++ up_to_top (replica.now, top) ∷ []) }
 {
-    let replica = replica.clone()?;
-    ranges.push((replica, 0, top))?;
+    ranges.push((*replica, 0, top))?;
     Ok(())
 }
 
@@ -40,8 +39,10 @@ fn ranges_up_to(alloc: Global, tops: Tops<'_>) -> Result<Vec<(Replica, u64, u64)
 fn push_count(dots: &mut Vec<Dot>, replica: &Replica, count: u64) -> Result<(), AllocError>
     ensures { OnOk result (dots.new.items ≡ dots.old.items ++ record { replica = replica.now; count = count } ∷ []) }
 {
-    let replica = replica.clone()?;
-    dots.push(Dot { replica, count })?;
+    dots.push(Dot {
+        replica: *replica,
+        count,
+    })?;
     Ok(())
 }
 
@@ -81,9 +82,8 @@ fn dots_in(alloc: Global, cloud: Cloud<'_>) -> Result<Vec<Dot>, AllocError>
 fn push_live(rows: &mut Vec<(Dot, Row)>, dot: &Dot, row: &Row) -> Result<(), AllocError>
     ensures { OnOk result (rows.new.items ≡ rows.old.items ++ (dot.now, row.now) ∷ []) }
 {
-    let dot = dot.clone()?;
     let row = row.clone()?;
-    rows.push((dot, row))?;
+    rows.push((*dot, row))?;
     Ok(())
 }
 

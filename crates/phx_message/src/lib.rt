@@ -7,8 +7,6 @@ mod encoding;
 pub mod laws;
 mod making;
 mod message;
-#[cfg(test)]
-mod tests;
 
 pub use decoding::decode;
 pub use encoding::encode;

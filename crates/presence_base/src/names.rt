@@ -164,12 +164,19 @@ impl NodeName {
     }
 }
 
+// Whether the text is no longer than a topic or a key may be.
+fn is_short(text: &str) -> bool
+    ensures { result ≡ is_short_text text.now }
+{
+    !text.is_empty() && text.len() <= MAX_TEXT_BYTES
+}
+
 // The text, where it is no longer than a topic or a key may be.
 fn short_text(alloc: Global, text: &str) -> Result<Option<Text>, AllocError>
     ensures text { IfOk result (λ o. o ≡ guarded (is_short_text text.now) text.now) }
     ensures none { is_short_text text.now ≡ false → result ≡ Ok None }
 {
-    if text.is_empty() || text.len() > MAX_TEXT_BYTES {
+    if !is_short(text) {
         return Ok(None);
     }
     Ok(Some(Text::new(alloc, text)?))
@@ -206,7 +213,7 @@ impl Clone for Topic {
 }
 
 impl Topic {
-    ghost use Rattle.std.specs.Prelude.{◌≡◌, IfOk, IsTrue, false};
+    ghost use Rattle.std.specs.Prelude.{◌≡◌, IfOk, IsTrue, false, string_bytes};
     ghost use Rattle.presence_base.specs.Names.{is_short_text, guarded};
 
     /// The topic that the text is, or `None` where it is empty or longer than 255 bytes.
@@ -218,6 +225,17 @@ impl Topic {
             Some(text) => Ok(Some(Topic { text })),
             None => Ok(None),
         }
+    }
+
+    /// The topic that the text is, as `new` has it, without taking memory.
+    pub fn of_string(text: String) -> Option<Topic>
+        ensures { result ≡ guarded (is_short_text (string_bytes text)) (string_bytes text) }
+    {
+        if !is_short(text.as_str()) {
+            return None;
+        }
+        let text = Text::of_string(text);
+        Some(Topic { text })
     }
 
     pub fn as_str(&self) -> &str

@@ -22,7 +22,7 @@ pub fn add_in_order(alloc: Global, count: u64) -> Result<Context, AllocError> {
     let mut context = Context::new(alloc);
     if let Some(replica) = node_b(alloc)? {
         for n in 0..count {
-            context.add_range(alloc, replica.clone()?, n, n.saturating_add(1))?;
+            context.add_range(alloc, replica, n, n.saturating_add(1))?;
         }
     }
     Ok(context)
@@ -34,7 +34,7 @@ pub fn add_in_reverse(alloc: Global, count: u64, low: u64) -> Result<Context, Al
     if let Some(replica) = node_b(alloc)? {
         for n in 0..count {
             let from = low.saturating_add((count - n).saturating_mul(4));
-            context.add_range(alloc, replica.clone()?, from, from.saturating_add(1))?;
+            context.add_range(alloc, replica, from, from.saturating_add(1))?;
         }
     }
     Ok(context)
@@ -59,10 +59,7 @@ fn raw_rows(alloc: Global, from: u64, to: u64) -> Result<RawTold, AllocError> {
     if let Some(replica) = node_b(alloc)? {
         for n in from..to {
             let count = n.saturating_add(1);
-            let dot = Dot {
-                replica: replica.clone()?,
-                count,
-            };
+            let dot = Dot { replica, count };
             live.push((dot, row_of(alloc, count)?))?;
         }
         ranges.push((replica, from, to))?;

@@ -1,6 +1,6 @@
 use Rattle.std.proofs.Common.{◌≡◌, length, ap, ◌∙◌, rules}
-use Rattle.channel_session.specs.InForce.{InForce, entries_of}
-use Rattle.channel_session.specs.Rules.{join_ref_of}
+use Rattle.channel_session_rules.specs.InForce.{InForce, joined_in}
+use Rattle.channel_session_rules.specs.Rules.{join_ref_of}
 use Rattle.channel_session.proofs.Acted.{join_ran, join_script}
 use Rattle.channel_session.proofs.acting.run_join.Goals as goal
 
@@ -8,14 +8,14 @@ pub returns-in-Ok-clause-ran : goal.returns-in-Ok-clause-ran
 returns-in-Ok-clause-ran g c =
     let pid : c.session.inside.pid ≡ c.args.session.now.pid = ap (λ (x : InForce). x.pid) c.session.view_is in
     let failed : c.session.inside.failed ≡ c.args.session.now.failed = ap (λ (x : InForce). x.failed) c.session.view_is in
-    let half : c.session.inside.half ≡ c.args.session.now.half = ap (λ (x : InForce). x.half) c.session.view_is in
-    let held : entries_of c.make_room.new.self ≡ c.args.session.now.joined = c.make_room.ensures.entries ∙ ap (λ (x : InForce). x.joined) c.session.view_is in
+    let cut_short : c.session.inside.cut_short ≡ c.args.session.now.cut_short = ap (λ (x : InForce). x.cut_short) c.session.view_is in
+    let held : joined_in c.make_room.new.self ≡ c.args.session.now.joined = c.make_room.ensures.entries ∙ ap (λ (x : InForce). x.joined) c.session.view_is in
     let topic : c.in_ok-topic.topic ≡ c.args.message.now.topic = search rules in
     let ref : c.in_ok-join_ref.join_ref ≡ join_ref_of c.args.message.now = search rules in
-    join_ran _ c.args.session.now c.args.message.now _ _ _ pid (c.len-count.ensures ∙ ap length held) _ _ _ _ _ _ _ (record { pid = pid; failed = failed; half = half }) topic ref (rw held at c.enter.ensures) (c.in-Ok.ensures c.args.session.now)
+    join_ran _ c.args.session.now c.args.message.now _ _ _ pid (c.len-count.ensures ∙ ap length held) _ _ _ _ _ _ _ (record { pid = pid; failed = failed; cut_short = cut_short }) topic ref (rw held at c.enter.ensures) (c.in-Ok.ensures c.args.session.now)
 
 pub returns-in-Err-clause-ran : goal.returns-in-Err-clause-ran
 returns-in-Err-clause-ran g c =
     let pid : c.session.inside.pid ≡ c.args.session.now.pid = ap (λ (x : InForce). x.pid) c.session.view_is in
-    let held : entries_of c.make_room.new.self ≡ c.args.session.now.joined = c.make_room.ensures.entries ∙ ap (λ (x : InForce). x.joined) c.session.view_is in
+    let held : joined_in c.make_room.new.self ≡ c.args.session.now.joined = c.make_room.ensures.entries ∙ ap (λ (x : InForce). x.joined) c.session.view_is in
     join_script _ c.args.session.now c.args.message.now _ _ _ pid (c.len-count.ensures ∙ ap length held) _ _ _ (c.in-Err.ensures c.args.session.now)

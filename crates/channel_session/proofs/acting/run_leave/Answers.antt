@@ -1,5 +1,5 @@
 use Rattle.std.proofs.Common.{◌≡◌, refl, ap, ◌∙◌}
-use Rattle.channel_session.specs.InForce.{InForce, entry_of, entries_of, without}
+use Rattle.channel_session_rules.specs.InForce.{InForce, joined_of, joined_in, without_topic}
 use Rattle.channel_session.proofs.Acted.{left_so, leave_script}
 use Rattle.channel_session.proofs.acting.run_leave.Goals as goal
 
@@ -7,12 +7,12 @@ pub returns-in-Ok-clause-ran : goal.returns-in-Ok-clause-ran
 returns-in-Ok-clause-ran g c =
     let pid : c.session.inside.pid ≡ c.args.session.now.pid = ap (λ (x : InForce). x.pid) c.session.view_is in
     let failed : c.session.inside.failed ≡ c.args.session.now.failed = ap (λ (x : InForce). x.failed) c.session.view_is in
-    let half : c.session.inside.half ≡ c.args.session.now.half = ap (λ (x : InForce). x.half) c.session.view_is in
-    let held : entries_of c.leave-in-Ok.new.self ≡ without c.args.message.now.topic c.args.session.now.joined = c.leave-in-Ok.ensures.entries ∙ ap (λ (x : InForce). without c.args.message.now.topic x.joined) c.session.view_is in
-    leave_script _ c.args.session.now c.args.message.now _ pid (entry_of (c.args.message.now.topic, c.args.seat.now)) _ _ _
-    (c.in-Ok.ensures c.args.session.now _ (left_so c.args.session.now _ c.args.message.now.topic (record { pid = pid; failed = failed; half = half }) held))
+    let cut_short : c.session.inside.cut_short ≡ c.args.session.now.cut_short = ap (λ (x : InForce). x.cut_short) c.session.view_is in
+    let held : joined_in c.leave-in-Ok.new.self ≡ without_topic c.args.message.now.topic c.args.session.now.joined = c.leave-in-Ok.ensures.entries ∙ ap (λ (x : InForce). without_topic c.args.message.now.topic x.joined) c.session.view_is in
+    leave_script _ c.args.session.now c.args.message.now _ pid (joined_of (c.args.message.now.topic, c.args.place.now)) _ _ _
+    (c.in-Ok.ensures c.args.session.now _ (left_so c.args.session.now _ c.args.message.now.topic (record { pid = pid; failed = failed; cut_short = cut_short }) held))
 
 pub returns-in-Err-clause-ran : goal.returns-in-Err-clause-ran
 returns-in-Err-clause-ran g c =
     let pid : c.session.inside.pid ≡ c.args.session.now.pid = ap (λ (x : InForce). x.pid) c.session.view_is in
-    leave_script _ c.args.session.now c.args.message.now _ pid (entry_of (c.args.message.now.topic, c.args.seat.now)) _ _ _ (c.in-Err.ensures c.args.session.now _ refl)
+    leave_script _ c.args.session.now c.args.message.now _ pid (joined_of (c.args.message.now.topic, c.args.place.now)) _ _ _ (c.in-Err.ensures c.args.session.now _ refl)

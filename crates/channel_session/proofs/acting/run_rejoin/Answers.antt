@@ -1,6 +1,6 @@
 use Rattle.std.proofs.Common.{◌≡◌, ◌-◌, length, ap, ◌∙◌, rules}
-use Rattle.channel_session.specs.InForce.{InForce, entry_of, entries_of, without}
-use Rattle.channel_session.specs.Rules.{join_ref_of, left as left_of}
+use Rattle.channel_session_rules.specs.InForce.{InForce, joined_of, joined_in, without_topic}
+use Rattle.channel_session_rules.specs.Rules.{join_ref_of, left as left_of}
 use Rattle.channel_session.proofs.Acted.{rejoin_ran, rejoin_script}
 use Rattle.channel_session.proofs.acting.run_rejoin.Goals as goal
 
@@ -8,17 +8,17 @@ pub returns-in-Ok-clause-ran : goal.returns-in-Ok-clause-ran
 returns-in-Ok-clause-ran g c =
     let pid : c.session.inside.pid ≡ c.args.session.now.pid = ap (λ (x : InForce). x.pid) c.session.view_is in
     let failed : c.session.inside.failed ≡ c.args.session.now.failed = ap (λ (x : InForce). x.failed) c.session.view_is in
-    let half : c.session.inside.half ≡ c.args.session.now.half = ap (λ (x : InForce). x.half) c.session.view_is in
-    let held : entries_of c.make_room.new.self ≡ c.args.session.now.joined = c.make_room.ensures.entries ∙ ap (λ (x : InForce). x.joined) c.session.view_is in
-    let left : entries_of c.leave.new.self ≡ without c.args.message.now.topic c.args.session.now.joined = c.leave.ensures.entries ∙ ap (without c.args.message.now.topic) held in
+    let cut_short : c.session.inside.cut_short ≡ c.args.session.now.cut_short = ap (λ (x : InForce). x.cut_short) c.session.view_is in
+    let held : joined_in c.make_room.new.self ≡ c.args.session.now.joined = c.make_room.ensures.entries ∙ ap (λ (x : InForce). x.joined) c.session.view_is in
+    let left : joined_in c.leave.new.self ≡ without_topic c.args.message.now.topic c.args.session.now.joined = c.leave.ensures.entries ∙ ap (without_topic c.args.message.now.topic) held in
     let topic : c.in_ok-topic.topic ≡ c.args.message.now.topic = search rules in
     let ref : c.in_ok-join_ref.join_ref ≡ join_ref_of c.args.message.now = search rules in
     let others : c.saturating_sub-others.result ≡ length c.args.session.now.joined - 1 = c.saturating_sub-others.ensures ∙ ap (λ n. n - 1) (c.len.ensures ∙ ap length held) in
-    rejoin_ran _ c.args.session.now c.args.message.now _ _ _ pid others (entry_of (c.args.message.now.topic, c.args.seat.now)) _ _ _ _ _ _ _ _ (record { pid = pid; failed = failed; half = half }) topic ref (rw left at c.enter.ensures) (c.in-Ok.ensures (left_of c.args.session.now c.args.message.now.topic))
+    rejoin_ran _ c.args.session.now c.args.message.now _ _ _ pid others (joined_of (c.args.message.now.topic, c.args.place.now)) _ _ _ _ _ _ _ _ (record { pid = pid; failed = failed; cut_short = cut_short }) topic ref (rw left at c.enter.ensures) (c.in-Ok.ensures (left_of c.args.session.now c.args.message.now.topic))
 
 pub returns-in-Err-clause-ran : goal.returns-in-Err-clause-ran
 returns-in-Err-clause-ran g c =
     let pid : c.session.inside.pid ≡ c.args.session.now.pid = ap (λ (x : InForce). x.pid) c.session.view_is in
-    let held : entries_of c.make_room.new.self ≡ c.args.session.now.joined = c.make_room.ensures.entries ∙ ap (λ (x : InForce). x.joined) c.session.view_is in
+    let held : joined_in c.make_room.new.self ≡ c.args.session.now.joined = c.make_room.ensures.entries ∙ ap (λ (x : InForce). x.joined) c.session.view_is in
     let others : c.saturating_sub-others.result ≡ length c.args.session.now.joined - 1 = c.saturating_sub-others.ensures ∙ ap (λ n. n - 1) (c.len.ensures ∙ ap length held) in
-    rejoin_script _ c.args.session.now c.args.message.now _ _ _ pid others (entry_of (c.args.message.now.topic, c.args.seat.now)) _ _ _ (c.in-Err.ensures (left_of c.args.session.now c.args.message.now.topic))
+    rejoin_script _ c.args.session.now c.args.message.now _ _ _ pid others (joined_of (c.args.message.now.topic, c.args.place.now)) _ _ _ (c.in-Err.ensures (left_of c.args.session.now c.args.message.now.topic))

@@ -45,7 +45,7 @@ returns-clause-some c =
     let new = c.make_room_for-2.new.self in
     let n = c.insert_new.new.replicas in
     either_way c.insert_new.result
-    (subst (λ k. OnOk c.insert_new.result (ChangesAt k n r (Some new))) c.get_mut.follows.holds-at-none (subst (λ x. OnOk c.insert_new.result (ChangesAt c.get_mut.follows.lender-at-none n x (Some new))) c.in_ok-replica.ensures.cases c.insert_new.ensures.ok))
+    (subst (λ k. OnOk c.insert_new.result (ChangesAt k n r (Some new))) c.get_mut.follows.holds-at-none c.insert_new.ensures.ok)
     (subst (λ k. OnErr c.insert_new.result (n.entries ≡ k.entries)) c.get_mut.follows.holds-at-none c.insert_new.ensures.err)
     (λ step. some_at m n r (Some new) step c.requires.some (some_opened c.args.runs.now new c.if-is_empty.ensures c.in_ok-make_room_for.ensures.ok))
     (λ e. some_unchanged m n e c.requires.some)
@@ -59,7 +59,7 @@ returns-clause-opens c =
     let none = c.in_default.ensures.value in
     let opens = subst (λ s. Opens s new (begins c.args.runs.now)) c.new-own.ensures c.in_ok-make_room_for.ensures.opens in
     either_way c.insert_new.result
-    (subst (λ k. OnOk c.insert_new.result (ChangesAt k n r (Some new))) c.get_mut.follows.holds-at-none (subst (λ x. OnOk c.insert_new.result (ChangesAt c.get_mut.follows.lender-at-none n x (Some new))) c.in_ok-replica.ensures.cases c.insert_new.ensures.ok))
+    (subst (λ k. OnOk c.insert_new.result (ChangesAt k n r (Some new))) c.get_mut.follows.holds-at-none c.insert_new.ensures.ok)
     (subst (λ k. OnErr c.insert_new.result (n.entries ≡ k.entries)) c.get_mut.follows.holds-at-none c.insert_new.ensures.err)
     (λ step. opens_at m n r [] new (begins c.args.runs.now) step c.requires.apart (ap listed (sym none)) opens)
     (λ e. opens_unchanged m n r (begins c.args.runs.now) e c.requires.apart)
@@ -71,4 +71,4 @@ returns-clause-ok c =
     let new = c.make_room_for-2.new.self in
     let n = c.insert_new.new.replicas in
     on_ok c.insert_new.result (λ step. room_here m n r new (begins c.args.runs.now) step c.in_ok-make_room_for.ensures.ok)
-    (subst (λ k. OnOk c.insert_new.result (ChangesAt k n r (Some new))) c.get_mut.follows.holds-at-none (subst (λ x. OnOk c.insert_new.result (ChangesAt c.get_mut.follows.lender-at-none n x (Some new))) c.in_ok-replica.ensures.cases c.insert_new.ensures.ok))
+    (subst (λ k. OnOk c.insert_new.result (ChangesAt k n r (Some new))) c.get_mut.follows.holds-at-none c.insert_new.ensures.ok)

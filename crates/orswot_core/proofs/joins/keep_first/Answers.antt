@@ -7,5 +7,5 @@ returns-then-contains_key c = λ q. had_first c.args.live.now c.args.row.now q (
 
 pub returns : goal.returns
 returns c = on_ok c.insert_row.result
-    (λ e q. gets_first c.args.live.now c.insert_row.new.live c.args.row.now c.in_ok-dot.dot c.in_ok-row.row q (sym c.contains_key.ensures ∙ c.if-contains_key.false) c.in_ok-dot.ensures.cases c.in_ok-row.ensures.cases (e q))
+    (λ e q. gets_first c.args.live.now c.insert_row.new.live c.args.row.now c.in_ok-row.row q (sym c.contains_key.ensures ∙ c.if-contains_key.false) c.in_ok-row.ensures.cases (e q))
     c.insert_row.ensures.ok

@@ -1,6 +1,0 @@
-use Rattle.std.proofs.Common.{refl}
-use Rattle.channel_session.proofs.Once.{once}
-use Rattle.channel_session.proofs.events.get_asked.Goals as goal
-
-pub returns-in-Some : goal.returns-in-Some
-returns-in-Some g c = λ s. rw c.in-Some.is (once _ _ _ _ _ _ _ _ c.get-answer.ensures refl refl (c.listed.ensures s))

@@ -1,6 +1,0 @@
-use Rattle.std.proofs.Common.{refl}
-use Rattle.channel_session.proofs.Once.{once}
-use Rattle.channel_session.proofs.events.update_asked.Goals as goal
-
-pub returns-in-Wants : goal.returns-in-Wants
-returns-in-Wants g c = λ s. rw c.in-Wants.is (once _ _ _ _ _ _ _ _ c.update-answer.ensures refl refl (c.updated.ensures s))

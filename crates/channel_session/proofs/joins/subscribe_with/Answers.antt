@@ -1,6 +1,0 @@
-use Rattle.std.proofs.Common.{rules, refl}
-use Rattle.channel_session.proofs.Once.{once_heeding, heeds_seen}
-use Rattle.channel_session.proofs.joins.subscribe_with.Goals as goal
-
-pub returns : goal.returns
-returns g c = λ before s. once_heeding _ _ _ _ _ _ _ _ c.subscribe-answer.ensures refl (c.subscribed.ensures.gives _ (search rules) before s) (heeds_seen _ _ _ c.subscribed.ensures.heeds)

@@ -1,0 +1,356 @@
+ghost use Rattle.std.specs.Prelude.{◌≡◌, ◌≤◌, ◌^◌, IfOk, IsTrue, string_bytes, is_ok, option_map, codes, true, false};
+ghost use Rattle.presence_journal.specs.Limits.{is_payload};
+ghost use Rattle.presence_metas.specs.Values.{state_of};
+ghost use Rattle.channel_session_rules.specs.Seen.{seen_by};
+ghost use Rattle.channel_session_rules.specs.Asked.{asked as asked_of, key_asked};
+ghost use Rattle.channel_session_rules.specs.Rules.{said, says_ok, says_error, after_shout, after_track, after_update, after_untrack, after_list, ok as ok_message, on_ping, on_shout, on_track, on_update, on_untrack, on_list, on_get, on_unknown, text_of, told_ref, empty as empty_of};
+ghost use Rattle.channel_session_rules.specs.Replies.{Runs, RepliesWith};
+
+use channel_session_rules::{
+    Asked, Port, Reply, Stop, empty_object, error_text, full_reason, ok_text, read_asked, read_key,
+    ref_response, spoiling, state_response, stop_of, track_reason, update_reason,
+};
+use phx_message::{Message, MsgRef};
+use presence_base::{Dot, Key, Row};
+use std::alloc::{AllocError, Global};
+use tracker_shard::ShardFault;
+
+// What a refusal of the port leads to.
+fn refused(
+    alloc: Global,
+    join_ref: &Option<MsgRef>,
+    message: &Message,
+    fault: ShardFault,
+    reason: Option<&'static str>,
+) -> Result<Reply, Stop>
+    ensures { RepliesWith (λ s. said (λ t. says_error join_ref.now message.now t s) fault
+        (option_map (λ r. r.now) reason.entry)) false result }
+{
+    match reason {
+        Some(reason) => Ok(Reply::One(error_text(alloc, join_ref, message, reason)?)),
+        None => Err(stop_of(fault, false)),
+    }
+}
+
+// The reply that the payload is none that the event takes.
+fn bad_payload(alloc: Global, join_ref: &Option<MsgRef>, message: &Message) -> Result<Reply, Stop>
+    ensures { RepliesWith (says_error join_ref.now message.now (codes "bad payload")) false result }
+{
+    Ok(Reply::One(error_text(alloc, join_ref, message, "bad payload")?))
+}
+
+pub(crate) fn ping<P: Port>(
+    alloc: Global,
+    join_ref: &Option<MsgRef>,
+    port: &mut P,
+    message: &Message,
+) -> Result<Reply, Stop>
+    requires { IsTrue (is_payload message.now.payload) }
+    ensures { Runs P.step (λ s. on_ping s join_ref.now message.now) port.old port.new result }
+{
+    let payload = message.payload.clone()?;
+    Ok(Reply::One(ok_text(alloc, join_ref, message, payload)?))
+}
+
+pub(crate) fn unknown<P: Port>(
+    alloc: Global,
+    join_ref: &Option<MsgRef>,
+    port: &mut P,
+    message: &Message,
+) -> Result<Reply, Stop>
+    ensures { Runs P.step (λ s. on_unknown s join_ref.now message.now) port.old port.new result }
+{
+    Ok(Reply::One(error_text(alloc, join_ref, message, "unknown event")?))
+}
+
+// What the port's answer to a shout leads to.
+fn shouted(
+    alloc: Global,
+    join_ref: &Option<MsgRef>,
+    message: &Message,
+    answer: Result<(), ShardFault>,
+) -> Result<Reply, Stop>
+    ensures { RepliesWith (λ s. after_shout s join_ref.now message.now answer) (is_ok answer) result }
+{
+    match answer {
+        Ok(()) => Ok(Reply::Nothing),
+        Err(fault) => refused(alloc, join_ref, message, fault, full_reason(true, fault)),
+    }
+}
+
+pub(crate) fn shout<P: Port>(
+    alloc: Global,
+    join_ref: &Option<MsgRef>,
+    port: &mut P,
+    message: &Message,
+) -> Result<Reply, Stop>
+    requires { IsTrue (is_payload message.now.payload) }
+    ensures { Runs P.step (λ s. on_shout s join_ref.now message.now) port.old port.new result }
+{
+    let answer = port.shout(alloc, &message.topic, &message.payload);
+    shouted(alloc, join_ref, message, answer)
+}
+
+// The reply that tells a reference.
+fn ref_reply(
+    alloc: Global,
+    join_ref: &Option<MsgRef>,
+    message: &Message,
+    dot: &Dot,
+) -> Result<String, AllocError>
+    ensures { IfOk result (λ t. string_bytes t ≡ text_of (ok_message join_ref.now message.now (told_ref dot.now))) }
+{
+    let response = ref_response(alloc, dot)?;
+    ok_text(alloc, join_ref, message, response)
+}
+
+// What an accepted track or update leads to.
+fn told(
+    alloc: Global,
+    join_ref: &Option<MsgRef>,
+    message: &Message,
+    dot: &Dot,
+) -> Result<Reply, Stop>
+    ensures { RepliesWith (says_ok join_ref.now message.now (told_ref dot.now)) true result }
+{
+    match spoiling(ref_reply(alloc, join_ref, message, dot)) {
+        Ok(text) => Ok(Reply::One(text)),
+        Err(stop) => Err(stop),
+    }
+}
+
+// What the port's answer to a track leads to.
+fn tracked(
+    alloc: Global,
+    join_ref: &Option<MsgRef>,
+    message: &Message,
+    answer: Result<Dot, ShardFault>,
+) -> Result<Reply, Stop>
+    ensures { RepliesWith (λ s. after_track s join_ref.now message.now answer) (is_ok answer) result }
+{
+    match answer {
+        Ok(dot) => told(alloc, join_ref, message, &dot),
+        Err(fault) => refused(alloc, join_ref, message, fault, track_reason(true, fault)),
+    }
+}
+
+// What the port's answer to an update leads to.
+fn updated(
+    alloc: Global,
+    join_ref: &Option<MsgRef>,
+    message: &Message,
+    answer: Result<Dot, ShardFault>,
+) -> Result<Reply, Stop>
+    ensures { RepliesWith (λ s. after_update s join_ref.now message.now answer) (is_ok answer) result }
+{
+    match answer {
+        Ok(dot) => told(alloc, join_ref, message, &dot),
+        Err(fault) => refused(alloc, join_ref, message, fault, update_reason(fault)),
+    }
+}
+
+fn track_asked<P: Port>(
+    alloc: Global,
+    pid: u64,
+    join_ref: &Option<MsgRef>,
+    port: &mut P,
+    message: &Message,
+    asked: Asked,
+) -> Result<Reply, Stop>
+    requires { pid ≤ 2 ^ 62 }
+    ensures { Runs P.step (λ s. on_track pid s join_ref.now message.now asked) port.old port.new result }
+{
+    match asked {
+        Asked::Wants(key, meta) => {
+            let answer = port.track(alloc, pid, &message.topic, &key, &meta);
+            tracked(alloc, join_ref, message, answer)
+        }
+        Asked::Nothing => bad_payload(alloc, join_ref, message),
+        Asked::Bad => bad_payload(alloc, join_ref, message),
+    }
+}
+
+pub(crate) fn track<P: Port>(
+    alloc: Global,
+    pid: u64,
+    join_ref: &Option<MsgRef>,
+    port: &mut P,
+    message: &Message,
+) -> Result<Reply, Stop>
+    requires { pid ≤ 2 ^ 62 }
+    ensures { Runs P.step (λ s. on_track pid s join_ref.now message.now (asked_of message.now.payload)) port.old port.new result }
+{
+    let asked = read_asked(alloc, message.payload.as_value())?;
+    track_asked(alloc, pid, join_ref, port, message, asked)
+}
+
+fn update_asked<P: Port>(
+    alloc: Global,
+    pid: u64,
+    join_ref: &Option<MsgRef>,
+    port: &mut P,
+    message: &Message,
+    asked: Asked,
+) -> Result<Reply, Stop>
+    requires { pid ≤ 2 ^ 62 }
+    ensures { Runs P.step (λ s. on_update pid s join_ref.now message.now asked) port.old port.new result }
+{
+    match asked {
+        Asked::Wants(key, meta) => {
+            let answer = port.update(alloc, pid, &message.topic, &key, &meta);
+            updated(alloc, join_ref, message, answer)
+        }
+        Asked::Nothing => bad_payload(alloc, join_ref, message),
+        Asked::Bad => bad_payload(alloc, join_ref, message),
+    }
+}
+
+pub(crate) fn update<P: Port>(
+    alloc: Global,
+    pid: u64,
+    join_ref: &Option<MsgRef>,
+    port: &mut P,
+    message: &Message,
+) -> Result<Reply, Stop>
+    requires { pid ≤ 2 ^ 62 }
+    ensures { Runs P.step (λ s. on_update pid s join_ref.now message.now (asked_of message.now.payload)) port.old port.new result }
+{
+    let asked = read_asked(alloc, message.payload.as_value())?;
+    update_asked(alloc, pid, join_ref, port, message, asked)
+}
+
+// The reply that a message went well and tells nothing.
+fn empty_reply(
+    alloc: Global,
+    join_ref: &Option<MsgRef>,
+    message: &Message,
+) -> Result<String, AllocError>
+    ensures { IfOk result (λ t. string_bytes t ≡ text_of (ok_message join_ref.now message.now empty_of)) }
+{
+    let response = empty_object(alloc);
+    ok_text(alloc, join_ref, message, response)
+}
+
+// What the port's answer to an untrack leads to.
+fn untracked(
+    alloc: Global,
+    join_ref: &Option<MsgRef>,
+    message: &Message,
+    answer: Result<(), ShardFault>,
+) -> Result<Reply, Stop>
+    ensures { RepliesWith (λ s. after_untrack s join_ref.now message.now answer) (is_ok answer) result }
+{
+    match answer {
+        Ok(()) => match spoiling(empty_reply(alloc, join_ref, message)) {
+            Ok(text) => Ok(Reply::One(text)),
+            Err(stop) => Err(stop),
+        },
+        Err(fault) => refused(alloc, join_ref, message, fault, full_reason(true, fault)),
+    }
+}
+
+fn untrack_asked<P: Port>(
+    alloc: Global,
+    pid: u64,
+    join_ref: &Option<MsgRef>,
+    port: &mut P,
+    message: &Message,
+    key: Option<Key>,
+) -> Result<Reply, Stop>
+    ensures { Runs P.step (λ s. on_untrack pid s join_ref.now message.now key) port.old port.new result }
+{
+    match key {
+        Some(key) => {
+            let answer = port.untrack(alloc, pid, &message.topic, &key);
+            untracked(alloc, join_ref, message, answer)
+        }
+        None => bad_payload(alloc, join_ref, message),
+    }
+}
+
+pub(crate) fn untrack<P: Port>(
+    alloc: Global,
+    pid: u64,
+    join_ref: &Option<MsgRef>,
+    port: &mut P,
+    message: &Message,
+) -> Result<Reply, Stop>
+    ensures { Runs P.step (λ s. on_untrack pid s join_ref.now message.now (key_asked message.now.payload)) port.old port.new result }
+{
+    let key = read_key(alloc, message.payload.as_value())?;
+    untrack_asked(alloc, pid, join_ref, port, message, key)
+}
+
+// The reply that tells rows.
+fn rows_reply(
+    alloc: Global,
+    join_ref: &Option<MsgRef>,
+    message: &Message,
+    rows: &[(Dot, Row)],
+) -> Result<String, AllocError>
+    ensures { IfOk result (λ t. string_bytes t ≡ text_of (ok_message join_ref.now message.now (state_of rows.now))) }
+{
+    let response = state_response(alloc, rows)?;
+    ok_text(alloc, join_ref, message, response)
+}
+
+// What the port's answer to a list or a get leads to.
+fn listed(
+    alloc: Global,
+    join_ref: &Option<MsgRef>,
+    message: &Message,
+    answer: Result<Vec<(Dot, Row)>, ShardFault>,
+) -> Result<Reply, Stop>
+    ensures { RepliesWith (λ s. after_list s join_ref.now message.now (seen_by (λ v. v.items) answer))
+        (is_ok (seen_by (λ v. v.items) answer)) result }
+{
+    match answer {
+        Ok(rows) => match spoiling(rows_reply(alloc, join_ref, message, &rows)) {
+            Ok(text) => Ok(Reply::One(text)),
+            Err(stop) => Err(stop),
+        },
+        Err(fault) => refused(alloc, join_ref, message, fault, full_reason(true, fault)),
+    }
+}
+
+pub(crate) fn list<P: Port>(
+    alloc: Global,
+    join_ref: &Option<MsgRef>,
+    port: &mut P,
+    message: &Message,
+) -> Result<Reply, Stop>
+    ensures { Runs P.step (λ s. on_list s join_ref.now message.now) port.old port.new result }
+{
+    let answer = port.list(alloc, &message.topic);
+    listed(alloc, join_ref, message, answer)
+}
+
+fn get_asked<P: Port>(
+    alloc: Global,
+    join_ref: &Option<MsgRef>,
+    port: &mut P,
+    message: &Message,
+    key: Option<Key>,
+) -> Result<Reply, Stop>
+    ensures { Runs P.step (λ s. on_get s join_ref.now message.now key) port.old port.new result }
+{
+    match key {
+        Some(key) => {
+            let answer = port.get(alloc, &message.topic, &key);
+            listed(alloc, join_ref, message, answer)
+        }
+        None => bad_payload(alloc, join_ref, message),
+    }
+}
+
+pub(crate) fn get<P: Port>(
+    alloc: Global,
+    join_ref: &Option<MsgRef>,
+    port: &mut P,
+    message: &Message,
+) -> Result<Reply, Stop>
+    ensures { Runs P.step (λ s. on_get s join_ref.now message.now (key_asked message.now.payload)) port.old port.new result }
+{
+    let key = read_key(alloc, message.payload.as_value())?;
+    get_asked(alloc, join_ref, port, message, key)
+}

@@ -1,0 +1,315 @@
+ghost use Rattle.std.specs.Prelude.{◌≡◌, ◌++◌, ◌≤◌, ◌^◌, ℕ, List, [], ◌∷◌, IfOk, IfErr, string_bytes, option_map, is_ok, false, true, Some};
+ghost use Rattle.serde_json.specs.Written.{has_float as float_within};
+ghost use Rattle.serde_json.specs.Data.{Data};
+ghost use Rattle.channel_session_rules.specs.Asked.{asked as asked_of};
+ghost use Rattle.channel_session_rules.specs.InForce.{joined_of};
+ghost use Rattle.channel_session_events.specs.Joining.{Leads, JoinRuns, JoinRepliesWith, RejoinRuns, join_end, leave_end};
+ghost use Rattle.channel_session_rules.specs.Outcome.{Follows, seen};
+ghost use Rattle.channel_session_rules.specs.Replies.{Acts, RepliesWith, reply_end};
+ghost use Rattle.channel_session_rules.specs.Rules.{InForce, said, refuses, after_subscribe, subscribes, tracks, join_asked as join_asked_rule, join_ref_of as join_ref_in, text_of, told_ref, empty as empty_of, ok as ok_message, on_leave, rejoins, says_ok, left};
+
+use channel_session_rules::{
+    Asked, MAX_TOPICS, Place, Port, Reply, Stop, close_text, empty_object, error_text, full_reason,
+    ok_text, read_asked, ref_response, spoil, stop_of, track_reason,
+};
+use phx_message::{Message, MsgRef};
+use presence_base::{Dot, Json, Key, Meta, Topic};
+use std::alloc::{AllocError, Global};
+use tracker_shard::{ShardFault, Sub};
+
+// The calls that end a join.
+fn end_join<P: Port>(
+    alloc: Global,
+    pid: u64,
+    topic: &Topic,
+    place: &Place,
+    port: &mut P,
+) -> Result<(), Stop>
+    ensures { Leads P.step pid topic.now place.now.sub port.old port.new result }
+{
+    match port.unsubscribe(alloc, topic, &place.sub) {
+        Err(fault) => Err(stop_of(fault, true)),
+        Ok(()) => match port.untrack_all(alloc, pid, topic) {
+            Err(fault) => Err(stop_of(fault, true)),
+            Ok(()) => Ok(()),
+        },
+    }
+}
+
+/// What a join answers, and its subscriber where it was accepted.
+#[derive(Debug, Drop)]
+pub struct JoinReply {
+    pub text: String,
+    pub sub: Option<Sub>,
+}
+
+/// The reference of a join.
+pub fn join_ref_for(message: &Message) -> &Option<MsgRef>
+    ensures { result.now ≡ join_ref_in message.now }
+{
+    match &message.join_ref {
+        Some(_) => &message.join_ref,
+        None => &message.msg_ref,
+    }
+}
+
+// The reply of a join that is refused for this reason.
+fn refusing(alloc: Global, message: &Message, reason: &str) -> Result<JoinReply, Stop>
+    ensures { JoinRepliesWith
+        (λ before s. refuses before s message.now reason.now) false message.now result }
+{
+    let text = error_text(alloc, join_ref_for(message), message, reason)?;
+    Ok(JoinReply { text, sub: None })
+}
+
+// What a refusal of the port leads to in a join.
+fn refused_join(
+    alloc: Global,
+    message: &Message,
+    fault: ShardFault,
+    reason: Option<&'static str>,
+) -> Result<JoinReply, Stop>
+    ensures { JoinRepliesWith
+        (λ before s. said (refuses before s message.now) fault (option_map (λ r. r.now) reason.entry)) false message.now result }
+{
+    match reason {
+        Some(reason) => refusing(alloc, message, reason),
+        None => Err(stop_of(fault, false)),
+    }
+}
+
+// What the port's answer to a subscription leads to.
+fn subscribed(
+    alloc: Global,
+    first: bool,
+    message: &Message,
+    text: String,
+    answer: Result<Sub, ShardFault>,
+) -> Result<JoinReply, Stop>
+    ensures gives { (response : Data)
+        → string_bytes text ≡ text_of (ok_message (join_ref_in message.now) message.now response)
+        → JoinRepliesWith
+        (λ before s. after_subscribe first before s message.now response answer)
+        (is_ok answer) message.now result }
+    ensures heeds { IfErr result (λ _. is_ok answer ≡ false) }
+{
+    match answer {
+        Ok(sub) => Ok(JoinReply {
+            text,
+            sub: Some(sub),
+        }),
+        Err(fault) => refused_join(alloc, message, fault, full_reason(first, fault)),
+    }
+}
+
+// Subscribes. The reply is written before the call, since nothing may fail behind it.
+fn subscribe_with<P: Port>(
+    alloc: Global,
+    first: bool,
+    port: &mut P,
+    message: &Message,
+    response: Json,
+) -> Result<JoinReply, Stop>
+    requires whole { float_within response ≡ false }
+    ensures { JoinRuns P.step
+        (λ before s. subscribes first before s message.now response)
+        message.now port.old port.new result }
+{
+    let text = ok_text(alloc, join_ref_for(message), message, response)?;
+    let answer = port.subscribe(alloc, &message.topic);
+    subscribed(alloc, first, message, text, answer)
+}
+
+fn subscribe_plain<P: Port>(
+    alloc: Global,
+    first: bool,
+    port: &mut P,
+    message: &Message,
+) -> Result<JoinReply, Stop>
+    ensures { JoinRuns P.step
+        (λ before s. subscribes first before s message.now empty_of)
+        message.now port.old port.new result }
+{
+    let response = empty_object(alloc);
+    subscribe_with(alloc, first, port, message, response)
+}
+
+fn subscribe_told<P: Port>(
+    alloc: Global,
+    port: &mut P,
+    message: &Message,
+    dot: &Dot,
+) -> Result<JoinReply, Stop>
+    ensures { JoinRuns P.step
+        (λ before s. subscribes false before s message.now (told_ref dot.now))
+        message.now port.old port.new result }
+{
+    let response = ref_response(alloc, dot)?;
+    subscribe_with(alloc, false, port, message, response)
+}
+
+fn track_then_subscribe<P: Port>(
+    alloc: Global,
+    pid: u64,
+    first: bool,
+    port: &mut P,
+    message: &Message,
+    key: &Key,
+    meta: &Meta,
+) -> Result<JoinReply, Stop>
+    requires { pid ≤ 2 ^ 62 }
+    ensures { JoinRuns P.step
+        (λ before s. tracks pid first before s message.now key.now meta.now)
+        message.now port.old port.new result }
+{
+    match port.track(alloc, pid, &message.topic, key, meta) {
+        Ok(dot) => {
+            let rest = subscribe_told(alloc, port, message, &dot);
+            spoil(rest)
+        }
+        Err(fault) => refused_join(alloc, message, fault, track_reason(first, fault)),
+    }
+}
+
+// A join by a session that has joined `count` topics.
+fn join_asked<P: Port>(
+    alloc: Global,
+    pid: u64,
+    count: usize,
+    first: bool,
+    port: &mut P,
+    message: &Message,
+    asked: Asked,
+) -> Result<JoinReply, Stop>
+    requires { pid ≤ 2 ^ 62 }
+    ensures { JoinRuns P.step
+        (λ before s. join_asked_rule pid count first before s message.now asked)
+        message.now port.old port.new result }
+{
+    match asked {
+        Asked::Bad => refusing(alloc, message, "bad payload"),
+        Asked::Nothing => {
+            if count >= MAX_TOPICS {
+                refusing(alloc, message, "too many topics")
+            } else {
+                subscribe_plain(alloc, first, port, message)
+            }
+        }
+        Asked::Wants(key, meta) => {
+            if count >= MAX_TOPICS {
+                refusing(alloc, message, "too many topics")
+            } else {
+                track_then_subscribe(alloc, pid, first, port, message, &key, &meta)
+            }
+        }
+    }
+}
+
+/// A first join.
+pub fn join<P: Port>(
+    alloc: Global,
+    pid: u64,
+    count: usize,
+    port: &mut P,
+    message: &Message,
+) -> Result<JoinReply, Stop>
+    requires { pid ≤ 2 ^ 62 }
+    ensures { (s : InForce) → Follows P.step
+        (join_asked_rule pid count true [] s message.now (asked_of message.now.payload))
+        port.old port.new (seen (join_end [] s message.now) result) }
+{
+    let asked = read_asked(alloc, message.payload.as_value())?;
+    join_asked(alloc, pid, count, true, port, message, asked)
+}
+
+/// What a second join answers, behind the close of the first.
+#[derive(Debug, Drop)]
+pub struct RejoinReply {
+    pub close: String,
+    pub join: JoinReply,
+}
+
+// The new join, behind the close of the old one.
+fn join_behind<P: Port>(
+    alloc: Global,
+    pid: u64,
+    count: usize,
+    port: &mut P,
+    message: &Message,
+    asked: Asked,
+    close: String,
+) -> Result<RejoinReply, Stop>
+    requires { pid ≤ 2 ^ 62 }
+    ensures { RejoinRuns P.step
+        (λ s. join_asked_rule pid count false (string_bytes close ∷ []) s message.now asked)
+        message.now port.old port.new result }
+{
+    match join_asked(alloc, pid, count, false, port, message, asked) {
+        Ok(join) => Ok(RejoinReply { close, join }),
+        Err(stop) => Err(stop),
+    }
+}
+
+/// A second join. `count` is the number of the other topics that are joined.
+pub fn rejoin<P: Port>(
+    alloc: Global,
+    pid: u64,
+    count: usize,
+    place: &Place,
+    port: &mut P,
+    message: &Message,
+) -> Result<RejoinReply, Stop>
+    requires { pid ≤ 2 ^ 62 }
+    ensures { RejoinRuns P.step
+        (λ s. rejoins pid count (joined_of (message.now.topic, place.now)) s message.now
+        (asked_of message.now.payload))
+        message.now port.old port.new result }
+{
+    let close = close_text(alloc, &place.join_ref, &message.topic)?;
+    let asked = read_asked(alloc, message.payload.as_value())?;
+    match end_join(alloc, pid, &message.topic, place, port) {
+        Ok(()) => {
+            let rest = join_behind(alloc, pid, count, port, message, asked, close);
+            spoil(rest)
+        }
+        Err(stop) => Err(stop),
+    }
+}
+
+// The reply to a leave, and the close behind it.
+fn leave_texts(alloc: Global, place: &Place, message: &Message) -> Result<Reply, AllocError>
+    ensures { IfOk result (λ r. (s : InForce)
+        → reply_end s r ≡ leave_end (joined_of (message.now.topic, place.now)) message.now s) }
+{
+    let response = empty_object(alloc);
+    let text = ok_text(alloc, &place.join_ref, message, response)?;
+    let close = close_text(alloc, &place.join_ref, &message.topic)?;
+    Ok(Reply::Two(text, close))
+}
+
+/// A leave of a joined topic. The texts are written before the calls.
+pub fn leave<P: Port>(
+    alloc: Global,
+    pid: u64,
+    place: &Place,
+    port: &mut P,
+    message: &Message,
+) -> Result<Reply, Stop>
+    ensures { (s after : InForce) → after ≡ left s message.now.topic → Acts P.step
+        (on_leave pid s (Some (joined_of (message.now.topic, place.now))) message.now)
+        port.old port.new after result }
+{
+    let reply = leave_texts(alloc, place, message)?;
+    match end_join(alloc, pid, &message.topic, place, port) {
+        Ok(()) => Ok(reply),
+        Err(stop) => Err(stop),
+    }
+}
+
+/// A leave of a topic that is not joined.
+pub fn leave_nothing(alloc: Global, message: &Message) -> Result<Reply, Stop>
+    ensures { RepliesWith (says_ok message.now.join_ref message.now empty_of) false result }
+{
+    let response = empty_object(alloc);
+    Ok(Reply::One(ok_text(alloc, &message.join_ref, message, response)?))
+}

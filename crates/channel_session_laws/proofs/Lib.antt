@@ -1,0 +1,17 @@
+pub mod Locals
+pub mod Heeding
+pub mod Shown
+pub mod Proper
+pub mod Mirroring
+pub mod Givings
+pub mod Played
+pub mod SoundValues
+pub mod SoundRows
+pub mod SoundSteps
+pub mod KeptSteps
+pub mod KeptAsks
+pub mod KeptRules
+pub mod KeptTakes
+pub mod KeptFrames
+pub mod KeptDeliveries
+pub mod Kept

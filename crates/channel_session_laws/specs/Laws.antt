@@ -1,0 +1,57 @@
+-- The laws of sessions, which the functions of `laws` state.
+use Rattle.std.specs.Prelude.{◌≡◌, ℕ, List, ◌++◌, map, false, Option, Some, Ok, Err}
+use Rattle.phx_message.specs.declared.message.Message.{Message}
+use Rattle.phx_message.specs.declared.message.MsgRef.{MsgRef}
+use Rattle.presence_journal_data.specs.declared.rows.Item.{Item}
+use Rattle.presence_journal.specs.History.{History}
+use Rattle.presence_journal.specs.Present.{listed}
+use Rattle.presence_journal.specs.Queue.{Queued, queue, topic_of, taken, is_waiting}
+use Rattle.presence_journal.specs.Table.{IsLegal}
+use Rattle.presence_metas.specs.Listing.{Listing}
+use Rattle.tracker_shard.specs.declared.fault.ShardFault.TheVariants.{OutOfMemory}
+use Rattle.channel_session_rules.specs.Asks.{Ask, Answer}
+use Rattle.channel_session_rules.specs.Delivering.{delivery}
+use Rattle.channel_session_rules.specs.Frames.{message_of}
+use Rattle.channel_session_laws.specs.Mirrors.{mirror_from, Mirrors, given_to, given_by}
+use Rattle.channel_session_laws.specs.Local.{LocalStep, answer_in, after_in, played}
+use Rattle.channel_session_rules.specs.Outcome.{Follows}
+use Rattle.channel_session_rules.specs.Rules.{InForce, End, answers, rules}
+use Rattle.channel_session_rules.specs.Script.{Script}
+
+-- what a lent shard answers, and the history that it leaves, are the sequential table's, unless memory is wanted
+abbrev pub AnswersByTable : Type 0
+AnswersByTable = (old new : History) (q : Ask) (a : Answer q) → LocalStep old q a new → (a ≡ Err OutOfMemory → ⊥) → (a ≡ answer_in old q) × (new ≡ after_in old q)
+
+-- want of memory leaves the history as it was
+abbrev pub WantStays : Type 0
+WantStays = (old new : History) (q : Ask) → LocalStep old q (Err OutOfMemory) new → new ≡ old
+
+-- Over a lent shard a script that is answered was played against the table: its texts, what is in force after them
+-- and the new history are a function of the script and the history.
+abbrev pub IsPlayed : Script End → Type 0
+IsPlayed script =
+    (texts : List (List ℕ)) (s : InForce) (old new : History) → Follows LocalStep script old new (Ok (answers texts s))
+    → played script old ≡ (answers texts s, new)
+
+abbrev pub RulesArePlayed : Type 0
+RulesArePlayed = (routes : List (List ℕ × ℕ)) (s : InForce) (m : Message) → IsPlayed (rules routes s m)
+
+abbrev pub DeliveriesArePlayed : Type 0
+DeliveriesArePlayed = (max : ℕ) (s : InForce) → IsPlayed (delivery max s)
+
+-- The frames of what a present subscriber took since its last State, followed by those of what waits for it, lead a
+-- client's lists, whatever they were, to mirror the present rows of its topic.
+abbrev pub FramesMirror : Type 0
+FramesMirror =
+    (h : History) → IsLegal h → (n : ℕ) (t : List ℕ) → topic_of h n ≡ Some t → (q : List Item) → queue h n ≡ Queued q → (join_ref : Option MsgRef) (before : Listing)
+    → Mirrors (mirror_from before (map (message_of join_ref t) (taken h n ++ q))) (listed h t)
+
+-- once nothing waits for it, all frames that it was ever given do
+abbrev pub AllFramesMirror : Type 0
+AllFramesMirror =
+    (h : History) → IsLegal h → (n : ℕ) (t : List ℕ) → topic_of h n ≡ Some t → is_waiting (queue h n) ≡ false → (join_ref : Option MsgRef) (before : Listing)
+    → Mirrors (mirror_from before (map (message_of join_ref t) (given_to h n))) (listed h t)
+
+-- a call of a lent shard gives a subscriber what it answers to its take, and nothing else does
+abbrev pub CallsGive : Type 0
+CallsGive = (old new : History) (q : Ask) (a : Answer q) → LocalStep old q a new → (n : ℕ) → given_to new n ≡ given_to old n ++ given_by q a n

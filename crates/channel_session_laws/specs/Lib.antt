@@ -1,0 +1,4 @@
+pub mod Local
+pub mod Mirrors
+pub mod Keeping
+pub mod Laws

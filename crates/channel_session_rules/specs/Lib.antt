@@ -1,0 +1,10 @@
+pub mod Asks
+pub mod Script
+pub mod Seen
+pub mod InForce
+pub mod Asked
+pub mod Rules
+pub mod Outcome
+pub mod Replies
+pub mod Frames
+pub mod Delivering

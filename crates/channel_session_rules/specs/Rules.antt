@@ -1,0 +1,286 @@
+-- The rules of the built-in channel: what a session asks of its port, and what it answers to a message.
+use Rattle.std.specs.Prelude.{ℕ, List, [], ◌∷◌, ◌++◌, ◌-◌, length, map, Bool, true, false, not, ◌||◌, nat_le, if◌then◌else◌, Option, Some, None, is_some, Result, Ok, Err, codes}
+use Rattle.std.specs.Str.{bytes_eq}
+use Rattle.serde_json.specs.Data.{Data, string, object, no_members, member}
+use Rattle.serde_json.specs.Written.{compact_text}
+use Rattle.presence_base.specs.declared.dots.Dot.{Dot}
+use Rattle.presence_base.specs.declared.row.Row.{Row}
+use Rattle.presence_base.specs.Refs.{ref_of}
+use Rattle.phx_message.specs.declared.message.MsgRef.{MsgRef}
+use Rattle.phx_message.specs.declared.message.Message.{Message}
+use Rattle.phx_message.specs.Message.{value_of}
+use Rattle.phx_message.specs.Making.{ok_reply, error_reply, closing}
+use Rattle.hook_registry.specs.Routes.{first_kind}
+use Rattle.presence_metas.specs.Values.{state_of}
+use Rattle.tracker_shard.specs.declared.shard.Sub.{Sub}
+use Rattle.tracker_shard.specs.declared.fault.ShardFault.{ShardFault}
+use Rattle.tracker_shard.specs.declared.fault.ShardFault.TheVariants.{AlreadyTracked, NoPresence, ClockFull, JournalFull, OutOfMemory}
+use Rattle.channel_session_rules.specs.declared.asked.Asked.{Asked}
+use Rattle.channel_session_rules.specs.declared.asked.Asked.TheVariants.{Nothing, Bad, Wants}
+use Rattle.channel_session_rules.specs.declared.kind.EventKind.{EventKind}
+use Rattle.channel_session_rules.specs.declared.kind.EventKind.TheVariants as kinds_are
+use Rattle.channel_session_rules.specs.declared.kind.TopicEvent.{TopicEvent}
+use Rattle.channel_session_rules.specs.declared.kind.TopicEvent.TheVariants as events_are
+use Rattle.channel_session_rules.specs.declared.topics.TheConstants.{MAX_TOPICS}
+use Rattle.channel_session_rules.specs.Asks.{track, update, untrack, untrack_all, list, get, subscribe, unsubscribe, shout}
+use Rattle.channel_session_rules.specs.Script.{Script, done, ask}
+use Rattle.channel_session_rules.specs.Asked.{asked, key_asked}
+pub use Rattle.channel_session_rules.specs.InForce.{Joined, InForce, find, without_topic}
+
+-- How a text ends: it is answered, or the port refused and no reply stands for that, or the port wants memory.
+pub data End : Type 0 where
+  answers : (texts : List (List ℕ)) → (after : InForce) → End
+  full : End
+  memory : End
+
+-- ---- messages
+
+abbrev pub text_of : Message → List ℕ
+text_of m = compact_text (value_of m)
+
+-- these messages go out
+abbrev pub says : List Message → InForce → End
+says ms s = answers (map text_of ms) s
+
+abbrev pub empty : Data
+empty = object no_members
+
+-- replies to a message under a join reference
+abbrev pub ok : Option MsgRef → Message → Data → Message
+ok r m response = ok_reply r m.msg_ref m.topic response
+
+abbrev pub error : Option MsgRef → Message → List ℕ → Message
+error r m reason = error_reply r m.msg_ref m.topic reason
+
+-- a reply goes out
+abbrev pub says_ok : Option MsgRef → Message → Data → InForce → End
+says_ok r m response s = says (ok r m response ∷ []) s
+
+abbrev pub says_error : Option MsgRef → Message → List ℕ → InForce → End
+says_error r m reason s = says (error r m reason ∷ []) s
+
+-- the response that tells a reference
+abbrev pub told_ref : Dot → Data
+told_ref d = object (member (codes "phx_ref") (string (ref_of d)) no_members)
+
+-- ---- refusals of the port, each with the reason that stands for it, where one does
+
+-- `full`, at the text's first call only
+abbrev pub full_reason : Bool → ShardFault → Option (List ℕ)
+full_reason first ClockFull = if first then Some (codes "full") else None
+full_reason first JournalFull = if first then Some (codes "full") else None
+full_reason first _ = None
+
+abbrev pub track_reason : Bool → ShardFault → Option (List ℕ)
+track_reason first AlreadyTracked = Some (codes "already tracked")
+track_reason first e = full_reason first e
+
+abbrev pub update_reason : ShardFault → Option (List ℕ)
+update_reason NoPresence = Some (codes "no presence")
+update_reason e = full_reason true e
+
+-- a refusal for which no reply stands
+abbrev pub unsaid : ShardFault → End
+unsaid OutOfMemory = memory
+unsaid _ = full
+
+abbrev pub said : (List ℕ → End) → ShardFault → Option (List ℕ) → End
+said answer e (Some reason) = answer reason
+said answer e None = unsaid e
+
+-- ---- events of a joined topic, whose present join's reference is r
+
+abbrev pub replied : {A : Type 0} → InForce → Option MsgRef → Message → (ShardFault → Option (List ℕ)) → (A → List Message) → Result A ShardFault → End
+replied s r m reason reply (Ok x) = says (reply x) s
+replied s r m reason reply (Err e) = said (λ t. says (error r m t ∷ []) s) e (reason e)
+
+-- what the port's answers lead to
+abbrev pub after_shout : InForce → Option MsgRef → Message → Result (Unit {0}) ShardFault → End
+after_shout s r m a = replied s r m (full_reason true) (λ u. []) a
+
+abbrev pub after_track : InForce → Option MsgRef → Message → Result Dot ShardFault → End
+after_track s r m a = replied s r m (track_reason true) (λ d. ok r m (told_ref d) ∷ []) a
+
+abbrev pub after_update : InForce → Option MsgRef → Message → Result Dot ShardFault → End
+after_update s r m a = replied s r m update_reason (λ d. ok r m (told_ref d) ∷ []) a
+
+abbrev pub after_untrack : InForce → Option MsgRef → Message → Result (Unit {0}) ShardFault → End
+after_untrack s r m a = replied s r m (full_reason true) (λ u. ok r m empty ∷ []) a
+
+abbrev pub after_list : InForce → Option MsgRef → Message → Result (List (Dot × Row)) ShardFault → End
+after_list s r m a = replied s r m (full_reason true) (λ rows. ok r m (state_of rows) ∷ []) a
+
+abbrev pub bad_payload : InForce → Option MsgRef → Message → Script End
+bad_payload s r m = done (says_error r m (codes "bad payload") s)
+
+abbrev pub on_ping : InForce → Option MsgRef → Message → Script End
+on_ping s r m = done (says_ok r m m.payload s)
+
+abbrev pub on_shout : InForce → Option MsgRef → Message → Script End
+on_shout s r m = ask (shout m.topic m.payload) (λ a. done (after_shout s r m a))
+
+abbrev pub on_track : ℕ → InForce → Option MsgRef → Message → Asked → Script End
+on_track pid s r m (Wants key meta) = ask (track pid m.topic key meta) (λ a. done (after_track s r m a))
+on_track pid s r m _ = bad_payload s r m
+
+abbrev pub on_update : ℕ → InForce → Option MsgRef → Message → Asked → Script End
+on_update pid s r m (Wants key meta) = ask (update pid m.topic key meta) (λ a. done (after_update s r m a))
+on_update pid s r m _ = bad_payload s r m
+
+abbrev pub on_untrack : ℕ → InForce → Option MsgRef → Message → Option (List ℕ) → Script End
+on_untrack pid s r m (Some key) = ask (untrack pid m.topic key) (λ a. done (after_untrack s r m a))
+on_untrack pid s r m None = bad_payload s r m
+
+abbrev pub on_list : InForce → Option MsgRef → Message → Script End
+on_list s r m = ask (list m.topic) (λ a. done (after_list s r m a))
+
+abbrev pub on_get : InForce → Option MsgRef → Message → Option (List ℕ) → Script End
+on_get s r m (Some key) = ask (get m.topic key) (λ a. done (after_list s r m a))
+on_get s r m None = bad_payload s r m
+
+abbrev pub on_unknown : InForce → Option MsgRef → Message → Script End
+on_unknown s r m = done (says_error r m (codes "unknown event") s)
+
+-- ---- the end of a join
+
+abbrev pub left : InForce → List ℕ → InForce
+left s t = record { pid = s.pid; failed = s.failed; joined = without_topic t s.joined; cut_short = s.cut_short }
+
+abbrev pub then_next : Script End → Result (Unit {0}) ShardFault → Script End
+then_next next (Ok u) = next
+then_next next (Err e) = done (unsaid e)
+
+-- both calls that end a join, and then the next
+abbrev pub ended : ℕ → List ℕ → Sub → Script End → Script End
+ended pid topic sub next = ask (unsubscribe topic sub) (then_next (ask (untrack_all pid topic) (then_next next)))
+
+-- a leave of a topic that isn't joined is answered ok under the message's own join reference
+abbrev pub on_leave : ℕ → InForce → Option Joined → Message → Script End
+on_leave pid s (Some j) m = ended pid m.topic j.sub (done (says (ok j.join_ref m empty ∷ closing j.join_ref m.topic ∷ []) (left s m.topic)))
+on_leave pid s None m = done (says_ok m.join_ref m empty s)
+
+-- ---- joins: `before` went out before the join's own reply, `first` tells whether its first call is the text's
+
+abbrev pub or_ref : Option MsgRef → Option MsgRef → Option MsgRef
+or_ref (Some r) other = Some r
+or_ref None other = other
+
+-- the reference of a join: the message's join reference, or its reference where that is null
+abbrev pub join_ref_of : Message → Option MsgRef
+join_ref_of m = or_ref m.join_ref m.msg_ref
+
+abbrev pub joins : InForce → Message → Sub → InForce
+joins s m sub = record { pid = s.pid; failed = s.failed; joined = s.joined ++ record { topic = m.topic; join_ref = join_ref_of m; sub = sub } ∷ []; cut_short = s.cut_short }
+
+abbrev pub answers_join : List (List ℕ) → Message → InForce → End
+answers_join before reply s = answers (before ++ text_of reply ∷ []) s
+
+abbrev pub refuses : List (List ℕ) → InForce → Message → List ℕ → End
+refuses before s m reason = answers_join before (error (join_ref_of m) m reason) s
+
+abbrev pub after_subscribe : Bool → List (List ℕ) → InForce → Message → Data → Result Sub ShardFault → End
+after_subscribe first before s m response (Ok sub) = answers_join before (ok (join_ref_of m) m response) (joins s m sub)
+after_subscribe first before s m response (Err e) = said (refuses before s m) e (full_reason first e)
+
+abbrev pub subscribes : Bool → List (List ℕ) → InForce → Message → Data → Script End
+subscribes first before s m response = ask (subscribe m.topic) (λ a. done (after_subscribe first before s m response a))
+
+abbrev pub then_subscribe : Bool → List (List ℕ) → InForce → Message → Result Dot ShardFault → Script End
+then_subscribe first before s m (Ok d) = subscribes false before s m (told_ref d)
+then_subscribe first before s m (Err e) = done (said (refuses before s m) e (track_reason first e))
+
+abbrev pub tracks : ℕ → Bool → List (List ℕ) → InForce → Message → List ℕ → Data → Script End
+tracks pid first before s m key meta = ask (track pid m.topic key meta) (then_subscribe first before s m)
+
+-- a join of one topic too many is refused, and any other goes on
+abbrev pub within : ℕ → List (List ℕ) → InForce → Message → Script End → Script End
+within count before s m next = if nat_le MAX_TOPICS count then done (refuses before s m (codes "too many topics")) else next
+
+-- a bad payload is told first
+abbrev pub join_asked : ℕ → ℕ → Bool → List (List ℕ) → InForce → Message → Asked → Script End
+join_asked pid count first before s m Bad = done (refuses before s m (codes "bad payload"))
+join_asked pid count first before s m Nothing = within count before s m (subscribes first before s m empty)
+join_asked pid count first before s m (Wants key meta) = within count before s m (tracks pid first before s m key meta)
+
+-- The old join ends, its close goes out, and the new join is handled.
+abbrev pub rejoins : ℕ → ℕ → Joined → InForce → Message → Asked → Script End
+rejoins pid count j s m a = ended pid m.topic j.sub (join_asked pid count false (text_of (closing j.join_ref m.topic) ∷ []) s m a)
+
+abbrev pub on_join : ℕ → ℕ → InForce → Option Joined → Message → Asked → Script End
+on_join pid count s None m a = join_asked pid count true [] s m a
+on_join pid count s (Some j) m a = rejoins pid (count - 1) j (left s m.topic) m a
+
+-- ---- the whole table, in the order in which the rules are tried
+
+abbrev pub unmatched : InForce → Message → Script End
+unmatched s m = done (says_error m.join_ref m (codes "unmatched topic") s)
+
+abbrev pub on_heartbeat : InForce → Message → Script End
+on_heartbeat s m = done (says_ok None m empty s)
+
+abbrev pub on_event : ℕ → InForce → Option MsgRef → Message → TopicEvent → Script End
+on_event pid s r m events_are.Ping = on_ping s r m
+on_event pid s r m events_are.Shout = on_shout s r m
+on_event pid s r m events_are.Track = on_track pid s r m (asked m.payload)
+on_event pid s r m events_are.Update = on_update pid s r m (asked m.payload)
+on_event pid s r m events_are.Untrack = on_untrack pid s r m (key_asked m.payload)
+on_event pid s r m events_are.List = on_list s r m
+on_event pid s r m events_are.Get = on_get s r m (key_asked m.payload)
+on_event pid s r m events_are.Unknown = on_unknown s r m
+
+abbrev pub on_topic : ℕ → InForce → Option Joined → Message → TopicEvent → Script End
+on_topic pid s (Some j) m event = on_event pid s j.join_ref m event
+on_topic pid s None m event = unmatched s m
+
+-- heartbeats on `phoenix`; joins of a topic that can be joined; leaves; everything else
+abbrev pub by_kind : Bool → Bool → ℕ → ℕ → InForce → Option Joined → Message → EventKind → Script End
+by_kind phoenix routed pid count s j m kinds_are.Heartbeat = if phoenix then on_heartbeat s m else on_topic pid s j m events_are.Unknown
+by_kind phoenix routed pid count s j m kinds_are.Join = if phoenix || not routed then unmatched s m else on_join pid count s j m (asked m.payload)
+by_kind phoenix routed pid count s j m kinds_are.Leave = on_leave pid s j m
+by_kind phoenix routed pid count s j m (kinds_are.Topic event) = on_topic pid s j m event
+
+-- the topic of heartbeats, which is never joined
+abbrev pub is_phoenix : List ℕ → Bool
+is_phoenix t = bytes_eq t (codes "phoenix")
+
+abbrev pub is_routed : List (List ℕ × ℕ) → List ℕ → Bool
+is_routed routes t = is_some (first_kind t routes)
+
+abbrev pub topic_event_of : List ℕ → TopicEvent
+topic_event_of event =
+    if bytes_eq event (codes "ping") then events_are.Ping
+    else (if bytes_eq event (codes "shout") then events_are.Shout
+    else (if bytes_eq event (codes "track") then events_are.Track
+    else (if bytes_eq event (codes "update") then events_are.Update
+    else (if bytes_eq event (codes "untrack") then events_are.Untrack
+    else (if bytes_eq event (codes "list") then events_are.List
+    else (if bytes_eq event (codes "get") then events_are.Get
+    else events_are.Unknown))))))
+
+abbrev pub kind_of : List ℕ → EventKind
+kind_of event =
+    if bytes_eq event (codes "heartbeat") then kinds_are.Heartbeat
+    else (if bytes_eq event (codes "phx_join") then kinds_are.Join
+    else (if bytes_eq event (codes "phx_leave") then kinds_are.Leave
+    else kinds_are.Topic (topic_event_of event)))
+
+-- ---- the rules of a session as it stands
+
+-- the join of the message's topic
+abbrev pub join_at : InForce → Message → Option Joined
+join_at s m = find m.topic s.joined
+
+abbrev pub join_rule : InForce → Option Joined → Message → Script End
+join_rule s j m = on_join s.pid (length s.joined) s j m (asked m.payload)
+
+abbrev pub leave_rule : InForce → Option Joined → Message → Script End
+leave_rule s j m = on_leave s.pid s j m
+
+abbrev pub topic_rule : InForce → Message → TopicEvent → Script End
+topic_rule s m event = on_topic s.pid s (join_at s m) m event
+
+abbrev pub kind_rule : Bool → Bool → InForce → Message → EventKind → Script End
+kind_rule phoenix routed s m kind = by_kind phoenix routed s.pid (length s.joined) s (join_at s m) m kind
+
+unfoldable pub rules : List (List ℕ × ℕ) → InForce → Message → Script End
+rules routes s m = kind_rule (is_phoenix m.topic) (is_routed routes m.topic) s m (kind_of m.event)
