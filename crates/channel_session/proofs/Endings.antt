@@ -1,12 +1,13 @@
 -- The end of a session, call by call.
-use Rattle.std.proofs.Common.{◌≡◌, ℕ, List, [], ◌∷◌, slice_get, drop, Some, None, Ok, Err, true, refl, ap, ◌∙◌, subst}
+use Rattle.std.proofs.Common.{◌≡◌, ◌+◌, ℕ, zero, suc, List, [], ◌∷◌, drop, take, Bool, Some, None, Option, Result, Ok, Err, true, refl, sym, ap, ◌∙◌, subst}
+use Rattle.std.specs.List.{slice_get, remove}
 use Rattle.tracker_shard.specs.declared.fault.ShardFault.{ShardFault}
 use Rattle.tracker_shard.specs.declared.fault.ShardFault.TheVariants.{AlreadyTracked, NoPresence, ClockFull, JournalFull, NoSub, OutOfMemory}
 use Rattle.tracker_shard.specs.declared.shard.Sub.{Sub}
 use Rattle.channel_session_rules.specs.Asks.{Ask, Answer, unsubscribe, untrack_all}
 use Rattle.channel_session_rules.specs.Script.{Script, done, ask}
 use Rattle.channel_session_rules.specs.InForce.{Joined, InForce}
-use Rattle.channel_session.specs.Ending.{Played, Gone, Ended, Leaving, then_rows, then_drop, ends_topic, ends_topics, ends, left_with, failed_by, then_topics}
+use Rattle.channel_session.specs.Ending.{Played, Gone, Keeps, Ended, Leaving, then_rows, ends_topic, ends_topics, ends, left_with, failed_by, then_topics, staying}
 
 module _ {P E : Type 0} (step : P → (q : Ask) → Answer q → P → Type 0) where
   pub played_now : (e : E) (old : P) → Played step (done e) old old e
@@ -15,67 +16,119 @@ module _ {P E : Type 0} (step : P → (q : Ask) → Answer q → P → Type 0) w
   pub played_on : (q : Ask) (next : Answer q → Script E) (a : Answer q) (old mid new : P) (e : E) → step old q a mid → Played step (next a) mid new e → Played step (ask q next) old new e
   played_on q next a old mid new e h p = record { made = record { ask = q; answer = a } ∷ p.made; calls = (mid, h, p.calls); plays = (a, refl, p.plays) }
 
-pub stays_refused : (pid : ℕ) (t : List ℕ) (leaving : Leaving) (js : List Joined) (next : Script Ended) (e : ShardFault) → (e ≡ NoSub → ⊥) → then_rows pid t leaving js next (Err e) ≡ done (leaving js (Err e))
-stays_refused pid t leaving js next AlreadyTracked h = refl
-stays_refused pid t leaving js next NoPresence h = refl
-stays_refused pid t leaving js next ClockFull h = refl
-stays_refused pid t leaving js next JournalFull h = refl
-stays_refused pid t leaving js next OutOfMemory h = refl
-stays_refused pid t leaving js next NoSub h = absurd (h refl)
+pub goes_on_refused : (pid : ℕ) (t : List ℕ) (next : Result (Unit {0}) ShardFault → Script Ended) (e : ShardFault) → (e ≡ NoSub → ⊥) → then_rows pid t next (Err e) ≡ next (Err e)
+goes_on_refused pid t next AlreadyTracked h = refl
+goes_on_refused pid t next NoPresence h = refl
+goes_on_refused pid t next ClockFull h = refl
+goes_on_refused pid t next JournalFull h = refl
+goes_on_refused pid t next OutOfMemory h = refl
+goes_on_refused pid t next NoSub h = absurd (h refl)
 
 module _ {P : Type 0} (step : P → (q : Ask) → Answer q → P → Type 0) (pid : ℕ) (topic : List ℕ) (sub : Sub) where
-  rows_so : (a : Answer (unsubscribe topic sub)) → ((leaving : Leaving) (js : List Joined) (next : Script Ended) → then_rows pid topic leaving js next a ≡ ask (untrack_all pid topic) (then_drop leaving js next))
-      → (r : Answer (untrack_all pid topic)) (old mid new : P) → step old (unsubscribe topic sub) a mid → step mid (untrack_all pid topic) r new → Gone step pid topic sub old new r
-  rows_so a is (Ok u) old mid new h k = λ leaving js next last e p.
-      played_on step (unsubscribe topic sub) (then_rows pid topic leaving js next) a old mid last e h
-      (rw (is leaving js next) (played_on step (untrack_all pid topic) (then_drop leaving js next) (Ok u) mid new last e k p))
-  rows_so a is (Err f) old mid new h k = λ leaving js next.
-      played_on step (unsubscribe topic sub) (then_rows pid topic leaving js next) a old mid new (leaving js (Err f)) h
-      (rw (is leaving js next) (played_on step (untrack_all pid topic) (then_drop leaving js next) (Err f) mid new new (leaving js (Err f)) k (played_now step (leaving js (Err f)) new)))
-
   pub rows_gone : (u : Unit {0}) (r : Answer (untrack_all pid topic)) (old mid new : P) → step old (unsubscribe topic sub) (Ok u) mid → step mid (untrack_all pid topic) r new → Gone step pid topic sub old new r
-  rows_gone u r old mid new h k = rows_so (Ok u) (λ leaving js next. refl) r old mid new h k
+  rows_gone u r old mid new h k = λ next last e p. played_on step (unsubscribe topic sub) (then_rows pid topic next) (Ok u) old mid last e h (played_on step (untrack_all pid topic) next r mid new last e k p)
 
   pub rows_gone_unknown : (r : Answer (untrack_all pid topic)) (old mid new : P) → step old (unsubscribe topic sub) (Err NoSub) mid → step mid (untrack_all pid topic) r new → Gone step pid topic sub old new r
-  rows_gone_unknown r old mid new h k = rows_so (Err NoSub) (λ leaving js next. refl) r old mid new h k
+  rows_gone_unknown r old mid new h k = λ next last e p. played_on step (unsubscribe topic sub) (then_rows pid topic next) (Err NoSub) old mid last e h (played_on step (untrack_all pid topic) next r mid new last e k p)
 
   pub kept : (e : ShardFault) (old new : P) → (e ≡ NoSub → ⊥) → step old (unsubscribe topic sub) (Err e) new → Gone step pid topic sub old new (Err e)
-  kept e old new other h = λ leaving js next.
-      played_on step (unsubscribe topic sub) (then_rows pid topic leaving js next) (Err e) old new new (leaving js (Err e)) h
-      (rw (stays_refused pid topic leaving js next e other) (played_now step (leaving js (Err e)) new))
+  kept e old new other h = λ next last f p. played_on step (unsubscribe topic sub) (then_rows pid topic next) (Err e) old new last f h (rw (goes_on_refused pid topic next e other) p)
 
-pub none_first : {X : Type 0} (js : List X) → slice_get js 0 ≡ None → js ≡ []
-none_first [] h = refl
-none_first (x ∷ xs) h = absurd (cc)
+-- ---- topics from a place on
 
-pub some_first : {X : Type 0} (js : List X) (x : X) → slice_get js 0 ≡ Some x → js ≡ x ∷ drop 1 js
-some_first [] x h = absurd (cc)
-some_first (y ∷ ys) x h = let e : y ≡ x = cc in ap (λ z. z ∷ ys) e
+pub none_from : {X : Type 0} (js : List X) (i : ℕ) → slice_get js i ≡ None → drop i js ≡ []
+none_from [] zero h = refl
+none_from [] (suc i) h = refl
+none_from (x ∷ js) zero h = absurd (cc)
+none_from (x ∷ js) (suc i) h = none_from js i h
+
+some_there : {X : Type 0} (x y : X) → ◌≡◌ {A = Option X} (Some x) (Some y) → x ≡ y
+some_there x y h = cc
+
+pub some_from : {X : Type 0} (js : List X) (i : ℕ) (j : X) → slice_get js i ≡ Some j → drop i js ≡ j ∷ drop (suc i) js
+some_from [] i j h = absurd (cc)
+some_from (x ∷ js) zero j h = ap (λ y. y ∷ js) (some_there x j h)
+some_from (x ∷ js) (suc i) j h = some_from js i j h
+
+pub drop_removed : {X : Type 0} (js : List X) (i : ℕ) (j : X) → slice_get js i ≡ Some j → drop i (remove js i) ≡ drop (suc i) js
+drop_removed [] i j h = absurd (cc)
+drop_removed (x ∷ js) zero j h = refl
+drop_removed (x ∷ js) (suc i) j h = drop_removed js i j h
+
+pub take_removed : {X : Type 0} (js : List X) (i : ℕ) (j : X) → slice_get js i ≡ Some j → take i (remove js i) ≡ take i js
+take_removed [] i j h = absurd (cc)
+take_removed (x ∷ js) zero j h = refl
+take_removed (x ∷ js) (suc i) j h = ap (λ ys. x ∷ ys) (take_removed js i j h)
+
+heads : {X : Type 0} (x y : X) (xs ys : List X) → x ∷ xs ≡ y ∷ ys → x ≡ y
+heads x y xs ys h = cc
+
+tails : {X : Type 0} (x y : X) (xs ys : List X) → x ∷ xs ≡ y ∷ ys → xs ≡ ys
+tails x y xs ys h = ap (drop 1) h
+
+-- what stood at a place still stands there
+pub stays_there : {X : Type 0} (js ks : List X) (i : ℕ) (j : X) → slice_get js i ≡ Some j → take (suc i) ks ≡ take (suc i) js → drop i ks ≡ j ∷ drop (suc i) ks
+stays_there [] ks i j h e = absurd (cc)
+stays_there (x ∷ js) [] zero j h e = absurd (cc)
+stays_there (x ∷ js) [] (suc i) j h e = absurd (cc)
+stays_there (x ∷ js) (y ∷ ks) zero j h e = ap (λ z. z ∷ ks) (heads y x [] [] e ∙ some_there x j h)
+stays_there (x ∷ js) (y ∷ ks) (suc i) j h e = stays_there js ks i j h (tails y x (take (suc i) ks) (take (suc i) js) e)
+
+pub take_less : {X : Type 0} (js ks : List X) (i : ℕ) → take (suc i) ks ≡ take (suc i) js → take i ks ≡ take i js
+take_less js ks zero e = refl
+take_less [] [] (suc i) e = refl
+take_less [] (y ∷ ks) (suc i) e = absurd (cc)
+take_less (x ∷ js) [] (suc i) e = absurd (cc)
+take_less (x ∷ js) (y ∷ ks) (suc i) e =
+    let first : y ≡ x = heads y x (take (suc i) ks) (take (suc i) js) e in
+    let more : take i ks ≡ take i js = take_less js ks i (tails y x (take (suc i) ks) (take (suc i) js) e) in
+    λ k. first k ∷ more k
 
 module _ {P : Type 0} (step : P → (q : Ask) → Answer q → P → Type 0) (pid : ℕ) (leaving : Leaving) (js : List Joined) (j : Joined) (rest : List Joined) (is : js ≡ j ∷ rest) where
-  pub ended_first : (old new : P) (e : Ended) → Played step (ends_topic pid j.topic j.sub leaving (j ∷ rest) (ends_topics pid leaving rest)) old new e → Played step (ends_topics pid leaving js) old new e
-  ended_first old new e p = rw is p
+  pub ended_gone : (u : Unit {0}) (old mid new : P) (e : Ended) → Gone step pid j.topic j.sub old mid (Ok u) → Played step (ends_topics pid leaving rest) mid new e → Played step (ends_topics pid leaving js) old new e
+  ended_gone u old mid new e gone p = rw is (gone (λ r. ends_topics pid (staying j r leaving) rest) new e p)
 
-  pub ended_kept : (old new : P) (e : ShardFault) → Played step (ends_topic pid j.topic j.sub leaving (j ∷ rest) (ends_topics pid leaving rest)) old new (leaving (j ∷ rest) (Err e)) → Played step (ends_topics pid leaving js) old new (leaving js (Err e))
-  ended_kept old new e p = rw is p
+  pub ended_staying : (f : ShardFault) (all ks : List Joined) (old mid new : P) → all ≡ j ∷ ks → Gone step pid j.topic j.sub old mid (Err f)
+      → Played step (ends_topics pid (staying j (Err f) leaving) rest) mid new (leaving (j ∷ ks) (Err f)) → Played step (ends_topics pid leaving js) old new (leaving all (Err f))
+  ended_staying f all ks old mid new all_is gone p = rw (is, all_is) (gone (λ r. ends_topics pid (staying j r leaving) rest) new (leaving (j ∷ ks) (Err f)) p)
 
-pub ended_none : {P : Type 0} (step : P → (q : Ask) → Answer q → P → Type 0) (pid : ℕ) (leaving : Leaving) (js : List Joined) (old : P) → js ≡ [] → Played step (ends_topics pid leaving js) old old (leaving js (Ok tt))
-ended_none step pid leaving js old is = rw is (played_now step (leaving [] (Ok tt)) old)
+pub none_ended : {P : Type 0} (step : P → (q : Ask) → Answer q → P → Type 0) (pid : ℕ) (leaving : Leaving) (js : List Joined) (old : P) → js ≡ [] → Played step (ends_topics pid leaving js) old old (leaving js (Ok tt))
+none_ended step pid leaving js old e = rw e (played_now step (leaving [] (Ok tt)) old)
 
-module _ {P : Type 0} (step : P → (q : Ask) → Answer q → P → Type 0) (s : InForce) (t : List ℕ) (cut_short : s.cut_short ≡ Some t) (pid : ℕ) (pid_is : pid ≡ s.pid) where
-  pub cut_short_gone : (u : Unit {0}) (after : InForce) (old mid new : P) (e : Ended) → step old (untrack_all pid t) (Ok u) mid
-      → after.pid ≡ s.pid → after.failed ≡ s.failed → after.joined ≡ s.joined → after.cut_short ≡ None
-      → Played step (ends_topics after.pid (left_with after after.cut_short) after.joined) mid new e → Played step (ends s) old new e
-  cut_short_gone u after old mid new e h p f j n played =
-      let asked : step old (untrack_all s.pid t) (Ok u) mid = rw pid_is at h in
-      let leaving : left_with after after.cut_short ≡ left_with s None = λ i js a. record { after = record { pid = p i; failed = failed_by (f i) a; joined = js; cut_short = n i }; answer = a } in
-      let rest : Played step (ends_topics s.pid (left_with s None) s.joined) mid new e = subst (λ (x : ℕ × (Leaving × List Joined)). Played step (ends_topics x.0 x.1.0 x.1.1) mid new e) (λ i. (p i, (leaving i, j i))) played in
-      rw cut_short (played_on step (untrack_all s.pid t) (then_topics s t) (Ok u) old mid new e asked rest)
+-- ---- the session
 
-  pub cut_short_kept : (f : ShardFault) (after : InForce) (old new : P) → step old (untrack_all pid t) (Err f) new
-      → after.pid ≡ s.pid → after.failed ≡ true → after.joined ≡ s.joined → after.cut_short ≡ s.cut_short
-      → Played step (ends s) old new (record { after = after; answer = Err f })
-  cut_short_kept f after old new h p g j n =
-      let asked : step old (untrack_all s.pid t) (Err f) new = rw pid_is at h in
-      let is : after ≡ record { pid = s.pid; failed = true; joined = s.joined; cut_short = Some t } = λ i. record { pid = p i; failed = g i; joined = j i; cut_short = (n ∙ cut_short) i } in
-      rw (cut_short, is) (played_on step (untrack_all s.pid t) (then_topics s t) (Err f) old new new _ asked (played_now step _ new))
+named_end : (s after : InForce) (a : Result (Unit {0}) ShardFault) (named : Option (List ℕ)) → after.pid ≡ s.pid → after.failed ≡ failed_by s.failed a → after.cut_short ≡ named
+    → left_with s named after.joined a ≡ record { after = after; answer = a }
+named_end s after a named p f n = sym (λ i. record { after = record { pid = p i; failed = f i; joined = after.joined; cut_short = n i }; answer = a })
+
+module _ {P : Type 0} (step : P → (q : Ask) → Answer q → P → Type 0) (s : InForce) where
+  -- the topics in force, where the session has come to this one
+  from_mid : (mids after : InForce) (leaving : Leaving) (a : Result (Unit {0}) ShardFault) (mid new : P) → mids.pid ≡ s.pid → mids.joined ≡ s.joined
+      → Played step (ends_topics mids.pid leaving mids.joined) mid new (leaving after.joined a) → Played step (ends_topics s.pid leaving s.joined) mid new (leaving after.joined a)
+  from_mid mids after leaving a mid new p j played = rw (p, j) at played
+
+  pub nothing_cut_short : (after : InForce) (a : Result (Unit {0}) ShardFault) (old new : P) → s.cut_short ≡ None → Keeps s after a
+      → Played step (ends_topics s.pid (left_with s None) s.joined) old new (left_with s None after.joined a) → Played step (ends s) old new (record { after = after; answer = a })
+  nothing_cut_short after a old new none keeps played =
+      let p : Played step (ends s) old new (left_with s None after.joined a) = rw none played in
+      subst (λ e. Played step (ends s) old new e) (named_end s after a None keeps.pid keeps.failed (keeps.cut_short ∙ none)) p
+
+  module _ (t : List ℕ) (named : s.cut_short ≡ Some t) (pid : ℕ) (pid_is : pid ≡ s.pid) (mids : InForce) (p : mids.pid ≡ s.pid) (j : mids.joined ≡ s.joined) where
+    pub cut_short_gone : (u : Unit {0}) (after : InForce) (a : Result (Unit {0}) ShardFault) (old mid new : P) → step old (untrack_all pid t) (Ok u) mid
+        → mids.failed ≡ s.failed → mids.cut_short ≡ None → Keeps mids after a
+        → Played step (ends_topics mids.pid (left_with s None) mids.joined) mid new (left_with s None after.joined a) → Played step (ends s) old new (record { after = after; answer = a })
+    cut_short_gone u after a old mid new h f n keeps played =
+        let asked : step old (untrack_all s.pid t) (Ok u) mid = rw pid_is at h in
+        let rest : Played step (then_topics s t (Ok u)) mid new (left_with s None after.joined a) = from_mid mids after (left_with s None) a mid new p j played in
+        let all : Played step (ends s) old new (left_with s None after.joined a) = rw named (played_on step (untrack_all s.pid t) (then_topics s t) (Ok u) old mid new _ asked rest) in
+        subst (λ e. Played step (ends s) old new e) (named_end s after a None (keeps.pid ∙ p) (keeps.failed ∙ ap (λ x. failed_by x a) f) (keeps.cut_short ∙ n)) all
+
+    pub cut_short_kept : (g : ShardFault) (later after : InForce) (old mid new : P) → step old (untrack_all pid t) (Err g) mid
+        → after.pid ≡ s.pid → after.failed ≡ true → after.joined ≡ later.joined → after.cut_short ≡ s.cut_short
+        → Played step (ends_topics mids.pid (λ js b. left_with s (Some t) js (Err g)) mids.joined) mid new (left_with s (Some t) later.joined (Err g))
+        → Played step (ends s) old new (record { after = after; answer = Err g })
+    cut_short_kept g later after old mid new h q f k n played =
+        let asked : step old (untrack_all s.pid t) (Err g) mid = rw pid_is at h in
+        let rest : Played step (then_topics s t (Err g)) mid new (left_with s (Some t) later.joined (Err g)) = from_mid mids later (λ js b. left_with s (Some t) js (Err g)) (Ok tt) mid new p j played in
+        let all : Played step (ends s) old new (left_with s (Some t) later.joined (Err g)) = rw named (played_on step (untrack_all s.pid t) (then_topics s t) (Err g) old mid new _ asked rest) in
+        subst (λ e. Played step (ends s) old new e) (ap (λ ks. left_with s (Some t) ks (Err g)) (sym k) ∙ named_end s after (Err g) (Some t) q f (n ∙ named)) all

@@ -20,51 +20,58 @@ pub record Played {P E : Type 0} (step : P → (q : Ask) → Answer q → P → 
   pub calls : Made step old made new
   pub plays : Plays script made end
 
--- the session that is left, and the refusal that kept a topic
+-- the session that is left, and the first refusal
 pub record Ended : Type 0 where
   pub after : InForce
   pub answer : Result (Unit {0}) ShardFault
 
--- what is left while these topics are to be ended yet
+-- what comes of these topics staying, and of this answer
 abbrev pub Leaving : Type 0
 Leaving = List Joined → Result (Unit {0}) ShardFault → Ended
 
--- the topic goes where its rows did
-abbrev pub then_drop : Leaving → List Joined → Script Ended → Result (Unit {0}) ShardFault → Script Ended
-then_drop leaving js next (Ok u) = next
-then_drop leaving js next (Err e) = done (leaving js (Err e))
-
 -- an unknown subscriber counts as gone
-abbrev pub then_rows : ℕ → List ℕ → Leaving → List Joined → Script Ended → Result (Unit {0}) ShardFault → Script Ended
-then_rows pid topic leaving js next (Ok u) = ask (untrack_all pid topic) (then_drop leaving js next)
-then_rows pid topic leaving js next (Err NoSub) = ask (untrack_all pid topic) (then_drop leaving js next)
-then_rows pid topic leaving js next (Err e) = done (leaving js (Err e))
+abbrev pub then_rows : ℕ → List ℕ → (Result (Unit {0}) ShardFault → Script Ended) → Result (Unit {0}) ShardFault → Script Ended
+then_rows pid topic next (Ok u) = ask (untrack_all pid topic) next
+then_rows pid topic next (Err NoSub) = ask (untrack_all pid topic) next
+then_rows pid topic next (Err e) = next (Err e)
 
--- both calls for a topic
-abbrev pub ends_topic : ℕ → List ℕ → Sub → Leaving → List Joined → Script Ended → Script Ended
-ends_topic pid topic sub leaving js next = ask (unsubscribe topic sub) (then_rows pid topic leaving js next)
+-- both calls for a topic; where the first is refused, the second isn't made
+abbrev pub ends_topic : ℕ → List ℕ → Sub → (Result (Unit {0}) ShardFault → Script Ended) → Script Ended
+ends_topic pid topic sub next = ask (unsubscribe topic sub) (then_rows pid topic next)
 
--- both calls for each topic, in order of joining
+-- a refused topic stays before those behind it, and its refusal is the first
+abbrev pub staying : Joined → Result (Unit {0}) ShardFault → Leaving → Leaving
+staying j (Ok u) leaving = leaving
+staying j (Err e) leaving = λ js a. leaving (j ∷ js) (Err e)
+
+-- both calls for each topic, in order of joining, whatever the others were answered
 abbrev pub ends_topics : ℕ → Leaving → List Joined → Script Ended
 ends_topics pid leaving [] = done (leaving [] (Ok tt))
-ends_topics pid leaving (j ∷ js) = ends_topic pid j.topic j.sub leaving (j ∷ js) (ends_topics pid leaving js)
+ends_topics pid leaving (j ∷ js) = ends_topic pid j.topic j.sub (λ r. ends_topics pid (staying j r leaving) js)
 
--- Both calls for a topic: whatever follows them is made from here on, or one was refused.
+-- Both calls for a topic: whatever follows them is made from here on.
 abbrev pub Gone : {P : Type 0} → (P → (q : Ask) → Answer q → P → Type 0) → ℕ → List ℕ → Sub → P → P → Result (Unit {0}) ShardFault → Type 0
-Gone {P} step pid topic sub old new (Ok u) = (leaving : Leaving) (js : List Joined) (next : Script Ended) (last : P) (e : Ended) → Played step next new last e → Played step (ends_topic pid topic sub leaving js next) old last e
-Gone step pid topic sub old new (Err e) = (leaving : Leaving) (js : List Joined) (next : Script Ended) → Played step (ends_topic pid topic sub leaving js next) old new (leaving js (Err e))
+Gone {P} step pid topic sub old new r =
+    (next : Result (Unit {0}) ShardFault → Script Ended) (last : P) (e : Ended) → Played step (next r) new last e → Played step (ends_topic pid topic sub next) old last e
 
 -- a session whose end was refused has failed
 abbrev pub failed_by : Bool → Result (Unit {0}) ShardFault → Bool
 failed_by failed (Ok u) = failed
 failed_by failed (Err e) = true
 
-abbrev pub left_with : InForce → Option (List ℕ) → Leaving
-left_with s cut_short js a = record { after = record { pid = s.pid; failed = failed_by s.failed a; joined = js; cut_short = cut_short }; answer = a }
+-- the session but for its topics: it has failed where one stays
+pub record Keeps (s after : InForce) (a : Result (Unit {0}) ShardFault) : Type 0 where
+  pub pid : after.pid ≡ s.pid
+  pub failed : after.failed ≡ failed_by s.failed a
+  pub cut_short : after.cut_short ≡ s.cut_short
 
+abbrev pub left_with : InForce → Option (List ℕ) → Leaving
+left_with s named js a = record { after = record { pid = s.pid; failed = failed_by s.failed a; joined = js; cut_short = named }; answer = a }
+
+-- The topic of a join that was cut short stays named where its rows did, and its refusal is the first.
 abbrev pub then_topics : InForce → List ℕ → Result (Unit {0}) ShardFault → Script Ended
 then_topics s t (Ok u) = ends_topics s.pid (left_with s None) s.joined
-then_topics s t (Err e) = done (left_with s (Some t) s.joined (Err e))
+then_topics s t (Err e) = ends_topics s.pid (λ js a. left_with s (Some t) js (Err e)) s.joined
 
 -- The rows of a join that was cut short go first: it has no subscriber.
 abbrev pub ends_cut_short : InForce → Option (List ℕ) → Script Ended

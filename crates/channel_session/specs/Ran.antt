@@ -1,5 +1,6 @@
 -- What a text did: the calls, the texts, and what is left after a fault.
-use Rattle.std.specs.Prelude.{◌≡◌, ◌⊎◌, ℕ, List, true, false, Option, None, Some, Result, Ok, Err, if◌then◌else◌}
+use Rattle.std.specs.Prelude.{◌≡◌, ◌⊎◌, ℕ, List, map, true, false, Option, None, Some, Result, Ok, Err, if◌then◌else◌, String, string_bytes, Vec}
+use Rattle.std.specs.Global.{Global}
 use Rattle.phx_message.specs.declared.message.Message.{Message}
 use Rattle.phx_message.specs.declared.message.MessageFault.{MessageFault}
 use Rattle.channel_session_rules.specs.Asks.{Ask, Answer}
@@ -55,7 +56,11 @@ EndedSo step routes s reading old new after (Err ShardFull) = (s.failed ≡ fals
 EndedSo step routes s reading old new after (Err OutOfMemory) = (s.failed ≡ false) × (Untouched s old new after ⊎ ReadAs step routes s reading old new after (Err OutOfMemory))
 EndedSo step routes s reading old new after (Ok texts) = (s.failed ≡ false) × ReadAs step routes s reading old new after (Ok texts)
 
--- the texts by their bytes
+-- texts by their bytes
+abbrev pub texts_in : Vec (String Global) Global → List (List ℕ)
+texts_in texts = map string_bytes texts.items
+
+-- the texts that were given
 abbrev pub texts_given : {T : Type 0} → (T → List (List ℕ)) → Result T SessionFault → Result (List (List ℕ)) SessionFault
 texts_given view (Ok texts) = Ok (view texts)
 texts_given view (Err fault) = Err fault

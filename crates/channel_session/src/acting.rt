@@ -1,10 +1,8 @@
 ghost use Rattle.std.specs.Prelude.{◌≡◌, ◌≤◌, ◌^◌, ◌-◌, length, None, Some, IsTrue, IfOk, OnErr, option_map};
 ghost use Rattle.presence_journal.specs.Limits.{is_payload};
-ghost use Rattle.channel_session_rules.specs.Asked.{asked as asked_of};
 ghost use Rattle.channel_session_rules.specs.InForce.{joined_of};
-ghost use Rattle.channel_session_rules.specs.Outcome.{Follows, seen};
-ghost use Rattle.channel_session_rules.specs.Replies.{reply_end};
-ghost use Rattle.channel_session_rules.specs.Rules.{find, on_leave, on_join, on_topic, by_kind, rules};
+ghost use Rattle.channel_session_rules.specs.Replies.{Acts};
+ghost use Rattle.channel_session_rules.specs.Rules.{find, join_at, join_rule, leave_rule, topic_rule, kind_rule, rules};
 
 use crate::session::Session;
 use channel_session_events::{
@@ -17,7 +15,8 @@ use std::alloc::{AllocError, Global};
 
 // The present join of the message's topic.
 fn place_of(session: &Session, message: &Message) -> Result<Option<Place>, AllocError>
-    ensures { IfOk result (λ o. option_map (λ s. joined_of (message.now.topic, s)) o ≡ find message.now.topic session.now.joined) }
+    ensures { IfOk result (λ o.
+        option_map (λ s. joined_of (message.now.topic, s)) o ≡ join_at session.now message.now) }
 {
     match session.topics.find(&message.topic) {
         Some(place) => Ok(Some(place.clone()?)),
@@ -34,7 +33,7 @@ fn run_join<P: Port>(
     message: &Message,
 ) -> Result<Reply, Stop>
     requires absent { find message.now.topic session.old.joined ≡ None }
-    ensures ran { Follows P.step (on_join session.old.pid (length session.old.joined) session.old None message.now (asked_of message.now.payload)) port.old port.new (seen (reply_end session.new) result) }
+    ensures ran { Acts P.step (join_rule session.old None message.now) port.old port.new session.new result }
     ensures err { OnErr result (session.new ≡ session.old) }
     ensures failed { session.new.failed ≡ session.old.failed }
 {
@@ -59,7 +58,9 @@ fn run_rejoin<P: Port>(
     message: &Message,
     place: &Place,
 ) -> Result<Reply, Stop>
-    ensures ran { Follows P.step (on_join session.old.pid (length session.old.joined) session.old (Some (joined_of (message.now.topic, place.now))) message.now (asked_of message.now.payload)) port.old port.new (seen (reply_end session.new) result) }
+    ensures ran { Acts P.step
+        (join_rule session.old (Some (joined_of (message.now.topic, place.now))) message.now)
+        port.old port.new session.new result }
     ensures err { OnErr result (session.new ≡ session.old) }
     ensures failed { session.new.failed ≡ session.old.failed }
 {
@@ -84,7 +85,9 @@ fn run_any_join<P: Port>(
     port: &mut P,
     message: &Message,
 ) -> Result<Reply, Stop>
-    ensures ran { Follows P.step (on_join session.old.pid (length session.old.joined) session.old (find message.now.topic session.old.joined) message.now (asked_of message.now.payload)) port.old port.new (seen (reply_end session.new) result) }
+    ensures ran { Acts P.step
+        (join_rule session.old (join_at session.old message.now) message.now)
+        port.old port.new session.new result }
     ensures err { OnErr result (session.new ≡ session.old) }
     ensures failed { session.new.failed ≡ session.old.failed }
 {
@@ -102,7 +105,9 @@ fn run_leave<P: Port>(
     message: &Message,
     place: &Place,
 ) -> Result<Reply, Stop>
-    ensures ran { Follows P.step (on_leave session.old.pid session.old (Some (joined_of (message.now.topic, place.now))) message.now) port.old port.new (seen (reply_end session.new) result) }
+    ensures ran { Acts P.step
+        (leave_rule session.old (Some (joined_of (message.now.topic, place.now))) message.now)
+        port.old port.new session.new result }
     ensures err { OnErr result (session.new ≡ session.old) }
     ensures failed { session.new.failed ≡ session.old.failed }
 {
@@ -122,7 +127,9 @@ fn run_any_leave<P: Port>(
     port: &mut P,
     message: &Message,
 ) -> Result<Reply, Stop>
-    ensures ran { Follows P.step (on_leave session.old.pid session.old (find message.now.topic session.old.joined) message.now) port.old port.new (seen (reply_end session.new) result) }
+    ensures ran { Acts P.step
+        (leave_rule session.old (join_at session.old message.now) message.now)
+        port.old port.new session.new result }
     ensures err { OnErr result (session.new ≡ session.old) }
     ensures failed { session.new.failed ≡ session.old.failed }
 {
@@ -141,7 +148,7 @@ fn topic_message<P: Port>(
     event: TopicEvent,
 ) -> Result<Reply, Stop>
     requires { IsTrue (is_payload message.now.payload) }
-    ensures { Follows P.step (on_topic session.now.pid session.now (find message.now.topic session.now.joined) message.now event) port.old port.new (seen (reply_end session.now) result) }
+    ensures { Acts P.step (topic_rule session.now message.now event) port.old port.new session.now result }
 {
     match session.topics.find(&message.topic) {
         Some(place) => topic_event(alloc, session.pid, &place.join_ref, port, message, event),
@@ -160,7 +167,9 @@ fn act_on<P: Port>(
     kind: EventKind,
 ) -> Result<Reply, Stop>
     requires { IsTrue (is_payload message.now.payload) }
-    ensures ran { Follows P.step (by_kind phoenix routed session.old.pid (length session.old.joined) session.old (find message.now.topic session.old.joined) message.now kind) port.old port.new (seen (reply_end session.new) result) }
+    ensures ran { Acts P.step
+        (kind_rule phoenix routed session.old message.now kind)
+        port.old port.new session.new result }
     ensures err { OnErr result (session.new ≡ session.old) }
     ensures failed { session.new.failed ≡ session.old.failed }
 {
@@ -194,7 +203,7 @@ pub(crate) fn act<P: Port>(
     message: &Message,
 ) -> Result<Reply, Stop>
     requires { IsTrue (is_payload message.now.payload) }
-    ensures ran { Follows P.step (rules routes.now session.old message.now) port.old port.new (seen (reply_end session.new) result) }
+    ensures ran { Acts P.step (rules routes.now session.old message.now) port.old port.new session.new result }
     ensures err { OnErr result (session.new ≡ session.old) }
     ensures failed { session.new.failed ≡ session.old.failed }
 {

@@ -1,7 +1,7 @@
 ghost use Rattle.std.specs.Prelude.{◌≡◌, ◌++◌, [], ℕ, List, map, drop, true, false, string_bytes, if◌then◌else◌, IsTrue, IfOk, Err};
 ghost use Rattle.presence_journal.specs.Limits.{is_take_limit};
 ghost use Rattle.channel_session.specs.Delivery.{delivers, Delivered, failing};
-ghost use Rattle.channel_session.specs.Ran.{fault_of, texts_given};
+ghost use Rattle.channel_session.specs.Ran.{fault_of, texts_given, texts_in};
 ghost use Rattle.channel_session_rules.specs.InForce.{InForce, joined_in};
 ghost use Rattle.channel_session_rules.specs.Outcome.{Follows, seen};
 ghost use Rattle.channel_session_rules.specs.Rules.{answers};
@@ -31,7 +31,9 @@ fn deliver_from<P: Port>(
     texts: Vec<String>,
 ) -> Result<Vec<String>, Stop>
     requires { IsTrue (is_take_limit max) }
-    ensures { (s : InForce) → Follows P.step (delivers max s (drop index (joined_in topics.now)) (map string_bytes texts.items)) port.old port.new (seen (λ out. answers (map string_bytes out.items) s) result) }
+    ensures { (s : InForce) → Follows P.step
+        (delivers max s (drop index (joined_in topics.now)) (texts_in texts))
+        port.old port.new (seen (λ out. answers (texts_in out) s) result) }
 {
     if index >= topics.len() {
         return Ok(texts);
@@ -74,7 +76,7 @@ fn deliver_texts<P: Port>(
     max: u32,
 ) -> Result<Vec<String>, SessionFault>
     requires { IsTrue (is_take_limit max) }
-    ensures { Delivered P.step max session.old port.old port.new session.new (texts_given (λ v. map string_bytes v.items) result) }
+    ensures { Delivered P.step max session.old port.old port.new session.new (texts_given texts_in result) }
 {
     match deliver_from(alloc, &session.topics, 0, port, max, Vec::new(alloc)) {
         Ok(texts) => Ok(texts),
@@ -94,8 +96,10 @@ pub fn deliver<P: Port>(
     max: u32,
 ) -> Result<Delivery, SessionFault>
     requires { IsTrue (is_take_limit max) }
-    ensures failed { session.old.failed ≡ true → (result ≡ Err SessionFault.Failed) × (session.new ≡ session.old) × (port.new ≡ port.old) }
-    ensures delivered { session.old.failed ≡ false → Delivered P.step max session.old port.old port.new session.new (texts_given (λ d. map string_bytes d.texts.items) result) }
+    ensures failed { session.old.failed ≡ true
+        → (result ≡ Err SessionFault.Failed) × (session.new ≡ session.old) × (port.new ≡ port.old) }
+    ensures delivered { session.old.failed ≡ false → Delivered P.step max session.old
+        port.old port.new session.new (texts_given (λ d. texts_in d.texts) result) }
     ensures notices { IfOk result (λ d. d.notices.items ≡ []) }
 {
     if session.failed {

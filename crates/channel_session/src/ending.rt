@@ -1,5 +1,5 @@
-ghost use Rattle.std.specs.Prelude.{◌≡◌, [], OnOk};
-ghost use Rattle.channel_session.specs.Ending.{Played, Gone, EndedBy, Leaving, ends_topics, ends, fault_of_refusal as fault_in, left_with, topics_named};
+ghost use Rattle.std.specs.Prelude.{◌≡◌, [], OnOk, take, drop};
+ghost use Rattle.channel_session.specs.Ending.{Played, Gone, Keeps, EndedBy, Leaving, ends_topics, ends, fault_of_refusal as fault_in, topics_named};
 ghost use Rattle.channel_session_rules.specs.InForce.{joined_in};
 
 use crate::fault::SessionFault;
@@ -26,25 +26,36 @@ fn end_topic<P: Port>(
     }
 }
 
-// Ends the topics in order of joining, up to the first whose calls are refused.
+// Ends the topics from this place on, in order of joining. One whose calls are refused stays, and
+// the first refusal is answered.
 fn end_topics<P: Port>(
     alloc: Global,
     pid: u64,
     topics: &mut Topics,
+    index: usize,
     port: &mut P,
 ) -> Result<(), ShardFault>
-    ensures empty { OnOk result (joined_in topics.new ≡ []) }
-    ensures played { (leaving : Leaving) → Played P.step (ends_topics pid leaving (joined_in topics.old)) port.old port.new (leaving (joined_in topics.new) result) }
+    ensures before { take index (joined_in topics.new) ≡ take index (joined_in topics.old) }
+    ensures empty { OnOk result (drop index (joined_in topics.new) ≡ []) }
+    ensures played { (leaving : Leaving) → Played P.step
+        (ends_topics pid leaving (drop index (joined_in topics.old))) port.old port.new
+        (leaving (drop index (joined_in topics.new)) result) }
 {
-    let Some((topic, place)) = topics.at(0) else {
+    if index >= topics.len() {
+        return Ok(());
+    }
+    let Some((topic, place)) = topics.at(index) else {
         return Ok(());
     };
     match end_topic(alloc, pid, topic, place, port) {
         Ok(()) => {
-            topics.drop_first();
-            end_topics(alloc, pid, topics, port)
+            topics.drop_at(index);
+            end_topics(alloc, pid, topics, index, port)
         }
-        Err(fault) => Err(fault),
+        Err(fault) => {
+            let _later = end_topics(alloc, pid, topics, index + 1, port);
+            Err(fault)
+        }
     }
 }
 
@@ -62,13 +73,14 @@ fn fault_of_refusal(fault: ShardFault) -> SessionFault
     }
 }
 
-// Ends the topics in force.
-fn end_rest<P: Port>(alloc: Global, session: &mut Session, port: &mut P) -> Result<(), ShardFault>
+// Ends the topics in force. A session in which one stays has failed.
+fn end_joined<P: Port>(alloc: Global, session: &mut Session, port: &mut P) -> Result<(), ShardFault>
     ensures empty { OnOk result (session.new.joined ≡ []) }
-    ensures cut_short { session.new.cut_short ≡ session.old.cut_short }
-    ensures played { Played P.step (ends_topics session.old.pid (left_with session.old session.old.cut_short) session.old.joined) port.old port.new (record { after = session.new; answer = result }) }
+    ensures kept { Keeps session.old session.new result }
+    ensures played { (leaving : Leaving) → Played P.step
+        (ends_topics session.old.pid leaving session.old.joined) port.old port.new (leaving session.new.joined result) }
 {
-    match end_topics(alloc, session.pid, &mut session.topics, port) {
+    match end_topics(alloc, session.pid, &mut session.topics, 0, port) {
         Ok(()) => Ok(()),
         Err(fault) => {
             session.failed = true;
@@ -80,16 +92,18 @@ fn end_rest<P: Port>(alloc: Global, session: &mut Session, port: &mut P) -> Resu
 // Ends the join that was cut short, and then the topics in force.
 fn end_calls<P: Port>(alloc: Global, session: &mut Session, port: &mut P) -> Result<(), ShardFault>
     ensures empty { OnOk result (topics_named session.new ≡ []) }
-    ensures played { Played P.step (ends session.old) port.old port.new (record { after = session.new; answer = result }) }
+    ensures played { Played P.step (ends session.old) port.old port.new
+        (record { after = session.new; answer = result }) }
 {
     match &session.cut_short {
-        None => end_rest(alloc, session, port),
+        None => end_joined(alloc, session, port),
         Some(topic) => match port.untrack_all(alloc, session.pid, topic) {
             Ok(()) => {
                 session.cut_short = None;
-                end_rest(alloc, session, port)
+                end_joined(alloc, session, port)
             }
             Err(fault) => {
+                let _later = end_joined(alloc, session, port);
                 session.failed = true;
                 Err(fault)
             }
@@ -101,8 +115,8 @@ fn end_calls<P: Port>(alloc: Global, session: &mut Session, port: &mut P) -> Res
 /// order of joining, its subscribers and rows. A topic is dropped when both its calls are done, an
 /// unknown subscriber counting as gone.
 ///
-/// It may be called again: a refusal keeps the topic and those behind it, and the session has
-/// failed then.
+/// A refusal keeps its topic, and the others are ended all the same: the first refusal is answered,
+/// and the session has failed then. `end` may be called again.
 pub fn end<P: Port>(alloc: Global, session: &mut Session, port: &mut P) -> Result<(), SessionFault>
     ensures ended { EndedBy P.step session.old port.old port.new session.new result }
     ensures empty { OnOk result (topics_named session.new ≡ []) }

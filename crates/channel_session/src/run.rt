@@ -2,7 +2,7 @@ ghost use Rattle.std.specs.Prelude.{◌≡◌, [], ◌≤◌, ◌+◌, map, stri
 ghost use Rattle.presence_journal.specs.Limits.{is_payload};
 ghost use Rattle.phx_message.specs.Reading.{decoded};
 ghost use Rattle.channel_session_rules.specs.Replies.{texts_of};
-ghost use Rattle.channel_session.specs.Ran.{MessageRan, EndedSo, texts_given, failed_at, fault_of};
+ghost use Rattle.channel_session.specs.Ran.{MessageRan, EndedSo, texts_given, failed_at, fault_of, texts_in};
 
 use crate::acting::act;
 use crate::fault::{SessionFault, fault_of_stop};
@@ -17,7 +17,7 @@ use std::alloc::Global;
 fn list_texts(mut texts: Vec<String>, reply: Reply) -> Vec<String>
     requires empty { texts.items ≡ [] }
     requires room { 2 ≤ vec_capacity texts }
-    ensures { map string_bytes result.items ≡ texts_of reply }
+    ensures { texts_in result ≡ texts_of reply }
 {
     match reply {
         Reply::Nothing => texts,
@@ -67,7 +67,8 @@ fn run_message<P: Port>(
     requires payload { IsTrue (is_payload message.payload) }
     requires empty { texts.items ≡ [] }
     requires room { 2 ≤ vec_capacity texts }
-    ensures { MessageRan P.step routes.now session.old message port.old port.new session.new (texts_given (λ v. map string_bytes v.items) result) }
+    ensures { MessageRan P.step routes.now session.old message
+        port.old port.new session.new (texts_given texts_in result) }
 {
     match act(alloc, session, port, routes, &message) {
         Ok(reply) => Ok(list_texts(texts, reply)),
@@ -90,7 +91,8 @@ pub fn run_text<P: Port>(
     routes: &Routes,
     text: &str,
 ) -> Result<Vec<String>, SessionFault>
-    ensures { EndedSo P.step routes.now session.old (decoded Limits.CLIENT text.now) port.old port.new session.new (texts_given (λ v. map string_bytes v.items) result) }
+    ensures { EndedSo P.step routes.now session.old (decoded Limits.CLIENT text.now)
+        port.old port.new session.new (texts_given texts_in result) }
 {
     if session.failed {
         return Err(SessionFault::Failed);

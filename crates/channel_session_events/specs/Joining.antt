@@ -1,12 +1,13 @@
 -- The two calls that end a join, and what a join gives back.
-use Rattle.std.specs.Prelude.{ℕ, List, [], ◌∷◌, ◌++◌, Option, None, Some, Result, Ok, Err, string_bytes}
+use Rattle.std.specs.Prelude.{ℕ, List, [], ◌∷◌, ◌++◌, Bool, Option, None, Some, Result, Ok, Err, string_bytes}
+use Rattle.phx_message.specs.Making.{closing}
 use Rattle.phx_message.specs.declared.message.Message.{Message}
 use Rattle.phx_message.specs.declared.message.MsgRef.{MsgRef}
 use Rattle.tracker_shard.specs.declared.shard.Sub.{Sub}
 use Rattle.channel_session_rules.specs.Asks.{Ask, Answer}
 use Rattle.channel_session_rules.specs.Script.{Script}
-use Rattle.channel_session_rules.specs.Rules.{Joined, InForce, End, answers, ended, joins}
-use Rattle.channel_session_rules.specs.Outcome.{Follows, spoilt}
+use Rattle.channel_session_rules.specs.Rules.{Joined, InForce, End, answers, ended, joins, text_of, ok, empty}
+use Rattle.channel_session_rules.specs.Outcome.{Follows, Gives, seen, spoilt}
 use Rattle.channel_session_rules.specs.declared.stop.Stop.{Stop}
 use Rattle.channel_session_events.specs.declared.joins.JoinReply.{JoinReply}
 use Rattle.channel_session_events.specs.declared.joins.RejoinReply.{RejoinReply}
@@ -26,3 +27,18 @@ join_end before s m r = answers (before ++ string_bytes r.text ∷ []) (joined_b
 
 abbrev pub rejoin_end : InForce → Message → RejoinReply → End
 rejoin_end s m r = join_end (string_bytes r.close ∷ []) s m r.join
+
+-- the calls of the join's rule were made, whatever went out before and is in force
+abbrev pub JoinRuns : {P : Type 0} → (P → (q : Ask) → Answer q → P → Type 0) → (List (List ℕ) → InForce → Script End) → Message → P → P → Result JoinReply Stop → Type 0
+JoinRuns step rule m old new result = (before : List (List ℕ)) (s : InForce) → Follows step (rule before s) old new (seen (join_end before s m) result)
+
+-- where it is at its end
+abbrev pub JoinRepliesWith : (List (List ℕ) → InForce → End) → Bool → Message → Result JoinReply Stop → Type 0
+JoinRepliesWith end spoiled m result = (before : List (List ℕ)) (s : InForce) → Gives (end before s) spoiled (seen (join_end before s m) result)
+
+abbrev pub RejoinRuns : {P : Type 0} → (P → (q : Ask) → Answer q → P → Type 0) → (InForce → Script End) → Message → P → P → Result RejoinReply Stop → Type 0
+RejoinRuns step rule m old new result = (s : InForce) → Follows step (rule s) old new (seen (rejoin_end s m) result)
+
+-- the reply to a leave, and the close behind it
+abbrev pub leave_end : Joined → Message → InForce → End
+leave_end j m s = answers (text_of (ok j.join_ref m empty) ∷ text_of (closing j.join_ref m.topic) ∷ []) s

@@ -1,11 +1,10 @@
-ghost use Rattle.std.specs.Prelude.{◌≡◌, ◌≤◌, ◌^◌, ℕ, List, [], ◌∷◌, IfOk, IsTrue, string_bytes, is_ok, option_map, codes, true, false};
+ghost use Rattle.std.specs.Prelude.{◌≡◌, ◌≤◌, ◌^◌, IfOk, IsTrue, string_bytes, is_ok, option_map, codes, true, false};
 ghost use Rattle.presence_journal.specs.Limits.{is_payload};
 ghost use Rattle.presence_metas.specs.Values.{state_of};
 ghost use Rattle.channel_session_rules.specs.Seen.{seen_by};
 ghost use Rattle.channel_session_rules.specs.Asked.{asked as asked_of, key_asked};
-ghost use Rattle.channel_session_rules.specs.Outcome.{Follows, Gives, seen};
-ghost use Rattle.channel_session_rules.specs.Rules.{InForce, End, answers, replied, said, says, error as error_message, ok as ok_message, full_reason as full_reason_of, track_reason as track_reason_of, update_reason as update_reason_of, on_ping, on_shout, on_track, on_update, on_untrack, on_list, on_get, on_unknown, text_of, told_ref, empty as empty_of};
-ghost use Rattle.channel_session_rules.specs.Replies.{reply_end};
+ghost use Rattle.channel_session_rules.specs.Rules.{said, says_ok, says_error, after_shout, after_track, after_update, after_untrack, after_list, ok as ok_message, on_ping, on_shout, on_track, on_update, on_untrack, on_list, on_get, on_unknown, text_of, told_ref, empty as empty_of};
+ghost use Rattle.channel_session_rules.specs.Replies.{Runs, RepliesWith};
 
 use channel_session_rules::{
     Asked, Port, Reply, Stop, empty_object, error_text, full_reason, ok_text, read_asked, read_key,
@@ -24,7 +23,8 @@ fn refused(
     fault: ShardFault,
     reason: Option<&'static str>,
 ) -> Result<Reply, Stop>
-    ensures { (s : InForce) → Gives (said (λ t. says (error_message join_ref.now message.now t ∷ []) s) fault (option_map (λ r. r.now) reason.entry)) false (seen (reply_end s) result) }
+    ensures { RepliesWith (λ s. said (λ t. says_error join_ref.now message.now t s) fault
+        (option_map (λ r. r.now) reason.entry)) false result }
 {
     match reason {
         Some(reason) => Ok(Reply::One(error_text(alloc, join_ref, message, reason)?)),
@@ -34,7 +34,7 @@ fn refused(
 
 // The reply that the payload is none that the event takes.
 fn bad_payload(alloc: Global, join_ref: &Option<MsgRef>, message: &Message) -> Result<Reply, Stop>
-    ensures { (s : InForce) → Gives (says (error_message join_ref.now message.now (codes "bad payload") ∷ []) s) false (seen (reply_end s) result) }
+    ensures { RepliesWith (says_error join_ref.now message.now (codes "bad payload")) false result }
 {
     Ok(Reply::One(error_text(alloc, join_ref, message, "bad payload")?))
 }
@@ -46,7 +46,7 @@ pub(crate) fn ping<P: Port>(
     message: &Message,
 ) -> Result<Reply, Stop>
     requires { IsTrue (is_payload message.now.payload) }
-    ensures { (s : InForce) → Follows P.step (on_ping s join_ref.now message.now) port.old port.new (seen (reply_end s) result) }
+    ensures { Runs P.step (λ s. on_ping s join_ref.now message.now) port.old port.new result }
 {
     let payload = message.payload.clone()?;
     Ok(Reply::One(ok_text(alloc, join_ref, message, payload)?))
@@ -58,7 +58,7 @@ pub(crate) fn unknown<P: Port>(
     port: &mut P,
     message: &Message,
 ) -> Result<Reply, Stop>
-    ensures { (s : InForce) → Follows P.step (on_unknown s join_ref.now message.now) port.old port.new (seen (reply_end s) result) }
+    ensures { Runs P.step (λ s. on_unknown s join_ref.now message.now) port.old port.new result }
 {
     Ok(Reply::One(error_text(alloc, join_ref, message, "unknown event")?))
 }
@@ -70,7 +70,7 @@ fn shouted(
     message: &Message,
     answer: Result<(), ShardFault>,
 ) -> Result<Reply, Stop>
-    ensures { (s : InForce) → Gives (replied s join_ref.now message.now (full_reason_of true) (λ u. []) answer) (is_ok answer) (seen (reply_end s) result) }
+    ensures { RepliesWith (λ s. after_shout s join_ref.now message.now answer) (is_ok answer) result }
 {
     match answer {
         Ok(()) => Ok(Reply::Nothing),
@@ -85,7 +85,7 @@ pub(crate) fn shout<P: Port>(
     message: &Message,
 ) -> Result<Reply, Stop>
     requires { IsTrue (is_payload message.now.payload) }
-    ensures { (s : InForce) → Follows P.step (on_shout s join_ref.now message.now) port.old port.new (seen (reply_end s) result) }
+    ensures { Runs P.step (λ s. on_shout s join_ref.now message.now) port.old port.new result }
 {
     let answer = port.shout(alloc, &message.topic, &message.payload);
     shouted(alloc, join_ref, message, answer)
@@ -111,7 +111,7 @@ fn told(
     message: &Message,
     dot: &Dot,
 ) -> Result<Reply, Stop>
-    ensures { (s : InForce) → Gives (says (ok_message join_ref.now message.now (told_ref dot.now) ∷ []) s) true (seen (reply_end s) result) }
+    ensures { RepliesWith (says_ok join_ref.now message.now (told_ref dot.now)) true result }
 {
     match spoiling(ref_reply(alloc, join_ref, message, dot)) {
         Ok(text) => Ok(Reply::One(text)),
@@ -126,7 +126,7 @@ fn tracked(
     message: &Message,
     answer: Result<Dot, ShardFault>,
 ) -> Result<Reply, Stop>
-    ensures { (s : InForce) → Gives (replied s join_ref.now message.now (track_reason_of true) (λ d. ok_message join_ref.now message.now (told_ref d) ∷ []) answer) (is_ok answer) (seen (reply_end s) result) }
+    ensures { RepliesWith (λ s. after_track s join_ref.now message.now answer) (is_ok answer) result }
 {
     match answer {
         Ok(dot) => told(alloc, join_ref, message, &dot),
@@ -141,7 +141,7 @@ fn updated(
     message: &Message,
     answer: Result<Dot, ShardFault>,
 ) -> Result<Reply, Stop>
-    ensures { (s : InForce) → Gives (replied s join_ref.now message.now update_reason_of (λ d. ok_message join_ref.now message.now (told_ref d) ∷ []) answer) (is_ok answer) (seen (reply_end s) result) }
+    ensures { RepliesWith (λ s. after_update s join_ref.now message.now answer) (is_ok answer) result }
 {
     match answer {
         Ok(dot) => told(alloc, join_ref, message, &dot),
@@ -158,7 +158,7 @@ fn track_asked<P: Port>(
     asked: Asked,
 ) -> Result<Reply, Stop>
     requires { pid ≤ 2 ^ 62 }
-    ensures { (s : InForce) → Follows P.step (on_track pid s join_ref.now message.now asked) port.old port.new (seen (reply_end s) result) }
+    ensures { Runs P.step (λ s. on_track pid s join_ref.now message.now asked) port.old port.new result }
 {
     match asked {
         Asked::Wants(key, meta) => {
@@ -178,7 +178,7 @@ pub(crate) fn track<P: Port>(
     message: &Message,
 ) -> Result<Reply, Stop>
     requires { pid ≤ 2 ^ 62 }
-    ensures { (s : InForce) → Follows P.step (on_track pid s join_ref.now message.now (asked_of message.now.payload)) port.old port.new (seen (reply_end s) result) }
+    ensures { Runs P.step (λ s. on_track pid s join_ref.now message.now (asked_of message.now.payload)) port.old port.new result }
 {
     let asked = read_asked(alloc, message.payload.as_value())?;
     track_asked(alloc, pid, join_ref, port, message, asked)
@@ -193,7 +193,7 @@ fn update_asked<P: Port>(
     asked: Asked,
 ) -> Result<Reply, Stop>
     requires { pid ≤ 2 ^ 62 }
-    ensures { (s : InForce) → Follows P.step (on_update pid s join_ref.now message.now asked) port.old port.new (seen (reply_end s) result) }
+    ensures { Runs P.step (λ s. on_update pid s join_ref.now message.now asked) port.old port.new result }
 {
     match asked {
         Asked::Wants(key, meta) => {
@@ -213,7 +213,7 @@ pub(crate) fn update<P: Port>(
     message: &Message,
 ) -> Result<Reply, Stop>
     requires { pid ≤ 2 ^ 62 }
-    ensures { (s : InForce) → Follows P.step (on_update pid s join_ref.now message.now (asked_of message.now.payload)) port.old port.new (seen (reply_end s) result) }
+    ensures { Runs P.step (λ s. on_update pid s join_ref.now message.now (asked_of message.now.payload)) port.old port.new result }
 {
     let asked = read_asked(alloc, message.payload.as_value())?;
     update_asked(alloc, pid, join_ref, port, message, asked)
@@ -238,7 +238,7 @@ fn untracked(
     message: &Message,
     answer: Result<(), ShardFault>,
 ) -> Result<Reply, Stop>
-    ensures { (s : InForce) → Gives (replied s join_ref.now message.now (full_reason_of true) (λ u. ok_message join_ref.now message.now empty_of ∷ []) answer) (is_ok answer) (seen (reply_end s) result) }
+    ensures { RepliesWith (λ s. after_untrack s join_ref.now message.now answer) (is_ok answer) result }
 {
     match answer {
         Ok(()) => match spoiling(empty_reply(alloc, join_ref, message)) {
@@ -257,7 +257,7 @@ fn untrack_asked<P: Port>(
     message: &Message,
     key: Option<Key>,
 ) -> Result<Reply, Stop>
-    ensures { (s : InForce) → Follows P.step (on_untrack pid s join_ref.now message.now key) port.old port.new (seen (reply_end s) result) }
+    ensures { Runs P.step (λ s. on_untrack pid s join_ref.now message.now key) port.old port.new result }
 {
     match key {
         Some(key) => {
@@ -275,7 +275,7 @@ pub(crate) fn untrack<P: Port>(
     port: &mut P,
     message: &Message,
 ) -> Result<Reply, Stop>
-    ensures { (s : InForce) → Follows P.step (on_untrack pid s join_ref.now message.now (key_asked message.now.payload)) port.old port.new (seen (reply_end s) result) }
+    ensures { Runs P.step (λ s. on_untrack pid s join_ref.now message.now (key_asked message.now.payload)) port.old port.new result }
 {
     let key = read_key(alloc, message.payload.as_value())?;
     untrack_asked(alloc, pid, join_ref, port, message, key)
@@ -301,7 +301,8 @@ fn listed(
     message: &Message,
     answer: Result<Vec<(Dot, Row)>, ShardFault>,
 ) -> Result<Reply, Stop>
-    ensures { (s : InForce) → Gives (replied s join_ref.now message.now (full_reason_of true) (λ rows. ok_message join_ref.now message.now (state_of rows) ∷ []) (seen_by (λ v. v.items) answer)) (is_ok (seen_by (λ v. v.items) answer)) (seen (reply_end s) result) }
+    ensures { RepliesWith (λ s. after_list s join_ref.now message.now (seen_by (λ v. v.items) answer))
+        (is_ok (seen_by (λ v. v.items) answer)) result }
 {
     match answer {
         Ok(rows) => match spoiling(rows_reply(alloc, join_ref, message, &rows)) {
@@ -318,7 +319,7 @@ pub(crate) fn list<P: Port>(
     port: &mut P,
     message: &Message,
 ) -> Result<Reply, Stop>
-    ensures { (s : InForce) → Follows P.step (on_list s join_ref.now message.now) port.old port.new (seen (reply_end s) result) }
+    ensures { Runs P.step (λ s. on_list s join_ref.now message.now) port.old port.new result }
 {
     let answer = port.list(alloc, &message.topic);
     listed(alloc, join_ref, message, answer)
@@ -331,7 +332,7 @@ fn get_asked<P: Port>(
     message: &Message,
     key: Option<Key>,
 ) -> Result<Reply, Stop>
-    ensures { (s : InForce) → Follows P.step (on_get s join_ref.now message.now key) port.old port.new (seen (reply_end s) result) }
+    ensures { Runs P.step (λ s. on_get s join_ref.now message.now key) port.old port.new result }
 {
     match key {
         Some(key) => {
@@ -348,7 +349,7 @@ pub(crate) fn get<P: Port>(
     port: &mut P,
     message: &Message,
 ) -> Result<Reply, Stop>
-    ensures { (s : InForce) → Follows P.step (on_get s join_ref.now message.now (key_asked message.now.payload)) port.old port.new (seen (reply_end s) result) }
+    ensures { Runs P.step (λ s. on_get s join_ref.now message.now (key_asked message.now.payload)) port.old port.new result }
 {
     let key = read_key(alloc, message.payload.as_value())?;
     get_asked(alloc, join_ref, port, message, key)

@@ -1,13 +1,12 @@
 ghost use Rattle.std.specs.Prelude.{◌≡◌, ◌++◌, ◌≤◌, ◌^◌, ℕ, List, [], ◌∷◌, IfOk, IfErr, string_bytes, option_map, is_ok, false, true, Some};
 ghost use Rattle.serde_json.specs.Written.{has_float as float_within};
 ghost use Rattle.serde_json.specs.Data.{Data};
-ghost use Rattle.phx_message.specs.Making.{closing};
 ghost use Rattle.channel_session_rules.specs.Asked.{asked as asked_of};
 ghost use Rattle.channel_session_rules.specs.InForce.{joined_of};
-ghost use Rattle.channel_session_events.specs.Joining.{Leads, join_end, rejoin_end};
-ghost use Rattle.channel_session_rules.specs.Outcome.{Follows, Gives, seen};
-ghost use Rattle.channel_session_rules.specs.Replies.{reply_end};
-ghost use Rattle.channel_session_rules.specs.Rules.{InForce, answers, said, refuses, after_subscribe, subscribes, tracks, join_asked as join_asked_rule, join_ref_of as join_ref_in, text_of, told_ref, empty as empty_of, ok as ok_message, on_leave, rejoins, says, left};
+ghost use Rattle.channel_session_events.specs.Joining.{Leads, JoinRuns, JoinRepliesWith, RejoinRuns, join_end, leave_end};
+ghost use Rattle.channel_session_rules.specs.Outcome.{Follows, seen};
+ghost use Rattle.channel_session_rules.specs.Replies.{Acts, RepliesWith, reply_end};
+ghost use Rattle.channel_session_rules.specs.Rules.{InForce, said, refuses, after_subscribe, subscribes, tracks, join_asked as join_asked_rule, join_ref_of as join_ref_in, text_of, told_ref, empty as empty_of, ok as ok_message, on_leave, rejoins, says_ok, left};
 
 use channel_session_rules::{
     Asked, MAX_TOPICS, Place, Port, Reply, Stop, close_text, empty_object, error_text, full_reason,
@@ -56,7 +55,8 @@ pub fn join_ref_for(message: &Message) -> &Option<MsgRef>
 
 // The reply of a join that is refused for this reason.
 fn refusing(alloc: Global, message: &Message, reason: &str) -> Result<JoinReply, Stop>
-    ensures { (before : List (List ℕ)) (s : InForce) → Gives (refuses before s message.now reason.now) false (seen (join_end before s message.now) result) }
+    ensures { JoinRepliesWith
+        (λ before s. refuses before s message.now reason.now) false message.now result }
 {
     let text = error_text(alloc, join_ref_for(message), message, reason)?;
     Ok(JoinReply { text, sub: None })
@@ -69,7 +69,8 @@ fn refused_join(
     fault: ShardFault,
     reason: Option<&'static str>,
 ) -> Result<JoinReply, Stop>
-    ensures { (before : List (List ℕ)) (s : InForce) → Gives (said (refuses before s message.now) fault (option_map (λ r. r.now) reason.entry)) false (seen (join_end before s message.now) result) }
+    ensures { JoinRepliesWith
+        (λ before s. said (refuses before s message.now) fault (option_map (λ r. r.now) reason.entry)) false message.now result }
 {
     match reason {
         Some(reason) => refusing(alloc, message, reason),
@@ -85,8 +86,11 @@ fn subscribed(
     text: String,
     answer: Result<Sub, ShardFault>,
 ) -> Result<JoinReply, Stop>
-    ensures gives { (response : Data) → string_bytes text ≡ text_of (ok_message (join_ref_in message.now) message.now response)
-        → (before : List (List ℕ)) (s : InForce) → Gives (after_subscribe first before s message.now response answer) (is_ok answer) (seen (join_end before s message.now) result) }
+    ensures gives { (response : Data)
+        → string_bytes text ≡ text_of (ok_message (join_ref_in message.now) message.now response)
+        → JoinRepliesWith
+        (λ before s. after_subscribe first before s message.now response answer)
+        (is_ok answer) message.now result }
     ensures heeds { IfErr result (λ _. is_ok answer ≡ false) }
 {
     match answer {
@@ -107,7 +111,9 @@ fn subscribe_with<P: Port>(
     response: Json,
 ) -> Result<JoinReply, Stop>
     requires whole { float_within response ≡ false }
-    ensures { (before : List (List ℕ)) (s : InForce) → Follows P.step (subscribes first before s message.now response) port.old port.new (seen (join_end before s message.now) result) }
+    ensures { JoinRuns P.step
+        (λ before s. subscribes first before s message.now response)
+        message.now port.old port.new result }
 {
     let text = ok_text(alloc, join_ref_for(message), message, response)?;
     let answer = port.subscribe(alloc, &message.topic);
@@ -120,7 +126,9 @@ fn subscribe_plain<P: Port>(
     port: &mut P,
     message: &Message,
 ) -> Result<JoinReply, Stop>
-    ensures { (before : List (List ℕ)) (s : InForce) → Follows P.step (subscribes first before s message.now empty_of) port.old port.new (seen (join_end before s message.now) result) }
+    ensures { JoinRuns P.step
+        (λ before s. subscribes first before s message.now empty_of)
+        message.now port.old port.new result }
 {
     let response = empty_object(alloc);
     subscribe_with(alloc, first, port, message, response)
@@ -132,7 +140,9 @@ fn subscribe_told<P: Port>(
     message: &Message,
     dot: &Dot,
 ) -> Result<JoinReply, Stop>
-    ensures { (before : List (List ℕ)) (s : InForce) → Follows P.step (subscribes false before s message.now (told_ref dot.now)) port.old port.new (seen (join_end before s message.now) result) }
+    ensures { JoinRuns P.step
+        (λ before s. subscribes false before s message.now (told_ref dot.now))
+        message.now port.old port.new result }
 {
     let response = ref_response(alloc, dot)?;
     subscribe_with(alloc, false, port, message, response)
@@ -148,7 +158,9 @@ fn track_then_subscribe<P: Port>(
     meta: &Meta,
 ) -> Result<JoinReply, Stop>
     requires { pid ≤ 2 ^ 62 }
-    ensures { (before : List (List ℕ)) (s : InForce) → Follows P.step (tracks pid first before s message.now key.now meta.now) port.old port.new (seen (join_end before s message.now) result) }
+    ensures { JoinRuns P.step
+        (λ before s. tracks pid first before s message.now key.now meta.now)
+        message.now port.old port.new result }
 {
     match port.track(alloc, pid, &message.topic, key, meta) {
         Ok(dot) => {
@@ -170,7 +182,9 @@ fn join_asked<P: Port>(
     asked: Asked,
 ) -> Result<JoinReply, Stop>
     requires { pid ≤ 2 ^ 62 }
-    ensures { (before : List (List ℕ)) (s : InForce) → Follows P.step (join_asked_rule pid count first before s message.now asked) port.old port.new (seen (join_end before s message.now) result) }
+    ensures { JoinRuns P.step
+        (λ before s. join_asked_rule pid count first before s message.now asked)
+        message.now port.old port.new result }
 {
     match asked {
         Asked::Bad => refusing(alloc, message, "bad payload"),
@@ -200,7 +214,9 @@ pub fn join<P: Port>(
     message: &Message,
 ) -> Result<JoinReply, Stop>
     requires { pid ≤ 2 ^ 62 }
-    ensures { (s : InForce) → Follows P.step (join_asked_rule pid count true [] s message.now (asked_of message.now.payload)) port.old port.new (seen (join_end [] s message.now) result) }
+    ensures { (s : InForce) → Follows P.step
+        (join_asked_rule pid count true [] s message.now (asked_of message.now.payload))
+        port.old port.new (seen (join_end [] s message.now) result) }
 {
     let asked = read_asked(alloc, message.payload.as_value())?;
     join_asked(alloc, pid, count, true, port, message, asked)
@@ -224,7 +240,9 @@ fn join_behind<P: Port>(
     close: String,
 ) -> Result<RejoinReply, Stop>
     requires { pid ≤ 2 ^ 62 }
-    ensures { (s : InForce) → Follows P.step (join_asked_rule pid count false (string_bytes close ∷ []) s message.now asked) port.old port.new (seen (rejoin_end s message.now) result) }
+    ensures { RejoinRuns P.step
+        (λ s. join_asked_rule pid count false (string_bytes close ∷ []) s message.now asked)
+        message.now port.old port.new result }
 {
     match join_asked(alloc, pid, count, false, port, message, asked) {
         Ok(join) => Ok(RejoinReply { close, join }),
@@ -242,7 +260,10 @@ pub fn rejoin<P: Port>(
     message: &Message,
 ) -> Result<RejoinReply, Stop>
     requires { pid ≤ 2 ^ 62 }
-    ensures { (s : InForce) → Follows P.step (rejoins pid count (joined_of (message.now.topic, place.now)) s message.now (asked_of message.now.payload)) port.old port.new (seen (rejoin_end s message.now) result) }
+    ensures { RejoinRuns P.step
+        (λ s. rejoins pid count (joined_of (message.now.topic, place.now)) s message.now
+        (asked_of message.now.payload))
+        message.now port.old port.new result }
 {
     let close = close_text(alloc, &place.join_ref, &message.topic)?;
     let asked = read_asked(alloc, message.payload.as_value())?;
@@ -257,7 +278,8 @@ pub fn rejoin<P: Port>(
 
 // The reply to a leave, and the close behind it.
 fn leave_texts(alloc: Global, place: &Place, message: &Message) -> Result<Reply, AllocError>
-    ensures { IfOk result (λ r. (s : InForce) → reply_end s r ≡ answers (text_of (ok_message place.now.join_ref message.now empty_of) ∷ text_of (closing place.now.join_ref message.now.topic) ∷ []) s) }
+    ensures { IfOk result (λ r. (s : InForce)
+        → reply_end s r ≡ leave_end (joined_of (message.now.topic, place.now)) message.now s) }
 {
     let response = empty_object(alloc);
     let text = ok_text(alloc, &place.join_ref, message, response)?;
@@ -273,7 +295,9 @@ pub fn leave<P: Port>(
     port: &mut P,
     message: &Message,
 ) -> Result<Reply, Stop>
-    ensures { (s after : InForce) → after ≡ left s message.now.topic → Follows P.step (on_leave pid s (Some (joined_of (message.now.topic, place.now))) message.now) port.old port.new (seen (reply_end after) result) }
+    ensures { (s after : InForce) → after ≡ left s message.now.topic → Acts P.step
+        (on_leave pid s (Some (joined_of (message.now.topic, place.now))) message.now)
+        port.old port.new after result }
 {
     let reply = leave_texts(alloc, place, message)?;
     match end_join(alloc, pid, &message.topic, place, port) {
@@ -284,7 +308,7 @@ pub fn leave<P: Port>(
 
 /// A leave of a topic that is not joined.
 pub fn leave_nothing(alloc: Global, message: &Message) -> Result<Reply, Stop>
-    ensures { (s : InForce) → Gives (says (ok_message message.now.join_ref message.now empty_of ∷ []) s) false (seen (reply_end s) result) }
+    ensures { RepliesWith (says_ok message.now.join_ref message.now empty_of) false result }
 {
     let response = empty_object(alloc);
     Ok(Reply::One(ok_text(alloc, &message.join_ref, message, response)?))

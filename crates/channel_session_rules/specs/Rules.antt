@@ -4,6 +4,7 @@ use Rattle.std.specs.Str.{bytes_eq}
 use Rattle.serde_json.specs.Data.{Data, string, object, no_members, member}
 use Rattle.serde_json.specs.Written.{compact_text}
 use Rattle.presence_base.specs.declared.dots.Dot.{Dot}
+use Rattle.presence_base.specs.declared.row.Row.{Row}
 use Rattle.presence_base.specs.Refs.{ref_of}
 use Rattle.phx_message.specs.declared.message.MsgRef.{MsgRef}
 use Rattle.phx_message.specs.declared.message.Message.{Message}
@@ -51,6 +52,13 @@ ok r m response = ok_reply r m.msg_ref m.topic response
 abbrev pub error : Option MsgRef → Message → List ℕ → Message
 error r m reason = error_reply r m.msg_ref m.topic reason
 
+-- a reply goes out
+abbrev pub says_ok : Option MsgRef → Message → Data → InForce → End
+says_ok r m response s = says (ok r m response ∷ []) s
+
+abbrev pub says_error : Option MsgRef → Message → List ℕ → InForce → End
+says_error r m reason s = says (error r m reason ∷ []) s
+
 -- the response that tells a reference
 abbrev pub told_ref : Dot → Data
 told_ref d = object (member (codes "phx_ref") (string (ref_of d)) no_members)
@@ -86,36 +94,52 @@ abbrev pub replied : {A : Type 0} → InForce → Option MsgRef → Message → 
 replied s r m reason reply (Ok x) = says (reply x) s
 replied s r m reason reply (Err e) = said (λ t. says (error r m t ∷ []) s) e (reason e)
 
+-- what the port's answers lead to
+abbrev pub after_shout : InForce → Option MsgRef → Message → Result (Unit {0}) ShardFault → End
+after_shout s r m a = replied s r m (full_reason true) (λ u. []) a
+
+abbrev pub after_track : InForce → Option MsgRef → Message → Result Dot ShardFault → End
+after_track s r m a = replied s r m (track_reason true) (λ d. ok r m (told_ref d) ∷ []) a
+
+abbrev pub after_update : InForce → Option MsgRef → Message → Result Dot ShardFault → End
+after_update s r m a = replied s r m update_reason (λ d. ok r m (told_ref d) ∷ []) a
+
+abbrev pub after_untrack : InForce → Option MsgRef → Message → Result (Unit {0}) ShardFault → End
+after_untrack s r m a = replied s r m (full_reason true) (λ u. ok r m empty ∷ []) a
+
+abbrev pub after_list : InForce → Option MsgRef → Message → Result (List (Dot × Row)) ShardFault → End
+after_list s r m a = replied s r m (full_reason true) (λ rows. ok r m (state_of rows) ∷ []) a
+
 abbrev pub bad_payload : InForce → Option MsgRef → Message → Script End
-bad_payload s r m = done (says (error r m (codes "bad payload") ∷ []) s)
+bad_payload s r m = done (says_error r m (codes "bad payload") s)
 
 abbrev pub on_ping : InForce → Option MsgRef → Message → Script End
-on_ping s r m = done (says (ok r m m.payload ∷ []) s)
+on_ping s r m = done (says_ok r m m.payload s)
 
 abbrev pub on_shout : InForce → Option MsgRef → Message → Script End
-on_shout s r m = ask (shout m.topic m.payload) (λ a. done (replied s r m (full_reason true) (λ u. []) a))
+on_shout s r m = ask (shout m.topic m.payload) (λ a. done (after_shout s r m a))
 
 abbrev pub on_track : ℕ → InForce → Option MsgRef → Message → Asked → Script End
-on_track pid s r m (Wants key meta) = ask (track pid m.topic key meta) (λ a. done (replied s r m (track_reason true) (λ d. ok r m (told_ref d) ∷ []) a))
+on_track pid s r m (Wants key meta) = ask (track pid m.topic key meta) (λ a. done (after_track s r m a))
 on_track pid s r m _ = bad_payload s r m
 
 abbrev pub on_update : ℕ → InForce → Option MsgRef → Message → Asked → Script End
-on_update pid s r m (Wants key meta) = ask (update pid m.topic key meta) (λ a. done (replied s r m update_reason (λ d. ok r m (told_ref d) ∷ []) a))
+on_update pid s r m (Wants key meta) = ask (update pid m.topic key meta) (λ a. done (after_update s r m a))
 on_update pid s r m _ = bad_payload s r m
 
 abbrev pub on_untrack : ℕ → InForce → Option MsgRef → Message → Option (List ℕ) → Script End
-on_untrack pid s r m (Some key) = ask (untrack pid m.topic key) (λ a. done (replied s r m (full_reason true) (λ u. ok r m empty ∷ []) a))
+on_untrack pid s r m (Some key) = ask (untrack pid m.topic key) (λ a. done (after_untrack s r m a))
 on_untrack pid s r m None = bad_payload s r m
 
 abbrev pub on_list : InForce → Option MsgRef → Message → Script End
-on_list s r m = ask (list m.topic) (λ a. done (replied s r m (full_reason true) (λ rows. ok r m (state_of rows) ∷ []) a))
+on_list s r m = ask (list m.topic) (λ a. done (after_list s r m a))
 
 abbrev pub on_get : InForce → Option MsgRef → Message → Option (List ℕ) → Script End
-on_get s r m (Some key) = ask (get m.topic key) (λ a. done (replied s r m (full_reason true) (λ rows. ok r m (state_of rows) ∷ []) a))
+on_get s r m (Some key) = ask (get m.topic key) (λ a. done (after_list s r m a))
 on_get s r m None = bad_payload s r m
 
 abbrev pub on_unknown : InForce → Option MsgRef → Message → Script End
-on_unknown s r m = done (says (error r m (codes "unknown event") ∷ []) s)
+on_unknown s r m = done (says_error r m (codes "unknown event") s)
 
 -- ---- the end of a join
 
@@ -133,7 +157,7 @@ ended pid topic sub next = ask (unsubscribe topic sub) (then_next (ask (untrack_
 -- a leave of a topic that isn't joined is answered ok under the message's own join reference
 abbrev pub on_leave : ℕ → InForce → Option Joined → Message → Script End
 on_leave pid s (Some j) m = ended pid m.topic j.sub (done (says (ok j.join_ref m empty ∷ closing j.join_ref m.topic ∷ []) (left s m.topic)))
-on_leave pid s None m = done (says (ok m.join_ref m empty ∷ []) s)
+on_leave pid s None m = done (says_ok m.join_ref m empty s)
 
 -- ---- joins: `before` went out before the join's own reply, `first` tells whether its first call is the text's
 
@@ -189,10 +213,10 @@ on_join pid count s (Some j) m a = rejoins pid (count - 1) j (left s m.topic) m 
 -- ---- the whole table, in the order in which the rules are tried
 
 abbrev pub unmatched : InForce → Message → Script End
-unmatched s m = done (says (error m.join_ref m (codes "unmatched topic") ∷ []) s)
+unmatched s m = done (says_error m.join_ref m (codes "unmatched topic") s)
 
 abbrev pub on_heartbeat : InForce → Message → Script End
-on_heartbeat s m = done (says (ok None m empty ∷ []) s)
+on_heartbeat s m = done (says_ok None m empty s)
 
 abbrev pub on_event : ℕ → InForce → Option MsgRef → Message → TopicEvent → Script End
 on_event pid s r m events_are.Ping = on_ping s r m
@@ -240,5 +264,23 @@ kind_of event =
     else (if bytes_eq event (codes "phx_leave") then kinds_are.Leave
     else kinds_are.Topic (topic_event_of event)))
 
+-- ---- the rules of a session as it stands
+
+-- the join of the message's topic
+abbrev pub join_at : InForce → Message → Option Joined
+join_at s m = find m.topic s.joined
+
+abbrev pub join_rule : InForce → Option Joined → Message → Script End
+join_rule s j m = on_join s.pid (length s.joined) s j m (asked m.payload)
+
+abbrev pub leave_rule : InForce → Option Joined → Message → Script End
+leave_rule s j m = on_leave s.pid s j m
+
+abbrev pub topic_rule : InForce → Message → TopicEvent → Script End
+topic_rule s m event = on_topic s.pid s (join_at s m) m event
+
+abbrev pub kind_rule : Bool → Bool → InForce → Message → EventKind → Script End
+kind_rule phoenix routed s m kind = by_kind phoenix routed s.pid (length s.joined) s (join_at s m) m kind
+
 unfoldable pub rules : List (List ℕ × ℕ) → InForce → Message → Script End
-rules routes s m = by_kind (is_phoenix m.topic) (is_routed routes m.topic) s.pid (length s.joined) s (find m.topic s.joined) m (kind_of m.event)
+rules routes s m = kind_rule (is_phoenix m.topic) (is_routed routes m.topic) s m (kind_of m.event)

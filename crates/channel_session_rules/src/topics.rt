@@ -35,7 +35,8 @@ pub struct Topics {
 }
 
 impl Topics {
-    ghost use Rattle.std.specs.Prelude.{◌≡◌, ◌++◌, ◌∷◌, ◌≤◌, ◌<◌, [], None, map, length, option_map, slice_get, drop, OnOk};
+    ghost use Rattle.std.specs.Prelude.{◌≡◌, ◌++◌, ◌∷◌, ◌≤◌, ◌<◌, [], None, map, length, option_map, slice_get, OnOk};
+    ghost use Rattle.std.specs.List.{remove};
     ghost use Rattle.indexmap.specs.IndexMap.{spare};
     ghost use Rattle.channel_session_rules.specs.InForce.{joined_of, joined_in, find, without_topic, added};
 
@@ -84,11 +85,11 @@ impl Topics {
         let _place = self.places.shift_remove(topic);
     }
 
-    /// Drops the topic that was joined first.
-    pub fn drop_first(&mut self)
-        ensures { joined_in self.new ≡ drop 1 (joined_in self.old) }
+    /// Drops the topic of this place in the order of joining. The others stay in their order.
+    pub fn drop_at(&mut self, index: usize)
+        ensures { joined_in self.new ≡ remove (joined_in self.old) index }
     {
-        let _first = self.places.shift_remove_index(0);
+        let _place = self.places.shift_remove_index(index);
     }
 
     /// Adds a topic behind those that are there.

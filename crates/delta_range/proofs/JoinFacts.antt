@@ -2,23 +2,28 @@
 use Rattle.std.proofs.Common.{◌≡◌, ℕ, ◌^◌, ◌≤◌, Bool, true, false, not, cond, ◌&&◌, ◌||◌, nat_le, nat_lt, List, [], ◌∷◌, ◌++◌, refl, sym, ◌∙◌, ap, subst, arith, true≢false}
 use Rattle.std.proofs.lemmas.Bool.Decides.{nat_tests}
 use Rattle.std.specs.List.{list_any, list_all, filter}
+use Rattle.std.specs.FinSet as set
 use Rattle.std.proofs.lemmas.List.Folds.{list_any-append, list_all-append}
-use Rattle.std.proofs.lemmas.Map.Views.{any-filter_same}
+use Rattle.std.proofs.lemmas.List.Elements.{filter_agree}
 use Rattle.presence_base.specs.declared.dots.Replica.{Replica}
 use Rattle.presence_base.specs.declared.dots.Dot.{Dot}
 use Rattle.presence_base.specs.declared.row.Row.{Row}
 use Rattle.presence_base.specs.Order.{same_replica, same_dot}
+use Rattle.dot_context.specs.Runs.{in_run, holds, AreLong}
+use Rattle.dot_context.specs.Sets.{DotSet}
 use Rattle.orswot_core.specs.Limits.{is_count, is_dot, is_row, is_range}
 use Rattle.orswot_core.specs.Telling.{range_has, covers}
-use Rattle.orswot_core.specs.Checks.{IsTold, has_repeat, dots_of, is_forward}
-use Rattle.orswot_core.proofs.OrderFacts.{dots_equal, same_itself}
-use Rattle.delta_range.specs.Deltas.{DeltaValue, telling, is_older, IsDelta, GoesOn}
-use Rattle.delta_range.specs.Joining.{up_to, not_covered, joined}
-use Rattle.delta_range.proofs.InOrder.{any_in_order}
-use Rattle.delta_range.proofs.DeltaFacts.{both, and_both}
+use Rattle.orswot_core.specs.Checks.{has_repeat, dots_of}
+use Rattle.orswot_core.proofs.OrderFacts.{dots_equal}
+use Rattle.delta_range.specs.Deltas.{DeltaValue, telling, own_dots, older_dots, IsDelta, GoesOn}
+use Rattle.delta_range.specs.Longest.{up_to, longest}
+use Rattle.delta_range.specs.Joining.{not_covered, joined}
+use Rattle.delta_range.proofs.BoolFacts.{both, and_both}
+use Rattle.delta_range.proofs.RunFacts.{long_runs, long_append, long_up_to, longest_runs, holds_longest, ends_longest, holds_up_to, ends_up_to}
+use Rattle.delta_range.proofs.DeltaFacts.{all_at, older_has}
 
 abbrev pub has : DeltaValue → Dot → Bool
-has d q = range_has q (d.owner, d.from, d.to)
+has d q = range_has q (own_dots d)
 
 -- ---- counts
 
@@ -55,27 +60,7 @@ between n from mid f g = and_both (nat_lt from n) (nat_le n mid) (above n from g
     above : (n from : ℕ) → nat_le n from ≡ false → nat_lt from n ≡ true
     above n from g = grind (arith, nat_tests)
 
-forward_le : (a b : ℕ) → (nat_le a b && true) ≡ true → a ≤ b
-forward_le a b h = inside a b ((both (nat_le a b) true h).0)
-  where
-    inside : (a b : ℕ) → nat_le a b ≡ true → a ≤ b
-    inside a b h = grind (arith, nat_tests)
-
-pub runs_up : (d : DeltaValue) → IsDelta d → d.from ≤ d.to
-runs_up d h = forward_le d.from d.to h.told.forward
-
 -- ---- lists
-
-all_at : {A : Type 0} (p q : A → Bool) → ((x : A) → p x ≡ true → q x ≡ true) → (xs : List A) → list_all p xs ≡ true → list_all q xs ≡ true
-all_at p q f [] h = refl
-all_at p q f (x ∷ xs) h = let parts = both (p x) (list_all p xs) h in and_both (q x) (list_all q xs) (f x parts.0) (all_at p q f xs parts.1)
-
-all_both : {A : Type 0} (p q : A → Bool) (xs : List A) → list_all p xs ≡ true → list_all q xs ≡ true → list_all (λ x. p x && q x) xs ≡ true
-all_both p q [] f g = refl
-all_both p q (x ∷ xs) f g =
-    let fs = both (p x) (list_all p xs) f in
-    let gs = both (q x) (list_all q xs) g in
-    and_both (p x && q x) (list_all (λ y. p y && q y) xs) (and_both (p x) (q x) fs.0 gs.0) (all_both p q xs fs.1 gs.1)
 
 all_filter : {A : Type 0} (p q : A → Bool) (xs : List A) → list_all q xs ≡ true → list_all q (filter p xs) ≡ true
 all_filter p q [] h = refl
@@ -91,32 +76,6 @@ filter_alike q p p' f [] h = refl
 filter_alike q p p' f (x ∷ xs) h =
     let parts = both (q x) (list_all q xs) h in
     ap (λ b. cond b (x ∷ filter p xs) (filter p xs)) (f x parts.0) ∙ ap (λ l. cond (p' x) (x ∷ l) l) (filter_alike q p p' f xs parts.1)
-
--- what holds of each dot that is found holds of all
-all_found : (p : Dot → Bool) (ds : List Dot) → ((q : Dot) → list_any (same_dot q) ds ≡ true → p q ≡ true) → list_all p ds ≡ true
-all_found p [] f = refl
-all_found p (d ∷ ds) f =
-    and_both (p d) (list_all p ds) (f d (ap (λ b. b || list_any (same_dot d) ds) (same_itself d))) (all_found p ds (λ q h. f q (ap (λ b. same_dot q d || b) h ∙ or_true (same_dot q d))))
-  where
-    or_true : (b : Bool) → (b || true) ≡ true
-    or_true true = refl
-    or_true false = refl
-
--- what holds of all holds of one that is found
-pub found_has : (p : Dot → Bool) (q : Dot) (ds : List Dot) → list_all p ds ≡ true → list_any (same_dot q) ds ≡ true → p q ≡ true
-found_has p q [] h e = absurd (cc)
-found_has p q (d ∷ ds) h e =
-    let parts = both (p d) (list_all p ds) h in
-    pick (same_dot q d) (list_any (same_dot q) ds) e (λ same. ap p (dots_equal q d same) ∙ parts.0) (found_has p q ds parts.1)
-  where
-    pick : {Q : Type 0} (a b : Bool) → (a || b) ≡ true → (a ≡ true → Q) → (b ≡ true → Q) → Q
-    pick true b h f g = f refl
-    pick false b h f g = g h
-
-pub up_to_has : (n : ℕ) (q : Dot) (ds : List Dot) → list_any (same_dot q) (up_to n ds) ≡ (nat_le q.count n && list_any (same_dot q) ds)
-up_to_has n q ds =
-    any_in_order q (filter (λ d. nat_le d.count n) ds)
-    ∙ any-filter_same (same_dot q) (λ d. nat_le d.count n) (nat_le q.count n) (λ k e. ap (λ (d : Dot). nat_le d.count n) (sym (dots_equal q k e))) ds
 
 -- ---- rows
 
@@ -176,34 +135,25 @@ module _ (a b : DeltaValue) (ha : IsDelta a) (hb : IsDelta b) (next : GoesOn a.o
       none true = refl
       none false = refl
 
-  only_extras : (d : Dot) → has a d ≡ true → covers (telling b) d ≡ list_any (same_dot d) b.extras
-  only_extras d h = ap (λ x. (x || false) || list_any (same_dot d) b.extras) (apart d h)
+  only_older : (d : Dot) → has a d ≡ true → (same_replica d.replica a.owner && holds b.older d.count) ≡ covers (telling b) d
+  only_older d h =
+      ap (λ r. same_replica d.replica r && holds b.older d.count) (sym next.owned)
+      ∙ sym (older_has b d)
+      ∙ ap (λ x. (x || false) || list_any (same_dot d) (older_dots b)) (sym (apart d h))
 
-  pub left_rows : filter (λ x. not (list_any (same_dot x.0) b.extras)) a.live ≡ not_covered (telling b) a.live
-  left_rows = filter_alike (λ x. has a x.0) (λ x. not (list_any (same_dot x.0) b.extras)) (λ x. not (covers (telling b) x.0)) (λ x h. ap not (sym (only_extras x.0 h))) a.live ha.within
-
-  -- the lists that are put together are those of the joined delta
-  pub parts_joined : (ranges : List (Replica × ℕ × ℕ)) (extras : List Dot) (live : List (Dot × Row)) (owner : Replica) (from to : ℕ) (ea eb eb' : List Dot) (la lb : List (Dot × Row))
-      → ranges ≡ (owner, from, to) ∷ [] → extras ≡ up_to from (ea ++ eb) → live ≡ filter (λ x. not (list_any (same_dot x.0) eb')) la ++ lb
-      → owner ≡ a.owner → from ≡ a.from → to ≡ b.to → ea ≡ a.extras → eb ≡ b.extras → eb' ≡ b.extras → la ≡ a.live → lb ≡ b.live
-      → record { ranges = ranges; extras = extras; live = live } ≡ telling (joined a b)
-  unfolding joined
-  parts_joined ranges extras live owner from to ea eb eb' la lb is_ranges is_extras is_live e-owner e-from e-to e-ea e-eb e-eb' e-la e-lb =
-      let ranges_joined : ranges ≡ (a.owner, a.from, b.to) ∷ [] = is_ranges ∙ (λ i. (e-owner i, e-from i, e-to i) ∷ []) in
-      let extras_joined : extras ≡ up_to a.from (a.extras ++ b.extras) = is_extras ∙ (λ i. up_to (e-from i) (e-ea i ++ e-eb i)) in
-      let live_joined : live ≡ not_covered (telling b) a.live ++ b.live = is_live ∙ (λ i. filter (λ x. not (list_any (same_dot x.0) (e-eb' i))) (e-la i) ++ e-lb i) ∙ ap (λ l. l ++ b.live) left_rows in
-      λ i. record { ranges = ranges_joined i; extras = extras_joined i; live = live_joined i }
+  pub left_rows : filter (λ x. not (same_replica x.0.replica a.owner && holds b.older x.0.count)) a.live ≡ not_covered (telling b) a.live
+  left_rows = filter_alike (λ x. has a x.0) (λ x. not (same_replica x.0.replica a.owner && holds b.older x.0.count)) (λ x. not (covers (telling b) x.0)) (λ x h. ap not (only_older x.0 h)) a.live ha.within
 
   from_le : a.from ≤ b.to
   from_le =
-      let first : a.from ≤ a.to = runs_up a ha in
-      let second : b.from ≤ b.to = runs_up b hb in
+      let first : a.from ≤ a.to = ha.forward in
+      let second : b.from ≤ b.to = hb.forward in
       let mid : b.from ≡ a.to = next.begins in
       omega arith
 
   to_le : a.to ≤ b.to
   to_le =
-      let second : b.from ≤ b.to = runs_up b hb in
+      let second : b.from ≤ b.to = hb.forward in
       let mid : b.from ≡ a.to = next.begins in
       omega arith
 
@@ -217,7 +167,7 @@ module _ (a b : DeltaValue) (ha : IsDelta a) (hb : IsDelta b) (next : GoesOn a.o
   unfolding joined
   second_in d h =
       let parts = both (same_replica d.replica b.owner) (nat_lt b.from d.count && nat_le d.count b.to) h in
-      let low : a.from ≤ b.from = subst (λ n. a.from ≤ n) (sym next.begins) (runs_up a ha) in
+      let low : a.from ≤ b.from = subst (λ n. a.from ≤ n) (sym next.begins) ha.forward in
       and_both (same_replica d.replica a.owner) (nat_lt a.from d.count && nat_le d.count b.to)
       (ap (same_replica d.replica) (sym next.owned) ∙ parts.0)
       (wider d.count b.from a.from b.to b.to low (omega arith) parts.1)
@@ -230,76 +180,78 @@ module _ (a b : DeltaValue) (ha : IsDelta a) (hb : IsDelta b) (next : GoesOn a.o
       (all_filter (λ x. not (covers (telling b) x.0)) (λ x. has (joined a b) x.0) a.live (all_at (λ x. has a x.0) (λ x. has (joined a b) x.0) (λ x. first_in x.0) a.live ha.within))
       (all_at (λ x. has b x.0) (λ x. has (joined a b) x.0) (λ x. second_in x.0) b.live hb.within)
 
-  -- an extra of the joined delta is one of either, at or below its start
-  pub extra_of : (q : Dot) → list_any (same_dot q) (joined a b).extras ≡ (nat_le q.count a.from && (list_any (same_dot q) a.extras || list_any (same_dot q) b.extras))
+  long_older : AreLong (a.older ++ b.older)
+  long_older = long_append a.older b.older (long_runs 0 a.older ha.runs) (long_runs 0 b.older hb.runs)
+
+  pub long_cut : AreLong (up_to a.from (a.older ++ b.older))
+  long_cut = long_up_to a.from (a.older ++ b.older) long_older
+
+  held : (n : ℕ) → holds (joined a b).older n ≡ (nat_le n a.from && (holds a.older n || holds b.older n))
   unfolding joined
-  extra_of q = up_to_has a.from q (a.extras ++ b.extras) ∙ ap (λ x. nat_le q.count a.from && x) (list_any-append (same_dot q) a.extras b.extras)
+  held n =
+      holds_longest (up_to a.from (a.older ++ b.older)) n long_cut
+      ∙ holds_up_to a.from n (a.older ++ b.older)
+      ∙ ap (λ x. nat_le n a.from && x) (list_any-append (λ r. in_run r n) a.older b.older)
 
-  either_has : (p : Dot → Bool) → list_all p a.extras ≡ true → list_all p b.extras ≡ true → (q : Dot) → (list_any (same_dot q) a.extras || list_any (same_dot q) b.extras) ≡ true → p q ≡ true
-  either_has p f g q h = pick (list_any (same_dot q) a.extras) (list_any (same_dot q) b.extras) h (found_has p q a.extras f) (found_has p q b.extras g)
-    where
-      pick : {Q : Type 0} (x y : Bool) → (x || y) ≡ true → (x ≡ true → Q) → (y ≡ true → Q) → Q
-      pick true y h f g = f refl
-      pick false y h f g = g h
+  regroup : (s l x y : Bool) → (s && (l && (x || y))) ≡ (l && ((s && x) || (s && y)))
+  regroup true l x y = refl
+  regroup false true x y = refl
+  regroup false false x y = refl
 
-  owners : (e : Replica) (n : ℕ) (ds : List Dot) → e ≡ a.owner → list_all (is_older e n) ds ≡ true → list_all (λ d. same_replica d.replica a.owner) ds ≡ true
-  owners e n ds same h = all_at (is_older e n) (λ d. same_replica d.replica a.owner) (λ d k. ap (same_replica d.replica) (sym same) ∙ (both (same_replica d.replica e) (nat_le d.count n) k).0) ds h
-
-  extras_older : list_all (is_older a.owner a.from) (joined a b).extras ≡ true
-  extras_older = all_found (is_older a.owner a.from) (joined a b).extras (λ q h.
-      let parts = both (nat_le q.count a.from) (list_any (same_dot q) a.extras || list_any (same_dot q) b.extras) (sym (extra_of q) ∙ h) in
-      and_both (same_replica q.replica a.owner) (nat_le q.count a.from)
-      (either_has (λ d. same_replica d.replica a.owner) (owners a.owner a.from a.extras refl ha.older) (owners b.owner b.from b.extras next.owned hb.older) q parts.1)
-      parts.0)
-
-  extras_dots : list_all is_dot (joined a b).extras ≡ true
-  extras_dots = all_found is_dot (joined a b).extras (λ q h.
-      either_has is_dot ha.told.extras hb.told.extras q ((both (nat_le q.count a.from) (list_any (same_dot q) a.extras || list_any (same_dot q) b.extras) (sym (extra_of q) ∙ h)).1))
+  -- an older dot of the joined delta is one of either, at or below its start
+  pub older_of : (q : Dot) → list_any (same_dot q) (older_dots (joined a b)) ≡ (nat_le q.count a.from && (list_any (same_dot q) (older_dots a) || list_any (same_dot q) (older_dots b)))
+  unfolding joined
+  older_of q =
+      older_has (joined a b) q
+      ∙ ap (λ x. same_replica q.replica a.owner && x) (held q.count)
+      ∙ regroup (same_replica q.replica a.owner) (nat_le q.count a.from) (holds a.older q.count) (holds b.older q.count)
+      ∙ ap (λ x. nat_le q.count a.from && (x || (same_replica q.replica a.owner && holds b.older q.count))) (sym (older_has a q))
+      ∙ ap (λ r. nat_le q.count a.from && (list_any (same_dot q) (older_dots a) || (same_replica q.replica r && holds b.older q.count))) (sym next.owned)
+      ∙ ap (λ x. nat_le q.count a.from && (list_any (same_dot q) (older_dots a) || x)) (sym (older_has b q))
 
   rows_limited : list_all (λ x. is_dot x.0 && is_row x.1) (joined a b).live ≡ true
   unfolding joined
   rows_limited =
       list_all-append (λ (x : Dot × Row). is_dot x.0 && is_row x.1) (not_covered (telling b) a.live) b.live
       ∙ and_both (list_all (λ (x : Dot × Row). is_dot x.0 && is_row x.1) (not_covered (telling b) a.live)) (list_all (λ (x : Dot × Row). is_dot x.0 && is_row x.1) b.live)
-      (all_filter (λ x. not (covers (telling b) x.0)) (λ x. is_dot x.0 && is_row x.1) a.live ha.told.rows) hb.told.rows
-
-  rows_covered : list_all (λ x. covers (telling (joined a b)) x.0) (joined a b).live ≡ true
-  rows_covered = all_at (λ x. has (joined a b) x.0) (λ x. covers (telling (joined a b)) x.0) (λ x h. ap (λ c. (c || false) || list_any (same_dot x.0) (joined a b).extras) h) (joined a b).live rows_within
+      (all_filter (λ x. not (covers (telling b) x.0)) (λ x. is_dot x.0 && is_row x.1) a.live ha.rows) hb.rows
 
   rows_once : has_repeat same_dot (dots_of (joined a b).live) ≡ false
   unfolding joined
-  rows_once = stand_once (λ x. not (covers (telling b) x.0)) (has b) a.live b.live ha.told.once hb.told.once
+  rows_once = stand_once (λ x. not (covers (telling b) x.0)) (has b) a.live b.live ha.once hb.once
       (all_at (λ x. has a x.0) (λ x. not (has b x.0)) (λ x h. ap not (apart x.0 h)) a.live ha.within) hb.within
 
-  range_limited : list_all is_range ((a.owner, a.from, b.to) ∷ []) ≡ true
+  range_limited : is_range (a.owner, a.from, b.to) ≡ true
   range_limited =
-      let first = both (is_range (a.owner, a.from, a.to)) true ha.told.ranges in
-      let second = both (is_range (b.owner, b.from, b.to)) true hb.told.ranges in
-      let named = both (is_count a.owner.incarnation) (nat_le a.from (2 ^ 62) && nat_le a.to (2 ^ 62)) first.0 in
-      let ended = both (is_count b.owner.incarnation) (nat_le b.from (2 ^ 62) && nat_le b.to (2 ^ 62)) second.0 in
-      and_both (is_range (a.owner, a.from, b.to)) true
-      (and_both (is_count a.owner.incarnation) (nat_le a.from (2 ^ 62) && nat_le b.to (2 ^ 62)) named.0
-      (and_both (nat_le a.from (2 ^ 62)) (nat_le b.to (2 ^ 62)) ((both (nat_le a.from (2 ^ 62)) (nat_le a.to (2 ^ 62)) named.1).0) ((both (nat_le b.from (2 ^ 62)) (nat_le b.to (2 ^ 62)) ended.1).1)))
-      refl
-
-  runs_forward : list_all is_forward ((a.owner, a.from, b.to) ∷ []) ≡ true
-  runs_forward = and_both (nat_le a.from b.to) true (le_test a.from b.to from_le) refl
-    where
-      le_test : (m n : ℕ) → m ≤ n → nat_le m n ≡ true
-      le_test m n h = grind (arith, nat_tests)
-
-  is_told : IsTold (telling (joined a b))
-  unfolding joined
-  is_told = record {
-    one_range = refl;
-    forward = runs_forward;
-    ranges = range_limited;
-    extras = extras_dots;
-    rows = rows_limited;
-    covered = rows_covered;
-    once = rows_once;
-  }
+      let named = both (is_count a.owner.incarnation) (nat_le a.from (2 ^ 62) && nat_le a.to (2 ^ 62)) ha.range in
+      let ended = both (is_count b.owner.incarnation) (nat_le b.from (2 ^ 62) && nat_le b.to (2 ^ 62)) hb.range in
+      and_both (is_count a.owner.incarnation) (nat_le a.from (2 ^ 62) && nat_le b.to (2 ^ 62)) named.0
+      (and_both (nat_le a.from (2 ^ 62)) (nat_le b.to (2 ^ 62)) ((both (nat_le a.from (2 ^ 62)) (nat_le a.to (2 ^ 62)) named.1).0) ((both (nat_le b.from (2 ^ 62)) (nat_le b.to (2 ^ 62)) ended.1).1))
 
   pub joined_keeps : IsDelta (joined a b)
   unfolding joined
-  joined_keeps = record { told = is_told; older = extras_older; within = rows_within }
+  joined_keeps = record {
+    range = range_limited;
+    forward = from_le;
+    runs = longest_runs (up_to a.from (a.older ++ b.older)) long_cut;
+    below = ends_longest a.from (up_to a.from (a.older ++ b.older)) (ends_up_to a.from (a.older ++ b.older));
+    rows = rows_limited;
+    within = rows_within;
+    once = rows_once;
+  }
+
+  -- the parts that are put together are those of the joined delta
+  pub parts_joined : (older : List (ℕ × ℕ)) (live : List (Dot × Row)) (owner : Replica) (from to : ℕ) (removed : DotSet) (oa ob ob' : List (ℕ × ℕ)) (la lb : List (Dot × Row))
+      → older ≡ longest (up_to from (oa ++ ob)) → live ≡ filter (λ x. not (set.contains removed x.0)) la ++ lb
+      → ((q : Dot) → set.contains removed q ≡ (same_replica q.replica owner && holds ob' q.count))
+      → owner ≡ a.owner → from ≡ a.from → to ≡ b.to → oa ≡ a.older → ob ≡ b.older → ob' ≡ b.older → la ≡ a.live → lb ≡ b.live
+      → ◌≡◌ {A = DeltaValue} (record { owner = owner; from = from; to = to; older = older; live = live }) (joined a b)
+  unfolding joined
+  parts_joined older live owner from to removed oa ob ob' la lb is_older is_live is_removed e-owner e-from e-to e-oa e-ob e-ob' e-la e-lb =
+      let older_joined : older ≡ longest (up_to a.from (a.older ++ b.older)) = is_older ∙ (λ i. longest (up_to (e-from i) (e-oa i ++ e-ob i))) in
+      let is_gone : (q : Dot) → set.contains removed q ≡ (same_replica q.replica a.owner && holds b.older q.count) = λ q. is_removed q ∙ (λ i. same_replica q.replica (e-owner i) && holds (e-ob' i) q.count) in
+      let left : filter (λ x. not (set.contains removed x.0)) la ≡ filter (λ x. not (same_replica x.0.replica a.owner && holds b.older x.0.count)) la
+      = filter_agree (λ (x : Dot × Row). not (set.contains removed x.0)) (λ (x : Dot × Row). not (same_replica x.0.replica a.owner && holds b.older x.0.count)) (λ x. ap not (is_gone x.0)) la in
+      let live_joined : live ≡ not_covered (telling b) a.live ++ b.live =
+      is_live ∙ ap (λ l. l ++ lb) left ∙ (λ i. filter (λ x. not (same_replica x.0.replica a.owner && holds b.older x.0.count)) (e-la i) ++ e-lb i) ∙ ap (λ l. l ++ b.live) left_rows in
+      λ i. record { owner = e-owner i; from = e-from i; to = e-to i; older = older_joined i; live = live_joined i }

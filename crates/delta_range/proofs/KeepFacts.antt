@@ -3,6 +3,7 @@ use Rattle.std.proofs.Common.{◌≡◌, ℕ, ◌≤◌, true, false, cond, nat_
 use Rattle.std.proofs.lemmas.Bool.Decides.{nat_tests}
 use Rattle.presence_base.specs.declared.dots.Replica.{Replica}
 use Rattle.presence_base.specs.Names.{guarded}
+use Rattle.delta_range.specs.declared.generations.TheConstants.{SHORT_CAP, MIDDLE_CAP, LONG_CAP}
 use Rattle.delta_range.specs.Deltas.{DeltaValue, GoesOn}
 use Rattle.delta_range.specs.Joining.{joined}
 use Rattle.delta_range.specs.Keeping.{Kept, AreKept, EndsWithin, GoesOnFrom, IsNext, alone, grown, size}
@@ -47,15 +48,15 @@ ended last cap old new d owner to h next e f grew =
 
 -- after a push all three still end with the last delta, within their caps
 pub kept_after : (k : Kept) (d : DeltaValue) (owner : Replica) (to : ℕ) (short middle long : Option DeltaValue) → AreKept k → IsNext k.last d → owner ≡ d.owner → to ≡ d.to
-    → short ≡ grown 100 k.short d → middle ≡ grown 1000 k.middle d → long ≡ grown 10000 k.long d
+    → short ≡ grown SHORT_CAP k.short d → middle ≡ grown MIDDLE_CAP k.middle d → long ≡ grown LONG_CAP k.long d
     → AreKept (record { last = Some (owner, to); short = short; middle = middle; long = long })
 kept_after k d owner to short middle long h next e f g-short g-middle g-long = record {
-  short = ended k.last 100 k.short short d owner to h.short next e f g-short;
-  middle = ended k.last 1000 k.middle middle d owner to h.middle next e f g-middle;
-  long = ended k.last 10000 k.long long d owner to h.long next e f g-long;
+  short = ended k.last SHORT_CAP k.short short d owner to h.short next e f g-short;
+  middle = ended k.last MIDDLE_CAP k.middle middle d owner to h.middle next e f g-middle;
+  long = ended k.last LONG_CAP k.long long d owner to h.long next e f g-long;
 }
 
 -- equal parts are kept alike
-pub kept_alike : (k : Kept) (last : Option (Replica × ℕ)) (short middle long : Option DeltaValue) → last ≡ k.last → short ≡ k.short → middle ≡ k.middle → long ≡ k.long
-    → record { last = last; short = short; middle = middle; long = long } ≡ k
-kept_alike k last short middle long e-last e-short e-middle e-long = λ i. record { last = e-last i; short = e-short i; middle = e-middle i; long = e-long i }
+pub kept_alike : (k : Kept) (short middle long : Option DeltaValue) → short ≡ k.short → middle ≡ k.middle → long ≡ k.long
+    → record { last = k.last; short = short; middle = middle; long = long } ≡ k
+kept_alike k short middle long e-short e-middle e-long = λ i. record { last = k.last; short = e-short i; middle = e-middle i; long = e-long i }

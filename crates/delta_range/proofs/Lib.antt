@@ -1,7 +1,8 @@
-pub mod InOrder
-pub mod LoopFacts
+pub mod BoolFacts
+pub mod RunFacts
 pub mod DeltaFacts
+pub mod LoopFacts
 pub mod JoinFacts
 pub mod ViewFacts
-pub mod KeepFacts
 pub mod OrderKept
+pub mod KeepFacts

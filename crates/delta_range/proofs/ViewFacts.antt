@@ -1,34 +1,40 @@
 -- The set view of a joined delta: it covers what either covers, and tells what each in turn tells.
-use Rattle.std.proofs.Common.{◌≡◌, ℕ, ◌+◌, ◌≤◌, Bool, true, false, not, cond, ◌&&◌, ◌||◌, nat_le, nat_lt, List, [], ◌∷◌, ◌++◌, length, refl, sym, ◌∙◌, ap, subst, Option, Some, None, is_some, arith, true≢false, length-append}
+use Rattle.std.proofs.Common.{◌≡◌, ℕ, ◌+◌, ◌^◌, ◌≤◌, Bool, true, false, not, cond, ◌&&◌, ◌||◌, nat_le, nat_lt, nat_eq, List, [], ◌∷◌, ◌++◌, length, map as each, refl, sym, ◌∙◌, ap, subst, Option, Some, None, is_some, arith, true≢false, length-append, Ordering}
 use Rattle.std.proofs.lemmas.Bool.Decides.{nat_tests}
-use Rattle.std.specs.Ordering.{match_ordering}
-use Rattle.std.specs.declared.cmp.Ordering.TheVariants.{Less, Equal, Greater}
-use Rattle.std.specs.BTreeSet.{insert_key}
 use Rattle.std.specs.List.{list_any, list_all, filter}
+use Rattle.std.specs.Ordering.{is_eq, nat_cmp, ordering_then}
+use Rattle.std.specs.declared.cmp.Ordering.TheVariants.{Less, Equal, Greater}
+use Rattle.std.specs.Cmp.{unsigned_ties}
 use Rattle.std.specs.Map.{lookup}
 use Rattle.std.specs.FinSet as set
 use Rattle.std.specs.FinMap as map
 use Rattle.std.proofs.lemmas.Map.Entries.{lookup-filter-keys}
+use Rattle.presence_base.specs.declared.dots.Replica.{Replica}
 use Rattle.presence_base.specs.declared.dots.Dot.{Dot}
 use Rattle.presence_base.specs.declared.row.Row.{Row}
-use Rattle.presence_base.specs.Order.{dot_cmp, same_replica, same_dot}
-use Rattle.orswot_core.specs.Telling.{covers, live_row}
+use Rattle.presence_base.specs.Order.{replica_cmp, same_replica, same_dot}
+use Rattle.dot_context.specs.Runs.{in_run, holds}
+use Rattle.orswot_core.specs.Limits.{is_count, is_dot}
+use Rattle.orswot_core.specs.Telling.{range_has, covers, live_row}
 use Rattle.orswot_core.specs.Sets.{first_row, joined_row}
-use Rattle.orswot_core.proofs.OrderFacts.{dots_equal}
+use Rattle.orswot_core.proofs.OrderFacts.{dots_equal, replicas_equal}
 use Rattle.orswot_core.proofs.RowFacts.{first_done}
 use Rattle.orswot_core.proofs.SoundFacts.{told_sound, only_covered, none_uncovered}
 use Rattle.orswot_core.proofs.LawFacts.{same_at}
-use Rattle.delta_range.specs.Deltas.{DeltaValue, telling, is_older, IsDelta, GoesOn}
-use Rattle.delta_range.specs.Joining.{in_order, not_covered, joined, Joined}
-use Rattle.delta_range.specs.Laws.{TellsInTurn, IsNoLarger}
-use Rattle.delta_range.proofs.DeltaFacts.{both, and_both}
-use Rattle.delta_range.proofs.JoinFacts.{has, runs_up, found_has, two_ranges, between, apart, extra_of}
+use Rattle.delta_range.specs.Deltas.{DeltaValue, telling, older_dots, own_range, run_of, delta_of, is_older, IsDelta, GoesOn}
+use Rattle.delta_range.specs.Longest.{up_to, longest}
+use Rattle.delta_range.specs.Joining.{not_covered, joined, Joined}
+use Rattle.delta_range.specs.Laws.{TellsInTurn, IsNoLarger, CoversTheSame}
+use Rattle.delta_range.proofs.BoolFacts.{both, and_both}
+use Rattle.delta_range.proofs.RunFacts.{length_longest, length_up_to, holds_longest}
+use Rattle.delta_range.proofs.DeltaFacts.{older_has, older_if, delta_told, run_has, dot_runs_long, one_range}
+use Rattle.delta_range.proofs.JoinFacts.{has, two_ranges, between, apart, older_of}
 
 either_range : (s x y z : Bool) → x ≡ (y || z) → (s && x) ≡ ((s && y) || (s && z))
 either_range true x y z e = e
 either_range false x y z e = refl
 
--- what the joined delta covers, by what its ranges, its start and the extras of both say of a dot
+-- what the joined delta covers, by what its ranges, its start and the older dots of both say of a dot
 merged : (ra rb low ea eb : Bool) → (ea ≡ true → low ≡ true) → (eb ≡ true → low ≡ false → ra ≡ true)
     → (((ra || rb) || false) || (low && (ea || eb))) ≡ (((ra || false) || ea) || ((rb || false) || eb))
 merged true rb low ea eb f g = refl
@@ -74,24 +80,24 @@ module _ (a b : DeltaValue) (ha : IsDelta a) (hb : IsDelta b) (next : GoesOn a.o
   one_of_both : (d : Dot) → has (joined a b) d ≡ (has a d || has b d)
   unfolding joined
   one_of_both d =
-      let mid : a.to ≤ b.to = subst (λ n. n ≤ b.to) next.begins (runs_up b hb) in
-      either_range (same_replica d.replica a.owner) (nat_lt a.from d.count && nat_le d.count b.to) (nat_lt a.from d.count && nat_le d.count a.to) (nat_lt a.to d.count && nat_le d.count b.to) (two_ranges d.count a.from a.to b.to (runs_up a ha) mid)
+      let mid : a.to ≤ b.to = subst (λ n. n ≤ b.to) next.begins (hb.forward) in
+      either_range (same_replica d.replica a.owner) (nat_lt a.from d.count && nat_le d.count b.to) (nat_lt a.from d.count && nat_le d.count a.to) (nat_lt a.to d.count && nat_le d.count b.to) (two_ranges d.count a.from a.to b.to ha.forward mid)
       ∙ ap (λ r. has a d || (same_replica d.replica r && (nat_lt a.to d.count && nat_le d.count b.to))) (sym next.owned)
       ∙ ap (λ n. has a d || (same_replica d.replica b.owner && (nat_lt n d.count && nat_le d.count b.to))) (sym next.begins)
 
-  in_first : (d : Dot) → list_any (same_dot d) b.extras ≡ true → nat_le d.count a.from ≡ false → has a d ≡ true
+  in_first : (d : Dot) → list_any (same_dot d) (older_dots b) ≡ true → nat_le d.count a.from ≡ false → has a d ≡ true
   in_first d e low =
-      let parts = both (same_replica d.replica b.owner) (nat_le d.count b.from) (found_has (is_older b.owner b.from) d b.extras hb.older e) in
+      let parts = both (same_replica d.replica b.owner) (nat_le d.count b.from) (older_if b hb d e) in
       and_both (same_replica d.replica a.owner) (nat_lt a.from d.count && nat_le d.count a.to)
       (ap (same_replica d.replica) (sym next.owned) ∙ parts.0)
       (between d.count a.from a.to (ap (nat_le d.count) (sym next.begins) ∙ parts.1) low)
 
   pub union_at : (d : Dot) → covers (telling (joined a b)) d ≡ (covers (telling a) d || covers (telling b) d)
   union_at d =
-      ap (λ x. (x || false) || list_any (same_dot d) (joined a b).extras) (one_of_both d)
-      ∙ ap (λ x. ((has a d || has b d) || false) || x) (extra_of a b ha hb next d)
-      ∙ merged (has a d) (has b d) (nat_le d.count a.from) (list_any (same_dot d) a.extras) (list_any (same_dot d) b.extras)
-      (λ e. (both (same_replica d.replica a.owner) (nat_le d.count a.from) (found_has (is_older a.owner a.from) d a.extras ha.older e)).1)
+      ap (λ x. (x || false) || list_any (same_dot d) (older_dots (joined a b))) (one_of_both d)
+      ∙ ap (λ x. ((has a d || has b d) || false) || x) (older_of a b ha hb next d)
+      ∙ merged (has a d) (has b d) (nat_le d.count a.from) (list_any (same_dot d) (older_dots a)) (list_any (same_dot d) (older_dots b))
+      (λ e. (both (same_replica d.replica a.owner) (nat_le d.count a.from) (older_if a ha d e)).1)
       (in_first d)
 
   pub row_at : (d : Dot) → live_row (telling (joined a b)) d ≡ cond (covers (telling b) d) (live_row (telling b) d) (live_row (telling a) d)
@@ -100,7 +106,7 @@ module _ (a b : DeltaValue) (ha : IsDelta a) (hb : IsDelta b) (next : GoesOn a.o
       let p = λ (k : Dot). not (covers (telling b) k) in
       lookup_append (same_dot d) (not_covered (telling b) a.live) b.live
       ∙ ap (λ o. first_row o (lookup (same_dot d) b.live)) (lookup-filter-keys (same_dot d) p (p d) (λ k same. ap p (sym (dots_equal d k same))) a.live)
-      ∙ second_first (covers (telling b) d) (live_row (telling a) d) (live_row (telling b) d) (none_uncovered d (covers (telling b) d) (live_row (telling b) d) (told_sound (telling b) hb.told d))
+      ∙ second_first (covers (telling b) d) (live_row (telling a) d) (live_row (telling b) d) (none_uncovered d (covers (telling b) d) (live_row (telling b) d) (told_sound (telling b) (delta_told b hb) d))
 
   pub tells_both : Joined a b (joined a b)
   tells_both = record { union = union_at; rows = row_at }
@@ -109,9 +115,9 @@ module _ (a b : DeltaValue) (ha : IsDelta a) (hb : IsDelta b) (next : GoesOn a.o
   fresh : (d : Dot) → is_some (live_row (telling b) d) ≡ true → covers (telling a) d ≡ false
   fresh d some =
       let inside : has b d ≡ true = row_has b d b.live hb.within some in
-      neither (has a d) (list_any (same_dot d) a.extras)
+      neither (has a d) (list_any (same_dot d) (older_dots a))
       (λ e. true≢false (sym inside ∙ apart a b ha hb next d e))
-      (λ e. too_late d.count a.from a.to b.from b.to (same_replica d.replica b.owner) (same_replica d.replica a.owner) (runs_up a ha) next.begins inside (found_has (is_older a.owner a.from) d a.extras ha.older e))
+      (λ e. too_late d.count a.from a.to b.from b.to (same_replica d.replica b.owner) (same_replica d.replica a.owner) ha.forward next.begins inside (older_if a ha d e))
 
 or_groups : (a b c : Bool) → (a || (b || c)) ≡ ((a || b) || c)
 or_groups true b c = refl
@@ -152,26 +158,13 @@ tells_in_turn s x y z a b ha hb next hx hy hz = same_at z y (λ d.
       (hz d).1
           ∙ ap (λ v. joined_row r c v (covers (telling (joined a b)) d)) (row_at a b ha hb next d)
           ∙ ap (λ v. joined_row r c (cond oc' o' o) v) (union_at a b ha hb next d)
-          ∙ in_turn r o o' c oc oc' (only_covered d oc o (told_sound (telling a) ha.told d)) (only_covered d oc' o' (told_sound (telling b) hb.told d)) (fresh a b ha hb next d)
+          ∙ in_turn r o o' c oc oc' (only_covered d oc o (told_sound (telling a) (delta_told a ha) d)) (only_covered d oc' o' (told_sound (telling b) (delta_told b hb) d)) (fresh a b ha hb next d)
           ∙ ap (λ v. joined_row v (c || oc) o' oc') (sym ((hx d).1))
           ∙ ap (λ v. joined_row (map.get x.live d) v o' oc') (sym ((hx d).0))
           ∙ sym ((hy d).1),
     ))
 
 -- ---- sizes
-
-length_inserted : (k : Dot) (ds : List Dot) → length (insert_key dot_cmp ds k) ≤ length ds + 1
-length_inserted k [] = omega arith
-length_inserted k (x ∷ ds) =
-    let rest : length (insert_key dot_cmp ds k) ≤ length ds + 1 = length_inserted k ds in
-    elim (dot_cmp k x) as (λ o. length (match_ordering o (k ∷ x ∷ ds) (x ∷ ds) (x ∷ insert_key dot_cmp ds k)) ≤ length (x ∷ ds) + 1) [ Less ↦ omega arith | Equal ↦ omega arith | Greater ↦ omega arith ]
-
-length_in_order : (ds : List Dot) → length (in_order ds) ≤ length ds
-length_in_order [] = omega arith
-length_in_order (d ∷ ds) =
-    let one : length (insert_key dot_cmp (in_order ds) d) ≤ length (in_order ds) + 1 = length_inserted d (in_order ds) in
-    let rest : length (in_order ds) ≤ length ds = length_in_order ds in
-    omega arith
 
 length_left : {A : Type 0} (p : A → Bool) (xs : List A) → length (filter p xs) ≤ length xs
 length_left p [] = omega arith
@@ -182,11 +175,53 @@ length_left p (x ∷ xs) =
 pub no_larger : IsNoLarger
 unfolding joined
 no_larger a b =
-    let older = filter (λ (d : Dot). nat_le d.count a.from) (a.extras ++ b.extras) in
     let left = not_covered (telling b) a.live in
-    let ordered : length (in_order older) ≤ length older = length_in_order older in
-    let some : length older ≤ length (a.extras ++ b.extras) = length_left (λ (d : Dot). nat_le d.count a.from) (a.extras ++ b.extras) in
-    let extras : length (a.extras ++ b.extras) ≡ length a.extras + length b.extras = length-append a.extras b.extras in
+    let fewest : length (longest (up_to a.from (a.older ++ b.older))) ≤ length (up_to a.from (a.older ++ b.older)) = length_longest (up_to a.from (a.older ++ b.older)) in
+    let some : length (up_to a.from (a.older ++ b.older)) ≤ length (a.older ++ b.older) = length_up_to a.from (a.older ++ b.older) in
+    let older : length (a.older ++ b.older) ≡ length a.older + length b.older = length-append a.older b.older in
     let fewer : length left ≤ length a.live = length_left (λ x. not (covers (telling b) x.0)) a.live in
     let live : length (left ++ b.live) ≡ length left + length b.live = length-append left b.live in
     omega arith
+
+-- ---- a told value as a delta
+
+then_equal : (o p : Ordering) → (is_eq o && is_eq p) ≡ is_eq (ordering_then o p)
+then_equal Less p = refl
+then_equal Equal p = refl
+then_equal Greater p = refl
+
+one_dot : (q d : Dot) → (same_replica q.replica d.replica && nat_eq q.count d.count) ≡ same_dot q d
+one_dot q d = ap (λ b. same_replica q.replica d.replica && b) (unsigned_ties q.count d.count) ∙ then_equal (replica_cmp q.replica d.replica) (nat_cmp q.count d.count)
+
+-- the runs of dots of one owner have those dots
+named_above : (q : Dot) (owner : Replica) (from : ℕ) (ds : List Dot) → list_all is_dot ds ≡ true → list_all (is_older owner from) ds ≡ true
+    → (same_replica q.replica owner && holds (each run_of ds) q.count) ≡ list_any (same_dot q) ds
+named_above q owner from [] h k = none (same_replica q.replica owner)
+  where
+    none : (s : Bool) → (s && false) ≡ false
+    none true = refl
+    none false = refl
+named_above q owner from (d ∷ ds) h k =
+    let limits = both (is_dot d) (list_all is_dot ds) h in
+    let counts = both (is_count d.replica.incarnation) (is_count d.count) limits.0 in
+    let parts = both (is_older owner from d) (list_all (is_older owner from) ds) k in
+    let owned : d.replica ≡ owner = replicas_equal d.replica owner ((both (same_replica d.replica owner) (nat_le d.count from) parts.0).0) in
+    spread (same_replica q.replica owner) (in_run (run_of d) q.count) (holds (each run_of ds) q.count)
+    ∙ ap (λ x. (same_replica q.replica owner && in_run (run_of d) q.count) || x) (named_above q owner from ds limits.1 parts.1)
+    ∙ ap (λ x. (same_replica q.replica owner && x) || list_any (same_dot q) ds) (run_has q.count d.count ((both (nat_le 1 d.count) (nat_le d.count (2 ^ 62)) counts.1).0))
+    ∙ ap (λ r. (same_replica q.replica r && nat_eq q.count d.count) || list_any (same_dot q) ds) (sym owned)
+    ∙ ap (λ x. x || list_any (same_dot q) ds) (one_dot q d)
+  where
+    spread : (s x y : Bool) → (s && (x || y)) ≡ ((s && x) || (s && y))
+    spread true x y = refl
+    spread false x y = refl
+
+pub covers_the_same : CoversTheSame
+covers_the_same t q told h =
+    let parts = both (nat_eq (length t.ranges) 1) (list_all (is_older (own_range t.ranges).0 (own_range t.ranges).1) t.extras && list_all (λ x. range_has x.0 (own_range t.ranges)) t.live) h in
+    let older = (both (list_all (is_older (own_range t.ranges).0 (own_range t.ranges).1) t.extras) (list_all (λ x. range_has x.0 (own_range t.ranges)) t.live) parts.1).0 in
+    ap (λ x. (range_has q (own_range t.ranges) || false) || x)
+    (older_has (delta_of t) q
+    ∙ ap (λ x. same_replica q.replica (own_range t.ranges).0 && x) (holds_longest (each run_of t.extras) q.count (dot_runs_long t.extras told.extras))
+    ∙ named_above q (own_range t.ranges).0 (own_range t.ranges).1 t.extras told.extras older)
+    ∙ ap (λ gs. list_any (range_has q) gs || list_any (same_dot q) t.extras) (one_range t.ranges parts.0)

@@ -1,35 +1,26 @@
 -- Joined: two deltas of one owner, the second of which goes on from the first, as one.
-use Rattle.std.specs.Prelude.{◌≡◌, ℕ, cond, not, ◌||◌, nat_le, nat_eq, List, [], ◌∷◌, ◌++◌, Option, Some, None, Result, Ok, Err}
+use Rattle.std.specs.Prelude.{◌≡◌, cond, not, ◌||◌, nat_eq, List, ◌++◌, Option, Some, None, Result, Ok, Err}
 use Rattle.std.specs.List.{filter}
-use Rattle.std.specs.BTreeSet.{insert_key}
 use Rattle.presence_base.specs.declared.dots.Dot.{Dot}
 use Rattle.presence_base.specs.declared.row.Row.{Row}
-use Rattle.presence_base.specs.Order.{dot_cmp, same_replica}
+use Rattle.presence_base.specs.Order.{same_replica}
 use Rattle.orswot_core.specs.Telling.{ToldValue, covers, live_row}
 use Rattle.delta_range.specs.Deltas.{DeltaValue, telling}
+use Rattle.delta_range.specs.Longest.{up_to, longest}
 use Rattle.delta_range.specs.declared.fault.DeltaFault.{DeltaFault}
 use Rattle.delta_range.specs.declared.fault.DeltaFault.TheVariants.{OtherOwner, NotContiguous, OutOfMemory}
-
--- the dots in order, each once
-abbrev pub in_order : List Dot → List Dot
-in_order [] = []
-in_order (d ∷ ds) = insert_key dot_cmp (in_order ds) d
-
--- the dots at or below a count, in order, each once
-abbrev pub up_to : ℕ → List Dot → List Dot
-up_to n ds = in_order (filter (λ d. nat_le d.count n) ds)
 
 -- the rows that a told value doesn't cover
 abbrev pub not_covered : ToldValue → List (Dot × Row) → List (Dot × Row)
 not_covered t xs = filter (λ x. not (covers t x.0)) xs
 
--- one range; the extras of both below it; the rows of b, with those of a that b doesn't cover before them
+-- one range; the older counts of both below it; the rows of b, with those of a that b doesn't cover before them
 unfoldable pub joined : DeltaValue → DeltaValue → DeltaValue
 joined a b = record {
   owner = a.owner;
   from = a.from;
   to = b.to;
-  extras = up_to a.from (a.extras ++ b.extras);
+  older = longest (up_to a.from (a.older ++ b.older));
   live = not_covered (telling b) a.live ++ b.live;
 }
 

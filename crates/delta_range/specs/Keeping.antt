@@ -4,6 +4,7 @@ use Rattle.std.specs.Coded.{Coded, code_by, coded×, coded_ℕ, coded_option}
 use Rattle.presence_base.specs.declared.dots.Replica.{Replica}
 use Rattle.presence_base.specs.Names.{guarded}
 use Rattle.presence_base.specs.Codes.{replica_code}
+use Rattle.delta_range.specs.declared.generations.TheConstants.{SHORT_CAP, MIDDLE_CAP, LONG_CAP}
 use Rattle.delta_range.specs.Deltas.{DeltaValue, delta_code, GoesOn}
 use Rattle.delta_range.specs.Joining.{joined}
 
@@ -20,9 +21,9 @@ kept_code =
     (coded× (coded_option (coded× replica_code coded_ℕ)) (coded× (coded_option delta_code) (coded× (coded_option delta_code) (coded_option delta_code))))
     (λ k. (k.last, (k.short, (k.middle, k.long)))) (λ p. record { last = p.0; short = p.1.0; middle = p.1.1.0; long = p.1.1.1 }) (λ _. refl)
 
--- its live rows and extras together
+-- its live rows and older runs together
 abbrev pub size : DeltaValue → ℕ
-size d = length d.extras + length d.live
+size d = length d.older + length d.live
 
 -- the delta, where it is within the cap
 abbrev pub alone : ℕ → DeltaValue → Option DeltaValue
@@ -34,7 +35,7 @@ grown cap None d = alone cap d
 grown cap (Some old) d = cond (nat_le (size (joined old d)) cap) (Some (joined old d)) (alone cap d)
 
 abbrev pub pushed : Kept → DeltaValue → Kept
-pushed k d = record { last = Some (d.owner, d.to); short = grown 100 k.short d; middle = grown 1000 k.middle d; long = grown 10000 k.long d }
+pushed k d = record { last = Some (d.owner, d.to); short = grown SHORT_CAP k.short d; middle = grown MIDDLE_CAP k.middle d; long = grown LONG_CAP k.long d }
 
 -- the delta goes on from the last one that was pushed
 abbrev pub IsNext : Option (Replica × ℕ) → DeltaValue → Type 0
@@ -47,9 +48,9 @@ EndsWithin last cap None = Unit {0}
 EndsWithin last cap (Some d) = (last ≡ Some (d.owner, d.to)) × (size d ≤ cap)
 
 pub record AreKept (k : Kept) : Type 0 where
-  pub short : EndsWithin k.last 100 k.short
-  pub middle : EndsWithin k.last 1000 k.middle
-  pub long : EndsWithin k.last 10000 k.long
+  pub short : EndsWithin k.last SHORT_CAP k.short
+  pub middle : EndsWithin k.last MIDDLE_CAP k.middle
+  pub long : EndsWithin k.last LONG_CAP k.long
 
 -- what a generation keeps, where it begins at or below a count
 abbrev pub begun : ℕ → Option DeltaValue → Option DeltaValue

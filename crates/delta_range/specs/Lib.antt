@@ -1,3 +1,4 @@
+pub mod Longest
 pub mod Deltas
 pub mod Joining
 pub mod Keeping

@@ -3,75 +3,119 @@ ghost use Rattle.std.specs.List.{list_all};
 ghost use Rattle.presence_base.specs.Names.{guarded};
 ghost use Rattle.presence_base.specs.Order.{same_replica};
 ghost use Rattle.orswot_core.specs.Telling.{range_has};
-ghost use Rattle.orswot_core.specs.Checks.{IsTold};
-ghost use Rattle.delta_range.specs.Deltas.{telling, delta_of, is_older, is_delta, IsDelta, GoesOn};
+ghost use Rattle.delta_range.specs.Deltas.{DeltaValue, telling, delta_of, is_older, is_delta, IsDelta, GoesOn};
 ghost use Rattle.delta_range.specs.Joining.{joined, Joined, IsJoinAnswer};
 
 use crate::fault::DeltaFault;
-use crate::joining::{joined_rows, older_dots, one_range};
+use crate::joining::{joined_rows, joined_runs, one_range, rows_of};
+use crate::runs::{dots_of, longest, run_set, runs_of};
 use orswot_core::Told;
 use presence_base::{Dot, Replica, Row};
 use std::alloc::{AllocError, Global};
 use std::marker::Model;
 
 /// What an owner tells of its counts above one and up to another: the rows of that range that are
-/// live, and older dots of its own that were removed meanwhile (a delta of Phoenix.Tracker, over the
-/// set of Bieniusa et al., 2012).
+/// live, and older counts of its own that were removed meanwhile, as longest runs (a delta of
+/// Phoenix.Tracker, over the set of Bieniusa et al., 2012).
 #[derive(Drop)]
 pub struct Delta {
-    told: Told,
+    owner: Replica,
+    from: u64,
+    to: u64,
+    older: Vec<(u64, u64)>,
+    live: Vec<(Dot, Row)>,
 }
 
 impl Model for Delta {
-    ghost use Rattle.std.specs.Prelude.{◌≡◌, true};
-    ghost use Rattle.delta_range.specs.Deltas.{DeltaValue, delta_code, delta_of, is_delta};
+    ghost use Rattle.delta_range.specs.Deltas.{DeltaValue, delta_code, IsDelta};
 
     ghost Value = { DeltaValue };
 
     ghost coded = { delta_code };
 
-    ghost view = { λ d. delta_of d.told };
+    ghost view = { λ d. record { owner = d.owner; from = d.from; to = d.to; older = d.older.items; live = d.live.items } };
 
-    ghost invariant = { λ d. is_delta d.told ≡ true };
+    ghost invariant = { λ d. IsDelta (record { owner = d.owner; from = d.from; to = d.to; older = d.older.items; live = d.live.items }) };
 }
 
 impl Delta {
+    /// The delta of these parts, where they are known to be sound: each run of `older` is the count below its first one and
+    /// its last one, and none is above `from`. Takes no memory.
+    pub fn new(
+        owner: Replica,
+        from: u64,
+        to: u64,
+        older: Vec<(u64, u64)>,
+        live: Vec<(Dot, Row)>,
+    ) -> Delta
+        requires { IsDelta (record { owner = owner; from = from; to = to; older = older.items; live = live.items }) }
+        ensures { result ≡ record { owner = owner; from = from; to = to; older = older.items; live = live.items } }
+    {
+        Delta {
+            owner,
+            from,
+            to,
+            older,
+            live,
+        }
+    }
+
     /// The told value as a delta, where it has one range, all its rows lie in that range, and all its
     /// extras are dots of the same owner at or below the range.
-    pub fn new(told: Told) -> Option<Delta>
-        ensures { result ≡ guarded (is_delta told) (delta_of told) }
+    pub fn of_told(alloc: Global, told: &Told) -> Result<Option<Delta>, AllocError>
+        ensures { IfOk result (λ o. o ≡ guarded (is_delta told.now) (delta_of told.now)) }
     {
-        if !has_delta_form(&told) {
-            return None;
+        if !has_delta_form(told) {
+            return Ok(None);
         }
-        Some(Delta { told })
+        let range = told.ranges()[0];
+        let runs = runs_of(alloc, told.extras())?;
+        let older = longest(alloc, runs)?;
+        let live = rows_of(alloc, told.live())?;
+        Ok(Some(Delta::new(range.0, range.1, range.2, older, live)))
     }
 
     /// The replica whose dots it tells.
-    pub fn owner(&self) -> &Replica
-        ensures { result.now ≡ self.now.owner }
+    pub fn owner(&self) -> Replica
+        ensures { result ≡ self.now.owner }
     {
-        &self.told.ranges()[0].0
+        self.owner
     }
 
     /// The count above which its range begins.
     pub fn from(&self) -> u64
         ensures { result ≡ self.now.from }
     {
-        self.told.ranges()[0].1
+        self.from
     }
 
     /// The last count of its range.
     pub fn to(&self) -> u64
         ensures { result ≡ self.now.to }
     {
-        self.told.ranges()[0].2
+        self.to
+    }
+
+    /// The longest runs of the older counts that it tells beside its range, in order.
+    pub fn older(&self) -> &[(u64, u64)]
+        ensures older { result.now ≡ self.now.older }
+        ensures delta { IsDelta self.now }
+    {
+        let _live = &self.live;
+        &self.older
+    }
+
+    /// The rows that are live.
+    pub fn live(&self) -> &[(Dot, Row)]
+        ensures live { result.now ≡ self.now.live }
+        ensures delta { IsDelta self.now }
+    {
+        &self.live
     }
 
     /// The two as one, where the next begins at the count where this one ends. What the next removed
-    /// is gone from it, and what lies in its range is no extra. The cost is that of copying the rows and
-    /// extras of both, of a search among the next one's extras for each row of this one, and of a sort
-    /// where the extras aren't in order.
+    /// is gone from it, and what lies in its range is no older count. The cost is that of copying the rows of both, of a
+    /// search among the next one's older runs for each row of this one, and of a sort of the runs.
     pub fn join_next(&self, alloc: Global, next: &Delta) -> Result<Delta, DeltaFault>
         ensures answer { IsJoinAnswer result self.now next.now }
         ensures joined { IfOk result (λ d. Joined self.now next.now d) }
@@ -88,13 +132,15 @@ impl Delta {
         }
     }
 
-    /// The same as a told value.
-    pub fn told(&self) -> &Told
-        ensures value { result.now ≡ telling self.now }
-        ensures delta { IsDelta self.now }
+    /// The same as a told value, with an extra for each older count.
+    pub fn told(&self, alloc: Global) -> Result<Told, AllocError>
+        ensures { IfOk result (λ t. t ≡ telling self.now) }
     {
-        let _extras = self.told.extras();
-        &self.told
+        let owner = self.owner();
+        let ranges = one_range(alloc, owner, self.from(), self.to())?;
+        let extras = dots_of(alloc, &owner, self.older())?;
+        let live = rows_of(alloc, self.live())?;
+        Ok(Told::new(ranges, extras, live))
     }
 }
 
@@ -104,15 +150,22 @@ impl Clone for Delta {
     ghost is_clone = { λ d e. e ≡ d };
 
     fn clone(&self) -> Result<Delta, AllocError> {
-        let told = self.told.clone()?;
-        Ok(Delta { told })
+        let older = self.older.clone()?;
+        let live = self.live.clone()?;
+        Ok(Delta {
+            owner: self.owner,
+            from: self.from,
+            to: self.to,
+            older,
+            live,
+        })
     }
 }
 
 fn have_same_owner(first: &Delta, next: &Delta) -> bool
     ensures { result ≡ same_replica first.now.owner next.now.owner }
 {
-    first.owner().cmp(next.owner()).is_eq()
+    first.owner().cmp(&next.owner()).is_eq()
 }
 
 fn is_dot_older(dot: &Dot, owner: &Replica, from: u64) -> bool
@@ -160,12 +213,9 @@ pub(crate) fn join_contiguous(
     ensures value { IfOk result (λ d. d ≡ joined first.now next.now) }
     ensures joined { IfOk result (λ d. Joined first.now next.now d) }
 {
-    let (from, to) = (first.from(), next.to());
-    let (earlier, later) = (first.told(), next.told());
-    let ranges = one_range(alloc, first.owner(), from, to)?;
-    let extras = older_dots(alloc, earlier.extras(), later.extras(), from)?;
-    let live = joined_rows(alloc, earlier.live(), later.extras(), later.live())?;
-    Ok(Delta {
-        told: Told::new(ranges, extras, live),
-    })
+    let (owner, from, to) = (first.owner(), first.from(), next.to());
+    let older = joined_runs(alloc, first.older(), next.older(), from)?;
+    let removed = run_set(alloc, &owner, next.older())?;
+    let live = joined_rows(alloc, first.live(), &removed, next.live())?;
+    Ok(Delta::new(owner, from, to, older, live))
 }

@@ -8,14 +8,17 @@ use presence_base::Replica;
 use std::alloc::{AllocError, Global};
 use std::marker::Model;
 
-const SHORT_CAP: usize = 100;
+/// The most rows and older runs that the shortest generation keeps.
+pub const SHORT_CAP: usize = 100;
 
-const MIDDLE_CAP: usize = 1_000;
+/// The most that the middle one keeps.
+pub const MIDDLE_CAP: usize = 1_000;
 
-const LONG_CAP: usize = 10_000;
+/// The most that the longest one keeps.
+pub const LONG_CAP: usize = 10_000;
 
-/// The last deltas of one owner, joined in three generations that keep up to 100, 1,000 and 10,000
-/// live rows and extras together.
+/// The last deltas of one owner, joined in three generations, each of which keeps live rows and older runs together up to its
+/// cap.
 #[derive(Drop)]
 pub struct Generations {
     last: Option<(Replica, u64)>,
@@ -56,12 +59,11 @@ impl Generations {
         ensures ok { OnOk result (self.new ≡ pushed self.old delta) }
         ensures err { OnErr result (self.new ≡ self.old) }
     {
-        let owner = delta.owner().clone()?;
-        let to = delta.to();
+        let end = (delta.owner(), delta.to());
         let short = next_generation(alloc, &self.short, &delta, SHORT_CAP)?;
         let middle = next_generation(alloc, &self.middle, &delta, MIDDLE_CAP)?;
         let long = next_generation(alloc, &self.long, &delta, LONG_CAP)?;
-        self.last = Some((owner, to));
+        self.last = Some(end);
         self.short = short;
         self.middle = middle;
         self.long = long;
@@ -85,27 +87,16 @@ impl Clone for Generations {
     ghost is_clone = { λ g h. h ≡ g };
 
     fn clone(&self) -> Result<Generations, AllocError> {
-        let last = clone_end(&self.last)?;
         let short = clone_kept(&self.short)?;
         let middle = clone_kept(&self.middle)?;
         let long = clone_kept(&self.long)?;
         Ok(Generations {
-            last,
+            last: self.last,
             short,
             middle,
             long,
         })
     }
-}
-
-fn clone_end(last: &Option<(Replica, u64)>) -> Result<Option<(Replica, u64)>, AllocError>
-    ensures { IfOk result (λ o. o ≡ last.now) }
-{
-    let Some((owner, to)) = last else {
-        return Ok(None);
-    };
-    let owner = owner.clone()?;
-    Ok(Some((owner, *to)))
 }
 
 fn clone_kept(kept: &Option<Delta>) -> Result<Option<Delta>, AllocError>
@@ -130,9 +121,8 @@ fn begun_by(kept: &Option<Delta>, count: u64) -> Option<&Delta>
 fn is_within(delta: &Delta, cap: usize) -> bool
     ensures { result ≡ nat_le (size delta.now) cap }
 {
-    let told = delta.told();
-    let extras = told.extras().len();
-    extras <= cap && told.live().len() <= cap - extras
+    let runs = delta.older().len();
+    runs <= cap && delta.live().len() <= cap - runs
 }
 
 fn alone_within(delta: &Delta, cap: usize) -> Result<Option<Delta>, AllocError>

@@ -1,51 +1,30 @@
 // The lists of a joined delta.
-ghost use Rattle.std.specs.Prelude.{◌≡◌, not, nat_le, ◌++◌, ◌∷◌, [], IfOk, OnOk};
-ghost use Rattle.std.specs.List.{filter, list_any};
-ghost use Rattle.std.specs.BTreeSet.{contains};
-ghost use Rattle.presence_base.specs.Order.{dot_cmp, same_dot};
-ghost use Rattle.presence_base.specs.declared.dots.Dot.{Dot as DotValue};
-ghost use Rattle.delta_range.specs.Joining.{up_to};
+ghost use Rattle.std.specs.Prelude.{◌≡◌, not, ◌++◌, ◌∷◌, [], IfOk, OnOk};
+ghost use Rattle.std.specs.List.{filter};
+ghost use Rattle.std.specs.FinSet as set;
+ghost use Rattle.dot_context.specs.Runs.{AreRuns};
+ghost use Rattle.delta_range.specs.Longest.{up_to, longest};
 
+use crate::runs::{longest, push_up_to};
+use dot_context::Context;
 use presence_base::{Dot, Replica, Row};
 use std::alloc::{AllocError, Global};
-use std::collections::BTreeSet;
 
-fn push_dot(dots: &mut Vec<Dot>, dot: &Dot) -> Result<(), AllocError>
-    ensures { OnOk result (dots.new.items ≡ dots.old.items ++ dot.now ∷ []) }
-{
-    let dot = dot.clone()?;
-    dots.push(dot)?;
-    Ok(())
-}
-
-// Adds the dots that are at or below `from`.
-fn push_older(dots: &mut Vec<Dot>, more: &[Dot], from: u64) -> Result<(), AllocError>
-    ensures { OnOk result (dots.new.items ≡ dots.old.items ++ filter (λ d. nat_le d.count from) more.now) }
-{
-    for dot in more {
-        if dot.count <= from {
-            push_dot(dots, dot)?;
-        }
-    }
-    Ok(())
-}
-
-// The dots of both lists at or below `from`, in order. The sort merges lists that are in order, so
-// its cost is then that of their lengths.
-pub(crate) fn older_dots(
+// The counts of both at or below `end`, as longest runs.
+pub(crate) fn joined_runs(
     alloc: Global,
-    first: &[Dot],
-    next: &[Dot],
-    from: u64,
-) -> Result<Vec<Dot>, AllocError>
-    ensures { IfOk result (λ v. v.items ≡ up_to from (first.now ++ next.now)) }
+    first: &[(u64, u64)],
+    next: &[(u64, u64)],
+    end: u64,
+) -> Result<Vec<(u64, u64)>, AllocError>
+    requires first { AreRuns 0 first.now }
+    requires next { AreRuns 0 next.now }
+    ensures { IfOk result (λ v. v.items ≡ longest (up_to end (first.now ++ next.now))) }
 {
-    let mut dots = Vec::new(alloc);
-    push_older(&mut dots, first, from)?;
-    push_older(&mut dots, next, from)?;
-    dots.sort()?;
-    dots.dedup();
-    Ok(dots)
+    let mut runs = Vec::new(alloc);
+    push_up_to(&mut runs, first, end)?;
+    push_up_to(&mut runs, next, end)?;
+    longest(alloc, runs)
 }
 
 fn push_row(rows: &mut Vec<(Dot, Row)>, row: &(Dot, Row)) -> Result<(), AllocError>
@@ -56,28 +35,16 @@ fn push_row(rows: &mut Vec<(Dot, Row)>, row: &(Dot, Row)) -> Result<(), AllocErr
     Ok(())
 }
 
-// The dots as a set, to look them up.
-fn dot_set(alloc: Global, dots: &[Dot]) -> Result<BTreeSet<Dot>, AllocError>
-    ensures { IfOk result (λ s. (q : DotValue) → contains dot_cmp s q ≡ list_any (same_dot q) dots.now) }
-{
-    let mut set = BTreeSet::new(alloc);
-    for dot in dots {
-        let dot = dot.clone()?;
-        set.insert(dot)?;
-    }
-    Ok(set)
-}
-
 // Adds the rows whose dots were not removed.
 fn push_left(
     rows: &mut Vec<(Dot, Row)>,
     more: &[(Dot, Row)],
-    removed: &BTreeSet<Dot>,
+    removed: &Context,
 ) -> Result<(), AllocError>
-    ensures { OnOk result (rows.new.items ≡ rows.old.items ++ filter (λ x. not (contains dot_cmp removed.now x.0)) more.now) }
+    ensures { OnOk result (rows.new.items ≡ rows.old.items ++ filter (λ x. not (set.contains removed.now x.0)) more.now) }
 {
     for row in more {
-        if !removed.contains(&row.0) {
+        if !removed.covers(&row.0) {
             push_row(rows, row)?;
         }
     }
@@ -93,31 +60,38 @@ fn push_rows(rows: &mut Vec<(Dot, Row)>, more: &[(Dot, Row)]) -> Result<(), Allo
     Ok(())
 }
 
-// The rows of the first whose dots are none of those removed, and the rows of the next.
+// The rows.
+pub(crate) fn rows_of(alloc: Global, rows: &[(Dot, Row)]) -> Result<Vec<(Dot, Row)>, AllocError>
+    ensures { IfOk result (λ v. v.items ≡ rows.now) }
+{
+    let mut copied = Vec::new(alloc);
+    push_rows(&mut copied, rows)?;
+    Ok(copied)
+}
+
+// The rows of the first whose dots were not removed, and the rows of the next.
 pub(crate) fn joined_rows(
     alloc: Global,
     first: &[(Dot, Row)],
-    removed: &[Dot],
+    removed: &Context,
     next: &[(Dot, Row)],
 ) -> Result<Vec<(Dot, Row)>, AllocError>
-    ensures { IfOk result (λ v. v.items ≡ filter (λ x. not (list_any (same_dot x.0) removed.now)) first.now ++ next.now) }
+    ensures { IfOk result (λ v. v.items ≡ filter (λ x. not (set.contains removed.now x.0)) first.now ++ next.now) }
 {
-    let removed = dot_set(alloc, removed)?;
     let mut rows = Vec::new(alloc);
-    push_left(&mut rows, first, &removed)?;
+    push_left(&mut rows, first, removed)?;
     push_rows(&mut rows, next)?;
     Ok(rows)
 }
 
 pub(crate) fn one_range(
     alloc: Global,
-    owner: &Replica,
+    owner: Replica,
     from: u64,
     to: u64,
 ) -> Result<Vec<(Replica, u64, u64)>, AllocError>
-    ensures { IfOk result (λ v. v.items ≡ (owner.now, from, to) ∷ []) }
+    ensures { IfOk result (λ v. v.items ≡ (owner, from, to) ∷ []) }
 {
-    let owner = owner.clone()?;
     let mut ranges = Vec::new(alloc);
     ranges.push((owner, from, to))?;
     Ok(ranges)

@@ -1,16 +1,26 @@
-ghost use Rattle.delta_range.specs.Laws.{TellsInTurn, IsNoLarger, StaysInOrder};
+ghost use Rattle.delta_range.specs.Laws.{TellsInTurn, IsNoLarger, StaysInOrder, OlderInOrder, CoversTheSame};
 
 /// A joined delta tells a set what its two parts tell it in turn.
 pub fn joined_deltas_tell_in_turn()
     ensures { TellsInTurn }
 {}
 
-/// A joined delta has no more rows and extras than its two parts.
+/// A joined delta has no more rows and older runs than its two parts.
 pub fn joined_deltas_are_no_larger()
     ensures { IsNoLarger }
 {}
 
-/// Of two deltas whose extras and rows are in order of dot, each once, the joined delta is too.
+/// Of two deltas whose rows are in order of dot, each once, the joined delta is too.
 pub fn joined_deltas_stay_in_order()
     ensures { StaysInOrder }
+{}
+
+/// The delta of a told value covers what the told value covers.
+pub fn delta_of_told_covers_the_same()
+    ensures { CoversTheSame }
+{}
+
+/// The older dots that a delta tells are in order, each once.
+pub fn older_dots_are_in_order()
+    ensures { OlderInOrder }
 {}

@@ -6,9 +6,8 @@ mod fault;
 mod generations;
 mod joining;
 pub mod laws;
-#[cfg(test)]
-mod tests;
+mod runs;
 
 pub use delta::Delta;
 pub use fault::DeltaFault;
-pub use generations::Generations;
+pub use generations::{Generations, LONG_CAP, MIDDLE_CAP, SHORT_CAP};

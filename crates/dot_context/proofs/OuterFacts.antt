@@ -9,7 +9,7 @@ use Rattle.std.specs.Cmp.{eq_by_cmp_equiv}
 use Rattle.presence_base.specs.declared.dots.Replica.{Replica}
 use Rattle.presence_base.specs.Order.{replica_cmp, same_replica}
 use Rattle.dot_context.specs.Runs.{in_run, holds, AreRuns, AreLong, AreApart, has_room, is_hollow, begins, Opens, Fills, Sweeps}
-use Rattle.dot_context.specs.Sets.{RunsOf, listed, runs_at, runs_in, HasSome, IsCompact}
+use Rattle.dot_context.specs.Sets.{RunsOf, listed, runs_at, runs_in, HasSome, IsCompact, HasRoomFor}
 use Rattle.dot_context.proofs.SetFacts.{replica_total, replica_antisymmetric, is_tied, flipped}
 use Rattle.dot_context.proofs.LoopFacts.{either, left_true, opens_none, strict, none_hollow, room_kept, some_room, begins_first, all_proper, key_itself}
 
@@ -223,11 +223,28 @@ in_entries m q n all = same_tests (holds (runs_in m.entries q) n) (holds (runs_a
 pub compact_filled : (m n : RunsOf) (more filled : Replica → ℕ → Bool) → IsCompact m → ((q : Replica) → HasSome (get replica_cmp n q)) → ((q : Replica) → Fills (runs_at m q) (runs_at n q) (more q) (filled q)) → IsCompact n
 compact_filled m n more filled compact some fills = record { runs = λ q. strict 0 (runs_at n q) (fills q).apart (λ g there. none_hollow 0 (runs_at m q) (compact.runs q) g ((fills q).hollow g there)); some = some }
 
-pub compact_joined : (m mid n : RunsOf) (asked : Replica → ℕ → Bool) (more : Replica → ℕ → Bool) → IsCompact m → ((q : Replica) → HasSome (get replica_cmp n q)) → ((q : Replica) → Opens (runs_at m q) (runs_at mid q) (asked q))
-    → ((q : Replica) → Fills (runs_at mid q) (runs_at n q) (more q) (asked q)) → IsCompact n
-compact_joined m mid n asked more compact some opens fills = record {
-  runs = λ q. strict 0 (runs_at n q) (fills q).apart (λ g there.
-      either (is_hollow (runs_at m q) g) (asked q g) ((opens q).hollow g ((fills q).hollow g there)) (none_hollow 0 (runs_at m q) (compact.runs q) g) (λ e. true≢false (sym there ∙ (fills q).cleared g e)));
+pub room_made : (m n others : RunsOf) → IsCompact m → IsCompact others → ((q : Replica) → HasSome (get replica_cmp n q))
+    → ((q : Replica) → Opens (runs_at m q) (runs_at n q) (begins (runs_in others.entries q)))
+    → ((q : Replica) (g : ℕ) → begins (runs_in others.entries q) g ≡ true → has_room (runs_at n q) g ≡ true) → HasRoomFor n others
+room_made m n others compact more some opens room = record {
+  compact = more;
+  apart = λ q. (opens q).apart;
+  some = some;
+  room = room;
+  hollow = λ q g there. either (is_hollow (runs_at m q) g) (begins (runs_in others.entries q) g) ((opens q).hollow g there) (λ e. absurd (none_hollow 0 (runs_at m q) (compact.runs q) g e)) (λ e. e);
+}
+
+pub room_filled : (m n others : RunsOf) (more : Replica → ℕ → Bool) → HasRoomFor m others → ((q : Replica) → HasSome (get replica_cmp n q))
+    → ((q : Replica) → Fills (runs_at m q) (runs_at n q) (more q) (begins (runs_in others.entries q))) → IsCompact n
+room_filled m n others more room some fills = record {
+  runs = λ q. strict 0 (runs_at n q) (fills q).apart (λ g there. true≢false (sym there ∙ (fills q).cleared g (room.hollow q g ((fills q).hollow g there))));
+  some = some;
+}
+
+pub room_closed : (m n others : RunsOf) → HasRoomFor m others → ((q : Replica) → HasSome (get replica_cmp n q))
+    → ((q : Replica) → Sweeps (runs_at m q) (runs_at n q) (begins (runs_in others.entries q))) → IsCompact n
+room_closed m n others room some sweeps = record {
+  runs = λ q. strict 0 (runs_at n q) (sweeps q).apart (λ g there. true≢false (sym there ∙ (sweeps q).cleared g (room.hollow q g ((sweeps q).hollow g there))));
   some = some;
 }
 

@@ -1,11 +1,13 @@
 -- What the runs of each replica stand for: a set of dots.
-use Rattle.std.specs.Prelude.{ℕ, ◌-◌, ◌<◌, zero, suc, Bool, not, cond, ◌&&◌, nat_lt, nat_le, List, [], ◌∷◌, ◌++◌, length, Option, Some, None}
+use Rattle.std.specs.Prelude.{◌≡◌, ℕ, true, ◌-◌, ◌<◌, zero, suc, Bool, not, cond, ◌&&◌, nat_lt, nat_le, List, [], ◌∷◌, ◌++◌, length, Option, Some, None, refl}
 use Rattle.std.specs.FinSet as set
 use Rattle.std.specs.BTreeMap.{BTreeMap, get}
 use Rattle.presence_base.specs.declared.dots.Replica.{Replica}
 use Rattle.presence_base.specs.declared.dots.Dot.{Dot}
+use Rattle.presence_base.specs.Codes.{dot_code}
+use Rattle.std.specs.Coded.{Coded, code_by, coded×}
 use Rattle.presence_base.specs.Order.{dot_cmp, replica_cmp, same_replica}
-use Rattle.dot_context.specs.Runs.{AreRuns}
+use Rattle.dot_context.specs.Runs.{AreRuns, AreApart, has_room, is_hollow, begins}
 
 abbrev pub DotSet : Type 0
 DotSet = set.FinSet dot_cmp
@@ -63,3 +65,19 @@ HasSome (Some rs) = 0 < length rs
 pub record IsCompact (m : RunsOf) : Type 0 where
   pub runs : (r : Replica) → AreRuns 0 (runs_at m r)
   pub some : (r : Replica) → HasSome (get replica_cmp m r)
+
+-- each run of the others has room in m, and no run of m is hollow but for that room
+pub record HasRoomFor (m others : RunsOf) : Type 0 where
+  pub compact : IsCompact others
+  pub apart : (r : Replica) → AreApart 0 (runs_at m r)
+  pub some : (r : Replica) → HasSome (get replica_cmp m r)
+  pub room : (r : Replica) (g : ℕ) → begins (runs_in others.entries r) g ≡ true → has_room (runs_at m r) g ≡ true
+  pub hollow : (r : Replica) (g : ℕ) → is_hollow (runs_at m r) g ≡ true → begins (runs_in others.entries r) g ≡ true
+
+-- a context and the dots that it has room for
+pub record Planned : Type 0 where
+  pub held : DotSet
+  pub more : DotSet
+
+abbrev pub planned_code : Coded Planned
+planned_code = code_by (DotSet × DotSet) (coded× (set.code dot_code) (set.code dot_code)) (λ p. (p.held, p.more)) (λ p. record { held = p.0; more = p.1 }) (λ _. refl)

@@ -1,8 +1,9 @@
-ghost use Rattle.std.specs.Prelude.{◌≡◌, ◌≤◌, ◌+◌, ℕ, true, false, OnOk, OnErr};
+ghost use Rattle.std.specs.Prelude.{◌≡◌, ◌≤◌, ◌+◌, ℕ, true, false, OnOk, OnErr, IfOk, IfErr};
 ghost use Rattle.std.specs.FinSet as set;
 ghost use Rattle.dot_context.specs.Sets.{DotSet, range, without};
 ghost use Rattle.dot_context.specs.Forms.{vector_of, cloud_of, tops_of, HasOneForm, IfFormed};
 
+use crate::plan::ContextPlan;
 use crate::replicas::{covers_dot, join_all, put_range, take_out, top_of_replica};
 use crate::runs::Runs;
 use crate::views::{Cloud, Ranges, Tops};
@@ -17,7 +18,7 @@ use std::marker::Model;
 /// A range of any length takes one entry. `covers` and `top` search, and cost the logarithm of the number of runs.
 #[derive(Drop)]
 pub struct Context {
-    replicas: BTreeMap<Replica, Runs>,
+    pub(crate) replicas: BTreeMap<Replica, Runs>,
 }
 
 impl Model for Context {
@@ -94,6 +95,15 @@ impl Context {
         ensures err { OnErr result (self.new ≡ self.old) }
     {
         join_all(&mut self.replicas, alloc, &other.replicas)
+    }
+
+    /// Makes room for the dots of `more`, which then come in without memory. Where memory is refused, it answers the set as it
+    /// was. The cost is that of `join`.
+    pub fn plan_join(self, alloc: Global, more: Context) -> Result<ContextPlan, Context>
+        ensures ok { IfOk result (λ p. p ≡ record { held = self; more = more }) }
+        ensures err { IfErr result (λ s. s ≡ self) }
+    {
+        ContextPlan::new(alloc, self.replicas, more.replicas)
     }
 
     /// Takes out the replica's dots. Takes no memory.

@@ -2,11 +2,11 @@
 #![tactic(auto)]
 
 mod context;
+mod plan;
 mod replicas;
 mod runs;
-#[cfg(test)]
-mod tests;
 mod views;
 
 pub use context::{Context, one_form};
+pub use plan::ContextPlan;
 pub use views::{Cloud, Ranges, Tops};

@@ -5,7 +5,7 @@ ghost use Rattle.presence_base.specs.Order.{replica_cmp, same_replica};
 ghost use Rattle.presence_base.specs.declared.dots.Dot.{Dot as DotValue};
 ghost use Rattle.presence_base.specs.declared.dots.Replica.{Replica as ReplicaValue};
 ghost use Rattle.dot_context.specs.Runs.{holds, begins, has_room, AreRuns, AreApart, AreLong, Opens, Fills, Sweeps};
-ghost use Rattle.dot_context.specs.Sets.{in_range, runs_at, runs_in, HasSome, IsCompact};
+ghost use Rattle.dot_context.specs.Sets.{in_range, runs_at, runs_in, HasSome, IsCompact, HasRoomFor};
 
 use crate::runs::Runs;
 use presence_base::{Dot, Replica};
@@ -181,7 +181,46 @@ fn sweep_all(replicas: &mut BTreeMap<Replica, Runs>, others: &BTreeMap<Replica, 
     }
 }
 
-// Adds the runs of `others`: first the room for all, which can be refused and is then swept, then the runs.
+// Makes room for the runs of `others`, or takes out again what room it got.
+pub(crate) fn open_all(
+    replicas: &mut BTreeMap<Replica, Runs>,
+    alloc: Global,
+    others: &BTreeMap<Replica, Runs>,
+) -> Result<(), AllocError>
+    requires compact { IsCompact replicas.old }
+    requires others { IsCompact others.now }
+    ensures ok { OnOk result (HasRoomFor replicas.new others.now) }
+    ensures err { OnErr result (IsCompact replicas.new) }
+    ensures same { (q : DotValue) → holds (runs_at replicas.new q.replica) q.count ≡ holds (runs_at replicas.old q.replica) q.count }
+{
+    match room_for_all(replicas, alloc, others) {
+        Ok(()) => Ok(()),
+        Err(e) => {
+            sweep_all(replicas, others);
+            Err(e)
+        }
+    }
+}
+
+// Adds the runs of `others`, for which there is room.
+pub(crate) fn fill_room(replicas: &mut BTreeMap<Replica, Runs>, others: &BTreeMap<Replica, Runs>)
+    requires { HasRoomFor replicas.old others.now }
+    ensures compact { IsCompact replicas.new }
+    ensures joined { (q : DotValue) → holds (runs_at replicas.new q.replica) q.count ≡ (holds (runs_at replicas.old q.replica) q.count || holds (runs_at others.now q.replica) q.count) }
+{
+    fill_all(replicas, others);
+}
+
+// Takes the room for the runs of `others` out.
+pub(crate) fn close_room(replicas: &mut BTreeMap<Replica, Runs>, others: &BTreeMap<Replica, Runs>)
+    requires { HasRoomFor replicas.old others.now }
+    ensures compact { IsCompact replicas.new }
+    ensures same { (q : DotValue) → holds (runs_at replicas.new q.replica) q.count ≡ holds (runs_at replicas.old q.replica) q.count }
+{
+    sweep_all(replicas, others);
+}
+
+// Adds the runs of `others`: first the room for all, then the runs.
 pub(crate) fn join_all(
     replicas: &mut BTreeMap<Replica, Runs>,
     alloc: Global,
@@ -193,10 +232,7 @@ pub(crate) fn join_all(
     ensures ok { OnOk result ((q : DotValue) → holds (runs_at replicas.new q.replica) q.count ≡ (holds (runs_at replicas.old q.replica) q.count || holds (runs_at others.now q.replica) q.count)) }
     ensures err { OnErr result ((q : DotValue) → holds (runs_at replicas.new q.replica) q.count ≡ holds (runs_at replicas.old q.replica) q.count) }
 {
-    if room_for_all(replicas, alloc, others).is_err() {
-        sweep_all(replicas, others);
-        return Err(AllocError);
-    }
-    fill_all(replicas, others);
+    open_all(replicas, alloc, others)?;
+    fill_room(replicas, others);
     Ok(())
 }

@@ -1,15 +1,14 @@
 -- The object that lists are rendered as is read as these lists, whatever a fetch adds.
-use Rattle.std.proofs.Common.{◌≡◌, ℕ, List, [], ◌∷◌, ◌++◌, map, Bool, true, Option, Some, Ok, is_some, codes, refl, ap, sym, ◌∙◌, append_assoc, append-nil}
-use Rattle.serde_json.specs.Data.{Data, null, boolean, number, string, array, object, Members, no_members, put as put_member}
-use Rattle.serde_json.specs.Find.{get_member, as_object}
+use Rattle.std.proofs.Common.{◌≡◌, List, [], map, true, Some, Ok, codes, refl, ap, ◌∙◌}
+use Rattle.serde_json.specs.Data.{Data, array, put as put_member}
+use Rattle.serde_json.specs.Find.{get_member}
 use Rattle.serde_json.specs.View.{items_of}
 use Rattle.serde_json.proofs.Views.{get_member-put}
 use Rattle.presence_base.specs.declared.dots.Dot.{Dot}
 use Rattle.presence_base.specs.declared.row.Row.{Row}
-use Rattle.presence_metas.specs.declared.tracked.TrackedMeta.{TrackedMeta}
 use Rattle.presence_metas.specs.Listing.{Listing}
 use Rattle.presence_metas.specs.Rows.{listing_of}
-use Rattle.presence_metas.specs.Frames.{is_array_of_objects, items_in, all_objects, all_have_metas, is_listing, text_ref, tracked_in, metas_into, listing_into, listing_in, frame_in}
+use Rattle.presence_metas.specs.Frames.{is_array_of_objects, items_in, all_have_metas, is_listing, metas_into, listing_into, listing_in, frame_in}
 use Rattle.presence_metas.proofs.ReadBack.{Tells, objects, metas_back, AllKept, written_all, shaped, read_all, listing_rises, listing_kept}
 use Rattle.presence_metas.proofs.Lookups.{Rises}
 use Rattle.hook_registry.specs.Rendered.{Extras, key_value, listing_with, state_with}

@@ -4,4 +4,5 @@ pub mod Routes
 pub mod Extras
 pub mod Noted
 pub mod Rendered
+pub mod Stored
 pub mod Laws

@@ -1,13 +1,14 @@
 -- What is told of rows where a fetch adds members to each key's object.
 use Rattle.std.specs.Prelude.{◌≡◌, ℕ, List, map, IsTrue, codes}
 use Rattle.std.specs.List.{fold, AllByRecursion}
-use Rattle.serde_json.specs.Data.{Data, array, object, Members, no_members, member, put}
+use Rattle.serde_json.specs.Data.{Data, array, object, Members, no_members, put}
 use Rattle.serde_json.specs.View.{items_of}
 use Rattle.presence_base.specs.declared.dots.Dot.{Dot}
 use Rattle.presence_base.specs.declared.row.Row.{Row}
 use Rattle.presence_metas.specs.declared.tracked.TrackedMeta.{TrackedMeta}
 use Rattle.presence_metas.specs.Listing.{Listing}
 use Rattle.presence_metas.specs.Rows.{listing_of}
+use Rattle.presence_metas.specs.Values.{diff_object_of}
 use Rattle.hook_registry.specs.Extras.{is_extra}
 
 -- the members that are told of each key beside its metas
@@ -30,8 +31,7 @@ abbrev pub state_with : Extras → List (Dot × Row) → Data
 state_with extras rows = listing_with extras (listing_of rows)
 
 abbrev pub diff_with : Extras → Extras → List (Dot × Row) → List (Dot × Row) → Data
-diff_with of_joins of_leaves joins leaves =
-    object (member (codes "joins") (state_with of_joins joins) (member (codes "leaves") (state_with of_leaves leaves) no_members))
+diff_with of_joins of_leaves joins leaves = diff_object_of (state_with of_joins joins) (state_with of_leaves leaves)
 
 -- each key's members are an extra that fetch may answer for it
 abbrev pub Fetched : (List ℕ → Members → Type 0) → Extras → Listing → Type 0

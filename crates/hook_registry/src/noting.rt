@@ -52,7 +52,7 @@ pub fn notices<H: PresenceHooks>(
 ) -> Result<Vec<Notice>, AllocError>
     ensures notices { IfOk result (λ v. H.quiet hooks.now ≡ false
         → NoticesOf (H.joined hooks.now kind topic.now) (H.left hooks.now kind topic.now)
-            diff.now.joins diff.now.leaves v.items) }
+        diff.now.joins diff.now.leaves v.items) }
     ensures quiet { H.quiet hooks.now ≡ true → IfOk result (λ v. v.items ≡ []) }
 {
     if hooks.is_quiet() {

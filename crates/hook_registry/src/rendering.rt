@@ -13,8 +13,8 @@ use crate::extra::Extra;
 use crate::hooks::PresenceHooks;
 use presence_base::{Dot, Key, Row, Topic};
 use presence_journal::RowDiff;
-use presence_metas::{Presences, TrackedMeta, put_member, state_value, values_of};
-use serde_json::{Map, Value, json};
+use presence_metas::{Presences, TrackedMeta, diff_object, put_member, state_value, values_of};
+use serde_json::{Map, Value};
 use std::alloc::{AllocError, Global};
 
 // What a fetch adds to a key's object.
@@ -124,5 +124,5 @@ pub fn render_diff<H: PresenceHooks>(
 {
     let joins = render_state(alloc, hooks, kind, topic, diff.joins.as_slice())?;
     let leaves = render_state(alloc, hooks, kind, topic, diff.leaves.as_slice())?;
-    json!(in alloc; {"joins": joins, "leaves": leaves})
+    diff_object(alloc, joins, leaves)
 }

@@ -1,5 +1,5 @@
 -- The full told value: what a form lists is all that is told of the set, and what follows of it.
-use Rattle.std.proofs.Common.{◌≡◌, ℕ, ◌+◌, ◌^◌, ◌<◌, ◌≤◌, suc, Bool, T, true, false, not, cond, ◌&&◌, ◌||◌, nat_lt, nat_le, List, [], ◌∷◌, length, map as each_of, arith, refl, sym, ◌∙◌, ap, subst, zero, Option, Some, None, is_some, true≢false, Ordering}
+use Rattle.std.proofs.Common.{◌≡◌, ℕ, ◌+◌, ◌<◌, ◌≤◌, suc, Bool, T, true, false, not, cond, ◌&&◌, ◌||◌, nat_lt, nat_le, List, [], ◌∷◌, length, map as each_of, arith, refl, sym, ◌∙◌, ap, subst, zero, Option, Some, None, is_some, true≢false, Ordering}
 use Rattle.std.proofs.lemmas.Bool.Decides.{nat_tests}
 use Rattle.std.proofs.lemmas.List.Elements.{All-from_recursion, recursion_from_All}
 use Rattle.std.proofs.lemmas.Map.Made.{is_some-lookup}
@@ -13,6 +13,7 @@ use Rattle.std.specs.FinMap as map
 use Rattle.std.specs.FinMap.Entries.{is_sorted, below_all, same_entries}
 use Rattle.std.specs.Map.{lookup, keys_of}
 use Rattle.presence_base.specs.declared.dots.Replica.{Replica}
+use Rattle.presence_base.specs.declared.dots.TheConstants.{MAX_COUNT}
 use Rattle.presence_base.specs.declared.dots.Dot.{Dot}
 use Rattle.presence_base.specs.declared.row.Row.{Row}
 use Rattle.presence_base.specs.Order.{replica_cmp, dot_cmp, same_replica, same_dot}
@@ -22,12 +23,12 @@ use Rattle.dot_context.specs.Forms.{Form, IsForm, IfFormed, tops_of, cloud_of}
 use Rattle.dot_context.proofs.FormFacts.{held_within, only_form}
 use Rattle.dot_context.proofs.SetFacts.{top_held, next_not_held}
 use Rattle.dot_context.proofs.LoopFacts.{loose}
-use Rattle.orswot_core.specs.Limits.{is_count, is_dot, is_row, is_range}
-use Rattle.orswot_core.specs.Telling.{Range, ToldValue, range_has, covers, live_row}
-use Rattle.orswot_core.specs.Checks.{IsTold, has_repeat, replicas_of, dots_of, is_forward}
+use Rattle.orswot_core_told.specs.Limits.{is_count, is_dot, is_row, is_range}
+use Rattle.orswot_core_told.specs.Telling.{Range, ToldValue, range_has, covers, live_row}
+use Rattle.orswot_core_told.specs.Checks.{IsTold, has_repeat, replicas_of, dots_of, is_forward}
 use Rattle.orswot_core.specs.Sets.{DotRows, LiveRows, rows_of, is_sound, IsSound}
 use Rattle.orswot_core.specs.Full.{dot_of, up_to_top, top_ranges, dots_of_runs, dots_above, IsTopRange, IsFull}
-use Rattle.orswot_core.proofs.OrderFacts.{replica_total, dot_total, dot_antisymmetric, replicas_equal, same_itself}
+use Rattle.orswot_core_told.proofs.OrderFacts.{replica_total, dot_total, dot_antisymmetric, replicas_equal, same_itself}
 use Rattle.orswot_core.proofs.RowFacts.{find_is}
 use Rattle.orswot_core.proofs.ListedFacts.{found_by, up_to, in_ranges, in_above, in_set, replicas_listed, counts_parted}
 use Rattle.orswot_core.proofs.OrderedFacts.{each_weaker, above_sorted}
@@ -235,10 +236,10 @@ live_dot s sound d r has = by_parts (set.contains s.covered d) (map.get s.live d
     by_parts false (Some x) e h = absurd (cc)
 
 top_limits : (s : DotRows) → IsSound s.covered s.live → (g : Range) → IsTopRange s.covered g → is_range g ≡ true
-top_limits s sound g h = join (is_count g.0.incarnation) (nat_le g.1 (2 ^ 62)) (nat_le g.2 (2 ^ 62))
+top_limits s sound g h = join (is_count g.0.incarnation) (nat_le g.1 MAX_COUNT) (nat_le g.2 MAX_COUNT)
     (both_parts (is_count g.0.incarnation) (is_count h.some.0) (covered_dot s sound (dot_of g.0 h.some.0) h.some.1)).0
-    (ap (λ n. nat_le n (2 ^ 62)) h.from)
-    (top_small (2 ^ 62) g.2 (λ some. (both_parts (nat_le 1 g.2) (nat_le g.2 (2 ^ 62)) (both_parts (is_count g.0.incarnation) (is_count g.2) (covered_dot s sound (dot_of g.0 g.2) (h.below g.2 some (omega arith)))).1).1))
+    (ap (λ n. nat_le n MAX_COUNT) h.from)
+    (top_small MAX_COUNT g.2 (λ some. (both_parts (nat_le 1 g.2) (nat_le g.2 MAX_COUNT) (both_parts (is_count g.0.incarnation) (is_count g.2) (covered_dot s sound (dot_of g.0 g.2) (h.below g.2 some (omega arith)))).1).1))
   where
     join : (a b c : Bool) → a ≡ true → b ≡ true → c ≡ true → (a && (b && c)) ≡ true
     join true true true e e' e'' = refl

@@ -1,6 +1,7 @@
 -- Which dots lose their rows to what is told.
-use Rattle.std.proofs.Common.{◌≡◌, ℕ, Bool, true, false, not, cond, ◌&&◌, ◌||◌, ◌==◌, nat_lt, nat_le, List, [], ◌∷◌, ◌++◌, refl, sym, ◌∙◌, ap, Option, Some, None, is_some, arith, Ordering, true≢false}
+use Rattle.std.proofs.Common.{◌≡◌, ℕ, Bool, true, false, not, cond, ◌&&◌, ◌||◌, ◌==◌, nat_lt, nat_le, List, [], ◌∷◌, ◌++◌, refl, sym, ◌∙◌, ap, Option, Some, None, is_some, arith, Ordering, true≢false, ◌≤◌, length, drop}
 use Rattle.std.proofs.lemmas.Bool.Decides.{nat_tests}
+use Rattle.std.proofs.lemmas.List.{drop_all}
 use Rattle.std.specs.List.{list_any}
 use Rattle.std.specs.Ordering.{is_eq, is_lt, is_gt, nat_cmp, ordering_then}
 use Rattle.std.specs.declared.cmp.Ordering.TheVariants.{Less, Equal, Greater}
@@ -15,11 +16,10 @@ use Rattle.presence_base.specs.declared.dots.Dot.{Dot}
 use Rattle.presence_base.specs.declared.dots.Replica.{Replica}
 use Rattle.presence_base.specs.declared.row.Row.{Row}
 use Rattle.presence_base.specs.Order.{dot_cmp, replica_cmp, same_dot}
-use Rattle.orswot_core.specs.Telling.{Range, range_has}
-use Rattle.orswot_core.specs.Sets.{is_left}
-use Rattle.orswot_core.specs.Checks.{is_forward}
-use Rattle.orswot_core.proofs.OrderFacts.{dots_equal, replica_total}
-use Rattle.orswot_core.proofs.RowFacts.{Rows}
+use Rattle.orswot_core_told.specs.Telling.{Range, range_has}
+use Rattle.orswot_core.specs.Sets.{Rows, is_left}
+use Rattle.orswot_core_told.specs.Checks.{is_forward, dots_of}
+use Rattle.orswot_core_told.proofs.OrderFacts.{dots_equal, replica_total}
 
 any_push : (p : Dot → Bool) (xs : List Dot) (d : Dot) → list_any p (xs ++ d ∷ []) ≡ (list_any p xs || p d)
 any_push p [] d = or_none (p d)
@@ -33,47 +33,64 @@ any_push p (x ∷ xs) d = ap (λ b. p x || b) (any_push p xs d) ∙ groups (p x)
     groups true b c = refl
     groups false b c = refl
 
-same_left : (left same : Bool) → (same ≡ true → left ≡ true) → same ≡ (left && same)
-same_left true same f = refl
-same_left false true f = sym (f refl)
-same_left false false f = refl
+same_if : (b same : Bool) → (same ≡ true → b ≡ true) → same ≡ (b && same)
+same_if true same f = refl
+same_if false true f = sym (f refl)
+same_if false false f = refl
 
--- a dot whose row goes is gathered
-pub gathered : (here there : Rows) (g g' : List Dot) (d : Dot) (q : Dot) → is_left (get dot_cmp here d) (get dot_cmp there d) ≡ true → g' ≡ g ++ d ∷ []
-    → list_any (same_dot q) g' ≡ (list_any (same_dot q) g || (is_left (get dot_cmp here q) (get dot_cmp there q) && same_dot q d))
-gathered here there g g' d q left e =
+-- a dot that is wanted is gathered
+pub gathered : (p : Dot → Bool) (g g' : List Dot) (d : Dot) (q : Dot) → p d ≡ true → g' ≡ g ++ d ∷ []
+    → list_any (same_dot q) g' ≡ (list_any (same_dot q) g || (p q && same_dot q d))
+gathered p g g' d q wanted e =
     ap (list_any (same_dot q)) e ∙ any_push (same_dot q) g d
-    ∙ ap (λ b. list_any (same_dot q) g || b) (same_left (is_left (get dot_cmp here q) (get dot_cmp there q)) (same_dot q d) (λ same. ap (λ x. is_left (get dot_cmp here x) (get dot_cmp there x)) (dots_equal q d same) ∙ left))
+    ∙ ap (λ b. list_any (same_dot q) g || b) (same_if (p q) (same_dot q d) (λ same. ap p (dots_equal q d same) ∙ wanted))
 
 -- another is passed over
-pub passed_over : (here there : Rows) (g : List Dot) (d : Dot) (q : Dot) → is_left (get dot_cmp here d) (get dot_cmp there d) ≡ false
-    → list_any (same_dot q) g ≡ (list_any (same_dot q) g || (is_left (get dot_cmp here q) (get dot_cmp there q) && same_dot q d))
-passed_over here there g d q stays = other (list_any (same_dot q) g) (is_left (get dot_cmp here q) (get dot_cmp there q)) (same_dot q d) (λ same. ap (λ x. is_left (get dot_cmp here x) (get dot_cmp there x)) (dots_equal q d same) ∙ stays)
+pub passed_over : (p : Dot → Bool) (g : List Dot) (d : Dot) (q : Dot) → p d ≡ false
+    → list_any (same_dot q) g ≡ (list_any (same_dot q) g || (p q && same_dot q d))
+passed_over p g d q stays = other (list_any (same_dot q) g) (p q) (same_dot q d) (λ same. ap p (dots_equal q d same) ∙ stays)
   where
-    other : (g left same : Bool) → (same ≡ true → left ≡ false) → g ≡ (g || (left && same))
-    other true left same f = refl
+    other : (g b same : Bool) → (same ≡ true → b ≡ false) → g ≡ (g || (b && same))
+    other true b same f = refl
     other false true true f = absurd (true≢false (f refl))
     other false true false f = refl
     other false false same f = refl
 
 -- one of several is done
-pub next_gathered : (here there : Rows) (g g' : List Dot) (d : Dot) (xs rest : List Dot) (q : Dot) → xs ≡ d ∷ rest
-    → list_any (same_dot q) g' ≡ (list_any (same_dot q) g || (is_left (get dot_cmp here q) (get dot_cmp there q) && same_dot q d))
-    → (list_any (same_dot q) g' || (is_left (get dot_cmp here q) (get dot_cmp there q) && list_any (same_dot q) rest)) ≡ (list_any (same_dot q) g || (is_left (get dot_cmp here q) (get dot_cmp there q) && list_any (same_dot q) xs))
-next_gathered here there g g' d xs rest q split e =
-    ap (λ b. b || (is_left (get dot_cmp here q) (get dot_cmp there q) && list_any (same_dot q) rest)) e
-    ∙ regroup (list_any (same_dot q) g) (is_left (get dot_cmp here q) (get dot_cmp there q)) (same_dot q d) (list_any (same_dot q) rest)
-    ∙ ap (λ l. list_any (same_dot q) g || (is_left (get dot_cmp here q) (get dot_cmp there q) && list_any (same_dot q) l)) (sym split)
+pub next_gathered : (p : Dot → Bool) (g g' : List Dot) (d : Dot) (xs rest : List Dot) (q : Dot) → xs ≡ d ∷ rest
+    → list_any (same_dot q) g' ≡ (list_any (same_dot q) g || (p q && same_dot q d))
+    → (list_any (same_dot q) g' || (p q && list_any (same_dot q) rest)) ≡ (list_any (same_dot q) g || (p q && list_any (same_dot q) xs))
+next_gathered p g g' d xs rest q split e =
+    ap (λ b. b || (p q && list_any (same_dot q) rest)) e
+    ∙ regroup (list_any (same_dot q) g) (p q) (same_dot q d) (list_any (same_dot q) rest)
+    ∙ ap (λ l. list_any (same_dot q) g || (p q && list_any (same_dot q) l)) (sym split)
   where
-    regroup : (g left same rest : Bool) → ((g || (left && same)) || (left && rest)) ≡ (g || (left && (same || rest)))
-    regroup true left same rest = refl
+    regroup : (g b same rest : Bool) → ((g || (b && same)) || (b && rest)) ≡ (g || (b && (same || rest)))
+    regroup true b same rest = refl
     regroup false true same rest = refl
     regroup false false same rest = refl
 
-pub all_gathered : (g : Bool) (left : Bool) → (g || (left && false)) ≡ g
-all_gathered true left = refl
-all_gathered false true = refl
-all_gathered false false = refl
+-- the dots whose rows are live here and not there
+abbrev pub left_at : Rows → Rows → Dot → Bool
+left_at here there q = is_left (get dot_cmp here q) (get dot_cmp there q)
+
+nothing_gathered : (g b : Bool) → (g || (b && false)) ≡ g
+nothing_gathered true b = refl
+nothing_gathered false true = refl
+nothing_gathered false false = refl
+
+-- all of the rows are done
+pub none_gathered : (g b : Bool) (q : Dot) (xs : List (Dot × Row)) (i : ℕ) → length xs ≤ i → (g || (b && list_any (same_dot q) (dots_of (drop i xs)))) ≡ g
+none_gathered g b q xs i le = ap (λ l. g || (b && list_any (same_dot q) (dots_of l))) (drop_all i xs le) ∙ nothing_gathered g b
+
+-- a row is found at the dots that are listed
+pub told_some : (q : Dot) (xs : List (Dot × Row)) → list_any (same_dot q) (dots_of xs) ≡ is_some (lookup (same_dot q) xs)
+told_some q [] = refl
+told_some q (x ∷ xs) = ap (λ b. same_dot q x.0 || b) (told_some q xs) ∙ by (same_dot q x.0) x.1 (lookup (same_dot q) xs)
+  where
+    by : (b : Bool) (r : Row) (o : Option Row) → (b || is_some o) ≡ is_some (cond b (Some r) o)
+    by true r o = refl
+    by false r o = refl
 
 counts_within : (from to n : ℕ) → (is_lt (nat_cmp from n) && not (is_lt (nat_cmp to n))) ≡ (nat_lt from n && nat_le n to)
 counts_within from to n = ap (λ b. b && not (is_lt (nat_cmp to n))) (below from n) ∙ ap (λ b. nat_lt from n && not b) (below to n) ∙ ap (λ b. nat_lt from n && b) (turned to n)
@@ -126,7 +143,7 @@ in_between here there g es q is =
 pub next_keys : (here there : Rows) (g g' : List Dot) (d : Dot) (r : Row) (es rest : List (Dot × Row)) (q : Dot) → es ≡ (d, r) ∷ rest
     → list_any (same_dot q) g' ≡ (list_any (same_dot q) g || (is_left (get dot_cmp here q) (get dot_cmp there q) && same_dot q d))
     → (list_any (same_dot q) g' || (is_left (get dot_cmp here q) (get dot_cmp there q) && list_any (same_dot q) (keys_of rest))) ≡ (list_any (same_dot q) g || (is_left (get dot_cmp here q) (get dot_cmp there q) && list_any (same_dot q) (keys_of es)))
-next_keys here there g g' d r es rest q split e = next_gathered here there g g' d (keys_of es) (keys_of rest) q (ap keys_of split) e
+next_keys here there g g' d r es rest q split e = next_gathered (left_at here there) g g' d (keys_of es) (keys_of rest) q (ap keys_of split) e
 
 no_greater : (o : Ordering) (from to : ℕ) → o ≡ Equal → nat_le from to ≡ true → is_gt (ordering_then o (nat_cmp from to)) ≡ false
 no_greater o from to e le = ap (λ x. is_gt (ordering_then x (nat_cmp from to))) e ∙ by_tests (nat_lt from to) (from == to) (at_most from to le)

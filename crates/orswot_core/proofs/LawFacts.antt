@@ -1,15 +1,15 @@
 -- The laws of joins: dot by dot, by cases on what each side has, and then for whole sets.
-use Rattle.std.proofs.Common.{◌≡◌, Bool, true, false, ◌||◌, List, [], ◌∷◌, Option, Some, None, is_some, refl, sym, ◌∙◌, ap, subst, cond, true≢false}
+use Rattle.std.proofs.Common.{◌≡◌, Bool, true, false, is_none, ◌&&◌, ◌||◌, List, [], ◌∷◌, Option, Some, None, is_some, refl, sym, ◌∙◌, ap, subst, cond, true≢false}
 use Rattle.std.specs.FinSet as set
 use Rattle.std.specs.FinMap as map
 use Rattle.presence_base.specs.declared.dots.Dot.{Dot}
 use Rattle.presence_base.specs.declared.row.Row.{Row}
-use Rattle.orswot_core.specs.Telling.{ToldValue, covers, live_row}
+use Rattle.orswot_core_told.specs.Telling.{ToldValue, covers, live_row}
 use Rattle.orswot_core.specs.Sets.{DotRows, joined_row}
-use Rattle.orswot_core.specs.Laws.{TakesInAll, Knows, Idempotent, Commutative, Associative, RemovedStays, Learns, JoinsKeepKnown, StepsKeepKnown, KnownChangesNothing, OldChangesNothing}
+use Rattle.orswot_core.specs.Laws.{RemovalsAreHeard, TakesInAll, Knows, Idempotent, Commutative, Associative, RemovedStays, Learns, JoinsKeepKnown, StepsKeepKnown, KnownChangesNothing, OldChangesNothing}
 use Rattle.std.specs.List.{list_any}
 use Rattle.presence_base.specs.Order.{dot_cmp, same_dot}
-use Rattle.orswot_core.proofs.OrderFacts.{dot_total, dot_antisymmetric, dots_equal}
+use Rattle.orswot_core_told.proofs.OrderFacts.{dot_total, dot_antisymmetric, dots_equal}
 use Rattle.orswot_core.proofs.RowFacts.{same_rows}
 use Rattle.orswot_core.proofs.SoundFacts.{only_covered, told_sound, without_rows_at}
 
@@ -121,6 +121,17 @@ learns s x t h d has = (
     taken_out : (o : Option Row) (c : Bool) → joined_row o c None true ≡ None
     taken_out None c = refl
     taken_out (Some r) c = refl
+
+told_both : (c : Bool) (o : Option Row) → (c && is_none o) ≡ true → (c ≡ true) × (o ≡ None)
+told_both true None h = (refl, refl)
+told_both true (Some r) h = absurd (cc)
+told_both false o h = absurd (cc)
+
+pub removals_heard : RemovalsAreHeard
+removals_heard s x t d told h =
+    let both = told_both (covers t d) (live_row t d) told in
+    let known = learns s x t h d both.0 in
+    (known.0, known.1 both.1)
 
 pub joins_keep : JoinsKeepKnown
 joins_keep s x t has row known h d told =

@@ -1,9 +1,10 @@
-pub mod OrderFacts
-pub mod LoopFacts
+pub use Rattle.orswot_core_told.proofs.OrderFacts
+pub use Rattle.orswot_core_told.proofs.LoopFacts
 pub mod RowFacts
 pub mod GatherFacts
 pub mod CoverFacts
 pub mod SoundFacts
+pub mod PlanFacts
 pub mod LawFacts
 pub mod ListedFacts
 pub mod OrderedFacts

@@ -12,12 +12,12 @@ use Rattle.std.specs.Map.{keys_of}
 use Rattle.presence_base.specs.declared.dots.Replica.{Replica}
 use Rattle.presence_base.specs.Order.{replica_cmp, same_replica}
 use Rattle.dot_context.specs.Sets.{DotSet}
-use Rattle.orswot_core.specs.Telling.{Range, ToldValue, range_has}
-use Rattle.orswot_core.specs.Checks.{replicas_of}
+use Rattle.orswot_core_told.specs.Telling.{Range, ToldValue, range_has}
+use Rattle.orswot_core_told.specs.Checks.{replicas_of}
 use Rattle.orswot_core.specs.Sets.{DotRows}
 use Rattle.orswot_core.specs.Full.{dot_of, IsTopRange, IsFull}
 use Rattle.orswot_core.specs.Laws.{OneFull}
-use Rattle.orswot_core.proofs.OrderFacts.{replica_total, replica_antisymmetric, dot_total, dot_antisymmetric, replicas_equal}
+use Rattle.orswot_core_told.proofs.OrderFacts.{replica_total, replica_antisymmetric, dot_total, dot_antisymmetric, replicas_equal}
 use Rattle.orswot_core.proofs.FullFacts.{passes, to_test}
 
 abbrev marked : {K : Type 0} → List K → List (K × Unit {0})

@@ -14,7 +14,7 @@ use Rattle.dot_context.specs.Runs.{AreRuns, above_top}
 use Rattle.dot_context.specs.Sets.{span, run_dots}
 use Rattle.dot_context.specs.Forms.{Form, cloud_of}
 use Rattle.orswot_core.specs.Full.{dot_of, dots_of_runs, dots_above}
-use Rattle.orswot_core.proofs.OrderFacts.{replica_total}
+use Rattle.orswot_core_told.proofs.OrderFacts.{replica_total}
 use Rattle.orswot_core.proofs.ListedFacts.{above_all}
 
 module _ {A : Type 0} where

@@ -3,19 +3,16 @@ use Rattle.std.proofs.Common.{◌≡◌, Bool, true, false, not, cond, ◌&&◌,
 use Rattle.std.specs.Ordering.{eq_by_cmp, is_eq}
 use Rattle.std.specs.FinSet as set
 use Rattle.std.specs.FinMap as map
-use Rattle.std.specs.BTreeMap.{BTreeMap, get}
+use Rattle.std.specs.BTreeMap.{get}
 use Rattle.std.specs.Map.{lookup}
 use Rattle.std.proofs.lemmas.Map.Entries.{lookup-filter-keys}
 use Rattle.std.specs.List.{filter, list_any}
 use Rattle.presence_base.specs.declared.dots.Dot.{Dot}
 use Rattle.presence_base.specs.Order.{dot_cmp, same_dot}
 use Rattle.dot_context.specs.Sets.{DotSet}
-use Rattle.orswot_core.proofs.OrderFacts.{dot_total, dot_antisymmetric, is_tied, flipped, dots_equal}
+use Rattle.orswot_core_told.proofs.OrderFacts.{dot_total, dot_antisymmetric, is_tied, flipped, dots_equal}
 use Rattle.presence_base.specs.declared.row.Row.{Row}
-use Rattle.orswot_core.specs.Sets.{LiveRows, DotRows, rows_of, first_row, joined_row, is_left}
-
-abbrev pub Rows : Type 0
-Rows = BTreeMap Dot Row
+use Rattle.orswot_core.specs.Sets.{Rows, LiveRows, DotRows, rows_of, first_row, joined_row, is_left, is_missing}
 
 pub find_is : (es : List (Dot × Row)) (q : Dot) → map.find dot_cmp q es ≡ lookup (λ k. is_eq (dot_cmp q k)) es
 find_is [] q = refl
@@ -102,14 +99,20 @@ not_same : (same : Bool) (a b : Option Row) → (same ≡ true → ⊥) → cond
 not_same true a b f = absurd (f refl)
 not_same false a b f = refl
 
-pub kept_one : (m n old : Rows) (s : DotSet) (k : Dot) (row : Row) (q : Dot) → set.contains s k ≡ false → set.contains s q ≡ true
+pub kept_one : (m n old : Rows) (p : Dot → Bool) (k : Dot) (row : Row) (q : Dot) → p k ≡ true → p q ≡ false
     → ((x : Dot) → get dot_cmp n x ≡ cond (eq_by_cmp dot_cmp k x) (Some row) (get dot_cmp m x)) → get dot_cmp m q ≡ get dot_cmp old q → get dot_cmp n q ≡ get dot_cmp old q
-kept_one m n old s k row q not_covered covered step before =
+kept_one m n old p k row q there not_there step before =
     step q
-    ∙ not_same (eq_by_cmp dot_cmp k q) (Some row) (get dot_cmp m q) (λ same. true≢false (sym covered ∙ ap (set.contains s) (sym (dot_antisymmetric k q (is_tied (dot_cmp k q) same))) ∙ not_covered))
+    ∙ not_same (eq_by_cmp dot_cmp k q) (Some row) (get dot_cmp m q) (λ same. true≢false (sym there ∙ ap p (dot_antisymmetric k q (is_tied (dot_cmp k q) same)) ∙ not_there))
     ∙ before
 
-uncovered_none : (o : Option Row) (c : Bool) → (is_some o ≡ true → c ≡ true) → c ≡ false → o ≡ None
+pub missing_found : (covers : Bool) (o : Option Row) (r : Row) → covers ≡ false → o ≡ Some r → is_missing covers o ≡ true
+missing_found covers o r e e' = ap (λ b. is_missing b o) e ∙ ap (is_missing false) e'
+
+pub none_missing : (o : Option Row) → is_missing true o ≡ false
+none_missing o = refl
+
+pub uncovered_none : (o : Option Row) (c : Bool) → (is_some o ≡ true → c ≡ true) → c ≡ false → o ≡ None
 uncovered_none None c f e = refl
 uncovered_none (Some r) c f e = absurd (true≢false (sym (f refl) ∙ e))
 

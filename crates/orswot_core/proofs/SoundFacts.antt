@@ -1,23 +1,24 @@
 -- What a set holds stays sound: a row only where it covers, and all within their limits.
-use Rattle.std.proofs.Common.{◌≡◌, ℕ, ◌^◌, ◌≤◌, Bool, true, false, not, cond, ◌&&◌, ◌||◌, nat_le, nat_lt, List, [], ◌∷◌, refl, sym, ◌∙◌, ap, Option, Some, None, is_some, true≢false, arith}
+use Rattle.std.proofs.Common.{◌≡◌, ℕ, ◌≤◌, Bool, true, false, not, cond, ◌&&◌, ◌||◌, nat_le, nat_lt, List, [], ◌∷◌, refl, sym, ◌∙◌, ap, Option, Some, None, is_some, true≢false, arith}
 use Rattle.std.proofs.lemmas.Bool.Decides.{nat_tests}
 use Rattle.std.specs.List.{list_any, list_all}
 use Rattle.std.specs.Map.{lookup}
 use Rattle.std.specs.FinSet as set
 use Rattle.std.specs.FinMap as map
 use Rattle.std.specs.BTreeMap.{get}
+use Rattle.presence_base.specs.declared.dots.TheConstants.{MAX_COUNT}
 use Rattle.presence_base.specs.declared.dots.Dot.{Dot}
 use Rattle.presence_base.specs.declared.dots.Replica.{Replica}
 use Rattle.presence_base.specs.declared.row.Row.{Row}
 use Rattle.presence_base.specs.Order.{dot_cmp, same_dot, same_replica}
 use Rattle.dot_context.specs.Sets.{DotSet, without}
 use Rattle.dot_context.proofs.SetFacts.{contains-without}
-use Rattle.orswot_core.specs.Limits.{is_count, is_dot, is_row, is_range}
-use Rattle.orswot_core.specs.Telling.{Range, ToldValue, range_has, covers, live_row}
-use Rattle.orswot_core.specs.Checks.{IsTold}
-use Rattle.orswot_core.specs.Sets.{DotRows, LiveRows, rows_of, is_sound, IsSound, joined_row, IsJoin, without_rows, removed, without_replica}
-use Rattle.orswot_core.proofs.OrderFacts.{dot_total, dot_antisymmetric, dots_equal, replicas_equal, flipped}
-use Rattle.orswot_core.proofs.RowFacts.{Rows, seen_row, same_rows}
+use Rattle.orswot_core_told.specs.Limits.{is_count, is_dot, is_row, is_range}
+use Rattle.orswot_core_told.specs.Telling.{Range, ToldValue, range_has, covers, live_row}
+use Rattle.orswot_core_told.specs.Checks.{IsTold}
+use Rattle.orswot_core.specs.Sets.{Rows, DotRows, LiveRows, rows_of, is_sound, IsSound, joined_row, IsJoin, without_rows, removed, without_replica}
+use Rattle.orswot_core_told.proofs.OrderFacts.{dot_total, dot_antisymmetric, dots_equal, replicas_equal, flipped}
+use Rattle.orswot_core.proofs.RowFacts.{seen_row, same_rows}
 
 pub sound_at : (s : DotSet) (m : Rows) → IsSound s (rows_of m.entries) → (q : Dot) → is_sound q (set.contains s q) (get dot_cmp m q) ≡ true
 sound_at s m h q = ap (is_sound q (set.contains s q)) (sym (seen_row m q)) ∙ h q
@@ -87,8 +88,8 @@ both_parts : (a b : Bool) → (a && b) ≡ true → (a ≡ true) × (b ≡ true)
 both_parts true b h = (refl, h)
 both_parts false b h = absurd (cc)
 
-count_within : (from to n : ℕ) → (nat_lt from n && nat_le n to) ≡ true → nat_le to (2 ^ 62) ≡ true → is_count n ≡ true
-count_within from to n h le = bound (2 ^ 62) from to n h le
+count_within : (from to n : ℕ) → (nat_lt from n && nat_le n to) ≡ true → nat_le to MAX_COUNT ≡ true → is_count n ≡ true
+count_within from to n h le = bound MAX_COUNT from to n h le
   where
     bound : (top from to n : ℕ) → (nat_lt from n && nat_le n to) ≡ true → nat_le to top ≡ true → (nat_le 1 n && nat_le n top) ≡ true
     bound top from to n h le = grind (arith, nat_tests)
@@ -96,8 +97,8 @@ count_within from to n h le = bound (2 ^ 62) from to n h le
 range_dot : (d : Dot) (g : Range) → is_range g ≡ true → range_has d g ≡ true → is_dot d ≡ true
 range_dot d g limited has =
     let here = both_parts (same_replica d.replica g.0) (nat_lt g.1 d.count && nat_le d.count g.2) has in
-    let limits = both_parts (is_count g.0.incarnation) (nat_le g.1 (2 ^ 62) && nat_le g.2 (2 ^ 62)) limited in
-    let ends = both_parts (nat_le g.1 (2 ^ 62)) (nat_le g.2 (2 ^ 62)) limits.1 in
+    let limits = both_parts (is_count g.0.incarnation) (nat_le g.1 MAX_COUNT && nat_le g.2 MAX_COUNT) limited in
+    let ends = both_parts (nat_le g.1 MAX_COUNT) (nat_le g.2 MAX_COUNT) limits.1 in
     ap (λ (r : Replica). is_count r.incarnation && is_count d.count) (replicas_equal d.replica g.0 here.0)
     ∙ ap (λ b. b && is_count d.count) limits.0 ∙ count_within g.1 g.2 d.count here.1 ends.1
 
@@ -146,7 +147,7 @@ told_sound t h d = by_row (covers t d) (live_row t d) (told_dot t h d)
     by_row false (Some r) f g k = absurd (true≢false (sym (g r refl)))
 
 pub dot_counted : (d : Dot) → is_dot d ≡ true → 1 ≤ d.count
-dot_counted d h = n_above d.count (both_parts (nat_le 1 d.count) (nat_le d.count (2 ^ 62)) (both_parts (is_count d.replica.incarnation) (is_count d.count) h).1).0
+dot_counted d h = n_above d.count (both_parts (nat_le 1 d.count) (nat_le d.count MAX_COUNT) (both_parts (is_count d.replica.incarnation) (is_count d.count) h).1).0
   where
     n_above : (n : ℕ) → nat_le 1 n ≡ true → 1 ≤ n
     n_above n h = grind (arith, nat_tests)

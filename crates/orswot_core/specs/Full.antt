@@ -9,8 +9,8 @@ use Rattle.presence_base.specs.declared.dots.Dot.{Dot}
 use Rattle.presence_base.specs.Order.{replica_cmp, dot_cmp, same_replica, same_dot}
 use Rattle.dot_context.specs.Sets.{DotSet, run_dots}
 use Rattle.dot_context.specs.Forms.{Form, tops_of, cloud_of}
-use Rattle.orswot_core.specs.Telling.{Range, ToldValue, range_has}
-use Rattle.orswot_core.specs.Checks.{replicas_of}
+use Rattle.orswot_core_told.specs.Telling.{Range, ToldValue, range_has}
+use Rattle.orswot_core_told.specs.Checks.{replicas_of}
 use Rattle.orswot_core.specs.Sets.{DotRows}
 
 abbrev pub dot_of : Replica → ℕ → Dot

@@ -4,8 +4,8 @@ use Rattle.std.specs.FinSet as set
 use Rattle.std.specs.FinMap as map
 use Rattle.presence_base.specs.declared.dots.Dot.{Dot}
 use Rattle.presence_base.specs.declared.row.Row.{Row}
-use Rattle.orswot_core.specs.Telling.{ToldValue, covers, live_row}
-use Rattle.orswot_core.specs.Checks.{IsTold}
+use Rattle.orswot_core_told.specs.Telling.{ToldValue, covers, live_row, tells_removed}
+use Rattle.orswot_core_told.specs.Checks.{IsTold}
 use Rattle.orswot_core.specs.Full.{IsFull}
 use Rattle.orswot_core.specs.Sets.{DotRows, IsSound, IsJoin, with_dot, removed}
 
@@ -37,6 +37,10 @@ Associative = (a b c ab bc x y : DotRows) → IsSet a → IsSet b → IsSet c �
 abbrev pub RemovedStays : Type 0
 RemovedStays = (s x : DotRows) (has : Dot → Bool) (row : Dot → Option Row) (d : Dot) → set.contains s.covered d ≡ true → map.get s.live d ≡ None → IsJoin s has row x
     → (set.contains x.covered d ≡ true) × (map.get x.live d ≡ None)
+
+-- what is told as removed is removed where it is taken in
+abbrev pub RemovalsAreHeard : Type 0
+RemovalsAreHeard = (s x : DotRows) (t : ToldValue) (d : Dot) → tells_removed t d ≡ true → TakesIn s t x → (set.contains x.covered d ≡ true) × (map.get x.live d ≡ None)
 
 -- the set knows what is told: it covers each dot that is covered there, and none that is removed there is live
 abbrev pub Knows : DotRows → ToldValue → Type 0

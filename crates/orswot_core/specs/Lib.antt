@@ -1,6 +1,6 @@
-pub mod Limits
-pub mod Telling
-pub mod Checks
+pub use Rattle.orswot_core_told.specs.Limits
+pub use Rattle.orswot_core_told.specs.Telling
+pub use Rattle.orswot_core_told.specs.Checks
 pub mod Sets
 pub mod Full
 pub mod Laws

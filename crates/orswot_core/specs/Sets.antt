@@ -2,14 +2,19 @@
 use Rattle.std.specs.Prelude.{◌≡◌, Bool, true, false, cond, not, is_some, ◌&&◌, ◌||◌, List, [], ◌∷◌, Option, Some, None, refl}
 use Rattle.std.specs.FinSet as set
 use Rattle.std.specs.FinMap as map
+use Rattle.std.specs.BTreeMap.{BTreeMap, get}
+use Rattle.std.specs.List.{list_any}
 use Rattle.std.specs.Coded.{Coded, code_by, coded×}
 use Rattle.presence_base.specs.declared.dots.Dot.{Dot}
 use Rattle.presence_base.specs.declared.row.Row.{Row}
 use Rattle.presence_base.specs.declared.dots.Replica.{Replica}
-use Rattle.presence_base.specs.Order.{dot_cmp, same_replica}
+use Rattle.presence_base.specs.Order.{dot_cmp, same_dot, same_replica}
 use Rattle.presence_base.specs.Codes.{dot_code, row_code}
 use Rattle.dot_context.specs.Sets.{DotSet, without}
-use Rattle.orswot_core.specs.Limits.{is_dot, is_row}
+use Rattle.orswot_core_told.specs.Limits.{is_dot, is_row}
+
+abbrev pub Rows : Type 0
+Rows = BTreeMap Dot Row
 
 abbrev pub LiveRows : Type 0
 LiveRows = map.FinMap dot_cmp Row
@@ -54,6 +59,10 @@ first_row None o = o
 abbrev pub is_left : Option Row → Option Row → Bool
 is_left here there = is_some here && not (is_some there)
 
+-- a row that is there, at a dot that is not covered here
+abbrev pub is_missing : Bool → Option Row → Bool
+is_missing covers there = not covers && is_some there
+
 -- what a set may have at a dot: a row only where it covers, and all within their limits
 abbrev pub is_sound : Dot → Bool → Option Row → Bool
 is_sound d false None = true
@@ -70,3 +79,27 @@ abbrev pub IsJoin : DotRows → (Dot → Bool) → (Dot → Option Row) → DotR
 IsJoin s covers row s' =
     (d : Dot) → (set.contains s'.covered d ≡ (set.contains s.covered d || covers d))
     × (map.get s'.live d ≡ joined_row (map.get s.live d) (set.contains s.covered d) (row d) (covers d))
+
+-- what a join of covered dots and live rows with heard dots and rows needs: the dots of the rows that it adds, and of those
+-- that it takes out; what is heard is sound
+pub record AreNeeded (s : DotSet) (m : Rows) (heard : DotSet) (rows : Rows) (adds takes : List Dot) : Type 0 where
+  pub sound : (d : Dot) → is_sound d (set.contains heard d) (get dot_cmp rows d) ≡ true
+  pub added : (d : Dot) → list_any (same_dot d) adds ≡ is_missing (set.contains s d) (get dot_cmp rows d)
+  pub gone : (d : Dot) → list_any (same_dot d) takes ≡ (is_left (get dot_cmp m d) (get dot_cmp rows d) && set.contains heard d)
+
+-- a set with what a join makes of it
+pub record Planned : Type 0 where
+  pub before : DotRows
+  pub after : DotRows
+
+abbrev pub planned_code : Coded Planned
+planned_code = code_by (DotRows × DotRows) (coded× rows_code rows_code) (λ p. (p.before, p.after)) (λ p. record { before = p.0; after = p.1 }) (λ _. refl)
+
+-- what covers these dots, and has these rows without those of some dots
+abbrev pub leaving : DotSet → LiveRows → List Dot → DotRows
+leaving s m ds = record { covered = s; live = without_rows m ds }
+
+-- both are sound
+pub record ArePlanned (p : Planned) : Type 0 where
+  pub sound_before : IsSound p.before.covered p.before.live
+  pub sound_after : IsSound p.after.covered p.after.live

@@ -7,8 +7,8 @@ ghost use Rattle.orswot_core.specs.Sets.{IsSound, rows_of};
 ghost use Rattle.orswot_core.specs.Full.{IsFull, up_to_top, dots_of_runs};
 ghost use Rattle.dot_context.specs.Sets.{span, run_dots};
 
-use crate::told::Told;
 use dot_context::{Cloud, Context, Tops};
+use orswot_core_told::Told;
 use presence_base::{Dot, Replica, Row};
 use std::alloc::{AllocError, Global};
 use std::collections::BTreeMap;

@@ -6,13 +6,13 @@ ghost use Rattle.std.specs.BTreeMap.{get, IsUnchanged};
 ghost use Rattle.std.specs.FinSet as set;
 ghost use Rattle.presence_base.specs.Order.{dot_cmp, same_dot, same_replica};
 ghost use Rattle.presence_base.specs.declared.dots.Dot.{Dot as DotValue};
-ghost use Rattle.orswot_core.specs.Limits.{is_dot};
-ghost use Rattle.orswot_core.specs.Telling.{range_has, covers, live_row};
-ghost use Rattle.orswot_core.specs.Checks.{IsTold, is_forward};
-ghost use Rattle.orswot_core.specs.Sets.{joined_row, first_row, is_left};
+ghost use Rattle.orswot_core_told.specs.Limits.{is_dot};
+ghost use Rattle.orswot_core_told.specs.Telling.{range_has, covers, live_row};
+ghost use Rattle.orswot_core_told.specs.Checks.{IsTold, is_forward};
+ghost use Rattle.orswot_core.specs.Sets.{joined_row, first_row, is_left, is_missing, AreNeeded};
 
-use crate::told::{Told, add_dots, told_context};
 use dot_context::Context;
+use orswot_core_told::{Told, add_dots, told_context};
 use presence_base::{Dot, Replica, Row};
 use std::alloc::{AllocError, Global};
 use std::collections::BTreeMap;
@@ -79,7 +79,7 @@ pub(crate) fn forget_rows(live: &mut BTreeMap<Dot, Row>, replica: &Replica)
 }
 
 // Takes out the rows of these dots.
-fn drop_dots(live: &mut BTreeMap<Dot, Row>, dots: &[Dot])
+pub(crate) fn drop_dots(live: &mut BTreeMap<Dot, Row>, dots: &[Dot])
     ensures { (q : DotValue) → get dot_cmp live.new q ≡ cond (list_any (same_dot q) dots.now) None (get dot_cmp live.old q) }
 {
     for dot in dots {
@@ -88,13 +88,13 @@ fn drop_dots(live: &mut BTreeMap<Dot, Row>, dots: &[Dot])
 }
 
 // Adds the rows whose dots are not covered.
-fn insert_missing(
+pub(crate) fn insert_missing(
     live: &mut BTreeMap<Dot, Row>,
     covered: &Context,
     others: &BTreeMap<Dot, Row>,
 ) -> Result<(), AllocError>
     ensures ok { OnOk result ((q : DotValue) → set.contains covered.now q ≡ false → get dot_cmp live.old q ≡ None → get dot_cmp live.new q ≡ get dot_cmp others.now q) }
-    ensures kept { (q : DotValue) → set.contains covered.now q ≡ true → get dot_cmp live.new q ≡ get dot_cmp live.old q }
+    ensures kept { (q : DotValue) → is_missing (set.contains covered.now q) (get dot_cmp others.now q) ≡ false → get dot_cmp live.new q ≡ get dot_cmp live.old q }
 {
     for (dot, row) in others.iter() {
         if !covered.covers(dot) {
@@ -255,39 +255,62 @@ fn removed_dots(
     Ok(gone)
 }
 
-// Finds what goes, adds what is missing, covers, and only then takes out. It looks at no live row
-// outside what is told.
-pub(crate) fn join_told(
-    covered: &mut Context,
-    live: &mut BTreeMap<Dot, Row>,
+// Gathers the dot where it is not covered.
+fn gather_uncovered(added: &mut Vec<Dot>, covered: &Context, dot: &Dot) -> Result<(), AllocError>
+    ensures { OnOk result ((q : DotValue) → list_any (same_dot q) added.new.items ≡ (list_any (same_dot q) added.old.items || (not (set.contains covered.now q) && same_dot q dot.now))) }
+{
+    if covered.covers(dot) {
+        return Ok(());
+    }
+    push_dot(added, dot)
+}
+
+// The dots of the rows that a join adds.
+fn missing_dots(
     alloc: Global,
+    covered: &Context,
+    rows: &[(Dot, Row)],
+) -> Result<Vec<Dot>, AllocError>
+    ensures { IfOk result (λ added. (q : DotValue) → list_any (same_dot q) added.items ≡ (not (set.contains covered.now q) && is_some (lookup (same_dot q) rows.now))) }
+{
+    let mut added = Vec::new(alloc);
+    for row in rows {
+        gather_uncovered(&mut added, covered, &row.0)?;
+    }
+    Ok(added)
+}
+
+/// What a join with a told value needs: the dots that it covers, its rows by their dots, the dots of the rows that it adds,
+/// and those of the rows that it takes out.
+#[derive(Drop)]
+pub(crate) struct Parts {
+    pub(crate) heard: Context,
+    pub(crate) rows: BTreeMap<Dot, Row>,
+    pub(crate) added: Vec<Dot>,
+    pub(crate) gone: Vec<Dot>,
+}
+
+// It looks at no live row outside what is told.
+pub(crate) fn parts_of(
+    alloc: Global,
+    covered: &Context,
+    live: &BTreeMap<Dot, Row>,
     told: &Told,
-) -> Result<(), AllocError>
-    requires { (q : DotValue) → is_some (get dot_cmp live.old q) ≡ true → set.contains covered.old q ≡ true }
-    ensures ok { OnOk result ((q : DotValue) → (set.contains covered.new q ≡ (set.contains covered.old q || covers told.now q)) × (get dot_cmp live.new q ≡ joined_row (get dot_cmp live.old q) (set.contains covered.old q) (live_row told.now q) (covers told.now q))) }
-    ensures told { IsTold told.now }
-    ensures err { OnErr result ((covered.new ≡ covered.old) × ((q : DotValue) → get dot_cmp live.new q ≡ get dot_cmp live.old q)) }
+) -> Result<Parts, AllocError>
+    ensures heard { IfOk result (λ p. (q : DotValue) → set.contains p.heard q ≡ covers told.now q) }
+    ensures rows { IfOk result (λ p. (q : DotValue) → get dot_cmp p.rows q ≡ live_row told.now q) }
+    ensures needed { IfOk result (λ p. AreNeeded covered.now live.now p.heard p.rows p.added.items p.gone.items) }
 {
     let heard = told_context(alloc, told.ranges(), told.extras())?;
     let rows = told_rows(alloc, told.live())?;
+    let added = missing_dots(alloc, covered, told.live())?;
     let gone = removed_dots(alloc, live, &rows, told)?;
-    match insert_missing(live, covered, &rows) {
-        Ok(()) => {}
-        Err(e) => {
-            keep_covered(live, covered);
-            return Err(e);
-        }
-    }
-    match covered.join(alloc, &heard) {
-        Ok(()) => {
-            drop_dots(live, &gone);
-            Ok(())
-        }
-        Err(e) => {
-            keep_covered(live, covered);
-            Err(e)
-        }
-    }
+    Ok(Parts {
+        heard,
+        rows,
+        added,
+        gone,
+    })
 }
 
 fn are_covered(covered: &Context, dots: &[Dot]) -> bool

@@ -1,4 +1,4 @@
-ghost use Rattle.orswot_core.specs.Laws.{Idempotent, Commutative, Associative, RemovedStays, Learns, JoinsKeepKnown, StepsKeepKnown, KnownChangesNothing, OldChangesNothing, OneFull};
+ghost use Rattle.orswot_core.specs.Laws.{Idempotent, Commutative, Associative, RemovalsAreHeard, RemovedStays, Learns, JoinsKeepKnown, StepsKeepKnown, KnownChangesNothing, OldChangesNothing, OneFull};
 
 /// Sets join in any order and number: with itself a set stays as it is, two of them join to the
 /// same either way where their rows agree, and three join to the same in either grouping.
@@ -8,9 +8,11 @@ pub fn joins_in_any_order()
     ensures associative { Associative }
 {}
 
-/// A dot that is covered and not live never becomes live again by any join.
+/// What is told as removed is removed where it is taken in. A dot that is covered and not live never becomes live again by
+/// any join.
 pub fn removed_stays_removed()
-    ensures { RemovedStays }
+    ensures heard { RemovalsAreHeard }
+    ensures stays { RemovedStays }
 {}
 
 /// A set that took in a told value knows what it tells, and keeps knowing it through joins, adds and removals. What a set

@@ -4,13 +4,9 @@
 mod full;
 mod joins;
 pub mod laws;
-mod limits;
-mod raw;
+mod plan;
 mod set;
-#[cfg(test)]
-mod tests;
-mod told;
 
-pub use raw::{RawRow, RawTold};
+pub use orswot_core_told::{MAX_ROWS, RawRow, RawTold, Told, ToldFault};
+pub use plan::JoinPlan;
 pub use set::Orswot;
-pub use told::{MAX_ROWS, Told, ToldFault};

@@ -1,30 +1,32 @@
-ghost use Rattle.std.specs.Prelude.{◌≡◌, ◌≤◌, ℕ, true, false, cond, Some, None, OnOk, OnErr, IfOk, option_copied, ◌+◌};
+ghost use Rattle.std.specs.Prelude.{◌≡◌, ◌≤◌, ℕ, true, false, cond, Some, None, OnOk, OnErr, IfOk, IfErr, option_copied, ◌+◌};
 ghost use Rattle.std.specs.List.{list_all};
 ghost use Rattle.std.specs.FinSet as set;
 ghost use Rattle.std.specs.FinMap as map;
 ghost use Rattle.presence_base.specs.Order.{same_replica};
 ghost use Rattle.presence_base.specs.declared.dots.Dot.{Dot as DotValue};
 ghost use Rattle.dot_context.specs.Sets.{without};
-ghost use Rattle.orswot_core.specs.Limits.{is_dot, is_row};
-ghost use Rattle.orswot_core.specs.Telling.{covers, live_row};
+ghost use Rattle.orswot_core_told.specs.Limits.{is_dot, is_row};
+ghost use Rattle.orswot_core_told.specs.Telling.{covers, live_row};
 ghost use Rattle.orswot_core.specs.Full.{IsFull};
 ghost use Rattle.orswot_core.specs.Sets.{with_dot, removed, IsJoin, without_replica};
 
 use crate::full::full_told;
-use crate::joins::{add_row, forget_rows, join_rows, join_told, remove_rows};
-use crate::told::Told;
+use crate::joins::{add_row, forget_rows, join_rows, parts_of, remove_rows};
+use crate::plan::{JoinPlan, plan_parts};
 use dot_context::Context;
+use orswot_core_told::Told;
 use presence_base::{Dot, Replica, Row};
 use std::alloc::{AllocError, Global};
 use std::collections::BTreeMap;
 use std::marker::Model;
+use std::mem;
 
 /// An observed-remove set of rows: the dots that are covered, and the rows that are live at some of
 /// them. A dot that is covered and not live was removed; nothing is kept of its row.
 #[derive(Drop)]
 pub struct Orswot {
-    covered: Context,
-    live: BTreeMap<Dot, Row>,
+    pub(crate) covered: Context,
+    pub(crate) live: BTreeMap<Dot, Row>,
 }
 
 impl Model for Orswot {
@@ -92,12 +94,36 @@ impl Orswot {
         remove_rows(&mut self.covered, &mut self.live, alloc, dots, event)
     }
 
+    /// Takes all the memory that a join with what is told needs. Where it is refused, it answers the set as it was. It costs
+    /// what the told value costs, whatever the set holds.
+    pub fn plan_join(self, alloc: Global, told: &Told) -> Result<JoinPlan, Orswot>
+        ensures before { IfOk result (λ p. p.before ≡ self) }
+        ensures joined { IfOk result (λ p. IsJoin self (covers told.now) (live_row told.now) p.after) }
+        ensures err { IfErr result (λ s. s ≡ self) }
+    {
+        let Orswot { covered, live } = self;
+        match parts_of(alloc, &covered, &live, told) {
+            Ok(parts) => plan_parts(alloc, covered, live, parts),
+            Err(_) => Err(Orswot { covered, live }),
+        }
+    }
+
     /// Takes in what is told. It costs what the told value costs, whatever the set holds.
     pub fn join(&mut self, alloc: Global, told: &Told) -> Result<(), AllocError>
         ensures ok { OnOk result (IsJoin self.old (covers told.now) (live_row told.now) self.new) }
         ensures err { OnErr result (self.new ≡ self.old) }
     {
-        join_told(&mut self.covered, &mut self.live, alloc, told)
+        let set = mem::replace(self, Orswot::new(alloc));
+        match set.plan_join(alloc, told) {
+            Ok(plan) => {
+                *self = plan.commit();
+                Ok(())
+            }
+            Err(set) => {
+                *self = set;
+                Err(AllocError)
+            }
+        }
     }
 
     /// Takes in the other set.

@@ -1,5 +1,5 @@
 -- A text is read as a message exactly where it is that message's array within the limits.
-use Rattle.std.proofs.Common.{◌≡◌, ◌≢◌, ◌≤◌, ℕ, List, [], ◌∷◌, length, Bool, true, false, cond, nat_lt, nat_le, Option, Some, None, Result, Ok, Err, IfOk, refl, sym, ap, ◌∙◌, arith}
+use Rattle.std.proofs.Common.{◌≡◌, ◌≢◌, ◌≤◌, ℕ, List, [], ◌∷◌, length, Bool, true, false, cond, nat_lt, nat_le, Option, Some, None, Result, Ok, Err, IfOk, String, Global, string_bytes, refl, sym, ap, ◌∙◌, arith}
 use Rattle.std.proofs.lemmas.Bool.Decides.{nat_tests}
 use Rattle.serde_json.specs.Data.{unsigned, negative, float, Data, null, boolean, number, string, array, object, Items, no_items, item, depth}
 use Rattle.serde_json.specs.Written.{has_float, compact_text}
@@ -7,6 +7,7 @@ use Rattle.serde_json.specs.Read.{read}
 use Rattle.serde_json.specs.View.{items_view}
 use Rattle.serde_json.specs.declared.value.Value.{Value}
 use Rattle.presence_base.specs.Names.{is_short_text}
+use Rattle.phx_message.specs.Lines.{lacks_feed}
 use Rattle.phx_message.specs.Laws.{DecodedIsOrderly, ReadsBack}
 use Rattle.phx_message.specs.Message.{is_event, ref_value, value_of, IsWithin}
 use Rattle.phx_message.specs.declared.message.MsgRef.{MsgRef}
@@ -17,6 +18,7 @@ use Rattle.phx_message.specs.declared.message.Limits.{Limits}
 use Rattle.phx_message.specs.declared.message.TheConstants.Limits as the_limits
 use Rattle.phx_message.specs.declared.message.MessageFault.{MessageFault}
 use Rattle.phx_message.specs.declared.message.MessageFault.TheVariants.{TooLong, NotFive, BadTopic, BadEvent, TooDeep, Fraction}
+use Rattle.phx_message.proofs.Lines.{text_lacks}
 use Rattle.phx_message.proofs.Orderly.{read_orderly}
 use Rattle.phx_message.proofs.Texts.{text_again}
 
@@ -179,3 +181,21 @@ value_whole m h = rw (ref_whole m.join_ref, ref_whole m.msg_ref, h) refl
 pub reads_back : ReadsBack
 reads_back m within orderly short =
     decoded_only the_limits.FRAME (compact_text (value_of m)) m within short (text_again (value_of m) orderly (value_whole m within.whole) (depth-value_of m within.shallow))
+
+-- ---- lines
+
+abbrev TextIs : Data → List ℕ → Type 0
+TextIs d s = has_float d ≡ false → s ≡ compact_text d
+
+abbrev ReadsAs : Data → List ℕ → Type 0
+ReadsAs d s = depth d ≤ 127 → read s ≡ Some d
+
+-- a text that is written for a message within the limits of a frame is one line
+pub line_written : {E : Type 0} (r : Result (String Global) E) (m : Message) (d : Data) → d ≡ value_of m → IfOk r (λ s. TextIs d (string_bytes s)) → IfOk r (λ s. ReadsAs d (string_bytes s))
+    → IfOk r (λ s. IsWithin the_limits.FRAME.depth m → lacks_feed (string_bytes s) ≡ true)
+line_written (Ok s) m d e text reads =
+    λ within.
+    let whole : has_float d ≡ false = ap has_float e ∙ value_whole m within.whole in
+    let low : depth d ≤ 127 = rw e (depth-value_of m within.shallow) in
+    ap lacks_feed (text whole) ∙ text_lacks d (read_orderly (string_bytes s) d (reads low)) whole
+line_written (Err x) m d e text reads = tt

@@ -31,6 +31,11 @@ Gives view (Err e) reading = Fails e reading
 abbrev pub Answers : {X : Type 0} → Result X MessageFault → Result X MessageFault → Type 0
 Answers = Gives (λ x. x)
 
+-- what was answered, seen by view, is the reading, whatever memory there was
+abbrev pub IsGiven : {X Y : Type 0} → (X → Y) → Result X MessageFault → Result Y MessageFault → Type 0
+IsGiven view (Ok x) reading = reading ≡ Ok (view x)
+IsGiven view (Err e) reading = reading ≡ Err e
+
 -- the value that the text is
 abbrev pub found_value : Option Data → Result Data MessageFault
 found_value None = Err NotJson
@@ -70,13 +75,16 @@ text_in test e _ = Err e
 abbrev pub payload_in : ℕ → Data → Result Data MessageFault
 payload_in max_depth d = if nat_le (depth d) max_depth then (if has_float d then Err Fraction else Ok d) else Err TooDeep
 
-unfoldable pub decoded : Limits → List ℕ → Result Message MessageFault
-decoded limits s = do
-  d ← value_in limits.bytes s
+-- the message that the value is
+abbrev pub message_in : ℕ → Data → Result Message MessageFault
+message_in max_depth d = do
   five ← five_in d
   join_ref ← ref_in five.first
   msg_ref ← ref_in five.second
   topic ← text_in is_short_text BadTopic five.third
   event ← text_in is_event BadEvent five.fourth
-  payload ← payload_in limits.depth five.fifth
+  payload ← payload_in max_depth five.fifth
   Ok (record { join_ref = join_ref; msg_ref = msg_ref; topic = topic; event = event; payload = payload })
+
+unfoldable pub decoded : Limits → List ℕ → Result Message MessageFault
+decoded limits s = value_in limits.bytes s >>= message_in limits.depth

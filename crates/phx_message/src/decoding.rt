@@ -1,11 +1,11 @@
-ghost use Rattle.std.specs.Prelude.{◌≡◌, ◌≤◌, length, Some, Ok, IfOk};
+ghost use Rattle.std.specs.Prelude.{◌≡◌, ◌<◌, ◌≤◌, length, Some, Ok, IfOk};
 ghost use Rattle.serde_json.specs.Read.{read};
 ghost use Rattle.serde_json.specs.View.{view, items_view};
 ghost use Rattle.phx_message.specs.declared.message.Message.{Message as Msg};
-ghost use Rattle.phx_message.specs.declared.message.MessageFault.TheVariants.{BadTopic, BadEvent};
+ghost use Rattle.phx_message.specs.declared.message.MessageFault.TheVariants.{TooLong, BadTopic, BadEvent};
 ghost use Rattle.phx_message.specs.Message.{value_of, IsWithin, is_event};
 ghost use Rattle.phx_message.specs.Members.{members_view};
-ghost use Rattle.phx_message.specs.Reading.{Answers, Gives, decoded, value_in, five_in, five_items, ref_in, text_in, payload_in};
+ghost use Rattle.phx_message.specs.Reading.{Answers, Gives, IsGiven, decoded, message_in, value_in, five_in, five_items, ref_in, text_in, payload_in};
 ghost use Rattle.presence_base.specs.Names.{is_short_text};
 
 use crate::message::{Limits, MAX_EVENT_BYTES, Message, MessageFault, MsgRef};
@@ -15,7 +15,8 @@ use std::alloc::Global;
 
 // The value that the text is.
 fn value_of_text(alloc: Global, text: &str, bytes: usize) -> Result<Value, MessageFault>
-    ensures { Gives view result (value_in bytes text.now) }
+    ensures value { Gives view result (value_in bytes text.now) }
+    ensures long { bytes < length text.now → result ≡ Err TooLong }
 {
     if text.len() > bytes {
         return Err(MessageFault::TooLong);
@@ -33,7 +34,7 @@ fn value_of_text(alloc: Global, text: &str, bytes: usize) -> Result<Value, Messa
 
 // The reference that the value is.
 fn ref_of_value(value: Value) -> Result<Option<MsgRef>, MessageFault>
-    ensures { Answers result (ref_in (view value)) }
+    ensures { result ≡ ref_in (view value) }
 {
     match value {
         Value::Null => Ok(None),
@@ -47,14 +48,13 @@ fn ref_of_value(value: Value) -> Result<Option<MsgRef>, MessageFault>
 }
 
 // The topic that the value is.
-fn topic_of_value(alloc: Global, value: Value) -> Result<Topic, MessageFault>
-    ensures { Answers result (text_in is_short_text BadTopic (view value)) }
+fn topic_of_value(value: Value) -> Result<Topic, MessageFault>
+    ensures { result ≡ text_in is_short_text BadTopic (view value) }
 {
     match value {
-        Value::String(text) => match Topic::new(alloc, text.as_str()) {
-            Ok(Some(topic)) => Ok(topic),
-            Ok(None) => Err(MessageFault::BadTopic),
-            Err(_) => Err(MessageFault::OutOfMemory),
+        Value::String(text) => match Topic::of_string(text) {
+            Some(topic) => Ok(topic),
+            None => Err(MessageFault::BadTopic),
         },
         _ => Err(MessageFault::BadTopic),
     }
@@ -62,7 +62,7 @@ fn topic_of_value(alloc: Global, value: Value) -> Result<Topic, MessageFault>
 
 // The event that the value is.
 fn event_of_value(value: Value) -> Result<Text, MessageFault>
-    ensures { Answers result (text_in is_event BadEvent (view value)) }
+    ensures { result ≡ text_in is_event BadEvent (view value) }
 {
     match value {
         Value::String(text) => {
@@ -78,7 +78,7 @@ fn event_of_value(value: Value) -> Result<Text, MessageFault>
 
 // The payload that the value is.
 fn payload_of_value(value: Value, depth: u32) -> Result<Json, MessageFault>
-    ensures { Answers result (payload_in depth (view value)) }
+    ensures { result ≡ payload_in depth (view value) }
 {
     if !is_within_depth(&value, depth) {
         return Err(MessageFault::TooDeep);
@@ -101,7 +101,7 @@ struct Members {
 
 // The members of an array of five.
 fn five_of_items(mut items: Vec<Value>) -> Result<Members, MessageFault>
-    ensures { Gives members_view result (five_items (items_view items.items)) }
+    ensures { IsGiven members_view result (five_items (items_view items.items)) }
 {
     if items.len() != 5 {
         return Err(MessageFault::NotFive);
@@ -122,7 +122,7 @@ fn five_of_items(mut items: Vec<Value>) -> Result<Members, MessageFault>
 
 // The members of the value.
 fn five_of_value(value: Value) -> Result<Members, MessageFault>
-    ensures { Gives members_view result (five_in (view value)) }
+    ensures { IsGiven members_view result (five_in (view value)) }
 {
     match value {
         Value::Array(items) => five_of_items(items),
@@ -130,18 +130,16 @@ fn five_of_value(value: Value) -> Result<Members, MessageFault>
     }
 }
 
-// The message that the text is, or the first thing that is wrong with it.
-#[tactic(auto, unfolding(crate::specs::Reading::decoded))]
-fn decode_exactly(alloc: Global, text: &str, limits: Limits) -> Result<Message, MessageFault>
-    ensures { Answers result (decoded limits text.now) }
+// The message that the value is.
+fn message_of_value(value: Value, depth: u32) -> Result<Message, MessageFault>
+    ensures { result ≡ message_in depth (view value) }
 {
-    let value = value_of_text(alloc, text, limits.bytes)?;
     let members = five_of_value(value)?;
     let join_ref = ref_of_value(members.first)?;
     let msg_ref = ref_of_value(members.second)?;
-    let topic = topic_of_value(alloc, members.third)?;
+    let topic = topic_of_value(members.third)?;
     let event = event_of_value(members.fourth)?;
-    let payload = payload_of_value(members.fifth, limits.depth)?;
+    let payload = payload_of_value(members.fifth, depth)?;
     Ok(Message {
         join_ref,
         msg_ref,
@@ -151,16 +149,28 @@ fn decode_exactly(alloc: Global, text: &str, limits: Limits) -> Result<Message, 
     })
 }
 
+// The message that the text is, or the first thing that is wrong with it.
+#[tactic(auto, unfolding(crate::specs::Reading::decoded))]
+fn decode_exactly(alloc: Global, text: &str, limits: Limits) -> Result<Message, MessageFault>
+    ensures exact { Answers result (decoded limits text.now) }
+    ensures long { limits.bytes < length text.now → result ≡ Err TooLong }
+{
+    let value = value_of_text(alloc, text, limits.bytes)?;
+    message_of_value(value, limits.depth)
+}
+
 /// The message that a text is, or the first thing that is wrong with the text.
 ///
 /// Numbers are read as `serde_json` reads them: `-0` and `1.0` are no whole numbers, and of an
-/// object's equal members the last counts. Want of memory is answered in place of any answer.
+/// object's equal members the last counts. Want of memory is answered in place of any answer, but
+/// of a text that is too long, which is found without memory.
 pub fn decode(alloc: Global, text: &str, limits: Limits) -> Result<Message, MessageFault>
     ensures found { IfOk result (λ m. IsWithin limits.depth m
         × (length text.now ≤ limits.bytes) × (read text.now ≡ Some (value_of m))) }
     ensures only { (m : Msg) → IsWithin limits.depth m → length text.now ≤ limits.bytes
         → read text.now ≡ Some (value_of m) → Answers result (Ok m) }
     ensures exact { Answers result (decoded limits text.now) }
+    ensures long { limits.bytes < length text.now → result ≡ Err TooLong }
 {
     decode_exactly(alloc, text, limits)
 }

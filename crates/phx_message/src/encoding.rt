@@ -1,6 +1,7 @@
-ghost use Rattle.std.specs.Prelude.{◌≡◌, ◌≤◌, length, false, Ok, IfOk, string_bytes};
+ghost use Rattle.std.specs.Prelude.{◌≡◌, ◌≤◌, length, true, false, Ok, IfOk, string_bytes};
 ghost use Rattle.serde_json.specs.Written.{has_float as float_within, compact_text};
 ghost use Rattle.serde_json.specs.View.{view};
+ghost use Rattle.phx_message.specs.Lines.{lacks_feed};
 ghost use Rattle.phx_message.specs.Message.{ref_value, value_of, IsWithin};
 ghost use Rattle.phx_message.specs.Reading.{decoded};
 
@@ -43,6 +44,8 @@ pub fn encode(alloc: Global, message: &Message) -> Result<String, AllocError>
     ensures again { IfOk result (λ s. IsWithin Limits.FRAME.depth message.now
         → length (string_bytes s) ≤ Limits.FRAME.bytes
         → decoded Limits.FRAME (string_bytes s) ≡ Ok message.now) }
+    ensures line { IfOk result (λ s. IsWithin Limits.FRAME.depth message.now
+        → lacks_feed (string_bytes s) ≡ true) }
 {
     let value = value_of_message(alloc, message)?;
     value.to_string(alloc)

@@ -9,15 +9,16 @@ use Rattle.std.proofs.lemmas.List.Elements.{All-nil, All-cons, All-head, All-tai
 use Rattle.presence_base.specs.declared.dots.Dot.{Dot}
 use Rattle.presence_base.specs.declared.row.Row.{Row}
 use Rattle.presence_base.specs.Order.{same_text, same_dot}
-use Rattle.presence_journal.specs.declared.step.Step.TheVariants as steps_are
-use Rattle.presence_journal.specs.declared.entry.Outcome.TheVariants as outcomes_are
-use Rattle.presence_journal.specs.declared.rows.Place.{Place}
+use Rattle.presence_journal_data.specs.declared.step.Step.TheVariants as steps_are
+use Rattle.presence_journal_data.specs.declared.entry.Outcome.TheVariants as outcomes_are
+use Rattle.presence_journal_data.specs.declared.rows.Place.{Place}
 use Rattle.presence_journal.specs.Steps.{Step, Outcome, Entry}
 use Rattle.presence_journal.specs.History.{History, Begin, Then, count, counts_used, next_dot, is_full, has_dot, first_some, row, row_made, row_added, dot_removed, removed, shown}
 use Rattle.presence_journal.specs.Present.{of_topic, present, listed, in_order, dots_of}
 use Rattle.presence_journal.specs.Queue.{Behind, Queued, shout_item, items_made, topic_of, queue}
-use Rattle.presence_journal.specs.Table.{IsLegal, is_mine, has_key, rows_of_pid, rows_of_key, counting, tracked, updated, untracked, for_present, take_outcome, outcome_of, next_entry, with_outcome, accepted, after}
-use Rattle.presence_journal.specs.Laws.{concerns, reaches, OthersStay, OthersHearNothing, RefusedStays, StaysLegal}
+use Rattle.presence_journal.specs.Table.{IsLegal, AreWithinLimits, is_mine, has_key, rows_of_pid, rows_of_key, counting, tracked, updated, untracked, for_present, take_outcome, outcome_of, next_entry, with_outcome, accepted, after}
+use Rattle.presence_journal.specs.Laws.{concerns, reaches, OthersStay, OthersHearNothing, RefusedStays, StaysLegal, StaysKept}
+use Rattle.presence_journal.proofs.HistoryLemmas.{within_step}
 use Rattle.presence_journal.proofs.FoldOrder.{same_dot-is}
 use Rattle.presence_journal.proofs.FoldTables.{AreOf, stripped, entries_found, no_changes}
 use Rattle.presence_journal.proofs.FoldPresent.{cond_none, presence}
@@ -184,7 +185,7 @@ shown_elsewhere h e t d spared added = go (removed h d) (dot_removed e.outcome (
     go false false (Some r) f = refl
 
 -- an accepted step has its outcome and room
-accepted_is : (h : History) (s : Step) (o : Outcome) → accepted h s ≡ Some o → (is_full h ≡ false) × (outcome_of h s ≡ Some o)
+pub accepted_is : (h : History) (s : Step) (o : Outcome) → accepted h s ≡ Some o → (is_full h ≡ false) × (outcome_of h s ≡ Some o)
 unfolding accepted
 accepted_is h s o e = go (is_full h) e
   where
@@ -230,3 +231,11 @@ stays_legal h legal s seat limits = go (accepted h s) refl
     go : (o : Option Outcome) → accepted h s ≡ o → IsLegal (with_outcome h s seat o)
     go None e = legal
     go (Some o) e = let parts = accepted_is h s o e in (legal, parts.1, refl, parts.0, limits)
+
+pub stays_kept : StaysKept
+unfolding after
+stays_kept h kept s seat limits = record { legal = stays_legal h kept.legal s seat (within_step s limits); limits = go (accepted h s) }
+  where
+    go : (o : Option Outcome) → AreWithinLimits (with_outcome h s seat o)
+    go None = kept.limits
+    go (Some o) = (kept.limits, limits)

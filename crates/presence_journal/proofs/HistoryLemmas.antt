@@ -7,15 +7,19 @@ use Rattle.std.proofs.lemmas.Option.{same_Some, slice_get_within}
 use Rattle.presence_base.specs.declared.dots.Replica.{Replica}
 use Rattle.presence_base.specs.declared.dots.Dot.{Dot}
 use Rattle.presence_base.specs.declared.row.Row.{Row}
+use Rattle.presence_base.specs.Metas.{is_meta}
+use Rattle.presence_base.specs.Names.{is_short_text}
 use Rattle.presence_base.specs.Order.{same_dot, same_replica}
-use Rattle.presence_journal.specs.declared.step.Step.TheVariants as steps_are
-use Rattle.presence_journal.specs.declared.entry.Outcome.TheVariants as outcomes_are
+use Rattle.serde_json.specs.Data.{Data}
+use Rattle.presence_journal_data.specs.declared.step.Step.TheVariants as steps_are
+use Rattle.presence_journal_data.specs.declared.entry.Outcome.TheVariants as outcomes_are
 use Rattle.presence_journal.specs.Steps.{Step, Outcome, Entry, Start}
 use Rattle.presence_journal.specs.History.{History, Begin, Then, onto, start_of, own, is_full, count, counts_used, last_number, entry_count, next_dot, is_counted, known, first_some, has_dot, row_made, row_added, dot_removed, removed, row, shown}
 use Rattle.presence_journal.specs.Present.{listed, dots_of}
 use Rattle.presence_journal.specs.Queue.{Waiting, Behind, Queued, queue, topic_of}
-use Rattle.presence_journal.specs.Table.{rows_of_pid, rows_of_key, listed_key, counting, tracked, updated, untracked, take_outcome, for_present, outcome_of, next_entry, accepted, after, is_step, IsLegal}
-use Rattle.presence_journal.specs.Walk.{dots_taken}
+use Rattle.presence_journal.specs.Table.{rows_of_pid, rows_of_key, listed_key, counting, tracked, updated, untracked, take_outcome, for_present, outcome_of, next_entry, accepted, after, is_step, IsLegal, AreWithinLimits}
+use Rattle.presence_journal_data.specs.StepLimits.{is_row_made, is_within_limits}
+use Rattle.presence_journal.specs.Present.{dots_taken}
 use Rattle.presence_journal.proofs.Same.{same_dot-true, same_replica-true, same_replica-refl}
 use Rattle.presence_journal.proofs.PresentLemmas.{shown-row, IsOwnListed, own_rows, own_rows_of_key}
 
@@ -79,12 +83,12 @@ pub known_then : (h : History) (e : Entry) (d : Dot) → known h d ≡ true → 
 known_then h e d k = let p = known_parts h d k in known_from (Then h e) d (p.0 ∙ sym (own-then h e)) p.1 (omega (arith, p.2, count-then h e))
 
 -- the next dot is known once it is used
-next_known : (h : History) (e : Entry) (d : Dot) → d ≡ next_dot h → counts_used e.outcome ≡ 1 → known (Then h e) d ≡ true
+pub next_known : (h : History) (e : Entry) (d : Dot) → d ≡ next_dot h → counts_used e.outcome ≡ 1 → known (Then h e) d ≡ true
 next_known h e d p u =
     let c : d.count ≡ count h + 1 = ap (λ (z : Dot). z.count) p in
     known_from (Then h e) d (ap (λ (z : Dot). z.replica) p ∙ sym (own-then h e)) (omega (arith, c)) (omega (arith, c, u, count-then h e))
 
-next_unknown : (h : History) → known h (next_dot h) ≡ true → ⊥
+pub next_unknown : (h : History) → known h (next_dot h) ≡ true → ⊥
 next_unknown h k = let p = (known_parts h (next_dot h) k).2 in omega (arith, p)
 
 -- the four kinds of entry
@@ -340,8 +344,22 @@ room_below h f = leb-false (2 ^ 62) (last_number h) (or_parts (nat_le 262144 (en
 
 -- one entry more
 
+row_within : (pid : ℕ) (topic key : List ℕ) (meta : Data) → is_row_made pid topic key meta ≡ true → nat_le pid (2 ^ 62) ≡ true
+row_within pid topic key meta e =
+    let a = and_parts (is_short_text topic) (is_short_text key && (is_meta meta && nat_le pid (2 ^ 62))) e in
+    let b = and_parts (is_short_text key) (is_meta meta && nat_le pid (2 ^ 62)) a.1 in
+    (and_parts (is_meta meta) (nat_le pid (2 ^ 62)) b.1).1
+
 pub pushed_legal : (s : Start) (es : List Entry) (e : Entry) (whole : History) → onto (Begin s) es ≡ whole → IsLegal whole → outcome_of whole e.step ≡ Some e.outcome → e.number ≡ last_number whole + 1 → is_full whole ≡ false → is_step e.step ≡ true → IsLegal (onto (Begin s) (es ++ e ∷ []))
 pushed_legal s es e whole w l o n f i = subst IsLegal (ap (λ h. Then h e) (sym w) ∙ sym (onto-append (Begin s) es (e ∷ []))) (l, o, n, f, i)
+
+pub within_step : (s : Step) → is_within_limits s ≡ true → is_step s ≡ true
+within_step (steps_are.Track pid topic key meta) e = row_within pid topic key meta e
+within_step (steps_are.Update pid topic key meta) e = row_within pid topic key meta e
+within_step _ e = refl
+
+pub pushed_within : (s : Start) (es : List Entry) (e : Entry) (whole : History) → onto (Begin s) es ≡ whole → AreWithinLimits whole → is_within_limits e.step ≡ true → AreWithinLimits (onto (Begin s) (es ++ e ∷ []))
+pushed_within s es e whole w l i = subst AreWithinLimits (ap (λ h. Then h e) (sym w) ∙ sym (onto-append (Begin s) es (e ∷ []))) (l, i)
 
 -- a step that the table accepts is one entry more
 pub after-accepted : (h : History) (s : Step) (seat : Option ℕ) (o : Outcome) → outcome_of h s ≡ Some o → is_full h ≡ false → after h s seat ≡ Then h (next_entry h s seat o)

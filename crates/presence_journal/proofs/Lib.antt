@@ -10,7 +10,9 @@ pub mod FoldTables
 pub mod FoldPresent
 pub mod Fold
 pub mod FoldOthers
+mod Fresh
 mod WorkedTables
 mod Worked
 pub mod WaitsLemmas
 pub mod Tallies
+mod Limit

@@ -7,8 +7,8 @@ use Rattle.std.proofs.lemmas.Option.{same_Some}
 use Rattle.presence_base.specs.declared.dots.Dot.{Dot}
 use Rattle.presence_base.specs.declared.row.Row.{Row}
 use Rattle.presence_base.specs.Order.{same_text, same_dot, same_replica}
-use Rattle.presence_journal.specs.declared.entry.Outcome.TheVariants as outcomes_are
-use Rattle.presence_journal.specs.declared.rows.Place.{Place}
+use Rattle.presence_journal_data.specs.declared.entry.Outcome.TheVariants as outcomes_are
+use Rattle.presence_journal_data.specs.declared.rows.Place.{Place}
 use Rattle.presence_journal.specs.Steps.{Step, Outcome}
 use Rattle.presence_journal.specs.History.{History, Begin, Then, own, first_some, has_dot, row_added, row_made, removed, row, shown}
 use Rattle.presence_journal.specs.Present.{of_topic, dots_added, dots, present, in_order, listed}

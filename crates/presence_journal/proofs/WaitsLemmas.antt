@@ -7,18 +7,18 @@ use Rattle.std.proofs.lemmas.Option.{cond_some, same_Some}
 use Rattle.presence_base.specs.declared.dots.Dot.{Dot}
 use Rattle.presence_base.specs.declared.row.Row.{Row}
 use Rattle.presence_base.specs.Order.{same_text, same_dot}
-use Rattle.presence_journal.specs.declared.step.Step.TheVariants as steps_are
-use Rattle.presence_journal.specs.declared.entry.Outcome.TheVariants as outcomes_are
-use Rattle.presence_journal.specs.declared.rows.Item.{Item}
-use Rattle.presence_journal.specs.declared.rows.Item.TheVariants as items_are
-use Rattle.presence_journal.specs.declared.rows.Place.{Place}
+use Rattle.presence_journal_data.specs.declared.step.Step.TheVariants as steps_are
+use Rattle.presence_journal_data.specs.declared.entry.Outcome.TheVariants as outcomes_are
+use Rattle.presence_journal_data.specs.declared.rows.Item.{Item}
+use Rattle.presence_journal_data.specs.declared.rows.Item.TheVariants as items_are
+use Rattle.presence_journal_data.specs.declared.rows.Place.{Place}
 use Rattle.presence_journal.specs.Steps.{Step, Outcome, Entry}
 use Rattle.presence_journal.specs.History.{History, Then, count, next_dot, has_dot, first_some, row_made, row_added, shown}
 use Rattle.presence_journal.specs.Present.{RowMap, of_topic, present, changes, dots_of}
 use Rattle.presence_journal.specs.Queue.{is_empty, diff_item, shout_item, diff_of, items_made, made_for, with_rows, without_rows}
 use Rattle.presence_journal.specs.Table.{IsLegal, rows_of_pid, rows_of_key, counting, tracked, updated, untracked, outcome_of, after}
 use Rattle.presence_journal.specs.Laws.{of_key, concerns, reaches}
-use Rattle.presence_journal.specs.Walk.{dots_taken}
+use Rattle.presence_journal.specs.Present.{dots_taken}
 use Rattle.presence_journal.specs.Waits.{is_heard, makes_one}
 use Rattle.presence_journal.proofs.Same.{same_text-true, same_text-refl, same_dot-refl}
 use Rattle.presence_journal.proofs.PresentLemmas.{IsListed, IsOwnListed, own_rows, own_rows_of_key}

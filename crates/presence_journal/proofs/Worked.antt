@@ -1,23 +1,20 @@
 -- The worked runs, computed.
-use Rattle.std.proofs.Common.{◌≡◌, List, [], ◌∷◌, length, ◌∙◌, ap}
-use Rattle.std.proofs.lemmas.Bool.{cond-true, cond-false, lt-ltb, le-ltb}
+use Rattle.std.proofs.Common.{◌≡◌, ℕ, List, [], ◌∷◌, ◌++◌, ◌∙◌, ap}
+use Rattle.serde_json.specs.Data.{null}
 use Rattle.presence_journal.specs.Steps.{Step}
 use Rattle.presence_journal.specs.History.{own, count, removed, row, shown, last_number, entry_count}
 use Rattle.presence_journal.specs.Present.{dots, listed}
-use Rattle.presence_journal.specs.Queue.{most_waiting, topic_of, queue, taken}
+use Rattle.presence_journal.specs.Queue.{topic_of, queue, taken}
 use Rattle.presence_journal.specs.Table.{outcome_of}
-use Rattle.presence_journal.specs.Laws.{HoldsMost, AsWorked, ran, outcomes, begun, room, subscribe, take_all, track, update, untrack, shouts}
-use Rattle.presence_journal.specs.declared.step.Step.TheVariants as steps_are
+use Rattle.presence_journal.specs.Laws.{AsWorked, ran, outcomes, begun, room, attic, user, subscribe, take_all, track, update, untrack, two_topics, shouts}
+use Rattle.presence_journal_data.specs.declared.step.Step.TheVariants as steps_are
 use Rattle.presence_journal.proofs.WorkedTables.{rows_now, listed_now, queue_now, queue_is, taken_now, taken_is, ran_now, ran_is}
-
-pub holds_most : HoldsMost
-holds_most q = (λ l. cond-false _ _ _ (le-ltb most_waiting (length q) l), λ l. cond-true _ _ _ (lt-ltb most_waiting (length q) l))
 
 outcomes_run : (ss : List Step) → outcomes (ran begun ss) ≡ outcomes (ran_now begun ss)
 outcomes_run ss = ap outcomes (ran_is begun ss)
 
-listed_run : (ss : List Step) → listed (ran begun ss) room ≡ rows_now (ran_now begun ss) room
-listed_run ss = ap (λ h. listed h room) (ran_is begun ss) ∙ listed_now (ran_now begun ss) room
+listed_run : (t : List ℕ) (ss : List Step) → listed (ran begun ss) t ≡ rows_now (ran_now begun ss) t
+listed_run t ss = ap (λ h. listed h t) (ran_is begun ss) ∙ listed_now (ran_now begun ss) t
 
 queue_run : (ss : List Step) → queue (ran begun ss) 1 ≡ queue_now (ran_now begun ss) 1
 queue_run ss = ap (λ h. queue h 1) (ran_is begun ss) ∙ queue_is (ran_now begun ss) 1
@@ -31,12 +28,21 @@ as_worked = record {
   first_outcomes = outcomes_run (subscribe ∷ take_all ∷ track 1 ∷ take_all ∷ steps_are.List room ∷ []);
   first_items = taken_run (subscribe ∷ take_all ∷ track 1 ∷ take_all ∷ steps_are.List room ∷ []);
   update_replaces = outcomes_run (subscribe ∷ track 1 ∷ take_all ∷ update 1 ∷ []);
-  update_shows = listed_run (subscribe ∷ track 1 ∷ take_all ∷ update 1 ∷ []);
+  update_shows = listed_run room (subscribe ∷ track 1 ∷ take_all ∷ update 1 ∷ []);
   update_waits = queue_run (subscribe ∷ track 1 ∷ take_all ∷ update 1 ∷ []);
   second_track = outcomes_run (track 1 ∷ track 1 ∷ []);
   removal_counts = outcomes_run (track 1 ∷ untrack 1 ∷ track 1 ∷ []);
-  both_present = listed_run (track 1 ∷ track 2 ∷ []);
-  own_leaves = listed_run (track 1 ∷ track 2 ∷ untrack 1 ∷ []);
+  both_present = listed_run room (track 1 ∷ track 2 ∷ []);
+  own_leaves = listed_run room (track 1 ∷ track 2 ∷ untrack 1 ∷ []);
+  empty_removal = outcomes_run (track 1 ∷ untrack 1 ∷ untrack 1 ∷ track 1 ∷ []);
+  key_shown = outcomes_run (two_topics ++ steps_are.Get room user ∷ steps_are.List attic ∷ []);
+  all_removed = outcomes_run (two_topics ++ steps_are.UntrackAll 1 room ∷ []);
+  others_keep = listed_run room (two_topics ++ steps_are.UntrackAll 1 room ∷ []);
+  topics_keep = listed_run attic (two_topics ++ steps_are.UntrackAll 1 room ∷ []);
+  ends = outcomes_run (subscribe ∷ take_all ∷ steps_are.Unsubscribe 1 ∷ take_all ∷ []);
+  other_shout = queue_run (subscribe ∷ take_all ∷ steps_are.Shout attic null ∷ []);
+  state_again = taken_run (subscribe ∷ take_all ∷ track 1 ∷ shouts 256 ++ take_all ∷ []);
+  nothing_waits = queue_run (subscribe ∷ take_all ∷ track 1 ∷ shouts 256 ++ take_all ∷ []);
   just_holds = queue_run (subscribe ∷ take_all ∷ shouts 256);
   falls_behind = queue_run (subscribe ∷ take_all ∷ shouts 257);
 }

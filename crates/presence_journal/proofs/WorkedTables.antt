@@ -5,11 +5,11 @@ use Rattle.std.specs.FinMap as map
 use Rattle.std.specs.FinMap.Entries.{put, where_key, is_sorted-where_key, find-where_key, same_entries}
 use Rattle.presence_base.specs.declared.dots.Dot.{Dot}
 use Rattle.presence_base.specs.declared.row.Row.{Row}
-use Rattle.presence_journal.specs.declared.step.Step.TheVariants as steps_are
-use Rattle.presence_journal.specs.declared.entry.Outcome.TheVariants as outcomes_are
-use Rattle.presence_journal.specs.declared.rows.Item.{Item}
-use Rattle.presence_journal.specs.declared.rows.Place.{Place}
-use Rattle.presence_journal.specs.declared.rows.RowDiff.{RowDiff}
+use Rattle.presence_journal_data.specs.declared.step.Step.TheVariants as steps_are
+use Rattle.presence_journal_data.specs.declared.entry.Outcome.TheVariants as outcomes_are
+use Rattle.presence_journal_data.specs.declared.rows.Item.{Item}
+use Rattle.presence_journal_data.specs.declared.rows.Place.{Place}
+use Rattle.presence_journal_data.specs.declared.rows.RowDiff.{RowDiff}
 use Rattle.presence_journal.specs.Steps.{Step, Outcome, Entry}
 use Rattle.presence_journal.specs.History.{History, Begin, Then, is_full, shown}
 use Rattle.std.specs.Prelude.{filter}

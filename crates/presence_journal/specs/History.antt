@@ -1,14 +1,13 @@
 -- What a history says of each dot. Every function goes over the entries, the newest outermost.
-use Rattle.std.specs.Prelude.{◌≡◌, ℕ, ◌+◌, ◌^◌, Bool, false, cond, ◌&&◌, ◌||◌, nat_lt, nat_le, List, [], ◌∷◌, Option, Some, None, refl}
+use Rattle.std.specs.Prelude.{ℕ, ◌+◌, ◌^◌, Bool, false, cond, ◌&&◌, ◌||◌, nat_lt, nat_le, List, [], ◌∷◌, Option, Some, None}
 use Rattle.std.specs.List.{list_any}
-use Rattle.std.specs.Coded.{Coded, code_by}
-use Rattle.std.proofs.Common.{ap}
 use Rattle.presence_base.specs.declared.dots.Replica.{Replica}
 use Rattle.presence_base.specs.declared.dots.Dot.{Dot}
 use Rattle.presence_base.specs.declared.row.Row.{Row}
 use Rattle.presence_base.specs.Order.{same_replica, same_dot}
-use Rattle.presence_journal.specs.declared.step.Step.TheVariants as steps_are
-use Rattle.presence_journal.specs.declared.entry.Outcome.TheVariants as outcomes_are
+use Rattle.presence_journal_data.specs.declared.step.Step.TheVariants as steps_are
+use Rattle.presence_journal_data.specs.declared.entry.Outcome.TheVariants as outcomes_are
+use Rattle.presence_journal.specs.declared.journal.TheConstants.{MAX_ENTRIES}
 use Rattle.presence_journal.specs.Steps.{Step, Outcome, Entry, Start}
 
 -- A Start, and then entries
@@ -21,7 +20,6 @@ abbrev pub onto : History → List Entry → History
 onto h [] = h
 onto h (e ∷ es) = onto (Then h e) es
 
--- how the logic stores a history: as its Start with its entries, the newest first
 abbrev pub start_of : History → Start
 start_of (Begin s) = s
 start_of (Then h e) = start_of h
@@ -29,17 +27,6 @@ start_of (Then h e) = start_of h
 abbrev pub newest_first : History → List Entry
 newest_first (Begin s) = []
 newest_first (Then h e) = e ∷ newest_first h
-
-abbrev pub from_newest : Start → List Entry → History
-from_newest s [] = Begin s
-from_newest s (e ∷ es) = Then (from_newest s es) e
-
-pub from_newest-newest_first : (h : History) → from_newest (start_of h) (newest_first h) ≡ h
-from_newest-newest_first (Begin s) = refl
-from_newest-newest_first (Then h e) = ap (λ g. Then g e) (from_newest-newest_first h)
-
-abbrev pub history_code : Coded (Start × List Entry) → Coded History
-history_code c = code_by (Start × List Entry) c (λ h. (start_of h, newest_first h)) (λ p. from_newest p.0 p.1) from_newest-newest_first
 
 -- the replica that counts here
 unfoldable pub own : History → Replica
@@ -68,7 +55,7 @@ entry_count (Then h e) = entry_count h + 1
 
 -- no entry can follow: the journal has its most entries, or its last number is the highest
 abbrev pub is_full : History → Bool
-is_full h = nat_le 262144 (entry_count h) || nat_le (2 ^ 62) (last_number h)
+is_full h = nat_le MAX_ENTRIES (entry_count h) || nat_le (2 ^ 62) (last_number h)
 
 -- the dot of the next count
 abbrev pub next_dot : History → Dot

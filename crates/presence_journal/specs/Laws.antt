@@ -1,20 +1,22 @@
 -- The laws of the presence table, which the functions of `laws` state.
-use Rattle.std.specs.Prelude.{◌≡◌, ℕ, zero, suc, ◌<◌, ◌≤◌, Bool, true, false, cond, List, [], ◌∷◌, ◌++◌, length, map as each, reverse, replicate, codes, Option, Some, None}
+use Rattle.std.specs.Prelude.{◌≡◌, ℕ, zero, suc, ◌<◌, ◌≤◌, Bool, true, false, cond, List, [], ◌∷◌, ◌++◌, length, map as each, reverse, replicate, codes, nat_eq, Option, Some, None}
 use Rattle.std.specs.FinMap as map
 use Rattle.serde_json.specs.Data.{Data, null, string, object, member, no_members}
 use Rattle.presence_base.specs.declared.dots.Dot.{Dot}
 use Rattle.presence_base.specs.declared.row.Row.{Row}
 use Rattle.presence_base.specs.Order.{same_text}
-use Rattle.presence_journal.specs.declared.step.Step.TheVariants as steps_are
-use Rattle.presence_journal.specs.declared.entry.Outcome.TheVariants as outcomes_are
-use Rattle.presence_journal.specs.declared.rows.Item.{Item}
-use Rattle.presence_journal.specs.declared.rows.Item.TheVariants as items_are
-use Rattle.presence_journal.specs.declared.rows.Place.{Place}
+use Rattle.presence_base.specs.Refs.{ref_of}
+use Rattle.presence_journal_data.specs.declared.step.Step.TheVariants as steps_are
+use Rattle.presence_journal_data.specs.declared.entry.Outcome.TheVariants as outcomes_are
+use Rattle.presence_journal_data.specs.declared.rows.Item.{Item}
+use Rattle.presence_journal_data.specs.declared.rows.Item.TheVariants as items_are
+use Rattle.presence_journal_data.specs.declared.rows.Place.{Place}
 use Rattle.presence_journal.specs.Steps.{Step, Outcome, Entry}
-use Rattle.presence_journal.specs.History.{History, Begin, Then, newest_first, shown}
-use Rattle.presence_journal.specs.Present.{RowMap, of_topic, present, listed, changes}
-use Rattle.presence_journal.specs.Queue.{Behind, Queued, most_waiting, queued, topic_of, queue, taken, fold, apply_item, diff_of, items_made}
-use Rattle.presence_journal.specs.Table.{IsLegal, is_step, accepted, next_entry, after}
+use Rattle.presence_journal.specs.History.{History, Begin, Then, newest_first, known, has_dot, row, shown}
+use Rattle.presence_journal.specs.Present.{RowMap, of_topic, present, listed, changes, dots_added, dots_taken}
+use Rattle.presence_journal.specs.Queue.{Behind, Queued, most_waiting, topic_of, queue, taken, fold, apply_item, diff_of, items_made}
+use Rattle.presence_journal.specs.Limits.{is_within_limits}
+use Rattle.presence_journal.specs.Table.{IsLegal, IsKept, is_step, accepted, next_entry, after}
 
 -- what a subscriber took since its last State, followed by what waits for it, folds to the present rows of its topic
 abbrev pub FoldsToPresent : Type 0
@@ -73,9 +75,51 @@ RefusedStays = (h : History) (s : Step) (seat : Option ℕ) → accepted h s ≡
 abbrev pub StaysLegal : Type 0
 StaysLegal = (h : History) → IsLegal h → (s : Step) (seat : Option ℕ) → is_step s ≡ true → IsLegal (after h s seat)
 
--- a queue holds its items up to 256, and past that its subscriber is behind
+-- and one that is within all its limits leads from what a journal keeps to what it keeps
+abbrev pub StaysKept : Type 0
+StaysKept = (h : History) → IsKept h → (s : Step) (seat : Option ℕ) → is_within_limits s ≡ true → IsKept (after h s seat)
+
+-- a dot that a step adds was not counted before it
+abbrev pub NewIsUnknown : Type 0
+NewIsUnknown = (h : History) → IsLegal h → (s : Step) (o : Outcome) → accepted h s ≡ Some o → (d : Dot) → has_dot (dots_added o) d ≡ true → known h d ≡ false
+
+-- and is from then on
+abbrev pub NewIsCounted : Type 0
+NewIsCounted = (h : History) → IsLegal h → (s : Step) (seat : Option ℕ) (o : Outcome) → accepted h s ≡ Some o → (d : Dot) → has_dot (dots_added o) d ≡ true → known (after h s seat) d ≡ true
+
+-- a row stands under a dot that was counted
+abbrev pub RowsAreKnown : Type 0
+RowsAreKnown = (h : History) → IsLegal h → (d : Dot) (r : Row) → row h d ≡ Some r → known h d ≡ true
+
+-- no two rows of a history have one reference
+abbrev pub RefsAreDistinct : Type 0
+RefsAreDistinct = (h : History) → IsLegal h → (d e : Dot) (r s : Row) → row h d ≡ Some r → row h e ≡ Some s → ref_of d ≡ ref_of e → d ≡ e
+
+-- but for the row under the new dot, a step leaves every row as it was, and takes out those alone that its outcome names
+abbrev pub OnlyNamedLeave : Type 0
+OnlyNamedLeave = (h : History) → IsLegal h → (s : Step) (seat : Option ℕ) (o : Outcome) → accepted h s ≡ Some o → (t : List ℕ) (p : Place) → has_dot (dots_added o) p.dot ≡ false → map.get (present (after h s seat) t) p ≡ cond (has_dot (dots_taken o) p.dot) None (map.get (present h t) p)
+
+-- no more items wait for a subscriber than may
 abbrev pub HoldsMost : Type 0
-HoldsMost = (q : List Item) → (length q ≤ most_waiting → queued q ≡ Queued q) × (most_waiting < length q → queued q ≡ Behind)
+HoldsMost = (h : History) (n : ℕ) (q : List Item) → queue h n ≡ Queued q → length q ≤ most_waiting
+
+-- the entry makes the subscriber, or is its take
+abbrev pub renews : Step → ℕ → ℕ → Bool
+renews (steps_are.Subscribe topic) number n = nat_eq number n
+renews (steps_are.Take m max) number n = nat_eq m n
+renews _ number n = false
+
+-- any other entry puts what it makes behind what waits for a subscriber
+abbrev pub QueuesItems : Type 0
+QueuesItems = (h : History) (e : Entry) (n : ℕ) (t : List ℕ) (q : List Item) → topic_of h n ≡ Some t → queue h n ≡ Queued q → renews e.step e.number n ≡ false → length (q ++ items_made h e t) ≤ most_waiting → queue (Then h e) n ≡ Queued (q ++ items_made h e t)
+
+-- where that is more than may wait, the subscriber falls behind
+abbrev pub FallsBehind : Type 0
+FallsBehind = (h : History) (e : Entry) (n : ℕ) (t : List ℕ) (q : List Item) → topic_of h n ≡ Some t → queue h n ≡ Queued q → renews e.step e.number n ≡ false → most_waiting < length (q ++ items_made h e t) → queue (Then h e) n ≡ Behind
+
+-- and stays so until it takes
+abbrev pub StaysBehind : Type 0
+StaysBehind = (h : History) (e : Entry) (n : ℕ) → queue h n ≡ Behind → renews e.step e.number n ≡ false → queue (Then h e) n ≡ Behind
 
 -- Worked runs, of a node `a` in its first life.
 
@@ -108,8 +152,17 @@ here = with_status (codes "here")
 abbrev pub away : Data
 away = with_status (codes "away")
 
+abbrev pub attic : List ℕ
+attic = codes "room:attic"
+
+abbrev pub other_user : List ℕ
+other_user = codes "u2"
+
+abbrev pub row_at : List ℕ → List ℕ → ℕ → Data → Option Dot → Row
+row_at topic key pid meta prev = record { topic = topic; key = key; pid = pid; meta = meta; prev = prev }
+
 abbrev pub row_of : ℕ → Data → Option Dot → Row
-row_of pid meta prev = record { topic = room; key = user; pid = pid; meta = meta; prev = prev }
+row_of = row_at room user
 
 abbrev pub subscribe : Step
 subscribe = steps_are.Subscribe room
@@ -117,14 +170,21 @@ subscribe = steps_are.Subscribe room
 abbrev pub take_all : Step
 take_all = steps_are.Take 1 256
 
+abbrev pub track_at : List ℕ → List ℕ → ℕ → Step
+track_at topic key pid = steps_are.Track pid topic key here
+
 abbrev pub track : ℕ → Step
-track pid = steps_are.Track pid room user here
+track = track_at room user
 
 abbrev pub update : ℕ → Step
 update pid = steps_are.Update pid room user away
 
 abbrev pub untrack : ℕ → Step
 untrack pid = steps_are.Untrack pid room user
+
+-- session 1 on two keys of a room and on another topic, and session 2 on one of the keys
+abbrev pub two_topics : List Step
+two_topics = track_at room other_user 1 ∷ track 1 ∷ track_at attic user 1 ∷ track 2 ∷ []
 
 -- so many shouts on the topic
 abbrev pub shouts : ℕ → List Step
@@ -146,8 +206,28 @@ tracked_again = ran begun (track 1 ∷ untrack 1 ∷ track 1 ∷ [])
 abbrev pub two_pids : History
 two_pids = ran begun (track 1 ∷ track 2 ∷ [])
 
+abbrev pub untracked_twice : History
+untracked_twice = ran begun (track 1 ∷ untrack 1 ∷ untrack 1 ∷ track 1 ∷ [])
+
+abbrev pub key_run : History
+key_run = ran begun (two_topics ++ steps_are.Get room user ∷ steps_are.List attic ∷ [])
+
+abbrev pub untracked_all : History
+untracked_all = ran begun (two_topics ++ steps_are.UntrackAll 1 room ∷ [])
+
+-- the last take is refused
+abbrev pub ended_run : History
+ended_run = ran begun (subscribe ∷ take_all ∷ steps_are.Unsubscribe 1 ∷ take_all ∷ [])
+
 abbrev pub shouted : ℕ → History
 shouted n = ran begun (subscribe ∷ take_all ∷ shouts n)
+
+abbrev pub shouted_elsewhere : History
+shouted_elsewhere = ran begun (subscribe ∷ take_all ∷ steps_are.Shout attic null ∷ [])
+
+-- a diff and 256 shouts, and then a take
+abbrev pub caught_up : History
+caught_up = ran begun (subscribe ∷ take_all ∷ track 1 ∷ shouts 256 ++ take_all ∷ [])
 
 pub record AsWorked : Type 0 where
   pub first_outcomes : outcomes first_run ≡ outcomes_are.Subscribed 1 ∷ outcomes_are.Taken true 1 ∷ outcomes_are.Added (dot 1) ∷ outcomes_are.Taken false 1 ∷ outcomes_are.Shown (dot 1 ∷ []) ∷ []
@@ -159,5 +239,14 @@ pub record AsWorked : Type 0 where
   pub removal_counts : outcomes tracked_again ≡ outcomes_are.Added (dot 1) ∷ outcomes_are.Removed (dot 1 ∷ []) ∷ outcomes_are.Added (dot 3) ∷ []
   pub both_present : listed two_pids room ≡ (dot 1, row_of 1 here None) ∷ (dot 2, row_of 2 here None) ∷ []
   pub own_leaves : listed (ran two_pids (untrack 1 ∷ [])) room ≡ (dot 2, row_of 2 here None) ∷ []
+  pub empty_removal : outcomes untracked_twice ≡ outcomes_are.Added (dot 1) ∷ outcomes_are.Removed (dot 1 ∷ []) ∷ outcomes_are.Removed [] ∷ outcomes_are.Added (dot 3) ∷ []
+  pub key_shown : outcomes key_run ≡ outcomes_are.Added (dot 1) ∷ outcomes_are.Added (dot 2) ∷ outcomes_are.Added (dot 3) ∷ outcomes_are.Added (dot 4) ∷ outcomes_are.Shown (dot 2 ∷ dot 4 ∷ []) ∷ outcomes_are.Shown (dot 3 ∷ []) ∷ []
+  pub all_removed : outcomes untracked_all ≡ outcomes_are.Added (dot 1) ∷ outcomes_are.Added (dot 2) ∷ outcomes_are.Added (dot 3) ∷ outcomes_are.Added (dot 4) ∷ outcomes_are.Removed (dot 2 ∷ dot 1 ∷ []) ∷ []
+  pub others_keep : listed untracked_all room ≡ (dot 4, row_of 2 here None) ∷ []
+  pub topics_keep : listed untracked_all attic ≡ (dot 3, row_at attic user 1 here None) ∷ []
+  pub ends : outcomes ended_run ≡ outcomes_are.Subscribed 1 ∷ outcomes_are.Taken true 1 ∷ outcomes_are.Ended ∷ []
+  pub other_shout : queue shouted_elsewhere 1 ≡ Queued []
+  pub state_again : taken caught_up 1 ≡ items_are.State ((dot 1, row_of 1 here None) ∷ []) ∷ []
+  pub nothing_waits : queue caught_up 1 ≡ Queued []
   pub just_holds : queue (shouted 256) 1 ≡ Queued (replicate 256 (items_are.Shout null))
   pub falls_behind : queue (shouted 257) 1 ≡ Behind

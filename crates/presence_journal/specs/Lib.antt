@@ -1,6 +1,7 @@
 pub mod Limits
 pub mod Steps
 pub mod History
+pub mod Codes
 pub mod Present
 pub mod Queue
 pub mod Table

@@ -6,9 +6,9 @@ use Rattle.std.specs.FinMap as map
 use Rattle.presence_base.specs.declared.dots.Dot.{Dot}
 use Rattle.presence_base.specs.declared.row.Row.{Row}
 use Rattle.presence_base.specs.Order.{text_cmp, dot_cmp, same_text}
-use Rattle.presence_journal.specs.declared.entry.Outcome.TheVariants as outcomes_are
-use Rattle.presence_journal.specs.declared.rows.Place.{Place}
-use Rattle.presence_journal.specs.declared.rows.RowDiff.{RowDiff}
+use Rattle.presence_journal_data.specs.declared.entry.Outcome.TheVariants as outcomes_are
+use Rattle.presence_journal_data.specs.declared.rows.Place.{Place}
+use Rattle.presence_journal_data.specs.declared.rows.RowDiff.{RowDiff}
 use Rattle.presence_journal.specs.Steps.{Outcome}
 use Rattle.presence_journal.specs.History.{History, Begin, Then, shown}
 
@@ -38,6 +38,12 @@ dots_added (outcomes_are.Subscribed n) = []
 dots_added (outcomes_are.Taken state items) = []
 dots_added outcomes_are.Ended = []
 dots_added outcomes_are.Sent = []
+
+-- the dots that an outcome names as taken out
+abbrev pub dots_taken : Outcome → List Dot
+dots_taken (outcomes_are.Replaced new old) = old ∷ []
+dots_taken (outcomes_are.Removed ds) = ds
+dots_taken _ = []
 
 -- every dot that was ever added
 unfoldable pub dots : History → List Dot

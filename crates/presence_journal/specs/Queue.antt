@@ -1,15 +1,16 @@
 -- What waits for a subscriber, what it took, and what a client makes of it.
-use Rattle.std.specs.Prelude.{ℕ, Bool, true, false, cond, ◌&&◌, nat_eq, nat_lt, List, [], ◌∷◌, ◌++◌, length, take, drop, Option, Some, None}
+use Rattle.std.specs.Prelude.{ℕ, ◌+◌, Bool, true, false, cond, ◌&&◌, nat_eq, nat_lt, List, [], ◌∷◌, ◌++◌, length, take, drop, Option, Some, None}
 use Rattle.std.specs.FinMap as map
 use Rattle.presence_base.specs.declared.dots.Dot.{Dot}
 use Rattle.presence_base.specs.declared.row.Row.{Row}
 use Rattle.presence_base.specs.Order.{same_text}
-use Rattle.presence_journal.specs.declared.step.Step.TheVariants as steps_are
-use Rattle.presence_journal.specs.declared.rows.Item.{Item}
-use Rattle.presence_journal.specs.declared.rows.Item.TheVariants as items_are
-use Rattle.presence_journal.specs.declared.rows.RowDiff.{RowDiff}
+use Rattle.presence_journal_data.specs.declared.step.Step.TheVariants as steps_are
+use Rattle.presence_journal_data.specs.declared.rows.Item.{Item}
+use Rattle.presence_journal_data.specs.declared.rows.Item.TheVariants as items_are
+use Rattle.presence_journal_data.specs.declared.rows.RowDiff.{RowDiff}
+use Rattle.presence_journal.specs.declared.pending.TheConstants.{MAX_WAITING}
 use Rattle.presence_journal.specs.Steps.{Step, Entry}
-use Rattle.presence_journal.specs.History.{History, Begin, Then}
+use Rattle.presence_journal.specs.History.{History, Begin, Then, entry_count}
 use Rattle.presence_journal.specs.Present.{RowMap, place_of, present, listed, changes}
 
 -- A subscriber is behind, and owed the whole state, or these items wait for it.
@@ -42,13 +43,18 @@ shout_item _ t = []
 abbrev pub diff_of : History → Entry → List ℕ → RowDiff
 diff_of h e t = changes (present h t) (present (Then h e) t)
 
+-- how the entry at a place after the Start changed the present rows of a topic; where no entry is, nothing changed
+unfoldable pub diff_at : History → ℕ → List ℕ → RowDiff
+diff_at (Begin s) i t = record { joins = []; leaves = [] }
+diff_at (Then h e) i t = cond (nat_eq (i + 1) (entry_count h)) (diff_of h e t) (diff_at h i t)
+
 -- what an entry makes for the subscribers of a topic
 unfoldable pub items_made : History → Entry → List ℕ → List Item
 items_made h e t = diff_item (diff_of h e t) ++ shout_item e.step t
 
 -- how many items may wait
 abbrev pub most_waiting : ℕ
-most_waiting = 256
+most_waiting = MAX_WAITING
 
 abbrev pub queued : List Item → Waiting
 queued q = cond (nat_lt most_waiting (length q)) Behind (Queued q)

@@ -5,8 +5,9 @@ use Rattle.presence_base.specs.declared.row.Row.{Row}
 use Rattle.presence_base.specs.Names.{is_node_name}
 use Rattle.presence_base.specs.Order.{same_text, same_replica}
 use Rattle.presence_base.specs.Refs.{IsCount}
-use Rattle.presence_journal.specs.declared.step.Step.TheVariants as steps_are
-use Rattle.presence_journal.specs.declared.entry.Outcome.TheVariants as outcomes_are
+use Rattle.presence_journal_data.specs.declared.step.Step.TheVariants as steps_are
+use Rattle.presence_journal_data.specs.declared.entry.Outcome.TheVariants as outcomes_are
+use Rattle.presence_journal_data.specs.StepLimits.{is_within_limits}
 use Rattle.presence_journal.specs.Steps.{Step, Outcome, Entry, Start}
 use Rattle.presence_journal.specs.History.{History, Begin, Then, own, count, next_dot, last_number, is_full}
 use Rattle.presence_journal.specs.Present.{listed, dots_of}
@@ -99,3 +100,13 @@ pub record IsStart (s : Start) : Type 0 where
 abbrev pub IsLegal : History → Type 0
 IsLegal (Begin s) = IsStart s
 IsLegal (Then h e) = IsLegal h × (outcome_of h e.step ≡ Some e.outcome) × (e.number ≡ last_number h + 1) × (is_full h ≡ false) × (is_step e.step ≡ true)
+
+-- each step is within all its limits
+abbrev pub AreWithinLimits : History → Type 0
+AreWithinLimits (Begin s) = Unit {0}
+AreWithinLimits (Then h e) = AreWithinLimits h × (is_within_limits e.step ≡ true)
+
+-- what a journal keeps: it is legal, and it has no step that a shard couldn't make
+pub record IsKept (h : History) : Type 0 where
+  pub legal : IsLegal h
+  pub limits : AreWithinLimits h

@@ -1,7 +1,7 @@
 -- What waits for a subscriber, counted entry by entry.
 use Rattle.std.specs.Prelude.{ℕ, ◌+◌, ◌-◌, Bool, true, false, cond, ◌&&◌, nat_eq, nat_lt, List, ◌∷◌, length, Option, Some, None}
-use Rattle.presence_journal.specs.declared.step.Step.TheVariants as steps_are
-use Rattle.presence_journal.specs.declared.entry.Outcome.TheVariants as outcomes_are
+use Rattle.presence_journal_data.specs.declared.step.Step.TheVariants as steps_are
+use Rattle.presence_journal_data.specs.declared.entry.Outcome.TheVariants as outcomes_are
 use Rattle.presence_journal.specs.declared.waits.Tally.{Tally}
 use Rattle.presence_journal.specs.declared.waits.Tally.TheVariants as tallies_are
 use Rattle.presence_journal.specs.Steps.{Step, Outcome}

@@ -1,23 +1,21 @@
--- What one entry does to the rows of a topic, and how rows by dot become a table by place.
-use Rattle.std.specs.Prelude.{◌+◌, nat_eq, ◌≡◌, ℕ, cond, List, [], ◌∷◌, Option, Some, None}
+-- Of the walking answers' loops and parts: what one entry does to the rows of a topic, how rows by dot become a table
+-- by place, and what an entry makes for a subscriber.
+use Rattle.std.specs.Prelude.{◌≡◌, ℕ, Bool, cond, List, [], ◌∷◌, Option, Some, None}
 use Rattle.std.specs.FinMap as map
 use Rattle.std.specs.BTreeMap.{insert_entry}
 use Rattle.presence_base.specs.declared.dots.Dot.{Dot}
 use Rattle.presence_base.specs.declared.row.Row.{Row}
 use Rattle.presence_base.specs.Order.{same_text, same_dot}
-use Rattle.presence_journal.specs.declared.entry.Outcome.TheVariants as outcomes_are
-use Rattle.presence_journal.specs.declared.rows.Place.{Place}
-use Rattle.presence_journal.specs.declared.rows.RowDiff.{RowDiff}
-use Rattle.presence_journal.specs.Queue.{diff_of}
-use Rattle.presence_journal.specs.Steps.{Outcome, Entry}
-use Rattle.presence_journal.specs.History.{History, Begin, Then, entry_count, first_some, has_dot, row_added, shown}
-use Rattle.presence_journal.specs.Present.{place_cmp, RowMap, place_of, of_topic}
-
--- the dots that an outcome names as taken out
-abbrev pub dots_taken : Outcome → List Dot
-dots_taken (outcomes_are.Replaced new old) = old ∷ []
-dots_taken (outcomes_are.Removed ds) = ds
-dots_taken _ = []
+use Rattle.presence_journal_data.specs.declared.rows.Item.{Item}
+use Rattle.presence_journal_data.specs.declared.rows.Place.{Place}
+use Rattle.presence_journal_data.specs.declared.rows.RowDiff.{RowDiff}
+use Rattle.presence_journal.specs.declared.pending.Pending.{Pending}
+use Rattle.presence_journal.specs.History.{History, Then, first_some, has_dot, row_added, shown}
+use Rattle.presence_journal.specs.Pending.{waiting_of}
+use Rattle.presence_journal.specs.Present.{place_cmp, RowMap, place_of, of_topic, dots_taken}
+use Rattle.presence_journal.specs.Queue.{diff_of, items_made, queue_after}
+use Rattle.presence_journal.specs.Steps.{Entry}
+use Rattle.presence_journal.specs.Table.{IsLegal}
 
 -- the row of a topic that is added under a dot
 abbrev pub joined : Entry → List ℕ → Dot → Option Row
@@ -30,6 +28,18 @@ without ds f d = cond (has_dot ds d) None (f d)
 -- what goes of the rows that f gives
 abbrev pub among : List Dot → (Dot → Option Row) → Dot → Option Row
 among ds f d = cond (has_dot ds d) (f d) None
+
+-- the first of what f and g give
+abbrev pub over : (Dot → Option Row) → (Dot → Option Row) → Dot → Option Row
+over f g d = first_some (f d) (g d)
+
+-- both give the same
+abbrev pub Alike : (Dot → Option Row) → (Dot → Option Row) → Type 0
+Alike f g = (d : Dot) → f d ≡ g d
+
+-- the rows of these dots were put to those that were taken out before
+abbrev pub IsMoved : List Dot → (Dot → Option Row) → (Dot → Option Row) → (Dot → Option Row) → Type 0
+IsMoved ds rows taken new = Alike new (over (among ds rows) taken)
 
 -- the rows of a topic after an entry, where f gives those before it
 abbrev pub rows_after : Entry → List ℕ → (Dot → Option Row) → Dot → Option Row
@@ -58,7 +68,22 @@ abbrev pub placed : List (Place × Row) → List (Dot × Row) → List (Place ×
 placed es [] = es
 placed es (x ∷ xs) = placed (insert_entry place_cmp es (place_of x.0 x.1) x.1) xs
 
--- how the entry at a place after the Start changed the present rows of a topic; where no entry is, nothing changed
-unfoldable pub diff_at : History → ℕ → List ℕ → RowDiff
-diff_at (Begin s) i t = record { joins = []; leaves = [] }
-diff_at (Then h e) i t = cond (nat_eq (i + 1) (entry_count h)) (diff_of h e t) (diff_at h i t)
+-- An entry may follow any history whose rows of the topic f gives: what it does there.
+
+abbrev pub IsDiffOf : Entry → List ℕ → (Dot → Option Row) → RowDiff → Type 0
+IsDiffOf e t f x = (h : History) → IsLegal (Then h e) → Alike f (shown_of h t) → x ≡ diff_of h e t
+
+abbrev pub AreMade : Entry → List ℕ → (Dot → Option Row) → List Item → Type 0
+AreMade e t f is = (h : History) → IsLegal (Then h e) → Alike f (shown_of h t) → is ≡ items_made h e t
+
+-- for a subscriber, where it is present
+abbrev pub AreMadeFor : Bool → Entry → List ℕ → (Dot → Option Row) → List Item → Type 0
+AreMadeFor b e t f is = (h : History) → IsLegal (Then h e) → Alike f (shown_of h t) → is ≡ cond b (items_made h e t) []
+
+-- what waits for a subscriber after an entry that made these items for it
+abbrev pub IsAfter : ℕ → Entry → List Item → Pending → Pending → Type 0
+IsAfter n e made before p = waiting_of p ≡ queue_after e.step e.number n made (waiting_of before)
+
+-- what waits for a subscriber, which is present or not, after an entry
+abbrev pub IsNext : Bool → ℕ → Entry → List ℕ → (Dot → Option Row) → Pending → Pending → Type 0
+IsNext b n e t f before p = (h : History) → IsLegal (Then h e) → Alike f (shown_of h t) → waiting_of p ≡ queue_after e.step e.number n (cond b (items_made h e t) []) (waiting_of before)

@@ -1,17 +1,14 @@
 ghost use Rattle.std.specs.Prelude.{◌≡◌, ◌+◌, ◌<◌, IfOk, OnOk};
 ghost use Rattle.std.specs.BTreeMap.{get};
-ghost use Rattle.presence_base.specs.declared.dots.Dot.{Dot};
 ghost use Rattle.presence_base.specs.Order.{dot_cmp};
-ghost use Rattle.presence_journal.specs.History.{History, Then, entry_count};
-ghost use Rattle.presence_journal.specs.Queue.{diff_of};
-ghost use Rattle.presence_journal.specs.Table.{IsLegal};
-ghost use Rattle.presence_journal.specs.Walk.{rows_after, shown_of, diff_at};
+ghost use Rattle.presence_journal.specs.History.{entry_count};
+ghost use Rattle.presence_journal.specs.Queue.{diff_at};
+ghost use Rattle.presence_journal.specs.Walk.{Alike, IsDiffOf, rows_after};
 
-use crate::entry::Entry;
 use crate::journal::Journal;
-use crate::rows::{RowDiff, Rows};
 use crate::walk::{added_row, apply_entry, in_place, put_row, rows_of_entries};
 use presence_base::{Dot, Row, Topic};
+use presence_journal_data::{Entry, RowDiff, Rows};
 use std::alloc::{AllocError, Global};
 use std::collections::BTreeMap;
 
@@ -22,8 +19,8 @@ pub(crate) fn diff_entry(
     entry: &Entry,
     topic: &Topic,
 ) -> Result<RowDiff, AllocError>
-    ensures rows { OnOk result ((d : Dot) → get dot_cmp rows.new d ≡ rows_after entry.now topic.now (get dot_cmp rows.old) d) }
-    ensures diff { IfOk result (λ x. (h : History) → IsLegal (Then h entry.now) → ((d : Dot) → get dot_cmp rows.old d ≡ shown_of h topic.now d) → x ≡ diff_of h entry.now topic.now) }
+    ensures rows { OnOk result (Alike (get dot_cmp rows.new) (rows_after entry.now topic.now (get dot_cmp rows.old))) }
+    ensures diff { IfOk result (IsDiffOf entry.now topic.now (get dot_cmp rows.old)) }
 {
     let added = added_row(entry, topic)?;
     let left = apply_entry(alloc, rows, entry, topic)?;

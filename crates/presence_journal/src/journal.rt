@@ -1,8 +1,7 @@
 ghost use Rattle.std.specs.Prelude.{◌≡◌, ◌++◌, ◌∷◌, [], OnOk, OnErr};
 
-use crate::entry::{Entry, Outcome, Start};
-use crate::step::Step;
 use presence_base::{MAX_COUNT, Replica};
+use presence_journal_data::{Entry, Outcome, Start, Step};
 use std::alloc::{AllocError, Global};
 use std::marker::Model;
 
@@ -17,21 +16,19 @@ pub struct Journal {
 }
 
 impl Model for Journal {
-    ghost use Rattle.std.specs.Coded.{coded_list, coded×};
-    ghost use Rattle.presence_journal.specs.contracts.entry.Entry as one_entry;
-    ghost use Rattle.presence_journal.specs.contracts.entry.Start as beginning;
-    ghost use Rattle.presence_journal.specs.History.{History, history_code};
+    ghost use Rattle.presence_journal.specs.History.{History};
+    ghost use Rattle.presence_journal.specs.Codes.{history_code};
 
     ghost Value = { History };
 
-    ghost coded = { history_code (coded× beginning.the_row.coded (coded_list one_entry.the_row.coded)) };
+    ghost coded = { history_code };
 
     ghost use Rattle.presence_journal.specs.History.{Begin, onto};
-    ghost use Rattle.presence_journal.specs.Table.{IsLegal};
+    ghost use Rattle.presence_journal.specs.Table.{IsKept};
 
     ghost view = { λ j. onto (Begin j.start) j.entries.items };
 
-    ghost invariant = { λ j. IsLegal (onto (Begin j.start) j.entries.items) };
+    ghost invariant = { λ j. IsKept (onto (Begin j.start) j.entries.items) };
 }
 
 // Puts an entry at the end.
@@ -47,7 +44,8 @@ impl Journal {
     ghost use Rattle.std.specs.Prelude.{◌≡◌, ◌≤◌, ◌^◌, ◌+◌, length, true, false, Some, OnOk, OnErr};
     ghost use Rattle.presence_base.specs.Refs.{IsCount};
     ghost use Rattle.presence_journal.specs.History.{Begin, onto, start_of, own, last_number, entry_count, is_full};
-    ghost use Rattle.presence_journal.specs.Table.{IsLegal, outcome_of, after, is_step};
+    ghost use Rattle.presence_journal.specs.Limits.{is_within_limits};
+    ghost use Rattle.presence_journal.specs.Table.{IsLegal, AreWithinLimits, outcome_of, after};
 
     /// The journal of a new shard: an empty Start with number 0.
     pub fn new(alloc: Global, own: Replica) -> Journal
@@ -72,6 +70,7 @@ impl Journal {
     pub fn entries(&self) -> &[Entry]
         ensures history { onto (Begin (start_of self.now)) result.now ≡ self.now }
         ensures legal { IsLegal self.now }
+        ensures limits { AreWithinLimits self.now }
         ensures count { length result.now + 1 ≡ entry_count self.now }
     {
         self.entries.as_slice()
@@ -111,7 +110,7 @@ impl Journal {
     ) -> Result<(), AllocError>
         requires legal { outcome_of self.old step ≡ Some outcome }
         requires room { is_full self.old ≡ false }
-        requires step { is_step step ≡ true }
+        requires step { is_within_limits step ≡ true }
         ensures ok { OnOk result (self.new ≡ after self.old step seat) }
         ensures err { OnErr result (self.new ≡ self.old) }
     {

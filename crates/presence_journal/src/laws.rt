@@ -1,6 +1,10 @@
 //! Laws of the presence table: functions that do nothing, and whose contracts are the laws.
 
-ghost use Rattle.presence_journal.specs.Laws.{FoldsToPresent, PresentIsShown, ChangesLead, DiffsLead, OthersStay, OthersHearNothing, RefusedStays, StaysLegal, HoldsMost, AsWorked};
+ghost use Rattle.presence_journal.specs.Laws.{FoldsToPresent, PresentIsShown, ChangesLead, DiffsLead};
+ghost use Rattle.presence_journal.specs.Laws.{NewIsUnknown, NewIsCounted, RowsAreKnown, RefsAreDistinct};
+ghost use Rattle.presence_journal.specs.Laws.{OnlyNamedLeave, OthersStay, OthersHearNothing, RefusedStays};
+ghost use Rattle.presence_journal.specs.Laws.{HoldsMost, QueuesItems, FallsBehind, StaysBehind};
+ghost use Rattle.presence_journal.specs.Laws.{StaysLegal, StaysKept, AsWorked};
 
 /// What a subscriber took since its last state, followed by what waits for it, folds to the present
 /// rows of its topic.
@@ -19,22 +23,38 @@ pub fn joins_and_leaves()
     ensures entries { DiffsLead }
 {}
 
-/// A step leaves the present rows of each topic that it does not concern, makes nothing for the
-/// subscribers of a topic that it does not reach, and leaves everything where it is refused.
+/// A new dot is one that was not counted before, and rows stand under counted dots alone; no two rows
+/// that a history ever had have the same reference.
+pub fn new_dots()
+    ensures fresh { NewIsUnknown }
+    ensures counted { NewIsCounted }
+    ensures rows { RowsAreKnown }
+    ensures references { RefsAreDistinct }
+{}
+
+/// A step takes out the rows that its outcome names, and leaves every other. It leaves the present rows
+/// of each topic that it does not concern, makes nothing for the subscribers of a topic that it does
+/// not reach, and leaves everything where it is refused.
 pub fn nothing_else_changes()
+    ensures rows { OnlyNamedLeave }
     ensures others { OthersStay }
     ensures items { OthersHearNothing }
     ensures refused { RefusedStays }
 {}
 
-/// A step within its limits leads from a legal history to a legal one.
+/// A step within its limits leads from a legal history to a legal one, and from what a journal keeps to what it keeps.
 pub fn steps_stay_legal()
-    ensures { StaysLegal }
+    ensures legal { StaysLegal }
+    ensures kept { StaysKept }
 {}
 
-/// Up to 256 items wait for a subscriber; with more it is behind.
+/// At most `MAX_WAITING` items wait for a subscriber. An entry puts what it makes behind them, and where
+/// that is more the subscriber falls behind, until it takes.
 pub fn queue_limit()
-    ensures { HoldsMost }
+    ensures most { HoldsMost }
+    ensures items { QueuesItems }
+    ensures behind { FallsBehind }
+    ensures until { StaysBehind }
 {}
 
 /// The worked runs hold of the definitions.

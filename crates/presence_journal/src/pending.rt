@@ -1,19 +1,16 @@
-ghost use Rattle.std.specs.Prelude.{◌≡◌, ◌++◌, [], cond, Some, IfOk, OnOk, List, drop, option_copied};
+ghost use Rattle.std.specs.Prelude.{◌≡◌, ◌++◌, Some, IfOk, OnOk, option_copied};
 ghost use Rattle.std.specs.BTreeMap.{get};
-ghost use Rattle.presence_base.specs.declared.dots.Dot.{Dot};
 ghost use Rattle.presence_base.specs.Order.{dot_cmp};
-ghost use Rattle.presence_journal.specs.History.{History, Then};
-ghost use Rattle.presence_journal.specs.Table.{IsLegal};
-ghost use Rattle.presence_journal.specs.Queue.{topic_of, topic_after, diff_item, shout_item, items_made, queued, push_items, left_by, queue_after, queue};
-ghost use Rattle.presence_journal.specs.Walk.{rows_after, shown_of};
 ghost use Rattle.presence_journal.specs.Pending.{waiting_of};
+ghost use Rattle.presence_journal.specs.Queue.{topic_of, topic_after, diff_item, shout_item, queued, push_items};
+ghost use Rattle.presence_journal.specs.Queue.{left_by, queue};
+ghost use Rattle.presence_journal.specs.Walk.{Alike, AreMade, AreMadeFor, rows_after};
+ghost use Rattle.presence_journal.specs.Walk.{IsAfter, IsNext};
 
 use crate::diff::diff_entry;
-use crate::entry::Entry;
 use crate::journal::Journal;
-use crate::rows::{Item, RowDiff};
-use crate::step::Step;
 use presence_base::{Dot, Row, Topic};
+use presence_journal_data::{Entry, Item, RowDiff, Step};
 use std::alloc::{AllocError, Global};
 use std::collections::BTreeMap;
 
@@ -96,8 +93,8 @@ fn made_items(
     entry: &Entry,
     topic: &Topic,
 ) -> Result<Vec<Item>, AllocError>
-    ensures rows { OnOk result ((d : Dot) → get dot_cmp rows.new d ≡ rows_after entry.now topic.now (get dot_cmp rows.old) d) }
-    ensures items { IfOk result (λ v. (h : History) → IsLegal (Then h entry.now) → ((d : Dot) → get dot_cmp rows.old d ≡ shown_of h topic.now d) → v.items ≡ items_made h entry.now topic.now) }
+    ensures rows { OnOk result (Alike (get dot_cmp rows.new) (rows_after entry.now topic.now (get dot_cmp rows.old))) }
+    ensures items { IfOk result (λ v. AreMade entry.now topic.now (get dot_cmp rows.old) v.items) }
 {
     let diff = diff_entry(alloc, rows, entry, topic)?;
     let mut items = diff_items(alloc, diff)?;
@@ -157,7 +154,7 @@ fn after_entry(
     number: u64,
     made: Vec<Item>,
 ) -> Result<Pending, AllocError>
-    ensures { IfOk result (λ p. waiting_of p ≡ queue_after entry.now.step entry.now.number number made.items (waiting_of pending)) }
+    ensures { IfOk result (IsAfter number entry.now made.items pending) }
 {
     match &entry.step {
         Step::Subscribe { .. } => {
@@ -186,8 +183,8 @@ fn items_for(
     topic: &Topic,
     is_present: bool,
 ) -> Result<Vec<Item>, AllocError>
-    ensures rows { OnOk result ((d : Dot) → get dot_cmp rows.new d ≡ rows_after entry.now topic.now (get dot_cmp rows.old) d) }
-    ensures items { IfOk result (λ v. (h : History) → IsLegal (Then h entry.now) → ((d : Dot) → get dot_cmp rows.old d ≡ shown_of h topic.now d) → v.items ≡ cond is_present (items_made h entry.now topic.now) []) }
+    ensures rows { OnOk result (Alike (get dot_cmp rows.new) (rows_after entry.now topic.now (get dot_cmp rows.old))) }
+    ensures items { IfOk result (λ v. AreMadeFor is_present entry.now topic.now (get dot_cmp rows.old) v.items) }
 {
     let made = made_items(alloc, rows, entry, topic)?;
     if is_present {
@@ -207,8 +204,8 @@ fn take_in(
     topic: &Topic,
     is_present: bool,
 ) -> Result<Pending, AllocError>
-    ensures rows { OnOk result ((d : Dot) → get dot_cmp rows.new d ≡ rows_after entry.now topic.now (get dot_cmp rows.old) d) }
-    ensures pending { IfOk result (λ p. (h : History) → IsLegal (Then h entry.now) → ((d : Dot) → get dot_cmp rows.old d ≡ shown_of h topic.now d) → waiting_of p ≡ queue_after entry.now.step entry.now.number number (cond is_present (items_made h entry.now topic.now) []) (waiting_of pending)) }
+    ensures rows { OnOk result (Alike (get dot_cmp rows.new) (rows_after entry.now topic.now (get dot_cmp rows.old))) }
+    ensures pending { IfOk result (IsNext is_present number entry.now topic.now (get dot_cmp rows.old) pending) }
 {
     let made = items_for(alloc, rows, entry, topic, is_present)?;
     after_entry(alloc, pending, entry, number, made)

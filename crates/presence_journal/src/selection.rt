@@ -33,7 +33,7 @@ pub fn walk_get(
 {
     let rows = walk_list(alloc, journal, topic)?;
     rows.into_iter()
-        .filter(|row| is_of_key(key, row))
+        .filter(|shown| is_of_key(key, shown))
         .collect(alloc)
 }
 

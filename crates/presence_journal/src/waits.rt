@@ -3,14 +3,10 @@ ghost use Rattle.presence_journal.specs.Laws.{reaches};
 ghost use Rattle.presence_journal.specs.Queue.{topic_after, topic_of, queue, is_waiting};
 ghost use Rattle.presence_journal.specs.Waits.{is_heard, makes_one, tally_of, tally_pushed, tally_left, tally_after, tally_waits};
 
-use crate::entry::{Entry, Outcome};
 use crate::journal::Journal;
 use crate::pending::MAX_WAITING;
-use crate::step::Step;
 use presence_base::Topic;
-
-#[cfg(test)]
-mod tests;
+use presence_journal_data::{Entry, Outcome, Step};
 
 // What waits for a subscriber, counted.
 #[derive(Clone, Copy)]

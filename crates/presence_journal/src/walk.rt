@@ -2,16 +2,16 @@ ghost use Rattle.std.specs.Prelude.{◌≡◌, ◌≤◌, ◌^◌, Some, None, [
 ghost use Rattle.std.specs.BTreeMap.{get, IsOrdered};
 ghost use Rattle.presence_base.specs.declared.dots.Dot.{Dot};
 ghost use Rattle.presence_base.specs.Order.{dot_cmp, same_dot};
-ghost use Rattle.presence_journal.specs.History.{Begin, onto, count, counts_used, row_made, row_added, first_some};
+ghost use Rattle.presence_journal.specs.History.{Begin, onto, count, counts_used, row_made};
 ghost use Rattle.presence_journal.specs.Present.{RowMap, of_topic, in_order, listed};
 ghost use Rattle.presence_journal.specs.Table.{IsLegal};
-ghost use Rattle.presence_journal.specs.Walk.{dots_taken, without, among, joined, rows_after, shown_of, row_at, IsTableOf, placed};
+ghost use Rattle.presence_journal.specs.Present.{dots_taken};
+ghost use Rattle.presence_journal.specs.Walk.{Alike, IsMoved, IsTableOf, among, joined, over, placed, row_at};
+ghost use Rattle.presence_journal.specs.Walk.{rows_after, shown_of, without};
 
-use crate::entry::{Entry, Outcome, Start};
 use crate::journal::Journal;
-use crate::rows::Place;
-use crate::step::Step;
 use presence_base::{Dot, Key, Meta, Row, Topic};
+use presence_journal_data::{Entry, Outcome, Place, Start, Step};
 use std::alloc::{AllocError, Global};
 use std::collections::BTreeMap;
 
@@ -40,30 +40,26 @@ pub fn walk_count(journal: &Journal) -> u64
     used
 }
 
-// The row of these fields, where they are of the topic.
-fn row_of_topic(
-    topic: &Topic,
+// The row of these fields.
+fn row_of(
     pid: u64,
-    row_topic: &Topic,
+    topic: &Topic,
     key: &Key,
     meta: &Meta,
     prev: Option<Dot>,
-) -> Result<Option<Row>, AllocError>
-    ensures { IfOk result (λ o. o ≡ of_topic topic.now (Some (record { topic = row_topic.now; key = key.now; pid = pid; meta = meta.now; prev = prev }))) }
+) -> Result<Row, AllocError>
+    ensures { IfOk result (λ r. r ≡ record { topic = topic.now; key = key.now; pid = pid; meta = meta.now; prev = prev }) }
 {
-    if !row_topic.cmp(topic).is_eq() {
-        return Ok(None);
-    }
-    let topic = row_topic.clone()?;
+    let topic = topic.clone()?;
     let key = key.clone()?;
     let meta = meta.clone()?;
-    Ok(Some(Row {
+    Ok(Row {
         topic,
         key,
         pid,
         meta,
         prev,
-    }))
+    })
 }
 
 // The row that a step makes, where it is of the topic.
@@ -73,16 +69,22 @@ fn made_row(step: &Step, prev: Option<Dot>, topic: &Topic) -> Result<Option<Row>
     match step {
         Step::Track {
             pid,
-            topic: row_topic,
+            topic: of,
             key,
             meta,
-        } => row_of_topic(topic, *pid, row_topic, key, meta, prev),
-        Step::Update {
+        }
+        | Step::Update {
             pid,
-            topic: row_topic,
+            topic: of,
             key,
             meta,
-        } => row_of_topic(topic, *pid, row_topic, key, meta, prev),
+        } => {
+            if of.cmp(topic).is_eq() {
+                Ok(Some(row_of(*pid, of, key, meta, prev)?))
+            } else {
+                Ok(None)
+            }
+        }
         _ => Ok(None),
     }
 }
@@ -119,7 +121,7 @@ pub(crate) fn put_row(
     rows: &mut BTreeMap<Dot, Row>,
     added: Option<(Dot, Row)>,
 ) -> Result<(), AllocError>
-    ensures { OnOk result ((d : Dot) → get dot_cmp rows.new d ≡ first_some (row_at added d) (get dot_cmp rows.old d)) }
+    ensures { OnOk result (Alike (get dot_cmp rows.new) (over (row_at added) (get dot_cmp rows.old))) }
 {
     if let Some((dot, row)) = added {
         rows.insert(dot, row)?;
@@ -133,8 +135,8 @@ fn move_row(
     dot: &Dot,
     taken: &mut BTreeMap<Dot, Row>,
 ) -> Result<(), AllocError>
-    ensures rows { OnOk result ((d : Dot) → get dot_cmp rows.new d ≡ without (dot.now ∷ []) (get dot_cmp rows.old) d) }
-    ensures taken { OnOk result ((d : Dot) → get dot_cmp taken.new d ≡ first_some (among (dot.now ∷ []) (get dot_cmp rows.old) d) (get dot_cmp taken.old d)) }
+    ensures rows { OnOk result (Alike (get dot_cmp rows.new) (without (dot.now ∷ []) (get dot_cmp rows.old))) }
+    ensures taken { OnOk result (IsMoved (dot.now ∷ []) (get dot_cmp rows.old) (get dot_cmp taken.old) (get dot_cmp taken.new)) }
 {
     let row = rows.remove(dot);
     let added = under_dot(*dot, row);
@@ -147,8 +149,8 @@ fn take_out(
     rows: &mut BTreeMap<Dot, Row>,
     dots: &[Dot],
 ) -> Result<BTreeMap<Dot, Row>, AllocError>
-    ensures rows { OnOk result ((d : Dot) → get dot_cmp rows.new d ≡ without dots.now (get dot_cmp rows.old) d) }
-    ensures taken { IfOk result (λ m. (d : Dot) → get dot_cmp m d ≡ among dots.now (get dot_cmp rows.old) d) }
+    ensures rows { OnOk result (Alike (get dot_cmp rows.new) (without dots.now (get dot_cmp rows.old))) }
+    ensures taken { IfOk result (λ m. Alike (get dot_cmp m) (among dots.now (get dot_cmp rows.old))) }
 {
     let mut taken = BTreeMap::new(alloc);
     for dot in dots {
@@ -175,8 +177,8 @@ pub(crate) fn apply_entry(
     entry: &Entry,
     topic: &Topic,
 ) -> Result<BTreeMap<Dot, Row>, AllocError>
-    ensures rows { OnOk result ((d : Dot) → get dot_cmp rows.new d ≡ rows_after entry.now topic.now (get dot_cmp rows.old) d) }
-    ensures left { IfOk result (λ m. (d : Dot) → get dot_cmp m d ≡ among (dots_taken entry.now.outcome) (get dot_cmp rows.old) d) }
+    ensures rows { OnOk result (Alike (get dot_cmp rows.new) (rows_after entry.now topic.now (get dot_cmp rows.old))) }
+    ensures left { IfOk result (λ m. Alike (get dot_cmp m) (among (dots_taken entry.now.outcome) (get dot_cmp rows.old))) }
 {
     let left = take_out(alloc, rows, dots_out(&entry.outcome))?;
     let added = added_row(entry, topic)?;
@@ -192,7 +194,7 @@ pub(crate) fn rows_of_entries(
     topic: &Topic,
 ) -> Result<BTreeMap<Dot, Row>, AllocError>
     requires { IsLegal (onto (Begin _start.now) entries.now) }
-    ensures { IfOk result (λ m. (d : Dot) → get dot_cmp m d ≡ shown_of (onto (Begin _start.now) entries.now) topic.now d) }
+    ensures { IfOk result (λ m. Alike (get dot_cmp m) (shown_of (onto (Begin _start.now) entries.now) topic.now)) }
 {
     let mut rows = BTreeMap::new(alloc);
     for entry in entries {

@@ -17,19 +17,12 @@ use Rattle.presence_metas.specs.declared.tracked.TrackedMeta.{TrackedMeta}
 use Rattle.presence_metas.specs.Listing.{Listing, at, without, put}
 use Rattle.presence_metas.specs.Rows.{members_in, with_prev, tracked_of, add_row, listing_of}
 use Rattle.presence_metas.specs.Values.{metas_value, listing_value, state_of}
-use Rattle.presence_metas.specs.Frames.{metas_in, all_objects, has_metas, all_have_metas, is_listing, text_ref, tracked_in, metas_into, listing_into, listing_in, frame_in}
+use Rattle.presence_metas.specs.Frames.{Named, AllNamed, metas_in, all_objects, has_metas, all_have_metas, is_listing, text_ref, tracked_in, metas_into, listing_into, listing_in, frame_in}
 use Rattle.presence_metas.specs.Laws.{StatesReadBack, DiffsReadBack}
 use Rattle.presence_metas.proofs.Seen.{entered_some}
 use Rattle.presence_metas.proofs.Lookups.{same, order, order_cases, bool_cases, Rises, Above, rest_rises, first_below, none_rises, put_rises}
 
 -- ---- metas
-
--- the reference is that of the object
-abbrev pub Named : TrackedMeta → Type 0
-Named t = text_ref t.meta ≡ Some t.reference
-
-abbrev pub AllNamed : List TrackedMeta → Type 0
-AllNamed = AllByRecursion Named
 
 prev_apart : codes "phx_ref" ≡ codes "phx_ref_prev" → ⊥
 prev_apart h = cc

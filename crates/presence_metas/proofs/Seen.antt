@@ -17,7 +17,7 @@ at_found g k es v h = rw (lookup-map_values g (is_at (text_cmp k)) es, ← h) re
 pub at_missing : {X : Type 0} (g : X → List TrackedMeta) (k : List ℕ) (es : List (List ℕ × X)) → None ≡ lookup (is_at (text_cmp k)) es → [] ≡ at (map (λ e. (e.0, g e.1)) es) k
 at_missing g k es h = rw (lookup-map_values g (is_at (text_cmp k)) es, ← h) refl
 
-remove_seen : {X Y : Type 0} (g : X → Y) (test : List ℕ → Bool) (es : List (List ℕ × X)) → map (λ e. (e.0, g e.1)) (remove_entry test es) ≡ remove_entry test (map (λ e. (e.0, g e.1)) es)
+pub remove_seen : {X Y : Type 0} (g : X → Y) (test : List ℕ → Bool) (es : List (List ℕ × X)) → map (λ e. (e.0, g e.1)) (remove_entry test es) ≡ remove_entry test (map (λ e. (e.0, g e.1)) es)
 remove_seen g test [] = refl
 remove_seen {X} {Y} g test (e ∷ es) = at_test (test e.0) (remove_seen g test es)
   where
@@ -29,7 +29,7 @@ remove_seen {X} {Y} g test (e ∷ es) = at_test (test e.0) (remove_seen g test e
 pub without_seen : {X Y : Type 0} (g : X → Y) (test : List ℕ → Bool) (es fs : List (List ℕ × X)) → fs ≡ remove_entry test es → map (λ e. (e.0, g e.1)) fs ≡ remove_entry test (map (λ e. (e.0, g e.1)) es)
 without_seen g test es fs h = rw h (remove_seen g test es)
 
-insert_seen : {X Y : Type 0} (g : X → Y) (k : List ℕ) (v : X) (es : List (List ℕ × X)) → map (λ e. (e.0, g e.1)) (insert_entry text_cmp es k v) ≡ insert_entry text_cmp (map (λ e. (e.0, g e.1)) es) k (g v)
+pub insert_seen : {X Y : Type 0} (g : X → Y) (k : List ℕ) (v : X) (es : List (List ℕ × X)) → map (λ e. (e.0, g e.1)) (insert_entry text_cmp es k v) ≡ insert_entry text_cmp (map (λ e. (e.0, g e.1)) es) k (g v)
 insert_seen g k v [] = refl
 insert_seen {X} {Y} g k v (e ∷ es) = at_order (text_cmp k e.0) (insert_seen g k v es)
   where

@@ -1,5 +1,6 @@
 -- What a message tells a client of presences, or the first thing that is wrong with it.
 use Rattle.std.specs.Prelude.{◌≡◌, ℕ, List, [], ◌∷◌, ◌++◌, Bool, true, false, ◌&&◌, if◌then◌else◌, Option, Some, None, option_and_then, Result, Ok, Err, codes, is_some}
+use Rattle.std.specs.List.{AllByRecursion}
 use Rattle.std.specs.Str.{bytes_eq}
 use Rattle.serde_json.specs.Data.{Data, array, object, Items, no_items, item, Members, no_members, member}
 use Rattle.serde_json.specs.Find.{get, as_object, as_str}
@@ -74,6 +75,13 @@ with_ref d (Some r) = Ok (record { reference = r; meta = d })
 abbrev pub tracked_in : Data → Result TrackedMeta FrameFault
 tracked_in d = with_ref d (text_ref d)
 
+-- the reference is that of the object
+abbrev pub Named : TrackedMeta → Type 0
+Named t = text_ref t.meta ≡ Some t.reference
+
+abbrev pub AllNamed : List TrackedMeta → Type 0
+AllNamed = AllByRecursion Named
+
 -- the metas ts, and then those of the items
 abbrev pub metas_into : List TrackedMeta → Items → Result (List TrackedMeta) FrameFault
 metas_into ts no_items = Ok ts
@@ -114,3 +122,9 @@ unfoldable pub frame_in : Message → Result Frame FrameFault
 frame_in m =
     if bytes_eq m.event (codes "presence_state") then state_in m.payload
     else (if bytes_eq m.event (codes "presence_diff") then diff_in m.payload else Err NotPresence)
+
+-- what is wrong with a message before any meta is looked at
+abbrev pub shape_fault : Message → Option FrameFault
+shape_fault m =
+    if bytes_eq m.event (codes "presence_state") then (if is_listing m.payload then None else Some BadShape)
+    else (if bytes_eq m.event (codes "presence_diff") then (if is_diff m.payload then None else Some BadShape) else Some NotPresence)

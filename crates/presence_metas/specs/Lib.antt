@@ -1,4 +1,5 @@
 pub mod Codes
+pub mod Lists
 pub mod Listing
 pub mod Rows
 pub mod Values

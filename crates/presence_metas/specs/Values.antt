@@ -32,6 +32,10 @@ AllWhole ls = AllByRecursion (λ e. AreWhole e.1) ls
 abbrev pub state_of : List (Dot × Row) → Data
 state_of rows = listing_value (listing_of rows)
 
+-- the object of what joined and what left
+abbrev pub diff_object_of : Data → Data → Data
+diff_object_of joins leaves = object (member (codes "joins") joins (member (codes "leaves") leaves no_members))
+
 -- the object that tells which rows came and which went
 abbrev pub diff_of : List (Dot × Row) → List (Dot × Row) → Data
-diff_of joins leaves = object (member (codes "joins") (state_of joins) (member (codes "leaves") (state_of leaves) no_members))
+diff_of joins leaves = diff_object_of (state_of joins) (state_of leaves)

@@ -1,7 +1,8 @@
-ghost use Rattle.std.specs.Prelude.{◌≡◌, [], option_map};
+ghost use Rattle.std.specs.Prelude.{◌≡◌, [], false, option_map};
 ghost use Rattle.serde_json.specs.View.{view, items_view, members_view};
-ghost use Rattle.presence_metas.specs.declared.frame.FrameFault.TheVariants.{OutOfMemory};
-ghost use Rattle.presence_metas.specs.Frames.{Gives, Answers, all_objects, has_metas, all_have_metas, is_listing, is_some_listing, is_diff, tracked_in, metas_into, metas_in, listing_into, some_listing_in, state_in, diff_in, frame_in};
+ghost use Rattle.presence_metas.specs.declared.frame.FrameFault.TheVariants.{BadShape, OutOfMemory};
+ghost use Rattle.presence_metas.specs.declared.frame.FrameFault.{FrameFault};
+ghost use Rattle.presence_metas.specs.Frames.{Gives, Answers, all_objects, has_metas, all_have_metas, is_listing, is_some_listing, is_diff, tracked_in, metas_into, metas_in, listing_into, some_listing_in, state_in, diff_in, frame_in, shape_fault};
 
 use crate::presences::{Diff, Presences};
 use crate::tracked::TrackedMeta;
@@ -174,7 +175,8 @@ fn presences_of_value(alloc: Global, value: Option<&Value>) -> Result<Presences,
 
 // The state that a payload tells.
 fn state_of_value(alloc: Global, value: &Value) -> Result<Frame, FrameFault>
-    ensures { Answers result (state_in (view value.now)) }
+    ensures state { Answers result (state_in (view value.now)) }
+    ensures none { is_listing (view value.now) ≡ false → result ≡ Err BadShape }
 {
     if !is_listing_value(value) {
         return Err(FrameFault::BadShape);
@@ -185,7 +187,8 @@ fn state_of_value(alloc: Global, value: &Value) -> Result<Frame, FrameFault>
 
 // The diff that a payload tells.
 fn diff_of_value(alloc: Global, value: &Value) -> Result<Frame, FrameFault>
-    ensures { Answers result (diff_in (view value.now)) }
+    ensures diff { Answers result (diff_in (view value.now)) }
+    ensures none { is_diff (view value.now) ≡ false → result ≡ Err BadShape }
 {
     if !is_diff_value(value) {
         return Err(FrameFault::BadShape);
@@ -197,10 +200,12 @@ fn diff_of_value(alloc: Global, value: &Value) -> Result<Frame, FrameFault>
 
 /// The frame that a message carries, or the first thing that is wrong with it.
 ///
-/// Members beside `joins` and `leaves`, and beside a key's `metas`, are not looked at.
+/// Members beside `joins` and `leaves`, and beside a key's `metas`, are not looked at. A message of
+/// another event or shape is refused without memory.
 #[tactic(auto, unfolding(crate::specs::Frames::frame_in))]
 pub fn read_frame(alloc: Global, message: &Message) -> Result<Frame, FrameFault>
-    ensures { Answers result (frame_in message.now) }
+    ensures frame { Answers result (frame_in message.now) }
+    ensures none { (fault : FrameFault) → shape_fault message.now ≡ Some fault → result ≡ Err fault }
 {
     let payload = message.payload.as_value();
     if message.event.as_str() == "presence_state" {

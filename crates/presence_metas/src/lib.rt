@@ -7,12 +7,12 @@ pub mod laws;
 mod members;
 mod mirror;
 mod presences;
-#[cfg(test)]
-mod tests;
 mod tracked;
 
 pub use frame::{Frame, FrameFault, read_frame};
 pub use members::{insert_member, put_member};
 pub use mirror::Mirror;
-pub use presences::{Diff, Presences, diff_value, state_value, value_of_metas, values_of};
+pub use presences::{
+    Diff, Presences, diff_object, diff_value, state_value, value_of_metas, values_of,
+};
 pub use tracked::TrackedMeta;

@@ -2,13 +2,14 @@ ghost use Rattle.std.specs.Prelude.{◌≡◌, ◌++◌, ◌∷◌, [], false, I
 ghost use Rattle.std.specs.List.{fold};
 ghost use Rattle.serde_json.specs.View.{view};
 ghost use Rattle.serde_json.specs.Written.{has_float};
+ghost use Rattle.presence_metas.specs.Lists.{AreFilled};
 ghost use Rattle.presence_metas.specs.Listing.{at, without, entered, put, join_key, leave_key, applied};
 ghost use Rattle.std.specs.List.Sorted.{IsStrictlySortedBy};
 ghost use Rattle.std.specs.Map.{keys_of};
 ghost use Rattle.presence_base.specs.Order.{text_cmp};
 ghost use Rattle.presence_metas.specs.Fold.{meta_at, folded};
 ghost use Rattle.presence_metas.specs.Rows.{add_row, listing_of};
-ghost use Rattle.presence_metas.specs.Values.{metas_value, listing_value, AllWhole, state_of, diff_of};
+ghost use Rattle.presence_metas.specs.Values.{metas_value, listing_value, AllWhole, state_of, diff_object_of, diff_of};
 
 use crate::members::put_member;
 use crate::tracked::{TrackedMeta, leave_out, take_in, tracked_meta};
@@ -26,11 +27,9 @@ pub struct Presences {
 
 impl Model for Presences {
     ghost use Rattle.std.specs.Prelude.{List, ℕ, map};
-    ghost use Rattle.std.specs.List.Sorted.{IsStrictlySortedBy};
-    ghost use Rattle.std.specs.Map.{keys_of};
-    ghost use Rattle.presence_base.specs.Order.{text_cmp};
     ghost use Rattle.presence_metas.specs.declared.tracked.TrackedMeta.{TrackedMeta};
     ghost use Rattle.presence_metas.specs.Codes.{listing_code};
+    ghost use Rattle.presence_metas.specs.Lists.{AreLists};
 
     ghost Value = { List (List ℕ × List TrackedMeta) };
 
@@ -38,7 +37,7 @@ impl Model for Presences {
 
     ghost view = { λ p. map (λ e. (e.0, e.1.items)) p.lists.entries };
 
-    ghost invariant = { λ p. IsStrictlySortedBy text_cmp (keys_of p.lists.entries) };
+    ghost invariant = { λ p. AreLists (map (λ e. (e.0, e.1.items)) p.lists.entries) };
 }
 
 impl Clone for Presences {
@@ -98,6 +97,13 @@ impl Presences {
     /// The keys rise by their bytes.
     pub fn keys_rise(&self)
         ensures { IsStrictlySortedBy text_cmp (keys_of self.now) }
+    {
+        let _lists = &self.lists;
+    }
+
+    /// No key is without metas.
+    pub fn lists_are_filled(&self)
+        ensures { AreFilled self.now }
     {
         let _lists = &self.lists;
     }
@@ -265,6 +271,13 @@ pub fn state_value(alloc: Global, rows: &[(Dot, Row)]) -> Result<Value, AllocErr
     presences.to_value(alloc)
 }
 
+/// The object `{"joins": .., "leaves": ..}`.
+pub fn diff_object(alloc: Global, joins: Value, leaves: Value) -> Result<Value, AllocError>
+    ensures { IfOk result (λ v. view v ≡ diff_object_of (view joins) (view leaves)) }
+{
+    json!(in alloc; {"joins": joins, "leaves": leaves})
+}
+
 /// The diff object of the rows that came and those that went.
 pub fn diff_value(
     alloc: Global,
@@ -276,5 +289,5 @@ pub fn diff_value(
 {
     let joins = state_value(alloc, joins)?;
     let leaves = state_value(alloc, leaves)?;
-    json!(in alloc; {"joins": joins, "leaves": leaves})
+    diff_object(alloc, joins, leaves)
 }

@@ -217,18 +217,17 @@ fn a_refused_subscription_behind_a_track(rt: HostRuntime) {
 }
 
 // Whether the end of a session of two topics, its call of this number refused, keeps the topic of
-// that call and the one behind it, and may be repeated.
+// that call alone, and may be repeated.
 fn ends_again(alloc: Global, call: u32, fault: ShardFault) -> bool {
     let Some(mut desk) = desk_after(alloc, &[JOIN, LATE]) else {
         return false;
     };
     desk.refuse(call, fault);
-    let kept = if call < 2 {
-        desk.end(alloc) == Err(fault_for(fault)) && desk.names(&["room:lobby", "room:x"])
-    } else {
-        desk.end(alloc) == Err(fault_for(fault)) && desk.names(&["room:x"])
-    };
-    kept && desk.end(alloc) == Ok(()) && is_gone(alloc, &mut desk)
+    let stays = if call < 2 { "room:lobby" } else { "room:x" };
+    desk.end(alloc) == Err(fault_for(fault))
+        && desk.names(&[stays])
+        && desk.end(alloc) == Ok(())
+        && is_gone(alloc, &mut desk)
 }
 
 // Whether nothing is left of a session of two topics.

@@ -4,15 +4,16 @@ use Rattle.std.specs.Prelude.{nat_lt, is_some, option_map, Result, Ok, Err, OnOk
 use Rattle.serde_json.specs.Data.{Data}
 use Rattle.presence_base.specs.declared.dots.Dot.{Dot}
 use Rattle.presence_base.specs.declared.row.Row.{Row}
-use Rattle.presence_journal.specs.declared.step.Step.{Step}
-use Rattle.presence_journal.specs.declared.step.Step.TheVariants as steps_are
-use Rattle.presence_journal.specs.declared.entry.Outcome.{Outcome}
-use Rattle.presence_journal.specs.declared.entry.Outcome.TheVariants as outcomes_are
+use Rattle.presence_journal_data.specs.declared.step.Step.{Step}
+use Rattle.presence_journal_data.specs.declared.step.Step.TheVariants as steps_are
+use Rattle.presence_journal_data.specs.declared.entry.Outcome.{Outcome}
+use Rattle.presence_journal_data.specs.declared.entry.Outcome.TheVariants as outcomes_are
 use Rattle.presence_journal.specs.History.{History, count, is_full, next_dot, last_number}
 use Rattle.presence_journal.specs.Present.{listed, dots_of}
 use Rattle.presence_journal.specs.Queue.{Waiting, queue, topic_of, is_waiting}
-use Rattle.presence_journal.specs.Table.{IsLegal, take_outcome, for_present, is_step, outcome_of, accepted, after, rows_of_key, rows_of_pid, listed_key, tracked, updated, untracked, counting}
-use Rattle.presence_journal.proofs.HistoryLemmas.{after-accepted}
+use Rattle.presence_journal.specs.Table.{IsKept, take_outcome, for_present, outcome_of, accepted, after, rows_of_key, rows_of_pid, listed_key, tracked, updated, untracked, counting}
+use Rattle.presence_journal.specs.Limits.{is_within_limits}
+use Rattle.presence_journal.proofs.HistoryLemmas.{after-accepted, within_step}
 use Rattle.tracker_shard.specs.Steps.{Made, Answers, IsDue, new_dot, refusal, first_dot, next_counted, slot_of, is_found, found_topic}
 use Rattle.tracker_shard.specs.declared.fault.ShardFault.TheVariants.{ClockFull, JournalFull, NoSub, OutOfMemory}
 use Rattle.tracker_shard.specs.declared.fault.ShardFault.{ShardFault}
@@ -21,8 +22,8 @@ pub made : (h : History) (s : Step) (seat : Option ℕ) (o : Outcome) → outcom
 unfolding accepted
 made h s seat o e room new is = record { accepted = rw (room, e) refl; journal = is }
 
-pub made_legal : (h : History) (s : Step) (seat : Option ℕ) (o : Outcome) → IsLegal h → outcome_of h s ≡ Some o → is_full h ≡ false → is_step s ≡ true → IsLegal (after h s seat)
-made_legal h s seat o legal e room limits = rw (after-accepted h s seat o e room) (legal, e, refl, room, limits)
+pub made_kept : (h : History) (s : Step) (seat : Option ℕ) (o : Outcome) → IsKept h → outcome_of h s ≡ Some o → is_full h ≡ false → is_within_limits s ≡ true → IsKept (after h s seat)
+made_kept h s seat o kept e room limits = rw (after-accepted h s seat o e room) (record { legal = (kept.legal, e, refl, room, within_step s limits); limits = (kept.limits, limits) })
 
 next_is : (h : History) (d : Dot) (o : Dot → Outcome) → next_counted h ≡ Some d → counting h (o (next_dot h)) ≡ Some (o d)
 next_is h d o e = go (nat_lt (count h) (2 ^ 62)) e
@@ -37,6 +38,10 @@ none_left h o e = go (nat_lt (count h) (2 ^ 62)) e
     go : (b : Bool) → cond b (Some (next_dot h)) None ≡ None → cond b (Some o) None ≡ None
     go true p = absurd (cc)
     go false p = refl
+
+pub none_is : {A : Type 0} (o : Option A) → is_some o ≡ false → o ≡ None
+none_is None e = refl
+none_is (Some x) e = absurd (cc)
 
 pub track_added : (h : History) (pid : ℕ) (topic key : List ℕ) (meta : Data) (d : Dot) → first_dot (rows_of_key h pid topic key) ≡ None → next_counted h ≡ Some d → outcome_of h (steps_are.Track pid topic key meta) ≡ Some (outcomes_are.Added d)
 unfolding outcome_of
@@ -181,24 +186,14 @@ waits_missing h n e = go (topic_of h n) e
 
 pub ruleset tables = (list_shown, get_shown, shout_sent, subscribe_number, track_added, track_full, track_again, update_replaced, update_full, update_none, untrack_is, untrack_all_is, found_is, ended_found, none_stands, full_stands, clock_stands, sub_none_stands, sub_full_stands, no_sub_stands)
 
--- whether the entry was written or refused, the journal is legal
-pub legal_new : {A E : Type 0} (h new : History) (s : Step) (seat : Option ℕ) (o : Outcome) (r : Result A E) → OnOk r (new ≡ after h s seat) → OnErr r (new ≡ h) → IsLegal h → outcome_of h s ≡ Some o → is_full h ≡ false → is_step s ≡ true → IsLegal new
-legal_new h new s seat o (Ok x) ok err legal e room limits = rw ok (made_legal h s seat o legal e room limits)
-legal_new h new s seat o (Err x) ok err legal e room limits = rw err legal
+-- whether the entry was written or refused, the journal is kept as it is to be
+pub kept_new : {A E : Type 0} (h new : History) (s : Step) (seat : Option ℕ) (o : Outcome) (r : Result A E) → OnOk r (new ≡ after h s seat) → OnErr r (new ≡ h) → IsKept h → outcome_of h s ≡ Some o → is_full h ≡ false → is_within_limits s ≡ true → IsKept new
+kept_new h new s seat o (Ok x) ok err kept e room limits = rw ok (made_kept h s seat o kept e room limits)
+kept_new h new s seat o (Err x) ok err kept e room limits = rw err kept
 
 -- the same, where the history is known by another name
-pub legal_seen : {A E : Type 0} (h now new : History) (s : Step) (seat : Option ℕ) (o : Outcome) (r : Result A E) → h ≡ now → OnOk r (new ≡ after h s seat) → OnErr r (new ≡ h) → IsLegal h → outcome_of now s ≡ Some o → is_full now ≡ false → is_step s ≡ true → IsLegal new
-legal_seen h now new s seat o r view ok err legal e room limits = legal_new h new s seat o r ok err legal (ap (λ x. outcome_of x s) view ∙ e) (ap is_full view ∙ room) limits
+pub kept_seen : {A E : Type 0} (h now new : History) (s : Step) (seat : Option ℕ) (o : Outcome) (r : Result A E) → h ≡ now → OnOk r (new ≡ after h s seat) → OnErr r (new ≡ h) → IsKept h → outcome_of now s ≡ Some o → is_full now ≡ false → is_within_limits s ≡ true → IsKept new
+kept_seen h now new s seat o r view ok err kept e room limits = kept_new h new s seat o r ok err kept (ap (λ x. outcome_of x s) view ∙ e) (ap is_full view ∙ room) limits
 
 pub made_seen : (h now new : History) (s : Step) (seat : Option ℕ) (o : Outcome) → h ≡ now → outcome_of now s ≡ Some o → is_full now ≡ false → new ≡ after h s seat → Made now new seat s
 made_seen h now new s seat o view e room is = made now s seat o e room new (is ∙ ap (λ x. after x s seat) view)
-
--- the dot that was written is the one that the table names
-pub answer_dot : (P : Type 0) (h : History) (s : Step) (o : Outcome) (dot : Dot) (r : Result Dot ShardFault) → outcome_of h s ≡ Some o → new_dot (Some o) ≡ Some dot → IfOk r (λ d. P × (d ≡ dot)) → IfErr r (λ e. e ≡ OutOfMemory) → Answers (λ d. new_dot (outcome_of h s) ≡ Some d) (outcome_of h s) r
-answer_dot P h s o dot (Ok d) e named ok err = let same : d ≡ dot = ok.1 in ap new_dot e ∙ named ∙ ap Some (sym same)
-answer_dot P h s o dot (Err f) e named ok err = rw err tt
-
--- nothing stands against a step that was written, or memory ran out
-pub due_dot : (h : History) (s : Step) (o : Outcome) (r : Result Dot ShardFault) → outcome_of h s ≡ Some o → is_full h ≡ false → IfErr r (λ e. e ≡ OutOfMemory) → IsDue r (refusal true h s)
-due_dot h s o (Ok d) e room err = none_stands h s o e room
-due_dot h s o (Err f) e room err = rw (err, none_stands h s o e room) tt

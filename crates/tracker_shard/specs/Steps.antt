@@ -1,13 +1,17 @@
 -- What a call of a shard answers and leaves.
-use Rattle.std.specs.Prelude.{◌≡◌, ℕ, Bool, true, cond, ◌&&◌, nat_eq, nat_lt, ◌^◌, List, [], ◌∷◌, Option, Some, None, is_some, Result, Ok, Err}
+use Rattle.std.specs.Prelude.{◌≡◌, ℕ, ◌+◌, Bool, true, cond, ◌&&◌, nat_eq, nat_lt, ◌^◌, List, [], ◌∷◌, Option, Some, None, is_some, Result, Ok, Err, Vec}
 use Rattle.presence_base.specs.declared.dots.Dot.{Dot}
 use Rattle.presence_base.specs.declared.row.Row.{Row}
-use Rattle.presence_journal.specs.declared.entry.Outcome.TheVariants as outcomes_are
-use Rattle.presence_journal.specs.declared.step.Step.{Step}
-use Rattle.presence_journal.specs.declared.entry.Outcome.{Outcome}
-use Rattle.presence_journal.specs.History.{History, is_full, count, next_dot}
-use Rattle.presence_journal.specs.Table.{outcome_of, accepted, after}
-use Rattle.presence_journal.specs.Queue.{topic_of}
+use Rattle.presence_journal_data.specs.declared.entry.Outcome.TheVariants as outcomes_are
+use Rattle.presence_journal_data.specs.declared.step.Step.{Step}
+use Rattle.presence_journal_data.specs.declared.entry.Outcome.{Outcome}
+use Rattle.presence_journal_data.specs.declared.step.Step.TheVariants as steps_are
+use Rattle.presence_journal_data.specs.declared.rows.Item.{Item}
+use Rattle.presence_journal.specs.History.{History, is_full, count, next_dot, last_number}
+use Rattle.presence_journal.specs.Present.{listed, dots_of}
+use Rattle.presence_journal.specs.Table.{outcome_of, accepted, after, listed_key, rows_of_key, rows_of_pid}
+use Rattle.presence_journal.specs.Queue.{topic_of, items_given}
+use Rattle.tracker_shard.specs.declared.shard.Sub.{Sub}
 use Rattle.tracker_shard.specs.declared.fault.ShardFault.{ShardFault}
 use Rattle.tracker_shard.specs.declared.fault.ShardFault.TheVariants.{AlreadyTracked, NoPresence, ClockFull, JournalFull, NoSub, OutOfMemory}
 
@@ -56,18 +60,45 @@ IsDue (Err JournalFull) r = r ≡ Some JournalFull
 IsDue (Err NoSub) r = r ≡ Some NoSub
 IsDue (Err OutOfMemory) r = MayRunOut r
 
+-- What each call answers where it is accepted.
+
+-- a subscriber is found at this slot
+abbrev pub slot_of : ℕ → ℕ
+slot_of number = 0
+
 -- the dot that an outcome names as new
 abbrev pub new_dot : Option Outcome → Option Dot
 new_dot (Some (outcomes_are.Added d)) = Some d
 new_dot (Some (outcomes_are.Replaced d old)) = Some d
 new_dot _ = None
 
--- a subscriber is found at this slot
-abbrev pub slot_of : ℕ → ℕ
-slot_of number = 0
+abbrev pub AnswersDot : History → Step → Result Dot ShardFault → Type 0
+AnswersDot h s r = Answers (λ d. new_dot (outcome_of h s) ≡ Some d) (outcome_of h s) r
+
+abbrev pub AnswersRowsOfKey : {A : Type 0} → History → ℕ → List ℕ → List ℕ → Result (Vec Dot A) ShardFault → Type 0
+AnswersRowsOfKey h pid t key r = Answers (λ dots. dots.items ≡ dots_of (rows_of_key h pid t key)) (outcome_of h (steps_are.Untrack pid t key)) r
+
+abbrev pub AnswersRowsOfPid : {A : Type 0} → History → ℕ → List ℕ → Result (Vec Dot A) ShardFault → Type 0
+AnswersRowsOfPid h pid t r = Answers (λ dots. dots.items ≡ dots_of (rows_of_pid h pid t)) (outcome_of h (steps_are.UntrackAll pid t)) r
+
+abbrev pub AnswersListed : {A : Type 0} → History → List ℕ → Result (Vec (Dot × Row) A) ShardFault → Type 0
+AnswersListed h t r = Answers (λ rows. rows.items ≡ listed h t) (outcome_of h (steps_are.List t)) r
+
+abbrev pub AnswersListedKey : {A : Type 0} → History → List ℕ → List ℕ → Result (Vec (Dot × Row) A) ShardFault → Type 0
+AnswersListedKey h t key r = Answers (λ rows. rows.items ≡ listed_key h t key) (outcome_of h (steps_are.Get t key)) r
+
+abbrev pub AnswersItems : {A : Type 0} → History → ℕ → ℕ → Result (Vec Item A) ShardFault → Type 0
+AnswersItems h n max r = Answers (λ items. items.items ≡ items_given h n max) (outcome_of h (steps_are.Take n max)) r
+
+abbrev pub AnswersSub : History → List ℕ → Result Sub ShardFault → Type 0
+AnswersSub h t r = Answers (λ sub. (sub.number ≡ last_number h + 1) × (sub.slot ≡ slot_of sub.number)) (outcome_of h (steps_are.Subscribe t)) r
 
 abbrev pub is_found : History → ℕ → ℕ → Bool
 is_found h slot number = is_some (topic_of h number) && nat_eq slot (slot_of number)
+
+-- the refusal of a call that names a subscriber
+abbrev pub refusal_at : ℕ → ℕ → History → Step → Option ShardFault
+refusal_at slot number h s = refusal (is_found h slot number) h s
 
 -- the topic of a subscriber that is found
 abbrev pub found_topic : History → ℕ → ℕ → Option (List ℕ)

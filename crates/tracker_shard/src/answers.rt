@@ -1,5 +1,4 @@
-ghost use Rattle.std.specs.Prelude.{◌≡◌, [], ◌∷◌, IfOk, IsTrue};
-ghost use Rattle.presence_journal.specs.Limits.{is_payload};
+ghost use Rattle.std.specs.Prelude.{◌≡◌, [], ◌∷◌, IfOk};
 ghost use Rattle.presence_journal.specs.Pending.{waiting_of};
 ghost use Rattle.presence_journal.specs.Present.{dots_of, listed};
 ghost use Rattle.presence_journal.specs.Queue.{given};
@@ -7,8 +6,8 @@ ghost use Rattle.presence_journal.specs.Table.{take_outcome};
 ghost use Rattle.tracker_shard.specs.Steps.{first_dot};
 
 use crate::fault::ShardFault;
-use presence_base::{Dot, Json, Key, Meta, Row, Topic};
-use presence_journal::{Item, Journal, Outcome, Payload, Pending, Rows, Step, walk_list};
+use presence_base::{Dot, Row, Topic};
+use presence_journal::{Item, Journal, Outcome, Pending, Rows, walk_list};
 use std::alloc::{AllocError, Global};
 
 impl From<AllocError> for ShardFault {
@@ -87,90 +86,4 @@ pub(crate) fn taken_outcome(pending: &Pending, max: u32) -> Outcome
         Pending::Behind => Outcome::Taken(true, 1),
         Pending::Items(items) => Outcome::Taken(false, (max as u64).min(items.len() as u64)),
     }
-}
-
-// The steps, made of what a caller lends.
-
-pub(crate) fn track_step(
-    pid: u64,
-    topic: &Topic,
-    key: &Key,
-    meta: &Meta,
-) -> Result<Step, AllocError>
-    ensures { IfOk result (λ s. s ≡ Step.Track pid topic.now key.now meta.now) }
-{
-    let topic = topic.clone()?;
-    let key = key.clone()?;
-    let meta = meta.clone()?;
-    Ok(Step::Track {
-        pid,
-        topic,
-        key,
-        meta,
-    })
-}
-
-pub(crate) fn update_step(
-    pid: u64,
-    topic: &Topic,
-    key: &Key,
-    meta: &Meta,
-) -> Result<Step, AllocError>
-    ensures { IfOk result (λ s. s ≡ Step.Update pid topic.now key.now meta.now) }
-{
-    let topic = topic.clone()?;
-    let key = key.clone()?;
-    let meta = meta.clone()?;
-    Ok(Step::Update {
-        pid,
-        topic,
-        key,
-        meta,
-    })
-}
-
-pub(crate) fn untrack_step(pid: u64, topic: &Topic, key: &Key) -> Result<Step, AllocError>
-    ensures { IfOk result (λ s. s ≡ Step.Untrack pid topic.now key.now) }
-{
-    let topic = topic.clone()?;
-    let key = key.clone()?;
-    Ok(Step::Untrack { pid, topic, key })
-}
-
-pub(crate) fn untrack_all_step(pid: u64, topic: &Topic) -> Result<Step, AllocError>
-    ensures { IfOk result (λ s. s ≡ Step.UntrackAll pid topic.now) }
-{
-    let topic = topic.clone()?;
-    Ok(Step::UntrackAll { pid, topic })
-}
-
-pub(crate) fn list_step(topic: &Topic) -> Result<Step, AllocError>
-    ensures { IfOk result (λ s. s ≡ Step.List topic.now) }
-{
-    let topic = topic.clone()?;
-    Ok(Step::List { topic })
-}
-
-pub(crate) fn get_step(topic: &Topic, key: &Key) -> Result<Step, AllocError>
-    ensures { IfOk result (λ s. s ≡ Step.Get topic.now key.now) }
-{
-    let topic = topic.clone()?;
-    let key = key.clone()?;
-    Ok(Step::Get { topic, key })
-}
-
-pub(crate) fn subscribe_step(topic: &Topic) -> Result<Step, AllocError>
-    ensures { IfOk result (λ s. s ≡ Step.Subscribe topic.now) }
-{
-    let topic = topic.clone()?;
-    Ok(Step::Subscribe { topic })
-}
-
-pub(crate) fn shout_step(topic: &Topic, payload: &Json) -> Result<Step, AllocError>
-    requires { IsTrue (is_payload payload.now) }
-    ensures { IfOk result (λ s. s ≡ Step.Shout topic.now payload.now) }
-{
-    let topic = topic.clone()?;
-    let payload = Payload::new(payload.clone()?);
-    Ok(Step::Shout { topic, payload })
 }

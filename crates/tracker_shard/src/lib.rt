@@ -4,8 +4,6 @@
 mod answers;
 mod fault;
 mod shard;
-#[cfg(test)]
-mod tests;
 
 pub use fault::ShardFault;
 pub use shard::{Shard, Sub};

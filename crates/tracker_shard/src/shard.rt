@@ -1,11 +1,8 @@
-use crate::answers::{
-    dots_of_rows, first_dot_of, get_step, given_items, list_step, replaced, shout_step,
-    subscribe_step, taken_outcome, track_step, untrack_all_step, untrack_step, update_step,
-};
+use crate::answers::{dots_of_rows, first_dot_of, given_items, replaced, taken_outcome};
 use crate::fault::ShardFault;
 use presence_base::{Dot, Json, Key, MAX_COUNT, Meta, Replica, Row, Topic};
 use presence_journal::{
-    Dots, Item, Journal, Outcome, Step, TakeLimit, walk_count, walk_get, walk_list, walk_own_row,
+    Dots, Item, Journal, Outcome, Step, walk_count, walk_get, walk_list, walk_own_row,
     walk_own_rows, walk_pending, walk_topic, walk_waits,
 };
 use std::alloc::{AllocError, Global};
@@ -27,31 +24,32 @@ pub struct Shard {
 }
 
 impl Model for Shard {
-    ghost use Rattle.std.specs.Coded.{coded_list, coded×};
-    ghost use Rattle.presence_journal.specs.contracts.entry.Entry as one_entry;
-    ghost use Rattle.presence_journal.specs.contracts.entry.Start as beginning;
-    ghost use Rattle.presence_journal.specs.History.{History, history_code};
+    ghost use Rattle.presence_journal.specs.History.{History};
+    ghost use Rattle.presence_journal.specs.Codes.{history_code};
 
     ghost Value = { History };
 
-    ghost coded = { history_code (coded× beginning.the_row.coded (coded_list one_entry.the_row.coded)) };
+    ghost coded = { history_code };
 
-    ghost use Rattle.presence_journal.specs.Table.{IsLegal};
+    ghost use Rattle.presence_journal.specs.Table.{IsKept};
 
     ghost view = { λ s. s.journal };
 
-    ghost invariant = { λ s. IsLegal s.journal };
+    ghost invariant = { λ s. IsKept s.journal };
 }
 
 impl Shard {
-    ghost use Rattle.std.specs.Prelude.{◌≡◌, ◌≤◌, ◌^◌, ◌+◌, true, false, ◌&&◌, Some, None, is_some, nat_eq, option_copied, cond, IfOk, IfErr, OnOk, OnErr, IsTrue};
+    ghost use Rattle.std.specs.Prelude.{◌≡◌, ◌≤◌, ◌^◌, true, false, Some, option_copied, IfOk, IfErr, OnOk, OnErr, IsTrue};
     ghost use Rattle.presence_base.specs.Refs.{IsCount};
-    ghost use Rattle.presence_journal.specs.History.{Begin, last_number, is_full};
-    ghost use Rattle.presence_journal.specs.Limits.{is_payload, is_take_limit};
-    ghost use Rattle.presence_journal.specs.Present.{listed, dots_of};
+    ghost use Rattle.presence_journal.specs.History.{Begin, is_full};
+    ghost use Rattle.presence_journal.specs.Limits.{is_payload, is_take_limit, is_within_limits};
+    ghost use Rattle.presence_journal.specs.Present.{dots_of};
     ghost use Rattle.presence_journal.specs.Queue.{topic_of, queue, items_given, is_waiting};
-    ghost use Rattle.presence_journal.specs.Table.{IsLegal, outcome_of, is_step, listed_key, rows_of_key, rows_of_pid, untracked};
-    ghost use Rattle.tracker_shard.specs.Steps.{Made, Stepped, Answers, IsDue, refusal, new_dot, first_dot, next_counted, slot_of, is_found, found_topic};
+    ghost use Rattle.presence_journal.specs.Table.{IsLegal, AreWithinLimits, outcome_of, rows_of_key, untracked};
+    ghost use Rattle.tracker_shard.specs.Steps.{Made, Stepped, Answers, IsDue, refusal, refusal_at, is_found};
+    ghost use Rattle.tracker_shard.specs.Steps.{AnswersDot, AnswersRowsOfKey, AnswersRowsOfPid, AnswersListed};
+    ghost use Rattle.tracker_shard.specs.Steps.{AnswersListedKey, AnswersItems, AnswersSub};
+    ghost use Rattle.tracker_shard.specs.Steps.{first_dot, next_counted, found_topic};
 
     /// A shard of the replica with an empty journal.
     pub fn new(alloc: Global, own: Replica) -> Shard
@@ -67,6 +65,7 @@ impl Shard {
     pub fn journal(&self) -> &Journal
         ensures journal { result.now ≡ self.now }
         ensures legal { IsLegal self.now }
+        ensures limits { AreWithinLimits self.now }
     {
         &self.journal
     }
@@ -75,7 +74,7 @@ impl Shard {
     fn write(&mut self, seat: Option<u32>, step: Step, outcome: Outcome) -> Result<(), ShardFault>
         requires table { outcome_of self.old step ≡ Some outcome }
         requires room { is_full self.old ≡ false }
-        requires limits { is_step step ≡ true }
+        requires limits { is_within_limits step ≡ true }
         ensures made { OnOk result (Made self.old self.new seat step) }
         ensures err { OnErr result (self.new ≡ self.old) }
         ensures memory { IfErr result (λ e. e ≡ ShardFault.OutOfMemory) }
@@ -149,21 +148,21 @@ impl Shard {
     ) -> Result<Dot, ShardFault>
         requires { pid ≤ 2 ^ 62 }
         ensures step { Stepped self.old self.new seat (Step.Track pid topic.now key.now meta.now) result }
-        ensures answer { let o = outcome_of self.old (Step.Track pid topic.now key.now meta.now) in Answers (λ d. new_dot o ≡ Some d) o result }
+        ensures answer { AnswersDot self.old (Step.Track pid topic.now key.now meta.now) result }
         ensures due { IsDue result (refusal true self.old (Step.Track pid topic.now key.now meta.now)) }
     {
         if self.journal.is_full() {
             return Err(ShardFault::JournalFull);
         }
         if self.own_dot(alloc, pid, topic, key)?.is_some() {
-            let step = track_step(pid, topic, key, meta)?;
+            let step = Step::track(pid, topic, key, meta)?;
             self.write(seat, step, Outcome::AlreadyTracked)?;
             return Err(ShardFault::AlreadyTracked);
         }
         let Some(dot) = self.next_dot() else {
             return Err(ShardFault::ClockFull);
         };
-        let step = track_step(pid, topic, key, meta)?;
+        let step = Step::track(pid, topic, key, meta)?;
         self.write(seat, step, Outcome::Added(dot))?;
         Ok(dot)
     }
@@ -184,21 +183,21 @@ impl Shard {
     ) -> Result<Dot, ShardFault>
         requires { pid ≤ 2 ^ 62 }
         ensures step { Stepped self.old self.new seat (Step.Update pid topic.now key.now meta.now) result }
-        ensures answer { let o = outcome_of self.old (Step.Update pid topic.now key.now meta.now) in Answers (λ d. new_dot o ≡ Some d) o result }
+        ensures answer { AnswersDot self.old (Step.Update pid topic.now key.now meta.now) result }
         ensures due { IsDue result (refusal true self.old (Step.Update pid topic.now key.now meta.now)) }
     {
         if self.journal.is_full() {
             return Err(ShardFault::JournalFull);
         }
         let Some(old) = self.own_dot(alloc, pid, topic, key)? else {
-            let step = update_step(pid, topic, key, meta)?;
+            let step = Step::update(pid, topic, key, meta)?;
             self.write(seat, step, Outcome::NoPresence)?;
             return Err(ShardFault::NoPresence);
         };
         let Some(dot) = self.next_dot() else {
             return Err(ShardFault::ClockFull);
         };
-        let step = update_step(pid, topic, key, meta)?;
+        let step = Step::update(pid, topic, key, meta)?;
         self.write(seat, step, replaced(&dot, &old))?;
         Ok(dot)
     }
@@ -217,7 +216,7 @@ impl Shard {
         key: &Key,
     ) -> Result<Vec<Dot>, ShardFault>
         ensures step { Stepped self.old self.new seat (Step.Untrack pid topic.now key.now) result }
-        ensures answer { Answers (λ dots. dots.items ≡ dots_of (rows_of_key self.old pid topic.now key.now)) (outcome_of self.old (Step.Untrack pid topic.now key.now)) result }
+        ensures answer { AnswersRowsOfKey self.old pid topic.now key.now result }
         ensures due { IsDue result (refusal true self.old (Step.Untrack pid topic.now key.now)) }
     {
         if self.journal.is_full() {
@@ -228,7 +227,7 @@ impl Shard {
             return Err(ShardFault::ClockFull);
         };
         let dots = dots_of_rows(alloc, &rows)?;
-        let step = untrack_step(pid, topic, key)?;
+        let step = Step::untrack(pid, topic, key)?;
         self.write(seat, step, outcome)?;
         Ok(dots)
     }
@@ -246,7 +245,7 @@ impl Shard {
         topic: &Topic,
     ) -> Result<Vec<Dot>, ShardFault>
         ensures step { Stepped self.old self.new seat (Step.UntrackAll pid topic.now) result }
-        ensures answer { Answers (λ dots. dots.items ≡ dots_of (rows_of_pid self.old pid topic.now)) (outcome_of self.old (Step.UntrackAll pid topic.now)) result }
+        ensures answer { AnswersRowsOfPid self.old pid topic.now result }
         ensures due { IsDue result (refusal true self.old (Step.UntrackAll pid topic.now)) }
     {
         if self.journal.is_full() {
@@ -257,7 +256,7 @@ impl Shard {
             return Err(ShardFault::ClockFull);
         };
         let dots = dots_of_rows(alloc, &rows)?;
-        let step = untrack_all_step(pid, topic)?;
+        let step = Step::untrack_all(pid, topic)?;
         self.write(seat, step, outcome)?;
         Ok(dots)
     }
@@ -273,7 +272,7 @@ impl Shard {
         topic: &Topic,
     ) -> Result<Vec<(Dot, Row)>, ShardFault>
         ensures step { Stepped self.old self.new seat (Step.List topic.now) result }
-        ensures answer { Answers (λ rows. rows.items ≡ listed self.old topic.now) (outcome_of self.old (Step.List topic.now)) result }
+        ensures answer { AnswersListed self.old topic.now result }
         ensures due { IsDue result (refusal true self.old (Step.List topic.now)) }
     {
         if self.journal.is_full() {
@@ -281,7 +280,7 @@ impl Shard {
         }
         let rows = walk_list(alloc, &self.journal, topic)?;
         let dots = dots_of_rows(alloc, &rows)?;
-        let step = list_step(topic)?;
+        let step = Step::list(topic)?;
         self.write(seat, step, Outcome::Shown(Dots::new(dots)))?;
         Ok(rows)
     }
@@ -298,7 +297,7 @@ impl Shard {
         key: &Key,
     ) -> Result<Vec<(Dot, Row)>, ShardFault>
         ensures step { Stepped self.old self.new seat (Step.Get topic.now key.now) result }
-        ensures answer { Answers (λ rows. rows.items ≡ listed_key self.old topic.now key.now) (outcome_of self.old (Step.Get topic.now key.now)) result }
+        ensures answer { AnswersListedKey self.old topic.now key.now result }
         ensures due { IsDue result (refusal true self.old (Step.Get topic.now key.now)) }
     {
         if self.journal.is_full() {
@@ -306,7 +305,7 @@ impl Shard {
         }
         let rows = walk_get(alloc, &self.journal, topic, key)?;
         let dots = dots_of_rows(alloc, &rows)?;
-        let step = get_step(topic, key)?;
+        let step = Step::get(topic, key)?;
         self.write(seat, step, Outcome::Shown(Dots::new(dots)))?;
         Ok(rows)
     }
@@ -330,7 +329,7 @@ impl Shard {
         if self.journal.is_full() {
             return Err(ShardFault::JournalFull);
         }
-        let step = shout_step(topic, payload)?;
+        let step = Step::shout(topic, payload)?;
         self.write(seat, step, Outcome::Sent)
     }
 
@@ -345,14 +344,14 @@ impl Shard {
         topic: &Topic,
     ) -> Result<Sub, ShardFault>
         ensures step { Stepped self.old self.new seat (Step.Subscribe topic.now) result }
-        ensures answer { Answers (λ sub. (sub.number ≡ last_number self.old + 1) × (sub.slot ≡ slot_of sub.number)) (outcome_of self.old (Step.Subscribe topic.now)) result }
+        ensures answer { AnswersSub self.old topic.now result }
         ensures due { IsDue result (refusal true self.old (Step.Subscribe topic.now)) }
     {
         if self.journal.is_full() {
             return Err(ShardFault::JournalFull);
         }
         let number = self.journal.last_number() + 1;
-        let step = subscribe_step(topic)?;
+        let step = Step::subscribe(topic)?;
         self.write(seat, step, Outcome::Subscribed(number))?;
         Ok(Sub { slot: 0, number })
     }
@@ -369,7 +368,7 @@ impl Shard {
     ) -> Result<(), ShardFault>
         ensures step { Stepped self.old self.new seat (Step.Unsubscribe sub.now.number) result }
         ensures answer { Answers (λ _. Unit {0}) (outcome_of self.old (Step.Unsubscribe sub.now.number)) result }
-        ensures due { IsDue result (refusal (is_found self.old sub.now.slot sub.now.number) self.old (Step.Unsubscribe sub.now.number)) }
+        ensures due { IsDue result (refusal_at sub.now.slot sub.now.number self.old (Step.Unsubscribe sub.now.number)) }
     {
         let shard = &*self;
         let Some(_) = shard.topic_of_sub(sub) else {
@@ -417,8 +416,8 @@ impl Shard {
     ) -> Result<Vec<Item>, ShardFault>
         requires { IsTrue (is_take_limit max) }
         ensures step { Stepped self.old self.new seat (Step.Take sub.now.number max) result }
-        ensures answer { Answers (λ items. items.items ≡ items_given self.old sub.now.number max) (outcome_of self.old (Step.Take sub.now.number max)) result }
-        ensures due { IsDue result (refusal (is_found self.old sub.now.slot sub.now.number) self.old (Step.Take sub.now.number max)) }
+        ensures answer { AnswersItems self.old sub.now.number max result }
+        ensures due { IsDue result (refusal_at sub.now.slot sub.now.number self.old (Step.Take sub.now.number max)) }
     {
         let shard = &*self;
         let Some(topic) = shard.topic_of_sub(sub) else {
@@ -428,10 +427,7 @@ impl Shard {
             return Err(ShardFault::JournalFull);
         }
         let (items, outcome) = shard.taken(alloc, sub.number, topic, max)?;
-        let step = Step::Take {
-            subscriber: sub.number,
-            max: TakeLimit::new(max),
-        };
+        let step = Step::take(sub.number, max);
         self.write(seat, step, outcome)?;
         Ok(items)
     }

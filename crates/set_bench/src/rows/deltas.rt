@@ -47,7 +47,7 @@ impl Played for Joined {
     fn tell(&self, alloc: Global) -> Result<String, Fault> {
         let mut text = String::new(alloc);
         match &self.delta {
-            Some(delta) => push_told(&mut text, delta.told())?,
+            Some(delta) => push_told(&mut text, &delta.told(alloc)?)?,
             None => text.push_str("no delta")?,
         }
         Ok(text)

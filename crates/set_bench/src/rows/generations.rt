@@ -23,10 +23,9 @@ impl Pushed {
     }
 }
 
-// Where the delta begins and ends, and how many rows and extras it has.
+// Where the delta begins and ends, and how many rows and older runs it has.
 fn size_of(delta: &Delta) -> (u64, u64, usize) {
-    let told = delta.told();
-    let size = told.live().len().saturating_add(told.extras().len());
+    let size = delta.live().len().saturating_add(delta.older().len());
     (delta.from(), delta.to(), size)
 }
 

@@ -205,7 +205,7 @@ pub fn delta_of(alloc: Global, of: &DeltaOf) -> Result<Delta, Fault>
     ensures to { IfOk result (λ d. d.to ≡ of.now.to) }
 {
     let told = told_delta(alloc, of)?;
-    match Delta::new(told) {
+    match Delta::of_told(alloc, &told)? {
         Some(delta) => Ok(delta),
         None => Err(Fault::NoDelta),
     }

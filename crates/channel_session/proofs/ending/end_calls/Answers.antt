@@ -1,7 +1,13 @@
-use Rattle.std.proofs.Common.{◌≡◌, Some, refl, sym, ap, ◌∙◌, rules}
+use Rattle.std.proofs.Common.{◌≡◌, None, Some, Err, refl, sym, ap, ◌∙◌, rules}
 use Rattle.channel_session_rules.specs.InForce.{InForce, joined_in}
-use Rattle.channel_session.proofs.Endings.{cut_short_gone, cut_short_kept}
+use Rattle.channel_session.specs.Ending.{left_with}
+use Rattle.channel_session.proofs.Endings.{nothing_cut_short, cut_short_gone, cut_short_kept}
 use Rattle.channel_session.proofs.ending.end_calls.Goals as goal
+
+pub returns-in-None-clause-played : goal.returns-in-None-clause-played
+returns-in-None-clause-played g c =
+    let none : c.args.session.now.cut_short ≡ None = search rules in
+    nothing_cut_short _ c.args.session.now _ _ _ _ none c.end_joined.ensures.kept (c.end_joined.ensures.played (left_with c.args.session.now None))
 
 pub returns-in-Ok-clause-played : goal.returns-in-Ok-clause-played
 returns-in-Ok-clause-played g c =
@@ -9,14 +15,18 @@ returns-in-Ok-clause-played g c =
     let failed : c.session.inside.failed ≡ c.args.session.now.failed = ap (λ (x : InForce). x.failed) c.session.view_is in
     let joined : joined_in c.session.inside.topics ≡ c.args.session.now.joined = ap (λ (x : InForce). x.joined) c.session.view_is in
     let inner : c.session.inside.cut_short ≡ Some c.in-Some.topic = search rules in
-    let cut_short : c.args.session.now.cut_short ≡ Some c.in-Some.topic = sym (ap (λ (x : InForce). x.cut_short) c.session.view_is) ∙ inner in
-    cut_short_gone _ c.args.session.now _ cut_short _ pid _ _ _ _ _ _ c.in-Ok.ensures pid failed joined refl c.end_rest-in-Ok.ensures.played
+    let named : c.args.session.now.cut_short ≡ Some c.in-Some.topic = sym (ap (λ (x : InForce). x.cut_short) c.session.view_is) ∙ inner in
+    cut_short_gone _ c.args.session.now _ named _ pid _ pid joined _ _ _ _ _ _ c.in-Ok.ensures failed refl c.end_joined-in-Ok.ensures.kept (c.end_joined-in-Ok.ensures.played (left_with c.args.session.now None))
 
 pub returns-in-Err-clause-played : goal.returns-in-Err-clause-played
 returns-in-Err-clause-played g c =
-    let pid : c.session.inside.pid ≡ c.args.session.now.pid = ap (λ (x : InForce). x.pid) c.session.view_is in
-    let joined : joined_in c.session.inside.topics ≡ c.args.session.now.joined = ap (λ (x : InForce). x.joined) c.session.view_is in
+    let s = c.args.session.now in
+    let pid : c.session.inside.pid ≡ s.pid = ap (λ (x : InForce). x.pid) c.session.view_is in
     let inner : c.session.inside.cut_short ≡ Some c.in-Some.topic = search rules in
-    let held : c.session.inside.cut_short ≡ c.args.session.now.cut_short = ap (λ (x : InForce). x.cut_short) c.session.view_is in
-    let cut_short : c.args.session.now.cut_short ≡ Some c.in-Some.topic = sym held ∙ inner in
-    cut_short_kept _ c.args.session.now _ cut_short _ pid _ _ _ _ c.in-Err.ensures pid refl joined held
+    let named : s.cut_short ≡ Some c.in-Some.topic = sym (ap (λ (x : InForce). x.cut_short) c.session.view_is) ∙ inner in
+    let later = c.end_joined-later.new.session in
+    cut_short_kept _ s _ named _ pid s refl refl _ later _ _ _ _ c.in-Err.ensures
+    (ap (λ (x : InForce). x.pid) c.session-in-Err.view_is ∙ c.end_joined-later.ensures.kept.pid) refl
+    (ap (λ (x : InForce). x.joined) c.session-in-Err.view_is)
+    (ap (λ (x : InForce). x.cut_short) c.session-in-Err.view_is ∙ c.end_joined-later.ensures.kept.cut_short)
+    (c.end_joined-later.ensures.played (λ js b. left_with s (Some c.in-Some.topic) js (Err c.in-Err.fault)))

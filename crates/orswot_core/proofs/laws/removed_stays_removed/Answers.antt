@@ -1,5 +1,8 @@
-use Rattle.orswot_core.proofs.LawFacts.{removed_stays}
+use Rattle.orswot_core.proofs.LawFacts.{removed_stays, removals_heard}
 use Rattle.orswot_core.proofs.laws.removed_stays_removed.Goals as goal
 
-pub returns : goal.returns
-returns c = removed_stays
+pub returns-clause-heard : goal.returns-clause-heard
+returns-clause-heard c = removals_heard
+
+pub returns-clause-stays : goal.returns-clause-stays
+returns-clause-stays c = removed_stays

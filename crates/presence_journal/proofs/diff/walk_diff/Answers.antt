@@ -3,7 +3,7 @@ use Rattle.std.proofs.lemmas.Result.{IfOk-weaker}
 use Rattle.presence_journal.specs.Steps.{Start}
 use Rattle.presence_journal.specs.History.{History, Begin, onto}
 use Rattle.presence_journal.specs.Table.{IsLegal}
-use Rattle.presence_journal.specs.Walk.{diff_at}
+use Rattle.presence_journal.specs.Queue.{diff_at}
 use Rattle.presence_journal.proofs.Diffs.{legal_front, legal_at, diff_at_place}
 use Rattle.presence_journal.proofs.diff.walk_diff.Goals as goal
 

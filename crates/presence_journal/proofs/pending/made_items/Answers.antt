@@ -1,6 +1,6 @@
 use Rattle.std.proofs.Common.{◌++◌, List, ◌∙◌, ap}
-use Rattle.presence_journal.specs.declared.rows.Item.{Item}
-use Rattle.presence_journal.specs.declared.rows.RowDiff.{RowDiff}
+use Rattle.presence_journal_data.specs.declared.rows.Item.{Item}
+use Rattle.presence_journal_data.specs.declared.rows.RowDiff.{RowDiff}
 use Rattle.presence_journal.specs.Queue.{diff_item, shout_item, items_made}
 use Rattle.presence_journal.proofs.pending.made_items.Goals as goal
 

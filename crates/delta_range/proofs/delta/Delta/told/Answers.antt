@@ -1,7 +1,8 @@
-use Rattle.std.proofs.Common.{subst}
-use Rattle.delta_range.specs.Deltas.{IsDelta}
-use Rattle.delta_range.proofs.DeltaFacts.{delta_keeps}
+use Rattle.delta_range.proofs.DeltaFacts.{parts_told}
 use Rattle.delta_range.proofs.delta.Delta.told.Goals as goal
 
-pub returns-clause-delta : goal.returns-clause-delta
-returns-clause-delta c = subst IsDelta c.self.view_is (delta_keeps c.self.inside.told c.self.invariant c.extras-extras.ensures.told)
+pub new-requires : goal.new-requires
+new-requires c =
+    parts_told c.args.self.now c.older.ensures.delta c.in_ok-ranges.ranges.items c.in_ok-extras.extras.items c.in_ok-live.live.items
+    c.owner-owner.result c.from.result c.to.result c.older.result.now c.live.result.now
+    c.in_ok-ranges.ensures c.in_ok-extras.ensures c.in_ok-live.ensures c.owner-owner.ensures c.from.ensures c.to.ensures c.older.ensures.older c.live.ensures.live

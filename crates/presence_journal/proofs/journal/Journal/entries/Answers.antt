@@ -1,6 +1,7 @@
-use Rattle.std.proofs.Common.{◌≡◌, length, arith, sym, ◌∙◌, ap}
+use Rattle.std.proofs.Common.{◌≡◌, length, arith, sym, ◌∙◌, ap, subst}
 use Rattle.presence_journal.specs.Steps.{Start}
 use Rattle.presence_journal.specs.History.{Begin, start_of, onto}
+use Rattle.presence_journal.specs.Table.{IsLegal, AreWithinLimits}
 use Rattle.presence_journal.proofs.HistoryLemmas.{start_of-onto, entries_here}
 use Rattle.presence_journal.proofs.journal.Journal.entries.Goals as goal
 
@@ -14,3 +15,9 @@ pub returns-clause-count : goal.returns-clause-count
 returns-clause-count c =
     let j = c.self.inside in
     omega (arith, entries_here j.start j.entries.items c.args.self.now c.self.view_is, ap length c.as_slice.ensures.value)
+
+pub returns-clause-legal : goal.returns-clause-legal
+returns-clause-legal c = subst IsLegal c.self.view_is c.self.invariant.legal
+
+pub returns-clause-limits : goal.returns-clause-limits
+returns-clause-limits c = subst AreWithinLimits c.self.view_is c.self.invariant.limits

@@ -15,7 +15,7 @@ returns-in-None-clause-number c =
     last_number-none j.start j.entries.items c.args.self.now c.self.view_is (omega (arith, c.in-None.ensures.item.3, ap length c.deref.ensures.value))
 
 pub returns-in-Some-clause-limit : goal.returns-in-Some-clause-limit
-returns-in-Some-clause-limit c = omega (arith, returns-in-Some-clause-number c, last_number-limit c.args.self.now (subst IsLegal c.self.view_is c.self.invariant))
+returns-in-Some-clause-limit c = omega (arith, returns-in-Some-clause-number c, last_number-limit c.args.self.now (subst IsLegal c.self.view_is c.self.invariant.legal))
 
 pub returns-in-None-clause-limit : goal.returns-in-None-clause-limit
-returns-in-None-clause-limit c = omega (arith, returns-in-None-clause-number c, last_number-limit c.args.self.now (subst IsLegal c.self.view_is c.self.invariant))
+returns-in-None-clause-limit c = omega (arith, returns-in-None-clause-number c, last_number-limit c.args.self.now (subst IsLegal c.self.view_is c.self.invariant.legal))

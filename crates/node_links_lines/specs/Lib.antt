@@ -1,0 +1,11 @@
+pub mod Arrays
+pub mod Kinds
+pub mod Limits
+pub mod Members
+pub mod Reading
+pub mod Results
+pub mod RowMembers
+pub mod Telling
+pub mod Told
+pub mod Values
+pub mod Writing

@@ -1,0 +1,120 @@
+-- Which line a text is, or the first thing that is wrong with it.
+use Rattle.std.specs.Prelude.{◌≡◌, ◌≤◌, ◌<◌, ℕ, List, length, true, nat_lt, if◌then◌else◌, Option, Some, None, Result, Ok, Err}
+
+use Rattle.serde_json.specs.Data.{Data, array, Items, no_items, item}
+use Rattle.serde_json.specs.Read.{read}
+use Rattle.presence_base.specs.Names.{guarded}
+use Rattle.node_links_lines.specs.declared.lines.Line.{Line}
+use Rattle.node_links_lines.specs.declared.lines.Line.TheVariants as lines_are
+use Rattle.node_links_lines.specs.declared.lines.LinkFault.{LinkFault}
+use Rattle.node_links_lines.specs.declared.lines.LinkFault.TheVariants.{LineTooLong, NotJson, BadLine, BadTold, OutOfMemory}
+use Rattle.node_links_lines.specs.declared.lines.TheConstants.{MAX_LINE_BYTES, MAX_SHARDS}
+use Rattle.node_links_lines.specs.declared.kinds.Kind.{Kind}
+use Rattle.node_links_lines.specs.declared.kinds.Kind.TheVariants as kinds_are
+use Rattle.node_links_lines.specs.Arrays.{three_in, four_in, five_in, six_in}
+use Rattle.node_links_lines.specs.Limits.{is_within}
+use Rattle.node_links_lines.specs.Kinds.{kind_in}
+use Rattle.node_links_lines.specs.Members.{whole_in, number_in, bound_in, replica_in}
+use Rattle.node_links_lines.specs.Results.{◌>>=◌, or_bad}
+use Rattle.node_links_lines.specs.Told.{told_in, delta_in}
+use Rattle.node_links_lines.specs.Values.{value_of}
+
+-- the number of one of n shards
+abbrev pub below : ℕ → ℕ → Option ℕ
+below n k = guarded (nat_lt k n) k
+
+abbrev pub hello_in : Data → Result Line LinkFault
+hello_in d = do
+  m ← or_bad (four_in d)
+  replica ← or_bad (replica_in m.1 m.2)
+  shards ← or_bad (number_in 1 MAX_SHARDS m.3)
+  Ok (lines_are.Hello replica shards)
+
+abbrev pub shard_in : ℕ → Data → Result ℕ LinkFault
+shard_in n d = do
+  k ← or_bad (whole_in d)
+  or_bad (below n k)
+
+abbrev pub beat_in : ℕ → Data → Result Line LinkFault
+beat_in n d = do
+  m ← or_bad (six_in d)
+  shard ← shard_in n m.1
+  replica ← or_bad (replica_in m.2 m.3)
+  count ← or_bad (bound_in m.4)
+  delta ← delta_in shard n replica m.5
+  Ok (lines_are.Beat shard replica count delta)
+
+abbrev pub want_in : ℕ → Data → Result Line LinkFault
+want_in n d = do
+  m ← or_bad (five_in d)
+  shard ← shard_in n m.1
+  replica ← or_bad (replica_in m.2 m.3)
+  top ← or_bad (bound_in m.4)
+  Ok (lines_are.Want shard replica top)
+
+abbrev pub told_line_in : ℕ → Data → Result Line LinkFault
+told_line_in n d = do
+  m ← or_bad (three_in d)
+  shard ← shard_in n m.1
+  told ← told_in shard n m.2
+  Ok (lines_are.Told shard told)
+
+abbrev pub permdown_in : Data → Result Line LinkFault
+permdown_in d = do
+  m ← or_bad (three_in d)
+  replica ← or_bad (replica_in m.1 m.2)
+  Ok (lines_are.PermDown replica)
+
+abbrev pub gone_in : Data → Result Line LinkFault
+gone_in d = do
+  m ← or_bad (three_in d)
+  replica ← or_bad (replica_in m.1 m.2)
+  Ok (lines_are.Gone replica)
+
+-- `["ok"]` alone
+abbrev pub ok_items : Items → Result Line LinkFault
+ok_items (item d no_items) = Ok lines_are.Ok
+ok_items _ = Err BadLine
+
+abbrev pub ok_in : Data → Result Line LinkFault
+ok_in (array ds) = ok_items ds
+ok_in _ = Err BadLine
+
+abbrev pub line_of_kind : ℕ → Data → Kind → Result Line LinkFault
+line_of_kind n d kinds_are.Hello = hello_in d
+line_of_kind n d kinds_are.Beat = beat_in n d
+line_of_kind n d kinds_are.Want = want_in n d
+line_of_kind n d kinds_are.Told = told_line_in n d
+line_of_kind n d kinds_are.PermDown = permdown_in d
+line_of_kind n d kinds_are.Gone = gone_in d
+line_of_kind n d kinds_are.Ok = ok_in d
+
+-- the line that a JSON value is, at a node with n shards
+abbrev pub line_in : ℕ → Data → Result Line LinkFault
+line_in n d = or_bad (kind_in d) >>= line_of_kind n d
+
+abbrev pub found_value : Option Data → Result Data LinkFault
+found_value None = Err NotJson
+found_value (Some d) = Ok d
+
+abbrev pub value_in : List ℕ → Result Data LinkFault
+value_in s = if nat_lt MAX_LINE_BYTES (length s) then Err LineTooLong else found_value (read s)
+
+-- a fault that a text can have
+abbrev pub IsTextFault : List ℕ → LinkFault → Type 0
+IsTextFault s LineTooLong = MAX_LINE_BYTES < length s
+IsTextFault s NotJson = Unit {0}
+IsTextFault s BadLine = Unit {0}
+IsTextFault s (BadTold f) = Unit {0}
+IsTextFault s OutOfMemory = Unit {0}
+IsTextFault s _ = ⊥
+
+-- the line that a text is, at a node with n shards
+abbrev pub decoded : ℕ → List ℕ → Result Line LinkFault
+decoded n s = value_in s >>= line_in n
+
+-- the text is the line's, which may come to a node with n shards
+pub record IsLine (n : ℕ) (s : List ℕ) (line : Line) : Type 0 where
+  pub within : is_within n line ≡ true
+  pub short : length s ≤ MAX_LINE_BYTES
+  pub reads : read s ≡ Some (value_of line)

@@ -1,0 +1,64 @@
+use orswot_core::{Told, ToldFault};
+use presence_base::Replica;
+use thiserror::Error;
+
+/// The longest line without its line feed, in bytes.
+pub const MAX_LINE_BYTES: usize = 4_194_304;
+
+/// The most shards of a node.
+pub const MAX_SHARDS: u32 = 4;
+
+/// One line of a link.
+///
+/// A replica names a node in one of its lives, a shard is told by its number, and what is told of a
+/// shard's rows has been checked.
+#[derive(Drop)]
+pub enum Line {
+    /// Who speaks, and over how many shards its rows lie.
+    Hello { replica: Replica, shards: u32 },
+    /// The replica is alive, and has used so many counts of the shard. What is new may come along.
+    Beat {
+        shard: u32,
+        replica: Replica,
+        count: u64,
+        delta: Option<Told>,
+    },
+    /// Up to which count the hearer covers the replica's dots, when that isn't all.
+    Want {
+        shard: u32,
+        replica: Replica,
+        top: u64,
+    },
+    /// What is told of a shard.
+    Told { shard: u32, told: Told },
+    /// The replica has ended.
+    PermDown { replica: Replica },
+    /// The replica is gone at the hearer, and never comes back there.
+    Gone { replica: Replica },
+    /// Heard.
+    Ok,
+}
+
+/// Why a link ends, or a line isn't written. Of several reasons for refusing a line the first in
+/// this order is told, and want of memory, which may come at any point, in its place.
+#[derive(Clone, Copy, PartialEq, Eq, Debug, Error)]
+pub enum LinkFault {
+    #[error("the line is too long: 4194304 bytes are allowed")]
+    LineTooLong,
+    #[error("the line is not JSON: one value that nests at most 127 deep is allowed")]
+    NotJson,
+    #[error("the line is none that is allowed here: a member is missing, too many or outside its limits")]
+    BadLine,
+    #[error("the told value is refused: {0}")]
+    BadTold(ToldFault),
+    #[error("the other node has another number of shards")]
+    OtherShards,
+    #[error("reading failed")]
+    ReadFailed,
+    #[error("writing failed")]
+    WriteFailed,
+    #[error("out of memory")]
+    OutOfMemory,
+    #[error("the end came within a line")]
+    CutLine,
+}

@@ -1,0 +1,168 @@
+// The lines, read from JSON values.
+ghost use Rattle.std.specs.Prelude.{◌≡◌, ◌≤◌};
+ghost use Rattle.serde_json.specs.View.{view, items_view};
+ghost use Rattle.node_links_lines.specs.Reading.{shard_in, hello_in, beat_in, want_in, told_line_in, permdown_in, gone_in, ok_items, ok_in, line_of_kind, line_in};
+ghost use Rattle.node_links_lines.specs.Results.{Answers, or_bad as found_or_bad};
+
+use crate::arrays::{five_of, four_of, take_six, take_three, three_of};
+use crate::kinds::{Kind, kind_of};
+use crate::lines::{Line, LinkFault, MAX_SHARDS};
+use crate::members::{bound_of, number_of, replica_of, whole_of};
+use crate::told::{delta_of, told_of};
+use serde_json::Value;
+use std::alloc::Global;
+
+// The number of one of `shards` shards that the value is.
+fn shard_of(value: &Value, shards: u32) -> Result<u32, LinkFault>
+    ensures { result ≡ shard_in shards (view value.now) }
+{
+    match whole_of(value) {
+        Some(n) => {
+            if n < shards as u64 {
+                Ok(n as u32)
+            } else {
+                Err(LinkFault::BadLine)
+            }
+        }
+        None => Err(LinkFault::BadLine),
+    }
+}
+
+// What was found, or that nothing was.
+fn or_bad<T>(found: Option<T>) -> Result<T, LinkFault>
+    ensures { result ≡ found_or_bad found }
+{
+    match found {
+        Some(value) => Ok(value),
+        None => Err(LinkFault::BadLine),
+    }
+}
+
+fn hello_of(alloc: Global, value: &Value) -> Result<Line, LinkFault>
+    ensures { Answers result (hello_in (view value.now)) }
+{
+    let Some((_, name, incarnation, shards)) = four_of(value) else {
+        return Err(LinkFault::BadLine);
+    };
+    let replica = or_bad(replica_of(alloc, name, incarnation))?;
+    let shards = or_bad(number_of(shards, 1, MAX_SHARDS as u64))?;
+    Ok(Line::Hello {
+        replica,
+        shards: shards as u32,
+    })
+}
+
+fn beat_of(alloc: Global, value: Value, shards: u32) -> Result<Line, LinkFault>
+    requires { 1 ≤ shards }
+    ensures { Answers result (beat_in shards (view value)) }
+{
+    let Some((_, shard, name, incarnation, count, delta)) = take_six(value) else {
+        return Err(LinkFault::BadLine);
+    };
+    let shard = shard_of(&shard, shards)?;
+    let replica = or_bad(replica_of(alloc, &name, &incarnation))?;
+    let count = or_bad(bound_of(&count))?;
+    let delta = delta_of(alloc, delta, shard, shards, &replica)?;
+    Ok(Line::Beat {
+        shard,
+        replica,
+        count,
+        delta,
+    })
+}
+
+fn want_of(alloc: Global, value: &Value, shards: u32) -> Result<Line, LinkFault>
+    ensures { Answers result (want_in shards (view value.now)) }
+{
+    let Some((_, shard, name, incarnation, top)) = five_of(value) else {
+        return Err(LinkFault::BadLine);
+    };
+    let shard = shard_of(shard, shards)?;
+    let replica = or_bad(replica_of(alloc, name, incarnation))?;
+    let top = or_bad(bound_of(top))?;
+    Ok(Line::Want {
+        shard,
+        replica,
+        top,
+    })
+}
+
+fn told_line_of(alloc: Global, value: Value, shards: u32) -> Result<Line, LinkFault>
+    requires { 1 ≤ shards }
+    ensures { Answers result (told_line_in shards (view value)) }
+{
+    let Some((_, shard, told)) = take_three(value) else {
+        return Err(LinkFault::BadLine);
+    };
+    let shard = shard_of(&shard, shards)?;
+    let told = told_of(alloc, told, shard, shards)?;
+    Ok(Line::Told { shard, told })
+}
+
+fn permdown_of(alloc: Global, value: &Value) -> Result<Line, LinkFault>
+    ensures { Answers result (permdown_in (view value.now)) }
+{
+    let Some((_, name, incarnation)) = three_of(value) else {
+        return Err(LinkFault::BadLine);
+    };
+    let replica = or_bad(replica_of(alloc, name, incarnation))?;
+    Ok(Line::PermDown { replica })
+}
+
+fn gone_of(alloc: Global, value: &Value) -> Result<Line, LinkFault>
+    ensures { Answers result (gone_in (view value.now)) }
+{
+    let Some((_, name, incarnation)) = three_of(value) else {
+        return Err(LinkFault::BadLine);
+    };
+    let replica = or_bad(replica_of(alloc, name, incarnation))?;
+    Ok(Line::Gone { replica })
+}
+
+fn ok_of_items(items: &[Value]) -> Result<Line, LinkFault>
+    ensures { Answers result (ok_items (items_view items.now)) }
+{
+    if items.len() != 1 {
+        return Err(LinkFault::BadLine);
+    }
+    Ok(Line::Ok)
+}
+
+fn ok_of(value: &Value) -> Result<Line, LinkFault>
+    ensures { Answers result (ok_in (view value.now)) }
+{
+    match value {
+        Value::Array(items) => ok_of_items(items),
+        _ => Err(LinkFault::BadLine),
+    }
+}
+
+// The line of this kind that the value is.
+fn line_of(
+    alloc: Global,
+    kind: Kind,
+    value: Value,
+    shards: u32,
+) -> Result<Line, LinkFault>
+    requires { 1 ≤ shards }
+    ensures { Answers result (line_of_kind shards (view value) kind) }
+{
+    match kind {
+        Kind::Hello => hello_of(alloc, &value),
+        Kind::Beat => beat_of(alloc, value, shards),
+        Kind::Want => want_of(alloc, &value, shards),
+        Kind::Told => told_line_of(alloc, value, shards),
+        Kind::PermDown => permdown_of(alloc, &value),
+        Kind::Gone => gone_of(alloc, &value),
+        Kind::Ok => ok_of(&value),
+    }
+}
+
+// The line that the value is.
+pub(crate) fn line_of_value(alloc: Global, value: Value, shards: u32) -> Result<Line, LinkFault>
+    requires { 1 ≤ shards }
+    ensures { Answers result (line_in shards (view value)) }
+{
+    let kind = or_bad(kind_of(&value))?;
+    line_of(alloc, kind, value, shards)
+}

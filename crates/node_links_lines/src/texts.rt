@@ -1,0 +1,78 @@
+ghost use Rattle.std.specs.Prelude.{◌≡◌, ◌≤◌, ℕ, true, Some, Ok, IfOk, IfErr, string_bytes};
+ghost use Rattle.serde_json.specs.Read.{read};
+ghost use Rattle.serde_json.specs.View.{view};
+ghost use Rattle.node_links_lines.specs.declared.lines.Line.{Line as LineValue};
+ghost use Rattle.node_links_lines.specs.Limits.{is_within};
+ghost use Rattle.node_links_lines.specs.Reading.{IsLine, IsTextFault, value_in, decoded};
+ghost use Rattle.node_links_lines.specs.Results.{Answers, Gives};
+ghost use Rattle.node_links_lines.specs.Values.{value_of};
+ghost use Rattle.node_links_lines.specs.Writing.{text_of, encoded};
+
+use crate::lines::{Line, LinkFault, MAX_LINE_BYTES};
+use crate::reading::line_of_value;
+use crate::values::value_of_line;
+use serde_json::{Category, Value};
+use std::alloc::{AllocError, Global};
+
+// The JSON value that the text is.
+fn value_of_text(alloc: Global, text: &str) -> Result<Value, LinkFault>
+    ensures { Gives view result (value_in text.now) }
+{
+    if text.len() > MAX_LINE_BYTES {
+        return Err(LinkFault::LineTooLong);
+    }
+    match Value::from_str(alloc, text) {
+        Ok(value) => Ok(value),
+        Err(e) => match e.classify() {
+            Category::Memory => Err(LinkFault::OutOfMemory),
+            Category::Syntax | Category::Eof | Category::Data | Category::Io => Err(
+                LinkFault::NotJson,
+            ),
+        },
+    }
+}
+
+fn decode_exactly(alloc: Global, text: &str, shards: u32) -> Result<Line, LinkFault>
+    requires { 1 ≤ shards }
+    ensures { Answers result (decoded shards text.now) }
+{
+    let value = value_of_text(alloc, text)?;
+    line_of_value(alloc, value, shards)
+}
+
+/// The line that a text is at a node with `shards` shards, or the first thing that is wrong with
+/// the text. Want of memory is answered in place of any answer.
+pub fn decode_line(alloc: Global, text: &str, shards: u32) -> Result<Line, LinkFault>
+    requires { 1 ≤ shards }
+    ensures found { IfOk result (IsLine shards text.now) }
+    ensures only { (line : LineValue) → IsLine shards text.now line → Answers result (Ok line) }
+    ensures exact { Answers result (decoded shards text.now) }
+    ensures faults { IfErr result (IsTextFault text.now) }
+{
+    decode_exactly(alloc, text, shards)
+}
+
+// The text of a line, however long.
+fn text_of_line(alloc: Global, line: &Line) -> Result<String, AllocError>
+    ensures text { IfOk result (λ s. string_bytes s ≡ text_of line.now) }
+    ensures reads { IfOk result (λ s. read (string_bytes s) ≡ Some (value_of line.now)) }
+{
+    let value = value_of_line(alloc, line)?;
+    value.to_string(alloc)
+}
+
+/// The text of a line: its array without spaces. A text that is too long for a line is refused, and
+/// a line that `decode_line` would refuse is written too.
+pub fn encode_line(alloc: Global, line: &Line) -> Result<String, LinkFault>
+    ensures exact { Gives string_bytes result (encoded line.now) }
+    ensures again { IfOk result (λ s. (n : ℕ) → is_within n line.now ≡ true
+        → decoded n (string_bytes s) ≡ Ok line.now) }
+{
+    let Ok(text) = text_of_line(alloc, line) else {
+        return Err(LinkFault::OutOfMemory);
+    };
+    if text.len() > MAX_LINE_BYTES {
+        return Err(LinkFault::LineTooLong);
+    }
+    Ok(text)
+}

@@ -1,0 +1,88 @@
+-- What is wrong with a told value: the first fault, in order.
+use Rattle.std.specs.Prelude.{◌≡◌, ℕ, ◌+◌, Bool, true, false, cond, not, ◌&&◌, ◌||◌, nat_lt, nat_le, List, [], ◌∷◌, length, map, Option, Some, None, Result, Ok, Err, Vec}
+use Rattle.std.specs.List.{list_any, list_all}
+use Rattle.presence_base.specs.declared.dots.Replica.{Replica}
+use Rattle.presence_base.specs.declared.dots.Dot.{Dot}
+use Rattle.presence_base.specs.declared.row.Row.{Row}
+use Rattle.presence_base.specs.Order.{same_replica, same_dot}
+use Rattle.orswot_core_told.specs.declared.told.TheConstants.{MAX_ROWS}
+use Rattle.orswot_core_told.specs.declared.told.ToldFault.{ToldFault}
+use Rattle.orswot_core_told.specs.declared.told.ToldFault.TheVariants.{TooMany, TwoRanges, BadRange, RowLimits, LiveNotCovered, LiveTwice, OutOfMemory}
+use Rattle.orswot_core_told.specs.Limits.{is_dot, is_row, are_texts, is_on_shard, is_range}
+use Rattle.orswot_core_told.specs.Telling.{Range, ToldValue, covers}
+
+abbrev pub is_too_many : ToldValue → Bool
+is_too_many t = nat_lt MAX_ROWS (length t.extras + length t.live)
+
+abbrev pub LimitOfRows : Type 0
+LimitOfRows = MAX_ROWS ≡ 65536
+
+-- whether one stands twice in the list
+abbrev pub has_repeat : {A : Type 0} → (A → A → Bool) → List A → Bool
+has_repeat same [] = false
+has_repeat same (x ∷ xs) = list_any (same x) xs || has_repeat same xs
+
+abbrev pub replicas_of : List Range → List Replica
+replicas_of gs = map (λ g. g.0) gs
+
+abbrev pub dots_of : List (Dot × Row) → List Dot
+dots_of xs = map (λ x. x.0) xs
+
+abbrev pub has_two_ranges : ToldValue → Bool
+has_two_ranges t = has_repeat same_replica (replicas_of t.ranges)
+
+-- a range that is empty or runs upwards
+abbrev pub is_forward : Range → Bool
+is_forward g = nat_le g.1 g.2
+
+abbrev pub are_forward : ToldValue → Bool
+are_forward t = list_all is_forward t.ranges
+
+-- a row that was not checked yet, for this one of n shards
+abbrev pub is_raw_row : ℕ → ℕ → Dot × Row → Bool
+is_raw_row shard n x = is_dot x.0 && (is_row x.1 && (are_texts x.1 && is_on_shard shard n x.1))
+
+abbrev pub are_limited : ℕ → ℕ → ToldValue → Bool
+are_limited shard n t = list_all is_range t.ranges && (list_all is_dot t.extras && list_all (is_raw_row shard n) t.live)
+
+abbrev pub are_live_covered : ToldValue → Bool
+are_live_covered t = list_all (λ x. covers t x.0) t.live
+
+abbrev pub has_live_twice : ToldValue → Bool
+has_live_twice t = has_repeat same_dot (dots_of t.live)
+
+-- the first fault for this one of n shards, memory aside
+abbrev pub first_fault : ℕ → ℕ → ToldValue → Option ToldFault
+first_fault shard n t =
+    cond (is_too_many t) (Some TooMany)
+    (cond (has_two_ranges t) (Some TwoRanges)
+    (cond (not (are_forward t)) (Some BadRange)
+    (cond (not (are_limited shard n t)) (Some RowLimits)
+    (cond (not (are_live_covered t)) (Some LiveNotCovered)
+    (cond (has_live_twice t) (Some LiveTwice)
+    None)))))
+
+-- the fault is the first one, or memory ran out
+abbrev pub IsFault : ToldFault → Option ToldFault → Type 0
+IsFault OutOfMemory first = Unit {0}
+IsFault f first = first ≡ Some f
+
+-- the same value exactly where it has no fault
+abbrev pub IsAnswer : Result ToldValue ToldFault → ToldValue → Option ToldFault → Type 0
+IsAnswer (Ok t) raw first = (first ≡ None) × (t ≡ raw)
+IsAnswer (Err f) raw first = IsFault f first
+
+-- what every told value keeps, whatever its shard and its size
+pub record IsTold (t : ToldValue) : Type 0 where
+  pub one_range : has_two_ranges t ≡ false
+  pub forward : are_forward t ≡ true
+  pub ranges : list_all is_range t.ranges ≡ true
+  pub extras : list_all is_dot t.extras ≡ true
+  pub rows : list_all (λ x. is_dot x.0 && is_row x.1) t.live ≡ true
+  pub covered : are_live_covered t ≡ true
+  pub once : has_live_twice t ≡ false
+
+-- the rows, where all are within their limits
+abbrev pub AreRows : {A : Type 0} → Result (Vec (Dot × Row) A) ToldFault → List (Dot × Row) → Bool → Type 0
+AreRows (Ok rows) raw limited = (limited ≡ true) × (rows.items ≡ raw)
+AreRows (Err f) raw limited = IsFault f (cond (not limited) (Some RowLimits) None)

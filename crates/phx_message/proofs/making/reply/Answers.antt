@@ -1,0 +1,5 @@
+use Rattle.std.proofs.Common.{rules}
+use Rattle.phx_message.proofs.making.reply.Goals as goal
+
+pub returns : goal.returns
+returns c = search rules

@@ -1,0 +1,14 @@
+//! What a shard's journal is made of: steps, what they came to, entries, and rows as lists.
+//!
+//! Its contracts cite `specs/Limits` and `specs/StepLimits`: what a step may hold.
+#![tactic(auto)]
+
+mod entry;
+mod limits;
+mod rows;
+mod step;
+
+pub use entry::{Dots, Entry, Outcome, Start};
+pub use limits::{MAX_PAYLOAD_DEPTH, MAX_TAKEN, Payload, TakeLimit};
+pub use rows::{Item, Place, RowDiff, Rows};
+pub use step::Step;

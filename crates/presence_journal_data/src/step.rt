@@ -1,0 +1,201 @@
+use crate::limits::{Payload, TakeLimit};
+use presence_base::{Json, Key, Meta, Topic};
+use std::alloc::AllocError;
+
+/// What is asked of a shard. A `pid` names the session that asks; a subscriber is named by the
+/// number of the entry that made it.
+#[derive(Debug, Drop)]
+pub enum Step {
+    Track {
+        pid: u64,
+        topic: Topic,
+        key: Key,
+        meta: Meta,
+    },
+    Update {
+        pid: u64,
+        topic: Topic,
+        key: Key,
+        meta: Meta,
+    },
+    Untrack {
+        pid: u64,
+        topic: Topic,
+        key: Key,
+    },
+    UntrackAll {
+        pid: u64,
+        topic: Topic,
+    },
+    List {
+        topic: Topic,
+    },
+    Get {
+        topic: Topic,
+        key: Key,
+    },
+    Subscribe {
+        topic: Topic,
+    },
+    Take {
+        subscriber: u64,
+        max: TakeLimit,
+    },
+    Unsubscribe {
+        subscriber: u64,
+    },
+    Shout {
+        topic: Topic,
+        payload: Payload,
+    },
+}
+
+// Each of these makes a step of what a caller lends, and reads a text or a value only to show its limits.
+impl Step {
+    ghost use Rattle.std.specs.Prelude.{◌≡◌, ◌^◌, true, nat_le, IfOk, IsTrue};
+    ghost use Rattle.presence_journal_data.specs.Limits.{is_payload, is_take_limit};
+    ghost use Rattle.presence_journal_data.specs.StepLimits.{is_within_limits};
+
+    /// A track of a key.
+    pub fn track(pid: u64, topic: &Topic, key: &Key, meta: &Meta) -> Result<Step, AllocError>
+        ensures step { IfOk result (λ s. s ≡ Step.Track pid topic.now key.now meta.now) }
+        ensures limits { IfOk result (λ s. is_within_limits s ≡ nat_le pid (2 ^ 62)) }
+    {
+        let (_topic, _key, _meta) = (topic.as_str(), key.as_str(), meta.as_value());
+        let topic = topic.clone()?;
+        let key = key.clone()?;
+        let meta = meta.clone()?;
+        Ok(Step::Track {
+            pid,
+            topic,
+            key,
+            meta,
+        })
+    }
+
+    /// An update of what a session tells under a key.
+    pub fn update(pid: u64, topic: &Topic, key: &Key, meta: &Meta) -> Result<Step, AllocError>
+        ensures step { IfOk result (λ s. s ≡ Step.Update pid topic.now key.now meta.now) }
+        ensures limits { IfOk result (λ s. is_within_limits s ≡ nat_le pid (2 ^ 62)) }
+    {
+        let (_topic, _key, _meta) = (topic.as_str(), key.as_str(), meta.as_value());
+        let topic = topic.clone()?;
+        let key = key.clone()?;
+        let meta = meta.clone()?;
+        Ok(Step::Update {
+            pid,
+            topic,
+            key,
+            meta,
+        })
+    }
+
+    /// An untrack of a key.
+    pub fn untrack(pid: u64, topic: &Topic, key: &Key) -> Result<Step, AllocError>
+        ensures step { IfOk result (λ s. s ≡ Step.Untrack pid topic.now key.now) }
+        ensures limits { IfOk result (λ s. is_within_limits s ≡ true) }
+    {
+        let (_topic, _key) = (topic.as_str(), key.as_str());
+        let topic = topic.clone()?;
+        let key = key.clone()?;
+        Ok(Step::Untrack { pid, topic, key })
+    }
+
+    /// An untrack of all keys of a session.
+    pub fn untrack_all(pid: u64, topic: &Topic) -> Result<Step, AllocError>
+        ensures step { IfOk result (λ s. s ≡ Step.UntrackAll pid topic.now) }
+        ensures limits { IfOk result (λ s. is_within_limits s ≡ true) }
+    {
+        let _topic = topic.as_str();
+        let topic = topic.clone()?;
+        Ok(Step::UntrackAll { pid, topic })
+    }
+
+    /// A list of a topic's rows.
+    pub fn list(topic: &Topic) -> Result<Step, AllocError>
+        ensures step { IfOk result (λ s. s ≡ Step.List topic.now) }
+        ensures limits { IfOk result (λ s. is_within_limits s ≡ true) }
+    {
+        let _topic = topic.as_str();
+        let topic = topic.clone()?;
+        Ok(Step::List { topic })
+    }
+
+    /// A list of the rows under a key.
+    pub fn get(topic: &Topic, key: &Key) -> Result<Step, AllocError>
+        ensures step { IfOk result (λ s. s ≡ Step.Get topic.now key.now) }
+        ensures limits { IfOk result (λ s. is_within_limits s ≡ true) }
+    {
+        let (_topic, _key) = (topic.as_str(), key.as_str());
+        let topic = topic.clone()?;
+        let key = key.clone()?;
+        Ok(Step::Get { topic, key })
+    }
+
+    /// A new subscriber of a topic.
+    pub fn subscribe(topic: &Topic) -> Result<Step, AllocError>
+        ensures step { IfOk result (λ s. s ≡ Step.Subscribe topic.now) }
+        ensures limits { IfOk result (λ s. is_within_limits s ≡ true) }
+    {
+        let _topic = topic.as_str();
+        let topic = topic.clone()?;
+        Ok(Step::Subscribe { topic })
+    }
+
+    /// A take of at most so many items.
+    pub fn take(subscriber: u64, max: u32) -> Step
+        requires { IsTrue (is_take_limit max) }
+        ensures step { result ≡ Step.Take subscriber max }
+        ensures limits { is_within_limits result ≡ true }
+    {
+        Step::Take {
+            subscriber,
+            max: TakeLimit::new(max),
+        }
+    }
+
+    /// A shout to a topic's subscribers.
+    pub fn shout(topic: &Topic, payload: &Json) -> Result<Step, AllocError>
+        requires { IsTrue (is_payload payload.now) }
+        ensures step { IfOk result (λ s. s ≡ Step.Shout topic.now payload.now) }
+        ensures limits { IfOk result (λ s. is_within_limits s ≡ true) }
+    {
+        let _topic = topic.as_str();
+        let topic = topic.clone()?;
+        let payload = Payload::new(payload.clone()?);
+        Ok(Step::Shout { topic, payload })
+    }
+}
+
+impl Clone for Step {
+    ghost use Rattle.std.specs.Prelude.{◌≡◌};
+
+    ghost is_clone = { λ s t. t ≡ s };
+
+    fn clone(&self) -> Result<Step, AllocError> {
+        match self {
+            Step::Track {
+                pid,
+                topic,
+                key,
+                meta,
+            } => Step::track(*pid, topic, key, meta),
+            Step::Update {
+                pid,
+                topic,
+                key,
+                meta,
+            } => Step::update(*pid, topic, key, meta),
+            Step::Untrack { pid, topic, key } => Step::untrack(*pid, topic, key),
+            Step::UntrackAll { pid, topic } => Step::untrack_all(*pid, topic),
+            Step::List { topic } => Step::list(topic),
+            Step::Get { topic, key } => Step::get(topic, key),
+            Step::Subscribe { topic } => Step::subscribe(topic),
+            Step::Take { subscriber, max } => Ok(Step::take(*subscriber, max.get())),
+            Step::Unsubscribe { subscriber } => Ok(Step::Unsubscribe {
+                subscriber: *subscriber,
+            }),
+            Step::Shout { topic, payload } => Step::shout(topic, payload.as_json()),
+        }
+    }
+}

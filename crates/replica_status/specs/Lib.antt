@@ -1,0 +1,4 @@
+pub mod Table
+pub mod Boards
+pub mod Laws
+pub mod Replicas

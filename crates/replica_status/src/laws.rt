@@ -1,0 +1,12 @@
+//! What holds of every board.
+ghost use Rattle.replica_status.specs.Laws.{BoardFollowsTable, GoneStaysGone};
+
+/// What a step makes of the standing of each replica is what the table makes of it.
+pub fn board_follows_the_table()
+    ensures { BoardFollowsTable }
+{}
+
+/// A replica that is gone stays gone, whatever is heard of it and whatever time passes.
+pub fn gone_stays_gone()
+    ensures { GoneStaysGone }
+{}

@@ -1,0 +1,351 @@
+ghost use Rattle.std.specs.Prelude.{◌≡◌, ◌≤◌, ◌^◌, true, IfOk};
+ghost use Rattle.orswot_core.specs.Limits.{is_dot, is_row};
+
+use orswot_core::{Orswot, RawRow, RawTold, Told};
+use presence_base::{Dot, Key, Meta, NodeName, Replica, Row, Topic};
+use serde_json::{Map, Value};
+use std::alloc::{AllocError, Global};
+use std::test::Fail;
+
+// The replica `b`, incarnation 1.
+pub(crate) fn replica(alloc: Global) -> Result<Replica, Fail>
+    ensures { IfOk result (λ r. r.incarnation ≡ 1) }
+{
+    match NodeName::new(alloc, "b")? {
+        Some(name) => Ok(Replica {
+            name,
+            incarnation: 1,
+        }),
+        None => Err(Fail::new("no name")),
+    }
+}
+
+fn dot(alloc: Global, count: u64) -> Result<Dot, Fail>
+    requires { (1 ≤ count) × (count ≤ 2 ^ 62) }
+    ensures { IfOk result (λ d. is_dot d ≡ true) }
+{
+    Ok(Dot {
+        replica: replica(alloc)?,
+        count,
+    })
+}
+
+pub(crate) fn raw_row(alloc: Global, count: u64, key: &str) -> Result<(Dot, RawRow), Fail>
+    requires { (1 ≤ count) × (count ≤ 2 ^ 62) }
+{
+    let raw = RawRow {
+        topic: String::from_str(alloc, "room:a")?,
+        key: String::from_str(alloc, key)?,
+        pid: 5,
+        meta: Value::Object(Map::new(alloc)),
+        prev: None,
+    };
+    Ok((dot(alloc, count)?, raw))
+}
+
+fn row(alloc: Global, key: &str) -> Result<Row, Fail>
+    ensures { IfOk result (λ r. is_row r ≡ true) }
+{
+    let Some(topic) = Topic::new(alloc, "room:a")? else {
+        return Err(Fail::new("no topic"));
+    };
+    let Some(key) = Key::new(alloc, key)? else {
+        return Err(Fail::new("no key"));
+    };
+    let Some(meta) = Meta::new(alloc, Value::Object(Map::new(alloc)))? else {
+        return Err(Fail::new("no meta"));
+    };
+    Ok(Row {
+        topic,
+        key,
+        pid: 5,
+        meta,
+        prev: None,
+    })
+}
+
+pub(crate) fn empty(alloc: Global) -> RawTold {
+    RawTold {
+        ranges: Vec::new(alloc),
+        extras: Vec::new(alloc),
+        live: Vec::new(alloc),
+    }
+}
+
+fn told(alloc: Global, raw: RawTold) -> Result<Told, Fail> {
+    match Told::check(alloc, raw, 0, 2) {
+        Ok(told) => Ok(told),
+        Err(fault) => Err(Fail::new(fault)),
+    }
+}
+
+// The range up to 2 with the rows `b.1.1` and `b.1.2`.
+fn first_two(alloc: Global) -> Result<Told, Fail> {
+    let mut raw = empty(alloc);
+    raw.ranges.push((replica(alloc)?, 0, 2))?;
+    raw.live.push(raw_row(alloc, 1, "u2")?)?;
+    raw.live.push(raw_row(alloc, 2, "u3")?)?;
+    told(alloc, raw)
+}
+
+// The range up to one count, in which `b.1.1` is live.
+fn first_one(alloc: Global) -> Result<Told, Fail> {
+    let mut raw = empty(alloc);
+    raw.ranges.push((replica(alloc)?, 0, 1))?;
+    raw.live.push(raw_row(alloc, 1, "u2")?)?;
+    told(alloc, raw)
+}
+
+// A range of one count that removed `b.1.1`.
+fn removing(alloc: Global, count: u64) -> Result<Told, Fail>
+    requires { (1 ≤ count) × (count ≤ 2 ^ 62) }
+{
+    let mut raw = empty(alloc);
+    raw.ranges.push((replica(alloc)?, count - 1, count))?;
+    raw.extras.push(dot(alloc, 1)?)?;
+    told(alloc, raw)
+}
+
+// Whether these ranges, extras and live rows of `b.1` are told, in this order, and nothing else.
+fn lists(told: &Told, ranges: &[(u64, u64)], extras: &[u64], live: &[u64]) -> bool {
+    told.ranges().len() == ranges.len()
+        && told.extras().len() == extras.len()
+        && told.live().len() == live.len()
+        && has_ranges(told, ranges)
+        && has_extras(told, extras)
+        && has_live(told, live)
+}
+
+fn has_ranges(told: &Told, ranges: &[(u64, u64)]) -> bool {
+    told.ranges()
+        .iter()
+        .zip(ranges)
+        .all(|(range, ends)| range.1 == ends.0 && range.2 == ends.1)
+}
+
+fn has_extras(told: &Told, extras: &[u64]) -> bool {
+    told.extras()
+        .iter()
+        .zip(extras)
+        .all(|(dot, count)| dot.count == *count)
+}
+
+fn has_live(told: &Told, live: &[u64]) -> bool {
+    told.live()
+        .iter()
+        .zip(live)
+        .all(|(row, count)| row.0.count == *count)
+}
+
+// Whether the set tells these.
+fn tells(
+    alloc: Global,
+    set: &Orswot,
+    ranges: &[(u64, u64)],
+    extras: &[u64],
+    live: &[u64],
+) -> Result<bool, AllocError> {
+    let told = set.told(alloc)?;
+    Ok(lists(&told, ranges, extras, live))
+}
+
+// The set that hears these in turn.
+fn hears(alloc: Global, first: &Told, second: &Told) -> Result<Orswot, AllocError> {
+    let mut set = Orswot::new(alloc);
+    set.join(alloc, first)?;
+    set.join(alloc, second)?;
+    Ok(set)
+}
+
+// The set after the second of two deltas alone, which leaves a gap.
+fn with_gap(alloc: Global) -> Result<Orswot, Fail> {
+    let last = removing(alloc, 3)?;
+    let mut set = Orswot::new(alloc);
+    set.join(alloc, &last)?;
+    Ok(set)
+}
+
+// The set after both, the second one first.
+fn after_gap(alloc: Global) -> Result<Orswot, Fail> {
+    let last = removing(alloc, 3)?;
+    let first = first_two(alloc)?;
+    Ok(hears(alloc, &last, &first)?)
+}
+
+// Whether the range up to 3 is told with the row `b.1.2` and nothing else.
+fn is_filled(alloc: Global, set: &Orswot) -> Result<bool, AllocError> {
+    tells(alloc, set, &[(0, 3)], &[], &[2])
+}
+
+// What the set answers of one dot: its replica's top, whether it is covered, and whether it has a row.
+fn asked(alloc: Global, set: &Orswot, count: u64) -> Result<(u64, bool, bool), Fail>
+    requires { (1 ≤ count) × (count ≤ 2 ^ 62) }
+{
+    let at = dot(alloc, count)?;
+    Ok((
+        set.top(&at.replica),
+        set.covers(&at),
+        set.row(&at).is_some(),
+    ))
+}
+
+#[test]
+fn a_gap_is_not_known(rt: HostRuntime) -> Result<(), Fail> {
+    let alloc = rt.alloc();
+    let set = with_gap(alloc)?;
+    assert!(rt; asked(alloc, &set, 2)? == (1, false, false));
+    assert!(rt; asked(alloc, &set, 3)? == (1, true, false));
+    assert!(rt; tells(alloc, &set, &[(0, 1)], &[3], &[])?);
+    Ok(())
+}
+
+#[test]
+fn a_late_gap_fills(rt: HostRuntime) -> Result<(), Fail> {
+    let alloc = rt.alloc();
+    let set = after_gap(alloc)?;
+    assert!(rt; asked(alloc, &set, 1)? == (3, true, false));
+    assert!(rt; asked(alloc, &set, 2)? == (3, true, true));
+    assert!(rt; is_filled(alloc, &set)?);
+    Ok(())
+}
+
+// Tells the set whole to an empty one, and clones what was told on the way.
+fn retold(alloc: Global, set: &Orswot) -> Result<Orswot, Fail> {
+    let told = set.told(alloc)?;
+    let copy = told.clone()?;
+    Ok(hears(alloc, &copy, &told)?)
+}
+
+#[test]
+fn a_set_told_whole_is_the_set(rt: HostRuntime) -> Result<(), Fail> {
+    let alloc = rt.alloc();
+    let set = after_gap(alloc)?;
+    let other = retold(alloc, &set)?;
+    assert!(rt; is_filled(alloc, &other)?);
+    Ok(())
+}
+
+// The extras `b.1.4` and `b.1.3`.
+fn cloud_alone(alloc: Global) -> Result<Told, Fail> {
+    let mut raw = empty(alloc);
+    raw.extras.push(dot(alloc, 4)?)?;
+    raw.extras.push(dot(alloc, 3)?)?;
+    told(alloc, raw)
+}
+
+#[test]
+fn a_cloud_alone_is_told_with_an_empty_range(rt: HostRuntime) -> Result<(), Fail> {
+    let alloc = rt.alloc();
+    let cloud = cloud_alone(alloc)?;
+    let set = hears(alloc, &cloud, &cloud)?;
+    assert!(rt; tells(alloc, &set, &[(0, 0)], &[3, 4], &[])?);
+    Ok(())
+}
+
+#[test]
+fn an_empty_set_tells_nothing(rt: HostRuntime) -> Result<(), Fail> {
+    let alloc = rt.alloc();
+    let set = Orswot::new(alloc);
+    assert!(rt; tells(alloc, &set, &[], &[], &[])?);
+    Ok(())
+}
+
+#[test]
+fn deltas_in_order_end_the_same(rt: HostRuntime) -> Result<(), Fail> {
+    let alloc = rt.alloc();
+    let first = first_two(alloc)?;
+    let last = removing(alloc, 3)?;
+    let set = hears(alloc, &first, &last)?;
+    assert!(rt; is_filled(alloc, &set)?);
+    Ok(())
+}
+
+#[test]
+fn a_repeated_delta_restores_nothing(rt: HostRuntime) -> Result<(), Fail> {
+    let alloc = rt.alloc();
+    let first = first_one(alloc)?;
+    let second = removing(alloc, 2)?;
+    let mut set = hears(alloc, &second, &first)?;
+    assert!(rt; tells(alloc, &set, &[(0, 2)], &[], &[])?);
+    set.join(alloc, &first)?;
+    assert!(rt; tells(alloc, &set, &[(0, 2)], &[], &[])?);
+    Ok(())
+}
+
+#[test]
+fn sets_join_either_way(rt: HostRuntime) -> Result<(), Fail> {
+    let alloc = rt.alloc();
+    let mut one = with_gap(alloc)?;
+    let mut both = after_gap(alloc)?;
+    both.join_all(alloc, &one)?;
+    assert!(rt; is_filled(alloc, &both)?);
+    one.join_all(alloc, &both)?;
+    assert!(rt; is_filled(alloc, &one)?);
+    Ok(())
+}
+
+#[test]
+fn a_forgotten_replica_is_not_told(rt: HostRuntime) -> Result<(), Fail> {
+    let alloc = rt.alloc();
+    let b = replica(alloc)?;
+    let mut set = after_gap(alloc)?;
+    set.forget(&b);
+    assert!(rt; asked(alloc, &set, 2)? == (0, false, false));
+    assert!(rt; tells(alloc, &set, &[], &[], &[])?);
+    Ok(())
+}
+
+// The set with the row `b.1.1` alone.
+fn with_one(alloc: Global) -> Result<Orswot, Fail> {
+    let one = dot(alloc, 1)?;
+    let row = row(alloc, "u1")?;
+    let mut set = Orswot::new(alloc);
+    if !set.covers(&one) {
+        set.add(alloc, one, row)?;
+    }
+    Ok(set)
+}
+
+#[test]
+fn a_removal_covers_its_event(rt: HostRuntime) -> Result<(), Fail> {
+    let alloc = rt.alloc();
+    let event = dot(alloc, 2)?;
+    let gone = [dot(alloc, 1)?];
+    let mut set = with_one(alloc)?;
+    assert!(rt; tells(alloc, &set, &[(0, 1)], &[], &[1])?);
+    set.remove(alloc, &gone, event)?;
+    assert!(rt; tells(alloc, &set, &[(0, 2)], &[], &[])?);
+    Ok(())
+}
+
+fn add_row(alloc: Global, set: &mut Orswot, count: u64) -> Result<(), Fail>
+    requires { (1 ≤ count) × (count ≤ 2 ^ 62) }
+{
+    let at = dot(alloc, count)?;
+    let row = row(alloc, "u1")?;
+    if !set.covers(&at) {
+        set.add(alloc, at, row)?;
+    }
+    Ok(())
+}
+
+// What a set tells of the rows `b.1.1` up to one count.
+fn told_rows(alloc: Global, rows: u64) -> Result<Told, Fail>
+    requires { rows ≤ 2 ^ 32 }
+{
+    let mut set = Orswot::new(alloc);
+    for row in 0..rows {
+        add_row(alloc, &mut set, row + 1)?;
+    }
+    Ok(set.told(alloc)?)
+}
+
+#[test]
+fn more_rows_than_may_come_in_are_told(rt: HostRuntime) -> Result<(), Fail> {
+    let alloc = rt.alloc();
+    let told = told_rows(alloc, 65_537)?;
+    assert_eq!(rt; told.live().len(), 65_537);
+    assert!(rt; has_ranges(&told, &[(0, 65_537)]));
+    assert!(rt; told.extras().is_empty());
+    Ok(())
+}

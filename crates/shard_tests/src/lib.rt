@@ -1,0 +1,9 @@
+//! Tests of a shard and its journal, by their public calls.
+#![tactic(auto)]
+
+#[cfg(test)]
+mod calls;
+#[cfg(test)]
+mod desk;
+#[cfg(test)]
+mod journal;
