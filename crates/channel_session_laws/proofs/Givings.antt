@@ -5,11 +5,11 @@ use Rattle.phx_message.specs.declared.message.Message.{Message}
 use Rattle.phx_message.specs.declared.message.MsgRef.{MsgRef}
 use Rattle.presence_base.specs.declared.dots.Dot.{Dot}
 use Rattle.presence_base.specs.declared.row.Row.{Row}
-use Rattle.presence_journal.specs.declared.entry.Outcome.{Outcome}
-use Rattle.presence_journal.specs.declared.entry.Outcome.TheVariants as outcomes_are
-use Rattle.presence_journal.specs.declared.rows.Item.{Item}
-use Rattle.presence_journal.specs.declared.step.Step.{Step}
-use Rattle.presence_journal.specs.declared.step.Step.TheVariants as steps_are
+use Rattle.presence_journal_data.specs.declared.entry.Outcome.{Outcome}
+use Rattle.presence_journal_data.specs.declared.entry.Outcome.TheVariants as outcomes_are
+use Rattle.presence_journal_data.specs.declared.rows.Item.{Item}
+use Rattle.presence_journal_data.specs.declared.step.Step.{Step}
+use Rattle.presence_journal_data.specs.declared.step.Step.TheVariants as steps_are
 use Rattle.presence_journal.specs.History.{History, Begin, Then}
 use Rattle.presence_journal.specs.Present.{listed}
 use Rattle.presence_journal.specs.Queue.{Waiting, Behind, Queued, queue, topic_of, listed_for, given, took, taken, taken_after, items_given, is_waiting}

@@ -2,7 +2,7 @@
 use Rattle.std.proofs.Common.{◌≡◌, ℕ, List, [], ◌∷◌, ◌-◌, Bool, true, false, not, ◌||◌, if◌then◌else◌, nat_le, length, Option, Some, None, Result, Ok, Err, refl}
 use Rattle.serde_json.specs.Data.{Data}
 use Rattle.presence_base.specs.declared.dots.Dot.{Dot}
-use Rattle.presence_journal.specs.declared.rows.Item.{Item}
+use Rattle.presence_journal_data.specs.declared.rows.Item.{Item}
 use Rattle.phx_message.specs.declared.message.MsgRef.{MsgRef}
 use Rattle.phx_message.specs.declared.message.Message.{Message}
 use Rattle.phx_message.specs.Making.{closing}

@@ -7,10 +7,10 @@ use Rattle.std.proofs.lemmas.Option.{same_Some}
 use Rattle.serde_json.specs.Data.{Data}
 use Rattle.presence_base.specs.Order.{same_text}
 use Rattle.phx_message.specs.declared.message.Message.{Message}
-use Rattle.presence_journal.specs.declared.rows.Item.{Item}
-use Rattle.presence_journal.specs.declared.step.Step.{Step}
-use Rattle.presence_journal.specs.declared.step.Step.TheVariants as steps_are
-use Rattle.presence_journal.specs.declared.entry.Outcome.TheVariants as outcomes_are
+use Rattle.presence_journal_data.specs.declared.rows.Item.{Item}
+use Rattle.presence_journal_data.specs.declared.step.Step.{Step}
+use Rattle.presence_journal_data.specs.declared.step.Step.TheVariants as steps_are
+use Rattle.presence_journal_data.specs.declared.entry.Outcome.TheVariants as outcomes_are
 use Rattle.presence_journal.specs.History.{History, Then, last_number, is_full}
 use Rattle.presence_journal.specs.Queue.{Waiting, Behind, Queued, topic_of, queue, taken, made_for, push_items}
 use Rattle.presence_journal.specs.Table.{IsLegal, next_entry, after, outcome_of, is_step}

@@ -6,8 +6,8 @@ use Rattle.presence_base.specs.Names.{is_short_text}
 use Rattle.presence_base.specs.Order.{same_text}
 use Rattle.phx_message.specs.declared.message.Message.{Message}
 use Rattle.phx_message.specs.declared.message.MsgRef.{MsgRef}
-use Rattle.presence_journal.specs.declared.rows.Item.{Item}
-use Rattle.presence_journal.specs.declared.step.Step.TheVariants as steps_are
+use Rattle.presence_journal_data.specs.declared.rows.Item.{Item}
+use Rattle.presence_journal_data.specs.declared.step.Step.TheVariants as steps_are
 use Rattle.presence_journal.specs.History.{History}
 use Rattle.presence_journal.specs.Queue.{Waiting, Behind, Queued, topic_of, queue, taken, is_waiting, listed_for}
 use Rattle.presence_journal.specs.Table.{IsLegal, after}

@@ -4,11 +4,11 @@ use Rattle.std.specs.Prelude.{nat_eq}
 use Rattle.std.proofs.lemmas.Bool.{ne_eqb}
 use Rattle.presence_base.specs.declared.dots.Dot.{Dot}
 use Rattle.presence_base.specs.declared.row.Row.{Row}
-use Rattle.presence_journal.specs.declared.rows.Item.{Item}
-use Rattle.presence_journal.specs.declared.step.Step.TheVariants as steps_are
-use Rattle.presence_journal.specs.declared.entry.Outcome.{Outcome}
-use Rattle.presence_journal.specs.declared.step.Step.{Step}
-use Rattle.presence_journal.specs.declared.entry.Entry.{Entry}
+use Rattle.presence_journal_data.specs.declared.rows.Item.{Item}
+use Rattle.presence_journal_data.specs.declared.step.Step.TheVariants as steps_are
+use Rattle.presence_journal_data.specs.declared.entry.Outcome.{Outcome}
+use Rattle.presence_journal_data.specs.declared.step.Step.{Step}
+use Rattle.presence_journal_data.specs.declared.entry.Entry.{Entry}
 use Rattle.presence_journal.specs.History.{History, Then, last_number}
 use Rattle.presence_journal.specs.Queue.{Waiting, Behind, Queued, topic_after, topic_of, push_items, left_by, queue_after, queue, made_for, listed_for, took, taken, taken_after}
 use Rattle.presence_journal.specs.Table.{IsLegal, next_entry, with_outcome, accepted, after, is_step}

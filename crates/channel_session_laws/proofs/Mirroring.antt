@@ -11,9 +11,9 @@ use Rattle.presence_base.specs.Order.{same_text, same_dot}
 use Rattle.presence_base.specs.Refs.{ref_of, IsDot}
 use Rattle.presence_base.specs.declared.dots.Dot.{Dot}
 use Rattle.presence_base.specs.declared.row.Row.{Row}
-use Rattle.presence_journal.specs.declared.rows.Item.{Item}
-use Rattle.presence_journal.specs.declared.rows.Item.TheVariants as items_are
-use Rattle.presence_journal.specs.declared.rows.Place.{Place}
+use Rattle.presence_journal_data.specs.declared.rows.Item.{Item}
+use Rattle.presence_journal_data.specs.declared.rows.Item.TheVariants as items_are
+use Rattle.presence_journal_data.specs.declared.rows.Place.{Place}
 use Rattle.presence_journal.specs.Laws.{IsPlaced}
 use Rattle.presence_journal.specs.Present.{RowMap, place_cmp, in_order, present, listed}
 use Rattle.presence_journal.specs.Queue.{taken, fold, fold_from, apply_item, with_rows}

@@ -8,13 +8,13 @@ use Rattle.presence_base.specs.Refs.{IsCount, IsDot}
 use Rattle.presence_base.specs.declared.dots.Replica.{Replica}
 use Rattle.presence_base.specs.declared.dots.Dot.{Dot}
 use Rattle.presence_base.specs.declared.row.Row.{Row}
-use Rattle.presence_journal.specs.declared.rows.Item.{Item}
-use Rattle.presence_journal.specs.declared.rows.Item.TheVariants as items_are
-use Rattle.presence_journal.specs.declared.rows.Place.{Place}
-use Rattle.presence_journal.specs.declared.rows.RowDiff.{RowDiff}
-use Rattle.presence_journal.specs.declared.step.Step.TheVariants as steps_are
-use Rattle.presence_journal.specs.declared.step.Step.{Step}
-use Rattle.presence_journal.specs.declared.entry.Entry.{Entry}
+use Rattle.presence_journal_data.specs.declared.rows.Item.{Item}
+use Rattle.presence_journal_data.specs.declared.rows.Item.TheVariants as items_are
+use Rattle.presence_journal_data.specs.declared.rows.Place.{Place}
+use Rattle.presence_journal_data.specs.declared.rows.RowDiff.{RowDiff}
+use Rattle.presence_journal_data.specs.declared.step.Step.TheVariants as steps_are
+use Rattle.presence_journal_data.specs.declared.step.Step.{Step}
+use Rattle.presence_journal_data.specs.declared.entry.Entry.{Entry}
 use Rattle.presence_journal.specs.History.{History, Begin, Then, start_of, shown}
 use Rattle.presence_journal.specs.Present.{RowMap, in_order, present, listed, missing_in, changes}
 use Rattle.presence_journal.specs.Queue.{Waiting, Behind, Queued, is_empty, diff_item, shout_item, diff_of, items_made, most_waiting, push_items, queued, left_by, queue, queue_after, made_for, topic_of, listed_for, took, taken, taken_after}

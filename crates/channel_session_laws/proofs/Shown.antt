@@ -12,7 +12,7 @@ use Rattle.presence_base.specs.declared.dots.Dot.{Dot}
 use Rattle.presence_base.specs.declared.row.Row.{Row}
 use Rattle.presence_journal.specs.Present.{RowMap, place_cmp, place_of}
 use Rattle.presence_journal.specs.Queue.{with_rows, without_rows}
-use Rattle.presence_journal.specs.declared.rows.Place.{Place}
+use Rattle.presence_journal_data.specs.declared.rows.Place.{Place}
 use Rattle.presence_journal.proofs.Lookups.{get-insert_row}
 use Rattle.presence_journal.proofs.Same.{same_dot-true, same_dot-refl, place_total, same_place}
 use Rattle.presence_metas.specs.Fold.{first_some, last_named, meta_at, folded}

@@ -24,8 +24,8 @@ use Rattle.phx_message.specs.declared.message.Message.{Message}
 use Rattle.phx_message.specs.declared.message.MsgRef.{MsgRef}
 use Rattle.phx_message.specs.declared.message.TheConstants.Limits as the_limits
 use Rattle.phx_message.proofs.Orderly.{put_orderly}
-use Rattle.presence_journal.specs.declared.rows.Item.{Item}
-use Rattle.presence_journal.specs.declared.rows.Item.TheVariants as items_are
+use Rattle.presence_journal_data.specs.declared.rows.Item.{Item}
+use Rattle.presence_journal_data.specs.declared.rows.Item.TheVariants as items_are
 use Rattle.presence_metas.specs.declared.tracked.TrackedMeta.{TrackedMeta}
 use Rattle.presence_metas.specs.Listing.{Listing, at, without, entered}
 use Rattle.presence_metas.specs.Rows.{members_in, with_prev, tracked_of, add_row, listing_of}

@@ -2,7 +2,7 @@
 use Rattle.std.specs.Prelude.{◌≡◌, ℕ, List, ◌++◌, map, false, Option, Some, Ok, Err}
 use Rattle.phx_message.specs.declared.message.Message.{Message}
 use Rattle.phx_message.specs.declared.message.MsgRef.{MsgRef}
-use Rattle.presence_journal.specs.declared.rows.Item.{Item}
+use Rattle.presence_journal_data.specs.declared.rows.Item.{Item}
 use Rattle.presence_journal.specs.History.{History}
 use Rattle.presence_journal.specs.Present.{listed}
 use Rattle.presence_journal.specs.Queue.{Queued, queue, topic_of, taken, is_waiting}

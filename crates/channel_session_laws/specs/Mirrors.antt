@@ -6,9 +6,9 @@ use Rattle.presence_base.specs.Refs.{ref_of}
 use Rattle.presence_base.specs.declared.dots.Dot.{Dot}
 use Rattle.presence_base.specs.declared.row.Row.{Row}
 use Rattle.phx_message.specs.declared.message.Message.{Message}
-use Rattle.presence_journal.specs.declared.rows.Item.{Item}
-use Rattle.presence_journal.specs.declared.step.Step.{Step}
-use Rattle.presence_journal.specs.declared.step.Step.TheVariants as steps_are
+use Rattle.presence_journal_data.specs.declared.rows.Item.{Item}
+use Rattle.presence_journal_data.specs.declared.step.Step.{Step}
+use Rattle.presence_journal_data.specs.declared.step.Step.TheVariants as steps_are
 use Rattle.presence_journal.specs.History.{History, Begin, Then}
 use Rattle.presence_journal.specs.Queue.{Waiting, queue, topic_of, listed_for, given}
 use Rattle.presence_metas.specs.Fold.{meta_at, after_frame}

@@ -1,6 +1,6 @@
 -- A delivery: each topic in force is asked whether something waits, in order of joining, and where it does there is one take.
 use Rattle.std.specs.Prelude.{◌++◌, ℕ, List, [], ◌∷◌, map, Bool, true, false, Result, Ok, Err}
-use Rattle.presence_journal.specs.declared.rows.Item.{Item}
+use Rattle.presence_journal_data.specs.declared.rows.Item.{Item}
 use Rattle.tracker_shard.specs.declared.fault.ShardFault.{ShardFault}
 use Rattle.channel_session_rules.specs.Asks.{waits, take}
 use Rattle.channel_session_rules.specs.Frames.{frame_of}

@@ -5,8 +5,8 @@ use Rattle.phx_message.specs.Making.{push_of, broadcast_of}
 use Rattle.phx_message.specs.Message.{value_of}
 use Rattle.phx_message.specs.declared.message.Message.{Message}
 use Rattle.phx_message.specs.declared.message.MsgRef.{MsgRef}
-use Rattle.presence_journal.specs.declared.rows.Item.{Item}
-use Rattle.presence_journal.specs.declared.rows.Item.TheVariants as items_are
+use Rattle.presence_journal_data.specs.declared.rows.Item.{Item}
+use Rattle.presence_journal_data.specs.declared.rows.Item.TheVariants as items_are
 use Rattle.presence_metas.specs.Values.{state_of, diff_of}
 
 -- A state goes to the join alone, under its reference; diffs and shouts go out as they do to everybody on the topic.
