@@ -1,5 +1,4 @@
 ghost use Rattle.std.specs.Prelude.{◌≡◌, ◌++◌, ◌∷◌, [], false, IfOk, OnOk};
-ghost use Rattle.serde_json.specs.Data.{put};
 ghost use Rattle.serde_json.specs.View.{view, members_view};
 ghost use Rattle.serde_json.specs.Written.{has_float, compact_text};
 ghost use Rattle.presence_node_fold.specs.Folding.{FoldsMessage};
@@ -7,7 +6,7 @@ ghost use Rattle.presence_node_fold.specs.Mirrors.{held, without_topic, with_fra
 
 use phx_message::Message;
 use presence_base::Topic;
-use presence_metas::{Frame, FrameFault, Mirror, read_frame};
+use presence_metas::{Frame, FrameFault, Mirror, put_member, read_frame};
 use serde_json::{Map, Value};
 use std::alloc::{AllocError, Global};
 use std::collections::BTreeMap;
@@ -57,20 +56,6 @@ pub(crate) fn take_message(
     }
 }
 
-// Puts a value at a name.
-fn put_member(
-    alloc: Global,
-    members: &mut Map<String, Value>,
-    name: &str,
-    value: Value,
-) -> Result<(), AllocError>
-    ensures { OnOk result (members_view members.new.entries ≡ put name.now (view value) (members_view members.old.entries)) }
-{
-    let name = String::from_str(alloc, name)?;
-    members.insert(name, value)?;
-    Ok(())
-}
-
 // Puts a topic's lists at its name.
 fn put_mirror(
     alloc: Global,
@@ -78,7 +63,8 @@ fn put_mirror(
     topic: &Topic,
     mirror: &Mirror,
 ) -> Result<(), AllocError>
-    ensures { OnOk result (members_view members.new.entries ≡ with_topic (members_view members.old.entries) (topic.now, mirror.now)) }
+    ensures { OnOk result (members_view members.new.entries
+        ≡ with_topic (members_view members.old.entries) (topic.now, mirror.now)) }
 {
     let value = mirror.to_value(alloc)?;
     put_member(alloc, members, topic.as_str(), value)

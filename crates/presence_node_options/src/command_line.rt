@@ -148,7 +148,8 @@ fn text_given<'a>(matches: &ArgMatches<'a>, id: &str, otherwise: &'a str) -> &'a
 fn given_routes(alloc: Global, matches: &ArgMatches<'_>) -> Result<Routes, UsageFault>
     ensures routes { IfOk result (λ routes. routes ≡ numbered 0 (patterns_given (rows_of (found_of matches.now)))) }
     ensures within { IfOk result AreRoutes }
-    ensures cause { IfErr result (IsFor UsageCause.Route (AreFewPatterns (patterns_given (rows_of (found_of matches.now))) → ⊥)) }
+    ensures cause { IfErr result (IsFor UsageCause.Route
+        (AreFewPatterns (patterns_given (rows_of (found_of matches.now))) → ⊥)) }
 {
     match matches.get_strs("route") {
         Some(patterns) => routes_of(alloc, patterns),

@@ -4,9 +4,13 @@ use Rattle.std.specs.Prelude.{◌≡◌, ℕ, List, [], ◌∷◌, ◌++◌, fal
 use Rattle.phx_message.specs.declared.message.Message.{Message}
 use Rattle.phx_message.specs.declared.message.MessageFault.{MessageFault}
 use Rattle.presence_journal.specs.History.{History, Begin}
-use Rattle.channel_session.specs.Delivery.{delivery}
+use Rattle.phx_message.specs.Reading.{decoded}
+use Rattle.phx_message.specs.declared.message.TheConstants.Limits as the_limits
+use Rattle.channel_session.specs.Delivery.{Delivered, delivery}
+use Rattle.channel_session.specs.Ran.{EndedSo, texts_given}
+use Rattle.channel_session.specs.declared.fault.SessionFault.{SessionFault}
 use Rattle.channel_session_rules.specs.InForce.{InForce}
-use Rattle.channel_session_laws.specs.Local.{played}
+use Rattle.channel_session_laws.specs.Local.{LocalStep, played}
 use Rattle.channel_session_rules.specs.Rules.{End, answers, full, memory, rules}
 use Rattle.channel_session.specs.declared.fault.SessionFault.TheVariants.{ShardFull, Failed}
 use Rattle.presence_node_lines.specs.Reading.{line_message}
@@ -85,3 +89,15 @@ Answers s after line o = Tells (answer s line) after o
 abbrev pub Keeps : Option LineFault → State → State → Type 0
 Keeps (Some (no_message f)) s after = after ≡ s
 Keeps _ s after = Unit {0}
+
+-- what one text came to over the shard, by the view of what was given
+abbrev pub Answered : {V : Type 0} → (V → List (List ℕ)) → List (List ℕ × ℕ) → List ℕ → InForce → History → History → InForce → Result V SessionFault → Type 0
+Answered texts routes text s old new after r = EndedSo LocalStep routes s (decoded the_limits.CLIENT text) old new after (texts_given texts r)
+
+-- and one delivery
+abbrev pub Dealt : {V : Type 0} → (V → List (List ℕ)) → InForce → History → History → InForce → Result V SessionFault → Type 0
+Dealt texts s old new after r = Delivered LocalStep MAX_ITEMS s old new after (texts_given texts r)
+
+-- the output is what a delivery behind this text answers
+abbrev pub TellsDelivery : State → List ℕ → State → Output → Type 0
+TellsDelivery s text after o = Tells (with_delivery s.routes text s.session s.shard) after o

@@ -1,9 +1,5 @@
 ghost use Rattle.std.specs.Prelude.{◌≡◌, ◌++◌, [], map, string_bytes, false, IfOk, Err, None, Some};
-ghost use Rattle.phx_message.specs.Reading.{decoded};
-ghost use Rattle.channel_session.specs.Delivery.{Delivered};
-ghost use Rattle.channel_session_laws.specs.Local.{LocalStep};
-ghost use Rattle.channel_session.specs.Ran.{EndedSo, texts_given};
-ghost use Rattle.presence_node_stdio.specs.Session.{printed};
+ghost use Rattle.presence_node_stdio.specs.Session.{printed, Answered, Dealt};
 
 use crate::fault::LineFault;
 use channel_session::{Delivery, LocalPort, Session, SessionFault, deliver, run_text};
@@ -69,7 +65,8 @@ fn run_port(
     text: &str,
 ) -> Result<Vec<String>, SessionFault>
     ensures same_reference { port.new.shard.ghost_name ≡ port.old.shard.ghost_name }
-    ensures ended { EndedSo LocalStep routes.now session.old (decoded Limits.CLIENT text.now) port.old.shard.now port.new.shard.now session.new (texts_given (λ v. map string_bytes v.items) result) }
+    ensures ended { Answered (λ v. map string_bytes v.items) routes.now text.now
+        session.old port.old.shard.now port.new.shard.now session.new result }
 {
     run_text(alloc, session, port, routes, text)
 }
@@ -82,7 +79,8 @@ fn run_over(
     routes: &Routes,
     text: &str,
 ) -> Result<Vec<String>, SessionFault>
-    ensures { EndedSo LocalStep routes.now session.old (decoded Limits.CLIENT text.now) shard.old shard.new session.new (texts_given (λ v. map string_bytes v.items) result) }
+    ensures { Answered (λ v. map string_bytes v.items) routes.now text.now
+        session.old shard.old shard.new session.new result }
 {
     let mut port = LocalPort::new(shard);
     run_port(alloc, session, &mut port, routes, text)
@@ -96,7 +94,8 @@ fn deliver_port(
 ) -> Result<Delivery, SessionFault>
     requires { session.old.failed ≡ false }
     ensures same_reference { port.new.shard.ghost_name ≡ port.old.shard.ghost_name }
-    ensures delivered { Delivered LocalStep MAX_ITEMS session.old port.old.shard.now port.new.shard.now session.new (texts_given (λ d. map string_bytes d.texts.items) result) }
+    ensures delivered { Dealt (λ d. map string_bytes d.texts.items)
+        session.old port.old.shard.now port.new.shard.now session.new result }
 {
     deliver(alloc, session, port, MAX_ITEMS)
 }
@@ -108,7 +107,8 @@ fn deliver_over(
     shard: &mut Shard,
 ) -> Result<Delivery, SessionFault>
     requires { session.old.failed ≡ false }
-    ensures { Delivered LocalStep MAX_ITEMS session.old shard.old shard.new session.new (texts_given (λ d. map string_bytes d.texts.items) result) }
+    ensures { Dealt (λ d. map string_bytes d.texts.items)
+        session.old shard.old shard.new session.new result }
 {
     let mut port = LocalPort::new(shard);
     deliver_port(alloc, session, &mut port)
@@ -117,7 +117,7 @@ fn deliver_over(
 impl LocalSession {
     ghost use Rattle.std.specs.Prelude.{◌≡◌, false, None, IfOk, OnOk};
     ghost use Rattle.phx_message.specs.Reading.{decoded};
-    ghost use Rattle.presence_node_stdio.specs.Session.{start as start_of, printed, answer_to, with_delivery, Tells, Answers, Keeps};
+    ghost use Rattle.presence_node_stdio.specs.Session.{start as start_of, printed, answer_to, Tells, TellsDelivery, Answers, Keeps};
 
     pub fn new(alloc: Global, options: &StdioOptions) -> Result<LocalSession, AllocError>
         ensures { IfOk result (λ s. s ≡ start_of options.now) }
@@ -137,7 +137,7 @@ impl LocalSession {
     // What is delivered, behind the line's own texts.
     fn add_delivery(&mut self, alloc: Global, text: Vec<u8>) -> Result<Output, AllocError>
         requires { self.old.session.failed ≡ false }
-        ensures { IfOk result (λ o. Tells (with_delivery self.old.routes text.items self.old.session self.old.shard) self.new o) }
+        ensures { IfOk result (λ o. TellsDelivery self.old text.items self.new o) }
     {
         match deliver_over(alloc, &mut self.session, &mut self.shard) {
             Ok(delivery) => Ok(Output {
@@ -155,7 +155,7 @@ impl LocalSession {
     // What goes out for these texts, with a delivery behind them.
     fn tell(&mut self, alloc: Global, texts: &[String]) -> Result<Output, AllocError>
         requires { self.old.session.failed ≡ false }
-        ensures { IfOk result (λ o. Tells (with_delivery self.old.routes (printed (map string_bytes texts.now)) self.old.session self.old.shard) self.new o) }
+        ensures { IfOk result (λ o. TellsDelivery self.old (printed (map string_bytes texts.now)) self.new o) }
     {
         let text = add_lines(alloc, Vec::new(alloc), texts)?;
         self.add_delivery(alloc, text)

@@ -10,12 +10,18 @@ use std::test::Fail;
 
 // What is said on standard error of a run that ended so, and the status.
 fn said(alloc: Global, fault: StdioFault, explain: bool) -> Option<(String, u8)> {
-    error_line(stdio_ending(alloc, &Err(fault), explain).ok()?)
+    match stdio_ending(alloc, &Err(fault), explain) {
+        Ok(ending) => error_line(ending),
+        Err(_) => None,
+    }
 }
 
 // The same of a fold.
 fn said_of_fold(alloc: Global, fault: FoldFault, explain: bool) -> Option<(String, u8)> {
-    error_line(fold_ending(alloc, &Err(fault), explain).ok()?)
+    match fold_ending(alloc, &Err(fault), explain) {
+        Ok(ending) => error_line(ending),
+        Err(_) => None,
+    }
 }
 
 // The line that goes to standard error, and the status.
