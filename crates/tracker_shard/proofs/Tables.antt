@@ -1,6 +1,6 @@
 -- What the table comes to, by what a shard looks up, and which refusals stand.
 use Rattle.std.proofs.Common.{◌≡◌, ℕ, ◌+◌, ◌^◌, Bool, true, false, cond, nat_eq, ◌&&◌, List, [], ◌∷◌, Option, Some, None, refl, sym, ◌∙◌, ap}
-use Rattle.std.specs.Prelude.{nat_lt, is_some, option_map, Result, Ok, Err, OnOk, OnErr, IfOk, IfErr}
+use Rattle.std.specs.Prelude.{nat_lt, is_some, option_map, Result, Ok, Err, OnOk, OnErr}
 use Rattle.serde_json.specs.Data.{Data}
 use Rattle.presence_base.specs.declared.dots.Dot.{Dot}
 use Rattle.presence_base.specs.declared.row.Row.{Row}
@@ -14,9 +14,8 @@ use Rattle.presence_journal.specs.Queue.{Waiting, queue, topic_of, is_waiting}
 use Rattle.presence_journal.specs.Table.{IsKept, take_outcome, for_present, outcome_of, accepted, after, rows_of_key, rows_of_pid, listed_key, tracked, updated, untracked, counting}
 use Rattle.presence_journal.specs.Limits.{is_within_limits}
 use Rattle.presence_journal.proofs.HistoryLemmas.{after-accepted, within_step}
-use Rattle.tracker_shard.specs.Steps.{Made, Answers, IsDue, new_dot, refusal, first_dot, next_counted, slot_of, is_found, found_topic}
-use Rattle.tracker_shard.specs.declared.fault.ShardFault.TheVariants.{ClockFull, JournalFull, NoSub, OutOfMemory}
-use Rattle.tracker_shard.specs.declared.fault.ShardFault.{ShardFault}
+use Rattle.tracker_shard.specs.Steps.{Made, refusal, first_dot, next_counted, slot_of, is_found, found_topic}
+use Rattle.tracker_shard.specs.declared.fault.ShardFault.TheVariants.{ClockFull, JournalFull, NoSub}
 
 pub made : (h : History) (s : Step) (seat : Option ℕ) (o : Outcome) → outcome_of h s ≡ Some o → is_full h ≡ false → (new : History) → new ≡ after h s seat → Made h new seat s
 unfolding accepted

@@ -1,4 +1,4 @@
-use Rattle.std.proofs.Common.{arith, ◌≡◌, Some, sym, ap, ◌∙◌}
+use Rattle.std.proofs.Common.{arith, sym, ap, ◌∙◌}
 use Rattle.tracker_shard.specs.Steps.{new_dot}
 use Rattle.tracker_shard.proofs.Tables.{tables, none_is, track_added}
 use Rattle.tracker_shard.proofs.shard.Shard.track.Goals as goal
