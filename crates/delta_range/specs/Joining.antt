@@ -1,9 +1,13 @@
 -- Joined: two deltas of one owner, the second of which goes on from the first, as one.
-use Rattle.std.specs.Prelude.{◌≡◌, cond, not, ◌||◌, nat_eq, List, ◌++◌, Option, Some, None, Result, Ok, Err}
+use Rattle.std.specs.Prelude.{◌≡◌, ℕ, cond, not, ◌&&◌, ◌||◌, nat_eq, List, ◌++◌, Option, Some, None, Result, Ok, Err}
 use Rattle.std.specs.List.{filter}
+use Rattle.std.specs.FinSet as set
+use Rattle.presence_base.specs.declared.dots.Replica.{Replica}
 use Rattle.presence_base.specs.declared.dots.Dot.{Dot}
 use Rattle.presence_base.specs.declared.row.Row.{Row}
 use Rattle.presence_base.specs.Order.{same_replica}
+use Rattle.dot_context.specs.Runs.{holds}
+use Rattle.dot_context.specs.Sets.{DotSet}
 use Rattle.orswot_core.specs.Telling.{ToldValue, covers, live_row}
 use Rattle.delta_range.specs.Deltas.{DeltaValue, telling}
 use Rattle.delta_range.specs.Longest.{up_to, longest}
@@ -13,6 +17,14 @@ use Rattle.delta_range.specs.declared.fault.DeltaFault.TheVariants.{OtherOwner, 
 -- the rows that a told value doesn't cover
 abbrev pub not_covered : ToldValue → List (Dot × Row) → List (Dot × Row)
 not_covered t xs = filter (λ x. not (covers t x.0)) xs
+
+-- the rows whose dots a set hasn't
+abbrev pub not_in : DotSet → List (Dot × Row) → List (Dot × Row)
+not_in s xs = filter (λ x. not (set.contains s x.0)) xs
+
+-- the set has the counts of these runs of the owner, and no other dot
+abbrev pub HasRuns : DotSet → Replica → List (ℕ × ℕ) → Type 0
+HasRuns s owner rs = (q : Dot) → set.contains s q ≡ (same_replica q.replica owner && holds rs q.count)
 
 -- one range; the older counts of both below it; the rows of b, with those of a that b doesn't cover before them
 unfoldable pub joined : DeltaValue → DeltaValue → DeltaValue

@@ -1,8 +1,7 @@
 // The lists of a joined delta.
-ghost use Rattle.std.specs.Prelude.{◌≡◌, not, ◌++◌, ◌∷◌, [], IfOk, OnOk};
-ghost use Rattle.std.specs.List.{filter};
-ghost use Rattle.std.specs.FinSet as set;
+ghost use Rattle.std.specs.Prelude.{◌≡◌, ◌++◌, ◌∷◌, [], IfOk, OnOk};
 ghost use Rattle.dot_context.specs.Runs.{AreRuns};
+ghost use Rattle.delta_range.specs.Joining.{not_in};
 ghost use Rattle.delta_range.specs.Longest.{up_to, longest};
 
 use crate::runs::{longest, push_up_to};
@@ -41,7 +40,7 @@ fn push_left(
     more: &[(Dot, Row)],
     removed: &Context,
 ) -> Result<(), AllocError>
-    ensures { OnOk result (rows.new.items ≡ rows.old.items ++ filter (λ x. not (set.contains removed.now x.0)) more.now) }
+    ensures { OnOk result (rows.new.items ≡ rows.old.items ++ not_in removed.now more.now) }
 {
     for row in more {
         if !removed.covers(&row.0) {
@@ -76,7 +75,7 @@ pub(crate) fn joined_rows(
     removed: &Context,
     next: &[(Dot, Row)],
 ) -> Result<Vec<(Dot, Row)>, AllocError>
-    ensures { IfOk result (λ v. v.items ≡ filter (λ x. not (set.contains removed.now x.0)) first.now ++ next.now) }
+    ensures { IfOk result (λ v. v.items ≡ not_in removed.now first.now ++ next.now) }
 {
     let mut rows = Vec::new(alloc);
     push_left(&mut rows, first, removed)?;

@@ -1,11 +1,9 @@
 // Runs of counts: each is the count below its first one and its last one.
-ghost use Rattle.std.specs.Prelude.{◌≡◌, ◌-◌, ◌++◌, ◌||◌, ◌&&◌, map, IfOk, OnOk};
-ghost use Rattle.std.specs.FinSet as set;
-ghost use Rattle.presence_base.specs.Order.{same_replica};
-ghost use Rattle.presence_base.specs.declared.dots.Dot.{Dot as DotValue};
-ghost use Rattle.dot_context.specs.Runs.{AreLong, holds};
+ghost use Rattle.std.specs.Prelude.{◌≡◌, ◌-◌, ◌++◌, map, IfOk, OnOk};
+ghost use Rattle.dot_context.specs.Runs.{AreLong};
 ghost use Rattle.dot_context.specs.Sets.{span, run_dots};
 ghost use Rattle.delta_range.specs.Deltas.{run_of};
+ghost use Rattle.delta_range.specs.Joining.{HasRuns};
 ghost use Rattle.delta_range.specs.Longest.{up_to, longest, coalesced};
 
 use dot_context::Context;
@@ -74,7 +72,7 @@ pub(crate) fn run_set(
     owner: &Replica,
     runs: &[(u64, u64)],
 ) -> Result<Context, AllocError>
-    ensures { IfOk result (λ s. (q : DotValue) → set.contains s q ≡ (same_replica q.replica owner.now && holds runs.now q.count)) }
+    ensures { IfOk result (λ s. HasRuns s owner.now runs.now) }
 {
     let mut dots = Context::new(alloc);
     for run in runs {
