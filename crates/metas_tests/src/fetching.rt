@@ -191,6 +191,73 @@ fn names_from_a_table_of_the_closure(rt: HostRuntime) -> Result<(), Fail> {
     Ok(())
 }
 
+// Tells each user's key as the name, and notes nothing.
+struct Keys;
+
+impl PresenceHooks for Keys {
+    ghost use Rattle.std.specs.Prelude.{false, true};
+
+    ghost fetched = { λ h kind topic key e. Unit {0} };
+
+    ghost joined = { λ h kind topic key dot n. Unit {0} };
+
+    ghost left = { λ h kind topic key dot n. Unit {0} };
+
+    ghost plain = { λ h. false };
+
+    ghost quiet = { λ h. true };
+
+    ghost plain_adds_nothing = { λ h kind topic key p. tt };
+
+    fn fetch(
+        &self,
+        alloc: Global,
+        _kind: u32,
+        _topic: &Topic,
+        key: &Key,
+    ) -> Result<Extra, AllocError> {
+        user_member(alloc, key.as_str())
+    }
+
+    fn on_join(
+        &self,
+        alloc: Global,
+        _kind: u32,
+        _topic: &Topic,
+        _key: &Key,
+        _dot: &Dot,
+    ) -> Result<Notice, AllocError> {
+        Ok(Notice::empty(alloc))
+    }
+
+    fn on_leave(
+        &self,
+        alloc: Global,
+        _kind: u32,
+        _topic: &Topic,
+        _key: &Key,
+        _dot: &Dot,
+    ) -> Result<Notice, AllocError> {
+        Ok(Notice::empty(alloc))
+    }
+
+    fn is_plain(&self) -> bool {
+        false
+    }
+
+    fn is_quiet(&self) -> bool {
+        true
+    }
+}
+
+#[test]
+fn hooks_of_a_struct_of_its_own(rt: HostRuntime) -> Result<(), Fail> {
+    let named =
+        r#"{"u1":{"metas":[{"phx_ref":"a.1.1","x":1}],"user":{"n":"u1"}},"u2":{"metas":[{"phx_ref":"a.1.2","x":2}],"user":{"n":"u2"}}}"#;
+    assert!(rt; renders_two(rt.alloc(), &Keys, named));
+    Ok(())
+}
+
 // Nothing is added, but want of memory is answered for the key that ends in this byte.
 fn nothing_but_at(alloc: Global, key: &Key, refused: u8) -> Result<Extra, AllocError> {
     match key.as_str().as_bytes().last() {
