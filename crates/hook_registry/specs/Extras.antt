@@ -1,5 +1,5 @@
 -- What may be told of a key beside its metas.
-use Rattle.std.specs.Prelude.{ℕ, List, [], ◌∷◌, length, Bool, true, not, ◌&&◌, nat_le, codes, string_bytes, String}
+use Rattle.std.specs.Prelude.{ℕ, List, [], ◌∷◌, length, Bool, true, not, ◌&&◌, nat_le, codes, string_bytes, String, Option}
 use Rattle.std.specs.Global.{Global}
 use Rattle.std.specs.List.{list_any, list_all}
 use Rattle.std.specs.Str.{bytes_eq}
@@ -8,6 +8,7 @@ use Rattle.serde_json.specs.Events.{members_len}
 use Rattle.serde_json.specs.View.{view}
 use Rattle.serde_json.specs.Written.{has_float}
 use Rattle.serde_json.specs.declared.value.Value.{Value}
+use Rattle.presence_base.specs.Names.{guarded}
 use Rattle.hook_registry.specs.declared.extra.TheConstants.{MAX_EXTRA_MEMBERS, MAX_EXTRA_NAME_BYTES, MAX_EXTRA_VALUE_DEPTH}
 
 -- a name of 1 to 64 bytes other than `metas`, with a value at most 32 deep whose numbers are whole ones of 64 bits
@@ -53,3 +54,7 @@ all_extra_members (member k d ms) = is_extra_member k d && all_extra_members ms
 -- at most 16, each within the limits
 abbrev pub is_extra : Members → Bool
 is_extra ms = nat_le (members_len ms) MAX_EXTRA_MEMBERS && all_extra_members ms
+
+-- the extra that these members are, if they are one
+abbrev pub extra_of : List (List ℕ × Data) → Option Members
+extra_of ps = guarded (are_extra ps) (gathered ps)

@@ -37,6 +37,10 @@ diff_with of_joins of_leaves joins leaves = diff_object_of (state_with of_joins 
 abbrev pub Fetched : (List ℕ → Members → Type 0) → Extras → Listing → Type 0
 Fetched answers extras ls = AllByRecursion (λ e. IsTrue (is_extra (extras e.0)) × answers e.0 (extras e.0)) ls
 
+-- the object of lists with fetched members
+abbrev pub RendersListing : (List ℕ → Members → Type 0) → Listing → Data → Type 0
+RendersListing answers ls d = (extras : Extras) × Fetched answers extras ls × (d ≡ listing_with extras ls)
+
 -- the state of rows with fetched members
 abbrev pub RendersState : (List ℕ → Members → Type 0) → List (Dot × Row) → Data → Type 0
 RendersState answers rows d = (extras : Extras) × Fetched answers extras (listing_of rows) × (d ≡ state_with extras rows)

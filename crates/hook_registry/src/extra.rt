@@ -112,8 +112,7 @@ impl Extra {
     ghost use Rattle.std.specs.Prelude.{◌≡◌, false, IfOk, IsTrue, map};
     ghost use Rattle.serde_json.specs.View.{members_view};
     ghost use Rattle.serde_json.specs.Data.{no_members};
-    ghost use Rattle.presence_base.specs.Names.{guarded};
-    ghost use Rattle.hook_registry.specs.Extras.{given_member, are_extra, gathered, is_extra};
+    ghost use Rattle.hook_registry.specs.Extras.{given_member, are_extra, extra_of, is_extra};
 
     /// No members.
     pub fn none(alloc: Global) -> Extra
@@ -127,8 +126,7 @@ impl Extra {
     /// The extra that these members are, or `None` where two have one name or one is outside the
     /// limits.
     pub fn new(alloc: Global, members: Vec<(String, Value)>) -> Result<Option<Extra>, AllocError>
-        ensures extra { let given = map given_member members.items
-            in IfOk result (λ o. o ≡ guarded (are_extra given) (gathered given)) }
+        ensures extra { IfOk result (λ o. o ≡ extra_of (map given_member members.items)) }
         ensures none { are_extra (map given_member members.items) ≡ false → result ≡ Ok None }
     {
         if !are_within_limits(members.as_slice()) {

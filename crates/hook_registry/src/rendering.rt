@@ -7,7 +7,7 @@ ghost use Rattle.presence_base.specs.Names.{is_short_text};
 ghost use Rattle.presence_metas.specs.Rows.{listing_of};
 ghost use Rattle.presence_metas.specs.Values.{state_of, diff_of, listing_value};
 ghost use Rattle.hook_registry.specs.Extras.{is_extra};
-ghost use Rattle.hook_registry.specs.Rendered.{Extras, Fetched, with_metas, listing_with, RendersState, RendersDiff};
+ghost use Rattle.hook_registry.specs.Rendered.{with_metas, RendersListing, RendersState, RendersDiff};
 
 use crate::extra::Extra;
 use crate::hooks::PresenceHooks;
@@ -55,9 +55,8 @@ fn presences_value<H: PresenceHooks>(
 ) -> Result<Value, AllocError>
     requires keys { AllByRecursion (λ e. IsTrue (is_short_text e.0)) presences.now }
     requires whole { has_float (listing_value presences.now) ≡ false }
-    ensures value { IfOk result (λ v. (extras : Extras)
-        × Fetched (H.fetched hooks.now kind topic.now) extras presences.now
-        × (view v ≡ listing_with extras presences.now)) }
+    ensures value { IfOk result (λ v.
+        RendersListing (H.fetched hooks.now kind topic.now) presences.now (view v)) }
     ensures whole { IfOk result (λ v. has_float (view v) ≡ false) }
 {
     presences.keys_rise();

@@ -1,11 +1,10 @@
 -- What is written is read again: parts of a line, told values and lines.
-use Rattle.std.proofs.Common.{◌≡◌, ℕ, ◌≤◌, Bool, true, false, ◌&&◌, List, [], ◌∷◌, codes, length, ◌<◌, nat_lt, cond, subst, is_some, is_none, map, Option, Some, None, option_map, Result, Ok, Err, IfOk, refl, sym, ◌∙◌, ap, arith}
+use Rattle.std.proofs.Common.{◌≡◌, ℕ, ◌≤◌, Bool, true, false, ◌&&◌, List, [], ◌∷◌, length, ◌<◌, nat_lt, cond, subst, is_some, is_none, map, Option, Some, None, option_map, Result, Ok, Err, IfOk, refl, sym, ◌∙◌, ap, arith}
 use Rattle.std.specs.List.{list_all}
 use Rattle.std.proofs.lemmas.Bool.{and_parts}
 use Rattle.std.proofs.lemmas.Bool.Decides.{nat_tests}
 use Rattle.serde_json.specs.Data.{Data, null, boolean, number, string, array, object}
 use Rattle.serde_json.specs.Find.{as_object}
-use Rattle.serde_json.specs.Read.{read}
 use Rattle.serde_json.specs.View.{items_of}
 use Rattle.presence_base.specs.declared.dots.TheConstants.{MAX_COUNT}
 use Rattle.presence_base.specs.declared.dots.Replica.{Replica}
@@ -21,10 +20,10 @@ use Rattle.node_links_lines.specs.declared.lines.LinkFault.{LinkFault}
 use Rattle.node_links_lines.specs.declared.lines.LinkFault.TheVariants.{LineTooLong}
 use Rattle.node_links_lines.specs.declared.lines.TheConstants.{MAX_LINE_BYTES, MAX_SHARDS}
 use Rattle.node_links_lines.specs.Limits.{is_from_to, is_counted, is_bound, is_replica, is_told_range, is_told_dot, is_told_prev, is_told_row, is_told, is_sound, is_delta, is_within}
-use Rattle.node_links_lines.specs.Members.{number_in, count_in, bound_in, name_in, replica_in, dot_in}
+use Rattle.node_links_lines.specs.Members.{number_in, name_in, replica_in, dot_in}
 use Rattle.node_links_lines.specs.Reading.{shard_in, line_in, value_in, decoded, IsLine}
 use Rattle.node_links_lines.specs.Results.{◌>>=◌, or_bad, Answers}
-use Rattle.node_links_lines.specs.Telling.{range_in, extra_in, prev_in, object_in, row_of, row_in, each_in, list_in}
+use Rattle.node_links_lines.specs.Telling.{range_in, extra_in, prev_in, object_in, row_in, each_in}
 use Rattle.node_links_lines.specs.Told.{raw_told_in, unless, sound, told_in, is_delta_of, own_delta, delta_in}
 use Rattle.node_links_lines.specs.Writing.{text_of, encoded}
 use Rattle.node_links_lines.proofs.FoundLines.{decoded_found}
@@ -94,7 +93,7 @@ raw_told_again t h =
     rw (
       each_again range_in range_value is_told_range range_again t.ranges p.0,
       each_again extra_in dot_value is_told_dot extra_again t.extras q.0,
-      each_again row_in row_value is_told_row row_again t.live q.1
+      each_again row_in row_value is_told_row row_again t.live q.1,
     ) refl
 
 unless_none : (o : Option ToldFault) (t : ToldValue) → is_none o ≡ true → unless o t ≡ Ok t

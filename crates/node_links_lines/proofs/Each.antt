@@ -1,11 +1,9 @@
 -- Steps of loops that read each value of a list.
-use Rattle.std.proofs.Common.{◌≡◌, ℕ, ◌+◌, ◌<◌, ◌≤◌, suc, List, [], ◌∷◌, ◌++◌, length, drop, slice_index_or, Option, Some, None, option_map, Result, Ok, Err, refl, sym, ◌∙◌, ap, add-one, append-nil, append_assoc}
+use Rattle.std.proofs.Common.{◌≡◌, ℕ, ◌+◌, ◌<◌, suc, List, [], ◌∷◌, ◌++◌, length, drop, slice_index_or, Option, Some, None, option_map, Ok, Err, refl, sym, ◌∙◌, ap, add-one, append-nil, append_assoc}
 use Rattle.std.proofs.Math.Seq.{drop-cons}
-use Rattle.std.proofs.lemmas.List.{drop_all}
-use Rattle.serde_json.specs.Data.{Data, Items}
+use Rattle.serde_json.specs.Data.{Data}
 use Rattle.serde_json.specs.View.{view, items_view}
 use Rattle.serde_json.specs.declared.value.Value.{Value}
-use Rattle.node_links_lines.specs.declared.lines.LinkFault.{LinkFault}
 use Rattle.node_links_lines.specs.declared.lines.LinkFault.TheVariants.{BadLine}
 use Rattle.node_links_lines.specs.Members.{◌>>=◌}
 use Rattle.node_links_lines.specs.Results.{or_bad}

@@ -1,5 +1,5 @@
 -- Which faults a text can have.
-use Rattle.std.proofs.Common.{◌≡◌, ℕ, ◌<◌, Bool, true, false, cond, List, length, nat_lt, Option, Some, None, Result, Ok, Err, IfErr, refl, arith}
+use Rattle.std.proofs.Common.{◌≡◌, ℕ, Bool, true, false, cond, List, length, nat_lt, Option, Some, None, Result, Ok, Err, IfErr, refl, arith}
 use Rattle.std.proofs.lemmas.Bool.Decides.{nat_tests}
 use Rattle.serde_json.specs.Data.{Data, null, boolean, number, string, array, object, Items, no_items, item}
 use Rattle.serde_json.specs.Read.{read}
@@ -18,7 +18,7 @@ use Rattle.node_links_lines.specs.Arrays.{three_in, four_in, five_in, six_in}
 use Rattle.node_links_lines.specs.Kinds.{kind_in}
 use Rattle.node_links_lines.specs.Members.{whole_in, number_in, bound_in, replica_in}
 use Rattle.node_links_lines.specs.Telling.{range_in, extra_in, row_in, list_in}
-use Rattle.node_links_lines.specs.Reading.{below, shard_in, hello_in, beat_in, want_in, told_line_in, permdown_in, gone_in, ok_items, ok_in, line_of_kind, line_in, found_value, value_in, decoded, IsTextFault}
+use Rattle.node_links_lines.specs.Reading.{below, shard_in, ok_items, ok_in, line_of_kind, line_in, found_value, decoded, IsTextFault}
 use Rattle.node_links_lines.specs.Results.{◌>>=◌, or_bad, Answers}
 use Rattle.node_links_lines.specs.Told.{raw_told_in, unless, sound, told_in, is_delta_of, own_delta, delta_in}
 

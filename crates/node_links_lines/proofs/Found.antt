@@ -1,5 +1,5 @@
 -- What was read is what is written, within its limits: parts of a line.
-use Rattle.std.proofs.Common.{◌≡◌, ℕ, Bool, true, false, ◌&&◌, List, [], ◌∷◌, nat_le, map, Option, Some, None, option_map, Result, Ok, Err, refl, sym, ◌∙◌, ap, is_some}
+use Rattle.std.proofs.Common.{◌≡◌, ℕ, Bool, true, false, ◌&&◌, List, [], ◌∷◌, map, Option, Some, None, option_map, refl, sym, ◌∙◌, ap, is_some}
 use Rattle.std.specs.List.{list_all}
 use Rattle.serde_json.specs.Data.{unsigned, negative, float, Data, null, boolean, number, string, array, object, Items, no_items, item}
 use Rattle.serde_json.specs.Find.{as_object}
@@ -232,7 +232,7 @@ range_ok d g h =
         let e = number_ok 0 MAX_COUNT m.3 t is_t in
         rw (← same) (
           rw (four_ok d m is_m, a.name_is, a.incarnation_is, b.0, e.0) refl,
-          both (is_replica r) (is_bound f && is_bound t) a.limits (both (is_bound f) (is_bound t) b.1 e.1)
+          both (is_replica r) (is_bound f && is_bound t) a.limits (both (is_bound f) (is_bound t) b.1 e.1),
         )
 
 pub extra_ok : (x : Data) (d : Dot) → extra_in x ≡ Some d → (x ≡ dot_value d) × (is_told_dot d ≡ true)
@@ -316,7 +316,7 @@ live_ok d x h =
         let b = row_ok m.3 m.4 m.5 m.6 m.7 r is_r in
         rw (← same) (
           rw (eight_ok d m is_m, a.name_is, a.incarnation_is, a.count_is, b.topic_is, b.key_is, b.pid_is, b.meta_is, b.prev_is) refl,
-          both (is_told_dot q) (is_some (as_object r.meta) && is_told_prev r.prev) a.limits b.limits
+          both (is_told_dot q) (is_some (as_object r.meta) && is_told_prev r.prev) a.limits b.limits,
         )
 
 -- ---- lists

@@ -1,5 +1,5 @@
 -- What was read is what is written, within its limits: told values and lines.
-use Rattle.std.proofs.Common.{◌≡◌, ℕ, ◌≤◌, Bool, true, false, cond, ◌&&◌, List, codes, length, nat_le, nat_lt, is_none, Option, Some, None, Result, Ok, Err, IfOk, refl, sym, ◌∙◌, ap, arith}
+use Rattle.std.proofs.Common.{◌≡◌, ℕ, ◌≤◌, Bool, true, false, cond, ◌&&◌, List, codes, length, nat_lt, is_none, Option, Some, None, Result, Ok, Err, refl, sym, ◌∙◌, ap, arith}
 use Rattle.std.specs.List.{list_all}
 use Rattle.std.specs.Str.{bytes_eq}
 use Rattle.std.proofs.lemmas.Bool.Decides.{nat_tests}
@@ -18,18 +18,18 @@ use Rattle.node_links_lines.specs.declared.kinds.Kind.TheVariants as kinds_are
 use Rattle.node_links_lines.specs.declared.lines.Line.{Line}
 use Rattle.node_links_lines.specs.declared.lines.Line.TheVariants as lines_are
 use Rattle.node_links_lines.specs.declared.lines.LinkFault.{LinkFault}
-use Rattle.node_links_lines.specs.declared.lines.LinkFault.TheVariants.{LineTooLong, BadLine}
+use Rattle.node_links_lines.specs.declared.lines.LinkFault.TheVariants.{LineTooLong}
 use Rattle.node_links_lines.specs.declared.lines.TheConstants.{MAX_LINE_BYTES, MAX_SHARDS}
 use Rattle.node_links_lines.specs.Arrays.{Three, three_in, Four, four_in, Five, five_in, Six, six_in}
-use Rattle.node_links_lines.specs.Kinds.{kind_named, kind_first, kind_of_all, kind_in}
+use Rattle.node_links_lines.specs.Kinds.{kind_named, kind_first, kind_in}
 use Rattle.node_links_lines.specs.Limits.{is_from_to, is_bound, is_replica, is_told_range, is_told_dot, is_told_row, is_told, is_sound, is_delta, is_within}
 use Rattle.node_links_lines.specs.Members.{whole_in, number_in, bound_in, replica_in}
-use Rattle.node_links_lines.specs.Reading.{below, shard_in, hello_in, beat_in, want_in, told_line_in, permdown_in, gone_in, ok_items, ok_in, line_of_kind, line_in, found_value, value_in, decoded, IsLine}
-use Rattle.node_links_lines.specs.Results.{◌>>=◌, or_bad, Answers}
+use Rattle.node_links_lines.specs.Reading.{shard_in, hello_in, beat_in, want_in, told_line_in, permdown_in, gone_in, ok_items, ok_in, line_of_kind, line_in, found_value, value_in, decoded, IsLine}
+use Rattle.node_links_lines.specs.Results.{◌>>=◌, or_bad}
 use Rattle.node_links_lines.specs.Telling.{range_in, extra_in, row_in, list_in}
 use Rattle.node_links_lines.specs.Told.{raw_told_in, unless, sound, told_in, is_delta_of, own_delta, delta_in}
 use Rattle.node_links_lines.specs.Values.{whole, range_value, dot_value, row_value, told_value, delta_value, value_of}
-use Rattle.node_links_lines.proofs.Found.{guarded_ok, both, whole_ok, number_ok, replica_ok, items_three, three_ok, items_four, four_ok, items_five, five_ok, items_six, six_ok, range_ok, extra_ok, live_ok, list_ok}
+use Rattle.node_links_lines.proofs.Found.{guarded_ok, both, whole_ok, number_ok, replica_ok, three_ok, four_ok, five_ok, six_ok, range_ok, extra_ok, live_ok, list_ok}
 
 -- ---- steps
 
@@ -74,7 +74,7 @@ raw_told_ok d t h =
         let e = list_ok row_in row_value is_told_row live_ok m.2 xs is_xs in
         rw (← same) (
           rw (three_ok d m is_m, a.0, b.0, e.0) refl,
-          both (list_all is_told_range gs) (list_all is_told_dot es && list_all is_told_row xs) a.1 (both (list_all is_told_dot es) (list_all is_told_row xs) b.1 e.1)
+          both (list_all is_told_range gs) (list_all is_told_dot es && list_all is_told_row xs) a.1 (both (list_all is_told_dot es) (list_all is_told_row xs) b.1 e.1),
         )
 
 unless_ok : (o : Option ToldFault) (t u : ToldValue) → unless o t ≡ Ok u → (is_none o ≡ true) × (t ≡ u)
@@ -105,7 +105,7 @@ some_delta k n r d o h =
         rw (← same) (
           a.0 ∙ ap told_value through,
           both (is_delta_of r t) (is_sound k n t) (ap (is_delta_of r) (sym through) ∙ b.0)
-            (both (is_told t) (is_none (first_fault k n t)) (ap is_told (sym through) ∙ a.1) (ap (λ x. is_none (first_fault k n x)) (sym e.1) ∙ e.0))
+              (both (is_told t) (is_none (first_fault k n t)) (ap is_told (sym through) ∙ a.1) (ap (λ x. is_none (first_fault k n x)) (sym e.1) ∙ e.0)),
         )
 
 delta_ok : (k n : ℕ) (r : Replica) (d : Data) (o : Option ToldValue) → delta_in k n r d ≡ Ok o → (d ≡ delta_value o) × (is_delta k n r o ≡ true)
@@ -206,7 +206,7 @@ beat_ok n d line kind h =
         rw (← same) (
           rw (is, first_is d m.0 _ kinds_are.Beat is kind, s.0, a.name_is, a.incarnation_is, b.0, e.0) refl,
           both (nat_lt k n) (is_replica r && (is_bound c && is_delta k n r t)) s.1
-            (both (is_replica r) (is_bound c && is_delta k n r t) a.limits (both (is_bound c) (is_delta k n r t) b.1 e.1))
+              (both (is_replica r) (is_bound c && is_delta k n r t) a.limits (both (is_bound c) (is_delta k n r t) b.1 e.1)),
         )
 
 want_ok : (n : ℕ) (d : Data) (line : Line) → kind_in d ≡ Some kinds_are.Want → want_in n d ≡ Ok line → Belongs n d line
@@ -226,7 +226,7 @@ want_ok n d line kind h =
         let b = number_ok 0 MAX_COUNT m.4 c is_c in
         rw (← same) (
           rw (is, first_is d m.0 _ kinds_are.Want is kind, s.0, a.name_is, a.incarnation_is, b.0) refl,
-          both (nat_lt k n) (is_replica r && is_bound c) s.1 (both (is_replica r) (is_bound c) a.limits b.1)
+          both (nat_lt k n) (is_replica r && is_bound c) s.1 (both (is_replica r) (is_bound c) a.limits b.1),
         )
 
 told_line_ok : (n : ℕ) (d : Data) (line : Line) → kind_in d ≡ Some kinds_are.Told → told_line_in n d ≡ Ok line → Belongs n d line

@@ -1,6 +1,5 @@
 -- Lines hold no floats, and nest little.
-use Rattle.std.proofs.Common.{◌≡◌, ℕ, ◌≤◌, ◌+◌, Bool, true, false, not, ◌&&◌, ◌||◌, List, [], ◌∷◌, max, nat_le, map, Option, Some, None, refl, arith}
-use Rattle.std.specs.List.{list_all}
+use Rattle.std.proofs.Common.{◌≡◌, ℕ, ◌≤◌, true, false, not, ◌&&◌, List, [], ◌∷◌, nat_le, map, Option, Some, None, refl, arith}
 use Rattle.std.proofs.lemmas.Bool.{and_parts, not-true, leb-true}
 use Rattle.serde_json.specs.Data.{Data, depth, items_depth}
 use Rattle.serde_json.specs.View.{items_of}

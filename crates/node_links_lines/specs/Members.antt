@@ -1,6 +1,6 @@
 -- The members of a line: which JSON values are numbers within limits, names, replicas, dots and ranges.
-use Rattle.std.specs.Prelude.{ℕ, List, ◌&&◌, nat_le, nat_lt, Option, Some, None, option_map, option_and_then}
-use Rattle.serde_json.specs.Data.{unsigned, Data, null, number, string, array, object, Items, no_items, item}
+use Rattle.std.specs.Prelude.{ℕ, List, ◌&&◌, nat_le, Option, Some, None}
+use Rattle.serde_json.specs.Data.{unsigned, Data, number, string}
 use Rattle.presence_base.specs.declared.dots.TheConstants.{MAX_COUNT}
 use Rattle.presence_base.specs.declared.dots.Replica.{Replica}
 use Rattle.presence_base.specs.declared.dots.Dot.{Dot}

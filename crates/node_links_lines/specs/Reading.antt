@@ -1,6 +1,5 @@
 -- Which line a text is, or the first thing that is wrong with it.
 use Rattle.std.specs.Prelude.{◌≡◌, ◌≤◌, ◌<◌, ℕ, List, length, true, nat_lt, if◌then◌else◌, Option, Some, None, Result, Ok, Err}
-
 use Rattle.serde_json.specs.Data.{Data, array, Items, no_items, item}
 use Rattle.serde_json.specs.Read.{read}
 use Rattle.presence_base.specs.Names.{guarded}

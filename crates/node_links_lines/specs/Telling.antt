@@ -1,7 +1,6 @@
 -- Which JSON values are the parts of a told value: ranges, dots and rows, and lists of these.
-use Rattle.std.specs.Prelude.{ℕ, List, [], ◌∷◌, Option, Some, None, option_map}
+use Rattle.std.specs.Prelude.{List, [], ◌∷◌, Option, Some, None, option_map}
 use Rattle.serde_json.specs.Data.{Data, null, array, object, Items, no_items, item}
-use Rattle.presence_base.specs.declared.dots.Replica.{Replica}
 use Rattle.presence_base.specs.declared.dots.Dot.{Dot}
 use Rattle.presence_base.specs.declared.row.Row.{Row}
 use Rattle.orswot_core.specs.Telling.{Range}

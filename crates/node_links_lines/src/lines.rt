@@ -15,7 +15,10 @@ pub const MAX_SHARDS: u32 = 4;
 #[derive(Drop)]
 pub enum Line {
     /// Who speaks, and over how many shards its rows lie.
-    Hello { replica: Replica, shards: u32 },
+    Hello {
+        replica: Replica,
+        shards: u32,
+    },
     /// The replica is alive, and has used so many counts of the shard. What is new may come along.
     Beat {
         shard: u32,
@@ -30,11 +33,18 @@ pub enum Line {
         top: u64,
     },
     /// What is told of a shard.
-    Told { shard: u32, told: Told },
+    Told {
+        shard: u32,
+        told: Told,
+    },
     /// The replica has ended.
-    PermDown { replica: Replica },
+    PermDown {
+        replica: Replica,
+    },
     /// The replica is gone at the hearer, and never comes back there.
-    Gone { replica: Replica },
+    Gone {
+        replica: Replica,
+    },
     /// Heard.
     Ok,
 }

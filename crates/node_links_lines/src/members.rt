@@ -18,13 +18,7 @@ pub(crate) fn number_of(value: &Value, low: u64, high: u64) -> Option<u64>
     ensures { result ≡ number_in low high (view value.now) }
 {
     match whole_of(value) {
-        Some(n) => {
-            if n >= low && n <= high {
-                Some(n)
-            } else {
-                None
-            }
-        }
+        Some(n) => { if n >= low && n <= high { Some(n) } else { None } }
         None => None,
     }
 }
@@ -76,12 +70,7 @@ pub(crate) fn replica_of(alloc: Global, name: &Value, incarnation: &Value) -> Op
 }
 
 // The dot that a name, an incarnation and a count are.
-pub(crate) fn dot_of(
-    alloc: Global,
-    name: &Value,
-    incarnation: &Value,
-    count: &Value,
-) -> Option<Dot>
+pub(crate) fn dot_of(alloc: Global, name: &Value, incarnation: &Value, count: &Value) -> Option<Dot>
     ensures { result ≡ dot_in (view name.now) (view incarnation.now) (view count.now) }
 {
     let replica = replica_of(alloc, name, incarnation)?;

@@ -138,12 +138,7 @@ fn ok_of(value: &Value) -> Result<Line, LinkFault>
 }
 
 // The line of this kind that the value is.
-fn line_of(
-    alloc: Global,
-    kind: Kind,
-    value: Value,
-    shards: u32,
-) -> Result<Line, LinkFault>
+fn line_of(alloc: Global, kind: Kind, value: Value, shards: u32) -> Result<Line, LinkFault>
     requires { 1 ≤ shards }
     ensures { Answers result (line_of_kind shards (view value) kind) }
 {

@@ -96,10 +96,7 @@ fn row_of(alloc: Global, value: Value) -> Option<(Dot, RawRow)>
     Some((dot, row))
 }
 
-fn ranges_of_items(
-    alloc: Global,
-    items: &[Value],
-) -> Result<Vec<(Replica, u64, u64)>, LinkFault>
+fn ranges_of_items(alloc: Global, items: &[Value]) -> Result<Vec<(Replica, u64, u64)>, LinkFault>
     ensures { Gives (λ v. v.items) result (or_bad (each_in range_in (items_view items.now))) }
 {
     let mut ranges = Vec::new(alloc);
@@ -113,10 +110,7 @@ fn ranges_of_items(
 }
 
 // The ranges that the list is.
-pub(crate) fn ranges_of(
-    alloc: Global,
-    value: &Value,
-) -> Result<Vec<(Replica, u64, u64)>, LinkFault>
+pub(crate) fn ranges_of(alloc: Global, value: &Value) -> Result<Vec<(Replica, u64, u64)>, LinkFault>
     ensures { Gives (λ v. v.items) result (or_bad (list_in range_in (view value.now))) }
 {
     match value {

@@ -55,10 +55,7 @@ fn value_of_row(alloc: Global, dot: &Dot, row: &Row) -> Result<Value, AllocError
     json!(in alloc; [name, incarnation, count, topic, key, pid, meta, prev])
 }
 
-fn values_of_ranges(
-    alloc: Global,
-    ranges: &[(Replica, u64, u64)],
-) -> Result<Vec<Value>, AllocError>
+fn values_of_ranges(alloc: Global, ranges: &[(Replica, u64, u64)]) -> Result<Vec<Value>, AllocError>
     ensures { IfOk result (λ v. map view v.items ≡ map range_value ranges.now) }
 {
     let mut values = Vec::new(alloc);

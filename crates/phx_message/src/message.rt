@@ -79,7 +79,7 @@ impl Limits {
 }
 
 /// Why a text is no message. Of several reasons the first in this order is told, and want of
-/// memory, which may come at any point, in its place.
+/// memory in its place, but for a text that is too long, which is found without memory.
 #[derive(Clone, Copy, PartialEq, Eq, Debug, Error)]
 pub enum MessageFault {
     #[error("the text is too long: 65536 bytes are allowed from a client, 16777216 in a frame")]

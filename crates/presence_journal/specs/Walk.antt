@@ -3,6 +3,7 @@
 use Rattle.std.specs.Prelude.{◌≡◌, ℕ, Bool, cond, List, [], ◌∷◌, Option, Some, None}
 use Rattle.std.specs.FinMap as map
 use Rattle.std.specs.BTreeMap.{insert_entry}
+use Rattle.serde_json.specs.Data.{Data}
 use Rattle.presence_base.specs.declared.dots.Dot.{Dot}
 use Rattle.presence_base.specs.declared.row.Row.{Row}
 use Rattle.presence_base.specs.Order.{same_text, same_dot}
@@ -29,6 +30,13 @@ without ds f d = cond (has_dot ds d) None (f d)
 abbrev pub among : List Dot → (Dot → Option Row) → Dot → Option Row
 among ds f d = cond (has_dot ds d) (f d) None
 
+-- the rows that go with an entry, of those that f gives
+abbrev pub leaving : Entry → (Dot → Option Row) → Dot → Option Row
+leaving e f = among (dots_taken e.outcome) f
+
+abbrev pub row_with : ℕ → List ℕ → List ℕ → Data → Option Dot → Row
+row_with pid topic key meta prev = record { topic = topic; key = key; pid = pid; meta = meta; prev = prev }
+
 -- the first of what f and g give
 abbrev pub over : (Dot → Option Row) → (Dot → Option Row) → Dot → Option Row
 over f g d = first_some (f d) (g d)
@@ -37,9 +45,9 @@ over f g d = first_some (f d) (g d)
 abbrev pub Alike : (Dot → Option Row) → (Dot → Option Row) → Type 0
 Alike f g = (d : Dot) → f d ≡ g d
 
--- the rows of these dots were put to those that were taken out before
-abbrev pub IsMoved : List Dot → (Dot → Option Row) → (Dot → Option Row) → (Dot → Option Row) → Type 0
-IsMoved ds rows taken new = Alike new (over (among ds rows) taken)
+-- the row of this dot was put to those that were taken out before
+abbrev pub Moved : Dot → (Dot → Option Row) → (Dot → Option Row) → (Dot → Option Row) → Type 0
+Moved d rows taken new = Alike new (over (among (d ∷ []) rows) taken)
 
 -- the rows of a topic after an entry, where f gives those before it
 abbrev pub rows_after : Entry → List ℕ → (Dot → Option Row) → Dot → Option Row

@@ -1,10 +1,12 @@
 //! The journal of a shard: what was asked of it, with the answers, and what these say of who is present.
 //!
 //! Its public contracts cite these definitions, and no others:
-//! - `specs/History`: a history, and what it says of each dot
+//! - `specs/History`: a history, and what it says of each dot; `specs/Codes`: how the logic stores it
+//! - `specs/Limits`: what a step may hold
 //! - `specs/Table`: the sequential presence table, and the histories that keep to it
 //! - `specs/Present`: the rows of a topic, and how two such tables differ
-//! - `specs/Queue`: what waits for a subscriber, what it took, and what a client makes of it
+//! - `specs/Queue`: what waits for a subscriber, what it took, and what a client makes of it;
+//!   `specs/Pending`: what waits, as the code gives it
 //! - `specs/Laws`: the laws, each stated by a function of `laws`
 //!
 //! `specs/Walk` and `specs/Waits` are of loops and parts.

@@ -26,7 +26,7 @@ pub enum Pending {
 }
 
 // The topic of a subscriber after an entry.
-fn topic_after_entry<'a>(
+pub(crate) fn topic_after_entry<'a>(
     entry: &'a Entry,
     number: u64,
     before: Option<&'a Topic>,

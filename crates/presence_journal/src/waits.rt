@@ -1,10 +1,11 @@
 ghost use Rattle.std.specs.Prelude.{◌≡◌, option_map, option_copied};
 ghost use Rattle.presence_journal.specs.Laws.{reaches};
-ghost use Rattle.presence_journal.specs.Queue.{topic_after, topic_of, queue, is_waiting};
-ghost use Rattle.presence_journal.specs.Waits.{is_heard, makes_one, tally_of, tally_pushed, tally_left, tally_after, tally_waits};
+ghost use Rattle.presence_journal.specs.Queue.{topic_of, queue, is_waiting};
+ghost use Rattle.presence_journal.specs.Waits.{is_heard, makes_one};
+ghost use Rattle.presence_journal.specs.Waits.{tally_of, tally_pushed, tally_left, tally_after, tally_waits};
 
 use crate::journal::Journal;
-use crate::pending::MAX_WAITING;
+use crate::pending::{MAX_WAITING, topic_after_entry};
 use presence_base::Topic;
 use presence_journal_data::{Entry, Outcome, Step};
 
@@ -97,17 +98,6 @@ fn makes_item(entry: &Entry, topic: Option<&Topic>) -> bool
     }
 }
 
-// The topic of a subscriber after an entry.
-fn next_topic<'a>(entry: &'a Entry, subscriber: u64, topic: Option<&'a Topic>) -> Option<&'a Topic>
-    ensures { option_copied result ≡ topic_after entry.now.step entry.now.number subscriber (option_copied topic.entry) }
-{
-    match &entry.step {
-        Step::Subscribe { topic: subscribed } if entry.number == subscriber => Some(subscribed),
-        Step::Unsubscribe { subscriber: ended } if *ended == subscriber => None,
-        _ => topic,
-    }
-}
-
 // What waits for a subscriber after an entry.
 fn next_tally(entry: &Entry, subscriber: u64, makes: bool, tally: Tally) -> Tally
     ensures { result ≡ tally_after entry.now.step entry.now.number subscriber makes tally }
@@ -133,7 +123,7 @@ fn follow(journal: &Journal, subscriber: u64) -> Followed<'_>
     for entry in entries {
         let makes = makes_item(entry, topic);
         tally = next_tally(entry, subscriber, makes, tally);
-        topic = next_topic(entry, subscriber, topic);
+        topic = topic_after_entry(entry, subscriber, topic);
     }
     Followed { topic, tally }
 }

@@ -6,8 +6,8 @@ ghost use Rattle.presence_journal.specs.History.{Begin, onto, count, counts_used
 ghost use Rattle.presence_journal.specs.Present.{RowMap, of_topic, in_order, listed};
 ghost use Rattle.presence_journal.specs.Table.{IsLegal};
 ghost use Rattle.presence_journal.specs.Present.{dots_taken};
-ghost use Rattle.presence_journal.specs.Walk.{Alike, IsMoved, IsTableOf, among, joined, over, placed, row_at};
-ghost use Rattle.presence_journal.specs.Walk.{rows_after, shown_of, without};
+ghost use Rattle.presence_journal.specs.Walk.{Alike, IsTableOf, Moved, among, joined, leaving, over, placed, row_at};
+ghost use Rattle.presence_journal.specs.Walk.{row_with, rows_after, shown_of, without};
 
 use crate::journal::Journal;
 use presence_base::{Dot, Key, Meta, Row, Topic};
@@ -48,7 +48,7 @@ fn row_of(
     meta: &Meta,
     prev: Option<Dot>,
 ) -> Result<Row, AllocError>
-    ensures { IfOk result (λ r. r ≡ record { topic = topic.now; key = key.now; pid = pid; meta = meta.now; prev = prev }) }
+    ensures { IfOk result (λ r. r ≡ row_with pid topic.now key.now meta.now prev) }
 {
     let topic = topic.clone()?;
     let key = key.clone()?;
@@ -136,7 +136,7 @@ fn move_row(
     taken: &mut BTreeMap<Dot, Row>,
 ) -> Result<(), AllocError>
     ensures rows { OnOk result (Alike (get dot_cmp rows.new) (without (dot.now ∷ []) (get dot_cmp rows.old))) }
-    ensures taken { OnOk result (IsMoved (dot.now ∷ []) (get dot_cmp rows.old) (get dot_cmp taken.old) (get dot_cmp taken.new)) }
+    ensures taken { OnOk result (Moved dot.now (get dot_cmp rows.old) (get dot_cmp taken.old) (get dot_cmp taken.new)) }
 {
     let row = rows.remove(dot);
     let added = under_dot(*dot, row);
@@ -178,7 +178,7 @@ pub(crate) fn apply_entry(
     topic: &Topic,
 ) -> Result<BTreeMap<Dot, Row>, AllocError>
     ensures rows { OnOk result (Alike (get dot_cmp rows.new) (rows_after entry.now topic.now (get dot_cmp rows.old))) }
-    ensures left { IfOk result (λ m. Alike (get dot_cmp m) (among (dots_taken entry.now.outcome) (get dot_cmp rows.old))) }
+    ensures left { IfOk result (λ m. Alike (get dot_cmp m) (leaving entry.now (get dot_cmp rows.old))) }
 {
     let left = take_out(alloc, rows, dots_out(&entry.outcome))?;
     let added = added_row(entry, topic)?;

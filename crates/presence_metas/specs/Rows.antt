@@ -1,7 +1,10 @@
 -- The lists that rows make.
-use Rattle.std.specs.Prelude.{List, [], ◌∷◌, ◌++◌, Option, Some, None, codes}
+use Rattle.std.specs.Prelude.{◌≡◌, ℕ, String, List, [], ◌∷◌, ◌++◌, Option, Some, None, codes}
+use Rattle.std.specs.Global.{Global}
 use Rattle.std.specs.List.{fold}
 use Rattle.serde_json.specs.Data.{Data, string, object, Members, no_members, put as put_member}
+use Rattle.serde_json.specs.View.{members_view}
+use Rattle.serde_json.specs.declared.value.Value.{Value}
 use Rattle.presence_base.specs.Refs.{ref_of}
 use Rattle.presence_base.specs.declared.dots.Dot.{Dot}
 use Rattle.presence_base.specs.declared.row.Row.{Row}
@@ -11,6 +14,10 @@ use Rattle.presence_metas.specs.Listing.{Listing, at, put}
 abbrev pub members_in : Data → Members
 members_in (object ms) = ms
 members_in _ = no_members
+
+-- the entries hold the members of others, and this one
+abbrev pub IsPut : List ℕ → Data → List (String Global × Value) → List (String Global × Value) → Type 0
+IsPut name d old new = members_view new ≡ put_member name d (members_view old)
 
 -- `phx_ref_prev` where the row replaced another
 abbrev pub with_prev : Option Dot → Members → Members

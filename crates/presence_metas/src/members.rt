@@ -1,7 +1,6 @@
 ghost use Rattle.std.specs.Prelude.{◌≡◌, OnOk, string_bytes};
-ghost use Rattle.serde_json.specs.Data.{put};
 ghost use Rattle.serde_json.specs.View.{view, members_view};
-ghost use Rattle.presence_metas.specs.Rows.{members_in};
+ghost use Rattle.presence_metas.specs.Rows.{members_in, IsPut};
 
 use serde_json::{Map, Value};
 use std::alloc::{AllocError, Global};
@@ -22,8 +21,7 @@ pub fn insert_member(
     name: String,
     value: Value,
 ) -> Result<(), AllocError>
-    ensures { OnOk result (members_view members.new.entries
-        ≡ put (string_bytes name) (view value) (members_view members.old.entries)) }
+    ensures { OnOk result (IsPut (string_bytes name) (view value) members.old.entries members.new.entries) }
 {
     members.insert(name, value)?;
     Ok(())
@@ -36,8 +34,7 @@ pub fn put_member(
     name: &str,
     value: Value,
 ) -> Result<(), AllocError>
-    ensures { OnOk result (members_view members.new.entries
-        ≡ put name.now (view value) (members_view members.old.entries)) }
+    ensures { OnOk result (IsPut name.now (view value) members.old.entries members.new.entries) }
 {
     let name = String::from_str(alloc, name)?;
     insert_member(members, name, value)

@@ -31,9 +31,13 @@ status b r = cond (same_replica r b.own) status_is.Up (status_of (standing_in b.
 abbrev pub time_at : BoardValue → ℕ → ℕ
 time_at b now = max b.time now
 
--- the standing of a replica is changed in its place, or listed behind the others; that of the own replica stays
+-- with this standing, in the place of the one before it or behind the others
+abbrev pub with_standing : List (Replica × Standing) → Replica → Standing → List (Replica × Standing)
+with_standing es r s = insert_entry same_replica es r s
+
+-- the standing of a replica is changed; that of the own replica stays
 abbrev pub changed : (Standing → Standing) → BoardValue → Replica → List (Replica × Standing)
-changed f b r = cond (same_replica r b.own) b.standings (insert_entry same_replica b.standings r (f (standing_in b.standings r)))
+changed f b r = cond (same_replica r b.own) b.standings (with_standing b.standings r (f (standing_in b.standings r)))
 
 abbrev pub after_heard : BoardValue → Replica → ℕ → BoardValue
 after_heard b r now = record { own = b.own; time = time_at b now; standings = changed (heard_at (time_at b now)) b r }

@@ -1,9 +1,7 @@
 ghost use Rattle.std.specs.Prelude.{◌≡◌, ◌≤◌, [], IfOk, OnOk, OnErr, length, map, true};
-ghost use Rattle.presence_base.specs.Order.{same_replica};
-ghost use Rattle.indexmap.specs.IndexMap.{insert_entry};
 ghost use Rattle.replica_status.specs.declared.status.Status.TheVariants.{Unheard};
 ghost use Rattle.replica_status.specs.Table.{ticked_at};
-ghost use Rattle.replica_status.specs.Boards.{standing_in, status, after_heard, after_tick, after_permdown, changes_in, changes};
+ghost use Rattle.replica_status.specs.Boards.{standing_in, with_standing, status, after_heard, after_tick, after_permdown, changes_in, changes};
 
 use crate::change::{Change, change_between};
 use crate::listed::Listed;
@@ -114,7 +112,7 @@ fn put(
     replica: Replica,
     standing: Standing,
 ) -> Result<(), AllocError>
-    ensures ok { OnOk result (standings.new.entries ≡ insert_entry same_replica standings.old.entries replica standing) }
+    ensures ok { OnOk result (standings.new.entries ≡ with_standing standings.old.entries replica standing) }
     ensures err { OnErr result (standings.new.entries ≡ standings.old.entries) }
     ensures cause { OnErr result (standing_in standings.old.entries replica ≡ Standing.Unheard) }
 {

@@ -211,7 +211,11 @@ fn tells_again(alloc: Global) -> Option<bool> {
         .map(|dot| dot.count)
         .collect(alloc)
         .ok()?;
-    Some(told.ranges().len() == 1 && extras.as_slice() == [1, 2] && told.live().len() == 3)
+    Some(
+        told.ranges().len() == 1
+            && extras.as_slice() == [1, 2].as_slice()
+            && told.live().len() == 3,
+    )
 }
 
 #[test]
@@ -306,7 +310,7 @@ fn counts_a_chain(alloc: Global) -> Option<bool> {
     let kept = pushed(alloc, 200, 201, 202, chain.as_slice())?;
     Some(
         picked(&kept, 200) == Some((200, 202))
-            && kept.clone().ok()?.from_count(200)?.older() == [(0, 199)],
+            && kept.clone().ok()?.from_count(200)?.older() == [(0, 199)].as_slice(),
     )
 }
 

@@ -1,4 +1,7 @@
 //! A shard: one table of presences, whose every call is one step of its journal.
+//!
+//! Its public contracts cite `specs/Steps`: what a call answers and leaves, and when it refuses. That
+//! stands on presence_journal's `History`, `Table`, `Present`, `Queue` and `Limits`.
 #![tactic(auto)]
 
 mod answers;

@@ -1,4 +1,3 @@
-use Rattle.std.proofs.Common.{arith}
 use Rattle.node_links_lines.proofs.Lengths.{not_five}
 use Rattle.node_links_lines.proofs.arrays.five_of_items.Goals as goal
 

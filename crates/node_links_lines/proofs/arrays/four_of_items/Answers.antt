@@ -1,4 +1,3 @@
-use Rattle.std.proofs.Common.{arith}
 use Rattle.node_links_lines.proofs.Lengths.{not_four}
 use Rattle.node_links_lines.proofs.arrays.four_of_items.Goals as goal
 

@@ -1,7 +1,5 @@
 use Rattle.std.proofs.Common.{◌∙◌, ap, Some}
 use Rattle.std.proofs.lemmas.Result.{IfOk-weaker}
-use Rattle.serde_json.specs.Data.{depth}
-use Rattle.serde_json.specs.View.{view}
 use Rattle.serde_json.specs.Written.{has_float, compact_text}
 use Rattle.node_links_lines.proofs.Written.{line_whole, line_shallow}
 use Rattle.node_links_lines.proofs.texts.text_of_line.Goals as goal

@@ -15,6 +15,6 @@ loop-entry-preserved c =
     let l = c.loop-entry in
     let n = c.args.subscriber in
     let topic = option_copied l.topic in
-    let next = option_copied c.next_topic-topic.result in
+    let next = option_copied c.topic_after_entry-topic.result in
     reached_more c.args.journal.now c.entries-entries.result.now l.entry-index c.entry-item.result (IsFollowed n topic l.tally) (IsFollowed n next c.next_tally-tally.result) c.entries-entries.ensures.legal c.loop-entry-test.true c.entry-item.is
-    (λ h legal. followed_more n topic next c.makes_item-makes.result l.tally c.next_tally-tally.result h c.entry-item.result legal c.next_topic-topic.ensures c.makes_item-makes.ensures c.next_tally-tally.ensures) l.invariant
+    (λ h legal. followed_more n topic next c.makes_item-makes.result l.tally c.next_tally-tally.result h c.entry-item.result legal c.topic_after_entry-topic.ensures c.makes_item-makes.ensures c.next_tally-tally.ensures) l.invariant

@@ -1,9 +1,0 @@
-//! Laws of a run: functions that do nothing, and whose contracts are the laws.
-
-ghost use Rattle.presence_node.specs.Mirrored.{JoinedAreMirrored};
-
-/// Behind each line of an input, as long as its lines are answered, the client that folds all that
-/// was written for a joined topic has the topic's present rows.
-pub fn joined_topics_are_mirrored()
-    ensures { JoinedAreMirrored }
-{}

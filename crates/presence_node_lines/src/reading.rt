@@ -1,0 +1,35 @@
+ghost use Rattle.std.specs.Prelude.{◌≡◌, IfOk, IfErr, Err};
+ghost use Rattle.phx_message.specs.Reading.{Answers, decoded};
+ghost use Rattle.presence_node_lines.specs.Reading.{message_in, line_message};
+
+use phx_message::{Limits, Message, MessageFault, decode};
+use std::alloc::Global;
+
+/// The message that a line is under these limits, without its line feed.
+#[tactic(auto, unfolding(crate::specs::Reading::message_in))]
+pub fn message_within(alloc: Global, line: &[u8], limits: Limits) -> Result<Message, MessageFault>
+    ensures { Answers result (message_in limits line.now) }
+{
+    if line.len() > limits.bytes {
+        return Err(MessageFault::TooLong);
+    }
+    match str::from_utf8(line) {
+        Ok(text) => decode(alloc, text, limits),
+        Err(_) => Err(MessageFault::NotJson),
+    }
+}
+
+/// The text that a client's line is, without its line feed, or why it is no message.
+#[tactic(auto, unfolding(crate::specs::Reading::message_in))]
+pub fn text_of_line(line: &[u8]) -> Result<&str, MessageFault>
+    ensures text { IfOk result (λ text. line_message line.now ≡ decoded Limits.CLIENT text.now) }
+    ensures fault { IfErr result (λ fault. line_message line.now ≡ Err fault) }
+{
+    if line.len() > Limits::CLIENT.bytes {
+        return Err(MessageFault::TooLong);
+    }
+    match str::from_utf8(line) {
+        Ok(text) => Ok(text),
+        Err(_) => Err(MessageFault::NotJson),
+    }
+}

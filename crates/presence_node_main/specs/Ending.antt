@@ -1,0 +1,47 @@
+-- What the program says at its end: a line, the stream that it goes to, and the status.
+use Rattle.std.specs.Prelude.{◌≡◌, ℕ, List, ◌∷◌, ◌++◌, Bool, true, false, Option, Some, None, Result, Ok, Err, option_map, string_bytes}
+use Rattle.presence_node_options.specs.declared.fault.UsageFault.{UsageFault}
+use Rattle.presence_node_options.specs.declared.fault.UsageFault.TheVariants.{Usage, Memory}
+use Rattle.presence_node_fold.specs.Told.{told_of_fold, fold_status_number}
+use Rattle.presence_node_fold.specs.declared.fault.FoldFault.{FoldFault}
+use Rattle.presence_node_stdio.specs.Told.{told_of, status_number}
+use Rattle.presence_node_stdio.specs.declared.fault.StdioFault.{StdioFault}
+use Rattle.presence_node_main.specs.declared.ending.Ending.{Ending}
+use Rattle.presence_node_main.specs.declared.ending.Stream.{Stream}
+use Rattle.presence_node_main.specs.declared.ending.Stream.TheVariants.{Output, Error}
+
+-- the line with the number of a refusal, with words on a second line where they are asked for; of other faults words alone
+abbrev pub Says : Option (List ℕ) → Bool → Option (List ℕ) → Type 0
+Says (Some told) false line = line ≡ Some told
+Says (Some told) true line = (words : List ℕ) × (line ≡ Some (told ++ 10 ∷ words))
+Says None explain line = (words : List ℕ) × (line ≡ Some words)
+
+-- a fault is told on standard error
+pub record TellsFault (told : Option (List ℕ)) (status : ℕ) (explain : Bool) (e : Ending) : Type 0 where
+  pub stream : e.stream ≡ Error
+  pub status_is : e.status ≡ status
+  pub line : Says told explain (option_map string_bytes e.line)
+
+-- nothing is said
+pub record IsSilent (status : ℕ) (e : Ending) : Type 0 where
+  pub status_is : e.status ≡ status
+  pub line : option_map string_bytes e.line ≡ None
+
+-- this text goes to this stream
+pub record Prints (stream : Stream) (text : List ℕ) (status : ℕ) (e : Ending) : Type 0 where
+  pub stream_is : e.stream ≡ stream
+  pub status_is : e.status ≡ status
+  pub line : option_map string_bytes e.line ≡ Some text
+
+abbrev pub EndsStdio : {T : Type 0} → Result T StdioFault → Bool → Ending → Type 0
+EndsStdio (Ok x) explain e = IsSilent 0 e
+EndsStdio (Err fault) explain e = TellsFault (told_of fault) (status_number fault) explain e
+
+abbrev pub EndsFold : {T : Type 0} → Result T FoldFault → Bool → Ending → Type 0
+EndsFold (Ok x) explain e = IsSilent 0 e
+EndsFold (Err fault) explain e = TellsFault (told_of_fold fault) (fold_status_number fault) explain e
+
+-- what is wrong with the words goes to standard error
+abbrev pub EndsUsage : UsageFault → Ending → Type 0
+EndsUsage (Usage cause text) e = Prints Error (string_bytes text) 1 e
+EndsUsage Memory e = IsSilent 2 e

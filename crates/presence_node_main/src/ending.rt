@@ -1,0 +1,139 @@
+ghost use Rattle.std.specs.Prelude.{◌≡◌, ◌++◌, ◌∷◌, IfOk, Some, None, option_map, string_bytes};
+ghost use Rattle.presence_node_main.specs.Ending.{EndsFold, EndsStdio, EndsUsage, IsSilent, Prints, Says};
+
+use presence_node_fold::{FoldFault, fold_status_of, fold_told_line, fold_words};
+use presence_node_options::UsageFault;
+use presence_node_stdio::{StdioFault, status_of, told_line, told_words};
+use std::alloc::{AllocError, Global};
+use std::io::ErrorKind;
+
+/// One of the program's two streams.
+#[derive(Clone, Copy, PartialEq, Eq, Debug)]
+pub enum Stream {
+    Output,
+    Error,
+}
+
+/// What the program ends with: a line for a stream, if it says anything, and the status.
+#[derive(Debug, Drop)]
+pub struct Ending {
+    pub stream: Stream,
+    pub line: Option<String>,
+    pub status: u8,
+}
+
+/// Nothing is said.
+pub(crate) fn silent(status: u8) -> Ending
+    ensures { IsSilent status result }
+{
+    Ending {
+        stream: Stream::Error,
+        line: None,
+        status,
+    }
+}
+
+// The line with the number of a refusal, if there is one, and words where they are wanted.
+fn said(
+    alloc: Global,
+    told: Option<String>,
+    words: String,
+    explain: bool,
+) -> Result<String, AllocError>
+    ensures { IfOk result (λ line. Says (option_map string_bytes told) explain (Some (string_bytes line))) }
+{
+    match told {
+        None => Ok(words),
+        Some(told) if !explain => Ok(told),
+        Some(told) => format!(in alloc; "{told}\n{words}"),
+    }
+}
+
+/// How a run of `stdio` that ended so is told.
+pub fn stdio_ending(
+    alloc: Global,
+    end: &Result<u64, StdioFault>,
+    explain: bool,
+) -> Result<Ending, AllocError>
+    ensures { IfOk result (EndsStdio end.now explain) }
+{
+    let fault = match end {
+        Ok(_) => return Ok(silent(0)),
+        Err(fault) => fault,
+    };
+    let told = told_line(alloc, fault)?;
+    let words = told_words(alloc, fault)?;
+    let line = said(alloc, told, words, explain)?;
+    Ok(Ending {
+        stream: Stream::Error,
+        line: Some(line),
+        status: status_of(fault),
+    })
+}
+
+/// How a fold that ended so is told.
+pub fn fold_ending(
+    alloc: Global,
+    end: &Result<(), FoldFault>,
+    explain: bool,
+) -> Result<Ending, AllocError>
+    ensures { IfOk result (EndsFold end.now explain) }
+{
+    let fault = match end {
+        Ok(()) => return Ok(silent(0)),
+        Err(fault) => fault,
+    };
+    let told = fold_told_line(alloc, fault)?;
+    let words = fold_words(alloc, fault)?;
+    let line = said(alloc, told, words, explain)?;
+    Ok(Ending {
+        stream: Stream::Error,
+        line: Some(line),
+        status: fold_status_of(fault),
+    })
+}
+
+// This text goes to this stream.
+fn printing(stream: Stream, text: String, status: u8) -> Ending
+    ensures { Prints stream (string_bytes text) status result }
+{
+    Ending {
+        stream,
+        line: Some(text),
+        status,
+    }
+}
+
+/// The help goes to standard output.
+pub fn help_ending(text: String) -> Ending
+    ensures { Prints Stream.Output (string_bytes text) 0 result }
+{
+    printing(Stream::Output, text, 0)
+}
+
+/// What is wrong with the words goes to standard error.
+pub fn usage_ending(fault: UsageFault) -> Ending
+    ensures { EndsUsage fault result }
+{
+    match fault {
+        UsageFault::Usage(_, text) => printing(Stream::Error, text, 1),
+        UsageFault::Memory => silent(2),
+    }
+}
+
+/// Why the words were not read or the help was not written, if that is known, and the status.
+pub fn stopped_ending(kind: ErrorKind) -> (Option<&'static str>, u8)
+    ensures memory { kind ≡ ErrorKind.OutOfMemory → result.1 ≡ 2 }
+    ensures other { (kind ≡ ErrorKind.OutOfMemory → ⊥) → result.1 ≡ 1 }
+{
+    match kind {
+        ErrorKind::OutOfMemory => (None, 2),
+        ErrorKind::InvalidData => (
+            Some(
+                "presence_node: a word of the command line is not UTF-8, as each must be; presence_node --help tells the words",
+            ),
+            1,
+        ),
+        _ => (Some("presence_node: the output could not be written"), 1),
+    }
+}

@@ -1,0 +1,14 @@
+//! The program itself: it reads the words of its command line, runs what they ask for over the
+//! standard streams, and tells how that ended.
+//!
+//! What its contracts cite: `Ending` says which line goes to which stream, and with which status.
+#![tactic(auto)]
+
+mod ending;
+mod running;
+mod words;
+
+pub use ending::{
+    Ending, Stream, fold_ending, help_ending, stdio_ending, stopped_ending, usage_ending,
+};
+pub use running::run_program;

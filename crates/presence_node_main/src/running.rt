@@ -1,0 +1,87 @@
+use crate::ending::{
+    Ending, Stream, fold_ending, help_ending, silent, stdio_ending, stopped_ending, usage_ending,
+};
+use crate::words::{texts_of, words_of};
+use presence_node_fold::{fold_status_of, run_fold};
+use presence_node_options::{FoldOptions, Options, StdioOptions, options_of};
+use presence_node_stdio::{run_stdio, status_of};
+use std::env::Env;
+use std::io;
+use std::io::BufReader;
+
+// Runs one session over the standard streams. Each reply goes out before the next line is read, so
+// nothing is buffered behind the session.
+fn serve_stdio<R: Input + Print + AllocGlobal>(
+    rt: &R,
+    options: &StdioOptions,
+) -> io::Result<Ending> {
+    let alloc = rt.alloc();
+    let mut reader = BufReader::new(alloc, rt.reader())?;
+    let mut writer = io::writer(rt);
+    let end = run_stdio(alloc, &mut reader, &mut writer, options);
+    match stdio_ending(alloc, &end, options.explain) {
+        Ok(ending) => Ok(ending),
+        Err(_) => Ok(silent(end.err().map_or(2, |fault| status_of(&fault)))),
+    }
+}
+
+// Folds the frames on standard input.
+fn fold_stdin<R: Input + Print + AllocGlobal>(rt: &R, options: FoldOptions) -> io::Result<Ending> {
+    let alloc = rt.alloc();
+    let mut reader = BufReader::new(alloc, rt.reader())?;
+    let mut writer = io::writer(rt);
+    let end = run_fold(alloc, &mut reader, &mut writer);
+    match fold_ending(alloc, &end, options.explain) {
+        Ok(ending) => Ok(ending),
+        Err(_) => Ok(silent(end.err().map_or(2, |fault| fold_status_of(&fault)))),
+    }
+}
+
+// Does what the words of the command line ask for.
+fn run<R: Env + Input + Print + AllocGlobal>(rt: &R) -> io::Result<Ending> {
+    let alloc = rt.alloc();
+    let words = words_of(rt)?;
+    let texts = texts_of(alloc, words.as_slice())?;
+    match options_of(alloc, texts.as_slice()) {
+        Ok(Options::Help(text)) => Ok(help_ending(text)),
+        Ok(Options::Stdio(options)) => serve_stdio(rt, &options),
+        Ok(Options::Fold(options)) => fold_stdin(rt, options),
+        Err(fault) => Ok(usage_ending(fault)),
+    }
+}
+
+// Says what an ending says, and gives the status to end with. A fault that can't be told changes
+// no status; help that can't be printed does.
+fn say<R: Print + Eprint>(rt: &R, ending: &Ending) -> io::Result<u8> {
+    let Some(line) = &ending.line else {
+        return Ok(ending.status);
+    };
+    match ending.stream {
+        Stream::Output => rt.println(line.as_str())?,
+        Stream::Error => {
+            let _told = rt.eprintln(line.as_str());
+        }
+    }
+    Ok(ending.status)
+}
+
+// Says why the program went no further, and gives the status to end with.
+fn stop<R: Eprint>(rt: &R, kind: io::ErrorKind) -> u8 {
+    let (why, status) = stopped_ending(kind);
+    if let Some(why) = why {
+        let _told = rt.eprintln(why);
+    }
+    status
+}
+
+/// Runs the program over its words and the standard streams, and gives the status to end with.
+pub fn run_program<R: Env + Input + Print + Eprint + AllocGlobal>(rt: &R) -> u8 {
+    let said = match run(rt) {
+        Ok(ending) => say(rt, &ending),
+        Err(e) => Err(e),
+    };
+    match said {
+        Ok(status) => status,
+        Err(e) => stop(rt, e.kind()),
+    }
+}

@@ -1,0 +1,4 @@
+pub mod Rows
+pub mod Patterns
+pub mod Plain
+pub mod Asking

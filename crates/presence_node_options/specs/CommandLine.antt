@@ -1,0 +1,32 @@
+-- The program's command line, as the parser reads it.
+use Rattle.std.specs.Prelude.{Some, true, codes}
+use Rattle.clap.specs.Words.{App, Rule, Text, new_app, new_rule, with_rule, with_subcommand}
+use Rattle.clap.specs.Simple.{on_top}
+use Rattle.clap.specs.declared.builder.action.ArgAction.{ArgAction}
+use Rattle.clap.specs.declared.builder.action.ArgAction.TheVariants.{Set, Append, SetTrue}
+
+-- `--name VALUE`, once or as often as one likes
+abbrev pub option_rule : Text → ArgAction → Rule
+option_rule name action = record (new_rule name) { long = Some name; value_names = 1; action = Some action }
+
+-- `--name`, by itself
+abbrev pub flag_rule : Text → Rule
+flag_rule name = record (new_rule name) { long = Some name; action = Some SetTrue }
+
+abbrev pub stdio_app : App
+stdio_app =
+    with_rule (with_rule (with_rule (with_rule (new_app (codes "stdio"))
+    (option_rule (codes "name") Set))
+    (option_rule (codes "incarnation") Set))
+    (option_rule (codes "route") Append))
+    (flag_rule (codes "explain"))
+
+abbrev pub fold_app : App
+fold_app = with_rule (new_app (codes "fold")) (flag_rule (codes "explain"))
+
+-- the program itself, which is nothing without a command
+abbrev pub top_app : App
+top_app = on_top (λ s. record s { subcommand_required = true }) (new_app (codes "presence_node"))
+
+abbrev pub program : App
+program = with_subcommand (with_subcommand top_app stdio_app.top) fold_app.top

@@ -1,0 +1,146 @@
+-- Which options the words of a command line give, and which words are refused.
+use Rattle.std.specs.Prelude.{◌≡◌, ◌⊎◌, ◌≤◌, ◌<◌, ℕ, List, [], ◌∷◌, Bool, false, IsTrue, length, codes, unwrap_or, Option, Some, None}
+use Rattle.std.specs.List.{AllByRecursion}
+use Rattle.std.specs.Str.{bytes_eq}
+use Rattle.std.specs.Str.Parse.{IsNumeral, digits_value, without_leading_plus}
+use Rattle.clap.specs.Words.{Row, Text, IsAmong, all_of, fault_of, first_of, subcommand_of}
+use Rattle.clap.specs.declared.error.kind.ErrorKind.{ErrorKind}
+use Rattle.clap.specs.declared.error.kind.ErrorKind.TheVariants.{DisplayHelp, OutOfMemory}
+use Rattle.hook_registry.specs.Patterns.{is_pattern}
+use Rattle.hook_registry.specs.declared.routes.TheConstants.{MAX_ROUTES}
+use Rattle.presence_base.specs.Names.{is_node_name}
+use Rattle.presence_base.specs.Refs.{IsCount}
+use Rattle.presence_node_options.specs.CommandLine.{program}
+use Rattle.presence_node_options.specs.Limits.{numbered}
+use Rattle.presence_node_options.specs.declared.fault.UsageCause.{UsageCause}
+use Rattle.presence_node_options.specs.declared.fault.UsageCause.TheVariants.{Words, Name, Incarnation, Route}
+use Rattle.presence_node_options.specs.declared.fault.UsageFault.{UsageFault}
+use Rattle.presence_node_options.specs.declared.fault.UsageFault.TheVariants.{Usage, Memory}
+use Rattle.presence_node_options.specs.declared.options.Options.{Options}
+use Rattle.presence_node_options.specs.declared.options.Options.TheVariants.{Help, Stdio, Fold}
+use Rattle.presence_node_options.specs.declared.options.StdioOptions.{StdioOptions}
+
+-- the number that a text's digits write
+abbrev pub number_in : Text → ℕ
+number_in text = digits_value 10 (without_leading_plus text)
+
+-- the name that is given, or `a`
+abbrev pub name_given : List Row → Text
+name_given rows = unwrap_or (first_of (codes "name") rows) (codes "a")
+
+-- the text of the incarnation that is given, or 1
+abbrev pub incarnation_given : List Row → Text
+incarnation_given rows = unwrap_or (first_of (codes "incarnation") rows) (codes "1")
+
+-- the patterns that are given, in their order, or `room:*` alone
+abbrev pub patterns_given : List Row → List Text
+patterns_given rows = unwrap_or (all_of (codes "route") rows) (codes "room:*" ∷ [])
+
+abbrev pub is_yes : Option Text → Bool
+is_yes None = false
+is_yes (Some text) = bytes_eq text (codes "true")
+
+-- whether refusals are asked for in words
+abbrev pub explain_given : List Row → Bool
+explain_given rows = is_yes (first_of (codes "explain") rows)
+
+-- the options are those that were given, each route with its position as its kind
+pub record IsGiven (rows : List Row) (o : StdioOptions) : Type 0 where
+  pub name : o.name ≡ name_given rows
+  pub incarnation : o.incarnation ≡ number_in (incarnation_given rows)
+  pub routes : o.routes ≡ numbered 0 (patterns_given rows)
+  pub explain : o.explain ≡ explain_given rows
+
+-- the words name this command, with these options
+abbrev pub Calls : List Text → Text → List Row → Type 0
+Calls words command rows = subcommand_of program words ≡ Some (command, rows)
+
+-- what the words ask for
+abbrev pub AskFor : List Text → Options → Type 0
+AskFor words (Help text) = IsAmong DisplayHelp (fault_of program words)
+AskFor words (Stdio o) = (rows : List Row) × Calls words (codes "stdio") rows × IsGiven rows o
+AskFor words (Fold o) = (rows : List Row) × Calls words (codes "fold") rows × (o.explain ≡ explain_given rows)
+
+-- ---- refusals
+
+-- the text is that of a number from 1 to 2^62, where a plus and zeros may stand in front
+pub record IsIncarnation (text : Text) : Type 0 where
+  pub numeral : IsNumeral 10 (without_leading_plus text)
+  pub count : IsCount (number_in text)
+
+abbrev pub IsIncarnationIn : Text → Option ℕ → Type 0
+IsIncarnationIn text (Some n) = (n ≡ number_in text) × IsIncarnation text
+IsIncarnationIn text None = IsIncarnation text → ⊥
+
+-- the pattern is one, and there is room for it behind these routes
+pub record MayFollow (routes : List (Text × ℕ)) (pattern : Text) : Type 0 where
+  pub is : IsTrue (is_pattern pattern)
+  pub few : length routes < MAX_ROUTES
+
+-- all are patterns, and there are no more than are allowed
+pub record AreFewPatterns (patterns : List Text) : Type 0 where
+  pub each : AllByRecursion (λ p. IsTrue (is_pattern p)) patterns
+  pub few : length patterns ≤ MAX_ROUTES
+
+abbrev pub HasCause : UsageCause → UsageFault → Type 0
+HasCause cause (Usage c text) = c ≡ cause
+HasCause cause Memory = Unit {0}
+
+-- the fault has this cause, for which there is this reason
+abbrev pub IsFor : UsageCause → Type 0 → UsageFault → Type 0
+IsFor cause Reason (Usage c text) = (c ≡ cause) × Reason
+IsFor cause Reason Memory = Unit {0}
+
+-- why the options of `stdio` are refused: the name is looked at first, then the incarnation, then the routes
+abbrev pub Refuses : List Row → UsageCause → Type 0
+Refuses rows Words = ⊥
+Refuses rows Name = is_node_name (name_given rows) ≡ false
+Refuses rows Incarnation = IsTrue (is_node_name (name_given rows)) × (IsIncarnation (incarnation_given rows) → ⊥)
+Refuses rows Route =
+    IsTrue (is_node_name (name_given rows)) × IsIncarnation (incarnation_given rows) × (AreFewPatterns (patterns_given rows) → ⊥)
+
+abbrev pub IsWrong : List Row → UsageFault → Type 0
+IsWrong rows (Usage cause text) = Refuses rows cause
+IsWrong rows Memory = Unit {0}
+
+-- another refusal than the answer to a question for help
+pub record IsRefusal (words : List Text) : Type 0 where
+  pub kind : ErrorKind
+  pub among : IsAmong kind (fault_of program words)
+  pub other : kind ≡ DisplayHelp → ⊥
+
+-- neither command is named
+pub record NamesNone (words : List Text) : Type 0 where
+  pub stdio : (rows : List Row) → Calls words (codes "stdio") rows → ⊥
+  pub fold : (rows : List Row) → Calls words (codes "fold") rows → ⊥
+
+-- why words are refused
+abbrev pub RefusedFor : List Text → UsageCause → Type 0
+RefusedFor words Words = IsRefusal words ⊎ NamesNone words
+RefusedFor words cause = (rows : List Row) × Calls words (codes "stdio") rows × Refuses rows cause
+
+abbrev pub Refused : List Text → UsageFault → Type 0
+Refused words (Usage cause text) = RefusedFor words cause
+Refused words Memory = Unit {0}
+
+-- what the parser's answer to a question for help becomes
+abbrev pub IsHelpFor : ErrorKind → Options → Type 0
+IsHelpFor kind (Help text) = kind ≡ DisplayHelp
+IsHelpFor kind (Stdio o) = ⊥
+IsHelpFor kind (Fold o) = ⊥
+
+-- an error that is neither that nor want of memory
+abbrev pub IsNoHelp : ErrorKind → Type 0
+IsNoHelp kind = (kind ≡ DisplayHelp → ⊥) × (kind ≡ OutOfMemory → ⊥)
+
+-- what a command of this name gives, by its rows
+abbrev pub Chooses : Text → List Row → Options → Type 0
+Chooses name rows (Help text) = ⊥
+Chooses name rows (Stdio o) = (name ≡ codes "stdio") × IsGiven rows o
+Chooses name rows (Fold o) = (name ≡ codes "fold") × (o.explain ≡ explain_given rows)
+
+-- or why it gives nothing
+abbrev pub ChoosesNone : Text → List Row → UsageFault → Type 0
+ChoosesNone name rows Memory = Unit {0}
+ChoosesNone name rows (Usage Words text) = (name ≡ codes "stdio" → ⊥) × (name ≡ codes "fold" → ⊥)
+ChoosesNone name rows (Usage cause text) = (name ≡ codes "stdio") × Refuses rows cause

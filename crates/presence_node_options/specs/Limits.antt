@@ -1,0 +1,35 @@
+-- What the options of a command line keep.
+use Rattle.std.specs.Prelude.{◌≡◌, ◌≤◌, ◌+◌, ℕ, List, [], ◌∷◌, length, map, IsTrue}
+use Rattle.std.specs.List.{AllByRecursion}
+use Rattle.presence_base.specs.Names.{is_node_name}
+use Rattle.presence_base.specs.Refs.{IsCount}
+use Rattle.hook_registry.specs.Patterns.{is_pattern}
+use Rattle.hook_registry.specs.declared.routes.TheConstants.{MAX_ROUTES}
+use Rattle.presence_node_options.specs.declared.options.StdioOptions.{StdioOptions}
+use Rattle.presence_node_options.specs.declared.options.Options.{Options}
+use Rattle.presence_node_options.specs.declared.options.Options.TheVariants.{Help, Stdio, Fold}
+
+-- patterns with their positions, from this one on
+abbrev pub numbered : ℕ → List (List ℕ) → List (List ℕ × ℕ)
+numbered n [] = []
+numbered n (p ∷ ps) = (p, n) ∷ numbered (n + 1) ps
+
+abbrev pub ArePatterns : List (List ℕ × ℕ) → Type 0
+ArePatterns routes = AllByRecursion (λ r. IsTrue (is_pattern r.0)) routes
+
+-- as many patterns as are allowed, each with its position as its kind
+pub record AreRoutes (routes : List (List ℕ × ℕ)) : Type 0 where
+  pub few : length routes ≤ MAX_ROUTES
+  pub patterns : ArePatterns routes
+  pub kinds : routes ≡ numbered 0 (map (λ r. r.0) routes)
+
+-- a name of a node, an incarnation from 1 to 2^62, and routes
+pub record IsWithin (o : StdioOptions) : Type 0 where
+  pub name : IsTrue (is_node_name o.name)
+  pub incarnation : IsCount o.incarnation
+  pub routes : AreRoutes o.routes
+
+abbrev pub AreWithin : Options → Type 0
+AreWithin (Help text) = Unit {0}
+AreWithin (Stdio o) = IsWithin o
+AreWithin (Fold o) = Unit {0}

@@ -1,0 +1,245 @@
+ghost use Rattle.std.specs.Prelude.{◌≡◌, false, IfOk, IfErr, codes, map, option_map, unwrap_or};
+ghost use Rattle.clap.specs.Words.{app_of, first_of, found_of, kind_of, rows_of, rule_of, subcommand_rows_of};
+ghost use Rattle.presence_node_options.specs.CommandLine.{flag_rule, option_rule, stdio_app, fold_app, program};
+ghost use Rattle.presence_node_options.specs.Given.{AskFor, Chooses, ChoosesNone, HasCause, Refused, IsHelpFor, IsNoHelp, IsGiven, IsFor, IsWrong, AreFewPatterns, explain_given, patterns_given};
+ghost use Rattle.presence_node_options.specs.Limits.{AreRoutes, IsWithin, AreWithin, numbered};
+
+use crate::fault::{UsageCause, UsageFault};
+use crate::help::{
+    ALL_OPTIONS, ALLOWED, EXPLAIN_HELP, FOLD_REFUSALS, FOLD_USAGE, INCARNATION_HELP, NAME_HELP,
+    ROUTE_HELP, STDIO_REFUSALS, STDIO_USAGE, USAGES,
+};
+use crate::options::{FoldOptions, Options, StdioOptions};
+use crate::values::{incarnation_of, name_of, routes_of, usage_of};
+use clap::error::ErrorKind;
+use clap::{Arg, ArgAction, ArgMatches, Command, Error};
+use hook_registry::Routes;
+use std::alloc::{AllocError, Global};
+
+// `--explain`.
+fn explain_flag<'a>(alloc: Global) -> Arg<'a>
+    ensures rule { rule_of result ≡ flag_rule (codes "explain") }
+    ensures local { result.global ≡ false }
+{
+    Arg::new(alloc, "explain")
+        .long("explain")
+        .action(ArgAction::SetTrue)
+        .help(EXPLAIN_HELP)
+}
+
+// `--name NAME`.
+fn name_option<'a>(alloc: Global) -> Arg<'a>
+    ensures rule { rule_of result ≡ option_rule (codes "name") ArgAction.Set }
+    ensures local { result.global ≡ false }
+{
+    Arg::new(alloc, "name")
+        .long("name")
+        .value_name("NAME")
+        .action(ArgAction::Set)
+        .help(NAME_HELP)
+}
+
+// `--incarnation NUMBER`.
+fn incarnation_option<'a>(alloc: Global) -> Arg<'a>
+    ensures rule { rule_of result ≡ option_rule (codes "incarnation") ArgAction.Set }
+    ensures local { result.global ≡ false }
+{
+    Arg::new(alloc, "incarnation")
+        .long("incarnation")
+        .value_name("NUMBER")
+        .action(ArgAction::Set)
+        .help(INCARNATION_HELP)
+}
+
+// `--route PATTERN`, as often as one likes.
+fn route_option<'a>(alloc: Global) -> Arg<'a>
+    ensures rule { rule_of result ≡ option_rule (codes "route") ArgAction.Append }
+    ensures local { result.global ≡ false }
+{
+    Arg::new(alloc, "route")
+        .long("route")
+        .value_name("PATTERN")
+        .action(ArgAction::Append)
+        .help(ROUTE_HELP)
+}
+
+// The command `stdio` with its options.
+fn stdio_command<'a>(alloc: Global) -> Result<Command<'a>, AllocError>
+    ensures { IfOk result (λ c. app_of c ≡ stdio_app) }
+{
+    Command::new(alloc, "stdio")
+        .about("Answers the messages on standard input, one a line, on standard output")
+        .override_usage(STDIO_USAGE)
+        .after_help(STDIO_REFUSALS)
+        .arg(name_option(alloc))?
+        .arg(incarnation_option(alloc))?
+        .arg(route_option(alloc))?
+        .arg(explain_flag(alloc))
+}
+
+// The command `fold`.
+fn fold_command<'a>(alloc: Global) -> Result<Command<'a>, AllocError>
+    ensures { IfOk result (λ c. app_of c ≡ fold_app) }
+{
+    Command::new(alloc, "fold")
+        .about(
+            "Folds the presence frames on standard input, one a line, and prints one object from topic to map",
+        )
+        .override_usage(FOLD_USAGE)
+        .after_help(FOLD_REFUSALS)
+        .arg(explain_flag(alloc))
+}
+
+// The whole command line.
+fn command_of<'a>(alloc: Global) -> Result<Command<'a>, AllocError>
+    ensures { IfOk result (λ c. app_of c ≡ program) }
+{
+    let stdio = stdio_command(alloc)?;
+    let fold = fold_command(alloc)?;
+    Command::new(alloc, "presence_node")
+        .about("A server of Phoenix Channels with Presence")
+        .override_usage(USAGES)
+        .after_help(ALL_OPTIONS)
+        .subcommand_required(true)
+        .subcommand(stdio)?
+        .subcommand(fold)
+}
+
+// What the parser says in place of matches, without the line feeds behind it.
+fn text_of(alloc: Global, e: &Error) -> Result<String, AllocError> {
+    let text = e.to_string(alloc)?;
+    String::from_str(alloc, text.as_str().trim_end())
+}
+
+// What the parser says is wrong, and what is allowed where that helps.
+fn wrong_words(alloc: Global, e: &Error) -> Result<String, AllocError> {
+    let text = text_of(alloc, e)?;
+    match e.kind() {
+        ErrorKind::ArgumentConflict | ErrorKind::TooManyValues => Ok(text),
+        _ => format!(in alloc; "{text}\n\n{ALLOWED}"),
+    }
+}
+
+// The help that was asked for, or what is wrong with the words.
+fn refusal_of(alloc: Global, e: Error) -> Result<Options, UsageFault>
+    ensures help { IfOk result (IsHelpFor (kind_of e)) }
+    ensures refusal { IfErr result (IsFor UsageCause.Words (IsNoHelp (kind_of e))) }
+{
+    match e.kind() {
+        ErrorKind::OutOfMemory => Err(UsageFault::Memory),
+        ErrorKind::DisplayHelp => match text_of(alloc, &e) {
+            Ok(text) => Ok(Options::Help(text)),
+            Err(_) => Err(UsageFault::Memory),
+        },
+        _ => Err(usage_of(UsageCause::Words, wrong_words(alloc, &e))),
+    }
+}
+
+// The value that an option was given, or else this text.
+#[tactic(auto, using(crate::proofs::Rows::first_read))]
+fn text_given<'a>(matches: &ArgMatches<'a>, id: &str, otherwise: &'a str) -> &'a str
+    ensures { result.now ≡ unwrap_or (first_of id.now (rows_of (found_of matches.now))) otherwise.now }
+{
+    matches.get_str(id).unwrap_or(otherwise)
+}
+
+// The routes of the patterns that are given, or the default.
+#[tactic(auto, using(crate::proofs::Rows::all_read))]
+fn given_routes(alloc: Global, matches: &ArgMatches<'_>) -> Result<Routes, UsageFault>
+    ensures routes { IfOk result (λ routes. routes ≡ numbered 0 (patterns_given (rows_of (found_of matches.now)))) }
+    ensures within { IfOk result AreRoutes }
+    ensures cause { IfErr result (IsFor UsageCause.Route
+        (AreFewPatterns (patterns_given (rows_of (found_of matches.now))) → ⊥)) }
+{
+    match matches.get_strs("route") {
+        Some(patterns) => routes_of(alloc, patterns),
+        None => routes_of(alloc, &["room:*"]),
+    }
+}
+
+// Whether refusals are asked for in words.
+#[tactic(auto, using(crate::proofs::Rows::first_read))]
+fn is_explained(matches: &ArgMatches<'_>) -> bool
+    ensures { result ≡ explain_given (rows_of (found_of matches.now)) }
+{
+    match matches.get_str("explain") {
+        Some(text) => text == "true",
+        None => false,
+    }
+}
+
+// The options of the words behind `stdio`.
+fn stdio_options(alloc: Global, matches: &ArgMatches<'_>) -> Result<StdioOptions, UsageFault>
+    ensures given { IfOk result (IsGiven (rows_of (found_of matches.now))) }
+    ensures limits { IfOk result IsWithin }
+    ensures cause { IfErr result (IsWrong (rows_of (found_of matches.now))) }
+{
+    let name = name_of(alloc, text_given(matches, "name", "a"))?;
+    let incarnation = incarnation_of(alloc, text_given(matches, "incarnation", "1"))?;
+    let routes = given_routes(alloc, matches)?;
+    Ok(StdioOptions {
+        name,
+        incarnation,
+        routes,
+        explain: is_explained(matches),
+    })
+}
+
+// The command that was met, with its own matches.
+#[tactic(auto, using(crate::proofs::Rows::met))]
+fn command_met<'m, 'a>(matches: &'m ArgMatches<'a>) -> Option<(&'a str, &'m ArgMatches<'a>)>
+    ensures { option_map (λ p. (p.0.now, rows_of (found_of p.1.now))) result
+        ≡ subcommand_rows_of matches.now }
+{
+    matches.subcommand()
+}
+
+// No command was named.
+fn no_command(alloc: Global) -> UsageFault
+    ensures { HasCause UsageCause.Words result }
+{
+    let text = String::from_str(alloc, "presence_node: a command is wanted: stdio or fold");
+    usage_of(UsageCause::Words, text)
+}
+
+// What this command is asked for, by its own matches.
+fn chosen(alloc: Global, name: &str, matches: &ArgMatches<'_>) -> Result<Options, UsageFault>
+    ensures chosen { IfOk result (Chooses name.now (rows_of (found_of matches.now))) }
+    ensures limits { IfOk result AreWithin }
+    ensures refused { IfErr result (ChoosesNone name.now (rows_of (found_of matches.now))) }
+{
+    if name == "stdio" {
+        return match stdio_options(alloc, matches) {
+            Ok(options) => Ok(Options::Stdio(options)),
+            Err(fault) => Err(fault),
+        };
+    }
+    if name == "fold" {
+        return Ok(Options::Fold(FoldOptions {
+            explain: is_explained(matches),
+        }));
+    }
+    Err(no_command(alloc))
+}
+
+/// What the words of a command line ask for, the program's own word first.
+///
+/// A usage fault says what is wrong with the words, and what is allowed where that helps.
+pub fn options_of<'a>(alloc: Global, words: &'a [&'a str]) -> Result<Options, UsageFault>
+    ensures asked { IfOk result (AskFor (map (λ w. w.now) words.now)) }
+    ensures limits { IfOk result AreWithin }
+    ensures refused { IfErr result (Refused (map (λ w. w.now) words.now)) }
+{
+    let command = match command_of(alloc) {
+        Ok(command) => command,
+        Err(_) => return Err(UsageFault::Memory),
+    };
+    let matches = match command.try_get_matches_from(words) {
+        Ok(matches) => matches,
+        Err(e) => return refusal_of(alloc, e),
+    };
+    match command_met(&matches) {
+        Some((name, inner)) => chosen(alloc, name, inner),
+        None => Err(no_command(alloc)),
+    }
+}

@@ -1,0 +1,24 @@
+use hook_registry::RouteFault;
+use thiserror::Error;
+
+/// What is wrong with the words of a command line.
+#[derive(Clone, Copy, PartialEq, Eq, Debug)]
+pub enum UsageCause {
+    /// They name no command, or what the command doesn't take.
+    Words,
+    /// The name is none that a node may have.
+    Name,
+    /// The incarnation is no number from 1 to `MAX_COUNT`.
+    Incarnation,
+    /// A route is no pattern, or there are too many.
+    Route,
+}
+
+/// Why a command line was not taken: a cause with a text for the user, or want of memory.
+#[derive(Debug, Drop, Error)]
+pub enum UsageFault {
+    #[error("{1}")]
+    Usage(UsageCause, String),
+    #[error("out of memory")]
+    Memory,
+}

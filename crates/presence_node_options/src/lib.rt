@@ -1,0 +1,16 @@
+//! The program's command line.
+//!
+//! What its contracts cite: `CommandLine` has the commands as the parser reads them; `Given` says
+//! which options the words give and which words are refused; `Limits` says what options keep.
+#![tactic(auto)]
+
+mod command_line;
+mod fault;
+mod help;
+mod options;
+mod values;
+
+pub use command_line::options_of;
+pub use fault::{UsageCause, UsageFault};
+pub use help::{ALL_OPTIONS, FOLD_REFUSALS, STDIO_REFUSALS};
+pub use options::{FoldOptions, Options, StdioOptions};

@@ -1,0 +1,117 @@
+ghost use Rattle.std.specs.Prelude.{◌≡◌, ◌≤◌, ◌<◌, ◌++◌, [], ◌∷◌, false, IfOk, IfErr, OnOk, IsTrue, length, map};
+ghost use Rattle.presence_base.specs.Names.{is_node_name};
+ghost use Rattle.presence_base.specs.Refs.{IsCount};
+ghost use Rattle.presence_node_options.specs.Given.{number_in, IsIncarnation, IsIncarnationIn, HasCause, IsFor, MayFollow, AreFewPatterns};
+ghost use Rattle.presence_node_options.specs.Limits.{ArePatterns, AreRoutes, numbered};
+
+use crate::fault::{UsageCause, UsageFault};
+use hook_registry::{MAX_PATTERN_BYTES, MAX_ROUTES, RouteFault, Routes};
+use presence_base::{MAX_COUNT, NodeName};
+use std::alloc::{AllocError, Global};
+
+/// A usage fault with this text.
+pub(crate) fn usage_of(cause: UsageCause, text: Result<String, AllocError>) -> UsageFault
+    ensures { HasCause cause result }
+{
+    match text {
+        Ok(text) => UsageFault::Usage(cause, text),
+        Err(_) => UsageFault::Memory,
+    }
+}
+
+/// The name that a text is.
+pub(crate) fn name_of(alloc: Global, text: &str) -> Result<NodeName, UsageFault>
+    ensures name { IfOk result (λ name. name ≡ text.now) }
+    ensures limits { IfOk result (λ name. IsTrue (is_node_name name)) }
+    ensures cause { IfErr result (IsFor UsageCause.Name (is_node_name text.now ≡ false)) }
+{
+    match NodeName::new(alloc, text) {
+        Ok(Some(name)) => Ok(name),
+        Ok(None) => Err(usage_of(
+            UsageCause::Name,
+            format!(in alloc; "--name '{text}': a node's name is 1 to 32 characters of a-z, 0-9"),
+        )),
+        Err(_) => Err(UsageFault::Memory),
+    }
+}
+
+// The incarnation that a text is, if it is one.
+fn incarnation_in(text: &str) -> Option<u64>
+    ensures { IsIncarnationIn text.now result }
+{
+    match text.parse::<u64>() {
+        Ok(incarnation) if incarnation >= 1 && incarnation <= MAX_COUNT => Some(incarnation),
+        _ => None,
+    }
+}
+
+/// The incarnation that a text is.
+pub(crate) fn incarnation_of(alloc: Global, text: &str) -> Result<u64, UsageFault>
+    ensures number { IfOk result (λ n. n ≡ number_in text.now) }
+    ensures limits { IfOk result (λ n. IsIncarnation text.now) }
+    ensures cause { IfErr result (IsFor UsageCause.Incarnation (IsIncarnation text.now → ⊥)) }
+{
+    match incarnation_in(text) {
+        Some(incarnation) => Ok(incarnation),
+        None => Err(usage_of(
+            UsageCause::Incarnation,
+            format!(in alloc; "--incarnation '{text}': an incarnation is 1 to {MAX_COUNT}"),
+        )),
+    }
+}
+
+// What is wrong with a pattern that the routes refuse.
+fn wrong_route(alloc: Global, pattern: &str, fault: RouteFault) -> UsageFault
+    ensures { IsFor UsageCause.Route (fault ≡ RouteFault.OutOfMemory → ⊥) result }
+{
+    let text = match fault {
+        RouteFault::BadPattern => format!(in alloc;
+            "--route '{pattern}': a pattern is a topic, or the front of topics with one * behind it, of 1 to {MAX_PATTERN_BYTES} bytes"
+        ),
+        RouteFault::TooMany => format!(in alloc;
+            "--route '{pattern}': there are {MAX_ROUTES} routes before it, and no more are allowed"
+        ),
+        RouteFault::OutOfMemory => return UsageFault::Memory,
+    };
+    usage_of(UsageCause::Route, text)
+}
+
+// Adds a route, or says what is wrong with its pattern.
+#[tactic(auto, using(crate::proofs::Patterns::few_before, crate::proofs::Patterns::patterns_more, crate::proofs::Patterns::may_not_follow))]
+fn add_route(alloc: Global, routes: &mut Routes, pattern: &str, kind: u32) -> Result<(), UsageFault>
+    ensures added { OnOk result (routes.new ≡ routes.old ++ (pattern.now, kind) ∷ []) }
+    ensures few { OnOk result (length routes.old < MAX_ROUTES) }
+    ensures patterns { OnOk result (ArePatterns routes.old → ArePatterns routes.new) }
+    ensures cause { IfErr result (IsFor UsageCause.Route (MayFollow routes.old pattern.now → ⊥)) }
+{
+    match routes.add(alloc, pattern, kind) {
+        Ok(()) => Ok(()),
+        Err(fault) => Err(wrong_route(alloc, pattern, fault)),
+    }
+}
+
+// The routes of these patterns, of which each has its position as its kind.
+fn numbered_routes(alloc: Global, patterns: &[&str]) -> Result<Routes, UsageFault>
+    ensures routes { IfOk result (λ routes. routes ≡ numbered 0 (map (λ p. p.now) patterns.now)) }
+    ensures few { IfOk result (λ routes. length routes ≤ MAX_ROUTES) }
+    ensures patterns { IfOk result ArePatterns }
+    ensures cause { IfErr result (IsFor UsageCause.Route (AreFewPatterns (map (λ p. p.now) patterns.now) → ⊥)) }
+{
+    let mut routes = Routes::new(alloc);
+    let mut kind: u32 = 0;
+    for pattern in patterns {
+        add_route(alloc, &mut routes, pattern, kind)?;
+        kind += 1;
+    }
+    Ok(routes)
+}
+
+/// The routes of these patterns, which are within their limits.
+#[tactic(auto, using(crate::proofs::Patterns::routes_within))]
+pub(crate) fn routes_of(alloc: Global, patterns: &[&str]) -> Result<Routes, UsageFault>
+    ensures routes { IfOk result (λ routes. routes ≡ numbered 0 (map (λ p. p.now) patterns.now)) }
+    ensures within { IfOk result AreRoutes }
+    ensures cause { IfErr result (IsFor UsageCause.Route (AreFewPatterns (map (λ p. p.now) patterns.now) → ⊥)) }
+{
+    numbered_routes(alloc, patterns)
+}

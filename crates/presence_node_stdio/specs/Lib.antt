@@ -1,0 +1,4 @@
+pub mod Mirrored
+pub mod Run
+pub mod Session
+pub mod Told

@@ -1,0 +1,19 @@
+//! One session over one shard: each line of an input is answered, and what is delivered behind it
+//! is written before the next one is read.
+//!
+//! What its contracts cite: `Session` says what a line is answered; `Run` what is written for the
+//! lines of an input; `Mirrored` what a client that folds it all holds behind each line; `Told` how a
+//! fault is told.
+#![tactic(auto)]
+
+mod fault;
+mod laws;
+mod local;
+mod run;
+mod telling;
+
+pub use fault::{LineFault, StdioFault};
+pub use laws::joined_topics_are_mirrored;
+pub use local::{LocalSession, MAX_ITEMS, Output};
+pub use run::{run_lines, run_stdio};
+pub use telling::{status_of, told_line, told_words};

@@ -1,0 +1,100 @@
+use crate::support::{INPUT, options_for};
+use channel_session::SessionFault;
+use presence_journal::{Entry, Outcome};
+use presence_node_stdio::{LocalSession, StdioFault, run_lines};
+use std::alloc::Global;
+use std::test::Fail;
+use tracker_shard::Sub;
+
+const JOIN: &str = "[\"2\",\"2\",\"room:lobby\",\"phx_join\",{}]\n";
+
+// Node `a` after these lines, none where one of them ended the run.
+fn node_after(alloc: Global, input: &str) -> Option<LocalSession> {
+    let words = ["presence_node", "stdio"];
+    let options = options_for(alloc, words.as_slice())?;
+    let Ok(mut node) = LocalSession::new(alloc, &options) else {
+        return None;
+    };
+    let mut reader = input.as_bytes();
+    let mut output = Vec::new(alloc);
+    match run_lines(alloc, &mut node, &mut reader, &mut output, 9) {
+        Ok(_) => Some(node),
+        Err(_) => None,
+    }
+}
+
+// What came of an entry of the first run.
+fn told(entry: &Entry) -> &'static str {
+    match &entry.outcome {
+        Outcome::Subscribed(1) => "subscribed",
+        Outcome::Taken(true, 1) => "a state taken",
+        Outcome::Added(_) => "added",
+        Outcome::Taken(false, 1) => "an item taken",
+        Outcome::Shown(_) => "shown",
+        _ => "something else",
+    }
+}
+
+#[test]
+fn the_journal_of_the_first_run(rt: HostRuntime) -> Result<(), Fail> {
+    let Some(node) = node_after(rt.alloc(), INPUT) else {
+        assert!(rt; false);
+        return Ok(());
+    };
+    let journal = node.shard.journal();
+    assert!(rt; journal.start().number == 0 && journal.last_number() == 5);
+    assert!(rt; journal.entries().len() == 5);
+    let wanted = [
+        "subscribed",
+        "a state taken",
+        "added",
+        "an item taken",
+        "shown",
+    ];
+    for (entry, want) in journal.entries().iter().zip(wanted.iter()) {
+        assert!(rt; told(entry) == *want, "{want}");
+    }
+    Ok(())
+}
+
+// Node `a` after a join whose subscriber is gone from the shard.
+fn deserted(alloc: Global) -> Option<LocalSession> {
+    let mut node = node_after(alloc, JOIN)?;
+    let sub = Sub { slot: 0, number: 1 };
+    match node.shard.unsubscribe(alloc, None, &sub) {
+        Ok(()) => Some(node),
+        Err(_) => None,
+    }
+}
+
+// How a line ends the run of such a node, and what goes out for it.
+fn end_of(alloc: Global, line: &str) -> Option<(Result<u64, StdioFault>, Vec<u8>)> {
+    let mut node = deserted(alloc)?;
+    let mut reader = line.as_bytes();
+    let mut output = Vec::new(alloc);
+    let end = run_lines(alloc, &mut node, &mut reader, &mut output, 9);
+    Some((end, output))
+}
+
+// A delivery that the shard refuses comes behind the line's own texts; of a line whose own calls it
+// refuses nothing goes out.
+#[test]
+fn a_shard_that_refuses_ends_the_run(rt: HostRuntime) -> Result<(), Fail> {
+    let pong =
+        "[\"2\",\"3\",\"room:lobby\",\"phx_reply\",{\"response\":{\"n\":1},\"status\":\"ok\"}]\n";
+    for (line, want) in [
+        ("[\"2\",\"3\",\"room:lobby\",\"ping\",{\"n\":1}]\n", pong),
+        ("[\"2\",\"3\",\"room:lobby\",\"phx_leave\",{}]\n", ""),
+    ] {
+        let Some((end, output)) = end_of(rt.alloc(), line) else {
+            assert!(rt; false);
+            return Ok(());
+        };
+        assert!(rt;
+            end == Err(StdioFault::Session(1, SessionFault::ShardFull)),
+            "{line}"
+        );
+        assert!(rt; output.as_slice() == want.as_bytes(), "{line}");
+    }
+    Ok(())
+}
