@@ -106,7 +106,9 @@ fn pid_fault(alloc: Global, pid: u64) -> Result<Option<ToldFault>, AllocError> {
 }
 
 fn meta_fault(alloc: Global, meta: &str) -> Result<Option<ToldFault>, AllocError> {
-    let meta = Value::from_str(alloc, meta)?;
+    let Ok(meta) = Value::from_str(alloc, meta) else {
+        return Err(AllocError);
+    };
     let mut row = plain_row(alloc)?;
     row.meta = meta;
     row_fault(alloc, row)

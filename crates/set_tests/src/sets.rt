@@ -351,6 +351,7 @@ fn more_rows_than_may_come_in_are_told(rt: HostRuntime) -> Result<(), Fail> {
 }
 
 // All replicas but one.
+#[derive(Clone, Copy)]
 struct OtherThan {
     own: Replica,
 }
@@ -366,13 +367,23 @@ impl ReplicaTest for OtherThan {
     }
 }
 
-// What an empty set tells that took in a told value, but not what it tells of one replica of that name.
+fn named(alloc: Global, name: &str) -> Result<Replica, AllocError> {
+    match NodeName::new(alloc, name)? {
+        Some(name) => Ok(Replica {
+            name,
+            incarnation: 1,
+        }),
+        None => Err(AllocError),
+    }
+}
+
+// The top of `b` and the number of its rows in a set that took in a told value, one replica's part left out.
 fn without(alloc: Global, told: &Told, name: &str) -> Result<(u64, usize), AllocError> {
     let own = named(alloc, name)?;
     let mut set = Orswot::new(alloc);
     set.join_some(alloc, told, &OtherThan { own })?;
-    let rows = set.rows_of(&replica(alloc)?).count();
-    Ok((set.top(&replica(alloc)?), rows))
+    let b = replica(alloc)?;
+    Ok((set.top(&b), set.rows_of(&b).count()))
 }
 
 #[test]
@@ -386,11 +397,13 @@ fn what_is_told_of_a_replica_is_left_out(rt: HostRuntime) -> Result<(), Fail> {
 
 // The set after a planned join, which is made or not.
 fn planned(alloc: Global, told: &Told, made: bool) -> Result<Orswot, AllocError> {
-    match Orswot::new(alloc).plan_join(alloc, told) {
-        Ok(plan) if made => Ok(plan.commit()),
-        Ok(plan) => Ok(plan.undo()),
-        Err(_) => Err(AllocError),
+    let Ok(plan) = Orswot::new(alloc).plan_join(alloc, told) else {
+        return Err(AllocError);
+    };
+    if made {
+        return Ok(plan.commit());
     }
+    Ok(plan.undo())
 }
 
 #[test]
