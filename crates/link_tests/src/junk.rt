@@ -1,0 +1,291 @@
+//! Junk that comes over a link, each line with its refusal.
+use crate::worked::WORKED;
+use node_links_lines::{LinkFault, decode_line};
+use orswot_core::ToldFault;
+use std::alloc::Global;
+use std::test::Fail;
+
+// What is wrong with the text, at a node with two shards.
+fn fault_of(alloc: Global, text: &str) -> Option<LinkFault> {
+    match decode_line(alloc, text, 2) {
+        Ok(_) => None,
+        Err(fault) => Some(fault),
+    }
+}
+
+const NOT_JSON: [&str; 34] = [
+    "",
+    " ",
+    "hello",
+    "[",
+    "]",
+    "[]]",
+    "[[]",
+    "[,]",
+    "[1,]",
+    "{",
+    "{]",
+    "nul",
+    "True",
+    "'ok'",
+    r#"["ok"],"#,
+    r#"["ok"]["ok"]"#,
+    r#"["ok"] x"#,
+    r#"["ok]"#,
+    r#"["ok",]"#,
+    r#"[,"ok"]"#,
+    r#"['ok']"#,
+    "\u{feff}[\"ok\"]",
+    "[\"o\tk\"]",
+    r#"["\ud800"]"#,
+    r#"["\udc00\ud800"]"#,
+    r#"["\x"]"#,
+    r#"["want",0,"b",01,1]"#,
+    r#"["want",0,"b",+1,1]"#,
+    r#"["want",0,"b",1.,1]"#,
+    r#"["want",0,"b",.5,1]"#,
+    r#"["want",0,"b",1e999,1]"#,
+    r#"["want",0,"b",NaN,1]"#,
+    r#"["want",0,"b",0x1,1]"#,
+    r#"["want",0 "b",1,1]"#,
+];
+
+const NO_LINE: [&str; 56] = [
+    "null",
+    "true",
+    "0",
+    r#""ok""#,
+    "{}",
+    r#"{"ok":1}"#,
+    "[]",
+    "[[]]",
+    "[null]",
+    "[1]",
+    r#"[["ok"]]"#,
+    r#"["OK"]"#,
+    r#"["ok "]"#,
+    r#"["ok",1]"#,
+    r#"["ok",null]"#,
+    r#"[null,"ok"]"#,
+    r#"["track","b",1]"#,
+    r#"["hello"]"#,
+    r#"["hello","b"]"#,
+    r#"["hello","b",1]"#,
+    r#"["hello","b",1,2,1]"#,
+    r#"["hello","B",1,2]"#,
+    r#"["hello","b.",1,2]"#,
+    r#"["hello","",1,2]"#,
+    r#"["hello","abcdefghijklmnopqrstuvwxyz0123456",1,2]"#,
+    r#"["hello",1,1,2]"#,
+    r#"["hello","b",0,2]"#,
+    r#"["hello","b",-1,2]"#,
+    r#"["hello","b",1.0,2]"#,
+    r#"["hello","b",1e0,2]"#,
+    r#"["hello","b",4611686018427387905,2]"#,
+    r#"["hello","b",18446744073709551616,2]"#,
+    r#"["hello","b","1",2]"#,
+    r#"["hello","b",1,0]"#,
+    r#"["hello","b",1,5]"#,
+    r#"["hello","b",1,4294967298]"#,
+    r#"["hello","b",1,null]"#,
+    r#"["want",2,"b",1,1]"#,
+    r#"["want",-0,"b",1,1]"#,
+    r#"["want",-1,"b",1,1]"#,
+    r#"["want",4294967296,"b",1,1]"#,
+    r#"["want",0,"b",1,4611686018427387905]"#,
+    r#"["want",0,"b",1]"#,
+    r#"["want",0,"b",1,1,1]"#,
+    r#"["want","b",1,1]"#,
+    r#"["want",0,"b",1,1.5]"#,
+    r#"["want",0,"b",1,null]"#,
+    r#"["permdown","b"]"#,
+    r#"["permdown","b",0]"#,
+    r#"["permdown","b",1,1]"#,
+    r#"["permdown",0,"b",1]"#,
+    r#"["permdown","é",1]"#,
+    r#"["gone","b"]"#,
+    r#"["gone","b",0]"#,
+    r#"["gone","b c",1]"#,
+    r#"["gone",null,1]"#,
+];
+
+const BAD_PARTS: [&str; 52] = [
+    r#"["beat",0,"b",1,1]"#,
+    r#"["beat",0,"b",1,1,0]"#,
+    r#"["beat",0,"b",1,1,false]"#,
+    r#"["beat",0,"b",1,1,{}]"#,
+    r#"["beat",0,"b",1,1,""]"#,
+    r#"["beat",0,"b",1,1,[]]"#,
+    r#"["beat",0,"b",1,1,null,null]"#,
+    r#"["beat",2,"b",1,1,null]"#,
+    r#"["beat",0,"b",0,1,null]"#,
+    r#"["beat",0,"b",1,-1,null]"#,
+    r#"["beat",0,"b",1,4611686018427387905,null]"#,
+    r#"["beat",0,"b",1,1,[[],[],[]]]"#,
+    r#"["beat",0,"b",1,2,[[["c",1,0,2]],[],[]]]"#,
+    r#"["beat",0,"b",1,2,[[["b",2,0,2]],[],[]]]"#,
+    r#"["beat",0,"b",1,2,[[["b",1,0,1],["b",1,1,2]],[],[]]]"#,
+    r#"["beat",0,"b",1,2,[[["b",1,0,1],["c",1,0,2]],[],[]]]"#,
+    r#"["beat",0,"b",1,2,[[["b",1,1,2]],[["c",1,1]],[]]]"#,
+    r#"["beat",0,"b",1,2,[[["b",1,1,2]],[["b",2,1]],[]]]"#,
+    r#"["beat",0,"b",1,1,[[["b",1,0,1]],[],[["c",1,1,"room:a","u2",5,{},null]]]]"#,
+    r#"["told",0]"#,
+    r#"["told",0,null]"#,
+    r#"["told",0,[]]"#,
+    r#"["told",0,[[],[]]]"#,
+    r#"["told",0,[[],[],[],[]]]"#,
+    r#"["told",2,[[],[],[]]]"#,
+    r#"["told",[[],[],[]]]"#,
+    r#"["told",0,[null,[],[]]]"#,
+    r#"["told",0,[[],{},[]]]"#,
+    r#"["told",0,[[],[],0]]"#,
+    r#"["told",0,[["b"],[],[]]]"#,
+    r#"["told",0,[[["b",1,0]],[],[]]]"#,
+    r#"["told",0,[[["b",1,0,1,1]],[],[]]]"#,
+    r#"["told",0,[[["b",0,0,1]],[],[]]]"#,
+    r#"["told",0,[[["B",1,0,1]],[],[]]]"#,
+    r#"["told",0,[[["b",1,-1,1]],[],[]]]"#,
+    r#"["told",0,[[["b",1,0,4611686018427387905]],[],[]]]"#,
+    r#"["told",0,[[["b",1,0,0.5]],[],[]]]"#,
+    r#"["told",0,[[],[["b",1]],[]]]"#,
+    r#"["told",0,[[],[["b",1,0]],[]]]"#,
+    r#"["told",0,[[],[["b",1,1,1]],[]]]"#,
+    r#"["told",0,[[],[null],[]]]"#,
+    r#"["told",0,[[],[["b",1,4611686018427387905]],[]]]"#,
+    r#"["told",0,[[],[],[["b",1,1,"room:a","u2",5,{}]]]]"#,
+    r#"["told",0,[[],[],[["b",1,0,"room:a","u2",5,{},null]]]]"#,
+    r#"["told",0,[[],[],[["b",1,1,1,"u2",5,{},null]]]]"#,
+    r#"["told",0,[[],[],[["b",1,1,"room:a",null,5,{},null]]]]"#,
+    r#"["told",0,[[],[],[["b",1,1,"room:a","u2",-5,{},null]]]]"#,
+    r#"["told",0,[[],[],[["b",1,1,"room:a","u2",18446744073709551616,{},null]]]]"#,
+    r#"["told",0,[[],[],[["b",1,1,"room:a","u2",5,[],null]]]]"#,
+    r#"["told",0,[[],[],[["b",1,1,"room:a","u2",5,null,null]]]]"#,
+    r#"["told",0,[[],[],[["b",1,1,"room:a","u2",5,{},0]]]]"#,
+    r#"["told",0,[[],[],[["b",1,1,"room:a","u2",5,{},["b",1,0]]]]]"#,
+];
+
+const BAD_TOLD: [(&str, ToldFault); 16] = [
+    (
+        r#"["told",0,[[["b",1,0,2],["b",1,2,3]],[],[]]]"#,
+        ToldFault::TwoRanges,
+    ),
+    (r#"["told",0,[[["b",1,3,2]],[],[]]]"#, ToldFault::BadRange),
+    (
+        r#"["told",0,[[["b",1,3,2],["b",1,3,2]],[],[]]]"#,
+        ToldFault::TwoRanges,
+    ),
+    (
+        r#"["beat",0,"b",1,2,[[["b",1,3,2]],[],[]]]"#,
+        ToldFault::BadRange,
+    ),
+    (
+        r#"["told",0,[[["b",1,0,1]],[],[["b",1,2,"room:a","u2",5,{},null]]]]"#,
+        ToldFault::LiveNotCovered,
+    ),
+    (
+        r#"["told",0,[[["b",1,0,1]],[],[["b",1,1,"room:a","u2",5,{},null],["b",1,1,"room:a","u2",5,{},null]]]]"#,
+        ToldFault::LiveTwice,
+    ),
+    (
+        r#"["told",0,[[["b",1,0,1]],[],[["b",1,1,"room:b","u2",5,{},null]]]]"#,
+        ToldFault::RowLimits,
+    ),
+    (
+        r#"["told",1,[[["b",1,0,1]],[],[["b",1,1,"room:a","u2",5,{},null]]]]"#,
+        ToldFault::RowLimits,
+    ),
+    (
+        r#"["told",0,[[["b",1,0,1]],[],[["b",1,1,"","u2",5,{},null]]]]"#,
+        ToldFault::RowLimits,
+    ),
+    (
+        r#"["told",0,[[["b",1,0,1]],[],[["b",1,1,"room:a","",5,{},null]]]]"#,
+        ToldFault::RowLimits,
+    ),
+    (
+        r#"["told",0,[[["b",1,0,1]],[],[["b",1,1,"room:a","u2",4611686018427387905,{},null]]]]"#,
+        ToldFault::RowLimits,
+    ),
+    (
+        r#"["told",0,[[["b",1,0,1]],[],[["b",1,1,"room:a","u2",18446744073709551615,{},null]]]]"#,
+        ToldFault::RowLimits,
+    ),
+    (
+        r#"["told",0,[[["b",1,0,1]],[],[["b",1,1,"room:a","u2",5,{"x":0.5},null]]]]"#,
+        ToldFault::RowLimits,
+    ),
+    (
+        r#"["told",0,[[["b",1,0,1]],[],[["b",1,1,"room:a","u2",5,{"phx_ref":"a"},null]]]]"#,
+        ToldFault::RowLimits,
+    ),
+    (
+        r#"["beat",0,"b",1,1,[[["b",1,0,1]],[],[["b",1,2,"room:a","u2",5,{},null]]]]"#,
+        ToldFault::LiveNotCovered,
+    ),
+    (
+        r#"["beat",0,"b",1,1,[[["b",1,0,1]],[],[["b",1,1,"room:b","u2",5,{},null]]]]"#,
+        ToldFault::RowLimits,
+    ),
+];
+
+#[test]
+fn texts_that_are_no_json(rt: HostRuntime) -> Result<(), Fail> {
+    for text in NOT_JSON {
+        assert_eq!(rt;
+            fault_of(rt.alloc(), text),
+            Some(LinkFault::NotJson),
+            "{text}"
+        );
+    }
+    Ok(())
+}
+
+#[test]
+fn values_that_are_no_line(rt: HostRuntime) -> Result<(), Fail> {
+    for text in NO_LINE {
+        assert_eq!(rt;
+            fault_of(rt.alloc(), text),
+            Some(LinkFault::BadLine),
+            "{text}"
+        );
+    }
+    Ok(())
+}
+
+#[test]
+fn beats_and_told_lines_with_bad_members(rt: HostRuntime) -> Result<(), Fail> {
+    for text in BAD_PARTS {
+        assert_eq!(rt;
+            fault_of(rt.alloc(), text),
+            Some(LinkFault::BadLine),
+            "{text}"
+        );
+    }
+    Ok(())
+}
+
+#[test]
+fn told_values_that_are_refused(rt: HostRuntime) -> Result<(), Fail> {
+    for (text, fault) in BAD_TOLD {
+        assert_eq!(rt;
+            fault_of(rt.alloc(), text),
+            Some(LinkFault::BadTold(fault)),
+            "{text}"
+        );
+    }
+    Ok(())
+}
+
+// Each line without its last byte is cut.
+#[test]
+fn cut_texts_are_no_json(rt: HostRuntime) -> Result<(), Fail> {
+    for text in WORKED {
+        let short = text.strip_suffix(']').ok_or("a line ends so")?;
+        assert_eq!(rt;
+            fault_of(rt.alloc(), short),
+            Some(LinkFault::NotJson),
+            "{short}"
+        );
+    }
+    Ok(())
+}
