@@ -20,9 +20,10 @@ fn node_b(alloc: Global) -> Result<Option<Replica>, AllocError> {
 /// Adds the dots of the counts 1 to `count`, in order.
 pub fn add_in_order(alloc: Global, count: u64) -> Result<Context, AllocError> {
     let mut context = Context::new(alloc);
-    if let Some(replica) = node_b(alloc)? {
+    let node = node_b(alloc)?;
+    if let Some(replica) = &node {
         for n in 0..count {
-            context.add_range(alloc, replica, n, n.saturating_add(1))?;
+            context.add_range(alloc, *replica, n, n.saturating_add(1))?;
         }
     }
     Ok(context)
@@ -31,10 +32,11 @@ pub fn add_in_order(alloc: Global, count: u64) -> Result<Context, AllocError> {
 /// Adds `count` runs of one dot each, none touching the next, in falling order, above `low`.
 pub fn add_in_reverse(alloc: Global, count: u64, low: u64) -> Result<Context, AllocError> {
     let mut context = Context::new(alloc);
-    if let Some(replica) = node_b(alloc)? {
+    let node = node_b(alloc)?;
+    if let Some(replica) = &node {
         for n in 0..count {
             let from = low.saturating_add((count - n).saturating_mul(4));
-            context.add_range(alloc, replica, from, from.saturating_add(1))?;
+            context.add_range(alloc, *replica, from, from.saturating_add(1))?;
         }
     }
     Ok(context)
