@@ -10,7 +10,7 @@ use Rattle.presence_base.specs.declared.dots.TheConstants.{MAX_COUNT}
 use Rattle.presence_base.specs.declared.dots.Replica.{Replica}
 use Rattle.presence_base.specs.declared.dots.Dot.{Dot}
 use Rattle.presence_base.specs.declared.row.Row.{Row}
-use Rattle.orswot_core.specs.declared.told.ToldFault.{ToldFault}
+use Rattle.orswot_core_told.specs.declared.told.ToldFault.{ToldFault}
 use Rattle.orswot_core.specs.Telling.{Range, ToldValue}
 use Rattle.orswot_core.specs.Checks.{first_fault}
 use Rattle.node_links_lines.specs.declared.kinds.Kind.{Kind}

@@ -5,8 +5,8 @@ use Rattle.serde_json.specs.Data.{Data, null}
 use Rattle.presence_base.specs.declared.dots.Replica.{Replica}
 use Rattle.presence_base.specs.Names.{guarded}
 use Rattle.presence_base.specs.Order.{same_replica}
-use Rattle.orswot_core.specs.declared.raw.RawTold.{RawTold}
-use Rattle.orswot_core.specs.declared.told.ToldFault.{ToldFault}
+use Rattle.orswot_core_told.specs.declared.raw.RawTold.{RawTold}
+use Rattle.orswot_core_told.specs.declared.told.ToldFault.{ToldFault}
 use Rattle.orswot_core.specs.Telling.{Range, ToldValue}
 use Rattle.orswot_core.specs.Checks.{first_fault}
 use Rattle.node_links_lines.specs.declared.lines.LinkFault.{LinkFault}
