@@ -11,3 +11,4 @@ mod runs;
 pub use delta::Delta;
 pub use fault::DeltaFault;
 pub use generations::{Generations, LONG_CAP, MIDDLE_CAP, SHORT_CAP};
+pub use runs::{longest, push_up_to};

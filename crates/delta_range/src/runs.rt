@@ -10,8 +10,8 @@ use dot_context::Context;
 use presence_base::{Dot, Replica};
 use std::alloc::{AllocError, Global};
 
-// Adds the counts of the runs at or below `end`.
-pub(crate) fn push_up_to(
+/// Adds the counts of the runs at or below `end`.
+pub fn push_up_to(
     runs: &mut Vec<(u64, u64)>,
     more: &[(u64, u64)],
     end: u64,
@@ -35,9 +35,9 @@ pub(crate) fn runs_of(alloc: Global, dots: &[Dot]) -> Result<Vec<(u64, u64)>, Al
         .collect(alloc)
 }
 
-// The longest runs that have the counts of these. The sort merges lists that are in order, so its cost is then that of
-// their lengths.
-pub(crate) fn longest(alloc: Global, runs: Vec<(u64, u64)>) -> Result<Vec<(u64, u64)>, AllocError>
+/// The longest runs that have the counts of these. The sort merges lists that are in order, so its cost is then that of
+/// their lengths.
+pub fn longest(alloc: Global, runs: Vec<(u64, u64)>) -> Result<Vec<(u64, u64)>, AllocError>
     requires { AreLong runs.items }
     ensures { IfOk result (λ v. v.items ≡ longest runs.items) }
 {

@@ -9,6 +9,7 @@ use Rattle.std.specs.Cmp.{eq_by_cmp_equiv}
 use Rattle.presence_base.specs.declared.dots.Replica.{Replica}
 use Rattle.presence_base.specs.Order.{replica_cmp, same_replica}
 use Rattle.dot_context.specs.Runs.{in_run, holds, AreRuns, AreLong, AreApart, has_room, is_hollow, begins, Opens, Fills, Sweeps}
+use Rattle.dot_context.specs.Changes.{ChangesAt}
 use Rattle.dot_context.specs.Sets.{RunsOf, listed, runs_at, runs_in, HasSome, IsCompact, HasRoomFor}
 use Rattle.dot_context.proofs.SetFacts.{replica_total, replica_antisymmetric, is_tied, flipped}
 use Rattle.dot_context.proofs.LoopFacts.{either, left_true, opens_none, strict, none_hollow, room_kept, some_room, begins_first, all_proper, key_itself}
@@ -18,10 +19,6 @@ same_as q r e = replica_antisymmetric q r (is_tied (replica_cmp q r) e)
 
 pub same_itself : (r : Replica) → same_replica r r ≡ true
 same_itself r = (eq_by_cmp_equiv replica_total).refl r
-
--- n has what m has, but `new` at r
-abbrev pub ChangesAt : RunsOf → RunsOf → Replica → Option (List (ℕ × ℕ)) → Type 0
-ChangesAt m n r new = (q : Replica) → get replica_cmp n q ≡ cond (same_replica r q) new (get replica_cmp m q)
 
 found_some : (m : RunsOf) (r : Replica) (old : List (ℕ × ℕ)) → get replica_cmp m r ≡ Some old → IsSome (get replica_cmp m r)
 found_some m r old e = subst (λ o. IsSome o) (sym e) refl

@@ -1,13 +1,17 @@
 -- Runs of counts. A run is the pair of the count below its first one and its last one.
-use Rattle.std.specs.Prelude.{◌≡◌, ℕ, ◌<◌, ◌≤◌, suc, Option, cond, Bool, true, false, ◌&&◌, ◌||◌, nat_lt, nat_le, ◌==◌, List, [], ◌∷◌}
+use Rattle.std.specs.Prelude.{◌≡◌, ℕ, ◌<◌, ◌≤◌, suc, Option, Some, IsSome, cond, Bool, true, false, ◌&&◌, ◌||◌, nat_lt, nat_le, ◌==◌, List, [], ◌∷◌}
 use Rattle.std.specs.List.{list_any, filter}
 use Rattle.std.specs.Map.{lookup, remove_entry, set_value}
-use Rattle.std.specs.BTreeMap.{is_at}
+use Rattle.std.specs.BTreeMap.{BTreeMap, get, is_at}
 use Rattle.std.specs.Ordering.{nat_cmp}
 
 -- a run has the counts above its first number, up to its second
 abbrev pub in_run : ℕ × ℕ → ℕ → Bool
 in_run r n = nat_lt r.0 n && nat_le n r.1
+
+-- the last run that begins at or below a count
+abbrev pub IsLastAt : BTreeMap ℕ ℕ → ℕ → ℕ × ℕ → Type 0
+IsLastAt runs n r = (r.0 ≤ n) × (get nat_cmp runs r.0 ≡ Some r.1) × ((f : ℕ) → f ≤ n → IsSome (get nat_cmp runs f) → f ≤ r.0)
 
 -- whether one of the runs has the count
 abbrev pub holds : List (ℕ × ℕ) → ℕ → Bool

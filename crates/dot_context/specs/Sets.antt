@@ -1,5 +1,5 @@
 -- What the runs of each replica stand for: a set of dots.
-use Rattle.std.specs.Prelude.{◌≡◌, ℕ, true, ◌-◌, ◌<◌, zero, suc, Bool, not, cond, ◌&&◌, nat_lt, nat_le, List, [], ◌∷◌, ◌++◌, length, Option, Some, None, refl}
+use Rattle.std.specs.Prelude.{◌≡◌, ℕ, true, ◌-◌, ◌<◌, ◌≤◌, zero, suc, Bool, not, cond, ◌&&◌, nat_lt, nat_le, List, [], ◌∷◌, ◌++◌, length, Option, Some, None, refl}
 use Rattle.std.specs.FinSet as set
 use Rattle.std.specs.BTreeMap.{BTreeMap, get}
 use Rattle.presence_base.specs.declared.dots.Replica.{Replica}
@@ -11,6 +11,10 @@ use Rattle.dot_context.specs.Runs.{AreRuns, AreApart, has_room, is_hollow, begin
 
 abbrev pub DotSet : Type 0
 DotSet = set.FinSet dot_cmp
+
+-- all of the replica's dots up to a count are in the set
+abbrev pub HasUpTo : DotSet → Replica → ℕ → Type 0
+HasUpTo s r top = (n : ℕ) → 1 ≤ n → n ≤ top → set.contains s (record { replica = r; count = n }) ≡ true
 
 -- the dots of the k counts above `from`
 abbrev pub span : Replica → ℕ → ℕ → List Dot

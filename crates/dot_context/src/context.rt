@@ -1,6 +1,6 @@
-ghost use Rattle.std.specs.Prelude.{◌≡◌, ◌≤◌, ◌+◌, ℕ, true, false, OnOk, OnErr, IfOk, IfErr};
+ghost use Rattle.std.specs.Prelude.{◌≡◌, ◌≤◌, ◌+◌, false, OnOk, OnErr, IfOk, IfErr};
 ghost use Rattle.std.specs.FinSet as set;
-ghost use Rattle.dot_context.specs.Sets.{DotSet, range, without};
+ghost use Rattle.dot_context.specs.Sets.{DotSet, HasUpTo, range, without};
 ghost use Rattle.dot_context.specs.Forms.{vector_of, cloud_of, tops_of, HasOneForm, IfFormed};
 
 use crate::plan::ContextPlan;
@@ -54,7 +54,7 @@ impl Context {
 
     /// The count up to which all of the replica's dots are in the set.
     pub fn top(&self, replica: &Replica) -> u64
-        ensures below { (n : ℕ) → 1 ≤ n → n ≤ result → set.contains self.now (record { replica = replica.now; count = n }) ≡ true }
+        ensures below { HasUpTo self.now replica.now result }
         ensures next { set.contains self.now (record { replica = replica.now; count = result + 1 }) ≡ false }
     {
         top_of_replica(&self.replicas, replica)

@@ -1,11 +1,11 @@
 // The runs of each replica, by the replica.
-ghost use Rattle.std.specs.Prelude.{◌≡◌, ◌≤◌, ◌<◌, ◌&&◌, ◌||◌, ◌+◌, ℕ, true, false, cond, Some, None, OnOk, OnErr, []};
-ghost use Rattle.std.specs.BTreeMap.{get, IsUnchanged};
-ghost use Rattle.presence_base.specs.Order.{replica_cmp, same_replica};
-ghost use Rattle.presence_base.specs.declared.dots.Dot.{Dot as DotValue};
-ghost use Rattle.presence_base.specs.declared.dots.Replica.{Replica as ReplicaValue};
-ghost use Rattle.dot_context.specs.Runs.{holds, begins, has_room, AreRuns, AreApart, AreLong, Opens, Fills, Sweeps};
-ghost use Rattle.dot_context.specs.Sets.{in_range, runs_at, runs_in, HasSome, IsCompact, HasRoomFor};
+ghost use Rattle.std.specs.Prelude.{◌≡◌, ◌≤◌, ◌<◌, ◌&&◌, ◌+◌, ℕ, true, false, Some, None, OnOk, OnErr};
+ghost use Rattle.std.specs.BTreeMap.{IsUnchanged};
+ghost use Rattle.presence_base.specs.Order.{same_replica};
+ghost use Rattle.dot_context.specs.Runs.{holds, AreLong};
+ghost use Rattle.dot_context.specs.Sets.{in_range, runs_at, IsCompact, HasRoomFor};
+ghost use Rattle.dot_context.specs.Changes.{ChangesAt, has_dot, SameDots, AddsDots, AllApart, AllHaveRuns, OthersHaveRuns, NoneHasRuns};
+ghost use Rattle.dot_context.specs.Changes.{held_by, begun_by, held_in, begun_in, HasRoomAt, OpensAll, FillsAll, SweepsAll};
 
 use crate::runs::Runs;
 use presence_base::{Dot, Replica};
@@ -13,7 +13,7 @@ use std::alloc::{AllocError, Global};
 use std::collections::BTreeMap;
 
 pub(crate) fn covers_dot(replicas: &BTreeMap<Replica, Runs>, dot: &Dot) -> bool
-    ensures { result ≡ holds (runs_at replicas.now dot.now.replica) dot.now.count }
+    ensures { result ≡ has_dot replicas.now dot.now }
 {
     match replicas.get(&dot.replica) {
         Some(runs) => runs.covers(dot.count),
@@ -36,7 +36,7 @@ fn insert_new(
     replica: Replica,
     runs: Runs,
 ) -> Result<(), AllocError>
-    ensures ok { OnOk result ((q : ReplicaValue) → get replica_cmp replicas.new q ≡ cond (same_replica replica q) (Some runs) (get replica_cmp replicas.old q)) }
+    ensures ok { OnOk result (ChangesAt replicas.old replicas.new replica (Some runs)) }
     ensures err { OnErr result (IsUnchanged replicas.old replicas.new) }
 {
     match replicas.insert(replica, runs) {
@@ -46,7 +46,7 @@ fn insert_new(
 }
 
 pub(crate) fn take_out(replicas: &mut BTreeMap<Replica, Runs>, replica: &Replica)
-    ensures { (q : ReplicaValue) → get replica_cmp replicas.new q ≡ cond (same_replica replica.now q) None (get replica_cmp replicas.old q) }
+    ensures { ChangesAt replicas.old replicas.new replica.now None }
 {
     replicas.remove(replica);
 }
@@ -62,8 +62,8 @@ pub(crate) fn put_range(
     requires order { from < to }
     requires compact { IsCompact replicas.old }
     ensures compact { IsCompact replicas.new }
-    ensures ok { OnOk result ((q : DotValue) → holds (runs_at replicas.new q.replica) q.count ≡ (holds (runs_at replicas.old q.replica) q.count || in_range replica from to q)) }
-    ensures err { OnErr result ((q : DotValue) → holds (runs_at replicas.new q.replica) q.count ≡ holds (runs_at replicas.old q.replica) q.count) }
+    ensures ok { OnOk result (AddsDots replicas.old replicas.new (in_range replica from to)) }
+    ensures err { OnErr result (SameDots replicas.old replicas.new) }
 {
     if let Some(runs) = replicas.get_mut(&replica) {
         return runs.add_range(from, to);
@@ -80,11 +80,11 @@ fn room_in(
     replica: &Replica,
     runs: &Runs,
 ) -> Result<(), AllocError>
-    requires apart { (q : ReplicaValue) → AreApart 0 (runs_at replicas.old q) }
-    requires some { (q : ReplicaValue) → HasSome (get replica_cmp replicas.old q) }
-    ensures some { (q : ReplicaValue) → HasSome (get replica_cmp replicas.new q) }
-    ensures opens { (q : ReplicaValue) → Opens (runs_at replicas.old q) (runs_at replicas.new q) (λ g. same_replica q replica.now && begins runs.now g) }
-    ensures ok { OnOk result ((q : ReplicaValue) (g : ℕ) → (same_replica q replica.now && begins runs.now g) ≡ true → has_room (runs_at replicas.new q) g ≡ true) }
+    requires apart { AllApart replicas.old }
+    requires some { AllHaveRuns replicas.old }
+    ensures some { AllHaveRuns replicas.new }
+    ensures opens { OpensAll replicas.old replicas.new (begun_by replica.now runs.now) }
+    ensures ok { OnOk result (HasRoomAt replicas.new (begun_by replica.now runs.now)) }
 {
     if runs.is_empty() {
         return Ok(());
@@ -102,11 +102,11 @@ fn room_for_all(
     alloc: Global,
     others: &BTreeMap<Replica, Runs>,
 ) -> Result<(), AllocError>
-    requires apart { (q : ReplicaValue) → AreApart 0 (runs_at replicas.old q) }
-    requires some { (q : ReplicaValue) → HasSome (get replica_cmp replicas.old q) }
-    ensures some { (q : ReplicaValue) → HasSome (get replica_cmp replicas.new q) }
-    ensures opens { (q : ReplicaValue) → Opens (runs_at replicas.old q) (runs_at replicas.new q) (begins (runs_in others.now.entries q)) }
-    ensures ok { OnOk result ((q : ReplicaValue) (g : ℕ) → begins (runs_in others.now.entries q) g ≡ true → has_room (runs_at replicas.new q) g ≡ true) }
+    requires apart { AllApart replicas.old }
+    requires some { AllHaveRuns replicas.old }
+    ensures some { AllHaveRuns replicas.new }
+    ensures opens { OpensAll replicas.old replicas.new (begun_in others.now) }
+    ensures ok { OnOk result (HasRoomAt replicas.new (begun_in others.now)) }
 {
     for (replica, runs) in others {
         room_in(replicas, alloc, replica, runs)?;
@@ -116,12 +116,12 @@ fn room_for_all(
 
 // Adds the runs of a replica, for which there is room.
 fn fill_in(replicas: &mut BTreeMap<Replica, Runs>, replica: &Replica, runs: &Runs)
-    requires apart { (q : ReplicaValue) → AreApart 0 (runs_at replicas.old q) }
-    requires some { (q : ReplicaValue) → HasSome (get replica_cmp replicas.old q) }
+    requires apart { AllApart replicas.old }
+    requires some { AllHaveRuns replicas.old }
     requires long { AreLong runs.now }
-    requires room { (q : ReplicaValue) (g : ℕ) → (same_replica q replica.now && begins runs.now g) ≡ true → has_room (runs_at replicas.old q) g ≡ true }
-    ensures some { (q : ReplicaValue) → HasSome (get replica_cmp replicas.new q) }
-    ensures fills { (q : ReplicaValue) → Fills (runs_at replicas.old q) (runs_at replicas.new q) (λ n. same_replica q replica.now && holds runs.now n) (λ g. same_replica q replica.now && begins runs.now g) }
+    requires room { HasRoomAt replicas.old (begun_by replica.now runs.now) }
+    ensures some { AllHaveRuns replicas.new }
+    ensures fills { FillsAll replicas.old replicas.new (held_by replica.now runs.now) (begun_by replica.now runs.now) }
 {
     if let Some(own) = replicas.get_mut(replica) {
         own.fill_from(runs);
@@ -129,12 +129,12 @@ fn fill_in(replicas: &mut BTreeMap<Replica, Runs>, replica: &Replica, runs: &Run
 }
 
 fn fill_all(replicas: &mut BTreeMap<Replica, Runs>, others: &BTreeMap<Replica, Runs>)
-    requires apart { (q : ReplicaValue) → AreApart 0 (runs_at replicas.old q) }
-    requires some { (q : ReplicaValue) → HasSome (get replica_cmp replicas.old q) }
+    requires apart { AllApart replicas.old }
+    requires some { AllHaveRuns replicas.old }
     requires others { IsCompact others.now }
-    requires room { (q : ReplicaValue) (g : ℕ) → begins (runs_in others.now.entries q) g ≡ true → has_room (runs_at replicas.old q) g ≡ true }
-    ensures some { (q : ReplicaValue) → HasSome (get replica_cmp replicas.new q) }
-    ensures fills { (q : ReplicaValue) → Fills (runs_at replicas.old q) (runs_at replicas.new q) (holds (runs_at others.now q)) (begins (runs_in others.now.entries q)) }
+    requires room { HasRoomAt replicas.old (begun_in others.now) }
+    ensures some { AllHaveRuns replicas.new }
+    ensures fills { FillsAll replicas.old replicas.new (held_in others.now) (begun_in others.now) }
 {
     for (replica, runs) in others {
         fill_in(replicas, replica, runs);
@@ -143,11 +143,11 @@ fn fill_all(replicas: &mut BTreeMap<Replica, Runs>, others: &BTreeMap<Replica, R
 
 // Takes the hollow runs out, and answers whether none is left.
 fn sweep_runs(replicas: &mut BTreeMap<Replica, Runs>, replica: &Replica, runs: &Runs) -> bool
-    requires apart { (q : ReplicaValue) → AreApart 0 (runs_at replicas.old q) }
-    requires some { (q : ReplicaValue) → HasSome (get replica_cmp replicas.old q) }
-    ensures some { (q : ReplicaValue) → (result && same_replica replica.now q) ≡ false → HasSome (get replica_cmp replicas.new q) }
-    ensures none { result ≡ true → (q : ReplicaValue) → same_replica replica.now q ≡ true → runs_at replicas.new q ≡ [] }
-    ensures sweeps { (q : ReplicaValue) → Sweeps (runs_at replicas.old q) (runs_at replicas.new q) (λ g. same_replica q replica.now && begins runs.now g) }
+    requires apart { AllApart replicas.old }
+    requires some { AllHaveRuns replicas.old }
+    ensures some { OthersHaveRuns replicas.new (λ q. result && same_replica replica.now q) }
+    ensures none { result ≡ true → NoneHasRuns replicas.new (same_replica replica.now) }
+    ensures sweeps { SweepsAll replicas.old replicas.new (begun_by replica.now runs.now) }
 {
     match replicas.get_mut(replica) {
         Some(own) => {
@@ -160,10 +160,10 @@ fn sweep_runs(replicas: &mut BTreeMap<Replica, Runs>, replica: &Replica, runs: &
 
 // Takes the hollow runs of a replica out, and the replica where none is left.
 fn sweep_in(replicas: &mut BTreeMap<Replica, Runs>, replica: &Replica, runs: &Runs)
-    requires apart { (q : ReplicaValue) → AreApart 0 (runs_at replicas.old q) }
-    requires some { (q : ReplicaValue) → HasSome (get replica_cmp replicas.old q) }
-    ensures some { (q : ReplicaValue) → HasSome (get replica_cmp replicas.new q) }
-    ensures sweeps { (q : ReplicaValue) → Sweeps (runs_at replicas.old q) (runs_at replicas.new q) (λ g. same_replica q replica.now && begins runs.now g) }
+    requires apart { AllApart replicas.old }
+    requires some { AllHaveRuns replicas.old }
+    ensures some { AllHaveRuns replicas.new }
+    ensures sweeps { SweepsAll replicas.old replicas.new (begun_by replica.now runs.now) }
 {
     if sweep_runs(replicas, replica, runs) {
         take_out(replicas, replica);
@@ -171,10 +171,10 @@ fn sweep_in(replicas: &mut BTreeMap<Replica, Runs>, replica: &Replica, runs: &Ru
 }
 
 fn sweep_all(replicas: &mut BTreeMap<Replica, Runs>, others: &BTreeMap<Replica, Runs>)
-    requires apart { (q : ReplicaValue) → AreApart 0 (runs_at replicas.old q) }
-    requires some { (q : ReplicaValue) → HasSome (get replica_cmp replicas.old q) }
-    ensures some { (q : ReplicaValue) → HasSome (get replica_cmp replicas.new q) }
-    ensures sweeps { (q : ReplicaValue) → Sweeps (runs_at replicas.old q) (runs_at replicas.new q) (begins (runs_in others.now.entries q)) }
+    requires apart { AllApart replicas.old }
+    requires some { AllHaveRuns replicas.old }
+    ensures some { AllHaveRuns replicas.new }
+    ensures sweeps { SweepsAll replicas.old replicas.new (begun_in others.now) }
 {
     for (replica, runs) in others {
         sweep_in(replicas, replica, runs);
@@ -191,7 +191,7 @@ pub(crate) fn open_all(
     requires others { IsCompact others.now }
     ensures ok { OnOk result (HasRoomFor replicas.new others.now) }
     ensures err { OnErr result (IsCompact replicas.new) }
-    ensures same { (q : DotValue) → holds (runs_at replicas.new q.replica) q.count ≡ holds (runs_at replicas.old q.replica) q.count }
+    ensures same { SameDots replicas.old replicas.new }
 {
     match room_for_all(replicas, alloc, others) {
         Ok(()) => Ok(()),
@@ -206,7 +206,7 @@ pub(crate) fn open_all(
 pub(crate) fn fill_room(replicas: &mut BTreeMap<Replica, Runs>, others: &BTreeMap<Replica, Runs>)
     requires { HasRoomFor replicas.old others.now }
     ensures compact { IsCompact replicas.new }
-    ensures joined { (q : DotValue) → holds (runs_at replicas.new q.replica) q.count ≡ (holds (runs_at replicas.old q.replica) q.count || holds (runs_at others.now q.replica) q.count) }
+    ensures joined { AddsDots replicas.old replicas.new (has_dot others.now) }
 {
     fill_all(replicas, others);
 }
@@ -215,7 +215,7 @@ pub(crate) fn fill_room(replicas: &mut BTreeMap<Replica, Runs>, others: &BTreeMa
 pub(crate) fn close_room(replicas: &mut BTreeMap<Replica, Runs>, others: &BTreeMap<Replica, Runs>)
     requires { HasRoomFor replicas.old others.now }
     ensures compact { IsCompact replicas.new }
-    ensures same { (q : DotValue) → holds (runs_at replicas.new q.replica) q.count ≡ holds (runs_at replicas.old q.replica) q.count }
+    ensures same { SameDots replicas.old replicas.new }
 {
     sweep_all(replicas, others);
 }
@@ -229,8 +229,8 @@ pub(crate) fn join_all(
     requires compact { IsCompact replicas.old }
     requires others { IsCompact others.now }
     ensures compact { IsCompact replicas.new }
-    ensures ok { OnOk result ((q : DotValue) → holds (runs_at replicas.new q.replica) q.count ≡ (holds (runs_at replicas.old q.replica) q.count || holds (runs_at others.now q.replica) q.count)) }
-    ensures err { OnErr result ((q : DotValue) → holds (runs_at replicas.new q.replica) q.count ≡ holds (runs_at replicas.old q.replica) q.count) }
+    ensures ok { OnOk result (AddsDots replicas.old replicas.new (has_dot others.now)) }
+    ensures err { OnErr result (SameDots replicas.old replicas.new) }
 {
     open_all(replicas, alloc, others)?;
     fill_room(replicas, others);

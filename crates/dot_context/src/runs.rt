@@ -1,8 +1,8 @@
-ghost use Rattle.std.specs.Prelude.{◌≡◌, ◌≤◌, ◌<◌, ◌&&◌, ◌||◌, ◌==◌, ℕ, IfSome, IfNone, IsSome, IsTrue, nat_lt, nat_le, OnOk, OnErr, true, false, None, Some, [], length};
+ghost use Rattle.std.specs.Prelude.{◌≡◌, ◌≤◌, ◌<◌, ◌&&◌, ◌==◌, ℕ, IfSome, IfNone, IsSome, IsTrue, nat_lt, OnOk, OnErr, true, false, None, Some, [], length};
 ghost use Rattle.std.specs.Bool.{MatchBool};
 ghost use Rattle.std.specs.BTreeMap.{get, IsUnchanged};
 ghost use Rattle.std.specs.Ordering.{nat_cmp};
-ghost use Rattle.dot_context.specs.Runs.{in_run, holds, AreLong, AreApart, has_room, is_hollow, moved_to, begins, top_count, above_top, Opens, Fills, Sweeps, Absorbs};
+ghost use Rattle.dot_context.specs.Runs.{in_run, holds, IsLastAt, AreLong, AreApart, has_room, is_hollow, moved_to, begins, top_count, above_top, Opens, Fills, Sweeps, Absorbs};
 
 use std::alloc::{AllocError, Global};
 use std::collections::BTreeMap;
@@ -11,7 +11,7 @@ use std::marker::Model;
 
 // The last run that begins at or below `count`.
 fn last_at(runs: &BTreeMap<u64, u64>, count: u64) -> Option<(u64, u64)>
-    ensures some { IfSome result (λ r. (r.0 ≤ count) × (get nat_cmp runs.now r.0 ≡ Some r.1) × ((f : ℕ) → f ≤ count → IsSome (get nat_cmp runs.now f) → f ≤ r.0)) }
+    ensures some { IfSome result (IsLastAt runs.now count) }
     ensures none { IfNone result ((f : ℕ) → f ≤ count → get nat_cmp runs.now f ≡ None) }
 {
     match runs.range(..=count).next_back() {

@@ -4,7 +4,7 @@ pub mod Limits
 pub mod Members
 pub mod Reading
 pub mod Results
-pub mod RowMembers
+pub mod Taken
 pub mod Telling
 pub mod Told
 pub mod Values

@@ -1,5 +1,5 @@
 -- The limits of lines.
-use Rattle.std.specs.Prelude.{ℕ, List, Bool, true, ◌&&◌, nat_le, nat_lt, is_some, is_none, Option, Some, None}
+use Rattle.std.specs.Prelude.{◌≡◌, ℕ, List, Bool, true, ◌&&◌, nat_le, nat_lt, is_some, is_none, Option, Some, None}
 use Rattle.std.specs.List.{list_all}
 use Rattle.serde_json.specs.Find.{as_object}
 use Rattle.presence_base.specs.declared.dots.TheConstants.{MAX_COUNT}
@@ -12,8 +12,13 @@ use Rattle.orswot_core.specs.Telling.{Range, ToldValue}
 use Rattle.orswot_core.specs.Checks.{first_fault}
 use Rattle.node_links_lines.specs.declared.lines.Line.{Line}
 use Rattle.node_links_lines.specs.declared.lines.Line.TheVariants as lines_are
-use Rattle.node_links_lines.specs.declared.lines.TheConstants.{MAX_SHARDS}
+use Rattle.node_links_lines.specs.declared.lines.TheConstants.{MAX_LINE_BYTES, MAX_SHARDS}
 use Rattle.node_links_lines.specs.Told.{is_delta_of}
+
+-- the limits, which the other definitions cite by their names
+pub record LimitsAreThese : Type 0 where
+  pub line_bytes : MAX_LINE_BYTES ≡ 4194304
+  pub shards : MAX_SHARDS ≡ 4
 
 abbrev pub is_from_to : ℕ → ℕ → ℕ → Bool
 is_from_to low high n = nat_le low n && nat_le n high

@@ -5,7 +5,6 @@ use Rattle.serde_json.specs.Data.{Data, null}
 use Rattle.presence_base.specs.declared.dots.Replica.{Replica}
 use Rattle.presence_base.specs.Names.{guarded}
 use Rattle.presence_base.specs.Order.{same_replica}
-use Rattle.orswot_core_told.specs.declared.raw.RawTold.{RawTold}
 use Rattle.orswot_core_told.specs.declared.told.ToldFault.{ToldFault}
 use Rattle.orswot_core.specs.Telling.{Range, ToldValue}
 use Rattle.orswot_core.specs.Checks.{first_fault}
@@ -14,9 +13,6 @@ use Rattle.node_links_lines.specs.declared.lines.LinkFault.TheVariants.{BadTold}
 use Rattle.node_links_lines.specs.Arrays.{three_in}
 use Rattle.node_links_lines.specs.Results.{◌>>=◌, or_bad}
 use Rattle.node_links_lines.specs.Telling.{range_in, extra_in, row_in, list_in}
-
-abbrev pub raw_value : RawTold → ToldValue
-raw_value t = record { ranges = t.ranges.items; extras = t.extras.items; live = t.live.items }
 
 -- three lists: ranges, extras, live rows
 unfoldable pub raw_told_in : Data → Result ToldValue LinkFault

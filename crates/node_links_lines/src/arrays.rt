@@ -1,13 +1,13 @@
 // The members of arrays of just so many: lent, or taken out.
 ghost use Rattle.std.specs.Prelude.{◌≡◌, option_map};
 ghost use Rattle.serde_json.specs.View.{view, items_view};
-ghost use Rattle.node_links_lines.specs.RowMembers.{eight_view};
+ghost use Rattle.node_links_lines.specs.Taken.{lent_three, lent_four, lent_five, taken_three, taken_six, taken_row};
 ghost use Rattle.node_links_lines.specs.Arrays.{three_items, three_in, four_items, four_in, five_items, five_in, six_items, six_in, eight_items, eight_in};
 
 use serde_json::Value;
 
 fn three_of_items(items: &[Value]) -> Option<(&Value, &Value, &Value)>
-    ensures { option_map (λ m. (view m.0.now, view m.1.now, view m.2.now)) result ≡ three_items (items_view items.now) }
+    ensures { option_map lent_three result ≡ three_items (items_view items.now) }
 {
     if items.len() != 3 {
         return None;
@@ -16,7 +16,7 @@ fn three_of_items(items: &[Value]) -> Option<(&Value, &Value, &Value)>
 }
 
 pub(crate) fn three_of(value: &Value) -> Option<(&Value, &Value, &Value)>
-    ensures { option_map (λ m. (view m.0.now, view m.1.now, view m.2.now)) result ≡ three_in (view value.now) }
+    ensures { option_map lent_three result ≡ three_in (view value.now) }
 {
     match value {
         Value::Array(items) => three_of_items(items),
@@ -25,7 +25,7 @@ pub(crate) fn three_of(value: &Value) -> Option<(&Value, &Value, &Value)>
 }
 
 fn four_of_items(items: &[Value]) -> Option<(&Value, &Value, &Value, &Value)>
-    ensures { option_map (λ m. (view m.0.now, view m.1.now, view m.2.now, view m.3.now)) result ≡ four_items (items_view items.now) }
+    ensures { option_map lent_four result ≡ four_items (items_view items.now) }
 {
     if items.len() != 4 {
         return None;
@@ -34,7 +34,7 @@ fn four_of_items(items: &[Value]) -> Option<(&Value, &Value, &Value, &Value)>
 }
 
 pub(crate) fn four_of(value: &Value) -> Option<(&Value, &Value, &Value, &Value)>
-    ensures { option_map (λ m. (view m.0.now, view m.1.now, view m.2.now, view m.3.now)) result ≡ four_in (view value.now) }
+    ensures { option_map lent_four result ≡ four_in (view value.now) }
 {
     match value {
         Value::Array(items) => four_of_items(items),
@@ -43,7 +43,7 @@ pub(crate) fn four_of(value: &Value) -> Option<(&Value, &Value, &Value, &Value)>
 }
 
 fn five_of_items(items: &[Value]) -> Option<(&Value, &Value, &Value, &Value, &Value)>
-    ensures { option_map (λ m. (view m.0.now, view m.1.now, view m.2.now, view m.3.now, view m.4.now)) result ≡ five_items (items_view items.now) }
+    ensures { option_map lent_five result ≡ five_items (items_view items.now) }
 {
     if items.len() != 5 {
         return None;
@@ -52,7 +52,7 @@ fn five_of_items(items: &[Value]) -> Option<(&Value, &Value, &Value, &Value, &Va
 }
 
 pub(crate) fn five_of(value: &Value) -> Option<(&Value, &Value, &Value, &Value, &Value)>
-    ensures { option_map (λ m. (view m.0.now, view m.1.now, view m.2.now, view m.3.now, view m.4.now)) result ≡ five_in (view value.now) }
+    ensures { option_map lent_five result ≡ five_in (view value.now) }
 {
     match value {
         Value::Array(items) => five_of_items(items),
@@ -61,7 +61,7 @@ pub(crate) fn five_of(value: &Value) -> Option<(&Value, &Value, &Value, &Value, 
 }
 
 fn take_three_items(mut items: Vec<Value>) -> Option<(Value, Value, Value)>
-    ensures { option_map (λ m. (view m.0, view m.1, view m.2)) result ≡ three_items (items_view items.items) }
+    ensures { option_map taken_three result ≡ three_items (items_view items.items) }
 {
     if items.len() != 3 {
         return None;
@@ -73,7 +73,7 @@ fn take_three_items(mut items: Vec<Value>) -> Option<(Value, Value, Value)>
 }
 
 pub(crate) fn take_three(value: Value) -> Option<(Value, Value, Value)>
-    ensures { option_map (λ m. (view m.0, view m.1, view m.2)) result ≡ three_in (view value) }
+    ensures { option_map taken_three result ≡ three_in (view value) }
 {
     match value {
         Value::Array(items) => take_three_items(items),
@@ -82,7 +82,7 @@ pub(crate) fn take_three(value: Value) -> Option<(Value, Value, Value)>
 }
 
 fn take_six_items(mut items: Vec<Value>) -> Option<(Value, Value, Value, Value, Value, Value)>
-    ensures { option_map (λ m. (view m.0, view m.1, view m.2, view m.3, view m.4, view m.5)) result ≡ six_items (items_view items.items) }
+    ensures { option_map taken_six result ≡ six_items (items_view items.items) }
 {
     if items.len() != 6 {
         return None;
@@ -97,7 +97,7 @@ fn take_six_items(mut items: Vec<Value>) -> Option<(Value, Value, Value, Value, 
 }
 
 pub(crate) fn take_six(value: Value) -> Option<(Value, Value, Value, Value, Value, Value)>
-    ensures { option_map (λ m. (view m.0, view m.1, view m.2, view m.3, view m.4, view m.5)) result ≡ six_in (view value) }
+    ensures { option_map taken_six result ≡ six_in (view value) }
 {
     match value {
         Value::Array(items) => take_six_items(items),
@@ -119,7 +119,7 @@ pub(crate) struct RowMembers {
 }
 
 fn take_eight_items(mut items: Vec<Value>) -> Option<RowMembers>
-    ensures { option_map eight_view result ≡ eight_items (items_view items.items) }
+    ensures { option_map taken_row result ≡ eight_items (items_view items.items) }
 {
     if items.len() != 8 {
         return None;
@@ -145,7 +145,7 @@ fn take_eight_items(mut items: Vec<Value>) -> Option<RowMembers>
 }
 
 pub(crate) fn take_eight(value: Value) -> Option<RowMembers>
-    ensures { option_map eight_view result ≡ eight_in (view value) }
+    ensures { option_map taken_row result ≡ eight_in (view value) }
 {
     match value {
         Value::Array(items) => take_eight_items(items),

@@ -3,6 +3,7 @@
 
 mod arrays;
 mod kinds;
+pub mod laws;
 mod lines;
 mod members;
 mod reading;

@@ -50,7 +50,8 @@ pub enum Line {
 }
 
 /// Why a link ends, or a line isn't written. Of several reasons for refusing a line the first in
-/// this order is told, and want of memory, which may come at any point, in its place.
+/// this order is told, and want of memory, which may come at any point, in its place: but a text that
+/// is too long to be decoded is refused as such.
 #[derive(Clone, Copy, PartialEq, Eq, Debug, Error)]
 pub enum LinkFault {
     #[error("the line is too long: 4194304 bytes are allowed")]

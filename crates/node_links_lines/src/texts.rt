@@ -1,7 +1,9 @@
-ghost use Rattle.std.specs.Prelude.{◌≡◌, ◌≤◌, ℕ, true, Some, Ok, IfOk, IfErr, string_bytes};
+ghost use Rattle.std.specs.Prelude.{◌≡◌, ◌≤◌, ◌<◌, ℕ, length, true, Some, Ok, Err, IfOk, IfErr, string_bytes};
 ghost use Rattle.serde_json.specs.Read.{read};
 ghost use Rattle.serde_json.specs.View.{view};
 ghost use Rattle.node_links_lines.specs.declared.lines.Line.{Line as LineValue};
+ghost use Rattle.node_links_lines.specs.declared.lines.LinkFault.TheVariants.{LineTooLong};
+ghost use Rattle.node_links_lines.specs.declared.lines.TheConstants.{MAX_LINE_BYTES};
 ghost use Rattle.node_links_lines.specs.Limits.{is_within};
 ghost use Rattle.node_links_lines.specs.Reading.{IsLine, IsTextFault, value_in, decoded};
 ghost use Rattle.node_links_lines.specs.Results.{Answers, Gives};
@@ -16,7 +18,8 @@ use std::alloc::{AllocError, Global};
 
 // The JSON value that the text is.
 fn value_of_text(alloc: Global, text: &str) -> Result<Value, LinkFault>
-    ensures { Gives view result (value_in text.now) }
+    ensures value { Gives view result (value_in text.now) }
+    ensures long { MAX_LINE_BYTES < length text.now → result ≡ Err LineTooLong }
 {
     if text.len() > MAX_LINE_BYTES {
         return Err(LinkFault::LineTooLong);
@@ -34,19 +37,21 @@ fn value_of_text(alloc: Global, text: &str) -> Result<Value, LinkFault>
 
 fn decode_exactly(alloc: Global, text: &str, shards: u32) -> Result<Line, LinkFault>
     requires { 1 ≤ shards }
-    ensures { Answers result (decoded shards text.now) }
+    ensures exact { Answers result (decoded shards text.now) }
+    ensures long { MAX_LINE_BYTES < length text.now → result ≡ Err LineTooLong }
 {
     let value = value_of_text(alloc, text)?;
     line_of_value(alloc, value, shards)
 }
 
 /// The line that a text is at a node with `shards` shards, or the first thing that is wrong with
-/// the text. Want of memory is answered in place of any answer.
+/// the text. Want of memory is answered in place of any answer, but of a text that is too long.
 pub fn decode_line(alloc: Global, text: &str, shards: u32) -> Result<Line, LinkFault>
     requires { 1 ≤ shards }
     ensures found { IfOk result (IsLine shards text.now) }
     ensures only { (line : LineValue) → IsLine shards text.now line → Answers result (Ok line) }
     ensures exact { Answers result (decoded shards text.now) }
+    ensures long { MAX_LINE_BYTES < length text.now → result ≡ Err LineTooLong }
     ensures faults { IfErr result (IsTextFault text.now) }
 {
     decode_exactly(alloc, text, shards)

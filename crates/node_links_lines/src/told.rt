@@ -3,8 +3,9 @@ ghost use Rattle.std.specs.Prelude.{◌≡◌, ◌≤◌};
 ghost use Rattle.std.specs.List.{list_all};
 ghost use Rattle.serde_json.specs.View.{view};
 ghost use Rattle.presence_base.specs.Order.{same_replica as is_replica};
+ghost use Rattle.orswot_core.specs.Checks.{raw_value};
 ghost use Rattle.node_links_lines.specs.Results.{Answers, Gives};
-ghost use Rattle.node_links_lines.specs.Told.{raw_value, raw_told_in, sound, told_in, is_one_range, is_delta_of, own_delta, delta_in};
+ghost use Rattle.node_links_lines.specs.Told.{raw_told_in, sound, told_in, is_one_range, is_delta_of, own_delta, delta_in};
 
 use crate::arrays::take_three;
 use crate::lines::LinkFault;

@@ -18,6 +18,7 @@ use Rattle.presence_base.specs.declared.row.Row.{Row}
 use Rattle.presence_base.specs.Order.{dot_cmp, replica_cmp, same_dot}
 use Rattle.orswot_core_told.specs.Telling.{Range, range_has}
 use Rattle.orswot_core.specs.Sets.{Rows, is_left}
+use Rattle.orswot_core.specs.Steps.{left_at}
 use Rattle.orswot_core_told.specs.Checks.{is_forward, dots_of}
 use Rattle.orswot_core_told.proofs.OrderFacts.{dots_equal, replica_total}
 
@@ -69,10 +70,6 @@ next_gathered p g g' d xs rest q split e =
     regroup true b same rest = refl
     regroup false true same rest = refl
     regroup false false same rest = refl
-
--- the dots whose rows are live here and not there
-abbrev pub left_at : Rows → Rows → Dot → Bool
-left_at here there q = is_left (get dot_cmp here q) (get dot_cmp there q)
 
 nothing_gathered : (g b : Bool) → (g || (b && false)) ≡ g
 nothing_gathered true b = refl

@@ -142,9 +142,6 @@ pub put_back_at : (o mid : Option Row) (c : Bool) → (is_some o ≡ true → c 
 put_back_at o mid true f g = g refl
 put_back_at o mid false f g = sym (uncovered_none o false f refl)
 
-abbrev pub seen : DotSet → Rows → DotRows
-seen s m = record { covered = s; live = rows_of m.entries }
-
 -- a loop over dots takes out one row after another
 pub taken_one : (m n : Rows) (d : Dot) (xs rest : List Dot) (q : Dot) → xs ≡ d ∷ rest → ((x : Dot) → get dot_cmp n x ≡ cond (same_dot d x) None (get dot_cmp m x))
     → cond (list_any (same_dot q) rest) None (get dot_cmp n q) ≡ cond (list_any (same_dot q) xs) None (get dot_cmp m q)

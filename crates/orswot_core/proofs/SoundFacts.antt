@@ -16,7 +16,8 @@ use Rattle.dot_context.proofs.SetFacts.{contains-without}
 use Rattle.orswot_core_told.specs.Limits.{is_count, is_dot, is_row, is_range}
 use Rattle.orswot_core_told.specs.Telling.{Range, ToldValue, range_has, covers, live_row}
 use Rattle.orswot_core_told.specs.Checks.{IsTold}
-use Rattle.orswot_core.specs.Sets.{Rows, DotRows, LiveRows, rows_of, is_sound, IsSound, joined_row, IsJoin, without_rows, removed, without_replica}
+use Rattle.orswot_core.specs.Sets.{Rows, DotRows, LiveRows, rows_of, seen, is_sound, IsSound, joined_row, IsJoin, without_rows, removed, without_replica}
+use Rattle.orswot_core.specs.Steps.{Removes}
 use Rattle.orswot_core_told.proofs.OrderFacts.{dot_total, dot_antisymmetric, dots_equal, replicas_equal, flipped}
 use Rattle.orswot_core.proofs.RowFacts.{seen_row, same_rows}
 
@@ -176,9 +177,6 @@ join_keeps s t m n has row other h step = sound_by t n (λ q.
     ∙ ap (is_sound q (set.contains s q || has q)) ((step q).1)
     ∙ joined_sound q (set.contains s q) (has q) (get dot_cmp m q) (row q) (sound_at s m h q) (other q))
 
-abbrev pub seen : DotSet → Rows → DotRows
-seen s m = record { covered = s; live = rows_of m.entries }
-
 pub is_join : (s t : DotSet) (m n : Rows) (v : DotRows) (has : Dot → Bool) (row : Dot → Option Row) → seen s m ≡ v → Joins s m has row t n → IsJoin v has row (seen t n)
 is_join s t m n v has row e step = λ q. (
   (step q).0 ∙ ap (λ x. set.contains x.covered q || has q) e,
@@ -197,10 +195,6 @@ joins_other s t o m n om w e union step = λ q. (
 
 pub other_sound : (o : DotSet) (om : Rows) (w : DotRows) → seen o om ≡ w → IsSound o (rows_of om.entries) → (q : Dot) → is_sound q (set.contains w.covered q) (map.get w.live q) ≡ true
 other_sound o om w e h q = ap (λ x. is_sound q (set.contains x.covered q) (map.get x.live q)) (sym e) ∙ h q
-
--- what a removal leaves
-abbrev pub Removes : DotSet → Rows → List Dot → Dot → DotSet → Rows → Type 0
-Removes s m ds event t n = (q : Dot) → (set.contains t q ≡ (same_dot q event || (set.contains s q || list_any (same_dot q) ds))) × (get dot_cmp n q ≡ cond (list_any (same_dot q) ds) None (get dot_cmp m q))
 
 pub remove_keeps : (s t : DotSet) (m n : Rows) (ds : List Dot) (event : Dot) → list_all is_dot ds ≡ true → is_dot event ≡ true → IsSound s (rows_of m.entries) → Removes s m ds event t n → IsSound t (rows_of n.entries)
 remove_keeps s t m n ds event hds he h step = sound_by t n (λ q.

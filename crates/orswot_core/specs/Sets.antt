@@ -29,6 +29,10 @@ pub record DotRows : Type 0 where
 abbrev pub rows_code : Coded DotRows
 rows_code = code_by (DotSet × LiveRows) (coded× (set.code dot_code) (map.code dot_code row_code)) (λ s. (s.covered, s.live)) (λ p. record { covered = p.0; live = p.1 }) (λ _. refl)
 
+-- the set of these covered dots and live rows
+abbrev pub seen : DotSet → Rows → DotRows
+seen s m = record { covered = s; live = rows_of m.entries }
+
 abbrev pub with_dot : DotRows → Dot → Row → DotRows
 with_dot s d r = record { covered = set.insert s.covered d; live = map.insert s.live d r }
 
@@ -83,6 +87,10 @@ abbrev pub IsJoin : DotRows → (Dot → Bool) → (Dot → Option Row) → DotR
 IsJoin s covers row s' =
     (d : Dot) → (set.contains s'.covered d ≡ (set.contains s.covered d || covers d))
     × (map.get s'.live d ≡ joined_row (map.get s.live d) (set.contains s.covered d) (row d) (covers d))
+
+-- the same with heard dots and their rows
+abbrev pub IsJoinWith : DotRows → DotSet → Rows → DotRows → Type 0
+IsJoinWith s heard rows s' = IsJoin s (set.contains heard) (get dot_cmp rows) s'
 
 -- what a join of covered dots and live rows with heard dots and rows needs: the dots of the rows that it adds, and of those
 -- that it takes out; what is heard is sound

@@ -3,7 +3,7 @@ ghost use Rattle.std.specs.Prelude.{◌≡◌, ◌++◌, ◌∷◌, ◌-◌, [],
 ghost use Rattle.std.specs.List.Sorted.{IsStrictlySortedBy};
 ghost use Rattle.std.specs.Map.{keys_of};
 ghost use Rattle.presence_base.specs.Order.{dot_cmp};
-ghost use Rattle.orswot_core.specs.Sets.{IsSound, rows_of};
+ghost use Rattle.orswot_core.specs.Sets.{IsSound, rows_of, seen};
 ghost use Rattle.orswot_core.specs.Full.{IsFull, up_to_top, dots_of_runs};
 ghost use Rattle.dot_context.specs.Sets.{span, run_dots};
 
@@ -105,7 +105,7 @@ pub(crate) fn full_told(
     live: &BTreeMap<Dot, Row>,
 ) -> Result<Told, AllocError>
     requires { IsSound covered.now (rows_of live.now.entries) }
-    ensures { IfOk result (λ t. IsFull (record { covered = covered.now; live = rows_of live.now.entries }) t) }
+    ensures { IfOk result (λ t. IsFull (seen covered.now live.now) t) }
 {
     let ranges = ranges_up_to(alloc, covered.tops())?;
     let extras = dots_in(alloc, covered.cloud())?;

@@ -1,15 +1,17 @@
 // Steps on covered dots and live rows. What is refused for memory is taken back without any.
-ghost use Rattle.std.specs.Prelude.{◌≡◌, ◌≤◌, Bool, true, false, cond, not, ◌&&◌, ◌||◌, Some, None, is_some, OnOk, OnErr, IfOk, ◌++◌, ◌∷◌, []};
-ghost use Rattle.std.specs.List.{list_any, list_all};
+ghost use Rattle.std.specs.Prelude.{◌≡◌, ◌≤◌, true, cond, not, ◌&&◌, ◌||◌, Some, None, is_some, OnOk, OnErr, IfOk, ◌++◌, ◌∷◌, []};
+ghost use Rattle.std.specs.List.{list_all};
 ghost use Rattle.std.specs.Map.{lookup};
 ghost use Rattle.std.specs.BTreeMap.{get, IsUnchanged};
 ghost use Rattle.std.specs.FinSet as set;
 ghost use Rattle.presence_base.specs.Order.{dot_cmp, same_dot, same_replica};
 ghost use Rattle.presence_base.specs.declared.dots.Dot.{Dot as DotValue};
 ghost use Rattle.orswot_core_told.specs.Limits.{is_dot};
-ghost use Rattle.orswot_core_told.specs.Telling.{range_has, covers, live_row};
-ghost use Rattle.orswot_core_told.specs.Checks.{IsTold, is_forward};
-ghost use Rattle.orswot_core.specs.Sets.{joined_row, first_row, is_left, is_missing, AreNeeded};
+ghost use Rattle.orswot_core_told.specs.Telling.{range_has, lies_in, is_among, covers, live_row};
+ghost use Rattle.orswot_core_told.specs.Checks.{is_forward};
+ghost use Rattle.orswot_core.specs.Sets.{is_left, AreNeeded};
+ghost use Rattle.orswot_core.specs.Steps.{ChangesRow, SameRows, KeepsRows, DropsRows, KeepsFirst, TakesMissing, KeepsCovered, Joins};
+ghost use Rattle.orswot_core.specs.Steps.{AreCovered, CoversAll, Removes, lacks, is_missing_of, left_at, Lists, Gathers, GathersLeft};
 
 use dot_context::Context;
 use orswot_core_told::{Told, add_dots, told_context};
@@ -19,7 +21,7 @@ use std::collections::BTreeMap;
 use std::ops::Bound;
 
 fn insert_row(live: &mut BTreeMap<Dot, Row>, dot: Dot, row: Row) -> Result<(), AllocError>
-    ensures ok { OnOk result ((q : DotValue) → get dot_cmp live.new q ≡ cond (same_dot dot q) (Some row) (get dot_cmp live.old q)) }
+    ensures ok { OnOk result (ChangesRow live.old live.new dot (Some row)) }
     ensures err { OnErr result (IsUnchanged live.old live.new) }
 {
     match live.insert(dot, row) {
@@ -29,7 +31,7 @@ fn insert_row(live: &mut BTreeMap<Dot, Row>, dot: Dot, row: Row) -> Result<(), A
 }
 
 fn take_row(live: &mut BTreeMap<Dot, Row>, dot: &Dot)
-    ensures { (q : DotValue) → get dot_cmp live.new q ≡ cond (same_dot dot.now q) None (get dot_cmp live.old q) }
+    ensures { ChangesRow live.old live.new dot.now None }
 {
     live.remove(dot);
 }
@@ -44,8 +46,8 @@ pub(crate) fn add_row(
 ) -> Result<(), AllocError>
     requires counted { 1 ≤ dot.count }
     requires new { get dot_cmp live.old dot ≡ None }
-    ensures ok { OnOk result ((covered.new ≡ set.insert covered.old dot) × ((q : DotValue) → get dot_cmp live.new q ≡ cond (same_dot dot q) (Some row) (get dot_cmp live.old q))) }
-    ensures err { OnErr result ((covered.new ≡ covered.old) × ((q : DotValue) → get dot_cmp live.new q ≡ get dot_cmp live.old q)) }
+    ensures ok { OnOk result ((covered.new ≡ set.insert covered.old dot) × ChangesRow live.old live.new dot (Some row)) }
+    ensures err { OnErr result ((covered.new ≡ covered.old) × SameRows live.old live.new) }
 {
     insert_row(live, dot, row)?;
     match covered.add(alloc, dot) {
@@ -59,28 +61,28 @@ pub(crate) fn add_row(
 
 // Keeps the rows whose dots are covered.
 fn keep_covered(live: &mut BTreeMap<Dot, Row>, covered: &Context)
-    ensures { (q : DotValue) → get dot_cmp live.new q ≡ cond (set.contains covered.now q) (get dot_cmp live.old q) None }
+    ensures { KeepsRows live.old live.new (set.contains covered.now) }
 {
     live.retain(|dot, _row| covered.covers(dot));
 }
 
 // Takes out the rows whose dots the other set covers and does not hold.
 fn drop_removed(live: &mut BTreeMap<Dot, Row>, covered: &Context, others: &BTreeMap<Dot, Row>)
-    ensures { (q : DotValue) → get dot_cmp live.new q ≡ cond (not (set.contains covered.now q) || is_some (get dot_cmp others.now q)) (get dot_cmp live.old q) None }
+    ensures { KeepsRows live.old live.new (λ q. lacks covered.now q || is_some (get dot_cmp others.now q)) }
 {
     live.retain(|dot, _row| !covered.covers(dot) || others.contains_key(dot));
 }
 
 // Takes out the replica's rows.
 pub(crate) fn forget_rows(live: &mut BTreeMap<Dot, Row>, replica: &Replica)
-    ensures { (q : DotValue) → get dot_cmp live.new q ≡ cond (not (same_replica q.replica replica.now)) (get dot_cmp live.old q) None }
+    ensures { KeepsRows live.old live.new (λ q. not (same_replica q.replica replica.now)) }
 {
     live.retain(|dot, _row| !dot.replica.cmp(replica).is_eq());
 }
 
 // Takes out the rows of these dots.
 pub(crate) fn drop_dots(live: &mut BTreeMap<Dot, Row>, dots: &[Dot])
-    ensures { (q : DotValue) → get dot_cmp live.new q ≡ cond (list_any (same_dot q) dots.now) None (get dot_cmp live.old q) }
+    ensures { DropsRows live.old live.new dots.now }
 {
     for dot in dots {
         take_row(live, dot);
@@ -93,8 +95,8 @@ pub(crate) fn insert_missing(
     covered: &Context,
     others: &BTreeMap<Dot, Row>,
 ) -> Result<(), AllocError>
-    ensures ok { OnOk result ((q : DotValue) → set.contains covered.now q ≡ false → get dot_cmp live.old q ≡ None → get dot_cmp live.new q ≡ get dot_cmp others.now q) }
-    ensures kept { (q : DotValue) → is_missing (set.contains covered.now q) (get dot_cmp others.now q) ≡ false → get dot_cmp live.new q ≡ get dot_cmp live.old q }
+    ensures ok { OnOk result (TakesMissing covered.now others.now live.old live.new) }
+    ensures kept { KeepsCovered covered.now others.now live.old live.new }
 {
     for (dot, row) in others.iter() {
         if !covered.covers(dot) {
@@ -113,9 +115,9 @@ pub(crate) fn join_rows(
     other: &Context,
     others: &BTreeMap<Dot, Row>,
 ) -> Result<(), AllocError>
-    requires { (q : DotValue) → is_some (get dot_cmp live.old q) ≡ true → set.contains covered.old q ≡ true }
-    ensures ok { OnOk result ((covered.new ≡ set.union covered.old other.now) × ((q : DotValue) → get dot_cmp live.new q ≡ joined_row (get dot_cmp live.old q) (set.contains covered.old q) (get dot_cmp others.now q) (set.contains other.now q))) }
-    ensures err { OnErr result ((covered.new ≡ covered.old) × ((q : DotValue) → get dot_cmp live.new q ≡ get dot_cmp live.old q)) }
+    requires { AreCovered covered.old live.old }
+    ensures ok { OnOk result (Joins covered.old covered.new live.old live.new other.now others.now) }
+    ensures err { OnErr result ((covered.new ≡ covered.old) × SameRows live.old live.new) }
 {
     match insert_missing(live, covered, others) {
         Ok(()) => {}
@@ -138,7 +140,7 @@ pub(crate) fn join_rows(
 
 // Inserts the row where its dot has none yet.
 fn keep_first(live: &mut BTreeMap<Dot, Row>, row: &(Dot, Row)) -> Result<(), AllocError>
-    ensures { OnOk result ((q : DotValue) → get dot_cmp live.new q ≡ first_row (get dot_cmp live.old q) (cond (same_dot q row.now.0) (Some row.now.1) None)) }
+    ensures { OnOk result (KeepsFirst live.old live.new (λ q. cond (same_dot q row.now.0) (Some row.now.1) None)) }
 {
     if live.contains_key(&row.0) {
         return Ok(());
@@ -173,7 +175,7 @@ fn gather_dot(
     told: &BTreeMap<Dot, Row>,
     dot: &Dot,
 ) -> Result<(), AllocError>
-    ensures { OnOk result ((q : DotValue) → list_any (same_dot q) gone.new.items ≡ (list_any (same_dot q) gone.old.items || (is_left (get dot_cmp live.now q) (get dot_cmp told.now q) && same_dot q dot.now))) }
+    ensures { OnOk result (GathersLeft live.now told.now gone.old.items gone.new.items (λ q. same_dot q dot.now)) }
 {
     if !is_row_left(live, told, dot) {
         return Ok(());
@@ -193,7 +195,7 @@ fn gather_extras(
     told: &BTreeMap<Dot, Row>,
     extras: &[Dot],
 ) -> Result<(), AllocError>
-    ensures { OnOk result ((q : DotValue) → list_any (same_dot q) gone.new.items ≡ (list_any (same_dot q) gone.old.items || (is_left (get dot_cmp live.now q) (get dot_cmp told.now q) && list_any (same_dot q) extras.now))) }
+    ensures { OnOk result (GathersLeft live.now told.now gone.old.items gone.new.items (is_among extras.now)) }
 {
     for dot in extras {
         gather_dot(gone, live, told, dot)?;
@@ -209,7 +211,7 @@ fn gather_range(
     range: &(Replica, u64, u64),
 ) -> Result<(), AllocError>
     requires { is_forward range.now ≡ true }
-    ensures { OnOk result ((q : DotValue) → list_any (same_dot q) gone.new.items ≡ (list_any (same_dot q) gone.old.items || (is_left (get dot_cmp live.now q) (get dot_cmp told.now q) && range_has q range.now))) }
+    ensures { OnOk result (GathersLeft live.now told.now gone.old.items gone.new.items (λ q. range_has q range.now)) }
 {
     let low = Dot {
         replica: range.0,
@@ -232,7 +234,7 @@ fn gather_ranges(
     ranges: &[(Replica, u64, u64)],
 ) -> Result<(), AllocError>
     requires { list_all is_forward ranges.now ≡ true }
-    ensures { OnOk result ((q : DotValue) → list_any (same_dot q) gone.new.items ≡ (list_any (same_dot q) gone.old.items || (is_left (get dot_cmp live.now q) (get dot_cmp told.now q) && list_any (range_has q) ranges.now))) }
+    ensures { OnOk result (GathersLeft live.now told.now gone.old.items gone.new.items (lies_in ranges.now)) }
 {
     for range in ranges {
         gather_range(gone, live, told, range)?;
@@ -247,7 +249,7 @@ fn removed_dots(
     rows: &BTreeMap<Dot, Row>,
     told: &Told,
 ) -> Result<Vec<Dot>, AllocError>
-    ensures { IfOk result (λ gone. (q : DotValue) → list_any (same_dot q) gone.items ≡ (is_left (get dot_cmp live.now q) (get dot_cmp rows.now q) && covers told.now q)) }
+    ensures { IfOk result (λ gone. Lists gone.items (λ q. left_at live.now rows.now q && covers told.now q)) }
 {
     let mut gone = Vec::new(alloc);
     gather_ranges(&mut gone, live, rows, told.ranges())?;
@@ -257,7 +259,7 @@ fn removed_dots(
 
 // Gathers the dot where it is not covered.
 fn gather_uncovered(added: &mut Vec<Dot>, covered: &Context, dot: &Dot) -> Result<(), AllocError>
-    ensures { OnOk result ((q : DotValue) → list_any (same_dot q) added.new.items ≡ (list_any (same_dot q) added.old.items || (not (set.contains covered.now q) && same_dot q dot.now))) }
+    ensures { OnOk result (Gathers added.old.items added.new.items (λ q. lacks covered.now q && same_dot q dot.now)) }
 {
     if covered.covers(dot) {
         return Ok(());
@@ -271,7 +273,7 @@ fn missing_dots(
     covered: &Context,
     rows: &[(Dot, Row)],
 ) -> Result<Vec<Dot>, AllocError>
-    ensures { IfOk result (λ added. (q : DotValue) → list_any (same_dot q) added.items ≡ (not (set.contains covered.now q) && is_some (lookup (same_dot q) rows.now))) }
+    ensures { IfOk result (λ added. Lists added.items (is_missing_of covered.now rows.now)) }
 {
     let mut added = Vec::new(alloc);
     for row in rows {
@@ -328,7 +330,7 @@ fn cover_dots(
 ) -> Result<(), AllocError>
     requires dots { list_all is_dot dots.now ≡ true }
     requires event { 1 ≤ event.count }
-    ensures ok { OnOk result ((q : DotValue) → set.contains covered.new q ≡ (same_dot q event || (set.contains covered.old q || list_any (same_dot q) dots.now))) }
+    ensures ok { OnOk result (CoversAll covered.old covered.new event dots.now) }
     ensures err { OnErr result (covered.new ≡ covered.old) }
 {
     if are_covered(covered, dots) {
@@ -350,8 +352,8 @@ pub(crate) fn remove_rows(
 ) -> Result<(), AllocError>
     requires dots { list_all is_dot dots.now ≡ true }
     requires event { 1 ≤ event.count }
-    ensures ok { OnOk result ((q : DotValue) → (set.contains covered.new q ≡ (same_dot q event || (set.contains covered.old q || list_any (same_dot q) dots.now))) × (get dot_cmp live.new q ≡ cond (list_any (same_dot q) dots.now) None (get dot_cmp live.old q))) }
-    ensures err { OnErr result ((covered.new ≡ covered.old) × ((q : DotValue) → get dot_cmp live.new q ≡ get dot_cmp live.old q)) }
+    ensures ok { OnOk result (Removes covered.old live.old dots.now event covered.new live.new) }
+    ensures err { OnErr result ((covered.new ≡ covered.old) × SameRows live.old live.new) }
 {
     cover_dots(covered, alloc, dots, event)?;
     drop_dots(live, dots);

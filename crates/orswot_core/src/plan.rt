@@ -1,8 +1,5 @@
-ghost use Rattle.std.specs.Prelude.{◌≡◌, true, IfOk, IfErr};
-ghost use Rattle.std.specs.FinSet as set;
-ghost use Rattle.std.specs.BTreeMap.{get};
-ghost use Rattle.presence_base.specs.Order.{dot_cmp};
-ghost use Rattle.orswot_core.specs.Sets.{rows_of, IsSound, IsJoin, AreNeeded};
+ghost use Rattle.std.specs.Prelude.{◌≡◌, IfOk, IfErr};
+ghost use Rattle.orswot_core.specs.Sets.{rows_of, seen, IsSound, IsJoinWith, AreNeeded};
 
 use crate::joins::{Parts, drop_dots, insert_missing};
 use crate::set::Orswot;
@@ -86,9 +83,9 @@ pub(crate) fn plan_parts(
 ) -> Result<JoinPlan, Orswot>
     requires sound { IsSound covered (rows_of live.entries) }
     requires needed { AreNeeded covered live parts.heard parts.rows parts.added.items parts.gone.items }
-    ensures before { IfOk result (λ p. p.before ≡ record { covered = covered; live = rows_of live.entries }) }
-    ensures joined { IfOk result (λ p. IsJoin (record { covered = covered; live = rows_of live.entries }) (set.contains parts.heard) (get dot_cmp parts.rows) p.after) }
-    ensures err { IfErr result (λ s. s ≡ record { covered = covered; live = rows_of live.entries }) }
+    ensures before { IfOk result (λ p. p.before ≡ seen covered live) }
+    ensures joined { IfOk result (λ p. IsJoinWith (seen covered live) parts.heard parts.rows p.after) }
+    ensures err { IfErr result (λ s. s ≡ seen covered live) }
 {
     let Parts {
         heard,

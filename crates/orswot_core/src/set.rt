@@ -1,10 +1,9 @@
-ghost use Rattle.std.specs.Prelude.{◌≡◌, ◌≤◌, ℕ, true, false, cond, Some, None, OnOk, OnErr, IfOk, IfErr, option_copied, ◌+◌};
+ghost use Rattle.std.specs.Prelude.{◌≡◌, true, false, OnOk, OnErr, IfOk, IfErr, option_copied, ◌+◌};
 ghost use Rattle.std.specs.List.{list_all};
 ghost use Rattle.std.specs.FinSet as set;
 ghost use Rattle.std.specs.FinMap as map;
-ghost use Rattle.presence_base.specs.Order.{same_replica};
 ghost use Rattle.presence_base.specs.declared.dots.Dot.{Dot as DotValue};
-ghost use Rattle.dot_context.specs.Sets.{without};
+ghost use Rattle.dot_context.specs.Sets.{HasUpTo};
 ghost use Rattle.orswot_core_told.specs.Limits.{is_dot, is_row};
 ghost use Rattle.orswot_core_told.specs.Telling.{covers, live_row, cut_to};
 ghost use Rattle.orswot_core.specs.Full.{IsFull};
@@ -63,7 +62,7 @@ impl Orswot {
 
     /// The count up to which all of the replica's dots are covered.
     pub fn top(&self, replica: &Replica) -> u64
-        ensures below { (n : ℕ) → 1 ≤ n → n ≤ result → set.contains self.now.covered (record { replica = replica.now; count = n }) ≡ true }
+        ensures below { HasUpTo self.now.covered replica.now result }
         ensures next { set.contains self.now.covered (record { replica = replica.now; count = result + 1 }) ≡ false }
     {
         self.covered.top(replica)

@@ -5,11 +5,16 @@ use Rattle.presence_base.specs.declared.dots.Replica.{Replica}
 use Rattle.presence_base.specs.declared.dots.Dot.{Dot}
 use Rattle.presence_base.specs.declared.row.Row.{Row}
 use Rattle.presence_base.specs.Order.{same_replica, same_dot}
+use Rattle.orswot_core_told.specs.declared.raw.RawTold.{RawTold}
 use Rattle.orswot_core_told.specs.declared.told.TheConstants.{MAX_ROWS}
 use Rattle.orswot_core_told.specs.declared.told.ToldFault.{ToldFault}
 use Rattle.orswot_core_told.specs.declared.told.ToldFault.TheVariants.{TooMany, TwoRanges, BadRange, RowLimits, LiveNotCovered, LiveTwice, OutOfMemory}
 use Rattle.orswot_core_told.specs.Limits.{is_dot, is_row, are_texts, is_on_shard, is_range}
 use Rattle.orswot_core_told.specs.Telling.{Range, ToldValue, covers}
+
+-- what is told, before it is checked
+abbrev pub raw_value : RawTold → ToldValue
+raw_value t = record { ranges = t.ranges.items; extras = t.extras.items; live = t.live.items }
 
 abbrev pub is_too_many : ToldValue → Bool
 is_too_many t = nat_lt MAX_ROWS (length t.extras + length t.live)

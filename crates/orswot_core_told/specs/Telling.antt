@@ -2,13 +2,14 @@
 use Rattle.std.specs.Prelude.{◌≡◌, ℕ, Bool, cond, ◌&&◌, ◌||◌, List, Option, None, is_none, refl}
 use Rattle.std.specs.List.{filter, list_any}
 use Rattle.std.specs.Map.{lookup}
+use Rattle.std.specs.FinSet as set
 use Rattle.std.specs.Coded.{Coded, code_by, coded×, coded_ℕ, coded_list}
 use Rattle.presence_base.specs.declared.dots.Replica.{Replica}
 use Rattle.presence_base.specs.declared.dots.Dot.{Dot}
 use Rattle.presence_base.specs.declared.row.Row.{Row}
 use Rattle.presence_base.specs.Order.{same_dot}
 use Rattle.presence_base.specs.Codes.{replica_code, dot_code, row_code}
-use Rattle.dot_context.specs.Sets.{in_range}
+use Rattle.dot_context.specs.Sets.{DotSet, in_range}
 
 -- the dots of a replica above one count, up to another
 abbrev pub Range : Type 0
@@ -28,9 +29,22 @@ told_code = code_by (List Range × (List Dot × List (Dot × Row))) (coded× (co
 abbrev pub range_has : Dot → Range → Bool
 range_has d g = in_range g.0 g.1 g.2 d
 
+abbrev pub lies_in : List Range → Dot → Bool
+lies_in gs d = list_any (range_has d) gs
+
+abbrev pub is_among : List Dot → Dot → Bool
+is_among ds d = list_any (same_dot d) ds
+
 -- whether a range or an extra has the dot
+abbrev pub is_told_by : List Range → List Dot → Dot → Bool
+is_told_by gs es d = lies_in gs d || is_among es d
+
 abbrev pub covers : ToldValue → Dot → Bool
-covers t d = list_any (range_has d) t.ranges || list_any (same_dot d) t.extras
+covers t d = is_told_by t.ranges t.extras d
+
+-- t has the dots of s, and more
+abbrev pub CoversMore : DotSet → DotSet → (Dot → Bool) → Type 0
+CoversMore s t more = (d : Dot) → set.contains t d ≡ (set.contains s d || more d)
 
 -- the first row that is told live at the dot: its add is told
 abbrev pub live_row : ToldValue → Dot → Option Row

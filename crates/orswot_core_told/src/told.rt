@@ -1,11 +1,11 @@
-ghost use Rattle.std.specs.Prelude.{◌≡◌, ◌≤◌, ◌||◌, true, IfOk, OnOk};
-ghost use Rattle.std.specs.List.{list_any, list_all};
+ghost use Rattle.std.specs.Prelude.{◌≡◌, ◌≤◌, true, IfOk, OnOk};
+ghost use Rattle.std.specs.List.{list_all};
 ghost use Rattle.std.specs.FinSet as set;
 ghost use Rattle.presence_base.specs.Order.{same_replica, same_dot};
 ghost use Rattle.presence_base.specs.declared.dots.Dot.{Dot as DotValue};
 ghost use Rattle.orswot_core_told.specs.Limits.{is_dot};
-ghost use Rattle.orswot_core_told.specs.Telling.{range_has, cut_to};
-ghost use Rattle.orswot_core_told.specs.Checks.{IsAnswer, IsTold, AreRows, first_fault, has_repeat, replicas_of, dots_of};
+ghost use Rattle.orswot_core_told.specs.Telling.{lies_in, is_among, is_told_by, CoversMore, cut_to};
+ghost use Rattle.orswot_core_told.specs.Checks.{raw_value, IsAnswer, IsTold, first_fault, has_repeat, replicas_of, dots_of};
 
 use crate::cut::{ReplicaTest, cut_extras, cut_ranges, cut_rows};
 use crate::limits::{are_dots_within, are_ranges_forward, are_ranges_within};
@@ -80,7 +80,7 @@ impl Told {
     /// The told value, where nothing is wrong with it for this one of `shards` shards.
     pub fn check(alloc: Global, raw: RawTold, shard: u32, shards: u32) -> Result<Told, ToldFault>
         requires { 1 ≤ shards }
-        ensures { IsAnswer result (record { ranges = raw.ranges.items; extras = raw.extras.items; live = raw.live.items }) (first_fault shard shards (record { ranges = raw.ranges.items; extras = raw.extras.items; live = raw.live.items })) }
+        ensures { IsAnswer result (raw_value raw) (first_fault shard shards (raw_value raw)) }
     {
         let RawTold {
             ranges,
@@ -194,7 +194,7 @@ fn are_live_covered(
     live: &[(Dot, Row)],
 ) -> Result<bool, AllocError>
     requires { list_all is_dot extras.now ≡ true }
-    ensures { IfOk result (λ b. b ≡ list_all (λ x. list_any (range_has x.0) ranges.now || list_any (same_dot x.0) extras.now) live.now) }
+    ensures { IfOk result (λ b. b ≡ list_all (λ x. is_told_by ranges.now extras.now x.0) live.now) }
 {
     let covered = told_context(alloc, ranges, extras)?;
     Ok(are_rows_in(&covered, live))
@@ -213,7 +213,7 @@ pub fn told_context(
     extras: &[Dot],
 ) -> Result<Context, AllocError>
     requires { list_all is_dot extras.now ≡ true }
-    ensures { IfOk result (λ s. (q : DotValue) → set.contains s q ≡ (list_any (range_has q) ranges.now || list_any (same_dot q) extras.now)) }
+    ensures { IfOk result (λ s. (q : DotValue) → set.contains s q ≡ is_told_by ranges.now extras.now q) }
 {
     let mut covered = Context::new(alloc);
     add_ranges(&mut covered, alloc, ranges)?;
@@ -226,7 +226,7 @@ fn add_ranges(
     alloc: Global,
     ranges: &[(Replica, u64, u64)],
 ) -> Result<(), AllocError>
-    ensures { OnOk result ((q : DotValue) → set.contains covered.new q ≡ (set.contains covered.old q || list_any (range_has q) ranges.now)) }
+    ensures { OnOk result (CoversMore covered.old covered.new (lies_in ranges.now)) }
 {
     for range in ranges {
         covered.add_range(alloc, range.0, range.1, range.2)?;
@@ -236,7 +236,7 @@ fn add_ranges(
 
 pub fn add_dots(covered: &mut Context, alloc: Global, dots: &[Dot]) -> Result<(), AllocError>
     requires { list_all is_dot dots.now ≡ true }
-    ensures { OnOk result ((q : DotValue) → set.contains covered.new q ≡ (set.contains covered.old q || list_any (same_dot q) dots.now)) }
+    ensures { OnOk result (CoversMore covered.old covered.new (is_among dots.now)) }
 {
     for dot in dots {
         covered.add(alloc, *dot)?;

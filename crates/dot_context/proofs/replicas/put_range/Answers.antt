@@ -4,7 +4,8 @@ use Rattle.dot_context.specs.Runs.{in_run, holds, has_room, Fills}
 use Rattle.dot_context.specs.Sets.{listed}
 use Rattle.dot_context.proofs.SetFacts.{on_ok, on_err}
 use Rattle.dot_context.proofs.LoopFacts.{loose, some_room}
-use Rattle.dot_context.proofs.OuterFacts.{ChangesAt, stepped, fills_at, kept_at, some_at, some_of, either_way, compact_filled, compact_same, some_unchanged, same_entries}
+use Rattle.dot_context.specs.Changes.{ChangesAt}
+use Rattle.dot_context.proofs.OuterFacts.{stepped, fills_at, kept_at, some_at, some_of, either_way, compact_filled, compact_same, some_unchanged, same_entries}
 use Rattle.dot_context.proofs.replicas.put_range.Goals as goal
 
 pub returns-in-Some-clause-ok : goal.returns-in-Some-clause-ok

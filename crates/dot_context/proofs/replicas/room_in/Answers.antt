@@ -2,7 +2,8 @@ use Rattle.std.proofs.Common.{◌≡◌, Some, ap, sym, subst, OnOk, OnErr, []}
 use Rattle.dot_context.specs.Runs.{begins, Opens}
 use Rattle.dot_context.specs.Sets.{listed}
 use Rattle.dot_context.proofs.SetFacts.{on_ok}
-use Rattle.dot_context.proofs.OuterFacts.{ChangesAt, stepped, opens_at, some_at, some_of, either_way, some_unchanged, opens_unchanged, room_here, some_opened}
+use Rattle.dot_context.specs.Changes.{ChangesAt}
+use Rattle.dot_context.proofs.OuterFacts.{stepped, opens_at, some_at, some_of, either_way, some_unchanged, opens_unchanged, room_here, some_opened}
 use Rattle.dot_context.proofs.replicas.room_in.Goals as goal
 
 pub returns-in-Some-clause-some : goal.returns-in-Some-clause-some

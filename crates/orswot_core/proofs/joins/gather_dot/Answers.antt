@@ -1,6 +1,7 @@
 use Rattle.std.proofs.Common.{sym, ◌∙◌}
 use Rattle.orswot_core.proofs.RowFacts.{on_ok}
-use Rattle.orswot_core.proofs.GatherFacts.{gathered, passed_over, left_at}
+use Rattle.orswot_core.specs.Steps.{left_at}
+use Rattle.orswot_core.proofs.GatherFacts.{gathered, passed_over}
 use Rattle.orswot_core.proofs.joins.gather_dot.Goals as goal
 
 pub returns-then-not-is_row_left : goal.returns-then-not-is_row_left

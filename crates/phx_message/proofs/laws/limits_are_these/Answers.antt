@@ -1,5 +1,5 @@
-use Rattle.std.proofs.Common.{rules}
+use Rattle.std.proofs.Common.{refl}
 use Rattle.phx_message.proofs.laws.limits_are_these.Goals as goal
 
 pub returns : goal.returns
-returns c = search rules
+returns c = (refl, refl)
