@@ -4,8 +4,6 @@
 #[cfg(test)]
 mod faulty;
 #[cfg(test)]
-mod junk;
-#[cfg(test)]
 mod streams;
 #[cfg(test)]
 mod worked;

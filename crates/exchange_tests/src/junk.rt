@@ -1,17 +1,9 @@
-//! Junk that comes over a link, each line with its refusal.
-use crate::worked::WORKED;
-use node_links_lines::{LinkFault, decode_line};
+//! Junk that comes over a link behind the hello, each line with its refusal. It leaves peer and port as they were.
+use crate::accepting::is_refused;
+use node_links::{LinkFault, MAX_LINE_BYTES};
 use orswot_core::ToldFault;
 use std::alloc::Global;
 use std::test::Fail;
-
-// What is wrong with the text, at a node with two shards.
-fn fault_of(alloc: Global, text: &str) -> Option<LinkFault> {
-    match decode_line(alloc, text, 2) {
-        Ok(_) => None,
-        Err(fault) => Some(fault),
-    }
-}
 
 const NOT_JSON: [&str; 34] = [
     "",
@@ -228,14 +220,88 @@ const BAD_TOLD: [(&str, ToldFault); 16] = [
     ),
 ];
 
+const OTHER_NOT_JSON: [&str; 12] = [
+    r#"["ok\ud800"]"#,
+    r#"["\uDBFF","b"]"#,
+    r#"["gone","\udfff",1]"#,
+    r#"{"ok":"\ud800x"}"#,
+    r#"["ok"]]"#,
+    r#""ok"#,
+    r#"["ok"}"#,
+    r#"[1 2]"#,
+    r#"["ok" "b"]"#,
+    "nan",
+    "-",
+    "\\",
+];
+
+const OUTSIDE_LIMITS: [&str; 28] = [
+    r#"["want",0,"b",4611686018427387905,1]"#,
+    r#"["want",0,"b",9223372036854775808,1]"#,
+    r#"["want",0,"b",1,18446744073709551615]"#,
+    r#"["want",0,"B",1,1]"#,
+    r#"["want",0,"aB",1,1]"#,
+    r#"["want",0,"b",1,-1]"#,
+    r#"["want",0,"b",1,1e2]"#,
+    r#"["want",0.0,"b",1,1]"#,
+    r#"["want",1e0,"b",1,1]"#,
+    r#"["want",9223372036854775807,"b",1,1]"#,
+    r#"["permdown","PERM",1]"#,
+    r#"["permdown","b",4611686018427387905]"#,
+    r#"["permdown","b",-1]"#,
+    r#"["permdown","b",1.5]"#,
+    r#"["gone","A",1]"#,
+    r#"["gone","b",4611686018427387905]"#,
+    r#"["gone","b",-4611686018427387904]"#,
+    r#"["gone","b",1,"c"]"#,
+    r#"["beat",0,"B",1,1,null]"#,
+    r#"["beat",0,"b",1,1.0,null]"#,
+    r#"["beat",0,"b",4611686018427387905,1,null]"#,
+    r#"["beat",-1,"b",1,1,null]"#,
+    r#"["beat","0","b",1,1,null]"#,
+    r#"["told",-1,[[],[],[]]]"#,
+    r#"["told",1.0,[[],[],[]]]"#,
+    r#"["told",0,[[["b",4611686018427387905,0,1]],[],[]]]"#,
+    r#"["told",0,[[],[["B",1,1]],[]]]"#,
+    r#"["told",0,[[],[["b",-1,1]],[]]]"#,
+];
+
+// Lines without their last byte.
+const CUT: [&str; 6] = [
+    r#"["hello","b",1,2"#,
+    r#"["beat",0,"b",1,1,[[["b",1,0,1]],[],[["b",1,1,"room:a","u2",5,{"x":1},null]]]"#,
+    r#"["beat",0,"b",1,2,[[["b",1,1,2]],[["b",1,1]],[]]"#,
+    r#"["beat",0,"b",1,2,null"#,
+    r#"["want",0,"b",1,1"#,
+    r#"["told",0,[[["b",1,0,2]],[],[]]"#,
+];
+
+// Whether the line is refused so.
+fn is_junk(alloc: Global, text: &str, fault: LinkFault) -> Result<bool, Fail> {
+    let fed = format!(in alloc; "{text}\n")?;
+    is_refused(alloc, fed.as_str(), fault)
+}
+
 #[test]
 fn texts_that_are_no_json(rt: HostRuntime) -> Result<(), Fail> {
     for text in NOT_JSON {
-        assert_eq!(rt;
-            fault_of(rt.alloc(), text),
-            Some(LinkFault::NotJson),
-            "{text}"
-        );
+        assert!(rt; is_junk(rt.alloc(), text, LinkFault::NotJson)?, "{text}");
+    }
+    Ok(())
+}
+
+#[test]
+fn other_texts_that_are_no_json(rt: HostRuntime) -> Result<(), Fail> {
+    for text in OTHER_NOT_JSON {
+        assert!(rt; is_junk(rt.alloc(), text, LinkFault::NotJson)?, "{text}");
+    }
+    Ok(())
+}
+
+#[test]
+fn cut_texts_are_no_json(rt: HostRuntime) -> Result<(), Fail> {
+    for text in CUT {
+        assert!(rt; is_junk(rt.alloc(), text, LinkFault::NotJson)?, "{text}");
     }
     Ok(())
 }
@@ -243,11 +309,7 @@ fn texts_that_are_no_json(rt: HostRuntime) -> Result<(), Fail> {
 #[test]
 fn values_that_are_no_line(rt: HostRuntime) -> Result<(), Fail> {
     for text in NO_LINE {
-        assert_eq!(rt;
-            fault_of(rt.alloc(), text),
-            Some(LinkFault::BadLine),
-            "{text}"
-        );
+        assert!(rt; is_junk(rt.alloc(), text, LinkFault::BadLine)?, "{text}");
     }
     Ok(())
 }
@@ -255,11 +317,15 @@ fn values_that_are_no_line(rt: HostRuntime) -> Result<(), Fail> {
 #[test]
 fn beats_and_told_lines_with_bad_members(rt: HostRuntime) -> Result<(), Fail> {
     for text in BAD_PARTS {
-        assert_eq!(rt;
-            fault_of(rt.alloc(), text),
-            Some(LinkFault::BadLine),
-            "{text}"
-        );
+        assert!(rt; is_junk(rt.alloc(), text, LinkFault::BadLine)?, "{text}");
+    }
+    Ok(())
+}
+
+#[test]
+fn members_outside_their_limits(rt: HostRuntime) -> Result<(), Fail> {
+    for text in OUTSIDE_LIMITS {
+        assert!(rt; is_junk(rt.alloc(), text, LinkFault::BadLine)?, "{text}");
     }
     Ok(())
 }
@@ -267,25 +333,20 @@ fn beats_and_told_lines_with_bad_members(rt: HostRuntime) -> Result<(), Fail> {
 #[test]
 fn told_values_that_are_refused(rt: HostRuntime) -> Result<(), Fail> {
     for (text, fault) in BAD_TOLD {
-        assert_eq!(rt;
-            fault_of(rt.alloc(), text),
-            Some(LinkFault::BadTold(fault)),
+        assert!(rt;
+            is_junk(rt.alloc(), text, LinkFault::BadTold(fault))?,
             "{text}"
         );
     }
     Ok(())
 }
 
-// Each line without its last byte is cut.
 #[test]
-fn cut_texts_are_no_json(rt: HostRuntime) -> Result<(), Fail> {
-    for text in WORKED {
-        let short = text.strip_suffix(']').ok_or("a line ends so")?;
-        assert_eq!(rt;
-            fault_of(rt.alloc(), short),
-            Some(LinkFault::NotJson),
-            "{short}"
-        );
+fn a_line_of_one_byte_too_many(rt: HostRuntime) -> Result<(), Fail> {
+    let mut text = String::from_str(rt.alloc(), "[\"ok\"]")?;
+    for _ in text.len()..MAX_LINE_BYTES + 1 {
+        text.push(' ')?;
     }
+    assert!(rt; is_junk(rt.alloc(), text.as_str(), LinkFault::LineTooLong)?);
     Ok(())
 }

@@ -1,0 +1,45 @@
+ghost use Rattle.node_links.specs.Talking.{WritesAnswer, Accepts, lent};
+
+use crate::fault::DialFault;
+use crate::hearing::take_one;
+use node_links_acts::LinkPort;
+use node_links_lines::{Line, LinkFault};
+use node_links_peer::Peer;
+use node_links_streams::write_line;
+use std::alloc::Global;
+use std::io::{Read, Write};
+
+// The line that is answered, where one is.
+fn answer<W: Write>(alloc: Global, writer: &mut W, line: Option<Line>) -> Result<(), LinkFault>
+    ensures { WritesAnswer W.contents line writer.old writer.new result }
+{
+    match line {
+        Some(line) => write_line(alloc, writer, &line),
+        None => Ok(()),
+    }
+}
+
+/// One exchange at the end that was dialled: reads one line, does what it asks for at this time (in
+/// milliseconds), and writes what is answered. False at an end between lines.
+///
+/// After a fault the link is to be closed. Where it came of reading, or the line was refused, peer and
+/// port are as they were; where the port refused, its calls so far stand, and nothing is written; where
+/// it came of writing, all calls stand, and a part of the answer may have gone out.
+pub fn accept_one<S: Read + Write, P: LinkPort>(
+    alloc: Global,
+    stream: &mut S,
+    peer: &mut Peer,
+    port: &mut P,
+    now: u64,
+) -> Result<bool, DialFault>
+    ensures { Accepts S.remaining S.contents P.step P.shard_count now
+        (lent stream.old peer.old port.old) (lent stream.new peer.new port.new) result }
+{
+    match take_one(alloc, stream, peer, port, now)? {
+        Some(act) => {
+            answer(alloc, stream, act.answer)?;
+            Ok(true)
+        },
+        None => Ok(false),
+    }
+}

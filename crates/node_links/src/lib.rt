@@ -1,0 +1,17 @@
+//! Links between nodes: the lines, what each asks for, and one exchange over any stream.
+//!
+//! What an exchange does is `specs/Talking.antt`: `Accepts` and `Dials`.
+#![tactic(auto)]
+
+mod accepting;
+mod dialling;
+mod fault;
+mod hearing;
+
+pub use accepting::accept_one;
+pub use dialling::dial;
+pub use fault::DialFault;
+pub use node_links_acts::{Act, ActFault, LinkPort, act};
+pub use node_links_lines::{Line, LinkFault, MAX_LINE_BYTES, MAX_SHARDS, decode_line, encode_line};
+pub use node_links_peer::{End, LinkAction, Peer};
+pub use node_links_streams::{read_line, write_line};

@@ -1,0 +1,218 @@
+// What each line asks for.
+ghost use Rattle.std.specs.Prelude.{◌≡◌, ◌++◌, ◌∷◌, [], Ok, OnOk, IfErr};
+ghost use Rattle.presence_base.specs.Order.{same_replica};
+ghost use Rattle.node_links_lines.specs.declared.lines.LinkFault.TheVariants.{OutOfMemory};
+ghost use Rattle.node_links_lines.specs.Results.{Adds, Gives};
+ghost use Rattle.node_links_peer.specs.Exchanges.{answer as answer_of, greeting as greeting_of, heard as heard_of, merge as merge_of, on_beat as on_beat_of, on_want as on_want_of, on_told as on_told_of, on_permdown as on_permdown_of, on_gone as on_gone_of, later as later_of};
+
+use crate::action::LinkAction;
+use crate::peer::End;
+use node_links_lines::{Line, LinkFault};
+use orswot_core::Told;
+use presence_base::Replica;
+use std::alloc::Global;
+
+fn is_same(a: &Replica, b: &Replica) -> bool
+    ensures { result ≡ same_replica a.now b.now }
+{
+    a.cmp(b).is_eq()
+}
+
+fn push(actions: &mut Vec<LinkAction>, action: LinkAction) -> Result<(), LinkFault>
+    ensures { Adds actions.old.items actions.new.items action result }
+{
+    match actions.push(action) {
+        Ok(()) => Ok(()),
+        Err(_) => Err(LinkFault::OutOfMemory),
+    }
+}
+
+fn one(alloc: Global, action: LinkAction) -> Result<Vec<LinkAction>, LinkFault>
+    ensures { Gives (λ v. v.items) result (Ok (action ∷ [])) }
+{
+    let mut actions = Vec::new(alloc);
+    push(&mut actions, action)?;
+    Ok(actions)
+}
+
+fn two(alloc: Global, first: LinkAction, second: LinkAction) -> Result<Vec<LinkAction>, LinkFault>
+    ensures { Gives (λ v. v.items) result (Ok (first ∷ second ∷ [])) }
+{
+    let mut actions = one(alloc, first)?;
+    push(&mut actions, second)?;
+    Ok(actions)
+}
+
+fn answer(alloc: Global, line: Line) -> Result<Vec<LinkAction>, LinkFault>
+    ensures { Gives (λ v. v.items) result (Ok (answer_of line)) }
+{
+    one(alloc, LinkAction::Answer(line))
+}
+
+// What answers the first line, a hello.
+pub(crate) fn greeting(
+    alloc: Global,
+    own: Replica,
+    shards: u32,
+    end: End,
+) -> Result<Vec<LinkAction>, LinkFault>
+    ensures { Gives (λ v. v.items) result (Ok (greeting_of own shards end)) }
+{
+    match end {
+        End::Accepting => answer(
+            alloc,
+            Line::Hello {
+                replica: own,
+                shards,
+            },
+        ),
+        End::Dialling => Ok(Vec::new(alloc)),
+    }
+}
+
+// The shard takes in what is told, where something is.
+fn push_merge(
+    actions: &mut Vec<LinkAction>,
+    shard: u32,
+    delta: Option<Told>,
+) -> Result<(), LinkFault>
+    ensures ok { OnOk result (actions.new.items ≡ actions.old.items ++ merge_of shard delta) }
+    ensures err { IfErr result (λ e. e ≡ OutOfMemory) }
+{
+    match delta {
+        Some(told) => push(actions, LinkAction::Merge { shard, told }),
+        None => Ok(()),
+    }
+}
+
+// The replica was heard, unless it is gone.
+fn heard(
+    alloc: Global,
+    shard: u32,
+    replica: &Replica,
+    now: u64,
+) -> Result<Vec<LinkAction>, LinkFault>
+    ensures { Gives (λ v. v.items) result (Ok (heard_of now shard replica.now)) }
+{
+    let unless_gone = LinkAction::UnlessGone {
+        shard,
+        replica: *replica,
+    };
+    let heard = LinkAction::Heard {
+        shard,
+        replica: *replica,
+        now,
+    };
+    two(alloc, unless_gone, heard)
+}
+
+// A beat of another replica.
+struct Beat {
+    shard: u32,
+    replica: Replica,
+    count: u64,
+    delta: Option<Told>,
+}
+
+fn on_beat(alloc: Global, beat: Beat, now: u64) -> Result<Vec<LinkAction>, LinkFault>
+    ensures { Gives (λ v. v.items) result (Ok (on_beat_of now beat.shard beat.replica beat.count beat.delta)) }
+{
+    let Beat {
+        shard,
+        replica,
+        count,
+        delta,
+    } = beat;
+    let mut actions = heard(alloc, shard, &replica, now)?;
+    push_merge(&mut actions, shard, delta)?;
+    let answer = LinkAction::AnswerTop {
+        shard,
+        replica,
+        count,
+    };
+    push(&mut actions, answer)?;
+    Ok(actions)
+}
+
+fn on_want(
+    alloc: Global,
+    own: &Replica,
+    shard: u32,
+    replica: &Replica,
+    top: u64,
+) -> Result<Vec<LinkAction>, LinkFault>
+    ensures { Gives (λ v. v.items) result (Ok (on_want_of own.now shard replica.now top)) }
+{
+    let from = if is_same(replica, own) {
+        Some(top)
+    } else {
+        None
+    };
+    one(alloc, LinkAction::AnswerTold { shard, from })
+}
+
+fn on_told(alloc: Global, shard: u32, told: Told) -> Result<Vec<LinkAction>, LinkFault>
+    ensures { Gives (λ v. v.items) result (Ok (on_told_of shard told)) }
+{
+    let merge = LinkAction::Merge { shard, told };
+    two(alloc, merge, LinkAction::Answer(Line::Ok))
+}
+
+fn on_permdown(alloc: Global, own: &Replica, replica: Replica) -> Result<Vec<LinkAction>, LinkFault>
+    ensures { Gives (λ v. v.items) result (Ok (on_permdown_of own.now replica)) }
+{
+    if is_same(&replica, own) {
+        return answer(alloc, Line::Ok);
+    }
+    let permdown = LinkAction::PermDown { replica };
+    two(alloc, permdown, LinkAction::Answer(Line::Ok))
+}
+
+fn on_gone(alloc: Global, own: &Replica, replica: &Replica) -> Result<Vec<LinkAction>, LinkFault>
+    ensures { Gives (λ v. v.items) result (Ok (on_gone_of own.now replica.now)) }
+{
+    if is_same(replica, own) {
+        return one(alloc, LinkAction::GivenUp);
+    }
+    Ok(Vec::new(alloc))
+}
+
+// A line behind the hello, at the node that is this replica.
+pub(crate) fn later(
+    alloc: Global,
+    own: &Replica,
+    line: Line,
+    now: u64,
+) -> Result<Vec<LinkAction>, LinkFault>
+    ensures { Gives (λ v. v.items) result (later_of own.now now line) }
+{
+    match line {
+        Line::Hello { .. } => Err(LinkFault::BadLine),
+        Line::Beat {
+            shard,
+            replica,
+            count,
+            delta,
+        } => {
+            if is_same(&replica, own) {
+                return answer(alloc, Line::Ok);
+            }
+            let beat = Beat {
+                shard,
+                replica,
+                count,
+                delta,
+            };
+            on_beat(alloc, beat, now)
+        },
+        Line::Want {
+            shard,
+            replica,
+            top,
+        } => on_want(alloc, own, shard, &replica, top),
+        Line::Told { shard, told } => on_told(alloc, shard, told),
+        Line::PermDown { replica } => on_permdown(alloc, own, replica),
+        Line::Gone { replica } => on_gone(alloc, own, &replica),
+        Line::Ok => Ok(Vec::new(alloc)),
+    }
+}

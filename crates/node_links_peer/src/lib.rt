@@ -1,0 +1,12 @@
+//! One end of a link: which actions each line asks for, and what they answer.
+//!
+//! The table of exchanges is `specs/Exchanges.antt`: `actions_of`, with `at_first` for the line
+//! that opens a link and `later` for those behind it.
+#![tactic(auto)]
+
+mod action;
+mod exchanges;
+mod peer;
+
+pub use action::LinkAction;
+pub use peer::{End, Peer};
