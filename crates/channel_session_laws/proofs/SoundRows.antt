@@ -54,6 +54,10 @@ made_sound (steps_are.Subscribe topic) prev r h e = absurd (no_row r e)
 made_sound (steps_are.Take n max) prev r h e = absurd (no_row r e)
 made_sound (steps_are.Unsubscribe n) prev r h e = absurd (no_row r e)
 made_sound (steps_are.Shout topic payload) prev r h e = absurd (no_row r e)
+made_sound (steps_are.Heard replica now) prev r h e = absurd (no_row r e)
+made_sound (steps_are.Tick now) prev r h e = absurd (no_row r e)
+made_sound (steps_are.PermDown replica) prev r h e = absurd (no_row r e)
+made_sound steps_are.Cut prev r h e = absurd (no_row r e)
 
 made_if : (b : Bool) (s : Step) (prev : Option Dot) (r : Row) → StepSound s → cond b (row_made s prev) None ≡ Some r → RowSound r
 made_if true s prev r h e = made_sound s prev r h e
@@ -70,6 +74,8 @@ added_sound s (outcomes_are.Subscribed n) d r h e = absurd (no_row r e)
 added_sound s (outcomes_are.Taken state items) d r h e = absurd (no_row r e)
 added_sound s outcomes_are.Ended d r h e = absurd (no_row r e)
 added_sound s outcomes_are.Sent d r h e = absurd (no_row r e)
+added_sound s outcomes_are.Noted d r h e = absurd (no_row r e)
+added_sound s (outcomes_are.CutAt from to) d r h e = absurd (no_row r e)
 
 first_sound : (x y : Option Row) (r : Row) → first_some x y ≡ Some r → (x ≡ Some r → RowSound r) → (y ≡ Some r → RowSound r) → RowSound r
 first_sound (Some q) y r e f g = f e

@@ -1,5 +1,5 @@
 -- What a client makes of its items is what is present.
-use Rattle.std.proofs.Common.{◌≡◌, ℕ, Bool, true, false, cond, ◌&&◌, ◌||◌, List, [], ◌∷◌, ◌++◌, Option, Some, None, refl, sym, ◌∙◌, ap, append_assoc, take-append-drop, length}
+use Rattle.std.proofs.Common.{◌≡◌, ℕ, Bool, true, false, cond, ◌&&◌, List, [], ◌∷◌, ◌++◌, Option, Some, None, refl, sym, ◌∙◌, ap, append_assoc, take-append-drop, length}
 use Rattle.std.specs.Prelude.{nat_eq, nat_lt}
 use Rattle.std.specs.FinMap as map
 use Rattle.std.proofs.lemmas.Bool.{and_parts, eqb-true}
@@ -13,11 +13,12 @@ use Rattle.presence_journal_data.specs.declared.rows.Item.{Item}
 use Rattle.presence_journal_data.specs.declared.rows.Item.TheVariants as items_are
 use Rattle.presence_journal_data.specs.declared.rows.RowDiff.{RowDiff}
 use Rattle.presence_journal.specs.Steps.{Step, Entry}
-use Rattle.presence_journal.specs.History.{History, Begin, Then, first_some, row, removed, shown}
-use Rattle.presence_journal.specs.Present.{RowMap, of_topic, present}
+use Rattle.presence_journal.specs.History.{History, Begin, Then, has_dot, first_some, row_added, shown}
+use Rattle.presence_journal.specs.Present.{RowMap, of_topic, present, dots_taken}
 use Rattle.presence_journal.specs.Queue.{Waiting, Behind, Queued, topic_of, topic_after, is_empty, diff_item, shout_item, diff_of, items_made, most_waiting, push_items, left_by, queue, queue_after, made_for, listed_for, took, taken, taken_after, apply_item, fold_from, fold}
 use Rattle.presence_journal.specs.Table.{IsLegal, outcome_of, take_outcome}
 use Rattle.presence_journal.specs.Laws.{FoldsToPresent, of_key}
+use Rattle.presence_journal.proofs.HistoryLemmas.{Quiet, is_quiet, legal_knows, shown_by}
 use Rattle.presence_journal.proofs.FoldTables.{same_rows, state_is}
 use Rattle.presence_journal.proofs.FoldPresent.{present_is, present_placed, diffs_lead}
 
@@ -57,18 +58,11 @@ fold_made h e t =
 pub same_present : (g h : History) (t : List ℕ) → ((d : Dot) → of_topic t (shown g d) ≡ of_topic t (shown h d)) → present g t ≡ present h t
 same_present g h t same = same_rows (present g t) (present h t) (λ p. present_is g t p ∙ (ap (of_key p.key) (same p.dot) ∙ sym (present_is h t p)))
 
-first_or_none : (o : Option Row) → first_some o None ≡ o
-first_or_none None = refl
-first_or_none (Some r) = refl
-
-or_false : (b : Bool) → (b || false) ≡ b
-or_false true = refl
-or_false false = refl
-
 -- a take changes no row
-quiet : (h : History) (e : Entry) (b : Bool) (n : ℕ) → e.outcome ≡ outcomes_are.Taken b n → (d : Dot) → shown (Then h e) d ≡ shown h d
-unfolding shown removed row
-quiet h e b n o d = rw (o, or_false (removed h d), first_or_none (row h d))
+quiet : (h : History) (e : Entry) (b : Bool) (n : ℕ) → IsLegal h → e.outcome ≡ outcomes_are.Taken b n → (d : Dot) → shown (Then h e) d ≡ shown h d
+quiet h e b n legal o d =
+    shown_by h e d (legal_knows h legal) (Quiet (ap is_quiet o))
+    ∙ ap (λ x. first_some (row_added e.step x d) (cond (has_dot (dots_taken x) d) None (shown h d))) o
 
 -- how an entry concerns a subscriber
 data Concern (s : Step) (number n : ℕ) (new : List Item) (w : Waiting) (o : Option (List ℕ)) (rows : List (Dot × Row)) (before : List Item) : Type 0 where
@@ -126,7 +120,7 @@ unfolding outcome_of
 take_quiet h e n t max legal a u = go (queue h n) (sym (same_Some _ _ (rw (a, u) at legal.1)))
   where
     fine : (b : Bool) (k : ℕ) → e.outcome ≡ outcomes_are.Taken b k → present h t ≡ present (Then h e) t
-    fine b k o = sym (same_present (Then h e) h t (λ d. ap (of_topic t) (quiet h e b k o d)))
+    fine b k o = sym (same_present (Then h e) h t (λ d. ap (of_topic t) (quiet h e b k legal.0 o d)))
 
     go : (w : Waiting) → e.outcome ≡ take_outcome max w → present h t ≡ present (Then h e) t
     go Behind o = fine _ _ o

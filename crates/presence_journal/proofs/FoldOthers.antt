@@ -13,15 +13,15 @@ use Rattle.presence_journal_data.specs.declared.step.Step.TheVariants as steps_a
 use Rattle.presence_journal_data.specs.declared.entry.Outcome.TheVariants as outcomes_are
 use Rattle.presence_journal_data.specs.declared.rows.Place.{Place}
 use Rattle.presence_journal.specs.Steps.{Step, Outcome, Entry}
-use Rattle.presence_journal.specs.History.{History, Begin, Then, count, counts_used, next_dot, is_full, has_dot, first_some, row, row_made, row_added, dot_removed, removed, shown}
+use Rattle.presence_journal.specs.History.{History, Begin, Then, count, counts_used, next_dot, is_full, has_dot, first_some, row, row_made, row_added, dot_removed, removed, live, shown}
 use Rattle.presence_journal.specs.Present.{of_topic, present, listed, in_order, dots_of}
 use Rattle.presence_journal.specs.Queue.{Behind, Queued, shout_item, items_made, topic_of, queue}
 use Rattle.presence_journal.specs.Table.{IsLegal, AreWithinLimits, is_mine, has_key, rows_of_pid, rows_of_key, counting, tracked, updated, untracked, for_present, take_outcome, outcome_of, next_entry, with_outcome, accepted, after}
 use Rattle.presence_journal.specs.Laws.{concerns, reaches, OthersStay, OthersHearNothing, RefusedStays, StaysLegal, StaysKept}
-use Rattle.presence_journal.proofs.HistoryLemmas.{within_step}
+use Rattle.presence_journal.proofs.HistoryLemmas.{KnowsItsDots, Kind, kind_of, knows_then, legal_knows, shown-live, shown-next, within_step}
 use Rattle.presence_journal.proofs.FoldOrder.{same_dot-is}
 use Rattle.presence_journal.proofs.FoldTables.{AreOf, stripped, entries_found, no_changes}
-use Rattle.presence_journal.proofs.FoldPresent.{cond_none, presence}
+use Rattle.presence_journal.proofs.FoldPresent.{presence}
 use Rattle.presence_journal.proofs.Fold.{same_present}
 
 counted : (h : History) (o a : Outcome) → counting h o ≡ Some a → o ≡ a
@@ -86,12 +86,7 @@ abbrev Spares : History → List ℕ → Outcome → Type 0
 Spares h t o = (d : Dot) → dot_removed o (next_dot h) d ≡ true → of_topic t (shown h d) ≡ None
 
 next_hidden : (h : History) → IsLegal h → (t : List ℕ) → of_topic t (shown h (next_dot h)) ≡ None
-unfolding shown
-next_hidden h legal t = go (row h (next_dot h)) refl
-  where
-    go : (o : Option Row) → row h (next_dot h) ≡ o → of_topic t (cond (removed h (next_dot h)) None o) ≡ None
-    go None e = ap (of_topic t) (cond_none (removed h (next_dot h)))
-    go (Some r) e = let low : count h + 1 ≤ count h = rows_counted h legal (next_dot h) r e in absurd (omega arith)
+next_hidden h legal t = ap (of_topic t) (shown-next h (legal_knows h legal))
 
 abbrev IsOn : History → List ℕ → Dot × Row → Type 0
 IsOn h u x = (shown h x.0 ≡ Some x.1) × (x.1.topic ≡ u)
@@ -174,15 +169,22 @@ added_elsewhere s t n (outcomes_are.Replaced new old) d = go (same_dot d new)
     go false = refl
 added_elsewhere s t n _ d = refl
 
-shown_elsewhere : (h : History) (e : Entry) (t : List ℕ) (d : Dot) → (dot_removed e.outcome (next_dot h) d ≡ true → of_topic t (shown h d) ≡ None) → of_topic t (row_added e.step e.outcome d) ≡ None → of_topic t (shown (Then h e) d) ≡ of_topic t (shown h d)
-unfolding shown removed row
-shown_elsewhere h e t d spared added = go (removed h d) (dot_removed e.outcome (next_dot h) d) (row h d) spared
+live_elsewhere : (h : History) (e : Entry) (t : List ℕ) (d : Dot) → (dot_removed e.outcome (next_dot h) d ≡ true → of_topic t (live h d) ≡ None) → of_topic t (row_added e.step e.outcome d) ≡ None → of_topic t (live (Then h e) d) ≡ of_topic t (live h d)
+unfolding live removed row
+live_elsewhere h e t d spared added = go (removed h d) (dot_removed e.outcome (next_dot h) d) (row h d) spared
   where
     go : (a b : Bool) (o : Option Row) → (b ≡ true → of_topic t (cond a None o) ≡ None) → of_topic t (cond (a || b) None (first_some o (row_added e.step e.outcome d))) ≡ of_topic t (cond a None o)
     go true b o f = refl
     go false true o f = sym (f refl)
     go false false None f = added
     go false false (Some r) f = refl
+
+shown_elsewhere : (h : History) (e : Entry) (t : List ℕ) (d : Dot) → KnowsItsDots h → Kind h e.step e.outcome → (dot_removed e.outcome (next_dot h) d ≡ true → of_topic t (shown h d) ≡ None) → of_topic t (row_added e.step e.outcome d) ≡ None → of_topic t (shown (Then h e) d) ≡ of_topic t (shown h d)
+shown_elsewhere h e t d k kind spared added =
+    let same = shown-live h k d in
+    ap (of_topic t) (shown-live (Then h e) (knows_then h e k kind) d)
+    ∙ (live_elsewhere h e t d (λ gone. ap (of_topic t) (sym same) ∙ spared gone) added
+    ∙ ap (of_topic t) (sym same))
 
 -- an accepted step has its outcome and room
 pub accepted_is : (h : History) (s : Step) (o : Outcome) → accepted h s ≡ Some o → (is_full h ≡ false) × (outcome_of h s ≡ Some o)
@@ -194,7 +196,7 @@ accepted_is h s o e = go (is_full h) e
     go false f = (refl, f)
 
 others_then : (h : History) → IsLegal h → (s : Step) (seat : Option ℕ) (o : Outcome) → accepted h s ≡ Some o → (t : List ℕ) → concerns s t ≡ false → present (Then h (next_entry h s seat o)) t ≡ present h t
-others_then h legal s seat o e t n = same_present (Then h (next_entry h s seat o)) h t (λ d. shown_elsewhere h (next_entry h s seat o) t d (spares h legal s t n o (accepted_is h s o e).1 d) (added_elsewhere s t n o d))
+others_then h legal s seat o e t n = same_present (Then h (next_entry h s seat o)) h t (λ d. shown_elsewhere h (next_entry h s seat o) t d (legal_knows h legal) (kind_of h s o (accepted_is h s o e).1) (spares h legal s t n o (accepted_is h s o e).1 d) (added_elsewhere s t n o d))
 
 pub others_stay : OthersStay
 unfolding after

@@ -13,7 +13,7 @@ use Rattle.presence_base.specs.Order.{text_cmp, dot_cmp, same_text, same_dot}
 use Rattle.presence_journal_data.specs.declared.entry.Outcome.TheVariants as outcomes_are
 use Rattle.presence_journal_data.specs.declared.rows.Place.{Place}
 use Rattle.presence_journal.specs.Steps.{Step, Outcome, Entry}
-use Rattle.presence_journal.specs.History.{History, Begin, Then, has_dot, first_some, row, row_made, row_added, removed, shown}
+use Rattle.presence_journal.specs.History.{History, Begin, Then, is_up, status, has_dot, first_some, row, row_made, row_added, removed, live, shown}
 use Rattle.presence_journal.specs.Present.{place_cmp, place_of, of_topic, dots, dots_added, put, put_all, present}
 use Rattle.presence_journal.specs.Laws.{IsPlaced, Agrees, of_key, PresentIsShown, DiffsLead}
 use Rattle.presence_journal.proofs.FoldOrder.{place_cmp_total, same_text-is, same_dot-is}
@@ -96,12 +96,13 @@ unfolding row
 row-stays h e d r f = rw f
 
 pub shown-row : (h : History) (d : Dot) (r : Row) → shown h d ≡ Some r → row h d ≡ Some r
-unfolding shown
-shown-row h d r f = go (removed h d) f
+unfolding shown live
+shown-row h d r f = go (is_up (status h d.replica)) (removed h d) f
   where
-    go : (b : Bool) → cond b None (row h d) ≡ Some r → row h d ≡ Some r
-    go true e = absurd (cc)
-    go false e = e
+    go : (u b : Bool) → cond u (cond b None (row h d)) None ≡ Some r → row h d ≡ Some r
+    go true true e = absurd (cc)
+    go true false e = e
+    go false b e = absurd (cc)
 
 pub of_topic-some : (t : List ℕ) (o : Option Row) (r : Row) → of_topic t o ≡ Some r → (o ≡ Some r) × (r.topic ≡ t)
 of_topic-some t None r h = absurd (cc)

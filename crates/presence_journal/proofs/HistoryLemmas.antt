@@ -13,8 +13,10 @@ use Rattle.presence_base.specs.Order.{same_dot, same_replica}
 use Rattle.serde_json.specs.Data.{Data}
 use Rattle.presence_journal_data.specs.declared.step.Step.TheVariants as steps_are
 use Rattle.presence_journal_data.specs.declared.entry.Outcome.TheVariants as outcomes_are
+use Rattle.replica_status.specs.declared.status.Status.TheVariants as status_is
+use Rattle.replica_status.specs.Table.{status_of}
 use Rattle.presence_journal.specs.Steps.{Step, Outcome, Entry, Start}
-use Rattle.presence_journal.specs.History.{History, Begin, Then, onto, start_of, own, is_full, count, counts_used, last_number, entry_count, next_dot, is_counted, known, first_some, has_dot, row_made, row_added, dot_removed, removed, row, shown}
+use Rattle.presence_journal.specs.History.{History, Begin, Then, onto, start_of, own, is_full, count, counts_used, last_cut, last_number, entry_count, next_dot, is_counted, known, standing, status, is_up, first_some, has_dot, row_made, row_added, dot_removed, removed, row, live, shown}
 use Rattle.presence_journal.specs.Present.{listed, dots_of}
 use Rattle.presence_journal.specs.Queue.{Waiting, Behind, Queued, queue, topic_of}
 use Rattle.presence_journal.specs.Table.{rows_of_pid, rows_of_key, listed_key, counting, tracked, updated, untracked, take_outcome, for_present, outcome_of, next_entry, accepted, after, is_step, IsLegal, AreWithinLimits}
@@ -156,6 +158,10 @@ kind_of h (steps_are.Subscribe topic) o e = Quiet (ap is_quiet (same_Some o (out
 kind_of h (steps_are.Take n max) o e = quiet_present h (steps_are.Take n max) o (take_outcome max (queue h n)) (topic_of h n) (quiet_took max (queue h n)) e
 kind_of h (steps_are.Unsubscribe n) o e = quiet_present h (steps_are.Unsubscribe n) o outcomes_are.Ended (topic_of h n) refl e
 kind_of h (steps_are.Shout topic payload) o e = Quiet (ap is_quiet (same_Some o outcomes_are.Sent (sym e)))
+kind_of h (steps_are.Heard replica now) o e = Quiet (ap is_quiet (same_Some o outcomes_are.Noted (sym e)))
+kind_of h (steps_are.Tick now) o e = Quiet (ap is_quiet (same_Some o outcomes_are.Noted (sym e)))
+kind_of h (steps_are.PermDown replica) o e = Quiet (ap is_quiet (same_Some o outcomes_are.Noted (sym e)))
+kind_of h steps_are.Cut o e = Quiet (ap is_quiet (same_Some o (outcomes_are.CutAt (last_cut h) (count h)) (sym e)))
 
 -- what a quiet outcome leaves alone
 
@@ -238,6 +244,28 @@ pub legal_knows : (h : History) → IsLegal h → KnowsItsDots h
 legal_knows (Begin s) l = begin_knows s
 legal_knows (Then h e) l = knows_then h e (legal_knows h l.0) (kind_of h e.step e.outcome l.1)
 
+-- a live row is own, and the own replica is up
+
+pub status-own : (h : History) → status h (own h) ≡ status_is.Up
+unfolding status
+status-own h = ap (λ b. cond b status_is.Up (status_of (standing h (own h)))) (same_replica-refl (own h))
+
+up-known : (h : History) (d : Dot) → known h d ≡ true → is_up (status h d.replica) ≡ true
+up-known h d k = ap (λ r. is_up (status h r)) (known_parts h d k).0 ∙ ap is_up (status-own h)
+
+pub shown-live : (h : History) → KnowsItsDots h → (d : Dot) → shown h d ≡ live h d
+unfolding shown live
+shown-live h k d = go (row h d) refl
+  where
+    none : (u b : Bool) → cond {A = Option Row} u (cond b None None) None ≡ cond b None None
+    none true b = refl
+    none false true = refl
+    none false false = refl
+
+    go : (o : Option Row) → row h d ≡ o → cond (is_up (status h d.replica)) (cond (removed h d) None o) None ≡ cond (removed h d) None o
+    go None e = none (is_up (status h d.replica)) (removed h d)
+    go (Some r) e = ap (λ u. cond u (cond (removed h d) None (Some r)) None) (up-known h d (k.of_row d r e))
+
 -- the next dot has no row and is not removed
 
 pub row-next : (h : History) → KnowsItsDots h → row h (next_dot h) ≡ None
@@ -254,11 +282,14 @@ removed-next h k = go (removed h (next_dot h)) refl
     go false e = refl
     go true e = absurd (next_unknown h (k.of_removed (next_dot h) e))
 
-pub shown-next : (h : History) → KnowsItsDots h → shown h (next_dot h) ≡ None
-unfolding shown
-shown-next h k = rw (removed-next h k, row-next h k)
+live-next : (h : History) → KnowsItsDots h → live h (next_dot h) ≡ None
+unfolding live
+live-next h k = rw (removed-next h k, row-next h k)
 
--- what one legal entry does to the rows that are shown: those taken out go, and then the added one comes
+pub shown-next : (h : History) → KnowsItsDots h → shown h (next_dot h) ≡ None
+shown-next h k = shown-live h k (next_dot h) ∙ live-next h k
+
+-- what one legal entry does to the rows that are live, and so shown: those taken out go, and then the added one comes
 
 shape_new : (a : Bool) (o : Option Row) (r : Row) (b : Bool) → a ≡ false → o ≡ None → b ≡ false → cond (a || b) None (first_some o (Some r)) ≡ Some r
 shape_new a o r b p q s = rw (p, q, s)
@@ -282,14 +313,14 @@ no_more : (c : Bool) → (c || false) ≡ c
 no_more true = refl
 no_more false = refl
 
-pub shown_by : (h : History) (e : Entry) (d : Dot) → KnowsItsDots h → Kind h e.step e.outcome → shown (Then h e) d ≡ first_some (row_added e.step e.outcome d) (cond (has_dot (dots_taken e.outcome) d) None (shown h d))
-unfolding shown row removed
-shown_by h e d k (Adds r m o l) = rw (o, m) (go (same_dot d (next_dot h)) refl)
+live_by : (h : History) (e : Entry) (d : Dot) → KnowsItsDots h → Kind h e.step e.outcome → live (Then h e) d ≡ first_some (row_added e.step e.outcome d) (cond (has_dot (dots_taken e.outcome) d) None (live h d))
+unfolding live row removed
+live_by h e d k (Adds r m o l) = rw (o, m) (go (same_dot d (next_dot h)) refl)
   where
     go : (b : Bool) → same_dot d (next_dot h) ≡ b → cond (removed h d || false) None (first_some (row h d) (cond b (Some r) None)) ≡ first_some (cond b (Some r) None) (cond false None (cond (removed h d) None (row h d)))
     go true p = let z = same_dot-true d (next_dot h) p in shape_new (removed h d) (row h d) r false (ap (removed h) z ∙ removed-next h k) (ap (row h) z ∙ row-next h k) refl
     go false p = shape_old (removed h d) false (row h d)
-shown_by h e d k (Replaces r old m o l w) = rw (o, m, no_more) (go (same_dot d (next_dot h)) refl)
+live_by h e d k (Replaces r old m o l w) = rw (o, m, no_more) (go (same_dot d (next_dot h)) refl)
   where
     apart : d ≡ next_dot h → (b : Bool) → same_dot d old ≡ b → b ≡ false
     apart z false p = refl
@@ -298,8 +329,14 @@ shown_by h e d k (Replaces r old m o l w) = rw (o, m, no_more) (go (same_dot d (
     go : (b : Bool) → same_dot d (next_dot h) ≡ b → cond (removed h d || same_dot d old) None (first_some (row h d) (cond b (Some r) None)) ≡ first_some (cond b (Some r) None) (cond (same_dot d old) None (cond (removed h d) None (row h d)))
     go true p = let z = same_dot-true d (next_dot h) p in shape_new (removed h d) (row h d) r (same_dot d old) (ap (removed h) z ∙ removed-next h k) (ap (row h) z ∙ row-next h k) (apart z (same_dot d old) refl)
     go false p = shape_old (removed h d) (same_dot d old) (row h d)
-shown_by h e d k (Removes y ys o l a) = rw o (shape_drop (removed h d) (same_dot d (next_dot h)) (has_dot (y ∷ ys) d) (row h d) (λ p. let z = same_dot-true d (next_dot h) p in ap (shown h) z ∙ shown-next h k))
-shown_by h e d k (Quiet q) = rw (quiet_row e.step e.outcome d q, quiet_removed e.outcome (next_dot h) d q, quiet_taken e.outcome q) (shape_old (removed h d) false (row h d))
+live_by h e d k (Removes y ys o l a) = rw o (shape_drop (removed h d) (same_dot d (next_dot h)) (has_dot (y ∷ ys) d) (row h d) (λ p. let z = same_dot-true d (next_dot h) p in ap (live h) z ∙ live-next h k))
+live_by h e d k (Quiet q) = rw (quiet_row e.step e.outcome d q, quiet_removed e.outcome (next_dot h) d q, quiet_taken e.outcome q) (shape_old (removed h d) false (row h d))
+
+pub shown_by : (h : History) (e : Entry) (d : Dot) → KnowsItsDots h → Kind h e.step e.outcome → shown (Then h e) d ≡ first_some (row_added e.step e.outcome d) (cond (has_dot (dots_taken e.outcome) d) None (shown h d))
+shown_by h e d k kind =
+    shown-live (Then h e) (knows_then h e k kind) d
+    ∙ (live_by h e d k kind
+    ∙ ap (λ o. first_some (row_added e.step e.outcome d) (cond (has_dot (dots_taken e.outcome) d) None o)) (sym (shown-live h k d)))
 
 -- an added row's dot showed nothing before
 pub added_fresh : (h : History) (e : Entry) (d : Dot) (r : Row) → KnowsItsDots h → Kind h e.step e.outcome → row_added e.step e.outcome d ≡ Some r → shown h d ≡ None

@@ -3,6 +3,7 @@ pub mod Lookups
 pub mod PresentLemmas
 pub mod HistoryLemmas
 pub mod Walking
+pub mod StatusLemmas
 pub mod Diffs
 pub mod Topics
 mod FoldOrder

@@ -10,7 +10,7 @@ use Rattle.presence_base.specs.Order.{same_text, same_dot, same_replica}
 use Rattle.presence_journal_data.specs.declared.entry.Outcome.TheVariants as outcomes_are
 use Rattle.presence_journal_data.specs.declared.rows.Place.{Place}
 use Rattle.presence_journal.specs.Steps.{Step, Outcome}
-use Rattle.presence_journal.specs.History.{History, Begin, Then, own, first_some, has_dot, row_added, row_made, removed, row, shown}
+use Rattle.presence_journal.specs.History.{History, Begin, Then, own, is_up, status, first_some, has_dot, row_added, row_made, removed, row, live, shown}
 use Rattle.presence_journal.specs.Present.{of_topic, dots_added, dots, present, in_order, listed}
 use Rattle.presence_journal.specs.Table.{is_mine, has_key, rows_of_pid, rows_of_key}
 use Rattle.presence_journal.specs.Walk.{keyed, shown_of, IsTableOf}
@@ -19,12 +19,13 @@ use Rattle.presence_journal.proofs.Lookups.{cond_none, get-put_all, all_put_all}
 
 -- a row that is shown was added, and not removed
 pub shown-row : (h : History) (d : Dot) (r : Row) → shown h d ≡ Some r → (row h d ≡ Some r) × (removed h d ≡ false)
-unfolding shown
-shown-row h d r e = go (removed h d) e
+unfolding shown live
+shown-row h d r e = go (is_up (status h d.replica)) (removed h d) e
   where
-    go : (b : Bool) → cond b None (row h d) ≡ Some r → (row h d ≡ Some r) × (b ≡ false)
-    go true f = cc
-    go false f = (f, refl)
+    go : (u b : Bool) → cond u (cond b None (row h d)) None ≡ Some r → (row h d ≡ Some r) × (b ≡ false)
+    go true true f = cc
+    go true false f = (f, refl)
+    go false b f = cc
 
 has_dot-append : (xs ys : List Dot) (d : Dot) → has_dot (xs ++ ys) d ≡ (has_dot xs d || has_dot ys d)
 has_dot-append [] ys d = refl

@@ -5,7 +5,7 @@ use Rattle.presence_base.specs.declared.row.Row.{Row}
 use Rattle.presence_base.specs.Order.{same_text}
 use Rattle.presence_journal_data.specs.declared.entry.Outcome.TheVariants as outcomes_are
 use Rattle.presence_journal.specs.Steps.{Step, Outcome, Entry, Start}
-use Rattle.presence_journal.specs.History.{History, Begin, Then, onto, count, counts_used, first_some, has_dot, row_added, shown, row, removed}
+use Rattle.presence_journal.specs.History.{History, Begin, Then, onto, count, counts_used, first_some, has_dot, row_added, is_up, status, live, shown, row, removed}
 use Rattle.presence_journal.specs.Present.{of_topic}
 use Rattle.presence_journal.specs.Walk.{joined, rows_after, shown_of}
 use Rattle.presence_journal.specs.Present.{dots_taken}
@@ -56,7 +56,7 @@ used_when_counted h s o (Quiet q) k = omega (arith, quiet_uses_none o q)
 
 pub count-limit : (h : History) → IsLegal h → count h ≤ 2 ^ 62
 unfolding count
-count-limit (Begin s) l = omega arith
+count-limit (Begin s) l = l.count
 count-limit (Then h e) l = used_when_counted h e.step e.outcome (kind_of h e.step e.outcome l.1) (count-limit h l.0)
 
 -- the rows of a topic
@@ -86,12 +86,16 @@ shows_more f g t h e l after before d =
     ∙ ap (of_topic t) (sym (shown_by h e d knows kind))))
 
 pub shows_none : (f : Dot → Option Row) (t : List ℕ) (s : Start) → ((d : Dot) → f d ≡ None) → ShowsAlike f t (Begin s)
-unfolding shown row removed
-shows_none f t s e d = e d
+unfolding shown live row removed
+shows_none f t s e d = e d ∙ ap (of_topic t) (hidden (is_up (status (Begin s) d.replica)))
+  where
+    hidden : (u : Bool) → None ≡ cond {A = Option Row} u None None
+    hidden true = refl
+    hidden false = refl
 
-pub counted_none : (s : Start) → IsCounted 0 (Begin s)
+pub counted_start : (s : Start) → IsLegal (Begin s) → IsCounted s.count (Begin s)
 unfolding count
-counted_none s = (refl, omega arith)
+counted_start s l = (refl, l.count)
 
 pub counted_more : (n : ℕ) (h : History) (e : Entry) → IsLegal (Then h e) → IsCounted n h → IsCounted (n + counts_used e.outcome) (Then h e)
 counted_more n h e l c =

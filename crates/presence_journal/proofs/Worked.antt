@@ -2,28 +2,28 @@
 use Rattle.std.proofs.Common.{◌≡◌, ℕ, List, [], ◌∷◌, ◌++◌, ◌∙◌, ap}
 use Rattle.serde_json.specs.Data.{null}
 use Rattle.presence_journal.specs.Steps.{Step}
-use Rattle.presence_journal.specs.History.{own, count, removed, row, shown, last_number, entry_count}
+use Rattle.presence_journal.specs.History.{own, count, status, removed, row, live, shown, last_number, entry_count}
 use Rattle.presence_journal.specs.Present.{dots, listed}
 use Rattle.presence_journal.specs.Queue.{topic_of, queue, taken}
 use Rattle.presence_journal.specs.Table.{outcome_of}
-use Rattle.presence_journal.specs.Laws.{AsWorked, ran, outcomes, begun, room, attic, user, subscribe, take_all, track, update, untrack, two_topics, shouts}
+use Rattle.presence_journal.specs.Laws.{AsWorked, ran, outcomes, empty, room, attic, user, subscribe, take_all, track, update, untrack, two_topics, shouts}
 use Rattle.presence_journal_data.specs.declared.step.Step.TheVariants as steps_are
 use Rattle.presence_journal.proofs.WorkedTables.{rows_now, listed_now, queue_now, queue_is, taken_now, taken_is, ran_now, ran_is}
 
-outcomes_run : (ss : List Step) → outcomes (ran begun ss) ≡ outcomes (ran_now begun ss)
-outcomes_run ss = ap outcomes (ran_is begun ss)
+outcomes_run : (ss : List Step) → outcomes (ran empty ss) ≡ outcomes (ran_now empty ss)
+outcomes_run ss = ap outcomes (ran_is empty ss)
 
-listed_run : (t : List ℕ) (ss : List Step) → listed (ran begun ss) t ≡ rows_now (ran_now begun ss) t
-listed_run t ss = ap (λ h. listed h t) (ran_is begun ss) ∙ listed_now (ran_now begun ss) t
+listed_run : (t : List ℕ) (ss : List Step) → listed (ran empty ss) t ≡ rows_now (ran_now empty ss) t
+listed_run t ss = ap (λ h. listed h t) (ran_is empty ss) ∙ listed_now (ran_now empty ss) t
 
-queue_run : (ss : List Step) → queue (ran begun ss) 1 ≡ queue_now (ran_now begun ss) 1
-queue_run ss = ap (λ h. queue h 1) (ran_is begun ss) ∙ queue_is (ran_now begun ss) 1
+queue_run : (ss : List Step) → queue (ran empty ss) 1 ≡ queue_now (ran_now empty ss) 1
+queue_run ss = ap (λ h. queue h 1) (ran_is empty ss) ∙ queue_is (ran_now empty ss) 1
 
-taken_run : (ss : List Step) → taken (ran begun ss) 1 ≡ taken_now (ran_now begun ss) 1
-taken_run ss = ap (λ h. taken h 1) (ran_is begun ss) ∙ taken_is (ran_now begun ss) 1
+taken_run : (ss : List Step) → taken (ran empty ss) 1 ≡ taken_now (ran_now empty ss) 1
+taken_run ss = ap (λ h. taken h 1) (ran_is empty ss) ∙ taken_is (ran_now empty ss) 1
 
 pub as_worked : AsWorked
-unfolding own count removed row shown last_number entry_count dots topic_of outcome_of
+unfolding own count status removed row live shown last_number entry_count dots topic_of outcome_of
 as_worked = record {
   first_outcomes = outcomes_run (subscribe ∷ take_all ∷ track 1 ∷ take_all ∷ steps_are.List room ∷ []);
   first_items = taken_run (subscribe ∷ take_all ∷ track 1 ∷ take_all ∷ steps_are.List room ∷ []);

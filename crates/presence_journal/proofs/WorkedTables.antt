@@ -149,6 +149,10 @@ outcome_now h (steps_are.Subscribe topic) = outcome_of h (steps_are.Subscribe to
 outcome_now h (steps_are.Take n max) = for_present (topic_of h n) (take_outcome max (queue_now h n))
 outcome_now h (steps_are.Unsubscribe n) = outcome_of h (steps_are.Unsubscribe n)
 outcome_now h (steps_are.Shout topic payload) = outcome_of h (steps_are.Shout topic payload)
+outcome_now h (steps_are.Heard replica now) = outcome_of h (steps_are.Heard replica now)
+outcome_now h (steps_are.Tick now) = outcome_of h (steps_are.Tick now)
+outcome_now h (steps_are.PermDown replica) = outcome_of h (steps_are.PermDown replica)
+outcome_now h steps_are.Cut = outcome_of h steps_are.Cut
 
 outcome_is : (h : History) (s : Step) → outcome_of h s ≡ outcome_now h s
 unfolding outcome_of

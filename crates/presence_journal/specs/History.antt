@@ -1,6 +1,11 @@
--- What a history says of each dot. Every function goes over the entries, the newest outermost.
-use Rattle.std.specs.Prelude.{ℕ, ◌+◌, ◌^◌, Bool, false, cond, ◌&&◌, ◌||◌, nat_lt, nat_le, List, [], ◌∷◌, Option, Some, None}
+-- What a history says of each dot and replica. Every function goes over the entries, the newest outermost.
+use Rattle.std.specs.Prelude.{ℕ, ◌+◌, ◌^◌, max, Bool, true, false, cond, ◌&&◌, ◌||◌, nat_lt, nat_le, List, [], ◌∷◌, Option, Some, None}
 use Rattle.std.specs.List.{list_any}
+use Rattle.replica_status.specs.declared.standing.Standing.{Standing}
+use Rattle.replica_status.specs.declared.status.Status.{Status}
+use Rattle.replica_status.specs.declared.status.Status.TheVariants as status_is
+use Rattle.replica_status.specs.Table.{status_of, heard_at, ticked_at, put_down}
+use Rattle.replica_status.specs.Boards.{standing_in}
 use Rattle.presence_base.specs.declared.dots.Replica.{Replica}
 use Rattle.presence_base.specs.declared.dots.Dot.{Dot}
 use Rattle.presence_base.specs.declared.row.Row.{Row}
@@ -14,6 +19,10 @@ use Rattle.presence_journal.specs.Steps.{Step, Outcome, Entry, Start}
 pub data History : Type 0 where
   Begin : (start : Start) → History
   Then : (before : History) (entry : Entry) → History
+
+-- the history of a new shard: nothing came before it
+abbrev pub begun : Replica → History
+begun r = Begin (record { number = 0; own = r; count = 0; standings = []; time = 0; last_cut = 0 })
 
 -- the entries in order, the oldest first, upon a history
 abbrev pub onto : History → List Entry → History
@@ -41,7 +50,7 @@ counts_used (outcomes_are.Removed (d ∷ ds)) = 1
 counts_used _ = 0
 
 unfoldable pub count : History → ℕ
-count (Begin s) = 0
+count (Begin s) = s.count
 count (Then h e) = count h + counts_used e.outcome
 
 unfoldable pub last_number : History → ℕ
@@ -56,6 +65,46 @@ entry_count (Then h e) = entry_count h + 1
 -- no entry can follow: the journal has its most entries, or its last number is the highest
 abbrev pub is_full : History → Bool
 is_full h = nat_le MAX_ENTRIES (entry_count h) || nat_le (2 ^ 62) (last_number h)
+
+-- the time that a step hands in, in milliseconds
+abbrev pub time_of : Step → ℕ
+time_of (steps_are.Heard replica now) = now
+time_of (steps_are.Tick now) = now
+time_of _ = 0
+
+-- the greatest time handed in so far: a clock that goes back counts as no time passed
+unfoldable pub time : History → ℕ
+time (Begin s) = s.time
+time (Then h e) = max (time h) (time_of e.step)
+
+-- what a step at a time makes of the standing of a replica
+abbrev pub standing_after : Step → ℕ → Replica → Standing → Standing
+standing_after (steps_are.Heard replica now) t r x = cond (same_replica r replica) (heard_at t x) x
+standing_after (steps_are.Tick now) t r x = ticked_at t x
+standing_after (steps_are.PermDown replica) t r x = cond (same_replica r replica) (put_down x) x
+standing_after _ t r x = x
+
+-- the standing of another replica
+unfoldable pub standing : History → Replica → Standing
+standing (Begin s) r = standing_in s.standings r
+standing (Then h e) r = standing_after e.step (max (time h) (time_of e.step)) r (standing h r)
+
+-- the own replica is up
+unfoldable pub status : History → Replica → Status
+status h r = cond (same_replica r (own h)) status_is.Up (status_of (standing h r))
+
+abbrev pub is_up : Status → Bool
+is_up status_is.Up = true
+is_up _ = false
+
+-- the count up to which the last cut told
+abbrev pub cut_after : Outcome → ℕ → ℕ
+cut_after (outcomes_are.CutAt from to) n = to
+cut_after _ n = n
+
+unfoldable pub last_cut : History → ℕ
+last_cut (Begin s) = s.last_cut
+last_cut (Then h e) = cut_after e.outcome (last_cut h)
 
 -- the dot of the next count
 abbrev pub next_dot : History → Dot
@@ -105,5 +154,9 @@ row (Begin s) d = None
 row (Then h e) d = first_some (row h d) (row_added e.step e.outcome d)
 
 -- the row, where it is not removed
+unfoldable pub live : History → Dot → Option Row
+live h d = cond (removed h d) None (row h d)
+
+-- the live row, where its replica is up
 unfoldable pub shown : History → Dot → Option Row
-shown h d = cond (removed h d) None (row h d)
+shown h d = cond (is_up (status h d.replica)) (live h d) None

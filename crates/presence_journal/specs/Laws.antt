@@ -12,7 +12,7 @@ use Rattle.presence_journal_data.specs.declared.rows.Item.{Item}
 use Rattle.presence_journal_data.specs.declared.rows.Item.TheVariants as items_are
 use Rattle.presence_journal_data.specs.declared.rows.Place.{Place}
 use Rattle.presence_journal.specs.Steps.{Step, Outcome, Entry}
-use Rattle.presence_journal.specs.History.{History, Begin, Then, newest_first, known, has_dot, row, shown}
+use Rattle.presence_journal.specs.History.{History, Then, begun, newest_first, known, has_dot, row, shown}
 use Rattle.presence_journal.specs.Present.{RowMap, of_topic, present, listed, changes, dots_added, dots_taken}
 use Rattle.presence_journal.specs.Queue.{Behind, Queued, most_waiting, topic_of, queue, taken, fold, apply_item, diff_of, items_made}
 use Rattle.presence_journal.specs.Limits.{is_within_limits}
@@ -131,8 +131,8 @@ ran h (s ∷ ss) = ran (after h s None) ss
 abbrev pub outcomes : History → List Outcome
 outcomes h = reverse (each (λ e. e.outcome) (newest_first h))
 
-abbrev pub begun : History
-begun = Begin (record { number = 0; own = record { name = codes "a"; incarnation = 1 } })
+abbrev pub empty : History
+empty = begun (record { name = codes "a"; incarnation = 1 })
 
 abbrev pub dot : ℕ → Dot
 dot n = record { replica = record { name = codes "a"; incarnation = 1 }; count = n }
@@ -192,42 +192,42 @@ shouts zero = []
 shouts (suc n) = steps_are.Shout room null ∷ shouts n
 
 abbrev pub first_run : History
-first_run = ran begun (subscribe ∷ take_all ∷ track 1 ∷ take_all ∷ steps_are.List room ∷ [])
+first_run = ran empty (subscribe ∷ take_all ∷ track 1 ∷ take_all ∷ steps_are.List room ∷ [])
 
 abbrev pub updated_run : History
-updated_run = ran begun (subscribe ∷ track 1 ∷ take_all ∷ update 1 ∷ [])
+updated_run = ran empty (subscribe ∷ track 1 ∷ take_all ∷ update 1 ∷ [])
 
 abbrev pub tracked_twice : History
-tracked_twice = ran begun (track 1 ∷ track 1 ∷ [])
+tracked_twice = ran empty (track 1 ∷ track 1 ∷ [])
 
 abbrev pub tracked_again : History
-tracked_again = ran begun (track 1 ∷ untrack 1 ∷ track 1 ∷ [])
+tracked_again = ran empty (track 1 ∷ untrack 1 ∷ track 1 ∷ [])
 
 abbrev pub two_pids : History
-two_pids = ran begun (track 1 ∷ track 2 ∷ [])
+two_pids = ran empty (track 1 ∷ track 2 ∷ [])
 
 abbrev pub untracked_twice : History
-untracked_twice = ran begun (track 1 ∷ untrack 1 ∷ untrack 1 ∷ track 1 ∷ [])
+untracked_twice = ran empty (track 1 ∷ untrack 1 ∷ untrack 1 ∷ track 1 ∷ [])
 
 abbrev pub key_run : History
-key_run = ran begun (two_topics ++ steps_are.Get room user ∷ steps_are.List attic ∷ [])
+key_run = ran empty (two_topics ++ steps_are.Get room user ∷ steps_are.List attic ∷ [])
 
 abbrev pub untracked_all : History
-untracked_all = ran begun (two_topics ++ steps_are.UntrackAll 1 room ∷ [])
+untracked_all = ran empty (two_topics ++ steps_are.UntrackAll 1 room ∷ [])
 
 -- the last take is refused
 abbrev pub ended_run : History
-ended_run = ran begun (subscribe ∷ take_all ∷ steps_are.Unsubscribe 1 ∷ take_all ∷ [])
+ended_run = ran empty (subscribe ∷ take_all ∷ steps_are.Unsubscribe 1 ∷ take_all ∷ [])
 
 abbrev pub shouted : ℕ → History
-shouted n = ran begun (subscribe ∷ take_all ∷ shouts n)
+shouted n = ran empty (subscribe ∷ take_all ∷ shouts n)
 
 abbrev pub shouted_elsewhere : History
-shouted_elsewhere = ran begun (subscribe ∷ take_all ∷ steps_are.Shout attic null ∷ [])
+shouted_elsewhere = ran empty (subscribe ∷ take_all ∷ steps_are.Shout attic null ∷ [])
 
 -- a diff and 256 shouts, and then a take
 abbrev pub caught_up : History
-caught_up = ran begun (subscribe ∷ take_all ∷ track 1 ∷ shouts 256 ++ take_all ∷ [])
+caught_up = ran empty (subscribe ∷ take_all ∷ track 1 ∷ shouts 256 ++ take_all ∷ [])
 
 pub record AsWorked : Type 0 where
   pub first_outcomes : outcomes first_run ≡ outcomes_are.Subscribed 1 ∷ outcomes_are.Taken true 1 ∷ outcomes_are.Added (dot 1) ∷ outcomes_are.Taken false 1 ∷ outcomes_are.Shown (dot 1 ∷ []) ∷ []

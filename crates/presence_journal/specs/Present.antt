@@ -38,6 +38,8 @@ dots_added (outcomes_are.Subscribed n) = []
 dots_added (outcomes_are.Taken state items) = []
 dots_added outcomes_are.Ended = []
 dots_added outcomes_are.Sent = []
+dots_added outcomes_are.Noted = []
+dots_added (outcomes_are.CutAt from to) = []
 
 -- the dots that an outcome names as taken out
 abbrev pub dots_taken : Outcome → List Dot

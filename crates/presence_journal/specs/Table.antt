@@ -9,7 +9,7 @@ use Rattle.presence_journal_data.specs.declared.step.Step.TheVariants as steps_a
 use Rattle.presence_journal_data.specs.declared.entry.Outcome.TheVariants as outcomes_are
 use Rattle.presence_journal_data.specs.StepLimits.{is_within_limits}
 use Rattle.presence_journal.specs.Steps.{Step, Outcome, Entry, Start}
-use Rattle.presence_journal.specs.History.{History, Begin, Then, own, count, next_dot, last_number, is_full}
+use Rattle.presence_journal.specs.History.{History, Begin, Then, own, count, last_cut, next_dot, last_number, is_full}
 use Rattle.presence_journal.specs.Present.{listed, dots_of}
 use Rattle.presence_journal.specs.Queue.{Waiting, Behind, Queued, queue, topic_of}
 
@@ -68,6 +68,10 @@ outcome_of h (steps_are.Subscribe topic) = Some (outcomes_are.Subscribed (last_n
 outcome_of h (steps_are.Take n max) = for_present (topic_of h n) (take_outcome max (queue h n))
 outcome_of h (steps_are.Unsubscribe n) = for_present (topic_of h n) outcomes_are.Ended
 outcome_of h (steps_are.Shout topic payload) = Some outcomes_are.Sent
+outcome_of h (steps_are.Heard replica now) = Some outcomes_are.Noted
+outcome_of h (steps_are.Tick now) = Some outcomes_are.Noted
+outcome_of h (steps_are.PermDown replica) = Some outcomes_are.Noted
+outcome_of h steps_are.Cut = Some (outcomes_are.CutAt (last_cut h) (count h))
 
 abbrev pub next_entry : History → Step → Option ℕ → Outcome → Entry
 next_entry h s seat o = record { number = last_number h + 1; seat = seat; step = s; outcome = o }
@@ -95,6 +99,8 @@ pub record IsStart (s : Start) : Type 0 where
   pub name : IsTrue (is_node_name s.own.name)
   pub incarnation : IsCount s.own.incarnation
   pub number : s.number ≤ 2 ^ 62
+  pub count : s.count ≤ 2 ^ 62
+  pub cut : s.last_cut ≤ s.count
 
 -- each entry has the outcome of the table and the next number, and stands where there was room for it
 abbrev pub IsLegal : History → Type 0

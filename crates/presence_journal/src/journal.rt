@@ -1,7 +1,7 @@
 ghost use Rattle.std.specs.Prelude.{◌≡◌, ◌++◌, ◌∷◌, [], OnOk, OnErr};
 
 use presence_base::{MAX_COUNT, Replica};
-use presence_journal_data::{Entry, Outcome, Start, Step};
+use presence_journal_data::{Entry, Outcome, Standings, Start, Step};
 use std::alloc::{AllocError, Global};
 use std::marker::Model;
 
@@ -43,18 +43,25 @@ fn push_entry(entries: &mut Vec<Entry>, entry: Entry) -> Result<(), AllocError>
 impl Journal {
     ghost use Rattle.std.specs.Prelude.{◌≡◌, ◌≤◌, ◌^◌, ◌+◌, length, true, false, Some, OnOk, OnErr};
     ghost use Rattle.presence_base.specs.Refs.{IsCount};
-    ghost use Rattle.presence_journal.specs.History.{Begin, onto, start_of, own, last_number, entry_count, is_full};
+    ghost use Rattle.presence_journal.specs.History.{Begin, begun, onto, start_of, own, last_number, entry_count, is_full};
     ghost use Rattle.presence_journal.specs.Limits.{is_within_limits};
     ghost use Rattle.presence_journal.specs.Table.{IsLegal, AreWithinLimits, outcome_of, after};
 
     /// The journal of a new shard: an empty Start with number 0.
     pub fn new(alloc: Global, own: Replica) -> Journal
         requires { IsCount own.incarnation }
-        ensures { result ≡ Begin (record { number = 0; own = own }) }
+        ensures { result ≡ begun own }
     {
         let _name = own.name.as_str();
         Journal {
-            start: Start { number: 0, own },
+            start: Start {
+                number: 0,
+                own,
+                count: 0,
+                standings: Standings::new(Vec::new(alloc)),
+                time: 0,
+                last_cut: 0,
+            },
             entries: Vec::new(alloc),
         }
     }

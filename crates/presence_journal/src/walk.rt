@@ -33,7 +33,7 @@ pub fn walk_count(journal: &Journal) -> u64
     ensures limit { result ≤ 2 ^ 62 }
 {
     let entries = journal.entries();
-    let mut used = 0;
+    let mut used = journal.start().count;
     for entry in entries {
         used += used_by(&entry.outcome);
     }

@@ -26,3 +26,7 @@ is_within_limits (steps_are.Subscribe topic) = is_short_text topic
 is_within_limits (steps_are.Take subscriber max) = is_take_limit max
 is_within_limits (steps_are.Unsubscribe subscriber) = true
 is_within_limits (steps_are.Shout topic payload) = is_short_text topic && is_payload payload
+is_within_limits (steps_are.Heard replica now) = true
+is_within_limits (steps_are.Tick now) = true
+is_within_limits (steps_are.PermDown replica) = true
+is_within_limits steps_are.Cut = true

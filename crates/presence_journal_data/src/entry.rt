@@ -1,3 +1,4 @@
+use crate::standings::Standings;
 use crate::step::Step;
 use presence_base::{Dot, Replica};
 use std::alloc::AllocError;
@@ -65,6 +66,10 @@ pub enum Outcome {
     Taken(bool, u64),
     Ended,
     Sent,
+    /// A replica was heard or put down, or time passed.
+    Noted,
+    /// A cut told the counts above the first up to the second.
+    CutAt(u64, u64),
 }
 
 /// One step of a shard, with what it came to.
@@ -77,11 +82,21 @@ pub struct Entry {
     pub outcome: Outcome,
 }
 
-/// What a journal begins with: the replica that the shard is, and the number of this first entry.
+/// What a journal begins with, and what came before it as far as later entries still depend on it.
 #[derive(Debug, Drop)]
 pub struct Start {
+    /// The number of this first entry.
     pub number: u64,
+    /// The replica that the shard is.
     pub own: Replica,
+    /// How many counts the replica has used.
+    pub count: u64,
+    /// The other replicas.
+    pub standings: Standings,
+    /// The greatest time that was handed in, in milliseconds.
+    pub time: u64,
+    /// The count up to which the last cut told.
+    pub last_cut: u64,
 }
 
 impl Clone for Dots {
@@ -112,6 +127,8 @@ impl Clone for Outcome {
             Outcome::Taken(state, items) => Ok(Outcome::Taken(*state, *items)),
             Outcome::Ended => Ok(Outcome::Ended),
             Outcome::Sent => Ok(Outcome::Sent),
+            Outcome::Noted => Ok(Outcome::Noted),
+            Outcome::CutAt(from, to) => Ok(Outcome::CutAt(*from, *to)),
         }
     }
 }

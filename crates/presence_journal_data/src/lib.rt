@@ -6,9 +6,11 @@
 mod entry;
 mod limits;
 mod rows;
+mod standings;
 mod step;
 
 pub use entry::{Dots, Entry, Outcome, Start};
 pub use limits::{MAX_PAYLOAD_DEPTH, MAX_TAKEN, Payload, TakeLimit};
 pub use rows::{Item, Place, RowDiff, Rows};
+pub use standings::Standings;
 pub use step::Step;

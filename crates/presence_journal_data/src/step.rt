@@ -1,9 +1,9 @@
 use crate::limits::{Payload, TakeLimit};
-use presence_base::{Json, Key, Meta, Topic};
+use presence_base::{Json, Key, Meta, Replica, Topic};
 use std::alloc::AllocError;
 
 /// What is asked of a shard. A `pid` names the session that asks; a subscriber is named by the
-/// number of the entry that made it.
+/// number of the entry that made it. A time is in milliseconds.
 #[derive(Debug, Drop)]
 pub enum Step {
     Track {
@@ -48,6 +48,21 @@ pub enum Step {
         topic: Topic,
         payload: Payload,
     },
+    /// A replica was heard.
+    Heard {
+        replica: Replica,
+        now: u64,
+    },
+    /// Time passed.
+    Tick {
+        now: u64,
+    },
+    /// A replica is gone for good.
+    PermDown {
+        replica: Replica,
+    },
+    /// What the own replica did since the last cut is told.
+    Cut,
 }
 
 // Each of these makes a step of what a caller lends, and reads a text or a value only to show its limits.
@@ -196,6 +211,13 @@ impl Clone for Step {
                 subscriber: *subscriber,
             }),
             Step::Shout { topic, payload } => Step::shout(topic, payload.as_json()),
+            Step::Heard { replica, now } => Ok(Step::Heard {
+                replica: *replica,
+                now: *now,
+            }),
+            Step::Tick { now } => Ok(Step::Tick { now: *now }),
+            Step::PermDown { replica } => Ok(Step::PermDown { replica: *replica }),
+            Step::Cut => Ok(Step::Cut),
         }
     }
 }

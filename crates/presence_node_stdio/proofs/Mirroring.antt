@@ -145,7 +145,7 @@ lines_are (l ∷ ls) s t before is = go (answer s l).next refl is (λ u b e. lin
 pub mirrored : JoinedAreMirrored
 mirrored o name incarnation lines s is =
     let all : LinesAre (start o) [] lines s = lines_are lines (start o) s [] is in
-    let legal : IsLegal (start o).shard = record { name = name; incarnation = incarnation; number = omega arith } in
+    let legal : IsLegal (start o).shard = record { name = name; incarnation = incarnation; number = omega arith; count = omega arith; cut = omega arith } in
     let low : 1 ≤ 2 ^ 62 = omega arith in
     let told : MirroredWhere (Unit {0}) (past all.texts s) = mirrored_where (Unit {0}) o.routes 1 (start o).shard low legal (λ u. tt) all.messages (past all.texts s) (λ u. all.heard) all.lined_so in
     let kept : keeping.IsMirrored (past all.texts s) = told.mirrored in

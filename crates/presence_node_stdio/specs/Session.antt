@@ -3,7 +3,7 @@
 use Rattle.std.specs.Prelude.{◌≡◌, ℕ, List, [], ◌∷◌, ◌++◌, false, None, Option, Some, if◌then◌else◌, Result, Ok, Err}
 use Rattle.phx_message.specs.declared.message.Message.{Message}
 use Rattle.phx_message.specs.declared.message.MessageFault.{MessageFault}
-use Rattle.presence_journal.specs.History.{History, Begin}
+use Rattle.presence_journal.specs.History.{History, begun}
 use Rattle.phx_message.specs.Reading.{decoded}
 use Rattle.phx_message.specs.declared.message.TheConstants.Limits as the_limits
 use Rattle.channel_session.specs.Delivery.{Delivered, delivery}
@@ -30,7 +30,7 @@ abbrev pub start : StdioOptions → State
 start o = record {
   routes = o.routes;
   session = record { pid = 1; failed = false; joined = []; cut_short = None };
-  shard = Begin (record { number = 0; own = record { name = o.name; incarnation = o.incarnation } });
+  shard = begun (record { name = o.name; incarnation = o.incarnation });
 }
 
 -- what goes out for a line, and then the state for the next one or the fault that ends the run

@@ -4,6 +4,10 @@
 #[cfg(test)]
 mod calls;
 #[cfg(test)]
+mod cuts;
+#[cfg(test)]
 mod desk;
 #[cfg(test)]
 mod journal;
+#[cfg(test)]
+mod statuses;

@@ -2,12 +2,15 @@
 use Rattle.std.proofs.Common.{◌≡◌, ℕ, ◌+◌, ◌^◌, Bool, true, false, cond, nat_eq, ◌&&◌, List, [], ◌∷◌, Option, Some, None, refl, sym, ◌∙◌, ap}
 use Rattle.std.specs.Prelude.{nat_lt, is_some, option_map, Result, Ok, Err, OnOk, OnErr}
 use Rattle.serde_json.specs.Data.{Data}
+use Rattle.presence_base.specs.declared.dots.Replica.{Replica}
 use Rattle.presence_base.specs.declared.dots.Dot.{Dot}
 use Rattle.presence_base.specs.declared.row.Row.{Row}
 use Rattle.presence_journal_data.specs.declared.step.Step.{Step}
 use Rattle.presence_journal_data.specs.declared.step.Step.TheVariants as steps_are
 use Rattle.presence_journal_data.specs.declared.entry.Outcome.{Outcome}
 use Rattle.presence_journal_data.specs.declared.entry.Outcome.TheVariants as outcomes_are
+use Rattle.delta_range.specs.Deltas.{DeltaValue}
+use Rattle.presence_journal_cuts.specs.Cuts.{IsCut}
 use Rattle.presence_journal.specs.History.{History, count, is_full, next_dot, last_number}
 use Rattle.presence_journal.specs.Present.{listed, dots_of}
 use Rattle.presence_journal.specs.Queue.{Waiting, queue, topic_of, is_waiting}
@@ -106,6 +109,22 @@ pub subscribe_number : (h : History) (topic : List ℕ) → outcome_of h (steps_
 unfolding outcome_of
 subscribe_number h topic = refl
 
+pub heard_noted : (h : History) (replica : Replica) (now : ℕ) → outcome_of h (steps_are.Heard replica now) ≡ Some outcomes_are.Noted
+unfolding outcome_of
+heard_noted h replica now = refl
+
+pub tick_noted : (h : History) (now : ℕ) → outcome_of h (steps_are.Tick now) ≡ Some outcomes_are.Noted
+unfolding outcome_of
+tick_noted h now = refl
+
+pub permdown_noted : (h : History) (replica : Replica) → outcome_of h (steps_are.PermDown replica) ≡ Some outcomes_are.Noted
+unfolding outcome_of
+permdown_noted h replica = refl
+
+pub cut_told : (h : History) (d : DeltaValue) → IsCut h d → outcome_of h steps_are.Cut ≡ Some (outcomes_are.CutAt d.from d.to)
+unfolding outcome_of
+cut_told h d c = λ i. Some (outcomes_are.CutAt (sym c.from i) (sym c.to i))
+
 pub untrack_is : (h : History) (pid : ℕ) (topic key : List ℕ) → outcome_of h (steps_are.Untrack pid topic key) ≡ untracked h (dots_of (rows_of_key h pid topic key))
 unfolding outcome_of
 untrack_is h pid topic key = refl
@@ -183,7 +202,7 @@ waits_missing h n e = go (topic_of h n) e
     go None p = refl
     go (Some t) p = absurd (cc)
 
-pub ruleset tables = (list_shown, get_shown, shout_sent, subscribe_number, track_added, track_full, track_again, update_replaced, update_full, update_none, untrack_is, untrack_all_is, found_is, ended_found, none_stands, full_stands, clock_stands, sub_none_stands, sub_full_stands, no_sub_stands)
+pub ruleset tables = (list_shown, get_shown, shout_sent, subscribe_number, heard_noted, tick_noted, permdown_noted, cut_told, track_added, track_full, track_again, update_replaced, update_full, update_none, untrack_is, untrack_all_is, found_is, ended_found, none_stands, full_stands, clock_stands, sub_none_stands, sub_full_stands, no_sub_stands)
 
 -- whether the entry was written or refused, the journal is kept as it is to be
 pub kept_new : {A E : Type 0} (h new : History) (s : Step) (seat : Option ℕ) (o : Outcome) (r : Result A E) → OnOk r (new ≡ after h s seat) → OnErr r (new ≡ h) → IsKept h → outcome_of h s ≡ Some o → is_full h ≡ false → is_within_limits s ≡ true → IsKept new

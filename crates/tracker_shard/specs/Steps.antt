@@ -40,9 +40,13 @@ Answers Gives o (Err JournalFull) = Unit {0}
 Answers Gives o (Err NoSub) = Unit {0}
 Answers Gives o (Err OutOfMemory) = Unit {0}
 
+-- why the table refuses a step whose subscriber is there: it needs a count, and none is left
+abbrev pub cause : Step → ShardFault
+cause s = ClockFull
+
 -- The refusal that stands against a step, in the order in which they are tried. `found` tells whether its subscriber is there.
 abbrev pub refusal : Bool → History → Step → Option ShardFault
-refusal found h s = cond found (cond (is_full h) (Some JournalFull) (cond (is_some (outcome_of h s)) None (Some ClockFull))) (Some NoSub)
+refusal found h s = cond found (cond (is_full h) (Some JournalFull) (cond (is_some (outcome_of h s)) None (Some (cause s)))) (Some NoSub)
 
 -- want of memory may come in place of any answer but these two
 abbrev pub MayRunOut : Option ShardFault → Type 0

@@ -6,6 +6,7 @@ ghost use Rattle.presence_journal.specs.Table.{take_outcome};
 ghost use Rattle.tracker_shard.specs.Steps.{first_dot};
 
 use crate::fault::ShardFault;
+use delta_range::Delta;
 use presence_base::{Dot, Row, Topic};
 use presence_journal::{Item, Journal, Outcome, Pending, Rows, walk_list};
 use std::alloc::{AllocError, Global};
@@ -47,6 +48,13 @@ pub(crate) fn replaced(dot: &Dot, old: &Dot) -> Outcome
     ensures { result ≡ Outcome.Replaced dot.now old.now }
 {
     Outcome::Replaced(*dot, *old)
+}
+
+// What a cut comes to.
+pub(crate) fn cut_outcome(delta: &Delta) -> Outcome
+    ensures { result ≡ Outcome.CutAt delta.now.from delta.now.to }
+{
+    Outcome::CutAt(delta.from(), delta.to())
 }
 
 // The state of a topic, as the one item of a take.

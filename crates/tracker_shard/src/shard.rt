@@ -1,10 +1,15 @@
-use crate::answers::{dots_of_rows, first_dot_of, given_items, replaced, taken_outcome};
+use crate::answers::{
+    cut_outcome, dots_of_rows, first_dot_of, given_items, replaced, taken_outcome,
+};
 use crate::fault::ShardFault;
+use delta_range::Delta;
 use presence_base::{Dot, Json, Key, MAX_COUNT, Meta, Replica, Row, Topic};
 use presence_journal::{
     Dots, Item, Journal, Outcome, Step, walk_count, walk_get, walk_list, walk_own_row,
-    walk_own_rows, walk_pending, walk_topic, walk_waits,
+    walk_own_rows, walk_pending, walk_status, walk_topic, walk_waits,
 };
+use presence_journal_cuts::walk_cut;
+use replica_status::Status;
 use std::alloc::{AllocError, Global};
 use std::marker::Model;
 
@@ -39,13 +44,14 @@ impl Model for Shard {
 }
 
 impl Shard {
-    ghost use Rattle.std.specs.Prelude.{◌≡◌, ◌≤◌, ◌^◌, true, false, Some, option_copied, IfOk, IfErr, OnOk, OnErr, IsTrue};
+    ghost use Rattle.std.specs.Prelude.{◌≡◌, ◌≤◌, ◌^◌, true, false, Some, None, option_copied, IfOk, IfErr, OnOk, OnErr, IsTrue};
     ghost use Rattle.presence_base.specs.Refs.{IsCount};
-    ghost use Rattle.presence_journal.specs.History.{Begin, is_full};
+    ghost use Rattle.presence_journal.specs.History.{begun, is_full, status};
     ghost use Rattle.presence_journal.specs.Limits.{is_payload, is_take_limit, is_within_limits};
     ghost use Rattle.presence_journal.specs.Present.{dots_of};
     ghost use Rattle.presence_journal.specs.Queue.{topic_of, queue, items_given, is_waiting};
     ghost use Rattle.presence_journal.specs.Table.{IsLegal, AreWithinLimits, outcome_of, rows_of_key, untracked};
+    ghost use Rattle.presence_journal_cuts.specs.Cuts.{IsCut};
     ghost use Rattle.tracker_shard.specs.Steps.{Made, Stepped, Answers, IsDue, refusal, refusal_at, is_found};
     ghost use Rattle.tracker_shard.specs.Steps.{AnswersDot, AnswersRowsOfKey, AnswersRowsOfPid, AnswersListed};
     ghost use Rattle.tracker_shard.specs.Steps.{AnswersListedKey, AnswersItems, AnswersSub};
@@ -54,7 +60,7 @@ impl Shard {
     /// A shard of the replica with an empty journal.
     pub fn new(alloc: Global, own: Replica) -> Shard
         requires { IsCount own.incarnation }
-        ensures { result ≡ Begin (record { number = 0; own = own }) }
+        ensures { result ≡ begun own }
     {
         let journal = Journal::new(alloc, own);
         let _entries = journal.entries();
@@ -81,6 +87,13 @@ impl Shard {
     {
         self.journal.append(seat, step, outcome)?;
         Ok(())
+    }
+
+    // What the own replica did since the last cut.
+    fn own_cut(&self, alloc: Global) -> Result<Delta, AllocError>
+        ensures { IfOk result (λ d. IsCut self.now d) }
+    {
+        walk_cut(alloc, &self.journal)
     }
 
     // The dot under which the pid has the key, where it does.
@@ -430,6 +443,80 @@ impl Shard {
         let step = Step::take(sub.number, max);
         self.write(seat, step, outcome)?;
         Ok(items)
+    }
+
+    // Writes the entry of a step that no count and no subscriber stands against, and that comes to this.
+    #[tactic(auto, using(crate::proofs::Tables::tables))]
+    fn note(&mut self, step: Step) -> Result<(), ShardFault>
+        requires table { outcome_of self.old step ≡ Some Outcome.Noted }
+        requires limits { is_within_limits step ≡ true }
+        ensures step { Stepped self.old self.new None step result }
+        ensures due { IsDue result (refusal true self.old step) }
+    {
+        if self.journal.is_full() {
+            return Err(ShardFault::JournalFull);
+        }
+        self.write(None, step, Outcome::Noted)
+    }
+
+    /// Notes that a replica was heard at a time in milliseconds: it is up from then on, unless it is gone. A time before the
+    /// greatest so far counts as that one.
+    ///
+    /// It refuses with `JournalFull`, else with `OutOfMemory`.
+    #[tactic(auto, using(crate::proofs::Tables::tables))]
+    pub fn heard(&mut self, _alloc: Global, replica: Replica, now: u64) -> Result<(), ShardFault>
+        ensures step { Stepped self.old self.new None (Step.Heard replica now) result }
+        ensures due { IsDue result (refusal true self.old (Step.Heard replica now)) }
+    {
+        self.note(Step::Heard { replica, now })
+    }
+
+    /// Lets time pass: a replica that was silent for too long is down, or gone.
+    ///
+    /// It refuses with `JournalFull`, else with `OutOfMemory`.
+    #[tactic(auto, using(crate::proofs::Tables::tables))]
+    pub fn tick(&mut self, _alloc: Global, now: u64) -> Result<(), ShardFault>
+        ensures step { Stepped self.old self.new None (Step.Tick now) result }
+        ensures due { IsDue result (refusal true self.old (Step.Tick now)) }
+    {
+        self.note(Step::Tick { now })
+    }
+
+    /// Notes that a replica is gone for good.
+    ///
+    /// It refuses with `JournalFull`, else with `OutOfMemory`.
+    #[tactic(auto, using(crate::proofs::Tables::tables))]
+    pub fn permdown(&mut self, _alloc: Global, replica: Replica) -> Result<(), ShardFault>
+        ensures step { Stepped self.old self.new None (Step.PermDown replica) result }
+        ensures due { IsDue result (refusal true self.old (Step.PermDown replica)) }
+    {
+        self.note(Step::PermDown { replica })
+    }
+
+    /// What the own replica did since the last cut, for other nodes: its rows that came and are live, and the older ones that
+    /// went, each with those that it had replaced in turn.
+    ///
+    /// It refuses with `JournalFull`, else with `OutOfMemory`.
+    #[tactic(auto, using(crate::proofs::Tables::tables))]
+    pub fn cut(&mut self, alloc: Global) -> Result<Delta, ShardFault>
+        ensures step { Stepped self.old self.new None Step.Cut result }
+        ensures answer { Answers (IsCut self.old) (outcome_of self.old Step.Cut) result }
+        ensures due { IsDue result (refusal true self.old Step.Cut) }
+    {
+        if self.journal.is_full() {
+            return Err(ShardFault::JournalFull);
+        }
+        let delta = self.own_cut(alloc)?;
+        let outcome = cut_outcome(&delta);
+        self.write(None, Step::Cut, outcome)?;
+        Ok(delta)
+    }
+
+    /// The status of a replica; the own one is up. It is no step, and takes no memory.
+    pub fn status(&self, replica: &Replica) -> Status
+        ensures { result ≡ status self.now replica.now }
+    {
+        walk_status(&self.journal, replica)
     }
 
     /// Whether a subscriber is behind or has something waiting. It is no step.

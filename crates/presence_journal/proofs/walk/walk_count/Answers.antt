@@ -1,10 +1,17 @@
-use Rattle.std.proofs.Common.{ℕ, ◌+◌, sym, subst}
-use Rattle.presence_journal.specs.History.{Then, start_of}
-use Rattle.presence_journal.proofs.Walking.{IsCounted, counted_none, counted_more, reached_none, reached_more}
+use Rattle.std.proofs.Common.{ℕ, ◌+◌, sym, subst, ap}
+use Rattle.presence_journal.specs.History.{Begin, Then, start_of}
+use Rattle.presence_journal.proofs.Walking.{IsCounted, counted_start, counted_more, reached_none, reached_more}
+use Rattle.presence_journal.specs.Steps.{Start}
+use Rattle.presence_journal.specs.Table.{IsLegal}
+use Rattle.presence_journal.proofs.HistoryLemmas.{legal_before}
 use Rattle.presence_journal.proofs.walk.walk_count.Goals as goal
 
 pub loop-entry-init : goal.loop-entry-init
-loop-entry-init c = reached_none (start_of c.args.journal.now) c.args.journal.now c.entries-entries.result.now (IsCounted 0) c.entries-entries.ensures.history (counted_none (start_of c.args.journal.now))
+loop-entry-init c =
+    let s = start_of c.args.journal.now in
+    let es = c.entries-entries.result.now in
+    let legal = legal_before (Begin s) es (subst IsLegal (sym c.entries-entries.ensures.history) c.entries-entries.ensures.legal) in
+    reached_none s c.args.journal.now es (IsCounted c.start.result.now.count) c.entries-entries.ensures.history (subst (λ (n : ℕ). IsCounted n (Begin s)) (ap (λ (b : Start). b.count) (sym c.start.ensures)) (counted_start s legal))
 
 pub loop-entry-preserved : goal.loop-entry-preserved
 loop-entry-preserved c =

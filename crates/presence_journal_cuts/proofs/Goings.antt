@@ -1,0 +1,68 @@
+-- What goes at an entry, and the chains after it.
+use Rattle.std.proofs.Common.{◌≡◌, ℕ, ◌≤◌, Bool, true, false, cond, ◌&&◌, ◌||◌, nat_eq, nat_le, List, [], ◌∷◌, refl, sym, ◌∙◌, ap, subst}
+use Rattle.std.specs.List.{list_all}
+use Rattle.presence_base.specs.declared.dots.Dot.{Dot}
+use Rattle.dot_context.specs.Runs.{holds}
+use Rattle.presence_journal_data.specs.declared.entry.Outcome.TheVariants as outcomes_are
+use Rattle.presence_journal.specs.Steps.{Outcome, Entry, Start}
+use Rattle.presence_journal.specs.History.{History, Begin, Then, cut_after, last_cut}
+use Rattle.presence_journal.specs.Present.{dots_taken}
+use Rattle.presence_journal_cuts.specs.Chains.{Chains, AreChains, AreUpTo, Chained, Counts, has}
+use Rattle.presence_journal_cuts.specs.Cuts.{chain_after, chain, goes, older_after, older}
+use Rattle.presence_journal_cuts.proofs.Histories.{last_cut-begin, last_more}
+
+shape : (f le x r : Bool) → ((f || (le && (x || false))) || (le && r)) ≡ (f || (le && (x || r)))
+shape true le x r = refl
+shape false true true r = refl
+shape false true false r = refl
+shape false false x r = refl
+
+-- one dot more that goes
+pub gone_more : (f g le : Bool) (ch : ℕ → ℕ → Bool) (d : Dot) (ds : List Dot) (n : ℕ) → g ≡ (f || (le && goes ch (d ∷ []) n)) → (g || (le && goes ch ds n)) ≡ (f || (le && goes ch (d ∷ ds) n))
+gone_more f g le ch d ds n e = ap (λ b. b || (le && goes ch ds n)) e ∙ shape f le (nat_eq n d.count || ch d.count n) (goes ch ds n)
+
+goes_same : (f g : ℕ → ℕ → Bool) (ds : List Dot) (n : ℕ) → ((c : ℕ) → f c n ≡ g c n) → goes f ds n ≡ goes g ds n
+goes_same f g [] n e = refl
+goes_same f g (d ∷ ds) n e = (λ i. (nat_eq n d.count || e d.count i) || goes_same f g ds n e i)
+
+older_same : (o : Outcome) (k k' : ℕ) (f g : ℕ → ℕ → Bool) (p q : ℕ → Bool) (n : ℕ) → k ≡ k' → ((c : ℕ) → f c n ≡ g c n) → p n ≡ q n → older_after o k f p n ≡ older_after o k' g q n
+older_same (outcomes_are.CutAt from to) k k' f g p q n a b c = refl
+older_same (outcomes_are.Replaced new old) k k' f g p q n a b c = λ i. c i || (nat_le n (a i) && goes_same f g (old ∷ []) n b i)
+older_same (outcomes_are.Removed ds) k k' f g p q n a b c = λ i. c i || (nat_le n (a i) && goes_same f g ds n b i)
+older_same _ k k' f g p q n a b c = λ i. c i || (nat_le n (a i) && false)
+
+chain_same : (o : Outcome) (f g : ℕ → ℕ → Bool) (c n : ℕ) → ((x : ℕ) → f x n ≡ g x n) → chain_after o f c n ≡ chain_after o g c n
+chain_same (outcomes_are.Replaced new old) f g c n e = λ i. cond (nat_eq c new.count) (nat_eq n old.count || e old.count i) (cond (nat_eq c old.count) false (e c i))
+chain_same _ f g c n e = e c
+
+-- a walk's last cut, its chains and the runs that went are those of the history
+pub record Gone (k : ℕ) (m : Chains) (rs : List (ℕ × ℕ)) (h : History) : Type 0 where
+  pub cut : k ≡ last_cut h
+  pub chained : Chained (has m) (chain h)
+  pub long : AreChains m
+  pub counts : Counts (holds rs) (older h)
+  pub kept : AreUpTo k rs
+
+pub gone_start : (s : Start) (m : Chains) (rs : List (ℕ × ℕ)) → ((c n : ℕ) → has m c n ≡ false) → AreChains m → rs ≡ [] → Gone s.last_cut m rs (Begin s)
+unfolding chain older
+gone_start s m rs none long e = record {
+  cut = sym (last_cut-begin s);
+  chained = λ c n low. none c n;
+  long = long;
+  counts = λ n low. ap (λ (xs : List (ℕ × ℕ)). holds xs n) e;
+  kept = subst (AreUpTo s.last_cut) (sym e) (tt, refl);
+}
+
+pub gone_then : (k k' : ℕ) (m m' : Chains) (rs rs' : List (ℕ × ℕ)) (h : History) (e : Entry) → k' ≡ cut_after e.outcome k → Counts (holds rs') (older_after e.outcome k (has m) (holds rs)) → (AreChains m → AreUpTo k rs → AreUpTo (cut_after e.outcome k) rs')
+    → Chained (has m') (chain_after e.outcome (has m)) → (AreChains m → AreChains m') → Gone k m rs h → Gone k' m' rs' (Then h e)
+unfolding chain older
+gone_then k k' m m' rs rs' h e cuts counted kept chained long g = record {
+  cut = last_more k k' h e cuts g.cut;
+  chained = λ c n low. chained c n low ∙ chain_same e.outcome (has m) (chain h) c n (λ x. g.chained x n low);
+  long = long g.long;
+  counts = λ n low. counted n low ∙ older_same e.outcome k (last_cut h) (has m) (chain h) (holds rs) (older h) n g.cut (λ c. g.chained c n low) (g.counts n low);
+  kept = kept_at k' (sym cuts) (kept g.long g.kept);
+}
+  where
+    kept_at : (x : ℕ) → cut_after e.outcome k ≡ x → AreUpTo (cut_after e.outcome k) rs' → AreUpTo x rs'
+    kept_at x p a = subst (λ y. AreUpTo y rs') p a

@@ -1,0 +1,197 @@
+-- The last cut, the rows above it, and what every delta keeps of them.
+use Rattle.std.proofs.Common.{◌≡◌, ℕ, ◌+◌, ◌<◌, ◌≤◌, ◌^◌, Bool, true, false, cond, ◌&&◌, nat_eq, nat_lt, nat_le, List, [], ◌∷◌, Option, Some, None, refl, sym, ◌∙◌, ap, subst, arith, inl, inr}
+use Rattle.std.proofs.lemmas.Bool.Decides.{nat_tests}
+use Rattle.std.proofs.lemmas.Option.{cond_some, same_Some}
+use Rattle.presence_base.specs.declared.dots.Dot.{Dot}
+use Rattle.presence_base.specs.declared.row.Row.{Row}
+use Rattle.presence_base.specs.Order.{same_replica, same_dot}
+use Rattle.dot_context.specs.Sets.{in_range}
+use Rattle.presence_journal_data.specs.declared.step.Step.TheVariants as steps_are
+use Rattle.presence_journal_data.specs.declared.entry.Outcome.TheVariants as outcomes_are
+use Rattle.presence_journal.specs.Steps.{Step, Outcome, Entry, Start}
+use Rattle.presence_journal.specs.History.{History, Begin, Then, own, count, counts_used, last_cut, cut_after, next_dot, has_dot, first_some, row_made, row_added, removed, row, live, is_up, status, shown}
+use Rattle.presence_journal.specs.Present.{dots_taken}
+use Rattle.presence_journal.specs.Queue.{Waiting, Behind, Queued, queue, topic_of}
+use Rattle.presence_journal.specs.Table.{IsLegal, rows_of_pid, rows_of_key, counting, tracked, updated, untracked, take_outcome, for_present, outcome_of}
+use Rattle.presence_journal.specs.Walk.{without}
+use Rattle.presence_journal.proofs.PresentLemmas.{shown-row}
+use Rattle.presence_journal.proofs.Same.{same_replica-refl, same_dot-true}
+use Rattle.presence_journal.proofs.HistoryLemmas.{KnowsItsDots, Kind, Adds, Replaces, Removes, Quiet, kind_of, legal_knows, known_parts, own-then, count-then, is_quiet, shown_by}
+use Rattle.presence_journal_cuts.specs.Chains.{unless_cut, recent_after}
+use Rattle.presence_journal_cuts.specs.Cuts.{recent}
+
+-- ---- the last cut
+
+-- a cut is one up to the count, from the last one
+abbrev CutsHere : History → Outcome → Type 0
+CutsHere h (outcomes_are.CutAt from to) = (from ≡ last_cut h) × (to ≡ count h)
+CutsHere h _ = Unit {0}
+
+counted : (h : History) (o a : Outcome) → counting h o ≡ Some a → o ≡ a
+counted h o a e = (cond_some (nat_lt (count h) (2 ^ 62)) o a e).1
+
+cuts_tracked : (h : History) (xs : List (Dot × Row)) (o : Outcome) → tracked h xs ≡ Some o → CutsHere h o
+cuts_tracked h [] o e = subst (CutsHere h) (counted h _ o e) tt
+cuts_tracked h (x ∷ xs) o e = subst (CutsHere h) (same_Some _ _ e) tt
+
+cuts_updated : (h : History) (xs : List (Dot × Row)) (o : Outcome) → updated h xs ≡ Some o → CutsHere h o
+cuts_updated h [] o e = subst (CutsHere h) (same_Some _ _ e) tt
+cuts_updated h (x ∷ xs) o e = subst (CutsHere h) (counted h _ o e) tt
+
+cuts_untracked : (h : History) (ds : List Dot) (o : Outcome) → untracked h ds ≡ Some o → CutsHere h o
+cuts_untracked h [] o e = subst (CutsHere h) (same_Some _ _ e) tt
+cuts_untracked h (x ∷ xs) o e = subst (CutsHere h) (counted h _ o e) tt
+
+cuts_present : (h : History) (t : Option (List ℕ)) (a o : Outcome) → CutsHere h a → for_present t a ≡ Some o → CutsHere h o
+cuts_present h None a o k e = absurd (cc)
+cuts_present h (Some t) a o k e = subst (CutsHere h) (same_Some _ _ e) k
+
+cuts_taken : (h : History) (max : ℕ) (w : Waiting) → CutsHere h (take_outcome max w)
+cuts_taken h max Behind = tt
+cuts_taken h max (Queued q) = tt
+
+cuts_here : (h : History) (s : Step) (o : Outcome) → outcome_of h s ≡ Some o → CutsHere h o
+unfolding outcome_of
+cuts_here h (steps_are.Track pid topic key meta) o e = cuts_tracked h (rows_of_key h pid topic key) o e
+cuts_here h (steps_are.Update pid topic key meta) o e = cuts_updated h (rows_of_key h pid topic key) o e
+cuts_here h (steps_are.Untrack pid topic key) o e = cuts_untracked h _ o e
+cuts_here h (steps_are.UntrackAll pid topic) o e = cuts_untracked h _ o e
+cuts_here h (steps_are.Take n max) o e = cuts_present h (topic_of h n) _ o (cuts_taken h max (queue h n)) e
+cuts_here h (steps_are.Unsubscribe n) o e = cuts_present h (topic_of h n) _ o tt e
+cuts_here h steps_are.Cut o e = subst (CutsHere h) (same_Some _ _ e) (refl, refl)
+cuts_here h _ o e = subst (CutsHere h) (same_Some _ _ e) tt
+
+last_cut-then : (h : History) (e : Entry) → last_cut (Then h e) ≡ cut_after e.outcome (last_cut h)
+unfolding last_cut
+last_cut-then h e = refl
+
+pub last_cut-begin : (s : Start) → last_cut (Begin s) ≡ s.last_cut
+unfolding last_cut
+last_cut-begin s = refl
+
+pub last_more : (n m : ℕ) (h : History) (e : Entry) → m ≡ cut_after e.outcome n → n ≡ last_cut h → m ≡ last_cut (Then h e)
+last_more n m h e next is = next ∙ (ap (cut_after e.outcome) is ∙ sym (last_cut-then h e))
+
+pub last_cut-low : (h : History) → IsLegal h → last_cut h ≤ count h
+unfolding last_cut count
+last_cut-low (Begin s) l = l.cut
+last_cut-low (Then h e) l = go e.outcome (cuts_here h e.step e.outcome l.1) (last_cut-low h l.0)
+  where
+    go : (o : Outcome) → CutsHere h o → last_cut h ≤ count h → cut_after o (last_cut h) ≤ count h + counts_used o
+    go (outcomes_are.CutAt from to) c ih = omega (arith, c.1)
+    go _ c ih = omega (arith, ih)
+
+-- ---- the rows above it
+
+recent_is : (h : History) (d : Dot) → recent h d ≡ cond (in_range (own h) (last_cut h) (count h) d) (shown h d) None
+unfolding recent
+recent_is h d = refl
+
+none_above : (same : Bool) (c n : ℕ) → (same && (nat_lt c n && nat_le n (c + 0))) ≡ false
+none_above true c n = grind (arith, nat_tests)
+none_above false c n = refl
+
+new_in_range : (last c : ℕ) → last ≤ c → (nat_lt last (c + 1) && nat_le (c + 1) (c + 1)) ≡ true
+new_in_range last c l = grind (arith, nat_tests)
+
+as_before : (last n c used : ℕ) → n ≤ c → (nat_lt last n && nat_le n (c + used)) ≡ (nat_lt last n && nat_le n c)
+as_before last n c used l = grind (arith, nat_tests)
+
+shape : (g t : Bool) (o : Option Row) → cond g (cond t None o) None ≡ cond t None (cond g o None)
+shape true true o = refl
+shape true false o = refl
+shape false true o = refl
+shape false false o = refl
+
+hidden : (g g' t : Bool) → cond {A = Option Row} g (cond t None None) None ≡ cond t None (cond g' None None)
+hidden true true true = refl
+hidden true true false = refl
+hidden true false true = refl
+hidden true false false = refl
+hidden false true true = refl
+hidden false true false = refl
+hidden false false true = refl
+hidden false false false = refl
+
+-- a quiet entry adds none
+pub quiet_none : (s : Step) (o : Outcome) (d : Dot) → is_quiet o ≡ true → row_added s o d ≡ None
+quiet_none s (outcomes_are.Added a) d q = absurd (cc)
+quiet_none s (outcomes_are.Replaced a b) d q = absurd (cc)
+quiet_none s _ d q = refl
+
+-- an added row stands under the next dot
+added_next : (h : History) (e : Entry) (d : Dot) (r : Row) → Kind h e.step e.outcome → row_added e.step e.outcome d ≡ Some r → (d ≡ next_dot h) × (counts_used e.outcome ≡ 1)
+added_next h e d r (Adds x m o l) g = (here (same_dot d (next_dot h)) refl (sym (ap (λ y. row_added e.step y d) o) ∙ g), ap counts_used o)
+  where
+    here : (b : Bool) → same_dot d (next_dot h) ≡ b → cond b (row_made e.step None) None ≡ Some r → d ≡ next_dot h
+    here true p f = same_dot-true d (next_dot h) p
+    here false p f = absurd (cc)
+added_next h e d r (Replaces x old m o l w) g = (here (same_dot d (next_dot h)) refl (sym (ap (λ y. row_added e.step y d) o) ∙ g), ap counts_used o)
+  where
+    here : (b : Bool) → same_dot d (next_dot h) ≡ b → cond b (row_made e.step (Some old)) None ≡ Some r → d ≡ next_dot h
+    here true p f = same_dot-true d (next_dot h) p
+    here false p f = absurd (cc)
+added_next h e d r (Removes y ys o l a) g = let f : None ≡ Some r = sym (ap (λ z. row_added e.step z d) o) ∙ g in absurd (cc)
+added_next h e d r (Quiet q) g = let f : None ≡ Some r = sym (quiet_none e.step e.outcome d q) ∙ g in absurd (cc)
+
+-- an entry that is no cut
+recent_same : (h : History) (e : Entry) (d : Dot) → IsLegal (Then h e) → cut_after e.outcome (last_cut h) ≡ last_cut h → recent (Then h e) d ≡ first_some (row_added e.step e.outcome d) (without (dots_taken e.outcome) (recent h) d)
+recent_same h e d l same =
+    recent_is (Then h e) d
+    ∙ ((λ i. cond (in_range (own-then h e i) ((last_cut-then h e ∙ same) i) (count-then h e i) d) (shown_by h e d knows kind i) None)
+    ∙ (go (row_added e.step e.outcome d) refl
+    ∙ ap (λ o. first_some (row_added e.step e.outcome d) (cond (has_dot (dots_taken e.outcome) d) None o)) (sym (recent_is h d))))
+  where
+    knows : KnowsItsDots h
+    knows = legal_knows h l.0
+
+    kind : Kind h e.step e.outcome
+    kind = kind_of h e.step e.outcome l.1
+
+    gone : Bool
+    gone = has_dot (dots_taken e.outcome) d
+
+    range : ℕ → Bool
+    range to = in_range (own h) (last_cut h) to d
+
+    at_row : (o : Option Row) → shown h d ≡ o → cond (range (count h + counts_used e.outcome)) (cond gone None o) None ≡ cond gone None (cond (range (count h)) o None)
+    at_row None p = hidden (range (count h + counts_used e.outcome)) (range (count h)) gone
+    at_row (Some r) p =
+        let parts = known_parts h d (knows.of_row d r (shown-row h d r p).0) in
+        ap (λ b. cond (same_replica d.replica (own h) && b) (cond gone None (Some r)) None) (as_before (last_cut h) d.count (count h) (counts_used e.outcome) parts.2)
+        ∙ shape (range (count h)) gone (Some r)
+
+    go : (a : Option Row) → row_added e.step e.outcome d ≡ a → cond (range (count h + counts_used e.outcome)) (first_some a (cond gone None (shown h d))) None ≡ first_some a (cond gone None (cond (range (count h)) (shown h d) None))
+    go None p = at_row (shown h d) refl
+    go (Some r) p =
+        let new = added_next h e d r kind p in
+        ap (λ n. cond (in_range (own h) (last_cut h) (count h + n) d) (Some r) None) new.1
+        ∙ ap (λ b. cond b (Some r) None)
+        (ap (λ (x : Dot). in_range (own h) (last_cut h) (count h + 1) x) new.0
+        ∙ ((λ i. same_replica-refl (own h) i && (nat_lt (last_cut h) (count h + 1) && nat_le (count h + 1) (count h + 1))) ∙ new_in_range (last_cut h) (count h) (last_cut-low h l.0)))
+
+pub recent-then : (h : History) (e : Entry) (d : Dot) → IsLegal (Then h e) → recent (Then h e) d ≡ recent_after e (recent h) d
+recent-then h e d l = go e.outcome refl (cuts_here h e.step e.outcome l.1)
+  where
+    go : (o : Outcome) → e.outcome ≡ o → CutsHere h o → recent (Then h e) d ≡ unless_cut o (first_some (row_added e.step e.outcome d) (without (dots_taken e.outcome) (recent h) d))
+    go (outcomes_are.CutAt from to) p c =
+        recent_is (Then h e) d
+        ∙ ((λ i. cond (in_range (own (Then h e)) ((last_cut-then h e ∙ (ap (λ o. cut_after o (last_cut h)) p ∙ c.1)) i) ((count-then h e ∙ ap (λ o. count h + counts_used o) p) i) d) (shown (Then h e) d) None)
+        ∙ ap (λ b. cond b (shown (Then h e) d) None) (none_above (same_replica d.replica (own (Then h e))) (count h) d.count))
+    go _ p c = recent_same h e d l (ap (λ o. cut_after o (last_cut h)) p)
+
+pub recent-begin : (s : Start) (d : Dot) → recent (Begin s) d ≡ None
+unfolding recent shown live removed row
+recent-begin s d = hide (in_range (own (Begin s)) (last_cut (Begin s)) (count (Begin s)) d) (is_up (status (Begin s) d.replica))
+  where
+    hide : (g u : Bool) → cond {A = Option Row} g (cond u None None) None ≡ None
+    hide true true = refl
+    hide true false = refl
+    hide false u = refl
+
+-- one entry more
+pub recent-more : (f g : Dot → Option Row) (h : History) (e : Entry) → IsLegal (Then h e) → ((d : Dot) → g d ≡ recent_after e f d) → ((d : Dot) → f d ≡ recent h d) → (d : Dot) → g d ≡ recent (Then h e) d
+recent-more f g h e l after before d =
+    after d
+    ∙ (ap (λ o. unless_cut e.outcome (first_some (row_added e.step e.outcome d) (cond (has_dot (dots_taken e.outcome) d) None o))) (before d)
+    ∙ sym (recent-then h e d l))

@@ -1,0 +1,165 @@
+-- What is told of a legal history keeps what every delta keeps.
+use Rattle.std.proofs.Common.{◌≡◌, ℕ, ◌≤◌, ◌<◌, ◌^◌, Bool, true, false, cond, ◌&&◌, ◌||◌, nat_le, nat_lt, List, [], ◌∷◌, Option, Some, None, refl, sym, ◌∙◌, ap, arith}
+use Rattle.std.specs.List.{AllByRecursion, list_any, list_all}
+use Rattle.std.specs.List.Sorted.{IsStrictlySortedBy}
+use Rattle.std.specs.Map.{lookup, keys_of}
+use Rattle.std.specs.Ordering.{is_eq, eq_by_cmp}
+use Rattle.std.specs.Cmp.{eq_by_cmp_equiv}
+use Rattle.std.specs.declared.cmp.Ordering.{Ordering}
+use Rattle.std.specs.declared.cmp.Ordering.TheVariants.{Less}
+use Rattle.std.proofs.lemmas.Bool.{and_from, le-leb}
+use Rattle.std.proofs.lemmas.Option.{same_Some}
+use Rattle.presence_base.specs.declared.dots.TheConstants.{MAX_COUNT}
+use Rattle.presence_base.specs.declared.dots.Replica.{Replica}
+use Rattle.presence_base.specs.declared.dots.Dot.{Dot}
+use Rattle.presence_base.specs.declared.row.Row.{Row}
+use Rattle.presence_base.specs.Order.{dot_cmp, same_dot}
+use Rattle.dot_context.specs.Sets.{in_range}
+use Rattle.dot_context.specs.Runs.{holds}
+use Rattle.orswot_core_told.specs.Limits.{is_count, is_dot, is_prev, is_row, is_range}
+use Rattle.orswot_core_told.specs.Checks.{has_repeat}
+use Rattle.delta_range.specs.Deltas.{IsDelta}
+use Rattle.delta_range.specs.Longest.{longest}
+use Rattle.delta_range.proofs.RunFacts.{longest_runs, holds_longest, ends_longest}
+use Rattle.presence_journal_data.specs.declared.step.Step.TheVariants as steps_are
+use Rattle.presence_journal.specs.Steps.{Step, Entry}
+use Rattle.presence_journal.specs.History.{History, Begin, Then, start_of, own, count, last_cut, next_dot, known, first_some, row_made, row_added, row, shown}
+use Rattle.presence_journal.specs.Table.{IsLegal, IsStart, is_step}
+use Rattle.presence_journal.proofs.PresentLemmas.{shown-row}
+use Rattle.presence_journal.proofs.Same.{dot_total}
+use Rattle.presence_journal.proofs.Walking.{count-limit}
+use Rattle.presence_journal.proofs.HistoryLemmas.{Kind, Adds, Replaces, Removes, Quiet, kind_of, legal_knows, known_parts, own-start_of}
+use Rattle.presence_journal_cuts.specs.Chains.{AreUpTo, Counts}
+use Rattle.presence_journal_cuts.specs.Cuts.{older, recent, IsCut}
+use Rattle.presence_journal_cuts.proofs.Histories.{last_cut-low, quiet_none}
+
+-- ---- dots
+
+start_legal : (h : History) → IsLegal h → IsStart (start_of h)
+start_legal (Begin s) l = l
+start_legal (Then h e) l = start_legal h l.0
+
+count_test : (n : ℕ) → 1 ≤ n → n ≤ MAX_COUNT → is_count n ≡ true
+count_test n p q = and_from (nat_le 1 n) (nat_le n MAX_COUNT) (le-leb 1 n p) (le-leb n MAX_COUNT q)
+
+own_limit : (h : History) → IsLegal h → is_count (own h).incarnation ≡ true
+own_limit h l =
+    let limits = (start_legal h l).incarnation in
+    ap (λ (r : Replica). is_count r.incarnation) (own-start_of h) ∙ count_test (start_of h).own.incarnation limits.0 limits.1
+
+known_is_dot : (h : History) → IsLegal h → (d : Dot) → known h d ≡ true → is_dot d ≡ true
+known_is_dot h l d k =
+    let p = known_parts h d k in
+    let most = count-limit h l in
+    and_from (is_count d.replica.incarnation) (is_count d.count)
+    (ap (λ (r : Replica). is_count r.incarnation) p.0 ∙ own_limit h l)
+    (count_test d.count (omega (arith, p.1)) (omega (arith, p.2, most)))
+
+-- ---- rows
+
+made_limits : (s : Step) (prev : Option Dot) (r : Row) → is_step s ≡ true → row_made s prev ≡ Some r → (nat_le r.pid (2 ^ 62) ≡ true) × (r.prev ≡ prev)
+made_limits (steps_are.Track pid topic key meta) prev r i e = let same = same_Some _ _ e in (ap (λ (x : Row). nat_le x.pid (2 ^ 62)) (sym same) ∙ i, ap (λ (x : Row). x.prev) (sym same))
+made_limits (steps_are.Update pid topic key meta) prev r i e = let same = same_Some _ _ e in (ap (λ (x : Row). nat_le x.pid (2 ^ 62)) (sym same) ∙ i, ap (λ (x : Row). x.prev) (sym same))
+made_limits _ prev r i e = absurd (cc)
+
+under : (b : Bool) (o : Option Row) (r : Row) → cond b o None ≡ Some r → o ≡ Some r
+under true o r e = e
+under false o r e = absurd (cc)
+
+row_of_made : (s : Step) (prev : Option Dot) (r : Row) → is_step s ≡ true → is_prev prev ≡ true → row_made s prev ≡ Some r → is_row r ≡ true
+row_of_made s prev r i p e =
+    let limits = made_limits s prev r i e in
+    and_from (nat_le r.pid MAX_COUNT) (is_prev r.prev) limits.0 (ap is_prev limits.1 ∙ p)
+
+added_limits : (h : History) (e : Entry) (d : Dot) (r : Row) → IsLegal (Then h e) → Kind h e.step e.outcome → row_added e.step e.outcome d ≡ Some r → is_row r ≡ true
+added_limits h e d r l (Adds x m o c) g =
+    row_of_made e.step None r l.4 refl (under (same_dot d (next_dot h)) (row_made e.step None) r (sym (ap (λ y. row_added e.step y d) o) ∙ g))
+added_limits h e d r l (Replaces x old m o c w) g =
+    row_of_made e.step (Some old) r l.4 (known_is_dot h l.0 old ((legal_knows h l.0).of_row old w.row (shown-row h old w.row w.shown).0))
+    (under (same_dot d (next_dot h)) (row_made e.step (Some old)) r (sym (ap (λ y. row_added e.step y d) o) ∙ g))
+added_limits h e d r l (Removes y ys o c a) g = let f : None ≡ Some r = sym (ap (λ z. row_added e.step z d) o) ∙ g in absurd (cc)
+added_limits h e d r l (Quiet q) g = let f : None ≡ Some r = sym (quiet_none e.step e.outcome d q) ∙ g in absurd (cc)
+
+row_limits : (h : History) → IsLegal h → (d : Dot) (r : Row) → row h d ≡ Some r → is_row r ≡ true
+unfolding row
+row_limits (Begin s) l d r e = absurd (cc)
+row_limits (Then h e) l d r f = go (row h d) refl (row_limits h l.0 d) f
+  where
+    go : (o : Option Row) → row h d ≡ o → ((x : Row) → row h d ≡ Some x → is_row x ≡ true) → first_some o (row_added e.step e.outcome d) ≡ Some r → is_row r ≡ true
+    go (Some x) p ih g = ih r (p ∙ g)
+    go None p ih g = added_limits h e d r l (kind_of h e.step e.outcome l.1) g
+
+recent_parts : (h : History) (d : Dot) (r : Row) → recent h d ≡ Some r → (in_range (own h) (last_cut h) (count h) d ≡ true) × (shown h d ≡ Some r)
+unfolding recent
+recent_parts h d r e = go (in_range (own h) (last_cut h) (count h) d) (shown h d) e
+  where
+    go : (b : Bool) (o : Option Row) → cond b o None ≡ Some r → (b ≡ true) × (o ≡ Some r)
+    go true o f = (refl, f)
+    go false o f = absurd (cc)
+
+recent_limits : (h : History) → IsLegal h → (d : Dot) (r : Row) → recent h d ≡ Some r → (is_dot d && is_row r) ≡ true
+recent_limits h l d r e =
+    let has_row = (shown-row h d r (recent_parts h d r e).1).0 in
+    and_from (is_dot d) (is_row r) (known_is_dot h l d ((legal_knows h l).of_row d r has_row)) (row_limits h l d r has_row)
+
+-- ---- lists in order
+
+-- each entry is the one that a look-up of its dot finds
+each_found : (es : List (Dot × Row)) → IsStrictlySortedBy dot_cmp (keys_of es) → AllByRecursion (λ (e : Dot × Row). lookup (same_dot e.0) es ≡ Some e.1) es
+unfolding IsStrictlySortedBy
+each_found [] h = tt
+each_found (e ∷ es) h = (
+  ap (λ b. cond b (Some e.1) (lookup (same_dot e.0) es)) ((eq_by_cmp_equiv dot_total).refl e.0),
+  found_later es h.0 (each_found es h.1),
+)
+  where
+    found_later : (xs : List (Dot × Row)) → AllByRecursion (λ y. dot_cmp e.0 y ≡ Less) (keys_of xs) → AllByRecursion (λ (x : Dot × Row). lookup (same_dot x.0) es ≡ Some x.1) xs
+        → AllByRecursion (λ (x : Dot × Row). cond (same_dot x.0 e.0) (Some e.1) (lookup (same_dot x.0) es) ≡ Some x.1) xs
+    found_later [] above found = tt
+    found_later (x ∷ xs) above found = (
+      ap (λ b. cond b (Some e.1) (lookup (same_dot x.0) es)) ((eq_by_cmp_equiv dot_total).symm x.0 e.0 ∙ ap is_eq above.0) ∙ found.0,
+      found_later xs above.1 found.1,
+    )
+
+no_repeat : (ks : List Dot) → IsStrictlySortedBy dot_cmp ks → has_repeat same_dot ks ≡ false
+unfolding IsStrictlySortedBy
+no_repeat [] h = refl
+no_repeat (k ∷ ks) h = ap (λ b. b || has_repeat same_dot ks) (none_tied ks h.0) ∙ no_repeat ks h.1
+  where
+    none_tied : (xs : List Dot) → AllByRecursion (λ y. dot_cmp k y ≡ Less) xs → list_any (same_dot k) xs ≡ false
+    none_tied [] above = refl
+    none_tied (x ∷ xs) above = ap (λ o. is_eq o || list_any (same_dot k) xs) above.0 ∙ none_tied xs above.1
+
+all_of : (P : Dot × Row → Type 0) (p : Dot × Row → Bool) → ((x : Dot × Row) → P x → p x ≡ true) → (xs : List (Dot × Row)) → AllByRecursion P xs → list_all p xs ≡ true
+all_of P p f [] h = refl
+all_of P p f (x ∷ xs) h = ap (λ b. b && list_all p xs) (f x h.0) ∙ all_of P p f xs h.1
+
+-- ---- the delta
+
+pub cut_keeps : (h : History) → IsLegal h → (rs : List (ℕ × ℕ)) (xs : List (Dot × Row)) → AreUpTo (last_cut h) rs → ((d : Dot) → lookup (same_dot d) xs ≡ recent h d) → IsStrictlySortedBy dot_cmp (keys_of xs)
+    → IsDelta (record { owner = own h; from = last_cut h; to = count h; older = longest rs; live = xs })
+cut_keeps h l rs xs k found sorted =
+    let low = last_cut-low h l in
+    let most = count-limit h l in
+    let each = each_found xs sorted in
+    record {
+      range = and_from (is_count (own h).incarnation) (nat_le (last_cut h) MAX_COUNT && nat_le (count h) MAX_COUNT) (own_limit h l)
+          (and_from (nat_le (last_cut h) MAX_COUNT) (nat_le (count h) MAX_COUNT) (le-leb (last_cut h) MAX_COUNT (omega (arith, low, most))) (le-leb (count h) MAX_COUNT most));
+      forward = low;
+      runs = longest_runs rs k.0;
+      below = ends_longest (last_cut h) rs k.1;
+      rows = all_of (λ (x : Dot × Row). lookup (same_dot x.0) xs ≡ Some x.1) (λ x. is_dot x.0 && is_row x.1) (λ x f. recent_limits h l x.0 x.1 (sym (found x.0) ∙ f)) xs each;
+      within = all_of (λ (x : Dot × Row). lookup (same_dot x.0) xs ≡ Some x.1) (λ x. in_range (own h) (last_cut h) (count h) x.0) (λ x f. (recent_parts h x.0 x.1 (sym (found x.0) ∙ f)).0) xs each;
+      once = no_repeat (keys_of xs) sorted;
+    }
+
+pub cut_is : (h : History) → (rs : List (ℕ × ℕ)) (xs : List (Dot × Row)) → AreUpTo (last_cut h) rs → Counts (holds rs) (older h) → ((d : Dot) → lookup (same_dot d) xs ≡ recent h d) → IsStrictlySortedBy dot_cmp (keys_of xs)
+    → IsCut h (record { owner = own h; from = last_cut h; to = count h; older = longest rs; live = xs })
+cut_is h rs xs k counts found sorted = record {
+  owner = refl;
+  from = refl;
+  to = refl;
+  before = λ n low. holds_longest rs n k.0 ∙ counts n low;
+  rows = found;
+  in_order = sorted;
+}

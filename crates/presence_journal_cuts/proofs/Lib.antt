@@ -1,0 +1,4 @@
+mod Histories
+mod Kept
+mod RunLemmas
+mod Goings

@@ -1,0 +1,106 @@
+// Chains: for the count of a live row, the counts of the rows that were replaced in turn.
+ghost use Rattle.std.specs.Prelude.{◌≡◌, ◌≤◌, ◌||◌, ℕ, nat_eq, cond, false, OnOk, option_copied};
+ghost use Rattle.std.specs.BTreeMap.{get};
+ghost use Rattle.std.specs.Ordering.{nat_cmp};
+ghost use Rattle.dot_context.specs.Runs.{holds, AreLong};
+ghost use Rattle.dot_context.specs.Sets.{listed};
+ghost use Rattle.presence_journal_cuts.specs.Chains.{AreChains, Chained, Counts, has};
+ghost use Rattle.presence_journal_cuts.specs.Cuts.{chain_after};
+
+use presence_journal::Outcome;
+use std::alloc::{AllocError, Global};
+use std::collections::BTreeMap;
+use std::marker::Model;
+
+/// Counts as runs: each is the count below its first one and its last one.
+#[derive(Drop)]
+pub(crate) struct Chain {
+    runs: Vec<(u64, u64)>,
+}
+
+impl Model for Chain {
+    ghost use Rattle.std.specs.Prelude.{ℕ, List};
+    ghost use Rattle.std.specs.Coded.{coded_list, coded×, coded_ℕ};
+
+    ghost Value = { List (ℕ × ℕ) };
+
+    ghost coded = { coded_list (coded× coded_ℕ coded_ℕ) };
+
+    ghost view = { λ c. c.runs.items };
+}
+
+impl Chain {
+    ghost use Rattle.std.specs.Prelude.{◌≡◌, ◌≤◌, ◌||◌, ℕ, nat_eq, [], OnOk};
+    ghost use Rattle.dot_context.specs.Runs.{holds, AreLong};
+    ghost use Rattle.presence_journal_cuts.specs.Chains.{Counts};
+
+    fn new(alloc: Global) -> Chain
+        ensures { result ≡ [] }
+    {
+        Chain {
+            runs: Vec::new(alloc),
+        }
+    }
+
+    pub(crate) fn as_slice(&self) -> &[(u64, u64)]
+        ensures { result.now ≡ self.now }
+    {
+        self.runs.as_slice()
+    }
+
+    fn push(&mut self, count: u64) -> Result<(), AllocError>
+        ensures counts { OnOk result (Counts (holds self.new) (λ n. holds self.old n || nat_eq n count)) }
+        ensures long { OnOk result (AreLong self.old → AreLong self.new) }
+    {
+        push_count(&mut self.runs, count)
+    }
+}
+
+// Adds a count, to the last run where it goes on from that.
+pub(crate) fn push_count(runs: &mut Vec<(u64, u64)>, count: u64) -> Result<(), AllocError>
+    ensures counts { OnOk result (Counts (holds runs.new.items) (λ n. holds runs.old.items n || nat_eq n count)) }
+    ensures long { OnOk result (AreLong runs.old.items → AreLong runs.new.items) }
+{
+    if count > 0 {
+        runs.push((count - 1, count))?;
+    }
+    Ok(())
+}
+
+// The chain that is taken out, or none.
+fn taken_chain(alloc: Global, chains: &mut BTreeMap<u64, Chain>, count: u64) -> Chain
+    ensures chain { result ≡ listed (get nat_cmp chains.old count) }
+    ensures rest { (c n : ℕ) → has chains.new c n ≡ cond (nat_eq c count) false (has chains.old c n) }
+    ensures long { AreChains chains.old → AreChains chains.new }
+{
+    match chains.remove(&count) {
+        Some(chain) => chain,
+        None => Chain::new(alloc),
+    }
+}
+
+// Puts a chain in the place of the one before it.
+fn put_chain(chains: &mut BTreeMap<u64, Chain>, count: u64, chain: Chain) -> Result<(), AllocError>
+    ensures chains { OnOk result ((c n : ℕ) → has chains.new c n ≡ cond (nat_eq c count) (holds chain n) (has chains.old c n)) }
+    ensures long { OnOk result (AreLong chain → AreChains chains.old → AreChains chains.new) }
+{
+    chains.insert(count, chain)?;
+    Ok(())
+}
+
+// What an outcome makes of the chains.
+pub(crate) fn hand_on(
+    alloc: Global,
+    chains: &mut BTreeMap<u64, Chain>,
+    outcome: &Outcome,
+) -> Result<(), AllocError>
+    ensures chains { OnOk result (Chained (has chains.new) (chain_after outcome.now (has chains.old))) }
+    ensures long { OnOk result (AreChains chains.old → AreChains chains.new) }
+{
+    if let Outcome::Replaced(new, old) = outcome {
+        let mut chain = taken_chain(alloc, chains, old.count);
+        chain.push(old.count)?;
+        put_chain(chains, new.count, chain)?;
+    }
+    Ok(())
+}

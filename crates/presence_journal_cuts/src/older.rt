@@ -1,0 +1,90 @@
+// The older counts that went since the last cut.
+ghost use Rattle.std.specs.Prelude.{◌≡◌, ◌∷◌, [], ◌&&◌, ◌||◌, ℕ, nat_eq, nat_le, IfOk, OnOk};
+ghost use Rattle.dot_context.specs.Runs.{holds};
+ghost use Rattle.presence_journal.specs.History.{cut_after, last_cut};
+ghost use Rattle.presence_journal.specs.Present.{dots_taken};
+ghost use Rattle.presence_journal_cuts.specs.Chains.{AreChains, AreUpTo, Counts, has};
+ghost use Rattle.presence_journal_cuts.specs.Cuts.{goes, older_after, older};
+
+use crate::chain::{Chain, hand_on, push_count};
+use crate::last::{dots_out, last_after};
+use delta_range::push_up_to;
+use presence_base::Dot;
+use presence_journal::{Journal, Outcome};
+use std::alloc::{AllocError, Global};
+use std::collections::BTreeMap;
+
+// Adds the count of a dot and its chain, as far as they are at or below the last cut.
+fn push_gone(
+    alloc: Global,
+    runs: &mut Vec<(u64, u64)>,
+    chains: &BTreeMap<u64, Chain>,
+    last: u64,
+    dot: &Dot,
+) -> Result<(), AllocError>
+    ensures counts { OnOk result (Counts (holds runs.new.items) (λ n. holds runs.old.items n || (nat_le n last && goes (has chains.now) (dot.now ∷ []) n))) }
+    ensures kept { OnOk result (AreChains chains.now → AreUpTo last runs.old.items → AreUpTo last runs.new.items) }
+{
+    let mut itself = Vec::new(alloc);
+    push_count(&mut itself, dot.count)?;
+    push_up_to(runs, &itself, last)?;
+    match chains.get(&dot.count) {
+        Some(chain) => push_up_to(runs, chain.as_slice(), last),
+        None => Ok(()),
+    }
+}
+
+// The same of several dots.
+fn push_all_gone(
+    alloc: Global,
+    runs: &mut Vec<(u64, u64)>,
+    chains: &BTreeMap<u64, Chain>,
+    last: u64,
+    dots: &[Dot],
+) -> Result<(), AllocError>
+    ensures counts { OnOk result (Counts (holds runs.new.items) (λ n. holds runs.old.items n || (nat_le n last && goes (has chains.now) dots.now n))) }
+    ensures kept { OnOk result (AreChains chains.now → AreUpTo last runs.old.items → AreUpTo last runs.new.items) }
+{
+    for dot in dots {
+        push_gone(alloc, runs, chains, last, dot)?;
+    }
+    Ok(())
+}
+
+// What an outcome makes of the older counts.
+fn go_out(
+    alloc: Global,
+    runs: &mut Vec<(u64, u64)>,
+    chains: &BTreeMap<u64, Chain>,
+    last: u64,
+    outcome: &Outcome,
+) -> Result<(), AllocError>
+    ensures counts { OnOk result (Counts (holds runs.new.items) (older_after outcome.now last (has chains.now) (holds runs.old.items))) }
+    ensures kept { OnOk result (AreChains chains.now → AreUpTo last runs.old.items → AreUpTo (cut_after outcome.now last) runs.new.items) }
+{
+    match outcome {
+        Outcome::CutAt(_, _) => {
+            *runs = Vec::new(alloc);
+            Ok(())
+        }
+        _ => push_all_gone(alloc, runs, chains, last, dots_out(outcome)),
+    }
+}
+
+// The runs of the older counts that went since the last cut.
+pub(crate) fn walk_older(alloc: Global, journal: &Journal) -> Result<Vec<(u64, u64)>, AllocError>
+    ensures counts { IfOk result (λ v. Counts (holds v.items) (older journal.now)) }
+    ensures kept { IfOk result (λ v. AreUpTo (last_cut journal.now) v.items) }
+{
+    let start = journal.start();
+    let entries = journal.entries();
+    let mut last = start.last_cut;
+    let mut chains = BTreeMap::new(alloc);
+    let mut runs = Vec::new(alloc);
+    for entry in entries {
+        go_out(alloc, &mut runs, &chains, last, &entry.outcome)?;
+        hand_on(alloc, &mut chains, &entry.outcome)?;
+        last = last_after(&entry.outcome, last);
+    }
+    Ok(runs)
+}
