@@ -1,4 +1,5 @@
 pub mod Acted
+pub mod Behind
 pub mod Delivered
 pub mod Endings
 pub mod Lent

@@ -1,6 +1,7 @@
 pub mod Ran
 pub mod Delivery
 pub mod Ending
+pub mod LeftBehind
 pub use Rattle.channel_session_rules.specs.Asks
 pub use Rattle.channel_session_rules.specs.Script
 pub use Rattle.channel_session_rules.specs.InForce

@@ -8,6 +8,7 @@
 
 mod acting;
 mod delivering;
+pub mod ended;
 mod ending;
 mod fault;
 mod joined;
