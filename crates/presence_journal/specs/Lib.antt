@@ -1,3 +1,4 @@
+pub mod Sizes
 pub mod Limits
 pub mod Steps
 pub mod History

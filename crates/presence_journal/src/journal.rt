@@ -31,6 +31,18 @@ impl Model for Journal {
     ghost invariant = { λ j. IsKept (onto (Begin j.start) j.entries.items) };
 }
 
+impl Clone for Journal {
+    ghost use Rattle.std.specs.Prelude.{◌≡◌};
+
+    ghost is_clone = { λ j k. k ≡ j };
+
+    fn clone(&self) -> Result<Journal, AllocError> {
+        let start = self.start.clone()?;
+        let entries = self.entries.clone()?;
+        Ok(Journal { start, entries })
+    }
+}
+
 // Puts an entry at the end.
 fn push_entry(entries: &mut Vec<Entry>, entry: Entry) -> Result<(), AllocError>
     ensures ok { OnOk result (entries.new.items ≡ entries.old.items ++ entry ∷ []) }

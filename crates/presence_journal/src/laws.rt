@@ -5,6 +5,7 @@ ghost use Rattle.presence_journal.specs.Laws.{NewIsUnknown, NewIsCounted, RowsAr
 ghost use Rattle.presence_journal.specs.Laws.{OnlyNamedLeave, OthersStay, OthersHearNothing, RefusedStays};
 ghost use Rattle.presence_journal.specs.Laws.{HoldsMost, QueuesItems, FallsBehind, StaysBehind};
 ghost use Rattle.presence_journal.specs.Laws.{StaysLegal, StaysKept, AsWorked};
+ghost use Rattle.presence_journal.specs.Sizes.{AreSizes};
 
 /// What a subscriber took since its last state, followed by what waits for it, folds to the present
 /// rows of its topic.
@@ -60,4 +61,10 @@ pub fn queue_limit()
 /// The worked runs hold of the definitions.
 pub fn worked_rows()
     ensures { AsWorked }
+{}
+
+/// How many entries a journal may have, how many items may wait and be taken at once, and how deep a
+/// shout's payload may be.
+pub fn limits_are_these()
+    ensures { AreSizes }
 {}

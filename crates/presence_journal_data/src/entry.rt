@@ -149,3 +149,21 @@ impl Clone for Entry {
         })
     }
 }
+
+impl Clone for Start {
+    ghost use Rattle.std.specs.Prelude.{◌≡◌};
+
+    ghost is_clone = { λ s t. t ≡ s };
+
+    fn clone(&self) -> Result<Start, AllocError> {
+        let standings = self.standings.clone()?;
+        Ok(Start {
+            number: self.number,
+            own: self.own,
+            count: self.count,
+            standings,
+            time: self.time,
+            last_cut: self.last_cut,
+        })
+    }
+}

@@ -1,5 +1,6 @@
 use presence_base::Replica;
 use replica_status::Standing;
+use std::alloc::AllocError;
 use std::marker::Model;
 
 /// Replicas with their standings, each replica once. One that is not listed is unheard.
@@ -21,6 +22,17 @@ impl Model for Standings {
     ghost coded = { coded_list (coded× replica_code one_standing.the_row.coded) };
 
     ghost view = { λ s. s.items.items };
+}
+
+impl Clone for Standings {
+    ghost use Rattle.std.specs.Prelude.{◌≡◌};
+
+    ghost is_clone = { λ s t. t ≡ s };
+
+    fn clone(&self) -> Result<Standings, AllocError> {
+        let items = self.items.clone()?;
+        Ok(Standings { items })
+    }
 }
 
 impl Standings {
