@@ -1,3 +1,4 @@
+pub mod Caps
 pub mod Longest
 pub mod Deltas
 pub mod Joining

@@ -1,3 +1,4 @@
+ghost use Rattle.delta_range.specs.Caps.{AreCaps};
 ghost use Rattle.delta_range.specs.Laws.{TellsInTurn, IsNoLarger, StaysInOrder, OlderInOrder, CoversTheSame};
 
 /// A joined delta tells a set what its two parts tell it in turn.
@@ -23,4 +24,9 @@ pub fn delta_of_told_covers_the_same()
 /// The older dots that a delta tells are in order, each once.
 pub fn older_dots_are_in_order()
     ensures { OlderInOrder }
+{}
+
+/// How many rows and older runs each of the three kept deltas may have.
+pub fn caps_are_these()
+    ensures { AreCaps }
 {}

@@ -11,7 +11,7 @@ use std::alloc::{AllocError, Global};
 use std::test::Fail;
 
 // The member `user` with this name.
-fn user_member(alloc: Global, name: &str) -> Result<Extra, AllocError> {
+pub(super) fn user_member(alloc: Global, name: &str) -> Result<Extra, AllocError> {
     let user = json!(in alloc; {"n": name})?;
     let mut members = Vec::new(alloc);
     members.push((String::from_str(alloc, "user")?, user))?;

@@ -13,6 +13,8 @@ mod frames;
 #[cfg(test)]
 mod noting;
 #[cfg(test)]
+mod refusing;
+#[cfg(test)]
 mod routes;
 #[cfg(test)]
 mod rows;

@@ -5,7 +5,7 @@ use std::alloc::{AllocError, Global};
 use std::test::Fail;
 
 // The notice of a word and a reference, as in `join a.1.2`.
-fn note(alloc: Global, word: &str, dot: &Dot) -> Result<Notice, AllocError> {
+pub(super) fn note(alloc: Global, word: &str, dot: &Dot) -> Result<Notice, AllocError> {
     let reference = ref_text(alloc, dot)?;
     let text = format!(in alloc; "{word} {reference}")?;
     match Notice::new(alloc, text.as_str())? {
