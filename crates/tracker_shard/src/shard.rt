@@ -76,6 +76,13 @@ impl Shard {
         &self.journal
     }
 
+    /// The journal, where the shard is done with.
+    pub fn into_journal(self) -> Journal
+        ensures { result ≡ self }
+    {
+        self.journal
+    }
+
     // Writes the entry of a step that the table accepts.
     fn write(&mut self, seat: Option<u32>, step: Step, outcome: Outcome) -> Result<(), ShardFault>
         requires table { outcome_of self.old step ≡ Some outcome }
