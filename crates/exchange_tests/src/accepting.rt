@@ -1,11 +1,10 @@
 //! The run of a link at node `a`, with two shards, which was dialled by node `b`.
-use crate::desk::{NEVER, NOW, at_a, replica};
+use crate::desk::{Desk, NEVER, NOW, at_a, replica};
 use crate::port::Call;
 use node_links::{ActFault, DialFault, LinkFault};
 use orswot_core::ToldFault;
 use replica_status::Status;
-use std::alloc::Global;
-use std::test::Fail;
+use std::alloc::{AllocError, Global};
 
 const RUN: &str = r#"["hello","b",1,2]
 ["beat",0,"b",1,1,[[["b",1,0,1]],[],[["b",1,1,"room:a","u2",5,{"x":1},null]]]]
@@ -21,48 +20,65 @@ const ANSWERS: &str = r#"["hello","a",1,2]
 ["ok"]
 "#;
 
+// Whether the calls of the run were made, and no others.
+fn asked_as_run(alloc: Global, desk: &Desk<'_>) -> bool {
+    let Some(b) = replica(alloc, "b", 1) else {
+        return false;
+    };
+    let b = &b;
+    desk.asked(&[
+        Call::Status(0, *b),
+        Call::Heard(0, *b, NOW),
+        Call::Merge(0, 1),
+        Call::Top(0, *b),
+        Call::Status(0, *b),
+        Call::Heard(0, *b, NOW),
+        Call::Top(0, *b),
+        Call::Merge(0, 0),
+    ])
+}
+
 #[test]
-fn the_run_of_a_link(rt: HostRuntime) -> Result<(), Fail> {
-    let b = &replica(rt.alloc(), "b", 1)?;
-    let mut desk = at_a(rt.alloc(), RUN.as_bytes())?;
-    for _ in 0..5 {
-        assert_eq!(rt; desk.accepts(rt.alloc()), Ok(true));
-    }
-    assert_eq!(rt; desk.accepts(rt.alloc()), Ok(false));
+fn the_run_of_a_link(rt: HostRuntime) {
+    let alloc = rt.alloc();
+    let Some(mut desk) = at_a(alloc, RUN.as_bytes()) else {
+        assert!(rt; false);
+        return;
+    };
+    assert!(rt; desk.accepts_all(alloc, 5));
+    assert!(rt; desk.accepts(alloc) == Ok(false));
     assert!(rt; desk.wrote(ANSWERS));
-    assert_eq!(rt; desk.peer.other(), Some(*b));
-    assert!(rt;
-        desk.asked(&[
-            Call::Status(0, *b),
-            Call::Heard(0, *b, NOW),
-            Call::Merge(0, 1),
-            Call::Top(0, *b),
-            Call::Status(0, *b),
-            Call::Heard(0, *b, NOW),
-            Call::Top(0, *b),
-            Call::Merge(0, 0),
-        ])
-    );
-    Ok(())
+    assert!(rt; desk.knows(alloc, "b", 1));
+    assert!(rt; asked_as_run(alloc, &desk));
 }
 
-// How these lines end behind a hello, and whether that alone was answered, and peer and port are as it left them.
-fn ends(alloc: Global, lines: &str) -> Result<(Result<bool, DialFault>, bool), Fail> {
-    let text = format!(in alloc; "[\"hello\",\"b\",1,2]\n{lines}")?;
-    let mut desk = at_a(alloc, text.as_str().as_bytes())?;
-    if desk.accepts(alloc) != Ok(true) {
-        return Ok((Ok(false), false));
-    }
-    let end = desk.accepts(alloc);
-    let is_silent = desk.wrote("[\"hello\",\"a\",1,2]\n")
+// Whether the hello is answered and the line behind it is refused so, which is not answered and leaves
+// peer and port as the hello left them.
+fn refuses(alloc: Global, desk: &mut Desk<'_>, fault: LinkFault) -> bool {
+    desk.accepts(alloc) == Ok(true)
+        && desk.accepts(alloc) == Err(DialFault::Link(fault))
+        && desk.wrote("[\"hello\",\"a\",1,2]\n")
         && desk.asked(&[])
-        && desk.peer.other() == Some(replica(alloc, "b", 1)?);
-    Ok((end, is_silent))
+        && desk.knows(alloc, "b", 1)
 }
 
-pub(super) fn is_refused(alloc: Global, lines: &str, fault: LinkFault) -> Result<bool, Fail> {
-    let (end, is_silent) = ends(alloc, lines)?;
-    Ok(end == Err(DialFault::Link(fault)) && is_silent)
+// Whether these lines behind a hello are refused so.
+pub(super) fn is_refused(alloc: Global, lines: &str, fault: LinkFault) -> bool {
+    let Ok(text) = format!(in alloc; "[\"hello\",\"b\",1,2]\n{lines}") else {
+        return false;
+    };
+    match at_a(alloc, text.as_str().as_bytes()) {
+        Some(mut desk) => refuses(alloc, &mut desk, fault),
+        None => false,
+    }
+}
+
+// Whether the line, with a line feed behind it, is refused so behind a hello.
+pub(super) fn is_line_refused(alloc: Global, line: &str, fault: LinkFault) -> bool {
+    match format!(in alloc; "{line}\n") {
+        Ok(fed) => is_refused(alloc, fed.as_str(), fault),
+        Err(_) => false,
+    }
 }
 
 const REFUSED: [(&str, LinkFault); 11] = [
@@ -98,115 +114,134 @@ const REFUSED: [(&str, LinkFault); 11] = [
 ];
 
 #[test]
-fn lines_that_are_refused_behind_a_hello(rt: HostRuntime) -> Result<(), Fail> {
+fn lines_that_are_refused_behind_a_hello(rt: HostRuntime) {
     for (text, fault) in REFUSED {
-        let fed = format!(in rt.alloc(); "{text}\n")?;
-        assert!(rt; is_refused(rt.alloc(), fed.as_str(), fault)?, "{text}");
+        assert!(rt; is_line_refused(rt.alloc(), text, fault), "{text}");
     }
-    Ok(())
 }
 
 #[test]
-fn the_end_within_a_line(rt: HostRuntime) -> Result<(), Fail> {
-    assert!(rt; is_refused(rt.alloc(), "[\"ok\"]", LinkFault::CutLine)?);
-    Ok(())
+fn the_end_within_a_line(rt: HostRuntime) {
+    assert!(rt; is_refused(rt.alloc(), "[\"ok\"]", LinkFault::CutLine));
 }
 
 // More extras than are taken in, and two ranges of one replica, which would be refused too.
-#[test]
-fn too_many_extras(rt: HostRuntime) -> Result<(), Fail> {
-    let mut text = String::new(rt.alloc());
+fn many_extras(alloc: Global) -> Result<String, AllocError> {
+    let mut text = String::new(alloc);
     text.push_str(r#"["told",0,[[["b",1,0,1],["b",1,1,2]],["#)?;
     for _ in 0..65_536 {
         text.push_str(r#"["b",1,1],"#)?;
     }
-    text.push_str("[\"b\",1,1]],[]]]\n")?;
-    assert!(rt;
-        is_refused(
-            rt.alloc(),
-            text.as_str(),
-            LinkFault::BadTold(ToldFault::TooMany)
-        )?
-    );
-    Ok(())
+    text.push_str("[\"b\",1,1]],[]]]")?;
+    Ok(text)
 }
 
 #[test]
-fn lines_that_may_not_come_first(rt: HostRuntime) -> Result<(), Fail> {
+fn too_many_extras(rt: HostRuntime) {
+    let Ok(text) = many_extras(rt.alloc()) else {
+        assert!(rt; false);
+        return;
+    };
+    let fault = LinkFault::BadTold(ToldFault::TooMany);
+    assert!(rt; is_line_refused(rt.alloc(), text.as_str(), fault));
+}
+
+// Whether the first line is refused so, and leaves peer and port as they were.
+fn is_refused_first(alloc: Global, text: &str, fault: LinkFault) -> bool {
+    let Some(mut desk) = at_a(alloc, text.as_bytes()) else {
+        return false;
+    };
+    desk.accepts(alloc) == Err(DialFault::Link(fault))
+        && desk.peer.other().is_none()
+        && desk.wrote("")
+        && desk.asked(&[])
+}
+
+#[test]
+fn lines_that_may_not_come_first(rt: HostRuntime) {
     for (text, fault) in [
         ("[\"hello\",\"b\",1,3]\n", LinkFault::OtherShards),
         ("[\"beat\",0,\"b\",1,1,null]\n", LinkFault::BadLine),
         ("[\"ok\"]\n", LinkFault::BadLine),
         ("[\"gone\",\"a\",1]\n", LinkFault::BadLine),
     ] {
-        let mut desk = at_a(rt.alloc(), text.as_bytes())?;
-        assert_eq!(rt; desk.accepts(rt.alloc()), Err(DialFault::Link(fault)));
-        assert_eq!(rt; desk.peer.other(), None);
-        assert!(rt; desk.wrote("") && desk.asked(&[]));
+        assert!(rt; is_refused_first(rt.alloc(), text, fault), "{text}");
     }
-    Ok(())
 }
 
 #[test]
-fn a_beat_of_a_replica_that_is_gone(rt: HostRuntime) -> Result<(), Fail> {
-    let b = &replica(rt.alloc(), "b", 1)?;
-    let mut desk = at_a(rt.alloc(), RUN.as_bytes())?;
+fn a_beat_of_a_replica_that_is_gone(rt: HostRuntime) {
+    let alloc = rt.alloc();
+    let Some(b) = replica(alloc, "b", 1) else {
+        assert!(rt; false);
+        return;
+    };
+    let Some(mut desk) = at_a(alloc, RUN.as_bytes()) else {
+        assert!(rt; false);
+        return;
+    };
     desk.port.set_status(Status::Gone);
-    assert_eq!(rt; desk.accepts(rt.alloc()), Ok(true));
-    assert_eq!(rt; desk.accepts(rt.alloc()), Ok(true));
+    assert!(rt; desk.accepts_all(alloc, 2));
     assert!(rt; desk.wrote("[\"hello\",\"a\",1,2]\n[\"gone\",\"b\",1]\n"));
-    assert!(rt; desk.asked(&[Call::Status(0, *b)]));
-    Ok(())
+    assert!(rt; desk.asked(&[Call::Status(0, b)]));
 }
 
 #[test]
-fn a_replica_is_put_down_on_every_shard(rt: HostRuntime) -> Result<(), Fail> {
-    let c = &replica(rt.alloc(), "c", 7)?;
+fn a_replica_is_put_down_on_every_shard(rt: HostRuntime) {
+    let alloc = rt.alloc();
+    let Some(c) = replica(alloc, "c", 7) else {
+        assert!(rt; false);
+        return;
+    };
+    let c = &c;
     let text = "[\"hello\",\"b\",1,2]\n[\"permdown\",\"c\",7]\n[\"permdown\",\"a\",1]\n";
-    let mut desk = at_a(rt.alloc(), text.as_bytes())?;
-    for _ in 0..3 {
-        assert_eq!(rt; desk.accepts(rt.alloc()), Ok(true));
-    }
+    let Some(mut desk) = at_a(alloc, text.as_bytes()) else {
+        assert!(rt; false);
+        return;
+    };
+    assert!(rt; desk.accepts_all(alloc, 3));
     assert!(rt; desk.wrote("[\"hello\",\"a\",1,2]\n[\"ok\"]\n[\"ok\"]\n"));
     assert!(rt; desk.asked(&[Call::PermDown(0, *c), Call::PermDown(1, *c)]));
-    Ok(())
 }
 
-// How the first beat ends where the call of the port of this number is refused, and how many calls were made.
-fn refusing(
+// Whether the first beat ends so where the call of the port of this number is refused, and so many calls are made.
+fn is_refusing(
     alloc: Global,
     refused: usize,
     fault: ActFault,
-) -> Result<(Result<bool, DialFault>, usize), Fail> {
-    let mut desk = at_a(alloc, RUN.as_bytes())?;
+    end: Result<bool, DialFault>,
+    calls: usize,
+) -> bool {
+    let Some(mut desk) = at_a(alloc, RUN.as_bytes()) else {
+        return false;
+    };
     desk.port.refuse(refused, fault);
-    if desk.accepts(alloc) != Ok(true) {
-        return Ok((Ok(false), 0));
-    }
-    Ok((desk.accepts(alloc), desk.port.calls.len()))
+    desk.accepts(alloc) == Ok(true) && desk.accepts(alloc) == end && desk.calls() == calls
 }
 
 #[test]
-fn a_port_that_refuses_each_call(rt: HostRuntime) -> Result<(), Fail> {
+fn a_port_that_refuses_each_call(rt: HostRuntime) {
     for fault in [ActFault::ShardFull, ActFault::OutOfMemory] {
         for refused in 0..4 {
-            let end = refusing(rt.alloc(), refused, fault)?;
-            assert_eq!(rt; end, (Err(DialFault::Act(fault)), refused));
+            let end = Err(DialFault::Act(fault));
+            assert!(rt; is_refusing(rt.alloc(), refused, fault, end, refused));
         }
-        assert_eq!(rt; refusing(rt.alloc(), 4, fault)?, (Ok(true), 4));
+        assert!(rt; is_refusing(rt.alloc(), 4, fault, Ok(true), 4));
     }
-    Ok(())
 }
 
-// How the hello and the first beat end where the call of the stream of this number fails.
-fn failing(alloc: Global, fails: usize) -> Result<(Result<bool, DialFault>, usize), Fail> {
-    let mut desk = at_a(alloc, RUN.as_bytes())?;
+// Whether the hello and the first beat end so where the call of the stream of this number fails, and so many calls
+// are made.
+fn is_failing(alloc: Global, fails: usize, wanted: Result<bool, DialFault>, calls: usize) -> bool {
+    let Some(mut desk) = at_a(alloc, RUN.as_bytes()) else {
+        return false;
+    };
     desk.wire.fails = fails;
     let end = match desk.accepts(alloc) {
         Ok(true) => desk.accepts(alloc),
         end => end,
     };
-    Ok((end, desk.port.calls.len()))
+    end == wanted && desk.calls() == calls
 }
 
 // The hello comes in 18 bytes and is answered by three calls of at most eight; the beat comes in 79 bytes and is
@@ -218,7 +253,7 @@ const HELLO_DONE: usize = 21;
 const BEAT_READ: usize = 100;
 
 #[test]
-fn a_stream_that_fails_at_each_call(rt: HostRuntime) -> Result<(), Fail> {
+fn a_stream_that_fails_at_each_call(rt: HostRuntime) {
     for fails in 0..BEAT_READ + 1 {
         let is_writing = (fails >= HELLO_READ && fails < HELLO_DONE) || fails >= BEAT_READ;
         let fault = if is_writing {
@@ -227,13 +262,9 @@ fn a_stream_that_fails_at_each_call(rt: HostRuntime) -> Result<(), Fail> {
             LinkFault::ReadFailed
         };
         let calls = if fails < BEAT_READ { 0 } else { 4 };
-        assert_eq!(rt;
-            failing(rt.alloc(), fails)?,
-            (Err(DialFault::Link(fault)), calls),
-            "{fails}"
-        );
+        let end = Err(DialFault::Link(fault));
+        assert!(rt; is_failing(rt.alloc(), fails, end, calls), "{fails}");
     }
-    assert_eq!(rt; failing(rt.alloc(), BEAT_READ + 1)?, (Ok(true), 4));
-    assert_eq!(rt; failing(rt.alloc(), NEVER)?, (Ok(true), 4));
-    Ok(())
+    assert!(rt; is_failing(rt.alloc(), BEAT_READ + 1, Ok(true), 4));
+    assert!(rt; is_failing(rt.alloc(), NEVER, Ok(true), 4));
 }

@@ -1,10 +1,9 @@
 //! What a peer asks for, line by line, and what comes of actions that no line gives.
-use crate::desk::{Desk, NOW, at_a, at_b, line, replica};
+use crate::desk::{Desk, NOW, at_a, at_b, replica};
 use crate::port::Call;
-use node_links::{Act, ActFault, Line, LinkAction, LinkFault, Peer, act};
+use node_links::{Act, ActFault, Line, LinkAction, LinkFault, act};
 use presence_base::Replica;
 use std::alloc::Global;
-use std::test::Fail;
 
 #[derive(Clone, Copy, PartialEq, Eq, Debug)]
 enum Asks {
@@ -43,174 +42,180 @@ fn asked_by(action: &LinkAction) -> Asks {
     }
 }
 
-// Whether the line that this text is asks a peer for these actions, in their order.
-fn is_asking(alloc: Global, peer: &mut Peer, text: &str, wanted: &[Asks]) -> Result<bool, Fail> {
-    let actions = peer.on_line(alloc, line(alloc, text)?, NOW)?;
+// Whether these are the actions.
+fn are_actions(actions: &[LinkAction], wanted: &[Asks]) -> bool {
     if actions.len() != wanted.len() {
-        return Ok(false);
+        return false;
     }
     for (action, one) in actions.iter().zip(wanted) {
         if asked_by(action) != *one {
-            return Ok(false);
+            return false;
         }
     }
-    Ok(true)
+    true
+}
+
+// Whether the line that this text is asks the peer for these actions, in their order.
+fn is_asking(alloc: Global, desk: &mut Desk<'_>, text: &str, wanted: &[Asks]) -> bool {
+    match desk.hears(alloc, text) {
+        Ok(actions) => are_actions(actions.as_slice(), wanted),
+        Err(_) => false,
+    }
 }
 
 #[test]
-fn the_first_line_at_each_end(rt: HostRuntime) -> Result<(), Fail> {
-    let a = &replica(rt.alloc(), "a", 1)?;
-    let b = &replica(rt.alloc(), "b", 1)?;
-    let mut desk = at_a(rt.alloc(), b"")?;
-    assert!(rt;
-        is_asking(
-            rt.alloc(),
-            &mut desk.peer,
-            r#"["hello","b",1,2]"#,
-            &[Asks::Hello(*a, 2)]
-        )?
-    );
-    assert_eq!(rt; desk.peer.other(), Some(*b));
-    let mut desk = at_b(rt.alloc(), b"")?;
-    assert!(rt; is_asking(rt.alloc(), &mut desk.peer, r#"["hello","a",1,2]"#, &[])?);
-    assert_eq!(rt; desk.peer.other(), Some(*a));
-    Ok(())
+fn the_first_line_at_the_end_that_was_dialled(rt: HostRuntime) {
+    let alloc = rt.alloc();
+    let Some(a) = replica(alloc, "a", 1) else {
+        assert!(rt; false);
+        return;
+    };
+    let Some(mut desk) = at_a(alloc, b"") else {
+        assert!(rt; false);
+        return;
+    };
+    let hello = r#"["hello","b",1,2]"#;
+    assert!(rt; is_asking(alloc, &mut desk, hello, &[Asks::Hello(a, 2)]));
+    assert!(rt; desk.knows(alloc, "b", 1));
+}
+
+#[test]
+fn the_first_line_at_the_end_that_dialled(rt: HostRuntime) {
+    let alloc = rt.alloc();
+    let Some(mut desk) = at_b(alloc, b"") else {
+        assert!(rt; false);
+        return;
+    };
+    assert!(rt; is_asking(alloc, &mut desk, r#"["hello","a",1,2]"#, &[]));
+    assert!(rt; desk.knows(alloc, "a", 1));
 }
 
 // Node `a` behind the hellos.
-fn greeted(alloc: Global) -> Result<Desk<'static>, Fail> {
+fn greeted(alloc: Global) -> Option<Desk<'static>> {
     let mut desk = at_a(alloc, b"")?;
-    desk.peer
-        .on_line(alloc, line(alloc, r#"["hello","b",1,2]"#)?, NOW)?;
-    Ok(desk)
+    if desk.takes(alloc, r#"["hello","b",1,2]"#) {
+        Some(desk)
+    } else {
+        None
+    }
+}
+
+// Whether node `a`, behind the hellos, is asked for these actions by each line in turn.
+fn are_asking(alloc: Global, lines: &[(&str, &[Asks])]) -> bool {
+    let Some(mut desk) = greeted(alloc) else {
+        return false;
+    };
+    for (text, wanted) in lines {
+        if !is_asking(alloc, &mut desk, text, wanted) {
+            return false;
+        }
+    }
+    true
 }
 
 #[test]
-fn beats(rt: HostRuntime) -> Result<(), Fail> {
-    let b = &replica(rt.alloc(), "b", 1)?;
-    let a2 = &replica(rt.alloc(), "a", 2)?;
-    let mut desk = greeted(rt.alloc())?;
-    let wanted = [
+fn beats(rt: HostRuntime) {
+    let alloc = rt.alloc();
+    let Some(b) = replica(alloc, "b", 1) else {
+        assert!(rt; false);
+        return;
+    };
+    let Some(a2) = replica(alloc, "a", 2) else {
+        assert!(rt; false);
+        return;
+    };
+    let b = &b;
+    let a2 = &a2;
+    let bare = [
         Asks::UnlessGone(1, *b),
         Asks::Heard(1, *b, NOW),
         Asks::AnswerTop(1, *b, 2),
     ];
-    assert!(rt;
-        is_asking(
-            rt.alloc(),
-            &mut desk.peer,
-            r#"["beat",1,"b",1,2,null]"#,
-            &wanted
-        )?
-    );
-    let wanted = [
+    let merging = [
         Asks::UnlessGone(0, *b),
         Asks::Heard(0, *b, NOW),
         Asks::Merge(0),
         Asks::AnswerTop(0, *b, 2),
     ];
-    assert!(rt;
-        is_asking(
-            rt.alloc(),
-            &mut desk.peer,
-            r#"["beat",0,"b",1,2,[[["b",1,1,2]],[["b",1,1]],[]]]"#,
-            &wanted
-        )?
-    );
-    let wanted = [
+    let of_next = [
         Asks::UnlessGone(0, *a2),
         Asks::Heard(0, *a2, NOW),
         Asks::AnswerTop(0, *a2, 0),
     ];
     assert!(rt;
-        is_asking(
-            rt.alloc(),
-            &mut desk.peer,
-            r#"["beat",0,"a",2,0,null]"#,
-            &wanted
-        )?
+        are_asking(
+            alloc,
+            &[
+                (r#"["beat",1,"b",1,2,null]"#, &bare),
+                (
+                    r#"["beat",0,"b",1,2,[[["b",1,1,2]],[["b",1,1]],[]]]"#,
+                    &merging
+                ),
+                (r#"["beat",0,"a",2,0,null]"#, &of_next),
+                (r#"["beat",0,"a",1,9,null]"#, &[Asks::Ok]),
+                (r#"["beat",0,"a",1,1,[[["a",1,0,1]],[],[]]]"#, &[Asks::Ok]),
+            ]
+        )
     );
-    let wanted = [Asks::Ok];
-    assert!(rt;
-        is_asking(
-            rt.alloc(),
-            &mut desk.peer,
-            r#"["beat",0,"a",1,9,null]"#,
-            &wanted
-        )?
-    );
-    let wanted = [Asks::Ok];
-    assert!(rt;
-        is_asking(
-            rt.alloc(),
-            &mut desk.peer,
-            r#"["beat",0,"a",1,1,[[["a",1,0,1]],[],[]]]"#,
-            &wanted
-        )?
-    );
-    Ok(())
 }
 
 #[test]
-fn wants_and_told_lines(rt: HostRuntime) -> Result<(), Fail> {
-    let mut desk = greeted(rt.alloc())?;
-    let wanted = [Asks::AnswerTold(1, Some(7))];
-    assert!(rt; is_asking(rt.alloc(), &mut desk.peer, r#"["want",1,"a",1,7]"#, &wanted)?);
-    let wanted = [Asks::AnswerTold(1, None)];
-    assert!(rt; is_asking(rt.alloc(), &mut desk.peer, r#"["want",1,"a",2,7]"#, &wanted)?);
-    let wanted = [Asks::AnswerTold(0, None)];
-    assert!(rt; is_asking(rt.alloc(), &mut desk.peer, r#"["want",0,"b",1,7]"#, &wanted)?);
-    let wanted = [Asks::Merge(1), Asks::Ok];
+fn wants_and_told_lines(rt: HostRuntime) {
     assert!(rt;
-        is_asking(
+        are_asking(
             rt.alloc(),
-            &mut desk.peer,
-            r#"["told",1,[[["b",1,0,2]],[],[]]]"#,
-            &wanted
-        )?
+            &[
+                (r#"["want",1,"a",1,7]"#, &[Asks::AnswerTold(1, Some(7))]),
+                (r#"["want",1,"a",2,7]"#, &[Asks::AnswerTold(1, None)]),
+                (r#"["want",0,"b",1,7]"#, &[Asks::AnswerTold(0, None)]),
+                (
+                    r#"["told",1,[[["b",1,0,2]],[],[]]]"#,
+                    &[Asks::Merge(1), Asks::Ok]
+                ),
+            ]
+        )
     );
-    Ok(())
 }
 
 #[test]
-fn the_other_lines(rt: HostRuntime) -> Result<(), Fail> {
-    let b = &replica(rt.alloc(), "b", 1)?;
-    let mut desk = greeted(rt.alloc())?;
-    let wanted = [Asks::PermDown(*b), Asks::Ok];
-    assert!(rt; is_asking(rt.alloc(), &mut desk.peer, r#"["permdown","b",1]"#, &wanted)?);
-    let wanted = [Asks::Ok];
-    assert!(rt; is_asking(rt.alloc(), &mut desk.peer, r#"["permdown","a",1]"#, &wanted)?);
-    let wanted = [Asks::GivenUp];
-    assert!(rt; is_asking(rt.alloc(), &mut desk.peer, r#"["gone","a",1]"#, &wanted)?);
-    assert!(rt; is_asking(rt.alloc(), &mut desk.peer, r#"["gone","a",2]"#, &[])?);
-    assert!(rt; is_asking(rt.alloc(), &mut desk.peer, r#"["gone","b",1]"#, &[])?);
-    assert!(rt; is_asking(rt.alloc(), &mut desk.peer, r#"["ok"]"#, &[])?);
-    Ok(())
+fn the_other_lines(rt: HostRuntime) {
+    let Some(b) = replica(rt.alloc(), "b", 1) else {
+        assert!(rt; false);
+        return;
+    };
+    assert!(rt;
+        are_asking(
+            rt.alloc(),
+            &[
+                (r#"["permdown","b",1]"#, &[Asks::PermDown(b), Asks::Ok]),
+                (r#"["permdown","a",1]"#, &[Asks::Ok]),
+                (r#"["gone","a",1]"#, &[Asks::GivenUp]),
+                (r#"["gone","a",2]"#, &[]),
+                (r#"["gone","b",1]"#, &[]),
+                (r#"["ok"]"#, &[]),
+            ]
+        )
+    );
 }
 
 // A peer that refuses a line takes the same one that it took before.
 #[test]
-fn a_refusal_leaves_the_peer(rt: HostRuntime) -> Result<(), Fail> {
-    let mut desk = at_a(rt.alloc(), b"")?;
-    let refused = desk
-        .peer
-        .on_line(rt.alloc(), line(rt.alloc(), r#"["hello","c",9,3]"#)?, NOW);
-    assert_eq!(rt; refused.err(), Some(LinkFault::OtherShards));
-    let refused = desk
-        .peer
-        .on_line(rt.alloc(), line(rt.alloc(), r#"["ok"]"#)?, NOW);
-    assert_eq!(rt; refused.err(), Some(LinkFault::BadLine));
-    assert_eq!(rt; desk.peer.other(), None);
-    let a = &replica(rt.alloc(), "a", 1)?;
-    assert!(rt;
-        is_asking(
-            rt.alloc(),
-            &mut desk.peer,
-            r#"["hello","b",1,2]"#,
-            &[Asks::Hello(*a, 2)]
-        )?
-    );
-    Ok(())
+fn a_refusal_leaves_the_peer(rt: HostRuntime) {
+    let alloc = rt.alloc();
+    let Some(a) = replica(alloc, "a", 1) else {
+        assert!(rt; false);
+        return;
+    };
+    let Some(mut desk) = at_a(alloc, b"") else {
+        assert!(rt; false);
+        return;
+    };
+    let shards = desk.refusal(alloc, r#"["hello","c",9,3]"#);
+    assert!(rt; shards == Some(LinkFault::OtherShards));
+    assert!(rt; desk.refusal(alloc, r#"["ok"]"#) == Some(LinkFault::BadLine));
+    assert!(rt; desk.peer.other().is_none());
+    let hello = r#"["hello","b",1,2]"#;
+    assert!(rt; is_asking(alloc, &mut desk, hello, &[Asks::Hello(a, 2)]));
 }
 
 fn answer(outcome: &Act) -> Option<(u32, Replica, u64)> {
@@ -226,37 +231,71 @@ fn answer(outcome: &Act) -> Option<(u32, Replica, u64)> {
     }
 }
 
+// Three actions, of which two answer.
+fn two_answers(alloc: Global, b: &Replica) -> Option<Vec<LinkAction>> {
+    let top = LinkAction::AnswerTop {
+        shard: 1,
+        replica: *b,
+        count: 2,
+    };
+    match vec![in alloc; LinkAction::Answer(Line::Ok), LinkAction::GivenUp, top] {
+        Ok(actions) => Some(actions),
+        Err(_) => None,
+    }
+}
+
+// Whether the three actions are answered by a want of this replica's top, and the replica is given up.
+fn is_answered_last(alloc: Global, desk: &mut Desk<'_>, b: &Replica) -> bool {
+    let Some(actions) = two_answers(alloc, b) else {
+        return false;
+    };
+    match act(alloc, &mut desk.port, actions) {
+        Ok(outcome) => answer(&outcome) == Some((1, *b, 1)) && outcome.given_up,
+        Err(_) => false,
+    }
+}
+
 // Of two answers the last one stands, and what was given up stays so.
 #[test]
-fn actions_one_after_another(rt: HostRuntime) -> Result<(), Fail> {
-    let b = &replica(rt.alloc(), "b", 1)?;
-    let mut desk = at_a(rt.alloc(), b"")?;
-    let actions = vec![in rt.alloc();
-        LinkAction::Answer(Line::Ok),
-        LinkAction::GivenUp,
-        LinkAction::AnswerTop {
-            shard: 1,
-            replica: *b,
-            count: 2
-        },
-    ]?;
-    let outcome = act(rt.alloc(), &mut desk.port, actions)?;
-    assert_eq!(rt; answer(&outcome), Some((1, *b, 1)));
-    assert!(rt; outcome.given_up);
+fn actions_one_after_another(rt: HostRuntime) {
+    let alloc = rt.alloc();
+    let Some(b) = replica(alloc, "b", 1) else {
+        assert!(rt; false);
+        return;
+    };
+    let b = &b;
+    let Some(mut desk) = at_a(alloc, b"") else {
+        assert!(rt; false);
+        return;
+    };
+    assert!(rt; is_answered_last(alloc, &mut desk, b));
     assert!(rt; desk.asked(&[Call::Top(1, *b)]));
-    Ok(())
+}
+
+// The refusal of a permdown of this replica.
+fn permdown_refusal(alloc: Global, desk: &mut Desk<'_>, b: &Replica) -> Option<ActFault> {
+    let Ok(actions) = vec![in alloc; LinkAction::PermDown { replica: *b }] else {
+        return None;
+    };
+    match act(alloc, &mut desk.port, actions) {
+        Ok(_) => None,
+        Err(fault) => Some(fault),
+    }
 }
 
 #[test]
-fn a_refusal_on_the_second_shard(rt: HostRuntime) -> Result<(), Fail> {
-    let b = &replica(rt.alloc(), "b", 1)?;
-    let mut desk = at_a(rt.alloc(), b"")?;
+fn a_refusal_on_the_second_shard(rt: HostRuntime) {
+    let alloc = rt.alloc();
+    let Some(b) = replica(alloc, "b", 1) else {
+        assert!(rt; false);
+        return;
+    };
+    let b = &b;
+    let Some(mut desk) = at_a(alloc, b"") else {
+        assert!(rt; false);
+        return;
+    };
     desk.port.refused = 1;
-    let actions = vec![in rt.alloc(); LinkAction::PermDown { replica: *b }]?;
-    assert_eq!(rt;
-        act(rt.alloc(), &mut desk.port, actions).err(),
-        Some(ActFault::ShardFull)
-    );
+    assert!(rt; permdown_refusal(alloc, &mut desk, b) == Some(ActFault::ShardFull));
     assert!(rt; desk.asked(&[Call::PermDown(0, *b)]));
-    Ok(())
 }

@@ -1,11 +1,12 @@
 //! A node at one end of a link: its peer, its port, and a stream that gives it these bytes.
 use crate::port::{Call, TestPort};
 use crate::wire::Wire;
-use node_links::{ActFault, DialFault, End, Line, LinkFault, Peer, accept_one, decode_line, dial};
+use node_links::{
+    ActFault, DialFault, End, Line, LinkAction, LinkFault, Peer, accept_one, decode_line, dial,
+};
 use presence_base::{NodeName, Replica};
 use replica_status::Status;
 use std::alloc::Global;
-use std::test::Fail;
 
 // The time of each line.
 pub(super) const NOW: u64 = 1_000;
@@ -13,9 +14,11 @@ pub(super) const NOW: u64 = 1_000;
 // A number of a call that is never made.
 pub(super) const NEVER: usize = usize::MAX;
 
-pub(super) fn replica(alloc: Global, name: &str, incarnation: u64) -> Result<Replica, Fail> {
-    let name = NodeName::new(alloc, name)?.ok_or("a node name")?;
-    Ok(Replica { name, incarnation })
+pub(super) fn replica(alloc: Global, name: &str, incarnation: u64) -> Option<Replica> {
+    match NodeName::new(alloc, name) {
+        Ok(Some(name)) => Some(Replica { name, incarnation }),
+        _ => None,
+    }
 }
 
 #[derive(Drop)]
@@ -52,6 +55,16 @@ impl Desk<'_> {
         accept_one(alloc, &mut self.wire, &mut self.peer, &mut self.port, NOW)
     }
 
+    // Whether so many lines are accepted.
+    pub fn accepts_all(&mut self, alloc: Global, lines: u32) -> bool {
+        for _ in 0..lines {
+            if self.accepts(alloc) != Ok(true) {
+                return false;
+            }
+        }
+        true
+    }
+
     pub fn dials(&mut self, alloc: Global, line: &Line) -> Result<bool, DialFault> {
         dial(
             alloc,
@@ -63,6 +76,43 @@ impl Desk<'_> {
         )
     }
 
+    // How a turn with the line that this text is ends, none where it is no line.
+    pub fn dials_text(&mut self, alloc: Global, text: &str) -> Option<Result<bool, DialFault>> {
+        match line(alloc, text) {
+            Ok(line) => Some(self.dials(alloc, &line)),
+            Err(_) => None,
+        }
+    }
+
+    // What the line that this text is asks the peer for.
+    pub fn hears(&mut self, alloc: Global, text: &str) -> Result<Vec<LinkAction>, LinkFault> {
+        match line(alloc, text) {
+            Ok(line) => self.peer.on_line(alloc, line, NOW),
+            Err(fault) => Err(fault),
+        }
+    }
+
+    // Whether the peer takes the line that this text is.
+    pub fn takes(&mut self, alloc: Global, text: &str) -> bool {
+        self.hears(alloc, text).is_ok()
+    }
+
+    // Why the peer refuses the line that this text is.
+    pub fn refusal(&mut self, alloc: Global, text: &str) -> Option<LinkFault> {
+        match self.hears(alloc, text) {
+            Ok(_) => None,
+            Err(fault) => Some(fault),
+        }
+    }
+
+    // Whether this replica is known to be at the other end.
+    pub fn knows(&self, alloc: Global, name: &str, incarnation: u64) -> bool {
+        match replica(alloc, name, incarnation) {
+            Some(other) => self.peer.other() == Some(other),
+            None => false,
+        }
+    }
+
     // Whether these are the bytes that went out, and no others.
     pub fn wrote(&self, text: &str) -> bool {
         self.wire.taken.as_slice() == text.as_bytes()
@@ -71,18 +121,28 @@ impl Desk<'_> {
     pub fn asked(&self, calls: &[Call]) -> bool {
         self.port.calls.as_slice() == calls
     }
+
+    // How many calls the port has noted.
+    pub fn calls(&self) -> usize {
+        self.port.calls.len()
+    }
+
+    // How many bytes are still to come.
+    pub fn rest(&self) -> usize {
+        self.wire.rest.len()
+    }
 }
 
 // The node `a.1`, at the end that was dialled.
-pub(super) fn at_a(alloc: Global, bytes: &[u8]) -> Result<Desk<'_>, Fail> {
+pub(super) fn at_a(alloc: Global, bytes: &[u8]) -> Option<Desk<'_>> {
     let own = replica(alloc, "a", 1)?;
-    Ok(seated(alloc, own, End::Accepting, bytes))
+    Some(seated(alloc, own, End::Accepting, bytes))
 }
 
 // The node `b.1`, at the end that dialled.
-pub(super) fn at_b(alloc: Global, bytes: &[u8]) -> Result<Desk<'_>, Fail> {
+pub(super) fn at_b(alloc: Global, bytes: &[u8]) -> Option<Desk<'_>> {
     let own = replica(alloc, "b", 1)?;
-    Ok(seated(alloc, own, End::Dialling, bytes))
+    Some(seated(alloc, own, End::Dialling, bytes))
 }
 
 // The line that a text is.

@@ -1,42 +1,65 @@
 //! The end that dialled: node `b`, with two shards, which dialled node `a`.
-use crate::desk::{Desk, at_b, line, replica};
+use crate::desk::{Desk, at_b, replica};
 use crate::port::{Call, long_told};
 use node_links::{ActFault, DialFault, Line, LinkFault};
 use std::alloc::Global;
-use std::test::Fail;
 
 const HELLO: &str = r#"["hello","b",1,2]"#;
 
 const BEAT: &str = r#"["beat",0,"b",1,2,null]"#;
 
+// The beat as it goes out.
+const SENT: &str = "[\"beat\",0,\"b\",1,2,null]\n";
+
+// A want of what the beat tells, and an ok.
+const WANT: &[u8] = b"[\"want\",0,\"b\",1,1]\n[\"ok\"]\n";
+
 // Node `b` behind the hellos, with these lines to come.
-fn greeted(alloc: Global, bytes: &[u8]) -> Result<Desk<'_>, Fail> {
+fn greeted(alloc: Global, bytes: &[u8]) -> Option<Desk<'_>> {
     let mut desk = at_b(alloc, bytes)?;
-    desk.peer
-        .on_line(alloc, line(alloc, r#"["hello","a",1,2]"#)?, 0)?;
-    Ok(desk)
+    if desk.takes(alloc, r#"["hello","a",1,2]"#) {
+        Some(desk)
+    } else {
+        None
+    }
 }
 
 #[test]
-fn hellos(rt: HostRuntime) -> Result<(), Fail> {
-    let mut desk = at_b(rt.alloc(), b"[\"hello\",\"a\",1,2]\n")?;
-    let hello = line(rt.alloc(), HELLO)?;
-    assert_eq!(rt; desk.dials(rt.alloc(), &hello), Ok(false));
-    assert_eq!(rt; desk.peer.other(), Some(replica(rt.alloc(), "a", 1)?));
+fn hellos(rt: HostRuntime) {
+    let alloc = rt.alloc();
+    let Some(mut desk) = at_b(alloc, b"[\"hello\",\"a\",1,2]\n") else {
+        assert!(rt; false);
+        return;
+    };
+    assert!(rt; desk.dials_text(alloc, HELLO) == Some(Ok(false)));
+    assert!(rt; desk.knows(alloc, "a", 1));
     assert!(rt; desk.wrote("[\"hello\",\"b\",1,2]\n"));
-    Ok(())
 }
 
-// How the beat of count 2 ends with these lines to come, whether this goes out behind it, and how many calls are made.
+// Whether the beat of count 2 goes out with this behind it.
+fn wrote_behind(alloc: Global, desk: &Desk<'_>, behind: &str) -> bool {
+    match format!(in alloc; "[\"beat\",0,\"b\",1,2,null]{behind}") {
+        Ok(out) => desk.wrote(out.as_str()),
+        Err(_) => false,
+    }
+}
+
+// Whether the beat of count 2 ends so with these lines to come, this goes out behind it, and so many calls are made.
 fn beats(
     alloc: Global,
     lines: &str,
+    end: Result<bool, DialFault>,
     behind: &str,
-) -> Result<(Result<bool, DialFault>, bool, usize), Fail> {
-    let mut desk = greeted(alloc, lines.as_bytes())?;
-    let end = desk.dials(alloc, &line(alloc, BEAT)?);
-    let out = format!(in alloc; "[\"beat\",0,\"b\",1,2,null]{behind}")?;
-    Ok((end, desk.wrote(out.as_str()), desk.port.calls.len()))
+    calls: usize,
+) -> bool {
+    match greeted(alloc, lines.as_bytes()) {
+        Some(mut desk) => {
+            desk.dials_text(alloc, BEAT) == Some(end)
+                && wrote_behind(alloc, &desk, behind)
+                && desk.calls() == calls
+        }
+        None => false,
+    }
 }
 
 // What goes out behind a beat where a told line is wanted.
@@ -79,117 +102,146 @@ const ENDS: [(&str, Result<bool, DialFault>, &str, usize); 13] = [
 ];
 
 #[test]
-fn beats_and_their_answers(rt: HostRuntime) -> Result<(), Fail> {
+fn beats_and_their_answers(rt: HostRuntime) {
     for (lines, end, behind, calls) in ENDS {
-        let (ended, is_out, made) = beats(rt.alloc(), lines, behind)?;
-        assert_eq!(rt; ended, end, "{lines}");
-        assert!(rt; is_out, "{lines}");
-        assert_eq!(rt; made, calls, "{lines}");
+        assert!(rt; beats(rt.alloc(), lines, end, behind, calls), "{lines}");
     }
-    Ok(())
+}
+
+// Whether the beat that is wanted by this line makes this one call.
+fn asks_for(alloc: Global, want: &[u8], call: Call) -> bool {
+    match greeted(alloc, want) {
+        Some(mut desk) => { desk.dials_text(alloc, BEAT) == Some(Ok(false)) && desk.asked(&[call]) }
+        None => false,
+    }
 }
 
 #[test]
-fn what_is_told(rt: HostRuntime) -> Result<(), Fail> {
-    let beat = line(rt.alloc(), BEAT)?;
-    let mut desk = greeted(rt.alloc(), b"[\"want\",1,\"b\",1,7]\n")?;
-    assert_eq!(rt; desk.dials(rt.alloc(), &beat), Ok(false));
-    assert!(rt; desk.asked(&[Call::ToldFrom(1, 7)]));
-    let mut desk = greeted(rt.alloc(), b"[\"want\",1,\"c\",1,7]\n")?;
-    assert_eq!(rt; desk.dials(rt.alloc(), &beat), Ok(false));
-    assert!(rt; desk.asked(&[Call::Full(1)]));
-    Ok(())
+fn what_is_told(rt: HostRuntime) {
+    let alloc = rt.alloc();
+    assert!(rt; asks_for(alloc, b"[\"want\",1,\"b\",1,7]\n", Call::ToldFrom(1, 7)));
+    assert!(rt; asks_for(alloc, b"[\"want\",1,\"c\",1,7]\n", Call::Full(1)));
 }
 
 #[test]
-fn a_permdown_is_answered(rt: HostRuntime) -> Result<(), Fail> {
-    let mut desk = greeted(rt.alloc(), b"[\"ok\"]\n")?;
-    let permdown = line(rt.alloc(), r#"["permdown","b",1]"#)?;
-    assert_eq!(rt; desk.dials(rt.alloc(), &permdown), Ok(false));
+fn a_permdown_is_answered(rt: HostRuntime) {
+    let alloc = rt.alloc();
+    let Some(mut desk) = greeted(alloc, b"[\"ok\"]\n") else {
+        assert!(rt; false);
+        return;
+    };
+    assert!(rt; desk.dials_text(alloc, r#"["permdown","b",1]"#) == Some(Ok(false)));
     assert!(rt; desk.wrote("[\"permdown\",\"b\",1]\n"));
-    assert!(rt; desk.wire.rest.is_empty());
-    Ok(())
+    assert!(rt; desk.rest() == 0);
+}
+
+// Whether a turn whose first call of the port is refused so ends with that refusal, behind the beat.
+fn is_refused(alloc: Global, fault: ActFault) -> bool {
+    let Some(mut desk) = greeted(alloc, WANT) else {
+        return false;
+    };
+    desk.port.refuse(0, fault);
+    desk.dials_text(alloc, BEAT) == Some(Err(DialFault::Act(fault))) && desk.wrote(SENT)
 }
 
 #[test]
-fn a_port_that_refuses(rt: HostRuntime) -> Result<(), Fail> {
-    let beat = line(rt.alloc(), BEAT)?;
+fn a_port_that_refuses(rt: HostRuntime) {
     for fault in [ActFault::ShardFull, ActFault::OutOfMemory] {
-        let mut desk = greeted(rt.alloc(), b"[\"want\",0,\"b\",1,1]\n[\"ok\"]\n")?;
-        desk.port.refuse(0, fault);
-        assert_eq!(rt; desk.dials(rt.alloc(), &beat), Err(DialFault::Act(fault)));
-        assert!(rt; desk.wrote("[\"beat\",0,\"b\",1,2,null]\n"));
+        assert!(rt; is_refused(rt.alloc(), fault), "{fault}");
     }
-    Ok(())
 }
 
 // How the beat ends, with a want and an ok to come, where the call of the stream of this number fails.
-fn failing(alloc: Global, fails: usize) -> Result<Result<bool, DialFault>, Fail> {
-    let mut desk = greeted(alloc, b"[\"want\",0,\"b\",1,1]\n[\"ok\"]\n")?;
+fn failing(alloc: Global, fails: usize) -> Option<Result<bool, DialFault>> {
+    let mut desk = greeted(alloc, WANT)?;
     desk.wire.fails = fails;
-    let beat = line(alloc, BEAT)?;
-    Ok(desk.dials(alloc, &beat))
+    desk.dials_text(alloc, BEAT)
 }
 
 // The beat goes out in 24 bytes by three calls, the want comes in 19 bytes, the told line goes out in 33 bytes by five
 // calls, and the ok comes in seven bytes.
 #[test]
-fn a_stream_that_fails_at_each_call(rt: HostRuntime) -> Result<(), Fail> {
+fn a_stream_that_fails_at_each_call(rt: HostRuntime) {
     for fails in 0..34 {
         let fault = if fails < 3 || (fails >= 22 && fails < 27) {
             LinkFault::WriteFailed
         } else {
             LinkFault::ReadFailed
         };
-        assert_eq!(rt;
-            failing(rt.alloc(), fails)?,
-            Err(DialFault::Link(fault)),
-            "{fails}"
-        );
+        let end = Err(DialFault::Link(fault));
+        assert!(rt; failing(rt.alloc(), fails) == Some(end), "{fails}");
     }
-    assert_eq!(rt; failing(rt.alloc(), 34)?, Ok(false));
-    Ok(())
+    assert!(rt; failing(rt.alloc(), 34) == Some(Ok(false)));
 }
 
 // The want is followed by an ok, which isn't read.
 #[test]
-fn a_told_line_that_is_too_long_is_not_written(rt: HostRuntime) -> Result<(), Fail> {
-    let beat = line(rt.alloc(), BEAT)?;
-    let mut desk = greeted(rt.alloc(), b"[\"want\",0,\"b\",1,1]\n[\"ok\"]\n")?;
+fn a_told_line_that_is_too_long_is_not_written(rt: HostRuntime) {
+    let alloc = rt.alloc();
+    let Some(mut desk) = greeted(alloc, WANT) else {
+        assert!(rt; false);
+        return;
+    };
     desk.port.is_long = true;
-    assert_eq!(rt; desk.dials(rt.alloc(), &beat), Ok(false));
-    assert!(rt; desk.wrote("[\"beat\",0,\"b\",1,2,null]\n"));
-    assert_eq!(rt; desk.wire.rest.len(), 7);
-    Ok(())
+    assert!(rt; desk.dials_text(alloc, BEAT) == Some(Ok(false)));
+    assert!(rt; desk.wrote(SENT));
+    assert!(rt; desk.rest() == 7);
+}
+
+// A beat of count 2 whose delta is too long for a line.
+fn long_beat(alloc: Global) -> Option<Line> {
+    let replica = replica(alloc, "b", 1)?;
+    match long_told(alloc) {
+        Ok(told) => Some(Line::Beat {
+            shard: 0,
+            replica,
+            count: 2,
+            delta: Some(told),
+        }),
+        Err(_) => None,
+    }
+}
+
+// A told line that is too long.
+fn long_line(alloc: Global) -> Option<Line> {
+    match long_told(alloc) {
+        Ok(told) => Some(Line::Told { shard: 0, told }),
+        Err(_) => None,
+    }
+}
+
+// How a turn with this line ends.
+fn dials_made(
+    alloc: Global,
+    desk: &mut Desk<'_>,
+    line: Option<Line>,
+) -> Option<Result<bool, DialFault>> {
+    match line {
+        Some(line) => Some(desk.dials(alloc, &line)),
+        None => None,
+    }
 }
 
 #[test]
-fn a_beat_that_is_too_long_goes_out_bare(rt: HostRuntime) -> Result<(), Fail> {
-    let b = replica(rt.alloc(), "b", 1)?;
-    let mut desk = greeted(rt.alloc(), b"[\"ok\"]\n")?;
-    let beat = Line::Beat {
-        shard: 0,
-        replica: b,
-        count: 2,
-        delta: Some(long_told(rt.alloc())?),
+fn a_beat_that_is_too_long_goes_out_bare(rt: HostRuntime) {
+    let alloc = rt.alloc();
+    let Some(mut desk) = greeted(alloc, b"[\"ok\"]\n") else {
+        assert!(rt; false);
+        return;
     };
-    assert_eq!(rt; desk.dials(rt.alloc(), &beat), Ok(false));
-    assert!(rt; desk.wrote("[\"beat\",0,\"b\",1,2,null]\n"));
-    assert!(rt; desk.wire.rest.is_empty());
-    Ok(())
+    assert!(rt; dials_made(alloc, &mut desk, long_beat(alloc)) == Some(Ok(false)));
+    assert!(rt; desk.wrote(SENT));
+    assert!(rt; desk.rest() == 0);
 }
 
 #[test]
-fn another_line_that_is_too_long_is_refused(rt: HostRuntime) -> Result<(), Fail> {
-    let mut desk = greeted(rt.alloc(), b"[\"ok\"]\n")?;
-    let told = Line::Told {
-        shard: 0,
-        told: long_told(rt.alloc())?,
+fn another_line_that_is_too_long_is_refused(rt: HostRuntime) {
+    let alloc = rt.alloc();
+    let Some(mut desk) = greeted(alloc, b"[\"ok\"]\n") else {
+        assert!(rt; false);
+        return;
     };
-    assert_eq!(rt;
-        desk.dials(rt.alloc(), &told),
-        Err(DialFault::Link(LinkFault::LineTooLong))
-    );
+    let end = Err(DialFault::Link(LinkFault::LineTooLong));
+    assert!(rt; dials_made(alloc, &mut desk, long_line(alloc)) == Some(end));
     assert!(rt; desk.wrote(""));
-    Ok(())
 }

@@ -1,9 +1,8 @@
 //! Junk that comes over a link behind the hello, each line with its refusal. It leaves peer and port as they were.
-use crate::accepting::is_refused;
+use crate::accepting::is_line_refused;
 use node_links::{LinkFault, MAX_LINE_BYTES};
 use orswot_core::ToldFault;
-use std::alloc::Global;
-use std::test::Fail;
+use std::alloc::{AllocError, Global};
 
 const NOT_JSON: [&str; 34] = [
     "",
@@ -276,77 +275,90 @@ const CUT: [&str; 6] = [
     r#"["told",0,[[["b",1,0,2]],[],[]]"#,
 ];
 
-// Whether the line is refused so.
-fn is_junk(alloc: Global, text: &str, fault: LinkFault) -> Result<bool, Fail> {
-    let fed = format!(in alloc; "{text}\n")?;
-    is_refused(alloc, fed.as_str(), fault)
-}
-
 #[test]
-fn texts_that_are_no_json(rt: HostRuntime) -> Result<(), Fail> {
+fn texts_that_are_no_json(rt: HostRuntime) {
     for text in NOT_JSON {
-        assert!(rt; is_junk(rt.alloc(), text, LinkFault::NotJson)?, "{text}");
-    }
-    Ok(())
-}
-
-#[test]
-fn other_texts_that_are_no_json(rt: HostRuntime) -> Result<(), Fail> {
-    for text in OTHER_NOT_JSON {
-        assert!(rt; is_junk(rt.alloc(), text, LinkFault::NotJson)?, "{text}");
-    }
-    Ok(())
-}
-
-#[test]
-fn cut_texts_are_no_json(rt: HostRuntime) -> Result<(), Fail> {
-    for text in CUT {
-        assert!(rt; is_junk(rt.alloc(), text, LinkFault::NotJson)?, "{text}");
-    }
-    Ok(())
-}
-
-#[test]
-fn values_that_are_no_line(rt: HostRuntime) -> Result<(), Fail> {
-    for text in NO_LINE {
-        assert!(rt; is_junk(rt.alloc(), text, LinkFault::BadLine)?, "{text}");
-    }
-    Ok(())
-}
-
-#[test]
-fn beats_and_told_lines_with_bad_members(rt: HostRuntime) -> Result<(), Fail> {
-    for text in BAD_PARTS {
-        assert!(rt; is_junk(rt.alloc(), text, LinkFault::BadLine)?, "{text}");
-    }
-    Ok(())
-}
-
-#[test]
-fn members_outside_their_limits(rt: HostRuntime) -> Result<(), Fail> {
-    for text in OUTSIDE_LIMITS {
-        assert!(rt; is_junk(rt.alloc(), text, LinkFault::BadLine)?, "{text}");
-    }
-    Ok(())
-}
-
-#[test]
-fn told_values_that_are_refused(rt: HostRuntime) -> Result<(), Fail> {
-    for (text, fault) in BAD_TOLD {
         assert!(rt;
-            is_junk(rt.alloc(), text, LinkFault::BadTold(fault))?,
+            is_line_refused(rt.alloc(), text, LinkFault::NotJson),
             "{text}"
         );
     }
-    Ok(())
 }
 
 #[test]
-fn a_line_of_one_byte_too_many(rt: HostRuntime) -> Result<(), Fail> {
-    let mut text = String::from_str(rt.alloc(), "[\"ok\"]")?;
+fn other_texts_that_are_no_json(rt: HostRuntime) {
+    for text in OTHER_NOT_JSON {
+        assert!(rt;
+            is_line_refused(rt.alloc(), text, LinkFault::NotJson),
+            "{text}"
+        );
+    }
+}
+
+#[test]
+fn cut_texts_are_no_json(rt: HostRuntime) {
+    for text in CUT {
+        assert!(rt;
+            is_line_refused(rt.alloc(), text, LinkFault::NotJson),
+            "{text}"
+        );
+    }
+}
+
+#[test]
+fn values_that_are_no_line(rt: HostRuntime) {
+    for text in NO_LINE {
+        assert!(rt;
+            is_line_refused(rt.alloc(), text, LinkFault::BadLine),
+            "{text}"
+        );
+    }
+}
+
+#[test]
+fn beats_and_told_lines_with_bad_members(rt: HostRuntime) {
+    for text in BAD_PARTS {
+        assert!(rt;
+            is_line_refused(rt.alloc(), text, LinkFault::BadLine),
+            "{text}"
+        );
+    }
+}
+
+#[test]
+fn members_outside_their_limits(rt: HostRuntime) {
+    for text in OUTSIDE_LIMITS {
+        assert!(rt;
+            is_line_refused(rt.alloc(), text, LinkFault::BadLine),
+            "{text}"
+        );
+    }
+}
+
+#[test]
+fn told_values_that_are_refused(rt: HostRuntime) {
+    for (text, fault) in BAD_TOLD {
+        assert!(rt;
+            is_line_refused(rt.alloc(), text, LinkFault::BadTold(fault)),
+            "{text}"
+        );
+    }
+}
+
+// An ok with blanks behind it, one byte longer than a line may be.
+fn long_ok(alloc: Global) -> Result<String, AllocError> {
+    let mut text = String::from_str(alloc, "[\"ok\"]")?;
     for _ in text.len()..MAX_LINE_BYTES + 1 {
         text.push(' ')?;
     }
-    assert!(rt; is_junk(rt.alloc(), text.as_str(), LinkFault::LineTooLong)?);
-    Ok(())
+    Ok(text)
+}
+
+#[test]
+fn a_line_of_one_byte_too_many(rt: HostRuntime) {
+    let Ok(text) = long_ok(rt.alloc()) else {
+        assert!(rt; false);
+        return;
+    };
+    assert!(rt; is_line_refused(rt.alloc(), text.as_str(), LinkFault::LineTooLong));
 }
