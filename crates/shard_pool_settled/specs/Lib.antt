@@ -1,0 +1,4 @@
+pub mod Alike
+pub mod Seated
+pub mod Settled
+pub mod Words
