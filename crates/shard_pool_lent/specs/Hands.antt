@@ -1,0 +1,33 @@
+-- A seat at one shard: what it keeps of its calls there.
+use Rattle.std.specs.Prelude.{◌+◌, ℕ, zero, suc, List, [], ◌∷◌, ◌++◌, refl}
+use Rattle.std.specs.Coded.{Coded, code_by, coded×, coded_ℕ, coded_list}
+use Rattle.presence_journal_data.specs.declared.step.Step.{Step}
+use Rattle.presence_journal_data.specs.declared.entry.Outcome.{Outcome}
+use Rattle.shard_pool_settled.specs.declared.receipt.Receipt.{Receipt}
+use Rattle.shard_pool_settled.specs.contracts.receipt.Receipt as one_receipt
+
+-- the seat's number, the shard's, the receipts there in order, and how many calls the seat made there
+pub record Hand : Type 0 where
+  pub seat : ℕ
+  pub shard : ℕ
+  pub receipts : List Receipt
+  pub share : ℕ
+
+abbrev pub hand_code : Coded Hand
+hand_code = code_by (ℕ × (ℕ × (List Receipt × ℕ))) (coded× coded_ℕ (coded× coded_ℕ (coded× (coded_list one_receipt.the_row.coded) coded_ℕ))) (λ h. (h.seat, (h.shard, (h.receipts, h.share)))) (λ p. record { seat = p.0; shard = p.1.0; receipts = p.1.1.0; share = p.1.1.1 }) (λ _. refl)
+
+abbrev pub receipt : ℕ → ℕ → Step → Outcome → Receipt
+receipt s n step o = record { shard = s; number = n; step = step; outcome = o }
+
+-- one call more
+abbrev pub with_call : Hand → Receipt → Hand
+with_call h r = record { seat = h.seat; shard = h.shard; receipts = h.receipts ++ r ∷ []; share = h.share + 1 }
+
+-- no call yet
+abbrev pub new_hand : ℕ → ℕ → Hand
+new_hand seat shard = record { seat = seat; shard = shard; receipts = []; share = 0 }
+
+-- a new hand for each seat from 0
+abbrev pub new_hands : ℕ → ℕ → List Hand
+new_hands shard zero = []
+new_hands shard (suc n) = new_hands shard n ++ new_hand n shard ∷ []

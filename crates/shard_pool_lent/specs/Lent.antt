@@ -1,0 +1,66 @@
+-- What a call of a seat does to its part and to the shard that is lent to it.
+use Rattle.std.specs.Prelude.{◌≡◌, ◌+◌, ℕ, Bool, true, false, List, [], ◌∷◌, ◌++◌, Option, Some, None, Result, Ok, Err}
+use Rattle.presence_journal_data.specs.declared.step.Step.{Step}
+use Rattle.presence_journal_data.specs.declared.entry.Outcome.{Outcome}
+use Rattle.presence_journal.specs.History.{History, last_number}
+use Rattle.presence_journal.specs.Table.{outcome_of}
+use Rattle.tracker_shard.specs.declared.fault.ShardFault.{ShardFault}
+use Rattle.tracker_shard.specs.declared.fault.ShardFault.TheVariants.{AlreadyTracked, NoPresence, ClockFull, JournalFull, NoSub, OutOfMemory}
+use Rattle.tracker_shard.specs.Steps.{Answers}
+use Rattle.shard_pool_settled.specs.declared.receipt.Receipt.{Receipt}
+use Rattle.shard_pool_lent.specs.declared.reply.Reply.{Reply}
+use Rattle.shard_pool_lent.specs.Hands.{Hand, receipt, with_call}
+
+-- the answer stands for a step that was made: accepted calls, and those that the table itself refuses
+abbrev pub is_step : {A : Type 0} → Result A ShardFault → Bool
+is_step (Ok x) = true
+is_step (Err AlreadyTracked) = true
+is_step (Err NoPresence) = true
+is_step (Err ClockFull) = false
+is_step (Err JournalFull) = false
+is_step (Err NoSub) = false
+is_step (Err OutOfMemory) = false
+
+-- one more where the step was made
+abbrev pub counted : ℕ → Bool → ℕ
+counted n true = n + 1
+counted n false = n
+
+-- the receipt of the step at the history's end, with the table's outcome
+pub record Noted (h : History) (old new : Hand) (step : Step) : Type 0 where
+  pub outcome : Outcome
+  pub table : outcome_of h step ≡ Some outcome
+  pub hand : new ≡ with_call old (receipt old.shard (last_number h + 1) step outcome)
+
+abbrev pub NotedIf : Bool → History → Hand → Hand → Step → Type 0
+NotedIf true h old new step = Noted h old new step
+NotedIf false h old new step = new ≡ old
+
+-- where the step was made the part has its receipt and counts it, and else it is as it was
+abbrev pub Notes : {A : Type 0} → History → Hand → Hand → Step → Result A ShardFault → Type 0
+Notes h old new step r = NotedIf (is_step r) h old new step
+
+-- the receipts with that of a step that was made
+abbrev pub kept : List Receipt → ℕ → ℕ → Step → Option Outcome → Bool → List Receipt
+kept rs s n step (Some o) true = rs ++ receipt s n step o ∷ []
+kept rs s n step (Some o) false = rs
+kept rs s n step None made = rs
+
+-- the answer is the shard's, with the shard and the number of the entry
+abbrev pub reply_of : {A : Type 0} → ℕ → ℕ → Result A ShardFault → Result (Reply A) ShardFault
+reply_of s n (Ok x) = Ok (record { shard = s; number = n; value = x })
+reply_of s n (Err f) = Err f
+
+-- what is answered is the table's outcome, as `Gives` ties them where the call is accepted
+abbrev pub Replies : {A : Type 0} → ℕ → History → Step → (A → Type 0) → Result (Reply A) ShardFault → Type 0
+Replies s h step Gives r = Answers (λ x. (x.shard ≡ s) × (x.number ≡ last_number h + 1) × Gives x.value) (outcome_of h step) r
+
+-- Each refusal is given where it is the one that stands. Want of memory for the receipt goes before all others.
+abbrev pub IsDueOnceNoted : {A : Type 0} → Result A ShardFault → Option ShardFault → Type 0
+IsDueOnceNoted (Ok x) r = r ≡ None
+IsDueOnceNoted (Err AlreadyTracked) r = r ≡ None
+IsDueOnceNoted (Err NoPresence) r = r ≡ None
+IsDueOnceNoted (Err ClockFull) r = r ≡ Some ClockFull
+IsDueOnceNoted (Err JournalFull) r = r ≡ Some JournalFull
+IsDueOnceNoted (Err NoSub) r = r ≡ Some NoSub
+IsDueOnceNoted (Err OutOfMemory) r = Unit {0}

@@ -1,0 +1,24 @@
+//! The steps of a pool with the guard lent: a call of a shard that leaves a receipt with its seat.
+//!
+//! Its public contracts cite `specs/Hands`: a seat at one shard, and `specs/Lent`: what a call does to it and
+//! to the shard. Those stand on tracker_shard's `Steps` and on `Seated` of shard_pool_settled.
+#![tactic(auto)]
+
+mod lane;
+mod lent;
+mod locked;
+mod noting;
+mod part;
+mod planned;
+mod reply;
+mod start;
+
+pub use lane::Lane;
+pub use lent::{
+    lent_get, lent_list, lent_shout, lent_subscribe, lent_take, lent_track, lent_unsubscribe,
+    lent_untrack, lent_untrack_all, lent_update,
+};
+pub use locked::Locked;
+pub use part::Part;
+pub use reply::{PoolFault, Reply};
+pub use start::lent_start;

@@ -1,0 +1,375 @@
+ghost use Rattle.std.specs.Prelude.{◌≡◌, ◌+◌, ◌≤◌, ◌^◌, true, false, Some, None, IfOk, IfErr, OnOk, OnErr, IsTrue};
+ghost use Rattle.presence_base.specs.Refs.{IsCount};
+ghost use Rattle.presence_journal.specs.History.{begun, own, last_number, status};
+ghost use Rattle.presence_journal.specs.Limits.{is_payload, is_take_limit};
+ghost use Rattle.presence_journal.specs.Queue.{queue, is_waiting};
+ghost use Rattle.presence_journal.specs.Table.{IsLegal, outcome_of};
+ghost use Rattle.presence_journal_cuts.specs.Cuts.{IsCut};
+ghost use Rattle.tracker_shard.specs.Steps.{Stepped, Answers, AnswersDot, IsDue, refusal, refusal_at, is_found};
+ghost use Rattle.tracker_shard.specs.Steps.{AnswersRowsOfKey, AnswersRowsOfPid, AnswersListed, AnswersListedKey};
+ghost use Rattle.tracker_shard.specs.Steps.{AnswersItems, AnswersSub};
+ghost use Rattle.shard_pool_settled.specs.Seated.{seated};
+ghost use Rattle.shard_pool_lent.specs.Lent.{is_step, counted};
+
+use crate::lane::Lane;
+use crate::noting::{count_call, is_made};
+use delta_range::Delta;
+use presence_base::{Dot, Json, Key, Meta, Replica, Row, Topic};
+use presence_journal::{Item, Journal, Step};
+use replica_status::Status;
+use std::alloc::Global;
+use std::sync::ledger::{Book, Share};
+use tracker_shard::{Shard, ShardFault, Sub};
+
+/// A shard with the count of its seated calls: what stands behind a lock of the pool.
+#[derive(Drop)]
+pub struct Locked<L: Lane> {
+    shard: Shard,
+    calls: Book<L>,
+    ghost counted: { calls.total ≡ seated shard },
+    ghost of_node: { (own shard).name ≡ L.node },
+}
+
+impl<L: Lane> Locked<L> {
+    /// A new shard of the replica, with the book of a new ledger.
+    #[tactic(auto, using(crate::proofs::Counts::counts))]
+    pub fn new(alloc: Global, own: Replica, calls: Book<L>) -> Locked<L>
+        requires count { IsCount own.incarnation }
+        requires book { calls.total ≡ 0 }
+        requires node { own.name ≡ L.node }
+        ensures { (result.shard ≡ begun own) × (result.calls.total ≡ 0) }
+    {
+        Locked {
+            shard: Shard::new(alloc, own),
+            calls,
+        }
+    }
+
+    /// The shard's journal, which is legal and of the ledger's node.
+    pub fn journal(&self) -> &Journal
+        ensures journal { result.now ≡ self.now.shard }
+        ensures legal { IsLegal self.now.shard }
+        ensures node { (own self.now.shard).name ≡ L.node }
+    {
+        self.shard.journal()
+    }
+
+    // The number that the next entry gets.
+    pub(crate) fn next_number(&self) -> u64
+        ensures { result ≡ last_number self.now.shard + 1 }
+    {
+        self.shard.journal().last_number() + 1
+    }
+
+    // A track, counted where it made an entry.
+    #[tactic(auto, using(crate::proofs::Counts::counts))]
+    pub(crate) fn track(
+        &mut self,
+        alloc: Global,
+        share: &mut Share<L>,
+        seat: u32,
+        pid: u64,
+        topic: &Topic,
+        key: &Key,
+        meta: &Meta,
+    ) -> Result<Dot, ShardFault>
+        requires pid { pid ≤ 2 ^ 62 }
+        requires share { share.old.parts ≡ 1 }
+        ensures step { Stepped self.old.shard self.new.shard (Some seat) (Step.Track pid topic.now key.now meta.now) result }
+        ensures answer { AnswersDot self.old.shard (Step.Track pid topic.now key.now meta.now) result }
+        ensures due { IsDue result (refusal true self.old.shard (Step.Track pid topic.now key.now meta.now)) }
+        ensures total { self.new.calls.total ≡ counted self.old.calls.total (is_step result) }
+        ensures amount { share.new.amount ≡ counted share.old.amount (is_step result) }
+        ensures parts { share.new.parts ≡ share.old.parts }
+    {
+        let Locked { shard, calls } = self;
+        let answer = shard.track(alloc, Some(seat), pid, topic, key, meta);
+        count_call(calls, share, is_made(&answer));
+        answer
+    }
+
+    // An update, counted where it made an entry.
+    #[tactic(auto, using(crate::proofs::Counts::counts))]
+    pub(crate) fn update(
+        &mut self,
+        alloc: Global,
+        share: &mut Share<L>,
+        seat: u32,
+        pid: u64,
+        topic: &Topic,
+        key: &Key,
+        meta: &Meta,
+    ) -> Result<Dot, ShardFault>
+        requires pid { pid ≤ 2 ^ 62 }
+        requires share { share.old.parts ≡ 1 }
+        ensures step { Stepped self.old.shard self.new.shard (Some seat) (Step.Update pid topic.now key.now meta.now) result }
+        ensures answer { AnswersDot self.old.shard (Step.Update pid topic.now key.now meta.now) result }
+        ensures due { IsDue result (refusal true self.old.shard (Step.Update pid topic.now key.now meta.now)) }
+        ensures total { self.new.calls.total ≡ counted self.old.calls.total (is_step result) }
+        ensures amount { share.new.amount ≡ counted share.old.amount (is_step result) }
+        ensures parts { share.new.parts ≡ share.old.parts }
+    {
+        let Locked { shard, calls } = self;
+        let answer = shard.update(alloc, Some(seat), pid, topic, key, meta);
+        count_call(calls, share, is_made(&answer));
+        answer
+    }
+
+    // An untrack, counted where it made an entry.
+    #[tactic(auto, using(crate::proofs::Counts::counts))]
+    pub(crate) fn untrack(
+        &mut self,
+        alloc: Global,
+        share: &mut Share<L>,
+        seat: u32,
+        pid: u64,
+        topic: &Topic,
+        key: &Key,
+    ) -> Result<Vec<Dot>, ShardFault>
+        requires share { share.old.parts ≡ 1 }
+        ensures step { Stepped self.old.shard self.new.shard (Some seat) (Step.Untrack pid topic.now key.now) result }
+        ensures answer { AnswersRowsOfKey self.old.shard pid topic.now key.now result }
+        ensures due { IsDue result (refusal true self.old.shard (Step.Untrack pid topic.now key.now)) }
+        ensures total { self.new.calls.total ≡ counted self.old.calls.total (is_step result) }
+        ensures amount { share.new.amount ≡ counted share.old.amount (is_step result) }
+        ensures parts { share.new.parts ≡ share.old.parts }
+    {
+        let Locked { shard, calls } = self;
+        let answer = shard.untrack(alloc, Some(seat), pid, topic, key);
+        count_call(calls, share, is_made(&answer));
+        answer
+    }
+
+    // An untrack of all keys, counted where it made an entry.
+    #[tactic(auto, using(crate::proofs::Counts::counts))]
+    pub(crate) fn untrack_all(
+        &mut self,
+        alloc: Global,
+        share: &mut Share<L>,
+        seat: u32,
+        pid: u64,
+        topic: &Topic,
+    ) -> Result<Vec<Dot>, ShardFault>
+        requires share { share.old.parts ≡ 1 }
+        ensures step { Stepped self.old.shard self.new.shard (Some seat) (Step.UntrackAll pid topic.now) result }
+        ensures answer { AnswersRowsOfPid self.old.shard pid topic.now result }
+        ensures due { IsDue result (refusal true self.old.shard (Step.UntrackAll pid topic.now)) }
+        ensures total { self.new.calls.total ≡ counted self.old.calls.total (is_step result) }
+        ensures amount { share.new.amount ≡ counted share.old.amount (is_step result) }
+        ensures parts { share.new.parts ≡ share.old.parts }
+    {
+        let Locked { shard, calls } = self;
+        let answer = shard.untrack_all(alloc, Some(seat), pid, topic);
+        count_call(calls, share, is_made(&answer));
+        answer
+    }
+
+    // A list, counted where it made an entry.
+    #[tactic(auto, using(crate::proofs::Counts::counts))]
+    pub(crate) fn list(
+        &mut self,
+        alloc: Global,
+        share: &mut Share<L>,
+        seat: u32,
+        topic: &Topic,
+    ) -> Result<Vec<(Dot, Row)>, ShardFault>
+        requires share { share.old.parts ≡ 1 }
+        ensures step { Stepped self.old.shard self.new.shard (Some seat) (Step.List topic.now) result }
+        ensures answer { AnswersListed self.old.shard topic.now result }
+        ensures due { IsDue result (refusal true self.old.shard (Step.List topic.now)) }
+        ensures total { self.new.calls.total ≡ counted self.old.calls.total (is_step result) }
+        ensures amount { share.new.amount ≡ counted share.old.amount (is_step result) }
+        ensures parts { share.new.parts ≡ share.old.parts }
+    {
+        let Locked { shard, calls } = self;
+        let answer = shard.list(alloc, Some(seat), topic);
+        count_call(calls, share, is_made(&answer));
+        answer
+    }
+
+    // A get, counted where it made an entry.
+    #[tactic(auto, using(crate::proofs::Counts::counts))]
+    pub(crate) fn get(
+        &mut self,
+        alloc: Global,
+        share: &mut Share<L>,
+        seat: u32,
+        topic: &Topic,
+        key: &Key,
+    ) -> Result<Vec<(Dot, Row)>, ShardFault>
+        requires share { share.old.parts ≡ 1 }
+        ensures step { Stepped self.old.shard self.new.shard (Some seat) (Step.Get topic.now key.now) result }
+        ensures answer { AnswersListedKey self.old.shard topic.now key.now result }
+        ensures due { IsDue result (refusal true self.old.shard (Step.Get topic.now key.now)) }
+        ensures total { self.new.calls.total ≡ counted self.old.calls.total (is_step result) }
+        ensures amount { share.new.amount ≡ counted share.old.amount (is_step result) }
+        ensures parts { share.new.parts ≡ share.old.parts }
+    {
+        let Locked { shard, calls } = self;
+        let answer = shard.get(alloc, Some(seat), topic, key);
+        count_call(calls, share, is_made(&answer));
+        answer
+    }
+
+    // A subscribe, counted where it made an entry.
+    #[tactic(auto, using(crate::proofs::Counts::counts))]
+    pub(crate) fn subscribe(
+        &mut self,
+        alloc: Global,
+        share: &mut Share<L>,
+        seat: u32,
+        topic: &Topic,
+    ) -> Result<Sub, ShardFault>
+        requires share { share.old.parts ≡ 1 }
+        ensures step { Stepped self.old.shard self.new.shard (Some seat) (Step.Subscribe topic.now) result }
+        ensures answer { AnswersSub self.old.shard topic.now result }
+        ensures due { IsDue result (refusal true self.old.shard (Step.Subscribe topic.now)) }
+        ensures total { self.new.calls.total ≡ counted self.old.calls.total (is_step result) }
+        ensures amount { share.new.amount ≡ counted share.old.amount (is_step result) }
+        ensures parts { share.new.parts ≡ share.old.parts }
+    {
+        let Locked { shard, calls } = self;
+        let answer = shard.subscribe(alloc, Some(seat), topic);
+        count_call(calls, share, is_made(&answer));
+        answer
+    }
+
+    // A take, counted where it made an entry.
+    #[tactic(auto, using(crate::proofs::Counts::counts))]
+    pub(crate) fn take(
+        &mut self,
+        alloc: Global,
+        share: &mut Share<L>,
+        seat: u32,
+        sub: &Sub,
+        max: u32,
+    ) -> Result<Vec<Item>, ShardFault>
+        requires limit { IsTrue (is_take_limit max) }
+        requires share { share.old.parts ≡ 1 }
+        ensures step { Stepped self.old.shard self.new.shard (Some seat) (Step.Take sub.now.number max) result }
+        ensures answer { AnswersItems self.old.shard sub.now.number max result }
+        ensures due { IsDue result (refusal_at sub.now.slot sub.now.number self.old.shard (Step.Take sub.now.number max)) }
+        ensures total { self.new.calls.total ≡ counted self.old.calls.total (is_step result) }
+        ensures amount { share.new.amount ≡ counted share.old.amount (is_step result) }
+        ensures parts { share.new.parts ≡ share.old.parts }
+    {
+        let Locked { shard, calls } = self;
+        let answer = shard.take(alloc, Some(seat), sub, max);
+        count_call(calls, share, is_made(&answer));
+        answer
+    }
+
+    // An unsubscribe, counted where it made an entry.
+    #[tactic(auto, using(crate::proofs::Counts::counts))]
+    pub(crate) fn unsubscribe(
+        &mut self,
+        alloc: Global,
+        share: &mut Share<L>,
+        seat: u32,
+        sub: &Sub,
+    ) -> Result<(), ShardFault>
+        requires share { share.old.parts ≡ 1 }
+        ensures step { Stepped self.old.shard self.new.shard (Some seat) (Step.Unsubscribe sub.now.number) result }
+        ensures answer { Answers (λ _. Unit {0}) (outcome_of self.old.shard (Step.Unsubscribe sub.now.number)) result }
+        ensures due { IsDue result (refusal_at sub.now.slot sub.now.number self.old.shard (Step.Unsubscribe sub.now.number)) }
+        ensures total { self.new.calls.total ≡ counted self.old.calls.total (is_step result) }
+        ensures amount { share.new.amount ≡ counted share.old.amount (is_step result) }
+        ensures parts { share.new.parts ≡ share.old.parts }
+    {
+        let Locked { shard, calls } = self;
+        let answer = shard.unsubscribe(alloc, Some(seat), sub);
+        count_call(calls, share, is_made(&answer));
+        answer
+    }
+
+    // A shout, counted where it made an entry.
+    #[tactic(auto, using(crate::proofs::Counts::counts))]
+    pub(crate) fn shout(
+        &mut self,
+        alloc: Global,
+        share: &mut Share<L>,
+        seat: u32,
+        topic: &Topic,
+        payload: &Json,
+    ) -> Result<(), ShardFault>
+        requires payload { IsTrue (is_payload payload.now) }
+        requires share { share.old.parts ≡ 1 }
+        ensures step { Stepped self.old.shard self.new.shard (Some seat) (Step.Shout topic.now payload.now) result }
+        ensures answer { Answers (λ _. Unit {0}) (outcome_of self.old.shard (Step.Shout topic.now payload.now)) result }
+        ensures due { IsDue result (refusal true self.old.shard (Step.Shout topic.now payload.now)) }
+        ensures total { self.new.calls.total ≡ counted self.old.calls.total (is_step result) }
+        ensures amount { share.new.amount ≡ counted share.old.amount (is_step result) }
+        ensures parts { share.new.parts ≡ share.old.parts }
+    {
+        let Locked { shard, calls } = self;
+        let answer = shard.shout(alloc, Some(seat), topic, payload);
+        count_call(calls, share, is_made(&answer));
+        answer
+    }
+
+    /// Notes that a replica was heard, as `Shard::heard` does, without a seat.
+    #[tactic(auto, using(crate::proofs::Counts::counts))]
+    pub fn heard(&mut self, alloc: Global, replica: Replica, now: u64) -> Result<(), ShardFault>
+        ensures step { Stepped self.old.shard self.new.shard None (Step.Heard replica now) result }
+        ensures due { IsDue result (refusal true self.old.shard (Step.Heard replica now)) }
+        ensures total { self.new.calls.total ≡ self.old.calls.total }
+    {
+        self.shard.heard(alloc, replica, now)
+    }
+
+    /// Lets time pass, as `Shard::tick` does, without a seat.
+    #[tactic(auto, using(crate::proofs::Counts::counts))]
+    pub fn tick(&mut self, alloc: Global, now: u64) -> Result<(), ShardFault>
+        ensures step { Stepped self.old.shard self.new.shard None (Step.Tick now) result }
+        ensures due { IsDue result (refusal true self.old.shard (Step.Tick now)) }
+        ensures total { self.new.calls.total ≡ self.old.calls.total }
+    {
+        self.shard.tick(alloc, now)
+    }
+
+    /// Notes that a replica is gone for good, as `Shard::permdown` does, without a seat.
+    #[tactic(auto, using(crate::proofs::Counts::counts))]
+    pub fn permdown(&mut self, alloc: Global, replica: Replica) -> Result<(), ShardFault>
+        ensures step { Stepped self.old.shard self.new.shard None (Step.PermDown replica) result }
+        ensures due { IsDue result (refusal true self.old.shard (Step.PermDown replica)) }
+        ensures total { self.new.calls.total ≡ self.old.calls.total }
+    {
+        self.shard.permdown(alloc, replica)
+    }
+
+    /// What the own replica did since the last cut, as `Shard::cut` tells it, without a seat.
+    #[tactic(auto, using(crate::proofs::Counts::counts))]
+    pub fn cut(&mut self, alloc: Global) -> Result<Delta, ShardFault>
+        ensures step { Stepped self.old.shard self.new.shard None Step.Cut result }
+        ensures answer { Answers (IsCut self.old.shard) (outcome_of self.old.shard Step.Cut) result }
+        ensures due { IsDue result (refusal true self.old.shard Step.Cut) }
+        ensures total { self.new.calls.total ≡ self.old.calls.total }
+    {
+        self.shard.cut(alloc)
+    }
+
+    /// The status of a replica. It is no step.
+    pub fn status(&self, replica: &Replica) -> Status
+        ensures { result ≡ status self.now.shard replica.now }
+    {
+        self.shard.status(replica)
+    }
+
+    /// Whether a subscriber is behind or has something waiting. It is no step.
+    pub fn waits(&self, sub: &Sub) -> Result<bool, ShardFault>
+        ensures found { OnOk result (is_found self.now.shard sub.now.slot sub.now.number ≡ true) }
+        ensures value { IfOk result (λ w. w ≡ is_waiting (queue self.now.shard sub.now.number)) }
+        ensures missing { OnErr result (is_found self.now.shard sub.now.slot sub.now.number ≡ false) }
+        ensures refusal { IfErr result (λ e. e ≡ ShardFault.NoSub) }
+    {
+        self.shard.waits(sub)
+    }
+
+    /// The journal, where the shard is done with.
+    pub fn into_journal(self) -> Journal
+        ensures { result ≡ self.shard }
+    {
+        let Locked { shard, calls: _ } = self;
+        shard.into_journal()
+    }
+}
