@@ -1,0 +1,63 @@
+-- What a seat keeps of its calls at all shards, and what a call of the pool does to it.
+use Rattle.std.specs.Prelude.{◌≡◌, ◌==◌, ◌%◌, ℕ, zero, suc, List, [], ◌∷◌, ◌++◌, cond, sum, Result, refl}
+use Rattle.std.specs.Coded.{Coded, code_by, coded×, coded_ℕ}
+use Rattle.presence_journal_data.specs.declared.step.Step.{Step}
+use Rattle.presence_journal.specs.History.{History, own}
+use Rattle.presence_journal.specs.Table.{IsLegal}
+use Rattle.tracker_shard.specs.declared.fault.ShardFault.{ShardFault}
+use Rattle.shard_pool_lent.specs.declared.reply.Reply.{Reply}
+use Rattle.shard_pool_lent.specs.Hands.{Hand, hand_code, new_hand}
+use Rattle.shard_pool_lent.specs.Lent.{Notes, Replies}
+
+-- a seat at each shard
+pub record Hands : Type 0 where
+  pub number : ℕ
+  pub first : Hand
+  pub second : Hand
+  pub third : Hand
+  pub fourth : Hand
+
+abbrev pub hands_code : Coded Hands
+hands_code = code_by (ℕ × (Hand × (Hand × (Hand × Hand)))) (coded× coded_ℕ (coded× hand_code (coded× hand_code (coded× hand_code hand_code)))) (λ h. (h.number, (h.first, (h.second, (h.third, h.fourth))))) (λ p. record { number = p.0; first = p.1.0; second = p.1.1.0; third = p.1.1.1.0; fourth = p.1.1.1.1 }) (λ _. refl)
+
+abbrev pub new_seat : ℕ → Hands
+new_seat n = record { number = n; first = new_hand n 0; second = new_hand n 1; third = new_hand n 2; fourth = new_hand n 3 }
+
+-- a new seat for each number from 0
+abbrev pub new_seats : ℕ → List Hands
+new_seats zero = []
+new_seats (suc n) = new_seats n ++ new_seat n ∷ []
+
+-- each part is of the seat, and of its shard
+abbrev pub IsSeated : Hands → Type 0
+IsSeated h = (h.first.seat ≡ h.number) × (h.second.seat ≡ h.number) × (h.third.seat ≡ h.number) × (h.fourth.seat ≡ h.number) × (h.first.shard ≡ 0) × (h.second.shard ≡ 1) × (h.third.shard ≡ 2) × (h.fourth.shard ≡ 3)
+
+-- the shard that has a topic
+abbrev pub shard_of : List ℕ → ℕ → ℕ
+shard_of topic shards = sum topic % shards
+
+abbrev pub hand_at : Hands → ℕ → Hand
+hand_at h s = cond (s == 0) h.first (cond (s == 1) h.second (cond (s == 2) h.third h.fourth))
+
+-- a seat, with another hand at a shard
+abbrev pub with_hand : Hands → ℕ → Hand → Hands
+with_hand h s x =
+    cond (s == 0) (record { number = h.number; first = x; second = h.second; third = h.third; fourth = h.fourth })
+    (cond (s == 1) (record { number = h.number; first = h.first; second = x; third = h.third; fourth = h.fourth })
+    (cond (s == 2) (record { number = h.number; first = h.first; second = h.second; third = x; fourth = h.fourth })
+    (record { number = h.number; first = h.first; second = h.second; third = h.third; fourth = x })))
+
+-- Some legal history of the node stands behind the answer: the part has the receipt of the step at its end where
+-- the step was made, and the answer is the table's there.
+pub record Called {A : Type 0} (node : List ℕ) (old new : Hand) (step : Step) (Gives : History → A → Type 0) (r : Result (Reply A) ShardFault) : Type 0 where
+  pub history : History
+  pub legal : IsLegal history
+  pub of_node : (own history).name ≡ node
+  pub notes : Notes history old new step r
+  pub answer : Replies old.shard history step (Gives history) r
+
+-- the seat after a call at a shard: no other part is changed
+pub record CalledAt {A : Type 0} (node : List ℕ) (old new : Hands) (s : ℕ) (step : Step) (Gives : History → A → Type 0) (r : Result (Reply A) ShardFault) : Type 0 where
+  pub others : new ≡ with_hand old s (hand_at new s)
+  pub shard : (hand_at old s).shard ≡ s
+  pub call : Called node (hand_at old s) (hand_at new s) step Gives r

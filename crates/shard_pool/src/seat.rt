@@ -1,0 +1,83 @@
+ghost use Rattle.std.specs.Prelude.{◌≡◌, IfOk};
+
+use shard_pool_lent::{Lane, Part};
+use shard_pool_settled::Receipt;
+use std::alloc::{AllocError, Global};
+use std::marker::Model;
+
+/// A caller's token: its number, and its part at each shard.
+#[derive(Drop)]
+pub struct Seat<A: Lane, B: Lane, C: Lane, D: Lane> {
+    pub(crate) number: u32,
+    pub(crate) first: Part<A>,
+    pub(crate) second: Part<B>,
+    pub(crate) third: Part<C>,
+    pub(crate) fourth: Part<D>,
+}
+
+impl<A: Lane, B: Lane, C: Lane, D: Lane> Model for Seat<A, B, C, D> {
+    ghost use Rattle.std.specs.Prelude.{◌≡◌};
+    ghost use Rattle.shard_pool.specs.Seats.{Hands, IsSeated, hands_code};
+
+    ghost Value = { Hands };
+
+    ghost coded = { hands_code };
+
+    ghost view = { λ s. record { number = s.number; first = s.first; second = s.second; third = s.third; fourth = s.fourth } };
+
+    ghost invariant = { λ s. IsSeated (record { number = s.number; first = s.first; second = s.second; third = s.third; fourth = s.fourth }) };
+}
+
+// A copy of these receipts.
+fn copied(alloc: Global, receipts: &[Receipt]) -> Result<Vec<Receipt>, AllocError>
+    ensures { IfOk result (λ v. v.items ≡ receipts.now) }
+{
+    let copies = receipts.to_vec(alloc)?;
+    Ok(copies)
+}
+
+impl<A: Lane, B: Lane, C: Lane, D: Lane> Seat<A, B, C, D> {
+    ghost use Rattle.std.specs.Prelude.{◌≡◌, IfOk};
+    ghost use Rattle.shard_pool_lent.specs.Hands.{new_hand};
+    ghost use Rattle.shard_pool.specs.Seats.{new_seat};
+    ghost use Rattle.shard_pool.specs.Settling.{receipts_of};
+
+    // A seat that made no call yet.
+    pub(crate) fn new(
+        number: u32,
+        first: Part<A>,
+        second: Part<B>,
+        third: Part<C>,
+        fourth: Part<D>,
+    ) -> Seat<A, B, C, D>
+        requires { (first ≡ new_hand number 0) × (second ≡ new_hand number 1)
+            × (third ≡ new_hand number 2) × (fourth ≡ new_hand number 3) }
+        ensures { result ≡ new_seat number }
+    {
+        Seat {
+            number,
+            first,
+            second,
+            third,
+            fourth,
+        }
+    }
+
+    /// The seat's number: the seats of a pool are numbered from 0.
+    pub fn number(&self) -> u32
+        ensures { result ≡ self.now.number }
+    {
+        self.number
+    }
+
+    /// The receipts, shard by shard, the oldest of each first.
+    pub fn receipts(&self, alloc: Global) -> Result<Vec<Receipt>, AllocError>
+        ensures { IfOk result (λ v. v.items ≡ receipts_of self.now) }
+    {
+        let mut all = copied(alloc, self.first.receipts())?;
+        all.append(&mut copied(alloc, self.second.receipts())?)?;
+        all.append(&mut copied(alloc, self.third.receipts())?)?;
+        all.append(&mut copied(alloc, self.fourth.receipts())?)?;
+        Ok(all)
+    }
+}

@@ -1,0 +1,433 @@
+ghost use Rattle.std.specs.Prelude.{◌≡◌, ◌+◌, ◌≤◌, ◌^◌, Some, IsTrue};
+ghost use Rattle.presence_journal.specs.History.{last_number};
+ghost use Rattle.presence_journal.specs.Limits.{is_payload, is_take_limit};
+ghost use Rattle.presence_journal.specs.Present.{listed, dots_of};
+ghost use Rattle.presence_journal.specs.Queue.{items_given};
+ghost use Rattle.presence_journal.specs.Table.{outcome_of, rows_of_key, rows_of_pid, listed_key};
+ghost use Rattle.tracker_shard.specs.Steps.{new_dot, slot_of};
+ghost use Rattle.shard_pool.specs.Seats.{CalledAt, shard_of};
+
+use crate::gate::Gate;
+use crate::pool::Pool;
+use crate::seat::Seat;
+use crate::under_lock::{
+    locked_get, locked_list, locked_shout, locked_subscribe, locked_take, locked_track,
+    locked_unsubscribe, locked_untrack, locked_untrack_all, locked_update,
+};
+use presence_base::{Dot, Json, Key, Meta, Row, Topic, shard_of};
+use presence_journal::{Item, Step};
+use shard_pool_lent::{Lane, PoolFault, Reply};
+use std::alloc::Global;
+use std::sync::Wait;
+use tracker_shard::Sub;
+
+// Each picks the topic's shard, and with it the seat's part there.
+impl<G: Gate, A: Lane, B: Lane, C: Lane, D: Lane> Pool<G, A, B, C, D> {
+    /// Tracks the pid under the key on the topic, and answers the dot of the new row.
+    pub fn track<R: Wait>(
+        &self,
+        rt: &R,
+        alloc: Global,
+        seat: &mut Seat<A, B, C, D>,
+        pid: u64,
+        topic: &Topic,
+        key: &Key,
+        meta: &Meta,
+    ) -> Result<Reply<Dot>, PoolFault>
+        requires pid { pid ≤ 2 ^ 62 }
+        ensures { CalledAt self.now.own.name seat.old seat.new (shard_of topic.now self.now.shards)
+            (Step.Track pid topic.now key.now meta.now)
+            (λ h d. new_dot (outcome_of h (Step.Track pid topic.now key.now meta.now)) ≡ Some d) result }
+    {
+        let shard = shard_of(topic, self.shards);
+        let Seat {
+            number: _,
+            first,
+            second,
+            third,
+            fourth,
+        } = seat;
+        if shard == 0 {
+            locked_track(
+                rt,
+                alloc,
+                &self.gate,
+                &self.first,
+                first,
+                pid,
+                topic,
+                key,
+                meta,
+            )
+        } else if shard == 1 {
+            locked_track(
+                rt,
+                alloc,
+                &self.gate,
+                &self.second,
+                second,
+                pid,
+                topic,
+                key,
+                meta,
+            )
+        } else if shard == 2 {
+            locked_track(
+                rt,
+                alloc,
+                &self.gate,
+                &self.third,
+                third,
+                pid,
+                topic,
+                key,
+                meta,
+            )
+        } else {
+            locked_track(
+                rt,
+                alloc,
+                &self.gate,
+                &self.fourth,
+                fourth,
+                pid,
+                topic,
+                key,
+                meta,
+            )
+        }
+    }
+
+    /// Replaces what the pid tells under the key on the topic, and answers the dot of the new row.
+    pub fn update<R: Wait>(
+        &self,
+        rt: &R,
+        alloc: Global,
+        seat: &mut Seat<A, B, C, D>,
+        pid: u64,
+        topic: &Topic,
+        key: &Key,
+        meta: &Meta,
+    ) -> Result<Reply<Dot>, PoolFault>
+        requires pid { pid ≤ 2 ^ 62 }
+        ensures { CalledAt self.now.own.name seat.old seat.new (shard_of topic.now self.now.shards)
+            (Step.Update pid topic.now key.now meta.now)
+            (λ h d. new_dot (outcome_of h (Step.Update pid topic.now key.now meta.now)) ≡ Some d) result }
+    {
+        let shard = shard_of(topic, self.shards);
+        let Seat {
+            number: _,
+            first,
+            second,
+            third,
+            fourth,
+        } = seat;
+        if shard == 0 {
+            locked_update(
+                rt,
+                alloc,
+                &self.gate,
+                &self.first,
+                first,
+                pid,
+                topic,
+                key,
+                meta,
+            )
+        } else if shard == 1 {
+            locked_update(
+                rt,
+                alloc,
+                &self.gate,
+                &self.second,
+                second,
+                pid,
+                topic,
+                key,
+                meta,
+            )
+        } else if shard == 2 {
+            locked_update(
+                rt,
+                alloc,
+                &self.gate,
+                &self.third,
+                third,
+                pid,
+                topic,
+                key,
+                meta,
+            )
+        } else {
+            locked_update(
+                rt,
+                alloc,
+                &self.gate,
+                &self.fourth,
+                fourth,
+                pid,
+                topic,
+                key,
+                meta,
+            )
+        }
+    }
+
+    /// Takes out the pid's row under the key on the topic, and answers its dot, or none.
+    pub fn untrack<R: Wait>(
+        &self,
+        rt: &R,
+        alloc: Global,
+        seat: &mut Seat<A, B, C, D>,
+        pid: u64,
+        topic: &Topic,
+        key: &Key,
+    ) -> Result<Reply<Vec<Dot>>, PoolFault>
+        ensures { CalledAt self.now.own.name seat.old seat.new (shard_of topic.now self.now.shards)
+            (Step.Untrack pid topic.now key.now)
+            (λ h dots. dots.items ≡ dots_of (rows_of_key h pid topic.now key.now)) result }
+    {
+        let shard = shard_of(topic, self.shards);
+        let Seat {
+            number: _,
+            first,
+            second,
+            third,
+            fourth,
+        } = seat;
+        if shard == 0 {
+            locked_untrack(rt, alloc, &self.gate, &self.first, first, pid, topic, key)
+        } else if shard == 1 {
+            locked_untrack(rt, alloc, &self.gate, &self.second, second, pid, topic, key)
+        } else if shard == 2 {
+            locked_untrack(rt, alloc, &self.gate, &self.third, third, pid, topic, key)
+        } else {
+            locked_untrack(rt, alloc, &self.gate, &self.fourth, fourth, pid, topic, key)
+        }
+    }
+
+    /// Takes out each row of the pid on the topic, and answers their dots in order of key and then dot.
+    pub fn untrack_all<R: Wait>(
+        &self,
+        rt: &R,
+        alloc: Global,
+        seat: &mut Seat<A, B, C, D>,
+        pid: u64,
+        topic: &Topic,
+    ) -> Result<Reply<Vec<Dot>>, PoolFault>
+        ensures { CalledAt self.now.own.name seat.old seat.new (shard_of topic.now self.now.shards)
+            (Step.UntrackAll pid topic.now)
+            (λ h dots. dots.items ≡ dots_of (rows_of_pid h pid topic.now)) result }
+    {
+        let shard = shard_of(topic, self.shards);
+        let Seat {
+            number: _,
+            first,
+            second,
+            third,
+            fourth,
+        } = seat;
+        if shard == 0 {
+            locked_untrack_all(rt, alloc, &self.gate, &self.first, first, pid, topic)
+        } else if shard == 1 {
+            locked_untrack_all(rt, alloc, &self.gate, &self.second, second, pid, topic)
+        } else if shard == 2 {
+            locked_untrack_all(rt, alloc, &self.gate, &self.third, third, pid, topic)
+        } else {
+            locked_untrack_all(rt, alloc, &self.gate, &self.fourth, fourth, pid, topic)
+        }
+    }
+
+    /// The rows that are present on the topic, in order of key and then dot.
+    pub fn list<R: Wait>(
+        &self,
+        rt: &R,
+        alloc: Global,
+        seat: &mut Seat<A, B, C, D>,
+        topic: &Topic,
+    ) -> Result<Reply<Vec<(Dot, Row)>>, PoolFault>
+        ensures { CalledAt self.now.own.name seat.old seat.new (shard_of topic.now self.now.shards)
+            (Step.List topic.now)
+            (λ h rows. rows.items ≡ listed h topic.now) result }
+    {
+        let shard = shard_of(topic, self.shards);
+        let Seat {
+            number: _,
+            first,
+            second,
+            third,
+            fourth,
+        } = seat;
+        if shard == 0 {
+            locked_list(rt, alloc, &self.gate, &self.first, first, topic)
+        } else if shard == 1 {
+            locked_list(rt, alloc, &self.gate, &self.second, second, topic)
+        } else if shard == 2 {
+            locked_list(rt, alloc, &self.gate, &self.third, third, topic)
+        } else {
+            locked_list(rt, alloc, &self.gate, &self.fourth, fourth, topic)
+        }
+    }
+
+    /// The rows that are present under the key on the topic, in order of dot.
+    pub fn get<R: Wait>(
+        &self,
+        rt: &R,
+        alloc: Global,
+        seat: &mut Seat<A, B, C, D>,
+        topic: &Topic,
+        key: &Key,
+    ) -> Result<Reply<Vec<(Dot, Row)>>, PoolFault>
+        ensures { CalledAt self.now.own.name seat.old seat.new (shard_of topic.now self.now.shards)
+            (Step.Get topic.now key.now)
+            (λ h rows. rows.items ≡ listed_key h topic.now key.now) result }
+    {
+        let shard = shard_of(topic, self.shards);
+        let Seat {
+            number: _,
+            first,
+            second,
+            third,
+            fourth,
+        } = seat;
+        if shard == 0 {
+            locked_get(rt, alloc, &self.gate, &self.first, first, topic, key)
+        } else if shard == 1 {
+            locked_get(rt, alloc, &self.gate, &self.second, second, topic, key)
+        } else if shard == 2 {
+            locked_get(rt, alloc, &self.gate, &self.third, third, topic, key)
+        } else {
+            locked_get(rt, alloc, &self.gate, &self.fourth, fourth, topic, key)
+        }
+    }
+
+    /// A new subscriber of the topic.
+    pub fn subscribe<R: Wait>(
+        &self,
+        rt: &R,
+        alloc: Global,
+        seat: &mut Seat<A, B, C, D>,
+        topic: &Topic,
+    ) -> Result<Reply<Sub>, PoolFault>
+        ensures { CalledAt self.now.own.name seat.old seat.new (shard_of topic.now self.now.shards)
+            (Step.Subscribe topic.now)
+            (λ h sub. (sub.number ≡ last_number h + 1) × (sub.slot ≡ slot_of sub.number)) result }
+    {
+        let shard = shard_of(topic, self.shards);
+        let Seat {
+            number: _,
+            first,
+            second,
+            third,
+            fourth,
+        } = seat;
+        if shard == 0 {
+            locked_subscribe(rt, alloc, &self.gate, &self.first, first, topic)
+        } else if shard == 1 {
+            locked_subscribe(rt, alloc, &self.gate, &self.second, second, topic)
+        } else if shard == 2 {
+            locked_subscribe(rt, alloc, &self.gate, &self.third, third, topic)
+        } else {
+            locked_subscribe(rt, alloc, &self.gate, &self.fourth, fourth, topic)
+        }
+    }
+
+    /// Up to `max` of the items that wait for a subscriber of the topic, or the topic's state where it is behind.
+    pub fn take<R: Wait>(
+        &self,
+        rt: &R,
+        alloc: Global,
+        seat: &mut Seat<A, B, C, D>,
+        topic: &Topic,
+        sub: &Sub,
+        max: u32,
+    ) -> Result<Reply<Vec<Item>>, PoolFault>
+        requires limit { IsTrue (is_take_limit max) }
+        ensures { CalledAt self.now.own.name seat.old seat.new (shard_of topic.now self.now.shards)
+            (Step.Take sub.now.number max)
+            (λ h items. items.items ≡ items_given h sub.now.number max) result }
+    {
+        let shard = shard_of(topic, self.shards);
+        let Seat {
+            number: _,
+            first,
+            second,
+            third,
+            fourth,
+        } = seat;
+        if shard == 0 {
+            locked_take(rt, alloc, &self.gate, &self.first, first, sub, max)
+        } else if shard == 1 {
+            locked_take(rt, alloc, &self.gate, &self.second, second, sub, max)
+        } else if shard == 2 {
+            locked_take(rt, alloc, &self.gate, &self.third, third, sub, max)
+        } else {
+            locked_take(rt, alloc, &self.gate, &self.fourth, fourth, sub, max)
+        }
+    }
+
+    /// Ends a subscriber of the topic.
+    pub fn unsubscribe<R: Wait>(
+        &self,
+        rt: &R,
+        alloc: Global,
+        seat: &mut Seat<A, B, C, D>,
+        topic: &Topic,
+        sub: &Sub,
+    ) -> Result<Reply<()>, PoolFault>
+        ensures { CalledAt self.now.own.name seat.old seat.new (shard_of topic.now self.now.shards)
+            (Step.Unsubscribe sub.now.number)
+            (λ h _. Unit {0}) result }
+    {
+        let shard = shard_of(topic, self.shards);
+        let Seat {
+            number: _,
+            first,
+            second,
+            third,
+            fourth,
+        } = seat;
+        if shard == 0 {
+            locked_unsubscribe(rt, alloc, &self.gate, &self.first, first, sub)
+        } else if shard == 1 {
+            locked_unsubscribe(rt, alloc, &self.gate, &self.second, second, sub)
+        } else if shard == 2 {
+            locked_unsubscribe(rt, alloc, &self.gate, &self.third, third, sub)
+        } else {
+            locked_unsubscribe(rt, alloc, &self.gate, &self.fourth, fourth, sub)
+        }
+    }
+
+    /// Sends the payload to each subscriber of the topic.
+    pub fn shout<R: Wait>(
+        &self,
+        rt: &R,
+        alloc: Global,
+        seat: &mut Seat<A, B, C, D>,
+        topic: &Topic,
+        payload: &Json,
+    ) -> Result<Reply<()>, PoolFault>
+        requires payload { IsTrue (is_payload payload.now) }
+        ensures { CalledAt self.now.own.name seat.old seat.new (shard_of topic.now self.now.shards)
+            (Step.Shout topic.now payload.now)
+            (λ h _. Unit {0}) result }
+    {
+        let shard = shard_of(topic, self.shards);
+        let Seat {
+            number: _,
+            first,
+            second,
+            third,
+            fourth,
+        } = seat;
+        if shard == 0 {
+            locked_shout(rt, alloc, &self.gate, &self.first, first, topic, payload)
+        } else if shard == 1 {
+            locked_shout(rt, alloc, &self.gate, &self.second, second, topic, payload)
+        } else if shard == 2 {
+            locked_shout(rt, alloc, &self.gate, &self.third, third, topic, payload)
+        } else {
+            locked_shout(rt, alloc, &self.gate, &self.fourth, fourth, topic, payload)
+        }
+    }
+}

@@ -1,0 +1,262 @@
+ghost use Rattle.std.specs.Prelude.{◌≡◌, ◌+◌, ◌≤◌, ◌^◌, Some, IsTrue};
+ghost use Rattle.presence_journal.specs.History.{last_number};
+ghost use Rattle.presence_journal.specs.Limits.{is_payload, is_take_limit};
+ghost use Rattle.presence_journal.specs.Present.{listed, dots_of};
+ghost use Rattle.presence_journal.specs.Queue.{items_given};
+ghost use Rattle.presence_journal.specs.Table.{outcome_of, rows_of_key, rows_of_pid, listed_key};
+ghost use Rattle.tracker_shard.specs.Steps.{new_dot, slot_of};
+ghost use Rattle.shard_pool.specs.Seats.{Called};
+
+use crate::gate::Gate;
+use presence_base::{Dot, Json, Key, Meta, Row, Topic};
+use presence_journal::{Item, Step};
+use shard_pool_lent::{
+    Lane, Locked, Part, PoolFault, Reply, lent_get, lent_list, lent_shout, lent_subscribe,
+    lent_take, lent_track, lent_unsubscribe, lent_untrack, lent_untrack_all, lent_update,
+};
+use std::alloc::Global;
+use std::sync::{Mutex, Wait};
+use tracker_shard::Sub;
+
+// Each of these makes a lent step behind one lock, with the gate around it. The journal is read to show
+// that it is legal and of the node.
+
+#[tactic(auto, using(crate::proofs::Calls::called))]
+pub(crate) fn locked_track<G: Gate, L: Lane, R: Wait>(
+    rt: &R,
+    alloc: Global,
+    gate: &G,
+    shard: &Mutex<Locked<L>>,
+    part: &mut Part<L>,
+    pid: u64,
+    topic: &Topic,
+    key: &Key,
+    meta: &Meta,
+) -> Result<Reply<Dot>, PoolFault>
+    requires pid { pid ≤ 2 ^ 62 }
+    ensures { Called L.node part.old part.new
+        (Step.Track pid topic.now key.now meta.now)
+        (λ h d. new_dot (outcome_of h (Step.Track pid topic.now key.now meta.now)) ≡ Some d) result }
+{
+    gate.before(part.seat(), part.shard());
+    let mut guard = shard.lock(rt);
+    gate.inside(part.seat(), part.shard());
+    let _journal = guard.journal();
+    let answer = lent_track(alloc, &mut *guard, part, pid, topic, key, meta);
+    drop(guard);
+    gate.after(part.seat(), part.shard());
+    answer
+}
+
+#[tactic(auto, using(crate::proofs::Calls::called))]
+pub(crate) fn locked_update<G: Gate, L: Lane, R: Wait>(
+    rt: &R,
+    alloc: Global,
+    gate: &G,
+    shard: &Mutex<Locked<L>>,
+    part: &mut Part<L>,
+    pid: u64,
+    topic: &Topic,
+    key: &Key,
+    meta: &Meta,
+) -> Result<Reply<Dot>, PoolFault>
+    requires pid { pid ≤ 2 ^ 62 }
+    ensures { Called L.node part.old part.new
+        (Step.Update pid topic.now key.now meta.now)
+        (λ h d. new_dot (outcome_of h (Step.Update pid topic.now key.now meta.now)) ≡ Some d) result }
+{
+    gate.before(part.seat(), part.shard());
+    let mut guard = shard.lock(rt);
+    gate.inside(part.seat(), part.shard());
+    let _journal = guard.journal();
+    let answer = lent_update(alloc, &mut *guard, part, pid, topic, key, meta);
+    drop(guard);
+    gate.after(part.seat(), part.shard());
+    answer
+}
+
+#[tactic(auto, using(crate::proofs::Calls::called))]
+pub(crate) fn locked_untrack<G: Gate, L: Lane, R: Wait>(
+    rt: &R,
+    alloc: Global,
+    gate: &G,
+    shard: &Mutex<Locked<L>>,
+    part: &mut Part<L>,
+    pid: u64,
+    topic: &Topic,
+    key: &Key,
+) -> Result<Reply<Vec<Dot>>, PoolFault>
+    ensures { Called L.node part.old part.new
+        (Step.Untrack pid topic.now key.now)
+        (λ h dots. dots.items ≡ dots_of (rows_of_key h pid topic.now key.now)) result }
+{
+    gate.before(part.seat(), part.shard());
+    let mut guard = shard.lock(rt);
+    gate.inside(part.seat(), part.shard());
+    let _journal = guard.journal();
+    let answer = lent_untrack(alloc, &mut *guard, part, pid, topic, key);
+    drop(guard);
+    gate.after(part.seat(), part.shard());
+    answer
+}
+
+#[tactic(auto, using(crate::proofs::Calls::called))]
+pub(crate) fn locked_untrack_all<G: Gate, L: Lane, R: Wait>(
+    rt: &R,
+    alloc: Global,
+    gate: &G,
+    shard: &Mutex<Locked<L>>,
+    part: &mut Part<L>,
+    pid: u64,
+    topic: &Topic,
+) -> Result<Reply<Vec<Dot>>, PoolFault>
+    ensures { Called L.node part.old part.new
+        (Step.UntrackAll pid topic.now)
+        (λ h dots. dots.items ≡ dots_of (rows_of_pid h pid topic.now)) result }
+{
+    gate.before(part.seat(), part.shard());
+    let mut guard = shard.lock(rt);
+    gate.inside(part.seat(), part.shard());
+    let _journal = guard.journal();
+    let answer = lent_untrack_all(alloc, &mut *guard, part, pid, topic);
+    drop(guard);
+    gate.after(part.seat(), part.shard());
+    answer
+}
+
+#[tactic(auto, using(crate::proofs::Calls::called))]
+pub(crate) fn locked_list<G: Gate, L: Lane, R: Wait>(
+    rt: &R,
+    alloc: Global,
+    gate: &G,
+    shard: &Mutex<Locked<L>>,
+    part: &mut Part<L>,
+    topic: &Topic,
+) -> Result<Reply<Vec<(Dot, Row)>>, PoolFault>
+    ensures { Called L.node part.old part.new (Step.List topic.now) (λ h rows. rows.items ≡ listed h topic.now) result }
+{
+    gate.before(part.seat(), part.shard());
+    let mut guard = shard.lock(rt);
+    gate.inside(part.seat(), part.shard());
+    let _journal = guard.journal();
+    let answer = lent_list(alloc, &mut *guard, part, topic);
+    drop(guard);
+    gate.after(part.seat(), part.shard());
+    answer
+}
+
+#[tactic(auto, using(crate::proofs::Calls::called))]
+pub(crate) fn locked_get<G: Gate, L: Lane, R: Wait>(
+    rt: &R,
+    alloc: Global,
+    gate: &G,
+    shard: &Mutex<Locked<L>>,
+    part: &mut Part<L>,
+    topic: &Topic,
+    key: &Key,
+) -> Result<Reply<Vec<(Dot, Row)>>, PoolFault>
+    ensures { Called L.node part.old part.new
+        (Step.Get topic.now key.now)
+        (λ h rows. rows.items ≡ listed_key h topic.now key.now) result }
+{
+    gate.before(part.seat(), part.shard());
+    let mut guard = shard.lock(rt);
+    gate.inside(part.seat(), part.shard());
+    let _journal = guard.journal();
+    let answer = lent_get(alloc, &mut *guard, part, topic, key);
+    drop(guard);
+    gate.after(part.seat(), part.shard());
+    answer
+}
+
+#[tactic(auto, using(crate::proofs::Calls::called))]
+pub(crate) fn locked_subscribe<G: Gate, L: Lane, R: Wait>(
+    rt: &R,
+    alloc: Global,
+    gate: &G,
+    shard: &Mutex<Locked<L>>,
+    part: &mut Part<L>,
+    topic: &Topic,
+) -> Result<Reply<Sub>, PoolFault>
+    ensures { Called L.node part.old part.new
+        (Step.Subscribe topic.now)
+        (λ h sub. (sub.number ≡ last_number h + 1) × (sub.slot ≡ slot_of sub.number)) result }
+{
+    gate.before(part.seat(), part.shard());
+    let mut guard = shard.lock(rt);
+    gate.inside(part.seat(), part.shard());
+    let _journal = guard.journal();
+    let answer = lent_subscribe(alloc, &mut *guard, part, topic);
+    drop(guard);
+    gate.after(part.seat(), part.shard());
+    answer
+}
+
+#[tactic(auto, using(crate::proofs::Calls::called))]
+pub(crate) fn locked_take<G: Gate, L: Lane, R: Wait>(
+    rt: &R,
+    alloc: Global,
+    gate: &G,
+    shard: &Mutex<Locked<L>>,
+    part: &mut Part<L>,
+    sub: &Sub,
+    max: u32,
+) -> Result<Reply<Vec<Item>>, PoolFault>
+    requires limit { IsTrue (is_take_limit max) }
+    ensures { Called L.node part.old part.new
+        (Step.Take sub.now.number max)
+        (λ h items. items.items ≡ items_given h sub.now.number max) result }
+{
+    gate.before(part.seat(), part.shard());
+    let mut guard = shard.lock(rt);
+    gate.inside(part.seat(), part.shard());
+    let _journal = guard.journal();
+    let answer = lent_take(alloc, &mut *guard, part, sub, max);
+    drop(guard);
+    gate.after(part.seat(), part.shard());
+    answer
+}
+
+#[tactic(auto, using(crate::proofs::Calls::called))]
+pub(crate) fn locked_unsubscribe<G: Gate, L: Lane, R: Wait>(
+    rt: &R,
+    alloc: Global,
+    gate: &G,
+    shard: &Mutex<Locked<L>>,
+    part: &mut Part<L>,
+    sub: &Sub,
+) -> Result<Reply<()>, PoolFault>
+    ensures { Called L.node part.old part.new (Step.Unsubscribe sub.now.number) (λ h _. Unit {0}) result }
+{
+    gate.before(part.seat(), part.shard());
+    let mut guard = shard.lock(rt);
+    gate.inside(part.seat(), part.shard());
+    let _journal = guard.journal();
+    let answer = lent_unsubscribe(alloc, &mut *guard, part, sub);
+    drop(guard);
+    gate.after(part.seat(), part.shard());
+    answer
+}
+
+#[tactic(auto, using(crate::proofs::Calls::called))]
+pub(crate) fn locked_shout<G: Gate, L: Lane, R: Wait>(
+    rt: &R,
+    alloc: Global,
+    gate: &G,
+    shard: &Mutex<Locked<L>>,
+    part: &mut Part<L>,
+    topic: &Topic,
+    payload: &Json,
+) -> Result<Reply<()>, PoolFault>
+    requires payload { IsTrue (is_payload payload.now) }
+    ensures { Called L.node part.old part.new (Step.Shout topic.now payload.now) (λ h _. Unit {0}) result }
+{
+    gate.before(part.seat(), part.shard());
+    let mut guard = shard.lock(rt);
+    gate.inside(part.seat(), part.shard());
+    let _journal = guard.journal();
+    let answer = lent_shout(alloc, &mut *guard, part, topic, payload);
+    drop(guard);
+    gate.after(part.seat(), part.shard());
+    answer
+}
