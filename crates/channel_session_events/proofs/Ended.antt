@@ -6,7 +6,8 @@ use Rattle.tracker_shard.specs.declared.shard.Sub.{Sub}
 use Rattle.tracker_shard.specs.declared.fault.ShardFault.{ShardFault}
 use Rattle.channel_session_rules.specs.Asks.{Ask, Answer, unsubscribe, untrack_all}
 use Rattle.channel_session_rules.specs.Script.{ask, done}
-use Rattle.channel_session_rules.specs.Rules.{InForce, End, Joined, answers, says, ok, empty, text_of, rejoins, join_asked, ended, then_next, unsaid, on_leave, left}
+use Rattle.channel_session_rules.specs.Rules.{InForce, End, Joined, answers, says, ok, empty, rejoins, join_asked, ended, then_next, unsaid, on_leave, left}
+use Rattle.channel_session_rules.specs.Said.{message}
 use Rattle.channel_session_rules.specs.declared.asked.Asked.{Asked}
 use Rattle.channel_session_rules.specs.Outcome.{Follows, Gives, spoilt}
 use Rattle.channel_session_events.specs.Joining.{Leads}
@@ -41,13 +42,13 @@ module _ {P : Type 0} (step : P → (q : Ask) → Answer q → P → Type 0) (pi
 
 pub leaves_so : {P : Type 0} (step : P → (q : Ask) → Answer q → P → Type 0) (pid : ℕ) (j : Joined) (m : Message) (s after : InForce) (u : Unit {0}) (given : End) (old new : P)
     → Leads step pid m.topic j.sub old new (Ok u) → after ≡ left s m.topic
-    → given ≡ answers (text_of (ok j.join_ref m empty) ∷ text_of (closing j.join_ref m.topic) ∷ []) after
+    → given ≡ answers (message (ok j.join_ref m empty) ∷ message (closing j.join_ref m.topic) ∷ []) after
     → Follows step (on_leave pid s (Some j) m) old new (Ok given)
 leaves_so step pid j m s after u given old new l is h =
-    let end : given ≡ answers (text_of (ok j.join_ref m empty) ∷ text_of (closing j.join_ref m.topic) ∷ []) (left s m.topic) = rw (← is) h in
+    let end : given ≡ answers (message (ok j.join_ref m empty) ∷ message (closing j.join_ref m.topic) ∷ []) (left s m.topic) = rw (← is) h in
     rw end (l (done (says (ok j.join_ref m empty ∷ closing j.join_ref m.topic ∷ []) (left s m.topic))) new (Ok (says (ok j.join_ref m empty ∷ closing j.join_ref m.topic ∷ []) (left s m.topic))) (at_once step _ new _ refl))
 
-pub rejoins_so : {P : Type 0} (step : P → (q : Ask) → Answer q → P → Type 0) (pid count : ℕ) (j : Joined) (s : InForce) (m : Message) (u : Unit {0}) (close : List ℕ) (asks wanted : Asked) (old mid new : P) (r : Result End Stop)
-    → Leads step pid m.topic j.sub old mid (Ok u) → close ≡ text_of (closing j.join_ref m.topic) → asks ≡ wanted
-    → Follows step (join_asked pid count false (close ∷ []) s m asks) mid new r → Follows step (rejoins pid count j s m wanted) old new (spoilt r)
-rejoins_so step pid count j s m u close asks wanted old mid new r l h1 h2 f = l _ new r (rw (h1, h2) at f)
+pub rejoins_so : {P : Type 0} (step : P → (q : Ask) → Answer q → P → Type 0) (pid count : ℕ) (j : Joined) (kind : ℕ) (s : InForce) (m : Message) (u : Unit {0}) (close : Message) (asks wanted : Asked) (old mid new : P) (r : Result End Stop)
+    → Leads step pid m.topic j.sub old mid (Ok u) → close ≡ closing j.join_ref m.topic → asks ≡ wanted
+    → Follows step (join_asked pid count false (message close ∷ []) kind s m asks) mid new r → Follows step (rejoins pid count j kind s m wanted) old new (spoilt r)
+rejoins_so step pid count j kind s m u close asks wanted old mid new r l h1 h2 f = l _ new r (rw (h1, h2) at f)

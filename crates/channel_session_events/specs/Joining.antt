@@ -1,12 +1,12 @@
 -- The two calls that end a join, and what a join gives back.
-use Rattle.std.specs.Prelude.{ℕ, List, [], ◌∷◌, ◌++◌, Bool, Option, None, Some, Result, Ok, Err, string_bytes}
+use Rattle.std.specs.Prelude.{ℕ, List, [], ◌∷◌, ◌++◌, Bool, Option, None, Some, Result, Ok, Err}
 use Rattle.phx_message.specs.Making.{closing}
 use Rattle.phx_message.specs.declared.message.Message.{Message}
-use Rattle.phx_message.specs.declared.message.MsgRef.{MsgRef}
 use Rattle.tracker_shard.specs.declared.shard.Sub.{Sub}
 use Rattle.channel_session_rules.specs.Asks.{Ask, Answer}
 use Rattle.channel_session_rules.specs.Script.{Script}
-use Rattle.channel_session_rules.specs.Rules.{Joined, InForce, End, answers, ended, joins, text_of, ok, empty}
+use Rattle.channel_session_rules.specs.Rules.{Joined, InForce, End, answers, ended, joins, ok, empty}
+use Rattle.channel_session_rules.specs.Said.{Said, message}
 use Rattle.channel_session_rules.specs.Outcome.{Follows, Gives, seen, spoilt}
 use Rattle.channel_session_rules.specs.declared.stop.Stop.{Stop}
 use Rattle.channel_session_events.specs.declared.joins.JoinReply.{JoinReply}
@@ -17,28 +17,28 @@ abbrev pub Leads : {P : Type 0} → (P → (q : Ask) → Answer q → P → Type
 Leads {P} step pid topic sub old new (Ok u) = (next : Script End) (last : P) (r : Result End Stop) → Follows step next new last r → Follows step (ended pid topic sub next) old last (spoilt r)
 Leads step pid topic sub old new (Err stop) = (next : Script End) → Follows step (ended pid topic sub next) old new (Err stop)
 
--- What a join leaves in force: nothing new where it was refused.
-abbrev pub joined_by : InForce → Message → Option Sub → InForce
-joined_by s m None = s
-joined_by s m (Some sub) = joins s m sub
+-- What a join of a topic of this kind leaves in force: nothing new where it was refused.
+abbrev pub joined_by : ℕ → InForce → Message → Option Sub → InForce
+joined_by kind s m None = s
+joined_by kind s m (Some sub) = joins kind s m sub
 
-abbrev pub join_end : List (List ℕ) → InForce → Message → JoinReply → End
-join_end before s m r = answers (before ++ string_bytes r.text ∷ []) (joined_by s m r.sub)
+abbrev pub join_end : List Said → ℕ → InForce → Message → JoinReply → End
+join_end before kind s m r = answers (before ++ message r.reply.message ∷ []) (joined_by kind s m r.sub)
 
-abbrev pub rejoin_end : InForce → Message → RejoinReply → End
-rejoin_end s m r = join_end (string_bytes r.close ∷ []) s m r.join
+abbrev pub rejoin_end : ℕ → InForce → Message → RejoinReply → End
+rejoin_end kind s m r = join_end (message r.close.message ∷ []) kind s m r.join
 
--- the calls of the join's rule were made, whatever went out before and is in force
-abbrev pub JoinRuns : {P : Type 0} → (P → (q : Ask) → Answer q → P → Type 0) → (List (List ℕ) → InForce → Script End) → Message → P → P → Result JoinReply Stop → Type 0
-JoinRuns step rule m old new result = (before : List (List ℕ)) (s : InForce) → Follows step (rule before s) old new (seen (join_end before s m) result)
+-- the calls of the join's rule were made, whatever was said before, whatever the topic's kind is and whatever is in force
+abbrev pub JoinRuns : {P : Type 0} → (P → (q : Ask) → Answer q → P → Type 0) → (List Said → ℕ → InForce → Script End) → Message → P → P → Result JoinReply Stop → Type 0
+JoinRuns step rule m old new result = (before : List Said) (kind : ℕ) (s : InForce) → Follows step (rule before kind s) old new (seen (join_end before kind s m) result)
 
 -- where it is at its end
-abbrev pub JoinRepliesWith : (List (List ℕ) → InForce → End) → Bool → Message → Result JoinReply Stop → Type 0
-JoinRepliesWith end spoiled m result = (before : List (List ℕ)) (s : InForce) → Gives (end before s) spoiled (seen (join_end before s m) result)
+abbrev pub JoinRepliesWith : (List Said → ℕ → InForce → End) → Bool → Message → Result JoinReply Stop → Type 0
+JoinRepliesWith end spoiled m result = (before : List Said) (kind : ℕ) (s : InForce) → Gives (end before kind s) spoiled (seen (join_end before kind s m) result)
 
-abbrev pub RejoinRuns : {P : Type 0} → (P → (q : Ask) → Answer q → P → Type 0) → (InForce → Script End) → Message → P → P → Result RejoinReply Stop → Type 0
-RejoinRuns step rule m old new result = (s : InForce) → Follows step (rule s) old new (seen (rejoin_end s m) result)
+abbrev pub RejoinRuns : {P : Type 0} → (P → (q : Ask) → Answer q → P → Type 0) → (ℕ → InForce → Script End) → Message → P → P → Result RejoinReply Stop → Type 0
+RejoinRuns step rule m old new result = (kind : ℕ) (s : InForce) → Follows step (rule kind s) old new (seen (rejoin_end kind s m) result)
 
 -- the reply to a leave, and the close behind it
 abbrev pub leave_end : Joined → Message → InForce → End
-leave_end j m s = answers (text_of (ok j.join_ref m empty) ∷ text_of (closing j.join_ref m.topic) ∷ []) s
+leave_end j m s = answers (message (ok j.join_ref m empty) ∷ message (closing j.join_ref m.topic) ∷ []) s

@@ -1,17 +1,18 @@
-ghost use Rattle.std.specs.Prelude.{◌≡◌, ◌≤◌, ◌^◌, IfOk, IsTrue, string_bytes, is_ok, option_map, codes, true, false};
+ghost use Rattle.std.specs.Prelude.{◌≡◌, ◌≤◌, ◌^◌, IfOk, IsTrue, is_ok, option_map, codes, true, false};
 ghost use Rattle.presence_journal.specs.Limits.{is_payload};
-ghost use Rattle.presence_metas.specs.Values.{state_of};
 ghost use Rattle.channel_session_rules.specs.Seen.{seen_by};
 ghost use Rattle.channel_session_rules.specs.Asked.{asked as asked_of, key_asked};
-ghost use Rattle.channel_session_rules.specs.Rules.{said, says_ok, says_error, after_shout, after_track, after_update, after_untrack, after_list, ok as ok_message, on_ping, on_shout, on_track, on_update, on_untrack, on_list, on_get, on_unknown, text_of, told_ref, empty as empty_of};
-ghost use Rattle.channel_session_rules.specs.Replies.{Runs, RepliesWith};
+ghost use Rattle.channel_session_rules.specs.Rules.{said, says_ok, says_error, after_shout, after_track, after_update, after_untrack, after_list, ok as ok_message, on_ping, on_shout, on_track, on_update, on_untrack, on_list, on_get, on_unknown, told_ref, empty as empty_of};
+ghost use Rattle.channel_session_rules.specs.Replies.{Runs, RunsBy, RepliesWith, RepliesBy};
+ghost use Rattle.channel_session_rules.specs.Said.{listed, Worded};
 
 use channel_session_rules::{
-    Asked, Port, Reply, Stop, empty_object, error_text, full_reason, ok_text, read_asked, read_key,
-    ref_response, spoiling, state_response, stop_of, track_reason, update_reason,
+    Asked, Place, Port, Reply, Stop, Written, empty_object, full_reason, read_asked, read_key,
+    ref_response, spoiling, stop_of, track_reason, update_reason, write_error, write_ok,
 };
+use hook_registry::{PresenceHooks, render_state};
 use phx_message::{Message, MsgRef};
-use presence_base::{Dot, Key, Row};
+use presence_base::{Dot, Json, Key, Row};
 use std::alloc::{AllocError, Global};
 use tracker_shard::ShardFault;
 
@@ -27,7 +28,7 @@ fn refused(
         (option_map (λ r. r.now) reason.entry)) false result }
 {
     match reason {
-        Some(reason) => Ok(Reply::One(error_text(alloc, join_ref, message, reason)?)),
+        Some(reason) => Ok(Reply::One(write_error(alloc, join_ref, message, reason)?)),
         None => Err(stop_of(fault, false)),
     }
 }
@@ -36,7 +37,7 @@ fn refused(
 fn bad_payload(alloc: Global, join_ref: &Option<MsgRef>, message: &Message) -> Result<Reply, Stop>
     ensures { RepliesWith (says_error join_ref.now message.now (codes "bad payload")) false result }
 {
-    Ok(Reply::One(error_text(alloc, join_ref, message, "bad payload")?))
+    Ok(Reply::One(write_error(alloc, join_ref, message, "bad payload")?))
 }
 
 pub(crate) fn ping<P: Port>(
@@ -49,7 +50,7 @@ pub(crate) fn ping<P: Port>(
     ensures { Runs P.step (λ s. on_ping s join_ref.now message.now) port.old port.new result }
 {
     let payload = message.payload.clone()?;
-    Ok(Reply::One(ok_text(alloc, join_ref, message, payload)?))
+    Ok(Reply::One(write_ok(alloc, join_ref, message, payload)?))
 }
 
 pub(crate) fn unknown<P: Port>(
@@ -60,7 +61,7 @@ pub(crate) fn unknown<P: Port>(
 ) -> Result<Reply, Stop>
     ensures { Runs P.step (λ s. on_unknown s join_ref.now message.now) port.old port.new result }
 {
-    Ok(Reply::One(error_text(alloc, join_ref, message, "unknown event")?))
+    Ok(Reply::One(write_error(alloc, join_ref, message, "unknown event")?))
 }
 
 // What the port's answer to a shout leads to.
@@ -97,11 +98,11 @@ fn ref_reply(
     join_ref: &Option<MsgRef>,
     message: &Message,
     dot: &Dot,
-) -> Result<String, AllocError>
-    ensures { IfOk result (λ t. string_bytes t ≡ text_of (ok_message join_ref.now message.now (told_ref dot.now))) }
+) -> Result<Written, AllocError>
+    ensures { IfOk result (λ w. w.message ≡ ok_message join_ref.now message.now (told_ref dot.now)) }
 {
     let response = ref_response(alloc, dot)?;
-    ok_text(alloc, join_ref, message, response)
+    write_ok(alloc, join_ref, message, response)
 }
 
 // What an accepted track or update leads to.
@@ -114,7 +115,7 @@ fn told(
     ensures { RepliesWith (says_ok join_ref.now message.now (told_ref dot.now)) true result }
 {
     match spoiling(ref_reply(alloc, join_ref, message, dot)) {
-        Ok(text) => Ok(Reply::One(text)),
+        Ok(reply) => Ok(Reply::One(reply)),
         Err(stop) => Err(stop),
     }
 }
@@ -224,11 +225,11 @@ fn empty_reply(
     alloc: Global,
     join_ref: &Option<MsgRef>,
     message: &Message,
-) -> Result<String, AllocError>
-    ensures { IfOk result (λ t. string_bytes t ≡ text_of (ok_message join_ref.now message.now empty_of)) }
+) -> Result<Written, AllocError>
+    ensures { IfOk result (λ w. w.message ≡ ok_message join_ref.now message.now empty_of) }
 {
     let response = empty_object(alloc);
-    ok_text(alloc, join_ref, message, response)
+    write_ok(alloc, join_ref, message, response)
 }
 
 // What the port's answer to an untrack leads to.
@@ -242,7 +243,7 @@ fn untracked(
 {
     match answer {
         Ok(()) => match spoiling(empty_reply(alloc, join_ref, message)) {
-            Ok(text) => Ok(Reply::One(text)),
+            Ok(reply) => Ok(Reply::One(reply)),
             Err(stop) => Err(stop),
         },
         Err(fault) => refused(alloc, join_ref, message, fault, full_reason(true, fault)),
@@ -281,76 +282,93 @@ pub(crate) fn untrack<P: Port>(
     untrack_asked(alloc, pid, join_ref, port, message, key)
 }
 
-// The reply that tells rows.
-fn rows_reply(
+// The reply that tells rows, with what the fetch adds.
+fn rows_reply<H: PresenceHooks>(
     alloc: Global,
-    join_ref: &Option<MsgRef>,
+    hooks: &H,
+    place: &Place,
     message: &Message,
     rows: &[(Dot, Row)],
-) -> Result<String, AllocError>
-    ensures { IfOk result (λ t. string_bytes t ≡ text_of (ok_message join_ref.now message.now (state_of rows.now))) }
+) -> Result<Written, AllocError>
+    ensures { IfOk result (λ w. Worded (H.fetched hooks.now) (H.plain hooks.now)
+        (listed place.now.kind place.now.join_ref message.now rows.now) w.message) }
 {
-    let response = state_response(alloc, rows)?;
-    ok_text(alloc, join_ref, message, response)
+    let state = render_state(alloc, hooks, place.kind, &message.topic, rows)?;
+    write_ok(alloc, &place.join_ref, message, Json::new(state))
 }
 
 // What the port's answer to a list or a get leads to.
-fn listed(
+fn told_rows<H: PresenceHooks>(
     alloc: Global,
-    join_ref: &Option<MsgRef>,
+    hooks: &H,
+    place: &Place,
     message: &Message,
     answer: Result<Vec<(Dot, Row)>, ShardFault>,
 ) -> Result<Reply, Stop>
-    ensures { RepliesWith (λ s. after_list s join_ref.now message.now (seen_by (λ v. v.items) answer))
+    ensures { RepliesBy (Worded (H.fetched hooks.now) (H.plain hooks.now))
+        (λ s. after_list place.now.kind s place.now.join_ref message.now (seen_by (λ v. v.items) answer))
         (is_ok (seen_by (λ v. v.items) answer)) result }
 {
     match answer {
-        Ok(rows) => match spoiling(rows_reply(alloc, join_ref, message, &rows)) {
-            Ok(text) => Ok(Reply::One(text)),
+        Ok(rows) => match spoiling(rows_reply(alloc, hooks, place, message, &rows)) {
+            Ok(reply) => Ok(Reply::One(reply)),
             Err(stop) => Err(stop),
         },
-        Err(fault) => refused(alloc, join_ref, message, fault, full_reason(true, fault)),
+        Err(fault) => refused(
+            alloc,
+            &place.join_ref,
+            message,
+            fault,
+            full_reason(true, fault),
+        ),
     }
 }
 
-pub(crate) fn list<P: Port>(
+pub(crate) fn list<P: Port, H: PresenceHooks>(
     alloc: Global,
-    join_ref: &Option<MsgRef>,
+    hooks: &H,
+    place: &Place,
     port: &mut P,
     message: &Message,
 ) -> Result<Reply, Stop>
-    ensures { Runs P.step (λ s. on_list s join_ref.now message.now) port.old port.new result }
+    ensures { RunsBy (Worded (H.fetched hooks.now) (H.plain hooks.now)) P.step
+        (λ s. on_list place.now.kind s place.now.join_ref message.now) port.old port.new result }
 {
     let answer = port.list(alloc, &message.topic);
-    listed(alloc, join_ref, message, answer)
+    told_rows(alloc, hooks, place, message, answer)
 }
 
-fn get_asked<P: Port>(
+fn get_asked<P: Port, H: PresenceHooks>(
     alloc: Global,
-    join_ref: &Option<MsgRef>,
+    hooks: &H,
+    place: &Place,
     port: &mut P,
     message: &Message,
     key: Option<Key>,
 ) -> Result<Reply, Stop>
-    ensures { Runs P.step (λ s. on_get s join_ref.now message.now key) port.old port.new result }
+    ensures { RunsBy (Worded (H.fetched hooks.now) (H.plain hooks.now)) P.step
+        (λ s. on_get place.now.kind s place.now.join_ref message.now key) port.old port.new result }
 {
     match key {
         Some(key) => {
             let answer = port.get(alloc, &message.topic, &key);
-            listed(alloc, join_ref, message, answer)
+            told_rows(alloc, hooks, place, message, answer)
         }
-        None => bad_payload(alloc, join_ref, message),
+        None => bad_payload(alloc, &place.join_ref, message),
     }
 }
 
-pub(crate) fn get<P: Port>(
+pub(crate) fn get<P: Port, H: PresenceHooks>(
     alloc: Global,
-    join_ref: &Option<MsgRef>,
+    hooks: &H,
+    place: &Place,
     port: &mut P,
     message: &Message,
 ) -> Result<Reply, Stop>
-    ensures { Runs P.step (λ s. on_get s join_ref.now message.now (key_asked message.now.payload)) port.old port.new result }
+    ensures { RunsBy (Worded (H.fetched hooks.now) (H.plain hooks.now)) P.step
+        (λ s. on_get place.now.kind s place.now.join_ref message.now (key_asked message.now.payload))
+        port.old port.new result }
 {
     let key = read_key(alloc, message.payload.as_value())?;
-    get_asked(alloc, join_ref, port, message, key)
+    get_asked(alloc, hooks, place, port, message, key)
 }

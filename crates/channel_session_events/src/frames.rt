@@ -1,55 +1,67 @@
-ghost use Rattle.std.specs.Prelude.{◌≡◌, ◌++◌, false, map, IfOk, string_bytes};
+ghost use Rattle.std.specs.Prelude.{◌≡◌, ◌∷◌, [], false, map, codes, string_bytes, IfOk};
 ghost use Rattle.serde_json.specs.Written.{has_float};
-ghost use Rattle.channel_session_rules.specs.Frames.{message_of, frame_of};
+ghost use Rattle.phx_message.specs.Making.{broadcast_of};
+ghost use Rattle.channel_session_rules.specs.InForce.{joined_of};
+ghost use Rattle.channel_session_rules.specs.Said.{told, Worded, Writes, Noted};
+ghost use Rattle.channel_session_events.specs.Carrying.{AddsTo};
 
-use phx_message::{Message, MsgRef, broadcast, encode, push};
+use channel_session_rules::Place;
+use hook_registry::{Notice, PresenceHooks, notices, render_diff, render_state};
+use phx_message::{Message, broadcast, encode, push};
 use presence_base::{Json, Topic};
 use presence_journal::{Item, Payload, RowDiff, Rows};
-use presence_metas::{diff_value, state_value};
 use std::alloc::{AllocError, Global};
 
+/// What a delivery gives.
+#[derive(Debug, Drop)]
+pub struct Delivery {
+    /// One text for each item, in order of joining and then the oldest first.
+    pub texts: Vec<String>,
+    /// One notice for each row that joined and then for each that left, diff by diff.
+    pub notices: Vec<Notice>,
+}
+
 // The state of a topic, for the join alone.
-fn state_message(
+fn state_message<H: PresenceHooks>(
     alloc: Global,
-    join_ref: &Option<MsgRef>,
+    hooks: &H,
     topic: &Topic,
+    place: &Place,
     rows: &Rows,
 ) -> Result<Message, AllocError>
-    ensures message { IfOk result (λ m. m ≡ message_of join_ref.now topic.now (Item.State rows.now)) }
+    ensures worded { IfOk result (λ m. Worded (H.fetched hooks.now) (H.plain hooks.now)
+        (told (joined_of (topic.now, place.now)) (Item.State rows.now)) m) }
     ensures whole { IfOk result (λ m. has_float m.payload ≡ false) }
 {
-    let payload = Json::new(state_value(alloc, rows.as_slice())?);
+    let state = render_state(alloc, hooks, place.kind, topic, rows.as_slice())?;
     push(
         alloc,
-        join_ref.clone()?,
+        place.join_ref.clone()?,
         topic.clone()?,
         "presence_state",
-        payload,
+        Json::new(state),
     )
 }
 
 // How the present rows of a topic changed.
-fn diff_message(
+fn diff_message<H: PresenceHooks>(
     alloc: Global,
-    join_ref: &Option<MsgRef>,
+    hooks: &H,
     topic: &Topic,
+    place: &Place,
     diff: &RowDiff,
 ) -> Result<Message, AllocError>
-    ensures message { IfOk result (λ m. m ≡ message_of join_ref.now topic.now (Item.Diff diff.now)) }
+    ensures worded { IfOk result (λ m. Worded (H.fetched hooks.now) (H.plain hooks.now)
+        (told (joined_of (topic.now, place.now)) (Item.Diff diff.now)) m) }
     ensures whole { IfOk result (λ m. has_float m.payload ≡ false) }
 {
-    let value = diff_value(alloc, diff.joins.as_slice(), diff.leaves.as_slice())?;
+    let value = render_diff(alloc, hooks, place.kind, topic, diff)?;
     broadcast(alloc, topic.clone()?, "presence_diff", Json::new(value))
 }
 
 // A shout on a topic.
-fn shout_message(
-    alloc: Global,
-    join_ref: &Option<MsgRef>,
-    topic: &Topic,
-    payload: &Payload,
-) -> Result<Message, AllocError>
-    ensures message { IfOk result (λ m. m ≡ message_of join_ref.now topic.now (Item.Shout payload.now)) }
+fn shout_message(alloc: Global, topic: &Topic, payload: &Payload) -> Result<Message, AllocError>
+    ensures message { IfOk result (λ m. m ≡ broadcast_of topic.now (codes "shout") payload.now) }
     ensures whole { IfOk result (λ m. has_float m.payload ≡ false) }
 {
     let payload = payload.as_json().clone()?;
@@ -57,49 +69,92 @@ fn shout_message(
 }
 
 // The message that tells an item to the join of its topic.
-fn item_message(
+fn item_message<H: PresenceHooks>(
     alloc: Global,
-    join_ref: &Option<MsgRef>,
+    hooks: &H,
     topic: &Topic,
+    place: &Place,
     item: &Item,
 ) -> Result<Message, AllocError>
-    ensures message { IfOk result (λ m. m ≡ message_of join_ref.now topic.now item.now) }
+    ensures worded { IfOk result (λ m. Worded (H.fetched hooks.now) (H.plain hooks.now)
+        (told (joined_of (topic.now, place.now)) item.now) m) }
     ensures whole { IfOk result (λ m. has_float m.payload ≡ false) }
 {
     match item {
-        Item::State(rows) => state_message(alloc, join_ref, topic, rows),
-        Item::Diff(diff) => diff_message(alloc, join_ref, topic, diff),
-        Item::Shout(payload) => shout_message(alloc, join_ref, topic, payload),
+        Item::State(rows) => state_message(alloc, hooks, topic, place, rows),
+        Item::Diff(diff) => diff_message(alloc, hooks, topic, place, diff),
+        Item::Shout(payload) => shout_message(alloc, topic, payload),
     }
 }
 
 // The frame that tells an item to the join of its topic.
-fn item_frame(
+fn item_frame<H: PresenceHooks>(
     alloc: Global,
-    join_ref: &Option<MsgRef>,
+    hooks: &H,
     topic: &Topic,
+    place: &Place,
     item: &Item,
 ) -> Result<String, AllocError>
-    ensures { IfOk result (λ s. string_bytes s ≡ frame_of join_ref.now topic.now item.now) }
+    ensures { IfOk result (λ t. Writes (Worded (H.fetched hooks.now) (H.plain hooks.now))
+        (told (joined_of (topic.now, place.now)) item.now) (string_bytes t)) }
 {
-    let message = item_message(alloc, join_ref, topic, item)?;
+    let message = item_message(alloc, hooks, topic, place, item)?;
     encode(alloc, &message)
 }
 
-// The texts, followed by the frames of the items.
-pub fn add_frames(
+// The notices of an item.
+fn item_notices<H: PresenceHooks>(
     alloc: Global,
-    join_ref: &Option<MsgRef>,
+    hooks: &H,
     topic: &Topic,
-    items: &[Item],
-    mut texts: Vec<String>,
-) -> Result<Vec<String>, AllocError>
-    ensures { IfOk result (λ v. map string_bytes v.items
-        ≡ map string_bytes texts.items ++ map (frame_of join_ref.now topic.now) items.now) }
+    place: &Place,
+    item: &Item,
+) -> Result<Vec<Notice>, AllocError>
+    ensures { IfOk result (λ v. Noted (H.joined hooks.now) (H.left hooks.now) (H.quiet hooks.now)
+        (told (joined_of (topic.now, place.now)) item.now) v.items) }
 {
-    for item in items {
-        let frame = item_frame(alloc, join_ref, topic, item)?;
-        texts.push(frame)?;
+    match item {
+        Item::Diff(diff) => notices(alloc, hooks, place.kind, topic, diff),
+        Item::State(_) | Item::Shout(_) => Ok(Vec::new(alloc)),
     }
-    Ok(texts)
+}
+
+// What was told, with one item more.
+fn add_item<H: PresenceHooks>(
+    alloc: Global,
+    hooks: &H,
+    topic: &Topic,
+    place: &Place,
+    item: &Item,
+    mut delivery: Delivery,
+) -> Result<Delivery, AllocError>
+    ensures { AddsTo (Worded (H.fetched hooks.now) (H.plain hooks.now))
+        (Noted (H.joined hooks.now) (H.left hooks.now) (H.quiet hooks.now)) delivery
+        (told (joined_of (topic.now, place.now)) item.now ∷ []) result }
+{
+    let frame = item_frame(alloc, hooks, topic, place, item)?;
+    let mut noted = item_notices(alloc, hooks, topic, place, item)?;
+    delivery.texts.push(frame)?;
+    delivery.notices.append(&mut noted)?;
+    Ok(delivery)
+}
+
+/// What was told, followed by the items of a topic as its join is told of them.
+pub fn add_items<H: PresenceHooks>(
+    alloc: Global,
+    hooks: &H,
+    topic: &Topic,
+    place: &Place,
+    items: &[Item],
+    delivery: Delivery,
+) -> Result<Delivery, AllocError>
+    ensures { AddsTo (Worded (H.fetched hooks.now) (H.plain hooks.now))
+        (Noted (H.joined hooks.now) (H.left hooks.now) (H.quiet hooks.now)) delivery
+        (map (told (joined_of (topic.now, place.now))) items.now) result }
+{
+    let mut delivery = delivery;
+    for item in items {
+        delivery = add_item(alloc, hooks, topic, place, item, delivery)?;
+    }
+    Ok(delivery)
 }

@@ -1,16 +1,17 @@
-ghost use Rattle.std.specs.Prelude.{◌≡◌, ◌++◌, ◌≤◌, ◌^◌, ℕ, List, [], ◌∷◌, IfOk, IfErr, string_bytes, option_map, is_ok, false, true, Some};
+ghost use Rattle.std.specs.Prelude.{◌≡◌, ◌++◌, ◌≤◌, ◌^◌, ℕ, List, [], ◌∷◌, IfOk, IfErr, option_map, is_ok, false, true, Some};
 ghost use Rattle.serde_json.specs.Written.{has_float as float_within};
 ghost use Rattle.serde_json.specs.Data.{Data};
 ghost use Rattle.channel_session_rules.specs.Asked.{asked as asked_of};
 ghost use Rattle.channel_session_rules.specs.InForce.{joined_of};
 ghost use Rattle.channel_session_events.specs.Joining.{Leads, JoinRuns, JoinRepliesWith, RejoinRuns, join_end, leave_end};
 ghost use Rattle.channel_session_rules.specs.Outcome.{Follows, seen};
+ghost use Rattle.channel_session_rules.specs.Said.{message as say};
 ghost use Rattle.channel_session_rules.specs.Replies.{Acts, RepliesWith, reply_end};
-ghost use Rattle.channel_session_rules.specs.Rules.{InForce, said, refuses, after_subscribe, subscribes, tracks, join_asked as join_asked_rule, join_ref_of as join_ref_in, text_of, told_ref, empty as empty_of, ok as ok_message, on_leave, rejoins, says_ok, left};
+ghost use Rattle.channel_session_rules.specs.Rules.{InForce, said, refuses, after_subscribe, subscribes, tracks, join_asked as join_asked_rule, join_ref_of as join_ref_in, told_ref, empty as empty_of, ok as ok_message, on_leave, rejoins, says_ok, left};
 
 use channel_session_rules::{
-    Asked, MAX_TOPICS, Place, Port, Reply, Stop, close_text, empty_object, error_text, full_reason,
-    ok_text, read_asked, ref_response, spoil, stop_of, track_reason,
+    Asked, MAX_TOPICS, Place, Port, Reply, Stop, Written, empty_object, full_reason, read_asked,
+    ref_response, spoil, stop_of, track_reason, write_close, write_error, write_ok,
 };
 use phx_message::{Message, MsgRef};
 use presence_base::{Dot, Json, Key, Meta, Topic};
@@ -39,7 +40,7 @@ fn end_join<P: Port>(
 /// What a join answers, and its subscriber where it was accepted.
 #[derive(Debug, Drop)]
 pub struct JoinReply {
-    pub text: String,
+    pub reply: Written,
     pub sub: Option<Sub>,
 }
 
@@ -56,10 +57,10 @@ pub fn join_ref_for(message: &Message) -> &Option<MsgRef>
 // The reply of a join that is refused for this reason.
 fn refusing(alloc: Global, message: &Message, reason: &str) -> Result<JoinReply, Stop>
     ensures { JoinRepliesWith
-        (λ before s. refuses before s message.now reason.now) false message.now result }
+        (λ before kind s. refuses before s message.now reason.now) false message.now result }
 {
-    let text = error_text(alloc, join_ref_for(message), message, reason)?;
-    Ok(JoinReply { text, sub: None })
+    let reply = write_error(alloc, join_ref_for(message), message, reason)?;
+    Ok(JoinReply { reply, sub: None })
 }
 
 // What a refusal of the port leads to in a join.
@@ -70,7 +71,7 @@ fn refused_join(
     reason: Option<&'static str>,
 ) -> Result<JoinReply, Stop>
     ensures { JoinRepliesWith
-        (λ before s. said (refuses before s message.now) fault (option_map (λ r. r.now) reason.entry)) false message.now result }
+        (λ before kind s. said (refuses before s message.now) fault (option_map (λ r. r.now) reason.entry)) false message.now result }
 {
     match reason {
         Some(reason) => refusing(alloc, message, reason),
@@ -83,19 +84,19 @@ fn subscribed(
     alloc: Global,
     first: bool,
     message: &Message,
-    text: String,
+    reply: Written,
     answer: Result<Sub, ShardFault>,
 ) -> Result<JoinReply, Stop>
     ensures gives { (response : Data)
-        → string_bytes text ≡ text_of (ok_message (join_ref_in message.now) message.now response)
+        → reply.message ≡ ok_message (join_ref_in message.now) message.now response
         → JoinRepliesWith
-        (λ before s. after_subscribe first before s message.now response answer)
+        (λ before kind s. after_subscribe first before kind s message.now response answer)
         (is_ok answer) message.now result }
     ensures heeds { IfErr result (λ _. is_ok answer ≡ false) }
 {
     match answer {
         Ok(sub) => Ok(JoinReply {
-            text,
+            reply,
             sub: Some(sub),
         }),
         Err(fault) => refused_join(alloc, message, fault, full_reason(first, fault)),
@@ -112,12 +113,12 @@ fn subscribe_with<P: Port>(
 ) -> Result<JoinReply, Stop>
     requires whole { float_within response ≡ false }
     ensures { JoinRuns P.step
-        (λ before s. subscribes first before s message.now response)
+        (λ before kind s. subscribes first before kind s message.now response)
         message.now port.old port.new result }
 {
-    let text = ok_text(alloc, join_ref_for(message), message, response)?;
+    let reply = write_ok(alloc, join_ref_for(message), message, response)?;
     let answer = port.subscribe(alloc, &message.topic);
-    subscribed(alloc, first, message, text, answer)
+    subscribed(alloc, first, message, reply, answer)
 }
 
 fn subscribe_plain<P: Port>(
@@ -127,7 +128,7 @@ fn subscribe_plain<P: Port>(
     message: &Message,
 ) -> Result<JoinReply, Stop>
     ensures { JoinRuns P.step
-        (λ before s. subscribes first before s message.now empty_of)
+        (λ before kind s. subscribes first before kind s message.now empty_of)
         message.now port.old port.new result }
 {
     let response = empty_object(alloc);
@@ -141,7 +142,7 @@ fn subscribe_told<P: Port>(
     dot: &Dot,
 ) -> Result<JoinReply, Stop>
     ensures { JoinRuns P.step
-        (λ before s. subscribes false before s message.now (told_ref dot.now))
+        (λ before kind s. subscribes false before kind s message.now (told_ref dot.now))
         message.now port.old port.new result }
 {
     let response = ref_response(alloc, dot)?;
@@ -159,7 +160,7 @@ fn track_then_subscribe<P: Port>(
 ) -> Result<JoinReply, Stop>
     requires { pid ≤ 2 ^ 62 }
     ensures { JoinRuns P.step
-        (λ before s. tracks pid first before s message.now key.now meta.now)
+        (λ before kind s. tracks pid first before kind s message.now key.now meta.now)
         message.now port.old port.new result }
 {
     match port.track(alloc, pid, &message.topic, key, meta) {
@@ -183,7 +184,7 @@ fn join_asked<P: Port>(
 ) -> Result<JoinReply, Stop>
     requires { pid ≤ 2 ^ 62 }
     ensures { JoinRuns P.step
-        (λ before s. join_asked_rule pid count first before s message.now asked)
+        (λ before kind s. join_asked_rule pid count first before kind s message.now asked)
         message.now port.old port.new result }
 {
     match asked {
@@ -214,9 +215,9 @@ pub fn join<P: Port>(
     message: &Message,
 ) -> Result<JoinReply, Stop>
     requires { pid ≤ 2 ^ 62 }
-    ensures { (s : InForce) → Follows P.step
-        (join_asked_rule pid count true [] s message.now (asked_of message.now.payload))
-        port.old port.new (seen (join_end [] s message.now) result) }
+    ensures { (kind : ℕ) (s : InForce) → Follows P.step
+        (join_asked_rule pid count true [] kind s message.now (asked_of message.now.payload))
+        port.old port.new (seen (join_end [] kind s message.now) result) }
 {
     let asked = read_asked(alloc, message.payload.as_value())?;
     join_asked(alloc, pid, count, true, port, message, asked)
@@ -225,7 +226,7 @@ pub fn join<P: Port>(
 /// What a second join answers, behind the close of the first.
 #[derive(Debug, Drop)]
 pub struct RejoinReply {
-    pub close: String,
+    pub close: Written,
     pub join: JoinReply,
 }
 
@@ -237,11 +238,11 @@ fn join_behind<P: Port>(
     port: &mut P,
     message: &Message,
     asked: Asked,
-    close: String,
+    close: Written,
 ) -> Result<RejoinReply, Stop>
     requires { pid ≤ 2 ^ 62 }
     ensures { RejoinRuns P.step
-        (λ s. join_asked_rule pid count false (string_bytes close ∷ []) s message.now asked)
+        (λ kind s. join_asked_rule pid count false (say close.message ∷ []) kind s message.now asked)
         message.now port.old port.new result }
 {
     match join_asked(alloc, pid, count, false, port, message, asked) {
@@ -261,11 +262,11 @@ pub fn rejoin<P: Port>(
 ) -> Result<RejoinReply, Stop>
     requires { pid ≤ 2 ^ 62 }
     ensures { RejoinRuns P.step
-        (λ s. rejoins pid count (joined_of (message.now.topic, place.now)) s message.now
+        (λ kind s. rejoins pid count (joined_of (message.now.topic, place.now)) kind s message.now
         (asked_of message.now.payload))
         message.now port.old port.new result }
 {
-    let close = close_text(alloc, &place.join_ref, &message.topic)?;
+    let close = write_close(alloc, &place.join_ref, &message.topic)?;
     let asked = read_asked(alloc, message.payload.as_value())?;
     match end_join(alloc, pid, &message.topic, place, port) {
         Ok(()) => {
@@ -277,17 +278,17 @@ pub fn rejoin<P: Port>(
 }
 
 // The reply to a leave, and the close behind it.
-fn leave_texts(alloc: Global, place: &Place, message: &Message) -> Result<Reply, AllocError>
+fn leave_reply(alloc: Global, place: &Place, message: &Message) -> Result<Reply, AllocError>
     ensures { IfOk result (λ r. (s : InForce)
         → reply_end s r ≡ leave_end (joined_of (message.now.topic, place.now)) message.now s) }
 {
     let response = empty_object(alloc);
-    let text = ok_text(alloc, &place.join_ref, message, response)?;
-    let close = close_text(alloc, &place.join_ref, &message.topic)?;
-    Ok(Reply::Two(text, close))
+    let reply = write_ok(alloc, &place.join_ref, message, response)?;
+    let close = write_close(alloc, &place.join_ref, &message.topic)?;
+    Ok(Reply::Two(reply, close))
 }
 
-/// A leave of a joined topic. The texts are written before the calls.
+/// A leave of a joined topic. Its texts are written before the calls.
 pub fn leave<P: Port>(
     alloc: Global,
     pid: u64,
@@ -299,7 +300,7 @@ pub fn leave<P: Port>(
         (on_leave pid s (Some (joined_of (message.now.topic, place.now))) message.now)
         port.old port.new after result }
 {
-    let reply = leave_texts(alloc, place, message)?;
+    let reply = leave_reply(alloc, place, message)?;
     match end_join(alloc, pid, &message.topic, place, port) {
         Ok(()) => Ok(reply),
         Err(stop) => Err(stop),
@@ -311,5 +312,5 @@ pub fn leave_nothing(alloc: Global, message: &Message) -> Result<Reply, Stop>
     ensures { RepliesWith (says_ok message.now.join_ref message.now empty_of) false result }
 {
     let response = empty_object(alloc);
-    Ok(Reply::One(ok_text(alloc, &message.join_ref, message, response)?))
+    Ok(Reply::One(write_ok(alloc, &message.join_ref, message, response)?))
 }

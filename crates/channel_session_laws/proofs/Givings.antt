@@ -2,7 +2,6 @@
 use Rattle.std.proofs.Common.{◌≡◌, ℕ, Bool, true, false, cond, nat_eq, List, [], ◌∷◌, ◌++◌, map as each, Option, Some, None, is_some, Result, Ok, Err, refl, sym, ◌∙◌, ap, subst, append-nil, append_assoc}
 use Rattle.std.proofs.lemmas.Bool.{eqb-true}
 use Rattle.phx_message.specs.declared.message.Message.{Message}
-use Rattle.phx_message.specs.declared.message.MsgRef.{MsgRef}
 use Rattle.presence_base.specs.declared.dots.Dot.{Dot}
 use Rattle.presence_base.specs.declared.row.Row.{Row}
 use Rattle.presence_journal_data.specs.declared.entry.Outcome.{Outcome}
@@ -13,19 +12,18 @@ use Rattle.presence_journal_data.specs.declared.step.Step.TheVariants as steps_a
 use Rattle.presence_journal.specs.History.{History, Begin, Then}
 use Rattle.presence_journal.specs.Present.{listed}
 use Rattle.presence_journal.specs.Queue.{Waiting, Behind, Queued, queue, topic_of, listed_for, given, took, taken, taken_after, items_given, is_waiting}
-use Rattle.presence_journal.specs.Table.{IsLegal, take_outcome, for_present, outcome_of, accepted, after, with_outcome}
-use Rattle.presence_metas.specs.Fold.{meta_at}
+use Rattle.presence_journal.specs.Table.{take_outcome, for_present, outcome_of, accepted, after, with_outcome}
 use Rattle.presence_metas.specs.Frames.{frame_in}
 use Rattle.presence_metas.specs.Listing.{Listing}
 use Rattle.tracker_shard.specs.Steps.{Made, Stepped}
 use Rattle.tracker_shard.specs.declared.shard.Sub.{Sub}
 use Rattle.tracker_shard.specs.declared.fault.ShardFault.{ShardFault}
 use Rattle.tracker_shard.specs.declared.fault.ShardFault.TheVariants.{AlreadyTracked, NoPresence, ClockFull, JournalFull, NoSub, OutOfMemory}
-use Rattle.channel_session_rules.specs.Asks.{Ask, Answer, track, update, untrack, untrack_all, list, get, subscribe, take, unsubscribe, waits, shout}
+use Rattle.channel_session_rules.specs.Asks.{track, update, untrack, untrack_all, list, get, subscribe, take, unsubscribe, waits, shout}
 use Rattle.channel_session_rules.specs.Frames.{message_of}
 use Rattle.channel_session_laws.specs.Laws.{AllFramesMirror, CallsGive}
 use Rattle.channel_session_laws.specs.Local.{LocalStep}
-use Rattle.channel_session_laws.specs.Mirrors.{after_reading, mirror_from, told_at, Mirrors, given_after, given_to, given_by}
+use Rattle.channel_session_laws.specs.Mirrors.{after_reading, mirror_from, Mirrors, given_after, given_to, given_by}
 use Rattle.channel_session_laws.proofs.Mirroring.{frames_mirror}
 
 -- ---- what was taken since the last state comes last

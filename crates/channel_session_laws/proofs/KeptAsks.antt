@@ -287,8 +287,8 @@ new_fits lists h j n is topic waits = record {
 same_Ok : (x y : Sub) → ◌≡◌ {A = Result Sub ShardFault} (Ok x) (Ok y) → x ≡ y
 same_Ok x y e = cc
 
-joins_after : (lists : List ℕ → Listing) (s : InForce) (h : History) (m : Message) (sub : Sub) → Stands lists s h → find m.topic s.joined ≡ None → is_full h ≡ false → sub ≡ record { slot = 0; number = last_number h + 1 } → Stands lists (joins s m sub) (after h (steps_are.Subscribe m.topic) None)
-joins_after lists s h m sub st none room is = record {
+joins_after : (lists : List ℕ → Listing) (kind : ℕ) (s : InForce) (h : History) (m : Message) (sub : Sub) → Stands lists s h → find m.topic s.joined ≡ None → is_full h ≡ false → sub ≡ record { slot = 0; number = last_number h + 1 } → Stands lists (joins kind s m sub) (after h (steps_are.Subscribe m.topic) None)
+joins_after lists kind s h m sub st none room is = record {
   legal = legal_after h (steps_are.Subscribe m.topic) st.legal refl;
   pid = st.pid;
   working = st.working;
@@ -299,20 +299,20 @@ joins_after lists s h m sub st none room is = record {
 }
   where
     new : Joined
-    new = record { topic = m.topic; join_ref = join_ref_of m; sub = sub }
+    new = record { topic = m.topic; kind = kind; join_ref = join_ref_of m; sub = sub }
 
     after_it : History
     after_it = after h (steps_are.Subscribe m.topic) None
 
-pub after_subscribe : (lists : List ℕ → Listing) (s : InForce) (h : History) (m : Message) (sub : Sub) → Stands lists s h → find m.topic s.joined ≡ None → answer_in h (subscribe m.topic) ≡ Ok sub → Stands lists (joins s m sub) (after_in h (subscribe m.topic))
+pub after_subscribe : (lists : List ℕ → Listing) (kind : ℕ) (s : InForce) (h : History) (m : Message) (sub : Sub) → Stands lists s h → find m.topic s.joined ≡ None → answer_in h (subscribe m.topic) ≡ Ok sub → Stands lists (joins kind s m sub) (after_in h (subscribe m.topic))
 unfolding after_in answer_in outcome_of
-after_subscribe lists s h m sub st none = go (is_full h) refl
+after_subscribe lists kind s h m sub st none = go (is_full h) refl
   where
     go : (b : Bool) → is_full h ≡ b
         → answer_to (cond b (Some JournalFull) None) (Some (outcomes_are.Subscribed (last_number h + 1))) (record { slot = 0; number = last_number h + 1 }) ≡ Ok sub
-        → Stands lists (joins s m sub) (after_unless (cond b (Some JournalFull) None) h (steps_are.Subscribe m.topic))
+        → Stands lists (joins kind s m sub) (after_unless (cond b (Some JournalFull) None) h (steps_are.Subscribe m.topic))
     go true p e = absurd (cc)
-    go false p e = joins_after lists s h m sub st none p (sym (same_Ok (record { slot = 0; number = last_number h + 1 }) sub e))
+    go false p e = joins_after lists kind s h m sub st none p (sym (same_Ok (record { slot = 0; number = last_number h + 1 }) sub e))
 
 -- a join that is refused leaves what stands
 pub refused_subscribe : (lists : List ℕ → Listing) (s : InForce) (h : History) (t : List ℕ) → Stands lists s h → Stands lists s (after_in h (subscribe t))

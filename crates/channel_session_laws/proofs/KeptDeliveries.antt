@@ -16,19 +16,20 @@ use Rattle.tracker_shard.specs.declared.fault.ShardFault.{ShardFault}
 use Rattle.tracker_shard.specs.declared.fault.ShardFault.TheVariants as shard_faults_are
 use Rattle.tracker_shard.specs.declared.fault.ShardFault.TheVariants.{NoSub}
 use Rattle.channel_session_rules.specs.Asks.{take, waits}
-use Rattle.channel_session_rules.specs.Delivering.{frame, then_frames, then_take, delivers}
+use Rattle.channel_session_rules.specs.Delivering.{then_told, then_take, delivers}
 use Rattle.channel_session_rules.specs.Frames.{message_of}
 use Rattle.channel_session_rules.specs.InForce.{Joined, InForce, find}
-use Rattle.channel_session_laws.specs.Keeping.{AreApart, IsTold, client_lists}
+use Rattle.channel_session_laws.specs.Keeping.{AreApart, IsItem, client_lists}
 use Rattle.channel_session_laws.specs.Local.{answer_in, after_in, played}
 use Rattle.channel_session_laws.specs.Mirrors.{mirror_from}
-use Rattle.channel_session_rules.specs.Rules.{End, answers, full, memory, text_of, unsaid}
+use Rattle.channel_session_rules.specs.Rules.{End, answers, full, memory, unsaid}
+use Rattle.channel_session_rules.specs.Said.{Said, plainly, told as item_to}
 use Rattle.channel_session_rules.specs.Script.{Script}
 use Rattle.channel_session_laws.proofs.KeptSteps.{Stays, stays_after, served_after, legal_after}
 use Rattle.channel_session_laws.proofs.KeptAsks.{lists_of, Fits, fits_stays, all_of, all_both, apart_texts, same_text-sym, other_number, all_others, IsOf}
 use Rattle.channel_session_laws.proofs.KeptRules.{map-more, all_and}
 use Rattle.channel_session_laws.proofs.KeptTakes.{took_items, took_history, took_topic, took_taken, took_all}
-use Rattle.channel_session_laws.proofs.KeptFrames.{client-more, client_own, client_others, given_leads, frames_of}
+use Rattle.channel_session_laws.proofs.KeptFrames.{client-more, client_own, client_others, given_leads, plain_items}
 use Rattle.channel_session_laws.proofs.SoundRows.{HistorySound, ItemsAreSound, items_given_sound}
 use Rattle.channel_session_laws.proofs.SoundSteps.{JoinedSound, StateSound, after_sound}
 use Rattle.channel_session_laws.proofs.SoundValues.{IsFramed, RefSound, item_framed}
@@ -50,11 +51,13 @@ even_fits lists h j e = record { topic = e.topic; slot = e.slot; lists_are = λ 
 pub even_same : (lists others : List ℕ → Listing) (h : History) → ((t : List ℕ) → others t ≡ lists t) → (j : Joined) → Even lists h j → Even others h j
 even_same lists others h same j e = record { topic = e.topic; slot = e.slot; served = e.served; lists_are = same j.topic ∙ e.lists_are }
 
--- what a delivery of these topics, behind these texts, makes; where F holds, it is sound
-pub record Dealt (F : Type 0) (lists : List ℕ → Listing) (s : InForce) (before : List (List ℕ)) (ds js : List Joined) (texts : List (List ℕ)) (after_it : InForce) (g : History) : Type 0 where
+-- what a delivery of these topics, behind what was said before, makes; where F holds, it is sound
+pub record Dealt (F : Type 0) (lists : List ℕ → Listing) (s : InForce) (before : List Said) (ds js : List Joined) (said : List Said) (after_it : InForce) (g : History) : Type 0 where
+  pub more : List Said
+  pub said_are : said ≡ before ++ more
   pub messages : List Message
-  pub texts_are : texts ≡ before ++ map text_of messages
-  pub told_all : AllByRecursion IsTold messages
+  pub plain_are : map plainly more ≡ messages
+  pub items_all : AllByRecursion IsItem more
   pub framed : F → AllByRecursion IsFramed messages
   pub session : after_it ≡ s
   pub legal : IsLegal g
@@ -62,12 +65,12 @@ pub record Dealt (F : Type 0) (lists : List ℕ → Listing) (s : InForce) (befo
   pub done_before : AllByRecursion (Even (told lists messages) g) ds
   pub done_now : AllByRecursion (Even (told lists messages) g) js
 
-abbrev pub Deals : Type 0 → (List ℕ → Listing) → InForce → List (List ℕ) → List Joined → List Joined → End → History → Type 0
-Deals F lists s before ds js (answers texts after_it) g = Dealt F lists s before ds js texts after_it g
+abbrev pub Deals : Type 0 → (List ℕ → Listing) → InForce → List Said → List Joined → List Joined → End → History → Type 0
+Deals F lists s before ds js (answers said after_it) g = Dealt F lists s before ds js said after_it g
 Deals F lists s before ds js full g = Unit {0}
 Deals F lists s before ds js memory g = Unit {0}
 
-abbrev DealsPlayed : Type 0 → (List ℕ → Listing) → InForce → List (List ℕ) → List Joined → List Joined → Script End → History → Type 0
+abbrev DealsPlayed : Type 0 → (List ℕ → Listing) → InForce → List Said → List Joined → List Joined → Script End → History → Type 0
 DealsPlayed F lists s before ds js script h = Deals F lists s before ds js (played script h).0 (played script h).1
 
 -- no later topic is the entry's
@@ -84,7 +87,7 @@ record Starts (F : Type 0) (lists : List ℕ → Listing) (h : History) (ds js :
   apart : AreApart js
   not_in : AllByRecursion (NotIn js) ds
 
-unsaid_deals : (F : Type 0) (lists : List ℕ → Listing) (s : InForce) (before : List (List ℕ)) (ds js : List Joined) (h : History) (e : ShardFault) → Deals F lists s before ds js (unsaid e) h
+unsaid_deals : (F : Type 0) (lists : List ℕ → Listing) (s : InForce) (before : List Said) (ds js : List Joined) (h : History) (e : ShardFault) → Deals F lists s before ds js (unsaid e) h
 unsaid_deals F lists s before ds js h shard_faults_are.OutOfMemory = tt
 unsaid_deals F lists s before ds js h _ = tt
 
@@ -96,8 +99,8 @@ not_in_more j js d e = go (same_text d.topic j.topic) refl e
     go false p f = (p, f)
 
 -- the end of a delivery
-ends_even : (F : Type 0) (lists : List ℕ → Listing) (s : InForce) (before : List (List ℕ)) (ds : List Joined) (h : History) → Starts F lists h ds [] → Dealt F lists s before ds [] before s h
-ends_even F lists s before ds h st = record { messages = []; texts_are = sym (append-nil before); told_all = tt; framed = λ f. tt; session = refl; legal = st.legal; history = st.history; done_before = st.done_before; done_now = tt }
+ends_even : (F : Type 0) (lists : List ℕ → Listing) (s : InForce) (before : List Said) (ds : List Joined) (h : History) → Starts F lists h ds [] → Dealt F lists s before ds [] before s h
+ends_even F lists s before ds h st = record { more = []; said_are = sym (append-nil before); messages = []; plain_are = refl; items_all = tt; framed = λ f. tt; session = refl; legal = st.legal; history = st.history; done_before = st.done_before; done_now = tt }
 
 -- ---- a topic for which nothing waits
 
@@ -114,32 +117,29 @@ module _ (F : Type 0) (lists : List ℕ → Listing) (s : InForce) (h : History)
   }
 
 -- the entry just served goes among those that are served now
-quiet_dealt : (F : Type 0) (lists : List ℕ → Listing) (s : InForce) (before : List (List ℕ)) (j : Joined) (js ds : List Joined) (e : End) (g : History) → Deals F lists s before (j ∷ ds) js e g → Deals F lists s before ds (j ∷ js) e g
-quiet_dealt F lists s before j js ds (answers texts after_it) g d = record { messages = d.messages; texts_are = d.texts_are; told_all = d.told_all; framed = d.framed; session = d.session; legal = d.legal; history = d.history; done_before = d.done_before.1; done_now = (d.done_before.0, d.done_now) }
+quiet_dealt : (F : Type 0) (lists : List ℕ → Listing) (s : InForce) (before : List Said) (j : Joined) (js ds : List Joined) (e : End) (g : History) → Deals F lists s before (j ∷ ds) js e g → Deals F lists s before ds (j ∷ js) e g
+quiet_dealt F lists s before j js ds (answers said after_it) g d = record { more = d.more; said_are = d.said_are; messages = d.messages; plain_are = d.plain_are; items_all = d.items_all; framed = d.framed; session = d.session; legal = d.legal; history = d.history; done_before = d.done_before.1; done_now = (d.done_before.0, d.done_now) }
 quiet_dealt F lists s before j js ds full g d = tt
 quiet_dealt F lists s before j js ds memory g d = tt
 
 -- ---- a topic whose items are taken
 
-frames_before : (before : List (List ℕ)) (j : Joined) (items : List Item) (ms : List Message) → (before ++ map (frame j) items) ++ map text_of ms ≡ before ++ map text_of (map (message_of j.join_ref j.topic) items ++ ms)
-frames_before before j items ms =
-    append_assoc before (map (frame j) items) (map text_of ms)
-    ∙ ap (λ ts. before ++ ts) (ap (λ ts. ts ++ map text_of ms) (frames_of j items) ∙ sym (map-more text_of (map (message_of j.join_ref j.topic) items) ms))
-
-items_told : (r : Option MsgRef) (t : List ℕ) (is : List Item) → AllByRecursion IsTold (map (message_of r t) is)
-items_told r t [] = tt
-items_told r t (i ∷ is) = ((r, t, i, refl), items_told r t is)
+items_told : (j : Joined) (is : List Item) → AllByRecursion IsItem (map (item_to j) is)
+items_told j [] = tt
+items_told j (i ∷ is) = (tt, items_told j is)
 
 items_framed : (r : Option MsgRef) (t : List ℕ) (is : List Item) → IsTrue (is_short_text t) → RefSound r → ItemsAreSound is → AllByRecursion IsFramed (map (message_of r t) is)
 items_framed r t [] short ref h = tt
 items_framed r t (i ∷ is) short ref h = (item_framed r t i short ref h.0, items_framed r t is short ref h.1)
 
-taken_dealt : (F : Type 0) (lists : List ℕ → Listing) (s : InForce) (before : List (List ℕ)) (j : Joined) (js ds : List Joined) (items : List Item) (e : End) (g : History)
-    → (F → AllByRecursion IsFramed (map (message_of j.join_ref j.topic) items)) → Deals F (told lists (map (message_of j.join_ref j.topic) items)) s (before ++ map (frame j) items) (j ∷ ds) js e g → Deals F lists s before ds (j ∷ js) e g
-taken_dealt F lists s before j js ds items (answers texts after_it) g k d = record {
+taken_dealt : (F : Type 0) (lists : List ℕ → Listing) (s : InForce) (before : List Said) (j : Joined) (js ds : List Joined) (items : List Item) (e : End) (g : History)
+    → (F → AllByRecursion IsFramed (map (message_of j.join_ref j.topic) items)) → Deals F (told lists (map (message_of j.join_ref j.topic) items)) s (before ++ map (item_to j) items) (j ∷ ds) js e g → Deals F lists s before ds (j ∷ js) e g
+taken_dealt F lists s before j js ds items (answers said after_it) g k d = record {
+  more = map (item_to j) items ++ d.more;
+  said_are = d.said_are ∙ append_assoc before (map (item_to j) items) d.more;
   messages = map (message_of j.join_ref j.topic) items ++ d.messages;
-  texts_are = d.texts_are ∙ frames_before before j items d.messages;
-  told_all = all_and IsTold (map (message_of j.join_ref j.topic) items) d.messages (items_told j.join_ref j.topic items) d.told_all;
+  plain_are = map-more plainly (map (item_to j) items) d.more ∙ (λ i. plain_items j items i ++ d.plain_are i);
+  items_all = all_and IsItem (map (item_to j) items) d.more (items_told j items) d.items_all;
   framed = λ f. all_and IsFramed (map (message_of j.join_ref j.topic) items) d.messages (k f) (d.framed f);
   session = d.session;
   legal = d.legal;
@@ -230,20 +230,20 @@ waits_answer h j there slot = λ i. cond (is_some (there i) && nat_eq (slot i) 0
 
 -- the delivery of the topics that follow
 abbrev Rest : Type 0 → InForce → List Joined → Type 0
-Rest F s js = (lists : List ℕ → Listing) (h : History) (ds : List Joined) (before : List (List ℕ)) → Starts F lists h ds js → DealsPlayed F lists s before ds js (delivers 256 s js before) h
+Rest F s js = (lists : List ℕ → Listing) (h : History) (ds : List Joined) (before : List Said) → Starts F lists h ds js → DealsPlayed F lists s before ds js (delivers 256 s js before) h
 
-module _ (F : Type 0) (lists : List ℕ → Listing) (s : InForce) (h : History) (j : Joined) (js ds : List Joined) (before : List (List ℕ)) (st : Starts F lists h ds (j ∷ js)) (rest : Rest F s js) where
+module _ (F : Type 0) (lists : List ℕ → Listing) (s : InForce) (h : History) (j : Joined) (js ds : List Joined) (before : List Said) (st : Starts F lists h ds (j ∷ js)) (rest : Rest F s js) where
   taken_framed : (items : List Item) → answer_in h (take j.topic j.sub 256) ≡ Ok items → F → AllByRecursion IsFramed (map (message_of j.join_ref j.topic) items)
   taken_framed items is f =
       items_framed j.join_ref j.topic items (st.entries f).0.0 (st.entries f).0.1
       (subst ItemsAreSound (sym (took_items h j.sub j.topic j.topic st.waiting.0.topic st.waiting.0.slot 256 items is)) (items_given_sound h j.sub.number 256 (st.history f)))
 
-  frames_deal : (a : Result (List Item) ShardFault) → answer_in h (take j.topic j.sub 256) ≡ a → DealsPlayed F lists s before ds (j ∷ js) (then_frames j before (delivers 256 s js) a) (after_in h (take j.topic j.sub 256))
+  frames_deal : (a : Result (List Item) ShardFault) → answer_in h (take j.topic j.sub 256) ≡ a → DealsPlayed F lists s before ds (j ∷ js) (then_told j before (delivers 256 s js) a) (after_in h (take j.topic j.sub 256))
   unfolding later now
   frames_deal (Ok items) is =
-      subst (λ g. DealsPlayed F lists s before ds (j ∷ js) (delivers 256 s js (before ++ map (frame j) items)) g) (sym (took_history h j.sub j.topic j.topic st.waiting.0.topic st.waiting.0.slot 256 items is))
+      subst (λ g. DealsPlayed F lists s before ds (j ∷ js) (delivers 256 s js (before ++ map (item_to j) items)) g) (sym (took_history h j.sub j.topic j.topic st.waiting.0.topic st.waiting.0.slot 256 items is))
       (taken_dealt F lists s before j js ds items _ _ (taken_framed items is)
-      (rest (told lists (map (message_of j.join_ref j.topic) items)) (after h (steps_are.Take j.sub.number 256) None) (j ∷ ds) (before ++ map (frame j) items) (taken_starts lists h st.legal j st.waiting.0 items is F js ds st)))
+      (rest (told lists (map (message_of j.join_ref j.topic) items)) (after h (steps_are.Take j.sub.number 256) None) (j ∷ ds) (before ++ map (item_to j) items) (taken_starts lists h st.legal j st.waiting.0 items is F js ds st)))
   frames_deal (Err e) is = unsaid_deals F lists s before ds (j ∷ js) (after_in h (take j.topic j.sub 256)) e
 
   take_deals : (a : Result Bool ShardFault) → answer_in h (waits j.topic j.sub) ≡ a → DealsPlayed F lists s before ds (j ∷ js) (then_take 256 j before (delivers 256 s js) a) h

@@ -14,12 +14,11 @@ use Rattle.presence_journal.proofs.Same.{same_text-refl}
 use Rattle.presence_metas.specs.Frames.{frame_in}
 use Rattle.presence_metas.specs.Listing.{Listing}
 use Rattle.presence_metas.proofs.ReadBack.{states_read_back}
-use Rattle.channel_session_rules.specs.Delivering.{frame}
 use Rattle.channel_session_rules.specs.Frames.{message_of}
 use Rattle.channel_session_rules.specs.InForce.{Joined}
 use Rattle.channel_session_laws.specs.Keeping.{on_topic_of, client_lists}
 use Rattle.channel_session_laws.specs.Mirrors.{after_reading, mirror_from}
-use Rattle.channel_session_rules.specs.Rules.{text_of}
+use Rattle.channel_session_rules.specs.Said.{told, plainly}
 use Rattle.channel_session_laws.proofs.KeptRules.{IsNoFrame, map-more}
 
 pub mirror-more : (ls : Listing) (xs ys : List Message) → mirror_from ls (xs ++ ys) ≡ mirror_from (mirror_from ls xs) ys
@@ -78,6 +77,7 @@ given_leads r t ls rows max before (Queued q) h =
     ∙ (sym (mirror-more [] (map (message_of r t) before) (map (message_of r t) (given rows max (Queued q))))
     ∙ ap (mirror_from []) (sym (map-more (message_of r t) before (given rows max (Queued q)))))
 
-pub frames_of : (j : Joined) (is : List Item) → map (frame j) is ≡ map text_of (map (message_of j.join_ref j.topic) is)
-frames_of j [] = refl
-frames_of j (i ∷ is) = ap (λ ts. frame j i ∷ ts) (frames_of j is)
+-- items are told plainly by these messages
+pub plain_items : (j : Joined) (is : List Item) → map plainly (map (told j) is) ≡ map (message_of j.join_ref j.topic) is
+plain_items j [] = refl
+plain_items j (i ∷ is) = ap (λ ms. message_of j.join_ref j.topic i ∷ ms) (plain_items j is)

@@ -1,5 +1,5 @@
 -- A message that is answered: what is in force stands as the client has it, and its texts are of no frames.
-use Rattle.std.proofs.Common.{◌≡◌, ◌-◌, ℕ, Bool, true, false, not, cond, ◌||◌, nat_le, length, List, [], ◌∷◌, ◌++◌, map, Option, Some, None, Result, Ok, Err, codes, refl, sym, ◌∙◌, ap, inl, inr, arith}
+use Rattle.std.proofs.Common.{◌≡◌, ◌-◌, ℕ, Bool, true, false, cond, nat_le, length, List, [], ◌∷◌, ◌++◌, map, Option, Some, None, Result, Ok, Err, codes, refl, ◌∙◌, ap, inl, inr, arith}
 use Rattle.std.specs.List.{AllByRecursion}
 use Rattle.std.specs.Str.{bytes_eq}
 use Rattle.serde_json.specs.Data.{Data}
@@ -22,7 +22,8 @@ use Rattle.channel_session_rules.specs.Asks.{Ask, track, update, untrack, untrac
 use Rattle.channel_session_rules.specs.InForce.{Joined, InForce, find}
 use Rattle.channel_session_laws.specs.Keeping.{IsAnswer}
 use Rattle.channel_session_laws.specs.Local.{answer_in, after_in, played}
-use Rattle.channel_session_rules.specs.Rules.{End, answers, full, memory, text_of, says, ok, error, empty, told_ref, full_reason, track_reason, update_reason, unsaid, said, replied, on_event, on_topic, ended, on_leave, after_subscribe as subscribe_end, subscribes, then_subscribe, join_asked, on_join, left, joins, join_ref_of, answers_join, refuses, is_phoenix, is_routed, kind_of, by_kind, rules, on_track, on_update, on_untrack, on_get, then_next}
+use Rattle.channel_session_rules.specs.Rules.{End, answers, full, memory, says, ok, error, empty, told_ref, full_reason, track_reason, update_reason, unsaid, said, replied, on_event, on_topic, ended, on_leave, after_subscribe as subscribe_end, subscribes, then_subscribe, join_asked, on_join, left, joins, join_ref_of, answers_join, refuses, is_phoenix, by_route, route_of, kind_of, by_kind, rules, on_track, on_update, on_untrack, on_get, then_next}
+use Rattle.channel_session_rules.specs.Said.{Said, message, listed, plainly}
 use Rattle.channel_session_rules.specs.Script.{Script, done}
 use Rattle.channel_session_rules.specs.declared.asked.Asked.{Asked}
 use Rattle.channel_session_rules.specs.declared.asked.Asked.TheVariants.{Nothing, Bad, Wants}
@@ -35,7 +36,7 @@ use Rattle.channel_session_laws.proofs.KeptAsks.{Stands, find_all, without_all, 
 use Rattle.channel_session_laws.proofs.SoundSteps.{JoinedSound, StateSound, AskedSound, asked_sound, heard_ref, heard_join, heard_payload, AskSound, after_in_sound, list_sound, get_sound}
 use Rattle.channel_session_laws.proofs.SoundValues.{IsSound, IsFramed, IsHeard, RowsSound, RefSound, less_sound, state_sound, empty_sound, told_sound, reply_framed, error_framed, closing_framed}
 
--- ---- texts of messages that are no frames of presences
+-- ---- messages that are no frames of presences
 
 abbrev pub IsNoFrame : Message → Type 0
 IsNoFrame m = frame_in m ≡ Err NotPresence
@@ -57,10 +58,10 @@ pub all_and : {A : Type 0} (P : A → Type 0) (xs ys : List A) → AllByRecursio
 all_and P [] ys h k = k
 all_and P (x ∷ xs) ys h k = (h.0, all_and P xs ys h.1 k)
 
--- the texts are of answers, within the limits of a frame where F holds
-pub record Unheard (F : Type 0) (texts : List (List ℕ)) : Type 0 where
+-- answers are said, within the limits of a frame where F holds
+pub record Unheard (F : Type 0) (said : List Said) : Type 0 where
   pub messages : List Message
-  pub texts_are : texts ≡ map text_of messages
+  pub plain_are : map plainly said ≡ messages
   pub answers_all : AllByRecursion IsAnswer messages
   pub framed : F → AllByRecursion IsFramed messages
 
@@ -76,13 +77,13 @@ closing_unheard r t = inr refl
 -- ---- ends
 
 -- what is answered leaves what stands, and says nothing of presences
-pub record Answered (F : Type 0) (lists : List ℕ → Listing) (texts : List (List ℕ)) (s : InForce) (h : History) : Type 0 where
+pub record Answered (F : Type 0) (lists : List ℕ → Listing) (said : List Said) (s : InForce) (h : History) : Type 0 where
   pub stands : Stands lists s h
   pub sound : F → StateSound s h
-  pub unheard : Unheard F texts
+  pub unheard : Unheard F said
 
 abbrev pub Good : Type 0 → (List ℕ → Listing) → End → History → Type 0
-Good F lists (answers texts s) h = Answered F lists texts s h
+Good F lists (answers said s) h = Answered F lists said s h
 Good F lists full h = Unit {0}
 Good F lists memory h = Unit {0}
 
@@ -97,16 +98,19 @@ pub record Holds (F : Type 0) (lists : List ℕ → Listing) (s : InForce) (h : 
   pub heard : F → IsHeard m
 
 module _ (F : Type 0) (lists : List ℕ → Listing) where
-  no_texts : Unheard F []
-  no_texts = record { messages = []; texts_are = refl; answers_all = tt; framed = λ f. tt }
+  nothing_said : Unheard F []
+  nothing_said = record { messages = []; plain_are = refl; answers_all = tt; framed = λ f. tt }
 
-  one_text : (m : Message) → IsAnswer m → (F → IsFramed m) → Unheard F (text_of m ∷ [])
-  one_text m h k = record { messages = m ∷ []; texts_are = refl; answers_all = (h, tt); framed = λ f. (k f, tt) }
+  one_said : (m : Message) → IsAnswer m → (F → IsFramed m) → Unheard F (message m ∷ [])
+  one_said m h k = record { messages = m ∷ []; plain_are = refl; answers_all = (h, tt); framed = λ f. (k f, tt) }
 
-  unheard_more : (xs ys : List (List ℕ)) → Unheard F xs → Unheard F ys → Unheard F (xs ++ ys)
+  rows_said : (kind : ℕ) (r : Option MsgRef) (m : Message) (rows : List (Dot × Row)) → (F → IsFramed (ok r m (state_of rows))) → Unheard F (listed kind r m rows ∷ [])
+  rows_said kind r m rows k = record { messages = ok r m (state_of rows) ∷ []; plain_are = refl; answers_all = (ok_unheard r m (state_of rows), tt); framed = λ f. (k f, tt) }
+
+  unheard_more : (xs ys : List Said) → Unheard F xs → Unheard F ys → Unheard F (xs ++ ys)
   unheard_more xs ys h k = record {
     messages = h.messages ++ k.messages;
-    texts_are = (λ i. h.texts_are i ++ k.texts_are i) ∙ sym (map-more text_of h.messages k.messages);
+    plain_are = map-more plainly xs ys ∙ (λ i. h.plain_are i ++ k.plain_are i);
     answers_all = all_and IsAnswer h.messages k.messages h.answers_all k.answers_all;
     framed = λ f. all_and IsFramed h.messages k.messages (h.framed f) (k.framed f);
   }
@@ -147,74 +151,74 @@ module _ (F : Type 0) (lists : List ℕ → Listing) where
   said_good h answer e f None = unsaid_good h e
 
   says_one : (s : InForce) (h : History) (m x : Message) → Holds F lists s h m → IsAnswer x → (F → IsFramed x) → Good F lists (says (x ∷ []) s) h
-  says_one s h m x st none k = record { stands = st.stands; sound = st.sound; unheard = one_text x none k }
+  says_one s h m x st none k = record { stands = st.stands; sound = st.sound; unheard = one_said x none k }
 
-  replied_good : {A : Type 0} (s : InForce) (h : History) (r : Option MsgRef) (m : Message) (reason : ShardFault → Option (List ℕ)) (reply : A → List Message) → Holds F lists s h m → (F → RefSound r)
-      → (a : Result A ShardFault) → ((x : A) → a ≡ Ok x → Unheard F (map text_of (reply x))) → Good F lists (replied s r m reason reply a) h
+  replied_good : {A : Type 0} (s : InForce) (h : History) (r : Option MsgRef) (m : Message) (reason : ShardFault → Option (List ℕ)) (reply : A → List Said) → Holds F lists s h m → (F → RefSound r)
+      → (a : Result A ShardFault) → ((x : A) → a ≡ Ok x → Unheard F (reply x)) → Good F lists (replied s r m reason reply a) h
   replied_good s h r m reason reply st ref (Ok x) f = record { stands = st.stands; sound = st.sound; unheard = f x refl }
   replied_good s h r m reason reply st ref (Err e) f = said_good h (λ t. says (error r m t ∷ []) s) e (λ t. says_one s h m (error r m t) st (error_unheard r m t) (error_is s h r m st ref t)) (reason e)
 
   -- ---- events of a joined topic
 
-  module _ (s : InForce) (h : History) (r : Option MsgRef) (m : Message) (st : Holds F lists s h m) (ref : F → RefSound r) where
+  module _ (kind : ℕ) (s : InForce) (h : History) (r : Option MsgRef) (m : Message) (st : Holds F lists s h m) (ref : F → RefSound r) where
     -- what stands after a question
     now : (q : Ask) → Stands lists s (after_in h q) → (F → AskSound q) → Holds F lists s (after_in h q) m
     now q after k = holds_after s h m q st after k
 
-    shout_comes : Comes F lists (on_event s.pid s r m events_are.Shout) h
+    shout_comes : Comes F lists (on_event s.pid kind s r m events_are.Shout) h
     shout_comes =
         replied_good s (after_in h (shout m.topic m.payload)) r m (full_reason true) (λ u. []) (now (shout m.topic m.payload) (after_shout lists s h st.stands m.topic m.payload) (λ f. heard_payload m (st.heard f))) ref
-        (answer_in h (shout m.topic m.payload)) (λ u e. no_texts)
+        (answer_in h (shout m.topic m.payload)) (λ u e. nothing_said)
 
     bad_comes : Good F lists (says (error r m (codes "bad payload") ∷ []) s) h
     bad_comes = says_one s h m (error r m (codes "bad payload")) st (error_unheard r m (codes "bad payload")) (error_is s h r m st ref (codes "bad payload"))
 
-    ref_unheard : (d : Dot) → Unheard F (map text_of (ok r m (told_ref d) ∷ []))
-    ref_unheard d = one_text (ok r m (told_ref d)) (ok_unheard r m (told_ref d)) (told_is s h r m st ref d)
+    ref_unheard : (d : Dot) → Unheard F (message (ok r m (told_ref d)) ∷ [])
+    ref_unheard d = one_said (ok r m (told_ref d)) (ok_unheard r m (told_ref d)) (told_is s h r m st ref d)
 
     track_comes : (a : Asked) → (F → AskedSound a) → Comes F lists (on_track s.pid s r m a) h
     track_comes Nothing k = bad_comes
     track_comes Bad k = bad_comes
     track_comes (Wants key meta) k =
-        replied_good s (after_in h (track s.pid m.topic key meta)) r m (track_reason true) (λ d. ok r m (told_ref d) ∷ []) (now (track s.pid m.topic key meta) (after_track lists s h st.stands m.topic key meta) k) ref
+        replied_good s (after_in h (track s.pid m.topic key meta)) r m (track_reason true) (λ d. message (ok r m (told_ref d)) ∷ []) (now (track s.pid m.topic key meta) (after_track lists s h st.stands m.topic key meta) k) ref
         (answer_in h (track s.pid m.topic key meta)) (λ d e. ref_unheard d)
 
     update_comes : (a : Asked) → (F → AskedSound a) → Comes F lists (on_update s.pid s r m a) h
     update_comes Nothing k = bad_comes
     update_comes Bad k = bad_comes
     update_comes (Wants key meta) k =
-        replied_good s (after_in h (update s.pid m.topic key meta)) r m update_reason (λ d. ok r m (told_ref d) ∷ []) (now (update s.pid m.topic key meta) (after_update lists s h st.stands m.topic key meta) k) ref
+        replied_good s (after_in h (update s.pid m.topic key meta)) r m update_reason (λ d. message (ok r m (told_ref d)) ∷ []) (now (update s.pid m.topic key meta) (after_update lists s h st.stands m.topic key meta) k) ref
         (answer_in h (update s.pid m.topic key meta)) (λ d e. ref_unheard d)
 
     untrack_comes : (k : Option (List ℕ)) → Comes F lists (on_untrack s.pid s r m k) h
     untrack_comes None = bad_comes
     untrack_comes (Some key) =
-        replied_good s (after_in h (untrack s.pid m.topic key)) r m (full_reason true) (λ u. ok r m empty ∷ []) (now (untrack s.pid m.topic key) (after_untrack lists s h st.stands m.topic s.pid key) (λ f. tt)) ref
-        (answer_in h (untrack s.pid m.topic key)) (λ u e. one_text (ok r m empty) (ok_unheard r m empty) (empty_is s h r m st ref))
+        replied_good s (after_in h (untrack s.pid m.topic key)) r m (full_reason true) (λ u. message (ok r m empty) ∷ []) (now (untrack s.pid m.topic key) (after_untrack lists s h st.stands m.topic s.pid key) (λ f. tt)) ref
+        (answer_in h (untrack s.pid m.topic key)) (λ u e. one_said (ok r m empty) (ok_unheard r m empty) (empty_is s h r m st ref))
 
-    list_comes : Comes F lists (on_event s.pid s r m events_are.List) h
+    list_comes : Comes F lists (on_event s.pid kind s r m events_are.List) h
     list_comes =
-        replied_good s (after_in h (list m.topic)) r m (full_reason true) (λ rows. ok r m (state_of rows) ∷ []) (now (list m.topic) (after_list lists s h st.stands m.topic) (λ f. tt)) ref
+        replied_good s (after_in h (list m.topic)) r m (full_reason true) (λ rows. listed kind r m rows ∷ []) (now (list m.topic) (after_list lists s h st.stands m.topic) (λ f. tt)) ref
         (answer_in h (list m.topic))
-        (λ rows e. one_text (ok r m (state_of rows)) (ok_unheard r m (state_of rows)) (state_is s h r m st ref rows (λ f. list_sound h m.topic rows (st.sound f).history e)))
+        (λ rows e. rows_said kind r m rows (state_is s h r m st ref rows (λ f. list_sound h m.topic rows (st.sound f).history e)))
 
-    get_comes : (k : Option (List ℕ)) → Comes F lists (on_get s r m k) h
+    get_comes : (k : Option (List ℕ)) → Comes F lists (on_get kind s r m k) h
     get_comes None = bad_comes
     get_comes (Some key) =
-        replied_good s (after_in h (get m.topic key)) r m (full_reason true) (λ rows. ok r m (state_of rows) ∷ []) (now (get m.topic key) (after_get lists s h st.stands m.topic key) (λ f. tt)) ref
+        replied_good s (after_in h (get m.topic key)) r m (full_reason true) (λ rows. listed kind r m rows ∷ []) (now (get m.topic key) (after_get lists s h st.stands m.topic key) (λ f. tt)) ref
         (answer_in h (get m.topic key))
-        (λ rows e. one_text (ok r m (state_of rows)) (ok_unheard r m (state_of rows)) (state_is s h r m st ref rows (λ f. get_sound h m.topic key rows (st.sound f).history e)))
+        (λ rows e. rows_said kind r m rows (state_is s h r m st ref rows (λ f. get_sound h m.topic key rows (st.sound f).history e)))
 
     unknown_comes : Good F lists (says (error r m (codes "unknown event") ∷ []) s) h
     unknown_comes = says_one s h m (error r m (codes "unknown event")) st (error_unheard r m (codes "unknown event")) (error_is s h r m st ref (codes "unknown event"))
 
-    ping_comes : Comes F lists (on_event s.pid s r m events_are.Ping) h
+    ping_comes : Comes F lists (on_event s.pid kind s r m events_are.Ping) h
     ping_comes = says_one s h m (ok r m m.payload) st (ok_unheard r m m.payload) (ok_is s h r m st ref m.payload (λ f. less_sound 64 90 m.payload (omega arith) (heard_payload m (st.heard f))))
 
     payload_asked : F → AskedSound (asked m.payload)
     payload_asked f = asked_sound m.payload (heard_payload m (st.heard f)).orderly
 
-    event_comes : (k : TopicEvent) → Comes F lists (on_event s.pid s r m k) h
+    event_comes : (k : TopicEvent) → Comes F lists (on_event s.pid kind s r m k) h
     event_comes events_are.Unknown = unknown_comes
     event_comes events_are.Ping = ping_comes
     event_comes events_are.Shout = shout_comes
@@ -241,7 +245,7 @@ module _ (F : Type 0) (lists : List ℕ → Listing) where
 
     topic_comes : (j : Option Joined) → find m.topic s.joined ≡ j → (k : TopicEvent) → Comes F lists (on_topic s.pid s j m k) h
     topic_comes None is k = unmatched_comes
-    topic_comes (Some j) is k = event_comes s h j.join_ref m st (found_ref s h m st j is) k
+    topic_comes (Some j) is k = event_comes j.kind s h j.join_ref m st (found_ref s h m st j is) k
 
   -- ---- ends of joins
 
@@ -274,59 +278,59 @@ module _ (F : Type 0) (lists : List ℕ → Listing) where
   leave_comes s h m st None is = says_one s h m (ok m.join_ref m empty) st (ok_unheard m.join_ref m empty) (empty_is s h m.join_ref m st (own_ref s h m st))
   leave_comes s h m st (Some j) is = ended_comes s.pid s h m j _ st is (λ g after. record { stands = after.stands; sound = after.sound; unheard = two })
     where
-      two : Unheard F (map text_of (ok j.join_ref m empty ∷ closing j.join_ref m.topic ∷ []))
+      two : Unheard F (message (ok j.join_ref m empty) ∷ message (closing j.join_ref m.topic) ∷ [])
       two = record {
         messages = ok j.join_ref m empty ∷ closing j.join_ref m.topic ∷ [];
-        texts_are = refl;
+        plain_are = refl;
         answers_all = (ok_unheard j.join_ref m empty, (closing_unheard j.join_ref m.topic, tt));
         framed = λ f. (empty_is s h j.join_ref m st (found_ref s h m st j is) f, (closing_is s h j.join_ref m st (found_ref s h m st j is) f, tt));
       }
 
   -- ---- joins
 
-  module _ (before : List (List ℕ)) (quiet : Unheard F before) where
+  module _ (before : List Said) (quiet : Unheard F before) where
     join_good : (reply : Message) (s : InForce) (h : History) → IsAnswer reply → (F → IsFramed reply) → Stands lists s h → (F → StateSound s h) → Good F lists (answers_join before reply s) h
-    join_good reply s h none k st sound = record { stands = st; sound = sound; unheard = unheard_more before (text_of reply ∷ []) quiet (one_text reply none k) }
+    join_good reply s h none k st sound = record { stands = st; sound = sound; unheard = unheard_more before (message reply ∷ []) quiet (one_said reply none k) }
 
     refuses_good : (s : InForce) (h : History) (m : Message) (reason : List ℕ) → Holds F lists s h m → Good F lists (refuses before s m reason) h
     refuses_good s h m reason st = join_good (error (join_ref_of m) m reason) s h (error_unheard (join_ref_of m) m reason) (error_is s h (join_ref_of m) m st (new_ref s h m st) reason) st.stands st.sound
 
-    subscribed_good : (first : Bool) (s : InForce) (h : History) (m : Message) (response : Data) → Holds F lists s h m → (F → IsSound 90 response) → find m.topic s.joined ≡ None
-        → (a : Result Sub ShardFault) → answer_in h (subscribe m.topic) ≡ a → Good F lists (subscribe_end first before s m response a) (after_in h (subscribe m.topic))
-    subscribed_good first s h m response st k none (Ok sub) is =
-        join_good (ok (join_ref_of m) m response) (joins s m sub) (after_in h (subscribe m.topic)) (ok_unheard (join_ref_of m) m response) (ok_is s h (join_ref_of m) m st (new_ref s h m st) response k)
-        (after_subscribe lists s h m sub st.stands none is)
+    subscribed_good : (first : Bool) (kind : ℕ) (s : InForce) (h : History) (m : Message) (response : Data) → Holds F lists s h m → (F → IsSound 90 response) → find m.topic s.joined ≡ None
+        → (a : Result Sub ShardFault) → answer_in h (subscribe m.topic) ≡ a → Good F lists (subscribe_end first before kind s m response a) (after_in h (subscribe m.topic))
+    subscribed_good first kind s h m response st k none (Ok sub) is =
+        join_good (ok (join_ref_of m) m response) (joins kind s m sub) (after_in h (subscribe m.topic)) (ok_unheard (join_ref_of m) m response) (ok_is s h (join_ref_of m) m st (new_ref s h m st) response k)
+        (after_subscribe lists kind s h m sub st.stands none is)
         (λ f. record {
-          joined = all_more JoinedSound s.joined (record { topic = m.topic; join_ref = join_ref_of m; sub = sub }) (st.sound f).joined ((st.heard f).0.topic, new_ref s h m st f);
+          joined = all_more JoinedSound s.joined (record { topic = m.topic; kind = kind; join_ref = join_ref_of m; sub = sub }) (st.sound f).joined ((st.heard f).0.topic, new_ref s h m st f);
           history = after_in_sound h (subscribe m.topic) (st.sound f).history tt;
         })
-    subscribed_good first s h m response st k none (Err e) is =
+    subscribed_good first kind s h m response st k none (Err e) is =
         said_good (after_in h (subscribe m.topic)) (refuses before s m) e
         (λ t. refuses_good s (after_in h (subscribe m.topic)) m t (holds_after s h m (subscribe m.topic) st (refused_subscribe lists s h m.topic st.stands) (λ f. tt))) (full_reason first e)
 
-    subscribes_comes : (first : Bool) (s : InForce) (h : History) (m : Message) (response : Data) → Holds F lists s h m → (F → IsSound 90 response) → find m.topic s.joined ≡ None → Comes F lists (subscribes first before s m response) h
-    subscribes_comes first s h m response st k none = subscribed_good first s h m response st k none (answer_in h (subscribe m.topic)) refl
+    subscribes_comes : (first : Bool) (kind : ℕ) (s : InForce) (h : History) (m : Message) (response : Data) → Holds F lists s h m → (F → IsSound 90 response) → find m.topic s.joined ≡ None → Comes F lists (subscribes first before kind s m response) h
+    subscribes_comes first kind s h m response st k none = subscribed_good first kind s h m response st k none (answer_in h (subscribe m.topic)) refl
 
-    tracked_comes : (first : Bool) (s : InForce) (h : History) (m : Message) → Holds F lists s h m → find m.topic s.joined ≡ None → (a : Result Dot ShardFault) → Comes F lists (then_subscribe first before s m a) h
-    tracked_comes first s h m st none (Ok d) = subscribes_comes false s h m (told_ref d) st (λ f. less_sound 1 90 (told_ref d) (omega arith) (told_sound d)) none
-    tracked_comes first s h m st none (Err e) = said_good h (refuses before s m) e (λ t. refuses_good s h m t st) (track_reason first e)
+    tracked_comes : (first : Bool) (kind : ℕ) (s : InForce) (h : History) (m : Message) → Holds F lists s h m → find m.topic s.joined ≡ None → (a : Result Dot ShardFault) → Comes F lists (then_subscribe first before kind s m a) h
+    tracked_comes first kind s h m st none (Ok d) = subscribes_comes false kind s h m (told_ref d) st (λ f. less_sound 1 90 (told_ref d) (omega arith) (told_sound d)) none
+    tracked_comes first kind s h m st none (Err e) = said_good h (refuses before s m) e (λ t. refuses_good s h m t st) (track_reason first e)
 
     within_comes : (b : Bool) (s : InForce) (h : History) (m : Message) (next : Script End) → Holds F lists s h m → Comes F lists next h → Comes F lists (cond b (done (refuses before s m (codes "too many topics"))) next) h
     within_comes true s h m next st f = refuses_good s h m (codes "too many topics") st
     within_comes false s h m next st f = f
 
-    join_comes : (count : ℕ) (first : Bool) (s : InForce) (h : History) (m : Message) → Holds F lists s h m → find m.topic s.joined ≡ None → (a : Asked) → (F → AskedSound a) → Comes F lists (join_asked s.pid count first before s m a) h
-    join_comes count first s h m st none Bad k = refuses_good s h m (codes "bad payload") st
-    join_comes count first s h m st none Nothing k = within_comes (nat_le MAX_TOPICS count) s h m _ st (subscribes_comes first s h m empty st (λ f. empty_sound 89) none)
-    join_comes count first s h m st none (Wants key meta) k =
+    join_comes : (count : ℕ) (first : Bool) (kind : ℕ) (s : InForce) (h : History) (m : Message) → Holds F lists s h m → find m.topic s.joined ≡ None → (a : Asked) → (F → AskedSound a) → Comes F lists (join_asked s.pid count first before kind s m a) h
+    join_comes count first kind s h m st none Bad k = refuses_good s h m (codes "bad payload") st
+    join_comes count first kind s h m st none Nothing k = within_comes (nat_le MAX_TOPICS count) s h m _ st (subscribes_comes first kind s h m empty st (λ f. empty_sound 89) none)
+    join_comes count first kind s h m st none (Wants key meta) k =
         within_comes (nat_le MAX_TOPICS count) s h m _ st
-        (tracked_comes first s (after_in h (track s.pid m.topic key meta)) m (holds_after s h m (track s.pid m.topic key meta) st (after_track lists s h st.stands m.topic key meta) k) none (answer_in h (track s.pid m.topic key meta)))
+        (tracked_comes first kind s (after_in h (track s.pid m.topic key meta)) m (holds_after s h m (track s.pid m.topic key meta) st (after_track lists s h st.stands m.topic key meta) k) none (answer_in h (track s.pid m.topic key meta)))
 
-  on_join_comes : (count : ℕ) (s : InForce) (h : History) (m : Message) → Holds F lists s h m → (j : Option Joined) → find m.topic s.joined ≡ j → (a : Asked) → (F → AskedSound a) → Comes F lists (on_join s.pid count s j m a) h
-  on_join_comes count s h m st None is a k = join_comes [] no_texts count true s h m st is a k
-  on_join_comes count s h m st (Some j) is a k =
+  on_join_comes : (count kind : ℕ) (s : InForce) (h : History) (m : Message) → Holds F lists s h m → (j : Option Joined) → find m.topic s.joined ≡ j → (a : Asked) → (F → AskedSound a) → Comes F lists (on_join s.pid count kind s j m a) h
+  on_join_comes count kind s h m st None is a k = join_comes [] nothing_said count true kind s h m st is a k
+  on_join_comes count kind s h m st (Some j) is a k =
       ended_comes s.pid s h m j _ st is
-      (λ g after. join_comes (text_of (closing j.join_ref m.topic) ∷ []) (one_text (closing j.join_ref m.topic) (closing_unheard j.join_ref m.topic) (closing_is s h j.join_ref m st (found_ref s h m st j is))) (count - 1) false (left s m.topic) g m after (gone m.topic s.joined st.stands.apart) a k)
+      (λ g after. join_comes (message (closing j.join_ref m.topic) ∷ []) (one_said (closing j.join_ref m.topic) (closing_unheard j.join_ref m.topic) (closing_is s h j.join_ref m st (found_ref s h m st j is))) (count - 1) false kind (left s m.topic) g m after (gone m.topic s.joined st.stands.apart) a k)
 
   -- ---- the table
 
@@ -337,13 +341,17 @@ module _ (F : Type 0) (lists : List ℕ → Listing) where
   no_ref : F → RefSound None
   no_ref f = tt
 
-  kind_comes : (phoenix routed : Bool) (count : ℕ) (s : InForce) (h : History) (m : Message) → Holds F lists s h m → (j : Option Joined) → find m.topic s.joined ≡ j → (k : EventKind) → Comes F lists (by_kind phoenix routed s.pid count s j m k) h
-  kind_comes phoenix routed count s h m st j is kinds_are.Heartbeat = either_comes phoenix _ _ h (says_one s h m (ok None m empty) st (ok_unheard None m empty) (empty_is s h None m st no_ref)) (topic_comes s h m st j is events_are.Unknown)
-  kind_comes phoenix routed count s h m st j is kinds_are.Join = either_comes (phoenix || not routed) _ _ h (unmatched_comes s h m st) (on_join_comes count s h m st j is (asked m.payload) (λ f. asked_sound m.payload (heard_payload m (st.heard f)).orderly))
-  kind_comes phoenix routed count s h m st j is kinds_are.Leave = leave_comes s h m st j is
-  kind_comes phoenix routed count s h m st j is (kinds_are.Topic event) = topic_comes s h m st j is event
+  route_comes : (count : ℕ) (s : InForce) (h : History) (m : Message) → Holds F lists s h m → (j : Option Joined) → find m.topic s.joined ≡ j → (route : Option ℕ) → Comes F lists (by_route s.pid count s j m route) h
+  route_comes count s h m st j is None = unmatched_comes s h m st
+  route_comes count s h m st j is (Some kind) = on_join_comes count kind s h m st j is (asked m.payload) (λ f. asked_sound m.payload (heard_payload m (st.heard f)).orderly)
+
+  kind_comes : (phoenix : Bool) (route : Option ℕ) (count : ℕ) (s : InForce) (h : History) (m : Message) → Holds F lists s h m → (j : Option Joined) → find m.topic s.joined ≡ j → (k : EventKind) → Comes F lists (by_kind phoenix route s.pid count s j m k) h
+  kind_comes phoenix route count s h m st j is kinds_are.Heartbeat = either_comes phoenix _ _ h (says_one s h m (ok None m empty) st (ok_unheard None m empty) (empty_is s h None m st no_ref)) (topic_comes s h m st j is events_are.Unknown)
+  kind_comes phoenix route count s h m st j is kinds_are.Join = route_comes count s h m st j is route
+  kind_comes phoenix route count s h m st j is kinds_are.Leave = leave_comes s h m st j is
+  kind_comes phoenix route count s h m st j is (kinds_are.Topic event) = topic_comes s h m st j is event
 
   -- a message that is answered leaves what stands, and what it says is of no frames
   pub rules_come : (routes : List (List ℕ × ℕ)) (s : InForce) (h : History) (m : Message) → Holds F lists s h m → Comes F lists (rules routes s m) h
   unfolding rules
-  rules_come routes s h m st = kind_comes (is_phoenix m.topic) (is_routed routes m.topic) (length s.joined) s h m st (find m.topic s.joined) refl (kind_of m.event)
+  rules_come routes s h m st = kind_comes (is_phoenix m.topic) (route_of (is_phoenix m.topic) routes m.topic) (length s.joined) s h m st (find m.topic s.joined) refl (kind_of m.event)

@@ -14,4 +14,5 @@ pub mod KeptRules
 pub mod KeptTakes
 pub mod KeptFrames
 pub mod KeptDeliveries
+pub mod KeptWords
 pub mod Kept

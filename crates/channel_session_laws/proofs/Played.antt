@@ -1,5 +1,5 @@
 -- Over a lent shard what follows a script is what the script comes to over the table.
-use Rattle.std.proofs.Common.{◌≡◌, ◌∷◌, ℕ, List, [], Result, Ok, Err, refl, sym, ◌∙◌, ap}
+use Rattle.std.proofs.Common.{◌≡◌, ◌∷◌, ℕ, List, [], Result, Ok, Err, ◌∙◌, ap}
 use Rattle.phx_message.specs.declared.message.Message.{Message}
 use Rattle.presence_journal.specs.History.{History}
 use Rattle.channel_session_rules.specs.Asks.{Ask, Answer, Call, Made}
@@ -8,7 +8,8 @@ use Rattle.channel_session_rules.specs.InForce.{InForce}
 use Rattle.channel_session_laws.specs.Local.{LocalStep, Heeds, played}
 use Rattle.channel_session_rules.specs.Outcome.{Follows, EndsSo}
 use Rattle.channel_session_rules.specs.Rules.{End, answers, full, memory, rules}
-use Rattle.channel_session_rules.specs.Script.{Script, done, ask, Plays}
+use Rattle.channel_session_rules.specs.Said.{Said}
+use Rattle.channel_session_rules.specs.Script.{Script}
 use Rattle.channel_session_rules.specs.declared.stop.Stop.{Stop}
 use Rattle.channel_session_rules.specs.declared.stop.StopKind.{StopKind}
 use Rattle.channel_session_rules.specs.declared.stop.StopKind.TheVariants.{OutOfMemory, ShardFull}
@@ -21,13 +22,13 @@ StopsAt OutOfMemory x new = Unit {0}
 
 -- the end and the history are these, unless memory is wanted
 abbrev pub ComesTo : Result End Stop → End × History → History → Type 0
-ComesTo (Ok (answers texts after)) x new = x ≡ (answers texts after, new)
+ComesTo (Ok (answers said after)) x new = x ≡ (answers said after, new)
 ComesTo (Ok full) x new = x ≡ (full, new)
 ComesTo (Ok memory) x new = Unit {0}
 ComesTo (Err stop) x new = StopsAt stop.kind x new
 
-answers_apart : (texts : List (List ℕ)) (after : InForce) → answers texts after ≡ memory → ⊥
-answers_apart texts after h = cc
+answers_apart : (said : List Said) (after : InForce) → answers said after ≡ memory → ⊥
+answers_apart said after h = cc
 
 full_apart : full ≡ memory → ⊥
 full_apart h = cc
@@ -38,7 +39,7 @@ module _ (script : Script End) (heeds : Heeds memory script) (old new : History)
   stopped_at ShardFull spoiled h = played_is memory script calls full old new heeds h.0 made full_apart
 
   comes_to : (result : Result End Stop) → EndsSo script calls result → ComesTo result (played script old) new
-  comes_to (Ok (answers texts after)) h = played_is memory script calls (answers texts after) old new heeds h made (answers_apart texts after)
+  comes_to (Ok (answers said after)) h = played_is memory script calls (answers said after) old new heeds h made (answers_apart said after)
   comes_to (Ok full) h = played_is memory script calls full old new heeds h made full_apart
   comes_to (Ok memory) h = tt
   comes_to (Err stop) h = stopped_at stop.kind stop.spoiled h

@@ -1,11 +1,9 @@
 -- Lines of one client over a lent shard: each a message and then a delivery. What a session keeps with its shard's history,
 -- and the client's lists of each topic with its rows.
-use Rattle.std.specs.Prelude.{◌≡◌, ◌⊎◌, codes, ◌≤◌, ◌^◌, ◌++◌, ℕ, List, [], ◌∷◌, map, Bool, false, Option, Some, None}
+use Rattle.std.specs.Prelude.{◌≡◌, ◌⊎◌, codes, ◌≤◌, ◌^◌, ◌++◌, ℕ, List, [], ◌∷◌, Bool, false, Option, Some, None}
 use Rattle.std.specs.List.{AllByRecursion, filter}
 use Rattle.presence_base.specs.Order.{same_text}
 use Rattle.phx_message.specs.declared.message.Message.{Message}
-use Rattle.phx_message.specs.declared.message.MsgRef.{MsgRef}
-use Rattle.presence_journal_data.specs.declared.rows.Item.{Item}
 use Rattle.presence_journal.specs.History.{History}
 use Rattle.presence_journal.specs.Present.{listed}
 use Rattle.presence_journal.specs.Queue.{Queued, queue, topic_of}
@@ -13,11 +11,11 @@ use Rattle.presence_journal.specs.Table.{IsLegal}
 use Rattle.presence_metas.specs.Listing.{Listing}
 use Rattle.tracker_shard.specs.Steps.{slot_of}
 use Rattle.channel_session_rules.specs.Delivering.{delivery}
-use Rattle.channel_session_rules.specs.Frames.{message_of}
 use Rattle.channel_session_rules.specs.InForce.{Joined, InForce, find}
 use Rattle.channel_session_laws.specs.Local.{played}
 use Rattle.channel_session_laws.specs.Mirrors.{mirror_from, Mirrors}
-use Rattle.channel_session_rules.specs.Rules.{End, answers, full, memory, rules, text_of}
+use Rattle.channel_session_rules.specs.Rules.{End, answers, full, memory, rules}
+use Rattle.channel_session_rules.specs.Said.{Said, told, plainly, Tells, EachBy}
 
 -- ---- a session in step with a history
 
@@ -41,15 +39,15 @@ pub record InStep (s : InForce) (h : History) : Type 0 where
 
 -- ---- lines
 
--- what was written, what is in force, and the shard's history
+-- what was said, what is in force, and the shard's history
 pub record Past : Type 0 where
-  pub texts : List (List ℕ)
+  pub said : List Said
   pub session : InForce
   pub history : History
 
--- this end comes behind these texts; nothing comes behind a fault
-abbrev pub behind : List (List ℕ) → End → History → Option Past
-behind before (answers texts s) h = Some (record { texts = before ++ texts; session = s; history = h })
+-- this end comes behind what was said before; nothing comes behind a fault
+abbrev pub behind : List Said → End → History → Option Past
+behind before (answers said s) h = Some (record { said = before ++ said; session = s; history = h })
 behind before full h = None
 behind before memory h = None
 
@@ -60,11 +58,11 @@ then_past (Some p) next = next p
 
 -- a message is answered
 abbrev pub ruled : List (List ℕ × ℕ) → Past → Message → Option Past
-ruled routes p m = let x = played (rules routes p.session m) p.history in behind p.texts x.0 x.1
+ruled routes p m = let x = played (rules routes p.session m) p.history in behind p.said x.0 x.1
 
 -- each topic gets what waits for it
 abbrev pub served : Past → Option Past
-served p = let x = played (delivery 256 p.session) p.history in behind p.texts x.0 x.1
+served p = let x = played (delivery 256 p.session) p.history in behind p.said x.0 x.1
 
 -- a line: the message, and then one delivery
 abbrev pub lined : List (List ℕ × ℕ) → Past → Message → Option Past
@@ -75,7 +73,7 @@ abbrev pub all_lined : List (List ℕ × ℕ) → Past → List Message → Opti
 all_lined routes p [] = Some p
 all_lined routes p (m ∷ ms) = then_past (lined routes p m) (λ q. all_lined routes q ms)
 
--- ---- what the client makes of the texts
+-- ---- what the client makes of the messages
 
 abbrev pub on_topic_of : List ℕ → Message → Bool
 on_topic_of t m = same_text m.topic t
@@ -88,24 +86,34 @@ client_lists t ls ms = mirror_from ls (filter (on_topic_of t) ms)
 abbrev pub IsAnswer : Message → Type 0
 IsAnswer m = (m.event ≡ codes "phx_reply") ⊎ (m.event ≡ codes "phx_close")
 
--- a message that tells a join of an item of its topic
-abbrev pub IsTold : Message → Type 0
-IsTold m = (join_ref : Option MsgRef) × (topic : List ℕ) × (i : Item) × (m ≡ message_of join_ref topic i)
+-- an item, told to a join
+abbrev pub IsItem : Said → Type 0
+IsItem (told j i) = Unit {0}
+IsItem _ = ⊥
 
--- the texts are those of messages after which, for each joined topic, the client's lists have the topic's present rows
+abbrev pub IsSaid : Said → Type 0
+IsSaid x = IsAnswer (plainly x) ⊎ IsItem x
+
+-- the client's lists of each joined topic have the topic's present rows after these messages
+abbrev pub Mirror : List Message → Past → Type 0
+Mirror ms p = AllByRecursion (λ j. Mirrors (client_lists j.topic [] ms) (listed p.history j.topic)) p.session.joined
+
+-- the message tells it, whatever a fetch added
+abbrev pub TellsAnyhow : Said → Message → Type 0
+TellsAnyhow = Tells (λ kind topic key extra. Unit {0})
+
+-- Answers and items were said, and the client's lists have the present rows after all messages that tell them, whatever a fetch added.
 pub record IsMirrored (p : Past) : Type 0 where
-  pub messages : List Message
-  pub texts : p.texts ≡ map text_of messages
-  pub said : AllByRecursion (λ m. IsAnswer m ⊎ IsTold m) messages
-  pub mirrors : AllByRecursion (λ j. Mirrors (client_lists j.topic [] messages) (listed p.history j.topic)) p.session.joined
+  pub said : AllByRecursion IsSaid p.said
+  pub mirrors : (ms : List Message) → EachBy TellsAnyhow p.said ms → Mirror ms p
 
 -- a session of this number that has joined nothing
 abbrev pub fresh : ℕ → InForce
 fresh pid = record { pid = pid; failed = false; joined = []; cut_short = None }
 
--- nothing has been written yet
+-- nothing has been said yet
 abbrev pub begun : InForce → History → Past
-begun s h = record { texts = []; session = s; history = h }
+begun s h = record { said = []; session = s; history = h }
 
 -- lines that are all answered leave a session in step, so that nothing waits for a joined topic
 abbrev pub StaysInStep : Type 0

@@ -16,6 +16,7 @@ use Rattle.channel_session_laws.specs.Mirrors.{mirror_from, Mirrors, given_to, g
 use Rattle.channel_session_laws.specs.Local.{LocalStep, answer_in, after_in, played}
 use Rattle.channel_session_rules.specs.Outcome.{Follows}
 use Rattle.channel_session_rules.specs.Rules.{InForce, End, answers, rules}
+use Rattle.channel_session_rules.specs.Said.{Said}
 use Rattle.channel_session_rules.specs.Script.{Script}
 
 -- what a lent shard answers, and the history that it leaves, are the sequential table's, unless memory is wanted
@@ -26,12 +27,12 @@ AnswersByTable = (old new : History) (q : Ask) (a : Answer q) → LocalStep old 
 abbrev pub WantStays : Type 0
 WantStays = (old new : History) (q : Ask) → LocalStep old q (Err OutOfMemory) new → new ≡ old
 
--- Over a lent shard a script that is answered was played against the table: its texts, what is in force after them
+-- Over a lent shard a script that is answered was played against the table: what it says, what is in force after it
 -- and the new history are a function of the script and the history.
 abbrev pub IsPlayed : Script End → Type 0
 IsPlayed script =
-    (texts : List (List ℕ)) (s : InForce) (old new : History) → Follows LocalStep script old new (Ok (answers texts s))
-    → played script old ≡ (answers texts s, new)
+    (said : List Said) (s : InForce) (old new : History) → Follows LocalStep script old new (Ok (answers said s))
+    → played script old ≡ (answers said s, new)
 
 abbrev pub RulesArePlayed : Type 0
 RulesArePlayed = (routes : List (List ℕ × ℕ)) (s : InForce) (m : Message) → IsPlayed (rules routes s m)

@@ -10,8 +10,8 @@ pub fn local_answers()
     ensures memory { WantStays }
 {}
 
-/// Over a lent shard the texts of a message and those of a delivery, what is in force after them and
-/// the shard's new history are a function of the session, the message and the shard's history.
+/// Over a lent shard what a message and a delivery say, what is in force after it and the shard's
+/// new history are a function of the session, the message and the shard's history.
 pub fn local_texts()
     ensures rules { RulesArePlayed }
     ensures deliveries { DeliveriesArePlayed }
@@ -30,8 +30,9 @@ pub fn calls_give()
     ensures { CallsGive }
 {}
 
-/// After lines that were all answered nothing waits for a joined topic, and the messages whose texts
-/// were written fold, topic by topic, to lists that have each joined topic's present rows.
+/// After lines that were all answered nothing waits for a joined topic, and the messages that tell
+/// what was said fold, topic by topic, to lists that have each joined topic's present rows, whatever
+/// a fetch added to them.
 pub fn joined_topics_are_mirrored()
     ensures in_step { StaysInStep }
     ensures mirrored { JoinedAreMirrored }

@@ -1,3 +1,4 @@
 pub mod Objects
 pub mod Once
 pub mod Places
+pub mod Saying

@@ -3,26 +3,22 @@ use Rattle.std.specs.Prelude.{◌++◌, ℕ, List, [], ◌∷◌, map, Bool, tru
 use Rattle.presence_journal_data.specs.declared.rows.Item.{Item}
 use Rattle.tracker_shard.specs.declared.fault.ShardFault.{ShardFault}
 use Rattle.channel_session_rules.specs.Asks.{waits, take}
-use Rattle.channel_session_rules.specs.Frames.{frame_of}
 use Rattle.channel_session_rules.specs.InForce.{Joined, InForce}
 use Rattle.channel_session_rules.specs.Rules.{End, answers, unsaid}
+use Rattle.channel_session_rules.specs.Said.{Said, told}
 use Rattle.channel_session_rules.specs.Script.{Script, done, ask}
 
--- an item as the text that tells it to a join
-abbrev pub frame : Joined → Item → List ℕ
-frame j item = frame_of j.join_ref j.topic item
+abbrev pub then_told : Joined → List Said → (List Said → Script End) → Result (List Item) ShardFault → Script End
+then_told j before next (Ok items) = next (before ++ map (told j) items)
+then_told j before next (Err e) = done (unsaid e)
 
-abbrev pub then_frames : Joined → List (List ℕ) → (List (List ℕ) → Script End) → Result (List Item) ShardFault → Script End
-then_frames j before next (Ok items) = next (before ++ map (frame j) items)
-then_frames j before next (Err e) = done (unsaid e)
-
-abbrev pub then_take : ℕ → Joined → List (List ℕ) → (List (List ℕ) → Script End) → Result Bool ShardFault → Script End
-then_take max j before next (Ok true) = ask (take j.topic j.sub max) (then_frames j before next)
+abbrev pub then_take : ℕ → Joined → List Said → (List Said → Script End) → Result Bool ShardFault → Script End
+then_take max j before next (Ok true) = ask (take j.topic j.sub max) (then_told j before next)
 then_take max j before next (Ok false) = next before
 then_take max j before next (Err e) = done (unsaid e)
 
--- the deliveries of these topics, after the texts before them
-abbrev pub delivers : ℕ → InForce → List Joined → List (List ℕ) → Script End
+-- the deliveries of these topics, behind what was said before them
+abbrev pub delivers : ℕ → InForce → List Joined → List Said → Script End
 delivers max s [] before = done (answers before s)
 delivers max s (j ∷ js) before = ask (waits j.topic j.sub) (then_take max j before (delivers max s js))
 

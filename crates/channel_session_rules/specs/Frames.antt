@@ -1,8 +1,6 @@
--- How an item that was taken from a subscriber is told to the join of its topic.
+-- The message that tells an item, taken from a subscriber, to the join of its topic.
 use Rattle.std.specs.Prelude.{ℕ, List, Option, codes}
-use Rattle.serde_json.specs.Written.{compact_text}
 use Rattle.phx_message.specs.Making.{push_of, broadcast_of}
-use Rattle.phx_message.specs.Message.{value_of}
 use Rattle.phx_message.specs.declared.message.Message.{Message}
 use Rattle.phx_message.specs.declared.message.MsgRef.{MsgRef}
 use Rattle.presence_journal_data.specs.declared.rows.Item.{Item}
@@ -14,7 +12,3 @@ abbrev pub message_of : Option MsgRef → List ℕ → Item → Message
 message_of join_ref topic (items_are.State rows) = push_of join_ref topic (codes "presence_state") (state_of rows)
 message_of join_ref topic (items_are.Diff d) = broadcast_of topic (codes "presence_diff") (diff_of d.joins d.leaves)
 message_of join_ref topic (items_are.Shout payload) = broadcast_of topic (codes "shout") payload
-
--- the text of a frame
-abbrev pub frame_of : Option MsgRef → List ℕ → Item → List ℕ
-frame_of join_ref topic item = compact_text (value_of (message_of join_ref topic item))

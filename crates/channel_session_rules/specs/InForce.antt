@@ -6,15 +6,16 @@ use Rattle.tracker_shard.specs.declared.shard.Sub.{Sub}
 use Rattle.channel_session_rules.specs.declared.topics.Place.{Place}
 use Rattle.channel_session_rules.specs.declared.topics.Topics.{Topics}
 
--- a topic in force, with its present join's reference and subscriber
+-- a topic in force, with its kind and its present join's reference and subscriber
 pub record Joined : Type 0 where
   pub topic : List ℕ
+  pub kind : ℕ
   pub join_ref : Option MsgRef
   pub sub : Sub
 
 -- a topic with its present join
 abbrev pub joined_of : List ℕ × Place → Joined
-joined_of e = record { topic = e.0; join_ref = e.1.join_ref; sub = e.1.sub }
+joined_of e = record { topic = e.0; kind = e.1.kind; join_ref = e.1.join_ref; sub = e.1.sub }
 
 abbrev pub joined_in : Topics → List Joined
 joined_in ts = map joined_of ts.places.entries
@@ -36,6 +37,6 @@ without_topic t [] = []
 without_topic t (j ∷ js) = if same_text t j.topic then js else j ∷ without_topic t js
 
 -- the topics in force after a join
-abbrev pub added : List Joined → List ℕ → Option MsgRef → Option Sub → List Joined
-added js t r None = js
-added js t r (Some sub) = js ++ record { topic = t; join_ref = r; sub = sub } ∷ []
+abbrev pub added : List Joined → List ℕ → ℕ → Option MsgRef → Option Sub → List Joined
+added js t kind r None = js
+added js t kind r (Some sub) = js ++ record { topic = t; kind = kind; join_ref = r; sub = sub } ∷ []

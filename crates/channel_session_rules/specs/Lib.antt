@@ -1,10 +1,12 @@
+pub mod Limits
 pub mod Asks
 pub mod Script
 pub mod Seen
 pub mod InForce
 pub mod Asked
+pub mod Frames
+pub mod Said
 pub mod Rules
 pub mod Outcome
 pub mod Replies
-pub mod Frames
 pub mod Delivering

@@ -14,7 +14,7 @@ seen view (Err stop) = Err stop
 
 -- where the port has refused and no reply stands for that, the fault is no want of memory
 abbrev pub CanWant : End → Type 0
-CanWant (answers texts after) = Unit {0}
+CanWant (answers said after) = Unit {0}
 CanWant full = ⊥
 CanWant memory = Unit {0}
 

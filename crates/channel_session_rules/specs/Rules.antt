@@ -1,17 +1,14 @@
 -- The rules of the built-in channel: what a session asks of its port, and what it answers to a message.
-use Rattle.std.specs.Prelude.{ℕ, List, [], ◌∷◌, ◌++◌, ◌-◌, length, map, Bool, true, false, not, ◌||◌, nat_le, if◌then◌else◌, Option, Some, None, is_some, Result, Ok, Err, codes}
+use Rattle.std.specs.Prelude.{ℕ, List, [], ◌∷◌, ◌++◌, ◌-◌, length, map, Bool, true, false, nat_le, if◌then◌else◌, Option, Some, None, Result, Ok, Err, codes}
 use Rattle.std.specs.Str.{bytes_eq}
 use Rattle.serde_json.specs.Data.{Data, string, object, no_members, member}
-use Rattle.serde_json.specs.Written.{compact_text}
 use Rattle.presence_base.specs.declared.dots.Dot.{Dot}
 use Rattle.presence_base.specs.declared.row.Row.{Row}
 use Rattle.presence_base.specs.Refs.{ref_of}
 use Rattle.phx_message.specs.declared.message.MsgRef.{MsgRef}
 use Rattle.phx_message.specs.declared.message.Message.{Message}
-use Rattle.phx_message.specs.Message.{value_of}
 use Rattle.phx_message.specs.Making.{ok_reply, error_reply, closing}
 use Rattle.hook_registry.specs.Routes.{first_kind}
-use Rattle.presence_metas.specs.Values.{state_of}
 use Rattle.tracker_shard.specs.declared.shard.Sub.{Sub}
 use Rattle.tracker_shard.specs.declared.fault.ShardFault.{ShardFault}
 use Rattle.tracker_shard.specs.declared.fault.ShardFault.TheVariants.{AlreadyTracked, NoPresence, ClockFull, JournalFull, OutOfMemory}
@@ -25,22 +22,20 @@ use Rattle.channel_session_rules.specs.declared.topics.TheConstants.{MAX_TOPICS}
 use Rattle.channel_session_rules.specs.Asks.{track, update, untrack, untrack_all, list, get, subscribe, unsubscribe, shout}
 use Rattle.channel_session_rules.specs.Script.{Script, done, ask}
 use Rattle.channel_session_rules.specs.Asked.{asked, key_asked}
+use Rattle.channel_session_rules.specs.Said.{Said, message, listed}
 pub use Rattle.channel_session_rules.specs.InForce.{Joined, InForce, find, without_topic}
 
--- How a text ends: it is answered, or the port refused and no reply stands for that, or the port wants memory.
+-- How a text ends: this is said, or the port refused and no reply stands for that, or the port wants memory.
 pub data End : Type 0 where
-  answers : (texts : List (List ℕ)) → (after : InForce) → End
+  answers : (said : List Said) → (after : InForce) → End
   full : End
   memory : End
 
 -- ---- messages
 
-abbrev pub text_of : Message → List ℕ
-text_of m = compact_text (value_of m)
-
 -- these messages go out
 abbrev pub says : List Message → InForce → End
-says ms s = answers (map text_of ms) s
+says ms s = answers (map message ms) s
 
 abbrev pub empty : Data
 empty = object no_members
@@ -88,10 +83,10 @@ abbrev pub said : (List ℕ → End) → ShardFault → Option (List ℕ) → En
 said answer e (Some reason) = answer reason
 said answer e None = unsaid e
 
--- ---- events of a joined topic, whose present join's reference is r
+-- ---- events of a joined topic of this kind, whose present join's reference is r
 
-abbrev pub replied : {A : Type 0} → InForce → Option MsgRef → Message → (ShardFault → Option (List ℕ)) → (A → List Message) → Result A ShardFault → End
-replied s r m reason reply (Ok x) = says (reply x) s
+abbrev pub replied : {A : Type 0} → InForce → Option MsgRef → Message → (ShardFault → Option (List ℕ)) → (A → List Said) → Result A ShardFault → End
+replied s r m reason reply (Ok x) = answers (reply x) s
 replied s r m reason reply (Err e) = said (λ t. says (error r m t ∷ []) s) e (reason e)
 
 -- what the port's answers lead to
@@ -99,16 +94,16 @@ abbrev pub after_shout : InForce → Option MsgRef → Message → Result (Unit 
 after_shout s r m a = replied s r m (full_reason true) (λ u. []) a
 
 abbrev pub after_track : InForce → Option MsgRef → Message → Result Dot ShardFault → End
-after_track s r m a = replied s r m (track_reason true) (λ d. ok r m (told_ref d) ∷ []) a
+after_track s r m a = replied s r m (track_reason true) (λ d. message (ok r m (told_ref d)) ∷ []) a
 
 abbrev pub after_update : InForce → Option MsgRef → Message → Result Dot ShardFault → End
-after_update s r m a = replied s r m update_reason (λ d. ok r m (told_ref d) ∷ []) a
+after_update s r m a = replied s r m update_reason (λ d. message (ok r m (told_ref d)) ∷ []) a
 
 abbrev pub after_untrack : InForce → Option MsgRef → Message → Result (Unit {0}) ShardFault → End
-after_untrack s r m a = replied s r m (full_reason true) (λ u. ok r m empty ∷ []) a
+after_untrack s r m a = replied s r m (full_reason true) (λ u. message (ok r m empty) ∷ []) a
 
-abbrev pub after_list : InForce → Option MsgRef → Message → Result (List (Dot × Row)) ShardFault → End
-after_list s r m a = replied s r m (full_reason true) (λ rows. ok r m (state_of rows) ∷ []) a
+abbrev pub after_list : ℕ → InForce → Option MsgRef → Message → Result (List (Dot × Row)) ShardFault → End
+after_list kind s r m a = replied s r m (full_reason true) (λ rows. listed kind r m rows ∷ []) a
 
 abbrev pub bad_payload : InForce → Option MsgRef → Message → Script End
 bad_payload s r m = done (says_error r m (codes "bad payload") s)
@@ -131,12 +126,12 @@ abbrev pub on_untrack : ℕ → InForce → Option MsgRef → Message → Option
 on_untrack pid s r m (Some key) = ask (untrack pid m.topic key) (λ a. done (after_untrack s r m a))
 on_untrack pid s r m None = bad_payload s r m
 
-abbrev pub on_list : InForce → Option MsgRef → Message → Script End
-on_list s r m = ask (list m.topic) (λ a. done (after_list s r m a))
+abbrev pub on_list : ℕ → InForce → Option MsgRef → Message → Script End
+on_list kind s r m = ask (list m.topic) (λ a. done (after_list kind s r m a))
 
-abbrev pub on_get : InForce → Option MsgRef → Message → Option (List ℕ) → Script End
-on_get s r m (Some key) = ask (get m.topic key) (λ a. done (after_list s r m a))
-on_get s r m None = bad_payload s r m
+abbrev pub on_get : ℕ → InForce → Option MsgRef → Message → Option (List ℕ) → Script End
+on_get kind s r m (Some key) = ask (get m.topic key) (λ a. done (after_list kind s r m a))
+on_get kind s r m None = bad_payload s r m
 
 abbrev pub on_unknown : InForce → Option MsgRef → Message → Script End
 on_unknown s r m = done (says_error r m (codes "unknown event") s)
@@ -159,7 +154,7 @@ abbrev pub on_leave : ℕ → InForce → Option Joined → Message → Script E
 on_leave pid s (Some j) m = ended pid m.topic j.sub (done (says (ok j.join_ref m empty ∷ closing j.join_ref m.topic ∷ []) (left s m.topic)))
 on_leave pid s None m = done (says_ok m.join_ref m empty s)
 
--- ---- joins: `before` went out before the join's own reply, `first` tells whether its first call is the text's
+-- ---- joins: `before` is said before the join's own reply, `first` tells whether its first call is the text's, `kind` is that of the topic
 
 abbrev pub or_ref : Option MsgRef → Option MsgRef → Option MsgRef
 or_ref (Some r) other = Some r
@@ -169,46 +164,46 @@ or_ref None other = other
 abbrev pub join_ref_of : Message → Option MsgRef
 join_ref_of m = or_ref m.join_ref m.msg_ref
 
-abbrev pub joins : InForce → Message → Sub → InForce
-joins s m sub = record { pid = s.pid; failed = s.failed; joined = s.joined ++ record { topic = m.topic; join_ref = join_ref_of m; sub = sub } ∷ []; cut_short = s.cut_short }
+abbrev pub joins : ℕ → InForce → Message → Sub → InForce
+joins kind s m sub = record { pid = s.pid; failed = s.failed; joined = s.joined ++ record { topic = m.topic; kind = kind; join_ref = join_ref_of m; sub = sub } ∷ []; cut_short = s.cut_short }
 
-abbrev pub answers_join : List (List ℕ) → Message → InForce → End
-answers_join before reply s = answers (before ++ text_of reply ∷ []) s
+abbrev pub answers_join : List Said → Message → InForce → End
+answers_join before reply s = answers (before ++ message reply ∷ []) s
 
-abbrev pub refuses : List (List ℕ) → InForce → Message → List ℕ → End
+abbrev pub refuses : List Said → InForce → Message → List ℕ → End
 refuses before s m reason = answers_join before (error (join_ref_of m) m reason) s
 
-abbrev pub after_subscribe : Bool → List (List ℕ) → InForce → Message → Data → Result Sub ShardFault → End
-after_subscribe first before s m response (Ok sub) = answers_join before (ok (join_ref_of m) m response) (joins s m sub)
-after_subscribe first before s m response (Err e) = said (refuses before s m) e (full_reason first e)
+abbrev pub after_subscribe : Bool → List Said → ℕ → InForce → Message → Data → Result Sub ShardFault → End
+after_subscribe first before kind s m response (Ok sub) = answers_join before (ok (join_ref_of m) m response) (joins kind s m sub)
+after_subscribe first before kind s m response (Err e) = said (refuses before s m) e (full_reason first e)
 
-abbrev pub subscribes : Bool → List (List ℕ) → InForce → Message → Data → Script End
-subscribes first before s m response = ask (subscribe m.topic) (λ a. done (after_subscribe first before s m response a))
+abbrev pub subscribes : Bool → List Said → ℕ → InForce → Message → Data → Script End
+subscribes first before kind s m response = ask (subscribe m.topic) (λ a. done (after_subscribe first before kind s m response a))
 
-abbrev pub then_subscribe : Bool → List (List ℕ) → InForce → Message → Result Dot ShardFault → Script End
-then_subscribe first before s m (Ok d) = subscribes false before s m (told_ref d)
-then_subscribe first before s m (Err e) = done (said (refuses before s m) e (track_reason first e))
+abbrev pub then_subscribe : Bool → List Said → ℕ → InForce → Message → Result Dot ShardFault → Script End
+then_subscribe first before kind s m (Ok d) = subscribes false before kind s m (told_ref d)
+then_subscribe first before kind s m (Err e) = done (said (refuses before s m) e (track_reason first e))
 
-abbrev pub tracks : ℕ → Bool → List (List ℕ) → InForce → Message → List ℕ → Data → Script End
-tracks pid first before s m key meta = ask (track pid m.topic key meta) (then_subscribe first before s m)
+abbrev pub tracks : ℕ → Bool → List Said → ℕ → InForce → Message → List ℕ → Data → Script End
+tracks pid first before kind s m key meta = ask (track pid m.topic key meta) (then_subscribe first before kind s m)
 
 -- a join of one topic too many is refused, and any other goes on
-abbrev pub within : ℕ → List (List ℕ) → InForce → Message → Script End → Script End
+abbrev pub within : ℕ → List Said → InForce → Message → Script End → Script End
 within count before s m next = if nat_le MAX_TOPICS count then done (refuses before s m (codes "too many topics")) else next
 
 -- a bad payload is told first
-abbrev pub join_asked : ℕ → ℕ → Bool → List (List ℕ) → InForce → Message → Asked → Script End
-join_asked pid count first before s m Bad = done (refuses before s m (codes "bad payload"))
-join_asked pid count first before s m Nothing = within count before s m (subscribes first before s m empty)
-join_asked pid count first before s m (Wants key meta) = within count before s m (tracks pid first before s m key meta)
+abbrev pub join_asked : ℕ → ℕ → Bool → List Said → ℕ → InForce → Message → Asked → Script End
+join_asked pid count first before kind s m Bad = done (refuses before s m (codes "bad payload"))
+join_asked pid count first before kind s m Nothing = within count before s m (subscribes first before kind s m empty)
+join_asked pid count first before kind s m (Wants key meta) = within count before s m (tracks pid first before kind s m key meta)
 
 -- The old join ends, its close goes out, and the new join is handled.
-abbrev pub rejoins : ℕ → ℕ → Joined → InForce → Message → Asked → Script End
-rejoins pid count j s m a = ended pid m.topic j.sub (join_asked pid count false (text_of (closing j.join_ref m.topic) ∷ []) s m a)
+abbrev pub rejoins : ℕ → ℕ → Joined → ℕ → InForce → Message → Asked → Script End
+rejoins pid count j kind s m a = ended pid m.topic j.sub (join_asked pid count false (message (closing j.join_ref m.topic) ∷ []) kind s m a)
 
-abbrev pub on_join : ℕ → ℕ → InForce → Option Joined → Message → Asked → Script End
-on_join pid count s None m a = join_asked pid count true [] s m a
-on_join pid count s (Some j) m a = rejoins pid (count - 1) j (left s m.topic) m a
+abbrev pub on_join : ℕ → ℕ → ℕ → InForce → Option Joined → Message → Asked → Script End
+on_join pid count kind s None m a = join_asked pid count true [] kind s m a
+on_join pid count kind s (Some j) m a = rejoins pid (count - 1) j kind (left s m.topic) m a
 
 -- ---- the whole table, in the order in which the rules are tried
 
@@ -218,33 +213,39 @@ unmatched s m = done (says_error m.join_ref m (codes "unmatched topic") s)
 abbrev pub on_heartbeat : InForce → Message → Script End
 on_heartbeat s m = done (says_ok None m empty s)
 
-abbrev pub on_event : ℕ → InForce → Option MsgRef → Message → TopicEvent → Script End
-on_event pid s r m events_are.Ping = on_ping s r m
-on_event pid s r m events_are.Shout = on_shout s r m
-on_event pid s r m events_are.Track = on_track pid s r m (asked m.payload)
-on_event pid s r m events_are.Update = on_update pid s r m (asked m.payload)
-on_event pid s r m events_are.Untrack = on_untrack pid s r m (key_asked m.payload)
-on_event pid s r m events_are.List = on_list s r m
-on_event pid s r m events_are.Get = on_get s r m (key_asked m.payload)
-on_event pid s r m events_are.Unknown = on_unknown s r m
+abbrev pub on_event : ℕ → ℕ → InForce → Option MsgRef → Message → TopicEvent → Script End
+on_event pid kind s r m events_are.Ping = on_ping s r m
+on_event pid kind s r m events_are.Shout = on_shout s r m
+on_event pid kind s r m events_are.Track = on_track pid s r m (asked m.payload)
+on_event pid kind s r m events_are.Update = on_update pid s r m (asked m.payload)
+on_event pid kind s r m events_are.Untrack = on_untrack pid s r m (key_asked m.payload)
+on_event pid kind s r m events_are.List = on_list kind s r m
+on_event pid kind s r m events_are.Get = on_get kind s r m (key_asked m.payload)
+on_event pid kind s r m events_are.Unknown = on_unknown s r m
 
 abbrev pub on_topic : ℕ → InForce → Option Joined → Message → TopicEvent → Script End
-on_topic pid s (Some j) m event = on_event pid s j.join_ref m event
+on_topic pid s (Some j) m event = on_event pid j.kind s j.join_ref m event
 on_topic pid s None m event = unmatched s m
 
+-- a topic without a kind can't be joined
+abbrev pub by_route : ℕ → ℕ → InForce → Option Joined → Message → Option ℕ → Script End
+by_route pid count s j m None = unmatched s m
+by_route pid count s j m (Some kind) = on_join pid count kind s j m (asked m.payload)
+
 -- heartbeats on `phoenix`; joins of a topic that can be joined; leaves; everything else
-abbrev pub by_kind : Bool → Bool → ℕ → ℕ → InForce → Option Joined → Message → EventKind → Script End
-by_kind phoenix routed pid count s j m kinds_are.Heartbeat = if phoenix then on_heartbeat s m else on_topic pid s j m events_are.Unknown
-by_kind phoenix routed pid count s j m kinds_are.Join = if phoenix || not routed then unmatched s m else on_join pid count s j m (asked m.payload)
-by_kind phoenix routed pid count s j m kinds_are.Leave = on_leave pid s j m
-by_kind phoenix routed pid count s j m (kinds_are.Topic event) = on_topic pid s j m event
+abbrev pub by_kind : Bool → Option ℕ → ℕ → ℕ → InForce → Option Joined → Message → EventKind → Script End
+by_kind phoenix route pid count s j m kinds_are.Heartbeat = if phoenix then on_heartbeat s m else on_topic pid s j m events_are.Unknown
+by_kind phoenix route pid count s j m kinds_are.Join = by_route pid count s j m route
+by_kind phoenix route pid count s j m kinds_are.Leave = on_leave pid s j m
+by_kind phoenix route pid count s j m (kinds_are.Topic event) = on_topic pid s j m event
 
 -- the topic of heartbeats, which is never joined
 abbrev pub is_phoenix : List ℕ → Bool
 is_phoenix t = bytes_eq t (codes "phoenix")
 
-abbrev pub is_routed : List (List ℕ × ℕ) → List ℕ → Bool
-is_routed routes t = is_some (first_kind t routes)
+-- the kind of the topics that can be joined: that of the first route that matches
+abbrev pub route_of : Bool → List (List ℕ × ℕ) → List ℕ → Option ℕ
+route_of phoenix routes t = if phoenix then None else first_kind t routes
 
 abbrev pub topic_event_of : List ℕ → TopicEvent
 topic_event_of event =
@@ -270,8 +271,8 @@ kind_of event =
 abbrev pub join_at : InForce → Message → Option Joined
 join_at s m = find m.topic s.joined
 
-abbrev pub join_rule : InForce → Option Joined → Message → Script End
-join_rule s j m = on_join s.pid (length s.joined) s j m (asked m.payload)
+abbrev pub join_rule : ℕ → InForce → Option Joined → Message → Script End
+join_rule kind s j m = on_join s.pid (length s.joined) kind s j m (asked m.payload)
 
 abbrev pub leave_rule : InForce → Option Joined → Message → Script End
 leave_rule s j m = on_leave s.pid s j m
@@ -279,8 +280,8 @@ leave_rule s j m = on_leave s.pid s j m
 abbrev pub topic_rule : InForce → Message → TopicEvent → Script End
 topic_rule s m event = on_topic s.pid s (join_at s m) m event
 
-abbrev pub kind_rule : Bool → Bool → InForce → Message → EventKind → Script End
-kind_rule phoenix routed s m kind = by_kind phoenix routed s.pid (length s.joined) s (join_at s m) m kind
+abbrev pub kind_rule : Bool → Option ℕ → InForce → Message → EventKind → Script End
+kind_rule phoenix route s m kind = by_kind phoenix route s.pid (length s.joined) s (join_at s m) m kind
 
 unfoldable pub rules : List (List ℕ × ℕ) → InForce → Message → Script End
-rules routes s m = kind_rule (is_phoenix m.topic) (is_routed routes m.topic) s m (kind_of m.event)
+rules routes s m = kind_rule (is_phoenix m.topic) (route_of (is_phoenix m.topic) routes m.topic) s m (kind_of m.event)

@@ -1,11 +1,13 @@
 //! The rules of the built-in channel, what they ask of a port, and the parts of their answers.
 //!
 //! `specs/Rules` has the rules as scripts of questions, `specs/Asks` the questions, `specs/Outcome`
-//! what the function of a rule promises, `specs/Delivering` the script of a delivery.
+//! what the function of a rule promises, `specs/Delivering` the script of a delivery, `specs/Said`
+//! what is said and by which messages it is told.
 #![tactic(auto)]
 
 mod asked;
 mod kind;
+pub mod laws;
 mod port;
 mod reasons;
 mod replies;
@@ -16,8 +18,6 @@ pub use asked::{Asked, read_asked, read_key};
 pub use kind::{EventKind, TopicEvent, is_phoenix, kind_of};
 pub use port::Port;
 pub use reasons::{full_reason, stop_of, track_reason, update_reason};
-pub use replies::{
-    Reply, close_text, empty_object, error_text, ok_text, ref_response, state_response,
-};
+pub use replies::{Reply, Written, empty_object, ref_response, write_close, write_error, write_ok};
 pub use stop::{Stop, StopKind, spoil, spoiling};
 pub use topics::{MAX_TOPICS, Place, Topics};

@@ -49,7 +49,8 @@ pub fn spoiling<T: Drop>(made: Result<T, AllocError>) -> Result<T, Stop>
 
 /// What came of the rest, after a call that leaves something behind.
 pub fn spoil<T: Drop>(rest: Result<T, Stop>) -> Result<T, Stop>
-    ensures { (end : T → End) → seen end result ≡ spoilt (seen end rest) }
+    ensures ends { (end : T → End) → seen end result ≡ spoilt (seen end rest) }
+    ensures ok { IfOk result (λ x. rest ≡ Ok x) }
 {
     match rest {
         Ok(x) => Ok(x),

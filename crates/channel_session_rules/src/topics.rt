@@ -7,9 +7,11 @@ use tracker_shard::Sub;
 /// How many topics a session may join.
 pub const MAX_TOPICS: usize = 64;
 
-/// The present join of a topic: the reference that its replies carry, and its subscriber.
+/// The present join of a topic: the topic's kind, the reference that the join's replies carry, and
+/// its subscriber.
 #[derive(Drop)]
 pub struct Place {
+    pub kind: u32,
     pub join_ref: Option<MsgRef>,
     pub sub: Sub,
 }
@@ -22,6 +24,7 @@ impl Clone for Place {
     fn clone(&self) -> Result<Place, AllocError> {
         let join_ref = self.join_ref.clone()?;
         Ok(Place {
+            kind: self.kind,
             join_ref,
             sub: self.sub,
         })
@@ -102,13 +105,20 @@ impl Topics {
     }
 
     /// Adds a topic where its join was accepted.
-    pub fn enter(&mut self, topic: Topic, join_ref: Option<MsgRef>, sub: Option<Sub>)
+    pub fn enter(&mut self, topic: Topic, kind: u32, join_ref: Option<MsgRef>, sub: Option<Sub>)
         requires absent { find topic (joined_in self.old) ≡ None }
         requires room { 1 ≤ spare self.old.places }
-        ensures { joined_in self.new ≡ added (joined_in self.old) topic join_ref sub }
+        ensures { joined_in self.new ≡ added (joined_in self.old) topic kind join_ref sub }
     {
         match sub {
-            Some(sub) => self.join(topic, Place { join_ref, sub }),
+            Some(sub) => {
+                let place = Place {
+                    kind,
+                    join_ref,
+                    sub,
+                };
+                self.join(topic, place)
+            }
             None => (),
         }
     }

@@ -3,4 +3,4 @@ use Rattle.channel_session_rules.proofs.Once.{once_heeding, heeds_seen}
 use Rattle.channel_session_events.proofs.joins.subscribe_with.Goals as goal
 
 pub returns : goal.returns
-returns g c = λ before s. once_heeding _ _ _ _ _ _ _ _ c.subscribe-answer.ensures refl (c.subscribed.ensures.gives _ (search rules) before s) (heeds_seen _ _ _ c.subscribed.ensures.heeds)
+returns g c = λ before kind s. once_heeding _ _ _ _ _ _ _ _ c.subscribe-answer.ensures refl (c.subscribed.ensures.gives _ (search rules) before kind s) (heeds_seen _ _ _ c.subscribed.ensures.heeds)

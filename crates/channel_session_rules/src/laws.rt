@@ -1,0 +1,6 @@
+ghost use Rattle.channel_session_rules.specs.Limits.{LimitOfTopics};
+
+/// How many topics a session may join.
+pub fn limit_of_topics()
+    ensures { LimitOfTopics }
+{}
