@@ -51,26 +51,26 @@ module _ (h : History) (s : Step) where
       go None = refl
       go (Some o) = own-then h (next_entry h s None o)
 
-  mine_after : (pid : ℕ) (x : Dot × Row) → is_mine (after h s None) pid x ≡ is_mine h pid x
+  pub mine_after : (pid : ℕ) (x : Dot × Row) → is_mine (after h s None) pid x ≡ is_mine h pid x
   mine_after pid x = ap (λ o. same_replica x.0.replica o && nat_eq x.1.pid pid) own_after
 
 -- The row was there before, and the outcome doesn't name it.
-record WasThere (h : History) (s : Step) (t : List ℕ) (p : Place) (r : Row) : Type 0 where
-  before : map.get (present h t) p ≡ Some r
-  spared : (o : Outcome) → accepted h s ≡ Some o → has_dot (dots_taken o) p.dot ≡ false
+pub record WasThere (h : History) (s : Step) (t : List ℕ) (p : Place) (r : Row) : Type 0 where
+  pub before : map.get (present h t) p ≡ Some r
+  pub spared : (o : Outcome) → accepted h s ≡ Some o → has_dot (dots_taken o) p.dot ≡ false
 
-abbrev AddsNone : History → Step → Type 0
+abbrev pub AddsNone : History → Step → Type 0
 AddsNone h s = (o : Outcome) → outcome_of h s ≡ Some o → dots_added o ≡ []
 
 after_refused : (h : History) (s : Step) → accepted h s ≡ None → after h s None ≡ h
 unfolding after
 after_refused h s f = ap (with_outcome h s None) f
 
-same_some : (o q : Outcome) → ◌≡◌ {A = Option Outcome} (Some o) (Some q) → o ≡ q
+pub same_some : (o q : Outcome) → ◌≡◌ {A = Option Outcome} (Some o) (Some q) → o ≡ q
 same_some o q e = cc
 
 module _ (leave : OnlyNamedLeave) (h : History) (legal : IsLegal h) (s : Step) (adds : AddsNone h s) where
-  was_there : (t : List ℕ) (p : Place) (r : Row) → map.get (present (after h s None) t) p ≡ Some r → WasThere h s t p r
+  pub was_there : (t : List ℕ) (p : Place) (r : Row) → map.get (present (after h s None) t) p ≡ Some r → WasThere h s t p r
   was_there t p r e = go (accepted h s) refl
     where
       go : (o : Option Outcome) → accepted h s ≡ o → WasThere h s t p r
@@ -88,7 +88,7 @@ module _ (leave : OnlyNamedLeave) (h : History) (legal : IsLegal h) (s : Step) (
   stands_after ts pid on t p r e mine = on t p r (was_there t p r e).before (sym (mine_after h s pid (p.dot, r)) ∙ mine)
 
 -- what holds before a step and after it holds whatever was answered
-either : {A : Type 0} (P : History → Type 0) (old new : History) (s : Step) (a : Result A ShardFault) → Stepped old new None s a → P old → P (after old s None) → P new
+pub either : {A : Type 0} (P : History → Type 0) (old new : History) (s : Step) (a : Result A ShardFault) → Stepped old new None s a → P old → P (after old s None) → P new
 either P old new s (Ok x) m p q = subst P (sym m.journal) q
 either P old new s (Err AlreadyTracked) m p q = subst P (sym m.journal) q
 either P old new s (Err NoPresence) m p q = subst P (sym m.journal) q
@@ -99,7 +99,7 @@ either P old new s (Err OutOfMemory) m p q = subst P (sym m) p
 
 -- ---- the two steps of an end
 
-untracked_is : (h : History) (ds : List Dot) (o : Outcome) → untracked h ds ≡ Some o → o ≡ outcomes_are.Removed ds
+pub untracked_is : (h : History) (ds : List Dot) (o : Outcome) → untracked h ds ≡ Some o → o ≡ outcomes_are.Removed ds
 untracked_is h [] o e = same_some o (outcomes_are.Removed []) (sym e)
 untracked_is h (d ∷ ds) o e = go (nat_lt (count h) (2 ^ 62)) e
   where
@@ -107,18 +107,18 @@ untracked_is h (d ∷ ds) o e = go (nat_lt (count h) (2 ^ 62)) e
     go true f = same_some o (outcomes_are.Removed (d ∷ ds)) (sym f)
     go false f = absurd (cc)
 
-all_removed : (h : History) (pid : ℕ) (t : List ℕ) (o : Outcome) → outcome_of h (steps_are.UntrackAll pid t) ≡ Some o → o ≡ outcomes_are.Removed (dots_of (rows_of_pid h pid t))
+pub all_removed : (h : History) (pid : ℕ) (t : List ℕ) (o : Outcome) → outcome_of h (steps_are.UntrackAll pid t) ≡ Some o → o ≡ outcomes_are.Removed (dots_of (rows_of_pid h pid t))
 unfolding outcome_of
 all_removed h pid t o e = untracked_is h (dots_of (rows_of_pid h pid t)) o e
 
-untrack_adds : (h : History) (pid : ℕ) (t : List ℕ) → AddsNone h (steps_are.UntrackAll pid t)
+pub untrack_adds : (h : History) (pid : ℕ) (t : List ℕ) → AddsNone h (steps_are.UntrackAll pid t)
 untrack_adds h pid t o e = ap dots_added (all_removed h pid t o e)
 
 ended_is : (t : Option (List ℕ)) (o : Outcome) → for_present t outcomes_are.Ended ≡ Some o → o ≡ outcomes_are.Ended
 ended_is None o e = absurd (cc)
 ended_is (Some t) o e = same_some o outcomes_are.Ended (sym e)
 
-unsubscribe_adds : (h : History) (n : ℕ) → AddsNone h (steps_are.Unsubscribe n)
+pub unsubscribe_adds : (h : History) (n : ℕ) → AddsNone h (steps_are.Unsubscribe n)
 unfolding outcome_of
 unsubscribe_adds h n o e = ap dots_added (ended_is (topic_of h n) o e)
 
@@ -130,7 +130,7 @@ none_is_some r e = cc
 same_row : (x y : Row) → ◌≡◌ {A = Option Row} (Some x) (Some y) → x ≡ y
 same_row x y e = cc
 
-or_true : (b : Bool) → (b || true) ≡ true
+pub or_true : (b : Bool) → (b || true) ≡ true
 or_true true = refl
 or_true false = refl
 
@@ -159,16 +159,16 @@ module _ (test : Dot × Row → Bool) (p : Place) (r : Row) (passes : test (p.do
       go true q f ih = here (and_second (same_text p.key x.0.key) (same_dot p.dot x.0.dot) (sym (same_place p x.0) ∙ q)) (same_row x.1 r f)
       go false q f ih = later (test (x.0.dot, x.1)) (ih f)
 
-mine_is_named : (h : History) (pid : ℕ) (t : List ℕ) (p : Place) (r : Row) → map.get (present h t) p ≡ Some r → is_mine h pid (p.dot, r) ≡ true → has_dot (dots_of (rows_of_pid h pid t)) p.dot ≡ true
+pub mine_is_named : (h : History) (pid : ℕ) (t : List ℕ) (p : Place) (r : Row) → map.get (present h t) p ≡ Some r → is_mine h pid (p.dot, r) ≡ true → has_dot (dots_of (rows_of_pid h pid t)) p.dot ≡ true
 unfolding rows_of_pid in_order
 mine_is_named h pid t p r e mine = in_dots (is_mine h pid) p r mine (map.entries (present h t)) (sym (map.get-entries (present h t) p) ∙ e)
 
-no_row : (b : Bool) → b ≡ true → b ≡ false → ⊥
+pub no_row : (b : Bool) → b ≡ true → b ≡ false → ⊥
 no_row b p q = cc
 
 -- an accepted removal of all leaves the pid no row on the topic
 module _ (leave : OnlyNamedLeave) (h new : History) (legal : IsLegal h) (pid : ℕ) (t : List ℕ) (made : Made h new None (steps_are.UntrackAll pid t)) where
-  is_accepted : (o : Option Outcome) → accepted h (steps_are.UntrackAll pid t) ≡ o → is_some o ≡ true → accepted h (steps_are.UntrackAll pid t) ≡ Some (outcomes_are.Removed (dots_of (rows_of_pid h pid t)))
+  pub is_accepted : (o : Option Outcome) → accepted h (steps_are.UntrackAll pid t) ≡ o → is_some o ≡ true → accepted h (steps_are.UntrackAll pid t) ≡ Some (outcomes_are.Removed (dots_of (rows_of_pid h pid t)))
   is_accepted None e f = absurd (cc)
   is_accepted (Some o) e f = e ∙ ap (λ x. Some x) (all_removed h pid t o (accepted_is h (steps_are.UntrackAll pid t) o e).1)
 

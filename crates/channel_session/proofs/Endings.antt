@@ -1,5 +1,5 @@
 -- The end of a session, call by call.
-use Rattle.std.proofs.Common.{◌≡◌, ◌+◌, ℕ, zero, suc, List, [], ◌∷◌, drop, take, Bool, Some, None, Option, Result, Ok, Err, true, refl, sym, ap, ◌∙◌, subst}
+use Rattle.std.proofs.Common.{◌≡◌, ℕ, zero, suc, List, [], ◌∷◌, drop, take, Some, None, Option, Result, Ok, Err, true, refl, sym, ap, ◌∙◌, subst}
 use Rattle.std.specs.List.{slice_get, remove}
 use Rattle.tracker_shard.specs.declared.fault.ShardFault.{ShardFault}
 use Rattle.tracker_shard.specs.declared.fault.ShardFault.TheVariants.{AlreadyTracked, NoPresence, ClockFull, JournalFull, NoSub, OutOfMemory}
@@ -7,7 +7,7 @@ use Rattle.tracker_shard.specs.declared.shard.Sub.{Sub}
 use Rattle.channel_session_rules.specs.Asks.{Ask, Answer, unsubscribe, untrack_all}
 use Rattle.channel_session_rules.specs.Script.{Script, done, ask}
 use Rattle.channel_session_rules.specs.InForce.{Joined, InForce}
-use Rattle.channel_session.specs.Ending.{Played, Gone, Keeps, Ended, Leaving, then_rows, ends_topic, ends_topics, ends, left_with, failed_by, then_topics, staying}
+use Rattle.channel_session.specs.Ending.{Played, Gone, Keeps, Ended, Leaving, then_rows, ends_topics, ends, left_with, failed_by, then_topics, staying}
 
 module _ {P E : Type 0} (step : P → (q : Ask) → Answer q → P → Type 0) where
   pub played_now : (e : E) (old : P) → Played step (done e) old old e

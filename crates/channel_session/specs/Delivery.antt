@@ -1,14 +1,18 @@
--- What a delivery did: the calls, the texts, and what is left after a fault.
-use Rattle.std.specs.Prelude.{◌≡◌, ℕ, List, true, if◌then◌else◌, Result, Ok, Err}
+-- What a delivery did: the calls, what was said by which texts and notices, and what is left after a fault.
+use Rattle.std.specs.Prelude.{◌≡◌, ℕ, List, true, if◌then◌else◌, Result, Ok, Err, IfOk}
+use Rattle.phx_message.specs.declared.message.Message.{Message}
+use Rattle.channel_session_events.specs.Carrying.{Carries}
+use Rattle.channel_session_events.specs.declared.frames.Delivery.{Delivery}
 use Rattle.channel_session_rules.specs.Asks.{Ask, Answer}
-use Rattle.channel_session_rules.specs.Outcome.{Follows}
+use Rattle.channel_session_rules.specs.Outcome.{Follows, seen}
 use Rattle.channel_session_rules.specs.Rules.{End, answers}
+use Rattle.channel_session_rules.specs.Said.{Said}
 use Rattle.channel_session_rules.specs.Script.{Script}
 use Rattle.channel_session_rules.specs.declared.stop.Stop.{Stop}
-use Rattle.channel_session.specs.Ran.{fault_of}
+use Rattle.channel_session.specs.Ran.{fault_of, said_by}
 use Rattle.channel_session.specs.declared.fault.SessionFault.{SessionFault}
 pub use Rattle.channel_session_rules.specs.InForce.{InForce}
-pub use Rattle.channel_session_rules.specs.Delivering.{frame, then_frames, then_take, delivers, delivery}
+pub use Rattle.channel_session_rules.specs.Delivering.{then_told, then_take, delivers, delivery}
 
 -- the session, which has failed
 abbrev pub failing : InForce → InForce
@@ -21,7 +25,23 @@ pub record CutShort {P : Type 0} (step : P → (q : Ask) → Answer q → P → 
   pub calls : Follows step script old new (Err stop)
   pub left : after ≡ (if stop.spoiled then failing s else s)
 
--- From the one port and session to the others these texts were made, and the session is as before; or this fault came.
-abbrev pub Delivered : {P : Type 0} → (P → (q : Ask) → Answer q → P → Type 0) → ℕ → InForce → P → P → InForce → Result (List (List ℕ)) SessionFault → Type 0
-Delivered step max s old new after (Ok texts) = Follows step (delivery max s) old new (Ok (answers texts s)) × (after ≡ s)
+-- From the one port and session to the others this was said, and the session is as before; or this fault came.
+abbrev pub Delivered : {P : Type 0} → (P → (q : Ask) → Answer q → P → Type 0) → ℕ → InForce → P → P → InForce → Result (List Said) SessionFault → Type 0
+Delivered step max s old new after (Ok said) = Follows step (delivery max s) old new (Ok (answers said s)) × (after ≡ s)
 Delivered step max s old new after (Err fault) = CutShort step (delivery max s) s old new after fault
+
+-- The calls of the script were made, and these texts and notices are of what it says.
+pub record DealsBy {P : Type 0} (W : Said → Message → Type 0) (N : Said → List (List ℕ) → Type 0) (step : P → (q : Ask) → Answer q → P → Type 0) (script : Script End) (old new : P) (s : InForce) (result : Result Delivery Stop) : Type 0 where
+  pub said : List Said
+  pub carries : IfOk result (λ d. Carries W N said d)
+  pub deals : Follows step script old new (seen (λ d. answers said s) result)
+
+-- What a delivery did, and by which texts and notices.
+pub record DeliveredBy {P : Type 0} (W : Said → Message → Type 0) (N : Said → List (List ℕ) → Type 0) (step : P → (q : Ask) → Answer q → P → Type 0) (max : ℕ) (s : InForce) (old new : P) (after : InForce) (result : Result Delivery SessionFault) : Type 0 where
+  pub said : List Said
+  pub carries : IfOk result (λ d. Carries W N said d)
+  pub delivered : Delivered step max s old new after (said_by said result)
+
+-- So it is whatever was said before and is in force, where this tells what was said.
+abbrev pub DealsBehind : {P : Type 0} → (Said → Message → Type 0) → (Said → List (List ℕ) → Type 0) → (P → (q : Ask) → Answer q → P → Type 0) → (List Said → InForce → Script End) → P → P → Delivery → Result Delivery Stop → Type 0
+DealsBehind W N step script old new before result = (said : List Said) (s : InForce) → Carries W N said before → DealsBy W N step (script said s) old new s result

@@ -2,12 +2,15 @@ pub mod Ran
 pub mod Delivery
 pub mod Ending
 pub mod LeftBehind
+pub mod Naming
 pub use Rattle.channel_session_rules.specs.Asks
 pub use Rattle.channel_session_rules.specs.Script
 pub use Rattle.channel_session_rules.specs.InForce
 pub use Rattle.channel_session_rules.specs.Rules
+pub use Rattle.channel_session_rules.specs.Said
 pub use Rattle.channel_session_rules.specs.Outcome
 pub use Rattle.channel_session_rules.specs.Frames
+pub use Rattle.channel_session_events.specs.Carrying
 pub use Rattle.channel_session_laws.specs.Local
 pub use Rattle.channel_session_laws.specs.Mirrors
 pub use Rattle.channel_session_laws.specs.Keeping

@@ -1,5 +1,5 @@
--- What a text did: the calls, the texts, and what is left after a fault.
-use Rattle.std.specs.Prelude.{◌≡◌, ◌⊎◌, ℕ, List, map, true, false, Option, None, Some, Result, Ok, Err, if◌then◌else◌, String, string_bytes, Vec}
+-- What a text did: the calls, what was said by which texts, and what is left after a fault.
+use Rattle.std.specs.Prelude.{◌≡◌, ◌⊎◌, ℕ, List, map, true, false, Option, None, Some, Result, Ok, Err, IfOk, if◌then◌else◌, String, string_bytes, Vec}
 use Rattle.std.specs.Global.{Global}
 use Rattle.phx_message.specs.declared.message.Message.{Message}
 use Rattle.phx_message.specs.declared.message.MessageFault.{MessageFault}
@@ -7,6 +7,7 @@ use Rattle.channel_session_rules.specs.Asks.{Ask, Answer}
 use Rattle.channel_session_rules.specs.Script.{Script}
 use Rattle.channel_session_rules.specs.Rules.{InForce, Joined, End, answers, find, rules}
 use Rattle.channel_session_rules.specs.Outcome.{Follows}
+use Rattle.channel_session_rules.specs.Said.{Said, WritesAll}
 use Rattle.channel_session_rules.specs.declared.stop.Stop.{Stop}
 use Rattle.channel_session_rules.specs.declared.stop.StopKind.{StopKind}
 use Rattle.channel_session_rules.specs.declared.stop.StopKind.TheVariants as kinds
@@ -37,30 +38,46 @@ pub record Untouched {P : Type 0} (s : InForce) (old new : P) (after : InForce) 
   pub port : new ≡ old
   pub session : after ≡ s
 
--- What a message does: the calls of the rules were made, and their texts are given.
-abbrev pub MessageRan : {P : Type 0} → (P → (q : Ask) → Answer q → P → Type 0) → List (List ℕ × ℕ) → InForce → Message → P → P → InForce → Result (List (List ℕ)) SessionFault → Type 0
-MessageRan step routes s m old new after (Ok texts) = Follows step (rules routes s m) old new (Ok (answers texts after)) × (after.failed ≡ s.failed)
+-- What a message does: the calls of the rules were made, and this is said by them.
+abbrev pub MessageRan : {P : Type 0} → (P → (q : Ask) → Answer q → P → Type 0) → List (List ℕ × ℕ) → InForce → Message → P → P → InForce → Result (List Said) SessionFault → Type 0
+MessageRan step routes s m old new after (Ok said) = Follows step (rules routes s m) old new (Ok (answers said after)) × (after.failed ≡ s.failed)
 MessageRan step routes s m old new after (Err fault) = Faulted step (rules routes s m) m.topic s old new after fault
 
 -- The message that a text is read as was handled so.
-pub record ReadAs {P : Type 0} (step : P → (q : Ask) → Answer q → P → Type 0) (routes : List (List ℕ × ℕ)) (s : InForce) (reading : Result Message MessageFault) (old new : P) (after : InForce) (result : Result (List (List ℕ)) SessionFault) : Type 0 where
+pub record ReadAs {P : Type 0} (step : P → (q : Ask) → Answer q → P → Type 0) (routes : List (List ℕ × ℕ)) (s : InForce) (reading : Result Message MessageFault) (old new : P) (after : InForce) (result : Result (List Said) SessionFault) : Type 0 where
   pub message : Message
   pub read : reading ≡ Ok message
   pub ran : MessageRan step routes s message old new after result
 
 -- What a text does, by how it ended. Memory may run out before anything is asked.
-abbrev pub EndedSo : {P : Type 0} → (P → (q : Ask) → Answer q → P → Type 0) → List (List ℕ × ℕ) → InForce → Result Message MessageFault → P → P → InForce → Result (List (List ℕ)) SessionFault → Type 0
+abbrev pub EndedSo : {P : Type 0} → (P → (q : Ask) → Answer q → P → Type 0) → List (List ℕ × ℕ) → InForce → Result Message MessageFault → P → P → InForce → Result (List Said) SessionFault → Type 0
 EndedSo step routes s reading old new after (Err Failed) = (s.failed ≡ true) × Untouched s old new after
 EndedSo step routes s reading old new after (Err (BadMessage f)) = (s.failed ≡ false) × (reading ≡ Err f) × Untouched s old new after
 EndedSo step routes s reading old new after (Err ShardFull) = (s.failed ≡ false) × ReadAs step routes s reading old new after (Err ShardFull)
 EndedSo step routes s reading old new after (Err OutOfMemory) = (s.failed ≡ false) × (Untouched s old new after ⊎ ReadAs step routes s reading old new after (Err OutOfMemory))
-EndedSo step routes s reading old new after (Ok texts) = (s.failed ≡ false) × ReadAs step routes s reading old new after (Ok texts)
+EndedSo step routes s reading old new after (Ok said) = (s.failed ≡ false) × ReadAs step routes s reading old new after (Ok said)
 
 -- texts by their bytes
 abbrev pub texts_in : Vec (String Global) Global → List (List ℕ)
 texts_in texts = map string_bytes texts.items
 
--- the texts that were given
-abbrev pub texts_given : {T : Type 0} → (T → List (List ℕ)) → Result T SessionFault → Result (List (List ℕ)) SessionFault
-texts_given view (Ok texts) = Ok (view texts)
-texts_given view (Err fault) = Err fault
+-- this was said where something was given
+abbrev pub said_by : {T : Type 0} → List Said → Result T SessionFault → Result (List Said) SessionFault
+said_by said (Ok x) = Ok said
+said_by said (Err fault) = Err fault
+
+-- the texts that were given are of messages that tell what is said
+abbrev pub WritesSaid : (Said → Message → Type 0) → List Said → Result (Vec (String Global) Global) SessionFault → Type 0
+WritesSaid W said result = IfOk result (λ v. WritesAll W said (texts_in v))
+
+-- What a message does, and by which texts.
+pub record MessageRanBy {P : Type 0} (W : Said → Message → Type 0) (step : P → (q : Ask) → Answer q → P → Type 0) (routes : List (List ℕ × ℕ)) (s : InForce) (m : Message) (old new : P) (after : InForce) (result : Result (Vec (String Global) Global) SessionFault) : Type 0 where
+  pub said : List Said
+  pub writes : WritesSaid W said result
+  pub ran : MessageRan step routes s m old new after (said_by said result)
+
+-- What a text does, and by which texts.
+pub record RanBy {P : Type 0} (W : Said → Message → Type 0) (step : P → (q : Ask) → Answer q → P → Type 0) (routes : List (List ℕ × ℕ)) (s : InForce) (reading : Result Message MessageFault) (old new : P) (after : InForce) (result : Result (Vec (String Global) Global) SessionFault) : Type 0 where
+  pub said : List Said
+  pub writes : WritesSaid W said result
+  pub ended : EndedSo step routes s reading old new after (said_by said result)

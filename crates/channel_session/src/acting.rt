@@ -1,15 +1,16 @@
 ghost use Rattle.std.specs.Prelude.{◌≡◌, ◌≤◌, ◌^◌, ◌-◌, length, None, Some, IsTrue, IfOk, OnErr, option_map};
 ghost use Rattle.presence_journal.specs.Limits.{is_payload};
 ghost use Rattle.channel_session_rules.specs.InForce.{joined_of};
-ghost use Rattle.channel_session_rules.specs.Replies.{Acts};
-ghost use Rattle.channel_session_rules.specs.Rules.{find, join_at, join_rule, leave_rule, topic_rule, kind_rule, rules};
+ghost use Rattle.channel_session_rules.specs.Replies.{Acts, ActsBy};
+ghost use Rattle.channel_session_rules.specs.Said.{Worded};
+ghost use Rattle.channel_session_rules.specs.Rules.{find, join_at, join_rule, leave_rule, topic_rule, kind_rule, kind_of as kind_in, is_phoenix as is_phoenix_of, route_of, rules};
 
 use crate::session::Session;
 use channel_session_events::{
     heartbeat, join, join_ref_for, leave, leave_nothing, rejoin, topic_event, unmatched,
 };
 use channel_session_rules::{EventKind, Place, Port, Reply, Stop, TopicEvent, is_phoenix, kind_of};
-use hook_registry::Routes;
+use hook_registry::{PresenceHooks, Routes};
 use phx_message::Message;
 use std::alloc::{AllocError, Global};
 
@@ -24,16 +25,17 @@ fn place_of(session: &Session, message: &Message) -> Result<Option<Place>, Alloc
     }
 }
 
-// A join of a topic that is not joined. Room is made before the calls, since nothing may fail
-// behind them.
+// A join of a topic of this kind that is not joined. Room is made before the calls, since nothing
+// may fail behind them.
 fn run_join<P: Port>(
     alloc: Global,
     session: &mut Session,
     port: &mut P,
     message: &Message,
+    kind: u32,
 ) -> Result<Reply, Stop>
     requires absent { find message.now.topic session.old.joined ≡ None }
-    ensures ran { Acts P.step (join_rule session.old None message.now) port.old port.new session.new result }
+    ensures ran { Acts P.step (join_rule kind session.old None message.now) port.old port.new session.new result }
     ensures err { OnErr result (session.new ≡ session.old) }
     ensures failed { session.new.failed ≡ session.old.failed }
 {
@@ -43,8 +45,8 @@ fn run_join<P: Port>(
     let count = session.topics.len();
     match join(alloc, session.pid, count, port, message) {
         Ok(reply) => {
-            session.topics.enter(topic, join_ref, reply.sub);
-            Ok(Reply::One(reply.text))
+            session.topics.enter(topic, kind, join_ref, reply.sub);
+            Ok(Reply::One(reply.reply))
         }
         Err(stop) => Err(stop),
     }
@@ -56,10 +58,11 @@ fn run_rejoin<P: Port>(
     session: &mut Session,
     port: &mut P,
     message: &Message,
+    kind: u32,
     place: &Place,
 ) -> Result<Reply, Stop>
     ensures ran { Acts P.step
-        (join_rule session.old (Some (joined_of (message.now.topic, place.now))) message.now)
+        (join_rule kind session.old (Some (joined_of (message.now.topic, place.now))) message.now)
         port.old port.new session.new result }
     ensures err { OnErr result (session.new ≡ session.old) }
     ensures failed { session.new.failed ≡ session.old.failed }
@@ -71,29 +74,30 @@ fn run_rejoin<P: Port>(
     match rejoin(alloc, session.pid, others, place, port, message) {
         Ok(reply) => {
             session.topics.leave(&message.topic);
-            session.topics.enter(topic, join_ref, reply.join.sub);
-            Ok(Reply::Two(reply.close, reply.join.text))
+            session.topics.enter(topic, kind, join_ref, reply.join.sub);
+            Ok(Reply::Two(reply.close, reply.join.reply))
         }
         Err(stop) => Err(stop),
     }
 }
 
-// A join of a topic that can be joined.
+// A join of a topic of this kind.
 fn run_any_join<P: Port>(
     alloc: Global,
     session: &mut Session,
     port: &mut P,
     message: &Message,
+    kind: u32,
 ) -> Result<Reply, Stop>
     ensures ran { Acts P.step
-        (join_rule session.old (join_at session.old message.now) message.now)
+        (join_rule kind session.old (join_at session.old message.now) message.now)
         port.old port.new session.new result }
     ensures err { OnErr result (session.new ≡ session.old) }
     ensures failed { session.new.failed ≡ session.old.failed }
 {
     match place_of(session, message)? {
-        Some(place) => run_rejoin(alloc, session, port, message, &place),
-        None => run_join(alloc, session, port, message),
+        Some(place) => run_rejoin(alloc, session, port, message, kind, &place),
+        None => run_join(alloc, session, port, message, kind),
     }
 }
 
@@ -140,75 +144,101 @@ fn run_any_leave<P: Port>(
 }
 
 // A message to a topic, joined or not, that is no join and no leave.
-fn topic_message<P: Port>(
+fn topic_message<P: Port, H: PresenceHooks>(
     alloc: Global,
     session: &Session,
     port: &mut P,
+    hooks: &H,
     message: &Message,
     event: TopicEvent,
 ) -> Result<Reply, Stop>
     requires { IsTrue (is_payload message.now.payload) }
-    ensures { Acts P.step (topic_rule session.now message.now event) port.old port.new session.now result }
+    ensures { ActsBy (Worded (H.fetched hooks.now) (H.plain hooks.now)) P.step
+        (topic_rule session.now message.now event) port.old port.new session.now result }
 {
     match session.topics.find(&message.topic) {
-        Some(place) => topic_event(alloc, session.pid, &place.join_ref, port, message, event),
+        Some(place) => topic_event(alloc, hooks, session.pid, place, port, message, event),
         None => unmatched(alloc, message),
     }
 }
 
-// What a message to a topic does, by its event.
-fn act_on<P: Port>(
+// What the rules look at first: whether the topic is that of heartbeats, its kind where it can be
+// joined, and the event.
+#[derive(Clone, Copy)]
+struct Case {
+    phoenix: bool,
+    route: Option<u32>,
+    event: EventKind,
+}
+
+fn case_of(routes: &Routes, message: &Message) -> Case
+    ensures phoenix { result.phoenix ≡ is_phoenix_of message.now.topic }
+    ensures route { result.route ≡ route_of (is_phoenix_of message.now.topic) routes.now message.now.topic }
+    ensures event { result.event ≡ kind_in message.now.event }
+{
+    let phoenix = is_phoenix(&message.topic);
+    let route = if phoenix {
+        None
+    } else {
+        routes.find(&message.topic)
+    };
+    let event = kind_of(message.event.as_str());
+    Case {
+        phoenix,
+        route,
+        event,
+    }
+}
+
+// What a message does in a case.
+fn act_on<P: Port, H: PresenceHooks>(
     alloc: Global,
     session: &mut Session,
     port: &mut P,
+    hooks: &H,
     message: &Message,
-    phoenix: bool,
-    routed: bool,
-    kind: EventKind,
+    case: Case,
 ) -> Result<Reply, Stop>
     requires { IsTrue (is_payload message.now.payload) }
-    ensures ran { Acts P.step
-        (kind_rule phoenix routed session.old message.now kind)
+    ensures ran { ActsBy (Worded (H.fetched hooks.now) (H.plain hooks.now)) P.step
+        (kind_rule case.phoenix case.route session.old message.now case.event)
         port.old port.new session.new result }
     ensures err { OnErr result (session.new ≡ session.old) }
     ensures failed { session.new.failed ≡ session.old.failed }
 {
-    match kind {
+    match case.event {
         EventKind::Heartbeat => {
-            if phoenix {
+            if case.phoenix {
                 heartbeat(alloc, message)
             } else {
-                topic_message(alloc, session, port, message, TopicEvent::Unknown)
+                topic_message(alloc, session, port, hooks, message, TopicEvent::Unknown)
             }
         }
-        EventKind::Join => {
-            if phoenix || !routed {
-                unmatched(alloc, message)
-            } else {
-                run_any_join(alloc, session, port, message)
-            }
-        }
+        EventKind::Join => match case.route {
+            Some(kind) => run_any_join(alloc, session, port, message, kind),
+            None => unmatched(alloc, message),
+        },
         EventKind::Leave => run_any_leave(alloc, session, port, message),
-        EventKind::Topic(event) => topic_message(alloc, session, port, message, event),
+        EventKind::Topic(event) => topic_message(alloc, session, port, hooks, message, event),
     }
 }
 
 /// Answers a message by the rules. After an `Err` the session is as before.
 #[tactic(auto, unfolding(channel_session_rules::specs::Rules::rules))]
-pub(crate) fn act<P: Port>(
+pub(crate) fn act<P: Port, H: PresenceHooks>(
     alloc: Global,
     session: &mut Session,
     port: &mut P,
     routes: &Routes,
+    hooks: &H,
     message: &Message,
 ) -> Result<Reply, Stop>
     requires { IsTrue (is_payload message.now.payload) }
-    ensures ran { Acts P.step (rules routes.now session.old message.now) port.old port.new session.new result }
+    ensures ran { ActsBy (Worded (H.fetched hooks.now) (H.plain hooks.now)) P.step
+        (rules routes.now session.old message.now) port.old port.new session.new result }
     ensures err { OnErr result (session.new ≡ session.old) }
     ensures failed { session.new.failed ≡ session.old.failed }
 {
-    let kind = kind_of(message.event.as_str());
-    let phoenix = is_phoenix(&message.topic);
-    let routed = routes.find(&message.topic).is_some();
-    act_on(alloc, session, port, message, phoenix, routed, kind)
+    let case = case_of(routes, message);
+    act_on(alloc, session, port, hooks, message, case)
 }

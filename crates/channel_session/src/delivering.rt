@@ -1,55 +1,47 @@
-ghost use Rattle.std.specs.Prelude.{◌≡◌, ◌++◌, [], ℕ, List, map, drop, true, false, string_bytes, if◌then◌else◌, IsTrue, IfOk, Err};
+ghost use Rattle.std.specs.Prelude.{◌≡◌, drop, true, false, if◌then◌else◌, IsTrue, Err};
 ghost use Rattle.presence_journal.specs.Limits.{is_take_limit};
-ghost use Rattle.channel_session.specs.Delivery.{delivers, Delivered, failing};
-ghost use Rattle.channel_session.specs.Ran.{fault_of, texts_given, texts_in};
-ghost use Rattle.channel_session_rules.specs.InForce.{InForce, joined_in};
-ghost use Rattle.channel_session_rules.specs.Outcome.{Follows, seen};
-ghost use Rattle.channel_session_rules.specs.Rules.{answers};
+ghost use Rattle.channel_session.specs.Delivery.{delivers, DealsBehind, DeliveredBy, failing};
+ghost use Rattle.channel_session.specs.Ran.{fault_of};
+ghost use Rattle.channel_session_rules.specs.InForce.{joined_in};
+ghost use Rattle.channel_session_rules.specs.Said.{Worded, Noted};
 
 use crate::fault::{SessionFault, fault_of_stop};
 use crate::session::Session;
-use channel_session_events::add_frames;
+use channel_session_events::{Delivery, add_items};
 use channel_session_rules::{Port, Stop, Topics, spoil, spoiling, stop_of};
+use hook_registry::PresenceHooks;
 use std::alloc::Global;
 
-/// What a delivery gives.
-#[derive(Debug, Drop)]
-pub struct Delivery {
-    /// One text for each item, in order of joining and then the oldest first.
-    pub texts: Vec<String>,
-    /// Empty: no function of a user's makes notices yet.
-    pub notices: Vec<String>,
-}
-
-// The deliveries of the topics from this place on, behind the texts before them.
-fn deliver_from<P: Port>(
+// The deliveries of the topics from this place on, behind what was told before them.
+fn deliver_from<P: Port, H: PresenceHooks>(
     alloc: Global,
+    hooks: &H,
     topics: &Topics,
     index: usize,
     port: &mut P,
     max: u32,
-    texts: Vec<String>,
-) -> Result<Vec<String>, Stop>
+    before: Delivery,
+) -> Result<Delivery, Stop>
     requires { IsTrue (is_take_limit max) }
-    ensures { (s : InForce) → Follows P.step
-        (delivers max s (drop index (joined_in topics.now)) (texts_in texts))
-        port.old port.new (seen (λ out. answers (texts_in out) s) result) }
+    ensures { DealsBehind (Worded (H.fetched hooks.now) (H.plain hooks.now))
+        (Noted (H.joined hooks.now) (H.left hooks.now) (H.quiet hooks.now)) P.step
+        (λ said s. delivers max s (drop index (joined_in topics.now)) said) port.old port.new before result }
 {
     if index >= topics.len() {
-        return Ok(texts);
+        return Ok(before);
     }
     let Some((topic, place)) = topics.at(index) else {
-        return Ok(texts);
+        return Ok(before);
     };
     match port.waits(topic, &place.sub) {
         Err(fault) => Err(stop_of(fault, false)),
-        Ok(false) => deliver_from(alloc, topics, index + 1, port, max, texts),
+        Ok(false) => deliver_from(alloc, hooks, topics, index + 1, port, max, before),
         Ok(true) => match port.take(alloc, topic, &place.sub, max) {
             Err(fault) => Err(stop_of(fault, false)),
-            Ok(items) => match spoiling(add_frames(alloc, &place.join_ref, topic, &items, texts)) {
+            Ok(items) => match spoiling(add_items(alloc, hooks, topic, place, &items, before)) {
                 Err(stop) => Err(stop),
-                Ok(texts) => {
-                    let rest = deliver_from(alloc, topics, index + 1, port, max, texts);
+                Ok(told) => {
+                    let rest = deliver_from(alloc, hooks, topics, index + 1, port, max, told);
                     spoil(rest)
                 }
             },
@@ -68,48 +60,51 @@ fn leave_behind(session: &mut Session, stop: &Stop) -> SessionFault
     fault_of_stop(stop)
 }
 
-// The texts of a delivery.
-fn deliver_texts<P: Port>(
+// A delivery to a session that lives.
+fn deliver_all<P: Port, H: PresenceHooks>(
     alloc: Global,
     session: &mut Session,
     port: &mut P,
+    hooks: &H,
     max: u32,
-) -> Result<Vec<String>, SessionFault>
+) -> Result<Delivery, SessionFault>
     requires { IsTrue (is_take_limit max) }
-    ensures { Delivered P.step max session.old port.old port.new session.new (texts_given texts_in result) }
+    ensures { DeliveredBy (Worded (H.fetched hooks.now) (H.plain hooks.now))
+        (Noted (H.joined hooks.now) (H.left hooks.now) (H.quiet hooks.now))
+        P.step max session.old port.old port.new session.new result }
 {
-    match deliver_from(alloc, &session.topics, 0, port, max, Vec::new(alloc)) {
-        Ok(texts) => Ok(texts),
+    let nothing = Delivery {
+        texts: Vec::new(alloc),
+        notices: Vec::new(alloc),
+    };
+    match deliver_from(alloc, hooks, &session.topics, 0, port, max, nothing) {
+        Ok(delivery) => Ok(delivery),
         Err(stop) => Err(leave_behind(session, &stop)),
     }
 }
 
 /// Takes once, up to `max` items, from each joined topic that waits, in order of joining, and gives
-/// their frames.
+/// their frames, with what `fetch` adds, and the notices of the rows that joined and left.
 ///
 /// A session that has failed gives `Failed`. Another fault leaves the session as it was, unless a
 /// take was accepted: then the session has failed.
-pub fn deliver<P: Port>(
+pub fn deliver<P: Port, H: PresenceHooks>(
     alloc: Global,
     session: &mut Session,
     port: &mut P,
+    hooks: &H,
     max: u32,
 ) -> Result<Delivery, SessionFault>
     requires { IsTrue (is_take_limit max) }
     ensures failed { session.old.failed ≡ true
         → (result ≡ Err SessionFault.Failed) × (session.new ≡ session.old) × (port.new ≡ port.old) }
-    ensures delivered { session.old.failed ≡ false → Delivered P.step max session.old
-        port.old port.new session.new (texts_given (λ d. texts_in d.texts) result) }
-    ensures notices { IfOk result (λ d. d.notices.items ≡ []) }
+    ensures delivered { session.old.failed ≡ false
+        → DeliveredBy (Worded (H.fetched hooks.now) (H.plain hooks.now))
+        (Noted (H.joined hooks.now) (H.left hooks.now) (H.quiet hooks.now))
+        P.step max session.old port.old port.new session.new result }
 {
     if session.failed {
         return Err(SessionFault::Failed);
     }
-    match deliver_texts(alloc, session, port, max) {
-        Ok(texts) => Ok(Delivery {
-            texts,
-            notices: Vec::new(alloc),
-        }),
-        Err(fault) => Err(fault),
-    }
+    deliver_all(alloc, session, port, hooks, max)
 }

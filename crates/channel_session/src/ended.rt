@@ -1,6 +1,7 @@
 //! What a session leaves behind: a function that does nothing, and whose contract is the law.
 
 ghost use Rattle.channel_session.specs.LeftBehind.{EndLeavesNothing};
+ghost use Rattle.channel_session.specs.Naming.{TextsKeepNames, DeliveriesKeepNames, EndsKeepNames};
 
 use presence_journal::laws::nothing_else_changes;
 
@@ -8,6 +9,16 @@ use presence_journal::laws::nothing_else_changes;
 /// lent shard leaves none of its rows there, and none of its subscribers.
 pub fn end_leaves_nothing()
     ensures { EndLeavesNothing }
+{
+    nothing_else_changes();
+}
+
+/// Behind every text, delivery and end over a lent shard, however it ends, a session names each topic
+/// on which a row of its number stands, as long as it did before and nobody else has its number.
+pub fn names_its_topics()
+    ensures texts { TextsKeepNames }
+    ensures deliveries { DeliveriesKeepNames }
+    ensures ends { EndsKeepNames }
 {
     nothing_else_changes();
 }

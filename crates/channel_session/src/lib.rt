@@ -3,7 +3,8 @@
 //! It stands on three crates of its own: `channel_session_rules` (the rules, the port's questions),
 //! `channel_session_events` (their functions over any port) and `channel_session_laws` (a lent shard
 //! and the laws over it). What its contracts cite: `specs/Rules` the rules, `specs/Ran` what a text
-//! does, `specs/Delivery` a delivery, `specs/Ending` the end.
+//! does, `specs/Delivery` a delivery, `specs/Ending` the end, `specs/Said` what is said and by which
+//! messages.
 #![tactic(auto)]
 
 mod acting;
@@ -15,9 +16,10 @@ mod joined;
 mod run;
 mod session;
 
+pub use channel_session_events::Delivery;
 pub use channel_session_laws::{LocalPort, laws};
 pub use channel_session_rules::{MAX_TOPICS, Port};
-pub use delivering::{Delivery, deliver};
+pub use delivering::deliver;
 pub use ending::end;
 pub use fault::SessionFault;
 pub use joined::JoinedTopics;

@@ -1,14 +1,15 @@
-ghost use Rattle.std.specs.Prelude.{◌≡◌, [], ◌≤◌, ◌+◌, map, string_bytes, vec_capacity, IsTrue, if◌then◌else◌};
+ghost use Rattle.std.specs.Prelude.{◌≡◌, [], ◌≤◌, map, vec_capacity, IsTrue, if◌then◌else◌};
 ghost use Rattle.presence_journal.specs.Limits.{is_payload};
 ghost use Rattle.phx_message.specs.Reading.{decoded};
-ghost use Rattle.channel_session_rules.specs.Replies.{texts_of};
-ghost use Rattle.channel_session.specs.Ran.{MessageRan, EndedSo, texts_given, failed_at, fault_of, texts_in};
+ghost use Rattle.channel_session_rules.specs.Replies.{messages_of};
+ghost use Rattle.channel_session_rules.specs.Said.{Worded, text_of};
+ghost use Rattle.channel_session.specs.Ran.{MessageRanBy, RanBy, failed_at, fault_of, texts_in};
 
 use crate::acting::act;
 use crate::fault::{SessionFault, fault_of_stop};
 use crate::session::Session;
 use channel_session_rules::{Port, Reply, Stop};
-use hook_registry::Routes;
+use hook_registry::{PresenceHooks, Routes};
 use phx_message::{Limits, Message, MessageFault, decode};
 use presence_base::Topic;
 use std::alloc::Global;
@@ -17,17 +18,17 @@ use std::alloc::Global;
 fn list_texts(mut texts: Vec<String>, reply: Reply) -> Vec<String>
     requires empty { texts.items ≡ [] }
     requires room { 2 ≤ vec_capacity texts }
-    ensures { texts_in result ≡ texts_of reply }
+    ensures { texts_in result ≡ map text_of (messages_of reply) }
 {
     match reply {
         Reply::Nothing => texts,
-        Reply::One(text) => {
-            let _pushed = texts.push(text);
+        Reply::One(reply) => {
+            let _pushed = texts.push(reply.text);
             texts
         }
-        Reply::Two(text, next) => {
-            let _pushed = texts.push(text);
-            let _then = texts.push(next);
+        Reply::Two(reply, next) => {
+            let _pushed = texts.push(reply.text);
+            let _then = texts.push(next.text);
             texts
         }
     }
@@ -56,21 +57,22 @@ fn leave_behind(session: &mut Session, topic: Topic, stop: &Stop) -> SessionFaul
 }
 
 // Answers a message.
-fn run_message<P: Port>(
+fn run_message<P: Port, H: PresenceHooks>(
     alloc: Global,
     session: &mut Session,
     port: &mut P,
     routes: &Routes,
+    hooks: &H,
     message: Message,
     texts: Vec<String>,
 ) -> Result<Vec<String>, SessionFault>
     requires payload { IsTrue (is_payload message.payload) }
     requires empty { texts.items ≡ [] }
     requires room { 2 ≤ vec_capacity texts }
-    ensures { MessageRan P.step routes.now session.old message
-        port.old port.new session.new (texts_given texts_in result) }
+    ensures { MessageRanBy (Worded (H.fetched hooks.now) (H.plain hooks.now)) P.step
+        routes.now session.old message port.old port.new session.new result }
 {
-    match act(alloc, session, port, routes, &message) {
+    match act(alloc, session, port, routes, hooks, &message) {
         Ok(reply) => Ok(list_texts(texts, reply)),
         Err(stop) => Err(leave_behind(session, message.topic, &stop)),
     }
@@ -79,20 +81,22 @@ fn run_message<P: Port>(
 /// Answers a text of a client by the rules of the built-in channel: the texts for the client, in
 /// the order in which they are to be sent.
 ///
-/// A topic is joined where one of the routes matches it. A client's limits are those of
+/// A topic is joined where one of the routes matches it, as one of that route's kind. Rows in a
+/// reply are told with what `fetch` adds; a fetch that wants memory gives `OutOfMemory`. A client's limits are those of
 /// `Limits::CLIENT`. A fault leaves the session and the port as they were, unless a call was made
 /// that leaves something behind: one that was accepted (asking what waits is none), or one of the
 /// two that end a join, accepted or not. Then the session has failed, the topic is among those
 /// that `joined` names, and only `end` acts.
-pub fn run_text<P: Port>(
+pub fn run_text<P: Port, H: PresenceHooks>(
     alloc: Global,
     session: &mut Session,
     port: &mut P,
     routes: &Routes,
+    hooks: &H,
     text: &str,
 ) -> Result<Vec<String>, SessionFault>
-    ensures { EndedSo P.step routes.now session.old (decoded Limits.CLIENT text.now)
-        port.old port.new session.new (texts_given texts_in result) }
+    ensures { RanBy (Worded (H.fetched hooks.now) (H.plain hooks.now)) P.step
+        routes.now session.old (decoded Limits.CLIENT text.now) port.old port.new session.new result }
 {
     if session.failed {
         return Err(SessionFault::Failed);
@@ -103,6 +107,6 @@ pub fn run_text<P: Port>(
     match decode(alloc, text, Limits::CLIENT) {
         Err(MessageFault::OutOfMemory) => Err(SessionFault::OutOfMemory),
         Err(fault) => Err(SessionFault::BadMessage(fault)),
-        Ok(message) => run_message(alloc, session, port, routes, message, texts),
+        Ok(message) => run_message(alloc, session, port, routes, hooks, message, texts),
     }
 }

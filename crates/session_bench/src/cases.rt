@@ -1,5 +1,5 @@
 use channel_session::{LocalPort, Session, SessionFault, deliver, run_text};
-use hook_registry::{RouteFault, Routes};
+use hook_registry::{NoHooks, RouteFault, Routes};
 use presence_base::{Key, Meta, NodeName, Replica, Topic};
 use serde_json::{Map, Value};
 use std::alloc::{AllocError, Global};
@@ -84,7 +84,7 @@ fn ask_to_join(
 ) -> Result<Vec<String>, SessionFault> {
     let mut port = LocalPort::new(shard);
     let text = r#"["1","1","room:a","phx_join",{}]"#;
-    run_text(alloc, session, &mut port, routes, text)
+    run_text(alloc, session, &mut port, routes, &NoHooks, text)
 }
 
 // Takes what waits.
@@ -94,7 +94,7 @@ fn take_state(
     shard: &mut Shard,
 ) -> Result<Vec<String>, SessionFault> {
     let mut port = LocalPort::new(shard);
-    match deliver(alloc, session, &mut port, 256) {
+    match deliver(alloc, session, &mut port, &NoHooks, 256) {
         Ok(delivery) => Ok(delivery.texts),
         Err(fault) => Err(fault),
     }

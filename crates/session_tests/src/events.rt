@@ -1,7 +1,6 @@
 //! Events of a joined topic, heartbeats, and what they are answered.
 
-use crate::desk::{Desk, joined_desk};
-use crate::texts::{STATE, message};
+use session_desk::{Desk, STATE, joined_desk, message};
 use std::alloc::Global;
 
 #[test]

@@ -1,8 +1,8 @@
 //! Joins, second joins and leaves.
 
-use crate::desk::{Desk, desk_of, joined_desk};
-use crate::texts::{
-    CLOSE, JOIN, JOINED, LEAVE, LEFT, NEXT_STATE, REJOIN, REJOINED, STATE, message,
+use session_desk::{
+    CLOSE, Desk, JOIN, JOINED, LEAVE, LEFT, NEXT_STATE, REJOIN, REJOINED, STATE, desk_of,
+    joined_desk, message,
 };
 use std::alloc::Global;
 
@@ -136,12 +136,12 @@ fn the_65th_join(rt: HostRuntime) {
         return;
     };
     assert!(rt; join_many(alloc, &mut desk, 64));
-    assert!(rt; desk.session.joined().count() == 64);
+    assert!(rt; desk.joined_count() == 64);
     assert!(rt; desk.refuses_join(alloc, r#"{"key":"k"}"#, "too many topics"));
     assert!(rt; desk.refuses_join(alloc, "{}", "too many topics"));
     assert!(rt; desk.refuses_join(alloc, r#"{"key":1}"#, "bad payload"));
     let close = r#"[63,63,"room:63","phx_close",{}]"#;
     let again = r#"[64,64,"room:63","phx_reply",{"response":{},"status":"ok"}]"#;
     assert!(rt; desk.answers(alloc, r#"[64,64,"room:63","phx_join",{}]"#, &[close, again]));
-    assert!(rt; desk.session.joined().count() == 64);
+    assert!(rt; desk.joined_count() == 64);
 }

@@ -1,7 +1,7 @@
 //! Deliveries over a lent shard.
 
 use channel_session::{LocalPort, Session, SessionFault, deliver, run_text};
-use hook_registry::Routes;
+use hook_registry::{NoHooks, Routes};
 use presence_base::{NodeName, Replica};
 use std::alloc::{AllocError, Global};
 use std::test::Fail;
@@ -43,7 +43,7 @@ fn ask(
     text: &str,
 ) -> Result<Vec<String>, SessionFault> {
     let mut port = LocalPort::new(shard);
-    run_text(alloc, session, &mut port, routes, text)
+    run_text(alloc, session, &mut port, routes, &NoHooks, text)
 }
 
 // Takes what waits in the shard.
@@ -53,7 +53,7 @@ fn take(
     shard: &mut Shard,
 ) -> Result<Vec<String>, SessionFault> {
     let mut port = LocalPort::new(shard);
-    match deliver(alloc, session, &mut port, 256) {
+    match deliver(alloc, session, &mut port, &NoHooks, 256) {
         Ok(delivery) => Ok(delivery.texts),
         Err(fault) => Err(fault),
     }

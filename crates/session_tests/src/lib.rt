@@ -1,12 +1,10 @@
-//! Tests of the whole session: asked by texts over a port that can refuse each call, and over a lent
-//! shard. They have a crate of their own, so that they are checked over what is proved of the session,
-//! and the session isn't proved anew with them.
+//! Tests of the session: asked by texts over a port of a shard of its own, and over a lent shard. They
+//! have a crate of their own, so that they are checked over what is proved of the session, and the
+//! session isn't proved anew with them.
 #![tactic(auto)]
 
 #[cfg(test)]
 mod deliveries;
-#[cfg(test)]
-mod desk;
 #[cfg(test)]
 mod events;
 #[cfg(test)]
@@ -16,10 +14,6 @@ mod lent;
 #[cfg(test)]
 mod limits;
 #[cfg(test)]
-mod port;
-#[cfg(test)]
 mod reasons;
 #[cfg(test)]
-mod refusals;
-#[cfg(test)]
-mod texts;
+mod words;

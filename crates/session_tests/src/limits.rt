@@ -1,9 +1,8 @@
 //! Keys, metas and payloads at their limits.
 
-use crate::desk::{Desk, joined_desk};
-use crate::texts::message;
 use channel_session::SessionFault;
 use phx_message::MessageFault;
+use session_desk::{Desk, joined_desk, message};
 use std::alloc::{AllocError, Global};
 
 // So many letters.
@@ -138,7 +137,7 @@ fn pings_of_depth_64(rt: HostRuntime) {
         desk.fault_of_made(alloc, deep_ping(alloc, 65))
             == Some(SessionFault::BadMessage(MessageFault::TooDeep))
     );
-    assert!(rt; !desk.session.failed());
+    assert!(rt; !desk.failed());
     assert!(rt; desk.names(&["room:lobby"]));
     assert!(rt; desk.fault_of_made(alloc, deep_ping(alloc, 64)).is_none());
 }

@@ -12,10 +12,10 @@ returns-in-Ok-clause-ran g c =
     let held : joined_in c.make_room.new.self ≡ c.args.session.now.joined = c.make_room.ensures.entries ∙ ap (λ (x : InForce). x.joined) c.session.view_is in
     let topic : c.in_ok-topic.topic ≡ c.args.message.now.topic = search rules in
     let ref : c.in_ok-join_ref.join_ref ≡ join_ref_of c.args.message.now = search rules in
-    join_ran _ c.args.session.now c.args.message.now _ _ _ pid (c.len-count.ensures ∙ ap length held) _ _ _ _ _ _ _ (record { pid = pid; failed = failed; cut_short = cut_short }) topic ref (rw held at c.enter.ensures) (c.in-Ok.ensures c.args.session.now)
+    join_ran _ c.args.session.now c.args.message.now _ c.args.kind _ _ pid (c.len-count.ensures ∙ ap length held) _ _ _ _ _ _ _ (record { pid = pid; failed = failed; cut_short = cut_short }) topic ref (rw held at c.enter.ensures) (c.in-Ok.ensures c.args.kind c.args.session.now)
 
 pub returns-in-Err-clause-ran : goal.returns-in-Err-clause-ran
 returns-in-Err-clause-ran g c =
     let pid : c.session.inside.pid ≡ c.args.session.now.pid = ap (λ (x : InForce). x.pid) c.session.view_is in
     let held : joined_in c.make_room.new.self ≡ c.args.session.now.joined = c.make_room.ensures.entries ∙ ap (λ (x : InForce). x.joined) c.session.view_is in
-    join_script _ c.args.session.now c.args.message.now _ _ _ pid (c.len-count.ensures ∙ ap length held) _ _ _ (c.in-Err.ensures c.args.session.now)
+    join_script _ c.args.session.now c.args.message.now _ c.args.kind _ _ pid (c.len-count.ensures ∙ ap length held) _ _ _ (c.in-Err.ensures c.args.kind c.args.session.now)

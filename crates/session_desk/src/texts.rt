@@ -3,44 +3,44 @@
 use std::alloc::{AllocError, Global};
 
 // The tracked join, its reply and its state, and the close of it.
-pub(super) const JOIN: &str = r#"["1","1","room:lobby","phx_join",{"key":"u1","meta":{"x":1}}]"#;
+pub const JOIN: &str = r#"["1","1","room:lobby","phx_join",{"key":"u1","meta":{"x":1}}]"#;
 
-pub(super) const JOINED: &str =
+pub const JOINED: &str =
     r#"["1","1","room:lobby","phx_reply",{"response":{"phx_ref":"a.1.1"},"status":"ok"}]"#;
 
-pub(super) const STATE: &str =
+pub const STATE: &str =
     r#"["1",null,"room:lobby","presence_state",{"u1":{"metas":[{"phx_ref":"a.1.1","x":1}]}}]"#;
 
-pub(super) const CLOSE: &str = r#"["1","1","room:lobby","phx_close",{}]"#;
+pub const CLOSE: &str = r#"["1","1","room:lobby","phx_close",{}]"#;
 
 // The second join, its reply and its state: count 2 was the removal of the first row.
-pub(super) const REJOIN: &str = r#"["4","4","room:lobby","phx_join",{"key":"u1"}]"#;
+pub const REJOIN: &str = r#"["4","4","room:lobby","phx_join",{"key":"u1"}]"#;
 
-pub(super) const REJOINED: &str =
+pub const REJOINED: &str =
     r#"["4","4","room:lobby","phx_reply",{"response":{"phx_ref":"a.1.3"},"status":"ok"}]"#;
 
-pub(super) const NEXT_STATE: &str =
+pub const NEXT_STATE: &str =
     r#"["4",null,"room:lobby","presence_state",{"u1":{"metas":[{"phx_ref":"a.1.3"}]}}]"#;
 
 // The update behind the tracked join, and its reply.
-pub(super) const UPDATE: &str = r#"["1","2","room:lobby","update",{"key":"u1","meta":{"x":2}}]"#;
+pub const UPDATE: &str = r#"["1","2","room:lobby","update",{"key":"u1","meta":{"x":2}}]"#;
 
-pub(super) const UPDATED: &str =
+pub const UPDATED: &str =
     r#"["1","2","room:lobby","phx_reply",{"response":{"phx_ref":"a.1.2"},"status":"ok"}]"#;
 
 // The leave, whose join reference isn't looked at, and its reply.
-pub(super) const LEAVE: &str = r#"["9","5","room:lobby","phx_leave",{}]"#;
+pub const LEAVE: &str = r#"["9","5","room:lobby","phx_leave",{}]"#;
 
-pub(super) const LEFT: &str = r#"["1","5","room:lobby","phx_reply",{"response":{},"status":"ok"}]"#;
+pub const LEFT: &str = r#"["1","5","room:lobby","phx_reply",{"response":{},"status":"ok"}]"#;
 
 // The tracked join of another topic behind the first, and its state.
-pub(super) const LATE: &str = r#"["2","9","room:x","phx_join",{"key":"k"}]"#;
+pub const LATE: &str = r#"["2","9","room:x","phx_join",{"key":"k"}]"#;
 
-pub(super) const LATE_STATE: &str =
+pub const LATE_STATE: &str =
     r#"["2",null,"room:x","presence_state",{"k":{"metas":[{"phx_ref":"a.1.2"}]}}]"#;
 
 // A message with the reference `"3"`.
-pub(super) fn message(
+pub fn message(
     alloc: Global,
     join_ref: &str,
     topic: &str,
@@ -51,7 +51,7 @@ pub(super) fn message(
 }
 
 // The reply that it went well.
-pub(super) fn ok_reply(
+pub fn ok_reply(
     alloc: Global,
     join_ref: &str,
     topic: &str,
@@ -63,7 +63,7 @@ pub(super) fn ok_reply(
 }
 
 // The reply that it was refused for this reason.
-pub(super) fn error_reply(
+pub fn error_reply(
     alloc: Global,
     join_ref: &str,
     topic: &str,

@@ -1,8 +1,10 @@
 //! Each call that a text makes of the port refused in turn, and what that leaves.
 
-use crate::desk::{Desk, desk_of};
-use crate::texts::{CLOSE, JOIN, JOINED, LATE, LEAVE, LEFT, REJOIN, REJOINED, UPDATE, UPDATED};
 use channel_session::SessionFault;
+use session_desk::{
+    CLOSE, Desk, JOIN, JOINED, LATE, LEAVE, LEFT, REJOIN, REJOINED, UPDATE, UPDATED, desk_of,
+    fault_for,
+};
 use std::alloc::Global;
 use tracker_shard::ShardFault;
 
@@ -70,15 +72,6 @@ const CASES: [Case; 5] = [
     },
 ];
 
-// The session's fault for a refusal that no reply stands for.
-pub(super) fn fault_for(fault: ShardFault) -> SessionFault {
-    if fault == ShardFault::OutOfMemory {
-        SessionFault::OutOfMemory
-    } else {
-        SessionFault::ShardFull
-    }
-}
-
 // A desk after these texts.
 fn desk_after(alloc: Global, texts: &[&str]) -> Option<Desk> {
     let mut desk = desk_of(alloc)?;
@@ -98,15 +91,13 @@ fn is_kept(alloc: Global, desk: &mut Desk, case: &Case, full: &str, fault: Shard
     } else {
         desk.answers(alloc, case.text, &[full])
     };
-    told && !desk.session.failed()
-        && desk.names(case.joined)
-        && desk.answers(alloc, case.text, case.answer)
+    told && !desk.failed() && desk.names(case.joined) && desk.answers(alloc, case.text, case.answer)
 }
 
 // Whether a session has failed that may have left something on `room:lobby`, and its end leaves
 // nothing there.
 fn has_failed(alloc: Global, desk: &mut Desk) -> bool {
-    desk.session.failed()
+    desk.failed()
         && desk.names(&["room:lobby"])
         && desk.fault(alloc, JOIN) == Some(SessionFault::Failed)
         && desk.delivery_fault(alloc) == Some(SessionFault::Failed)
@@ -189,7 +180,7 @@ fn a_second_join_of_a_tracked_key(rt: HostRuntime) {
     let reply =
         r#"["4","4","room:lobby","phx_reply",{"response":{"reason":"already tracked"},"status":"error"}]"#;
     assert!(rt; desk.answers(alloc, REJOIN, &[CLOSE, reply]));
-    assert!(rt; !desk.session.failed());
+    assert!(rt; !desk.failed());
     assert!(rt; desk.names(&[]));
     assert!(rt; desk.is_clear(alloc, "room:lobby"));
     assert!(rt; desk.answers(alloc, REJOIN, &[REJOINED]));
@@ -204,7 +195,7 @@ fn a_refused_subscription_behind_a_track(rt: HostRuntime) {
     };
     desk.refuse(1, ShardFault::JournalFull);
     assert!(rt; desk.fault(alloc, LATE) == Some(SessionFault::ShardFull));
-    assert!(rt; desk.session.failed());
+    assert!(rt; desk.failed());
     assert!(rt; desk.names(&["room:lobby", "room:x"]));
     assert!(rt; desk.fault(alloc, LATE) == Some(SessionFault::Failed));
     desk.refuse(1, ShardFault::JournalFull);

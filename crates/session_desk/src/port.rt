@@ -8,7 +8,7 @@ use tracker_shard::{Shard, ShardFault, Sub};
 
 // A shard whose call of number `refused`, from 0, is refused.
 #[derive(Drop)]
-pub(super) struct TestPort {
+pub struct TestPort {
     pub shard: Shard,
     pub calls: u32,
     pub refused: u32,

@@ -3,7 +3,7 @@
 use crate::port::TestPort;
 use crate::texts::{JOIN, JOINED, error_reply, message, ok_reply};
 use channel_session::{Delivery, Session, SessionFault, deliver, end, run_text};
-use hook_registry::Routes;
+use hook_registry::{NoHooks, Routes};
 use presence_base::{NodeName, Replica, Topic};
 use presence_journal::walk_topic;
 use std::alloc::{AllocError, Global};
@@ -11,13 +11,13 @@ use tracker_shard::{Shard, ShardFault};
 
 // A session of number 1 over a shard of `a.1`, with the routes `room:*` and `chat`.
 #[derive(Drop)]
-pub(super) struct Desk {
-    pub session: Session,
-    pub port: TestPort,
+pub struct Desk {
+    session: Session,
+    port: TestPort,
     routes: Routes,
 }
 
-pub(super) fn desk_of(alloc: Global) -> Option<Desk> {
+pub fn desk_of(alloc: Global) -> Option<Desk> {
     let Ok(Some(name)) = NodeName::new(alloc, "a") else {
         return None;
     };
@@ -42,7 +42,7 @@ pub(super) fn desk_of(alloc: Global) -> Option<Desk> {
 }
 
 // A desk after the tracked join.
-pub(super) fn joined_desk(alloc: Global) -> Option<Desk> {
+pub fn joined_desk(alloc: Global) -> Option<Desk> {
     let mut desk = desk_of(alloc)?;
     if desk.answers(alloc, JOIN, &[JOINED]) {
         Some(desk)
@@ -52,7 +52,7 @@ pub(super) fn joined_desk(alloc: Global) -> Option<Desk> {
 }
 
 // Whether these are the texts.
-pub(super) fn are_texts(given: &[String], wanted: &[&str]) -> bool {
+pub fn are_texts(given: &[String], wanted: &[&str]) -> bool {
     if given.len() != wanted.len() {
         return false;
     }
@@ -74,10 +74,46 @@ fn is_unheard(shard: &Shard) -> bool {
     true
 }
 
+// The session's fault for a refusal that no reply stands for.
+pub fn fault_for(fault: ShardFault) -> SessionFault {
+    if fault == ShardFault::OutOfMemory {
+        SessionFault::OutOfMemory
+    } else {
+        SessionFault::ShardFull
+    }
+}
+
 impl Desk {
+    // What the text is answered.
+    fn ask(&mut self, alloc: Global, text: &str) -> Result<Vec<String>, SessionFault> {
+        run_text(
+            alloc,
+            &mut self.session,
+            &mut self.port,
+            &self.routes,
+            &NoHooks,
+            text,
+        )
+    }
+
+    // What waits.
+    fn take(&mut self, alloc: Global) -> Result<Delivery, SessionFault> {
+        deliver(alloc, &mut self.session, &mut self.port, &NoHooks, 256)
+    }
+
+    // Whether the session has failed.
+    pub fn failed(&self) -> bool {
+        self.session.failed()
+    }
+
+    // How many topics are joined.
+    pub fn joined_count(&self) -> usize {
+        self.session.joined().count()
+    }
+
     // Whether the text is answered by these.
     pub fn answers(&mut self, alloc: Global, text: &str, wanted: &[&str]) -> bool {
-        match run_text(alloc, &mut self.session, &mut self.port, &self.routes, text) {
+        match self.ask(alloc, text) {
             Ok(texts) => are_texts(texts.as_slice(), wanted),
             Err(_) => false,
         }
@@ -128,7 +164,7 @@ impl Desk {
 
     // The fault of the text.
     pub fn fault(&mut self, alloc: Global, text: &str) -> Option<SessionFault> {
-        match run_text(alloc, &mut self.session, &mut self.port, &self.routes, text) {
+        match self.ask(alloc, text) {
             Ok(_) => None,
             Err(fault) => Some(fault),
         }
@@ -148,7 +184,7 @@ impl Desk {
 
     // Whether these are delivered.
     pub fn delivers(&mut self, alloc: Global, wanted: &[&str]) -> bool {
-        match deliver(alloc, &mut self.session, &mut self.port, 256) {
+        match self.take(alloc) {
             Ok(Delivery { texts, notices }) => {
                 notices.is_empty() && are_texts(texts.as_slice(), wanted)
             }
@@ -158,7 +194,7 @@ impl Desk {
 
     // The texts that are delivered, none after a fault.
     pub fn delivery(&mut self, alloc: Global) -> Option<Vec<String>> {
-        match deliver(alloc, &mut self.session, &mut self.port, 256) {
+        match self.take(alloc) {
             Ok(delivery) => Some(delivery.texts),
             Err(_) => None,
         }
@@ -166,7 +202,7 @@ impl Desk {
 
     // The fault of a delivery.
     pub fn delivery_fault(&mut self, alloc: Global) -> Option<SessionFault> {
-        match deliver(alloc, &mut self.session, &mut self.port, 256) {
+        match self.take(alloc) {
             Ok(_) => None,
             Err(fault) => Some(fault),
         }

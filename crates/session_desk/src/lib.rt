@@ -1,0 +1,14 @@
+//! A session at its desk, for the tests of sessions: over a shard of its own, by way of a port that
+//! can refuse a call, with the texts of the worked runs.
+#![tactic(auto)]
+
+mod desk;
+mod port;
+mod texts;
+
+pub use desk::{Desk, are_texts, desk_of, fault_for, joined_desk};
+pub use port::TestPort;
+pub use texts::{
+    CLOSE, JOIN, JOINED, LATE, LATE_STATE, LEAVE, LEFT, NEXT_STATE, REJOIN, REJOINED, STATE,
+    UPDATE, UPDATED, error_reply, message, ok_reply,
+};
