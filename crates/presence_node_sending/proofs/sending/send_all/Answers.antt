@@ -1,0 +1,10 @@
+use Rattle.std.proofs.Common.{string_bytes, ◌<◌, length, map, rules}
+use Rattle.presence_node_sending.proofs.Stopping.{stops_at_flush, some_mapped}
+use Rattle.presence_node_sending.specs.Sending.{SentAll}
+use Rattle.presence_node_sending.proofs.sending.send_all.Goals as goal
+
+pub returns-in-Err-clause-stops : goal.returns-in-Err-clause-stops
+returns-in-Err-clause-stops g c =
+    let some : 0 < length (map string_bytes c.args.texts.now) = some_mapped string_bytes c.args.texts.now (search rules) in
+    let all : SentAll g.S.Write.contents c.args.socket.now c.queue_all.new.socket (map string_bytes c.args.texts.now) = search rules in
+    stops_at_flush g.S.Write.contents c.args.socket.now c.queue_all.new.socket c.flush.new.self (map string_bytes c.args.texts.now) c.in-Err.error some all c.in-Err.ensures.sent c.in-Err.ensures.only_io

@@ -1,0 +1,9 @@
+//! Sending texts to a client, in their order.
+//!
+//! What its contracts cite: `specs/Sending` says which bytes the frames of texts are, and what is
+//! sent where a write fails.
+#![tactic(auto)]
+
+mod sending;
+
+pub use sending::{queue_all, send_all};

@@ -1,0 +1,69 @@
+ghost use Rattle.std.specs.Prelude.{◌≡◌, ◌<◌, [], ◌∷◌, length, map, string_bytes, OnOk, IfErr};
+ghost use Rattle.presence_node_sending.specs.Sending.{SentAll, Stops};
+
+use std::alloc::Global;
+use std::io::{ErrorKind, Read, Write};
+use tungstenite::{Error, MaskKeys, Message, WebSocket};
+
+// Puts a text in what waits to be sent. A stream that would block leaves it there.
+#[tactic(auto, using(crate::proofs::Sendings::wrote, crate::proofs::Stopping::stops_at, crate::proofs::Stopping::stops_for_memory))]
+fn queue_text<S: Read + Write + Drop, K: MaskKeys + Drop>(
+    alloc: Global,
+    socket: &mut WebSocket<S, K>,
+    text: &str,
+) -> Result<(), Error>
+    ensures sent { OnOk result (SentAll S.contents socket.old socket.new (text.now ∷ [])) }
+    ensures stops { IfErr result (Stops S.contents socket.old socket.new (text.now ∷ [])) }
+{
+    let Ok(message) = Message::text(alloc, text) else {
+        return Err(Error::OutOfMemory);
+    };
+    match socket.write(message) {
+        Ok(()) => Ok(()),
+        Err(Error::Io(cause)) if cause.kind() == ErrorKind::WouldBlock => Ok(()),
+        Err(error) => Err(error),
+    }
+}
+
+/// Puts texts in what waits to be sent, in their order. Some of what waits goes out where it has
+/// grown to the socket's `write_buffer_size`; a stream that would block is no error.
+pub fn queue_all<S: Read + Write + Drop, K: MaskKeys + Drop>(
+    alloc: Global,
+    socket: &mut WebSocket<S, K>,
+    texts: &[String],
+) -> Result<(), Error>
+    ensures sent { OnOk result (SentAll S.contents socket.old socket.new (map string_bytes texts.now)) }
+    ensures stops { IfErr result (Stops S.contents socket.old socket.new (map string_bytes texts.now)) }
+{
+    for text in texts {
+        match queue_text(alloc, socket, text.as_str()) {
+            Ok(()) => {}
+            Err(error) => return Err(error),
+        }
+    }
+    Ok(())
+}
+
+/// Sends texts in their order, each as one frame of RFC 6455.
+///
+/// `WriteBufferFull` says that more would wait than the socket's configuration allows. After an
+/// error of kind `WouldBlock` all texts wait to be sent, and a later flush sends them.
+#[tactic(auto, using(crate::proofs::Sendings::sent_flushed))]
+pub fn send_all<S: Read + Write + Drop, K: MaskKeys + Drop>(
+    alloc: Global,
+    socket: &mut WebSocket<S, K>,
+    texts: &[String],
+) -> Result<(), Error>
+    ensures sent { OnOk result (SentAll S.contents socket.old socket.new (map string_bytes texts.now)) }
+    ensures nothing_waits { OnOk result (0 < length texts.now → socket.new.output ≡ []) }
+    ensures stops { IfErr result (Stops S.contents socket.old socket.new (map string_bytes texts.now)) }
+{
+    queue_all(alloc, socket, texts)?;
+    if texts.is_empty() {
+        return Ok(());
+    }
+    match socket.flush() {
+        Ok(()) => Ok(()),
+        Err(error) => Err(error),
+    }
+}

@@ -1,0 +1,199 @@
+-- One turn of a connection: what was read, what its session said to that, and what went out.
+use Rattle.std.specs.Prelude.{◌≡◌, ◌⊎◌, ◌+◌, ℕ, Bool, true, false, if◌then◌else◌, leb, List, [], Option, Some, None, Result, Ok, Err, String, Vec}
+use Rattle.std.specs.Global.{Global}
+use Rattle.channel_session.specs.Delivery.{DeliveredBy}
+use Rattle.channel_session.specs.Ending.{EndedBy}
+use Rattle.channel_session.specs.Ran.{RanBy, texts_in}
+use Rattle.channel_session.specs.declared.fault.SessionFault.{SessionFault}
+use Rattle.channel_session.specs.declared.fault.SessionFault.TheVariants.{Failed}
+use Rattle.channel_session_events.specs.declared.frames.Delivery.{Delivery}
+use Rattle.channel_session_rules.specs.Asks.{Ask, Answer}
+use Rattle.channel_session_rules.specs.Said.{Said, Worded, Noted}
+use Rattle.hook_registry.specs.declared.hooks.PresenceHooks.{Ghosts}
+use Rattle.phx_message.specs.Reading.{decoded}
+use Rattle.phx_message.specs.declared.message.Message.{Message}
+use Rattle.phx_message.specs.declared.message.TheConstants.Limits as the_limits
+use Rattle.presence_node_sending.specs.Sending.{SentAll, Stops}
+use Rattle.tungstenite.specs.Failure.{IsIo, WriteFails}
+use Rattle.tungstenite.specs.Socket.{Socket, Flushed, Writes}
+use Rattle.tungstenite.specs.declared.error.Error.{Error}
+use Rattle.tungstenite.specs.declared.error.Error.TheVariants.{OutOfMemory}
+use Rattle.websocket.specs.CloseCode.{close_code_of}
+use Rattle.websocket.specs.Connection.{Effect, close_step}
+use Rattle.websocket.specs.declared.error.Error.{Error as FrameError}
+use Rattle.presence_node_turns.specs.Causes.{cause_of, code_of}
+use Rattle.presence_node_turns.specs.Hearing.{Hears, is_message}
+use Rattle.presence_node_turns.specs.declared.cause.Cause.{Cause}
+use Rattle.presence_node_turns.specs.declared.cause.Cause.TheVariants.{Silent, Fault, Stream}
+use Rattle.presence_node_turns.specs.declared.connection.Connection.{Connection}
+use Rattle.presence_node_turns.specs.declared.connection.Progress.{Progress}
+use Rattle.presence_node_turns.specs.declared.connection.Progress.TheVariants as progress
+use Rattle.presence_node_turns.specs.declared.connection.Stage.{Stage}
+use Rattle.presence_node_turns.specs.declared.connection.Stage.TheVariants.{Open, Ending, Over}
+use Rattle.presence_node_turns.specs.declared.connection.TheConstants.{MAX_ITEMS, MAX_SILENCE}
+use Rattle.presence_node_turns.specs.declared.hearing.Heard.{Heard}
+use Rattle.presence_node_turns.specs.declared.hearing.Heard.TheVariants.{Text, Sign, Nothing, Ends}
+
+-- What a connection stands between: what its stream states of its bytes, the steps of its port, and by which messages and notices a thing is said.
+pub record Around (S P : Type 0) : Type 1 where
+  pub remaining : S → Option (List ℕ)
+  pub contents : S → Option (List ℕ)
+  pub step : P → (q : Ask) → Answer q → P → Type 0
+  pub worded : Said → Message → Type 0
+  pub noted : Said → List (List ℕ) → Type 0
+
+abbrev pub around : {S P H : Type 0} → (S → Option (List ℕ)) → (S → Option (List ℕ)) → (P → (q : Ask) → Answer q → P → Type 0) → Ghosts H → H → Around S P
+around remaining contents step G hooks =
+    record {
+      remaining = remaining;
+      contents = contents;
+      step = step;
+      worded = Worded (G.fetched hooks) (G.plain hooks);
+      noted = Noted (G.joined hooks) (G.left hooks) (G.quiet hooks);
+    }
+
+-- ---- sending and closing
+
+-- the texts that were given, by their bytes
+abbrev pub ran_texts : Result (Vec (String Global) Global) SessionFault → Result (List (List ℕ)) SessionFault
+ran_texts (Ok texts) = Ok (texts_in texts)
+ran_texts (Err fault) = Err fault
+
+abbrev pub dealt_texts : Result Delivery SessionFault → Result (List (List ℕ)) SessionFault
+dealt_texts (Ok delivery) = Ok (texts_in delivery.texts)
+dealt_texts (Err fault) = Err fault
+
+module _ {S : Type 0} (contents : S → Option (List ℕ)) where
+  -- The frames of the texts go out, in their order, and nothing else; or the connection ends since one could not be written, or since the session has a fault.
+  abbrev pub GoOut : Socket S → Socket S → Result (List (List ℕ)) SessionFault → Result (Unit {0}) Cause → Type 0
+  GoOut old new (Ok texts) (Ok u) = SentAll contents old new texts
+  GoOut old new (Ok texts) (Err cause) = (e : Error) × (cause ≡ cause_of e) × Stops contents old new texts e
+  GoOut old new (Err fault) (Ok u) = ⊥
+  GoOut old new (Err fault) (Err cause) = (cause ≡ Fault fault) × (new ≡ old)
+
+  -- a close frame that could not be written, but for the stream
+  pub record LosesClose (old new : Socket S) (step : Result Effect FrameError) : Type 0 where
+    pub error : Error
+    pub fails : WriteFails step error
+    pub other : IsIo error → ⊥
+    pub memory : error ≡ OutOfMemory → new ≡ old
+
+  -- a close frame of this code goes out, and nothing else
+  abbrev pub ClosesBy : Option ℕ → Socket S → Socket S → Type 0
+  ClosesBy None old new = new ≡ old
+  ClosesBy (Some code) old new =
+      let step : Result Effect FrameError = close_step old.conn (Some (close_code_of code, [])) in
+      Writes contents old new step ⊎ LosesClose old new step
+
+-- ---- the end
+
+abbrev pub stage_behind : Cause → Result (Unit {0}) SessionFault → Stage
+stage_behind cause (Ok u) = Over cause
+stage_behind cause (Err fault) = Ending cause
+
+abbrev pub progress_behind : Result (Unit {0}) SessionFault → Progress
+progress_behind (Ok u) = progress.Over
+progress_behind (Err fault) = progress.Ending
+
+module _ {S K P : Type 0} (step : P → (q : Ask) → Answer q → P → Type 0) where
+  -- The session's end is asked for once, and the connection is over where that is accepted.
+  pub record EndsSession (cause : Cause) (old new : Connection S K) (before after : P) (result : Progress) : Type 0 where
+    pub answer : Result (Unit {0}) SessionFault
+    pub ended : EndedBy step old.session before after new.session answer
+    pub kept : new ≡ record old { session = new.session; stage = stage_behind cause answer }
+    pub told : result ≡ progress_behind answer
+
+-- A connection may be silent for so long.
+abbrev pub patience : ℕ → ℕ → Result (Unit {0}) Cause
+patience heard now = if leb (heard + MAX_SILENCE) now then Err Silent else Ok tt
+
+abbrev pub progress_of : Bool → Progress
+progress_of true = progress.Busy
+progress_of false = progress.Idle
+
+module _ {S K P : Type 0} (w : Around S P) where
+  -- ---- one message
+
+  -- The session answers a text, and its texts go out.
+  pub record Answers (routes : List (List ℕ × ℕ)) (text : List ℕ) (old new : Connection S K) (before after : P) (result : Result (Unit {0}) Cause) : Type 0 where
+    pub answer : Result (Vec (String Global) Global) SessionFault
+    pub ran : RanBy w.worded w.step routes old.session (decoded the_limits.CLIENT text) before after new.session answer
+    pub sent : GoOut w.contents old.socket new.socket (ran_texts answer) result
+    pub kept : new ≡ record old { socket = new.socket; session = new.session }
+
+  -- nothing was done, and this comes of it
+  pub record Rests (old new : Connection S K) (before after : P) (result outcome : Result (Unit {0}) Cause) : Type 0 where
+    pub connection : new ≡ old
+    pub port : after ≡ before
+    pub outcome_is : result ≡ outcome
+
+  abbrev pub heard_at : ℕ → Connection S K → Connection S K
+  heard_at now c = record c { heard = now }
+
+  -- What is done by what was read.
+  abbrev pub Responds : List (List ℕ × ℕ) → ℕ → Heard → Connection S K → Connection S K → P → P → Result (Unit {0}) Cause → Type 0
+  Responds routes now (Text words) old new before after result = Answers routes words (heard_at now old) new before after result
+  Responds routes now Sign old new before after result = Rests (heard_at now old) new before after result (Ok tt)
+  Responds routes now Nothing old new before after result = Rests old new before after result (patience old.heard now)
+  Responds routes now (Ends cause) old new before after result = Rests old new before after result (Err cause)
+
+  -- ---- one delivery
+
+  pub record Deals (old new : Connection S K) (before after : P) (result : Result (Unit {0}) Cause) : Type 0 where
+    pub delivery : Result Delivery SessionFault
+    pub failed : old.session.failed ≡ true → (delivery ≡ Err Failed) × (new.session ≡ old.session) × (after ≡ before)
+    pub delivered : old.session.failed ≡ false → DeliveredBy w.worded w.noted w.step MAX_ITEMS old.session before after new.session delivery
+    pub sent : GoOut w.contents old.socket new.socket (dealt_texts delivery) result
+    pub kept : new ≡ record old { socket = new.socket; session = new.session }
+
+  -- Behind the message comes one delivery, unless the connection ends; and whether a message came is told.
+  abbrev pub Continues : Bool → Result (Unit {0}) Cause → Connection S K → Connection S K → P → P → Result Bool Cause → Type 0
+  Continues came (Err cause) mid new between after result = (new ≡ mid) × (after ≡ between) × (result ≡ Err cause)
+  Continues came (Ok u) mid new between after (Ok told) = (told ≡ came) × Deals mid new between after (Ok tt)
+  Continues came (Ok u) mid new between after (Err cause) = Deals mid new between after (Err cause)
+
+  -- At most one message is read and answered, and what waits is delivered.
+  pub record Serves (routes : List (List ℕ × ℕ)) (now : ℕ) (old new : Connection S K) (before after : P) (result : Result Bool Cause) : Type 0 where
+    pub heard : Heard
+    pub socket : Socket S
+    pub hears : Hears w.remaining old.socket socket heard
+    pub mid : Connection S K
+    pub between : P
+    pub first : Result (Unit {0}) Cause
+    pub responds : Responds routes now heard (record old { socket = socket }) mid before between first
+    pub continues : Continues (is_message heard) first mid new between after result
+
+  -- A connection that ends gets the close frame of its cause, and then its session's end is asked for.
+  abbrev pub GoesOn : Connection S K → Connection S K → P → P → Result Bool Cause → Progress → Type 0
+  GoesOn served new between after (Ok came) result = (new ≡ served) × (after ≡ between) × (result ≡ progress_of came)
+  GoesOn served new between after (Err cause) result =
+      (closed : Socket S) × ClosesBy w.contents (code_of cause) served.socket closed
+      × EndsSession w.step cause (record served { socket = closed }) new between after result
+
+  pub record TakesTurn (routes : List (List ℕ × ℕ)) (now : ℕ) (old new : Connection S K) (before after : P) (result : Progress) : Type 0 where
+    pub served : Connection S K
+    pub between : P
+    pub outcome : Result Bool Cause
+    pub serves : Serves routes now old served before between outcome
+    pub goes_on : GoesOn served new between after outcome result
+
+  -- What a turn does, by how far the connection has come.
+  abbrev pub Turns : Stage → List (List ℕ × ℕ) → ℕ → Connection S K → Connection S K → P → P → Progress → Type 0
+  Turns Open routes now old new before after result = TakesTurn routes now old new before after result
+  Turns (Ending cause) routes now old new before after result = EndsSession w.step cause old new before after result
+  Turns (Over cause) routes now old new before after result = (new ≡ old) × (after ≡ before) × (result ≡ progress.Over)
+
+-- ---- flushing
+
+abbrev pub broken_off : Stage → Stage
+broken_off Open = Ending Stream
+broken_off (Ending cause) = Ending cause
+broken_off (Over cause) = Over cause
+
+module _ {S K : Type 0} (contents : S → Option (List ℕ)) where
+  -- Some of what waits goes to the stream, and all of it where that is told. An open connection may end since the stream failed, and then not all went.
+  pub record Flushes (old new : Connection S K) (all : Bool) : Type 0 where
+    pub flushed : Flushed contents old.socket new.socket
+    pub nothing_waits : all ≡ true → new.socket.output ≡ []
+    pub others : new ≡ record old { socket = new.socket; stage = new.stage }
+    pub stage : (new.stage ≡ old.stage) ⊎ ((all ≡ false) × (new.stage ≡ broken_off old.stage))

@@ -1,0 +1,336 @@
+ghost use Rattle.std.specs.Prelude.{Some, ◌≡◌, ◌+◌, ◌≤◌, ◌^◌, [], leb, false, map, string_bytes, None, IfOk};
+ghost use Rattle.phx_message.specs.Reading.{decoded};
+ghost use Rattle.tungstenite.specs.Socket.{Flushed};
+ghost use Rattle.presence_node_turns.specs.Causes.{code_of};
+ghost use Rattle.presence_node_turns.specs.Hearing.{is_message};
+ghost use Rattle.presence_node_turns.specs.Turning.{around, Answers, ClosesBy, Continues, Deals, broken_off, EndsSession, GoOut, Responds, Serves, Flushes, TakesTurn, Turns, patience, progress_of as progress_in};
+
+use crate::cause::{Cause, cause_of, close_code};
+use crate::hearing::{Heard, hear};
+use channel_session::{Delivery, Port, Session, SessionFault, deliver, end, run_text};
+use hook_registry::{PresenceHooks, Routes};
+use phx_message::Limits;
+use presence_node_sending::queue_all;
+use std::alloc::Global;
+use std::io::{ErrorKind, Read, Write};
+use tungstenite::{CloseFrame, Error, MaskKeys, Utf8Bytes, WebSocket, WebSocketConfig};
+
+/// How many items one delivery takes from a topic: all that ever wait.
+pub const MAX_ITEMS: u32 = 256;
+
+/// How long a connection may be without a message, in milliseconds.
+pub const MAX_SILENCE: u64 = 60_000;
+
+/// How many bytes one read of a stream asks for.
+const READ_BYTES: usize = 4_096;
+
+/// How many bytes of output gather before they go to the stream by themselves.
+const WRITE_BYTES: usize = 1_048_576;
+
+/// How many bytes of output may wait for a client that reads too slowly: the longest frame and more.
+const MAX_WRITE_BYTES: usize = 17_825_792;
+
+/// How far a connection has come.
+#[derive(Clone, Copy, PartialEq, Eq, Debug)]
+pub enum Stage {
+    Open,
+    /// It ends for this cause, and its session's end is not yet accepted.
+    Ending(Cause),
+    /// Its session has ended, and it may be given up.
+    Over(Cause),
+}
+
+/// What a turn did.
+#[derive(Clone, Copy, PartialEq, Eq, Debug)]
+pub enum Progress {
+    /// A message came, and there may be another.
+    Busy,
+    /// No message came.
+    Idle,
+    /// The session's end was refused, and is asked for again in the next turn.
+    Ending,
+    /// The connection may be given up, once it was flushed: so a client's close frame is answered.
+    Over,
+}
+
+/// A client's connection.
+#[derive(Drop)]
+pub struct Connection<S, K> {
+    pub socket: WebSocket<S, K>,
+    pub session: Session,
+    /// When the last message came, in milliseconds.
+    pub heard: u64,
+    pub stage: Stage,
+}
+
+/// The configuration of a client's socket. A message may have as many bytes as a text of a client.
+pub fn socket_config() -> WebSocketConfig
+    ensures message { result.max_message_size ≡ Some Limits.CLIENT.bytes }
+    ensures frame { result.max_frame_size ≡ Some Limits.CLIENT.bytes }
+    ensures waiting { result.max_write_buffer_size ≡ MAX_WRITE_BYTES }
+    ensures masked { result.accept_unmasked_frames ≡ false }
+{
+    WebSocketConfig::default()
+        .read_buffer_size(READ_BYTES)
+        .write_buffer_size(WRITE_BYTES)
+        .max_write_buffer_size(MAX_WRITE_BYTES)
+        .max_message_size(Some(Limits::CLIENT.bytes))
+        .max_frame_size(Some(Limits::CLIENT.bytes))
+}
+
+// What a turn did in which no connection ended.
+fn progress_of(came: bool) -> Progress
+    ensures { result ≡ progress_in came }
+{
+    if came { Progress::Busy } else { Progress::Idle }
+}
+
+// Whether a flush only has to be tried again.
+fn is_passing(error: &Error) -> bool {
+    match error {
+        Error::Io(cause) => matches!(cause.kind(), ErrorKind::WouldBlock | ErrorKind::Interrupted),
+        _ => false,
+    }
+}
+
+impl<S: Read + Write + Drop, K: MaskKeys + Drop> Connection<S, K> {
+    /// A connection over a socket whose handshake is done, at this time.
+    pub fn new(alloc: Global, socket: WebSocket<S, K>, pid: u64, now: u64) -> Connection<S, K>
+        requires { pid ≤ 2 ^ 62 }
+        ensures { result ≡ record {
+          socket = socket;
+          session = record { pid = pid; failed = false; joined = []; cut_short = None };
+          heard = now;
+          stage = Stage.Open;
+        } }
+    {
+        Connection {
+            socket,
+            session: Session::new(alloc, pid),
+            heard: now,
+            stage: Stage::Open,
+        }
+    }
+
+    // Puts the texts that the session gave in what waits to be sent.
+    fn send(&mut self, alloc: Global, texts: &[String]) -> Result<(), Cause>
+        ensures sent { GoOut S.contents self.old.socket self.new.socket (Ok (map string_bytes texts.now)) result }
+        ensures kept { self.new ≡ record self.old { socket = self.new.socket } }
+    {
+        match queue_all(alloc, &mut self.socket, texts) {
+            Ok(()) => Ok(()),
+            Err(error) => Err(cause_of(&error)),
+        }
+    }
+
+    // Answers a text.
+    fn answer<P: Port, H: PresenceHooks>(
+        &mut self,
+        alloc: Global,
+        port: &mut P,
+        routes: &Routes,
+        hooks: &H,
+        text: &str,
+    ) -> Result<(), Cause>
+        ensures { Answers (around S.remaining S.contents P.step H.PresenceHooks hooks.now)
+            routes.now text.now self.old self.new port.old port.new result }
+    {
+        match run_text(alloc, &mut self.session, port, routes, hooks, text) {
+            Ok(texts) => self.send(alloc, &texts),
+            Err(fault) => Err(Cause::Fault(fault)),
+        }
+    }
+
+    // Ends a connection that was silent for too long.
+    fn bear_silence(&self, now: u64) -> Result<(), Cause>
+        ensures { result ≡ patience self.now.heard now }
+    {
+        if now >= self.heard && now - self.heard >= MAX_SILENCE {
+            Err(Cause::Silent)
+        } else {
+            Ok(())
+        }
+    }
+
+    // Does what was read.
+    fn respond<P: Port, H: PresenceHooks>(
+        &mut self,
+        alloc: Global,
+        port: &mut P,
+        routes: &Routes,
+        hooks: &H,
+        now: u64,
+        heard: &Heard,
+    ) -> Result<(), Cause>
+        ensures { Responds (around S.remaining S.contents P.step H.PresenceHooks hooks.now)
+            routes.now now heard.now self.old self.new port.old port.new result }
+    {
+        match heard {
+            Heard::Text(words) => {
+                self.heard = now;
+                self.answer(alloc, port, routes, hooks, words.as_str())
+            }
+            Heard::Sign => {
+                self.heard = now;
+                Ok(())
+            }
+            Heard::Nothing => self.bear_silence(now),
+            Heard::Ends(cause) => Err(*cause),
+        }
+    }
+
+    // Delivers what waits, once.
+    fn deal<P: Port, H: PresenceHooks>(
+        &mut self,
+        alloc: Global,
+        port: &mut P,
+        hooks: &H,
+    ) -> Result<(), Cause>
+        ensures { Deals (around S.remaining S.contents P.step H.PresenceHooks hooks.now)
+            self.old self.new port.old port.new result }
+    {
+        match deliver(alloc, &mut self.session, port, hooks, MAX_ITEMS) {
+            Ok(delivery) => self.send(alloc, &delivery.texts),
+            Err(fault) => Err(Cause::Fault(fault)),
+        }
+    }
+
+    // Goes on behind a message with a delivery.
+    fn go_on<P: Port, H: PresenceHooks>(
+        &mut self,
+        alloc: Global,
+        port: &mut P,
+        hooks: &H,
+        came: bool,
+        first: Result<(), Cause>,
+    ) -> Result<bool, Cause>
+        ensures { Continues (around S.remaining S.contents P.step H.PresenceHooks hooks.now)
+            came first self.old self.new port.old port.new result }
+    {
+        match first {
+            Err(cause) => Err(cause),
+            Ok(()) => match self.deal(alloc, port, hooks) {
+                Ok(()) => Ok(came),
+                Err(cause) => Err(cause),
+            },
+        }
+    }
+
+    // Reads at most one message, answers it and delivers what waits: whether a message came.
+    fn serve<P: Port, H: PresenceHooks>(
+        &mut self,
+        alloc: Global,
+        port: &mut P,
+        routes: &Routes,
+        hooks: &H,
+        now: u64,
+    ) -> Result<bool, Cause>
+        ensures { Serves (around S.remaining S.contents P.step H.PresenceHooks hooks.now)
+            routes.now now self.old self.new port.old port.new result }
+    {
+        let heard = hear(&mut self.socket);
+        let first = self.respond(alloc, port, routes, hooks, now, &heard);
+        self.go_on(alloc, port, hooks, heard.is_message(), first)
+    }
+
+    // Sends the close frame of a cause, if it has one.
+    fn close(&mut self, cause: Cause)
+        ensures closed { ClosesBy S.contents (code_of cause) self.old.socket self.new.socket }
+        ensures kept { self.new ≡ record self.old { socket = self.new.socket } }
+    {
+        let Some(code) = close_code(cause) else {
+            return;
+        };
+        let frame = CloseFrame {
+            code,
+            reason: Utf8Bytes::from_static(""),
+        };
+        let _lost = self.socket.close(Some(frame));
+    }
+
+    // Asks for the session's end.
+    fn end_session<P: Port>(&mut self, alloc: Global, port: &mut P, cause: Cause) -> Progress
+        ensures { EndsSession P.step cause self.old self.new port.old port.new result }
+    {
+        match end(alloc, &mut self.session, port) {
+            Ok(()) => {
+                self.stage = Stage::Over(cause);
+                Progress::Over
+            }
+            Err(_) => {
+                self.stage = Stage::Ending(cause);
+                Progress::Ending
+            }
+        }
+    }
+
+    // A turn of an open connection.
+    fn turn_open<P: Port, H: PresenceHooks>(
+        &mut self,
+        alloc: Global,
+        port: &mut P,
+        routes: &Routes,
+        hooks: &H,
+        now: u64,
+    ) -> Progress
+        ensures { TakesTurn (around S.remaining S.contents P.step H.PresenceHooks hooks.now)
+            routes.now now self.old self.new port.old port.new result }
+    {
+        match self.serve(alloc, port, routes, hooks, now) {
+            Ok(came) => progress_of(came),
+            Err(cause) => {
+                self.close(cause);
+                self.end_session(alloc, port, cause)
+            }
+        }
+    }
+
+    /// One turn, at this time: at most one message is read and answered, and what waits for the
+    /// session is delivered. Texts wait in the socket until it is flushed.
+    ///
+    /// A connection that ends is told its close code and reads no more. Its session's end is asked
+    /// for in that turn and in each later one, until it is accepted.
+    pub fn turn<P: Port, H: PresenceHooks>(
+        &mut self,
+        alloc: Global,
+        port: &mut P,
+        routes: &Routes,
+        hooks: &H,
+        now: u64,
+    ) -> Progress
+        ensures { Turns (around S.remaining S.contents P.step H.PresenceHooks hooks.now)
+            self.old.stage routes.now now self.old self.new port.old port.new result }
+    {
+        match self.stage {
+            Stage::Open => self.turn_open(alloc, port, routes, hooks, now),
+            Stage::Ending(cause) => self.end_session(alloc, port, cause),
+            Stage::Over(_) => Progress::Over,
+        }
+    }
+
+    // Ends an open connection whose stream failed.
+    fn break_off(&mut self)
+        ensures { self.new ≡ record self.old { stage = broken_off self.old.stage } }
+    {
+        if let Stage::Open = self.stage {
+            self.stage = Stage::Ending(Cause::Stream);
+        }
+    }
+
+    /// Hands what waits to be sent to the stream: whether all of it went.
+    ///
+    /// What a stream that would block leaves goes with a later flush. Where the stream fails, an
+    /// open connection ends: its next turn asks for its session's end.
+    pub fn flush(&mut self) -> bool
+        ensures { Flushes S.contents self.old self.new result }
+    {
+        match self.socket.flush() {
+            Ok(()) => true,
+            Err(error) if is_passing(&error) => false,
+            Err(_) => {
+                self.break_off();
+                false
+            }
+        }
+    }
+}

@@ -1,0 +1,53 @@
+ghost use Rattle.presence_node_turns.specs.Hearing.{FailsAs, Hears, is_message};
+ghost use Rattle.std.specs.Prelude.{◌≡◌};
+
+use crate::cause::{Cause, cause_of};
+use std::io::{ErrorKind, Read, Write};
+use tungstenite::{Error, MaskKeys, Message, Utf8Bytes, WebSocket};
+
+/// What one read of a connection gave.
+#[derive(Drop)]
+pub enum Heard {
+    Text(Utf8Bytes),
+    /// A ping or a pong, which the socket answers by itself.
+    Sign,
+    /// Not yet the whole of a message.
+    Nothing,
+    /// What ends the connection.
+    Ends(Cause),
+}
+
+impl Heard {
+    /// Whether a message came that the connection goes on with.
+    pub fn is_message(&self) -> bool
+        ensures { result ≡ is_message self.now }
+    {
+        matches!(self, Heard::Text(_) | Heard::Sign)
+    }
+}
+
+// A stream that would block or was interrupted has nothing, and any other error is a cause.
+fn heard_of_error(error: &Error) -> Heard
+    ensures { FailsAs error.now result }
+{
+    match error {
+        Error::Io(cause) => match cause.kind() {
+            ErrorKind::WouldBlock | ErrorKind::Interrupted => Heard::Nothing,
+            _ => Heard::Ends(Cause::Stream),
+        },
+        _ => Heard::Ends(cause_of(error)),
+    }
+}
+
+/// Reads at most one message.
+pub fn hear<S: Read + Write + Drop, K: MaskKeys + Drop>(socket: &mut WebSocket<S, K>) -> Heard
+    ensures { Hears S.remaining socket.old socket.new result }
+{
+    match socket.read() {
+        Ok(Message::Text(words)) => Heard::Text(words),
+        Ok(Message::Binary(_)) => Heard::Ends(Cause::Binary),
+        Ok(Message::Ping(_) | Message::Pong(_)) => Heard::Sign,
+        Ok(Message::Close(_)) => Heard::Ends(Cause::Closed),
+        Err(error) => heard_of_error(&error),
+    }
+}

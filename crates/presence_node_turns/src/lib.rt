@@ -1,0 +1,13 @@
+//! One turn of a connection, over any stream, port and hooks.
+//!
+//! What its contracts cite: `specs/Causes` why a connection ends, with the table of close codes;
+//! `specs/Hearing` what a read gave; `specs/Turning` what a turn does by that.
+#![tactic(auto)]
+
+mod cause;
+mod connection;
+mod hearing;
+
+pub use cause::{Cause, close_code};
+pub use connection::{Connection, MAX_ITEMS, MAX_SILENCE, Progress, Stage, socket_config};
+pub use hearing::{Heard, hear};
