@@ -5,10 +5,11 @@
 #![tactic(auto)]
 
 mod ending;
+mod error_stream;
 mod running;
 mod words;
 
 pub use ending::{
     Ending, Stream, fold_ending, help_ending, stdio_ending, stopped_ending, usage_ending,
 };
-pub use running::run_program;
+pub use running::{run_program, run_with};

@@ -1,27 +1,44 @@
 use crate::ending::{
     Ending, Stream, fold_ending, help_ending, silent, stdio_ending, stopped_ending, usage_ending,
 };
+use crate::error_stream::ErrorStream;
 use crate::words::{texts_of, words_of};
+use hook_registry::{NoHooks, PresenceHooks};
 use presence_node_fold::{fold_status_of, run_fold};
+use presence_node_notices::ReferenceNotices;
 use presence_node_options::{FoldOptions, Options, StdioOptions, options_of};
 use presence_node_stdio::{run_stdio, status_of};
 use std::env::Env;
 use std::io;
 use std::io::BufReader;
 
-// Runs one session over the standard streams. Each reply goes out before the next line is read, so
-// nothing is buffered behind the session.
-fn serve_stdio<R: Input + Print + AllocGlobal>(
+// Runs one session over the standard streams, with notices on standard error. Each reply goes out
+// before the next line is read, so nothing is buffered behind the session.
+fn serve_stdio<R: Input + Print + Eprint + AllocGlobal, H: PresenceHooks>(
     rt: &R,
+    hooks: &H,
     options: &StdioOptions,
 ) -> io::Result<Ending> {
     let alloc = rt.alloc();
     let mut reader = BufReader::new(alloc, rt.reader())?;
     let mut writer = io::writer(rt);
-    let end = run_stdio(alloc, &mut reader, &mut writer, options);
+    let mut notes = ErrorStream { to: rt };
+    let end = run_stdio(alloc, &mut reader, &mut writer, &mut notes, hooks, options);
     match stdio_ending(alloc, &end, options.explain) {
         Ok(ending) => Ok(ending),
         Err(_) => Ok(silent(end.err().map_or(2, |fault| status_of(&fault)))),
+    }
+}
+
+// The same with the program's own notices, where they are asked for.
+fn serve_plainly<R: Input + Print + Eprint + AllocGlobal>(
+    rt: &R,
+    options: &StdioOptions,
+) -> io::Result<Ending> {
+    if options.notices {
+        serve_stdio(rt, &ReferenceNotices, options)
+    } else {
+        serve_stdio(rt, &NoHooks, options)
     }
 }
 
@@ -38,13 +55,13 @@ fn fold_stdin<R: Input + Print + AllocGlobal>(rt: &R, options: FoldOptions) -> i
 }
 
 // Does what the words of the command line ask for.
-fn run<R: Env + Input + Print + AllocGlobal>(rt: &R) -> io::Result<Ending> {
+fn run<R: Env + Input + Print + Eprint + AllocGlobal>(rt: &R) -> io::Result<Ending> {
     let alloc = rt.alloc();
     let words = words_of(rt)?;
     let texts = texts_of(alloc, words.as_slice())?;
     match options_of(alloc, texts.as_slice()) {
         Ok(Options::Help(text)) => Ok(help_ending(text)),
-        Ok(Options::Stdio(options)) => serve_stdio(rt, &options),
+        Ok(Options::Stdio(options)) => serve_plainly(rt, &options),
         Ok(Options::Fold(options)) => fold_stdin(rt, options),
         Err(fault) => Ok(usage_ending(fault)),
     }
@@ -74,9 +91,9 @@ fn stop<R: Eprint>(rt: &R, kind: io::ErrorKind) -> u8 {
     status
 }
 
-/// Runs the program over its words and the standard streams, and gives the status to end with.
-pub fn run_program<R: Env + Input + Print + Eprint + AllocGlobal>(rt: &R) -> u8 {
-    let said = match run(rt) {
+// Says how a run ended, and gives the status to end with.
+fn finish<R: Print + Eprint>(rt: &R, ended: io::Result<Ending>) -> u8 {
+    let said = match ended {
         Ok(ending) => say(rt, &ending),
         Err(e) => Err(e),
     };
@@ -84,4 +101,20 @@ pub fn run_program<R: Env + Input + Print + Eprint + AllocGlobal>(rt: &R) -> u8 
         Ok(status) => status,
         Err(e) => stop(rt, e.kind()),
     }
+}
+
+/// Runs the program over its words and the standard streams, and gives the status to end with.
+pub fn run_program<R: Env + Input + Print + Eprint + AllocGlobal>(rt: &R) -> u8 {
+    finish(rt, run(rt))
+}
+
+/// Runs `stdio` with these options over the standard streams, with what these hooks add and with
+/// their notices on standard error, and gives the status to end with. `notices` of the options says
+/// nothing here.
+pub fn run_with<R: Input + Print + Eprint + AllocGlobal, H: PresenceHooks>(
+    rt: &R,
+    hooks: &H,
+    options: &StdioOptions,
+) -> u8 {
+    finish(rt, serve_stdio(rt, hooks, options))
 }

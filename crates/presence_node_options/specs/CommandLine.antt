@@ -15,10 +15,11 @@ flag_rule name = record (new_rule name) { long = Some name; action = Some SetTru
 
 abbrev pub stdio_app : App
 stdio_app =
-    with_rule (with_rule (with_rule (with_rule (new_app (codes "stdio"))
+    with_rule (with_rule (with_rule (with_rule (with_rule (new_app (codes "stdio"))
     (option_rule (codes "name") Set))
     (option_rule (codes "incarnation") Set))
     (option_rule (codes "route") Append))
+    (flag_rule (codes "notices")))
     (flag_rule (codes "explain"))
 
 abbrev pub fold_app : App

@@ -40,15 +40,24 @@ abbrev pub is_yes : Option Text → Bool
 is_yes None = false
 is_yes (Some text) = bytes_eq text (codes "true")
 
+-- whether this flag is given
+abbrev pub flag_given : Text → List Row → Bool
+flag_given name rows = is_yes (first_of name rows)
+
 -- whether refusals are asked for in words
 abbrev pub explain_given : List Row → Bool
-explain_given rows = is_yes (first_of (codes "explain") rows)
+explain_given rows = flag_given (codes "explain") rows
+
+-- whether notices are asked for
+abbrev pub notices_given : List Row → Bool
+notices_given rows = flag_given (codes "notices") rows
 
 -- the options are those that were given, each route with its position as its kind
 pub record IsGiven (rows : List Row) (o : StdioOptions) : Type 0 where
   pub name : o.name ≡ name_given rows
   pub incarnation : o.incarnation ≡ number_in (incarnation_given rows)
   pub routes : o.routes ≡ numbered 0 (patterns_given rows)
+  pub notices : o.notices ≡ notices_given rows
   pub explain : o.explain ≡ explain_given rows
 
 -- the words name this command, with these options

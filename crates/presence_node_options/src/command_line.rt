@@ -1,13 +1,13 @@
 ghost use Rattle.std.specs.Prelude.{◌≡◌, false, IfOk, IfErr, codes, map, option_map, unwrap_or};
 ghost use Rattle.clap.specs.Words.{app_of, first_of, found_of, kind_of, rows_of, rule_of, subcommand_rows_of};
 ghost use Rattle.presence_node_options.specs.CommandLine.{flag_rule, option_rule, stdio_app, fold_app, program};
-ghost use Rattle.presence_node_options.specs.Given.{AskFor, Chooses, ChoosesNone, HasCause, Refused, IsHelpFor, IsNoHelp, IsGiven, IsFor, IsWrong, AreFewPatterns, explain_given, patterns_given};
+ghost use Rattle.presence_node_options.specs.Given.{AskFor, Chooses, ChoosesNone, HasCause, Refused, IsHelpFor, IsNoHelp, IsGiven, IsFor, IsWrong, AreFewPatterns, flag_given, patterns_given};
 ghost use Rattle.presence_node_options.specs.Limits.{AreRoutes, IsWithin, AreWithin, numbered};
 
 use crate::fault::{UsageCause, UsageFault};
 use crate::help::{
     ALL_OPTIONS, ALLOWED, EXPLAIN_HELP, FOLD_REFUSALS, FOLD_USAGE, INCARNATION_HELP, NAME_HELP,
-    ROUTE_HELP, STDIO_REFUSALS, STDIO_USAGE, USAGES,
+    NOTICES_HELP, ROUTE_HELP, STDIO_REFUSALS, STDIO_USAGE, USAGES,
 };
 use crate::options::{FoldOptions, Options, StdioOptions};
 use crate::values::{incarnation_of, name_of, routes_of, usage_of};
@@ -25,6 +25,17 @@ fn explain_flag<'a>(alloc: Global) -> Arg<'a>
         .long("explain")
         .action(ArgAction::SetTrue)
         .help(EXPLAIN_HELP)
+}
+
+// `--notices`.
+fn notices_flag<'a>(alloc: Global) -> Arg<'a>
+    ensures rule { rule_of result ≡ flag_rule (codes "notices") }
+    ensures local { result.global ≡ false }
+{
+    Arg::new(alloc, "notices")
+        .long("notices")
+        .action(ArgAction::SetTrue)
+        .help(NOTICES_HELP)
 }
 
 // `--name NAME`.
@@ -74,6 +85,7 @@ fn stdio_command<'a>(alloc: Global) -> Result<Command<'a>, AllocError>
         .arg(name_option(alloc))?
         .arg(incarnation_option(alloc))?
         .arg(route_option(alloc))?
+        .arg(notices_flag(alloc))?
         .arg(explain_flag(alloc))
 }
 
@@ -157,12 +169,12 @@ fn given_routes(alloc: Global, matches: &ArgMatches<'_>) -> Result<Routes, Usage
     }
 }
 
-// Whether refusals are asked for in words.
+// Whether the flag is given.
 #[tactic(auto, using(crate::proofs::Rows::first_read))]
-fn is_explained(matches: &ArgMatches<'_>) -> bool
-    ensures { result ≡ explain_given (rows_of (found_of matches.now)) }
+fn is_flagged(matches: &ArgMatches<'_>, id: &str) -> bool
+    ensures { result ≡ flag_given id.now (rows_of (found_of matches.now)) }
 {
-    match matches.get_str("explain") {
+    match matches.get_str(id) {
         Some(text) => text == "true",
         None => false,
     }
@@ -181,7 +193,8 @@ fn stdio_options(alloc: Global, matches: &ArgMatches<'_>) -> Result<StdioOptions
         name,
         incarnation,
         routes,
-        explain: is_explained(matches),
+        notices: is_flagged(matches, "notices"),
+        explain: is_flagged(matches, "explain"),
     })
 }
 
@@ -216,7 +229,7 @@ fn chosen(alloc: Global, name: &str, matches: &ArgMatches<'_>) -> Result<Options
     }
     if name == "fold" {
         return Ok(Options::Fold(FoldOptions {
-            explain: is_explained(matches),
+            explain: is_flagged(matches, "explain"),
         }));
     }
     Err(no_command(alloc))

@@ -2,11 +2,11 @@
 
 /// How the program is called.
 pub(crate) const USAGES: &str =
-    "presence_node stdio [--name NAME] [--incarnation NUMBER] [--route PATTERN].. [--explain]\n       presence_node fold [--explain]";
+    "presence_node stdio [--name NAME] [--incarnation NUMBER] [--route PATTERN].. [--notices] [--explain]\n       presence_node fold [--explain]";
 
 /// How `stdio` is called.
 pub(crate) const STDIO_USAGE: &str =
-    "presence_node stdio [--name NAME] [--incarnation NUMBER] [--route PATTERN].. [--explain]";
+    "presence_node stdio [--name NAME] [--incarnation NUMBER] [--route PATTERN].. [--notices] [--explain]";
 
 /// How `fold` is called.
 pub(crate) const FOLD_USAGE: &str = "presence_node fold [--explain]";
@@ -20,6 +20,9 @@ pub(crate) const INCARNATION_HELP: &str =
 pub(crate) const ROUTE_HELP: &str =
     "A topic that may be joined, or the front of such topics with one * behind it, of 1 to 255 bytes in all; up to 64 times [default: room:*]";
 
+pub(crate) const NOTICES_HELP: &str =
+    "Say on standard error who joins and leaves, a line each, as join a.1.2; nothing is said of a state";
+
 /// What both commands are told by `--explain`.
 pub(crate) const EXPLAIN_HELP: &str = "Say in words, on a second line, why a line was refused";
 
@@ -28,6 +31,7 @@ pub const ALL_OPTIONS: &str = "Options of stdio:
       --name <NAME>           The node's name: 1 to 32 characters of a-z, 0-9 [default: a]
       --incarnation <NUMBER>  Which life of the node this is, 1 to 4611686018427387904 [default: 1]
       --route <PATTERN>       A topic that may be joined, or the front of such topics with one * behind it; up to 64 times [default: room:*]
+      --notices               Say on standard error who joins and leaves, a line each, as join a.1.2; nothing is said of a state
       --explain               Say in words, on a second line, why a line was refused
 
 Options of fold:
@@ -63,4 +67,4 @@ pub const FOLD_REFUSALS: &str =
 
 /// What each command takes.
 pub(crate) const ALLOWED: &str =
-    "stdio takes --name NAME, 1 to 32 characters of a-z, 0-9, --incarnation NUMBER, 1 to 4611686018427387904, up to 64 times --route PATTERN, a topic or the front of topics with one * behind it, of 1 to 255 bytes, and --explain; fold takes --explain";
+    "stdio takes --name NAME, 1 to 32 characters of a-z, 0-9, --incarnation NUMBER, 1 to 4611686018427387904, up to 64 times --route PATTERN, a topic or the front of topics with one * behind it, of 1 to 255 bytes, --notices and --explain; fold takes --explain";

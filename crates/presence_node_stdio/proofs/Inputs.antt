@@ -8,34 +8,34 @@ use Rattle.presence_node_stdio.specs.declared.fault.StdioFault.TheVariants.{Line
 use Rattle.presence_node_lines.specs.Bytes.{IsWhole, HasRead}
 use Rattle.presence_node_lines.specs.Lines.{lines_of, first_line, after_line}
 use Rattle.presence_node_lines.specs.Reading.{line_limit}
-use Rattle.presence_node_stdio.specs.Session.{State, Answer, answer}
-use Rattle.presence_node_stdio.specs.Run.{finished, refused, Run, behind, run_next, run_line, run, TellsAll, Tells, TellsInput}
+use Rattle.presence_node_stdio.specs.Session.{State, Answer, Speech, Voice, answer}
+use Rattle.presence_node_stdio.specs.Run.{finished, refused, Run, behind, run_next, run_line, run, Outs, TellsAll, Tells, TellsInput}
 use Rattle.presence_node_lines.proofs.Fronts.{all_lines, kept_front}
 use Rattle.presence_node_lines.proofs.Splits.{lines_of-first}
 use Rattle.presence_node_stdio.proofs.Sessions.{kept_answer}
 
 -- ---- the first line that is refused ends a run
 
-next_same : (text : List ℕ) (next : Result State LineFault) (f g : State → Run) → ((t : State) → f t ≡ g t) → run_next text next f ≡ run_next text next g
-next_same text (Ok t) f g e = ap (behind text) (e t)
-next_same text (Err k) f g e = refl
+next_same : (speech : Speech) (next : Result State LineFault) (f g : State → Run) → ((t : State) → f t ≡ g t) → run_next speech next f ≡ run_next speech next g
+next_same speech (Ok t) f g e = ap (behind speech) (e t)
+next_same speech (Err k) f g e = refl
 
 -- what is kept of a line tells the same
 same_last : (s : State) (lines : List (List ℕ)) (l m : List ℕ) → ((t : State) → answer t l ≡ answer t m) → run s (lines ++ l ∷ []) ≡ run s (lines ++ m ∷ [])
 same_last s [] l m e = ap (λ (a : Answer). run_line a (λ after. run after [])) (e s)
-same_last s (x ∷ lines) l m e = next_same (answer s x).text (answer s x).next _ _ (λ t. same_last t lines l m e)
+same_last s (x ∷ lines) l m e = next_same (answer s x).speech (answer s x).next _ _ (λ t. same_last t lines l m e)
 
 not_refused : (f : LineFault) → finished ≡ refused f → ⊥
 not_refused f h = cc
 
 refused_stays : (s : State) (xs ys : List (List ℕ)) (f : LineFault) → (run s xs).ending ≡ refused f → run s (xs ++ ys) ≡ run s xs
 refused_stays s [] ys f h = absurd (not_refused f h)
-refused_stays s (x ∷ xs) ys f h = at_next (answer s x).text (answer s x).next (λ t k. refused_stays t xs ys f k) h
+refused_stays s (x ∷ xs) ys f h = at_next (answer s x).speech (answer s x).next (λ t k. refused_stays t xs ys f k) h
   where
-    at_next : (text : List ℕ) (next : Result State LineFault) → ((t : State) → (run t xs).ending ≡ refused f → run t (xs ++ ys) ≡ run t xs)
-        → (run_next text next (λ t. run t xs)).ending ≡ refused f → run_next text next (λ t. run t (xs ++ ys)) ≡ run_next text next (λ t. run t xs)
-    at_next text (Ok t) more h = ap (behind text) (more t h)
-    at_next text (Err k) more h = refl
+    at_next : (speech : Speech) (next : Result State LineFault) → ((t : State) → (run t xs).ending ≡ refused f → run t (xs ++ ys) ≡ run t xs)
+        → (run_next speech next (λ t. run t xs)).ending ≡ refused f → run_next speech next (λ t. run t (xs ++ ys)) ≡ run_next speech next (λ t. run t xs)
+    at_next speech (Ok t) more h = ap (behind speech) (more t h)
+    at_next speech (Err k) more h = refl
 
 -- ---- what is told of the whole input
 
@@ -52,18 +52,18 @@ refused_input s input rest lines part f h w ends =
     ∙ refused_stays s (lines ++ line ∷ []) more f (ap (λ (r : Run). r.ending) (sym alike) ∙ ends)
     ∙ sym alike
 
-tells_input : (max : ℕ) (s : State) (input : List ℕ) (left old new : Option (List ℕ)) (r : Result ℕ StdioFault) → Tells max s (Some input) left old new r → TellsInput max s old new input r
-tells_input max s input left old new (Ok n) t = subst (λ ls. TellsAll max old new (run s ls) n finished) (sym (all_lines line_limit input left t.lines t.part t.read t.told.0 t.told.1)) t.told.2
-tells_input max s input None old new (Err (Line n f)) t = absurd t.read.splits
-tells_input max s input None old new (Err (Session n f)) t = absurd t.read.splits
-tells_input max s input (Some rest) old new (Err (Line n f)) t =
-    subst (λ (r : Run). TellsAll max old new r n (refused (no_message f))) (sym (refused_input s input rest t.lines t.part (no_message f) t.read t.told.0 t.told.1.ends)) t.told.1
-tells_input max s input (Some rest) old new (Err (Session n f)) t =
-    subst (λ (r : Run). TellsAll max old new r n (refused (stopped_by f))) (sym (refused_input s input rest t.lines t.part (stopped_by f) t.read t.told.0 t.told.1.ends)) t.told.1
-tells_input max s input left old new (Err (Read f)) t = tt
-tells_input max s input left old new (Err Write) t = tt
-tells_input max s input left old new (Err Memory) t = tt
+tells_input : (v : Voice) (max : ℕ) (s : State) (input : List ℕ) (left : Option (List ℕ)) (old new : Outs) (r : Result ℕ StdioFault) → Tells v max s (Some input) left old new r → TellsInput v max s old new input r
+tells_input v max s input left old new (Ok n) t = subst (λ ls. TellsAll v max old new (run s ls) n finished) (sym (all_lines line_limit input left t.lines t.part t.read t.told.0 t.told.1)) t.told.2
+tells_input v max s input None old new (Err (Line n f)) t = absurd t.read.splits
+tells_input v max s input None old new (Err (Session n f)) t = absurd t.read.splits
+tells_input v max s input (Some rest) old new (Err (Line n f)) t =
+    subst (λ (r : Run). TellsAll v max old new r n (refused (no_message f))) (sym (refused_input s input rest t.lines t.part (no_message f) t.read t.told.0 t.told.1.ends)) t.told.1
+tells_input v max s input (Some rest) old new (Err (Session n f)) t =
+    subst (λ (r : Run). TellsAll v max old new r n (refused (stopped_by f))) (sym (refused_input s input rest t.lines t.part (stopped_by f) t.read t.told.0 t.told.1.ends)) t.told.1
+tells_input v max s input left old new (Err (Read f)) t = tt
+tells_input v max s input left old new (Err Write) t = tt
+tells_input v max s input left old new (Err Memory) t = tt
 
-pub told_input : (max : ℕ) (s : State) (before left old new : Option (List ℕ)) (r : Result ℕ StdioFault) → Tells max s before left old new r → IfSome before (λ input. TellsInput max s old new input r)
-told_input max s None left old new r t = tt
-told_input max s (Some input) left old new r t = tells_input max s input left old new r t
+pub told_input : (v : Voice) (max : ℕ) (s : State) (before left : Option (List ℕ)) (old new : Outs) (r : Result ℕ StdioFault) → Tells v max s before left old new r → IfSome before (λ input. TellsInput v max s old new input r)
+told_input v max s None left old new r t = tt
+told_input v max s (Some input) left old new r t = tells_input v max s input left old new r t

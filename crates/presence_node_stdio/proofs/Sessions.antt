@@ -7,11 +7,11 @@ use Rattle.channel_session.specs.declared.fault.SessionFault.TheVariants.{Failed
 use Rattle.presence_node_stdio.specs.declared.fault.LineFault.{LineFault}
 use Rattle.presence_node_stdio.specs.declared.fault.LineFault.TheVariants.{Session}
 use Rattle.presence_node_lines.specs.Reading.{line_limit}
-use Rattle.presence_node_stdio.specs.Session.{State, Answer, answer, answer_to, ends}
+use Rattle.presence_node_stdio.specs.Session.{State, Answer, silence, answer, answer_to, ends}
 use Rattle.presence_node_lines.proofs.Messages.{line_too_long, kept_message}
 
 abbrev read_by : State → Result Message MessageFault → Answer
-read_by s read = cond s.session.failed (ends [] (Session Failed)) (answer_to s read)
+read_by s read = cond s.session.failed (ends silence (Session Failed)) (answer_to s read)
 
 -- the bytes that are kept of a line tell its answer
 pub kept_answer : (s : State) (line : List ℕ) → answer s (take (line_limit + 1) line) ≡ answer s line
@@ -20,7 +20,7 @@ kept_answer s line = ap (read_by s) (kept_message line)
 ok_not_err : (after : State) (f : LineFault) → ◌≡◌ {A = Result State LineFault} (Err f) (Ok after) → ⊥
 ok_not_err after f h = cc
 
-too_long_ends : (b : Bool) (s after : State) → (cond b (ends [] (Session Failed)) (answer_to s (Err TooLong))).next ≡ Ok after → ⊥
+too_long_ends : (b : Bool) (s after : State) → (cond b (ends silence (Session Failed)) (answer_to s (Err TooLong))).next ≡ Ok after → ⊥
 too_long_ends true s after h = ok_not_err after _ h
 too_long_ends false s after h = ok_not_err after _ h
 

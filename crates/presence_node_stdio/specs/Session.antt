@@ -1,15 +1,19 @@
--- What one session over one shard answers to a line.
+-- What one session over one shard says to a line, and how that is written.
 -- The engine takes `State`, `start` and `answer` from here, and knows nothing else of sessions and shards.
-use Rattle.std.specs.Prelude.{◌≡◌, ℕ, List, [], ◌∷◌, ◌++◌, false, None, Option, Some, if◌then◌else◌, Result, Ok, Err}
+use Rattle.std.specs.Prelude.{◌≡◌, ℕ, List, [], ◌∷◌, ◌++◌, false, None, Option, Some, if◌then◌else◌, Result, Ok, Err, String, Vec}
+use Rattle.std.specs.Global.{Global}
 use Rattle.phx_message.specs.declared.message.Message.{Message}
 use Rattle.phx_message.specs.declared.message.MessageFault.{MessageFault}
+use Rattle.hook_registry.specs.declared.hooks.PresenceHooks.{Ghosts}
 use Rattle.presence_journal.specs.History.{History, begun}
 use Rattle.phx_message.specs.Reading.{decoded}
 use Rattle.phx_message.specs.declared.message.TheConstants.Limits as the_limits
-use Rattle.channel_session.specs.Delivery.{Delivered, delivery}
-use Rattle.channel_session.specs.Ran.{EndedSo, texts_given}
+use Rattle.channel_session.specs.Delivery.{DeliveredBy, delivery}
+use Rattle.channel_session.specs.Ran.{RanBy}
+use Rattle.channel_session_events.specs.declared.frames.Delivery.{Delivery}
 use Rattle.channel_session.specs.declared.fault.SessionFault.{SessionFault}
 use Rattle.channel_session_rules.specs.InForce.{InForce}
+use Rattle.channel_session_rules.specs.Said.{Said, Worded, WritesAll, Noted, NotesAll}
 use Rattle.channel_session_laws.specs.Local.{LocalStep, played}
 use Rattle.channel_session_rules.specs.Rules.{End, answers, full, memory, rules}
 use Rattle.channel_session.specs.declared.fault.SessionFault.TheVariants.{ShardFull, Failed}
@@ -33,43 +37,82 @@ start o = record {
   shard = begun (record { name = o.name; incarnation = o.incarnation });
 }
 
--- what goes out for a line, and then the state for the next one or the fault that ends the run
-pub record Answer : Type 0 where
-  pub text : List ℕ
-  pub next : Result State LineFault
+-- ---- how what is said is written
 
 -- these texts, each with a line feed behind it
 abbrev pub printed : List (List ℕ) → List ℕ
 printed [] = []
 printed (t ∷ ts) = t ++ 10 ∷ printed ts
 
--- this goes out, and then the run ends
-abbrev pub ends : List ℕ → LineFault → Answer
-ends text f = record { text = text; next = Err f }
+-- which messages what is said may be told by, and which notices what a delivery says may have
+pub record Voice : Type 1 where
+  pub worded : Said → Message → Type 0
+  pub noted : Said → List (List ℕ) → Type 0
 
--- what was delivered goes out behind the line's own texts
-abbrev pub delivered : List (List ℕ × ℕ) → List ℕ → End → History → Answer
-delivered routes text (answers frames s) h = record { text = text ++ printed frames; next = Ok (record { routes = routes; session = s; shard = h }) }
-delivered routes text full h = ends text (stopped_by ShardFull)
-delivered routes text memory h = ends text (stopped_by ShardFull)
+-- the voice of hooks, by what their closures may answer
+abbrev pub voice_of : {S : Type 0} → Ghosts S → S → Voice
+voice_of H hooks = record { worded = Worded (H.fetched hooks) (H.plain hooks); noted = Noted (H.joined hooks) (H.left hooks) (H.quiet hooks) }
+
+-- what is said to the client, and what of it a delivery said
+pub record Speech : Type 0 where
+  pub said : List Said
+  pub dealt : List Said
+
+abbrev pub silence : Speech
+silence = record { said = []; dealt = [] }
+
+abbrev pub and_then : Speech → Speech → Speech
+and_then a b = record { said = a.said ++ b.said; dealt = a.dealt ++ b.dealt }
+
+-- a line's own answer, which no delivery said
+abbrev pub answering : List Said → Speech
+answering said = record { said = said; dealt = [] }
+
+-- what a delivery said
+abbrev pub dealing : List Said → Speech
+dealing said = record { said = said; dealt = said }
+
+-- these are texts of what is said, and notices of what was dealt, a line each
+pub record Says (v : Voice) (speech : Speech) (text notes : List ℕ) : Type 0 where
+  pub texts : List (List ℕ)
+  pub worded : WritesAll v.worded speech.said texts
+  pub text_is : text ≡ printed texts
+  pub notices : List (List ℕ)
+  pub noted : NotesAll v.noted speech.dealt notices
+  pub notes_are : notes ≡ printed notices
+
+-- what is said to a line, and then the state for the next one or the fault that ends the run
+pub record Answer : Type 0 where
+  pub speech : Speech
+  pub next : Result State LineFault
+
+-- this is said, and then the run ends
+abbrev pub ends : Speech → LineFault → Answer
+ends speech f = record { speech = speech; next = Err f }
+
+-- what was delivered is said behind the line's own answer
+abbrev pub delivered : List (List ℕ × ℕ) → Speech → End → History → Answer
+delivered routes speech (answers said s) h = record { speech = and_then speech (dealing said); next = Ok (record { routes = routes; session = s; shard = h }) }
+delivered routes speech full h = ends speech (stopped_by ShardFull)
+delivered routes speech memory h = ends speech (stopped_by ShardFull)
 
 -- One delivery takes all that ever waits for a topic.
-abbrev pub with_delivery : List (List ℕ × ℕ) → List ℕ → InForce → History → Answer
-with_delivery routes text s h = let x = played (delivery MAX_ITEMS s) h in delivered routes text x.0 x.1
+abbrev pub with_delivery : List (List ℕ × ℕ) → Speech → InForce → History → Answer
+with_delivery routes speech s h = let x = played (delivery MAX_ITEMS s) h in delivered routes speech x.0 x.1
 
 -- what the rules answer, and then a delivery
 abbrev pub ruled : List (List ℕ × ℕ) → End → History → Answer
-ruled routes (answers texts s) h = with_delivery routes (printed texts) s h
-ruled routes full h = ends [] (stopped_by ShardFull)
-ruled routes memory h = ends [] (stopped_by ShardFull)
+ruled routes (answers said s) h = with_delivery routes (answering said) s h
+ruled routes full h = ends silence (stopped_by ShardFull)
+ruled routes memory h = ends silence (stopped_by ShardFull)
 
 abbrev pub answer_to : State → Result Message MessageFault → Answer
-answer_to s (Err f) = ends [] (no_message f)
+answer_to s (Err f) = ends silence (no_message f)
 answer_to s (Ok m) = let x = played (rules s.routes s.session m) s.shard in ruled s.routes x.0 x.1
 
 -- A session that has failed answers nothing further. No line that is answered leaves such a session.
 abbrev pub answer : State → List ℕ → Answer
-answer s line = if s.session.failed then ends [] (stopped_by Failed) else answer_to s (line_message line)
+answer s line = if s.session.failed then ends silence (stopped_by Failed) else answer_to s (line_message line)
 
 -- ---- the code's answer
 
@@ -77,27 +120,29 @@ abbrev pub next_of : Option LineFault → State → Result State LineFault
 next_of None after = Ok after
 next_of (Some f) after = Err f
 
--- the output is this answer, and this state comes after it
-pub record Tells (a : Answer) (after : State) (o : Output) : Type 0 where
-  pub text : a.text ≡ o.text.items
+-- the output has texts and notices of this answer, and this state comes after it
+pub record Tells (v : Voice) (a : Answer) (after : State) (o : Output) : Type 0 where
+  pub says : Says v a.speech o.text.items o.notes.items
   pub next : a.next ≡ next_of o.fault after
 
-abbrev pub Answers : State → State → List ℕ → Output → Type 0
-Answers s after line o = Tells (answer s line) after o
+abbrev pub Answers : Voice → State → State → List ℕ → Output → Type 0
+Answers v s after line o = Tells v (answer s line) after o
 
 -- a line that is no message changes nothing
 abbrev pub Keeps : Option LineFault → State → State → Type 0
 Keeps (Some (no_message f)) s after = after ≡ s
 Keeps _ s after = Unit {0}
 
--- what one text came to over the shard, by the view of what was given
-abbrev pub Answered : {V : Type 0} → (V → List (List ℕ)) → List (List ℕ × ℕ) → List ℕ → InForce → History → History → InForce → Result V SessionFault → Type 0
-Answered texts routes text s old new after r = EndedSo LocalStep routes s (decoded the_limits.CLIENT text) old new after (texts_given texts r)
+-- what one text came to over the shard
+abbrev pub Answered : Voice → List (List ℕ × ℕ) → List ℕ → InForce → History → History → InForce → Result (Vec (String Global) Global) SessionFault → Type 0
+Answered v routes text s old new after r = RanBy v.worded LocalStep routes s (decoded the_limits.CLIENT text) old new after r
 
 -- and one delivery
-abbrev pub Dealt : {V : Type 0} → (V → List (List ℕ)) → InForce → History → History → InForce → Result V SessionFault → Type 0
-Dealt texts s old new after r = Delivered LocalStep MAX_ITEMS s old new after (texts_given texts r)
+abbrev pub Dealt : Voice → InForce → History → History → InForce → Result Delivery SessionFault → Type 0
+Dealt v s old new after r = DeliveredBy v.worded v.noted LocalStep MAX_ITEMS s old new after r
 
--- the output is what a delivery behind this text answers
-abbrev pub TellsDelivery : State → List ℕ → State → Output → Type 0
-TellsDelivery s text after o = Tells (with_delivery s.routes text s.session s.shard) after o
+-- the output is what a delivery behind this text answers, whatever it is a text of
+abbrev pub TellsDelivery : Voice → State → List ℕ → State → Output → Type 0
+TellsDelivery v s text after o =
+    (said : List Said) (texts : List (List ℕ)) → WritesAll v.worded said texts → text ≡ printed texts
+    → Tells v (with_delivery s.routes (answering said) s.session s.shard) after o

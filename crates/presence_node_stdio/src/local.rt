@@ -1,9 +1,9 @@
 ghost use Rattle.std.specs.Prelude.{◌≡◌, ◌++◌, [], map, string_bytes, false, IfOk, Err, None, Some};
-ghost use Rattle.presence_node_stdio.specs.Session.{printed, Answered, Dealt};
+ghost use Rattle.presence_node_stdio.specs.Session.{printed, voice_of, Answered, Dealt};
 
 use crate::fault::LineFault;
 use channel_session::{Delivery, LocalPort, Session, SessionFault, deliver, run_text};
-use hook_registry::Routes;
+use hook_registry::{Notice, PresenceHooks, Routes};
 use phx_message::Limits;
 use presence_base::Replica;
 use presence_node_lines::text_of_line;
@@ -25,20 +25,23 @@ pub struct LocalSession {
     pub shard: Shard,
 }
 
-/// What goes out for a line, and the fault that ends the run behind it.
+/// What goes out for a line, to the client and as notices, and the fault that ends the run behind it.
 #[derive(Drop)]
 pub struct Output {
     pub text: Vec<u8>,
+    pub notes: Vec<u8>,
     pub fault: Option<LineFault>,
 }
 
 // Nothing goes out, and the run ends.
 fn refusing(alloc: Global, fault: LineFault) -> Output
     ensures text { result.text.items ≡ [] }
+    ensures notes { result.notes.items ≡ [] }
     ensures fault { result.fault ≡ Some fault }
 {
     Output {
         text: Vec::new(alloc),
+        notes: Vec::new(alloc),
         fault: Some(fault),
     }
 }
@@ -56,68 +59,83 @@ fn add_lines(alloc: Global, text: Vec<u8>, texts: &[String]) -> Result<Vec<u8>, 
     Ok(text)
 }
 
+// The notices, each with a line feed behind it.
+fn note_lines(alloc: Global, notices: &[Notice]) -> Result<Vec<u8>, AllocError>
+    ensures { IfOk result (λ notes. notes.items ≡ printed notices.now) }
+{
+    let mut notes = Vec::new(alloc);
+    for notice in notices {
+        notes.extend_from_slice(notice.as_str().as_bytes())?;
+        notes.push(b'\n')?;
+    }
+    Ok(notes)
+}
+
 // Answers a text over a port that holds the shard.
-fn run_port(
+fn run_port<H: PresenceHooks>(
     alloc: Global,
     session: &mut Session,
     port: &mut LocalPort<'_>,
     routes: &Routes,
+    hooks: &H,
     text: &str,
 ) -> Result<Vec<String>, SessionFault>
     ensures same_reference { port.new.shard.ghost_name ≡ port.old.shard.ghost_name }
-    ensures ended { Answered (λ v. map string_bytes v.items) routes.now text.now
+    ensures answered { Answered (voice_of H.PresenceHooks hooks.now) routes.now text.now
         session.old port.old.shard.now port.new.shard.now session.new result }
 {
-    run_text(alloc, session, port, routes, text)
+    run_text(alloc, session, port, routes, hooks, text)
 }
 
 // Answers a text over the shard.
-fn run_over(
+fn run_over<H: PresenceHooks>(
     alloc: Global,
     session: &mut Session,
     shard: &mut Shard,
     routes: &Routes,
+    hooks: &H,
     text: &str,
 ) -> Result<Vec<String>, SessionFault>
-    ensures { Answered (λ v. map string_bytes v.items) routes.now text.now
+    ensures { Answered (voice_of H.PresenceHooks hooks.now) routes.now text.now
         session.old shard.old shard.new session.new result }
 {
     let mut port = LocalPort::new(shard);
-    run_port(alloc, session, &mut port, routes, text)
+    run_port(alloc, session, &mut port, routes, hooks, text)
 }
 
 // Delivers what waits, over a port that holds the shard.
-fn deliver_port(
+fn deliver_port<H: PresenceHooks>(
     alloc: Global,
     session: &mut Session,
     port: &mut LocalPort<'_>,
+    hooks: &H,
 ) -> Result<Delivery, SessionFault>
     requires { session.old.failed ≡ false }
     ensures same_reference { port.new.shard.ghost_name ≡ port.old.shard.ghost_name }
-    ensures delivered { Dealt (λ d. map string_bytes d.texts.items)
+    ensures dealt { Dealt (voice_of H.PresenceHooks hooks.now)
         session.old port.old.shard.now port.new.shard.now session.new result }
 {
-    deliver(alloc, session, port, MAX_ITEMS)
+    deliver(alloc, session, port, hooks, MAX_ITEMS)
 }
 
 // Delivers what waits in the shard.
-fn deliver_over(
+fn deliver_over<H: PresenceHooks>(
     alloc: Global,
     session: &mut Session,
     shard: &mut Shard,
+    hooks: &H,
 ) -> Result<Delivery, SessionFault>
     requires { session.old.failed ≡ false }
-    ensures { Dealt (λ d. map string_bytes d.texts.items)
-        session.old shard.old shard.new session.new result }
+    ensures { Dealt (voice_of H.PresenceHooks hooks.now) session.old shard.old shard.new session.new result }
 {
     let mut port = LocalPort::new(shard);
-    deliver_port(alloc, session, &mut port)
+    deliver_port(alloc, session, &mut port, hooks)
 }
 
 impl LocalSession {
     ghost use Rattle.std.specs.Prelude.{◌≡◌, false, None, IfOk, OnOk};
     ghost use Rattle.phx_message.specs.Reading.{decoded};
-    ghost use Rattle.presence_node_stdio.specs.Session.{start as start_of, printed, answer_to, Tells, TellsDelivery, Answers, Keeps};
+    ghost use Rattle.presence_node_stdio.specs.Session.{start as start_of, printed, answer_to, voice_of, Tells, TellsDelivery, Answers, Keeps};
 
     pub fn new(alloc: Global, options: &StdioOptions) -> Result<LocalSession, AllocError>
         ensures { IfOk result (λ s. s ≡ start_of options.now) }
@@ -135,17 +153,24 @@ impl LocalSession {
     }
 
     // What is delivered, behind the line's own texts.
-    fn add_delivery(&mut self, alloc: Global, text: Vec<u8>) -> Result<Output, AllocError>
+    fn add_delivery<H: PresenceHooks>(
+        &mut self,
+        alloc: Global,
+        hooks: &H,
+        text: Vec<u8>,
+    ) -> Result<Output, AllocError>
         requires { self.old.session.failed ≡ false }
-        ensures { IfOk result (λ o. TellsDelivery self.old text.items self.new o) }
+        ensures { IfOk result (λ o. TellsDelivery (voice_of H.PresenceHooks hooks.now) self.old text.items self.new o) }
     {
-        match deliver_over(alloc, &mut self.session, &mut self.shard) {
+        match deliver_over(alloc, &mut self.session, &mut self.shard, hooks) {
             Ok(delivery) => Ok(Output {
                 text: add_lines(alloc, text, &delivery.texts)?,
+                notes: note_lines(alloc, &delivery.notices)?,
                 fault: None,
             }),
             Err(SessionFault::ShardFull) => Ok(Output {
                 text,
+                notes: Vec::new(alloc),
                 fault: Some(LineFault::Session(SessionFault::ShardFull)),
             }),
             Err(_) => Err(AllocError),
@@ -153,18 +178,30 @@ impl LocalSession {
     }
 
     // What goes out for these texts, with a delivery behind them.
-    fn tell(&mut self, alloc: Global, texts: &[String]) -> Result<Output, AllocError>
+    fn tell<H: PresenceHooks>(
+        &mut self,
+        alloc: Global,
+        hooks: &H,
+        texts: &[String],
+    ) -> Result<Output, AllocError>
         requires { self.old.session.failed ≡ false }
-        ensures { IfOk result (λ o. TellsDelivery self.old (printed (map string_bytes texts.now)) self.new o) }
+        ensures { IfOk result (λ o. TellsDelivery (voice_of H.PresenceHooks hooks.now) self.old
+            (printed (map string_bytes texts.now)) self.new o) }
     {
         let text = add_lines(alloc, Vec::new(alloc), texts)?;
-        self.add_delivery(alloc, text)
+        self.add_delivery(alloc, hooks, text)
     }
 
     // What goes out for a text.
-    fn answer_text(&mut self, alloc: Global, text: &str) -> Result<Output, AllocError>
+    fn answer_text<H: PresenceHooks>(
+        &mut self,
+        alloc: Global,
+        hooks: &H,
+        text: &str,
+    ) -> Result<Output, AllocError>
         requires { self.old.session.failed ≡ false }
-        ensures answer { IfOk result (λ o. Tells (answer_to self.old (decoded Limits.CLIENT text.now)) self.new o) }
+        ensures answer { IfOk result (λ o. Tells (voice_of H.PresenceHooks hooks.now)
+            (answer_to self.old (decoded Limits.CLIENT text.now)) self.new o) }
         ensures refused { IfOk result (λ o. Keeps o.fault self.old self.new) }
     {
         match run_over(
@@ -172,9 +209,10 @@ impl LocalSession {
             &mut self.session,
             &mut self.shard,
             &self.routes,
+            hooks,
             text,
         ) {
-            Ok(texts) => self.tell(alloc, &texts),
+            Ok(texts) => self.tell(alloc, hooks, &texts),
             Err(SessionFault::BadMessage(fault)) => Ok(refusing(alloc, LineFault::Message(fault))),
             Err(SessionFault::ShardFull) => {
                 let fault = LineFault::Session(SessionFault::ShardFull);
@@ -185,15 +223,20 @@ impl LocalSession {
     }
 
     /// What goes out for a line.
-    pub fn answer(&mut self, alloc: Global, line: &[u8]) -> Result<Output, AllocError>
-        ensures answer { IfOk result (λ o. Answers self.old self.new line.now o) }
+    pub fn answer<H: PresenceHooks>(
+        &mut self,
+        alloc: Global,
+        hooks: &H,
+        line: &[u8],
+    ) -> Result<Output, AllocError>
+        ensures answer { IfOk result (λ o. Answers (voice_of H.PresenceHooks hooks.now) self.old self.new line.now o) }
         ensures refused { IfOk result (λ o. Keeps o.fault self.old self.new) }
     {
         if self.session.failed() {
             return Ok(refusing(alloc, LineFault::Session(SessionFault::Failed)));
         }
         match text_of_line(line) {
-            Ok(text) => self.answer_text(alloc, text),
+            Ok(text) => self.answer_text(alloc, hooks, text),
             Err(fault) => Ok(refusing(alloc, LineFault::Message(fault))),
         }
     }

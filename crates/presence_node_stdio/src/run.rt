@@ -1,35 +1,54 @@
 ghost use Rattle.std.specs.Prelude.{◌≡◌, ◌≤◌, ℕ, List, IfSome};
 ghost use Rattle.presence_node_stdio.specs.Mirrored.{MirroredBehindLines};
-ghost use Rattle.presence_node_stdio.specs.Session.{start};
-ghost use Rattle.presence_node_stdio.specs.Run.{Tells, TellsInput, AnswerOf, TurnOf};
+ghost use Rattle.presence_node_stdio.specs.Session.{start, voice_of};
+ghost use Rattle.presence_node_stdio.specs.Run.{outs, Tells, TellsInput, AnswerOf, TurnOf, Writes};
 
 use crate::fault::{LineFault, StdioFault};
 use crate::laws::joined_topics_are_mirrored;
-use crate::local::LocalSession;
+use crate::local::{LocalSession, Output};
+use hook_registry::PresenceHooks;
 use phx_message::Limits;
 use presence_node_lines::{MAX_LINES, ReadFault, StreamFault, is_at_end, read_line, write_bytes};
 use presence_node_options::StdioOptions;
 use std::alloc::Global;
 use std::io::{Read, Write};
 
+// Writes what goes out for a line: the texts, and then the notices.
+fn write_output<W: Write, N: Write>(
+    writer: &mut W,
+    notes: &mut N,
+    output: &Output,
+) -> Result<(), StdioFault>
+    ensures { Writes (outs (W.contents writer.old) (N.contents notes.old))
+        (outs (W.contents writer.new) (N.contents notes.new)) output.now.text.items output.now.notes.items result }
+{
+    if write_bytes(writer, output.text.as_slice()).is_err() {
+        return Err(StdioFault::Write);
+    }
+    match write_bytes(notes, output.notes.as_slice()) {
+        Ok(()) => Ok(()),
+        Err(_) => Err(StdioFault::Write),
+    }
+}
+
 // Answers one line, the nth. All that goes out for it is made before the first byte is written.
-fn answer_line<W: Write>(
+fn answer_line<H: PresenceHooks, W: Write, N: Write>(
     alloc: Global,
     local: &mut LocalSession,
+    hooks: &H,
     writer: &mut W,
+    notes: &mut N,
     line: &[u8],
     n: u64,
 ) -> Result<(), StdioFault>
-    ensures { AnswerOf n local.old local.new (W.contents writer.old) (W.contents writer.new) line.now result }
+    ensures { AnswerOf (voice_of H.PresenceHooks hooks.now) n local.old local.new
+        (outs (W.contents writer.old) (N.contents notes.old)) (outs (W.contents writer.new) (N.contents notes.new)) line.now result }
 {
-    let output = match local.answer(alloc, line) {
+    let output = match local.answer(alloc, hooks, line) {
         Ok(output) => output,
         Err(_) => return Err(StdioFault::Memory),
     };
-    match write_bytes(writer, output.text.as_slice()) {
-        Ok(()) => {}
-        Err(_) => return Err(StdioFault::Write),
-    }
+    write_output(writer, notes, &output)?;
     match output.fault {
         None => Ok(()),
         Some(LineFault::Message(refusal)) => Err(StdioFault::Line(n, refusal)),
@@ -38,15 +57,17 @@ fn answer_line<W: Write>(
 }
 
 // Reads the nth line and answers it, if there is one.
-fn turn<R: Read, W: Write>(
+fn turn<R: Read, H: PresenceHooks, W: Write, N: Write>(
     alloc: Global,
     local: &mut LocalSession,
+    hooks: &H,
     reader: &mut R,
     writer: &mut W,
+    notes: &mut N,
     n: u64,
 ) -> Result<bool, StdioFault>
-    ensures { TurnOf n local.old local.new (R.remaining reader.old) (R.remaining reader.new)
-        (W.contents writer.old) (W.contents writer.new) result }
+    ensures { TurnOf (voice_of H.PresenceHooks hooks.now) n local.old local.new
+        (R.remaining reader.old) (R.remaining reader.new) (outs (W.contents writer.old) (N.contents notes.old)) (outs (W.contents writer.new) (N.contents notes.new)) result }
 {
     let line = match read_line(alloc, reader, Limits::CLIENT.bytes) {
         Ok(Some(line)) => line,
@@ -54,25 +75,27 @@ fn turn<R: Read, W: Write>(
         Err(StreamFault::Memory) => return Err(StdioFault::Memory),
         Err(_) => return Err(StdioFault::Read(ReadFault::Failed)),
     };
-    match answer_line(alloc, local, writer, line.as_slice(), n) {
+    match answer_line(alloc, local, hooks, writer, notes, line.as_slice(), n) {
         Ok(()) => Ok(true),
         Err(fault) => Err(fault),
     }
 }
 
 /// Answers each line of the input, of which at most `max` are read.
-pub fn run_lines<R: Read, W: Write>(
+pub fn run_lines<R: Read, H: PresenceHooks, W: Write, N: Write>(
     alloc: Global,
     local: &mut LocalSession,
+    hooks: &H,
     reader: &mut R,
     writer: &mut W,
+    notes: &mut N,
     max: u64,
 ) -> Result<u64, StdioFault>
-    ensures { Tells max local.old (R.remaining reader.old) (R.remaining reader.new)
-        (W.contents writer.old) (W.contents writer.new) result }
+    ensures { Tells (voice_of H.PresenceHooks hooks.now) max local.old
+        (R.remaining reader.old) (R.remaining reader.new) (outs (W.contents writer.old) (N.contents notes.old)) (outs (W.contents writer.new) (N.contents notes.new)) result }
 {
     for n in 0..max {
-        match turn(alloc, local, reader, writer, n + 1) {
+        match turn(alloc, local, hooks, reader, writer, notes, n + 1) {
             Ok(true) => {}
             Ok(false) => return Ok(n),
             Err(fault) => return Err(fault),
@@ -86,32 +109,38 @@ pub fn run_lines<R: Read, W: Write>(
 }
 
 // What stands behind each answered line, whatever the input is.
-fn mirrored(options: &StdioOptions)
-    ensures { MirroredBehindLines options.now }
+fn mirrored<H: PresenceHooks>(hooks: &H, options: &StdioOptions)
+    ensures { MirroredBehindLines H.PresenceHooks hooks.now options.now }
 {
     let _name = options.name.as_str();
-    joined_topics_are_mirrored();
+    joined_topics_are_mirrored(hooks);
 }
 
 /// Answers each line of the input up to its end, to the first line that is refused or to a fault,
 /// and says how many lines there were. What a line is answered, and what is delivered behind it, is
-/// written before the next one is read.
-pub fn run_stdio<R: Read, W: Write>(
+/// written before the next one is read; so are the notices of what was delivered, a line each, to
+/// `notes`.
+///
+/// A stored closure that wants memory ends the run as want of memory does, and nothing goes out for
+/// its line.
+pub fn run_stdio<R: Read, W: Write, N: Write, H: PresenceHooks>(
     alloc: Global,
     reader: &mut R,
     writer: &mut W,
+    notes: &mut N,
+    hooks: &H,
     options: &StdioOptions,
 ) -> Result<u64, StdioFault>
-    ensures input { IfSome (R.remaining reader.old) (λ input. TellsInput MAX_LINES (start options.now)
-        (W.contents writer.old) (W.contents writer.new) input result) }
-    ensures lines { Tells MAX_LINES (start options.now) (R.remaining reader.old)
-        (R.remaining reader.new) (W.contents writer.old) (W.contents writer.new) result }
-    ensures mirrors { MirroredBehindLines options.now }
+    ensures input { IfSome (R.remaining reader.old) (λ input. TellsInput (voice_of H.PresenceHooks hooks.now) MAX_LINES (start options.now)
+        (outs (W.contents writer.old) (N.contents notes.old)) (outs (W.contents writer.new) (N.contents notes.new)) input result) }
+    ensures lines { Tells (voice_of H.PresenceHooks hooks.now) MAX_LINES (start options.now)
+        (R.remaining reader.old) (R.remaining reader.new) (outs (W.contents writer.old) (N.contents notes.old)) (outs (W.contents writer.new) (N.contents notes.new)) result }
+    ensures mirrors { MirroredBehindLines H.PresenceHooks hooks.now options.now }
 {
-    mirrored(options);
+    mirrored(hooks, options);
     let mut local = match LocalSession::new(alloc, options) {
         Ok(local) => local,
         Err(_) => return Err(StdioFault::Memory),
     };
-    run_lines(alloc, &mut local, reader, writer, MAX_LINES)
+    run_lines(alloc, &mut local, hooks, reader, writer, notes, MAX_LINES)
 }

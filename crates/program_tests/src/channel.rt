@@ -1,6 +1,5 @@
-use crate::support::{INPUT, REPLIES, options_for};
+use crate::support::{INPUT, REPLIES, options_for, run_plainly};
 use presence_node_options::StdioOptions;
-use presence_node_stdio::run_stdio;
 use std::alloc::Global;
 use std::test::Fail;
 
@@ -8,7 +7,7 @@ use std::test::Fail;
 fn gives_with(alloc: Global, options: &StdioOptions, input: &str, lines: u64, want: &str) -> bool {
     let mut reader = input.as_bytes();
     let mut output = Vec::new(alloc);
-    let end = run_stdio(alloc, &mut reader, &mut output, options);
+    let end = run_plainly(alloc, &mut reader, &mut output, options);
     end == Ok(lines) && output.as_slice() == want.as_bytes()
 }
 

@@ -9,6 +9,8 @@ mod endings;
 #[cfg(test)]
 mod folding;
 #[cfg(test)]
+mod hooked;
+#[cfg(test)]
 mod local;
 #[cfg(test)]
 mod running;

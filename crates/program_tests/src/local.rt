@@ -1,7 +1,7 @@
-use crate::support::{INPUT, options_for};
+use crate::support::{INPUT, go_plainly, options_for};
 use channel_session::SessionFault;
 use presence_journal::{Entry, Outcome};
-use presence_node_stdio::{LocalSession, StdioFault, run_lines};
+use presence_node_stdio::{LocalSession, StdioFault};
 use std::alloc::Global;
 use std::test::Fail;
 use tracker_shard::Sub;
@@ -17,7 +17,7 @@ fn node_after(alloc: Global, input: &str) -> Option<LocalSession> {
     };
     let mut reader = input.as_bytes();
     let mut output = Vec::new(alloc);
-    match run_lines(alloc, &mut node, &mut reader, &mut output, 9) {
+    match go_plainly(alloc, &mut node, &mut reader, &mut output, 9) {
         Ok(_) => Some(node),
         Err(_) => None,
     }
@@ -72,7 +72,7 @@ fn end_of(alloc: Global, line: &str) -> Option<(Result<u64, StdioFault>, Vec<u8>
     let mut node = deserted(alloc)?;
     let mut reader = line.as_bytes();
     let mut output = Vec::new(alloc);
-    let end = run_lines(alloc, &mut node, &mut reader, &mut output, 9);
+    let end = go_plainly(alloc, &mut node, &mut reader, &mut output, 9);
     Some((end, output))
 }
 

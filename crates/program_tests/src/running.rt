@@ -1,9 +1,9 @@
-use crate::support::{INPUT, OUT, REPLIES, Sink, Source, options_for};
+use crate::support::{INPUT, OUT, REPLIES, Sink, Source, go_plainly, options_for, run_plainly};
 use channel_session::SessionFault;
 use phx_message::MessageFault;
 use presence_node_lines::ReadFault;
 use presence_node_options::StdioOptions;
-use presence_node_stdio::{LocalSession, StdioFault, run_lines, run_stdio, status_of, told_line};
+use presence_node_stdio::{LocalSession, StdioFault, status_of, told_line};
 use std::alloc::{AllocError, Global};
 use std::io::ErrorKind;
 use std::test::Fail;
@@ -16,7 +16,7 @@ fn run_on(alloc: Global, input: &[u8]) -> (Option<Result<u64, StdioFault>>, Vec<
         return (None, output);
     };
     let mut reader = input;
-    let end = run_stdio(alloc, &mut reader, &mut output, &options);
+    let end = run_plainly(alloc, &mut reader, &mut output, &options);
     (Some(end), output)
 }
 
@@ -31,7 +31,7 @@ fn run_few(alloc: Global, input: &[u8], max: u64) -> (Option<Result<u64, StdioFa
         return (None, output);
     };
     let mut reader = input;
-    let end = run_lines(alloc, &mut node, &mut reader, &mut output, max);
+    let end = go_plainly(alloc, &mut node, &mut reader, &mut output, max);
     (Some(end), output)
 }
 
@@ -80,7 +80,7 @@ fn a_name_and_an_incarnation_stand_in_the_reference(rt: HostRuntime) -> Result<(
     };
     let mut input = INPUT.as_bytes();
     let mut output = Vec::new(alloc);
-    let end = run_stdio(alloc, &mut input, &mut output, &options);
+    let end = run_plainly(alloc, &mut input, &mut output, &options);
     assert!(rt; end == Ok(4));
     let want =
         "[\"2\",\"3\",\"room:lobby\",\"phx_reply\",{\"response\":{\"phx_ref\":\"b2.7.1\"},\"status\":\"ok\"}]";
@@ -202,7 +202,7 @@ fn a_read_fails_at_each_call(rt: HostRuntime) -> Result<(), Fail> {
             fails,
         };
         let mut output = Vec::new(alloc);
-        let end = run_stdio(alloc, &mut source, &mut output, &options);
+        let end = run_plainly(alloc, &mut source, &mut output, &options);
         assert!(rt; end == Err(StdioFault::Read(ReadFault::Failed)), "{fails}");
         let lines = INPUT
             .as_bytes()
@@ -255,7 +255,7 @@ fn interrupted_reads(rt: HostRuntime) -> Result<(), Fail> {
             fails: usize::MAX,
         };
         let mut output = Vec::new(alloc);
-        let end = run_stdio(alloc, &mut source, &mut output, &options);
+        let end = run_plainly(alloc, &mut source, &mut output, &options);
         assert!(rt; end == want, "{interrupts}");
     }
     Ok(())
@@ -276,7 +276,7 @@ fn run_into(
         fails,
         so,
     };
-    let end = run_stdio(alloc, &mut input, &mut sink, options);
+    let end = run_plainly(alloc, &mut input, &mut sink, options);
     (end, sink.taken)
 }
 

@@ -1,7 +1,9 @@
+use hook_registry::NoHooks;
 use presence_node_options::{Options, StdioOptions, UsageFault, options_of};
+use presence_node_stdio::{LocalSession, StdioFault, run_lines, run_stdio};
 use std::alloc::Global;
 use std::io;
-use std::io::ErrorKind;
+use std::io::{ErrorKind, Read, Write};
 
 pub(crate) const INPUT: &str =
     "[null,\"1\",\"phoenix\",\"heartbeat\",{}]\n[\"2\",\"2\",\"room:lobby\",\"phx_join\",{}]\n[\"2\",\"3\",\"room:lobby\",\"track\",{\"key\":\"u1\",\"meta\":{\"x\":1}}]\n[\"2\",\"4\",\"room:lobby\",\"list\",{}]\n";
@@ -79,6 +81,29 @@ pub(crate) fn options_for(alloc: Global, words: &[&str]) -> Option<StdioOptions>
         Ok(Options::Stdio(options)) => Some(options),
         _ => None,
     }
+}
+
+// A run without hooks, which notes nothing.
+pub(crate) fn run_plainly<R: Read, W: Write>(
+    alloc: Global,
+    reader: &mut R,
+    writer: &mut W,
+    options: &StdioOptions,
+) -> Result<u64, StdioFault> {
+    let mut notes = Vec::new(alloc);
+    run_stdio(alloc, reader, writer, &mut notes, &NoHooks, options)
+}
+
+// The same from where a session stands, over at most so many lines.
+pub(crate) fn go_plainly<R: Read, W: Write>(
+    alloc: Global,
+    local: &mut LocalSession,
+    reader: &mut R,
+    writer: &mut W,
+    max: u64,
+) -> Result<u64, StdioFault> {
+    let mut notes = Vec::new(alloc);
+    run_lines(alloc, local, &NoHooks, reader, writer, &mut notes, max)
 }
 
 // The help that these words ask for.

@@ -197,6 +197,25 @@ fn refusals_in_words_are_asked_for(rt: HostRuntime) -> Result<(), Fail> {
     Ok(())
 }
 
+// Whether the words ask for notices.
+fn notes(alloc: Global, words: &[&str]) -> Option<bool> {
+    match options_of(alloc, words) {
+        Ok(Options::Stdio(options)) => Some(options.notices),
+        _ => None,
+    }
+}
+
+#[test]
+fn notices_are_asked_for(rt: HostRuntime) -> Result<(), Fail> {
+    let alloc = rt.alloc();
+    assert!(rt; notes(alloc, ["p", "stdio", "--notices"].as_slice()) == Some(true));
+    assert!(rt; notes(alloc, ["p", "stdio"].as_slice()) == Some(false));
+    assert!(rt; notes(alloc, ["p", "stdio", "--explain"].as_slice()) == Some(false));
+    assert!(rt; explains(alloc, ["p", "stdio", "--notices"].as_slice()) == Some(false));
+    assert!(rt; told_for(alloc, ["p", "fold", "--notices"].as_slice()).is_some());
+    Ok(())
+}
+
 #[test]
 fn allowed_words_follow_where_they_help(rt: HostRuntime) -> Result<(), Fail> {
     let alloc = rt.alloc();

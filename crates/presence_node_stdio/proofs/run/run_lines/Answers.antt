@@ -1,44 +1,55 @@
 use Rattle.std.proofs.Common.{◌≡◌, ◌+◌, subst, arith}
+use Rattle.presence_node_stdio.specs.Run.{outs}
+use Rattle.presence_node_stdio.specs.Session.{voice_of}
 use Rattle.presence_node_stdio.proofs.Turns.{Stands, stands_start, stands_more, tells_end, tells_fault, tells_at_limit, tells_beyond, tells_unread}
 use Rattle.presence_node_stdio.proofs.run.run_lines.Goals as goal
 
 pub loop-n-init : goal.loop-n-init
-loop-n-init g c = stands_start c.args.local.now (g.R.Read.remaining c.args.reader.now) (g.W.Write.contents c.args.writer.now)
+loop-n-init g c = stands_start (voice_of g.H.PresenceHooks c.args.hooks.now) c.args.local.now (g.R.Read.remaining c.args.reader.now) (outs (g.W.Write.contents c.args.writer.now) (g.N.Write.contents c.args.notes.now))
 
 pub loop-n-preserved : goal.loop-n-preserved
 loop-n-preserved g c =
-    stands_more c.args.local.now (g.R.Read.remaining c.args.reader.now) (g.R.Read.remaining c.loop-n.reader) (g.R.Read.remaining c.turn.new.reader) (g.W.Write.contents c.args.writer.now)
-    (g.W.Write.contents c.loop-n.writer) (g.W.Write.contents c.turn.new.writer) c.loop-n.local c.turn.new.local c.loop-n.n c.loop-n.invariant
+    stands_more (voice_of g.H.PresenceHooks c.args.hooks.now) c.args.local.now (g.R.Read.remaining c.args.reader.now) (g.R.Read.remaining c.loop-n.reader) (g.R.Read.remaining c.turn.new.reader) (outs (g.W.Write.contents c.args.writer.now) (g.N.Write.contents c.args.notes.now))
+    (outs (g.W.Write.contents c.loop-n.writer) (g.N.Write.contents c.loop-n.notes)) (outs (g.W.Write.contents c.turn.new.writer) (g.N.Write.contents c.turn.new.notes)) c.loop-n.local c.turn.new.local c.loop-n.n c.loop-n.invariant
     (rw c.in-Ok-true.field-0-test at c.in-Ok-true.ensures)
 
 pub returns-in-Ok-false : goal.returns-in-Ok-false
 returns-in-Ok-false g c =
-    tells_end c.args.max c.args.local.now (g.R.Read.remaining c.args.reader.now) (g.R.Read.remaining c.loop-n.reader) (g.R.Read.remaining c.turn.new.reader) (g.W.Write.contents c.args.writer.now)
-    (g.W.Write.contents c.loop-n.writer) (g.W.Write.contents c.turn.new.writer) c.loop-n.local c.turn.new.local c.loop-n.n (c.loop-n.n + 1) c.loop-n.invariant c.loop-n.auto.n-end
+    tells_end (voice_of g.H.PresenceHooks c.args.hooks.now) c.args.max c.args.local.now (g.R.Read.remaining c.args.reader.now) (g.R.Read.remaining c.loop-n.reader) (g.R.Read.remaining c.turn.new.reader) (outs (g.W.Write.contents c.args.writer.now) (g.N.Write.contents c.args.notes.now))
+    (outs (g.W.Write.contents c.loop-n.writer) (g.N.Write.contents c.loop-n.notes)) (outs (g.W.Write.contents c.turn.new.writer) (g.N.Write.contents c.turn.new.notes)) c.loop-n.local c.turn.new.local c.loop-n.n (c.loop-n.n + 1) c.loop-n.invariant c.loop-n.auto.n-end
     (rw c.in-Ok-false.field-0-test at c.in-Ok-false.ensures)
 
 pub returns-in-Err : goal.returns-in-Err
 returns-in-Err g c =
-    tells_fault c.args.max c.args.local.now (g.R.Read.remaining c.args.reader.now) (g.R.Read.remaining c.loop-n.reader) (g.R.Read.remaining c.turn.new.reader) (g.W.Write.contents c.args.writer.now)
-    (g.W.Write.contents c.loop-n.writer) (g.W.Write.contents c.turn.new.writer) c.loop-n.local c.turn.new.local c.loop-n.n c.in-Err.fault c.loop-n.invariant c.loop-n-test.true c.in-Err.ensures
+    tells_fault (voice_of g.H.PresenceHooks c.args.hooks.now) c.args.max c.args.local.now (g.R.Read.remaining c.args.reader.now) (g.R.Read.remaining c.loop-n.reader) (g.R.Read.remaining c.turn.new.reader) (outs (g.W.Write.contents c.args.writer.now) (g.N.Write.contents c.args.notes.now))
+    (outs (g.W.Write.contents c.loop-n.writer) (g.N.Write.contents c.loop-n.notes)) (outs (g.W.Write.contents c.turn.new.writer) (g.N.Write.contents c.turn.new.notes)) c.loop-n.local c.turn.new.local c.loop-n.n c.in-Err.fault c.loop-n.invariant c.loop-n-test.true c.in-Err.ensures
 
 pub returns-in-Ok-true-is_at_end : goal.returns-in-Ok-true-is_at_end
 returns-in-Ok-true-is_at_end g c =
     let full : c.loop-n.n ≡ c.args.max = omega arith in
-    tells_at_limit c.args.max c.args.local.now (g.R.Read.remaining c.args.reader.now) (g.R.Read.remaining c.loop-n.reader) (g.R.Read.remaining c.is_at_end.new.reader) (g.W.Write.contents c.args.writer.now)
-    (g.W.Write.contents c.loop-n.writer) c.loop-n.local (subst (λ n. Stands c.args.local.now (g.R.Read.remaining c.args.reader.now) (g.R.Read.remaining c.loop-n.reader) (g.W.Write.contents c.args.writer.now) (g.W.Write.contents c.loop-n.writer) c.loop-n.local n) full c.loop-n.invariant)
+    let v = voice_of g.H.PresenceHooks c.args.hooks.now in
+    let old = outs (g.W.Write.contents c.args.writer.now) (g.N.Write.contents c.args.notes.now) in
+    let new = outs (g.W.Write.contents c.loop-n.writer) (g.N.Write.contents c.loop-n.notes) in
+    tells_at_limit v c.args.max c.args.local.now (g.R.Read.remaining c.args.reader.now) (g.R.Read.remaining c.loop-n.reader) (g.R.Read.remaining c.is_at_end.new.reader) old new c.loop-n.local
+    (subst (λ n. Stands v c.args.local.now (g.R.Read.remaining c.args.reader.now) (g.R.Read.remaining c.loop-n.reader) old new c.loop-n.local n) full c.loop-n.invariant)
     (rw c.in-Ok-true-is_at_end.field-0-test at c.in-Ok-true-is_at_end.ensures)
 
 pub returns-in-Ok-false-is_at_end : goal.returns-in-Ok-false-is_at_end
 returns-in-Ok-false-is_at_end g c =
     let full : c.loop-n.n ≡ c.args.max = omega arith in
-    tells_beyond c.args.max c.args.local.now (g.R.Read.remaining c.args.reader.now) (g.R.Read.remaining c.loop-n.reader) (g.R.Read.remaining c.is_at_end.new.reader) (g.W.Write.contents c.args.writer.now)
-    (g.W.Write.contents c.loop-n.writer) c.loop-n.local (subst (λ n. Stands c.args.local.now (g.R.Read.remaining c.args.reader.now) (g.R.Read.remaining c.loop-n.reader) (g.W.Write.contents c.args.writer.now) (g.W.Write.contents c.loop-n.writer) c.loop-n.local n) full c.loop-n.invariant)
+    let v = voice_of g.H.PresenceHooks c.args.hooks.now in
+    let old = outs (g.W.Write.contents c.args.writer.now) (g.N.Write.contents c.args.notes.now) in
+    let new = outs (g.W.Write.contents c.loop-n.writer) (g.N.Write.contents c.loop-n.notes) in
+    tells_beyond v c.args.max c.args.local.now (g.R.Read.remaining c.args.reader.now) (g.R.Read.remaining c.loop-n.reader) (g.R.Read.remaining c.is_at_end.new.reader) old new c.loop-n.local
+    (subst (λ n. Stands v c.args.local.now (g.R.Read.remaining c.args.reader.now) (g.R.Read.remaining c.loop-n.reader) old new c.loop-n.local n) full c.loop-n.invariant)
     (rw c.in-Ok-false-is_at_end.field-0-test at c.in-Ok-false-is_at_end.ensures)
 
 pub returns-in-Err-is_at_end : goal.returns-in-Err-is_at_end
 returns-in-Err-is_at_end g c =
     let full : c.loop-n.n ≡ c.args.max = omega arith in
-    tells_unread c.args.max c.args.local.now (g.R.Read.remaining c.args.reader.now) (g.R.Read.remaining c.loop-n.reader) (g.R.Read.remaining c.is_at_end.new.reader) (g.W.Write.contents c.args.writer.now)
-    (g.W.Write.contents c.loop-n.writer) c.loop-n.local (subst (λ n. Stands c.args.local.now (g.R.Read.remaining c.args.reader.now) (g.R.Read.remaining c.loop-n.reader) (g.W.Write.contents c.args.writer.now) (g.W.Write.contents c.loop-n.writer) c.loop-n.local n) full c.loop-n.invariant)
+    let v = voice_of g.H.PresenceHooks c.args.hooks.now in
+    let old = outs (g.W.Write.contents c.args.writer.now) (g.N.Write.contents c.args.notes.now) in
+    let new = outs (g.W.Write.contents c.loop-n.writer) (g.N.Write.contents c.loop-n.notes) in
+    tells_unread v c.args.max c.args.local.now (g.R.Read.remaining c.args.reader.now) (g.R.Read.remaining c.loop-n.reader) (g.R.Read.remaining c.is_at_end.new.reader) old new c.loop-n.local
+    (subst (λ n. Stands v c.args.local.now (g.R.Read.remaining c.args.reader.now) (g.R.Read.remaining c.loop-n.reader) old new c.loop-n.local n) full c.loop-n.invariant)
     c.in-Err-is_at_end.ensures

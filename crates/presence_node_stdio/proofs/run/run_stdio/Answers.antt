@@ -1,20 +1,26 @@
 use Rattle.std.proofs.Common.{subst}
 use Rattle.presence_node_lines.specs.declared.lines.TheConstants.{MAX_LINES}
-use Rattle.presence_node_stdio.specs.Run.{Tells}
-use Rattle.presence_node_stdio.specs.Session.{start}
+use Rattle.presence_node_stdio.specs.Run.{outs, Tells}
+use Rattle.presence_node_stdio.specs.Session.{start, voice_of}
 use Rattle.presence_node_stdio.proofs.Turns.{tells_none}
 use Rattle.presence_node_stdio.proofs.Inputs.{told_input}
 use Rattle.presence_node_stdio.proofs.run.run_stdio.Goals as goal
 
 pub returns-in-Err-clause-lines : goal.returns-in-Err-clause-lines
-returns-in-Err-clause-lines g c = tells_none MAX_LINES (start c.args.options.now) (g.R.Read.remaining c.args.reader.now) (g.W.Write.contents c.args.writer.now)
+returns-in-Err-clause-lines g c =
+    tells_none (voice_of g.H.PresenceHooks c.args.hooks.now) MAX_LINES (start c.args.options.now) (g.R.Read.remaining c.args.reader.now) (outs (g.W.Write.contents c.args.writer.now) (g.N.Write.contents c.args.notes.now))
 
 pub returns-in-Err-clause-input : goal.returns-in-Err-clause-input
 returns-in-Err-clause-input g c =
-    told_input MAX_LINES (start c.args.options.now) (g.R.Read.remaining c.args.reader.now) (g.R.Read.remaining c.args.reader.now) (g.W.Write.contents c.args.writer.now) (g.W.Write.contents c.args.writer.now) _
-    (tells_none MAX_LINES (start c.args.options.now) (g.R.Read.remaining c.args.reader.now) (g.W.Write.contents c.args.writer.now))
+    let v = voice_of g.H.PresenceHooks c.args.hooks.now in
+    let old = outs (g.W.Write.contents c.args.writer.now) (g.N.Write.contents c.args.notes.now) in
+    told_input v MAX_LINES (start c.args.options.now) (g.R.Read.remaining c.args.reader.now) (g.R.Read.remaining c.args.reader.now) old old _ (tells_none v MAX_LINES (start c.args.options.now) (g.R.Read.remaining c.args.reader.now) old)
 
 pub returns-clause-input : goal.returns-clause-input
 returns-clause-input g c =
-    told_input MAX_LINES (start c.args.options.now) (g.R.Read.remaining c.args.reader.now) (g.R.Read.remaining c.run_lines.new.reader) (g.W.Write.contents c.args.writer.now) (g.W.Write.contents c.run_lines.new.writer) c.run_lines.result
-    (subst (λ s. Tells MAX_LINES s (g.R.Read.remaining c.args.reader.now) (g.R.Read.remaining c.run_lines.new.reader) (g.W.Write.contents c.args.writer.now) (g.W.Write.contents c.run_lines.new.writer) c.run_lines.result) c.in-Ok.ensures c.run_lines.ensures)
+    let v = voice_of g.H.PresenceHooks c.args.hooks.now in
+    let before = g.R.Read.remaining c.args.reader.now in
+    let left = g.R.Read.remaining c.run_lines.new.reader in
+    let old = outs (g.W.Write.contents c.args.writer.now) (g.N.Write.contents c.args.notes.now) in
+    let new = outs (g.W.Write.contents c.run_lines.new.writer) (g.N.Write.contents c.run_lines.new.notes) in
+    told_input v MAX_LINES (start c.args.options.now) before left old new c.run_lines.result (subst (λ s. Tells v MAX_LINES s before left old new c.run_lines.result) c.in-Ok.ensures c.run_lines.ensures)

@@ -1,3 +1,5 @@
+use Rattle.presence_node_stdio.specs.Run.{outs}
+use Rattle.presence_node_stdio.specs.Session.{voice_of}
 use Rattle.presence_node_stdio.proofs.Turns.{turn_refused}
 use Rattle.presence_node_stdio.proofs.run.turn.Goals as goal
 
@@ -6,6 +8,6 @@ returns-in-Ok g c = record { line = c.in-Ok-Some.line.items; read = rw c.in-Ok-S
 
 pub returns : goal.returns
 returns g c =
-    turn_refused c.args.n c.args.local.now c.answer_line.new.local (g.R.Read.remaining c.args.reader.now) (g.R.Read.remaining c.read_line.new.reader) (g.W.Write.contents c.args.writer.now)
-    (g.W.Write.contents c.answer_line.new.writer) c.in-Ok-Some.line.items c.as_slice.result.now c.in-Err-answer_line.fault (rw c.in-Ok-Some.field-0-is at c.in-Ok-Some.ensures)
-    c.as_slice.ensures.value c.in-Err-answer_line.ensures
+    turn_refused (voice_of g.H.PresenceHooks c.args.hooks.now) c.args.n c.args.local.now c.answer_line.new.local (g.R.Read.remaining c.args.reader.now) (g.R.Read.remaining c.read_line.new.reader)
+    (outs (g.W.Write.contents c.args.writer.now) (g.N.Write.contents c.args.notes.now)) (outs (g.W.Write.contents c.answer_line.new.writer) (g.N.Write.contents c.answer_line.new.notes)) c.in-Ok-Some.line.items c.as_slice.result.now
+    c.in-Err-answer_line.fault (rw c.in-Ok-Some.field-0-is at c.in-Ok-Some.ensures) c.as_slice.ensures.value c.in-Err-answer_line.ensures
