@@ -118,7 +118,7 @@ gone t (k ∷ js) h = go (same_text t k.topic) refl (gone t js h.1)
     go true p rest = ap (λ u. find u js) (same_text-true t k.topic p) ∙ h.0
     go false p rest = ap (λ c. cond c (Some k) (find t (without_topic t js))) p ∙ rest
 
-apart_without : (t : List ℕ) (js : List Joined) → AreApart js → AreApart (without_topic t js)
+pub apart_without : (t : List ℕ) (js : List Joined) → AreApart js → AreApart (without_topic t js)
 apart_without t [] h = tt
 apart_without t (k ∷ js) h = go (same_text t k.topic) (apart_without t js h.1)
   where
@@ -147,7 +147,7 @@ find_more u (k ∷ js) j e f = go (same_text u k.topic) e (λ x. find_more u js 
     go true x rest = absurd (cc)
     go false x rest = rest x
 
-apart_more : (js : List Joined) (j : Joined) → AreApart js → find j.topic js ≡ None → AreApart (js ++ j ∷ [])
+pub apart_more : (js : List Joined) (j : Joined) → AreApart js → find j.topic js ≡ None → AreApart (js ++ j ∷ [])
 apart_more [] j h e = (refl, tt)
 apart_more (k ∷ js) j h e = go (same_text j.topic k.topic) refl e (apart_more js j h.1)
   where

@@ -16,3 +16,5 @@ pub mod KeptFrames
 pub mod KeptDeliveries
 pub mod KeptWords
 pub mod Kept
+pub mod TurnSteps
+pub mod InForceTurns

@@ -1,5 +1,5 @@
 -- The laws of sessions, which the functions of `laws` state.
-use Rattle.std.specs.Prelude.{◌≡◌, ℕ, List, ◌++◌, map, false, Option, Some, Ok, Err}
+use Rattle.std.specs.Prelude.{◌≡◌, ℕ, List, [], ◌∷◌, ◌++◌, ◌&&◌, map, true, false, Option, Some, Ok, Err}
 use Rattle.phx_message.specs.declared.message.Message.{Message}
 use Rattle.phx_message.specs.declared.message.MsgRef.{MsgRef}
 use Rattle.presence_journal_data.specs.declared.rows.Item.{Item}
@@ -9,11 +9,14 @@ use Rattle.presence_journal.specs.Queue.{Queued, queue, topic_of, taken, is_wait
 use Rattle.presence_journal.specs.Table.{IsLegal}
 use Rattle.presence_metas.specs.Listing.{Listing}
 use Rattle.tracker_shard.specs.declared.fault.ShardFault.TheVariants.{OutOfMemory}
-use Rattle.channel_session_rules.specs.Asks.{Ask, Answer}
+use Rattle.channel_session_rules.specs.Asks.{Ask, Answer, Call}
 use Rattle.channel_session_rules.specs.Delivering.{delivery}
 use Rattle.channel_session_rules.specs.Frames.{message_of}
+use Rattle.channel_session_rules.specs.InForce.{Joined}
 use Rattle.channel_session_laws.specs.Mirrors.{mirror_from, Mirrors, given_to, given_by}
 use Rattle.channel_session_laws.specs.Local.{LocalStep, answer_in, after_in, played}
+use Rattle.channel_session_laws.specs.Keeping.{fresh}
+use Rattle.channel_session_laws.specs.Turns.{Turn, heard, is_join, answered_ok, joined_by, in_force, Turned, AllTurned}
 use Rattle.channel_session_rules.specs.Outcome.{Follows}
 use Rattle.channel_session_rules.specs.Rules.{InForce, End, answers, rules}
 use Rattle.channel_session_rules.specs.Said.{Said}
@@ -56,3 +59,14 @@ AllFramesMirror =
 -- a call of a lent shard gives a subscriber what it answers to its take, and nothing else does
 abbrev pub CallsGive : Type 0
 CallsGive = (old new : History) (q : Ask) (a : Answer q) → LocalStep old q a new → (n : ℕ) → given_to new n ≡ given_to old n ++ given_by q a n
+
+-- Whatever a port answers: after turns of a session that had joined nothing, none of which left it failed, in force are the topics whose last
+-- join was answered ok and that have no later leave.
+abbrev pub InForceByTurns : Type 0
+InForceByTurns = (routes : List (List ℕ × ℕ)) (pid : ℕ) (turns : List Turn) (s : InForce) → AllTurned routes (fresh pid) turns s → s.joined ≡ in_force routes turns
+
+-- a join that was answered ok is of a topic with a kind, and the port gave it a subscriber
+abbrev pub OkJoinsAreGiven : Type 0
+OkJoinsAreGiven =
+    (routes : List (List ℕ × ℕ)) (s : InForce) (m : Message) (calls : List Call) (said : List Said) (t : InForce) → Turned routes s (heard m calls said) t
+    → (is_join m && answered_ok said) ≡ true → (j : Joined) × (joined_by routes (heard m calls said) ≡ j ∷ [])

@@ -1,4 +1,5 @@
 pub mod Local
 pub mod Mirrors
 pub mod Keeping
+pub mod Turns
 pub mod Laws

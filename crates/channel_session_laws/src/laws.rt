@@ -2,6 +2,7 @@
 
 ghost use Rattle.channel_session_laws.specs.Keeping.{JoinedAreMirrored, StaysInStep};
 ghost use Rattle.channel_session_laws.specs.Laws.{AnswersByTable, WantStays, RulesArePlayed, DeliveriesArePlayed, FramesMirror, AllFramesMirror, CallsGive};
+ghost use Rattle.channel_session_laws.specs.Laws.{InForceByTurns, OkJoinsAreGiven};
 
 /// A lent shard answers as the sequential presence table does, as long as memory is ample; want of
 /// memory leaves its history as it was.
@@ -36,4 +37,12 @@ pub fn calls_give()
 pub fn joined_topics_are_mirrored()
     ensures in_step { StaysInStep }
     ensures mirrored { JoinedAreMirrored }
+{}
+
+/// While a session has not failed, in force are the topics whose last join was answered ok and that
+/// have no later leave or further join, in order of joining, each with that join's reference and
+/// subscriber; deliveries change nothing of it.
+pub fn in_force_by_turns()
+    ensures in_force { InForceByTurns }
+    ensures given { OkJoinsAreGiven }
 {}
