@@ -62,7 +62,7 @@ between n from mid f g = and_both (nat_lt from n) (nat_le n mid) (above n from g
 
 -- ---- lists
 
-all_filter : {A : Type 0} (p q : A → Bool) (xs : List A) → list_all q xs ≡ true → list_all q (filter p xs) ≡ true
+pub all_filter : {A : Type 0} (p q : A → Bool) (xs : List A) → list_all q xs ≡ true → list_all q (filter p xs) ≡ true
 all_filter p q [] h = refl
 all_filter p q (x ∷ xs) h =
     let parts = both (q x) (list_all q xs) h in

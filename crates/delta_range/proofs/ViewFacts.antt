@@ -112,7 +112,7 @@ module _ (a b : DeltaValue) (ha : IsDelta a) (hb : IsDelta b) (next : GoesOn a.o
   tells_both = record { union = union_at; rows = row_at }
 
   -- what the next delta tells live, the first doesn't cover
-  fresh : (d : Dot) → is_some (live_row (telling b) d) ≡ true → covers (telling a) d ≡ false
+  pub fresh : (d : Dot) → is_some (live_row (telling b) d) ≡ true → covers (telling a) d ≡ false
   fresh d some =
       let inside : has b d ≡ true = row_has b d b.live hb.within some in
       neither (has a d) (list_any (same_dot d) (older_dots a))

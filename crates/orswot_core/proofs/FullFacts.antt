@@ -106,7 +106,7 @@ pub entries_are : (es : List (Dot × Row)) → IsStrictlySortedBy dot_cmp (keys_
 entries_are es h = same_entries dot_cmp dot_total dot_antisymmetric es (map.entries (rows_of es)) (passes _ (to_test dot_cmp es h)) (map.entries_sorted (rows_of es))
     (λ q. sym (map.get-from_entries dot_total es q) ∙ map.get-entries (rows_of es) q)
 
-live_sorted : (m : LiveRows) → IsStrictlySortedBy dot_cmp (keys_of (map.entries m))
+pub live_sorted : (m : LiveRows) → IsStrictlySortedBy dot_cmp (keys_of (map.entries m))
 live_sorted m = from_test dot_cmp (map.entries m) (passed _ (map.entries_sorted m))
 
 live_found : (m : LiveRows) → AllByRecursion (λ (e : Dot × Row). map.get m e.0 ≡ Some e.1) (map.entries m)

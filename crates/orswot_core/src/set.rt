@@ -19,7 +19,7 @@ use orswot_core_told::{ReplicaTest, Told};
 use presence_base::{Dot, Replica, Row};
 use std::alloc::{AllocError, Global};
 use std::collections::BTreeMap;
-use std::collections::btree_map::Range;
+use std::collections::btree_map::{Iter, Range};
 use std::marker::Model;
 use std::mem;
 
@@ -73,6 +73,13 @@ impl Orswot {
         ensures { option_copied result ≡ map.get self.now.live dot.now }
     {
         self.live.get(dot)
+    }
+
+    /// The live rows, in order of dot. Takes no memory.
+    pub fn rows(&self) -> Iter<'_, Dot, Row>
+        ensures { result ≡ map.entries self.now.live }
+    {
+        self.live.iter()
     }
 
     /// The live rows of the replica, in order of dot. Takes no memory, and looks at no other rows.

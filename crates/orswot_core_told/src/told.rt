@@ -56,7 +56,7 @@ impl From<AllocError> for ToldFault {
 
 /// What is told of a set: ranges of dots (above one count, up to another), dots beside them, and
 /// the rows that are live. A dot that is covered and not live was removed.
-#[derive(Drop)]
+#[derive(Debug, Drop)]
 pub struct Told {
     ranges: Vec<(Replica, u64, u64)>,
     extras: Vec<Dot>,
