@@ -17,7 +17,7 @@ use Rattle.presence_journal.specs.History.{History, Begin, Then, has_dot, first_
 use Rattle.presence_journal.specs.Present.{RowMap, of_topic, present, dots_taken}
 use Rattle.presence_journal.specs.Queue.{Waiting, Behind, Queued, topic_of, topic_after, is_empty, diff_item, shout_item, diff_of, items_made, most_waiting, push_items, left_by, queue, queue_after, made_for, listed_for, took, taken, taken_after, apply_item, fold_from, fold}
 use Rattle.presence_journal.specs.Table.{IsLegal, outcome_of, take_outcome}
-use Rattle.presence_journal.specs.Laws.{FoldsToPresent, of_key}
+use Rattle.presence_journal.specs.Laws.{FoldsToPresent, of_key, is_callers}
 use Rattle.presence_journal.proofs.HistoryLemmas.{Quiet, is_quiet, legal_knows, shown_by}
 use Rattle.presence_journal.proofs.FoldTables.{same_rows, state_is}
 use Rattle.presence_journal.proofs.FoldPresent.{present_is, present_placed, diffs_lead}
@@ -59,9 +59,9 @@ pub same_present : (g h : History) (t : List ℕ) → ((d : Dot) → of_topic t 
 same_present g h t same = same_rows (present g t) (present h t) (λ p. present_is g t p ∙ (ap (of_key p.key) (same p.dot) ∙ sym (present_is h t p)))
 
 -- a take changes no row
-quiet : (h : History) (e : Entry) (b : Bool) (n : ℕ) → IsLegal h → e.outcome ≡ outcomes_are.Taken b n → (d : Dot) → shown (Then h e) d ≡ shown h d
-quiet h e b n legal o d =
-    shown_by h e d (legal_knows h legal) (Quiet (ap is_quiet o))
+quiet : (h : History) (e : Entry) (b : Bool) (n : ℕ) → IsLegal h → is_callers e.step ≡ true → e.outcome ≡ outcomes_are.Taken b n → (d : Dot) → shown (Then h e) d ≡ shown h d
+quiet h e b n legal c o d =
+    shown_by h e d (legal_knows h legal) (Quiet (ap is_quiet o)) c
     ∙ ap (λ x. first_some (row_added e.step x d) (cond (has_dot (dots_taken x) d) None (shown h d))) o
 
 -- how an entry concerns a subscriber
@@ -120,7 +120,7 @@ unfolding outcome_of
 take_quiet h e n t max legal a u = go (queue h n) (sym (same_Some _ _ (rw (a, u) at legal.1)))
   where
     fine : (b : Bool) (k : ℕ) → e.outcome ≡ outcomes_are.Taken b k → present h t ≡ present (Then h e) t
-    fine b k o = sym (same_present (Then h e) h t (λ d. ap (of_topic t) (quiet h e b k legal.0 o d)))
+    fine b k o = sym (same_present (Then h e) h t (λ d. ap (of_topic t) (quiet h e b k legal.0 (ap is_callers a) o d)))
 
     go : (w : Waiting) → e.outcome ≡ take_outcome max w → present h t ≡ present (Then h e) t
     go Behind o = fine _ _ o

@@ -13,12 +13,14 @@ use Rattle.presence_journal_data.specs.declared.step.Step.TheVariants as steps_a
 use Rattle.presence_journal_data.specs.declared.entry.Outcome.TheVariants as outcomes_are
 use Rattle.presence_journal_data.specs.declared.rows.Place.{Place}
 use Rattle.presence_journal.specs.Steps.{Step, Outcome, Entry}
-use Rattle.presence_journal.specs.History.{History, Begin, Then, count, counts_used, next_dot, is_full, has_dot, first_some, row, row_made, row_added, dot_removed, removed, live, shown}
+use Rattle.presence_journal.specs.History.{History, Begin, Then, count, counts_used, next_dot, is_full, has_dot, first_some, row, row_made, row_added, dot_removed, removed, is_up, status, live, shown}
 use Rattle.presence_journal.specs.Present.{of_topic, present, listed, in_order, dots_of}
 use Rattle.presence_journal.specs.Queue.{Behind, Queued, shout_item, items_made, topic_of, queue}
 use Rattle.presence_journal.specs.Table.{IsLegal, AreWithinLimits, is_mine, has_key, rows_of_pid, rows_of_key, counting, tracked, updated, untracked, for_present, take_outcome, outcome_of, next_entry, with_outcome, accepted, after}
-use Rattle.presence_journal.specs.Laws.{concerns, reaches, OthersStay, OthersHearNothing, RefusedStays, StaysLegal, StaysKept}
-use Rattle.presence_journal.proofs.HistoryLemmas.{KnowsItsDots, Kind, kind_of, knows_then, legal_knows, shown-live, shown-next, within_step}
+use Rattle.presence_journal.specs.Walk.{tells}
+use Rattle.presence_journal.specs.Laws.{is_callers, concerns, reaches, OthersStay, OthersHearNothing, RefusedStays, StaysLegal, StaysKept}
+use Rattle.presence_journal.proofs.HistoryLemmas.{legal_knows, live_untold, shown_then, status_stays, shown-next, within_step}
+use Rattle.presence_journal.proofs.ToldLemmas.{none_told_row, none_told_removed, callers_tell_none}
 use Rattle.presence_journal.proofs.FoldOrder.{same_dot-is}
 use Rattle.presence_journal.proofs.FoldTables.{AreOf, stripped, entries_found, no_changes}
 use Rattle.presence_journal.proofs.FoldPresent.{presence}
@@ -27,59 +29,9 @@ use Rattle.presence_journal.proofs.Fold.{same_present}
 counted : (h : History) (o a : Outcome) → counting h o ≡ Some a → o ≡ a
 counted h o a e = (cond_some (nat_lt (count h) (2 ^ 62)) o a e).1
 
--- a row that an outcome adds stands under the next dot
-abbrev AddsNext : History → Outcome → Type 0
-AddsNext h (outcomes_are.Added d) = d ≡ next_dot h
-AddsNext h (outcomes_are.Replaced d old) = d ≡ next_dot h
-AddsNext h _ = Unit {0}
-
-next_tracked : (h : History) (xs : List (Dot × Row)) (o : Outcome) → tracked h xs ≡ Some o → AddsNext h o
-next_tracked h [] o e = subst (AddsNext h) (counted h _ o e) refl
-next_tracked h (x ∷ xs) o e = subst (AddsNext h) (same_Some _ _ e) tt
-
-next_updated : (h : History) (xs : List (Dot × Row)) (o : Outcome) → updated h xs ≡ Some o → AddsNext h o
-next_updated h [] o e = subst (AddsNext h) (same_Some _ _ e) tt
-next_updated h (x ∷ xs) o e = subst (AddsNext h) (counted h _ o e) refl
-
-next_untracked : (h : History) (ds : List Dot) (o : Outcome) → untracked h ds ≡ Some o → AddsNext h o
-next_untracked h [] o e = subst (AddsNext h) (same_Some _ _ e) tt
-next_untracked h (x ∷ xs) o e = subst (AddsNext h) (counted h _ o e) tt
-
 for_present-is : (t : Option (List ℕ)) (o a : Outcome) → for_present t o ≡ Some a → o ≡ a
 for_present-is None o a e = absurd (cc)
 for_present-is (Some t) o a e = same_Some o a e
-
-next_taken : (h : History) (n max : ℕ) (o : Outcome) → for_present (topic_of h n) (take_outcome max (queue h n)) ≡ Some o → AddsNext h o
-next_taken h n max o e = subst (AddsNext h) (for_present-is (topic_of h n) _ o e) (elim (queue h n) as (λ w. AddsNext h (take_outcome max w)) [ Behind ↦ tt | Queued q ↦ tt ])
-
-pub adds_next : (h : History) (s : Step) (o : Outcome) → outcome_of h s ≡ Some o → AddsNext h o
-unfolding outcome_of
-adds_next h (steps_are.Track pid topic key meta) o e = next_tracked h (rows_of_key h pid topic key) o e
-adds_next h (steps_are.Update pid topic key meta) o e = next_updated h (rows_of_key h pid topic key) o e
-adds_next h (steps_are.Untrack pid topic key) o e = next_untracked h (dots_of (rows_of_key h pid topic key)) o e
-adds_next h (steps_are.UntrackAll pid topic) o e = next_untracked h (dots_of (rows_of_pid h pid topic)) o e
-adds_next h (steps_are.Take n max) o e = next_taken h n max o e
-adds_next h (steps_are.Unsubscribe n) o e = subst (AddsNext h) (for_present-is (topic_of h n) _ o e) tt
-adds_next h _ o e = subst (AddsNext h) (same_Some _ _ e) tt
-
-under : (b : Bool) (o : Option Row) {r : Row} → cond b o None ≡ Some r → b ≡ true
-under true o e = refl
-under false o e = absurd (cc)
-
--- no dot with a row has a count that is still to come
-pub rows_counted : (h : History) → IsLegal h → (d : Dot) (r : Row) → row h d ≡ Some r → d.count ≤ count h
-unfolding row count
-rows_counted (Begin s) legal d r f = absurd (cc)
-rows_counted (Then h e) legal d r f = go (row h d) refl (rows_counted h legal.0 d) f
-  where
-    added : (o : Outcome) → AddsNext h o → row_added e.step o d ≡ Some r → d.count ≤ count h + counts_used o
-    added (outcomes_are.Added new) n g = let parts = under (same_dot d new) (row_made e.step None) g in let same : d.count ≡ count h + 1 = ap (λ (x : Dot). x.count) (same_dot-is d new parts ∙ n) in omega arith
-    added (outcomes_are.Replaced new old) n g = let parts = under (same_dot d new) (row_made e.step (Some old)) g in let same : d.count ≡ count h + 1 = ap (λ (x : Dot). x.count) (same_dot-is d new parts ∙ n) in omega arith
-    added _ n g = absurd (cc)
-
-    go : (a : Option Row) → row h d ≡ a → ((x : Row) → row h d ≡ Some x → d.count ≤ count h) → first_some a (row_added e.step e.outcome d) ≡ Some r → d.count ≤ count h + counts_used e.outcome
-    go (Some x) p ih g = let low = ih x p in omega arith
-    go None p ih g = added e.outcome (adds_next h e.step e.outcome legal.1) g
 
 -- the dots that an outcome takes rows from show nothing on the topic
 abbrev Spares : History → List ℕ → Outcome → Type 0
@@ -169,22 +121,29 @@ added_elsewhere s t n (outcomes_are.Replaced new old) d = go (same_dot d new)
     go false = refl
 added_elsewhere s t n _ d = refl
 
-live_elsewhere : (h : History) (e : Entry) (t : List ℕ) (d : Dot) → (dot_removed e.outcome (next_dot h) d ≡ true → of_topic t (live h d) ≡ None) → of_topic t (row_added e.step e.outcome d) ≡ None → of_topic t (live (Then h e) d) ≡ of_topic t (live h d)
-unfolding live removed row
-live_elsewhere h e t d spared added = go (removed h d) (dot_removed e.outcome (next_dot h) d) (row h d) spared
+live_elsewhere : (h : History) (e : Entry) (t : List ℕ) (d : Dot) → tells e.step ≡ false → (dot_removed e.outcome (next_dot h) d ≡ true → of_topic t (shown h d) ≡ None) → of_topic t (row_added e.step e.outcome d) ≡ None → is_callers e.step ≡ true → of_topic t (shown (Then h e) d) ≡ of_topic t (shown h d)
+unfolding shown live
+live_elsewhere h e t d none spared added c =
+    ap (of_topic t) (shown_then h e d (status_stays h e d.replica c) ∙ ap (λ o. cond (is_up (status h d.replica)) o None) (live_untold h e d (none_told_row h e.step d none) (none_told_removed h e.step d none)))
+    ∙ go (is_up (status h d.replica)) (removed h d) (dot_removed e.outcome (next_dot h) d) (row h d) spared
   where
-    go : (a b : Bool) (o : Option Row) → (b ≡ true → of_topic t (cond a None o) ≡ None) → of_topic t (cond (a || b) None (first_some o (row_added e.step e.outcome d))) ≡ of_topic t (cond a None o)
-    go true b o f = refl
-    go false true o f = sym (f refl)
-    go false false None f = added
-    go false false (Some r) f = refl
+    go : (u a b : Bool) (o : Option Row) → (b ≡ true → of_topic t (cond u (cond a None o) None) ≡ None) → of_topic t (cond u (cond (a || b) None (first_some o (row_added e.step e.outcome d))) None) ≡ of_topic t (cond u (cond a None o) None)
+    go true true b o f = refl
+    go true false true o f = sym (f refl)
+    go true false false None f = added
+    go true false false (Some r) f = refl
+    go false a b o f = refl
 
-shown_elsewhere : (h : History) (e : Entry) (t : List ℕ) (d : Dot) → KnowsItsDots h → Kind h e.step e.outcome → (dot_removed e.outcome (next_dot h) d ≡ true → of_topic t (shown h d) ≡ None) → of_topic t (row_added e.step e.outcome d) ≡ None → of_topic t (shown (Then h e) d) ≡ of_topic t (shown h d)
-shown_elsewhere h e t d k kind spared added =
-    let same = shown-live h k d in
-    ap (of_topic t) (shown-live (Then h e) (knows_then h e k kind) d)
-    ∙ (live_elsewhere h e t d (λ gone. ap (of_topic t) (sym same) ∙ spared gone) added
-    ∙ ap (of_topic t) (sym same))
+shown_elsewhere : (h : History) (e : Entry) (t : List ℕ) (d : Dot) → is_callers e.step ≡ true → (dot_removed e.outcome (next_dot h) d ≡ true → of_topic t (shown h d) ≡ None) → of_topic t (row_added e.step e.outcome d) ≡ None → of_topic t (shown (Then h e) d) ≡ of_topic t (shown h d)
+shown_elsewhere h e t d c spared added = live_elsewhere h e t d (callers_tell_none e.step c) spared added c
+
+-- a step that doesn't concern a topic changes no status, and tells nothing
+unconcerned : (s : Step) (t : List ℕ) → concerns s t ≡ false → is_callers s ≡ true
+unconcerned (steps_are.Heard replica now) t n = absurd (cc)
+unconcerned (steps_are.Tick now) t n = absurd (cc)
+unconcerned (steps_are.PermDown replica) t n = absurd (cc)
+unconcerned (steps_are.Merge told) t n = absurd (cc)
+unconcerned _ t n = refl
 
 -- an accepted step has its outcome and room
 pub accepted_is : (h : History) (s : Step) (o : Outcome) → accepted h s ≡ Some o → (is_full h ≡ false) × (outcome_of h s ≡ Some o)
@@ -196,7 +155,7 @@ accepted_is h s o e = go (is_full h) e
     go false f = (refl, f)
 
 others_then : (h : History) → IsLegal h → (s : Step) (seat : Option ℕ) (o : Outcome) → accepted h s ≡ Some o → (t : List ℕ) → concerns s t ≡ false → present (Then h (next_entry h s seat o)) t ≡ present h t
-others_then h legal s seat o e t n = same_present (Then h (next_entry h s seat o)) h t (λ d. shown_elsewhere h (next_entry h s seat o) t d (legal_knows h legal) (kind_of h s o (accepted_is h s o e).1) (spares h legal s t n o (accepted_is h s o e).1 d) (added_elsewhere s t n o d))
+others_then h legal s seat o e t n = same_present (Then h (next_entry h s seat o)) h t (λ d. shown_elsewhere h (next_entry h s seat o) t d (unconcerned s t n) (spares h legal s t n o (accepted_is h s o e).1 d) (added_elsewhere s t n o d))
 
 pub others_stay : OthersStay
 unfolding after
@@ -212,6 +171,10 @@ quiet_concerns (steps_are.Track pid topic key meta) t n = n
 quiet_concerns (steps_are.Update pid topic key meta) t n = n
 quiet_concerns (steps_are.Untrack pid topic key) t n = n
 quiet_concerns (steps_are.UntrackAll pid topic) t n = n
+quiet_concerns (steps_are.Heard replica now) t n = n
+quiet_concerns (steps_are.Tick now) t n = n
+quiet_concerns (steps_are.PermDown replica) t n = n
+quiet_concerns (steps_are.Merge told) t n = n
 quiet_concerns _ t n = refl
 
 quiet_shout : (s : Step) (t : List ℕ) → reaches s t ≡ false → shout_item s t ≡ []

@@ -18,6 +18,7 @@ use Rattle.presence_journal.specs.Present.{place_cmp, place_of, of_topic, dots, 
 use Rattle.presence_journal.specs.Laws.{IsPlaced, Agrees, of_key, PresentIsShown, DiffsLead}
 use Rattle.presence_journal.proofs.FoldOrder.{place_cmp_total, same_text-is, same_dot-is}
 use Rattle.presence_journal.proofs.FoldTables.{changes_lead}
+use Rattle.presence_journal.proofs.PresentLemmas.{row_in_dots, row-stays, shown-row}
 
 both_tie : (o p : Ordering) → is_eq (ordering_then o p) ≡ (is_eq o && is_eq p)
 both_tie Less p = refl
@@ -59,51 +60,6 @@ get-put_all f (d ∷ ds) p = go (f d) refl (get-put_all f ds p)
         ∙ (λ i. cond (both_tie (text_cmp p.key r.key) (dot_cmp p.dot d) i) (Some r) (ih i))
         ∙ pick (same_dot p.dot d) (has_dot ds p.dot) p.key r (f p.dot) (λ s. ap f (same_dot-is p.dot d s) ∙ e)
 
-has_dot-append : (xs ys : List Dot) (d : Dot) → has_dot (xs ++ ys) d ≡ (has_dot xs d || has_dot ys d)
-has_dot-append [] ys d = refl
-has_dot-append (x ∷ xs) ys d = go (same_dot d x) (has_dot-append xs ys d)
-  where
-    go : (b : Bool) → has_dot (xs ++ ys) d ≡ (has_dot xs d || has_dot ys d) → (b || has_dot (xs ++ ys) d) ≡ ((b || has_dot xs d) || has_dot ys d)
-    go true ih = refl
-    go false ih = ih
-
-row_added-has : (s : Step) (o : Outcome) (d : Dot) (r : Row) → row_added s o d ≡ Some r → has_dot (dots_added o) d ≡ true
-row_added-has s (outcomes_are.Added new) d r h = go (same_dot d new) h
-  where
-    go : (b : Bool) → cond b (row_made s None) None ≡ Some r → (b || false) ≡ true
-    go true e = refl
-    go false e = absurd (cc)
-row_added-has s (outcomes_are.Replaced new old) d r h = go (same_dot d new) h
-  where
-    go : (b : Bool) → cond b (row_made s (Some old)) None ≡ Some r → (b || false) ≡ true
-    go true e = refl
-    go false e = absurd (cc)
-row_added-has s _ d r h = absurd (cc)
-
--- a dot that has a row is among the dots
-pub row-has : (h : History) (d : Dot) (r : Row) → row h d ≡ Some r → has_dot (dots h) d ≡ true
-unfolding row dots
-row-has (Begin s) d r e = absurd (cc)
-row-has (Then h e) d r f = has_dot-append (dots_added e.outcome) (dots h) d ∙ go (row-has h d) (row h d) refl f
-  where
-    go : ((x : Row) → row h d ≡ Some x → has_dot (dots h) d ≡ true) → (o : Option Row) → row h d ≡ o → first_some o (row_added e.step e.outcome d) ≡ Some r → (has_dot (dots_added e.outcome) d || has_dot (dots h) d) ≡ true
-    go ih (Some x) p g = or_right _ _ (ih x p)
-    go ih None p g = rw (row_added-has e.step e.outcome d r g)
-
--- the first row of a dot stays
-pub row-stays : (h : History) (e : Entry) (d : Dot) (r : Row) → row h d ≡ Some r → row (Then h e) d ≡ Some r
-unfolding row
-row-stays h e d r f = rw f
-
-pub shown-row : (h : History) (d : Dot) (r : Row) → shown h d ≡ Some r → row h d ≡ Some r
-unfolding shown live
-shown-row h d r f = go (is_up (status h d.replica)) (removed h d) f
-  where
-    go : (u b : Bool) → cond u (cond b None (row h d)) None ≡ Some r → row h d ≡ Some r
-    go true true e = absurd (cc)
-    go true false e = e
-    go false b e = absurd (cc)
-
 pub of_topic-some : (t : List ℕ) (o : Option Row) (r : Row) → of_topic t o ≡ Some r → (o ≡ Some r) × (r.topic ≡ t)
 of_topic-some t None r h = absurd (cc)
 of_topic-some t (Some x) r h = go (same_text x.topic t) refl h
@@ -127,7 +83,7 @@ present_is h t p = get-put_all (λ d. of_topic t (shown h d)) (dots h) p ∙ go 
     go : (o : Option Row) (b : Bool) → shown h p.dot ≡ o → has_dot (dots h) p.dot ≡ b → cond b (of_key p.key (of_topic t o)) None ≡ of_key p.key (of_topic t o)
     go None b e f = cond_none b
     go (Some r) true e f = refl
-    go (Some r) false e f = absurd (both_ways (has_dot (dots h) p.dot) f (row-has h p.dot r (shown-row h p.dot r e)))
+    go (Some r) false e f = absurd (both_ways (has_dot (dots h) p.dot) f (row_in_dots h p.dot r (shown-row h p.dot r e).0))
 
 -- of a row that is present
 pub record Presence (h : History) (t : List ℕ) (p : Place) (r : Row) : Type 0 where
@@ -146,7 +102,7 @@ present_placed h t p r e = (presence h t p r e).key
 
 -- a dot has one row, whenever it is present
 pub present_agrees : (h : History) (e : Entry) (t : List ℕ) → Agrees (present h t) (present (Then h e) t)
-present_agrees h e t p r s f g = same_Some r s (sym (row-stays h e p.dot r (shown-row h p.dot r (presence h t p r f).shown)) ∙ shown-row (Then h e) p.dot s (presence (Then h e) t p s g).shown)
+present_agrees h e t p r s f g = same_Some r s (sym (row-stays h e p.dot r (shown-row h p.dot r (presence h t p r f).shown).0) ∙ (shown-row (Then h e) p.dot s (presence (Then h e) t p s g).shown).0)
 
 pub diffs_lead : DiffsLead
 diffs_lead h e t = changes_lead (present h t) (present (Then h e) t) (present_placed h t) (present_placed (Then h e) t) (present_agrees h e t)

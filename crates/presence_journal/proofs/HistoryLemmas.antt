@@ -1,8 +1,8 @@
 -- Histories as lists, and what a legal entry does.
 use Rattle.std.proofs.Common.{◌≡◌, ℕ, zero, suc, ◌+◌, ◌-◌, slice_get, ◌<◌, ◌≤◌, ◌^◌, Bool, true, false, cond, ◌&&◌, ◌||◌, nat_lt, nat_le, List, [], ◌∷◌, ◌++◌, Option, Some, None, refl, sym, ◌∙◌, ap, subst, arith, length, inl, inr}
-use Rattle.std.specs.Prelude.{◌⊎◌}
+use Rattle.std.specs.Prelude.{◌⊎◌, max, is_none}
 use Rattle.std.specs.List.{AllByRecursion}
-use Rattle.std.proofs.lemmas.Bool.{and_parts, or_left, or_parts, lt-leb, leb-false, and_from, or_cases, ltb-true, leb-true, lt-ltb, le-leb}
+use Rattle.std.proofs.lemmas.Bool.{and_parts, or_left, or_right, or_parts, lt-leb, leb-false, and_from, or_cases, ltb-true, leb-true, lt-ltb, le-leb}
 use Rattle.std.proofs.lemmas.Option.{same_Some, slice_get_within}
 use Rattle.presence_base.specs.declared.dots.Replica.{Replica}
 use Rattle.presence_base.specs.declared.dots.Dot.{Dot}
@@ -10,19 +10,25 @@ use Rattle.presence_base.specs.declared.row.Row.{Row}
 use Rattle.presence_base.specs.Metas.{is_meta}
 use Rattle.presence_base.specs.Names.{is_short_text}
 use Rattle.presence_base.specs.Order.{same_dot, same_replica}
+use Rattle.orswot_core_told.specs.Telling.{covers, live_row}
 use Rattle.serde_json.specs.Data.{Data}
 use Rattle.presence_journal_data.specs.declared.step.Step.TheVariants as steps_are
 use Rattle.presence_journal_data.specs.declared.entry.Outcome.TheVariants as outcomes_are
 use Rattle.replica_status.specs.declared.status.Status.TheVariants as status_is
+use Rattle.replica_status.specs.declared.standing.Standing.{Standing}
 use Rattle.replica_status.specs.Table.{status_of}
 use Rattle.presence_journal.specs.Steps.{Step, Outcome, Entry, Start}
-use Rattle.presence_journal.specs.History.{History, Begin, Then, onto, start_of, own, is_full, count, counts_used, last_cut, last_number, entry_count, next_dot, is_counted, known, standing, status, is_up, first_some, has_dot, row_made, row_added, dot_removed, removed, row, live, shown}
+use Rattle.presence_journal.specs.History.{History, Begin, Then, onto, start_of, own, is_full, count, counts_used, last_cut, last_number, entry_count, next_dot, is_counted, known, time, time_of, standing, standing_after, status, is_up, told_covers, told_row, told_removed, first_some, has_dot, row_made, row_added, dot_removed, removed, row, live, shown}
 use Rattle.presence_journal.specs.Present.{listed, dots_of}
 use Rattle.presence_journal.specs.Queue.{Waiting, Behind, Queued, queue, topic_of}
-use Rattle.presence_journal.specs.Table.{rows_of_pid, rows_of_key, listed_key, counting, tracked, updated, untracked, take_outcome, for_present, outcome_of, next_entry, accepted, after, is_step, IsLegal, AreWithinLimits}
+use Rattle.presence_journal.specs.Table.{rows_of_pid, rows_of_key, listed_key, counting, tracked, updated, untracked, take_outcome, for_present, outcome_of, next_entry, accepted, after, is_step, IsStart, IsLegal, AreWithinLimits}
 use Rattle.presence_journal_data.specs.StepLimits.{is_row_made, is_within_limits}
 use Rattle.presence_journal.specs.Present.{dots_taken}
+use Rattle.presence_journal.specs.Walk.{tells}
+use Rattle.presence_journal.specs.Laws.{is_callers}
+use Rattle.presence_journal.specs.Merges.{is_of_rows}
 use Rattle.presence_journal.proofs.Same.{same_dot-true, same_replica-true, same_replica-refl}
+use Rattle.presence_journal.proofs.ToldLemmas.{told_other, none_told_row, none_told_removed, callers_tell_none, live_row_covered, row_told_covers, removed_told_covers}
 use Rattle.presence_journal.proofs.PresentLemmas.{shown-row, IsOwnListed, own_rows, own_rows_of_key}
 
 -- entries in order upon a history
@@ -65,13 +71,8 @@ counted_parts r n d h =
 pub counted_from : (r : Replica) (n : ℕ) (d : Dot) → d.replica ≡ r → 0 < d.count → d.count ≤ n → is_counted r n d ≡ true
 counted_from r n d p l m = and_from (same_replica d.replica r) (nat_lt 0 d.count && nat_le d.count n) (ap (λ q. same_replica q r) p ∙ same_replica-refl r) (and_from (nat_lt 0 d.count) (nat_le d.count n) (lt-ltb 0 d.count l) (le-leb d.count n m))
 
-pub known_parts : (h : History) (d : Dot) → known h d ≡ true → (d.replica ≡ own h) × (0 < d.count) × (d.count ≤ count h)
-unfolding known
-known_parts h d k = counted_parts (own h) (count h) d k
-
-pub known_from : (h : History) (d : Dot) → d.replica ≡ own h → 0 < d.count → d.count ≤ count h → known h d ≡ true
-unfolding known
-known_from h d p l m = counted_from (own h) (count h) d p l m
+pub is_own : (h : History) (d : Dot) → d.replica ≡ own h → same_replica d.replica (own h) ≡ true
+is_own h d o = ap (λ q. same_replica q (own h)) o ∙ same_replica-refl (own h)
 
 pub own-then : (h : History) (e : Entry) → own (Then h e) ≡ own h
 unfolding own
@@ -81,17 +82,49 @@ pub count-then : (h : History) (e : Entry) → count (Then h e) ≡ count h + co
 unfolding count
 count-then h e = refl
 
+-- what an entry makes known
+
+pub known-then : (h : History) (e : Entry) (d : Dot) → known (Then h e) d ≡ (known h d || (is_counted (own h) (count (Then h e)) d || told_covers h e.step d))
+unfolding known own
+known-then h e d = refl
+
+-- what is known stays known
 pub known_then : (h : History) (e : Entry) (d : Dot) → known h d ≡ true → known (Then h e) d ≡ true
-known_then h e d k = let p = known_parts h d k in known_from (Then h e) d (p.0 ∙ sym (own-then h e)) p.1 (omega (arith, p.2, count-then h e))
+unfolding known
+known_then h e d k = or_left (known h d) (is_counted (own (Then h e)) (count (Then h e)) d || told_covers h e.step d) k
+
+pub counted_known : (h : History) (e : Entry) (d : Dot) → is_counted (own h) (count (Then h e)) d ≡ true → known (Then h e) d ≡ true
+unfolding known own
+counted_known h e d k = or_right (known h d) (is_counted (own h) (count (Then h e)) d || told_covers h e.step d) (or_left (is_counted (own h) (count (Then h e)) d) (told_covers h e.step d) k)
+
+pub told_known : (h : History) (e : Entry) (d : Dot) → told_covers h e.step d ≡ true → known (Then h e) d ≡ true
+unfolding known
+told_known h e d k = or_right (known h d) (is_counted (own (Then h e)) (count (Then h e)) d || told_covers h e.step d) (or_right (is_counted (own (Then h e)) (count (Then h e)) d) (told_covers h e.step d) k)
+
+-- what is known, by what it is known from
+pub known_cases : (h : History) (e : Entry) (d : Dot) → known (Then h e) d ≡ true → (known h d ≡ true) ⊎ ((is_counted (own h) (count (Then h e)) d ≡ true) ⊎ (told_covers h e.step d ≡ true))
+unfolding known own
+known_cases h e d k = go (or_cases (known h d) (is_counted (own h) (count (Then h e)) d || told_covers h e.step d) k)
+  where
+    go : (known h d ≡ true) ⊎ ((is_counted (own h) (count (Then h e)) d || told_covers h e.step d) ≡ true) → (known h d ≡ true) ⊎ ((is_counted (own h) (count (Then h e)) d ≡ true) ⊎ (told_covers h e.step d ≡ true))
+    go (inl f) = inl f
+    go (inr f) = inr (or_cases (is_counted (own h) (count (Then h e)) d) (told_covers h e.step d) f)
+
+-- own dots that were counted are known
+
+known_first : (s : Start) → IsStart s → (d : Dot) → d.replica ≡ own (Begin s) → 0 < d.count → d.count ≤ count (Begin s) → known (Begin s) d ≡ true
+unfolding known own count
+known_first s start d o l m = start.own_dots d o ∙ counted_from s.own s.count d o l m
+
+pub known_from : (h : History) → IsLegal h → (d : Dot) → d.replica ≡ own h → 0 < d.count → d.count ≤ count h → known h d ≡ true
+known_from (Begin s) legal d o l m = known_first s legal d o l m
+known_from (Then h e) legal d o l m = counted_known h e d (counted_from (own h) (count (Then h e)) d (o ∙ own-then h e) l m)
 
 -- the next dot is known once it is used
 pub next_known : (h : History) (e : Entry) (d : Dot) → d ≡ next_dot h → counts_used e.outcome ≡ 1 → known (Then h e) d ≡ true
 next_known h e d p u =
     let c : d.count ≡ count h + 1 = ap (λ (z : Dot). z.count) p in
-    known_from (Then h e) d (ap (λ (z : Dot). z.replica) p ∙ sym (own-then h e)) (omega (arith, c)) (omega (arith, c, u, count-then h e))
-
-pub next_unknown : (h : History) → known h (next_dot h) ≡ true → ⊥
-next_unknown h k = let p = (known_parts h (next_dot h) k).2 in omega (arith, p)
+    counted_known h e d (counted_from (own h) (count (Then h e)) d (ap (λ (z : Dot). z.replica) p) (omega (arith, c)) (omega (arith, c, u, count-then h e)))
 
 -- the four kinds of entry
 
@@ -107,12 +140,22 @@ pub record IsOwnShown (h : History) (d : Dot) : Type 0 where
   pub shown : shown h d ≡ Some row
   pub own : d.replica ≡ own h
 
--- an entry adds a row, replaces one, takes some out, or changes no row
+-- an entry adds a row, replaces one, takes some out, or changes no own row
 pub data Kind (h : History) (s : Step) (o : Outcome) : Type 0 where
   Adds : (r : Row) → row_made s None ≡ Some r → o ≡ outcomes_are.Added (next_dot h) → count h < 2 ^ 62 → Kind h s o
   Replaces : (r : Row) (old : Dot) → row_made s (Some old) ≡ Some r → o ≡ outcomes_are.Replaced (next_dot h) old → count h < 2 ^ 62 → IsOwnShown h old → Kind h s o
-  Removes : (d : Dot) (ds : List Dot) → o ≡ outcomes_are.Removed (d ∷ ds) → count h < 2 ^ 62 → AllByRecursion (IsOwnShown h) (d ∷ ds) → Kind h s o
+  Removes : (d : Dot) (ds : List Dot) → o ≡ outcomes_are.Removed (d ∷ ds) → count h < 2 ^ 62 → AllByRecursion (IsOwnShown h) (d ∷ ds) → is_of_rows s ≡ true → Kind h s o
   Quiet : is_quiet o ≡ true → Kind h s o
+
+-- a step that changes own rows tells nothing of others
+
+of_rows_tells_none : (s : Step) → is_of_rows s ≡ true → tells s ≡ false
+of_rows_tells_none (steps_are.Merge t) f = absurd (cc)
+of_rows_tells_none _ f = refl
+
+made_tells_none : (s : Step) (prev : Option Dot) (r : Row) → row_made s prev ≡ Some r → tells s ≡ false
+made_tells_none (steps_are.Merge t) prev r m = absurd (cc)
+made_tells_none _ prev r m = refl
 
 counted_one : (h : History) (o p : Outcome) → counting h o ≡ Some p → (p ≡ o) × (count h < 2 ^ 62)
 counted_one h o p e = go (nat_lt (count h) (2 ^ 62)) refl e
@@ -133,9 +176,9 @@ kind_updated : (h : History) (s : Step) (o : Outcome) (t : List ℕ) (r : Dot �
 kind_updated h s o t r [] m a e = Quiet (ap is_quiet (same_Some o outcomes_are.NoPresence (sym e)))
 kind_updated h s o t r (x ∷ xs) m a e = let p = counted_one h (outcomes_are.Replaced (next_dot h) x.0) o e in Replaces (r x.0) x.0 (m x.0) p.0 p.1 (record { row = x.1; shown = a.0.listed.shown; own = a.0.own })
 
-kind_untracked : (h : History) (s : Step) (o : Outcome) (ds : List Dot) → AllByRecursion (IsOwnShown h) ds → untracked h ds ≡ Some o → Kind h s o
-kind_untracked h s o [] a e = Quiet (ap is_quiet (same_Some o (outcomes_are.Removed []) (sym e)))
-kind_untracked h s o (d ∷ ds) a e = let p = counted_one h (outcomes_are.Removed (d ∷ ds)) o e in Removes d ds p.0 p.1 a
+kind_untracked : (h : History) (s : Step) (o : Outcome) (ds : List Dot) → AllByRecursion (IsOwnShown h) ds → is_of_rows s ≡ true → untracked h ds ≡ Some o → Kind h s o
+kind_untracked h s o [] a q e = Quiet (ap is_quiet (same_Some o (outcomes_are.Removed []) (sym e)))
+kind_untracked h s o (d ∷ ds) a q e = let p = counted_one h (outcomes_are.Removed (d ∷ ds)) o e in Removes d ds p.0 p.1 a q
 
 quiet_present : (h : History) (s : Step) (o q : Outcome) (t : Option (List ℕ)) → is_quiet q ≡ true → for_present t q ≡ Some o → Kind h s o
 quiet_present h s o q None f e = cc
@@ -150,8 +193,8 @@ pub kind_of : (h : History) (s : Step) (o : Outcome) → outcome_of h s ≡ Some
 unfolding outcome_of
 kind_of h (steps_are.Track pid topic key meta) o e = kind_tracked h (steps_are.Track pid topic key meta) o _ (rows_of_key h pid topic key) refl e
 kind_of h (steps_are.Update pid topic key meta) o e = kind_updated h (steps_are.Update pid topic key meta) o topic (λ old. record { topic = topic; key = key; pid = pid; meta = meta; prev = Some old }) (rows_of_key h pid topic key) (λ old. refl) (own_rows_of_key h pid topic key) e
-kind_of h (steps_are.Untrack pid topic key) o e = kind_untracked h (steps_are.Untrack pid topic key) o (dots_of (rows_of_key h pid topic key)) (own_shown h topic (rows_of_key h pid topic key) (own_rows_of_key h pid topic key)) e
-kind_of h (steps_are.UntrackAll pid topic) o e = kind_untracked h (steps_are.UntrackAll pid topic) o (dots_of (rows_of_pid h pid topic)) (own_shown h topic (rows_of_pid h pid topic) (own_rows h pid topic)) e
+kind_of h (steps_are.Untrack pid topic key) o e = kind_untracked h (steps_are.Untrack pid topic key) o (dots_of (rows_of_key h pid topic key)) (own_shown h topic (rows_of_key h pid topic key) (own_rows_of_key h pid topic key)) refl e
+kind_of h (steps_are.UntrackAll pid topic) o e = kind_untracked h (steps_are.UntrackAll pid topic) o (dots_of (rows_of_pid h pid topic)) (own_shown h topic (rows_of_pid h pid topic) (own_rows h pid topic)) refl e
 kind_of h (steps_are.List topic) o e = Quiet (ap is_quiet (same_Some o (outcomes_are.Shown (dots_of (listed h topic))) (sym e)))
 kind_of h (steps_are.Get topic key) o e = Quiet (ap is_quiet (same_Some o (outcomes_are.Shown (dots_of (listed_key h topic key))) (sym e)))
 kind_of h (steps_are.Subscribe topic) o e = Quiet (ap is_quiet (same_Some o (outcomes_are.Subscribed (last_number h + 1)) (sym e)))
@@ -162,21 +205,29 @@ kind_of h (steps_are.Heard replica now) o e = Quiet (ap is_quiet (same_Some o ou
 kind_of h (steps_are.Tick now) o e = Quiet (ap is_quiet (same_Some o outcomes_are.Noted (sym e)))
 kind_of h (steps_are.PermDown replica) o e = Quiet (ap is_quiet (same_Some o outcomes_are.Noted (sym e)))
 kind_of h steps_are.Cut o e = Quiet (ap is_quiet (same_Some o (outcomes_are.CutAt (last_cut h) (count h)) (sym e)))
+kind_of h (steps_are.Merge told) o e = Quiet (ap is_quiet (same_Some o outcomes_are.Merged (sym e)))
+
+-- a merge changes no own row
+pub tells_quiet : (h : History) (s : Step) (o : Outcome) → Kind h s o → tells s ≡ true → is_quiet o ≡ true
+tells_quiet h s o (Adds r m p l) t = let f : true ≡ false = sym t ∙ made_tells_none s None r m in absurd (cc)
+tells_quiet h s o (Replaces r old m p l w) t = let f : true ≡ false = sym t ∙ made_tells_none s (Some old) r m in absurd (cc)
+tells_quiet h s o (Removes y ys p l a q) t = let f : true ≡ false = sym t ∙ of_rows_tells_none s q in absurd (cc)
+tells_quiet h s o (Quiet q) t = q
 
 -- what a quiet outcome leaves alone
 
-quiet_row : (s : Step) (o : Outcome) (d : Dot) → is_quiet o ≡ true → row_added s o d ≡ None
+pub quiet_row : (s : Step) (o : Outcome) (d : Dot) → is_quiet o ≡ true → row_added s o d ≡ None
 quiet_row s (outcomes_are.Added a) d q = cc
 quiet_row s (outcomes_are.Replaced a b) d q = cc
 quiet_row s _ d q = refl
 
-quiet_removed : (o : Outcome) (n d : Dot) → is_quiet o ≡ true → dot_removed o n d ≡ false
+pub quiet_removed : (o : Outcome) (n d : Dot) → is_quiet o ≡ true → dot_removed o n d ≡ false
 quiet_removed (outcomes_are.Replaced a b) n d q = cc
 quiet_removed (outcomes_are.Removed (y ∷ ys)) n d q = cc
 quiet_removed (outcomes_are.Removed []) n d q = refl
 quiet_removed _ n d q = refl
 
-quiet_taken : (o : Outcome) → is_quiet o ≡ true → dots_taken o ≡ []
+pub quiet_taken : (o : Outcome) → is_quiet o ≡ true → dots_taken o ≡ []
 quiet_taken (outcomes_are.Replaced a b) q = cc
 quiet_taken (outcomes_are.Removed (y ∷ ys)) q = cc
 quiet_taken (outcomes_are.Removed []) q = refl
@@ -190,16 +241,25 @@ all_has_dot P (x ∷ xs) d a h = go (all_has_dot P xs d a.1) (or_cases (same_dot
     go ih (inl e) = subst P (sym (same_dot-true d x e)) a.0
     go ih (inr e) = ih e
 
--- in a legal history each dot with a row is known, and so is each dot that is removed
+-- in a legal history each dot with a row is known, and so is each dot that is removed; an own dot that is known was counted
 pub record KnowsItsDots (h : History) : Type 0 where
   pub of_row : (d : Dot) (r : Row) → row h d ≡ Some r → known h d ≡ true
   pub of_removed : (d : Dot) → removed h d ≡ true → known h d ≡ true
+  pub of_own : (d : Dot) → d.replica ≡ own h → known h d ≡ true → (0 < d.count) × (d.count ≤ count h)
 
-begin_knows : (s : Start) → KnowsItsDots (Begin s)
-unfolding row removed
-begin_knows s = record { of_row = λ d r e. cc; of_removed = λ d e. cc }
+begin_knows : (s : Start) → IsStart s → KnowsItsDots (Begin s)
+unfolding row removed known own count
+begin_knows s start =
+    record {
+      of_row = λ d r e. live_row_covered s.content d r start.content e;
+      of_removed = λ d e. (and_parts (covers s.content d) (is_none (live_row s.content d)) e).0;
+      of_own = λ d o k. let p = counted_parts s.own s.count d (sym (start.own_dots d o) ∙ k) in (p.1, p.2);
+    }
 
-one_added : (h : History) (e : Entry) (d : Dot) (r : Row) → Kind h e.step e.outcome → row_added e.step e.outcome d ≡ Some r → (d ≡ next_dot h) × (counts_used e.outcome ≡ 1)
+pub next_unknown : (h : History) → KnowsItsDots h → known h (next_dot h) ≡ true → ⊥
+next_unknown h knows k = let p = (knows.of_own (next_dot h) refl k).1 in omega (arith, p)
+
+pub one_added : (h : History) (e : Entry) (d : Dot) (r : Row) → Kind h e.step e.outcome → row_added e.step e.outcome d ≡ Some r → (d ≡ next_dot h) × (counts_used e.outcome ≡ 1)
 one_added h e d r (Adds x m o l) g = (here (same_dot d (next_dot h)) refl (sym (ap (λ y. row_added e.step y d) o) ∙ g), ap counts_used o)
   where
     here : (b : Bool) → same_dot d (next_dot h) ≡ b → cond b (row_made e.step None) None ≡ Some r → d ≡ next_dot h
@@ -210,7 +270,7 @@ one_added h e d r (Replaces x old m o l w) g = (here (same_dot d (next_dot h)) r
     here : (b : Bool) → same_dot d (next_dot h) ≡ b → cond b (row_made e.step (Some old)) None ≡ Some r → d ≡ next_dot h
     here true p f = same_dot-true d (next_dot h) p
     here false p f = cc
-one_added h e d r (Removes y ys o l a) g = let f : None ≡ Some r = sym (ap (λ z. row_added e.step z d) o) ∙ g in cc
+one_added h e d r (Removes y ys o l a q) g = let f : None ≡ Some r = sym (ap (λ z. row_added e.step z d) o) ∙ g in cc
 one_added h e d r (Quiet q) g = let f : None ≡ Some r = sym (quiet_row e.step e.outcome d q) ∙ g in cc
 
 shown_known : (h : History) → KnowsItsDots h → (d : Dot) → IsOwnShown h d → known h d ≡ true
@@ -221,50 +281,78 @@ removed_known h e d k (Adds x m o l) g = let f : false ≡ true = sym (ap (λ y.
 removed_known h e d k (Replaces x old m o l w) g =
     let f : same_dot d old ≡ true = sym (ap (λ y. dot_removed y (next_dot h) d) o) ∙ g in
     known_then h e d (ap (known h) (same_dot-true d old f) ∙ shown_known h k old w)
-removed_known h e d k (Removes y ys o l a) g = go (or_cases (same_dot d (next_dot h)) (has_dot (y ∷ ys) d) (sym (ap (λ z. dot_removed z (next_dot h) d) o) ∙ g))
+removed_known h e d k (Removes y ys o l a q) g = go (or_cases (same_dot d (next_dot h)) (has_dot (y ∷ ys) d) (sym (ap (λ z. dot_removed z (next_dot h) d) o) ∙ g))
   where
     go : (same_dot d (next_dot h) ≡ true) ⊎ (has_dot (y ∷ ys) d ≡ true) → known (Then h e) d ≡ true
     go (inl f) = next_known h e d (same_dot-true d (next_dot h) f) (ap counts_used o)
     go (inr f) = known_then h e d (shown_known h k d (all_has_dot (IsOwnShown h) (y ∷ ys) d a f))
 removed_known h e d k (Quiet q) g = let f : false ≡ true = sym (quiet_removed e.outcome (next_dot h) d q) ∙ g in cc
 
-pub knows_then : (h : History) (e : Entry) → KnowsItsDots h → Kind h e.step e.outcome → KnowsItsDots (Then h e)
-unfolding row removed
-knows_then h e k kind = record { of_row = λ d r f. at_row d r (row h d) refl f; of_removed = λ d f. at_removed d (or_cases (removed h d) (dot_removed e.outcome (next_dot h) d) f) }
+own_then_counted : (h : History) (e : Entry) (d : Dot) → KnowsItsDots h → d.replica ≡ own (Then h e) → known (Then h e) d ≡ true → (0 < d.count) × (d.count ≤ count (Then h e))
+own_then_counted h e d k o f = go (known_cases h e d f)
   where
-    at_row : (d : Dot) (r : Row) (o : Option Row) → row h d ≡ o → first_some o (row_added e.step e.outcome d) ≡ Some r → known (Then h e) d ≡ true
-    at_row d r (Some x) p f = known_then h e d (k.of_row d x p)
-    at_row d r None p f = let w = one_added h e d r kind f in next_known h e d w.0 w.1
+    here : d.replica ≡ own h
+    here = o ∙ own-then h e
 
-    at_removed : (d : Dot) → (removed h d ≡ true) ⊎ (dot_removed e.outcome (next_dot h) d ≡ true) → known (Then h e) d ≡ true
+    go : (known h d ≡ true) ⊎ ((is_counted (own h) (count (Then h e)) d ≡ true) ⊎ (told_covers h e.step d ≡ true)) → (0 < d.count) × (d.count ≤ count (Then h e))
+    go (inl g) = let p = k.of_own d here g in (p.0, omega (arith, p.1, count-then h e))
+    go (inr (inl g)) = let p = counted_parts (own h) (count (Then h e)) d g in (p.1, p.2)
+    go (inr (inr g)) = let w : true ≡ false = sym (is_own h d here) ∙ told_other h e.step d g in absurd (cc)
+
+pub knows_then : (h : History) (e : Entry) → KnowsItsDots h → Kind h e.step e.outcome → is_step e.step ≡ true → KnowsItsDots (Then h e)
+unfolding row removed
+knows_then h e k kind limits =
+    record {
+      of_row = λ d r f. at_row d r (row h d) (row_added e.step e.outcome d) refl refl f;
+      of_removed = λ d f. at_removed d (or_cases (removed h d) (dot_removed e.outcome (next_dot h) d || told_removed h e.step d) f);
+      of_own = λ d o f. own_then_counted h e d k o f;
+    }
+  where
+    at_row : (d : Dot) (r : Row) (o p : Option Row) → row h d ≡ o → row_added e.step e.outcome d ≡ p → first_some o (first_some p (told_row h e.step d)) ≡ Some r → known (Then h e) d ≡ true
+    at_row d r (Some x) p is added f = known_then h e d (k.of_row d x is)
+    at_row d r None (Some x) is added f = let w = one_added h e d x kind added in next_known h e d w.0 w.1
+    at_row d r None None is added f = told_known h e d (row_told_covers h e.step d r limits f)
+
+    at_now : (d : Dot) → (dot_removed e.outcome (next_dot h) d ≡ true) ⊎ (told_removed h e.step d ≡ true) → known (Then h e) d ≡ true
+    at_now d (inl f) = removed_known h e d k kind f
+    at_now d (inr f) = told_known h e d (removed_told_covers h e.step d f)
+
+    at_removed : (d : Dot) → (removed h d ≡ true) ⊎ ((dot_removed e.outcome (next_dot h) d || told_removed h e.step d) ≡ true) → known (Then h e) d ≡ true
     at_removed d (inl f) = known_then h e d (k.of_removed d f)
-    at_removed d (inr f) = removed_known h e d k kind f
+    at_removed d (inr f) = at_now d (or_cases (dot_removed e.outcome (next_dot h) d) (told_removed h e.step d) f)
 
 pub legal_knows : (h : History) → IsLegal h → KnowsItsDots h
-legal_knows (Begin s) l = begin_knows s
-legal_knows (Then h e) l = knows_then h e (legal_knows h l.0) (kind_of h e.step e.outcome l.1)
+legal_knows (Begin s) l = begin_knows s l
+legal_knows (Then h e) l = knows_then h e (legal_knows h l.0) (kind_of h e.step e.outcome l.1) l.4
 
--- a live row is own, and the own replica is up
+-- an own dot that is known was counted
+pub known_parts : (h : History) → IsLegal h → (d : Dot) → d.replica ≡ own h → known h d ≡ true → (0 < d.count) × (d.count ≤ count h)
+known_parts h l d o k = (legal_knows h l).of_own d o k
+
+-- an entry that uses no count makes known what it tells
+pub known_quiet : (h : History) (e : Entry) (d : Dot) → IsLegal h → counts_used e.outcome ≡ 0 → known (Then h e) d ≡ (known h d || told_covers h e.step d)
+known_quiet h e d l u = known-then h e d ∙ go (known h d) (is_counted (own h) (count (Then h e)) d) (λ f. counted_before (counted_parts (own h) (count (Then h e)) d f))
+  where
+    counted_before : (d.replica ≡ own h) × (0 < d.count) × (d.count ≤ count (Then h e)) → known h d ≡ true
+    counted_before p = known_from h l d p.0 p.1 (omega (arith, p.2, u, count-then h e))
+
+    go : (a b : Bool) → (b ≡ true → a ≡ true) → (a || (b || told_covers h e.step d)) ≡ (a || told_covers h e.step d)
+    go true b f = refl
+    go false false f = refl
+    go false true f = let w : false ≡ true = f refl in absurd (cc)
+
+-- the own replica is up, and what is live of it is shown
 
 pub status-own : (h : History) → status h (own h) ≡ status_is.Up
 unfolding status
 status-own h = ap (λ b. cond b status_is.Up (status_of (standing h (own h)))) (same_replica-refl (own h))
 
-up-known : (h : History) (d : Dot) → known h d ≡ true → is_up (status h d.replica) ≡ true
-up-known h d k = ap (λ r. is_up (status h r)) (known_parts h d k).0 ∙ ap is_up (status-own h)
+pub up-own : (h : History) (d : Dot) → d.replica ≡ own h → is_up (status h d.replica) ≡ true
+up-own h d o = ap (λ r. is_up (status h r)) o ∙ ap is_up (status-own h)
 
-pub shown-live : (h : History) → KnowsItsDots h → (d : Dot) → shown h d ≡ live h d
-unfolding shown live
-shown-live h k d = go (row h d) refl
-  where
-    none : (u b : Bool) → cond {A = Option Row} u (cond b None None) None ≡ cond b None None
-    none true b = refl
-    none false true = refl
-    none false false = refl
-
-    go : (o : Option Row) → row h d ≡ o → cond (is_up (status h d.replica)) (cond (removed h d) None o) None ≡ cond (removed h d) None o
-    go None e = none (is_up (status h d.replica)) (removed h d)
-    go (Some r) e = ap (λ u. cond u (cond (removed h d) None (Some r)) None) (up-known h d (k.of_row d r e))
+pub shown-live : (h : History) (d : Dot) → d.replica ≡ own h → shown h d ≡ live h d
+unfolding shown
+shown-live h d o = ap (λ u. cond u (live h d) None) (up-own h d o)
 
 -- the next dot has no row and is not removed
 
@@ -273,21 +361,21 @@ row-next h k = go (row h (next_dot h)) refl
   where
     go : (o : Option Row) → row h (next_dot h) ≡ o → o ≡ None
     go None e = refl
-    go (Some x) e = absurd (next_unknown h (k.of_row (next_dot h) x e))
+    go (Some x) e = absurd (next_unknown h k (k.of_row (next_dot h) x e))
 
 pub removed-next : (h : History) → KnowsItsDots h → removed h (next_dot h) ≡ false
 removed-next h k = go (removed h (next_dot h)) refl
   where
     go : (b : Bool) → removed h (next_dot h) ≡ b → b ≡ false
     go false e = refl
-    go true e = absurd (next_unknown h (k.of_removed (next_dot h) e))
+    go true e = absurd (next_unknown h k (k.of_removed (next_dot h) e))
 
-live-next : (h : History) → KnowsItsDots h → live h (next_dot h) ≡ None
+pub live-next : (h : History) → KnowsItsDots h → live h (next_dot h) ≡ None
 unfolding live
 live-next h k = rw (removed-next h k, row-next h k)
 
 pub shown-next : (h : History) → KnowsItsDots h → shown h (next_dot h) ≡ None
-shown-next h k = shown-live h k (next_dot h) ∙ live-next h k
+shown-next h k = shown-live h (next_dot h) refl ∙ live-next h k
 
 -- what one legal entry does to the rows that are live, and so shown: those taken out go, and then the added one comes
 
@@ -309,34 +397,73 @@ shape_drop a false c o f = shape_old a c o
 none_or : (o : Option Row) → first_some None o ≡ o
 none_or o = refl
 
-no_more : (c : Bool) → (c || false) ≡ c
+pub no_more : (c : Bool) → (c || false) ≡ c
 no_more true = refl
 no_more false = refl
 
-live_by : (h : History) (e : Entry) (d : Dot) → KnowsItsDots h → Kind h e.step e.outcome → live (Then h e) d ≡ first_some (row_added e.step e.outcome d) (cond (has_dot (dots_taken e.outcome) d) None (live h d))
+pub first_none : (o : Option Row) → first_some o None ≡ o
+first_none None = refl
+first_none (Some x) = refl
+
+-- what is live once an entry tells nothing of the dot
+pub live_untold : (h : History) (e : Entry) (d : Dot) → told_row h e.step d ≡ None → told_removed h e.step d ≡ false → live (Then h e) d ≡ cond (removed h d || dot_removed e.outcome (next_dot h) d) None (first_some (row h d) (row_added e.step e.outcome d))
 unfolding live row removed
-live_by h e d k (Adds r m o l) = rw (o, m) (go (same_dot d (next_dot h)) refl)
+live_untold h e d p q =
+    let gone : (dot_removed e.outcome (next_dot h) d || told_removed h e.step d) ≡ dot_removed e.outcome (next_dot h) d = ap (λ b. dot_removed e.outcome (next_dot h) d || b) q ∙ no_more (dot_removed e.outcome (next_dot h) d) in
+    let come : first_some (row_added e.step e.outcome d) (told_row h e.step d) ≡ row_added e.step e.outcome d = ap (first_some (row_added e.step e.outcome d)) p ∙ first_none (row_added e.step e.outcome d) in
+    λ i. cond (removed h d || gone i) None (first_some (row h d) (come i))
+
+live_from : (h : History) (e : Entry) (d : Dot) → KnowsItsDots h → Kind h e.step e.outcome → cond (removed h d || dot_removed e.outcome (next_dot h) d) None (first_some (row h d) (row_added e.step e.outcome d)) ≡ first_some (row_added e.step e.outcome d) (cond (has_dot (dots_taken e.outcome) d) None (live h d))
+unfolding live
+live_from h e d k (Adds r m o l) = rw (o, m) (go (same_dot d (next_dot h)) refl)
   where
     go : (b : Bool) → same_dot d (next_dot h) ≡ b → cond (removed h d || false) None (first_some (row h d) (cond b (Some r) None)) ≡ first_some (cond b (Some r) None) (cond false None (cond (removed h d) None (row h d)))
     go true p = let z = same_dot-true d (next_dot h) p in shape_new (removed h d) (row h d) r false (ap (removed h) z ∙ removed-next h k) (ap (row h) z ∙ row-next h k) refl
     go false p = shape_old (removed h d) false (row h d)
-live_by h e d k (Replaces r old m o l w) = rw (o, m, no_more) (go (same_dot d (next_dot h)) refl)
+live_from h e d k (Replaces r old m o l w) = rw (o, m, no_more) (go (same_dot d (next_dot h)) refl)
   where
     apart : d ≡ next_dot h → (b : Bool) → same_dot d old ≡ b → b ≡ false
     apart z false p = refl
-    apart z true p = absurd (next_unknown h (ap (known h) (sym z ∙ same_dot-true d old p) ∙ shown_known h k old w))
+    apart z true p = absurd (next_unknown h k (ap (known h) (sym z ∙ same_dot-true d old p) ∙ shown_known h k old w))
 
     go : (b : Bool) → same_dot d (next_dot h) ≡ b → cond (removed h d || same_dot d old) None (first_some (row h d) (cond b (Some r) None)) ≡ first_some (cond b (Some r) None) (cond (same_dot d old) None (cond (removed h d) None (row h d)))
     go true p = let z = same_dot-true d (next_dot h) p in shape_new (removed h d) (row h d) r (same_dot d old) (ap (removed h) z ∙ removed-next h k) (ap (row h) z ∙ row-next h k) (apart z (same_dot d old) refl)
     go false p = shape_old (removed h d) (same_dot d old) (row h d)
-live_by h e d k (Removes y ys o l a) = rw o (shape_drop (removed h d) (same_dot d (next_dot h)) (has_dot (y ∷ ys) d) (row h d) (λ p. let z = same_dot-true d (next_dot h) p in ap (live h) z ∙ live-next h k))
-live_by h e d k (Quiet q) = rw (quiet_row e.step e.outcome d q, quiet_removed e.outcome (next_dot h) d q, quiet_taken e.outcome q) (shape_old (removed h d) false (row h d))
+live_from h e d k (Removes y ys o l a q) = rw o (shape_drop (removed h d) (same_dot d (next_dot h)) (has_dot (y ∷ ys) d) (row h d) (λ p. let z = same_dot-true d (next_dot h) p in ap (live h) z ∙ live-next h k))
+live_from h e d k (Quiet q) = rw (quiet_row e.step e.outcome d q, quiet_removed e.outcome (next_dot h) d q, quiet_taken e.outcome q) (shape_old (removed h d) false (row h d))
 
-pub shown_by : (h : History) (e : Entry) (d : Dot) → KnowsItsDots h → Kind h e.step e.outcome → shown (Then h e) d ≡ first_some (row_added e.step e.outcome d) (cond (has_dot (dots_taken e.outcome) d) None (shown h d))
-shown_by h e d k kind =
-    shown-live (Then h e) (knows_then h e k kind) d
-    ∙ (live_by h e d k kind
-    ∙ ap (λ o. first_some (row_added e.step e.outcome d) (cond (has_dot (dots_taken e.outcome) d) None o)) (sym (shown-live h k d)))
+pub live_by : (h : History) (e : Entry) (d : Dot) → KnowsItsDots h → Kind h e.step e.outcome → tells e.step ≡ false → live (Then h e) d ≡ first_some (row_added e.step e.outcome d) (cond (has_dot (dots_taken e.outcome) d) None (live h d))
+live_by h e d k kind t = live_untold h e d (none_told_row h e.step d t) (none_told_removed h e.step d t) ∙ live_from h e d k kind
+
+-- a step of the own replica alone leaves every status
+
+standing_stays : (s : Step) (t : ℕ) (r : Replica) (x : Standing) → is_callers s ≡ true → standing_after s t r x ≡ x
+standing_stays (steps_are.Heard replica now) t r x f = absurd (cc)
+standing_stays (steps_are.Tick now) t r x f = absurd (cc)
+standing_stays (steps_are.PermDown replica) t r x f = absurd (cc)
+standing_stays _ t r x f = refl
+
+pub status_stays : (h : History) (e : Entry) (r : Replica) → is_callers e.step ≡ true → status (Then h e) r ≡ status h r
+unfolding status standing own
+status_stays h e r f = ap (λ x. cond (same_replica r (own h)) status_is.Up (status_of x)) (standing_stays e.step (max (time h) (time_of e.step)) r (standing h r) f)
+
+-- what is shown after an entry that changes no status
+pub shown_then : (h : History) (e : Entry) (d : Dot) → status (Then h e) d.replica ≡ status h d.replica → shown (Then h e) d ≡ cond (is_up (status h d.replica)) (live (Then h e) d) None
+unfolding shown
+shown_then h e d f = ap (λ u. cond (is_up u) (live (Then h e) d) None) f
+
+shape_shown : (u c : Bool) (a l : Option Row) → ((r : Row) → a ≡ Some r → u ≡ true) → cond u (first_some a (cond c None l)) None ≡ first_some a (cond c None (cond u l None))
+shape_shown true c a l f = refl
+shape_shown false true None l f = refl
+shape_shown false false None l f = refl
+shape_shown false c (Some r) l f = let g : false ≡ true = f r refl in absurd (cc)
+
+pub shown_by : (h : History) (e : Entry) (d : Dot) → KnowsItsDots h → Kind h e.step e.outcome → is_callers e.step ≡ true → shown (Then h e) d ≡ first_some (row_added e.step e.outcome d) (cond (has_dot (dots_taken e.outcome) d) None (shown h d))
+unfolding shown
+shown_by h e d k kind f =
+    shown_then h e d (status_stays h e d.replica f)
+    ∙ (ap (λ o. cond (is_up (status h d.replica)) o None) (live_by h e d k kind (callers_tell_none e.step f))
+    ∙ shape_shown (is_up (status h d.replica)) (has_dot (dots_taken e.outcome) d) (row_added e.step e.outcome d) (live h d) (λ r g. up-own h d (ap (λ (z : Dot). z.replica) (one_added h e d r kind g).0)))
 
 -- an added row's dot showed nothing before
 pub added_fresh : (h : History) (e : Entry) (d : Dot) (r : Row) → KnowsItsDots h → Kind h e.step e.outcome → row_added e.step e.outcome d ≡ Some r → shown h d ≡ None
@@ -393,6 +520,7 @@ pushed_legal s es e whole w l o n f i = subst IsLegal (ap (λ h. Then h e) (sym 
 pub within_step : (s : Step) → is_within_limits s ≡ true → is_step s ≡ true
 within_step (steps_are.Track pid topic key meta) e = row_within pid topic key meta e
 within_step (steps_are.Update pid topic key meta) e = row_within pid topic key meta e
+within_step (steps_are.Merge told) e = e
 within_step _ e = refl
 
 pub pushed_within : (s : Start) (es : List Entry) (e : Entry) (whole : History) → onto (Begin s) es ≡ whole → AreWithinLimits whole → is_within_limits e.step ≡ true → AreWithinLimits (onto (Begin s) (es ++ e ∷ []))

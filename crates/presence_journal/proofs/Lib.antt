@@ -1,9 +1,9 @@
 pub mod Same
+pub mod ToldLemmas
 pub mod Lookups
 pub mod PresentLemmas
 pub mod HistoryLemmas
 pub mod Walking
-pub mod StatusLemmas
 pub mod Diffs
 pub mod Topics
 mod FoldOrder
@@ -11,9 +11,8 @@ pub mod FoldTables
 pub mod FoldPresent
 pub mod Fold
 pub mod FoldOthers
-mod Fresh
+pub mod Fresh
+pub mod Merges
 mod WorkedTables
 mod Worked
-pub mod WaitsLemmas
-pub mod Tallies
 mod Limit

@@ -2,16 +2,19 @@
 use Rattle.std.proofs.Common.{◌≡◌, ℕ, Bool, true, false, cond, ◌||◌, List, [], ◌∷◌, ◌++◌, Option, Some, None, refl, sym, ◌∙◌, ap, map as each, filter}
 use Rattle.std.specs.List.{AllByRecursion}
 use Rattle.std.specs.FinMap as map
+use Rattle.std.specs.Map.{lookup}
 use Rattle.std.proofs.lemmas.Bool.{or_left, or_right, and_parts}
 use Rattle.std.proofs.lemmas.Option.{same_Some}
 use Rattle.presence_base.specs.declared.dots.Dot.{Dot}
 use Rattle.presence_base.specs.declared.row.Row.{Row}
 use Rattle.presence_base.specs.Order.{same_text, same_dot, same_replica}
+use Rattle.orswot_core_told.specs.Telling.{live_row}
+use Rattle.presence_journal_data.specs.declared.step.Step.TheVariants as steps_are
 use Rattle.presence_journal_data.specs.declared.entry.Outcome.TheVariants as outcomes_are
 use Rattle.presence_journal_data.specs.declared.rows.Place.{Place}
-use Rattle.presence_journal.specs.Steps.{Step, Outcome}
-use Rattle.presence_journal.specs.History.{History, Begin, Then, own, is_up, status, first_some, has_dot, row_added, row_made, removed, row, live, shown}
-use Rattle.presence_journal.specs.Present.{of_topic, dots_added, dots, present, in_order, listed}
+use Rattle.presence_journal.specs.Steps.{Step, Outcome, Entry}
+use Rattle.presence_journal.specs.History.{History, Begin, Then, own, is_up, status, first_some, has_dot, row_added, row_made, hears, told_row, removed, row, live, shown}
+use Rattle.presence_journal.specs.Present.{of_topic, dots_added, dots_told, dots, present, in_order, listed}
 use Rattle.presence_journal.specs.Table.{is_mine, has_key, rows_of_pid, rows_of_key}
 use Rattle.presence_journal.specs.Walk.{keyed, shown_of, IsTableOf}
 use Rattle.presence_journal.proofs.Same.{same_text-true, same_replica-true}
@@ -26,6 +29,11 @@ shown-row h d r e = go (is_up (status h d.replica)) (removed h d) e
     go true true f = cc
     go true false f = (f, refl)
     go false b f = cc
+
+-- the first row of a dot stays
+pub row-stays : (h : History) (e : Entry) (d : Dot) (r : Row) → row h d ≡ Some r → row (Then h e) d ≡ Some r
+unfolding row
+row-stays h e d r f = ap (λ o. first_some o (first_some (row_added e.step e.outcome d) (told_row h e.step d))) f
 
 has_dot-append : (xs ys : List Dot) (d : Dot) → has_dot (xs ++ ys) d ≡ (has_dot xs d || has_dot ys d)
 has_dot-append [] ys d = refl
@@ -44,15 +52,35 @@ added_here s (outcomes_are.Added new) d r e = when_here (same_dot d new) (row_ma
 added_here s (outcomes_are.Replaced new old) d r e = when_here (same_dot d new) (row_made s (Some old)) r e
 added_here s _ d r e = cc
 
--- every dot with a row is among the dots that were added
+told_here : (xs : List (Dot × Row)) (d : Dot) (r : Row) → lookup (same_dot d) xs ≡ Some r → has_dot (each (λ x. x.0) xs) d ≡ true
+told_here [] d r e = absurd (cc)
+told_here (x ∷ xs) d r e = go (same_dot d x.0) e (told_here xs d r)
+  where
+    go : (b : Bool) → cond b (Some x.1) (lookup (same_dot d) xs) ≡ Some r → (lookup (same_dot d) xs ≡ Some r → has_dot (each (λ x. x.0) xs) d ≡ true) → (b || has_dot (each (λ x. x.0) xs) d) ≡ true
+    go true f ih = refl
+    go false f ih = ih f
+
+pub told_in_dots : (h : History) (s : Step) (d : Dot) (r : Row) → told_row h s d ≡ Some r → has_dot (dots_told s) d ≡ true
+told_in_dots h (steps_are.Merge t) d r e = go (hears h d.replica) e
+  where
+    go : (b : Bool) → cond b (live_row t d) None ≡ Some r → has_dot (dots_told (steps_are.Merge t)) d ≡ true
+    go true f = told_here t.live d r f
+    go false f = absurd (cc)
+told_in_dots h _ d r e = absurd (cc)
+
+-- every dot with a row is among the dots that were added or told
 pub row_in_dots : (h : History) (d : Dot) (r : Row) → row h d ≡ Some r → has_dot (dots h) d ≡ true
 unfolding row dots
-row_in_dots (Begin s) d r e = cc
-row_in_dots (Then h e) d r f = has_dot-append (dots_added e.outcome) (dots h) d ∙ go (row h d) refl f (row_in_dots h d)
+row_in_dots (Begin s) d r e = told_here s.content.live d r e
+row_in_dots (Then h e) d r f =
+    has_dot-append (dots_added e.outcome) (dots_told e.step ++ dots h) d
+    ∙ (ap (λ b. has_dot (dots_added e.outcome) d || b) (has_dot-append (dots_told e.step) (dots h) d)
+    ∙ go (row h d) (row_added e.step e.outcome d) refl refl f (row_in_dots h d))
   where
-    go : (o : Option Row) → row h d ≡ o → first_some o (row_added e.step e.outcome d) ≡ Some r → ((q : Row) → row h d ≡ Some q → has_dot (dots h) d ≡ true) → (has_dot (dots_added e.outcome) d || has_dot (dots h) d) ≡ true
-    go None p g ih = or_left (has_dot (dots_added e.outcome) d) (has_dot (dots h) d) (added_here e.step e.outcome d r g)
-    go (Some q) p g ih = or_right (has_dot (dots_added e.outcome) d) (has_dot (dots h) d) (ih q p)
+    go : (o p : Option Row) → row h d ≡ o → row_added e.step e.outcome d ≡ p → first_some o (first_some p (told_row h e.step d)) ≡ Some r → ((q : Row) → row h d ≡ Some q → has_dot (dots h) d ≡ true) → (has_dot (dots_added e.outcome) d || (has_dot (dots_told e.step) d || has_dot (dots h) d)) ≡ true
+    go (Some q) p is added g ih = or_right (has_dot (dots_added e.outcome) d) _ (or_right (has_dot (dots_told e.step) d) (has_dot (dots h) d) (ih q is))
+    go None (Some q) is added g ih = or_left (has_dot (dots_added e.outcome) d) _ (added_here e.step e.outcome d q added)
+    go None None is added g ih = or_right (has_dot (dots_added e.outcome) d) _ (or_left (has_dot (dots_told e.step) d) (has_dot (dots h) d) (told_in_dots h e.step d r g))
 
 -- what is present at a place: the shown row of its dot, where it is of the topic and the key
 pub get-present : (h : History) (t : List ℕ) → IsTableOf (shown_of h t) (present h t)

@@ -1,24 +1,24 @@
 -- The topic of a subscriber, and what waits for it.
 use Rattle.std.proofs.Common.{◌≡◌, ℕ, ◌≤◌, Bool, true, false, cond, List, [], ◌∷◌, Option, Some, None, is_some, option_copied, Bor, refl, sym, ◌∙◌, ap, arith}
-use Rattle.std.specs.Prelude.{nat_eq}
-use Rattle.std.proofs.lemmas.Bool.{ne_eqb, eqb-true}
+use Rattle.std.specs.Prelude.{nat_eq, nat_le}
+use Rattle.std.specs.List.{list_all}
+use Rattle.std.proofs.lemmas.Bool.{and_parts, ne_eqb, eqb-true, leb-true}
 use Rattle.std.proofs.lemmas.Option.{same_Some}
 use Rattle.presence_base.specs.declared.dots.Dot.{Dot}
 use Rattle.presence_base.specs.declared.row.Row.{Row}
+use Rattle.presence_base.specs.Names.{is_short_text}
 use Rattle.presence_journal_data.specs.declared.step.Step.TheVariants as steps_are
 use Rattle.presence_journal.specs.Steps.{Step, Entry, Start}
 use Rattle.presence_journal.specs.History.{History, Begin, Then, onto, last_number}
-use Rattle.presence_journal.specs.Queue.{Waiting, Behind, topic_after, topic_of, items_made, made_for, queue_after, queue}
-use Rattle.presence_journal.specs.Table.{IsLegal}
-use Rattle.presence_journal.specs.Walk.{rows_after, shown_of}
+use Rattle.presence_journal.specs.Queue.{Waiting, Behind, topic_after, topic_at, topic_of, items_made, made_for, queue_after, queue}
+use Rattle.presence_journal.specs.Table.{is_subscriber, IsLegal}
 use Rattle.presence_journal.proofs.HistoryLemmas.{legal_before}
-use Rattle.presence_journal.proofs.Walking.{ShowsAlike, shows_more}
 
 pub topic_of-then : (h : History) (e : Entry) (n : ℕ) → topic_of (Then h e) n ≡ topic_after e.step e.number n (topic_of h n)
 unfolding topic_of
 topic_of-then h e n = refl
 
-pub topic_of-begin : (s : Start) (n : ℕ) → topic_of (Begin s) n ≡ None
+pub topic_of-begin : (s : Start) (n : ℕ) → topic_of (Begin s) n ≡ topic_at s.subscribers n
 unfolding topic_of
 topic_of-begin s n = refl
 
@@ -36,10 +36,18 @@ kept_topic (steps_are.Unsubscribe k) m n o t f e = go (nat_eq k n) e
     go false g = g
 kept_topic _ m n o t f e = e
 
+subscribed : (last n : ℕ) (t : List ℕ) (xs : List (ℕ × List ℕ)) → list_all (is_subscriber last) xs ≡ true → topic_at xs n ≡ Some t → n ≤ last
+subscribed last n t [] a e = absurd (cc)
+subscribed last n t (x ∷ xs) a e = let parts = and_parts (is_subscriber last x) (list_all (is_subscriber last) xs) a in go (nat_eq n x.0) refl (and_parts (nat_le x.0 last) (is_short_text x.1) parts.0).0 e (subscribed last n t xs parts.1)
+  where
+    go : (b : Bool) → nat_eq n x.0 ≡ b → nat_le x.0 last ≡ true → cond b (Some x.1) (topic_at xs n) ≡ Some t → (topic_at xs n ≡ Some t → n ≤ last) → n ≤ last
+    go true p low f ih = omega (arith, eqb-true n x.0 p, leb-true x.0 last low)
+    go false p low f ih = ih f
+
 -- the number of a subscriber is at most the last
 pub subscriber_low : (h : History) (n : ℕ) (t : List ℕ) → IsLegal h → topic_of h n ≡ Some t → n ≤ last_number h
 unfolding topic_of last_number
-subscriber_low (Begin s) n t l e = cc
+subscriber_low (Begin s) n t l e = subscribed s.number n t s.subscribers l.subscribers e
 subscriber_low (Then h e) n t l f = go (nat_eq e.number n) refl (λ g. subscriber_low h n t l.0 g)
   where
     go : (b : Bool) → nat_eq e.number n ≡ b → (topic_of h n ≡ Some t → n ≤ last_number h) → n ≤ e.number
@@ -74,19 +82,19 @@ pub queue-then : (h : History) (e : Entry) (n : ℕ) → queue (Then h e) n ≡ 
 unfolding queue
 queue-then h e n = refl
 
--- a walk for a subscriber: the rows of its topic, its topic, and what waits
-pub record Waits (f : Dot → Option Row) (t : List ℕ) (n : ℕ) (o : Option (List ℕ)) (w : Waiting) (h : History) : Type 0 where
-  pub shows : ShowsAlike f t h
+-- a walk for a subscriber: what holds of the rows that it carries, the topic, and what waits
+pub record Waits (P : History → Type 0) (n : ℕ) (o : Option (List ℕ)) (w : Waiting) (h : History) : Type 0 where
+  pub here : P h
   pub topic : o ≡ topic_of h n
   pub waits : w ≡ queue h n
 
-pub waits_more : (f g : Dot → Option Row) (t : List ℕ) (n : ℕ) (o p : Option (List ℕ)) (w v : Waiting) (b : Bool) (h : History) (e : Entry) (es : List Entry) → IsLegal (onto (Then h e) es) → topic_of (onto (Then h e) es) n ≡ Some t → ((d : Dot) → g d ≡ rows_after e t f d) → p ≡ topic_after e.step e.number n o → b ≡ is_some o → (IsLegal (Then h e) → ((d : Dot) → f d ≡ shown_of h t d) → v ≡ queue_after e.step e.number n (cond b (items_made h e t) []) w) → Waits f t n o w h → Waits g t n p v (Then h e)
-waits_more f g t n o p w v b h e es l present rows topic is_some_o made k =
+pub waits_more : (P Q : History → Type 0) (t : List ℕ) (n : ℕ) (o p : Option (List ℕ)) (w v : Waiting) (b : Bool) (h : History) (e : Entry) (es : List Entry) → IsLegal (onto (Then h e) es) → topic_of (onto (Then h e) es) n ≡ Some t → (IsLegal (Then h e) → P h → Q (Then h e)) → p ≡ topic_after e.step e.number n o → b ≡ is_some o → (IsLegal (Then h e) → P h → v ≡ queue_after e.step e.number n (cond b (items_made h e t) []) w) → Waits P n o w h → Waits Q n p v (Then h e)
+waits_more P Q t n o p w v b h e es l present step topic is_some_o made k =
     let legal = legal_before (Then h e) es l in
     record {
-      shows = shows_more f g t h e legal rows k.shows;
+      here = step legal k.here;
       topic = topic ∙ (ap (topic_after e.step e.number n) k.topic ∙ sym (topic_of-then h e n));
-      waits = made legal k.shows
+      waits = made legal k.here
           ∙ ((λ i. queue_after e.step e.number n (cond (is_some_o i) (items_made h e t) []) (k.waits i))
           ∙ (ap (λ q. queue_after e.step e.number n (cond (is_some q) (items_made h e t) []) (queue h n)) k.topic
           ∙ (ap (λ m. queue_after e.step e.number n m (queue h n)) (sym (made_is h (e ∷ es) e n t l present)) ∙ sym (queue-then h e n))));

@@ -5,9 +5,10 @@ use Rattle.presence_base.specs.declared.row.Row.{Row}
 use Rattle.presence_base.specs.Order.{same_text}
 use Rattle.presence_journal_data.specs.declared.entry.Outcome.TheVariants as outcomes_are
 use Rattle.presence_journal.specs.Steps.{Step, Outcome, Entry, Start}
-use Rattle.presence_journal.specs.History.{History, Begin, Then, onto, count, counts_used, first_some, has_dot, row_added, is_up, status, live, shown, row, removed}
+use Rattle.presence_journal.specs.History.{History, Begin, Then, onto, count, counts_used, first_some, has_dot, row_added, live, shown}
 use Rattle.presence_journal.specs.Present.{of_topic}
 use Rattle.presence_journal.specs.Walk.{joined, rows_after, shown_of}
+use Rattle.presence_journal.specs.Laws.{is_callers}
 use Rattle.presence_journal.specs.Present.{dots_taken}
 use Rattle.presence_journal.specs.Table.{after, IsLegal}
 use Rattle.presence_journal.proofs.HistoryLemmas.{legal_before, Kind, Adds, Replaces, Removes, Quiet, is_quiet, kind_of, legal_knows, count-then, shown_by, added_fresh}
@@ -41,7 +42,7 @@ reached_all whole es i P l r = subst P (ap (onto r.front) (sym (drop_of_length-l
 abbrev pub IsCounted : ℕ → History → Type 0
 IsCounted n h = (n ≡ count h) × (n ≤ 2 ^ 62)
 
-quiet_uses_none : (o : Outcome) → is_quiet o ≡ true → counts_used o ≡ 0
+pub quiet_uses_none : (o : Outcome) → is_quiet o ≡ true → counts_used o ≡ 0
 quiet_uses_none (outcomes_are.Added d) q = cc
 quiet_uses_none (outcomes_are.Replaced d old) q = cc
 quiet_uses_none (outcomes_are.Removed (d ∷ ds)) q = cc
@@ -51,7 +52,7 @@ quiet_uses_none _ q = refl
 pub used_when_counted : (h : History) (s : Step) (o : Outcome) → Kind h s o → count h ≤ 2 ^ 62 → count h + counts_used o ≤ 2 ^ 62
 used_when_counted h s o (Adds r m p l) k = omega (arith, ap counts_used p)
 used_when_counted h s o (Replaces r old m p l w) k = omega (arith, ap counts_used p)
-used_when_counted h s o (Removes y ys p l a) k = omega (arith, ap counts_used p)
+used_when_counted h s o (Removes y ys p l a q) k = omega (arith, ap counts_used p)
 used_when_counted h s o (Quiet q) k = omega (arith, quiet_uses_none o q)
 
 pub count-limit : (h : History) → IsLegal h → count h ≤ 2 ^ 62
@@ -75,23 +76,15 @@ topic_first t (Some r) p c f = rw (f r refl) (go (same_text r.topic t) c)
     go false true = refl
     go false false = refl
 
--- after one more entry
-pub shows_more : (f g : Dot → Option Row) (t : List ℕ) (h : History) (e : Entry) → IsLegal (Then h e) → ((d : Dot) → g d ≡ rows_after e t f d) → ShowsAlike f t h → ShowsAlike g t (Then h e)
-shows_more f g t h e l after before d =
+-- after one more entry that changes no status
+pub shows_more : (f g : Dot → Option Row) (t : List ℕ) (h : History) (e : Entry) → IsLegal (Then h e) → is_callers e.step ≡ true → ((d : Dot) → g d ≡ rows_after e t f d) → ShowsAlike f t h → ShowsAlike g t (Then h e)
+shows_more f g t h e l c after before d =
     let knows = legal_knows h l.0 in
     let kind = kind_of h e.step e.outcome l.1 in
     after d
     ∙ (ap (λ o. first_some (joined e t d) (cond (has_dot (dots_taken e.outcome) d) None o)) (before d)
     ∙ (sym (topic_first t (row_added e.step e.outcome d) (shown h d) (has_dot (dots_taken e.outcome) d) (λ r. added_fresh h e d r knows kind))
-    ∙ ap (of_topic t) (sym (shown_by h e d knows kind))))
-
-pub shows_none : (f : Dot → Option Row) (t : List ℕ) (s : Start) → ((d : Dot) → f d ≡ None) → ShowsAlike f t (Begin s)
-unfolding shown live row removed
-shows_none f t s e d = e d ∙ ap (of_topic t) (hidden (is_up (status (Begin s) d.replica)))
-  where
-    hidden : (u : Bool) → None ≡ cond {A = Option Row} u None None
-    hidden true = refl
-    hidden false = refl
+    ∙ ap (of_topic t) (sym (shown_by h e d knows kind c))))
 
 pub counted_start : (s : Start) → IsLegal (Begin s) → IsCounted s.count (Begin s)
 unfolding count

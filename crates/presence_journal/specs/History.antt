@@ -1,5 +1,5 @@
 -- What a history says of each dot and replica. Every function goes over the entries, the newest outermost.
-use Rattle.std.specs.Prelude.{ℕ, ◌+◌, ◌^◌, max, Bool, true, false, cond, ◌&&◌, ◌||◌, nat_lt, nat_le, List, [], ◌∷◌, Option, Some, None}
+use Rattle.std.specs.Prelude.{ℕ, ◌+◌, ◌^◌, max, Bool, true, false, cond, not, ◌≡◌, ◌≤◌, ◌&&◌, ◌||◌, nat_lt, nat_le, List, [], ◌∷◌, Option, Some, None}
 use Rattle.std.specs.List.{list_any}
 use Rattle.replica_status.specs.declared.standing.Standing.{Standing}
 use Rattle.replica_status.specs.declared.status.Status.{Status}
@@ -10,6 +10,7 @@ use Rattle.presence_base.specs.declared.dots.Replica.{Replica}
 use Rattle.presence_base.specs.declared.dots.Dot.{Dot}
 use Rattle.presence_base.specs.declared.row.Row.{Row}
 use Rattle.presence_base.specs.Order.{same_replica, same_dot}
+use Rattle.orswot_core_told.specs.Telling.{ToldValue, covers, live_row, tells_removed}
 use Rattle.presence_journal_data.specs.declared.step.Step.TheVariants as steps_are
 use Rattle.presence_journal_data.specs.declared.entry.Outcome.TheVariants as outcomes_are
 use Rattle.presence_journal.specs.declared.journal.TheConstants.{MAX_ENTRIES}
@@ -20,9 +21,12 @@ pub data History : Type 0 where
   Begin : (start : Start) → History
   Then : (before : History) (entry : Entry) → History
 
+abbrev pub nothing_told : ToldValue
+nothing_told = record { ranges = []; extras = []; live = [] }
+
 -- the history of a new shard: nothing came before it
 abbrev pub begun : Replica → History
-begun r = Begin (record { number = 0; own = r; count = 0; standings = []; time = 0; last_cut = 0 })
+begun r = Begin (record { number = 0; own = r; count = 0; content = nothing_told; standings = []; time = 0; last_cut = 0; older = []; chains = []; subscribers = []; seated = 0 })
 
 -- the entries in order, the oldest first, upon a history
 abbrev pub onto : History → List Entry → History
@@ -97,6 +101,28 @@ abbrev pub is_up : Status → Bool
 is_up status_is.Up = true
 is_up _ = false
 
+abbrev pub is_gone : Status → Bool
+is_gone status_is.Gone = true
+is_gone _ = false
+
+-- what is told of the own replica is not heard, and nothing that is told of one that is gone
+unfoldable pub hears : History → Replica → Bool
+hears h r = not (same_replica r (own h)) && not (is_gone (status h r))
+
+-- What a step tells of other replicas after a history: the dots that it covers, the rows that are live there, and the dots
+-- that it covers without a row, which were removed.
+abbrev pub told_covers : History → Step → Dot → Bool
+told_covers h (steps_are.Merge t) d = hears h d.replica && covers t d
+told_covers h _ d = false
+
+abbrev pub told_row : History → Step → Dot → Option Row
+told_row h (steps_are.Merge t) d = cond (hears h d.replica) (live_row t d) None
+told_row h _ d = None
+
+abbrev pub told_removed : History → Step → Dot → Bool
+told_removed h (steps_are.Merge t) d = hears h d.replica && tells_removed t d
+told_removed h _ d = false
+
 -- the count up to which the last cut told
 abbrev pub cut_after : Outcome → ℕ → ℕ
 cut_after (outcomes_are.CutAt from to) n = to
@@ -114,9 +140,19 @@ next_dot h = record { replica = own h; count = count h + 1 }
 abbrev pub is_counted : Replica → ℕ → Dot → Bool
 is_counted r n d = same_replica d.replica r && (nat_lt 0 d.count && nat_le d.count n)
 
--- the own dots that were counted
+-- the dots that a Start covers, the own dots that were counted, and those of others that were told
 unfoldable pub known : History → Dot → Bool
-known h d = is_counted (own h) (count h) d
+known (Begin s) d = covers s.content d
+known (Then h e) d = known h d || (is_counted (own (Then h e)) (count (Then h e)) d || told_covers h e.step d)
+
+-- of a replica that is gone only its name is kept
+abbrev pub covered : History → Dot → Bool
+covered h d = known h d && not (is_gone (status h d.replica))
+
+-- all counts of the replica up to this one are covered, and the next one is not
+pub record IsTop (h : History) (r : Replica) (n : ℕ) : Type 0 where
+  pub below : (m : ℕ) → 1 ≤ m → m ≤ n → covered h (record { replica = r; count = m }) ≡ true
+  pub next : covered h (record { replica = r; count = n + 1 }) ≡ false
 
 abbrev pub has_dot : List Dot → Dot → Bool
 has_dot ds d = list_any (same_dot d) ds
@@ -139,19 +175,20 @@ dot_removed (outcomes_are.Replaced new old) next d = same_dot d old
 dot_removed (outcomes_are.Removed (x ∷ xs)) next d = same_dot d next || has_dot (x ∷ xs) d
 dot_removed _ next d = false
 
+-- what a Start covers without a live row went before it
 unfoldable pub removed : History → Dot → Bool
-removed (Begin s) d = false
-removed (Then h e) d = removed h d || dot_removed e.outcome (next_dot h) d
+removed (Begin s) d = tells_removed s.content d
+removed (Then h e) d = removed h d || (dot_removed e.outcome (next_dot h) d || told_removed h e.step d)
 
 -- the first of two that is there
 abbrev pub first_some : {A : Type 0} → Option A → Option A → Option A
 first_some (Some x) o = Some x
 first_some None o = o
 
--- the row in the first entry that adds the dot
+-- the row in the first entry that adds the dot, the live rows of a Start among them
 unfoldable pub row : History → Dot → Option Row
-row (Begin s) d = None
-row (Then h e) d = first_some (row h d) (row_added e.step e.outcome d)
+row (Begin s) d = live_row s.content d
+row (Then h e) d = first_some (row h d) (first_some (row_added e.step e.outcome d) (told_row h e.step d))
 
 -- the row, where it is not removed
 unfoldable pub live : History → Dot → Option Row

@@ -46,13 +46,26 @@ ChangesLead = (old new : RowMap) → IsPlaced old → IsPlaced new → Agrees ol
 abbrev pub DiffsLead : Type 0
 DiffsLead = (h : History) (e : Entry) (t : List ℕ) → apply_item (present h t) (items_are.Diff (diff_of h e t)) ≡ present (Then h e) t
 
--- the step may change rows of the topic
+-- the step may change rows of the topic: what is told of other replicas, what is heard of them and the time that passes
+-- concern every topic
 abbrev pub concerns : Step → List ℕ → Bool
 concerns (steps_are.Track pid topic key meta) t = same_text topic t
 concerns (steps_are.Update pid topic key meta) t = same_text topic t
 concerns (steps_are.Untrack pid topic key) t = same_text topic t
 concerns (steps_are.UntrackAll pid topic) t = same_text topic t
+concerns (steps_are.Heard replica now) t = true
+concerns (steps_are.Tick now) t = true
+concerns (steps_are.PermDown replica) t = true
+concerns (steps_are.Merge told) t = true
 concerns _ t = false
+
+-- the step is of the own replica alone: it tells of no other, hears none, and no time passes in it
+abbrev pub is_callers : Step → Bool
+is_callers (steps_are.Heard replica now) = false
+is_callers (steps_are.Tick now) = false
+is_callers (steps_are.PermDown replica) = false
+is_callers (steps_are.Merge told) = false
+is_callers _ = true
 
 -- a step leaves the present rows of each topic that it does not concern
 abbrev pub OthersStay : Type 0
@@ -95,9 +108,9 @@ RowsAreKnown = (h : History) → IsLegal h → (d : Dot) (r : Row) → row h d �
 abbrev pub RefsAreDistinct : Type 0
 RefsAreDistinct = (h : History) → IsLegal h → (d e : Dot) (r s : Row) → row h d ≡ Some r → row h e ≡ Some s → ref_of d ≡ ref_of e → d ≡ e
 
--- but for the row under the new dot, a step leaves every row as it was, and takes out those alone that its outcome names
+-- but for the row under the new dot, a step of the own replica alone leaves every row as it was, and takes out those alone that its outcome names
 abbrev pub OnlyNamedLeave : Type 0
-OnlyNamedLeave = (h : History) → IsLegal h → (s : Step) (seat : Option ℕ) (o : Outcome) → accepted h s ≡ Some o → (t : List ℕ) (p : Place) → has_dot (dots_added o) p.dot ≡ false → map.get (present (after h s seat) t) p ≡ cond (has_dot (dots_taken o) p.dot) None (map.get (present h t) p)
+OnlyNamedLeave = (h : History) → IsLegal h → (s : Step) (seat : Option ℕ) (o : Outcome) → is_callers s ≡ true → accepted h s ≡ Some o → (t : List ℕ) (p : Place) → has_dot (dots_added o) p.dot ≡ false → map.get (present (after h s seat) t) p ≡ cond (has_dot (dots_taken o) p.dot) None (map.get (present h t) p)
 
 -- no more items wait for a subscriber than may
 abbrev pub HoldsMost : Type 0

@@ -7,6 +7,5 @@ pub mod Present
 pub mod Queue
 pub mod Table
 pub mod Walk
-pub mod Pending
 pub mod Laws
-pub mod Waits
+pub mod Merges

@@ -9,7 +9,8 @@ use Rattle.presence_base.specs.Order.{text_cmp, dot_cmp, same_text}
 use Rattle.presence_journal_data.specs.declared.entry.Outcome.TheVariants as outcomes_are
 use Rattle.presence_journal_data.specs.declared.rows.Place.{Place}
 use Rattle.presence_journal_data.specs.declared.rows.RowDiff.{RowDiff}
-use Rattle.presence_journal.specs.Steps.{Outcome}
+use Rattle.presence_journal_data.specs.declared.step.Step.TheVariants as steps_are
+use Rattle.presence_journal.specs.Steps.{Step, Outcome}
 use Rattle.presence_journal.specs.History.{History, Begin, Then, shown}
 
 abbrev pub place_cmp : Place → Place → Ordering
@@ -40,6 +41,7 @@ dots_added outcomes_are.Ended = []
 dots_added outcomes_are.Sent = []
 dots_added outcomes_are.Noted = []
 dots_added (outcomes_are.CutAt from to) = []
+dots_added outcomes_are.Merged = []
 
 -- the dots that an outcome names as taken out
 abbrev pub dots_taken : Outcome → List Dot
@@ -47,10 +49,18 @@ dots_taken (outcomes_are.Replaced new old) = old ∷ []
 dots_taken (outcomes_are.Removed ds) = ds
 dots_taken _ = []
 
--- every dot that was ever added
+abbrev pub dots_of : List (Dot × Row) → List Dot
+dots_of = each (λ x. x.0)
+
+-- the dots of the rows that a step tells
+abbrev pub dots_told : Step → List Dot
+dots_told (steps_are.Merge t) = dots_of t.live
+dots_told _ = []
+
+-- every dot that was ever added or told with a row, or has one in the Start
 unfoldable pub dots : History → List Dot
-dots (Begin s) = []
-dots (Then h e) = dots_added e.outcome ++ dots h
+dots (Begin s) = dots_of s.content.live
+dots (Then h e) = dots_added e.outcome ++ (dots_told e.step ++ dots h)
 
 abbrev pub put : Dot → Option Row → RowMap → RowMap
 put d None m = m
@@ -72,9 +82,6 @@ in_order m = each (λ e. (e.0.dot, e.1)) (map.entries m)
 -- the rows of a topic that are present, in order
 abbrev pub listed : History → List ℕ → List (Dot × Row)
 listed h t = in_order (present h t)
-
-abbrev pub dots_of : List (Dot × Row) → List Dot
-dots_of = each (λ x. x.0)
 
 -- the rows of the one table that the other has not
 abbrev pub missing_in : RowMap → RowMap → RowMap

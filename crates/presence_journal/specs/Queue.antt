@@ -1,6 +1,7 @@
 -- What waits for a subscriber, what it took, and what a client makes of it.
 use Rattle.std.specs.Prelude.{ℕ, ◌+◌, Bool, true, false, cond, ◌&&◌, nat_eq, nat_lt, List, [], ◌∷◌, ◌++◌, length, take, drop, Option, Some, None}
 use Rattle.std.specs.FinMap as map
+use Rattle.std.specs.Map.{lookup}
 use Rattle.presence_base.specs.declared.dots.Dot.{Dot}
 use Rattle.presence_base.specs.declared.row.Row.{Row}
 use Rattle.presence_base.specs.Order.{same_text}
@@ -8,7 +9,7 @@ use Rattle.presence_journal_data.specs.declared.step.Step.TheVariants as steps_a
 use Rattle.presence_journal_data.specs.declared.rows.Item.{Item}
 use Rattle.presence_journal_data.specs.declared.rows.Item.TheVariants as items_are
 use Rattle.presence_journal_data.specs.declared.rows.RowDiff.{RowDiff}
-use Rattle.presence_journal.specs.declared.pending.TheConstants.{MAX_WAITING}
+use Rattle.presence_journal.specs.declared.waiting.TheConstants.{MAX_WAITING}
 use Rattle.presence_journal.specs.Steps.{Step, Entry}
 use Rattle.presence_journal.specs.History.{History, Begin, Then, entry_count}
 use Rattle.presence_journal.specs.Present.{RowMap, place_of, present, listed, changes}
@@ -23,9 +24,13 @@ topic_after (steps_are.Subscribe topic) number n before = cond (nat_eq number n)
 topic_after (steps_are.Unsubscribe m) number n before = cond (nat_eq m n) None before
 topic_after _ number n before = before
 
+-- the topic of the subscriber of a number
+abbrev pub topic_at : List (ℕ × List ℕ) → ℕ → Option (List ℕ)
+topic_at xs n = lookup (nat_eq n) xs
+
 -- the topic of a present subscriber
 unfoldable pub topic_of : History → ℕ → Option (List ℕ)
-topic_of (Begin s) n = None
+topic_of (Begin s) n = topic_at s.subscribers n
 topic_of (Then h e) n = topic_after e.step e.number n (topic_of h n)
 
 abbrev pub is_empty : List (Dot × Row) → Bool

@@ -2,7 +2,7 @@
 use Rattle.std.specs.Prelude.{◌≡◌}
 use Rattle.presence_journal_data.specs.declared.limits.TheConstants.{MAX_PAYLOAD_DEPTH, MAX_TAKEN}
 use Rattle.presence_journal.specs.declared.journal.TheConstants.{MAX_ENTRIES}
-use Rattle.presence_journal.specs.declared.pending.TheConstants.{MAX_WAITING}
+use Rattle.presence_journal.specs.declared.waiting.TheConstants.{MAX_WAITING}
 
 pub record AreSizes : Type 0 where
   pub entries : MAX_ENTRIES ≡ 262144

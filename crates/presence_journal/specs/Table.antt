@@ -1,15 +1,19 @@
 -- The sequential presence table: what each step comes to, and the histories that keep to it.
-use Rattle.std.specs.Prelude.{◌≡◌, ◌≤◌, ℕ, ◌+◌, ◌^◌, Bool, true, false, cond, ◌&&◌, nat_eq, nat_lt, nat_le, min, IsTrue, List, [], ◌∷◌, length, filter, Option, Some, None}
+use Rattle.std.specs.Prelude.{◌≡◌, ◌≤◌, ℕ, ◌+◌, ◌^◌, Bool, true, false, cond, ◌&&◌, nat_eq, nat_lt, nat_le, min, IsTrue, List, [], ◌∷◌, length, filter, map, Option, Some, None}
+use Rattle.std.specs.List.{AllByRecursion, list_all}
 use Rattle.presence_base.specs.declared.dots.Dot.{Dot}
 use Rattle.presence_base.specs.declared.row.Row.{Row}
-use Rattle.presence_base.specs.Names.{is_node_name}
+use Rattle.presence_base.specs.Names.{is_node_name, is_short_text}
 use Rattle.presence_base.specs.Order.{same_text, same_replica}
 use Rattle.presence_base.specs.Refs.{IsCount}
+use Rattle.dot_context.specs.Runs.{AreLong}
+use Rattle.orswot_core_told.specs.Checks.{has_repeat}
+use Rattle.orswot_core_told.specs.Telling.{covers}
 use Rattle.presence_journal_data.specs.declared.step.Step.TheVariants as steps_are
 use Rattle.presence_journal_data.specs.declared.entry.Outcome.TheVariants as outcomes_are
-use Rattle.presence_journal_data.specs.StepLimits.{is_within_limits}
+use Rattle.presence_journal_data.specs.StepLimits.{is_heard, is_within_limits}
 use Rattle.presence_journal.specs.Steps.{Step, Outcome, Entry, Start}
-use Rattle.presence_journal.specs.History.{History, Begin, Then, own, count, last_cut, next_dot, last_number, is_full}
+use Rattle.presence_journal.specs.History.{History, Begin, Then, own, count, is_counted, last_cut, next_dot, last_number, is_full}
 use Rattle.presence_journal.specs.Present.{listed, dots_of}
 use Rattle.presence_journal.specs.Queue.{Waiting, Behind, Queued, queue, topic_of}
 
@@ -72,6 +76,7 @@ outcome_of h (steps_are.Heard replica now) = Some outcomes_are.Noted
 outcome_of h (steps_are.Tick now) = Some outcomes_are.Noted
 outcome_of h (steps_are.PermDown replica) = Some outcomes_are.Noted
 outcome_of h steps_are.Cut = Some (outcomes_are.CutAt (last_cut h) (count h))
+outcome_of h (steps_are.Merge told) = Some outcomes_are.Merged
 
 abbrev pub next_entry : History → Step → Option ℕ → Outcome → Entry
 next_entry h s seat o = record { number = last_number h + 1; seat = seat; step = s; outcome = o }
@@ -88,19 +93,33 @@ accepted h s = cond (is_full h) None (outcome_of h s)
 unfoldable pub after : History → Step → Option ℕ → History
 after h s seat = with_outcome h s seat (accepted h s)
 
--- a session's number, which a row keeps, is at most 2^62
+-- a session's number, which a row keeps, is at most 2^62, and what is told is sound
 abbrev pub is_step : Step → Bool
 is_step (steps_are.Track pid topic key meta) = nat_le pid (2 ^ 62)
 is_step (steps_are.Update pid topic key meta) = nat_le pid (2 ^ 62)
+is_step (steps_are.Merge told) = is_heard told
 is_step _ = true
 
--- the limits of what a journal begins with
+-- a subscriber of a number up to this one, on a topic
+abbrev pub is_subscriber : ℕ → ℕ × List ℕ → Bool
+is_subscriber last x = nat_le x.0 last && is_short_text x.1
+
+-- The limits of what a journal begins with. Of the own replica all counts that were used are covered, and no others. What
+-- went since the last cut lies at or below it; no run is hollow.
 pub record IsStart (s : Start) : Type 0 where
   pub name : IsTrue (is_node_name s.own.name)
   pub incarnation : IsCount s.own.incarnation
   pub number : s.number ≤ 2 ^ 62
   pub count : s.count ≤ 2 ^ 62
+  pub content : is_heard s.content ≡ true
+  pub own_dots : (d : Dot) → d.replica ≡ s.own → covers s.content d ≡ is_counted s.own s.count d
   pub cut : s.last_cut ≤ s.count
+  pub older : AreLong s.older
+  pub older_low : list_all (λ r. nat_le r.1 s.last_cut) s.older ≡ true
+  pub chains : AllByRecursion (λ x. AreLong x.1) s.chains
+  pub subscribers : list_all (is_subscriber s.number) s.subscribers ≡ true
+  pub subscribers_once : has_repeat nat_eq (map (λ x. x.0) s.subscribers) ≡ false
+  pub seated : s.seated ≤ s.number
 
 -- each entry has the outcome of the table and the next number, and stands where there was room for it
 abbrev pub IsLegal : History → Type 0

@@ -1,22 +1,15 @@
--- Of the walking answers' loops and parts: what one entry does to the rows of a topic, how rows by dot become a table
--- by place, and what an entry makes for a subscriber.
-use Rattle.std.specs.Prelude.{◌≡◌, ℕ, Bool, cond, List, [], ◌∷◌, Option, Some, None}
+-- Rows by dot and by place: what an entry does to the rows of a topic, and how rows by dot become a table by place.
+use Rattle.std.specs.Prelude.{◌≡◌, ℕ, Bool, true, false, cond, List, [], ◌∷◌, Option, Some, None}
 use Rattle.std.specs.FinMap as map
 use Rattle.std.specs.BTreeMap.{insert_entry}
-use Rattle.serde_json.specs.Data.{Data}
 use Rattle.presence_base.specs.declared.dots.Dot.{Dot}
 use Rattle.presence_base.specs.declared.row.Row.{Row}
 use Rattle.presence_base.specs.Order.{same_text, same_dot}
-use Rattle.presence_journal_data.specs.declared.rows.Item.{Item}
+use Rattle.presence_journal_data.specs.declared.step.Step.TheVariants as steps_are
 use Rattle.presence_journal_data.specs.declared.rows.Place.{Place}
-use Rattle.presence_journal_data.specs.declared.rows.RowDiff.{RowDiff}
-use Rattle.presence_journal.specs.declared.pending.Pending.{Pending}
-use Rattle.presence_journal.specs.History.{History, Then, first_some, has_dot, row_added, shown}
-use Rattle.presence_journal.specs.Pending.{waiting_of}
+use Rattle.presence_journal.specs.History.{History, first_some, has_dot, row_added, shown}
 use Rattle.presence_journal.specs.Present.{place_cmp, RowMap, place_of, of_topic, dots_taken}
-use Rattle.presence_journal.specs.Queue.{diff_of, items_made, queue_after}
-use Rattle.presence_journal.specs.Steps.{Entry}
-use Rattle.presence_journal.specs.Table.{IsLegal}
+use Rattle.presence_journal.specs.Steps.{Step, Entry}
 
 -- the row of a topic that is added under a dot
 abbrev pub joined : Entry → List ℕ → Dot → Option Row
@@ -33,21 +26,6 @@ among ds f d = cond (has_dot ds d) (f d) None
 -- the rows that go with an entry, of those that f gives
 abbrev pub leaving : Entry → (Dot → Option Row) → Dot → Option Row
 leaving e f = among (dots_taken e.outcome) f
-
-abbrev pub row_with : ℕ → List ℕ → List ℕ → Data → Option Dot → Row
-row_with pid topic key meta prev = record { topic = topic; key = key; pid = pid; meta = meta; prev = prev }
-
--- the first of what f and g give
-abbrev pub over : (Dot → Option Row) → (Dot → Option Row) → Dot → Option Row
-over f g d = first_some (f d) (g d)
-
--- both give the same
-abbrev pub Alike : (Dot → Option Row) → (Dot → Option Row) → Type 0
-Alike f g = (d : Dot) → f d ≡ g d
-
--- the row of this dot was put to those that were taken out before
-abbrev pub Moved : Dot → (Dot → Option Row) → (Dot → Option Row) → (Dot → Option Row) → Type 0
-Moved d rows taken new = Alike new (over (among (d ∷ []) rows) taken)
 
 -- the rows of a topic after an entry, where f gives those before it
 abbrev pub rows_after : Entry → List ℕ → (Dot → Option Row) → Dot → Option Row
@@ -76,22 +54,7 @@ abbrev pub placed : List (Place × Row) → List (Dot × Row) → List (Place ×
 placed es [] = es
 placed es (x ∷ xs) = placed (insert_entry place_cmp es (place_of x.0 x.1) x.1) xs
 
--- An entry may follow any history whose rows of the topic f gives: what it does there.
-
-abbrev pub IsDiffOf : Entry → List ℕ → (Dot → Option Row) → RowDiff → Type 0
-IsDiffOf e t f x = (h : History) → IsLegal (Then h e) → Alike f (shown_of h t) → x ≡ diff_of h e t
-
-abbrev pub AreMade : Entry → List ℕ → (Dot → Option Row) → List Item → Type 0
-AreMade e t f is = (h : History) → IsLegal (Then h e) → Alike f (shown_of h t) → is ≡ items_made h e t
-
--- for a subscriber, where it is present
-abbrev pub AreMadeFor : Bool → Entry → List ℕ → (Dot → Option Row) → List Item → Type 0
-AreMadeFor b e t f is = (h : History) → IsLegal (Then h e) → Alike f (shown_of h t) → is ≡ cond b (items_made h e t) []
-
--- what waits for a subscriber after an entry that made these items for it
-abbrev pub IsAfter : ℕ → Entry → List Item → Pending → Pending → Type 0
-IsAfter n e made before p = waiting_of p ≡ queue_after e.step e.number n made (waiting_of before)
-
--- what waits for a subscriber, which is present or not, after an entry
-abbrev pub IsNext : Bool → ℕ → Entry → List ℕ → (Dot → Option Row) → Pending → Pending → Type 0
-IsNext b n e t f before p = (h : History) → IsLegal (Then h e) → Alike f (shown_of h t) → waiting_of p ≡ queue_after e.step e.number n (cond b (items_made h e t) []) (waiting_of before)
+-- the step tells of other replicas
+abbrev pub tells : Step → Bool
+tells (steps_are.Merge told) = true
+tells _ = false

@@ -1,7 +1,8 @@
 ghost use Rattle.std.specs.Prelude.{◌≡◌, ◌++◌, ◌∷◌, [], OnOk, OnErr};
 
+use orswot_core_told::Told;
 use presence_base::{MAX_COUNT, Replica};
-use presence_journal_data::{Entry, Outcome, Standings, Start, Step};
+use presence_journal_data::{Chains, Entry, Outcome, Runs, Standings, Start, Step, Subscribers};
 use std::alloc::{AllocError, Global};
 use std::marker::Model;
 
@@ -70,9 +71,14 @@ impl Journal {
                 number: 0,
                 own,
                 count: 0,
+                content: Told::new(Vec::new(alloc), Vec::new(alloc), Vec::new(alloc)),
                 standings: Standings::new(Vec::new(alloc)),
                 time: 0,
                 last_cut: 0,
+                older: Runs::new(Vec::new(alloc)),
+                chains: Chains::new(Vec::new(alloc)),
+                subscribers: Subscribers::new(Vec::new(alloc)),
+                seated: 0,
             },
             entries: Vec::new(alloc),
         }

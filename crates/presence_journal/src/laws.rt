@@ -6,6 +6,8 @@ ghost use Rattle.presence_journal.specs.Laws.{OnlyNamedLeave, OthersStay, Others
 ghost use Rattle.presence_journal.specs.Laws.{HoldsMost, QueuesItems, FallsBehind, StaysBehind};
 ghost use Rattle.presence_journal.specs.Laws.{StaysLegal, StaysKept, AsWorked};
 ghost use Rattle.presence_journal.specs.Sizes.{AreSizes};
+ghost use Rattle.presence_journal.specs.Merges.{RemovedIsKnown, KnownIsLiveOrRemoved, MergeIsKnown, MergeIsLive};
+ghost use Rattle.presence_journal.specs.Merges.{LiveStays, ShownStays, OwnStepsAlone};
 
 /// What a subscriber took since its last state, followed by what waits for it, folds to the present
 /// rows of its topic.
@@ -33,14 +35,40 @@ pub fn new_dots()
     ensures references { RefsAreDistinct }
 {}
 
-/// A step takes out the rows that its outcome names, and leaves every other. It leaves the present rows
-/// of each topic that it does not concern, makes nothing for the subscribers of a topic that it does
-/// not reach, and leaves everything where it is refused.
+/// A step of the own replica alone takes out the rows that its outcome names, and leaves every other.
+/// Any step leaves the present rows of each topic that it does not concern, makes nothing for the
+/// subscribers of a topic that it does not reach, and leaves everything where it is refused.
 pub fn nothing_else_changes()
     ensures rows { OnlyNamedLeave }
     ensures others { OthersStay }
     ensures items { OthersHearNothing }
     ensures refused { RefusedStays }
+{}
+
+/// A dot that was removed is known, and a known dot without a live row was removed.
+pub fn known_is_live_or_removed()
+    ensures of_removed { RemovedIsKnown }
+    ensures live { KnownIsLiveOrRemoved }
+{}
+
+/// A merge makes known what it tells of replicas that are heard. A row that is told comes where its
+/// dot was not known, and a live row goes where its dot is told without one. Nothing else changes.
+pub fn merges_take_in()
+    ensures known { MergeIsKnown }
+    ensures live { MergeIsLive }
+{}
+
+/// An entry changes what is live of a dot only where it adds it, takes it out or tells of it, and
+/// what is shown only there and where it changes the status of the dot's replica.
+pub fn touched_dots_change()
+    ensures live { LiveStays }
+    ensures shown { ShownStays }
+{}
+
+/// Tracks, updates and untracks alone change the own count, and what is known, live and removed of
+/// own dots: a merge does not.
+pub fn own_steps_alone()
+    ensures { OwnStepsAlone }
 {}
 
 /// A step within its limits leads from a legal history to a legal one, and from what a journal keeps to what it keeps.

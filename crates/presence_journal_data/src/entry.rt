@@ -1,5 +1,7 @@
+use crate::kept::{Chains, Runs, Subscribers};
 use crate::standings::Standings;
 use crate::step::Step;
+use orswot_core_told::Told;
 use presence_base::{Dot, Replica};
 use std::alloc::AllocError;
 use std::marker::Model;
@@ -70,6 +72,8 @@ pub enum Outcome {
     Noted,
     /// A cut told the counts above the first up to the second.
     CutAt(u64, u64),
+    /// What was told is taken in.
+    Merged,
 }
 
 /// One step of a shard, with what it came to.
@@ -91,12 +95,22 @@ pub struct Start {
     pub own: Replica,
     /// How many counts the replica has used.
     pub count: u64,
+    /// The dots that are covered, and the rows that are live.
+    pub content: Told,
     /// The other replicas.
     pub standings: Standings,
     /// The greatest time that was handed in, in milliseconds.
     pub time: u64,
     /// The count up to which the last cut told.
     pub last_cut: u64,
+    /// The own counts at or below it that went since.
+    pub older: Runs,
+    /// For the count of an own live row, the counts that it stands for.
+    pub chains: Chains,
+    /// The subscribers that are present, each of them behind.
+    pub subscribers: Subscribers,
+    /// How many entries that came before were made through seats.
+    pub seated: u64,
 }
 
 impl Clone for Dots {
@@ -129,6 +143,7 @@ impl Clone for Outcome {
             Outcome::Sent => Ok(Outcome::Sent),
             Outcome::Noted => Ok(Outcome::Noted),
             Outcome::CutAt(from, to) => Ok(Outcome::CutAt(*from, *to)),
+            Outcome::Merged => Ok(Outcome::Merged),
         }
     }
 }
@@ -156,14 +171,23 @@ impl Clone for Start {
     ghost is_clone = { λ s t. t ≡ s };
 
     fn clone(&self) -> Result<Start, AllocError> {
+        let content = self.content.clone()?;
         let standings = self.standings.clone()?;
+        let older = self.older.clone()?;
+        let chains = self.chains.clone()?;
+        let subscribers = self.subscribers.clone()?;
         Ok(Start {
             number: self.number,
             own: self.own,
             count: self.count,
+            content,
             standings,
             time: self.time,
             last_cut: self.last_cut,
+            older,
+            chains,
+            subscribers,
+            seated: self.seated,
         })
     }
 }

@@ -4,12 +4,14 @@
 #![tactic(auto)]
 
 mod entry;
+mod kept;
 mod limits;
 mod rows;
 mod standings;
 mod step;
 
 pub use entry::{Dots, Entry, Outcome, Start};
+pub use kept::{Chains, Runs, Subscribers};
 pub use limits::{MAX_PAYLOAD_DEPTH, MAX_TAKEN, Payload, TakeLimit};
 pub use rows::{Item, Place, RowDiff, Rows};
 pub use standings::Standings;

@@ -1,5 +1,11 @@
+ghost use Rattle.std.specs.Prelude.{◌≡◌, true};
+ghost use Rattle.std.specs.List.{list_all};
+ghost use Rattle.orswot_core_told.specs.Limits.{are_texts};
+ghost use Rattle.presence_journal_data.specs.StepLimits.{is_named};
+
 use crate::limits::{Payload, TakeLimit};
-use presence_base::{Json, Key, Meta, Replica, Topic};
+use orswot_core_told::Told;
+use presence_base::{Dot, Json, Key, Meta, Replica, Row, Topic};
 use std::alloc::AllocError;
 
 /// What is asked of a shard. A `pid` names the session that asks; a subscriber is named by the
@@ -63,6 +69,10 @@ pub enum Step {
     },
     /// What the own replica did since the last cut is told.
     Cut,
+    /// What another node told is taken in.
+    Merge {
+        told: Told,
+    },
 }
 
 // Each of these makes a step of what a caller lends, and reads a text or a value only to show its limits.
@@ -180,6 +190,38 @@ impl Step {
         let payload = Payload::new(payload.clone()?);
         Ok(Step::Shout { topic, payload })
     }
+
+    /// A merge of what another node told.
+    pub fn merge(told: &Told) -> Result<Step, AllocError>
+        ensures step { IfOk result (λ s. s ≡ Step.Merge told.now) }
+        ensures limits { IfOk result (λ s. is_within_limits s ≡ true) }
+    {
+        read_rows(told.live());
+        let told = told.clone()?;
+        Ok(Step::Merge { told })
+    }
+}
+
+// Reads the names and texts of rows, whose types keep their limits.
+fn read_rows(live: &[(Dot, Row)])
+    ensures names { list_all is_named live.now ≡ true }
+    ensures texts { list_all (λ x. are_texts x.1) live.now ≡ true }
+{
+    for row in live {
+        read_row(row);
+    }
+}
+
+fn read_row(row: &(Dot, Row))
+    ensures names { is_named row.now ≡ true }
+    ensures texts { are_texts row.now.1 ≡ true }
+{
+    let _name = row.0.replica.name.as_str();
+    let (_topic, _key, _meta) = (
+        row.1.topic.as_str(),
+        row.1.key.as_str(),
+        row.1.meta.as_value(),
+    );
 }
 
 impl Clone for Step {
@@ -218,6 +260,7 @@ impl Clone for Step {
             Step::Tick { now } => Ok(Step::Tick { now: *now }),
             Step::PermDown { replica } => Ok(Step::PermDown { replica: *replica }),
             Step::Cut => Ok(Step::Cut),
+            Step::Merge { told } => Step::merge(told),
         }
     }
 }

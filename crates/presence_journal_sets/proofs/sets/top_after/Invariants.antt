@@ -1,0 +1,6 @@
+use Rattle.presence_journal.specs.History.{Begin, onto}
+use Rattle.presence_journal_sets.proofs.KnownLemmas.{CoversUpTo}
+use Rattle.presence_journal_sets.proofs.sets.top_after.Given as goal
+
+abbrev pub invariant-loop-top : goal.invariant-loop-top
+invariant-loop-top l = CoversUpTo (onto (Begin l.start) l.entries) l.replica l.top

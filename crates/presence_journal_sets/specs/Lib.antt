@@ -1,0 +1,4 @@
+pub mod Walked
+pub mod LeftOut
+pub mod Full
+pub mod ByDot

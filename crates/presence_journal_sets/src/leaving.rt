@@ -1,0 +1,81 @@
+// Leaving the replicas that are gone out of a set.
+ghost use Rattle.std.specs.Prelude.{◌≡◌, Some, IfOk, option_copied};
+ghost use Rattle.presence_journal.specs.History.{Begin, onto};
+ghost use Rattle.presence_journal.specs.Table.{IsLegal};
+ghost use Rattle.presence_journal_sets.specs.LeftOut.{HoldsCovered, LeavesOut, without_gone, named_by, is_named, none_left};
+ghost use Rattle.presence_journal_sets.specs.Walked.{Holds};
+
+use crate::statuses::{is_gone, status_after};
+use crate::walked::walk_set_of;
+use orswot_core::Orswot;
+use presence_base::Replica;
+use presence_journal::{Entry, Journal, Start, Step};
+use std::alloc::{AllocError, Global};
+
+// Forgets the replica, where it is gone after these entries.
+fn forget_gone(set: &mut Orswot, start: &Start, entries: &[Entry], replica: &Replica)
+    ensures { set.new ≡ without_gone (onto (Begin start.now) entries.now) set.old (Some replica.now) }
+{
+    if is_gone(status_after(start, entries, replica)) {
+        set.forget(replica);
+    }
+}
+
+// The replica that a step hears or puts down.
+fn named_by(step: &Step) -> Option<&Replica>
+    ensures { option_copied result ≡ named_by step.now }
+{
+    match step {
+        Step::Heard { replica, .. } => Some(replica),
+        Step::PermDown { replica } => Some(replica),
+        _ => None,
+    }
+}
+
+// Forgets the replica that a step names, where it is gone after these entries.
+fn forget_named(set: &mut Orswot, start: &Start, entries: &[Entry], step: &Step)
+    ensures { set.new ≡ without_gone (onto (Begin start.now) entries.now) set.old (named_by step.now) }
+{
+    if let Some(replica) = named_by(step) {
+        forget_gone(set, start, entries, replica);
+    }
+}
+
+// Forgets those of the listed replicas that are gone.
+fn leave_out_listed(set: &mut Orswot, start: &Start, entries: &[Entry])
+    requires { Holds (onto (Begin start.now) entries.now) set.old }
+    ensures { LeavesOut (onto (Begin start.now) entries.now) (is_named entries.now) set.new }
+{
+    let standings = start.standings.as_slice();
+    for listed in standings {
+        forget_gone(set, start, entries, &listed.0);
+    }
+}
+
+// Forgets those of the named replicas that are gone.
+fn leave_out_named(set: &mut Orswot, start: &Start, entries: &[Entry])
+    requires { LeavesOut (onto (Begin start.now) entries.now) (is_named entries.now) set.old }
+    ensures { LeavesOut (onto (Begin start.now) entries.now) none_left set.new }
+{
+    for entry in entries {
+        forget_named(set, start, entries, &entry.step);
+    }
+}
+
+// The set of what is covered after these entries.
+fn covered_set(alloc: Global, start: &Start, entries: &[Entry]) -> Result<Orswot, AllocError>
+    requires { IsLegal (onto (Begin start.now) entries.now) }
+    ensures { IfOk result (HoldsCovered (onto (Begin start.now) entries.now)) }
+{
+    let mut set = walk_set_of(alloc, start, entries)?;
+    leave_out_listed(&mut set, start, entries);
+    leave_out_named(&mut set, start, entries);
+    Ok(set)
+}
+
+/// The set of the dots that are covered and the rows that are live, those of replicas that are gone left out.
+pub fn walk_set(alloc: Global, journal: &Journal) -> Result<Orswot, AllocError>
+    ensures { IfOk result (HoldsCovered journal.now) }
+{
+    covered_set(alloc, journal.start(), journal.entries())
+}

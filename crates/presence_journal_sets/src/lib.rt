@@ -1,0 +1,18 @@
+//! What a shard's journal covers, which rows of it are live, and what it says of other replicas, by walks
+//! over its entries.
+//!
+//! Its public contracts cite presence_journal's `History`, and `specs/Walked` and `specs/LeftOut` here.
+#![tactic(auto)]
+
+mod counts;
+mod known;
+mod leaving;
+mod sets;
+mod statuses;
+mod walked;
+
+pub use counts::walk_count;
+pub use leaving::walk_set;
+pub use sets::{walk_covers, walk_top};
+pub use statuses::{hears_after, status_after, walk_status};
+pub use walked::{row_of, walk_set_of};

@@ -1,0 +1,5 @@
+pub mod LoopLemmas
+pub mod OthersLemmas
+pub mod ChangesLemmas
+pub mod CallersLemmas
+pub mod Tallies

@@ -1,0 +1,7 @@
+use Rattle.std.specs.BTreeMap.{get}
+use Rattle.presence_base.specs.Order.{dot_cmp}
+use Rattle.presence_journal.proofs.Lookups.{get_put_at}
+use Rattle.presence_journal_walks.proofs.rows.put_row.Goals as goal
+
+pub returns-in_ok-insert : goal.returns-in_ok-insert
+returns-in_ok-insert c = get_put_at (get dot_cmp c.args.rows.now) (get dot_cmp c.insert.new.self) c.in-Some.dot c.in-Some.row c.args.added c.in-Some.is (λ d. c.in_ok-insert.ensures.updates.0 d)
