@@ -1,12 +1,17 @@
 -- What goes at an entry, and the chains after it.
-use Rattle.std.proofs.Common.{◌≡◌, ℕ, ◌≤◌, Bool, true, false, cond, ◌&&◌, ◌||◌, nat_eq, nat_le, List, [], ◌∷◌, refl, sym, ◌∙◌, ap, subst}
-use Rattle.std.specs.List.{list_all}
+use Rattle.std.proofs.Common.{◌≡◌, ℕ, ◌≤◌, Bool, true, false, cond, ◌&&◌, ◌||◌, nat_eq, nat_le, List, [], ◌∷◌, Option, Some, refl, sym, ◌∙◌, ap, subst}
+use Rattle.std.specs.List.{AllByRecursion, list_all}
+use Rattle.std.specs.BTreeMap.{get}
+use Rattle.std.specs.Map.{lookup}
+use Rattle.std.specs.Ordering.{nat_cmp}
 use Rattle.presence_base.specs.declared.dots.Dot.{Dot}
-use Rattle.dot_context.specs.Runs.{holds}
+use Rattle.dot_context.specs.Runs.{holds, AreLong}
+use Rattle.dot_context.specs.Sets.{listed}
 use Rattle.presence_journal_data.specs.declared.entry.Outcome.TheVariants as outcomes_are
 use Rattle.presence_journal.specs.Steps.{Outcome, Entry, Start}
 use Rattle.presence_journal.specs.History.{History, Begin, Then, cut_after, last_cut}
 use Rattle.presence_journal.specs.Present.{dots_taken}
+use Rattle.presence_journal.specs.Table.{IsStart}
 use Rattle.presence_journal_cuts.specs.Chains.{Chains, AreChains, AreUpTo, Chained, Counts, has}
 use Rattle.presence_journal_cuts.specs.Cuts.{chain_after, chain, goes, older_after, older}
 use Rattle.presence_journal_cuts.proofs.Histories.{last_cut-begin, last_more}
@@ -43,14 +48,22 @@ pub record Gone (k : ℕ) (m : Chains) (rs : List (ℕ × ℕ)) (h : History) : 
   pub counts : Counts (holds rs) (older h)
   pub kept : AreUpTo k rs
 
-pub gone_start : (s : Start) (m : Chains) (rs : List (ℕ × ℕ)) → ((c n : ℕ) → has m c n ≡ false) → AreChains m → rs ≡ [] → Gone s.last_cut m rs (Begin s)
+kept_long : (xs : List (ℕ × List (ℕ × ℕ))) (c : ℕ) → AllByRecursion (λ x. AreLong x.1) xs → AreLong (listed (lookup (nat_eq c) xs))
+kept_long [] c all = tt
+kept_long (x ∷ xs) c all = go (nat_eq c x.0) (kept_long xs c all.1)
+  where
+    go : (b : Bool) → AreLong (listed (lookup (nat_eq c) xs)) → AreLong (listed (cond b (Some x.1) (lookup (nat_eq c) xs)))
+    go true ih = all.0
+    go false ih = ih
+
+pub gone_start : (s : Start) (m : Chains) (rs : List (ℕ × ℕ)) → IsStart s → ((c : ℕ) → get nat_cmp m c ≡ lookup (nat_eq c) s.chains) → rs ≡ s.older → Gone s.last_cut m rs (Begin s)
 unfolding chain older
-gone_start s m rs none long e = record {
+gone_start s m rs start found e = record {
   cut = sym (last_cut-begin s);
-  chained = λ c n low. none c n;
-  long = long;
+  chained = λ c n low. ap (λ (o : Option (List (ℕ × ℕ))). holds (listed o) n) (found c);
+  long = λ c. subst (λ (o : Option (List (ℕ × ℕ))). AreLong (listed o)) (sym (found c)) (kept_long s.chains c start.chains);
   counts = λ n low. ap (λ (xs : List (ℕ × ℕ)). holds xs n) e;
-  kept = subst (AreUpTo s.last_cut) (sym e) (tt, refl);
+  kept = subst (AreUpTo s.last_cut) (sym e) (start.older, start.older_low);
 }
 
 pub gone_then : (k k' : ℕ) (m m' : Chains) (rs rs' : List (ℕ × ℕ)) (h : History) (e : Entry) → k' ≡ cut_after e.outcome k → Counts (holds rs') (older_after e.outcome k (has m) (holds rs)) → (AreChains m → AreUpTo k rs → AreUpTo (cut_after e.outcome k) rs')

@@ -1,24 +1,30 @@
 -- The last cut, the rows above it, and what every delta keeps of them.
 use Rattle.std.proofs.Common.{◌≡◌, ℕ, ◌+◌, ◌<◌, ◌≤◌, ◌^◌, Bool, true, false, cond, ◌&&◌, nat_eq, nat_lt, nat_le, List, [], ◌∷◌, Option, Some, None, refl, sym, ◌∙◌, ap, subst, arith, inl, inr}
+use Rattle.std.specs.Prelude.{is_none}
+use Rattle.std.proofs.lemmas.Bool.{and_parts}
 use Rattle.std.proofs.lemmas.Bool.Decides.{nat_tests}
 use Rattle.std.proofs.lemmas.Option.{cond_some, same_Some}
 use Rattle.presence_base.specs.declared.dots.Dot.{Dot}
 use Rattle.presence_base.specs.declared.row.Row.{Row}
 use Rattle.presence_base.specs.Order.{same_replica, same_dot}
 use Rattle.dot_context.specs.Sets.{in_range}
+use Rattle.orswot_core_told.specs.Telling.{covers, live_row}
 use Rattle.presence_journal_data.specs.declared.step.Step.TheVariants as steps_are
 use Rattle.presence_journal_data.specs.declared.entry.Outcome.TheVariants as outcomes_are
 use Rattle.presence_journal.specs.Steps.{Step, Outcome, Entry, Start}
-use Rattle.presence_journal.specs.History.{History, Begin, Then, own, count, counts_used, last_cut, cut_after, next_dot, has_dot, first_some, row_made, row_added, removed, row, live, is_up, status, shown}
+use Rattle.presence_journal.specs.History.{History, Begin, Then, own, count, counts_used, last_cut, cut_after, next_dot, has_dot, first_some, row_made, row_added, removed, row, live, shown}
 use Rattle.presence_journal.specs.Present.{dots_taken}
 use Rattle.presence_journal.specs.Queue.{Waiting, Behind, Queued, queue, topic_of}
 use Rattle.presence_journal.specs.Table.{IsLegal, rows_of_pid, rows_of_key, counting, tracked, updated, untracked, take_outcome, for_present, outcome_of}
-use Rattle.presence_journal.specs.Walk.{without}
+use Rattle.presence_journal.specs.Walk.{without, tells}
+use Rattle.presence_journal.specs.Merges.{is_of_rows}
 use Rattle.presence_journal.proofs.PresentLemmas.{shown-row}
-use Rattle.presence_journal.proofs.Same.{same_replica-refl, same_dot-true}
-use Rattle.presence_journal.proofs.HistoryLemmas.{KnowsItsDots, Kind, Adds, Replaces, Removes, Quiet, kind_of, legal_knows, known_parts, own-then, count-then, is_quiet, shown_by}
-use Rattle.presence_journal_cuts.specs.Chains.{unless_cut, recent_after}
+use Rattle.presence_journal.proofs.Same.{same_replica-refl, same_replica-true, same_dot-true}
+use Rattle.presence_journal.proofs.HistoryLemmas.{KnowsItsDots, Kind, Adds, Replaces, Removes, Quiet, kind_of, legal_knows, own-then, count-then, is_quiet, quiet_taken, tells_quiet, live_by, shown-live}
+use Rattle.presence_journal.proofs.Merges.{own_steps_alone}
+use Rattle.presence_journal_cuts.specs.Chains.{unless_cut, recent_after, is_recent, rows_recent}
 use Rattle.presence_journal_cuts.specs.Cuts.{recent}
+use Rattle.presence_journal_cuts.proofs.Starts.{recent_found}
 
 -- ---- the last cut
 
@@ -131,16 +137,54 @@ added_next h e d r (Replaces x old m o l w) g = (here (same_dot d (next_dot h)) 
     here : (b : Bool) → same_dot d (next_dot h) ≡ b → cond b (row_made e.step (Some old)) None ≡ Some r → d ≡ next_dot h
     here true p f = same_dot-true d (next_dot h) p
     here false p f = absurd (cc)
-added_next h e d r (Removes y ys o l a) g = let f : None ≡ Some r = sym (ap (λ z. row_added e.step z d) o) ∙ g in absurd (cc)
+added_next h e d r (Removes y ys o l a q) g = let f : None ≡ Some r = sym (ap (λ z. row_added e.step z d) o) ∙ g in absurd (cc)
 added_next h e d r (Quiet q) g = let f : None ≡ Some r = sym (quiet_none e.step e.outcome d q) ∙ g in absurd (cc)
+
+-- an entry that is told changes no own row
+tells_of_none : (s : Step) → tells s ≡ true → is_of_rows s ≡ false
+tells_of_none (steps_are.Merge t) e = refl
+tells_of_none _ e = absurd (cc)
+
+after_quiet : (s : Step) (o : Outcome) (d : Dot) (x : Option Row) → is_quiet o ≡ true → first_some (row_added s o d) (cond (has_dot (dots_taken o) d) None x) ≡ x
+after_quiet s o d x q = λ i. first_some (quiet_none s o d q i) (cond (has_dot (quiet_taken o q i) d) None x)
+
+-- an own row after an entry
+own_live : (h : History) (e : Entry) (d : Dot) → IsLegal (Then h e) → d.replica ≡ own h → live (Then h e) d ≡ first_some (row_added e.step e.outcome d) (cond (has_dot (dots_taken e.outcome) d) None (live h d))
+own_live h e d l o = go (tells e.step) refl
+  where
+    kind : Kind h e.step e.outcome
+    kind = kind_of h e.step e.outcome l.1
+
+    go : (b : Bool) → tells e.step ≡ b → live (Then h e) d ≡ first_some (row_added e.step e.outcome d) (cond (has_dot (dots_taken e.outcome) d) None (live h d))
+    go false t = live_by h e d (legal_knows h l.0) kind t
+    go true t = ((own_steps_alone h e l (tells_of_none e.step t)).1 d o).live ∙ sym (after_quiet e.step e.outcome d (live h d) (tells_quiet h e.step e.outcome kind t))
+
+own_shown : (h : History) (e : Entry) (d : Dot) → IsLegal (Then h e) → d.replica ≡ own h → shown (Then h e) d ≡ first_some (row_added e.step e.outcome d) (cond (has_dot (dots_taken e.outcome) d) None (shown h d))
+own_shown h e d l o =
+    shown-live (Then h e) d (o ∙ sym (own-then h e))
+    ∙ (own_live h e d l o ∙ ap (λ x. first_some (row_added e.step e.outcome d) (cond (has_dot (dots_taken e.outcome) d) None x)) (sym (shown-live h d o)))
+
+-- a row of another replica is not among them
+others_none : (h : History) (d : Dot) → same_replica d.replica (own h) ≡ false → recent h d ≡ None
+others_none h d p = recent_is h d ∙ ap (λ b. cond (b && (nat_lt (last_cut h) d.count && nat_le d.count (count h))) (shown h d) None) p
+
+others_added : (h : History) (e : Entry) (d : Dot) → Kind h e.step e.outcome → same_replica d.replica (own h) ≡ false → row_added e.step e.outcome d ≡ None
+others_added h e d kind p = go (row_added e.step e.outcome d) refl
+  where
+    go : (o : Option Row) → row_added e.step e.outcome d ≡ o → o ≡ None
+    go None f = refl
+    go (Some r) f =
+        let new = (added_next h e d r kind f).0 in
+        let same : false ≡ true = sym p ∙ (ap (λ (x : Dot). same_replica x.replica (own h)) new ∙ same_replica-refl (own h)) in
+        absurd (cc)
+
+neither : (b : Bool) → cond {A = Option Row} b None None ≡ None
+neither true = refl
+neither false = refl
 
 -- an entry that is no cut
 recent_same : (h : History) (e : Entry) (d : Dot) → IsLegal (Then h e) → cut_after e.outcome (last_cut h) ≡ last_cut h → recent (Then h e) d ≡ first_some (row_added e.step e.outcome d) (without (dots_taken e.outcome) (recent h) d)
-recent_same h e d l same =
-    recent_is (Then h e) d
-    ∙ ((λ i. cond (in_range (own-then h e i) ((last_cut-then h e ∙ same) i) (count-then h e i) d) (shown_by h e d knows kind i) None)
-    ∙ (go (row_added e.step e.outcome d) refl
-    ∙ ap (λ o. first_some (row_added e.step e.outcome d) (cond (has_dot (dots_taken e.outcome) d) None o)) (sym (recent_is h d))))
+recent_same h e d l same = by_own (same_replica d.replica (own h)) refl
   where
     knows : KnowsItsDots h
     knows = legal_knows h l.0
@@ -154,21 +198,32 @@ recent_same h e d l same =
     range : ℕ → Bool
     range to = in_range (own h) (last_cut h) to d
 
-    at_row : (o : Option Row) → shown h d ≡ o → cond (range (count h + counts_used e.outcome)) (cond gone None o) None ≡ cond gone None (cond (range (count h)) o None)
-    at_row None p = hidden (range (count h + counts_used e.outcome)) (range (count h)) gone
-    at_row (Some r) p =
-        let parts = known_parts h d (knows.of_row d r (shown-row h d r p).0) in
-        ap (λ b. cond (same_replica d.replica (own h) && b) (cond gone None (Some r)) None) (as_before (last_cut h) d.count (count h) (counts_used e.outcome) parts.2)
+    at_row : d.replica ≡ own h → (o : Option Row) → shown h d ≡ o → cond (range (count h + counts_used e.outcome)) (cond gone None o) None ≡ cond gone None (cond (range (count h)) o None)
+    at_row w None p = hidden (range (count h + counts_used e.outcome)) (range (count h)) gone
+    at_row w (Some r) p =
+        let parts = knows.of_own d w (knows.of_row d r (shown-row h d r p).0) in
+        ap (λ b. cond (same_replica d.replica (own h) && b) (cond gone None (Some r)) None) (as_before (last_cut h) d.count (count h) (counts_used e.outcome) parts.1)
         ∙ shape (range (count h)) gone (Some r)
 
-    go : (a : Option Row) → row_added e.step e.outcome d ≡ a → cond (range (count h + counts_used e.outcome)) (first_some a (cond gone None (shown h d))) None ≡ first_some a (cond gone None (cond (range (count h)) (shown h d) None))
-    go None p = at_row (shown h d) refl
-    go (Some r) p =
+    go : d.replica ≡ own h → (a : Option Row) → row_added e.step e.outcome d ≡ a → cond (range (count h + counts_used e.outcome)) (first_some a (cond gone None (shown h d))) None ≡ first_some a (cond gone None (cond (range (count h)) (shown h d) None))
+    go w None p = at_row w (shown h d) refl
+    go w (Some r) p =
         let new = added_next h e d r kind p in
         ap (λ n. cond (in_range (own h) (last_cut h) (count h + n) d) (Some r) None) new.1
         ∙ ap (λ b. cond b (Some r) None)
         (ap (λ (x : Dot). in_range (own h) (last_cut h) (count h + 1) x) new.0
         ∙ ((λ i. same_replica-refl (own h) i && (nat_lt (last_cut h) (count h + 1) && nat_le (count h + 1) (count h + 1))) ∙ new_in_range (last_cut h) (count h) (last_cut-low h l.0)))
+
+    by_own : (b : Bool) → same_replica d.replica (own h) ≡ b → recent (Then h e) d ≡ first_some (row_added e.step e.outcome d) (without (dots_taken e.outcome) (recent h) d)
+    by_own true p =
+        let w = same_replica-true d.replica (own h) p in
+        recent_is (Then h e) d
+        ∙ ((λ i. cond (in_range (own-then h e i) ((last_cut-then h e ∙ same) i) (count-then h e i) d) (own_shown h e d l w i) None)
+        ∙ (go w (row_added e.step e.outcome d) refl
+        ∙ ap (λ o. first_some (row_added e.step e.outcome d) (cond gone None o)) (sym (recent_is h d))))
+    by_own false p =
+        others_none (Then h e) d (ap (same_replica d.replica) (own-then h e) ∙ p)
+        ∙ sym ((λ i. first_some (others_added h e d kind p i) (cond gone None (others_none h d p i))) ∙ neither gone)
 
 pub recent-then : (h : History) (e : Entry) (d : Dot) → IsLegal (Then h e) → recent (Then h e) d ≡ recent_after e (recent h) d
 recent-then h e d l = go e.outcome refl (cuts_here h e.step e.outcome l.1)
@@ -180,14 +235,29 @@ recent-then h e d l = go e.outcome refl (cuts_here h e.step e.outcome l.1)
         ∙ ap (λ b. cond b (shown (Then h e) d) None) (none_above (same_replica d.replica (own (Then h e))) (count h) d.count))
     go _ p c = recent_same h e d l (ap (λ o. cut_after o (last_cut h)) p)
 
-pub recent-begin : (s : Start) (d : Dot) → recent (Begin s) d ≡ None
-unfolding recent shown live removed row
-recent-begin s d = hide (in_range (own (Begin s)) (last_cut (Begin s)) (count (Begin s)) d) (is_up (status (Begin s) d.replica))
+live-begin : (s : Start) (d : Dot) → live (Begin s) d ≡ live_row s.content d
+unfolding live removed row
+live-begin s d = go (covers s.content d) (live_row s.content d)
   where
-    hide : (g u : Bool) → cond {A = Option Row} g (cond u None None) None ≡ None
-    hide true true = refl
-    hide true false = refl
-    hide false u = refl
+    go : (b : Bool) (o : Option Row) → cond (b && is_none o) None o ≡ o
+    go true None = refl
+    go true (Some r) = refl
+    go false o = refl
+
+recent_at-begin : (s : Start) (d : Dot) → recent (Begin s) d ≡ cond (is_recent s d) (shown (Begin s) d) None
+unfolding recent own last_cut count
+recent_at-begin s d = refl
+
+recent_own : (s : Start) (d : Dot) → is_recent s d ≡ true → d.replica ≡ own (Begin s)
+unfolding own
+recent_own s d e = same_replica-true d.replica s.own (and_parts (same_replica d.replica s.own) (nat_lt s.last_cut d.count && nat_le d.count s.count) e).0
+
+pub recent-begin : (s : Start) (d : Dot) → recent (Begin s) d ≡ rows_recent s s.content.live d
+recent-begin s d = recent_at-begin s d ∙ (go (is_recent s d) refl ∙ sym (recent_found s s.content.live d))
+  where
+    go : (b : Bool) → is_recent s d ≡ b → cond b (shown (Begin s) d) None ≡ cond b (live_row s.content d) None
+    go true e = shown-live (Begin s) d (recent_own s d e) ∙ live-begin s d
+    go false e = refl
 
 -- one entry more
 pub recent-more : (f g : Dot → Option Row) (h : History) (e : Entry) → IsLegal (Then h e) → ((d : Dot) → g d ≡ recent_after e f d) → ((d : Dot) → f d ≡ recent h d) → (d : Dot) → g d ≡ recent (Then h e) d

@@ -1,4 +1,6 @@
+mod Starts
 mod Histories
-mod Kept
+mod Keeping
 mod RunLemmas
 mod Goings
+mod Joined

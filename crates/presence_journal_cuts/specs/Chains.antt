@@ -1,17 +1,17 @@
 -- Chains as the code keeps them: runs of counts by count.
-use Rattle.std.specs.Prelude.{◌≡◌, ℕ, ◌≤◌, Bool, true, nat_le, List, Option, None}
+use Rattle.std.specs.Prelude.{◌≡◌, ℕ, ◌≤◌, Bool, true, cond, nat_le, List, [], ◌∷◌, Option, Some, None}
 use Rattle.std.specs.BTreeMap.{BTreeMap, get}
 use Rattle.std.specs.Ordering.{nat_cmp}
 use Rattle.std.specs.List.{list_all}
 use Rattle.presence_base.specs.declared.dots.Dot.{Dot}
 use Rattle.presence_base.specs.declared.row.Row.{Row}
 use Rattle.dot_context.specs.Runs.{holds, AreLong}
-use Rattle.dot_context.specs.Sets.{listed}
+use Rattle.dot_context.specs.Sets.{in_range, listed}
 use Rattle.presence_journal_data.specs.declared.entry.Outcome.TheVariants as outcomes_are
-use Rattle.presence_journal.specs.Steps.{Outcome, Entry}
+use Rattle.presence_journal.specs.Steps.{Outcome, Entry, Start}
 use Rattle.presence_journal.specs.History.{first_some, row_added}
 use Rattle.presence_journal.specs.Present.{dots_taken}
-use Rattle.presence_journal.specs.Walk.{without}
+use Rattle.presence_journal.specs.Walk.{row_at, without}
 
 abbrev pub Chains : Type 0
 Chains = BTreeMap ℕ (List (ℕ × ℕ))
@@ -43,3 +43,16 @@ unless_cut _ o = o
 -- the rows above the last cut after an entry, where f gives those before it
 abbrev pub recent_after : Entry → (Dot → Option Row) → Dot → Option Row
 recent_after e f d = unless_cut e.outcome (first_some (row_added e.step e.outcome d) (without (dots_taken e.outcome) f d))
+
+-- a dot of a Start's own counts above its last cut
+abbrev pub is_recent : Start → Dot → Bool
+is_recent s d = in_range s.own s.last_cut s.count d
+
+-- the row of an entry of a list, where its dot is one of those
+abbrev pub row_recent : Start → Dot × Row → Dot → Option Row
+row_recent s x d = cond (is_recent s x.0) (row_at (Some x) d) None
+
+-- the first of these rows of a list at a dot
+abbrev pub rows_recent : Start → List (Dot × Row) → Dot → Option Row
+rows_recent s [] d = None
+rows_recent s (x ∷ xs) d = first_some (row_recent s x d) (rows_recent s xs d)

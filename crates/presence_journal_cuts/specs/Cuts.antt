@@ -1,11 +1,12 @@
 -- What a cut tells: the own rows that came since the last cut, and the older counts that went since.
 use Rattle.std.specs.Prelude.{◌≡◌, ℕ, ◌≤◌, Bool, false, cond, ◌&&◌, ◌||◌, nat_eq, nat_le, List, Option, None}
 use Rattle.std.specs.List.{list_any}
+use Rattle.std.specs.Map.{lookup}
 use Rattle.presence_base.specs.declared.dots.Replica.{Replica}
 use Rattle.presence_base.specs.declared.dots.Dot.{Dot}
 use Rattle.presence_base.specs.declared.row.Row.{Row}
 use Rattle.dot_context.specs.Runs.{holds}
-use Rattle.dot_context.specs.Sets.{in_range}
+use Rattle.dot_context.specs.Sets.{in_range, listed}
 use Rattle.orswot_core_told.specs.Telling.{live_row}
 use Rattle.delta_range.specs.Deltas.{DeltaValue, telling}
 use Rattle.delta_range.specs.Laws.{IsInOrder}
@@ -19,9 +20,13 @@ abbrev pub chain_after : Outcome → (ℕ → ℕ → Bool) → ℕ → ℕ → 
 chain_after (outcomes_are.Replaced new old) chain c n = cond (nat_eq c new.count) (nat_eq n old.count || chain old.count n) (cond (nat_eq c old.count) false (chain c n))
 chain_after _ chain c n = chain c n
 
+-- the chain that a list has for a count
+abbrev pub chain_in : List (ℕ × List (ℕ × ℕ)) → ℕ → ℕ → Bool
+chain_in xs c n = holds (listed (lookup (nat_eq c) xs)) n
+
 -- the chain of a live row: its count stands for the counts of the rows that were replaced in turn
 unfoldable pub chain : History → ℕ → ℕ → Bool
-chain (Begin s) c n = false
+chain (Begin s) c n = chain_in s.chains c n
 chain (Then h e) c n = chain_after e.outcome (chain h) c n
 
 -- one of these dots goes, each with its chain
@@ -34,7 +39,7 @@ older_after o last chain older n = older n || (nat_le n last && goes chain (dots
 
 -- the counts at or below the last cut that went since: who knows what removed them knows them all as removed
 unfoldable pub older : History → ℕ → Bool
-older (Begin s) n = false
+older (Begin s) n = holds s.older n
 older (Then h e) n = older_after e.outcome (last_cut h) (chain h) (older h) n
 
 -- the own rows above the last cut

@@ -1,5 +1,5 @@
 // Chains: for the count of a live row, the counts of the rows that were replaced in turn.
-ghost use Rattle.std.specs.Prelude.{◌≡◌, ◌≤◌, ◌||◌, ℕ, nat_eq, cond, false, OnOk, option_copied};
+ghost use Rattle.std.specs.Prelude.{◌≡◌, ◌≤◌, ◌||◌, ℕ, nat_eq, cond, false, Some, OnOk, option_copied};
 ghost use Rattle.std.specs.BTreeMap.{get};
 ghost use Rattle.std.specs.Ordering.{nat_cmp};
 ghost use Rattle.dot_context.specs.Runs.{holds, AreLong};
@@ -7,7 +7,7 @@ ghost use Rattle.dot_context.specs.Sets.{listed};
 ghost use Rattle.presence_journal_cuts.specs.Chains.{AreChains, Chained, Counts, has};
 ghost use Rattle.presence_journal_cuts.specs.Cuts.{chain_after};
 
-use presence_journal::Outcome;
+use presence_journal::{Outcome, Runs};
 use std::alloc::{AllocError, Global};
 use std::collections::BTreeMap;
 use std::marker::Model;
@@ -30,7 +30,7 @@ impl Model for Chain {
 }
 
 impl Chain {
-    ghost use Rattle.std.specs.Prelude.{◌≡◌, ◌≤◌, ◌||◌, ℕ, nat_eq, [], OnOk};
+    ghost use Rattle.std.specs.Prelude.{◌≡◌, ◌≤◌, ◌||◌, ℕ, nat_eq, [], IfOk, OnOk};
     ghost use Rattle.dot_context.specs.Runs.{holds, AreLong};
     ghost use Rattle.presence_journal_cuts.specs.Chains.{Counts};
 
@@ -40,6 +40,14 @@ impl Chain {
         Chain {
             runs: Vec::new(alloc),
         }
+    }
+
+    // The chain that a journal keeps.
+    pub(crate) fn kept(alloc: Global, runs: &Runs) -> Result<Chain, AllocError>
+        ensures { IfOk result (λ c. c ≡ runs.now) }
+    {
+        let runs = runs.as_slice().to_vec(alloc)?;
+        Ok(Chain { runs })
     }
 
     pub(crate) fn as_slice(&self) -> &[(u64, u64)]
@@ -80,9 +88,14 @@ fn taken_chain(alloc: Global, chains: &mut BTreeMap<u64, Chain>, count: u64) -> 
 }
 
 // Puts a chain in the place of the one before it.
-fn put_chain(chains: &mut BTreeMap<u64, Chain>, count: u64, chain: Chain) -> Result<(), AllocError>
+pub(crate) fn put_chain(
+    chains: &mut BTreeMap<u64, Chain>,
+    count: u64,
+    chain: Chain,
+) -> Result<(), AllocError>
     ensures chains { OnOk result ((c n : ℕ) → has chains.new c n ≡ cond (nat_eq c count) (holds chain n) (has chains.old c n)) }
     ensures long { OnOk result (AreLong chain → AreChains chains.old → AreChains chains.new) }
+    ensures got { OnOk result ((c : ℕ) → get nat_cmp chains.new c ≡ cond (nat_eq c count) (Some chain) (get nat_cmp chains.old c)) }
 {
     chains.insert(count, chain)?;
     Ok(())

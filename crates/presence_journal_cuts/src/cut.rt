@@ -5,7 +5,8 @@ use crate::last::walk_last_cut;
 use crate::older::walk_older;
 use crate::recent::recent_rows;
 use delta_range::{Delta, longest};
-use presence_journal::{Journal, walk_count};
+use presence_journal::Journal;
+use presence_journal_sets::walk_count;
 use std::alloc::{AllocError, Global};
 
 /// What a cut tells behind these entries: a delta of the own replica.

@@ -7,6 +7,7 @@ ghost use Rattle.presence_journal_cuts.specs.Chains.{AreChains, AreUpTo, Counts,
 ghost use Rattle.presence_journal_cuts.specs.Cuts.{goes, older_after, older};
 
 use crate::chain::{Chain, hand_on, push_count};
+use crate::kept::{kept_chains, kept_runs};
 use crate::last::{dots_out, last_after};
 use delta_range::push_up_to;
 use presence_base::Dot;
@@ -79,8 +80,8 @@ pub(crate) fn walk_older(alloc: Global, journal: &Journal) -> Result<Vec<(u64, u
     let start = journal.start();
     let entries = journal.entries();
     let mut last = start.last_cut;
-    let mut chains = BTreeMap::new(alloc);
-    let mut runs = Vec::new(alloc);
+    let mut chains = kept_chains(alloc, start.chains.as_slice())?;
+    let mut runs = kept_runs(alloc, &start.older)?;
     for entry in entries {
         go_out(alloc, &mut runs, &chains, last, &entry.outcome)?;
         hand_on(alloc, &mut chains, &entry.outcome)?;

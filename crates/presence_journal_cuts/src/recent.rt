@@ -6,10 +6,12 @@ ghost use Rattle.std.specs.Map.{keys_of, lookup};
 ghost use Rattle.presence_base.specs.declared.dots.Dot.{Dot};
 ghost use Rattle.presence_base.specs.Order.{dot_cmp, same_dot};
 ghost use Rattle.presence_journal.specs.History.{row_made, row_added};
-ghost use Rattle.presence_journal.specs.Walk.{Alike, over, row_at, row_with, without};
+ghost use Rattle.presence_journal.specs.Walk.{row_at, without};
+ghost use Rattle.presence_journal_sets.specs.ByDot.{Alike, over, row_with};
 ghost use Rattle.presence_journal_cuts.specs.Chains.{recent_after};
 ghost use Rattle.presence_journal_cuts.specs.Cuts.{recent};
 
+use crate::kept::kept_rows;
 use crate::last::dots_out;
 use presence_base::{Dot, Key, Meta, Row, Topic};
 use presence_journal::{Entry, Journal, Outcome, Step};
@@ -70,7 +72,10 @@ fn under_dot(dot: Dot, row: Option<Row>) -> Option<(Dot, Row)>
 }
 
 // Puts a row under its dot.
-fn put_row(rows: &mut BTreeMap<Dot, Row>, added: Option<(Dot, Row)>) -> Result<(), AllocError>
+pub(crate) fn put_row(
+    rows: &mut BTreeMap<Dot, Row>,
+    added: Option<(Dot, Row)>,
+) -> Result<(), AllocError>
     ensures { OnOk result (Alike (get dot_cmp rows.new) (over (row_at added) (get dot_cmp rows.old))) }
 {
     if let Some((dot, row)) = added {
@@ -128,8 +133,9 @@ fn take_entry(alloc: Global, rows: &mut BTreeMap<Dot, Row>, entry: &Entry) -> Re
 fn walk_recent(alloc: Global, journal: &Journal) -> Result<BTreeMap<Dot, Row>, AllocError>
     ensures { IfOk result (λ m. Alike (get dot_cmp m) (recent journal.now)) }
 {
+    let start = journal.start();
     let entries = journal.entries();
-    let mut rows = BTreeMap::new(alloc);
+    let mut rows = kept_rows(alloc, start)?;
     for entry in entries {
         take_entry(alloc, &mut rows, entry)?;
     }

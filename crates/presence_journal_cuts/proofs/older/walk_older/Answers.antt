@@ -1,14 +1,11 @@
-use Rattle.std.proofs.Common.{◌≡◌, ℕ, List, ap, sym, subst, ◌∙◌}
-use Rattle.std.specs.BTreeMap.{is_at}
-use Rattle.std.specs.Ordering.{nat_cmp}
+use Rattle.std.proofs.Common.{ℕ, nat_eq, List, ap, sym, subst, ◌∙◌}
 use Rattle.std.specs.Map.{lookup}
-use Rattle.dot_context.specs.Runs.{holds, AreLong}
-use Rattle.dot_context.specs.Sets.{listed}
 use Rattle.presence_journal.specs.Steps.{Start}
 use Rattle.presence_journal.specs.History.{Begin, start_of}
 use Rattle.presence_journal.proofs.Walking.{reached_none, reached_more, reached_all}
 use Rattle.presence_journal_cuts.specs.Chains.{AreUpTo}
 use Rattle.presence_journal_cuts.proofs.Goings.{Gone, gone_start, gone_then}
+use Rattle.presence_journal_cuts.proofs.Keeping.{start_legal}
 use Rattle.presence_journal_cuts.proofs.older.walk_older.Goals as goal
 
 abbrev Kept : Type 0
@@ -17,11 +14,13 @@ Kept = List (ℕ × List (ℕ × ℕ))
 pub loop-entry-init : goal.loop-entry-init
 loop-entry-init c =
     let s = start_of c.args.journal.now in
-    let m = c.new-chains.result in
-    let rs = c.new-runs.result.items in
+    let m = c.in_ok-chains.chains in
+    let rs = c.in_ok-runs.runs.items in
     reached_none s c.args.journal.now c.entries-entries.result.now (Gone c.start-start.result.now.last_cut m rs) c.entries-entries.ensures.history
     (subst (λ (n : ℕ). Gone n m rs (Begin s)) (ap (λ (b : Start). b.last_cut) (sym c.start-start.ensures))
-    (gone_start s m rs (λ k n. ap (λ (es : Kept). holds (listed (lookup (is_at (nat_cmp k)) es)) n) c.new-chains.ensures.empty) (λ k. subst AreLong (sym (ap (λ (es : Kept). listed (lookup (is_at (nat_cmp k)) es)) c.new-chains.ensures.empty)) tt) c.new-runs.ensures.items))
+    (gone_start s m rs (start_legal c.args.journal.now c.entries-entries.ensures.legal)
+    (λ k. c.in_ok-chains.ensures k ∙ (ap (λ (xs : Kept). lookup (nat_eq k) xs) c.as_slice.ensures ∙ ap (λ (b : Start). lookup (nat_eq k) b.chains) c.start-start.ensures))
+    (c.in_ok-runs.ensures ∙ ap (λ (b : Start). b.older) c.start-start.ensures)))
 
 pub loop-entry-preserved : goal.loop-entry-preserved
 loop-entry-preserved c =

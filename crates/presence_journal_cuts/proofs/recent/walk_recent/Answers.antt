@@ -1,12 +1,11 @@
-use Rattle.std.proofs.Common.{List, ap, sym, ◌∙◌}
-use Rattle.std.specs.BTreeMap.{get, is_at}
-use Rattle.std.specs.Map.{lookup}
-use Rattle.presence_base.specs.declared.dots.Dot.{Dot}
-use Rattle.presence_base.specs.declared.row.Row.{Row}
+use Rattle.std.proofs.Common.{ap, sym, ◌∙◌}
+use Rattle.std.specs.BTreeMap.{get}
 use Rattle.presence_base.specs.Order.{dot_cmp}
+use Rattle.presence_journal.specs.Steps.{Start}
 use Rattle.presence_journal.specs.History.{start_of}
-use Rattle.presence_journal.specs.Walk.{Alike}
+use Rattle.presence_journal_sets.specs.ByDot.{Alike}
 use Rattle.presence_journal.proofs.Walking.{reached_none, reached_more, reached_all}
+use Rattle.presence_journal_cuts.specs.Chains.{rows_recent}
 use Rattle.presence_journal_cuts.specs.Cuts.{recent}
 use Rattle.presence_journal_cuts.proofs.Histories.{recent-begin, recent-more}
 use Rattle.presence_journal_cuts.proofs.recent.walk_recent.Goals as goal
@@ -14,8 +13,8 @@ use Rattle.presence_journal_cuts.proofs.recent.walk_recent.Goals as goal
 pub loop-entry-init : goal.loop-entry-init
 loop-entry-init c =
     let s = start_of c.args.journal.now in
-    reached_none s c.args.journal.now c.entries-entries.result.now (λ h. Alike (get dot_cmp c.new-rows.result) (recent h)) c.entries-entries.ensures.history
-    (λ d. ap (λ (es : List (Dot × Row)). lookup (is_at (dot_cmp d)) es) c.new-rows.ensures.empty ∙ sym (recent-begin s d))
+    reached_none s c.args.journal.now c.entries-entries.result.now (λ h. Alike (get dot_cmp c.in_ok-rows.rows) (recent h)) c.entries-entries.ensures.history
+    (λ d. c.in_ok-rows.ensures d ∙ (ap (λ (b : Start). rows_recent b b.content.live d) c.start-start.ensures ∙ sym (recent-begin s d)))
 
 pub loop-entry-preserved : goal.loop-entry-preserved
 loop-entry-preserved c =

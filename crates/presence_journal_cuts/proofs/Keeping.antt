@@ -7,13 +7,13 @@ use Rattle.std.specs.Ordering.{is_eq, eq_by_cmp}
 use Rattle.std.specs.Cmp.{eq_by_cmp_equiv}
 use Rattle.std.specs.declared.cmp.Ordering.{Ordering}
 use Rattle.std.specs.declared.cmp.Ordering.TheVariants.{Less}
-use Rattle.std.proofs.lemmas.Bool.{and_from, le-leb}
+use Rattle.std.proofs.lemmas.Bool.{and_from, and_parts, le-leb}
 use Rattle.std.proofs.lemmas.Option.{same_Some}
 use Rattle.presence_base.specs.declared.dots.TheConstants.{MAX_COUNT}
 use Rattle.presence_base.specs.declared.dots.Replica.{Replica}
 use Rattle.presence_base.specs.declared.dots.Dot.{Dot}
 use Rattle.presence_base.specs.declared.row.Row.{Row}
-use Rattle.presence_base.specs.Order.{dot_cmp, same_dot}
+use Rattle.presence_base.specs.Order.{dot_cmp, same_dot, same_replica}
 use Rattle.dot_context.specs.Sets.{in_range}
 use Rattle.dot_context.specs.Runs.{holds}
 use Rattle.orswot_core_told.specs.Limits.{is_count, is_dot, is_prev, is_row, is_range}
@@ -23,19 +23,20 @@ use Rattle.delta_range.specs.Longest.{longest}
 use Rattle.delta_range.proofs.RunFacts.{longest_runs, holds_longest, ends_longest}
 use Rattle.presence_journal_data.specs.declared.step.Step.TheVariants as steps_are
 use Rattle.presence_journal.specs.Steps.{Step, Entry}
-use Rattle.presence_journal.specs.History.{History, Begin, Then, start_of, own, count, last_cut, next_dot, known, first_some, row_made, row_added, row, shown}
+use Rattle.presence_journal.specs.History.{History, Begin, Then, start_of, own, count, last_cut, next_dot, known, first_some, row_made, row_added, told_row, row, shown}
 use Rattle.presence_journal.specs.Table.{IsLegal, IsStart, is_step}
 use Rattle.presence_journal.proofs.PresentLemmas.{shown-row}
-use Rattle.presence_journal.proofs.Same.{dot_total}
+use Rattle.presence_journal.proofs.Same.{dot_total, same_replica-true}
+use Rattle.presence_journal.proofs.ToldLemmas.{told_other, row_told_covers, live_row_limits}
 use Rattle.presence_journal.proofs.Walking.{count-limit}
-use Rattle.presence_journal.proofs.HistoryLemmas.{Kind, Adds, Replaces, Removes, Quiet, kind_of, legal_knows, known_parts, own-start_of}
+use Rattle.presence_journal.proofs.HistoryLemmas.{Kind, Adds, Replaces, Removes, Quiet, kind_of, legal_knows, known_parts, own-start_of, own-then, is_own}
 use Rattle.presence_journal_cuts.specs.Chains.{AreUpTo, Counts}
 use Rattle.presence_journal_cuts.specs.Cuts.{older, recent, IsCut}
 use Rattle.presence_journal_cuts.proofs.Histories.{last_cut-low, quiet_none}
 
 -- ---- dots
 
-start_legal : (h : History) → IsLegal h → IsStart (start_of h)
+pub start_legal : (h : History) → IsLegal h → IsStart (start_of h)
 start_legal (Begin s) l = l
 start_legal (Then h e) l = start_legal h l.0
 
@@ -47,13 +48,13 @@ own_limit h l =
     let limits = (start_legal h l).incarnation in
     ap (λ (r : Replica). is_count r.incarnation) (own-start_of h) ∙ count_test (start_of h).own.incarnation limits.0 limits.1
 
-known_is_dot : (h : History) → IsLegal h → (d : Dot) → known h d ≡ true → is_dot d ≡ true
-known_is_dot h l d k =
-    let p = known_parts h d k in
+known_is_dot : (h : History) → IsLegal h → (d : Dot) → d.replica ≡ own h → known h d ≡ true → is_dot d ≡ true
+known_is_dot h l d o k =
+    let p = known_parts h l d o k in
     let most = count-limit h l in
     and_from (is_count d.replica.incarnation) (is_count d.count)
-    (ap (λ (r : Replica). is_count r.incarnation) p.0 ∙ own_limit h l)
-    (count_test d.count (omega (arith, p.1)) (omega (arith, p.2, most)))
+    (ap (λ (r : Replica). is_count r.incarnation) o ∙ own_limit h l)
+    (count_test d.count (omega (arith, p.0)) (omega (arith, p.1, most)))
 
 -- ---- rows
 
@@ -75,19 +76,26 @@ added_limits : (h : History) (e : Entry) (d : Dot) (r : Row) → IsLegal (Then h
 added_limits h e d r l (Adds x m o c) g =
     row_of_made e.step None r l.4 refl (under (same_dot d (next_dot h)) (row_made e.step None) r (sym (ap (λ y. row_added e.step y d) o) ∙ g))
 added_limits h e d r l (Replaces x old m o c w) g =
-    row_of_made e.step (Some old) r l.4 (known_is_dot h l.0 old ((legal_knows h l.0).of_row old w.row (shown-row h old w.row w.shown).0))
+    row_of_made e.step (Some old) r l.4 (known_is_dot h l.0 old w.own ((legal_knows h l.0).of_row old w.row (shown-row h old w.row w.shown).0))
     (under (same_dot d (next_dot h)) (row_made e.step (Some old)) r (sym (ap (λ y. row_added e.step y d) o) ∙ g))
-added_limits h e d r l (Removes y ys o c a) g = let f : None ≡ Some r = sym (ap (λ z. row_added e.step z d) o) ∙ g in absurd (cc)
+added_limits h e d r l (Removes y ys o c a q) g = let f : None ≡ Some r = sym (ap (λ z. row_added e.step z d) o) ∙ g in absurd (cc)
 added_limits h e d r l (Quiet q) g = let f : None ≡ Some r = sym (quiet_none e.step e.outcome d q) ∙ g in absurd (cc)
 
-row_limits : (h : History) → IsLegal h → (d : Dot) (r : Row) → row h d ≡ Some r → is_row r ≡ true
+row_limits : (h : History) → IsLegal h → (d : Dot) → d.replica ≡ own h → (r : Row) → row h d ≡ Some r → is_row r ≡ true
 unfolding row
-row_limits (Begin s) l d r e = absurd (cc)
-row_limits (Then h e) l d r f = go (row h d) refl (row_limits h l.0 d) f
+row_limits (Begin s) l d o r e = live_row_limits s.content d r l.content e
+row_limits (Then h e) l d o r f = go (row h d) refl (row_limits h l.0 d (o ∙ own-then h e)) f
   where
-    go : (o : Option Row) → row h d ≡ o → ((x : Row) → row h d ≡ Some x → is_row x ≡ true) → first_some o (row_added e.step e.outcome d) ≡ Some r → is_row r ≡ true
+    at_added : (a : Option Row) → row_added e.step e.outcome d ≡ a → first_some a (told_row h e.step d) ≡ Some r → is_row r ≡ true
+    at_added (Some x) p g = added_limits h e d r l (kind_of h e.step e.outcome l.1) (p ∙ g)
+    at_added None p g =
+        let other = told_other h e.step d (row_told_covers h e.step d r l.4 g) in
+        let both : true ≡ false = sym (is_own h d (o ∙ own-then h e)) ∙ other in
+        absurd (cc)
+
+    go : (a : Option Row) → row h d ≡ a → ((x : Row) → row h d ≡ Some x → is_row x ≡ true) → first_some a (first_some (row_added e.step e.outcome d) (told_row h e.step d)) ≡ Some r → is_row r ≡ true
     go (Some x) p ih g = ih r (p ∙ g)
-    go None p ih g = added_limits h e d r l (kind_of h e.step e.outcome l.1) g
+    go None p ih g = at_added (row_added e.step e.outcome d) refl g
 
 recent_parts : (h : History) (d : Dot) (r : Row) → recent h d ≡ Some r → (in_range (own h) (last_cut h) (count h) d ≡ true) × (shown h d ≡ Some r)
 unfolding recent
@@ -99,8 +107,10 @@ recent_parts h d r e = go (in_range (own h) (last_cut h) (count h) d) (shown h d
 
 recent_limits : (h : History) → IsLegal h → (d : Dot) (r : Row) → recent h d ≡ Some r → (is_dot d && is_row r) ≡ true
 recent_limits h l d r e =
-    let has_row = (shown-row h d r (recent_parts h d r e).1).0 in
-    and_from (is_dot d) (is_row r) (known_is_dot h l d ((legal_knows h l).of_row d r has_row)) (row_limits h l d r has_row)
+    let parts = recent_parts h d r e in
+    let has_row = (shown-row h d r parts.1).0 in
+    let mine = same_replica-true d.replica (own h) (and_parts (same_replica d.replica (own h)) (nat_lt (last_cut h) d.count && nat_le d.count (count h)) parts.0).0 in
+    and_from (is_dot d) (is_row r) (known_is_dot h l d mine ((legal_knows h l).of_row d r has_row)) (row_limits h l d mine r has_row)
 
 -- ---- lists in order
 

@@ -1,0 +1,11 @@
+//! Laws of what other nodes make of cuts: functions that do nothing, and whose contracts are the laws.
+
+ghost use Rattle.presence_journal_cuts.specs.Joined.{MergesInTurn, StaysWithinLimits};
+
+/// A joined delta tells a history what its two parts tell it in turn: the same dots are known and removed
+/// then, the same rows are live, and the same are present on each topic. Where both parts are within a
+/// step's limits, so is the joined delta.
+pub fn joined_deltas_merge_in_turn()
+    ensures told { MergesInTurn }
+    ensures limits { StaysWithinLimits }
+{}
