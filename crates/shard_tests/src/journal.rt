@@ -1,8 +1,10 @@
 use crate::desk::{Ask, key, row_references, shard_after, shout, take, topic};
 use presence_base::{Json, NodeName, Replica, has_float, is_within_depth};
 use presence_journal::{
-    Entry, Journal, MAX_PAYLOAD_DEPTH, MAX_TAKEN, Outcome, Payload, Pending, RowDiff, Rows, Step,
-    walk_count, walk_diff, walk_get, walk_list, walk_own_row, walk_own_rows, walk_pending,
+    Entry, Journal, MAX_PAYLOAD_DEPTH, MAX_TAKEN, Outcome, Payload, RowDiff, Rows, Step,
+};
+use presence_journal_walks::{
+    Pending, walk_count, walk_diff, walk_get, walk_list, walk_own_row, walk_own_rows, walk_pending,
     walk_topic, walk_waits,
 };
 use serde_json::Value;

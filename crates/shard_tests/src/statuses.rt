@@ -1,6 +1,7 @@
 use crate::desk::{Ask, list, new_shard, shard_after, take};
 use presence_base::{NodeName, Replica};
-use presence_journal::{Outcome, Step, walk_status};
+use presence_journal::{Outcome, Step};
+use presence_journal_walks::walk_status;
 use replica_status::Status;
 use std::alloc::Global;
 use std::test::Fail;

@@ -5,11 +5,16 @@ use Rattle.serde_json.specs.Data.{Data}
 use Rattle.presence_base.specs.declared.dots.Replica.{Replica}
 use Rattle.presence_base.specs.declared.dots.Dot.{Dot}
 use Rattle.presence_base.specs.declared.row.Row.{Row}
+use Rattle.orswot_core_told.specs.Telling.{ToldValue}
 use Rattle.presence_journal_data.specs.declared.step.Step.{Step}
 use Rattle.presence_journal_data.specs.declared.step.Step.TheVariants as steps_are
 use Rattle.presence_journal_data.specs.declared.entry.Outcome.{Outcome}
 use Rattle.presence_journal_data.specs.declared.entry.Outcome.TheVariants as outcomes_are
 use Rattle.delta_range.specs.Deltas.{DeltaValue}
+use Rattle.orswot_core.specs.Sets.{DotRows}
+use Rattle.orswot_core.specs.Full.{IsFull}
+use Rattle.presence_journal_sets.specs.LeftOut.{HoldsCovered}
+use Rattle.presence_journal_sets.specs.Full.{IsFullOf}
 use Rattle.presence_journal_cuts.specs.Cuts.{IsCut}
 use Rattle.presence_journal.specs.History.{History, count, is_full, next_dot, last_number}
 use Rattle.presence_journal.specs.Present.{listed, dots_of}
@@ -121,6 +126,10 @@ pub permdown_noted : (h : History) (replica : Replica) → outcome_of h (steps_a
 unfolding outcome_of
 permdown_noted h replica = refl
 
+pub merge_taken_in : (h : History) (t : ToldValue) → outcome_of h (steps_are.Merge t) ≡ Some outcomes_are.Merged
+unfolding outcome_of
+merge_taken_in h t = refl
+
 pub cut_told : (h : History) (d : DeltaValue) → IsCut h d → outcome_of h steps_are.Cut ≡ Some (outcomes_are.CutAt d.from d.to)
 unfolding outcome_of
 cut_told h d c = λ i. Some (outcomes_are.CutAt (sym c.from i) (sym c.to i))
@@ -202,7 +211,11 @@ waits_missing h n e = go (topic_of h n) e
     go None p = refl
     go (Some t) p = absurd (cc)
 
-pub ruleset tables = (list_shown, get_shown, shout_sent, subscribe_number, heard_noted, tick_noted, permdown_noted, cut_told, track_added, track_full, track_again, update_replaced, update_full, update_none, untrack_is, untrack_all_is, found_is, ended_found, none_stands, full_stands, clock_stands, sub_none_stands, sub_full_stands, no_sub_stands)
+pub ruleset tables = (list_shown, get_shown, shout_sent, subscribe_number, heard_noted, tick_noted, permdown_noted, merge_taken_in, cut_told, track_added, track_full, track_again, update_replaced, update_full, update_none, untrack_is, untrack_all_is, found_is, ended_found, none_stands, full_stands, clock_stands, sub_none_stands, sub_full_stands, no_sub_stands)
+
+-- what tells all of the set that a history covers tells all of the history
+pub full_of : (h : History) (s : DotRows) (t : ToldValue) → HoldsCovered h s → IsFull s t → IsFullOf h t
+full_of h s t c f = (s, c, f)
 
 -- whether the entry was written or refused, the journal is kept as it is to be
 pub kept_new : {A E : Type 0} (h new : History) (s : Step) (seat : Option ℕ) (o : Outcome) (r : Result A E) → OnOk r (new ≡ after h s seat) → OnErr r (new ≡ h) → IsKept h → outcome_of h s ≡ Some o → is_full h ≡ false → is_within_limits s ≡ true → IsKept new

@@ -1,5 +1,5 @@
 ghost use Rattle.std.specs.Prelude.{◌≡◌, [], ◌∷◌, IfOk};
-ghost use Rattle.presence_journal.specs.Pending.{waiting_of};
+ghost use Rattle.presence_journal_walks.specs.Pending.{waiting_of};
 ghost use Rattle.presence_journal.specs.Present.{dots_of, listed};
 ghost use Rattle.presence_journal.specs.Queue.{given};
 ghost use Rattle.presence_journal.specs.Table.{take_outcome};
@@ -8,7 +8,8 @@ ghost use Rattle.tracker_shard.specs.Steps.{first_dot};
 use crate::fault::ShardFault;
 use delta_range::Delta;
 use presence_base::{Dot, Row, Topic};
-use presence_journal::{Item, Journal, Outcome, Pending, Rows, walk_list};
+use presence_journal::{Item, Journal, Outcome, Rows};
+use presence_journal_walks::{Pending, walk_list};
 use std::alloc::{AllocError, Global};
 
 impl From<AllocError> for ShardFault {

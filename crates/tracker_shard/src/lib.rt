@@ -1,7 +1,8 @@
 //! A shard: one table of presences, whose every call is one step of its journal.
 //!
 //! Its public contracts cite `specs/Steps`: what a call answers and leaves, and when it refuses. That
-//! stands on presence_journal's `History`, `Table`, `Present`, `Queue` and `Limits`.
+//! stands on presence_journal's `History`, `Table`, `Present`, `Queue` and `Limits`. What is told out is
+//! `Cuts` of presence_journal_cuts and `Full` of presence_journal_sets.
 #![tactic(auto)]
 
 mod answers;

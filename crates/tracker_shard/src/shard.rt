@@ -3,12 +3,14 @@ use crate::answers::{
 };
 use crate::fault::ShardFault;
 use delta_range::Delta;
+use orswot_core::Told;
 use presence_base::{Dot, Json, Key, MAX_COUNT, Meta, Replica, Row, Topic};
-use presence_journal::{
-    Dots, Item, Journal, Outcome, Step, walk_count, walk_get, walk_list, walk_own_row,
-    walk_own_rows, walk_pending, walk_status, walk_topic, walk_waits,
-};
+use presence_journal::{Dots, Item, Journal, Outcome, Step};
 use presence_journal_cuts::walk_cut;
+use presence_journal_walks::{
+    walk_count, walk_get, walk_list, walk_own_row, walk_own_rows, walk_pending, walk_set,
+    walk_status, walk_top, walk_topic, walk_waits,
+};
 use replica_status::Status;
 use std::alloc::{AllocError, Global};
 use std::marker::Model;
@@ -46,12 +48,13 @@ impl Model for Shard {
 impl Shard {
     ghost use Rattle.std.specs.Prelude.{◌≡◌, ◌≤◌, ◌^◌, true, false, Some, None, option_copied, IfOk, IfErr, OnOk, OnErr, IsTrue};
     ghost use Rattle.presence_base.specs.Refs.{IsCount};
-    ghost use Rattle.presence_journal.specs.History.{begun, is_full, status};
+    ghost use Rattle.presence_journal.specs.History.{begun, is_full, status, IsTop};
     ghost use Rattle.presence_journal.specs.Limits.{is_payload, is_take_limit, is_within_limits};
     ghost use Rattle.presence_journal.specs.Present.{dots_of};
     ghost use Rattle.presence_journal.specs.Queue.{topic_of, queue, items_given, is_waiting};
     ghost use Rattle.presence_journal.specs.Table.{IsLegal, AreWithinLimits, outcome_of, rows_of_key, untracked};
     ghost use Rattle.presence_journal_cuts.specs.Cuts.{IsCut};
+    ghost use Rattle.presence_journal_sets.specs.Full.{IsFullOf};
     ghost use Rattle.tracker_shard.specs.Steps.{Made, Stepped, Answers, IsDue, refusal, refusal_at, is_found};
     ghost use Rattle.tracker_shard.specs.Steps.{AnswersDot, AnswersRowsOfKey, AnswersRowsOfPid, AnswersListed};
     ghost use Rattle.tracker_shard.specs.Steps.{AnswersListedKey, AnswersItems, AnswersSub};
@@ -458,6 +461,7 @@ impl Shard {
         requires table { outcome_of self.old step ≡ Some Outcome.Noted }
         requires limits { is_within_limits step ≡ true }
         ensures step { Stepped self.old self.new None step result }
+        ensures answer { Answers (λ _. Unit {0}) (outcome_of self.old step) result }
         ensures due { IsDue result (refusal true self.old step) }
     {
         if self.journal.is_full() {
@@ -473,6 +477,7 @@ impl Shard {
     #[tactic(auto, using(crate::proofs::Tables::tables))]
     pub fn heard(&mut self, _alloc: Global, replica: Replica, now: u64) -> Result<(), ShardFault>
         ensures step { Stepped self.old self.new None (Step.Heard replica now) result }
+        ensures answer { Answers (λ _. Unit {0}) (outcome_of self.old (Step.Heard replica now)) result }
         ensures due { IsDue result (refusal true self.old (Step.Heard replica now)) }
     {
         self.note(Step::Heard { replica, now })
@@ -484,6 +489,7 @@ impl Shard {
     #[tactic(auto, using(crate::proofs::Tables::tables))]
     pub fn tick(&mut self, _alloc: Global, now: u64) -> Result<(), ShardFault>
         ensures step { Stepped self.old self.new None (Step.Tick now) result }
+        ensures answer { Answers (λ _. Unit {0}) (outcome_of self.old (Step.Tick now)) result }
         ensures due { IsDue result (refusal true self.old (Step.Tick now)) }
     {
         self.note(Step::Tick { now })
@@ -495,6 +501,7 @@ impl Shard {
     #[tactic(auto, using(crate::proofs::Tables::tables))]
     pub fn permdown(&mut self, _alloc: Global, replica: Replica) -> Result<(), ShardFault>
         ensures step { Stepped self.old self.new None (Step.PermDown replica) result }
+        ensures answer { Answers (λ _. Unit {0}) (outcome_of self.old (Step.PermDown replica)) result }
         ensures due { IsDue result (refusal true self.old (Step.PermDown replica)) }
     {
         self.note(Step::PermDown { replica })
@@ -517,6 +524,40 @@ impl Shard {
         let outcome = cut_outcome(&delta);
         self.write(None, Step::Cut, outcome)?;
         Ok(delta)
+    }
+
+    /// Takes in what another node told: rows that come there and were not known are live here, and what it tells as removed
+    /// goes. What is told of the own replica, or of one that is gone, is not heard.
+    ///
+    /// It refuses with `JournalFull`, else with `OutOfMemory`.
+    #[tactic(auto, using(crate::proofs::Tables::tables))]
+    pub fn merge(&mut self, _alloc: Global, told: &Told) -> Result<(), ShardFault>
+        ensures step { Stepped self.old self.new None (Step.Merge told.now) result }
+        ensures answer { Answers (λ _. Unit {0}) (outcome_of self.old (Step.Merge told.now)) result }
+        ensures due { IsDue result (refusal true self.old (Step.Merge told.now)) }
+    {
+        if self.journal.is_full() {
+            return Err(ShardFault::JournalFull);
+        }
+        let step = Step::merge(told)?;
+        self.write(None, step, Outcome::Merged)
+    }
+
+    /// All that the shard knows, for a node that missed what was told: of each replica that is not gone the counts up to its
+    /// first gap, the dots above, and the live rows. It is no step.
+    pub fn full(&self, alloc: Global) -> Result<Told, AllocError>
+        ensures { IfOk result (λ t. IsFullOf self.now t) }
+    {
+        let set = walk_set(alloc, &self.journal)?;
+        let told = set.told(alloc)?;
+        Ok(told)
+    }
+
+    /// The count up to which all of a replica's dots are covered; 0 for one that is gone. It is no step, and takes no memory.
+    pub fn top(&self, replica: &Replica) -> u64
+        ensures { IsTop self.now replica.now result }
+    {
+        walk_top(&self.journal, replica)
     }
 
     /// The status of a replica; the own one is up. It is no step, and takes no memory.

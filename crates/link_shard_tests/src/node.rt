@@ -1,0 +1,180 @@
+//! A node of two shards, as the port of its links.
+use crate::wire::Wire;
+use node_links::{ActFault, DialFault, End, LinkPort, Peer, accept_one};
+use orswot_core::Told;
+use presence_base::{NodeName, Replica, Topic};
+use replica_status::Status;
+use std::alloc::Global;
+use tracker_shard::{Shard, ShardFault};
+
+// The time of each line.
+pub(super) const NOW: u64 = 1_000;
+
+#[derive(Drop)]
+pub(super) struct Shards {
+    pub first: Shard,
+    pub second: Shard,
+}
+
+impl Shards {
+    fn at(&mut self, shard: u32) -> &mut Shard {
+        match shard {
+            0 => &mut self.first,
+            _ => &mut self.second,
+        }
+    }
+
+    // How many entries stand in the two journals.
+    pub fn entries(&self) -> usize {
+        let first = self.first.journal().entries().len();
+        let second = self.second.journal().entries().len();
+        first.saturating_add(second)
+    }
+
+    // How many rows the topic has, which the first shard keeps.
+    pub fn rows(&mut self, alloc: Global, topic: &str) -> Option<usize> {
+        let Ok(Some(topic)) = Topic::new(alloc, topic) else {
+            return None;
+        };
+        match self.first.list(alloc, None, &topic) {
+            Ok(rows) => Some(rows.len()),
+            Err(_) => None,
+        }
+    }
+}
+
+fn refusal(fault: ShardFault) -> ActFault {
+    match fault {
+        ShardFault::OutOfMemory => ActFault::OutOfMemory,
+        _ => ActFault::ShardFull,
+    }
+}
+
+fn answer(answer: Result<(), ShardFault>) -> Result<(), ActFault> {
+    match answer {
+        Ok(()) => Ok(()),
+        Err(fault) => Err(refusal(fault)),
+    }
+}
+
+impl LinkPort for Shards {
+    ghost step = { λ old q a new. Unit {0} };
+
+    ghost shard_count = { λ s. 2 };
+
+    fn shards(&self) -> u32 {
+        2
+    }
+
+    fn status(
+        &mut self,
+        _alloc: Global,
+        shard: u32,
+        replica: &Replica,
+    ) -> Result<Status, ActFault> {
+        Ok(self.at(shard).status(replica))
+    }
+
+    fn heard(
+        &mut self,
+        alloc: Global,
+        shard: u32,
+        replica: Replica,
+        now: u64,
+    ) -> Result<(), ActFault> {
+        answer(self.at(shard).heard(alloc, replica, now))
+    }
+
+    fn merge(&mut self, alloc: Global, shard: u32, told: &Told) -> Result<(), ActFault> {
+        answer(self.at(shard).merge(alloc, told))
+    }
+
+    fn permdown(&mut self, alloc: Global, shard: u32, replica: Replica) -> Result<(), ActFault> {
+        answer(self.at(shard).permdown(alloc, replica))
+    }
+
+    fn top(&mut self, _alloc: Global, shard: u32, replica: &Replica) -> Result<u64, ActFault> {
+        Ok(self.at(shard).top(replica))
+    }
+
+    fn told_from(&mut self, alloc: Global, shard: u32, _from: u64) -> Result<Told, ActFault> {
+        self.full(alloc, shard)
+    }
+
+    fn full(&mut self, alloc: Global, shard: u32) -> Result<Told, ActFault> {
+        match self.at(shard).full(alloc) {
+            Ok(told) => Ok(told),
+            Err(_) => Err(ActFault::OutOfMemory),
+        }
+    }
+}
+
+pub(super) fn replica(alloc: Global, name: &str) -> Option<Replica> {
+    match NodeName::new(alloc, name) {
+        Ok(Some(name)) => Some(Replica {
+            name,
+            incarnation: 1,
+        }),
+        _ => None,
+    }
+}
+
+fn new_shard(alloc: Global, name: &str) -> Option<Shard> {
+    let Ok(Some(name)) = NodeName::new(alloc, name) else {
+        return None;
+    };
+    let own = Replica {
+        name,
+        incarnation: 1,
+    };
+    Some(Shard::new(alloc, own))
+}
+
+pub(super) fn shards_of(alloc: Global, name: &str) -> Option<Shards> {
+    let first = new_shard(alloc, name)?;
+    let second = new_shard(alloc, name)?;
+    Some(Shards { first, second })
+}
+
+// A node that was dialled, with its shards and the lines that come.
+#[derive(Drop)]
+pub(super) struct Node<'a> {
+    pub peer: Peer,
+    pub shards: Shards,
+    pub wire: Wire<'a>,
+}
+
+// The node `a`, dialled by one that sends these lines.
+pub(super) fn at_a<'a>(alloc: Global, lines: &'a str) -> Option<Node<'a>> {
+    let own = replica(alloc, "a")?;
+    let shards = shards_of(alloc, "a")?;
+    Some(Node {
+        peer: Peer::new(own, 2, End::Accepting),
+        shards,
+        wire: Wire {
+            rest: lines.as_bytes(),
+            taken: Vec::new(alloc),
+        },
+    })
+}
+
+impl Node<'_> {
+    pub fn accepts(&mut self, alloc: Global) -> Result<bool, DialFault> {
+        accept_one(alloc, &mut self.wire, &mut self.peer, &mut self.shards, NOW)
+    }
+
+    // Whether so many lines are accepted.
+    pub fn accepts_all(&mut self, alloc: Global, lines: u32) -> bool {
+        for _ in 0..lines {
+            if self.accepts(alloc) != Ok(true) {
+                return false;
+            }
+        }
+        true
+    }
+
+    // Whether these lines went out, and no others.
+    pub fn wrote(&self, lines: &str) -> bool {
+        self.wire.taken.as_slice() == lines.as_bytes()
+    }
+}

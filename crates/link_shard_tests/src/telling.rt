@@ -1,0 +1,181 @@
+//! One node's cuts and full value, as lines to another node.
+use crate::node::{Shards, at_a, replica, shards_of};
+use delta_range::Delta;
+use node_links::{Line, encode_line};
+use presence_base::{Key, Meta, Topic};
+use serde_json::Value;
+use std::alloc::Global;
+
+fn key(alloc: Global, text: &str) -> Option<Key> {
+    match Key::new(alloc, text) {
+        Ok(key) => key,
+        Err(_) => None,
+    }
+}
+
+fn room(alloc: Global) -> Option<Topic> {
+    match Topic::new(alloc, "room:a") {
+        Ok(topic) => topic,
+        Err(_) => None,
+    }
+}
+
+fn meta(alloc: Global) -> Option<Meta> {
+    let Ok(value) = Value::from_str(alloc, "{}") else {
+        return None;
+    };
+    match Meta::new(alloc, value) {
+        Ok(meta) => meta,
+        Err(_) => None,
+    }
+}
+
+// Node `b`, and the lines that it sent.
+#[derive(Drop)]
+struct Teller {
+    shards: Shards,
+    lines: String,
+}
+
+// Session 5 is tracked in the room.
+fn comes(alloc: Global, teller: &mut Teller, name: &str) -> Option<()> {
+    let room = room(alloc)?;
+    let key = key(alloc, name)?;
+    let meta = meta(alloc)?;
+    match teller
+        .shards
+        .first
+        .track(alloc, None, 5, &room, &key, &meta)
+    {
+        Ok(_) => Some(()),
+        Err(_) => None,
+    }
+}
+
+fn goes(alloc: Global, teller: &mut Teller, name: &str) -> Option<()> {
+    let room = room(alloc)?;
+    let key = key(alloc, name)?;
+    match teller.shards.first.untrack(alloc, None, 5, &room, &key) {
+        Ok(_) => Some(()),
+        Err(_) => None,
+    }
+}
+
+fn sends(alloc: Global, teller: &mut Teller, line: &Line) -> Option<()> {
+    let Ok(text) = encode_line(alloc, line) else {
+        return None;
+    };
+    match teller.lines.push_str(text.as_str()) {
+        Ok(()) => teller.lines.push('\n').ok(),
+        Err(_) => None,
+    }
+}
+
+// The beat of `b` with what its first shard did since its last cut.
+fn beat(alloc: Global, delta: &Delta) -> Option<Line> {
+    let replica = replica(alloc, "b")?;
+    match delta.told(alloc) {
+        Ok(told) => Some(Line::Beat {
+            shard: 0,
+            replica,
+            count: delta.to(),
+            delta: Some(told),
+        }),
+        Err(_) => None,
+    }
+}
+
+fn cuts(alloc: Global, teller: &mut Teller) -> Option<Line> {
+    match teller.shards.first.cut(alloc) {
+        Ok(delta) => beat(alloc, &delta),
+        Err(_) => None,
+    }
+}
+
+fn beats(alloc: Global, teller: &mut Teller) -> Option<()> {
+    let line = cuts(alloc, teller)?;
+    sends(alloc, teller, &line)
+}
+
+// A beat that is lost.
+fn loses(alloc: Global, teller: &mut Teller) -> Option<()> {
+    let _lost = cuts(alloc, teller)?;
+    Some(())
+}
+
+fn tells_all(alloc: Global, teller: &mut Teller) -> Option<()> {
+    match teller.shards.first.full(alloc) {
+        Ok(told) => sends(alloc, teller, &Line::Told { shard: 0, told }),
+        Err(_) => None,
+    }
+}
+
+// `u1` comes; `u1` goes and `u2` comes; `u3` comes, in a beat that is lost; a beat with nothing new; all
+// that is known.
+fn tells(alloc: Global, teller: &mut Teller) -> Option<()> {
+    comes(alloc, teller, "u1")?;
+    beats(alloc, teller)?;
+    comes(alloc, teller, "u2")?;
+    goes(alloc, teller, "u1")?;
+    beats(alloc, teller)?;
+    comes(alloc, teller, "u3")?;
+    loses(alloc, teller)?;
+    beats(alloc, teller)?;
+    tells_all(alloc, teller)
+}
+
+fn teller_of(alloc: Global) -> Option<Teller> {
+    let shards = shards_of(alloc, "b")?;
+    match String::from_str(alloc, "[\"hello\",\"b\",1,2]\n") {
+        Ok(lines) => Some(Teller { shards, lines }),
+        Err(_) => None,
+    }
+}
+
+fn lines_of_b(alloc: Global) -> Option<String> {
+    let mut teller = teller_of(alloc)?;
+    tells(alloc, &mut teller)?;
+    Some(teller.lines)
+}
+
+const ANSWERS: &str = r#"["hello","a",1,2]
+["ok"]
+["ok"]
+["want",0,"b",1,3]
+["ok"]
+"#;
+
+// How many rows `a` shows once it accepted so many of these lines.
+fn shown_after(alloc: Global, lines: &str, accepted: u32) -> Option<usize> {
+    let mut node = at_a(alloc, lines)?;
+    if node.accepts_all(alloc, accepted) {
+        node.shards.rows(alloc, "room:a")
+    } else {
+        None
+    }
+}
+
+// Whether all these lines are answered so.
+fn is_answered(alloc: Global, lines: &str) -> bool {
+    match at_a(alloc, lines) {
+        Some(mut node) => node.accepts_all(alloc, 5) && node.wrote(ANSWERS),
+        None => false,
+    }
+}
+
+fn is_asked_for_again(alloc: Global, lines: &str) -> bool {
+    is_answered(alloc, lines)
+        && shown_after(alloc, lines, 2) == Some(1)
+        && shown_after(alloc, lines, 3) == Some(1)
+        && shown_after(alloc, lines, 4) == Some(1)
+        && shown_after(alloc, lines, 5) == Some(2)
+}
+
+#[test]
+fn a_lost_beat_is_asked_for_again(rt: HostRuntime) {
+    let alloc = rt.alloc();
+    match lines_of_b(alloc) {
+        Some(lines) => assert!(rt; is_asked_for_again(alloc, lines.as_str())),
+        None => assert!(rt; false),
+    }
+}

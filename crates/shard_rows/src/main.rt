@@ -1,0 +1,94 @@
+//! Plays worked rows of a shard that hears another node, for `tests/refusals`.
+//!
+//! Each call has a line, which tells what it leaves. A call that is refused memory leaves the shard as it was, which a
+//! line tells, and is made once more: so a run in which one allocation is refused ends as any other.
+#![tactic(auto)]
+
+mod calls;
+mod making;
+mod playing;
+mod texts;
+
+use calls::Call;
+use making::{Tells, own_replica};
+use playing::play;
+use std::io;
+use std::process::ExitCode;
+use tracker_shard::Shard;
+
+// The rows 1 and 2 of `b`.
+fn first_two() -> Tells {
+    Tells {
+        from: 0,
+        to: 2,
+        extras: &[],
+        live: &[(1, "u2"), (2, "u3")],
+    }
+}
+
+// The removal of the row 1, by the count 3.
+fn removal() -> Tells {
+    Tells {
+        from: 2,
+        to: 3,
+        extras: &[1],
+        live: &[],
+    }
+}
+
+// The row 5, above a gap.
+fn above_a_gap() -> Tells {
+    Tells {
+        from: 4,
+        to: 5,
+        extras: &[],
+        live: &[(5, "u4")],
+    }
+}
+
+// Own rows come, and others are told.
+fn hear<R: Print + AllocGlobal>(rt: &R, shard: &mut Shard) -> io::Result<()> {
+    play(rt, shard, "subscribe", &Call::Subscribe)?;
+    play(rt, shard, "take", &Call::Take)?;
+    play(rt, shard, "track u1", &Call::Track("u1"))?;
+    play(rt, shard, "heard 0", &Call::Heard(0))?;
+    play(rt, shard, "merge two rows", &Call::Merge(first_two()))?;
+    play(rt, shard, "take", &Call::Take)
+}
+
+// The other node is silent, and then heard again.
+fn go_down<R: Print + AllocGlobal>(rt: &R, shard: &mut Shard) -> io::Result<()> {
+    play(rt, shard, "tick 30001", &Call::Tick(30_001))?;
+    play(rt, shard, "cut", &Call::Cut)?;
+    play(rt, shard, "merge the removal", &Call::Merge(removal()))?;
+    play(rt, shard, "heard 30002", &Call::Heard(30_002))?;
+    play(rt, shard, "merge a row", &Call::Merge(above_a_gap()))?;
+    play(rt, shard, "take", &Call::Take)
+}
+
+// Own rows go, and the other node for good.
+fn go_out<R: Print + AllocGlobal>(rt: &R, shard: &mut Shard) -> io::Result<()> {
+    play(rt, shard, "update u1", &Call::Update("u1"))?;
+    play(rt, shard, "untrack u1", &Call::Untrack("u1"))?;
+    play(rt, shard, "cut", &Call::Cut)?;
+    play(rt, shard, "permdown", &Call::PermDown)?;
+    play(rt, shard, "merge two rows", &Call::Merge(first_two()))
+}
+
+fn run<R: Print + AllocGlobal>(rt: &R) -> io::Result<()> {
+    let Some(own) = own_replica(rt.alloc())? else {
+        return Err(io::Error::from(io::ErrorKind::InvalidData));
+    };
+    let mut shard = Shard::new(rt.alloc(), own);
+    hear(rt, &mut shard)?;
+    go_down(rt, &mut shard)?;
+    go_out(rt, &mut shard)
+}
+
+fn main(rt: HostRuntime) -> ExitCode {
+    match run(&rt) {
+        Ok(()) => ExitCode::from(0),
+        Err(e) if e.kind() == io::ErrorKind::OutOfMemory => ExitCode::from(2),
+        Err(_) => ExitCode::from(1),
+    }
+}

@@ -1,0 +1,10 @@
+use Rattle.std.proofs.Common.{subst}
+use Rattle.presence_journal_sets.specs.LeftOut.{HoldsCovered}
+use Rattle.tracker_shard.proofs.Tables.{full_of}
+use Rattle.tracker_shard.proofs.shard.Shard.full.Goals as goal
+
+pub returns : goal.returns
+returns c =
+    full_of c.args.self.now c.in_ok-set.set c.in_ok-told.told
+    (subst (λ h. HoldsCovered h c.in_ok-set.set) c.self.view_is c.in_ok-set.ensures)
+    c.in_ok-told.ensures.full
