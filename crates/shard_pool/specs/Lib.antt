@@ -1,2 +1,3 @@
 pub mod Seats
 pub mod Settling
+pub mod Unseated

@@ -1,8 +1,9 @@
 //! Up to four shards, each behind a lock of its own, and seats that keep receipts of their calls.
 //!
 //! Its public contracts cite `specs/Seats`: a seat at all shards, and what a call does to it, and
-//! `specs/Settling`: the seats by number and the journals handed back. Those stand on `Hands` and `Lent` of
-//! shard_pool_lent and on `Settled` of shard_pool_settled.
+//! `specs/Settling`: the seats by number and the journals handed back; `specs/Unseated`: what stands behind
+//! a call without a seat. Those stand on `Hands` and `Lent` of shard_pool_lent and on `Settled` of
+//! shard_pool_settled.
 //!
 //! What no contract says of a pool call: that the history behind its answer is that of the lock which it
 //! took, and that a call without a seat makes its step. That is for tests with threads to say.

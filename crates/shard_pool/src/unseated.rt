@@ -1,14 +1,18 @@
 // The calls without a seat, each at a shard that is named by its number. What they do behind the lock is
-// that of `Locked`; of the pool their contracts say nothing, since they let the lock go.
+// that of `Locked`. Since they let the lock go, their contracts name a history behind the answer at most.
 ghost use Rattle.std.specs.Prelude.{◌≡◌, ◌<◌, IfOk};
+ghost use Rattle.presence_journal.specs.History.{IsTop};
+ghost use Rattle.presence_journal_sets.specs.Full.{IsFullOf};
 ghost use Rattle.shard_pool.specs.Seats.{shard_of};
 ghost use Rattle.shard_pool.specs.Settling.{IsOf};
+ghost use Rattle.shard_pool.specs.Unseated.{IsBehind, IsMade};
 
 use crate::gate::Gate;
 use crate::pool::Pool;
 use delta_range::Delta;
+use orswot_core_told::Told;
 use presence_base::{Replica, Topic, shard_of};
-use presence_journal::Journal;
+use presence_journal::{Journal, Step};
 use replica_status::Status;
 use shard_pool_lent::{Lane, Locked, PoolFault};
 use std::alloc::Global;
@@ -22,6 +26,45 @@ fn locked_journal<L: Lane, R: Wait>(rt: &R, shard: &Mutex<Locked<L>>) -> Result<
     let guard = shard.lock(rt);
     let journal = guard.journal().clone()?;
     Ok(journal)
+}
+
+// Each of these makes a call behind one lock. The journal is read to show that it is legal and of the node.
+
+#[tactic(auto, using(crate::proofs::Calls::unseated))]
+fn locked_merge<L: Lane, R: Wait>(
+    rt: &R,
+    alloc: Global,
+    shard: &Mutex<Locked<L>>,
+    told: &Told,
+) -> Result<(), PoolFault>
+    ensures { IsBehind L.node (λ h. IsMade h (Step.Merge told.now) result) }
+{
+    let mut guard = shard.lock(rt);
+    let _journal = guard.journal();
+    guard.merge(alloc, told)
+}
+
+#[tactic(auto, using(crate::proofs::Calls::unseated))]
+fn locked_full<L: Lane, R: Wait>(
+    rt: &R,
+    alloc: Global,
+    shard: &Mutex<Locked<L>>,
+) -> Result<Told, PoolFault>
+    ensures { IfOk result (λ t. IsBehind L.node (λ h. IsFullOf h t)) }
+{
+    let guard = shard.lock(rt);
+    let _journal = guard.journal();
+    let told = guard.full(alloc)?;
+    Ok(told)
+}
+
+#[tactic(auto, using(crate::proofs::Calls::unseated))]
+fn locked_top<L: Lane, R: Wait>(rt: &R, shard: &Mutex<Locked<L>>, replica: &Replica) -> u64
+    ensures { IsBehind L.node (λ h. IsTop h replica.now result) }
+{
+    let guard = shard.lock(rt);
+    let _journal = guard.journal();
+    guard.top(replica)
 }
 
 impl<G: Gate, A: Lane, B: Lane, C: Lane, D: Lane> Pool<G, A, B, C, D> {
@@ -110,6 +153,51 @@ impl<G: Gate, A: Lane, B: Lane, C: Lane, D: Lane> Pool<G, A, B, C, D> {
             1 => self.second.lock(rt).cut(alloc),
             2 => self.third.lock(rt).cut(alloc),
             _ => self.fourth.lock(rt).cut(alloc),
+        }
+    }
+
+    /// Takes in at a shard what another node told.
+    pub fn merge<R: Wait>(
+        &self,
+        rt: &R,
+        alloc: Global,
+        shard: u32,
+        told: &Told,
+    ) -> Result<(), PoolFault>
+        requires { shard < self.now.shards }
+        ensures { IsBehind self.now.own.name (λ h. IsMade h (Step.Merge told.now) result) }
+    {
+        match shard {
+            0 => locked_merge(rt, alloc, &self.first, told),
+            1 => locked_merge(rt, alloc, &self.second, told),
+            2 => locked_merge(rt, alloc, &self.third, told),
+            _ => locked_merge(rt, alloc, &self.fourth, told),
+        }
+    }
+
+    /// All that a shard knows. It is no step.
+    pub fn full<R: Wait>(&self, rt: &R, alloc: Global, shard: u32) -> Result<Told, PoolFault>
+        requires { shard < self.now.shards }
+        ensures { IfOk result (λ t. IsBehind self.now.own.name (λ h. IsFullOf h t)) }
+    {
+        match shard {
+            0 => locked_full(rt, alloc, &self.first),
+            1 => locked_full(rt, alloc, &self.second),
+            2 => locked_full(rt, alloc, &self.third),
+            _ => locked_full(rt, alloc, &self.fourth),
+        }
+    }
+
+    /// The count up to which a shard covers all of a replica's dots. It is no step.
+    pub fn top<R: Wait>(&self, rt: &R, shard: u32, replica: &Replica) -> u64
+        requires { shard < self.now.shards }
+        ensures { IsBehind self.now.own.name (λ h. IsTop h replica.now result) }
+    {
+        match shard {
+            0 => locked_top(rt, &self.first, replica),
+            1 => locked_top(rt, &self.second, replica),
+            2 => locked_top(rt, &self.third, replica),
+            _ => locked_top(rt, &self.fourth, replica),
         }
     }
 

@@ -1,9 +1,10 @@
 ghost use Rattle.std.specs.Prelude.{◌≡◌, ◌+◌, ◌≤◌, ◌^◌, true, false, Some, None, IfOk, IfErr, OnOk, OnErr, IsTrue};
 ghost use Rattle.presence_base.specs.Refs.{IsCount};
-ghost use Rattle.presence_journal.specs.History.{begun, own, last_number, status};
+ghost use Rattle.presence_journal.specs.History.{begun, own, last_number, status, IsTop};
 ghost use Rattle.presence_journal.specs.Limits.{is_payload, is_take_limit};
 ghost use Rattle.presence_journal.specs.Queue.{queue, is_waiting};
 ghost use Rattle.presence_journal.specs.Table.{IsLegal, outcome_of};
+ghost use Rattle.presence_journal_sets.specs.Full.{IsFullOf};
 ghost use Rattle.presence_journal_cuts.specs.Cuts.{IsCut};
 ghost use Rattle.tracker_shard.specs.Steps.{Stepped, Answers, AnswersDot, IsDue, refusal, refusal_at, is_found};
 ghost use Rattle.tracker_shard.specs.Steps.{AnswersRowsOfKey, AnswersRowsOfPid, AnswersListed, AnswersListedKey};
@@ -14,10 +15,11 @@ ghost use Rattle.shard_pool_lent.specs.Lent.{is_step, counted};
 use crate::lane::Lane;
 use crate::noting::{count_call, is_made};
 use delta_range::Delta;
+use orswot_core_told::Told;
 use presence_base::{Dot, Json, Key, Meta, Replica, Row, Topic};
 use presence_journal::{Item, Journal, Step};
 use replica_status::Status;
-use std::alloc::Global;
+use std::alloc::{AllocError, Global};
 use std::sync::ledger::{Book, Share};
 use tracker_shard::{Shard, ShardFault, Sub};
 
@@ -311,6 +313,7 @@ impl<L: Lane> Locked<L> {
     #[tactic(auto, using(crate::proofs::Counts::counts))]
     pub fn heard(&mut self, alloc: Global, replica: Replica, now: u64) -> Result<(), ShardFault>
         ensures step { Stepped self.old.shard self.new.shard None (Step.Heard replica now) result }
+        ensures answer { Answers (λ _. Unit {0}) (outcome_of self.old.shard (Step.Heard replica now)) result }
         ensures due { IsDue result (refusal true self.old.shard (Step.Heard replica now)) }
         ensures total { self.new.calls.total ≡ self.old.calls.total }
     {
@@ -321,6 +324,7 @@ impl<L: Lane> Locked<L> {
     #[tactic(auto, using(crate::proofs::Counts::counts))]
     pub fn tick(&mut self, alloc: Global, now: u64) -> Result<(), ShardFault>
         ensures step { Stepped self.old.shard self.new.shard None (Step.Tick now) result }
+        ensures answer { Answers (λ _. Unit {0}) (outcome_of self.old.shard (Step.Tick now)) result }
         ensures due { IsDue result (refusal true self.old.shard (Step.Tick now)) }
         ensures total { self.new.calls.total ≡ self.old.calls.total }
     {
@@ -331,6 +335,7 @@ impl<L: Lane> Locked<L> {
     #[tactic(auto, using(crate::proofs::Counts::counts))]
     pub fn permdown(&mut self, alloc: Global, replica: Replica) -> Result<(), ShardFault>
         ensures step { Stepped self.old.shard self.new.shard None (Step.PermDown replica) result }
+        ensures answer { Answers (λ _. Unit {0}) (outcome_of self.old.shard (Step.PermDown replica)) result }
         ensures due { IsDue result (refusal true self.old.shard (Step.PermDown replica)) }
         ensures total { self.new.calls.total ≡ self.old.calls.total }
     {
@@ -346,6 +351,31 @@ impl<L: Lane> Locked<L> {
         ensures total { self.new.calls.total ≡ self.old.calls.total }
     {
         self.shard.cut(alloc)
+    }
+
+    /// Takes in what another node told, as `Shard::merge` does, without a seat.
+    #[tactic(auto, using(crate::proofs::Counts::counts))]
+    pub fn merge(&mut self, alloc: Global, told: &Told) -> Result<(), ShardFault>
+        ensures step { Stepped self.old.shard self.new.shard None (Step.Merge told.now) result }
+        ensures answer { Answers (λ _. Unit {0}) (outcome_of self.old.shard (Step.Merge told.now)) result }
+        ensures due { IsDue result (refusal true self.old.shard (Step.Merge told.now)) }
+        ensures total { self.new.calls.total ≡ self.old.calls.total }
+    {
+        self.shard.merge(alloc, told)
+    }
+
+    /// All that the shard knows. It is no step.
+    pub fn full(&self, alloc: Global) -> Result<Told, AllocError>
+        ensures { IfOk result (λ t. IsFullOf self.now.shard t) }
+    {
+        self.shard.full(alloc)
+    }
+
+    /// The count up to which all of a replica's dots are covered. It is no step.
+    pub fn top(&self, replica: &Replica) -> u64
+        ensures { IsTop self.now.shard replica.now result }
+    {
+        self.shard.top(replica)
     }
 
     /// The status of a replica. It is no step.

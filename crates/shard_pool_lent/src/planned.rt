@@ -5,12 +5,12 @@ ghost use Rattle.presence_base.specs.declared.row.Row.{Row};
 ghost use Rattle.presence_journal.specs.Present.{dots_of};
 ghost use Rattle.presence_journal.specs.Queue.{topic_of};
 ghost use Rattle.presence_journal.specs.Table.{outcome_of, tracked, updated, untracked, take_outcome};
-ghost use Rattle.presence_journal.specs.Pending.{waiting_of};
+ghost use Rattle.presence_journal_walks.specs.Pending.{waiting_of};
 
 use presence_base::{Dot, Json, Key, MAX_COUNT, Meta, Row, Topic};
-use presence_journal::{
-    Dots, Journal, Outcome, Pending, Step, walk_count, walk_get, walk_list, walk_own_row,
-    walk_own_rows, walk_pending, walk_topic,
+use presence_journal::{Dots, Journal, Outcome, Step};
+use presence_journal_walks::{
+    Pending, walk_count, walk_get, walk_list, walk_own_row, walk_own_rows, walk_pending, walk_topic,
 };
 use std::alloc::{AllocError, Global};
 

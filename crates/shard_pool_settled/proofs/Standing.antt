@@ -92,6 +92,8 @@ outcomes_same (outcomes_are.CutAt f t) (outcomes_are.CutAt x y) e =
     let r : y ≡ t = eqb-true y t p.1 in
     λ i. outcomes_are.CutAt (sym q i) (sym r i)
 outcomes_same (outcomes_are.CutAt f t) _ e = absurd (cc)
+outcomes_same outcomes_are.Merged outcomes_are.Merged e = refl
+outcomes_same outcomes_are.Merged _ e = absurd (cc)
 
 same_outcomes : (a : Outcome) → same_outcome a a ≡ true
 same_outcomes (outcomes_are.Added d) = same_dot-refl d
@@ -106,6 +108,7 @@ same_outcomes outcomes_are.Ended = refl
 same_outcomes outcomes_are.Sent = refl
 same_outcomes outcomes_are.Noted = refl
 same_outcomes (outcomes_are.CutAt f t) = both (nat_eq f f) (nat_eq t t) (eqb-refl f) (eqb-refl t)
+same_outcomes outcomes_are.Merged = refl
 
 -- steps
 
@@ -117,7 +120,7 @@ steps_alike (steps_are.Track p t k m) (steps_are.Track pp t2 kk mm) e =
     let qp : pp ≡ p = eqb-true pp p p0.0 in
     let qt : t2 ≡ t = same_text-true t2 t p1.0 in
     let qk : kk ≡ k = same_text-true kk k p2.0 in
-    record { rest = λ i. steps_are.Track (sym qp i) (sym qt i) (sym qk i) null; text = sym (same_text-true (compact_text mm) (compact_text m) p2.1) }
+    record { no_merge = refl; rest = λ i. steps_are.Track (sym qp i) (sym qt i) (sym qk i) null; text = sym (same_text-true (compact_text mm) (compact_text m) p2.1) }
 steps_alike (steps_are.Track p t k m) _ e = absurd (cc)
 steps_alike (steps_are.Update p t k m) (steps_are.Update pp t2 kk mm) e =
     let p0 = and_parts (nat_eq pp p) (same_text t2 t && (same_text kk k && same_value mm m)) e in
@@ -126,7 +129,7 @@ steps_alike (steps_are.Update p t k m) (steps_are.Update pp t2 kk mm) e =
     let qp : pp ≡ p = eqb-true pp p p0.0 in
     let qt : t2 ≡ t = same_text-true t2 t p1.0 in
     let qk : kk ≡ k = same_text-true kk k p2.0 in
-    record { rest = λ i. steps_are.Update (sym qp i) (sym qt i) (sym qk i) null; text = sym (same_text-true (compact_text mm) (compact_text m) p2.1) }
+    record { no_merge = refl; rest = λ i. steps_are.Update (sym qp i) (sym qt i) (sym qk i) null; text = sym (same_text-true (compact_text mm) (compact_text m) p2.1) }
 steps_alike (steps_are.Update p t k m) _ e = absurd (cc)
 steps_alike (steps_are.Untrack p t k) (steps_are.Untrack pp t2 kk) e =
     let p0 = and_parts (nat_eq pp p) (same_text t2 t && same_text kk k) e in
@@ -134,59 +137,60 @@ steps_alike (steps_are.Untrack p t k) (steps_are.Untrack pp t2 kk) e =
     let qp : pp ≡ p = eqb-true pp p p0.0 in
     let qt : t2 ≡ t = same_text-true t2 t p1.0 in
     let qk : kk ≡ k = same_text-true kk k p1.1 in
-    record { rest = λ i. steps_are.Untrack (sym qp i) (sym qt i) (sym qk i); text = refl }
+    record { no_merge = refl; rest = λ i. steps_are.Untrack (sym qp i) (sym qt i) (sym qk i); text = refl }
 steps_alike (steps_are.Untrack p t k) _ e = absurd (cc)
 steps_alike (steps_are.UntrackAll p t) (steps_are.UntrackAll pp t2) e =
     let p0 = and_parts (nat_eq pp p) (same_text t2 t) e in
     let qp : pp ≡ p = eqb-true pp p p0.0 in
     let qt : t2 ≡ t = same_text-true t2 t p0.1 in
-    record { rest = λ i. steps_are.UntrackAll (sym qp i) (sym qt i); text = refl }
+    record { no_merge = refl; rest = λ i. steps_are.UntrackAll (sym qp i) (sym qt i); text = refl }
 steps_alike (steps_are.UntrackAll p t) _ e = absurd (cc)
 steps_alike (steps_are.List t) (steps_are.List t2) e =
     let qt : t2 ≡ t = same_text-true t2 t e in
-    record { rest = λ i. steps_are.List (sym qt i); text = refl }
+    record { no_merge = refl; rest = λ i. steps_are.List (sym qt i); text = refl }
 steps_alike (steps_are.List t) _ e = absurd (cc)
 steps_alike (steps_are.Get t k) (steps_are.Get t2 kk) e =
     let p0 = and_parts (same_text t2 t) (same_text kk k) e in
     let qt : t2 ≡ t = same_text-true t2 t p0.0 in
     let qk : kk ≡ k = same_text-true kk k p0.1 in
-    record { rest = λ i. steps_are.Get (sym qt i) (sym qk i); text = refl }
+    record { no_merge = refl; rest = λ i. steps_are.Get (sym qt i) (sym qk i); text = refl }
 steps_alike (steps_are.Get t k) _ e = absurd (cc)
 steps_alike (steps_are.Subscribe t) (steps_are.Subscribe t2) e =
     let qt : t2 ≡ t = same_text-true t2 t e in
-    record { rest = λ i. steps_are.Subscribe (sym qt i); text = refl }
+    record { no_merge = refl; rest = λ i. steps_are.Subscribe (sym qt i); text = refl }
 steps_alike (steps_are.Subscribe t) _ e = absurd (cc)
 steps_alike (steps_are.Take n m) (steps_are.Take nn mm) e =
     let p0 = and_parts (nat_eq nn n) (nat_eq mm m) e in
     let qn : nn ≡ n = eqb-true nn n p0.0 in
     let qm : mm ≡ m = eqb-true mm m p0.1 in
-    record { rest = λ i. steps_are.Take (sym qn i) (sym qm i); text = refl }
+    record { no_merge = refl; rest = λ i. steps_are.Take (sym qn i) (sym qm i); text = refl }
 steps_alike (steps_are.Take n m) _ e = absurd (cc)
 steps_alike (steps_are.Unsubscribe n) (steps_are.Unsubscribe nn) e =
     let qn : nn ≡ n = eqb-true nn n e in
-    record { rest = λ i. steps_are.Unsubscribe (sym qn i); text = refl }
+    record { no_merge = refl; rest = λ i. steps_are.Unsubscribe (sym qn i); text = refl }
 steps_alike (steps_are.Unsubscribe n) _ e = absurd (cc)
 steps_alike (steps_are.Shout t m) (steps_are.Shout t2 mm) e =
     let p0 = and_parts (same_text t2 t) (same_value mm m) e in
     let qt : t2 ≡ t = same_text-true t2 t p0.0 in
-    record { rest = λ i. steps_are.Shout (sym qt i) null; text = sym (same_text-true (compact_text mm) (compact_text m) p0.1) }
+    record { no_merge = refl; rest = λ i. steps_are.Shout (sym qt i) null; text = sym (same_text-true (compact_text mm) (compact_text m) p0.1) }
 steps_alike (steps_are.Shout t m) _ e = absurd (cc)
 steps_alike (steps_are.Heard r n) (steps_are.Heard rr nn) e =
     let p0 = and_parts (same_replica rr r) (nat_eq nn n) e in
     let qr : rr ≡ r = same_replica-true rr r p0.0 in
     let qn : nn ≡ n = eqb-true nn n p0.1 in
-    record { rest = λ i. steps_are.Heard (sym qr i) (sym qn i); text = refl }
+    record { no_merge = refl; rest = λ i. steps_are.Heard (sym qr i) (sym qn i); text = refl }
 steps_alike (steps_are.Heard r n) _ e = absurd (cc)
 steps_alike (steps_are.Tick n) (steps_are.Tick nn) e =
     let qn : nn ≡ n = eqb-true nn n e in
-    record { rest = λ i. steps_are.Tick (sym qn i); text = refl }
+    record { no_merge = refl; rest = λ i. steps_are.Tick (sym qn i); text = refl }
 steps_alike (steps_are.Tick n) _ e = absurd (cc)
 steps_alike (steps_are.PermDown r) (steps_are.PermDown rr) e =
     let qr : rr ≡ r = same_replica-true rr r e in
-    record { rest = λ i. steps_are.PermDown (sym qr i); text = refl }
+    record { no_merge = refl; rest = λ i. steps_are.PermDown (sym qr i); text = refl }
 steps_alike (steps_are.PermDown r) _ e = absurd (cc)
-steps_alike steps_are.Cut steps_are.Cut e = record { rest = refl; text = refl }
+steps_alike steps_are.Cut steps_are.Cut e = record { no_merge = refl; rest = refl; text = refl }
 steps_alike steps_are.Cut _ e = absurd (cc)
+steps_alike (steps_are.Merge t) _ e = absurd (cc)
 
 -- and the other way round
 
@@ -268,6 +272,7 @@ alike_steps (steps_are.PermDown r) (steps_are.PermDown rr) l =
 alike_steps (steps_are.PermDown r) _ l = let alike = l.rest in absurd (cc)
 alike_steps steps_are.Cut steps_are.Cut l = refl
 alike_steps steps_are.Cut _ l = let alike = l.rest in absurd (cc)
+alike_steps (steps_are.Merge t) _ l = let merge = l.no_merge in absurd (cc)
 
 -- one receipt
 

@@ -92,6 +92,8 @@ same_step (steps_are.Heard replica now) s = is_heard replica now s
 same_step (steps_are.Tick now) s = is_tick now s
 same_step (steps_are.PermDown replica) s = is_permdown replica s
 same_step steps_are.Cut s = is_cut s
+-- a merge has no seat, so that no receipt is of one
+same_step (steps_are.Merge told) s = false
 
 -- Is this that outcome?
 
@@ -143,6 +145,10 @@ abbrev pub is_cut_at : ℕ → ℕ → Outcome → Bool
 is_cut_at from to (outcomes_are.CutAt f t) = nat_eq f from && nat_eq t to
 is_cut_at from to _ = false
 
+abbrev pub is_merged : Outcome → Bool
+is_merged outcomes_are.Merged = true
+is_merged _ = false
+
 abbrev pub same_outcome : Outcome → Outcome → Bool
 same_outcome (outcomes_are.Added dot) o = is_added dot o
 same_outcome outcomes_are.AlreadyTracked o = is_already_tracked o
@@ -156,3 +162,4 @@ same_outcome outcomes_are.Ended o = is_ended o
 same_outcome outcomes_are.Sent o = is_sent o
 same_outcome outcomes_are.Noted o = is_noted o
 same_outcome (outcomes_are.CutAt from to) o = is_cut_at from to o
+same_outcome outcomes_are.Merged o = is_merged o

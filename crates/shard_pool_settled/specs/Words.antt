@@ -1,5 +1,5 @@
 -- What agreeing receipts and journals are, in words.
-use Rattle.std.specs.Prelude.{◌≡◌, ◌+◌, ℕ, List, [], ◌∷◌, true, All, Some, slice_get}
+use Rattle.std.specs.Prelude.{◌≡◌, ◌+◌, ℕ, List, [], ◌∷◌, Bool, true, false, All, Some, slice_get}
 use Rattle.serde_json.specs.Data.{Data, null}
 use Rattle.serde_json.specs.Written.{compact_text}
 use Rattle.presence_journal_data.specs.declared.step.Step.{Step}
@@ -24,8 +24,13 @@ without_value (steps_are.Update pid topic key meta) = steps_are.Update pid topic
 without_value (steps_are.Shout topic payload) = steps_are.Shout topic null
 without_value s = s
 
--- the steps are equal, their metas and payloads as compact text
+abbrev pub is_merge : Step → Bool
+is_merge (steps_are.Merge told) = true
+is_merge _ = false
+
+-- the steps are equal, their metas and payloads as compact text; a merge, which has no seat, is like no step
 pub record AreAlike (a b : Step) : Type 0 where
+  pub no_merge : is_merge a ≡ false
   pub rest : without_value a ≡ without_value b
   pub text : compact_text (value_of a) ≡ compact_text (value_of b)
 

@@ -2,7 +2,7 @@
 ghost use Rattle.std.specs.Prelude.{◌≡◌};
 ghost use Rattle.shard_pool_settled.specs.Alike.{same_dots, same_outcome, is_added, is_already_tracked, is_replaced};
 ghost use Rattle.shard_pool_settled.specs.Alike.{is_no_presence, is_removed, is_shown, is_subscribed, is_taken};
-ghost use Rattle.shard_pool_settled.specs.Alike.{is_ended, is_sent, is_noted, is_cut_at};
+ghost use Rattle.shard_pool_settled.specs.Alike.{is_ended, is_sent, is_noted, is_cut_at, is_merged};
 
 use presence_base::Dot;
 use presence_journal::{Dots, Outcome};
@@ -121,6 +121,15 @@ fn is_that_cut_at(from: u64, to: u64, outcome: &Outcome) -> bool
     }
 }
 
+fn is_that_merged(outcome: &Outcome) -> bool
+    ensures { result ≡ is_merged outcome.now }
+{
+    match outcome {
+        Outcome::Merged => true,
+        _ => false,
+    }
+}
+
 pub(crate) fn are_outcomes_alike(a: &Outcome, b: &Outcome) -> bool
     ensures { result ≡ same_outcome a.now b.now }
 {
@@ -137,5 +146,6 @@ pub(crate) fn are_outcomes_alike(a: &Outcome, b: &Outcome) -> bool
         Outcome::Sent => is_that_sent(b),
         Outcome::Noted => is_that_noted(b),
         Outcome::CutAt(from, to) => is_that_cut_at(*from, *to, b),
+        Outcome::Merged => is_that_merged(b),
     }
 }

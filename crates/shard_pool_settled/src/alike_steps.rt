@@ -225,7 +225,8 @@ fn is_a_cut(step: &Step) -> bool
     }
 }
 
-// Whether the steps are of one kind, for the same caller, texts, numbers and values.
+// Whether the steps are of one kind, for the same caller, texts, numbers and values. A merge, which has no
+// seat, is like no step.
 pub(crate) fn are_steps_alike(alloc: Global, a: &Step, b: &Step) -> Result<bool, AllocError>
     ensures { IfOk result (λ r. r ≡ same_step a.now b.now) }
 {
@@ -254,5 +255,6 @@ pub(crate) fn are_steps_alike(alloc: Global, a: &Step, b: &Step) -> Result<bool,
         Step::Tick { now } => Ok(is_that_tick(*now, b)),
         Step::PermDown { replica } => Ok(is_that_permdown(replica, b)),
         Step::Cut => Ok(is_a_cut(b)),
+        Step::Merge { told: _ } => Ok(false),
     }
 }
