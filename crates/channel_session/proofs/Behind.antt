@@ -22,7 +22,7 @@ use Rattle.presence_journal.specs.Table.{IsLegal, is_mine, rows_of_pid, untracke
 use Rattle.presence_journal.proofs.Same.{same_text-true, same_dot-true, same_place}
 use Rattle.presence_journal.proofs.HistoryLemmas.{own-then}
 use Rattle.presence_journal.proofs.FoldOthers.{accepted_is, stays_legal}
-use Rattle.presence_journal.specs.Laws.{OnlyNamedLeave}
+use Rattle.presence_journal.specs.Laws.{OnlyNamedLeave, is_callers}
 use Rattle.presence_journal.proofs.Topics.{topic_of-then}
 use Rattle.tracker_shard.specs.Steps.{Stepped, Made, is_found, slot_of, refusal}
 use Rattle.tracker_shard.specs.declared.fault.ShardFault.{ShardFault}
@@ -69,7 +69,7 @@ after_refused h s f = ap (with_outcome h s None) f
 pub same_some : (o q : Outcome) → ◌≡◌ {A = Option Outcome} (Some o) (Some q) → o ≡ q
 same_some o q e = cc
 
-module _ (leave : OnlyNamedLeave) (h : History) (legal : IsLegal h) (s : Step) (adds : AddsNone h s) where
+module _ (leave : OnlyNamedLeave) (h : History) (legal : IsLegal h) (s : Step) (callers : is_callers s ≡ true) (adds : AddsNone h s) where
   pub was_there : (t : List ℕ) (p : Place) (r : Row) → map.get (present (after h s None) t) p ≡ Some r → WasThere h s t p r
   was_there t p r e = go (accepted h s) refl
     where
@@ -81,7 +81,7 @@ module _ (leave : OnlyNamedLeave) (h : History) (legal : IsLegal h) (s : Step) (
       go (Some o) a =
           let is = accepted_is h s o a in
           let added : has_dot (dots_added o) p.dot ≡ false = ap (λ ds. has_dot ds p.dot) (adds o is.1) in
-          let both = cond_some (has_dot (dots_taken o) p.dot) (map.get (present h t) p) r (sym (leave h legal s None o a t p added) ∙ e) in
+          let both = cond_some (has_dot (dots_taken o) p.dot) (map.get (present h t) p) r (sym (leave h legal s None o callers a t p added) ∙ e) in
           record { before = both.1; spared = λ q f. ap (λ x. has_dot (dots_taken x) p.dot) (same_some q o (sym f ∙ a)) ∙ both.0 }
 
   stands_after : (ts : List (List ℕ)) (pid : ℕ) → StandsOn ts pid h → StandsOn ts pid (after h s None)
@@ -177,7 +177,7 @@ module _ (leave : OnlyNamedLeave) (h new : History) (legal : IsLegal h) (pid : �
     where
       there : StandsOn ts pid (after h (steps_are.UntrackAll pid t) None)
       there u p r e mine =
-          let was = was_there leave h legal (steps_are.UntrackAll pid t) (untrack_adds h pid t) u p r e in
+          let was = was_there leave h legal (steps_are.UntrackAll pid t) refl (untrack_adds h pid t) u p r e in
           let owned : is_mine h pid (p.dot, r) ≡ true = sym (mine_after h (steps_are.UntrackAll pid t) pid (p.dot, r)) ∙ mine in
           let spared = was.spared (outcomes_are.Removed (dots_of (rows_of_pid h pid t))) (is_accepted (accepted h (steps_are.UntrackAll pid t)) refl made.accepted) in
           go (same_text u t) refl was.before owned spared (on u p r was.before owned)
@@ -259,17 +259,17 @@ keeps_all : (pid : ℕ) (a b c : History) → Keeps pid a b → Keeps pid b c �
 keeps_all pid a b c p q = record { legal = q.legal; rows = λ ts f. q.rows ts (p.rows ts f); over = λ slot n e. q.over slot n (p.over slot n e) }
 
 module _ (leave : OnlyNamedLeave) (pid : ℕ) (old new : History) (legal : IsLegal old) where
-  by_step : {A : Type 0} (s : Step) (a : Result A ShardFault) → is_step s ≡ true → AddsNone old s → Fewer s → Stepped old new None s a → Keeps pid old new
-  by_step s a limits adds fewer m =
+  by_step : {A : Type 0} (s : Step) (a : Result A ShardFault) → is_step s ≡ true → is_callers s ≡ true → AddsNone old s → Fewer s → Stepped old new None s a → Keeps pid old new
+  by_step s a limits callers adds fewer m =
       either (λ g. Keeps pid old g) old new s a m
       (record { legal = legal; rows = λ ts f. f; over = λ slot n e. e })
-      (record { legal = stays_legal old legal s None limits; rows = λ ts f. stands_after leave old legal s adds ts pid f; over = λ slot n e. over_after old s fewer slot n e })
+      (record { legal = stays_legal old legal s None limits; rows = λ ts f. stands_after leave old legal s callers adds ts pid f; over = λ slot n e. over_after old s fewer slot n e })
 
   by_unsubscribe : (t : List ℕ) (sub : Sub) (a : Answer (unsubscribe t sub)) → LocalStep old (unsubscribe t sub) a new → Keeps pid old new
-  by_unsubscribe t sub a k = by_step (steps_are.Unsubscribe sub.number) a refl (unsubscribe_adds old sub.number) (unsubscribe_fewer sub.number) k.stepped
+  by_unsubscribe t sub a k = by_step (steps_are.Unsubscribe sub.number) a refl refl (unsubscribe_adds old sub.number) (unsubscribe_fewer sub.number) k.stepped
 
   by_untrack : (p : ℕ) (t : List ℕ) (a : Answer (untrack_all p t)) → LocalStep old (untrack_all p t) a new → Keeps pid old new
-  by_untrack p t a k = by_step (steps_are.UntrackAll p t) a refl (untrack_adds old p t) (untrack_fewer p t) k.stepped
+  by_untrack p t a k = by_step (steps_are.UntrackAll p t) a refl refl (untrack_adds old p t) (untrack_fewer p t) k.stepped
 
 -- ---- the script of an end
 

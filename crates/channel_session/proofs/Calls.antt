@@ -13,7 +13,7 @@ use Rattle.presence_journal.specs.History.{History, has_dot, last_number}
 use Rattle.presence_journal.specs.Present.{present, listed, dots_of, dots_added}
 use Rattle.presence_journal.specs.Queue.{Waiting, Behind, Queued, queue, topic_of}
 use Rattle.presence_journal.specs.Table.{IsLegal, is_mine, is_step, rows_of_pid, rows_of_key, listed_key, for_present, take_outcome, outcome_of, accepted, after}
-use Rattle.presence_journal.specs.Laws.{OnlyNamedLeave, concerns}
+use Rattle.presence_journal.specs.Laws.{OnlyNamedLeave, concerns, is_callers}
 use Rattle.presence_journal.proofs.Same.{same_text-true, same_text-refl}
 use Rattle.presence_journal.proofs.FoldOthers.{others_stay, stays_legal}
 use Rattle.tracker_shard.specs.Steps.{Stepped, Made, Answers}
@@ -92,25 +92,25 @@ shout_adds h t d o e = ap dots_added (same_some o outcomes_are.Sent (sym e))
 
 module _ (leave : OnlyNamedLeave) (pid : ℕ) (f : List ℕ → Bool) (old new : History) (k : Kept pid f old) where
   -- a step that adds no row
-  quiet : {A : Type 0} (s : Step) (a : Result A ShardFault) → is_step s ≡ true → AddsNone old s → Stepped old new None s a → Kept pid f new
-  quiet s a limits adds m =
+  quiet : {A : Type 0} (s : Step) (a : Result A ShardFault) → is_step s ≡ true → is_callers s ≡ true → AddsNone old s → Stepped old new None s a → Kept pid f new
+  quiet s a limits callers adds m =
       either (λ h. Kept pid f h) old new s a m k
       (record {
         legal = stays_legal old k.legal s None limits;
-        rows = λ t p r e mine. k.rows t p r (was_there leave old k.legal s adds t p r e).before (sym (mine_after old s pid (p.dot, r)) ∙ mine);
+        rows = λ t p r e mine. k.rows t p r (was_there leave old k.legal s callers adds t p r e).before (sym (mine_after old s pid (p.dot, r)) ∙ mine);
       })
 
   same : new ≡ old → Kept pid f new
   same e = subst (λ h. Kept pid f h) (sym e) k
 
   -- a step that is refused
-  refused : {A : Type 0} (s : Step) (Gives : A → Type 0) (x : ShardFault) → is_step s ≡ true → Stepped {A = A} old new None s (Err x) → Answers Gives (outcome_of old s) (Err x) → Kept pid f new
-  refused {A} s Gives AlreadyTracked l m g = quiet {A = A} s (Err AlreadyTracked) l (λ o e. ap dots_added (same_some o outcomes_are.AlreadyTracked (sym e ∙ g))) m
-  refused {A} s Gives NoPresence l m g = quiet {A = A} s (Err NoPresence) l (λ o e. ap dots_added (same_some o outcomes_are.NoPresence (sym e ∙ g))) m
-  refused s Gives ClockFull l m g = same m
-  refused s Gives JournalFull l m g = same m
-  refused s Gives NoSub l m g = same m
-  refused s Gives OutOfMemory l m g = same m
+  refused : {A : Type 0} (s : Step) (Gives : A → Type 0) (x : ShardFault) → is_step s ≡ true → is_callers s ≡ true → Stepped {A = A} old new None s (Err x) → Answers Gives (outcome_of old s) (Err x) → Kept pid f new
+  refused {A} s Gives AlreadyTracked l c m g = quiet {A = A} s (Err AlreadyTracked) l c (λ o e. ap dots_added (same_some o outcomes_are.AlreadyTracked (sym e ∙ g))) m
+  refused {A} s Gives NoPresence l c m g = quiet {A = A} s (Err NoPresence) l c (λ o e. ap dots_added (same_some o outcomes_are.NoPresence (sym e ∙ g))) m
+  refused s Gives ClockFull l c m g = same m
+  refused s Gives JournalFull l c m g = same m
+  refused s Gives NoSub l c m g = same m
+  refused s Gives OutOfMemory l c m g = same m
 
   -- a step that may add a row on this topic, and concerns no other
   added : (s : Step) (u : List ℕ) → ((t : List ℕ) → concerns s t ≡ same_text u t) → is_step s ≡ true → Made old new None s → Kept pid (and_at u f) new
@@ -131,7 +131,7 @@ module _ (leave : OnlyNamedLeave) (pid : ℕ) (f : List ℕ → Bool) (old new :
     where
       there : On (and_not u f) pid (after old (steps_are.UntrackAll pid u) None)
       there t p r e mine =
-          let was = was_there leave old k.legal (steps_are.UntrackAll pid u) (untrack_adds old pid u) t p r e in
+          let was = was_there leave old k.legal (steps_are.UntrackAll pid u) refl (untrack_adds old pid u) t p r e in
           let owned : is_mine old pid (p.dot, r) ≡ true = sym (mine_after old (steps_are.UntrackAll pid u) pid (p.dot, r)) ∙ mine in
           let spared = was.spared (outcomes_are.Removed (dots_of (rows_of_pid old pid u))) (is_accepted leave old new k.legal pid u m (accepted old (steps_are.UntrackAll pid u)) refl m.accepted) in
           go (same_text t u) refl was.before owned spared
@@ -170,16 +170,16 @@ module _ (leave : OnlyNamedLeave) (pid : ℕ) (low : nat_le pid (2 ^ 62) ≡ tru
 
   pub call_keeps : (f : List ℕ → Bool) (old new : History) (q : Ask) (a : Answer q) → Fits pid t q → Kept pid f old → LocalStep old q a new → Kept pid (after_call f q a) new
   call_keeps f old new (track p u k m) (Ok d) fits h s = added leave pid f old new h (steps_are.Track p u k m) u (λ x. refl) (limit p fits.0) s.stepped
-  call_keeps f old new (track p u k m) (Err x) fits h s = refused leave pid f old new h {A = Dot} (steps_are.Track p u k m) (IsNew old (steps_are.Track p u k m)) x (limit p fits.0) s.stepped s.given
+  call_keeps f old new (track p u k m) (Err x) fits h s = refused leave pid f old new h {A = Dot} (steps_are.Track p u k m) (IsNew old (steps_are.Track p u k m)) x (limit p fits.0) refl s.stepped s.given
   call_keeps f old new (update p u k m) (Ok d) fits h s = added leave pid f old new h (steps_are.Update p u k m) u (λ x. refl) (limit p fits.0) s.stepped
-  call_keeps f old new (update p u k m) (Err x) fits h s = refused leave pid f old new h {A = Dot} (steps_are.Update p u k m) (IsNew old (steps_are.Update p u k m)) x (limit p fits.0) s.stepped s.given
-  call_keeps f old new (untrack p u k) a fits h s = quiet leave pid f old new h (steps_are.Untrack p u k) a refl (untrack_key_adds old p u k) s.stepped
+  call_keeps f old new (update p u k m) (Err x) fits h s = refused leave pid f old new h {A = Dot} (steps_are.Update p u k m) (IsNew old (steps_are.Update p u k m)) x (limit p fits.0) refl s.stepped s.given
+  call_keeps f old new (untrack p u k) a fits h s = quiet leave pid f old new h (steps_are.Untrack p u k) a refl refl (untrack_key_adds old p u k) s.stepped
   call_keeps f old new (untrack_all p u) (Ok x) fits h s = gone leave pid f old new h u (subst (λ n. Made old new None (steps_are.UntrackAll n u)) fits s.stepped)
-  call_keeps f old new (untrack_all p u) (Err x) fits h s = refused leave pid f old new h {A = Unit {0}} (steps_are.UntrackAll p u) (λ _. Unit {0}) x refl s.stepped s.given
-  call_keeps f old new (list u) a fits h s = quiet leave pid f old new h (steps_are.List u) a refl (list_adds old u) s.stepped
-  call_keeps f old new (get u k) a fits h s = quiet leave pid f old new h (steps_are.Get u k) a refl (get_adds old u k) s.stepped
-  call_keeps f old new (subscribe u) a fits h s = quiet leave pid f old new h (steps_are.Subscribe u) a refl (subscribe_adds old u) s.stepped
-  call_keeps f old new (take u sub n) a fits h s = quiet leave pid f old new h (steps_are.Take sub.number n) a refl (take_adds old sub.number n) s.stepped
-  call_keeps f old new (unsubscribe u sub) a fits h s = quiet leave pid f old new h (steps_are.Unsubscribe sub.number) a refl (unsubscribe_adds old sub.number) s.stepped
+  call_keeps f old new (untrack_all p u) (Err x) fits h s = refused leave pid f old new h {A = Unit {0}} (steps_are.UntrackAll p u) (λ _. Unit {0}) x refl refl s.stepped s.given
+  call_keeps f old new (list u) a fits h s = quiet leave pid f old new h (steps_are.List u) a refl refl (list_adds old u) s.stepped
+  call_keeps f old new (get u k) a fits h s = quiet leave pid f old new h (steps_are.Get u k) a refl refl (get_adds old u k) s.stepped
+  call_keeps f old new (subscribe u) a fits h s = quiet leave pid f old new h (steps_are.Subscribe u) a refl refl (subscribe_adds old u) s.stepped
+  call_keeps f old new (take u sub n) a fits h s = quiet leave pid f old new h (steps_are.Take sub.number n) a refl refl (take_adds old sub.number n) s.stepped
+  call_keeps f old new (unsubscribe u sub) a fits h s = quiet leave pid f old new h (steps_are.Unsubscribe sub.number) a refl refl (unsubscribe_adds old sub.number) s.stepped
   call_keeps f old new (waits u sub) a fits h s = same leave pid f old new h s.0
-  call_keeps f old new (shout u d) a fits h s = quiet leave pid f old new h (steps_are.Shout u d) a refl (shout_adds old u d) s.stepped
+  call_keeps f old new (shout u d) a fits h s = quiet leave pid f old new h (steps_are.Shout u d) a refl refl (shout_adds old u d) s.stepped

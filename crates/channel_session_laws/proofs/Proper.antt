@@ -1,11 +1,9 @@
 -- In a legal history the rows of what is told a subscriber have dots within their limits, and what it took begins with a state.
-use Rattle.std.proofs.Common.{◌≡◌, ℕ, Bool, true, false, cond, ◌&&◌, nat_eq, nat_lt, length, List, [], ◌∷◌, ◌++◌, zero, suc, take, drop, Option, Some, None, IsTrue, is_some, sym, ◌∙◌, subst, arith}
+use Rattle.std.proofs.Common.{◌≡◌, ℕ, Bool, true, false, cond, ◌&&◌, nat_eq, nat_lt, length, List, [], ◌∷◌, ◌++◌, zero, suc, take, drop, Option, Some, None, is_some, sym, ◌∙◌, subst}
 use Rattle.std.specs.FinMap as map
 use Rattle.std.specs.List.{AllByRecursion}
 use Rattle.presence_base.specs.Order.{same_text}
-use Rattle.presence_base.specs.Names.{is_node_name}
-use Rattle.presence_base.specs.Refs.{IsCount, IsDot}
-use Rattle.presence_base.specs.declared.dots.Replica.{Replica}
+use Rattle.presence_base.specs.Refs.{IsDot}
 use Rattle.presence_base.specs.declared.dots.Dot.{Dot}
 use Rattle.presence_base.specs.declared.row.Row.{Row}
 use Rattle.presence_journal_data.specs.declared.rows.Item.{Item}
@@ -15,36 +13,22 @@ use Rattle.presence_journal_data.specs.declared.rows.RowDiff.{RowDiff}
 use Rattle.presence_journal_data.specs.declared.step.Step.TheVariants as steps_are
 use Rattle.presence_journal_data.specs.declared.step.Step.{Step}
 use Rattle.presence_journal_data.specs.declared.entry.Entry.{Entry}
-use Rattle.presence_journal.specs.History.{History, Begin, Then, start_of, shown}
+use Rattle.presence_journal.specs.History.{History, Begin, Then, shown}
 use Rattle.presence_journal.specs.Present.{RowMap, in_order, present, listed, missing_in, changes}
 use Rattle.presence_journal.specs.Queue.{Waiting, Behind, Queued, is_empty, diff_item, shout_item, diff_of, items_made, most_waiting, push_items, queued, left_by, queue, queue_after, made_for, topic_of, listed_for, took, taken, taken_after}
-use Rattle.presence_journal.specs.Table.{IsLegal, IsStart}
+use Rattle.presence_journal.specs.Table.{IsLegal}
 use Rattle.presence_journal.proofs.FoldPresent.{presence}
 use Rattle.presence_journal.proofs.FoldTables.{Placed, AreOf, stripped, entries_found}
-use Rattle.presence_journal.proofs.HistoryLemmas.{legal_knows, known_parts, own-start_of}
+use Rattle.presence_journal.proofs.Fresh.{rows_have_dots}
 use Rattle.presence_journal.proofs.Lookups.{get-missing_in}
 use Rattle.presence_journal.proofs.PresentLemmas.{shown-row}
-use Rattle.presence_journal.proofs.Walking.{count-limit}
 use Rattle.channel_session_laws.proofs.Shown.{AllDots}
 
 -- ---- dots
 
-legal_start : (h : History) → IsLegal h → IsStart (start_of h)
-legal_start (Begin s) l = l
-legal_start (Then h e) l = legal_start h l.0
-
 -- the dot of a row that is shown has a reference
 pub shown_dot : (h : History) (d : Dot) (r : Row) → IsLegal h → shown h d ≡ Some r → IsDot d
-shown_dot h d r l e =
-    let parts = known_parts h d ((legal_knows h l).of_row d r (shown-row h d r e).0) in
-    let start = legal_start h l in
-    let most = count-limit h l in
-    let replica : (start_of h).own ≡ d.replica = sym (parts.0 ∙ own-start_of h) in
-    record {
-      is_name = subst (λ (x : Replica). IsTrue (is_node_name x.name)) replica start.name;
-      is_incarnation = subst (λ (x : Replica). IsCount x.incarnation) replica start.incarnation;
-      is_count = (omega (arith, parts.1), omega (arith, parts.2, most));
-    }
+shown_dot h d r l e = rows_have_dots h l d r (shown-row h d r e).0
 
 abbrev HasDots : (Place → Option Row) → Type 0
 HasDots g = (p : Place) (r : Row) → g p ≡ Some r → IsDot p.dot

@@ -3,9 +3,11 @@ use Rattle.std.proofs.Common.{◌≡◌, ℕ, Bool, true, false, cond, ◌&&◌,
 use Rattle.std.proofs.lemmas.Option.{same_Some}
 use Rattle.std.specs.FinMap as map
 use Rattle.std.specs.List.{AllByRecursion, filter}
+use Rattle.std.specs.Map.{lookup}
 use Rattle.presence_base.specs.Order.{same_text, same_dot}
 use Rattle.presence_base.specs.declared.dots.Dot.{Dot}
 use Rattle.presence_base.specs.declared.row.Row.{Row}
+use Rattle.orswot_core_told.specs.Telling.{live_row}
 use Rattle.presence_journal_data.specs.declared.rows.Item.{Item}
 use Rattle.presence_journal_data.specs.declared.rows.Item.TheVariants as items_are
 use Rattle.presence_journal_data.specs.declared.rows.Place.{Place}
@@ -15,7 +17,7 @@ use Rattle.presence_journal_data.specs.declared.step.Step.{Step}
 use Rattle.presence_journal_data.specs.declared.entry.Outcome.{Outcome}
 use Rattle.presence_journal_data.specs.declared.entry.Outcome.TheVariants as outcomes_are
 use Rattle.presence_journal_data.specs.declared.entry.Entry.{Entry}
-use Rattle.presence_journal.specs.History.{History, Begin, Then, row_made, row_added, first_some, row}
+use Rattle.presence_journal.specs.History.{History, Begin, Then, row_made, row_added, hears, told_row, first_some, row}
 use Rattle.presence_journal.specs.Present.{RowMap, in_order, present, listed, missing_in, changes}
 use Rattle.presence_journal.specs.Queue.{Waiting, Behind, Queued, is_empty, diff_item, shout_item, diff_of, items_made, most_waiting, push_items, queued, left_by, queue, queue_after, made_for, topic_of, listed_for, given, items_given}
 use Rattle.presence_journal.specs.Table.{has_key, listed_key}
@@ -29,10 +31,11 @@ abbrev pub StepSound : Step → Type 0
 StepSound (steps_are.Track pid topic key meta) = IsSound 32 meta
 StepSound (steps_are.Update pid topic key meta) = IsSound 32 meta
 StepSound (steps_are.Shout topic payload) = IsSound 64 payload
+StepSound (steps_are.Merge told) = RowsSound told.live
 StepSound _ = Unit {0}
 
 abbrev pub HistorySound : History → Type 0
-HistorySound (Begin s) = Unit {0}
+HistorySound (Begin s) = RowsSound s.content.live
 HistorySound (Then h e) = HistorySound h × StepSound e.step
 
 -- ---- rows
@@ -58,6 +61,7 @@ made_sound (steps_are.Heard replica now) prev r h e = absurd (no_row r e)
 made_sound (steps_are.Tick now) prev r h e = absurd (no_row r e)
 made_sound (steps_are.PermDown replica) prev r h e = absurd (no_row r e)
 made_sound steps_are.Cut prev r h e = absurd (no_row r e)
+made_sound (steps_are.Merge told) prev r h e = absurd (no_row r e)
 
 made_if : (b : Bool) (s : Step) (prev : Option Dot) (r : Row) → StepSound s → cond b (row_made s prev) None ≡ Some r → RowSound r
 made_if true s prev r h e = made_sound s prev r h e
@@ -76,6 +80,23 @@ added_sound s outcomes_are.Ended d r h e = absurd (no_row r e)
 added_sound s outcomes_are.Sent d r h e = absurd (no_row r e)
 added_sound s outcomes_are.Noted d r h e = absurd (no_row r e)
 added_sound s (outcomes_are.CutAt from to) d r h e = absurd (no_row r e)
+added_sound s outcomes_are.Merged d r h e = absurd (no_row r e)
+
+found_sound : (xs : List (Dot × Row)) (d : Dot) (r : Row) → RowsSound xs → lookup (same_dot d) xs ≡ Some r → RowSound r
+found_sound [] d r k e = absurd (no_row r e)
+found_sound (x ∷ xs) d r k e = go (same_dot d x.0) e (found_sound xs d r k.1)
+  where
+    go : (b : Bool) → cond b (Some x.1) (lookup (same_dot d) xs) ≡ Some r → (lookup (same_dot d) xs ≡ Some r → RowSound r) → RowSound r
+    go true f ih = subst RowSound (same_Some x.1 r f) k.0
+    go false f ih = ih f
+
+told_sound : (h : History) (s : Step) (d : Dot) (r : Row) → StepSound s → told_row h s d ≡ Some r → RowSound r
+told_sound h (steps_are.Merge t) d r k e = go (hears h d.replica) e
+  where
+    go : (b : Bool) → cond b (live_row t d) None ≡ Some r → RowSound r
+    go true f = found_sound t.live d r k f
+    go false f = absurd (no_row r f)
+told_sound h _ d r k e = absurd (no_row r e)
 
 first_sound : (x y : Option Row) (r : Row) → first_some x y ≡ Some r → (x ≡ Some r → RowSound r) → (y ≡ Some r → RowSound r) → RowSound r
 first_sound (Some q) y r e f g = f e
@@ -83,8 +104,10 @@ first_sound None y r e f g = g e
 
 row_sound : (h : History) (d : Dot) (r : Row) → HistorySound h → row h d ≡ Some r → RowSound r
 unfolding row
-row_sound (Begin s) d r k e = absurd (no_row r e)
-row_sound (Then h x) d r k e = first_sound (row h d) (row_added x.step x.outcome d) r e (row_sound h d r k.0) (added_sound x.step x.outcome d r k.1)
+row_sound (Begin s) d r k e = found_sound s.content.live d r k e
+row_sound (Then h x) d r k e =
+    first_sound (row h d) (first_some (row_added x.step x.outcome d) (told_row h x.step d)) r e (row_sound h d r k.0)
+    (λ f. first_sound (row_added x.step x.outcome d) (told_row h x.step d) r f (added_sound x.step x.outcome d r k.1) (told_sound h x.step d r k.1))
 
 -- ---- tables
 

@@ -1,5 +1,7 @@
 -- The lines of a run are a session's lines over its shard's history.
-use Rattle.std.proofs.Common.{◌≡◌, ◌≤◌, ◌⊎◌, inl, inr, ◌^◌, ℕ, Bool, true, false, cond, List, [], ◌∷◌, ◌++◌, length, map, nat_lt, Option, Some, None, Result, Ok, Err, refl, sym, ◌∙◌, ap, subst, arith, append-nil, append_assoc}
+use Rattle.std.proofs.Common.{◌≡◌, ◌≤◌, ◌⊎◌, inl, inr, ◌^◌, ℕ, Bool, true, false, cond, List, [], ◌∷◌, ◌++◌, length, map, nat_lt, nat_le, ◌&&◌, Option, Some, None, Result, Ok, Err, refl, sym, ◌∙◌, ap, subst, arith, append-nil, append_assoc}
+use Rattle.std.specs.Prelude.{IsTrue}
+use Rattle.std.proofs.lemmas.Bool.{ltb-true, leb-true}
 use Rattle.std.proofs.lemmas.Option.{same_Some}
 use Rattle.std.specs.List.{AllByRecursion}
 use Rattle.std.specs.Str.{is_utf8}
@@ -10,6 +12,10 @@ use Rattle.phx_message.specs.declared.message.TheConstants.Limits as the_limits
 use Rattle.phx_message.specs.declared.message.MessageFault.TheVariants.{TooLong, NotJson}
 use Rattle.phx_message.specs.declared.message.Message.{Message}
 use Rattle.phx_message.specs.declared.message.MessageFault.{MessageFault}
+use Rattle.presence_base.specs.declared.dots.Dot.{Dot}
+use Rattle.presence_base.specs.Names.{is_node_name}
+use Rattle.presence_base.specs.Order.{same_replica}
+use Rattle.presence_base.specs.Refs.{IsCount}
 use Rattle.presence_journal.specs.History.{History}
 use Rattle.presence_journal.specs.Table.{IsLegal}
 use Rattle.channel_session.specs.Delivery.{delivery}
@@ -23,6 +29,7 @@ use Rattle.channel_session_laws.proofs.Kept.{MirroredWhere, fresh_in_step, stays
 use Rattle.channel_session_laws.proofs.KeptAsks.{all_of}
 use Rattle.channel_session_laws.proofs.KeptWords.{worded_anyhow, worded_plainly}
 use Rattle.channel_session_laws.proofs.SoundValues.{IsFramed, IsHeard}
+use Rattle.presence_node_options.specs.declared.options.StdioOptions.{StdioOptions}
 use Rattle.presence_node_stdio.specs.Mirrored.{goes_on, after_lines, IsReadBack, FetchesOrderly, JoinedAreMirrored}
 use Rattle.presence_node_stdio.proofs.Fetching.{worded_framed}
 use Rattle.presence_node_lines.specs.Reading.{message_in, line_message}
@@ -138,11 +145,38 @@ framed_either : {S : Type 0} (H : Ghosts S) (hooks : S) (said : List Said) (ms :
 framed_either H hooks said ms e (inl p) f = subst (AllByRecursion IsFramed) (sym (worded_plainly (H.fetched hooks) (H.plain hooks) p said ms e)) f
 framed_either H hooks said ms e (inr o) f = worded_framed (H.fetched hooks) o (H.plain hooks) said ms e f
 
+-- no count is one of 1 to 0
+none_counted : (same : Bool) (n : ℕ) → (same && (nat_lt 0 n && nat_le n 0)) ≡ false
+none_counted false n = refl
+none_counted true n = go (nat_lt 0 n) refl (nat_le n 0) refl
+  where
+    go : (b : Bool) → nat_lt 0 n ≡ b → (c : Bool) → nat_le n 0 ≡ c → (b && c) ≡ false
+    go false p c q = refl
+    go true p false q = refl
+    go true p true q = absurd (omega (arith, ltb-true 0 n p, leb-true n 0 q))
+
+begun_legal : (o : StdioOptions) → IsTrue (is_node_name o.name) → IsCount o.incarnation → IsLegal (start o).shard
+begun_legal o name incarnation = record {
+  name = name;
+  incarnation = incarnation;
+  number = omega arith;
+  count = omega arith;
+  content = refl;
+  own_dots = λ d e. sym (none_counted (same_replica d.replica (record { name = o.name; incarnation = o.incarnation })) d.count);
+  cut = omega arith;
+  older = tt;
+  older_low = refl;
+  chains = tt;
+  subscribers = refl;
+  subscribers_once = refl;
+  seated = omega arith;
+}
+
 pub mirrored : {S : Type 0} (H : Ghosts S) (hooks : S) → JoinedAreMirrored H hooks
 mirrored H hooks o name incarnation lines s is =
     let all : LinesAre (start o) [] lines s = lines_are lines (start o) s [] is in
     let said = (run (start o) lines).speech.said in
-    let legal : IsLegal (start o).shard = record { name = name; incarnation = incarnation; number = omega arith; count = omega arith; cut = omega arith } in
+    let legal : IsLegal (start o).shard = begun_legal o name incarnation in
     let low : 1 ≤ 2 ^ 62 = omega arith in
     let told : MirroredWhere (Unit {0}) (past said s) = mirrored_where (Unit {0}) o.routes 1 (start o).shard low legal (λ u. tt) all.messages (past said s) (λ u. all.heard) all.lined_so in
     let kept : keeping.IsMirrored (past said s) = told.mirrored in

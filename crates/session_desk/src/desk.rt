@@ -4,10 +4,8 @@ use crate::port::TestPort;
 use crate::texts::{JOIN, JOINED, error_reply, message, ok_reply};
 use channel_session::{Delivery, Session, SessionFault, deliver, end, run_text};
 use hook_registry::{NoHooks, Routes};
-use presence_base::{NodeName, Replica, Topic};
-use presence_journal::walk_topic;
 use std::alloc::{AllocError, Global};
-use tracker_shard::{Shard, ShardFault};
+use tracker_shard::ShardFault;
 
 // A session of number 1 over a shard of `a.1`, with the routes `room:*` and `chat`.
 #[derive(Drop)]
@@ -18,25 +16,14 @@ pub struct Desk {
 }
 
 pub fn desk_of(alloc: Global) -> Option<Desk> {
-    let Ok(Some(name)) = NodeName::new(alloc, "a") else {
-        return None;
-    };
+    let port = TestPort::new(alloc)?;
     let mut routes = Routes::new(alloc);
     if routes.add(alloc, "room:*", 0).is_err() || routes.add(alloc, "chat", 1).is_err() {
         return None;
     }
-    let own = Replica {
-        name,
-        incarnation: 1,
-    };
     Some(Desk {
         session: Session::new(alloc, 1),
-        port: TestPort {
-            shard: Shard::new(alloc, own),
-            calls: 0,
-            refused: u32::MAX,
-            fault: ShardFault::JournalFull,
-        },
+        port,
         routes,
     })
 }
@@ -58,16 +45,6 @@ pub fn are_texts(given: &[String], wanted: &[&str]) -> bool {
     }
     for (text, want) in given.iter().zip(wanted.iter()) {
         if text.as_str() != *want {
-            return false;
-        }
-    }
-    true
-}
-
-// Whether nobody subscribes to a topic of the shard.
-fn is_unheard(shard: &Shard) -> bool {
-    for entry in shard.journal().entries() {
-        if walk_topic(shard.journal(), entry.number).is_some() {
             return false;
         }
     }
@@ -238,12 +215,6 @@ impl Desk {
 
     // Whether nobody is present on the topic, and nobody subscribes to any.
     pub fn is_clear(&mut self, alloc: Global, topic: &str) -> bool {
-        let Ok(Some(topic)) = Topic::new(alloc, topic) else {
-            return false;
-        };
-        match self.port.shard.list(alloc, None, &topic) {
-            Ok(rows) => rows.is_empty() && is_unheard(&self.port.shard),
-            Err(_) => false,
-        }
+        self.port.is_clear(alloc, topic)
     }
 }

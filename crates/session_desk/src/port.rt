@@ -1,8 +1,9 @@
 //! A port over a shard that refuses one of its calls.
 
 use channel_session::Port;
-use presence_base::{Dot, Json, Key, Meta, Row, Topic};
+use presence_base::{Dot, Json, Key, Meta, NodeName, Replica, Row, Topic};
 use presence_journal::Item;
+use presence_journal_walks::walk_topic;
 use std::alloc::Global;
 use tracker_shard::{Shard, ShardFault, Sub};
 
@@ -15,7 +16,51 @@ pub struct TestPort {
     pub fault: ShardFault,
 }
 
+// Whether nobody subscribes to a topic of the shard.
+fn is_unheard(shard: &Shard) -> bool {
+    for entry in shard.journal().entries() {
+        if walk_topic(shard.journal(), entry.number).is_some() {
+            return false;
+        }
+    }
+    true
+}
+
 impl TestPort {
+    // A port over a new shard of `a.1` that refuses nothing.
+    pub fn new(alloc: Global) -> Option<TestPort> {
+        let Ok(Some(name)) = NodeName::new(alloc, "a") else {
+            return None;
+        };
+        let own = Replica {
+            name,
+            incarnation: 1,
+        };
+        Some(TestPort {
+            shard: Shard::new(alloc, own),
+            calls: 0,
+            refused: u32::MAX,
+            fault: ShardFault::JournalFull,
+        })
+    }
+
+    // Lets the next call be refused so.
+    pub fn refuse_next(&mut self, fault: ShardFault) {
+        self.refused = self.calls;
+        self.fault = fault;
+    }
+
+    // Whether nobody is present on the topic, and nobody subscribes to any.
+    pub fn is_clear(&mut self, alloc: Global, topic: &str) -> bool {
+        let Ok(Some(topic)) = Topic::new(alloc, topic) else {
+            return false;
+        };
+        match self.shard.list(alloc, None, &topic) {
+            Ok(rows) => rows.is_empty() && is_unheard(&self.shard),
+            Err(_) => false,
+        }
+    }
+
     // The refusal of this call, where it is the one.
     fn refusal(&mut self) -> Option<ShardFault> {
         let now = self.calls;
