@@ -1,12 +1,15 @@
 -- The steps of a turn, put together.
-use Rattle.std.proofs.Common.{◌≡◌, ℕ, List, Bool, Result, Ok, Err, refl, subst}
+use Rattle.std.proofs.Common.{◌≡◌, ℕ, List, Bool, Option, Result, Ok, Err, refl, ap, subst}
 use Rattle.tungstenite.specs.Socket.{Socket}
 use Rattle.presence_node_turns.specs.Causes.{code_of}
 use Rattle.presence_node_turns.specs.Hearing.{Hears, is_message}
-use Rattle.presence_node_turns.specs.Turning.{Around, ClosesBy, Continues, EndsSession, Responds, Serves, TakesTurn, progress_of}
+use Rattle.presence_node_turns.specs.Turning.{Around, ClosesBy, Continues, EndsSession, Responds, Serves, StopsServing, TakesTurn, progress_of}
 use Rattle.presence_node_turns.specs.declared.cause.Cause.{Cause}
+use Rattle.presence_node_turns.specs.declared.cause.Cause.TheVariants.{Stopping}
 use Rattle.presence_node_turns.specs.declared.connection.Connection.{Connection}
 use Rattle.presence_node_turns.specs.declared.connection.Progress.{Progress}
+use Rattle.presence_node_turns.specs.declared.connection.Stage.{Stage}
+use Rattle.presence_node_turns.specs.declared.connection.Stage.TheVariants.{Open, Ending}
 use Rattle.presence_node_turns.specs.declared.hearing.Heard.{Heard}
 
 module _ {S K P : Type 0} (w : Around S P) (routes : List (List ℕ × ℕ)) (now : ℕ) where
@@ -40,3 +43,9 @@ module _ {S K P : Type 0} (w : Around S P) (routes : List (List ℕ × ℕ)) (no
         serves = h;
         goes_on = (closed.socket, closes, subst (λ (c : Connection S K). EndsSession w.step cause c new between after result) kept e);
       }
+
+-- an open connection was told the stop, and ends
+pub stops : {S K : Type 0} (contents : S → Option (List ℕ)) (stage : Stage) (old told : Connection S K) → stage ≡ Open → ClosesBy contents (code_of Stopping) old.socket told.socket
+    → told ≡ record old { socket = told.socket } → StopsServing contents stage old (record told { stage = Ending Stopping })
+stops {S} {K} contents stage old told is closes kept =
+    rw is (told.socket, closes, ap (λ (c : Connection S K). record c { stage = Ending Stopping }) kept)

@@ -7,7 +7,7 @@ use Rattle.phx_message.specs.declared.message.MessageFault.TheVariants as refusa
 use Rattle.tungstenite.specs.declared.error.Error.{Error}
 use Rattle.tungstenite.specs.declared.error.Error.TheVariants as errors
 use Rattle.presence_node_turns.specs.declared.cause.Cause.{Cause}
-use Rattle.presence_node_turns.specs.declared.cause.Cause.TheVariants.{Closed, Silent, Binary, Fault, Stream}
+use Rattle.presence_node_turns.specs.declared.cause.Cause.TheVariants.{Closed, Silent, Binary, Fault, Stream, Stopping}
 
 -- a text that is too long, and one that is no message
 abbrev pub refusal_code : MessageFault → ℕ
@@ -34,6 +34,7 @@ code_of Silent = Some 1000
 code_of Binary = Some 1003
 code_of (Fault fault) = Some (fault_code fault)
 code_of Stream = None
+code_of Stopping = Some 1001
 
 -- Why a connection ends by an error of its socket. A frame over the limit is of a text that is too long, and one that isn't UTF-8 is not JSON.
 abbrev pub cause_of : Error → Cause

@@ -24,7 +24,7 @@ use Rattle.websocket.specs.declared.error.Error.{Error as FrameError}
 use Rattle.presence_node_turns.specs.Causes.{cause_of, code_of}
 use Rattle.presence_node_turns.specs.Hearing.{Hears, is_message}
 use Rattle.presence_node_turns.specs.declared.cause.Cause.{Cause}
-use Rattle.presence_node_turns.specs.declared.cause.Cause.TheVariants.{Silent, Fault, Stream}
+use Rattle.presence_node_turns.specs.declared.cause.Cause.TheVariants.{Silent, Fault, Stream, Stopping}
 use Rattle.presence_node_turns.specs.declared.connection.Connection.{Connection}
 use Rattle.presence_node_turns.specs.declared.connection.Progress.{Progress}
 use Rattle.presence_node_turns.specs.declared.connection.Progress.TheVariants as progress
@@ -197,3 +197,14 @@ module _ {S K : Type 0} (contents : S → Option (List ℕ)) where
     pub nothing_waits : all ≡ true → new.socket.output ≡ []
     pub others : new ≡ record old { socket = new.socket; stage = new.stage }
     pub stage : (new.stage ≡ old.stage) ⊎ ((all ≡ false) × (new.stage ≡ broken_off old.stage))
+
+-- ---- stopping
+
+module _ {S K : Type 0} (contents : S → Option (List ℕ)) where
+  -- The server stops: an open connection's client is told so, and its session's end is asked for from its next turn on. One that ends already stays as it is.
+  abbrev pub StopsServing : Stage → Connection S K → Connection S K → Type 0
+  StopsServing Open old new =
+      (told : Socket S) × ClosesBy contents (code_of Stopping) old.socket told
+      × (new ≡ record old { socket = told; stage = Ending Stopping })
+  StopsServing (Ending cause) old new = new ≡ old
+  StopsServing (Over cause) old new = new ≡ old

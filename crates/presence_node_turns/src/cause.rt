@@ -22,6 +22,8 @@ pub enum Cause {
     /// The stream failed or broke the protocol, or more would have waited to be sent than may.
     #[error("the stream failed, or its client reads too slowly")]
     Stream,
+    #[error("the server stops")]
+    Stopping,
 }
 
 // The close code of a text that is no message.
@@ -62,6 +64,7 @@ pub fn close_code(cause: Cause) -> Option<CloseCode>
         Cause::Silent => Some(CloseCode::Normal),
         Cause::Binary => Some(CloseCode::Unsupported),
         Cause::Fault(fault) => Some(fault_close(fault)),
+        Cause::Stopping => Some(CloseCode::Away),
     }
 }
 

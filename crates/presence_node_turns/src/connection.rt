@@ -3,7 +3,7 @@ ghost use Rattle.phx_message.specs.Reading.{decoded};
 ghost use Rattle.tungstenite.specs.Socket.{Flushed};
 ghost use Rattle.presence_node_turns.specs.Causes.{code_of};
 ghost use Rattle.presence_node_turns.specs.Hearing.{is_message};
-ghost use Rattle.presence_node_turns.specs.Turning.{around, Answers, ClosesBy, Continues, Deals, broken_off, EndsSession, GoOut, Responds, Serves, Flushes, TakesTurn, Turns, patience, progress_of as progress_in};
+ghost use Rattle.presence_node_turns.specs.Turning.{around, Answers, ClosesBy, Continues, Deals, broken_off, EndsSession, GoOut, Responds, Serves, Flushes, StopsServing, TakesTurn, Turns, patience, progress_of as progress_in};
 
 use crate::cause::{Cause, cause_of, close_code};
 use crate::hearing::{Heard, hear};
@@ -331,6 +331,16 @@ impl<S: Read + Write + Drop, K: MaskKeys + Drop> Connection<S, K> {
                 self.break_off();
                 false
             }
+        }
+    }
+    /// Ends an open connection since the server stops: its client is told by a close frame, which
+    /// waits to be flushed, and its session's end is asked for from its next turn on.
+    pub fn stop(&mut self)
+        ensures { StopsServing S.contents self.old.stage self.old self.new }
+    {
+        if let Stage::Open = self.stage {
+            self.close(Cause::Stopping);
+            self.stage = Stage::Ending(Cause::Stopping);
         }
     }
 }

@@ -1,20 +1,15 @@
 //! The table of close codes: what a client does or meets, and the code that it is told.
 
-use crate::stream::{frame, frames, line_over, wire_of};
+use crate::line::line_over;
 use crate::turns::long_text;
 use channel_session::SessionFault;
 use phx_message::MessageFault;
 use presence_node_turns::{Cause, Progress, Stage, close_code};
+use serving_desk::{close_frame, frame, frames, wire_of};
 use std::alloc::Global;
 use std::test::Fail;
 use tracker_shard::ShardFault;
 use tungstenite::CloseCode;
-
-// The close frame of a server with this code and no reason.
-fn close_frame(code: u16) -> [u8; 4] {
-    let [high, low] = code.to_be_bytes();
-    [0x88, 2, high, low]
-}
 
 // Whether these bytes end the connection for this cause with this code, and nothing else is sent.
 fn ends_with(alloc: Global, bytes: &[u8], cause: Cause, code: u16) -> bool {

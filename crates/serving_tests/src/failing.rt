@@ -1,8 +1,8 @@
 //! Streams that fail: at each read and each write, and full ones.
 
-use crate::stream::{Line, frames, line_over, wire_of};
-use crate::turns::{REPLIES, TEXTS};
+use crate::line::{Line, line_over};
 use presence_node_turns::{Cause, Progress, Stage};
+use serving_desk::{REPLIES, TEXTS, frames, wire_of};
 use std::alloc::Global;
 use std::io::ErrorKind;
 use std::test::Fail;

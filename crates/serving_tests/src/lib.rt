@@ -6,12 +6,10 @@ mod closing;
 #[cfg(test)]
 mod failing;
 #[cfg(test)]
-mod port;
+mod line;
 #[cfg(test)]
 mod queue;
 #[cfg(test)]
 mod sending;
-#[cfg(test)]
-mod stream;
 #[cfg(test)]
 mod turns;

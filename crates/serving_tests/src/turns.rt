@@ -1,16 +1,10 @@
 //! Turns that answer: the first run, pings, and texts of the greatest length.
 
-use crate::stream::{add_frame, frame, frames, line_over, wire_of};
+use crate::line::line_over;
 use presence_node_turns::{Cause, Progress, Stage};
+use serving_desk::{REPLIES, TEXTS, add_frame, frame, frames, wire_of};
 use std::alloc::{AllocError, Global};
 use std::test::Fail;
-
-// The texts of the stored run, and what it wrote.
-pub(super) const TEXTS: &str =
-    "[null,\"1\",\"phoenix\",\"heartbeat\",{}]\n[\"2\",\"2\",\"room:lobby\",\"phx_join\",{}]\n[\"2\",\"3\",\"room:lobby\",\"track\",{\"key\":\"u1\",\"meta\":{\"x\":1}}]\n[\"2\",\"4\",\"room:lobby\",\"list\",{}]\n";
-
-pub(super) const REPLIES: &str =
-    "[null,\"1\",\"phoenix\",\"phx_reply\",{\"response\":{},\"status\":\"ok\"}]\n[\"2\",\"2\",\"room:lobby\",\"phx_reply\",{\"response\":{},\"status\":\"ok\"}]\n[\"2\",null,\"room:lobby\",\"presence_state\",{}]\n[\"2\",\"3\",\"room:lobby\",\"phx_reply\",{\"response\":{\"phx_ref\":\"a.1.1\"},\"status\":\"ok\"}]\n[null,null,\"room:lobby\",\"presence_diff\",{\"joins\":{\"u1\":{\"metas\":[{\"phx_ref\":\"a.1.1\",\"x\":1}]}},\"leaves\":{}}]\n[\"2\",\"4\",\"room:lobby\",\"phx_reply\",{\"response\":{\"u1\":{\"metas\":[{\"phx_ref\":\"a.1.1\",\"x\":1}]}},\"status\":\"ok\"}]\n";
 
 #[test]
 fn first_run(rt: HostRuntime) -> Result<(), Fail> {

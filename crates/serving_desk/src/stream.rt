@@ -1,20 +1,16 @@
-//! A client's stream in memory, and a server's connection over it.
+//! A client's stream in memory, and the frames that it gives and takes.
 
-use crate::port::TestPort;
-use hook_registry::{NoHooks, Routes};
-use presence_base::{NodeName, Replica};
-use presence_node_turns::{Connection, Progress, socket_config};
+use presence_node_turns::socket_config;
 use std::alloc::{AllocError, Global};
 use std::io;
 use std::io::{ErrorKind, Read, Write};
-use tracker_shard::{Shard, ShardFault};
 use tungstenite::{NoMask, Role, WebSocket};
 
 // Gives the rest, at most `step` bytes a call, and then has nothing; takes all that is written. The
 // read of number `fails_read` fails, and the write of number `fails_write`; so do all behind it,
 // unless the stream would only block.
 #[derive(Drop)]
-pub(super) struct Wire<'a> {
+pub struct Wire<'a> {
     pub rest: &'a [u8],
     pub step: usize,
     pub reads: usize,
@@ -65,7 +61,7 @@ impl Write for Wire<'_> {
 }
 
 // A stream that gives these bytes and never fails.
-pub(super) fn wire_of(alloc: Global, bytes: &[u8]) -> Wire<'_> {
+pub fn wire_of(alloc: Global, bytes: &[u8]) -> Wire<'_> {
     Wire {
         rest: bytes,
         step: usize::MAX,
@@ -78,77 +74,13 @@ pub(super) fn wire_of(alloc: Global, bytes: &[u8]) -> Wire<'_> {
     }
 }
 
-// A connection of number 1 to a shard of `a.1`, with the route `room:*`.
-#[derive(Drop)]
-pub(super) struct Line<'a> {
-    pub connection: Connection<Wire<'a>, NoMask>,
-    pub port: TestPort,
-    pub routes: Routes,
-    pub now: u64,
-}
-
-pub(super) fn line_over<'a>(alloc: Global, wire: Wire<'a>) -> Option<Line<'a>> {
-    let Ok(Some(name)) = NodeName::new(alloc, "a") else {
-        return None;
-    };
-    let mut routes = Routes::new(alloc);
-    if routes.add(alloc, "room:*", 0).is_err() {
-        return None;
-    }
-    let own = Replica {
-        name,
-        incarnation: 1,
-    };
-    let socket = WebSocket::from_raw_socket(
-        alloc,
-        wire,
-        NoMask,
-        Role::Server,
-        Some(socket_config()),
-    );
-    Some(Line {
-        connection: Connection::new(alloc, socket, 1, 0),
-        port: TestPort {
-            shard: Shard::new(alloc, own),
-            calls: 0,
-            refused: u32::MAX,
-            fault: ShardFault::JournalFull,
-        },
-        routes,
-        now: 0,
-    })
-}
-
-impl Line<'_> {
-    // One turn, and a flush behind it.
-    pub fn turn(&mut self, alloc: Global) -> Progress {
-        let progress = self
-            .connection
-            .turn(alloc, &mut self.port, &self.routes, &NoHooks, self.now);
-        let _sent = self.connection.flush();
-        progress
-    }
-
-    // Turns until no message comes, or the connection may be given up, and at most so many.
-    pub fn turns(&mut self, alloc: Global, most: u32) -> Progress {
-        for _ in 0..most {
-            match self.turn(alloc) {
-                Progress::Idle => return Progress::Idle,
-                Progress::Over => return Progress::Over,
-                Progress::Busy | Progress::Ending => {}
-            }
-        }
-        Progress::Busy
-    }
-
-    // What the client got.
-    pub fn got(&self) -> &[u8] {
-        self.connection.socket.get_ref().taken.as_slice()
-    }
+// A server's socket over a stream whose handshake is done.
+pub fn socket_over<'a>(alloc: Global, wire: Wire<'a>) -> WebSocket<Wire<'a>, NoMask> {
+    WebSocket::from_raw_socket(alloc, wire, NoMask, Role::Server, Some(socket_config()))
 }
 
 // Adds a frame with this first byte. A client's frames are masked, here with zeros.
-pub(super) fn add_frame(
+pub fn add_frame(
     bytes: &mut Vec<u8>,
     first: u8,
     masked: bool,
@@ -174,17 +106,23 @@ pub(super) fn add_frame(
 }
 
 // A client's frame alone.
-pub(super) fn frame(alloc: Global, first: u8, payload: &[u8]) -> Result<Vec<u8>, AllocError> {
+pub fn frame(alloc: Global, first: u8, payload: &[u8]) -> Result<Vec<u8>, AllocError> {
     let mut bytes = Vec::new(alloc);
     add_frame(&mut bytes, first, true, payload)?;
     Ok(bytes)
 }
 
 // These texts as frames of a client or of the server.
-pub(super) fn frames(alloc: Global, masked: bool, texts: &str) -> Result<Vec<u8>, AllocError> {
+pub fn frames(alloc: Global, masked: bool, texts: &str) -> Result<Vec<u8>, AllocError> {
     let mut bytes = Vec::new(alloc);
     for text in texts.lines() {
         add_frame(&mut bytes, 0x81, masked, text.as_bytes())?;
     }
     Ok(bytes)
+}
+
+// The close frame of a server with this code and no reason.
+pub fn close_frame(code: u16) -> [u8; 4] {
+    let [high, low] = code.to_be_bytes();
+    [0x88, 2, high, low]
 }
