@@ -2,8 +2,8 @@
 use Rattle.std.specs.Prelude.{◌≡◌, ℕ, Bool, true, false, Option, Some, None, Result, Ok, Err}
 use Rattle.node_links_lines.specs.declared.lines.Line.{Line}
 use Rattle.node_links_lines.specs.declared.lines.Line.TheVariants as lines_are
-use Rattle.node_links_lines.specs.declared.lines.LinkFault.{LinkFault}
-use Rattle.node_links_lines.specs.declared.lines.LinkFault.TheVariants.{LineTooLong}
+use Rattle.node_links_members.specs.declared.fault.LinkFault.{LinkFault}
+use Rattle.node_links_members.specs.declared.fault.LinkFault.TheVariants.{LineTooLong}
 use Rattle.node_links_lines.specs.Results.{Answers}
 use Rattle.node_links_streams.specs.Bytes.{Known}
 use Rattle.node_links_streams.specs.Streams.{ReadsLine, WritesLine}

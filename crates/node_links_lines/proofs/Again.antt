@@ -16,15 +16,15 @@ use Rattle.orswot_core.specs.Telling.{Range, ToldValue}
 use Rattle.orswot_core.specs.Checks.{first_fault}
 use Rattle.node_links_lines.specs.declared.lines.Line.{Line}
 use Rattle.node_links_lines.specs.declared.lines.Line.TheVariants as lines_are
-use Rattle.node_links_lines.specs.declared.lines.LinkFault.{LinkFault}
-use Rattle.node_links_lines.specs.declared.lines.LinkFault.TheVariants.{LineTooLong}
+use Rattle.node_links_members.specs.declared.fault.LinkFault.{LinkFault}
+use Rattle.node_links_members.specs.declared.fault.LinkFault.TheVariants.{LineTooLong}
 use Rattle.node_links_lines.specs.declared.lines.TheConstants.{MAX_LINE_BYTES, MAX_SHARDS}
 use Rattle.node_links_lines.specs.Limits.{is_from_to, is_counted, is_bound, is_replica, is_told_range, is_told_dot, is_told_prev, is_told_row, is_told, is_sound, is_delta, is_within}
-use Rattle.node_links_lines.specs.Members.{number_in, name_in, replica_in, dot_in}
+use Rattle.node_links_members.specs.Members.{number_in, name_in, replica_in, dot_in}
 use Rattle.node_links_lines.specs.Reading.{shard_in, line_in, value_in, decoded, IsLine}
-use Rattle.node_links_lines.specs.Results.{◌>>=◌, or_bad, Answers}
-use Rattle.node_links_lines.specs.Telling.{range_in, extra_in, prev_in, object_in, row_in, each_in}
-use Rattle.node_links_lines.specs.Told.{raw_told_in, unless, sound, told_in, is_delta_of, own_delta, delta_in}
+use Rattle.node_links_members.specs.Results.{◌>>=◌, or_bad, Answers}
+use Rattle.node_links_members.specs.Telling.{range_in, extra_in, prev_in, object_in, row_in, each_in}
+use Rattle.node_links_members.specs.Told.{raw_told_in, unless, sound, told_in, is_delta_of, own_delta, delta_in}
 use Rattle.node_links_lines.specs.Writing.{text_of, encoded}
 use Rattle.node_links_lines.proofs.FoundLines.{decoded_found}
 use Rattle.node_links_lines.specs.Values.{whole, range_value, dot_value, prev_value, row_value, told_value, delta_value, value_of}

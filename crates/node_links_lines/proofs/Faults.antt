@@ -10,17 +10,17 @@ use Rattle.orswot_core.specs.Checks.{first_fault}
 use Rattle.node_links_lines.specs.declared.kinds.Kind.{Kind}
 use Rattle.node_links_lines.specs.declared.kinds.Kind.TheVariants as kinds_are
 use Rattle.node_links_lines.specs.declared.lines.Line.{Line}
-use Rattle.node_links_lines.specs.declared.lines.LinkFault.{LinkFault}
-use Rattle.node_links_lines.specs.declared.lines.LinkFault.TheVariants.{LineTooLong, NotJson, BadLine, BadTold, OtherShards, ReadFailed, WriteFailed, OutOfMemory, CutLine}
+use Rattle.node_links_members.specs.declared.fault.LinkFault.{LinkFault}
+use Rattle.node_links_members.specs.declared.fault.LinkFault.TheVariants.{LineTooLong, NotJson, BadLine, BadTold, OtherShards, ReadFailed, WriteFailed, OutOfMemory, CutLine}
 use Rattle.node_links_lines.specs.declared.lines.TheConstants.{MAX_LINE_BYTES, MAX_SHARDS}
 use Rattle.presence_base.specs.Names.{guarded}
-use Rattle.node_links_lines.specs.Arrays.{three_in, four_in, five_in, six_in}
+use Rattle.node_links_members.specs.Arrays.{three_in, four_in, five_in, six_in}
 use Rattle.node_links_lines.specs.Kinds.{kind_in}
-use Rattle.node_links_lines.specs.Members.{whole_in, number_in, bound_in, replica_in}
-use Rattle.node_links_lines.specs.Telling.{range_in, extra_in, row_in, list_in}
+use Rattle.node_links_members.specs.Members.{whole_in, number_in, bound_in, replica_in}
+use Rattle.node_links_members.specs.Telling.{range_in, extra_in, row_in, list_in}
 use Rattle.node_links_lines.specs.Reading.{below, shard_in, ok_items, ok_in, line_of_kind, line_in, found_value, decoded, IsTextFault}
-use Rattle.node_links_lines.specs.Results.{◌>>=◌, or_bad, Answers}
-use Rattle.node_links_lines.specs.Told.{raw_told_in, unless, sound, told_in, is_delta_of, own_delta, delta_in}
+use Rattle.node_links_members.specs.Results.{◌>>=◌, or_bad, Answers}
+use Rattle.node_links_members.specs.Told.{raw_told_in, unless, sound, told_in, is_delta_of, own_delta, delta_in}
 
 -- a bad line or a bad told value
 abbrev IsBad : LinkFault → Type 0

@@ -10,10 +10,10 @@ use Rattle.presence_base.specs.declared.dots.Dot.{Dot}
 use Rattle.presence_base.specs.declared.row.Row.{Row}
 use Rattle.presence_base.specs.Names.{is_node_name, guarded}
 use Rattle.orswot_core.specs.Telling.{Range}
-use Rattle.node_links_lines.specs.Arrays.{Three, three_items, three_in, Four, four_items, four_in, Five, five_items, five_in, Six, six_items, six_in, Eight, eight_items, eight_in}
+use Rattle.node_links_members.specs.Arrays.{Three, three_items, three_in, Four, four_items, four_in, Five, five_items, five_in, Six, six_items, six_in, Eight, eight_items, eight_in}
 use Rattle.node_links_lines.specs.Limits.{is_from_to, is_counted, is_bound, is_replica, is_told_range, is_told_dot, is_told_prev, is_told_row}
-use Rattle.node_links_lines.specs.Members.{◌>>=◌, whole_in, within, number_in, count_in, bound_in, text_in, name_in, replica_in, dot_in}
-use Rattle.node_links_lines.specs.Telling.{range_in, extra_in, prev_in, object_in, row_of, row_in, each_in, list_in}
+use Rattle.node_links_members.specs.Members.{◌>>=◌, whole_in, within, number_in, count_in, bound_in, text_in, name_in, replica_in, dot_in}
+use Rattle.node_links_members.specs.Telling.{range_in, extra_in, prev_in, object_in, row_of, row_in, each_in, list_in}
 use Rattle.node_links_lines.specs.Values.{whole, range_value, dot_value, prev_value, row_value}
 
 -- ---- steps

@@ -17,17 +17,17 @@ use Rattle.node_links_lines.specs.declared.kinds.Kind.{Kind}
 use Rattle.node_links_lines.specs.declared.kinds.Kind.TheVariants as kinds_are
 use Rattle.node_links_lines.specs.declared.lines.Line.{Line}
 use Rattle.node_links_lines.specs.declared.lines.Line.TheVariants as lines_are
-use Rattle.node_links_lines.specs.declared.lines.LinkFault.{LinkFault}
-use Rattle.node_links_lines.specs.declared.lines.LinkFault.TheVariants.{LineTooLong}
+use Rattle.node_links_members.specs.declared.fault.LinkFault.{LinkFault}
+use Rattle.node_links_members.specs.declared.fault.LinkFault.TheVariants.{LineTooLong}
 use Rattle.node_links_lines.specs.declared.lines.TheConstants.{MAX_LINE_BYTES, MAX_SHARDS}
-use Rattle.node_links_lines.specs.Arrays.{Three, three_in, Four, four_in, Five, five_in, Six, six_in}
+use Rattle.node_links_members.specs.Arrays.{Three, three_in, Four, four_in, Five, five_in, Six, six_in}
 use Rattle.node_links_lines.specs.Kinds.{kind_named, kind_first, kind_in}
 use Rattle.node_links_lines.specs.Limits.{is_from_to, is_bound, is_replica, is_told_range, is_told_dot, is_told_row, is_told, is_sound, is_delta, is_within}
-use Rattle.node_links_lines.specs.Members.{whole_in, number_in, bound_in, replica_in}
+use Rattle.node_links_members.specs.Members.{whole_in, number_in, bound_in, replica_in}
 use Rattle.node_links_lines.specs.Reading.{shard_in, hello_in, beat_in, want_in, told_line_in, permdown_in, gone_in, ok_items, ok_in, line_of_kind, line_in, found_value, value_in, decoded, IsLine}
-use Rattle.node_links_lines.specs.Results.{◌>>=◌, or_bad}
-use Rattle.node_links_lines.specs.Telling.{range_in, extra_in, row_in, list_in}
-use Rattle.node_links_lines.specs.Told.{raw_told_in, unless, sound, told_in, is_delta_of, own_delta, delta_in}
+use Rattle.node_links_members.specs.Results.{◌>>=◌, or_bad}
+use Rattle.node_links_members.specs.Telling.{range_in, extra_in, row_in, list_in}
+use Rattle.node_links_members.specs.Told.{raw_told_in, unless, sound, told_in, is_delta_of, own_delta, delta_in}
 use Rattle.node_links_lines.specs.Values.{whole, range_value, dot_value, row_value, told_value, delta_value, value_of}
 use Rattle.node_links_lines.proofs.Found.{guarded_ok, both, whole_ok, number_ok, replica_ok, three_ok, four_ok, five_ok, six_ok, range_ok, extra_ok, live_ok, list_ok}
 

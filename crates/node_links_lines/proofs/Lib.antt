@@ -1,5 +1,4 @@
 pub mod Again
-pub mod Each
 pub mod Faults
 pub mod Found
 pub mod FoundLines

@@ -1,11 +1,6 @@
-pub mod Arrays
+pub use Rattle.node_links_members.specs.Results
 pub mod Kinds
 pub mod Limits
-pub mod Members
 pub mod Reading
-pub mod Results
-pub mod Taken
-pub mod Telling
-pub mod Told
 pub mod Values
 pub mod Writing

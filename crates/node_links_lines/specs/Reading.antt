@@ -5,17 +5,17 @@ use Rattle.serde_json.specs.Read.{read}
 use Rattle.presence_base.specs.Names.{guarded}
 use Rattle.node_links_lines.specs.declared.lines.Line.{Line}
 use Rattle.node_links_lines.specs.declared.lines.Line.TheVariants as lines_are
-use Rattle.node_links_lines.specs.declared.lines.LinkFault.{LinkFault}
-use Rattle.node_links_lines.specs.declared.lines.LinkFault.TheVariants.{LineTooLong, NotJson, BadLine, BadTold, OutOfMemory}
+use Rattle.node_links_members.specs.declared.fault.LinkFault.{LinkFault}
+use Rattle.node_links_members.specs.declared.fault.LinkFault.TheVariants.{LineTooLong, NotJson, BadLine, BadTold, OutOfMemory}
 use Rattle.node_links_lines.specs.declared.lines.TheConstants.{MAX_LINE_BYTES, MAX_SHARDS}
 use Rattle.node_links_lines.specs.declared.kinds.Kind.{Kind}
 use Rattle.node_links_lines.specs.declared.kinds.Kind.TheVariants as kinds_are
-use Rattle.node_links_lines.specs.Arrays.{three_in, four_in, five_in, six_in}
+use Rattle.node_links_members.specs.Arrays.{three_in, four_in, five_in, six_in}
 use Rattle.node_links_lines.specs.Limits.{is_within}
 use Rattle.node_links_lines.specs.Kinds.{kind_in}
-use Rattle.node_links_lines.specs.Members.{whole_in, number_in, bound_in, replica_in}
-use Rattle.node_links_lines.specs.Results.{◌>>=◌, or_bad}
-use Rattle.node_links_lines.specs.Told.{told_in, delta_in}
+use Rattle.node_links_members.specs.Members.{whole_in, number_in, bound_in, replica_in}
+use Rattle.node_links_members.specs.Results.{◌>>=◌, or_bad}
+use Rattle.node_links_members.specs.Told.{told_in, delta_in}
 use Rattle.node_links_lines.specs.Values.{value_of}
 
 -- the number of one of n shards

@@ -2,8 +2,8 @@
 use Rattle.std.specs.Prelude.{ℕ, List, length, nat_lt, if◌then◌else◌, Result, Ok, Err}
 use Rattle.serde_json.specs.Written.{compact_text}
 use Rattle.node_links_lines.specs.declared.lines.Line.{Line}
-use Rattle.node_links_lines.specs.declared.lines.LinkFault.{LinkFault}
-use Rattle.node_links_lines.specs.declared.lines.LinkFault.TheVariants.{LineTooLong}
+use Rattle.node_links_members.specs.declared.fault.LinkFault.{LinkFault}
+use Rattle.node_links_members.specs.declared.fault.LinkFault.TheVariants.{LineTooLong}
 use Rattle.node_links_lines.specs.declared.lines.TheConstants.{MAX_LINE_BYTES}
 use Rattle.node_links_lines.specs.Values.{value_of}
 

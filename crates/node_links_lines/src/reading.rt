@@ -2,13 +2,14 @@
 ghost use Rattle.std.specs.Prelude.{◌≡◌, ◌≤◌};
 ghost use Rattle.serde_json.specs.View.{view, items_view};
 ghost use Rattle.node_links_lines.specs.Reading.{shard_in, hello_in, beat_in, want_in, told_line_in, permdown_in, gone_in, ok_items, ok_in, line_of_kind, line_in};
-ghost use Rattle.node_links_lines.specs.Results.{Answers, or_bad as found_or_bad};
+ghost use Rattle.node_links_members.specs.Results.{Answers, or_bad as found_or_bad};
 
-use crate::arrays::{five_of, four_of, take_six, take_three, three_of};
 use crate::kinds::{Kind, kind_of};
-use crate::lines::{Line, LinkFault, MAX_SHARDS};
-use crate::members::{bound_of, number_of, replica_of, whole_of};
-use crate::told::{delta_of, told_of};
+use crate::lines::{Line, MAX_SHARDS};
+use node_links_members::{
+    LinkFault, bound_of, delta_of, five_of, four_of, number_of, replica_of, take_six, take_three,
+    three_of, told_of, whole_of,
+};
 use serde_json::Value;
 use std::alloc::Global;
 

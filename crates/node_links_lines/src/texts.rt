@@ -2,17 +2,18 @@ ghost use Rattle.std.specs.Prelude.{◌≡◌, ◌≤◌, ◌<◌, ℕ, length, 
 ghost use Rattle.serde_json.specs.Read.{read};
 ghost use Rattle.serde_json.specs.View.{view};
 ghost use Rattle.node_links_lines.specs.declared.lines.Line.{Line as LineValue};
-ghost use Rattle.node_links_lines.specs.declared.lines.LinkFault.TheVariants.{LineTooLong};
+ghost use Rattle.node_links_members.specs.declared.fault.LinkFault.TheVariants.{LineTooLong};
 ghost use Rattle.node_links_lines.specs.declared.lines.TheConstants.{MAX_LINE_BYTES};
 ghost use Rattle.node_links_lines.specs.Limits.{is_within};
 ghost use Rattle.node_links_lines.specs.Reading.{IsLine, IsTextFault, value_in, decoded};
-ghost use Rattle.node_links_lines.specs.Results.{Answers, Gives};
+ghost use Rattle.node_links_members.specs.Results.{Answers, Gives};
 ghost use Rattle.node_links_lines.specs.Values.{value_of};
 ghost use Rattle.node_links_lines.specs.Writing.{text_of, encoded};
 
-use crate::lines::{Line, LinkFault, MAX_LINE_BYTES};
+use crate::lines::{Line, MAX_LINE_BYTES};
 use crate::reading::line_of_value;
 use crate::values::value_of_line;
+use node_links_members::LinkFault;
 use serde_json::{Category, Value};
 use std::alloc::{AllocError, Global};
 

@@ -5,8 +5,8 @@ use Rattle.presence_base.specs.Order.{same_replica}
 use Rattle.orswot_core.specs.Telling.{ToldValue}
 use Rattle.node_links_lines.specs.declared.lines.Line.{Line}
 use Rattle.node_links_lines.specs.declared.lines.Line.TheVariants as lines_are
-use Rattle.node_links_lines.specs.declared.lines.LinkFault.{LinkFault}
-use Rattle.node_links_lines.specs.declared.lines.LinkFault.TheVariants.{BadLine, OtherShards}
+use Rattle.node_links_members.specs.declared.fault.LinkFault.{LinkFault}
+use Rattle.node_links_members.specs.declared.fault.LinkFault.TheVariants.{BadLine, OtherShards}
 use Rattle.node_links_peer.specs.declared.action.LinkAction.{LinkAction}
 use Rattle.node_links_peer.specs.declared.action.LinkAction.TheVariants as actions_are
 use Rattle.node_links_peer.specs.declared.peer.End.{End}

@@ -1,7 +1,7 @@
 // What each line asks for.
 ghost use Rattle.std.specs.Prelude.{◌≡◌, ◌++◌, ◌∷◌, [], Ok, OnOk, IfErr};
 ghost use Rattle.presence_base.specs.Order.{same_replica};
-ghost use Rattle.node_links_lines.specs.declared.lines.LinkFault.TheVariants.{OutOfMemory};
+ghost use Rattle.node_links_members.specs.declared.fault.LinkFault.TheVariants.{OutOfMemory};
 ghost use Rattle.node_links_lines.specs.Results.{Adds, Gives};
 ghost use Rattle.node_links_peer.specs.Exchanges.{answer as answer_of, greeting as greeting_of, heard as heard_of, merge as merge_of, on_beat as on_beat_of, on_want as on_want_of, on_told as on_told_of, on_permdown as on_permdown_of, on_gone as on_gone_of, later as later_of};
 

@@ -2,8 +2,8 @@
 use Rattle.std.specs.Prelude.{◌≡◌, ◌≤◌, ◌<◌, ◌+◌, ℕ, List, [], ◌∷◌, ◌++◌, ◌==◌, length, take, Bool, true, not, Option, Some, None, Result, Ok, Err}
 use Rattle.std.specs.List.{list_all}
 use Rattle.std.specs.Io.KnownBytes.{Keeps, Consumes, IsAtEnd, Appends}
-use Rattle.node_links_lines.specs.declared.lines.LinkFault.{LinkFault}
-use Rattle.node_links_lines.specs.declared.lines.LinkFault.TheVariants.{LineTooLong, ReadFailed, WriteFailed, OutOfMemory, CutLine}
+use Rattle.node_links_members.specs.declared.fault.LinkFault.{LinkFault}
+use Rattle.node_links_members.specs.declared.fault.LinkFault.TheVariants.{LineTooLong, ReadFailed, WriteFailed, OutOfMemory, CutLine}
 use Rattle.node_links_lines.specs.declared.lines.TheConstants.{MAX_LINE_BYTES}
 
 -- what a reader has left, or a writer holds

@@ -1,4 +1,6 @@
 //! The lines of a link, read from a stream and written to one.
+//!
+//! Its public contracts cite `specs/Streams`: what reading and writing a line does to a stream.
 #![tactic(auto)]
 
 mod bytes;
