@@ -1,9 +1,24 @@
-//! Tests of the lines of links, by their public names: which text is which line, and what streams do.
+//! Tests of links: which text is which line, what streams do, and what each line of an exchange asks for, over a port that
+//! notes its calls and a stream that fails.
 #![tactic(auto)]
 
 #[cfg(test)]
+mod accepting;
+#[cfg(test)]
+mod actions;
+#[cfg(test)]
+mod desk;
+#[cfg(test)]
+mod dialling;
+#[cfg(test)]
 mod faulty;
 #[cfg(test)]
+mod junk;
+#[cfg(test)]
+mod port;
+#[cfg(test)]
 mod streams;
+#[cfg(test)]
+mod wire;
 #[cfg(test)]
 mod worked;

@@ -1,7 +1,8 @@
-//! Tests of contexts, sets, told values and deltas, by their public names. They have a crate of their own, so that the
-//! libraries aren't proved anew with them.
+//! Tests of contexts, sets, told values, deltas and the board of replicas, by their public names.
 #![tactic(auto)]
 
+#[cfg(test)]
+mod boards;
 #[cfg(test)]
 mod checks;
 #[cfg(test)]
