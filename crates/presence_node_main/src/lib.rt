@@ -12,4 +12,8 @@ mod words;
 pub use ending::{
     Ending, Stream, fold_ending, help_ending, stdio_ending, stopped_ending, usage_ending,
 };
+// What an ending is of.
+pub use presence_node_stdio::{
+    LocalSession, SessionFault, StdioFault, run_lines, run_stdio, status_of, told_line,
+};
 pub use running::{run_program, run_with};

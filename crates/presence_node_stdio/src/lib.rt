@@ -12,6 +12,7 @@ mod local;
 mod run;
 mod telling;
 
+pub use channel_session::SessionFault;
 pub use fault::{LineFault, StdioFault};
 pub use laws::joined_topics_are_mirrored;
 pub use local::{LocalSession, MAX_ITEMS, Output};

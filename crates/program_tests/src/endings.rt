@@ -2,9 +2,8 @@ use phx_message::MessageFault;
 use presence_metas::FrameFault;
 use presence_node_fold::FoldFault;
 use presence_node_lines::ReadFault;
-use presence_node_main::{Ending, Stream, fold_ending, stdio_ending, usage_ending};
+use presence_node_main::{Ending, StdioFault, Stream, fold_ending, stdio_ending, usage_ending};
 use presence_node_options::{UsageCause, UsageFault};
-use presence_node_stdio::StdioFault;
 use std::alloc::Global;
 use std::test::Fail;
 

@@ -1,7 +1,6 @@
 use crate::support::{INPUT, go_plainly, options_for};
-use channel_session::SessionFault;
 use presence_journal::{Entry, Outcome};
-use presence_node_stdio::{LocalSession, StdioFault};
+use presence_node_main::{LocalSession, SessionFault, StdioFault};
 use std::alloc::Global;
 use std::test::Fail;
 use tracker_shard::Sub;

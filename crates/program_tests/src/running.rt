@@ -1,9 +1,8 @@
 use crate::support::{INPUT, OUT, REPLIES, Sink, Source, go_plainly, options_for, run_plainly};
-use channel_session::SessionFault;
 use phx_message::MessageFault;
 use presence_node_lines::ReadFault;
+use presence_node_main::{LocalSession, SessionFault, StdioFault, status_of, told_line};
 use presence_node_options::StdioOptions;
-use presence_node_stdio::{LocalSession, StdioFault, status_of, told_line};
 use std::alloc::{AllocError, Global};
 use std::io::ErrorKind;
 use std::test::Fail;

@@ -1,6 +1,6 @@
 use hook_registry::NoHooks;
+use presence_node_main::{LocalSession, StdioFault, run_lines, run_stdio};
 use presence_node_options::{Options, StdioOptions, UsageFault, options_of};
-use presence_node_stdio::{LocalSession, StdioFault, run_lines, run_stdio};
 use std::alloc::Global;
 use std::io;
 use std::io::{ErrorKind, Read, Write};

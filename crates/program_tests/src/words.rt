@@ -1,8 +1,8 @@
 use crate::support::{help_for, options_for, told_for};
-use channel_session::SessionFault;
 use phx_message::MessageFault;
 use presence_metas::FrameFault;
 use presence_node_lines::number_of;
+use presence_node_main::SessionFault;
 use presence_node_options::{
     ALL_OPTIONS, FOLD_REFUSALS, FoldOptions, Options, STDIO_REFUSALS, UsageCause, UsageFault,
     options_of,

@@ -2,13 +2,11 @@
 
 use crate::line::line_over;
 use crate::turns::long_text;
-use channel_session::SessionFault;
 use phx_message::MessageFault;
-use presence_node_turns::{Cause, Progress, Stage, close_code};
-use serving_desk::{close_frame, frame, frames, wire_of};
+use serving_desk::{Cause, Progress, Stage, close_code, close_frame, frame, frames, wire_of};
+use session_desk::{SessionFault, ShardFault};
 use std::alloc::Global;
 use std::test::Fail;
-use tracker_shard::ShardFault;
 use tungstenite::CloseCode;
 
 // Whether these bytes end the connection for this cause with this code, and nothing else is sent.

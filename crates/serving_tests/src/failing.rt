@@ -1,8 +1,7 @@
 //! Streams that fail: at each read and each write, and full ones.
 
 use crate::line::{Line, line_over};
-use presence_node_turns::{Cause, Progress, Stage};
-use serving_desk::{REPLIES, TEXTS, frames, wire_of};
+use serving_desk::{Cause, Progress, REPLIES, Stage, TEXTS, frames, wire_of};
 use std::alloc::Global;
 use std::io::ErrorKind;
 use std::test::Fail;

@@ -1,8 +1,7 @@
 //! A connection over a stream in memory, and its turns.
 
 use hook_registry::{NoHooks, Routes};
-use presence_node_turns::{Connection, Progress};
-use serving_desk::{Wire, rooms, socket_over};
+use serving_desk::{Connection, Progress, Wire, rooms, socket_over};
 use session_desk::TestPort;
 use std::alloc::Global;
 use tungstenite::NoMask;

@@ -1,8 +1,7 @@
 //! Texts sent in their order: at once, over a stream that blocks, and more than may wait.
 
 use presence_node_sending::send_all;
-use presence_node_turns::socket_config;
-use serving_desk::{Wire, frames, wire_of};
+use serving_desk::{Wire, frames, socket_config, wire_of};
 use std::alloc::{AllocError, Global};
 use std::io::ErrorKind;
 use std::test::Fail;

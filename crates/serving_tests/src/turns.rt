@@ -1,8 +1,7 @@
 //! Turns that answer: the first run, pings, and texts of the greatest length.
 
 use crate::line::line_over;
-use presence_node_turns::{Cause, Progress, Stage};
-use serving_desk::{REPLIES, TEXTS, add_frame, frame, frames, wire_of};
+use serving_desk::{Cause, Progress, REPLIES, Stage, TEXTS, add_frame, frame, frames, wire_of};
 use std::alloc::{AllocError, Global};
 use std::test::Fail;
 

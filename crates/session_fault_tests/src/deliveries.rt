@@ -1,8 +1,7 @@
 //! Each call that a delivery makes of the port refused in turn, and what that leaves.
 
-use session_desk::{Desk, JOIN, JOINED, LATE, LATE_STATE, STATE, desk_of, fault_for};
+use session_desk::{Desk, JOIN, JOINED, LATE, LATE_STATE, STATE, ShardFault, desk_of, fault_for};
 use std::alloc::Global;
-use tracker_shard::ShardFault;
 
 // A desk for which two topics wait.
 fn waiting_desk(alloc: Global) -> Option<Desk> {

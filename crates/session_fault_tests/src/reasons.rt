@@ -1,8 +1,9 @@
 //! Refusals of the call of an event and of the track of a join, and the reasons that stand for them.
 
-use session_desk::{Desk, JOIN, JOINED, desk_of, error_reply, fault_for, joined_desk, message};
+use session_desk::{
+    Desk, JOIN, JOINED, ShardFault, desk_of, error_reply, fault_for, joined_desk, message,
+};
 use std::alloc::Global;
-use tracker_shard::ShardFault;
 
 const FAULTS: [ShardFault; 6] = [
     ShardFault::AlreadyTracked,

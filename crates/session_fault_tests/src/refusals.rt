@@ -1,12 +1,10 @@
 //! Each call that a text makes of the port refused in turn, and what that leaves.
 
-use channel_session::SessionFault;
 use session_desk::{
-    CLOSE, Desk, JOIN, JOINED, LATE, LEAVE, LEFT, REJOIN, REJOINED, UPDATE, UPDATED, desk_of,
-    fault_for,
+    CLOSE, Desk, JOIN, JOINED, LATE, LEAVE, LEFT, REJOIN, REJOINED, SessionFault, ShardFault,
+    UPDATE, UPDATED, desk_of, fault_for,
 };
 use std::alloc::Global;
-use tracker_shard::ShardFault;
 
 // A text of a session, on `room:lobby`.
 #[derive(Clone, Copy)]

@@ -1,15 +1,16 @@
 //! Sessions whose server adds a member to each presence, and notes joins and leaves: what is told,
 //! and what a closure that wants memory leaves.
 
-use channel_session::{Delivery, LocalPort, Session, SessionFault, deliver, end, run_text};
 use hook_registry::{Extra, Notice, PresenceHooks, Routes};
 use presence_base::{Dot, Key, NodeName, Replica, Topic, ref_text};
 use serde_json::json;
-use session_desk::{JOIN, JOINED, UPDATE, UPDATED, are_texts};
+use session_desk::{
+    Delivery, JOIN, JOINED, LocalPort, Session, SessionFault, Shard, UPDATE, UPDATED, are_texts,
+    deliver, end, run_text,
+};
 use std::alloc::{AllocError, Global};
 use std::cell::Cell;
 use std::test::Fail;
-use tracker_shard::Shard;
 
 // The state of the tracked join, and the diff of its update.
 const STATE: &str =

@@ -1,11 +1,10 @@
 //! Deliveries over a lent shard.
 
-use channel_session::{LocalPort, Session, SessionFault, deliver, run_text};
 use hook_registry::{NoHooks, Routes};
 use presence_base::{NodeName, Replica};
+use session_desk::{LocalPort, Session, SessionFault, Shard, deliver, run_text};
 use std::alloc::{AllocError, Global};
 use std::test::Fail;
-use tracker_shard::Shard;
 
 // A client over a shard of its own.
 #[derive(Drop)]

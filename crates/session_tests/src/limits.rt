@@ -1,8 +1,7 @@
 //! Keys, metas and payloads at their limits.
 
-use channel_session::SessionFault;
 use phx_message::MessageFault;
-use session_desk::{Desk, joined_desk, message};
+use session_desk::{Desk, SessionFault, joined_desk, message};
 use std::alloc::{AllocError, Global};
 
 // So many letters.

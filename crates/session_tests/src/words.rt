@@ -1,5 +1,5 @@
-use channel_session::SessionFault;
 use phx_message::MessageFault;
+use session_desk::SessionFault;
 use std::test::Fail;
 
 #[test]
