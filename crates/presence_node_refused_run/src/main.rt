@@ -1,9 +1,0 @@
-//! A run of `stdio` whose second line is refused.
-#![tactic(auto)]
-
-use presence_node_main::run_program;
-use std::process::ExitCode;
-
-fn main(rt: HostRuntime) -> ExitCode {
-    ExitCode::from(run_program(&rt))
-}

@@ -1,9 +1,0 @@
-//! A run with words that are refused.
-#![tactic(auto)]
-
-use presence_node_main::run_program;
-use std::process::ExitCode;
-
-fn main(rt: HostRuntime) -> ExitCode {
-    ExitCode::from(run_program(&rt))
-}
