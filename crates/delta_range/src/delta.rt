@@ -17,13 +17,26 @@ use std::marker::Model;
 /// What an owner tells of its counts above one and up to another: the rows of that range that are
 /// live, and older counts of its own that were removed meanwhile, as longest runs (a delta of
 /// Phoenix.Tracker, over the set of Bieniusa et al., 2012).
-#[derive(Drop)]
 pub struct Delta {
     owner: Replica,
     from: u64,
     to: u64,
     older: Vec<(u64, u64)>,
     live: Vec<(Dot, Row)>,
+}
+
+impl Drop for Delta {
+    fn drop(self) {
+        let Delta {
+            owner: _,
+            from: _,
+            to: _,
+            older,
+            live,
+        } = self;
+        drop(older);
+        drop(live);
+    }
 }
 
 impl Model for Delta {

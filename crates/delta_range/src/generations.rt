@@ -19,12 +19,26 @@ pub const LONG_CAP: usize = 10_000;
 
 /// The last deltas of one owner, joined in three generations, each of which keeps live rows and older runs together up to its
 /// cap.
-#[derive(Drop)]
 pub struct Generations {
     last: Option<(Replica, u64)>,
     short: Option<Delta>,
     middle: Option<Delta>,
     long: Option<Delta>,
+}
+
+impl Drop for Generations {
+    fn drop(self) {
+        let Generations {
+            last,
+            short,
+            middle,
+            long,
+        } = self;
+        drop(last);
+        drop(short);
+        drop(middle);
+        drop(long);
+    }
 }
 
 impl Model for Generations {

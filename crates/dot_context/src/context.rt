@@ -16,9 +16,15 @@ use std::marker::Model;
 /// (the version vector and the cloud of Bieniusa et al., 2012).
 ///
 /// A range of any length takes one entry. `covers` and `top` search, and cost the logarithm of the number of runs.
-#[derive(Drop)]
 pub struct Context {
     pub(crate) replicas: BTreeMap<Replica, Runs>,
+}
+
+impl Drop for Context {
+    fn drop(self) {
+        let Context { replicas } = self;
+        drop(replicas);
+    }
 }
 
 impl Model for Context {
@@ -103,7 +109,9 @@ impl Context {
         ensures ok { IfOk result (λ p. p ≡ record { held = self; more = more }) }
         ensures err { IfErr result (λ s. s ≡ self) }
     {
-        ContextPlan::new(alloc, self.replicas, more.replicas)
+        let Context { replicas } = self;
+        let Context { replicas: more } = more;
+        ContextPlan::new(alloc, replicas, more)
     }
 
     /// Takes out the replica's dots. Takes no memory.

@@ -198,9 +198,15 @@ fn runs_above(runs: &BTreeMap<u64, u64>) -> Range<'_, u64, u64>
 }
 
 /// The counts of one replica, as the longest runs in order.
-#[derive(Drop)]
 pub struct Runs {
     items: BTreeMap<u64, u64>,
+}
+
+impl Drop for Runs {
+    fn drop(self) {
+        let Runs { items } = self;
+        drop(items);
+    }
 }
 
 impl Model for Runs {

@@ -25,10 +25,17 @@ use std::mem;
 
 /// An observed-remove set of rows: the dots that are covered, and the rows that are live at some of
 /// them. A dot that is covered and not live was removed; nothing is kept of its row.
-#[derive(Drop)]
 pub struct Orswot {
     pub(crate) covered: Context,
     pub(crate) live: BTreeMap<Dot, Row>,
+}
+
+impl Drop for Orswot {
+    fn drop(self) {
+        let Orswot { covered, live } = self;
+        drop(covered);
+        drop(live);
+    }
 }
 
 impl Model for Orswot {

@@ -56,11 +56,24 @@ impl From<AllocError> for ToldFault {
 
 /// What is told of a set: ranges of dots (above one count, up to another), dots beside them, and
 /// the rows that are live. A dot that is covered and not live was removed.
-#[derive(Debug, Drop)]
+#[derive(Debug)]
 pub struct Told {
     ranges: Vec<(Replica, u64, u64)>,
     extras: Vec<Dot>,
     live: Vec<(Dot, Row)>,
+}
+
+impl Drop for Told {
+    fn drop(self) {
+        let Told {
+            ranges,
+            extras,
+            live,
+        } = self;
+        drop(ranges);
+        drop(extras);
+        drop(live);
+    }
 }
 
 impl Model for Told {

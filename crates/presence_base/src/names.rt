@@ -179,13 +179,20 @@ fn short_text(alloc: Global, text: &str) -> Result<Option<Text>, AllocError>
     if !is_short(text) {
         return Ok(None);
     }
-    Ok(Some(Text::new(alloc, text)?))
+    Ok(Some(Text::shared(alloc, text)?))
 }
 
 /// A topic: a text of 1 to 255 bytes.
-#[derive(PartialEq, Eq, Hash, PartialOrd, Ord, Debug, Drop)]
+#[derive(PartialEq, Eq, Hash, PartialOrd, Ord, Debug)]
 pub struct Topic {
     text: Text,
+}
+
+impl Drop for Topic {
+    fn drop(self) {
+        let Topic { text } = self;
+        drop(text);
+    }
 }
 
 impl Model for Topic {
@@ -247,9 +254,16 @@ impl Topic {
 }
 
 /// A key under which presences are tracked: a text of 1 to 255 bytes.
-#[derive(PartialEq, Eq, PartialOrd, Ord, Debug, Drop)]
+#[derive(PartialEq, Eq, PartialOrd, Ord, Debug)]
 pub struct Key {
     text: Text,
+}
+
+impl Drop for Key {
+    fn drop(self) {
+        let Key { text } = self;
+        drop(text);
+    }
 }
 
 impl Model for Key {

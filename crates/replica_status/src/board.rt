@@ -16,11 +16,21 @@ use std::marker::Model;
 ///
 /// Its time is the greatest that was handed in so far, in milliseconds, so a clock that goes back counts as no time passed.
 /// A replica is found by hash; a tick goes over all that are listed. Of a replica that is gone only its name is kept.
-#[derive(Drop)]
 pub struct Board {
     own: Replica,
     time: u64,
     standings: IndexMap<Listed, Standing>,
+}
+
+impl Drop for Board {
+    fn drop(self) {
+        let Board {
+            own: _,
+            time: _,
+            standings,
+        } = self;
+        drop(standings);
+    }
 }
 
 impl Model for Board {

@@ -17,7 +17,7 @@ together c =
 pub new-requires : goal.new-requires
 new-requires c = subst IsDelta (sym (together c)) (joined_keeps c.args.first.now c.args.next.now c.older.ensures.delta c.older-2.ensures.delta c.requires)
 
-value : (c : goal.After-drop-removed-inside-2) → c.new.result ≡ joined c.args.first.now c.args.next.now
+value : (c : goal.After-drop-removed-2) → c.new.result ≡ joined c.args.first.now c.args.next.now
 value c = c.new.ensures ∙ together c.before.before
 
 pub returns-clause-value : goal.returns-clause-value
