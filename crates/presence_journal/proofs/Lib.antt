@@ -13,6 +13,6 @@ pub mod Fold
 pub mod FoldOthers
 pub mod Fresh
 pub mod Merges
-mod WorkedTables
+pub mod WorkedTables
 mod Worked
 mod Limit

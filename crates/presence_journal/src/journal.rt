@@ -10,10 +10,17 @@ use std::marker::Model;
 pub const MAX_ENTRIES: usize = 262_144;
 
 /// What was asked of a shard, in order, each with the outcome of the sequential presence table.
-#[derive(Drop)]
 pub struct Journal {
     start: Start,
     entries: Vec<Entry>,
+}
+
+impl Drop for Journal {
+    fn drop(self) {
+        let Journal { start, entries } = self;
+        drop(start);
+        drop(entries);
+    }
 }
 
 impl Model for Journal {

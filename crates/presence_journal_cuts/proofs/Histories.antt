@@ -1,5 +1,5 @@
 -- The last cut, the rows above it, and what every delta keeps of them.
-use Rattle.std.proofs.Common.{◌≡◌, ℕ, ◌+◌, ◌<◌, ◌≤◌, ◌^◌, Bool, true, false, cond, ◌&&◌, nat_eq, nat_lt, nat_le, List, [], ◌∷◌, Option, Some, None, refl, sym, ◌∙◌, ap, subst, arith, inl, inr}
+use Rattle.std.proofs.Common.{◌≡◌, ℕ, ◌+◌, ◌≤◌, ◌^◌, Bool, true, false, cond, ◌&&◌, nat_lt, nat_le, List, [], ◌∷◌, Option, Some, None, refl, sym, ◌∙◌, ap, subst, arith}
 use Rattle.std.specs.Prelude.{is_none}
 use Rattle.std.proofs.lemmas.Bool.{and_parts}
 use Rattle.std.proofs.lemmas.Bool.Decides.{nat_tests}
@@ -15,7 +15,7 @@ use Rattle.presence_journal.specs.Steps.{Step, Outcome, Entry, Start}
 use Rattle.presence_journal.specs.History.{History, Begin, Then, own, count, counts_used, last_cut, cut_after, next_dot, has_dot, first_some, row_made, row_added, removed, row, live, shown}
 use Rattle.presence_journal.specs.Present.{dots_taken}
 use Rattle.presence_journal.specs.Queue.{Waiting, Behind, Queued, queue, topic_of}
-use Rattle.presence_journal.specs.Table.{IsLegal, rows_of_pid, rows_of_key, counting, tracked, updated, untracked, take_outcome, for_present, outcome_of}
+use Rattle.presence_journal.specs.Table.{IsLegal, rows_of_key, counting, tracked, updated, untracked, take_outcome, for_present, outcome_of}
 use Rattle.presence_journal.specs.Walk.{without, tells}
 use Rattle.presence_journal.specs.Merges.{is_of_rows}
 use Rattle.presence_journal.proofs.PresentLemmas.{shown-row}
@@ -29,7 +29,7 @@ use Rattle.presence_journal_cuts.proofs.Starts.{recent_found}
 -- ---- the last cut
 
 -- a cut is one up to the count, from the last one
-abbrev CutsHere : History → Outcome → Type 0
+abbrev pub CutsHere : History → Outcome → Type 0
 CutsHere h (outcomes_are.CutAt from to) = (from ≡ last_cut h) × (to ≡ count h)
 CutsHere h _ = Unit {0}
 
@@ -56,7 +56,7 @@ cuts_taken : (h : History) (max : ℕ) (w : Waiting) → CutsHere h (take_outcom
 cuts_taken h max Behind = tt
 cuts_taken h max (Queued q) = tt
 
-cuts_here : (h : History) (s : Step) (o : Outcome) → outcome_of h s ≡ Some o → CutsHere h o
+pub cuts_here : (h : History) (s : Step) (o : Outcome) → outcome_of h s ≡ Some o → CutsHere h o
 unfolding outcome_of
 cuts_here h (steps_are.Track pid topic key meta) o e = cuts_tracked h (rows_of_key h pid topic key) o e
 cuts_here h (steps_are.Update pid topic key meta) o e = cuts_updated h (rows_of_key h pid topic key) o e
@@ -159,7 +159,7 @@ own_live h e d l o = go (tells e.step) refl
     go false t = live_by h e d (legal_knows h l.0) kind t
     go true t = ((own_steps_alone h e l (tells_of_none e.step t)).1 d o).live ∙ sym (after_quiet e.step e.outcome d (live h d) (tells_quiet h e.step e.outcome kind t))
 
-own_shown : (h : History) (e : Entry) (d : Dot) → IsLegal (Then h e) → d.replica ≡ own h → shown (Then h e) d ≡ first_some (row_added e.step e.outcome d) (cond (has_dot (dots_taken e.outcome) d) None (shown h d))
+pub own_shown : (h : History) (e : Entry) (d : Dot) → IsLegal (Then h e) → d.replica ≡ own h → shown (Then h e) d ≡ first_some (row_added e.step e.outcome d) (cond (has_dot (dots_taken e.outcome) d) None (shown h d))
 own_shown h e d l o =
     shown-live (Then h e) d (o ∙ sym (own-then h e))
     ∙ (own_live h e d l o ∙ ap (λ x. first_some (row_added e.step e.outcome d) (cond (has_dot (dots_taken e.outcome) d) None x)) (sym (shown-live h d o)))

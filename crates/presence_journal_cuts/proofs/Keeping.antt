@@ -1,11 +1,10 @@
 -- What is told of a legal history keeps what every delta keeps.
-use Rattle.std.proofs.Common.{◌≡◌, ℕ, ◌≤◌, ◌<◌, ◌^◌, Bool, true, false, cond, ◌&&◌, ◌||◌, nat_le, nat_lt, List, [], ◌∷◌, Option, Some, None, refl, sym, ◌∙◌, ap, arith}
+use Rattle.std.proofs.Common.{◌≡◌, ℕ, ◌≤◌, ◌^◌, Bool, true, false, cond, ◌&&◌, ◌||◌, nat_le, nat_lt, List, [], ◌∷◌, Option, Some, None, refl, sym, ◌∙◌, ap, arith}
 use Rattle.std.specs.List.{AllByRecursion, list_any, list_all}
 use Rattle.std.specs.List.Sorted.{IsStrictlySortedBy}
 use Rattle.std.specs.Map.{lookup, keys_of}
-use Rattle.std.specs.Ordering.{is_eq, eq_by_cmp}
+use Rattle.std.specs.Ordering.{is_eq}
 use Rattle.std.specs.Cmp.{eq_by_cmp_equiv}
-use Rattle.std.specs.declared.cmp.Ordering.{Ordering}
 use Rattle.std.specs.declared.cmp.Ordering.TheVariants.{Less}
 use Rattle.std.proofs.lemmas.Bool.{and_from, and_parts, le-leb}
 use Rattle.std.proofs.lemmas.Option.{same_Some}
@@ -16,7 +15,7 @@ use Rattle.presence_base.specs.declared.row.Row.{Row}
 use Rattle.presence_base.specs.Order.{dot_cmp, same_dot, same_replica}
 use Rattle.dot_context.specs.Sets.{in_range}
 use Rattle.dot_context.specs.Runs.{holds}
-use Rattle.orswot_core_told.specs.Limits.{is_count, is_dot, is_prev, is_row, is_range}
+use Rattle.orswot_core_told.specs.Limits.{is_count, is_dot, is_prev, is_row}
 use Rattle.orswot_core_told.specs.Checks.{has_repeat}
 use Rattle.delta_range.specs.Deltas.{IsDelta}
 use Rattle.delta_range.specs.Longest.{longest}

@@ -1,6 +1,7 @@
-mod Starts
-mod Histories
-mod Keeping
-mod RunLemmas
-mod Goings
+pub mod Starts
+pub mod Histories
+pub mod Keeping
+pub mod RunLemmas
+pub mod Goings
 mod Joined
+mod PlainLemmas

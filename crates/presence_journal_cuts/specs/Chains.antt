@@ -1,5 +1,5 @@
 -- Chains as the code keeps them: runs of counts by count.
-use Rattle.std.specs.Prelude.{◌≡◌, ℕ, ◌≤◌, Bool, true, cond, nat_le, List, [], ◌∷◌, Option, Some, None}
+use Rattle.std.specs.Prelude.{◌≡◌, ℕ, ◌≤◌, Bool, true, cond, ◌&&◌, ◌||◌, nat_eq, nat_le, List, [], ◌∷◌, Option, Some, None}
 use Rattle.std.specs.BTreeMap.{BTreeMap, get}
 use Rattle.std.specs.Ordering.{nat_cmp}
 use Rattle.std.specs.List.{list_all}
@@ -9,9 +9,10 @@ use Rattle.dot_context.specs.Runs.{holds, AreLong}
 use Rattle.dot_context.specs.Sets.{in_range, listed}
 use Rattle.presence_journal_data.specs.declared.entry.Outcome.TheVariants as outcomes_are
 use Rattle.presence_journal.specs.Steps.{Outcome, Entry, Start}
-use Rattle.presence_journal.specs.History.{first_some, row_added}
+use Rattle.presence_journal.specs.History.{first_some, cut_after, row_added}
 use Rattle.presence_journal.specs.Present.{dots_taken}
 use Rattle.presence_journal.specs.Walk.{row_at, without}
+use Rattle.presence_journal_cuts.specs.Cuts.{goes, older_after}
 
 abbrev pub Chains : Type 0
 Chains = BTreeMap ℕ (List (ℕ × ℕ))
@@ -31,9 +32,42 @@ Counts f g = (n : ℕ) → 1 ≤ n → f n ≡ g n
 abbrev pub Chained : (ℕ → ℕ → Bool) → (ℕ → ℕ → Bool) → Type 0
 Chained f g = (c n : ℕ) → 1 ≤ n → f c n ≡ g c n
 
+-- the runs have one count more, and none is hollow
+pub record GrowsBy (old : List (ℕ × ℕ)) (count : ℕ) (new : List (ℕ × ℕ)) : Type 0 where
+  pub counts : (n : ℕ) → holds new n ≡ (holds old n || nat_eq n count)
+  pub long : AreLong new
+
+-- with other counts in the chain of one count
+abbrev pub put_at : (ℕ → ℕ → Bool) → ℕ → (ℕ → Bool) → ℕ → ℕ → Bool
+put_at chain count counts c n = cond (nat_eq c count) (counts n) (chain c n)
+
+-- a chain comes in the place of that of its count
+abbrev pub PutsChain : Chains → ℕ → List (ℕ × ℕ) → Chains → Type 0
+PutsChain m count chain m' = (c : ℕ) → get nat_cmp m' c ≡ cond (nat_eq c count) (Some chain) (get nat_cmp m c)
+
+-- the chain of an entry of a list, at its count
+abbrev pub chain_at : ℕ × List (ℕ × ℕ) → ℕ → Option (List (ℕ × ℕ))
+chain_at x c = cond (nat_eq c x.0) (Some x.1) None
+
+-- that chain comes where its count has none yet
+abbrev pub KeepsChain : Chains → ℕ × List (ℕ × ℕ) → Chains → Type 0
+KeepsChain m x m' = (c : ℕ) → get nat_cmp m' c ≡ first_some (get nat_cmp m c) (chain_at x c)
+
 -- runs of counts up to one, none of which is hollow
 abbrev pub AreUpTo : ℕ → List (ℕ × ℕ) → Type 0
 AreUpTo end rs = AreLong rs × (list_all (λ r. nat_le r.1 end) rs ≡ true)
+
+-- what goes with these dots comes to the runs, as far as it is at or below the last cut
+abbrev pub TakesIn : ℕ → Chains → List Dot → List (ℕ × ℕ) → List (ℕ × ℕ) → Type 0
+TakesIn last m ds rs rs' = Counts (holds rs') (λ n. holds rs n || (nat_le n last && goes (has m) ds n))
+
+-- the runs have what an outcome makes of the older counts
+abbrev pub OlderAfter : Outcome → ℕ → Chains → List (ℕ × ℕ) → List (ℕ × ℕ) → Type 0
+OlderAfter o last m rs rs' = Counts (holds rs') (older_after o last (has m) (holds rs))
+
+-- the runs stay at or below the last cut
+abbrev pub KeptAfter : Outcome → ℕ → Chains → List (ℕ × ℕ) → List (ℕ × ℕ) → Type 0
+KeptAfter o last m rs rs' = AreChains m → AreUpTo last rs → AreUpTo (cut_after o last) rs'
 
 -- what a cut tells is not told by the next one
 abbrev pub unless_cut : Outcome → Option Row → Option Row
@@ -42,7 +76,8 @@ unless_cut _ o = o
 
 -- the rows above the last cut after an entry, where f gives those before it
 abbrev pub recent_after : Entry → (Dot → Option Row) → Dot → Option Row
-recent_after e f d = unless_cut e.outcome (first_some (row_added e.step e.outcome d) (without (dots_taken e.outcome) f d))
+recent_after e f d =
+    unless_cut e.outcome (first_some (row_added e.step e.outcome d) (without (dots_taken e.outcome) f d))
 
 -- a dot of a Start's own counts above its last cut
 abbrev pub is_recent : Start → Dot → Bool

@@ -2,7 +2,6 @@
 use Rattle.std.specs.Prelude.{◌≡◌, ℕ, ◌≤◌, Bool, false, cond, ◌&&◌, ◌||◌, nat_eq, nat_le, List, Option, None}
 use Rattle.std.specs.List.{list_any}
 use Rattle.std.specs.Map.{lookup}
-use Rattle.presence_base.specs.declared.dots.Replica.{Replica}
 use Rattle.presence_base.specs.declared.dots.Dot.{Dot}
 use Rattle.presence_base.specs.declared.row.Row.{Row}
 use Rattle.dot_context.specs.Runs.{holds}
@@ -15,9 +14,18 @@ use Rattle.presence_journal.specs.Steps.{Outcome}
 use Rattle.presence_journal.specs.History.{History, Begin, Then, own, count, last_cut, shown}
 use Rattle.presence_journal.specs.Present.{dots_taken}
 
+-- a count stands for itself, and for those of its chain
+abbrev pub stands_for : (ℕ → ℕ → Bool) → ℕ → ℕ → Bool
+stands_for chain c n = nat_eq n c || chain c n
+
+-- the chains but that of one count
+abbrev pub left_at : ℕ → (ℕ → ℕ → Bool) → ℕ → ℕ → Bool
+left_at gone chain c n = cond (nat_eq c gone) false (chain c n)
+
 -- an update hands on to the new row's count what the old one stood for, and the old one itself
 abbrev pub chain_after : Outcome → (ℕ → ℕ → Bool) → ℕ → ℕ → Bool
-chain_after (outcomes_are.Replaced new old) chain c n = cond (nat_eq c new.count) (nat_eq n old.count || chain old.count n) (cond (nat_eq c old.count) false (chain c n))
+chain_after (outcomes_are.Replaced new old) chain c n =
+    cond (nat_eq c new.count) (stands_for chain old.count n) (left_at old.count chain c n)
 chain_after _ chain c n = chain c n
 
 -- the chain that a list has for a count
@@ -31,7 +39,7 @@ chain (Then h e) c n = chain_after e.outcome (chain h) c n
 
 -- one of these dots goes, each with its chain
 abbrev pub goes : (ℕ → ℕ → Bool) → List Dot → ℕ → Bool
-goes chain ds n = list_any (λ d. nat_eq n d.count || chain d.count n) ds
+goes chain ds n = list_any (λ d. stands_for chain d.count n) ds
 
 abbrev pub older_after : Outcome → ℕ → (ℕ → ℕ → Bool) → (ℕ → Bool) → ℕ → Bool
 older_after (outcomes_are.CutAt from to) last chain older n = false

@@ -1,3 +1,4 @@
 pub mod Cuts
 pub mod Chains
 pub mod Joined
+pub mod Plain

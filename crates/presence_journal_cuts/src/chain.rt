@@ -1,11 +1,11 @@
 // Chains: for the count of a live row, the counts of the rows that were replaced in turn.
-ghost use Rattle.std.specs.Prelude.{◌≡◌, ◌≤◌, ◌||◌, ℕ, nat_eq, cond, false, Some, OnOk, option_copied};
+ghost use Rattle.std.specs.Prelude.{◌≡◌, ◌<◌, ◌≤◌, ◌||◌, ℕ, nat_eq, false, IsTrue, OnOk, option_copied};
 ghost use Rattle.std.specs.BTreeMap.{get};
 ghost use Rattle.std.specs.Ordering.{nat_cmp};
 ghost use Rattle.dot_context.specs.Runs.{holds, AreLong};
 ghost use Rattle.dot_context.specs.Sets.{listed};
-ghost use Rattle.presence_journal_cuts.specs.Chains.{AreChains, Chained, Counts, has};
-ghost use Rattle.presence_journal_cuts.specs.Cuts.{chain_after};
+ghost use Rattle.presence_journal_cuts.specs.Chains.{AreChains, Chained, Counts, GrowsBy, PutsChain, has, put_at};
+ghost use Rattle.presence_journal_cuts.specs.Cuts.{chain_after, left_at};
 
 use presence_journal::{Outcome, Runs};
 use std::alloc::{AllocError, Global};
@@ -13,9 +13,15 @@ use std::collections::BTreeMap;
 use std::marker::Model;
 
 /// Counts as runs: each is the count below its first one and its last one.
-#[derive(Drop)]
-pub(crate) struct Chain {
+pub struct Chain {
     runs: Vec<(u64, u64)>,
+}
+
+impl Drop for Chain {
+    fn drop(self) {
+        let Chain { runs } = self;
+        drop(runs);
+    }
 }
 
 impl Model for Chain {
@@ -29,12 +35,24 @@ impl Model for Chain {
     ghost view = { λ c. c.runs.items };
 }
 
+impl Clone for Chain {
+    ghost use Rattle.std.specs.Prelude.{◌≡◌};
+
+    ghost is_clone = { λ c d. d ≡ c };
+
+    fn clone(&self) -> Result<Chain, AllocError> {
+        let runs = self.runs.clone()?;
+        Ok(Chain { runs })
+    }
+}
+
 impl Chain {
     ghost use Rattle.std.specs.Prelude.{◌≡◌, ◌≤◌, ◌||◌, ℕ, nat_eq, [], IfOk, OnOk};
     ghost use Rattle.dot_context.specs.Runs.{holds, AreLong};
     ghost use Rattle.presence_journal_cuts.specs.Chains.{Counts};
 
-    fn new(alloc: Global) -> Chain
+    /// No counts.
+    pub fn new(alloc: Global) -> Chain
         ensures { result ≡ [] }
     {
         Chain {
@@ -50,15 +68,18 @@ impl Chain {
         Ok(Chain { runs })
     }
 
-    pub(crate) fn as_slice(&self) -> &[(u64, u64)]
+    /// Its runs.
+    pub fn as_slice(&self) -> &[(u64, u64)]
         ensures { result.now ≡ self.now }
     {
         self.runs.as_slice()
     }
 
-    fn push(&mut self, count: u64) -> Result<(), AllocError>
+    /// Adds a count.
+    pub fn push(&mut self, count: u64) -> Result<(), AllocError>
+        requires { AreLong self.old }
         ensures counts { OnOk result (Counts (holds self.new) (λ n. holds self.old n || nat_eq n count)) }
-        ensures long { OnOk result (AreLong self.old → AreLong self.new) }
+        ensures long { OnOk result (AreLong self.new) }
     {
         push_count(&mut self.runs, count)
     }
@@ -66,19 +87,37 @@ impl Chain {
 
 // Adds a count, to the last run where it goes on from that.
 pub(crate) fn push_count(runs: &mut Vec<(u64, u64)>, count: u64) -> Result<(), AllocError>
+    requires { AreLong runs.old.items }
     ensures counts { OnOk result (Counts (holds runs.new.items) (λ n. holds runs.old.items n || nat_eq n count)) }
-    ensures long { OnOk result (AreLong runs.old.items → AreLong runs.new.items) }
+    ensures long { OnOk result (AreLong runs.new.items) }
 {
-    if count > 0 {
+    if count > 0 && !grow_last(runs, count) {
         runs.push((count - 1, count))?;
     }
     Ok(())
 }
 
+// Lets the last run go on to a count, where it ends right below that, and says whether it does.
+fn grow_last(runs: &mut [(u64, u64)], count: u64) -> bool
+    requires long { AreLong runs.old }
+    requires above { 0 < count }
+    ensures grown { IsTrue result → GrowsBy runs.old count runs.new }
+    ensures same { result ≡ false → runs.new ≡ runs.old }
+{
+    let Some(last) = runs.last_mut() else {
+        return false;
+    };
+    if last.1 != count - 1 {
+        return false;
+    }
+    last.1 = count;
+    true
+}
+
 // The chain that is taken out, or none.
 fn taken_chain(alloc: Global, chains: &mut BTreeMap<u64, Chain>, count: u64) -> Chain
     ensures chain { result ≡ listed (get nat_cmp chains.old count) }
-    ensures rest { (c n : ℕ) → has chains.new c n ≡ cond (nat_eq c count) false (has chains.old c n) }
+    ensures rest { (c n : ℕ) → has chains.new c n ≡ left_at count (has chains.old) c n }
     ensures long { AreChains chains.old → AreChains chains.new }
 {
     match chains.remove(&count) {
@@ -93,9 +132,9 @@ pub(crate) fn put_chain(
     count: u64,
     chain: Chain,
 ) -> Result<(), AllocError>
-    ensures chains { OnOk result ((c n : ℕ) → has chains.new c n ≡ cond (nat_eq c count) (holds chain n) (has chains.old c n)) }
+    ensures chains { OnOk result ((c n : ℕ) → has chains.new c n ≡ put_at (has chains.old) count (holds chain) c n) }
     ensures long { OnOk result (AreLong chain → AreChains chains.old → AreChains chains.new) }
-    ensures got { OnOk result ((c : ℕ) → get nat_cmp chains.new c ≡ cond (nat_eq c count) (Some chain) (get nat_cmp chains.old c)) }
+    ensures got { OnOk result (PutsChain chains.old count chain chains.new) }
 {
     chains.insert(count, chain)?;
     Ok(())
@@ -107,8 +146,9 @@ pub(crate) fn hand_on(
     chains: &mut BTreeMap<u64, Chain>,
     outcome: &Outcome,
 ) -> Result<(), AllocError>
+    requires { AreChains chains.old }
     ensures chains { OnOk result (Chained (has chains.new) (chain_after outcome.now (has chains.old))) }
-    ensures long { OnOk result (AreChains chains.old → AreChains chains.new) }
+    ensures long { OnOk result (AreChains chains.new) }
 {
     if let Outcome::Replaced(new, old) = outcome {
         let mut chain = taken_chain(alloc, chains, old.count);

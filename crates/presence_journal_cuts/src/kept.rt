@@ -1,13 +1,12 @@
 // What a journal begins with: the counts that went, the chains, and the own rows above the last cut.
-ghost use Rattle.std.specs.Prelude.{◌≡◌, ℕ, nat_eq, cond, Some, None, IfOk, OnOk};
+ghost use Rattle.std.specs.Prelude.{◌≡◌, ℕ, nat_eq, Some, IfOk, OnOk};
 ghost use Rattle.std.specs.BTreeMap.{get};
 ghost use Rattle.std.specs.Map.{lookup};
 ghost use Rattle.std.specs.Ordering.{nat_cmp};
 ghost use Rattle.presence_base.specs.Order.{dot_cmp};
-ghost use Rattle.presence_journal.specs.History.{first_some};
 ghost use Rattle.presence_journal.specs.Walk.{row_at};
 ghost use Rattle.presence_journal_sets.specs.ByDot.{Alike, over};
-ghost use Rattle.presence_journal_cuts.specs.Chains.{is_recent, row_recent, rows_recent};
+ghost use Rattle.presence_journal_cuts.specs.Chains.{KeepsChain, is_recent, row_recent, rows_recent};
 
 use crate::chain::{Chain, put_chain};
 use crate::recent::put_row;
@@ -17,7 +16,7 @@ use std::alloc::{AllocError, Global};
 use std::collections::BTreeMap;
 
 /// The runs as a list that can grow.
-pub(crate) fn kept_runs(alloc: Global, runs: &Runs) -> Result<Vec<(u64, u64)>, AllocError>
+pub fn kept_runs(alloc: Global, runs: &Runs) -> Result<Vec<(u64, u64)>, AllocError>
     ensures { IfOk result (λ v. v.items ≡ runs.now) }
 {
     runs.as_slice().to_vec(alloc)
@@ -29,7 +28,7 @@ fn keep_chain(
     chains: &mut BTreeMap<u64, Chain>,
     listed: &(u64, Runs),
 ) -> Result<(), AllocError>
-    ensures { OnOk result ((c : ℕ) → get nat_cmp chains.new c ≡ first_some (get nat_cmp chains.old c) (cond (nat_eq c listed.now.0) (Some listed.now.1) None)) }
+    ensures { OnOk result (KeepsChain chains.old listed.now chains.new) }
 {
     if chains.contains_key(&listed.0) {
         return Ok(());
@@ -40,7 +39,7 @@ fn keep_chain(
 }
 
 /// The chains by their counts, the first of each.
-pub(crate) fn kept_chains(
+pub fn kept_chains(
     alloc: Global,
     listed: &[(u64, Runs)],
 ) -> Result<BTreeMap<u64, Chain>, AllocError>
@@ -87,7 +86,7 @@ fn keep_recent(
 }
 
 /// The own rows above the last cut, by their dots.
-pub(crate) fn kept_rows(alloc: Global, start: &Start) -> Result<BTreeMap<Dot, Row>, AllocError>
+pub fn kept_rows(alloc: Global, start: &Start) -> Result<BTreeMap<Dot, Row>, AllocError>
     ensures { IfOk result (λ m. Alike (get dot_cmp m) (rows_recent start.now start.now.content.live)) }
 {
     let live = start.content.live();

@@ -15,8 +15,8 @@ pub(crate) fn last_after(outcome: &Outcome, last: u64) -> u64
     }
 }
 
-// The dots whose rows an outcome takes out.
-pub(crate) fn dots_out(outcome: &Outcome) -> &[Dot]
+/// The dots whose rows an outcome takes out.
+pub fn dots_out(outcome: &Outcome) -> &[Dot]
     ensures { result.now ≡ dots_taken outcome.now }
 {
     match outcome {

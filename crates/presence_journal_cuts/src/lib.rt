@@ -1,7 +1,7 @@
 //! What a shard's journal tells other nodes of its own replica: a cut.
 //!
-//! Its public contracts cite `specs/Cuts`: what a cut tells; and `specs/Joined`: what a history says once it merged
-//! joined deltas. `specs/Chains` is of loops and parts.
+//! Its public contracts cite `specs/Cuts`: what a cut tells; `specs/Joined`: what a history says once it merged
+//! joined deltas; and `specs/Plain`: what goes wrong with less than a cut tells. `specs/Chains` is of loops and parts.
 #![tactic(auto)]
 
 mod chain;
@@ -12,5 +12,9 @@ pub mod laws;
 mod older;
 mod recent;
 
+pub use chain::Chain;
 pub use cut::walk_cut;
-pub use last::walk_last_cut;
+pub use kept::{kept_chains, kept_rows, kept_runs};
+pub use last::{dots_out, walk_last_cut};
+pub use older::push_all_gone;
+pub use recent::{added_row, drop_dots, put_row};

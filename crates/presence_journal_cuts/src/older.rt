@@ -1,10 +1,10 @@
 // The older counts that went since the last cut.
-ghost use Rattle.std.specs.Prelude.{◌≡◌, ◌∷◌, [], ◌&&◌, ◌||◌, ℕ, nat_eq, nat_le, IfOk, OnOk};
+ghost use Rattle.std.specs.Prelude.{◌≡◌, ◌∷◌, [], ◌||◌, ℕ, nat_eq, IfOk, OnOk};
 ghost use Rattle.dot_context.specs.Runs.{holds};
-ghost use Rattle.presence_journal.specs.History.{cut_after, last_cut};
+ghost use Rattle.presence_journal.specs.History.{last_cut};
 ghost use Rattle.presence_journal.specs.Present.{dots_taken};
-ghost use Rattle.presence_journal_cuts.specs.Chains.{AreChains, AreUpTo, Counts, has};
-ghost use Rattle.presence_journal_cuts.specs.Cuts.{goes, older_after, older};
+ghost use Rattle.presence_journal_cuts.specs.Chains.{AreChains, AreUpTo, Counts, KeptAfter, OlderAfter, TakesIn};
+ghost use Rattle.presence_journal_cuts.specs.Cuts.{older};
 
 use crate::chain::{Chain, hand_on, push_count};
 use crate::kept::{kept_chains, kept_runs};
@@ -23,7 +23,7 @@ fn push_gone(
     last: u64,
     dot: &Dot,
 ) -> Result<(), AllocError>
-    ensures counts { OnOk result (Counts (holds runs.new.items) (λ n. holds runs.old.items n || (nat_le n last && goes (has chains.now) (dot.now ∷ []) n))) }
+    ensures counts { OnOk result (TakesIn last chains.now (dot.now ∷ []) runs.old.items runs.new.items) }
     ensures kept { OnOk result (AreChains chains.now → AreUpTo last runs.old.items → AreUpTo last runs.new.items) }
 {
     let mut itself = Vec::new(alloc);
@@ -35,15 +35,15 @@ fn push_gone(
     }
 }
 
-// The same of several dots.
-fn push_all_gone(
+/// Adds the counts of the dots and their chains, as far as they are at or below the last cut.
+pub fn push_all_gone(
     alloc: Global,
     runs: &mut Vec<(u64, u64)>,
     chains: &BTreeMap<u64, Chain>,
     last: u64,
     dots: &[Dot],
 ) -> Result<(), AllocError>
-    ensures counts { OnOk result (Counts (holds runs.new.items) (λ n. holds runs.old.items n || (nat_le n last && goes (has chains.now) dots.now n))) }
+    ensures counts { OnOk result (TakesIn last chains.now dots.now runs.old.items runs.new.items) }
     ensures kept { OnOk result (AreChains chains.now → AreUpTo last runs.old.items → AreUpTo last runs.new.items) }
 {
     for dot in dots {
@@ -60,8 +60,8 @@ fn go_out(
     last: u64,
     outcome: &Outcome,
 ) -> Result<(), AllocError>
-    ensures counts { OnOk result (Counts (holds runs.new.items) (older_after outcome.now last (has chains.now) (holds runs.old.items))) }
-    ensures kept { OnOk result (AreChains chains.now → AreUpTo last runs.old.items → AreUpTo (cut_after outcome.now last) runs.new.items) }
+    ensures counts { OnOk result (OlderAfter outcome.now last chains.now runs.old.items runs.new.items) }
+    ensures kept { OnOk result (KeptAfter outcome.now last chains.now runs.old.items runs.new.items) }
 {
     match outcome {
         Outcome::CutAt(_, _) => {

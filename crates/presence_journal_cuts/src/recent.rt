@@ -1,5 +1,5 @@
 // The own rows above the last cut.
-ghost use Rattle.std.specs.Prelude.{◌≡◌, None, cond, IfOk, OnOk};
+ghost use Rattle.std.specs.Prelude.{◌≡◌, None, cond, IfOk, OnErr, OnOk};
 ghost use Rattle.std.specs.BTreeMap.{get};
 ghost use Rattle.std.specs.List.Sorted.{IsStrictlySortedBy};
 ghost use Rattle.std.specs.Map.{keys_of, lookup};
@@ -71,12 +71,10 @@ fn under_dot(dot: Dot, row: Option<Row>) -> Option<(Dot, Row)>
     }
 }
 
-// Puts a row under its dot.
-pub(crate) fn put_row(
-    rows: &mut BTreeMap<Dot, Row>,
-    added: Option<(Dot, Row)>,
-) -> Result<(), AllocError>
-    ensures { OnOk result (Alike (get dot_cmp rows.new) (over (row_at added) (get dot_cmp rows.old))) }
+/// Puts a row under its dot.
+pub fn put_row(rows: &mut BTreeMap<Dot, Row>, added: Option<(Dot, Row)>) -> Result<(), AllocError>
+    ensures ok { OnOk result (Alike (get dot_cmp rows.new) (over (row_at added) (get dot_cmp rows.old))) }
+    ensures err { OnErr result (Alike (get dot_cmp rows.new) (get dot_cmp rows.old)) }
 {
     if let Some((dot, row)) = added {
         rows.insert(dot, row)?;
@@ -84,8 +82,8 @@ pub(crate) fn put_row(
     Ok(())
 }
 
-// The row that an entry adds, with its dot.
-fn added_row(entry: &Entry) -> Result<Option<(Dot, Row)>, AllocError>
+/// The row that an entry adds, with its dot.
+pub fn added_row(entry: &Entry) -> Result<Option<(Dot, Row)>, AllocError>
     ensures { IfOk result (λ o. (d : Dot) → row_at o d ≡ row_added entry.now.step entry.now.outcome d) }
 {
     match &entry.outcome {
@@ -101,8 +99,8 @@ fn added_row(entry: &Entry) -> Result<Option<(Dot, Row)>, AllocError>
     }
 }
 
-// Takes the rows of these dots out.
-fn drop_dots(rows: &mut BTreeMap<Dot, Row>, dots: &[Dot])
+/// Takes the rows of these dots out. Takes no memory.
+pub fn drop_dots(rows: &mut BTreeMap<Dot, Row>, dots: &[Dot])
     ensures { Alike (get dot_cmp rows.new) (without dots.now (get dot_cmp rows.old)) }
 {
     for dot in dots {

@@ -3,13 +3,28 @@ use crate::standings::Standings;
 use crate::step::Step;
 use orswot_core_told::Told;
 use presence_base::{Dot, Replica};
-use std::alloc::AllocError;
+use std::alloc::{AllocError, Global};
 use std::marker::Model;
+use std::sync::Arc;
 
-/// A list of dots.
+// Where the dots of a list lie.
 #[derive(Debug, Drop)]
+enum HeldDots {
+    Owned(Vec<Dot>),
+    Shared(Arc<Vec<Dot>, Global>),
+}
+
+/// A list of dots. What is cloned from a shared list shares its dots.
+#[derive(Debug)]
 pub struct Dots {
-    items: Vec<Dot>,
+    held: HeldDots,
+}
+
+impl Drop for Dots {
+    fn drop(self) {
+        let Dots { held } = self;
+        drop(held);
+    }
 }
 
 impl Model for Dots {
@@ -17,33 +32,41 @@ impl Model for Dots {
     ghost use Rattle.std.specs.Coded.{coded_list};
     ghost use Rattle.presence_base.specs.declared.dots.Dot.{Dot};
     ghost use Rattle.presence_base.specs.Codes.{dot_code};
+    ghost use Rattle.presence_journal_data.specs.HeldDots.{held_dots};
 
     ghost Value = { List Dot };
 
     ghost coded = { coded_list dot_code };
 
-    ghost view = { λ d. d.items.items };
+    ghost view = { λ d. held_dots d.held };
 }
 
 impl Dots {
-    ghost use Rattle.std.specs.Prelude.{◌≡◌};
+    ghost use Rattle.std.specs.Prelude.{◌≡◌, IfOk};
 
+    /// The list, without taking memory.
     pub fn new(items: Vec<Dot>) -> Dots
         ensures { result ≡ items.items }
     {
-        Dots { items }
+        let held = HeldDots::Owned(items);
+        Dots { held }
+    }
+
+    /// The list, with dots that all its clones share.
+    pub fn shared(alloc: Global, items: Vec<Dot>) -> Result<Dots, AllocError>
+        ensures { IfOk result (λ d. d ≡ items.items) }
+    {
+        let held = HeldDots::Shared(Arc::new(alloc, items)?);
+        Ok(Dots { held })
     }
 
     pub fn as_slice(&self) -> &[Dot]
         ensures { result.now ≡ self.now }
     {
-        self.items.as_slice()
-    }
-
-    pub fn into_vec(self) -> Vec<Dot>
-        ensures { result.items ≡ self }
-    {
-        self.items
+        match &self.held {
+            HeldDots::Owned(items) => items.as_slice(),
+            HeldDots::Shared(items) => items.as_slice(),
+        }
     }
 }
 
@@ -119,8 +142,11 @@ impl Clone for Dots {
     ghost is_clone = { λ d e. e ≡ d };
 
     fn clone(&self) -> Result<Dots, AllocError> {
-        let items = self.items.clone()?;
-        Ok(Dots { items })
+        let held = match &self.held {
+            HeldDots::Owned(items) => HeldDots::Owned(items.clone()?),
+            HeldDots::Shared(items) => HeldDots::Shared(Arc::try_clone(items)?),
+        };
+        Ok(Dots { held })
     }
 }
 

@@ -3,9 +3,16 @@ use std::alloc::AllocError;
 use std::marker::Model;
 
 /// Counts as runs: each is the count below its first one and its last one.
-#[derive(Debug, Drop)]
+#[derive(Debug)]
 pub struct Runs {
     items: Vec<(u64, u64)>,
+}
+
+impl Drop for Runs {
+    fn drop(self) {
+        let Runs { items } = self;
+        drop(items);
+    }
 }
 
 impl Model for Runs {
@@ -47,9 +54,16 @@ impl Runs {
 }
 
 /// For the count of a row, the counts of the rows that it replaced in turn.
-#[derive(Debug, Drop)]
+#[derive(Debug)]
 pub struct Chains {
     items: Vec<(u64, Runs)>,
+}
+
+impl Drop for Chains {
+    fn drop(self) {
+        let Chains { items } = self;
+        drop(items);
+    }
 }
 
 impl Model for Chains {
@@ -91,9 +105,16 @@ impl Chains {
 }
 
 /// The numbers of subscribers, each with its topic.
-#[derive(Debug, Drop)]
+#[derive(Debug)]
 pub struct Subscribers {
     items: Vec<(u64, Topic)>,
+}
+
+impl Drop for Subscribers {
+    fn drop(self) {
+        let Subscribers { items } = self;
+        drop(items);
+    }
 }
 
 impl Model for Subscribers {

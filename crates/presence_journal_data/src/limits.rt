@@ -9,9 +9,16 @@ pub const MAX_PAYLOAD_DEPTH: u32 = 64;
 pub const MAX_TAKEN: u32 = 256;
 
 /// What a shout sends: a value at most 64 deep whose numbers are whole ones of 64 bits.
-#[derive(Debug, Drop)]
+#[derive(Debug)]
 pub struct Payload {
     json: Json,
+}
+
+impl Drop for Payload {
+    fn drop(self) {
+        let Payload { json } = self;
+        drop(json);
+    }
 }
 
 impl Model for Payload {

@@ -10,9 +10,16 @@ pub struct Place {
 }
 
 /// Rows with their dots.
-#[derive(Debug, Drop)]
+#[derive(Debug)]
 pub struct Rows {
     items: Vec<(Dot, Row)>,
+}
+
+impl Drop for Rows {
+    fn drop(self) {
+        let Rows { items } = self;
+        drop(items);
+    }
 }
 
 impl Model for Rows {
@@ -47,7 +54,8 @@ impl Rows {
     pub fn into_vec(self) -> Vec<(Dot, Row)>
         ensures { result.items ≡ self }
     {
-        self.items
+        let Rows { items } = self;
+        items
     }
 }
 

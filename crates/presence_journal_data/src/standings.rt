@@ -4,9 +4,16 @@ use std::alloc::AllocError;
 use std::marker::Model;
 
 /// Replicas with their standings, each replica once. One that is not listed is unheard.
-#[derive(Debug, Drop)]
+#[derive(Debug)]
 pub struct Standings {
     items: Vec<(Replica, Standing)>,
+}
+
+impl Drop for Standings {
+    fn drop(self) {
+        let Standings { items } = self;
+        drop(items);
+    }
 }
 
 impl Model for Standings {

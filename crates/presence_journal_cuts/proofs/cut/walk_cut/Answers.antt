@@ -1,7 +1,5 @@
-use Rattle.std.proofs.Common.{◌≡◌, sym, subst}
-use Rattle.delta_range.specs.Deltas.{DeltaValue, IsDelta}
-use Rattle.delta_range.specs.Longest.{longest}
-use Rattle.presence_journal.specs.History.{own, count, last_cut}
+use Rattle.std.proofs.Common.{sym, subst}
+use Rattle.delta_range.specs.Deltas.{IsDelta}
 use Rattle.presence_journal_cuts.specs.Cuts.{IsCut}
 use Rattle.presence_journal_cuts.proofs.Keeping.{cut_keeps, cut_is}
 use Rattle.presence_journal_cuts.proofs.cut.walk_cut.Goals as goal

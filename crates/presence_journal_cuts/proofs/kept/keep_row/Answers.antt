@@ -12,4 +12,4 @@ pub returns : goal.returns
 returns c =
     on_ok_weaker c.put_row.result
     (λ put d. row_comes (get dot_cmp c.args.rows.now) (get dot_cmp c.put_row.new.rows) c.args.row.now c.in_ok-row.row d (sym c.contains_key.ensures ∙ c.if-contains_key.false) c.in_ok-row.ensures.cases (put d))
-    c.put_row.ensures
+    c.put_row.ensures.ok

@@ -1,4 +1,4 @@
-use Rattle.std.proofs.Common.{◌≡◌, ◌&&◌, ◌||◌, nat_le, drop}
+use Rattle.std.proofs.Common.{◌&&◌, ◌||◌, nat_le, drop}
 use Rattle.dot_context.specs.Runs.{holds}
 use Rattle.presence_journal_cuts.specs.Chains.{AreChains, AreUpTo, Counts, has}
 use Rattle.presence_journal_cuts.specs.Cuts.{goes}

@@ -1,4 +1,4 @@
-use Rattle.std.proofs.Common.{◌≡◌, ◌≤◌, ◌++◌, ◌||◌, nat_eq, ℕ, List, [], refl, ap, sym, subst, ◌∙◌}
+use Rattle.std.proofs.Common.{◌++◌, ◌||◌, nat_eq, ℕ, List, refl, ap, sym, subst, ◌∙◌}
 use Rattle.std.specs.BTreeMap.{get}
 use Rattle.std.specs.Ordering.{nat_cmp}
 use Rattle.std.proofs.lemmas.Result.{on_ok_weaker}
@@ -24,7 +24,7 @@ returns-in-Some-clause-kept c =
     on_ok_weaker c.push_up_to-in-Some.result
     (λ more long k.
     dot_kept c.args.last c.args.runs.now.items c.deref.result.now c.push_up_to.new.runs.items c.push_up_to-in-Some.new.runs.items (listed (get nat_cmp c.args.chains.now c.args.dot.now.count))
-    (subst AreLong (sym c.deref.ensures.value) (c.in_ok-push_count.ensures.long (subst AreLong (sym c.new-itself.ensures.items) tt))) (long c.args.dot.now.count)
+    (subst AreLong (sym c.deref.ensures.value) c.in_ok-push_count.ensures.long) (long c.args.dot.now.count)
     c.in_ok-push_up_to.ensures (more ∙ ap (λ (xs : Runs). c.push_up_to.new.runs.items ++ up_to c.args.last xs) (c.as_slice.ensures ∙ ap listed c.in-Some.ensures.value)) k)
     c.push_up_to-in-Some.ensures
 
@@ -36,5 +36,5 @@ returns-clause-counts c = λ n low.
 pub returns-clause-kept : goal.returns-clause-kept
 returns-clause-kept c = λ long k.
     dot_kept c.args.last c.args.runs.now.items c.deref.result.now c.push_up_to.new.runs.items c.push_up_to.new.runs.items (listed (get nat_cmp c.args.chains.now c.args.dot.now.count))
-    (subst AreLong (sym c.deref.ensures.value) (c.in_ok-push_count.ensures.long (subst AreLong (sym c.new-itself.ensures.items) tt))) (long c.args.dot.now.count)
+    (subst AreLong (sym c.deref.ensures.value) c.in_ok-push_count.ensures.long) (long c.args.dot.now.count)
     c.in_ok-push_up_to.ensures (none_more c.args.last c.push_up_to.new.runs.items c.push_up_to.new.runs.items refl ∙ ap (λ (xs : Runs). c.push_up_to.new.runs.items ++ up_to c.args.last xs) (ap listed c.in-None.ensures.value)) k
