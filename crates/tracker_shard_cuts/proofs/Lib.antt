@@ -1,0 +1,4 @@
+mod FreshLemmas
+mod ChainLemmas
+mod UntoldLemmas
+mod ChangeLemmas

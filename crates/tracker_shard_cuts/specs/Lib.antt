@@ -1,0 +1,2 @@
+pub mod Untold
+pub mod Changes

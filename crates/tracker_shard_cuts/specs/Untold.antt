@@ -1,0 +1,65 @@
+-- What is kept of a history for the next cut.
+use Rattle.std.specs.Prelude.{◌≡◌, ℕ, ◌≤◌, ◌<◌, Bool, true, false, List, Some}
+use Rattle.std.specs.BTreeMap.{get}
+use Rattle.presence_base.specs.declared.dots.Dot.{Dot}
+use Rattle.presence_base.specs.declared.row.Row.{Row}
+use Rattle.presence_base.specs.Order.{dot_cmp}
+use Rattle.dot_context.specs.Runs.{holds}
+use Rattle.presence_journal.specs.Steps.{Entry}
+use Rattle.presence_journal.specs.History.{History, Then, own, count, last_cut, shown}
+use Rattle.presence_journal.specs.Table.{IsLegal}
+use Rattle.presence_journal_sets.specs.ByDot.{Alike}
+use Rattle.presence_journal_cuts.specs.Chains.{Chains, AreChains, AreUpTo, Counts, has}
+use Rattle.presence_journal_cuts.specs.Cuts.{chain, older, recent}
+use Rattle.tracker_shard_cuts.specs.declared.untold.Untold.{Untold}
+
+-- each own row that is shown has its chain
+abbrev pub HasChains : History → Chains → Type 0
+HasChains h m = (d : Dot) (r : Row) → d.replica ≡ own h → shown h d ≡ Some r → Counts (has m d.count) (chain h d.count)
+
+-- and so has each count that is not used yet
+abbrev pub HasUnused : History → Chains → Type 0
+HasUnused h m = (c n : ℕ) → 1 ≤ n → count h < c → has m c n ≡ chain h c n
+
+-- no count above both has a chain
+abbrev pub AreBelow : ℕ → ℕ → (ℕ → ℕ → Bool) → Type 0
+AreBelow most unsettled f = (c n : ℕ) → 1 ≤ n → most < c → unsettled < c → f c n ≡ false
+
+-- what stands in the chain of a count above `unsettled`, and itself at or below the last cut, is among these
+abbrev pub AreSettled : ℕ → ℕ → (ℕ → ℕ → Bool) → List (ℕ × ℕ) → Type 0
+AreSettled last unsettled f rs = (c n : ℕ) → 1 ≤ n → n ≤ last → unsettled < c → f c n ≡ true → holds rs n ≡ true
+
+-- the chains of the own rows that are shown, the older counts that went since the last cut, and the own rows above it
+pub record IsUntoldOf (h : History) (u : Untold) : Type 0 where
+  pub chains : HasChains h u.chains
+  pub unused : HasUnused h u.chains
+  pub long : AreChains u.chains
+  pub few : AreBelow (count h) u.unsettled (has u.chains)
+  pub settled : AreSettled u.last u.unsettled (has u.chains) u.older.items
+  pub unsettled : u.last ≤ u.unsettled
+  pub counts : Counts (holds u.older.items) (older h)
+  pub low : AreUpTo u.last u.older.items
+  pub rows : Alike (get dot_cmp u.rows) (recent h)
+  pub last : u.last ≡ last_cut h
+  pub own : u.own ≡ own h
+  pub count : u.count ≡ count h
+
+-- it is that of a legal history
+pub record IsOfOne (u : Untold) : Type 0 where
+  pub history : History
+  pub legal : IsLegal history
+  pub kept : IsUntoldOf history u
+
+-- the entry can follow a legal history of which this is kept
+pub record CanFollow (u : Untold) (e : Entry) : Type 0 where
+  pub before : History
+  pub legal : IsLegal (Then before e)
+  pub kept : IsUntoldOf before u
+
+-- what is kept after the entry, where u was kept before it
+abbrev pub Follows : Untold → Entry → Untold → Type 0
+Follows u e v = (h : History) → IsLegal (Then h e) → IsUntoldOf h u → IsUntoldOf (Then h e) v
+
+-- v keeps what u kept
+abbrev pub Stays : Untold → Untold → Type 0
+Stays u v = (h : History) → IsUntoldOf h u → IsUntoldOf h v

@@ -1,0 +1,13 @@
+//! What a shard has not told other nodes yet of its own replica, kept in place of walked: the rows above the last
+//! cut, the older counts that went since, and the chains of the own rows. A cut costs what it tells.
+//!
+//! Its public contracts cite `specs/Untold`, on presence_journal_cuts' `Cuts`. `specs/Changes` is of what an entry
+//! changes of it.
+#![tactic(auto)]
+
+mod change;
+mod putting;
+mod start;
+mod untold;
+
+pub use untold::Untold;

@@ -1,0 +1,170 @@
+ghost use Rattle.std.specs.Prelude.{◌≡◌, ◌++◌, ◌∷◌, [], IfOk, OnOk};
+ghost use Rattle.std.specs.List.Sorted.{IsStrictlySortedBy};
+ghost use Rattle.std.specs.Map.{keys_of};
+ghost use Rattle.presence_base.specs.Order.{dot_cmp};
+
+use crate::change::{Change, change_of, used_by};
+use crate::putting::{add_runs, drop_chains, put_both};
+use crate::start::most_listed;
+use delta_range::{Delta, longest};
+use presence_base::{Dot, Replica, Row};
+use presence_journal::{Entry, Outcome, Start};
+use presence_journal_cuts::{Chain, dots_out, drop_dots, kept_chains, kept_rows, kept_runs};
+use std::alloc::{AllocError, Global};
+use std::collections::BTreeMap;
+
+/// What a shard has not told yet of its own replica.
+pub struct Untold {
+    own: Replica,
+    count: u64,
+    last: u64,
+    // What a count above this one stands for was not told, or went since the last cut.
+    unsettled: u64,
+    chains: BTreeMap<u64, Chain>,
+    older: Vec<(u64, u64)>,
+    rows: BTreeMap<Dot, Row>,
+}
+
+impl Drop for Untold {
+    fn drop(self) {
+        let Untold {
+            own: _,
+            count: _,
+            last: _,
+            unsettled: _,
+            chains,
+            older,
+            rows,
+        } = self;
+        drop(chains);
+        drop(older);
+        drop(rows);
+    }
+}
+
+// The runs as a list that can grow.
+fn runs_of(alloc: Global, runs: &[(u64, u64)]) -> Result<Vec<(u64, u64)>, AllocError>
+    ensures { IfOk result (λ v. v.items ≡ runs.now) }
+{
+    runs.to_vec(alloc)
+}
+
+// Adds a copy of a row at the end.
+fn push_copy(list: &mut Vec<(Dot, Row)>, dot: &Dot, row: &Row) -> Result<(), AllocError>
+    ensures { OnOk result (list.new.items ≡ list.old.items ++ (dot.now, row.now) ∷ []) }
+{
+    let row = row.clone()?;
+    list.push((*dot, row))?;
+    Ok(())
+}
+
+// Copies of the rows, in order of dot.
+fn copies(alloc: Global, rows: &BTreeMap<Dot, Row>) -> Result<Vec<(Dot, Row)>, AllocError>
+    ensures rows { IfOk result (λ v. v.items ≡ rows.now.entries) }
+    ensures ordered { IfOk result (λ _. IsStrictlySortedBy dot_cmp (keys_of rows.now.entries)) }
+{
+    let mut list = Vec::new(alloc);
+    for (dot, row) in rows.iter() {
+        push_copy(&mut list, dot, row)?;
+    }
+    Ok(list)
+}
+
+impl Untold {
+    ghost use Rattle.std.specs.Prelude.{◌≡◌, false, IfOk, OnOk, OnErr};
+    ghost use Rattle.presence_journal.specs.History.{History, Begin, begun};
+    ghost use Rattle.presence_journal.specs.Table.{IsLegal};
+    ghost use Rattle.presence_journal_cuts.specs.Cuts.{IsCut};
+    ghost use Rattle.tracker_shard_cuts.specs.Untold.{IsUntoldOf, IsOfOne, CanFollow, Follows, Stays};
+    ghost use Rattle.tracker_shard_cuts.specs.Changes.{is_cut, IsChangeOf, IsToldTo};
+
+    /// Where nothing was told, since nothing happened.
+    pub fn new(alloc: Global, own: Replica) -> Untold
+        ensures { IsUntoldOf (begun own) result }
+    {
+        Untold {
+            own,
+            count: 0,
+            last: 0,
+            unsettled: 0,
+            chains: BTreeMap::new(alloc),
+            older: Vec::new(alloc),
+            rows: BTreeMap::new(alloc),
+        }
+    }
+
+    /// What is not told yet where a journal begins.
+    pub fn of_start(alloc: Global, start: &Start) -> Result<Untold, AllocError>
+        ensures { IfOk result (λ u. IsLegal (Begin start.now) → IsUntoldOf (Begin start.now) u) }
+    {
+        let listed = start.chains.as_slice();
+        let chains = kept_chains(alloc, listed)?;
+        let older = kept_runs(alloc, &start.older)?;
+        let rows = kept_rows(alloc, start)?;
+        let unsettled = most_listed(listed).max(start.last_cut);
+        Ok(Untold {
+            own: start.own,
+            count: start.count,
+            last: start.last_cut,
+            unsettled,
+            chains,
+            older,
+            rows,
+        })
+    }
+
+    /// What a cut tells. It costs the rows that came since the last cut and the runs of the older counts that went.
+    pub fn cut(&self, alloc: Global) -> Result<Delta, AllocError>
+        requires { IsOfOne self.now }
+        ensures { IfOk result (λ d. (h : History) → IsUntoldOf h self.now → IsCut h d) }
+    {
+        let runs = runs_of(alloc, &self.older)?;
+        let older = longest(alloc, runs)?;
+        let rows = copies(alloc, &self.rows)?;
+        Ok(Delta::new(self.own, self.last, self.count, older, rows))
+    }
+
+    /// Brings it up to the next entry. Where memory is refused it is as it was.
+    ///
+    /// It costs the rows that the entry adds or takes out, with their chains.
+    pub fn apply(&mut self, alloc: Global, entry: &Entry) -> Result<(), AllocError>
+        requires { CanFollow self.old entry.now }
+        ensures ok { OnOk result (Follows self.old entry.now self.new) }
+        ensures err { OnErr result (Stays self.old self.new) }
+    {
+        if let Outcome::CutAt(_, to) = &entry.outcome {
+            self.take_cut(alloc, *to);
+            return Ok(());
+        }
+        let change = change_of(alloc, &self.chains, self.last, self.unsettled, entry)?;
+        self.commit(entry, change)
+    }
+
+    // A cut told all of it but the chains.
+    fn take_cut(&mut self, alloc: Global, to: u64)
+        ensures { IsToldTo to self.old self.new }
+    {
+        self.rows = BTreeMap::new(alloc);
+        self.older = Vec::new(alloc);
+        self.last = to;
+        self.unsettled = self.unsettled.max(to);
+    }
+
+    // Takes in what an entry changes.
+    fn commit(&mut self, entry: &Entry, change: Change) -> Result<(), AllocError>
+        requires follows { CanFollow self.old entry.now }
+        requires other { is_cut entry.now.outcome ≡ false }
+        requires change { IsChangeOf self.old entry.now change }
+        ensures ok { OnOk result (Follows self.old entry.now self.new) }
+        ensures err { OnErr result (Stays self.old self.new) }
+    {
+        self.older.reserve(change.gone.len())?;
+        put_both(&mut self.rows, &mut self.chains, change.row, change.link)?;
+        add_runs(&mut self.older, change.gone);
+        let out = dots_out(&entry.outcome);
+        drop_dots(&mut self.rows, out);
+        drop_chains(&mut self.chains, out);
+        self.count += used_by(&entry.outcome);
+        Ok(())
+    }
+}

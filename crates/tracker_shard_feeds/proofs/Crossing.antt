@@ -1,0 +1,93 @@
+use denote.Param.Send.{IsSend, IsSync, sendable}
+use Rattle.std.proofs.Crossing as heap
+use Rattle.std.proofs.MapsCrossing as maps
+use Rattle.serde_json.proofs.value.Value.TheLaws.TheKnot as value
+use Rattle.presence_base.specs.contracts.json.Json as Json
+use Rattle.presence_base.specs.contracts.meta.Meta as Meta
+use Rattle.presence_base.specs.contracts.row.Row as Row
+use Rattle.presence_base.specs.contracts.names.Topic as Topic
+use Rattle.presence_base.specs.contracts.names.Key as Key
+use Rattle.presence_base.specs.contracts.dots.Replica as Replica
+use Rattle.presence_base.specs.contracts.dots.Dot as Dot
+use Rattle.presence_journal_data.specs.contracts.limits.Payload as Payload
+use Rattle.presence_journal_data.specs.contracts.rows.Rows as Rows
+use Rattle.presence_journal_data.specs.contracts.rows.RowDiff as RowDiff
+use Rattle.presence_journal_data.specs.contracts.rows.Item as Item
+use Rattle.tracker_shard_feeds.specs.contracts.followers.Follower as Follower
+use Rattle.tracker_shard_feeds.specs.contracts.rings.Ring as Ring
+use Rattle.tracker_shard_feeds.specs.contracts.feeds.Feeds as Feeds
+
+json_send : IsSend (Json.the_field).row
+json_send = search (maps.crosses, heap.crosses, value.crosses, sendable) depth 60 fits 20000
+
+json_sync : IsSync (Json.the_field).row
+json_sync = search (maps.crosses, heap.crosses, value.crosses, sendable) depth 60 fits 20000
+
+meta_send : IsSend (Meta.the_field).row
+meta_send = search (json_send, json_sync, heap.crosses, sendable) depth 60 fits 20000
+
+topic_send : IsSend (Topic.the_field).row
+topic_send = search (heap.crosses, sendable) depth 60 fits 20000
+
+key_send : IsSend (Key.the_field).row
+key_send = search (heap.crosses, sendable) depth 60 fits 20000
+
+dot_send : IsSend (Dot.the_field).row
+dot_send = search sendable depth 60 fits 20000
+
+replica_send : IsSend (Replica.the_field).row
+replica_send = search sendable depth 60 fits 20000
+
+row_send : IsSend (Row.the_field).row
+row_send = search (meta_send, topic_send, key_send, dot_send, sendable) depth 60 fits 20000
+
+meta_sync : IsSync (Meta.the_field).row
+meta_sync = search (json_send, json_sync, heap.crosses, sendable) depth 60 fits 20000
+
+topic_sync : IsSync (Topic.the_field).row
+topic_sync = search (heap.crosses, sendable) depth 60 fits 20000
+
+key_sync : IsSync (Key.the_field).row
+key_sync = search (heap.crosses, sendable) depth 60 fits 20000
+
+dot_sync : IsSync (Dot.the_field).row
+dot_sync = search sendable depth 60 fits 20000
+
+replica_sync : IsSync (Replica.the_field).row
+replica_sync = search sendable depth 60 fits 20000
+
+row_sync : IsSync (Row.the_field).row
+row_sync = search (meta_sync, topic_sync, key_sync, dot_sync, sendable) depth 60 fits 20000
+
+payload_send : IsSend (Payload.the_field).row
+payload_send = search (json_send, sendable) depth 60 fits 20000
+
+rows_send : IsSend (Rows.the_field).row
+rows_send = search (row_send, dot_send, heap.crosses, sendable) depth 60 fits 20000
+
+diff_send : IsSend (RowDiff.the_field).row
+diff_send = search (rows_send, sendable) depth 60 fits 20000
+
+item_send : IsSend (Item.the_field).row
+item_send = search (rows_send, diff_send, payload_send, sendable) depth 60 fits 20000
+
+payload_sync : IsSync (Payload.the_field).row
+payload_sync = search (json_sync, sendable) depth 60 fits 20000
+
+rows_sync : IsSync (Rows.the_field).row
+rows_sync = search (row_sync, dot_sync, heap.crosses, sendable) depth 60 fits 20000
+
+diff_sync : IsSync (RowDiff.the_field).row
+diff_sync = search (rows_sync, sendable) depth 60 fits 20000
+
+item_sync : IsSync (Item.the_field).row
+item_sync = search (rows_sync, diff_sync, payload_sync, sendable) depth 60 fits 20000
+
+follower_send : IsSend (Follower.the_field).row
+follower_send = search (topic_send, sendable) depth 60 fits 20000
+
+ring_send : IsSend (Ring.the_field).row
+ring_send = search (item_send, item_sync, maps.crosses, heap.crosses, sendable) depth 60 fits 20000
+
+pub feeds_send : IsSend (Feeds.the_field).row
+feeds_send = search (topic_send, ring_send, follower_send, maps.crosses, heap.crosses, sendable) depth 60 fits 20000

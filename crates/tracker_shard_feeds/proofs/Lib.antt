@@ -1,0 +1,10 @@
+pub mod CursorLemmas
+pub mod FedLemmas
+pub mod Short
+pub mod LawLemmas
+pub mod RingLemmas
+pub mod PutLemmas
+pub mod LoopLemmas
+pub mod FeedsLemmas
+pub mod BegunLemmas
+pub mod Crossing

@@ -1,0 +1,4 @@
+pub mod Fed
+pub mod Codes
+pub mod Laws
+pub mod Rings

@@ -1,0 +1,14 @@
+//! What waits for the subscribers of a shard: the newest items of each topic, made once and shared by all
+//! who follow it, and how far each subscriber has come.
+//!
+//! Its public contracts cite `specs/Fed`: what is seen of each subscriber, and when that is what a
+//! history says. `specs/Laws` says how feeds follow a history from entry to entry.
+#![tactic(auto)]
+
+mod feeds;
+mod followers;
+mod laws;
+mod rings;
+
+pub use feeds::Feeds;
+pub use laws::{deliveries_follow, feeds_answer, feeds_begin, subscribers_follow};

@@ -1,0 +1,126 @@
+-- What a shard keeps may go to another thread. One search gives up, so it goes by the parts.
+use denote.Param.Send.{IsSend, IsSync, sendable}
+use Rattle.std.proofs.Crossing as heap
+use Rattle.std.proofs.MapsCrossing as maps
+use Rattle.serde_json.proofs.value.Value.TheLaws.TheKnot as value
+use Rattle.presence_base.specs.contracts.json.Json as Json
+use Rattle.presence_base.specs.contracts.meta.Meta as Meta
+use Rattle.presence_base.specs.contracts.row.Row as Row
+use Rattle.presence_base.specs.contracts.names.Topic as Topic
+use Rattle.presence_base.specs.contracts.names.Key as Key
+use Rattle.presence_base.specs.contracts.dots.Replica as Replica
+use Rattle.presence_base.specs.contracts.dots.Dot as Dot
+use Rattle.dot_context.specs.contracts.runs.Runs as Runs
+use Rattle.dot_context.specs.contracts.context.Context as Context
+use Rattle.orswot_core.specs.contracts.set.Orswot as Orswot
+use Rattle.replica_status.specs.contracts.standing.Standing as Standing
+use Rattle.presence_journal_cuts.specs.contracts.chain.Chain as Chain
+use Rattle.tracker_shard_known_others.specs.contracts.others.Others as Others
+use Rattle.tracker_shard_known.specs.contracts.known.Known as Known
+use Rattle.tracker_shard_cuts.specs.contracts.untold.Untold as Untold
+use Rattle.orswot_core_told.specs.contracts.told.Told as Told
+use Rattle.presence_journal_data.specs.contracts.limits.Payload as Payload
+use Rattle.presence_journal_data.specs.contracts.step.Step as Step
+use Rattle.presence_journal_data.specs.contracts.entry.Dots as Dots
+use Rattle.presence_journal_data.specs.contracts.entry.Outcome as Outcome
+use Rattle.presence_journal_data.specs.contracts.entry.Entry as Entry
+use Rattle.presence_journal_data.specs.contracts.entry.Start as Start
+use Rattle.presence_journal_data.specs.contracts.kept.Chains as Chains
+use Rattle.presence_journal_data.specs.contracts.kept.Subscribers as Subscribers
+use Rattle.presence_journal_data.specs.contracts.standings.Standings as Standings
+use Rattle.presence_journal.specs.contracts.journal.Journal as Journal
+use Rattle.tracker_shard_shown.proofs.Crossing.{shown_send}
+use Rattle.tracker_shard_feeds.proofs.Crossing.{feeds_send}
+use Rattle.tracker_shard_indexed.specs.contracts.parts.Stage as Stage
+use Rattle.tracker_shard_indexed.specs.contracts.parts.Parts as Parts
+use Rattle.tracker_shard_indexed.specs.contracts.indexed.Indexed as Indexed
+
+json_send : IsSend (Json.the_field).row
+json_send = search (maps.crosses, heap.crosses, value.crosses, sendable) depth 60 fits 20000
+
+json_sync : IsSync (Json.the_field).row
+json_sync = search (maps.crosses, heap.crosses, value.crosses, sendable) depth 60 fits 20000
+
+meta_send : IsSend (Meta.the_field).row
+meta_send = search (json_send, json_sync, heap.crosses, sendable) depth 60 fits 20000
+
+pub topic_send : IsSend (Topic.the_field).row
+topic_send = search (heap.crosses, sendable) depth 60 fits 20000
+
+key_send : IsSend (Key.the_field).row
+key_send = search (heap.crosses, sendable) depth 60 fits 20000
+
+dot_send : IsSend (Dot.the_field).row
+dot_send = search sendable depth 60 fits 20000
+
+replica_send : IsSend (Replica.the_field).row
+replica_send = search sendable depth 60 fits 20000
+
+row_send : IsSend (Row.the_field).row
+row_send = search (meta_send, topic_send, key_send, dot_send, sendable) depth 60 fits 20000
+
+runs_send : IsSend (Runs.the_field).row
+runs_send = search (maps.crosses, heap.crosses, sendable) depth 60 fits 20000
+
+context_send : IsSend (Context.the_field).row
+context_send = search (runs_send, replica_send, maps.crosses, heap.crosses, sendable) depth 60 fits 20000
+
+set_send : IsSend (Orswot.the_field).row
+set_send = search (context_send, dot_send, row_send, maps.crosses, heap.crosses, sendable) depth 60 fits 20000
+
+others_send : IsSend (Others.the_field).row
+others_send = search (replica_send, maps.crosses, heap.crosses, sendable) depth 60 fits 20000
+
+known_send : IsSend (Known.the_field).row
+known_send = search (set_send, others_send, sendable) depth 60 fits 20000
+
+chain_send : IsSend (Chain.the_field).row
+chain_send = search (heap.crosses, sendable) depth 60 fits 20000
+
+untold_send : IsSend (Untold.the_field).row
+untold_send = search (replica_send, chain_send, dot_send, row_send, maps.crosses, heap.crosses, sendable) depth 60 fits 20000
+
+told_send : IsSend (Told.the_field).row
+told_send = search (row_send, dot_send, replica_send, maps.crosses, heap.crosses, sendable) depth 60 fits 20000
+
+payload_send : IsSend (Payload.the_field).row
+payload_send = search (json_send, sendable) depth 60 fits 20000
+
+pub step_send : IsSend (Step.the_field).row
+step_send = search (meta_send, topic_send, key_send, replica_send, payload_send, told_send, sendable) depth 60 fits 20000
+
+dot_sync : IsSync (Dot.the_field).row
+dot_sync = search sendable depth 60 fits 20000
+
+pub dots_send : IsSend (Dots.the_field).row
+dots_send = search (dot_send, dot_sync, heap.crosses, sendable) depth 60 fits 20000
+
+pub outcome_send : IsSend (Outcome.the_field).row
+outcome_send = search (dots_send, heap.crosses, sendable) depth 60 fits 20000
+
+chains_send : IsSend (Chains.the_field).row
+chains_send = search (heap.crosses, sendable) depth 60 fits 20000
+
+subscribers_send : IsSend (Subscribers.the_field).row
+subscribers_send = search (topic_send, heap.crosses, sendable) depth 60 fits 20000
+
+standings_send : IsSend (Standings.the_field).row
+standings_send = search (replica_send, heap.crosses, sendable) depth 60 fits 20000
+
+start_send : IsSend (Start.the_field).row
+start_send = search (replica_send, told_send, standings_send, chains_send, subscribers_send, heap.crosses, sendable) depth 60 fits 20000
+
+entry_send : IsSend (Entry.the_field).row
+entry_send = search (step_send, outcome_send, sendable) depth 60 fits 20000
+
+entry_row_send : IsSend Entry.the_row
+entry_row_send = search (entry_send, sendable) depth 60 fits 20000
+
+journal_send : IsSend (Journal.the_field).row
+journal_send = search (start_send, entry_row_send, heap.crosses, sendable) depth 60 fits 20000
+
+parts_send : IsSend (Parts.the_field).row
+parts_send = search (known_send, shown_send, feeds_send, untold_send, sendable) depth 60 fits 20000
+
+pub indexed_send : IsSend (Indexed.the_field).row
+indexed_send = search (journal_send, parts_send, sendable) depth 60 fits 20000

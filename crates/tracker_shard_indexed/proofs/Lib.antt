@@ -1,0 +1,4 @@
+pub mod PartLemmas
+pub mod FeedLemmas
+pub mod IndexedLemmas
+pub mod Crossing

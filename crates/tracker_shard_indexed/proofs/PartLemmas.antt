@@ -1,0 +1,130 @@
+-- How what is kept goes on from stage to stage.
+use Rattle.std.proofs.Common.{◌≡◌, sym, ◌∙◌, subst, inr}
+use Rattle.presence_journal.specs.Steps.{Entry}
+use Rattle.presence_journal.specs.History.{History, Then, begun, own}
+use Rattle.tracker_shard_turns.specs.declared.turn.Turn.{Turn}
+use Rattle.tracker_shard_turns.specs.Turns.{IsTurn}
+use Rattle.tracker_shard_known.specs.Known.{IsKnownOf, CanFollow, Follows, Stays}
+use Rattle.tracker_shard_known.specs.Turns.{TurnsEntry}
+use Rattle.tracker_shard_shown.specs.declared.shown.Shown.{Shown}
+use Rattle.tracker_shard_shown.specs.Kept.{IsShownOf, IsBetween}
+use Rattle.tracker_shard_shown.specs.Turns.{BringsUp, StaysBetween}
+use Rattle.tracker_shard_shown.proofs.TurnLemmas.{at_first}
+use Rattle.tracker_shard_cuts.specs.Untold as cuts
+use Rattle.tracker_shard_feeds.specs.Fed.{SameFed, IsFedBy}
+use Rattle.tracker_shard_feeds.specs.Laws.{SameIsFed}
+use Rattle.tracker_shard_indexed.specs.declared.parts.Parts.{Parts}
+use Rattle.tracker_shard_indexed.specs.declared.parts.Stage.TheVariants.{Done, Begun, Delivered, Learned}
+use Rattle.tracker_shard_indexed.specs.Parts.{IsKeptOf, IsBegun, IsDelivered, IsLearned, IsAt, CanGoOn, GoesOn, CanFeed, FeedsFollow}
+
+-- what is shown after an entry lies between it and the history before
+at_last : (g : History) (e : Entry) (x : Shown) → own (Then g e) ≡ own g → IsShownOf (Then g e) x → IsBetween g e x
+at_last g e x same s = record { own = s.own ∙ same; rows = λ w t p. inr (s.rows w t p) }
+
+-- a new entry is begun
+pub begins : (h : History) (e : Entry) (p : Parts) → IsKeptOf h p → IsBegun h e p
+begins h e p k = record { known = k.known; shown = at_first h e p.shown k.shown; feeds = k.feeds; untold = k.untold }
+
+-- what is shown and what waits was brought up
+pub delivered : (e : Entry) (p q : Parts) (turn : Turn) → p.stage ≡ Begun → TurnsEntry p.known e turn → BringsUp turn p.shown q.shown → FeedsFollow e turn p.feeds q.feeds → q.known ≡ p.known → q.untold ≡ p.untold → q.stage ≡ Delivered → GoesOn e p q
+delivered e p q turn begun turns brings follow same rest to h legal at =
+    let b : IsBegun h e p = subst (λ s. IsAt s (Then h e) p) begun at in
+    let is : IsTurn h e turn = turns h legal b.known in
+    subst (λ s. IsAt s (Then h e) q) (sym to) (record {
+      known = subst (IsKnownOf h) (sym same) b.known;
+      shown = brings h e is b.shown;
+      feeds = follow h legal is b.feeds;
+      untold = subst (cuts.IsUntoldOf h) (sym rest) b.untold;
+    })
+
+-- memory ran out before all rows were shown
+pub half_shown : (e : Entry) (p q : Parts) (turn : Turn) → p.stage ≡ Begun → TurnsEntry p.known e turn → StaysBetween turn p.shown q.shown → q.feeds ≡ p.feeds → q.known ≡ p.known → q.untold ≡ p.untold → q.stage ≡ Begun → GoesOn e p q
+half_shown e p q turn begun turns stays fed same rest to h legal at =
+    let b : IsBegun h e p = subst (λ s. IsAt s (Then h e) p) begun at in
+    let is : IsTurn h e turn = turns h legal b.known in
+    subst (λ s. IsAt s (Then h e) q) (sym to) (record {
+      known = subst (IsKnownOf h) (sym same) b.known;
+      shown = stays h e is b.shown;
+      feeds = subst (IsFedBy h) (sym fed) b.feeds;
+      untold = subst (cuts.IsUntoldOf h) (sym rest) b.untold;
+    })
+
+-- memory ran out before what waits was brought up
+pub not_fed : (e : Entry) (p q : Parts) (turn : Turn) → SameIsFed → ((h : History) → own (Then h e) ≡ own h) → p.stage ≡ Begun → TurnsEntry p.known e turn → BringsUp turn p.shown q.shown → SameFed p.feeds q.feeds → q.known ≡ p.known → q.untold ≡ p.untold → q.stage ≡ Begun → GoesOn e p q
+not_fed e p q turn law owns begun turns brings fed same rest to h legal at =
+    let b : IsBegun h e p = subst (λ s. IsAt s (Then h e) p) begun at in
+    let is : IsTurn h e turn = turns h legal b.known in
+    subst (λ s. IsAt s (Then h e) q) (sym to) (record {
+      known = subst (IsKnownOf h) (sym same) b.known;
+      shown = at_last h e q.shown (owns h) (brings h e is b.shown);
+      feeds = law h p.feeds q.feeds fed b.feeds;
+      untold = subst (cuts.IsUntoldOf h) (sym rest) b.untold;
+    })
+
+-- what is known was brought up
+pub learned : (e : Entry) (p q : Parts) → p.stage ≡ Delivered → Follows p.known e q.known → q.shown ≡ p.shown → q.feeds ≡ p.feeds → q.untold ≡ p.untold → q.stage ≡ Learned → GoesOn e p q
+learned e p q before follows seen fed rest to h legal at =
+    let d : IsDelivered h e p = subst (λ s. IsAt s (Then h e) p) before at in
+    subst (λ s. IsAt s (Then h e) q) (sym to) (record {
+      known = follows h legal d.known;
+      shown = subst (IsShownOf (Then h e)) (sym seen) d.shown;
+      feeds = subst (IsFedBy (Then h e)) (sym fed) d.feeds;
+      untold = subst (cuts.IsUntoldOf h) (sym rest) d.untold;
+    })
+
+-- memory ran out before that
+pub not_learned : (e : Entry) (p q : Parts) → p.stage ≡ Delivered → Stays p.known q.known → q.shown ≡ p.shown → q.feeds ≡ p.feeds → q.untold ≡ p.untold → q.stage ≡ Delivered → GoesOn e p q
+not_learned e p q before stays seen fed rest to h legal at =
+    let d : IsDelivered h e p = subst (λ s. IsAt s (Then h e) p) before at in
+    subst (λ s. IsAt s (Then h e) q) (sym to) (record {
+      known = stays h d.known;
+      shown = subst (IsShownOf (Then h e)) (sym seen) d.shown;
+      feeds = subst (IsFedBy (Then h e)) (sym fed) d.feeds;
+      untold = subst (cuts.IsUntoldOf h) (sym rest) d.untold;
+    })
+
+-- what is untold was brought up
+pub finished : (e : Entry) (p q : Parts) → p.stage ≡ Learned → cuts.Follows p.untold e q.untold → q.known ≡ p.known → q.shown ≡ p.shown → q.feeds ≡ p.feeds → q.stage ≡ Done → GoesOn e p q
+finished e p q before follows same seen fed to h legal at =
+    let l : IsLearned h e p = subst (λ s. IsAt s (Then h e) p) before at in
+    subst (λ s. IsAt s (Then h e) q) (sym to) (record {
+      known = subst (IsKnownOf (Then h e)) (sym same) l.known;
+      shown = subst (IsShownOf (Then h e)) (sym seen) l.shown;
+      feeds = subst (IsFedBy (Then h e)) (sym fed) l.feeds;
+      untold = follows h legal l.untold;
+    })
+
+-- memory ran out before that
+pub not_finished : (e : Entry) (p q : Parts) → p.stage ≡ Learned → cuts.Stays p.untold q.untold → q.known ≡ p.known → q.shown ≡ p.shown → q.feeds ≡ p.feeds → q.stage ≡ Learned → GoesOn e p q
+not_finished e p q before stays same seen fed to h legal at =
+    let l : IsLearned h e p = subst (λ s. IsAt s (Then h e) p) before at in
+    subst (λ s. IsAt s (Then h e) q) (sym to) (record {
+      known = subst (IsKnownOf (Then h e)) (sym same) l.known;
+      shown = subst (IsShownOf (Then h e)) (sym seen) l.shown;
+      feeds = subst (IsFedBy (Then h e)) (sym fed) l.feeds;
+      untold = stays h l.untold;
+    })
+
+-- one part after another
+pub goes_on : (e : Entry) (p q r : Parts) → GoesOn e p q → GoesOn e q r → GoesOn e p r
+goes_on e p q r one two h legal at = two h legal (one h legal at)
+
+-- What the parts ask for.
+
+pub can_feed : (p : Parts) (e : Entry) → CanGoOn p e → p.stage ≡ Begun → CanFeed p.feeds e
+can_feed p e c begun =
+    let b : IsBegun c.before e p = subst (λ s. IsAt s (Then c.before e) p) begun c.at in
+    record { before = c.before; legal = c.legal; fed = b.feeds }
+
+pub can_follow : (p : Parts) (e : Entry) → CanGoOn p e → p.stage ≡ Delivered → CanFollow p.known e
+can_follow p e c before =
+    let d : IsDelivered c.before e p = subst (λ s. IsAt s (Then c.before e) p) before c.at in
+    record { before = c.before; legal = c.legal; known = d.known }
+
+pub can_finish : (p : Parts) (e : Entry) → CanGoOn p e → p.stage ≡ Learned → cuts.CanFollow p.untold e
+can_finish p e c before =
+    let l : IsLearned c.before e p = subst (λ s. IsAt s (Then c.before e) p) before c.at in
+    record { before = c.before; legal = c.legal; kept = l.untold }
+
+pub can_still : (p q : Parts) (e : Entry) → CanGoOn p e → GoesOn e p q → CanGoOn q e
+can_still p q e c goes = record { before = c.before; legal = c.legal; at = goes c.before c.legal c.at }

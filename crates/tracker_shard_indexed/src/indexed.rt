@@ -1,0 +1,273 @@
+use crate::parts::{Parts, Stage};
+use crate::taking::{copy_items, state_item, taken, taken_shared};
+use delta_range::Delta;
+use orswot_core::Told;
+use presence_base::{Dot, Key, Replica, Row, Topic};
+use presence_journal::Journal;
+use presence_journal_cuts::walk_cut;
+use presence_journal_data::{Item, Outcome, Step};
+use presence_journal_walks::{walk_set, walk_status, walk_top, walk_topic, walk_waits};
+use replica_status::Status;
+use std::alloc::{AllocError, Global};
+use std::marker::Model;
+
+/// A journal, and what is kept of it in place of walking it.
+///
+/// It is ready once all that is kept has come up to the last entry. Where memory runs out behind an entry that entry
+/// stands, and what is kept is brought up by the next call of `ready`.
+pub struct Indexed {
+    journal: Journal,
+    parts: Parts,
+}
+
+impl Drop for Indexed {
+    fn drop(self) {
+        let Indexed { journal, parts } = self;
+        drop(journal);
+        drop(parts);
+    }
+}
+
+impl Model for Indexed {
+    ghost use Rattle.tracker_shard_indexed.specs.Seen.{Seen, seen_code};
+    ghost use Rattle.tracker_shard_indexed.specs.Parts.{is_done, IsSound};
+
+    ghost Value = { Seen };
+
+    ghost coded = { seen_code };
+
+    ghost view = { λ x. record { history = x.journal; is_ready = is_done x.parts.stage } };
+
+    ghost invariant = { λ x. IsSound x.journal x.parts };
+}
+
+impl Indexed {
+    ghost use Rattle.std.specs.Prelude.{◌≡◌, true, false, Some, option_copied, option_map, IfOk, OnOk, OnErr};
+    ghost use Rattle.presence_base.specs.Refs.{IsCount};
+    ghost use Rattle.presence_journal.specs.History.{begun, is_full, status, IsTop};
+    ghost use Rattle.presence_journal.specs.Limits.{is_within_limits};
+    ghost use Rattle.presence_journal.specs.Present.{listed};
+    ghost use Rattle.presence_journal.specs.Queue.{topic_of, queue, items_given, is_waiting};
+    ghost use Rattle.presence_journal.specs.Table.{IsLegal, AreWithinLimits, outcome_of, after, listed_key, rows_of_key, rows_of_pid};
+    ghost use Rattle.presence_journal_cuts.specs.Cuts.{IsCut};
+    ghost use Rattle.presence_journal_sets.specs.Full.{IsFullOf};
+    ghost use Rattle.tracker_shard_known.specs.Known.{next_left};
+
+    /// An empty journal of the replica.
+    pub fn new(alloc: Global, own: Replica) -> Indexed
+        requires { IsCount own.incarnation }
+        ensures { result ≡ record { history = begun own; is_ready = true } }
+    {
+        let journal = Journal::new(alloc, own);
+        // Read for the proof alone: an empty journal is legal.
+        let _entries = journal.entries();
+        let parts = Parts::new(alloc, journal.own());
+        Indexed { journal, parts }
+    }
+
+    pub fn journal(&self) -> &Journal
+        ensures journal { result.now ≡ self.now.history }
+        ensures legal { IsLegal self.now.history }
+        ensures limits { AreWithinLimits self.now.history }
+    {
+        &self.journal
+    }
+
+    pub fn into_journal(self) -> Journal
+        ensures { result ≡ self.history }
+    {
+        let Indexed { journal, parts } = self;
+        drop(parts);
+        journal
+    }
+
+    /// Brings all that is kept up to the last entry.
+    pub fn ready(&mut self, alloc: Global) -> Result<(), AllocError>
+        ensures history { self.new.history ≡ self.old.history }
+        ensures ok { OnOk result (self.new.is_ready ≡ true) }
+    {
+        let Some(entry) = self.journal.entries().last() else {
+            return Ok(());
+        };
+        self.parts.go_on(alloc, entry)
+    }
+
+    /// Adds the entry of a step with its outcome, and brings what is kept up to it, as far as memory reaches.
+    pub fn append(
+        &mut self,
+        alloc: Global,
+        seat: Option<u32>,
+        step: Step,
+        outcome: Outcome,
+    ) -> Result<(), AllocError>
+        requires ready { self.old.is_ready ≡ true }
+        requires legal { outcome_of self.old.history step ≡ Some outcome }
+        requires room { is_full self.old.history ≡ false }
+        requires step { is_within_limits step ≡ true }
+        ensures ok { OnOk result (self.new.history ≡ after self.old.history step seat) }
+        ensures err { OnErr result (self.new ≡ self.old) }
+    {
+        self.journal.append(seat, step, outcome)?;
+        self.parts.stage = Stage::Begun;
+        let _ready = self.ready(alloc);
+        Ok(())
+    }
+
+    /// The dot of the next count, `None` where no count is left.
+    pub fn next_dot(&self) -> Option<Dot>
+        requires { self.now.is_ready ≡ true }
+        ensures { result ≡ next_left self.now.history }
+    {
+        self.parts.known.next_dot()
+    }
+
+    /// The present rows of a topic, in order of key and dot.
+    pub fn listed(&self, alloc: Global, topic: &Topic) -> Result<Vec<(Dot, Row)>, AllocError>
+        requires { self.now.is_ready ≡ true }
+        ensures { IfOk result (λ v. v.items ≡ listed self.now.history topic.now) }
+    {
+        self.parts.shown.listed(alloc, topic)
+    }
+
+    /// The present rows of a key.
+    pub fn listed_key(
+        &self,
+        alloc: Global,
+        topic: &Topic,
+        key: &Key,
+    ) -> Result<Vec<(Dot, Row)>, AllocError>
+        requires { self.now.is_ready ≡ true }
+        ensures { IfOk result (λ v. v.items ≡ listed_key self.now.history topic.now key.now) }
+    {
+        self.parts.shown.listed_key(alloc, topic, key)
+    }
+
+    /// The own present rows of a pid on a topic.
+    pub fn rows_of_pid(
+        &self,
+        alloc: Global,
+        pid: u64,
+        topic: &Topic,
+    ) -> Result<Vec<(Dot, Row)>, AllocError>
+        requires { self.now.is_ready ≡ true }
+        ensures { IfOk result (λ v. v.items ≡ rows_of_pid self.now.history pid topic.now) }
+    {
+        self.parts.shown.rows_of_pid(alloc, pid, topic)
+    }
+
+    /// Those under one key.
+    pub fn rows_of_key(
+        &self,
+        alloc: Global,
+        pid: u64,
+        topic: &Topic,
+        key: &Key,
+    ) -> Result<Vec<(Dot, Row)>, AllocError>
+        requires { self.now.is_ready ≡ true }
+        ensures { IfOk result (λ v. v.items ≡ rows_of_key self.now.history pid topic.now key.now) }
+    {
+        self.parts.shown.rows_of_key(alloc, pid, topic, key)
+    }
+
+    /// What a take of at most `max` items gives a subscriber of the topic, and what it comes to.
+    pub fn given(
+        &self,
+        alloc: Global,
+        number: u64,
+        topic: &Topic,
+        max: u32,
+    ) -> Result<(Vec<Item>, Outcome), AllocError>
+        requires ready { self.now.is_ready ≡ true }
+        requires topic { topic_of self.now.history number ≡ Some topic.now }
+        ensures items { IfOk result (λ t. t.0.items ≡ items_given self.now.history number max) }
+        ensures outcome { IfOk result (λ t. outcome_of self.now.history (Step.Take number max) ≡ Some t.1) }
+    {
+        let Some(shared) = self.parts.feeds.given(alloc, number, max)? else {
+            let rows = self.parts.shown.listed(alloc, topic)?;
+            return Ok((state_item(alloc, rows)?, Outcome::Taken(true, 1)));
+        };
+        let items = copy_items(alloc, shared.as_slice())?;
+        let outcome = taken(items.as_slice());
+        Ok((items, outcome))
+    }
+
+    /// What a take of at most `max` items by a subscriber comes to; `None` where there is none of the number.
+    pub fn take_outcome(
+        &self,
+        alloc: Global,
+        number: u64,
+        max: u32,
+    ) -> Result<Option<Outcome>, AllocError>
+        requires { self.now.is_ready ≡ true }
+        ensures { IfOk result (λ o. o ≡ outcome_of self.now.history (Step.Take number max)) }
+    {
+        if self.parts.feeds.topic_of(number).is_none() {
+            return Ok(None);
+        }
+        match self.parts.feeds.given(alloc, number, max)? {
+            Some(items) => Ok(Some(taken_shared(items.as_slice()))),
+            None => Ok(Some(Outcome::Taken(true, 1))),
+        }
+    }
+
+    /// The topic of a subscriber. Takes no memory.
+    pub fn topic_of(&self, number: u64) -> Option<&Topic>
+        ensures { option_copied result ≡ topic_of self.now.history number }
+    {
+        match self.parts.stage {
+            Stage::Begun => walk_topic(&self.journal, number),
+            _ => self.parts.feeds.topic_of(number),
+        }
+    }
+
+    /// Whether a subscriber is behind or has something waiting; `None` where there is none of the number. Takes no memory.
+    pub fn waits(&self, number: u64) -> Option<bool>
+        ensures { result ≡ option_map (λ _. is_waiting (queue self.now.history number)) (topic_of self.now.history number) }
+    {
+        match self.parts.stage {
+            Stage::Begun => walk_waits(&self.journal, number),
+            _ => self.parts.feeds.waits(number),
+        }
+    }
+
+    /// The count up to which all of a replica's dots are covered. Takes no memory.
+    pub fn top(&self, replica: &Replica) -> u64
+        ensures { IsTop self.now.history replica.now result }
+    {
+        match self.parts.stage {
+            Stage::Done => self.parts.known.top(replica),
+            _ => walk_top(&self.journal, replica),
+        }
+    }
+
+    /// The status of a replica. Takes no memory.
+    pub fn status(&self, replica: &Replica) -> Status
+        ensures { result ≡ status self.now.history replica.now }
+    {
+        match self.parts.stage {
+            Stage::Done => self.parts.known.status(replica),
+            _ => walk_status(&self.journal, replica),
+        }
+    }
+
+    /// All that is known of replicas that are not gone.
+    pub fn full(&self, alloc: Global) -> Result<Told, AllocError>
+        ensures { IfOk result (λ t. IsFullOf self.now.history t) }
+    {
+        match self.parts.stage {
+            Stage::Done => self.parts.known.told(alloc),
+            _ => walk_set(alloc, &self.journal)?.told(alloc),
+        }
+    }
+
+    /// What the own replica did since the last cut. It costs what it tells, and a walk over the journal where memory ran
+    /// out behind the last entry.
+    pub fn cut(&self, alloc: Global) -> Result<Delta, AllocError>
+        ensures { IfOk result (λ d. IsCut self.now.history d) }
+    {
+        match self.parts.stage {
+            Stage::Done => self.parts.untold.cut(alloc),
+            _ => walk_cut(alloc, &self.journal),
+        }
+    }
+}

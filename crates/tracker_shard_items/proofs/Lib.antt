@@ -1,0 +1,4 @@
+pub mod DiffLemmas
+pub mod AddLemmas
+pub mod CaseLemmas
+pub mod ItemLemmas

@@ -1,0 +1,6 @@
+pub mod SetLemmas
+pub mod FadingLemmas
+pub mod KnownLemmas
+pub mod TurnLemmas
+pub mod KnownTurns
+pub mod StartLemmas

@@ -1,0 +1,4 @@
+pub mod Known
+pub mod Starts
+pub mod Steps
+pub mod Turns

@@ -1,0 +1,13 @@
+//! What a shard knows of its history, kept in place of walked: the dots that are covered with their live
+//! rows, the standings of the other replicas, and the own count. And the turn of an entry: the rows that it
+//! shows and those that it hides.
+//!
+//! Its public contracts cite `specs/Known`, and `specs/Turns` with tracker_shard_turns' `Turns`.
+#![tactic(auto)]
+
+mod fading;
+mod known;
+mod own;
+mod starting;
+
+pub use known::Known;

@@ -1,0 +1,208 @@
+-- The standings that are kept, entry by entry.
+use Rattle.std.proofs.Common.{◌≡◌, ℕ, Bool, true, false, cond, not, ◌&&◌, List, [], Option, Some, None, refl, sym, ◌∙◌, ap, arith}
+use Rattle.std.specs.Prelude.{max, map}
+use Rattle.std.specs.Option.{unwrap_or, option_map}
+use Rattle.std.specs.Map.{lookup}
+use Rattle.std.proofs.lemmas.Map.Made.{lookup-map_values}
+use Rattle.presence_base.specs.declared.dots.Replica.{Replica}
+use Rattle.presence_base.specs.Order.{same_replica}
+use Rattle.replica_status.specs.declared.standing.Standing.{Standing}
+use Rattle.replica_status.specs.declared.standing.Standing.TheVariants.{Unheard, Up, Down, Gone}
+use Rattle.replica_status.specs.declared.status.Status.TheVariants as status_is
+use Rattle.replica_status.specs.Table.{status_of, heard_at, ticked_at, put_down}
+use Rattle.presence_journal_data.specs.declared.step.Step.TheVariants as steps_are
+use Rattle.presence_journal.specs.Steps.{Step, Entry}
+use Rattle.presence_journal.specs.History.{History, Then, begun, own, time, time_of, standing, standing_after, status, is_gone, hears}
+use Rattle.presence_journal.specs.Laws.{is_callers}
+use Rattle.orswot_core_told.specs.Telling.{ToldValue}
+use Rattle.presence_journal.proofs.Same.{same_replica-true, same_replica-refl}
+use Rattle.presence_journal.proofs.HistoryLemmas.{own-then}
+use Rattle.tracker_shard_known_others.specs.declared.others.Others.{Others}
+use Rattle.tracker_shard_known_others.specs.Standings.{StandingMap, standing_at, Puts, status_at, hears_at, AreOthersOf, OthersFollow, OthersStay}
+
+-- statuses
+
+pub status_kept : (h : History) (o : Others) (r : Replica) → AreOthersOf h o → status_at o r ≡ status h r
+unfolding status
+status_kept h o r a = ap (λ x. cond (same_replica r x) status_is.Up (status_of (standing_at o.standings r))) a.own ∙ go (same_replica r (own h)) refl
+  where
+    go : (b : Bool) → same_replica r (own h) ≡ b → cond b status_is.Up (status_of (standing_at o.standings r)) ≡ cond b status_is.Up (status_of (standing h r))
+    go true e = refl
+    go false e = ap status_of (a.standing r e)
+
+pub hears_is : (h : History) (o : Others) (r : Replica) → AreOthersOf h o → hears_at o r ≡ hears h r
+unfolding hears
+hears_is h o r a = λ i. not (same_replica r (a.own i)) && not (is_gone (status_kept h o r a i))
+
+-- what an entry makes of the time and of one standing
+
+time-then : (h : History) (e : Entry) → time (Then h e) ≡ max (time h) (time_of e.step)
+unfolding time
+time-then h e = refl
+
+standing-then : (h : History) (e : Entry) (r : Replica) → standing (Then h e) r ≡ standing_after e.step (max (time h) (time_of e.step)) r (standing h r)
+unfolding standing
+standing-then h e r = refl
+
+-- the standing of one replica is changed, which is not the own one
+
+same_flip : (r q : Replica) → same_replica r q ≡ same_replica q r
+same_flip r q = by (same_replica r q) (same_replica q r) (λ f. ap (λ x. same_replica q x) (same_replica-true r q f) ∙ same_replica-refl q) (λ f. ap (λ x. same_replica r x) (same_replica-true q r f) ∙ same_replica-refl r)
+  where
+    by : (a b : Bool) → (a ≡ true → b ≡ true) → (b ≡ true → a ≡ true) → a ≡ b
+    by true b f g = sym (f refl)
+    by false true f g = g refl
+    by false false f g = refl
+
+-- after a step that makes f of the standing of a replica that is not the own one
+pub others_put : (h : History) (e : Entry) (f : Standing → Standing) (r : Replica) (o p : Others) → same_replica r o.own ≡ false → p.own ≡ o.own → p.time ≡ max o.time (time_of e.step) → Puts o.standings p.standings r (f (standing_at o.standings r))
+    → ((q : Replica) → standing (Then h e) q ≡ cond (same_replica q r) (f (standing h q)) (standing h q)) → AreOthersOf h o → AreOthersOf (Then h e) p
+others_put h e f r o p other mine later puts step a = record {
+  own = mine ∙ (a.own ∙ sym (own-then h e));
+  time = later ∙ (ap (λ n. max n (time_of e.step)) a.time ∙ sym (time-then h e));
+  standing = λ q none.
+      puts q
+      ∙ (ap (λ b. cond b (f (standing_at o.standings r)) (standing_at o.standings q)) (same_flip r q)
+      ∙ (at q (same_replica q r) refl
+      ∙ ((λ i. cond (same_replica q r) (f (a.standing q (ap (same_replica q) (sym (own-then h e)) ∙ none) i)) (a.standing q (ap (same_replica q) (sym (own-then h e)) ∙ none) i))
+      ∙ sym (step q))));
+  none_own = λ q same.
+      puts q
+      ∙ (ap (λ b. cond b (f (standing_at o.standings r)) (standing_at o.standings q)) (apart q (ap (same_replica q) (sym (own-then h e)) ∙ same) (same_replica r q) refl)
+      ∙ a.none_own q (ap (same_replica q) (sym (own-then h e)) ∙ same));
+}
+  where
+    at : (q : Replica) (b : Bool) → same_replica q r ≡ b → cond b (f (standing_at o.standings r)) (standing_at o.standings q) ≡ cond b (f (standing_at o.standings q)) (standing_at o.standings q)
+    at q true same = ap (λ x. f (standing_at o.standings x)) (sym (same_replica-true q r same))
+    at q false same = refl
+
+    apart : (q : Replica) → same_replica q (own h) ≡ true → (b : Bool) → same_replica r q ≡ b → b ≡ false
+    apart q own_is false same = refl
+    apart q own_is true same =
+        let w : true ≡ false = sym own_is ∙ ((λ i. same_replica (sym (same_replica-true r q same) i) (sym a.own i)) ∙ other) in
+        absurd (cc)
+
+-- after a step that leaves the standings of the others
+pub others_pass : (h : History) (e : Entry) (o p : Others) → p.own ≡ o.own → p.time ≡ max o.time (time_of e.step) → ((q : Replica) → standing_at p.standings q ≡ standing_at o.standings q)
+    → ((q : Replica) → same_replica q (own h) ≡ false → standing (Then h e) q ≡ standing h q) → AreOthersOf h o → AreOthersOf (Then h e) p
+others_pass h e o p mine later same step a = record {
+  own = mine ∙ (a.own ∙ sym (own-then h e));
+  time = later ∙ (ap (λ n. max n (time_of e.step)) a.time ∙ sym (time-then h e));
+  standing = λ q none. let other = ap (same_replica q) (sym (own-then h e)) ∙ none in same q ∙ (a.standing q other ∙ sym (step q other));
+  none_own = λ q own_is. same q ∙ a.none_own q (ap (same_replica q) (sym (own-then h e)) ∙ own_is);
+}
+
+-- one replica is the own one, and another is not
+apart_from_own : (h : History) (r q : Replica) → same_replica r (own h) ≡ true → same_replica q (own h) ≡ false → (b : Bool) → same_replica q r ≡ b → b ≡ false
+apart_from_own h r q own_is other false same = refl
+apart_from_own h r q own_is other true same =
+    let w : true ≡ false = sym own_is ∙ (ap (λ x. same_replica x (own h)) (sym (same_replica-true q r same)) ∙ other) in
+    absurd (cc)
+
+-- hearing
+
+heard-step : (h : History) (e : Entry) (r : Replica) (now : ℕ) (q : Replica) → e.step ≡ steps_are.Heard r now → standing (Then h e) q ≡ cond (same_replica q r) (heard_at (max (time h) now) (standing h q)) (standing h q)
+heard-step h e r now q is = standing-then h e q ∙ ap (λ s. standing_after s (max (time h) (time_of s)) q (standing h q)) is
+
+pub heard_other : (r : Replica) (now : ℕ) (o p : Others) → same_replica r o.own ≡ false → p.own ≡ o.own → p.time ≡ max o.time now → Puts o.standings p.standings r (heard_at (max o.time now) (standing_at o.standings r)) → OthersFollow o (steps_are.Heard r now) p
+heard_other r now o p other mine later puts h e is a =
+    others_put h e (heard_at (max o.time now)) r o p other mine (later ∙ ap (λ s. max o.time (time_of s)) (sym is)) puts
+    (λ q. heard-step h e r now q is ∙ ap (λ n. cond (same_replica q r) (heard_at (max n now) (standing h q)) (standing h q)) (sym a.time)) a
+
+pub heard_own : (r : Replica) (now : ℕ) (o p : Others) → same_replica r o.own ≡ true → p.own ≡ o.own → p.time ≡ max o.time now → p.standings ≡ o.standings → OthersFollow o (steps_are.Heard r now) p
+heard_own r now o p own_is mine later same h e is a =
+    others_pass h e o p mine (later ∙ ap (λ s. max o.time (time_of s)) (sym is)) (λ q. ap (λ m. standing_at m q) same)
+    (λ q other. heard-step h e r now q is ∙ ap (λ b. cond b (heard_at (max (time h) now) (standing h q)) (standing h q)) (apart_from_own h r q (ap (same_replica r) (sym a.own) ∙ own_is) other (same_replica q r) refl)) a
+
+-- putting down
+
+down-step : (h : History) (e : Entry) (r q : Replica) → e.step ≡ steps_are.PermDown r → standing (Then h e) q ≡ cond (same_replica q r) (put_down (standing h q)) (standing h q)
+down-step h e r q is = standing-then h e q ∙ ap (λ s. standing_after s (max (time h) (time_of s)) q (standing h q)) is
+
+none_later : (n : ℕ) → max n 0 ≡ n
+none_later n = omega arith
+
+put_down-is : (x : Standing) → put_down x ≡ Gone
+put_down-is Unheard = refl
+put_down-is (Up t) = refl
+put_down-is (Down t) = refl
+put_down-is Gone = refl
+
+pub down_other : (r : Replica) (o p : Others) → same_replica r o.own ≡ false → p.own ≡ o.own → p.time ≡ o.time → Puts o.standings p.standings r Gone → OthersFollow o (steps_are.PermDown r) p
+down_other r o p other mine same puts h e is a =
+    others_put h e put_down r o p other mine (same ∙ (sym (none_later o.time) ∙ ap (λ s. max o.time (time_of s)) (sym is)))
+    (λ q. puts q ∙ ap (λ x. cond (same_replica r q) x (standing_at o.standings q)) (sym (put_down-is (standing_at o.standings r))))
+    (λ q. down-step h e r q is) a
+
+pub down_own : (r : Replica) (o : Others) → same_replica r o.own ≡ true → OthersFollow o (steps_are.PermDown r) o
+down_own r o own_is h e is a =
+    others_pass h e o o refl (sym (none_later o.time) ∙ ap (λ s. max o.time (time_of s)) (sym is)) (λ q. refl)
+    (λ q other. down-step h e r q is ∙ ap (λ b. cond b (put_down (standing h q)) (standing h q)) (apart_from_own h r q (ap (same_replica r) (sym a.own) ∙ own_is) other (same_replica q r) refl)) a
+
+-- time
+
+tick-step : (h : History) (e : Entry) (now : ℕ) (q : Replica) → e.step ≡ steps_are.Tick now → standing (Then h e) q ≡ ticked_at (max (time h) now) (standing h q)
+tick-step h e now q is = standing-then h e q ∙ ap (λ s. standing_after s (max (time h) (time_of s)) q (standing h q)) is
+
+ticked_or_unheard : (t : ℕ) (o : Option Standing) → unwrap_or (option_map (ticked_at t) o) Unheard ≡ ticked_at t (unwrap_or o Unheard)
+ticked_or_unheard t None = refl
+ticked_or_unheard t (Some s) = refl
+
+abbrev pub each_ticked : ℕ → List (Replica × Standing) → List (Replica × Standing)
+each_ticked t es = map (λ e. (e.0, ticked_at t e.1)) es
+
+ticked_map : (m n : StandingMap) (t : ℕ) (q : Replica) → n.entries ≡ each_ticked t m.entries → standing_at n q ≡ ticked_at t (standing_at m q)
+ticked_map m n t q is =
+    ap (λ es. unwrap_or (lookup (same_replica q) es) Unheard) is
+    ∙ (ap (λ o. unwrap_or o Unheard) (lookup-map_values (ticked_at t) (same_replica q) m.entries)
+    ∙ ticked_or_unheard t (lookup (same_replica q) m.entries))
+
+pub ticked : (now : ℕ) (o p : Others) → p.own ≡ o.own → p.time ≡ max o.time now → p.standings.entries ≡ each_ticked (max o.time now) o.standings.entries → OthersFollow o (steps_are.Tick now) p
+ticked now o p mine later is h e step a = record {
+  own = mine ∙ (a.own ∙ sym (own-then h e));
+  time = later ∙ ((λ i. max (a.time i) (time_of (sym step i))) ∙ sym (time-then h e));
+  standing = λ q none.
+      ticked_map o.standings p.standings (max o.time now) q is
+      ∙ ((λ i. ticked_at (max (a.time i) now) (a.standing q (ap (same_replica q) (sym (own-then h e)) ∙ none) i))
+      ∙ sym (tick-step h e now q step));
+  none_own = λ q same.
+      ticked_map o.standings p.standings (max o.time now) q is
+      ∙ ap (ticked_at (max o.time now)) (a.none_own q (ap (same_replica q) (sym (own-then h e)) ∙ same));
+}
+
+-- the others of a new shard
+pub none_yet : (r : Replica) (o : Others) → o.own ≡ r → o.time ≡ 0 → o.standings.entries ≡ [] → AreOthersOf (begun r) o
+unfolding own time standing
+none_yet r o mine zero_is none = record {
+  own = mine;
+  time = zero_is;
+  standing = λ q other. ap (λ es. unwrap_or (lookup (same_replica q) es) Unheard) none;
+  none_own = λ q same. ap (λ es. unwrap_or (lookup (same_replica q) es) Unheard) none;
+}
+
+pub others_same : (o p : Others) → p.own ≡ o.own → p.time ≡ o.time → ((q : Replica) → standing_at p.standings q ≡ standing_at o.standings q) → OthersStay o p
+others_same o p mine later same h a = record {
+  own = mine ∙ a.own;
+  time = later ∙ a.time;
+  standing = λ q other. same q ∙ a.standing q other;
+  none_own = λ q own_is. same q ∙ a.none_own q own_is;
+}
+
+-- an entry that neither hears a replica, nor puts one down, nor hands in a time
+
+callers_quiet : (s : Step) (t : ℕ) (r : Replica) (x : Standing) → is_callers s ≡ true → (time_of s ≡ 0) × (standing_after s t r x ≡ x)
+callers_quiet (steps_are.Heard replica now) t r x c = absurd (cc)
+callers_quiet (steps_are.Tick now) t r x c = absurd (cc)
+callers_quiet (steps_are.PermDown replica) t r x c = absurd (cc)
+callers_quiet _ t r x c = (refl, refl)
+
+pub others_quiet : (h : History) (e : Entry) (o : Others) → ((t : ℕ) (r : Replica) (x : Standing) → (time_of e.step ≡ 0) × (standing_after e.step t r x ≡ x)) → AreOthersOf h o → AreOthersOf (Then h e) o
+others_quiet h e o quiet a =
+    others_pass h e o o refl (sym (none_later o.time) ∙ ap (λ n. max o.time n) (sym (quiet 0 (own h) Unheard).0)) (λ q. refl)
+    (λ q other. standing-then h e q ∙ (quiet (max (time h) (time_of e.step)) q (standing h q)).1) a
+
+pub others_callers : (h : History) (e : Entry) (o : Others) → is_callers e.step ≡ true → AreOthersOf h o → AreOthersOf (Then h e) o
+others_callers h e o c a = others_quiet h e o (λ t r x. callers_quiet e.step t r x c) a
+
+pub others_merge : (h : History) (e : Entry) (t : ToldValue) (o : Others) → e.step ≡ steps_are.Merge t → AreOthersOf h o → AreOthersOf (Then h e) o
+others_merge h e t o is a = others_quiet h e o (λ n r x. (ap time_of is, ap (λ s. standing_after s n r x) is)) a

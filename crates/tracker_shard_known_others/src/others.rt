@@ -1,0 +1,155 @@
+// The standings of the other replicas, found by replica.
+ghost use Rattle.std.specs.Prelude.{◌≡◌, true, map, OnOk, OnErr};
+ghost use Rattle.presence_base.specs.declared.dots.Replica.{Replica as ReplicaValue};
+ghost use Rattle.presence_base.specs.Order.{same_replica};
+ghost use Rattle.replica_status.specs.Table.{ticked_at};
+ghost use Rattle.presence_journal.specs.History.{begun, is_gone as is_gone_status, is_up as is_up_status};
+ghost use Rattle.tracker_shard_known_others.specs.Standings.{standing_at, Puts, status_at, hears_at, AreOthersOf, OthersFollow, OthersStay};
+
+use presence_base::Replica;
+use presence_journal::Step;
+use replica_status::{Standing, Status};
+use std::alloc::{AllocError, Global};
+use std::collections::BTreeMap;
+
+/// What is held of the other replicas: the standing of each that was heard or put down, and the greatest
+/// time that was handed in, in milliseconds.
+#[derive(Drop)]
+pub struct Others {
+    pub own: Replica,
+    pub time: u64,
+    pub standings: BTreeMap<Replica, Standing>,
+}
+
+/// Whether the two are one replica.
+pub fn is_same(replica: &Replica, other: &Replica) -> bool
+    ensures { result ≡ same_replica replica.now other.now }
+{
+    replica.cmp(other).is_eq()
+}
+
+/// Whether the status is that of a replica that is gone.
+pub fn is_gone(status: Status) -> bool
+    ensures { result ≡ is_gone_status status }
+{
+    match status {
+        Status::Gone => true,
+        _ => false,
+    }
+}
+
+/// Whether rows of a replica of this status are shown.
+pub fn is_up(status: Status) -> bool
+    ensures { result ≡ is_up_status status }
+{
+    match status {
+        Status::Up => true,
+        _ => false,
+    }
+}
+
+// The standing that is kept, or that of a replica that was never heard.
+fn standing_in(standings: &BTreeMap<Replica, Standing>, replica: &Replica) -> Standing
+    ensures { result ≡ standing_at standings.now replica.now }
+{
+    match standings.get(replica) {
+        Some(standing) => *standing,
+        None => Standing::Unheard,
+    }
+}
+
+// Keeps the standing of a replica.
+fn put(
+    standings: &mut BTreeMap<Replica, Standing>,
+    replica: Replica,
+    standing: Standing,
+) -> Result<(), AllocError>
+    ensures ok { OnOk result (Puts standings.old standings.new replica standing) }
+    ensures err { OnErr result ((q : ReplicaValue) → standing_at standings.new q ≡ standing_at standings.old q) }
+{
+    match standings.insert(replica, standing) {
+        Ok(_) => Ok(()),
+        Err(_) => Err(AllocError),
+    }
+}
+
+// Lets time pass for each.
+fn tick_all(standings: &mut BTreeMap<Replica, Standing>, time: u64)
+    ensures { standings.new.entries ≡ map (λ e. (e.0, ticked_at time e.1)) standings.old.entries }
+{
+    standings.retain(
+        |_replica: &Replica, standing: &mut Standing| -> bool
+            ensures { (result ≡ true) × (standing.new ≡ ticked_at time standing.old) }
+        {
+            *standing = standing.ticked_at(time);
+            true
+        },
+    );
+}
+
+impl Others {
+    /// Those of a new shard, which has heard of none.
+    pub fn new(alloc: Global, own: Replica) -> Others
+        ensures { AreOthersOf (begun own) result }
+    {
+        Others {
+            own,
+            time: 0,
+            standings: BTreeMap::new(alloc),
+        }
+    }
+
+    /// The status of a replica.
+    pub fn status(&self, replica: &Replica) -> Status
+        ensures { result ≡ status_at self.now replica.now }
+    {
+        if is_same(replica, &self.own) {
+            return Status::Up;
+        }
+        standing_in(&self.standings, replica).status()
+    }
+
+    /// Whether what is told of a replica is heard.
+    pub fn hears(&self, replica: &Replica) -> bool
+        ensures { result ≡ hears_at self.now replica.now }
+    {
+        !is_same(replica, &self.own) && !is_gone(self.status(replica))
+    }
+
+    /// A replica was heard.
+    pub fn heard(&mut self, replica: Replica, now: u64) -> Result<(), AllocError>
+        ensures ok { OnOk result (OthersFollow self.old (Step.Heard replica now) self.new) }
+        ensures err { OnErr result (OthersStay self.old self.new) }
+    {
+        let time = self.time.max(now);
+        if is_same(&replica, &self.own) {
+            self.time = time;
+            return Ok(());
+        }
+        let standing = standing_in(&self.standings, &replica).heard_at(time);
+        put(&mut self.standings, replica, standing)?;
+        self.time = time;
+        Ok(())
+    }
+
+    /// Time passed. Takes no memory.
+    pub fn tick(&mut self, now: u64)
+        ensures { OthersFollow self.old (Step.Tick now) self.new }
+    {
+        let time = self.time.max(now);
+        tick_all(&mut self.standings, time);
+        self.time = time;
+    }
+
+    /// A replica is gone for good.
+    pub fn permdown(&mut self, replica: Replica) -> Result<(), AllocError>
+        ensures own { self.new.own ≡ self.old.own }
+        ensures ok { OnOk result (OthersFollow self.old (Step.PermDown replica) self.new) }
+        ensures err { OnErr result (OthersStay self.old self.new) }
+    {
+        if is_same(&replica, &self.own) {
+            return Ok(());
+        }
+        put(&mut self.standings, replica, Standing::Gone)
+    }
+}

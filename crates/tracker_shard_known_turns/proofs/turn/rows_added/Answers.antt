@@ -1,0 +1,20 @@
+use Rattle.std.proofs.Common.{sym, ap, Some, None}
+use Rattle.presence_journal.specs.History.{row_made, row_added}
+use Rattle.tracker_shard_known_turns.proofs.GatherLemmas.{none_list, rest_adds, added_list}
+use Rattle.tracker_shard_known_others.proofs.Results.{if_ok}
+use Rattle.tracker_shard_known_turns.proofs.turn.rows_added.Goals as goal
+
+pub returns-in-Added : goal.returns-in-Added
+returns-in-Added c =
+    let e = c.args.entry.now in
+    if_ok _ _ (λ v is. added_list (row_added e.step e.outcome) c.in-Added.new (row_made e.step None) v.items (λ q. ap (λ o. row_added e.step o q) (sym c.in-Added.is)) is)
+    c.made_under.result c.made_under.ensures
+
+pub returns-in-Replaced : goal.returns-in-Replaced
+returns-in-Replaced c =
+    let e = c.args.entry.now in
+    if_ok _ _ (λ v is. added_list (row_added e.step e.outcome) c.in-Replaced.new (row_made e.step (Some c.in-Replaced.old)) v.items (λ q. ap (λ o. row_added e.step o q) (sym c.in-Replaced.is)) is)
+    c.made_under-in-Replaced.result c.made_under-in-Replaced.ensures
+
+pub returns-in_default : goal.returns-in_default
+returns-in_default c = none_list (row_added c.args.entry.now.step c.args.entry.now.outcome) c.new.result.items c.new.ensures.items (rest_adds c.args.entry.now.step c.args.entry.now.outcome c.in_default.not-Added c.in_default.not-Replaced)

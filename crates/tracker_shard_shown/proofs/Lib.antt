@@ -1,0 +1,6 @@
+pub mod StandLemmas
+pub mod ListLemmas
+pub mod TurnLemmas
+pub mod PlaceLemmas
+pub mod OpeningLemmas
+pub mod Crossing

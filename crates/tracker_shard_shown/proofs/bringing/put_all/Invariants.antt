@@ -1,0 +1,11 @@
+use Rattle.std.proofs.Common.{Some}
+use Rattle.tracker_shard_shown.specs.Turns.{Joins}
+use Rattle.tracker_shard_shown.proofs.TurnLemmas.{SetTo, BetweenTo}
+use Rattle.tracker_shard_shown.proofs.bringing.put_all.Given as goal
+
+abbrev pub invariant-loop-join : goal.invariant-loop-join
+invariant-loop-join l =
+    record {
+      set : SetTo (λ r. Some r) l.own l.joins l.join-index l.fn.rows l.rows;
+      between : BetweenTo Joins l.own l.joins l.join-index l.fn.rows l.rows;
+    }

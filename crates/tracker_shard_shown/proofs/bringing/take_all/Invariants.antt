@@ -1,0 +1,11 @@
+use Rattle.std.proofs.Common.{None}
+use Rattle.tracker_shard_shown.specs.Turns.{Leaves}
+use Rattle.tracker_shard_shown.proofs.TurnLemmas.{SetTo, BetweenTo}
+use Rattle.tracker_shard_shown.proofs.bringing.take_all.Given as goal
+
+abbrev pub invariant-loop-leave : goal.invariant-loop-leave
+invariant-loop-leave l =
+    record {
+      set : SetTo (λ r. None) l.own l.leaves l.leave-index l.fn.rows l.rows;
+      between : BetweenTo Leaves l.own l.leaves l.leave-index l.fn.rows l.rows;
+    }

@@ -1,0 +1,6 @@
+use Rattle.std.proofs.lemmas.Result.{IfOk-weaker}
+use Rattle.tracker_shard_shown.proofs.ListLemmas.{pid_listed}
+use Rattle.tracker_shard_shown.proofs.shown.Shown.rows_of_pid.Goals as goal
+
+pub returns : goal.returns
+returns c = IfOk-weaker c.list_topic.result _ _ (λ v lists g s. pid_listed g c.args.self.now s c.args.topic.now c.args.pid v.items lists) c.list_topic.ensures

@@ -1,0 +1,6 @@
+pub mod Stands
+pub mod Kept
+pub mod Turns
+pub mod Listing
+pub mod Placing
+pub mod Opening

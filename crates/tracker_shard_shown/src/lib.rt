@@ -1,0 +1,21 @@
+//! The rows of a shard that are shown, each found by its place: for all that see its topic, and where it is an own row
+//! for its session.
+//!
+//! Its public contracts cite presence_journal's `History`, `Present` and `Table`, and here:
+//! - `specs/Kept`: what is kept of a history, and what lies between a history and the next one
+//! - `specs/Turns`: how that follows a turn, which stands in tracker_shard_turns
+//! - `specs/Placing`: rows of any kind, found by their places
+//!
+//! `specs/Stands` is of the order in which rows are kept, `specs/Opening` of the rows that a journal begins with.
+#![tactic(auto)]
+
+mod bringing;
+mod kept;
+mod listing;
+mod opening;
+mod placed;
+mod shown;
+mod stand;
+
+pub use placed::Placed;
+pub use shown::Shown;
