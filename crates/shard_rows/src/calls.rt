@@ -1,13 +1,13 @@
 // The calls of a shard, made.
-use crate::making::{Tells, key, meta, other_replica, told, topic};
+use crate::making::{ROOM, Tells, key, meta, other_replica, told, topic};
 use std::alloc::Global;
 use tracker_shard::{Shard, ShardFault, Sub};
 
-/// A call, with what it is given: a key, a time, or what is told.
+/// A call, with what it is given: a topic, a subscriber's number, a key, a time, or what is told.
 #[derive(Clone, Copy)]
 pub enum Call {
-    Subscribe,
-    Take,
+    Subscribe(&'static str),
+    Take(u64),
     Track(&'static str),
     Update(&'static str),
     Untrack(&'static str),
@@ -18,24 +18,24 @@ pub enum Call {
     Cut,
 }
 
-/// The subscriber that the first entry makes.
-pub fn subscriber() -> Sub {
-    Sub { slot: 0, number: 1 }
+/// The subscriber that the entry of this number makes.
+pub fn subscriber(number: u64) -> Sub {
+    Sub { slot: 0, number }
 }
 
-fn subscribe(shard: &mut Shard, alloc: Global) -> Result<(), ShardFault> {
-    let topic = topic(alloc)?;
+fn subscribe(shard: &mut Shard, alloc: Global, room: &str) -> Result<(), ShardFault> {
+    let topic = topic(alloc, room)?;
     shard.subscribe(alloc, None, &topic)?;
     Ok(())
 }
 
-fn take(shard: &mut Shard, alloc: Global) -> Result<(), ShardFault> {
-    shard.take(alloc, None, &subscriber(), 256)?;
+fn take(shard: &mut Shard, alloc: Global, number: u64) -> Result<(), ShardFault> {
+    shard.take(alloc, None, &subscriber(number), 256)?;
     Ok(())
 }
 
 fn track(shard: &mut Shard, alloc: Global, name: &str) -> Result<(), ShardFault> {
-    let topic = topic(alloc)?;
+    let topic = topic(alloc, ROOM)?;
     let key = key(alloc, name)?;
     let meta = meta(alloc)?;
     shard.track(alloc, None, 1, &topic, &key, &meta)?;
@@ -43,7 +43,7 @@ fn track(shard: &mut Shard, alloc: Global, name: &str) -> Result<(), ShardFault>
 }
 
 fn update(shard: &mut Shard, alloc: Global, name: &str) -> Result<(), ShardFault> {
-    let topic = topic(alloc)?;
+    let topic = topic(alloc, ROOM)?;
     let key = key(alloc, name)?;
     let meta = meta(alloc)?;
     shard.update(alloc, None, 1, &topic, &key, &meta)?;
@@ -51,7 +51,7 @@ fn update(shard: &mut Shard, alloc: Global, name: &str) -> Result<(), ShardFault
 }
 
 fn untrack(shard: &mut Shard, alloc: Global, name: &str) -> Result<(), ShardFault> {
-    let topic = topic(alloc)?;
+    let topic = topic(alloc, ROOM)?;
     let key = key(alloc, name)?;
     shard.untrack(alloc, None, 1, &topic, &key)?;
     Ok(())
@@ -70,8 +70,8 @@ fn cut(shard: &mut Shard, alloc: Global) -> Result<(), ShardFault> {
 /// Makes the call.
 pub fn make(shard: &mut Shard, alloc: Global, call: &Call) -> Result<(), ShardFault> {
     match call {
-        Call::Subscribe => subscribe(shard, alloc),
-        Call::Take => take(shard, alloc),
+        Call::Subscribe(room) => subscribe(shard, alloc, room),
+        Call::Take(number) => take(shard, alloc, *number),
         Call::Track(name) => track(shard, alloc, name),
         Call::Update(name) => update(shard, alloc, name),
         Call::Untrack(name) => untrack(shard, alloc, name),

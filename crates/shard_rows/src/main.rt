@@ -10,7 +10,7 @@ mod playing;
 mod texts;
 
 use calls::Call;
-use making::{Tells, own_replica};
+use making::{ROOM, Tells, own_replica};
 use playing::play;
 use std::io;
 use std::process::ExitCode;
@@ -22,7 +22,7 @@ fn first_two() -> Tells {
         from: 0,
         to: 2,
         extras: &[],
-        live: &[(1, "u2"), (2, "u3")],
+        live: &[(1, ROOM, "u2"), (2, ROOM, "u3")],
     }
 }
 
@@ -36,24 +36,32 @@ fn removal() -> Tells {
     }
 }
 
-// The row 5, above a gap.
-fn above_a_gap() -> Tells {
+// The row 2 goes, and rows of two topics come above a gap.
+fn of_two_topics() -> Tells {
     Tells {
         from: 4,
-        to: 5,
-        extras: &[],
-        live: &[(5, "u4")],
+        to: 6,
+        extras: &[2],
+        live: &[(5, ROOM, "u4"), (6, "room:b", "u5")],
     }
 }
 
-// Own rows come, and others are told.
+// Three subscribers of one topic and one of another take their states. Then a track fills the queues of the three.
+fn follow<R: Print + AllocGlobal>(rt: &R, shard: &mut Shard) -> io::Result<()> {
+    for room in [ROOM, ROOM, ROOM, "room:b"] {
+        play(rt, shard, "subscribe", &Call::Subscribe(room))?;
+    }
+    for number in 1..5 {
+        play(rt, shard, "take", &Call::Take(number))?;
+    }
+    play(rt, shard, "track u1", &Call::Track("u1"))
+}
+
+// Others' rows are told.
 fn hear<R: Print + AllocGlobal>(rt: &R, shard: &mut Shard) -> io::Result<()> {
-    play(rt, shard, "subscribe", &Call::Subscribe)?;
-    play(rt, shard, "take", &Call::Take)?;
-    play(rt, shard, "track u1", &Call::Track("u1"))?;
     play(rt, shard, "heard 0", &Call::Heard(0))?;
     play(rt, shard, "merge two rows", &Call::Merge(first_two()))?;
-    play(rt, shard, "take", &Call::Take)
+    play(rt, shard, "take", &Call::Take(1))
 }
 
 // The other node is silent, and then heard again.
@@ -62,8 +70,13 @@ fn go_down<R: Print + AllocGlobal>(rt: &R, shard: &mut Shard) -> io::Result<()> 
     play(rt, shard, "cut", &Call::Cut)?;
     play(rt, shard, "merge the removal", &Call::Merge(removal()))?;
     play(rt, shard, "heard 30002", &Call::Heard(30_002))?;
-    play(rt, shard, "merge a row", &Call::Merge(above_a_gap()))?;
-    play(rt, shard, "take", &Call::Take)
+    play(
+        rt,
+        shard,
+        "merge of two topics",
+        &Call::Merge(of_two_topics()),
+    )?;
+    play(rt, shard, "take", &Call::Take(4))
 }
 
 // Own rows go, and the other node for good.
@@ -80,6 +93,7 @@ fn run<R: Print + AllocGlobal>(rt: &R) -> io::Result<()> {
         return Err(io::Error::from(io::ErrorKind::InvalidData));
     };
     let mut shard = Shard::new(rt.alloc(), own);
+    follow(rt, &mut shard)?;
     hear(rt, &mut shard)?;
     go_down(rt, &mut shard)?;
     go_out(rt, &mut shard)

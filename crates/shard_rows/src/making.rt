@@ -6,13 +6,19 @@ use presence_base::{Dot, Key, Meta, NodeName, Replica, Topic};
 use serde_json::{Map, Value};
 use std::alloc::{AllocError, Global};
 
-/// What `b` tells: its counts above the first up to the second, older counts, and the keys of its live rows.
+/// The topic of the own rows.
+pub const ROOM: &str = "room:a";
+
+/// A row that is told: its count, topic and key.
+pub type Live = (u64, &'static str, &'static str);
+
+/// What `b` tells: its counts above the first up to the second, older counts, and its live rows.
 #[derive(Clone, Copy)]
 pub struct Tells {
     pub from: u64,
     pub to: u64,
     pub extras: &'static [u64],
-    pub live: &'static [(u64, &'static str)],
+    pub live: &'static [Live],
 }
 
 /// The replica of the shard, `a.1`.
@@ -37,9 +43,8 @@ pub fn other_replica(alloc: Global) -> Result<Replica, AllocError> {
     })
 }
 
-/// The topic of all rows.
-pub fn topic(alloc: Global) -> Result<Topic, AllocError> {
-    Topic::new(alloc, "room:a")?.ok_or(AllocError)
+pub fn topic(alloc: Global, room: &str) -> Result<Topic, AllocError> {
+    Topic::new(alloc, room)?.ok_or(AllocError)
 }
 
 pub fn key(alloc: Global, text: &str) -> Result<Key, AllocError> {
@@ -51,9 +56,9 @@ pub fn meta(alloc: Global) -> Result<Meta, AllocError> {
     Meta::new(alloc, value)?.ok_or(AllocError)
 }
 
-fn raw_row(alloc: Global, key: &str) -> Result<RawRow, AllocError> {
-    let topic = String::from_str(alloc, "room:a")?;
-    let key = String::from_str(alloc, key)?;
+fn raw_row(alloc: Global, live: &Live) -> Result<RawRow, AllocError> {
+    let topic = String::from_str(alloc, live.1)?;
+    let key = String::from_str(alloc, live.2)?;
     Ok(RawRow {
         topic,
         key,
@@ -77,15 +82,15 @@ fn dots_of(alloc: Global, replica: &Replica, counts: &[u64]) -> Result<Vec<Dot>,
 fn rows_of(
     alloc: Global,
     replica: &Replica,
-    live: &[(u64, &str)],
+    live: &[Live],
 ) -> Result<Vec<(Dot, RawRow)>, AllocError> {
     let mut rows = Vec::new(alloc);
-    for (count, key) in live {
+    for row in live {
         let dot = Dot {
             replica: *replica,
-            count: *count,
+            count: row.0,
         };
-        rows.push((dot, raw_row(alloc, key)?))?;
+        rows.push((dot, raw_row(alloc, row)?))?;
     }
     Ok(rows)
 }

@@ -1,6 +1,6 @@
 // What a shard is, as text.
 use crate::calls::subscriber;
-use crate::making::{other_replica, topic};
+use crate::making::{ROOM, other_replica, topic};
 use orswot_core::Told;
 use presence_base::{Dot, Replica, Row};
 use presence_journal::Outcome;
@@ -80,11 +80,23 @@ fn push_full(alloc: Global, text: &mut String, shard: &Shard) -> Result<(), Allo
     push_told(text, &full)
 }
 
-fn push_shown(alloc: Global, text: &mut String, shard: &Shard) -> Result<(), AllocError> {
-    let topic = topic(alloc)?;
+fn push_room(
+    alloc: Global,
+    text: &mut String,
+    shard: &Shard,
+    room: &str,
+) -> Result<(), AllocError> {
+    let topic = topic(alloc, room)?;
     let rows = walk_list(alloc, shard.journal(), &topic)?;
+    push_rows(text, &rows)
+}
+
+// The rows of both topics, with a bar between.
+fn push_shown(alloc: Global, text: &mut String, shard: &Shard) -> Result<(), AllocError> {
     text.push_str(", shown {")?;
-    push_rows(text, &rows)?;
+    push_room(alloc, text, shard, ROOM)?;
+    text.push_str(" |")?;
+    push_room(alloc, text, shard, "room:b")?;
     text.push_str(" }")
 }
 
@@ -96,12 +108,15 @@ fn push_other(alloc: Global, text: &mut String, shard: &Shard) -> Result<(), All
     write!(text, "; b.1 {status:?}, top {top}, ")
 }
 
+// Which subscribers are behind or have something waiting.
 fn push_waits(text: &mut String, shard: &Shard) -> Result<(), AllocError> {
-    match shard.waits(&subscriber()) {
-        Ok(true) => text.push_str(", waits"),
-        Ok(false) => text.push_str(", nothing waits"),
-        Err(_) => Ok(()),
+    text.push_str(", waiting {")?;
+    for number in 1..5 {
+        if shard.waits(&subscriber(number)) == Ok(true) {
+            write!(text, " {number}")?;
+        }
     }
+    text.push_str(" }")
 }
 
 /// What the shard's public calls and its journal say of it.

@@ -1,4 +1,4 @@
-use crate::desk::{new_shard, row_references, track, untrack, update};
+use crate::desk::{new_shard, row_references, track, untrack, untrack_all, update};
 use delta_range::Delta;
 use std::alloc::{AllocError, Global};
 use std::test::Fail;
@@ -56,5 +56,33 @@ fn rows_that_come_and_go_between_two_cuts_are_told_by_the_range(
     track(rt.alloc(), &mut shard, 5, "u2")?;
     untrack(rt.alloc(), &mut shard, 5, "u1")?;
     assert!(rt; cut(rt.alloc(), &mut shard)?.as_str() == "0-4:: a.1.3 ");
+    Ok(())
+}
+
+// The second update's old row came since the last cut, and what it had replaced is older.
+#[test]
+fn a_cut_tells_of_a_chain_what_went_since_the_last_one(rt: HostRuntime) -> Result<(), Fail> {
+    let mut shard = new_shard(rt.alloc())?;
+    track(rt.alloc(), &mut shard, 5, "u2")?;
+    assert!(rt; cut(rt.alloc(), &mut shard)?.as_str() == "0-1:: a.1.1 ");
+    update(rt.alloc(), &mut shard, 5, "u2")?;
+    update(rt.alloc(), &mut shard, 5, "u2")?;
+    assert!(rt; cut(rt.alloc(), &mut shard)?.as_str() == "1-3: 0-1: a.1.3 ");
+    untrack(rt.alloc(), &mut shard, 5, "u2")?;
+    assert!(rt; cut(rt.alloc(), &mut shard)?.as_str() == "3-4: 0-3: ");
+    Ok(())
+}
+
+#[test]
+fn a_cut_tells_rows_that_go_at_once_with_their_chains(rt: HostRuntime) -> Result<(), Fail> {
+    let mut shard = new_shard(rt.alloc())?;
+    track(rt.alloc(), &mut shard, 5, "u1")?;
+    track(rt.alloc(), &mut shard, 5, "u2")?;
+    assert!(rt; cut(rt.alloc(), &mut shard)?.as_str() == "0-2:: a.1.1 a.1.2 ");
+    update(rt.alloc(), &mut shard, 5, "u1")?;
+    assert!(rt; cut(rt.alloc(), &mut shard)?.as_str() == "2-3: 0-1: a.1.3 ");
+    untrack_all(rt.alloc(), &mut shard, 5)?;
+    assert!(rt; cut(rt.alloc(), &mut shard)?.as_str() == "3-4: 0-3: ");
+    assert!(rt; cut(rt.alloc(), &mut shard)?.as_str() == "4-4:: ");
     Ok(())
 }

@@ -288,10 +288,8 @@ fn removes(outcome: &Outcome, count: u64) -> bool {
     let Outcome::Removed(removed) = outcome else {
         return false;
     };
-    removed.clone().is_ok_and(|removed| {
-        let dots = removed.into_vec();
-        dots.len() == 1 && dots.first().is_some_and(|dot| dot.count == count)
-    })
+    let dots = removed.as_slice();
+    dots.len() == 1 && dots.first().is_some_and(|dot| dot.count == count)
 }
 
 #[test]

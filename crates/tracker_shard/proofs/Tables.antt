@@ -1,6 +1,6 @@
 -- What the table comes to, by what a shard looks up, and which refusals stand.
 use Rattle.std.proofs.Common.{◌≡◌, ℕ, ◌+◌, ◌^◌, Bool, true, false, cond, nat_eq, ◌&&◌, List, [], ◌∷◌, Option, Some, None, refl, sym, ◌∙◌, ap}
-use Rattle.std.specs.Prelude.{nat_lt, is_some, option_map, Result, Ok, Err, OnOk, OnErr}
+use Rattle.std.specs.Prelude.{nat_lt, is_some, option_map}
 use Rattle.serde_json.specs.Data.{Data}
 use Rattle.presence_base.specs.declared.dots.Replica.{Replica}
 use Rattle.presence_base.specs.declared.dots.Dot.{Dot}
@@ -11,26 +11,17 @@ use Rattle.presence_journal_data.specs.declared.step.Step.TheVariants as steps_a
 use Rattle.presence_journal_data.specs.declared.entry.Outcome.{Outcome}
 use Rattle.presence_journal_data.specs.declared.entry.Outcome.TheVariants as outcomes_are
 use Rattle.delta_range.specs.Deltas.{DeltaValue}
-use Rattle.orswot_core.specs.Sets.{DotRows}
-use Rattle.orswot_core.specs.Full.{IsFull}
-use Rattle.presence_journal_sets.specs.LeftOut.{HoldsCovered}
-use Rattle.presence_journal_sets.specs.Full.{IsFullOf}
 use Rattle.presence_journal_cuts.specs.Cuts.{IsCut}
 use Rattle.presence_journal.specs.History.{History, count, is_full, next_dot, last_number}
 use Rattle.presence_journal.specs.Present.{listed, dots_of}
-use Rattle.presence_journal.specs.Queue.{Waiting, queue, topic_of, is_waiting}
-use Rattle.presence_journal.specs.Table.{IsKept, take_outcome, for_present, outcome_of, accepted, after, rows_of_key, rows_of_pid, listed_key, tracked, updated, untracked, counting}
-use Rattle.presence_journal.specs.Limits.{is_within_limits}
-use Rattle.presence_journal.proofs.HistoryLemmas.{after-accepted, within_step}
-use Rattle.tracker_shard.specs.Steps.{Made, refusal, first_dot, next_counted, slot_of, is_found, found_topic}
+use Rattle.presence_journal.specs.Queue.{queue, topic_of, is_waiting}
+use Rattle.presence_journal.specs.Table.{for_present, outcome_of, accepted, after, rows_of_key, rows_of_pid, listed_key, tracked, updated, untracked, counting}
+use Rattle.tracker_shard.specs.Steps.{Made, cause, refusal, first_dot, new_dot, next_counted, slot_of, is_found, found_topic}
 use Rattle.tracker_shard.specs.declared.fault.ShardFault.TheVariants.{ClockFull, JournalFull, NoSub}
 
 pub made : (h : History) (s : Step) (seat : Option ℕ) (o : Outcome) → outcome_of h s ≡ Some o → is_full h ≡ false → (new : History) → new ≡ after h s seat → Made h new seat s
 unfolding accepted
 made h s seat o e room new is = record { accepted = rw (room, e) refl; journal = is }
-
-pub made_kept : (h : History) (s : Step) (seat : Option ℕ) (o : Outcome) → IsKept h → outcome_of h s ≡ Some o → is_full h ≡ false → is_within_limits s ≡ true → IsKept (after h s seat)
-made_kept h s seat o kept e room limits = rw (after-accepted h s seat o e room) (record { legal = (kept.legal, e, refl, room, within_step s limits); limits = (kept.limits, limits) })
 
 next_is : (h : History) (d : Dot) (o : Dot → Outcome) → next_counted h ≡ Some d → counting h (o (next_dot h)) ≡ Some (o d)
 next_is h d o e = go (nat_lt (count h) (2 ^ 62)) e
@@ -45,6 +36,15 @@ none_left h o e = go (nat_lt (count h) (2 ^ 62)) e
     go : (b : Bool) → cond b (Some (next_dot h)) None ≡ None → cond b (Some o) None ≡ None
     go true p = absurd (cc)
     go false p = refl
+
+-- no refusal stands against a step that the table answers
+pub none_due : (h : History) (s : Step) (o : Outcome) → outcome_of h s ≡ Some o → is_full h ≡ false → refusal true h s ≡ None
+none_due h s o answered room = go (is_full h) (outcome_of h s) room answered
+  where
+    go : (b : Bool) (x : Option Outcome) → b ≡ false → x ≡ Some o → cond b (Some JournalFull) (cond (is_some x) None (Some (cause s))) ≡ None
+    go false (Some y) p q = refl
+    go false None p q = absurd (cc)
+    go true x p q = absurd (cc)
 
 pub none_is : {A : Type 0} (o : Option A) → is_some o ≡ false → o ≡ None
 none_is None e = refl
@@ -142,10 +142,6 @@ pub untrack_all_is : (h : History) (pid : ℕ) (topic : List ℕ) → outcome_of
 unfolding outcome_of
 untrack_all_is h pid topic = refl
 
-pub taken_is : (h : History) (n max : ℕ) (t : List ℕ) (w : Waiting) (o : Outcome) → topic_of h n ≡ Some t → w ≡ queue h n → o ≡ take_outcome max w → outcome_of h (steps_are.Take n max) ≡ Some o
-unfolding outcome_of
-taken_is h n max t w o topic is gives = rw (topic) (ap Some (sym (gives ∙ ap (take_outcome max) is)))
-
 -- a subscriber that is found has a topic there
 pub found_is : (h : History) (slot n : ℕ) (t : List ℕ) → found_topic h slot n ≡ Some t → topic_of h n ≡ Some t
 found_is h slot n t e = go (nat_eq slot (slot_of n)) e
@@ -213,18 +209,17 @@ waits_missing h n e = go (topic_of h n) e
 
 pub ruleset tables = (list_shown, get_shown, shout_sent, subscribe_number, heard_noted, tick_noted, permdown_noted, merge_taken_in, cut_told, track_added, track_full, track_again, update_replaced, update_full, update_none, untrack_is, untrack_all_is, found_is, ended_found, none_stands, full_stands, clock_stands, sub_none_stands, sub_full_stands, no_sub_stands)
 
--- what tells all of the set that a history covers tells all of the history
-pub full_of : (h : History) (s : DotRows) (t : ToldValue) → HoldsCovered h s → IsFull s t → IsFullOf h t
-full_of h s t c f = (s, c, f)
+-- a subscriber that isn't there can't be ended
+pub not_ended : (h : History) (n : ℕ) → topic_of h n ≡ None → outcome_of h (steps_are.Unsubscribe n) ≡ None
+unfolding outcome_of
+not_ended h n none = rw none refl
 
--- whether the entry was written or refused, the journal is kept as it is to be
-pub kept_new : {A E : Type 0} (h new : History) (s : Step) (seat : Option ℕ) (o : Outcome) (r : Result A E) → OnOk r (new ≡ after h s seat) → OnErr r (new ≡ h) → IsKept h → outcome_of h s ≡ Some o → is_full h ≡ false → is_within_limits s ≡ true → IsKept new
-kept_new h new s seat o (Ok x) ok err kept e room limits = rw ok (made_kept h s seat o kept e room limits)
-kept_new h new s seat o (Err x) ok err kept e room limits = rw err kept
+pub ruleset subscriber_tables = (ended, not_ended)
 
--- the same, where the history is known by another name
-pub kept_seen : {A E : Type 0} (h now new : History) (s : Step) (seat : Option ℕ) (o : Outcome) (r : Result A E) → h ≡ now → OnOk r (new ≡ after h s seat) → OnErr r (new ≡ h) → IsKept h → outcome_of now s ≡ Some o → is_full now ≡ false → is_within_limits s ≡ true → IsKept new
-kept_seen h now new s seat o r view ok err kept e room limits = kept_new h new s seat o r ok err kept (ap (λ x. outcome_of x s) view ∙ e) (ap is_full view ∙ room) limits
+-- The same, where the history is known by another name.
 
-pub made_seen : (h now new : History) (s : Step) (seat : Option ℕ) (o : Outcome) → h ≡ now → outcome_of now s ≡ Some o → is_full now ≡ false → new ≡ after h s seat → Made now new seat s
-made_seen h now new s seat o view e room is = made now s seat o e room new (is ∙ ap (λ x. after x s seat) view)
+pub track_answers : (h now : History) (pid : ℕ) (topic key : List ℕ) (meta : Data) (d : Dot) → h ≡ now → first_dot (rows_of_key h pid topic key) ≡ None → next_counted h ≡ Some d → new_dot (outcome_of now (steps_are.Track pid topic key meta)) ≡ Some d
+track_answers h now pid topic key meta d same none next = ap new_dot (ap (λ g. outcome_of g (steps_are.Track pid topic key meta)) (sym same) ∙ track_added h pid topic key meta d none next)
+
+pub update_answers : (h now : History) (pid : ℕ) (topic key : List ℕ) (meta : Data) (d old : Dot) → h ≡ now → first_dot (rows_of_key h pid topic key) ≡ Some old → next_counted h ≡ Some d → new_dot (outcome_of now (steps_are.Update pid topic key meta)) ≡ Some d
+update_answers h now pid topic key meta d old same some next = ap new_dot (ap (λ g. outcome_of g (steps_are.Update pid topic key meta)) (sym same) ∙ update_replaced h pid topic key meta d old some next)

@@ -1,27 +1,17 @@
-ghost use Rattle.std.specs.Prelude.{◌≡◌, [], ◌∷◌, IfOk};
-ghost use Rattle.presence_journal_walks.specs.Pending.{waiting_of};
-ghost use Rattle.presence_journal.specs.Present.{dots_of, listed};
-ghost use Rattle.presence_journal.specs.Queue.{given};
-ghost use Rattle.presence_journal.specs.Table.{take_outcome};
-ghost use Rattle.tracker_shard.specs.Steps.{first_dot};
+// The parts of a call: what it reads, what it comes to, and its entry.
+ghost use Rattle.std.specs.Prelude.{◌≡◌, true, false, Some, None, IfOk, IfErr, OnOk, OnErr};
+ghost use Rattle.presence_journal.specs.History.{is_full};
+ghost use Rattle.presence_journal.specs.Limits.{is_within_limits};
+ghost use Rattle.presence_journal.specs.Present.{dots_of};
+ghost use Rattle.presence_journal.specs.Table.{outcome_of, rows_of_key, untracked};
+ghost use Rattle.tracker_shard.specs.Steps.{Made, Stepped, Answers, IsDue, refusal, first_dot};
 
 use crate::fault::ShardFault;
 use delta_range::Delta;
-use presence_base::{Dot, Row, Topic};
-use presence_journal::{Item, Journal, Outcome, Rows};
-use presence_journal_walks::{Pending, walk_list};
+use presence_base::{Dot, Key, Row, Topic};
+use presence_journal::{Dots, Outcome, Step};
 use std::alloc::{AllocError, Global};
-
-impl From<AllocError> for ShardFault {
-    ghost use Rattle.std.specs.Prelude.{◌≡◌};
-    ghost use Rattle.tracker_shard.specs.declared.fault.ShardFault.TheVariants.{OutOfMemory};
-
-    ghost from_gives = { λ e f. f ≡ OutOfMemory };
-
-    fn from(_e: AllocError) -> ShardFault {
-        ShardFault::OutOfMemory
-    }
-}
+use tracker_shard_indexed::Indexed;
 
 // The dots of these rows.
 pub(crate) fn dots_of_rows(alloc: Global, rows: &[(Dot, Row)]) -> Result<Vec<Dot>, AllocError>
@@ -35,7 +25,7 @@ pub(crate) fn dots_of_rows(alloc: Global, rows: &[(Dot, Row)]) -> Result<Vec<Dot
 }
 
 // The dot of the first row, where there is one.
-pub(crate) fn first_dot_of(rows: &[(Dot, Row)]) -> Option<Dot>
+fn first_dot_of(rows: &[(Dot, Row)]) -> Option<Dot>
     ensures { result ≡ first_dot rows.now }
 {
     match rows.first() {
@@ -58,41 +48,69 @@ pub(crate) fn cut_outcome(delta: &Delta) -> Outcome
     Outcome::CutAt(delta.from(), delta.to())
 }
 
-// The state of a topic, as the one item of a take.
-fn state_item(alloc: Global, journal: &Journal, topic: &Topic) -> Result<Vec<Item>, AllocError>
-    ensures { IfOk result (λ v. v.items ≡ Item.State (listed journal.now topic.now) ∷ []) }
-{
-    let rows = walk_list(alloc, journal, topic)?;
-    let mut items = Vec::new(alloc);
-    items.push(Item::State(Rows::new(rows)))?;
-    Ok(items)
-}
-
-// What a take of at most `max` items gives of what waits.
-pub(crate) fn given_items(
+// The dot under which the pid has the key, where it does.
+pub(crate) fn own_dot(
+    table: &Indexed,
     alloc: Global,
-    journal: &Journal,
+    pid: u64,
     topic: &Topic,
-    pending: Pending,
-    max: u32,
-) -> Result<Vec<Item>, AllocError>
-    ensures { IfOk result (λ v. v.items ≡ given (listed journal.now topic.now) max (waiting_of pending)) }
+    key: &Key,
+) -> Result<Option<Dot>, AllocError>
+    requires { table.now.is_ready ≡ true }
+    ensures { IfOk result (λ o. o ≡ first_dot (rows_of_key table.now.history pid topic.now key.now)) }
 {
-    match pending {
-        Pending::Behind => state_item(alloc, journal, topic),
-        Pending::Items(mut items) => {
-            items.truncate(max as usize);
-            Ok(items)
-        }
-    }
+    let mine = table.rows_of_key(alloc, pid, topic, key)?;
+    Ok(first_dot_of(&mine))
 }
 
-// What a take of at most `max` items comes to.
-pub(crate) fn taken_outcome(pending: &Pending, max: u32) -> Outcome
-    ensures { result ≡ take_outcome max (waiting_of pending.now) }
+// What taking these rows out comes to, `None` where a count is needed and none is left.
+pub(crate) fn removal(
+    table: &Indexed,
+    alloc: Global,
+    rows: &[(Dot, Row)],
+) -> Result<Option<Outcome>, AllocError>
+    requires { table.now.is_ready ≡ true }
+    ensures { IfOk result (λ o. o ≡ untracked table.now.history (dots_of rows.now)) }
 {
-    match pending {
-        Pending::Behind => Outcome::Taken(true, 1),
-        Pending::Items(items) => Outcome::Taken(false, (max as u64).min(items.len() as u64)),
+    let dots = dots_of_rows(alloc, rows)?;
+    if !dots.is_empty() && table.next_dot().is_none() {
+        return Ok(None);
     }
+    Ok(Some(Outcome::Removed(Dots::new(dots))))
+}
+
+// Writes the entry of a step that the table accepts.
+pub(crate) fn write(
+    table: &mut Indexed,
+    alloc: Global,
+    seat: Option<u32>,
+    step: Step,
+    outcome: Outcome,
+) -> Result<(), ShardFault>
+    requires ready { table.old.is_ready ≡ true }
+    requires table { outcome_of table.old.history step ≡ Some outcome }
+    requires room { is_full table.old.history ≡ false }
+    requires limits { is_within_limits step ≡ true }
+    ensures made { OnOk result (Made table.old.history table.new.history seat step) }
+    ensures err { OnErr result (table.new.history ≡ table.old.history) }
+    ensures memory { IfErr result (λ e. e ≡ ShardFault.OutOfMemory) }
+{
+    table.append(alloc, seat, step, outcome)?;
+    Ok(())
+}
+
+// Writes the entry of a step that no count and no subscriber stands against, and that comes to this.
+#[tactic(auto, using(crate::proofs::Tables::tables))]
+pub(crate) fn note(table: &mut Indexed, alloc: Global, step: Step) -> Result<(), ShardFault>
+    requires table { outcome_of table.old.history step ≡ Some Outcome.Noted }
+    requires limits { is_within_limits step ≡ true }
+    ensures step { Stepped table.old.history table.new.history None step result }
+    ensures answer { Answers (λ _. Unit {0}) (outcome_of table.old.history step) result }
+    ensures due { IsDue result (refusal true table.old.history step) }
+{
+    if table.journal().is_full() {
+        return Err(ShardFault::JournalFull);
+    }
+    table.ready(alloc)?;
+    write(table, alloc, None, step, Outcome::Noted)
 }

@@ -1,12 +1,13 @@
 //! A shard: one table of presences, whose every call is one step of its journal.
 //!
 //! Its public contracts cite `specs/Steps`: what a call answers and leaves, and when it refuses. That
-//! stands on presence_journal's `History`, `Table`, `Present`, `Queue` and `Limits`. What is told out is
-//! `Cuts` of presence_journal_cuts and `Full` of presence_journal_sets.
+//! stands on presence_journal's `History`, `Table`, `Present`, `Queue` and `Limits`.
 #![tactic(auto)]
 
 mod answers;
 mod fault;
+mod foreseen;
+mod lists;
 mod shard;
 
 pub use fault::ShardFault;

@@ -1,19 +1,15 @@
-use crate::answers::{
-    cut_outcome, dots_of_rows, first_dot_of, given_items, replaced, taken_outcome,
-};
+use crate::answers::{cut_outcome, dots_of_rows, note, own_dot, removal, replaced, write};
 use crate::fault::ShardFault;
+use crate::foreseen::foreseen;
+use crate::lists::Lists;
 use delta_range::Delta;
 use orswot_core::Told;
-use presence_base::{Dot, Json, Key, MAX_COUNT, Meta, Replica, Row, Topic};
+use presence_base::{Dot, Json, Key, Meta, Replica, Row, Topic};
 use presence_journal::{Dots, Item, Journal, Outcome, Step};
-use presence_journal_cuts::walk_cut;
-use presence_journal_walks::{
-    walk_count, walk_get, walk_list, walk_own_row, walk_own_rows, walk_pending, walk_set,
-    walk_status, walk_top, walk_topic, walk_waits,
-};
 use replica_status::Status;
 use std::alloc::{AllocError, Global};
 use std::marker::Model;
+use tracker_shard_indexed::Indexed;
 
 /// A subscriber: the number of the entry that made it, which names it, and the slot where it is found.
 #[derive(Clone, Copy, Debug, PartialEq, Eq)]
@@ -24,10 +20,20 @@ pub struct Sub {
 
 /// One shard's table of presences, seen by contracts as its journal's history.
 ///
-/// This body answers by walking its journal: each call costs the length of the journal.
-#[derive(Drop)]
+/// What its journal comes to is kept beside it, so a call costs what it asks for. Where memory runs out behind an entry
+/// its answer is given all the same, and the next call that may want memory completes what is kept.
 pub struct Shard {
-    journal: Journal,
+    table: Indexed,
+    lists: Lists,
+}
+
+// Written, since each function that drops a value whose type derives it proves anew how its parts are dropped.
+impl Drop for Shard {
+    fn drop(self) {
+        let Shard { table, lists } = self;
+        drop(table);
+        drop(lists);
+    }
 }
 
 impl Model for Shard {
@@ -38,36 +44,32 @@ impl Model for Shard {
 
     ghost coded = { history_code };
 
-    ghost use Rattle.presence_journal.specs.Table.{IsKept};
-
-    ghost view = { λ s. s.journal };
-
-    ghost invariant = { λ s. IsKept s.journal };
+    ghost view = { λ s. s.table.history };
 }
 
 impl Shard {
     ghost use Rattle.std.specs.Prelude.{◌≡◌, ◌≤◌, ◌^◌, true, false, Some, None, option_copied, IfOk, IfErr, OnOk, OnErr, IsTrue};
     ghost use Rattle.presence_base.specs.Refs.{IsCount};
-    ghost use Rattle.presence_journal.specs.History.{begun, is_full, status, IsTop};
-    ghost use Rattle.presence_journal.specs.Limits.{is_payload, is_take_limit, is_within_limits};
-    ghost use Rattle.presence_journal.specs.Present.{dots_of};
-    ghost use Rattle.presence_journal.specs.Queue.{topic_of, queue, items_given, is_waiting};
-    ghost use Rattle.presence_journal.specs.Table.{IsLegal, AreWithinLimits, outcome_of, rows_of_key, untracked};
+    ghost use Rattle.presence_journal.specs.History.{begun, status, IsTop};
+    ghost use Rattle.presence_journal.specs.Limits.{is_payload, is_take_limit};
+    ghost use Rattle.presence_journal.specs.Queue.{queue, is_waiting};
+    ghost use Rattle.presence_journal.specs.Table.{IsLegal, AreWithinLimits, outcome_of};
     ghost use Rattle.presence_journal_cuts.specs.Cuts.{IsCut};
     ghost use Rattle.presence_journal_sets.specs.Full.{IsFullOf};
-    ghost use Rattle.tracker_shard.specs.Steps.{Made, Stepped, Answers, IsDue, refusal, refusal_at, is_found};
+    ghost use Rattle.tracker_shard.specs.Steps.{Stepped, Answers, IsDue, refusal, refusal_at, is_found};
     ghost use Rattle.tracker_shard.specs.Steps.{AnswersDot, AnswersRowsOfKey, AnswersRowsOfPid, AnswersListed};
     ghost use Rattle.tracker_shard.specs.Steps.{AnswersListedKey, AnswersItems, AnswersSub};
-    ghost use Rattle.tracker_shard.specs.Steps.{first_dot, next_counted, found_topic};
+    ghost use Rattle.tracker_shard.specs.Steps.{found_topic};
 
     /// A shard of the replica with an empty journal.
     pub fn new(alloc: Global, own: Replica) -> Shard
         requires { IsCount own.incarnation }
         ensures { result ≡ begun own }
     {
-        let journal = Journal::new(alloc, own);
-        let _entries = journal.entries();
-        Shard { journal }
+        Shard {
+            table: Indexed::new(alloc, own),
+            lists: Lists::new(alloc),
+        }
     }
 
     /// The journal, in which each entry has the outcome of the sequential presence table.
@@ -76,73 +78,16 @@ impl Shard {
         ensures legal { IsLegal self.now }
         ensures limits { AreWithinLimits self.now }
     {
-        &self.journal
+        self.table.journal()
     }
 
     /// The journal, where the shard is done with.
     pub fn into_journal(self) -> Journal
         ensures { result ≡ self }
     {
-        self.journal
-    }
-
-    // Writes the entry of a step that the table accepts.
-    fn write(&mut self, seat: Option<u32>, step: Step, outcome: Outcome) -> Result<(), ShardFault>
-        requires table { outcome_of self.old step ≡ Some outcome }
-        requires room { is_full self.old ≡ false }
-        requires limits { is_within_limits step ≡ true }
-        ensures made { OnOk result (Made self.old self.new seat step) }
-        ensures err { OnErr result (self.new ≡ self.old) }
-        ensures memory { IfErr result (λ e. e ≡ ShardFault.OutOfMemory) }
-    {
-        self.journal.append(seat, step, outcome)?;
-        Ok(())
-    }
-
-    // What the own replica did since the last cut.
-    fn own_cut(&self, alloc: Global) -> Result<Delta, AllocError>
-        ensures { IfOk result (λ d. IsCut self.now d) }
-    {
-        walk_cut(alloc, &self.journal)
-    }
-
-    // The dot under which the pid has the key, where it does.
-    fn own_dot(
-        &self,
-        alloc: Global,
-        pid: u64,
-        topic: &Topic,
-        key: &Key,
-    ) -> Result<Option<Dot>, AllocError>
-        ensures { IfOk result (λ o. o ≡ first_dot (rows_of_key self.now pid topic.now key.now)) }
-    {
-        let mine = walk_own_row(alloc, &self.journal, pid, topic, key)?;
-        Ok(first_dot_of(&mine))
-    }
-
-    // The dot of the next count, or `None` where no count is left.
-    fn next_dot(&self) -> Option<Dot>
-        ensures { result ≡ next_counted self.now }
-    {
-        let count = walk_count(&self.journal);
-        if count >= MAX_COUNT {
-            return None;
-        }
-        Some(Dot {
-            replica: *self.journal.own(),
-            count: count + 1,
-        })
-    }
-
-    // What taking these rows out comes to, `None` where a count is needed and none is left.
-    fn removal(&self, alloc: Global, rows: &[(Dot, Row)]) -> Result<Option<Outcome>, AllocError>
-        ensures { IfOk result (λ o. o ≡ untracked self.now (dots_of rows.now)) }
-    {
-        let dots = dots_of_rows(alloc, rows)?;
-        if !dots.is_empty() && walk_count(&self.journal) >= MAX_COUNT {
-            return Ok(None);
-        }
-        Ok(Some(Outcome::Removed(Dots::new(dots))))
+        let Shard { table, lists } = self;
+        drop(lists);
+        table.into_journal()
     }
 
     // The topic of a subscriber, `None` where no present subscriber has this slot and number.
@@ -152,7 +97,17 @@ impl Shard {
         if sub.slot != 0 {
             return None;
         }
-        walk_topic(&self.journal, sub.number)
+        self.table.topic_of(sub.number)
+    }
+
+    /// What a step would come to, `None` where it needs a count and none is left, or names a subscriber that isn't there. It
+    /// is no step, and costs what the step's call looks up.
+    pub fn foresee(&mut self, alloc: Global, step: &Step) -> Result<Option<Outcome>, AllocError>
+        ensures same { self.new ≡ self.old }
+        ensures outcome { IfOk result (λ o. o ≡ outcome_of self.old step.now) }
+    {
+        self.table.ready(alloc)?;
+        foreseen(&self.table, &mut self.lists, alloc, step)
     }
 
     /// Tracks the pid under the key on the topic, and answers the dot of the new row.
@@ -174,19 +129,20 @@ impl Shard {
         ensures answer { AnswersDot self.old (Step.Track pid topic.now key.now meta.now) result }
         ensures due { IsDue result (refusal true self.old (Step.Track pid topic.now key.now meta.now)) }
     {
-        if self.journal.is_full() {
+        if self.table.journal().is_full() {
             return Err(ShardFault::JournalFull);
         }
-        if self.own_dot(alloc, pid, topic, key)?.is_some() {
+        self.table.ready(alloc)?;
+        if own_dot(&self.table, alloc, pid, topic, key)?.is_some() {
             let step = Step::track(pid, topic, key, meta)?;
-            self.write(seat, step, Outcome::AlreadyTracked)?;
+            write(&mut self.table, alloc, seat, step, Outcome::AlreadyTracked)?;
             return Err(ShardFault::AlreadyTracked);
         }
-        let Some(dot) = self.next_dot() else {
+        let Some(dot) = self.table.next_dot() else {
             return Err(ShardFault::ClockFull);
         };
         let step = Step::track(pid, topic, key, meta)?;
-        self.write(seat, step, Outcome::Added(dot))?;
+        write(&mut self.table, alloc, seat, step, Outcome::Added(dot))?;
         Ok(dot)
     }
 
@@ -209,19 +165,20 @@ impl Shard {
         ensures answer { AnswersDot self.old (Step.Update pid topic.now key.now meta.now) result }
         ensures due { IsDue result (refusal true self.old (Step.Update pid topic.now key.now meta.now)) }
     {
-        if self.journal.is_full() {
+        if self.table.journal().is_full() {
             return Err(ShardFault::JournalFull);
         }
-        let Some(old) = self.own_dot(alloc, pid, topic, key)? else {
+        self.table.ready(alloc)?;
+        let Some(old) = own_dot(&self.table, alloc, pid, topic, key)? else {
             let step = Step::update(pid, topic, key, meta)?;
-            self.write(seat, step, Outcome::NoPresence)?;
+            write(&mut self.table, alloc, seat, step, Outcome::NoPresence)?;
             return Err(ShardFault::NoPresence);
         };
-        let Some(dot) = self.next_dot() else {
+        let Some(dot) = self.table.next_dot() else {
             return Err(ShardFault::ClockFull);
         };
         let step = Step::update(pid, topic, key, meta)?;
-        self.write(seat, step, replaced(&dot, &old))?;
+        write(&mut self.table, alloc, seat, step, replaced(&dot, &old))?;
         Ok(dot)
     }
 
@@ -242,16 +199,17 @@ impl Shard {
         ensures answer { AnswersRowsOfKey self.old pid topic.now key.now result }
         ensures due { IsDue result (refusal true self.old (Step.Untrack pid topic.now key.now)) }
     {
-        if self.journal.is_full() {
+        if self.table.journal().is_full() {
             return Err(ShardFault::JournalFull);
         }
-        let rows = walk_own_row(alloc, &self.journal, pid, topic, key)?;
-        let Some(outcome) = self.removal(alloc, &rows)? else {
+        self.table.ready(alloc)?;
+        let rows = self.table.rows_of_key(alloc, pid, topic, key)?;
+        let Some(outcome) = removal(&self.table, alloc, &rows)? else {
             return Err(ShardFault::ClockFull);
         };
         let dots = dots_of_rows(alloc, &rows)?;
         let step = Step::untrack(pid, topic, key)?;
-        self.write(seat, step, outcome)?;
+        write(&mut self.table, alloc, seat, step, outcome)?;
         Ok(dots)
     }
 
@@ -271,16 +229,17 @@ impl Shard {
         ensures answer { AnswersRowsOfPid self.old pid topic.now result }
         ensures due { IsDue result (refusal true self.old (Step.UntrackAll pid topic.now)) }
     {
-        if self.journal.is_full() {
+        if self.table.journal().is_full() {
             return Err(ShardFault::JournalFull);
         }
-        let rows = walk_own_rows(alloc, &self.journal, pid, topic)?;
-        let Some(outcome) = self.removal(alloc, &rows)? else {
+        self.table.ready(alloc)?;
+        let rows = self.table.rows_of_pid(alloc, pid, topic)?;
+        let Some(outcome) = removal(&self.table, alloc, &rows)? else {
             return Err(ShardFault::ClockFull);
         };
         let dots = dots_of_rows(alloc, &rows)?;
         let step = Step::untrack_all(pid, topic)?;
-        self.write(seat, step, outcome)?;
+        write(&mut self.table, alloc, seat, step, outcome)?;
         Ok(dots)
     }
 
@@ -298,13 +257,15 @@ impl Shard {
         ensures answer { AnswersListed self.old topic.now result }
         ensures due { IsDue result (refusal true self.old (Step.List topic.now)) }
     {
-        if self.journal.is_full() {
+        if self.table.journal().is_full() {
             return Err(ShardFault::JournalFull);
         }
-        let rows = walk_list(alloc, &self.journal, topic)?;
+        self.table.ready(alloc)?;
+        let rows = self.table.listed(alloc, topic)?;
         let dots = dots_of_rows(alloc, &rows)?;
+        let dots = self.lists.share(alloc, topic, dots)?;
         let step = Step::list(topic)?;
-        self.write(seat, step, Outcome::Shown(Dots::new(dots)))?;
+        write(&mut self.table, alloc, seat, step, Outcome::Shown(dots))?;
         Ok(rows)
     }
 
@@ -323,13 +284,20 @@ impl Shard {
         ensures answer { AnswersListedKey self.old topic.now key.now result }
         ensures due { IsDue result (refusal true self.old (Step.Get topic.now key.now)) }
     {
-        if self.journal.is_full() {
+        if self.table.journal().is_full() {
             return Err(ShardFault::JournalFull);
         }
-        let rows = walk_get(alloc, &self.journal, topic, key)?;
+        self.table.ready(alloc)?;
+        let rows = self.table.listed_key(alloc, topic, key)?;
         let dots = dots_of_rows(alloc, &rows)?;
         let step = Step::get(topic, key)?;
-        self.write(seat, step, Outcome::Shown(Dots::new(dots)))?;
+        write(
+            &mut self.table,
+            alloc,
+            seat,
+            step,
+            Outcome::Shown(Dots::new(dots)),
+        )?;
         Ok(rows)
     }
 
@@ -349,11 +317,12 @@ impl Shard {
         ensures answer { Answers (λ _. Unit {0}) (outcome_of self.old (Step.Shout topic.now payload.now)) result }
         ensures due { IsDue result (refusal true self.old (Step.Shout topic.now payload.now)) }
     {
-        if self.journal.is_full() {
+        if self.table.journal().is_full() {
             return Err(ShardFault::JournalFull);
         }
+        self.table.ready(alloc)?;
         let step = Step::shout(topic, payload)?;
-        self.write(seat, step, Outcome::Sent)
+        write(&mut self.table, alloc, seat, step, Outcome::Sent)
     }
 
     /// A new subscriber of the topic. It is behind: its first take gives the whole state.
@@ -370,12 +339,19 @@ impl Shard {
         ensures answer { AnswersSub self.old topic.now result }
         ensures due { IsDue result (refusal true self.old (Step.Subscribe topic.now)) }
     {
-        if self.journal.is_full() {
+        if self.table.journal().is_full() {
             return Err(ShardFault::JournalFull);
         }
-        let number = self.journal.last_number() + 1;
+        self.table.ready(alloc)?;
+        let number = self.table.journal().last_number() + 1;
         let step = Step::subscribe(topic)?;
-        self.write(seat, step, Outcome::Subscribed(number))?;
+        write(
+            &mut self.table,
+            alloc,
+            seat,
+            step,
+            Outcome::Subscribed(number),
+        )?;
         Ok(Sub { slot: 0, number })
     }
 
@@ -385,7 +361,7 @@ impl Shard {
     #[tactic(auto, using(crate::proofs::Tables::tables))]
     pub fn unsubscribe(
         &mut self,
-        _alloc: Global,
+        alloc: Global,
         seat: Option<u32>,
         sub: &Sub,
     ) -> Result<(), ShardFault>
@@ -397,32 +373,14 @@ impl Shard {
         let Some(_) = shard.topic_of_sub(sub) else {
             return Err(ShardFault::NoSub);
         };
-        if shard.journal.is_full() {
+        if shard.table.journal().is_full() {
             return Err(ShardFault::JournalFull);
         }
+        self.table.ready(alloc)?;
         let step = Step::Unsubscribe {
             subscriber: sub.number,
         };
-        self.write(seat, step, Outcome::Ended)
-    }
-
-    // What a take of at most `max` items gives a subscriber of the topic, and its outcome.
-    #[tactic(auto, using(crate::proofs::Tables::taken_is))]
-    fn taken(
-        &self,
-        alloc: Global,
-        number: u64,
-        topic: &Topic,
-        max: u32,
-    ) -> Result<(Vec<Item>, Outcome), AllocError>
-        requires { topic_of self.now number ≡ Some topic.now }
-        ensures items { IfOk result (λ t. t.0.items ≡ items_given self.now number max) }
-        ensures outcome { IfOk result (λ t. outcome_of self.now (Step.Take number max) ≡ Some t.1) }
-    {
-        let pending = walk_pending(alloc, &self.journal, number, topic)?;
-        let outcome = taken_outcome(&pending, max);
-        let items = given_items(alloc, &self.journal, topic, pending, max)?;
-        Ok((items, outcome))
+        write(&mut self.table, alloc, seat, step, Outcome::Ended)
     }
 
     /// Up to `max` of the items that wait for a subscriber, the oldest first, or its topic's whole
@@ -446,28 +404,15 @@ impl Shard {
         let Some(topic) = shard.topic_of_sub(sub) else {
             return Err(ShardFault::NoSub);
         };
-        if shard.journal.is_full() {
+        if shard.table.journal().is_full() {
             return Err(ShardFault::JournalFull);
         }
-        let (items, outcome) = shard.taken(alloc, sub.number, topic, max)?;
+        let topic = topic.clone()?;
+        self.table.ready(alloc)?;
+        let (items, outcome) = self.table.given(alloc, sub.number, &topic, max)?;
         let step = Step::take(sub.number, max);
-        self.write(seat, step, outcome)?;
+        write(&mut self.table, alloc, seat, step, outcome)?;
         Ok(items)
-    }
-
-    // Writes the entry of a step that no count and no subscriber stands against, and that comes to this.
-    #[tactic(auto, using(crate::proofs::Tables::tables))]
-    fn note(&mut self, step: Step) -> Result<(), ShardFault>
-        requires table { outcome_of self.old step ≡ Some Outcome.Noted }
-        requires limits { is_within_limits step ≡ true }
-        ensures step { Stepped self.old self.new None step result }
-        ensures answer { Answers (λ _. Unit {0}) (outcome_of self.old step) result }
-        ensures due { IsDue result (refusal true self.old step) }
-    {
-        if self.journal.is_full() {
-            return Err(ShardFault::JournalFull);
-        }
-        self.write(None, step, Outcome::Noted)
     }
 
     /// Notes that a replica was heard at a time in milliseconds: it is up from then on, unless it is gone. A time before the
@@ -475,40 +420,41 @@ impl Shard {
     ///
     /// It refuses with `JournalFull`, else with `OutOfMemory`.
     #[tactic(auto, using(crate::proofs::Tables::tables))]
-    pub fn heard(&mut self, _alloc: Global, replica: Replica, now: u64) -> Result<(), ShardFault>
+    pub fn heard(&mut self, alloc: Global, replica: Replica, now: u64) -> Result<(), ShardFault>
         ensures step { Stepped self.old self.new None (Step.Heard replica now) result }
         ensures answer { Answers (λ _. Unit {0}) (outcome_of self.old (Step.Heard replica now)) result }
         ensures due { IsDue result (refusal true self.old (Step.Heard replica now)) }
     {
-        self.note(Step::Heard { replica, now })
+        note(&mut self.table, alloc, Step::Heard { replica, now })
     }
 
     /// Lets time pass: a replica that was silent for too long is down, or gone.
     ///
     /// It refuses with `JournalFull`, else with `OutOfMemory`.
     #[tactic(auto, using(crate::proofs::Tables::tables))]
-    pub fn tick(&mut self, _alloc: Global, now: u64) -> Result<(), ShardFault>
+    pub fn tick(&mut self, alloc: Global, now: u64) -> Result<(), ShardFault>
         ensures step { Stepped self.old self.new None (Step.Tick now) result }
         ensures answer { Answers (λ _. Unit {0}) (outcome_of self.old (Step.Tick now)) result }
         ensures due { IsDue result (refusal true self.old (Step.Tick now)) }
     {
-        self.note(Step::Tick { now })
+        note(&mut self.table, alloc, Step::Tick { now })
     }
 
     /// Notes that a replica is gone for good.
     ///
     /// It refuses with `JournalFull`, else with `OutOfMemory`.
     #[tactic(auto, using(crate::proofs::Tables::tables))]
-    pub fn permdown(&mut self, _alloc: Global, replica: Replica) -> Result<(), ShardFault>
+    pub fn permdown(&mut self, alloc: Global, replica: Replica) -> Result<(), ShardFault>
         ensures step { Stepped self.old self.new None (Step.PermDown replica) result }
         ensures answer { Answers (λ _. Unit {0}) (outcome_of self.old (Step.PermDown replica)) result }
         ensures due { IsDue result (refusal true self.old (Step.PermDown replica)) }
     {
-        self.note(Step::PermDown { replica })
+        note(&mut self.table, alloc, Step::PermDown { replica })
     }
 
     /// What the own replica did since the last cut, for other nodes: its rows that came and are live, and the older ones that
-    /// went, each with those that it had replaced in turn.
+    /// went, each with those that it had replaced in turn. It costs what it tells: these rows, and the runs of the counts that
+    /// went.
     ///
     /// It refuses with `JournalFull`, else with `OutOfMemory`.
     #[tactic(auto, using(crate::proofs::Tables::tables))]
@@ -517,12 +463,13 @@ impl Shard {
         ensures answer { Answers (IsCut self.old) (outcome_of self.old Step.Cut) result }
         ensures due { IsDue result (refusal true self.old Step.Cut) }
     {
-        if self.journal.is_full() {
+        if self.table.journal().is_full() {
             return Err(ShardFault::JournalFull);
         }
-        let delta = self.own_cut(alloc)?;
+        self.table.ready(alloc)?;
+        let delta = self.table.cut(alloc)?;
         let outcome = cut_outcome(&delta);
-        self.write(None, Step::Cut, outcome)?;
+        write(&mut self.table, alloc, None, Step::Cut, outcome)?;
         Ok(delta)
     }
 
@@ -531,16 +478,17 @@ impl Shard {
     ///
     /// It refuses with `JournalFull`, else with `OutOfMemory`.
     #[tactic(auto, using(crate::proofs::Tables::tables))]
-    pub fn merge(&mut self, _alloc: Global, told: &Told) -> Result<(), ShardFault>
+    pub fn merge(&mut self, alloc: Global, told: &Told) -> Result<(), ShardFault>
         ensures step { Stepped self.old self.new None (Step.Merge told.now) result }
         ensures answer { Answers (λ _. Unit {0}) (outcome_of self.old (Step.Merge told.now)) result }
         ensures due { IsDue result (refusal true self.old (Step.Merge told.now)) }
     {
-        if self.journal.is_full() {
+        if self.table.journal().is_full() {
             return Err(ShardFault::JournalFull);
         }
+        self.table.ready(alloc)?;
         let step = Step::merge(told)?;
-        self.write(None, step, Outcome::Merged)
+        write(&mut self.table, alloc, None, step, Outcome::Merged)
     }
 
     /// All that the shard knows, for a node that missed what was told: of each replica that is not gone the counts up to its
@@ -548,23 +496,21 @@ impl Shard {
     pub fn full(&self, alloc: Global) -> Result<Told, AllocError>
         ensures { IfOk result (λ t. IsFullOf self.now t) }
     {
-        let set = walk_set(alloc, &self.journal)?;
-        let told = set.told(alloc)?;
-        Ok(told)
+        self.table.full(alloc)
     }
 
     /// The count up to which all of a replica's dots are covered; 0 for one that is gone. It is no step, and takes no memory.
     pub fn top(&self, replica: &Replica) -> u64
         ensures { IsTop self.now replica.now result }
     {
-        walk_top(&self.journal, replica)
+        self.table.top(replica)
     }
 
     /// The status of a replica; the own one is up. It is no step, and takes no memory.
     pub fn status(&self, replica: &Replica) -> Status
         ensures { result ≡ status self.now replica.now }
     {
-        walk_status(&self.journal, replica)
+        self.table.status(replica)
     }
 
     /// Whether a subscriber is behind or has something waiting. It is no step.
@@ -578,7 +524,7 @@ impl Shard {
         if sub.slot != 0 {
             return Err(ShardFault::NoSub);
         }
-        match walk_waits(&self.journal, sub.number) {
+        match self.table.waits(sub.number) {
             Some(waits) => Ok(waits),
             None => Err(ShardFault::NoSub),
         }

@@ -1,5 +1,5 @@
-use Rattle.tracker_shard.proofs.Tables.{made_seen, kept_seen}
-use Rattle.tracker_shard.proofs.shard.Shard.write.Goals as goal
+use Rattle.plain_shard.proofs.Tables.{made_seen, kept_seen}
+use Rattle.plain_shard.proofs.shard.PlainShard.write.Goals as goal
 
 pub invariant_of-self : goal.invariant_of-self
 invariant_of-self c = kept_seen _ _ _ c.args.step c.args.seat c.args.outcome c.append.result c.self.view_is c.append.ensures.ok c.append.ensures.err c.self.invariant c.requires.table c.requires.room c.requires.limits

@@ -1,7 +1,7 @@
 use Rattle.std.proofs.Common.{subst}
 use Rattle.presence_journal_sets.specs.LeftOut.{HoldsCovered}
-use Rattle.tracker_shard.proofs.Tables.{full_of}
-use Rattle.tracker_shard.proofs.shard.Shard.full.Goals as goal
+use Rattle.plain_shard.proofs.Tables.{full_of}
+use Rattle.plain_shard.proofs.shard.PlainShard.full.Goals as goal
 
 pub returns : goal.returns
 returns c =
