@@ -2,6 +2,7 @@
 
 ghost use Rattle.phx_message.specs.Laws.{DecodedIsOrderly, LimitsAreThese, ReadsBack};
 ghost use Rattle.phx_message.specs.Lines.{TextsAreLines};
+ghost use Rattle.phx_message.specs.Pushing.{PushesAreWritten, RepliesAreWritten};
 
 /// The text of a message within the limits of a frame, as a value that was read is, is decoded to
 /// that message; and what a text is decoded to is such a message.
@@ -19,4 +20,15 @@ pub fn limits_are_these()
 /// read line by line.
 pub fn texts_are_lines()
     ensures { TextsAreLines }
+{}
+
+/// A push's text round the text of a value is what is written for the message that pushes the value.
+pub fn pushes_are_written()
+    ensures { PushesAreWritten }
+{}
+
+/// A reply's text round the text of a value is what is written for the reply that all went well,
+/// whose response the value is.
+pub fn replies_are_written()
+    ensures { RepliesAreWritten }
 {}

@@ -7,8 +7,10 @@ mod encoding;
 pub mod laws;
 mod making;
 mod message;
+mod pushing;
 
 pub use decoding::decode;
 pub use encoding::encode;
 pub use making::{Status, broadcast, close_of, push, reply, reply_error, reply_ok};
 pub use message::{Limits, MAX_EVENT_BYTES, Message, MessageFault, MsgRef};
+pub use pushing::{push_text, quoted, reply_text};
