@@ -20,9 +20,16 @@ pub const MAX_EXTRA_VALUE_DEPTH: u32 = 32;
 /// What a fetch tells of a key beside its metas (the `fetch` of Phoenix.Presence): at most 16
 /// members with different names of 1 to 64 bytes, none of them `metas`, and values at most 32
 /// deep whose numbers are whole ones of 64 bits.
-#[derive(Debug, Drop)]
+#[derive(Debug)]
 pub struct Extra {
     members: Map<String, Value>,
+}
+
+impl Drop for Extra {
+    fn drop(self) {
+        let Extra { members } = self;
+        drop(members);
+    }
 }
 
 impl Model for Extra {
@@ -140,6 +147,7 @@ impl Extra {
         ensures members { members_view result.entries ≡ self }
         ensures limits { IsTrue (is_extra self) }
     {
-        self.members
+        let Extra { members } = self;
+        members
     }
 }

@@ -6,9 +6,16 @@ use std::marker::Model;
 pub const MAX_NOTICE_BYTES: usize = 256;
 
 /// What is noted of a join or a leave: a text of at most 256 bytes.
-#[derive(Debug, Drop)]
+#[derive(Debug)]
 pub struct Notice {
     text: Text,
+}
+
+impl Drop for Notice {
+    fn drop(self) {
+        let Notice { text } = self;
+        drop(text);
+    }
 }
 
 impl Model for Notice {

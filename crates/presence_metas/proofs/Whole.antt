@@ -66,7 +66,7 @@ prev_whole : (prev : Option Dot) (ms : Members) → members_have_float ms ≡ fa
 prev_whole None ms h = h
 prev_whole (Some d) ms h = put_whole _ _ ms refl h
 
-tracked_whole : (d : Dot) (r : Row) → IsTrue (is_meta r.meta) → has_float (tracked_of d r).meta ≡ false
+pub tracked_whole : (d : Dot) (r : Row) → IsTrue (is_meta r.meta) → has_float (tracked_of d r).meta ≡ false
 tracked_whole d r h = prev_whole r.prev _ (put_whole _ _ (members_in r.meta) refl (members_in_whole r.meta (meta_whole r.meta h)))
 
 -- ---- lists

@@ -15,4 +15,4 @@ pub use mirror::Mirror;
 pub use presences::{
     Diff, Presences, diff_object, diff_value, state_value, value_of_metas, values_of,
 };
-pub use tracked::TrackedMeta;
+pub use tracked::{TrackedMeta, tracked_meta};

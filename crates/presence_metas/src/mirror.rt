@@ -11,9 +11,16 @@ use std::alloc::{AllocError, Global};
 use std::marker::Model;
 
 /// A client's list of who is present on a topic, folded from the frames that it was sent.
-#[derive(Debug, Drop)]
+#[derive(Debug)]
 pub struct Mirror {
     presences: Presences,
+}
+
+impl Drop for Mirror {
+    fn drop(self) {
+        let Mirror { presences } = self;
+        drop(presences);
+    }
 }
 
 impl Model for Mirror {

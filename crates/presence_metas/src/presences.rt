@@ -20,9 +20,16 @@ use std::collections::BTreeMap;
 use std::marker::Model;
 
 /// Keys in order of their bytes, each with its metas. A key without metas is not kept.
-#[derive(Debug, Drop)]
+#[derive(Debug)]
 pub struct Presences {
     lists: BTreeMap<Text, Vec<TrackedMeta>>,
+}
+
+impl Drop for Presences {
+    fn drop(self) {
+        let Presences { lists } = self;
+        drop(lists);
+    }
 }
 
 impl Model for Presences {

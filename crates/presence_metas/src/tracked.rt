@@ -46,8 +46,8 @@ fn put_prev(
     Ok(())
 }
 
-// A row's meta with its reference, and with that of the row that it replaced.
-pub(crate) fn tracked_meta(alloc: Global, dot: &Dot, row: &Row) -> Result<TrackedMeta, AllocError>
+/// A row's meta with its reference, and with that of the row that it replaced.
+pub fn tracked_meta(alloc: Global, dot: &Dot, row: &Row) -> Result<TrackedMeta, AllocError>
     ensures meta { IfOk result (λ t. t ≡ tracked_of dot.now row.now) }
     ensures limits { IsTrue (is_meta row.now.meta) }
 {

@@ -1,0 +1,4 @@
+pub mod InOrder
+pub mod Listed
+pub mod Plain
+pub mod WithRefs

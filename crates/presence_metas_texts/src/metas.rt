@@ -1,0 +1,181 @@
+ghost use Rattle.std.specs.Prelude.{◌≡◌, ◌++◌, ◌∷◌, [], true, codes, IfSome, OnOk, string_bytes};
+ghost use Rattle.serde_json.specs.View.{view, members_view};
+ghost use Rattle.presence_metas_texts.specs.Places.{AllBelow, AreBefore, BeginBehind, StandBefore, StandBehind, IsBefore, IsBehind, refs_first, refs_last};
+ghost use Rattle.presence_metas_texts.specs.Texts.{row_text};
+
+use crate::mixed::{all_apart, push_members};
+use crate::refs::push_refs;
+use presence_base::{Dot, Meta, Row};
+use presence_metas::tracked_meta;
+use serde_json::{Map, Value};
+use std::alloc::{AllocError, Global};
+use std::cmp::Ordering;
+
+// Whether the first member, where there is one, stands behind the references of a row.
+#[tactic(auto, using(crate::proofs::WithRefs::behind_from, crate::proofs::WithRefs::none_behind))]
+fn begin_behind(members: &Map<String, Value>) -> bool
+    ensures { result ≡ true → BeginBehind (members_view members.now.entries) }
+{
+    match members.first_key_value() {
+        Some((name, _member)) => "phx_ref_prev".cmp(name.as_str()) == Ordering::Less,
+        None => true,
+    }
+}
+
+// Whether no name is above `phx_ref`.
+fn all_below(members: &Map<String, Value>) -> bool
+    ensures { result ≡ true → AllBelow (codes "phx_ref") (members_view members.now.entries) }
+{
+    for (name, _member) in members.iter() {
+        if "phx_ref".cmp(name.as_str()) != Ordering::Greater {
+            return false;
+        }
+    }
+    true
+}
+
+// Whether there are members, and all stand before the references of a row.
+#[tactic(auto, using(crate::proofs::WithRefs::before_from))]
+fn are_before(members: &Map<String, Value>) -> bool
+    ensures { result ≡ true → AreBefore (members_view members.now.entries) }
+{
+    if members.is_empty() {
+        return false;
+    }
+    all_below(members)
+}
+
+fn stand_behind(value: &Value) -> bool
+    ensures { result ≡ true → StandBehind (view value.now) }
+{
+    match value {
+        Value::Object(members) => begin_behind(members),
+        _ => false,
+    }
+}
+
+fn stand_before(value: &Value) -> bool
+    ensures { result ≡ true → StandBefore (view value.now) }
+{
+    match value {
+        Value::Object(members) => are_before(members),
+        _ => false,
+    }
+}
+
+// What follows a first bracket.
+fn opened(text: &str) -> Option<&str>
+    ensures { IfSome result (λ s. text.now ≡ 123 ∷ s.now) }
+{
+    text.strip_prefix('{')
+}
+
+// What a last bracket follows.
+fn unclosed(text: &str) -> Option<&str>
+    ensures { IfSome result (λ s. text.now ≡ s.now ++ 125 ∷ []) }
+{
+    text.strip_suffix('}')
+}
+
+// The meta's text from its opening bracket on, where the references go ahead there.
+fn behind_refs(meta: &Meta) -> Option<&str>
+    ensures { IfSome result (λ s. IsBehind meta.now s.now) }
+{
+    if stand_behind(meta.as_value()) {
+        opened(meta.text())
+    } else {
+        None
+    }
+}
+
+// The meta's text up to its closing bracket, where the references follow there.
+fn before_refs(meta: &Meta) -> Option<&str>
+    ensures { IfSome result (λ s. IsBefore meta.now s.now) }
+{
+    if stand_before(meta.as_value()) {
+        unclosed(meta.text())
+    } else {
+        None
+    }
+}
+
+// Writes the references, and behind them the members that end in `rest`.
+fn push_first(
+    alloc: Global,
+    text: &mut String,
+    dot: &Dot,
+    prev: &Option<Dot>,
+    rest: &str,
+) -> Result<(), AllocError>
+    ensures { OnOk result (string_bytes text.new
+        ≡ string_bytes text.old ++ refs_first dot.now prev.now rest.now) }
+{
+    text.push_str("{")?;
+    push_refs(alloc, text, dot, prev)?;
+    if rest != "}" {
+        text.push_str(",")?;
+    }
+    text.push_str(rest)
+}
+
+// Writes the members that begin in `front`, and behind them the references.
+fn push_last(
+    alloc: Global,
+    text: &mut String,
+    dot: &Dot,
+    prev: &Option<Dot>,
+    front: &str,
+) -> Result<(), AllocError>
+    ensures { OnOk result (string_bytes text.new
+        ≡ string_bytes text.old ++ refs_last dot.now prev.now front.now) }
+{
+    text.push_str(front)?;
+    text.push_str(",")?;
+    push_refs(alloc, text, dot, prev)?;
+    text.push_str("}")
+}
+
+// Writes a meta as `tracked_meta` makes it.
+#[tactic(auto, using(presence_metas::proofs::Whole::tracked_whole))]
+fn push_tracked(alloc: Global, text: &mut String, dot: &Dot, row: &Row) -> Result<(), AllocError>
+    ensures { OnOk result (string_bytes text.new
+        ≡ string_bytes text.old ++ row_text (dot.now, row.now)) }
+{
+    let tracked = tracked_meta(alloc, dot, row)?;
+    let meta = tracked.meta.as_value().to_string(alloc)?;
+    text.push_str(meta.as_str())
+}
+
+// Writes a meta with the references between its members.
+fn push_between(alloc: Global, text: &mut String, dot: &Dot, row: &Row) -> Result<(), AllocError>
+    ensures { OnOk result (string_bytes text.new
+        ≡ string_bytes text.old ++ row_text (dot.now, row.now)) }
+{
+    match row.meta.as_value() {
+        Value::Object(members) if all_apart(members) => {
+            text.push_str("{")?;
+            push_members(alloc, text, members, dot, &row.prev)
+        }
+        _ => push_tracked(alloc, text, dot, row),
+    }
+}
+
+// Writes a row's meta with its references.
+#[tactic(auto, using(crate::proofs::WithRefs::first_written, crate::proofs::WithRefs::last_written))]
+pub(crate) fn push_meta(
+    alloc: Global,
+    text: &mut String,
+    dot: &Dot,
+    row: &Row,
+) -> Result<(), AllocError>
+    ensures { OnOk result (string_bytes text.new
+        ≡ string_bytes text.old ++ row_text (dot.now, row.now)) }
+{
+    if let Some(rest) = behind_refs(&row.meta) {
+        return push_first(alloc, text, dot, &row.prev, rest);
+    }
+    if let Some(front) = before_refs(&row.meta) {
+        return push_last(alloc, text, dot, &row.prev, front);
+    }
+    push_between(alloc, text, dot, row)
+}
