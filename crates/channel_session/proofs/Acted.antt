@@ -3,7 +3,7 @@ use Rattle.std.proofs.Common.{◌≡◌, ℕ, List, [], ◌∷◌, ◌++◌, ◌
 use Rattle.serde_json.specs.Data.{Members}
 use Rattle.phx_message.specs.declared.message.Message.{Message}
 use Rattle.phx_message.specs.declared.message.MsgRef.{MsgRef}
-use Rattle.tracker_shard.specs.declared.shard.Sub.{Sub}
+use Rattle.channel_session_rules.specs.Sub.{Sub}
 use Rattle.channel_session_rules.specs.Asks.{Ask, Answer}
 use Rattle.channel_session_rules.specs.Rules.{InForce, Joined, End, answers, join_ref_of, join_asked, rejoins, left, without_topic, on_leave, on_topic, says_ok, says_error, empty, unmatched, join_at, join_rule, leave_rule, kind_rule}
 use Rattle.channel_session_rules.specs.InForce.{added}

@@ -24,10 +24,10 @@ use Rattle.presence_journal.proofs.HistoryLemmas.{own-then}
 use Rattle.presence_journal.proofs.FoldOthers.{accepted_is, stays_legal}
 use Rattle.presence_journal.specs.Laws.{OnlyNamedLeave, is_callers}
 use Rattle.presence_journal.proofs.Topics.{topic_of-then}
-use Rattle.tracker_shard.specs.Steps.{Stepped, Made, is_found, slot_of, refusal}
-use Rattle.tracker_shard.specs.declared.fault.ShardFault.{ShardFault}
-use Rattle.tracker_shard.specs.declared.fault.ShardFault.TheVariants.{AlreadyTracked, NoPresence, ClockFull, JournalFull, NoSub, OutOfMemory}
-use Rattle.tracker_shard.specs.declared.shard.Sub.{Sub}
+use Rattle.channel_session_rules.specs.Steps.{Stepped, Made, is_found, slot_of, refusal}
+use Rattle.channel_session_rules.specs.ShardFault.{ShardFault}
+use Rattle.channel_session_rules.specs.ShardFault.TheVariants.{AlreadyTracked, NoPresence, ClockFull, JournalFull, NoSub, OutOfMemory}
+use Rattle.channel_session_rules.specs.Sub.{Sub}
 use Rattle.channel_session_rules.specs.Asks.{Ask, Answer, Call, unsubscribe, untrack_all}
 use Rattle.channel_session_rules.specs.Asks.{Made as Chained}
 use Rattle.channel_session_rules.specs.InForce.{Joined, InForce}

@@ -16,9 +16,9 @@ use Rattle.presence_journal.specs.Table.{IsLegal, is_mine, is_step, rows_of_pid,
 use Rattle.presence_journal.specs.Laws.{OnlyNamedLeave, concerns, is_callers}
 use Rattle.presence_journal.proofs.Same.{same_text-true, same_text-refl}
 use Rattle.presence_journal.proofs.FoldOthers.{others_stay, stays_legal}
-use Rattle.tracker_shard.specs.Steps.{Stepped, Made, Answers}
-use Rattle.tracker_shard.specs.declared.fault.ShardFault.{ShardFault}
-use Rattle.tracker_shard.specs.declared.fault.ShardFault.TheVariants.{AlreadyTracked, NoPresence, ClockFull, JournalFull, NoSub, OutOfMemory}
+use Rattle.channel_session_rules.specs.Steps.{Stepped, Made, Answers}
+use Rattle.channel_session_rules.specs.ShardFault.{ShardFault}
+use Rattle.channel_session_rules.specs.ShardFault.TheVariants.{AlreadyTracked, NoPresence, ClockFull, JournalFull, NoSub, OutOfMemory}
 use Rattle.channel_session_rules.specs.Asks.{Ask, Answer, track, update, untrack, untrack_all, list, get, subscribe, take, unsubscribe, waits, shout}
 use Rattle.channel_session_laws.specs.Local.{LocalStep, IsNew}
 use Rattle.channel_session.proofs.Behind.{AddsNone, was_there, mine_after, mine_is_named, is_accepted, either, untracked_is, untrack_adds, unsubscribe_adds, same_some, no_row, or_true}

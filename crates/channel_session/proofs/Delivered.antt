@@ -5,7 +5,7 @@ use Rattle.std.specs.List.{slice_get}
 use Rattle.std.proofs.lemmas.Option.{slice_get_within, get_or_from_slice_get}
 use Rattle.presence_journal.proofs.Walking.{drop_next}
 use Rattle.presence_journal_data.specs.declared.rows.Item.{Item}
-use Rattle.tracker_shard.specs.declared.fault.ShardFault.{ShardFault}
+use Rattle.channel_session_rules.specs.ShardFault.{ShardFault}
 use Rattle.channel_session.specs.Delivery.{DealsBy, DeliveredBy, failing}
 use Rattle.channel_session.specs.Ran.{fault_of}
 use Rattle.channel_session.specs.declared.fault.SessionFault.{SessionFault}

@@ -1,9 +1,9 @@
 -- The end of a session, call by call.
 use Rattle.std.proofs.Common.{◌≡◌, ℕ, zero, suc, List, [], ◌∷◌, drop, take, Some, None, Option, Result, Ok, Err, true, refl, sym, ap, ◌∙◌, subst}
 use Rattle.std.specs.List.{slice_get, remove}
-use Rattle.tracker_shard.specs.declared.fault.ShardFault.{ShardFault}
-use Rattle.tracker_shard.specs.declared.fault.ShardFault.TheVariants.{AlreadyTracked, NoPresence, ClockFull, JournalFull, NoSub, OutOfMemory}
-use Rattle.tracker_shard.specs.declared.shard.Sub.{Sub}
+use Rattle.channel_session_rules.specs.ShardFault.{ShardFault}
+use Rattle.channel_session_rules.specs.ShardFault.TheVariants.{AlreadyTracked, NoPresence, ClockFull, JournalFull, NoSub, OutOfMemory}
+use Rattle.channel_session_rules.specs.Sub.{Sub}
 use Rattle.channel_session_rules.specs.Asks.{Ask, Answer, unsubscribe, untrack_all}
 use Rattle.channel_session_rules.specs.Script.{Script, done, ask}
 use Rattle.channel_session_rules.specs.InForce.{Joined, InForce}

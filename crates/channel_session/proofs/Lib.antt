@@ -1,3 +1,4 @@
+pub mod Crossing
 pub mod Acted
 pub mod Behind
 pub mod Calls
@@ -9,3 +10,4 @@ pub use Rattle.channel_session_laws.proofs.Kept
 pub use Rattle.channel_session_laws.proofs.KeptWords
 pub use Rattle.channel_session_laws.proofs.KeptAsks
 pub use Rattle.channel_session_laws.proofs.SoundValues
+pub use Rattle.channel_session_rules.proofs.Saying

@@ -10,9 +10,9 @@ use Rattle.phx_message.specs.Making.{closing}
 use Rattle.presence_journal.specs.History.{History}
 use Rattle.presence_journal.specs.Laws.{OnlyNamedLeave}
 use Rattle.presence_journal.proofs.Same.{same_text-true, same_text-refl}
-use Rattle.tracker_shard.specs.declared.shard.Sub.{Sub}
-use Rattle.tracker_shard.specs.declared.fault.ShardFault.{ShardFault}
-use Rattle.tracker_shard.specs.declared.fault.ShardFault.TheVariants.{AlreadyTracked, NoPresence, ClockFull, JournalFull, NoSub, OutOfMemory}
+use Rattle.channel_session_rules.specs.Sub.{Sub}
+use Rattle.channel_session_rules.specs.ShardFault.{ShardFault}
+use Rattle.channel_session_rules.specs.ShardFault.TheVariants.{AlreadyTracked, NoPresence, ClockFull, JournalFull, NoSub, OutOfMemory}
 use Rattle.channel_session_rules.specs.declared.asked.Asked.{Asked}
 use Rattle.channel_session_rules.specs.declared.asked.Asked.TheVariants.{Nothing, Bad, Wants}
 use Rattle.channel_session_rules.specs.declared.kind.EventKind.{EventKind}

@@ -2,7 +2,7 @@
 use Rattle.std.specs.Prelude.{◌≡◌, ℕ, List, true, if◌then◌else◌, Result, Ok, Err, IfOk}
 use Rattle.phx_message.specs.declared.message.Message.{Message}
 use Rattle.channel_session_events.specs.Carrying.{Carries}
-use Rattle.channel_session_events.specs.declared.frames.Delivery.{Delivery}
+pub use Rattle.channel_session_events.specs.declared.frames.Delivery.{Delivery}
 use Rattle.channel_session_rules.specs.Asks.{Ask, Answer}
 use Rattle.channel_session_rules.specs.Outcome.{Follows, seen}
 use Rattle.channel_session_rules.specs.Rules.{End, answers}

@@ -1,9 +1,9 @@
 -- The end of a session, topic by topic.
 use Rattle.std.specs.Prelude.{◌≡◌, ◌++◌, ℕ, List, [], ◌∷◌, Bool, true, Option, Some, None, map, option_to_list, Result, Ok, Err}
-use Rattle.tracker_shard.specs.declared.shard.Sub.{Sub}
-use Rattle.tracker_shard.specs.declared.fault.ShardFault.{ShardFault}
-use Rattle.tracker_shard.specs.declared.fault.ShardFault.TheVariants.{NoSub}
-use Rattle.tracker_shard.specs.declared.fault.ShardFault.TheVariants as refusals
+use Rattle.channel_session_rules.specs.Sub.{Sub}
+use Rattle.channel_session_rules.specs.ShardFault.{ShardFault}
+use Rattle.channel_session_rules.specs.ShardFault.TheVariants.{NoSub}
+use Rattle.channel_session_rules.specs.ShardFault.TheVariants as refusals
 use Rattle.channel_session_rules.specs.Asks.{Ask, Answer, Call, Made, unsubscribe, untrack_all}
 use Rattle.channel_session_rules.specs.Script.{Script, done, ask, Plays}
 use Rattle.channel_session_rules.specs.Rules.{InForce, Joined}

@@ -8,7 +8,7 @@ use Rattle.presence_journal_data.specs.declared.rows.Place.{Place}
 use Rattle.presence_journal.specs.History.{History}
 use Rattle.presence_journal.specs.Present.{present}
 use Rattle.presence_journal.specs.Table.{IsLegal, is_mine}
-use Rattle.tracker_shard.specs.Steps.{is_found}
+use Rattle.channel_session_rules.specs.Steps.{is_found}
 use Rattle.channel_session_rules.specs.InForce.{Joined, InForce}
 use Rattle.channel_session_laws.specs.Local.{LocalStep}
 use Rattle.channel_session.specs.Ending.{EndedBy, topics_named}

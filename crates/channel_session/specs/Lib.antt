@@ -15,3 +15,6 @@ pub use Rattle.channel_session_laws.specs.Local
 pub use Rattle.channel_session_laws.specs.Mirrors
 pub use Rattle.channel_session_laws.specs.Keeping
 pub use Rattle.channel_session_laws.specs.Laws
+pub use Rattle.channel_session_rules.specs.ShardFault
+pub use Rattle.channel_session_rules.specs.Sub
+pub use Rattle.channel_session_rules.specs.Steps

@@ -4,10 +4,9 @@ ghost use Rattle.channel_session_rules.specs.InForce.{joined_in};
 
 use crate::fault::SessionFault;
 use crate::session::Session;
-use channel_session_rules::{Place, Port, Topics};
+use channel_session_rules::{Place, Port, ShardFault, Topics};
 use presence_base::Topic;
 use std::alloc::Global;
-use tracker_shard::ShardFault;
 
 // Both calls for one topic. An unknown subscriber counts as gone.
 fn end_topic<P: Port>(

@@ -18,7 +18,7 @@ mod session;
 
 pub use channel_session_events::Delivery;
 pub use channel_session_laws::{LocalPort, laws};
-pub use channel_session_rules::{MAX_TOPICS, Port};
+pub use channel_session_rules::{MAX_TOPICS, Port, Shard, ShardFault, Sub};
 pub use delivering::deliver;
 pub use ending::end;
 pub use fault::SessionFault;

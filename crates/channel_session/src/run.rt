@@ -31,6 +31,10 @@ fn list_texts(mut texts: Vec<String>, reply: Reply) -> Vec<String>
             let _then = texts.push(next.text);
             texts
         }
+        Reply::Listed(reply) => {
+            let _pushed = texts.push(reply.text);
+            texts
+        }
     }
 }
 

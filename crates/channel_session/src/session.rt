@@ -5,13 +5,25 @@ use std::alloc::Global;
 use std::marker::Model;
 
 /// One client's session: its number, and the topics that it has joined.
-#[derive(Drop)]
 pub struct Session {
     pub(crate) pid: u64,
     pub(crate) failed: bool,
     pub(crate) topics: Topics,
     // The topic of a join that a fault cut short.
     pub(crate) cut_short: Option<Topic>,
+}
+
+impl Drop for Session {
+    fn drop(self) {
+        let Session {
+            pid: _,
+            failed: _,
+            topics,
+            cut_short,
+        } = self;
+        drop(topics);
+        drop(cut_short);
+    }
 }
 
 impl Model for Session {

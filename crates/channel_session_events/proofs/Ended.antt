@@ -2,8 +2,8 @@
 use Rattle.std.proofs.Common.{◌≡◌, ℕ, List, [], ◌∷◌, false, true, Some, Result, Ok, Err, refl, subst}
 use Rattle.phx_message.specs.declared.message.Message.{Message}
 use Rattle.phx_message.specs.Making.{closing}
-use Rattle.tracker_shard.specs.declared.shard.Sub.{Sub}
-use Rattle.tracker_shard.specs.declared.fault.ShardFault.{ShardFault}
+use Rattle.channel_session_rules.specs.Sub.{Sub}
+use Rattle.channel_session_rules.specs.ShardFault.{ShardFault}
 use Rattle.channel_session_rules.specs.Asks.{Ask, Answer, unsubscribe, untrack_all}
 use Rattle.channel_session_rules.specs.Script.{ask, done}
 use Rattle.channel_session_rules.specs.Rules.{InForce, End, Joined, answers, says, ok, empty, rejoins, join_asked, ended, then_next, unsaid, on_leave, left}

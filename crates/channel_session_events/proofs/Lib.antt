@@ -1,2 +1,4 @@
 pub mod Ended
 pub mod Carried
+pub mod Plainly
+pub mod Within

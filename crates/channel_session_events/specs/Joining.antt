@@ -2,7 +2,7 @@
 use Rattle.std.specs.Prelude.{ℕ, List, [], ◌∷◌, ◌++◌, Bool, Option, None, Some, Result, Ok, Err}
 use Rattle.phx_message.specs.Making.{closing}
 use Rattle.phx_message.specs.declared.message.Message.{Message}
-use Rattle.tracker_shard.specs.declared.shard.Sub.{Sub}
+use Rattle.channel_session_rules.specs.Sub.{Sub}
 use Rattle.channel_session_rules.specs.Asks.{Ask, Answer}
 use Rattle.channel_session_rules.specs.Script.{Script}
 use Rattle.channel_session_rules.specs.Rules.{Joined, InForce, End, answers, ended, joins, ok, empty}

@@ -1,20 +1,22 @@
-ghost use Rattle.std.specs.Prelude.{◌≡◌, ◌≤◌, ◌^◌, IfOk, IsTrue, is_ok, option_map, codes, true, false};
+ghost use Rattle.std.specs.Prelude.{◌≡◌, ◌∷◌, [], ◌≤◌, ◌^◌, IfOk, IsTrue, is_ok, option_map, codes, true, false};
 ghost use Rattle.presence_journal.specs.Limits.{is_payload};
 ghost use Rattle.channel_session_rules.specs.Seen.{seen_by};
 ghost use Rattle.channel_session_rules.specs.Asked.{asked as asked_of, key_asked};
 ghost use Rattle.channel_session_rules.specs.Rules.{said, says_ok, says_error, after_shout, after_track, after_update, after_untrack, after_list, ok as ok_message, on_ping, on_shout, on_track, on_update, on_untrack, on_list, on_get, on_unknown, told_ref, empty as empty_of};
-ghost use Rattle.channel_session_rules.specs.Replies.{Runs, RunsBy, RepliesWith, RepliesBy};
-ghost use Rattle.channel_session_rules.specs.Said.{listed, Worded};
+ghost use Rattle.channel_session_rules.specs.Replies.{Runs, RunsBy, RepliesWith, RepliesBy, messages_of};
+ghost use Rattle.channel_session_rules.specs.Said.{listed, EachBy, Worded};
 
 use channel_session_rules::{
-    Asked, Place, Port, Reply, Stop, Written, empty_object, full_reason, read_asked, read_key,
-    ref_response, spoiling, stop_of, track_reason, update_reason, write_error, write_ok,
+    Asked, Place, Port, Reply, ShardFault, Stop, Written, empty_object, full_reason, read_asked,
+    read_key, ref_response, spoiling, stop_of, track_reason, update_reason, write_error,
+    write_listed, write_ok,
 };
 use hook_registry::{PresenceHooks, render_state};
 use phx_message::{Message, MsgRef};
 use presence_base::{Dot, Json, Key, Row};
+use presence_journal::Rows;
+use presence_metas_texts::are_in_key_order;
 use std::alloc::{AllocError, Global};
-use tracker_shard::ShardFault;
 
 // What a refusal of the port leads to.
 fn refused(
@@ -283,7 +285,7 @@ pub(crate) fn untrack<P: Port>(
 }
 
 // The reply that tells rows, with what the fetch adds.
-fn rows_reply<H: PresenceHooks>(
+fn fetched_rows<H: PresenceHooks>(
     alloc: Global,
     hooks: &H,
     place: &Place,
@@ -295,6 +297,25 @@ fn rows_reply<H: PresenceHooks>(
 {
     let state = render_state(alloc, hooks, place.kind, &message.topic, rows)?;
     write_ok(alloc, &place.join_ref, message, Json::new(state))
+}
+
+// The reply that tells rows: their text alone, where nothing is added to them.
+fn rows_reply<H: PresenceHooks>(
+    alloc: Global,
+    hooks: &H,
+    place: &Place,
+    message: &Message,
+    rows: Rows,
+) -> Result<Reply, AllocError>
+    ensures { IfOk result (λ r. EachBy (Worded (H.fetched hooks.now) (H.plain hooks.now))
+        (listed place.now.kind place.now.join_ref message.now rows ∷ []) (messages_of r)) }
+{
+    if hooks.is_plain() && are_in_key_order(rows.as_slice()) {
+        let reply = write_listed(alloc, &place.join_ref, message, rows)?;
+        return Ok(Reply::Listed(reply));
+    }
+    let reply = fetched_rows(alloc, hooks, place, message, rows.as_slice())?;
+    Ok(Reply::One(reply))
 }
 
 // What the port's answer to a list or a get leads to.
@@ -310,10 +331,10 @@ fn told_rows<H: PresenceHooks>(
         (is_ok (seen_by (λ v. v.items) answer)) result }
 {
     match answer {
-        Ok(rows) => match spoiling(rows_reply(alloc, hooks, place, message, &rows)) {
-            Ok(reply) => Ok(Reply::One(reply)),
-            Err(stop) => Err(stop),
-        },
+        Ok(rows) => {
+            let rows = Rows::new(rows);
+            spoiling(rows_reply(alloc, hooks, place, message, rows))
+        }
         Err(fault) => refused(
             alloc,
             &place.join_ref,

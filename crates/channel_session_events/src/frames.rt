@@ -1,15 +1,19 @@
-ghost use Rattle.std.specs.Prelude.{◌≡◌, ◌∷◌, [], false, map, codes, string_bytes, IfOk};
+ghost use Rattle.std.specs.Prelude.{◌≡◌, ◌∷◌, [], true, false, map, codes, string_bytes, IfOk};
 ghost use Rattle.serde_json.specs.Written.{has_float};
-ghost use Rattle.phx_message.specs.Making.{broadcast_of};
+ghost use Rattle.phx_message.specs.Making.{push_of, broadcast_of};
+ghost use Rattle.presence_metas.specs.Values.{state_of, diff_of};
+ghost use Rattle.presence_metas_texts.specs.KeyOrder.{AreInKeyOrder};
 ghost use Rattle.channel_session_rules.specs.InForce.{joined_of};
-ghost use Rattle.channel_session_rules.specs.Said.{told, Worded, Writes, Noted};
+ghost use Rattle.channel_session_rules.specs.Said.{told, text_of, Worded, Writes, Noted};
 ghost use Rattle.channel_session_events.specs.Carrying.{AddsTo};
 
 use channel_session_rules::Place;
 use hook_registry::{Notice, PresenceHooks, notices, render_diff, render_state};
-use phx_message::{Message, broadcast, encode, push};
+use phx_message::laws::pushes_are_written;
+use phx_message::{Message, broadcast, encode, push, push_text};
 use presence_base::{Json, Topic};
 use presence_journal::{Item, Payload, RowDiff, Rows};
+use presence_metas_texts::{are_in_key_order, diff_text, state_text};
 use std::alloc::{AllocError, Global};
 
 /// What a delivery gives.
@@ -59,32 +63,92 @@ fn diff_message<H: PresenceHooks>(
     broadcast(alloc, topic.clone()?, "presence_diff", Json::new(value))
 }
 
-// A shout on a topic.
-fn shout_message(alloc: Global, topic: &Topic, payload: &Payload) -> Result<Message, AllocError>
-    ensures message { IfOk result (λ m. m ≡ broadcast_of topic.now (codes "shout") payload.now) }
-    ensures whole { IfOk result (λ m. has_float m.payload ≡ false) }
+// The frame of a state to which nothing is added.
+fn plain_state_frame(
+    alloc: Global,
+    topic: &Topic,
+    place: &Place,
+    rows: &Rows,
+) -> Result<String, AllocError>
+    requires { AreInKeyOrder rows.now }
+    ensures { IfOk result (λ t. string_bytes t
+        ≡ text_of (push_of place.now.join_ref topic.now (codes "presence_state") (state_of rows.now))) }
 {
-    let payload = payload.as_json().clone()?;
-    broadcast(alloc, topic.clone()?, "shout", payload)
+    pushes_are_written();
+    let state = state_text(alloc, rows.as_slice())?;
+    push_text(
+        alloc,
+        &place.join_ref,
+        topic,
+        "presence_state",
+        state.as_str(),
+    )
 }
 
-// The message that tells an item to the join of its topic.
-fn item_message<H: PresenceHooks>(
+// The frame of a diff to which nothing is added.
+fn plain_diff_frame(alloc: Global, topic: &Topic, diff: &RowDiff) -> Result<String, AllocError>
+    requires joins { AreInKeyOrder diff.now.joins }
+    requires leaves { AreInKeyOrder diff.now.leaves }
+    ensures { IfOk result (λ t. string_bytes t
+        ≡ text_of (broadcast_of topic.now (codes "presence_diff") (diff_of diff.now.joins diff.now.leaves))) }
+{
+    pushes_are_written();
+    let diff = diff_text(alloc, diff.joins.as_slice(), diff.leaves.as_slice())?;
+    push_text(alloc, &None, topic, "presence_diff", diff.as_str())
+}
+
+// The frame of a state: the rows' text alone, where nothing is added to them.
+fn state_frame<H: PresenceHooks>(
     alloc: Global,
     hooks: &H,
     topic: &Topic,
     place: &Place,
-    item: &Item,
-) -> Result<Message, AllocError>
-    ensures worded { IfOk result (λ m. Worded (H.fetched hooks.now) (H.plain hooks.now)
-        (told (joined_of (topic.now, place.now)) item.now) m) }
-    ensures whole { IfOk result (λ m. has_float m.payload ≡ false) }
+    rows: &Rows,
+) -> Result<String, AllocError>
+    ensures { IfOk result (λ t. Writes (Worded (H.fetched hooks.now) (H.plain hooks.now))
+        (told (joined_of (topic.now, place.now)) (Item.State rows.now)) (string_bytes t)) }
 {
-    match item {
-        Item::State(rows) => state_message(alloc, hooks, topic, place, rows),
-        Item::Diff(diff) => diff_message(alloc, hooks, topic, place, diff),
-        Item::Shout(payload) => shout_message(alloc, topic, payload),
+    if hooks.is_plain() && are_in_key_order(rows.as_slice()) {
+        return plain_state_frame(alloc, topic, place, rows);
     }
+    let message = state_message(alloc, hooks, topic, place, rows)?;
+    encode(alloc, &message)
+}
+
+// Whether the rows on both sides are in order of their keys.
+fn is_in_key_order(diff: &RowDiff) -> bool
+    ensures joins { result ≡ true → AreInKeyOrder diff.now.joins }
+    ensures leaves { result ≡ true → AreInKeyOrder diff.now.leaves }
+{
+    are_in_key_order(diff.joins.as_slice()) && are_in_key_order(diff.leaves.as_slice())
+}
+
+// The frame of a diff: the rows' texts alone, where nothing is added to them.
+fn diff_frame<H: PresenceHooks>(
+    alloc: Global,
+    hooks: &H,
+    topic: &Topic,
+    place: &Place,
+    diff: &RowDiff,
+) -> Result<String, AllocError>
+    ensures { IfOk result (λ t. Writes (Worded (H.fetched hooks.now) (H.plain hooks.now))
+        (told (joined_of (topic.now, place.now)) (Item.Diff diff.now)) (string_bytes t)) }
+{
+    if hooks.is_plain() && is_in_key_order(diff) {
+        return plain_diff_frame(alloc, topic, diff);
+    }
+    let message = diff_message(alloc, hooks, topic, place, diff)?;
+    encode(alloc, &message)
+}
+
+// The frame of a shout on a topic.
+fn shout_frame(alloc: Global, topic: &Topic, payload: &Payload) -> Result<String, AllocError>
+    ensures { IfOk result (λ t. string_bytes t
+        ≡ text_of (broadcast_of topic.now (codes "shout") payload.now)) }
+{
+    pushes_are_written();
+    let payload = payload.as_json().as_value().to_string(alloc)?;
+    push_text(alloc, &None, topic, "shout", payload.as_str())
 }
 
 // The frame that tells an item to the join of its topic.
@@ -98,8 +162,11 @@ fn item_frame<H: PresenceHooks>(
     ensures { IfOk result (λ t. Writes (Worded (H.fetched hooks.now) (H.plain hooks.now))
         (told (joined_of (topic.now, place.now)) item.now) (string_bytes t)) }
 {
-    let message = item_message(alloc, hooks, topic, place, item)?;
-    encode(alloc, &message)
+    match item {
+        Item::State(rows) => state_frame(alloc, hooks, topic, place, rows),
+        Item::Diff(diff) => diff_frame(alloc, hooks, topic, place, diff),
+        Item::Shout(payload) => shout_frame(alloc, topic, payload),
+    }
 }
 
 // The notices of an item.

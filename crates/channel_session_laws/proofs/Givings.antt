@@ -15,10 +15,10 @@ use Rattle.presence_journal.specs.Queue.{Waiting, Behind, Queued, queue, topic_o
 use Rattle.presence_journal.specs.Table.{take_outcome, for_present, outcome_of, accepted, after, with_outcome}
 use Rattle.presence_metas.specs.Frames.{frame_in}
 use Rattle.presence_metas.specs.Listing.{Listing}
-use Rattle.tracker_shard.specs.Steps.{Made, Stepped}
-use Rattle.tracker_shard.specs.declared.shard.Sub.{Sub}
-use Rattle.tracker_shard.specs.declared.fault.ShardFault.{ShardFault}
-use Rattle.tracker_shard.specs.declared.fault.ShardFault.TheVariants.{AlreadyTracked, NoPresence, ClockFull, JournalFull, NoSub, OutOfMemory}
+use Rattle.channel_session_rules.specs.Steps.{Made, Stepped}
+use Rattle.channel_session_rules.specs.Sub.{Sub}
+use Rattle.channel_session_rules.specs.ShardFault.{ShardFault}
+use Rattle.channel_session_rules.specs.ShardFault.TheVariants.{AlreadyTracked, NoPresence, ClockFull, JournalFull, NoSub, OutOfMemory}
 use Rattle.channel_session_rules.specs.Asks.{track, update, untrack, untrack_all, list, get, subscribe, take, unsubscribe, waits, shout}
 use Rattle.channel_session_rules.specs.Frames.{message_of}
 use Rattle.channel_session_laws.specs.Laws.{AllFramesMirror, CallsGive}

@@ -6,8 +6,8 @@ use Rattle.presence_journal_data.specs.declared.rows.Item.{Item}
 use Rattle.phx_message.specs.declared.message.MsgRef.{MsgRef}
 use Rattle.phx_message.specs.declared.message.Message.{Message}
 use Rattle.phx_message.specs.Making.{closing}
-use Rattle.tracker_shard.specs.declared.fault.ShardFault.{ShardFault}
-use Rattle.tracker_shard.specs.declared.shard.Sub.{Sub}
+use Rattle.channel_session_rules.specs.ShardFault.{ShardFault}
+use Rattle.channel_session_rules.specs.Sub.{Sub}
 use Rattle.channel_session_rules.specs.declared.asked.Asked.{Asked}
 use Rattle.channel_session_rules.specs.declared.asked.Asked.TheVariants.{Nothing, Bad, Wants}
 use Rattle.channel_session_rules.specs.declared.topics.TheConstants.{MAX_TOPICS}

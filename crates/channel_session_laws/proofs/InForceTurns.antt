@@ -3,7 +3,7 @@ use Rattle.std.proofs.Common.{◌≡◌, ◌||◌, ℕ, Bool, true, false, not, 
 use Rattle.std.specs.List.{filter, list_any}
 use Rattle.std.proofs.lemmas.List.Elements.{filter-append}
 use Rattle.presence_journal_data.specs.declared.rows.Item.{Item}
-use Rattle.tracker_shard.specs.declared.fault.ShardFault.{ShardFault}
+use Rattle.channel_session_rules.specs.ShardFault.{ShardFault}
 use Rattle.channel_session_rules.specs.Delivering.{then_told, then_take, delivers, delivery}
 use Rattle.channel_session_rules.specs.InForce.{Joined, InForce}
 use Rattle.channel_session_rules.specs.Rules.{End, answers}

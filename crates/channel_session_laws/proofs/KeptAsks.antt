@@ -18,10 +18,10 @@ use Rattle.presence_journal.proofs.HistoryLemmas.{after-accepted}
 use Rattle.presence_journal.proofs.Same.{same_text-true, same_text-refl}
 use Rattle.presence_journal.proofs.Topics.{topic_of-then, queue-then}
 use Rattle.presence_metas.specs.Listing.{Listing}
-use Rattle.tracker_shard.specs.Steps.{refusal, is_found}
-use Rattle.tracker_shard.specs.declared.fault.ShardFault.{ShardFault}
-use Rattle.tracker_shard.specs.declared.fault.ShardFault.TheVariants.{JournalFull}
-use Rattle.tracker_shard.specs.declared.shard.Sub.{Sub}
+use Rattle.channel_session_rules.specs.Steps.{refusal, is_found}
+use Rattle.channel_session_rules.specs.ShardFault.{ShardFault}
+use Rattle.channel_session_rules.specs.ShardFault.TheVariants.{JournalFull}
+use Rattle.channel_session_rules.specs.Sub.{Sub}
 use Rattle.channel_session_rules.specs.Asks.{track, update, untrack, untrack_all, list, get, subscribe, unsubscribe, shout}
 use Rattle.channel_session_rules.specs.Frames.{message_of}
 use Rattle.channel_session_rules.specs.InForce.{Joined, InForce, find, without_topic}

@@ -12,9 +12,9 @@ use Rattle.presence_journal.specs.History.{History}
 use Rattle.presence_journal.specs.Queue.{Waiting, Behind, Queued, topic_of, queue, taken, is_waiting, listed_for}
 use Rattle.presence_journal.specs.Table.{IsLegal, after}
 use Rattle.presence_metas.specs.Listing.{Listing}
-use Rattle.tracker_shard.specs.declared.fault.ShardFault.{ShardFault}
-use Rattle.tracker_shard.specs.declared.fault.ShardFault.TheVariants as shard_faults_are
-use Rattle.tracker_shard.specs.declared.fault.ShardFault.TheVariants.{NoSub}
+use Rattle.channel_session_rules.specs.ShardFault.{ShardFault}
+use Rattle.channel_session_rules.specs.ShardFault.TheVariants as shard_faults_are
+use Rattle.channel_session_rules.specs.ShardFault.TheVariants.{NoSub}
 use Rattle.channel_session_rules.specs.Asks.{take, waits}
 use Rattle.channel_session_rules.specs.Delivering.{then_told, then_take, delivers}
 use Rattle.channel_session_rules.specs.Frames.{message_of}

@@ -14,9 +14,9 @@ use Rattle.presence_metas.specs.Frames.{frame_in}
 use Rattle.presence_metas.specs.Listing.{Listing}
 use Rattle.presence_metas.specs.Values.{state_of}
 use Rattle.presence_metas.specs.declared.frame.FrameFault.TheVariants.{NotPresence}
-use Rattle.tracker_shard.specs.declared.fault.ShardFault.{ShardFault}
-use Rattle.tracker_shard.specs.declared.fault.ShardFault.TheVariants as shard_faults_are
-use Rattle.tracker_shard.specs.declared.shard.Sub.{Sub}
+use Rattle.channel_session_rules.specs.ShardFault.{ShardFault}
+use Rattle.channel_session_rules.specs.ShardFault.TheVariants as shard_faults_are
+use Rattle.channel_session_rules.specs.Sub.{Sub}
 use Rattle.channel_session_rules.specs.Asked.{asked, key_asked}
 use Rattle.channel_session_rules.specs.Asks.{Ask, track, update, untrack, untrack_all, list, get, subscribe, unsubscribe, shout}
 use Rattle.channel_session_rules.specs.InForce.{Joined, InForce, find}

@@ -11,9 +11,9 @@ use Rattle.presence_journal.specs.Queue.{Waiting, Behind, Queued, topic_of, queu
 use Rattle.presence_journal.specs.Table.{next_entry, after, outcome_of, for_present, take_outcome}
 use Rattle.presence_journal.proofs.HistoryLemmas.{after-accepted}
 use Rattle.presence_journal.proofs.Topics.{topic_of-then, queue-then}
-use Rattle.tracker_shard.specs.declared.fault.ShardFault.{ShardFault}
-use Rattle.tracker_shard.specs.declared.fault.ShardFault.TheVariants.{JournalFull, ClockFull, NoSub}
-use Rattle.tracker_shard.specs.declared.shard.Sub.{Sub}
+use Rattle.channel_session_rules.specs.ShardFault.{ShardFault}
+use Rattle.channel_session_rules.specs.ShardFault.TheVariants.{JournalFull, ClockFull, NoSub}
+use Rattle.channel_session_rules.specs.Sub.{Sub}
 use Rattle.channel_session_rules.specs.Asks.{take}
 use Rattle.channel_session_laws.specs.Local.{answer_to, after_unless, answer_in, after_in}
 use Rattle.channel_session_laws.proofs.KeptSteps.{taken-then}

@@ -10,10 +10,10 @@ use Rattle.presence_journal.specs.History.{History, count, last_number, next_dot
 use Rattle.presence_journal.specs.Present.{listed, dots_of}
 use Rattle.presence_journal.specs.Queue.{Waiting, Behind, Queued, queue, topic_of, items_given}
 use Rattle.presence_journal.specs.Table.{outcome_of, tracked, updated, untracked, take_outcome, for_present, listed_key, rows_of_key, rows_of_pid}
-use Rattle.tracker_shard.specs.Steps.{Stepped, Answers, IsDue, refusal, new_dot, is_found}
-use Rattle.tracker_shard.specs.declared.fault.ShardFault.{ShardFault}
-use Rattle.tracker_shard.specs.declared.fault.ShardFault.TheVariants.{AlreadyTracked, NoPresence, ClockFull, JournalFull, NoSub, OutOfMemory}
-use Rattle.tracker_shard.specs.declared.shard.Sub.{Sub}
+use Rattle.channel_session_rules.specs.Steps.{Stepped, Answers, IsDue, refusal, new_dot, is_found}
+use Rattle.channel_session_rules.specs.ShardFault.{ShardFault}
+use Rattle.channel_session_rules.specs.ShardFault.TheVariants.{AlreadyTracked, NoPresence, ClockFull, JournalFull, NoSub, OutOfMemory}
+use Rattle.channel_session_rules.specs.Sub.{Sub}
 use Rattle.channel_session_rules.specs.Asks.{Ask, track, update, untrack, untrack_all, list, get, subscribe, take, unsubscribe, waits, shout, Answer, Call, Made}
 use Rattle.channel_session_laws.specs.Local.{Asked, LocalStep, answer_to, after_unless, answer_of, after_of, answer_in, after_in, played, Heeds}
 use Rattle.channel_session_rules.specs.Script.{Script, done, ask, Plays}

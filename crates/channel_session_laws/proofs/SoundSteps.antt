@@ -25,8 +25,8 @@ use Rattle.presence_journal_data.specs.declared.step.Step.TheVariants as steps_a
 use Rattle.presence_journal.specs.History.{History}
 use Rattle.presence_journal.specs.Present.{listed}
 use Rattle.presence_journal.specs.Table.{accepted, with_outcome, after, outcome_of, listed_key}
-use Rattle.tracker_shard.specs.Steps.{refusal, is_found}
-use Rattle.tracker_shard.specs.declared.fault.ShardFault.{ShardFault}
+use Rattle.channel_session_rules.specs.Steps.{refusal, is_found}
+use Rattle.channel_session_rules.specs.ShardFault.{ShardFault}
 use Rattle.channel_session_rules.specs.Asked.{without_member, without_refs, given_meta, with_meta, with_key, by_key, asked}
 use Rattle.channel_session_rules.specs.Asks.{Ask, track, update, untrack, untrack_all, list, get as get_rows, subscribe, take, unsubscribe, waits, shout}
 use Rattle.channel_session_rules.specs.InForce.{Joined, InForce}

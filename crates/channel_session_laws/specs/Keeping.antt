@@ -9,7 +9,7 @@ use Rattle.presence_journal.specs.Present.{listed}
 use Rattle.presence_journal.specs.Queue.{Queued, queue, topic_of}
 use Rattle.presence_journal.specs.Table.{IsLegal}
 use Rattle.presence_metas.specs.Listing.{Listing}
-use Rattle.tracker_shard.specs.Steps.{slot_of}
+use Rattle.channel_session_rules.specs.Steps.{slot_of}
 use Rattle.channel_session_rules.specs.Delivering.{delivery}
 use Rattle.channel_session_rules.specs.InForce.{Joined, InForce, find}
 use Rattle.channel_session_laws.specs.Local.{played}

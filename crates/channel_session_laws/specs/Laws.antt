@@ -8,7 +8,7 @@ use Rattle.presence_journal.specs.Present.{listed}
 use Rattle.presence_journal.specs.Queue.{Queued, queue, topic_of, taken, is_waiting}
 use Rattle.presence_journal.specs.Table.{IsLegal}
 use Rattle.presence_metas.specs.Listing.{Listing}
-use Rattle.tracker_shard.specs.declared.fault.ShardFault.TheVariants.{OutOfMemory}
+use Rattle.channel_session_rules.specs.ShardFault.TheVariants.{OutOfMemory}
 use Rattle.channel_session_rules.specs.Asks.{Ask, Answer, Call}
 use Rattle.channel_session_rules.specs.Delivering.{delivery}
 use Rattle.channel_session_rules.specs.Frames.{message_of}

@@ -10,10 +10,10 @@ use Rattle.presence_journal.specs.History.{History, last_number, next_dot}
 use Rattle.presence_journal.specs.Present.{listed}
 use Rattle.presence_journal.specs.Queue.{queue, items_given, is_waiting}
 use Rattle.presence_journal.specs.Table.{outcome_of, listed_key, after}
-use Rattle.tracker_shard.specs.Steps.{Stepped, Answers, IsDue, refusal, new_dot, slot_of, is_found}
-use Rattle.tracker_shard.specs.declared.fault.ShardFault.{ShardFault}
-use Rattle.tracker_shard.specs.declared.fault.ShardFault.TheVariants.{AlreadyTracked, NoPresence, NoSub, OutOfMemory}
-use Rattle.tracker_shard.specs.declared.shard.Sub.{Sub}
+use Rattle.channel_session_rules.specs.Steps.{Stepped, Answers, IsDue, refusal, new_dot, slot_of, is_found}
+use Rattle.channel_session_rules.specs.ShardFault.{ShardFault}
+use Rattle.channel_session_rules.specs.ShardFault.TheVariants.{AlreadyTracked, NoPresence, NoSub, OutOfMemory}
+use Rattle.channel_session_rules.specs.Sub.{Sub}
 use Rattle.channel_session_rules.specs.Asks.{Ask, track, update, untrack, untrack_all, list, get, subscribe, take, unsubscribe, waits, shout, Answer}
 use Rattle.channel_session_rules.specs.Script.{Script, done, ask}
 

@@ -7,7 +7,7 @@ use Rattle.serde_json.specs.Find.{get}
 use Rattle.presence_base.specs.Order.{same_text}
 use Rattle.phx_message.specs.declared.message.Message.{Message}
 use Rattle.hook_registry.specs.Routes.{first_kind}
-use Rattle.tracker_shard.specs.declared.shard.Sub.{Sub}
+use Rattle.channel_session_rules.specs.Sub.{Sub}
 use Rattle.channel_session_rules.specs.Asks.{Ask, Answer, Call, subscribe}
 use Rattle.channel_session_rules.specs.Delivering.{delivery}
 use Rattle.channel_session_rules.specs.InForce.{Joined, InForce}

@@ -1,8 +1,7 @@
-use channel_session_rules::Port;
+use channel_session_rules::{Port, Shard, ShardFault, Sub};
 use presence_base::{Dot, Json, Key, Meta, Row, Topic};
 use presence_journal::Item;
 use std::alloc::Global;
-use tracker_shard::{Shard, ShardFault, Sub};
 
 /// A port that is lent one shard: each of its calls is that call of the shard, without a seat. What
 /// the shard is when the port goes, its lender has.

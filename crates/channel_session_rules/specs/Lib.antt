@@ -10,3 +10,6 @@ pub mod Rules
 pub mod Outcome
 pub mod Replies
 pub mod Delivering
+pub use Rattle.tracker_shard.specs.Steps
+pub use Rattle.tracker_shard.specs.declared.fault.ShardFault
+pub use Rattle.tracker_shard.specs.declared.shard.Sub

@@ -1,6 +1,8 @@
 -- What the function of a rule gives back, as an end of its script.
 use Rattle.std.specs.Prelude.{List, [], ◌∷◌, map, Bool, Result, IfOk}
+use Rattle.phx_message.specs.Making.{ok_reply}
 use Rattle.phx_message.specs.declared.message.Message.{Message}
+use Rattle.presence_metas.specs.Values.{state_of}
 use Rattle.channel_session_rules.specs.Asks.{Ask, Answer}
 use Rattle.channel_session_rules.specs.Outcome.{Follows, Gives, seen}
 use Rattle.channel_session_rules.specs.Said.{Said, message, EachBy}
@@ -8,12 +10,13 @@ use Rattle.channel_session_rules.specs.Script.{Script}
 use Rattle.channel_session_rules.specs.declared.stop.Stop.{Stop}
 use Rattle.channel_session_rules.specs.Rules.{InForce, End, answers}
 use Rattle.channel_session_rules.specs.declared.replies.Reply.{Reply}
-use Rattle.channel_session_rules.specs.declared.replies.Reply.TheVariants.{Nothing, One, Two}
+use Rattle.channel_session_rules.specs.declared.replies.Reply.TheVariants.{Nothing, One, Two, Listed}
 
 abbrev pub messages_of : Reply → List Message
 messages_of Nothing = []
 messages_of (One w) = w.message ∷ []
 messages_of (Two w v) = w.message ∷ v.message ∷ []
+messages_of (Listed l) = ok_reply l.join_ref l.msg_ref l.topic (state_of l.rows) ∷ []
 
 -- these messages are said, and the session is this one after them
 abbrev pub reply_end : InForce → Reply → End

@@ -18,6 +18,10 @@ pub use asked::{Asked, read_asked, read_key};
 pub use kind::{EventKind, TopicEvent, is_phoenix, kind_of};
 pub use port::Port;
 pub use reasons::{full_reason, stop_of, track_reason, update_reason};
-pub use replies::{Reply, Written, empty_object, ref_response, write_close, write_error, write_ok};
+pub use replies::{
+    Listed, Reply, Written, empty_object, ref_response, write_close, write_error, write_listed,
+    write_ok,
+};
 pub use stop::{Stop, StopKind, spoil, spoiling};
 pub use topics::{MAX_TOPICS, Place, Topics};
+pub use tracker_shard::{Shard, ShardFault, Sub};

@@ -1,11 +1,16 @@
 ghost use Rattle.std.specs.Prelude.{◌≡◌, IfOk, string_bytes, false};
 ghost use Rattle.serde_json.specs.Written.{has_float as float_within};
-ghost use Rattle.phx_message.specs.Making.{closing};
+ghost use Rattle.phx_message.specs.Making.{closing, ok_reply};
+ghost use Rattle.presence_metas.specs.Values.{state_of};
+ghost use Rattle.presence_metas_texts.specs.KeyOrder.{AreInKeyOrder};
 ghost use Rattle.channel_session_rules.specs.Said.{text_of};
 ghost use Rattle.channel_session_rules.specs.Rules.{ok as ok_message, error as error_message, told_ref, empty as empty_of};
 
-use phx_message::{Message, MsgRef, close_of, encode, reply_error, reply_ok};
-use presence_base::{Dot, Json, Topic, ref_text};
+use phx_message::laws::replies_are_written;
+use phx_message::{Message, MsgRef, close_of, encode, reply_error, reply_ok, reply_text};
+use presence_base::{Dot, Json, Row, Topic, ref_text};
+use presence_journal::Rows;
+use presence_metas_texts::state_text;
 use serde_json::{Map, Value, json};
 use std::alloc::{AllocError, Global};
 
@@ -18,12 +23,25 @@ pub struct Written {
     ghost is_text: { string_bytes text ≡ text_of message },
 }
 
+/// The parts of a reply that tells rows, beside its text. The rows stand for the object that tells
+/// them, which is not made.
+#[derive(Debug, Drop)]
+pub struct Listed {
+    pub join_ref: Option<MsgRef>,
+    pub msg_ref: Option<MsgRef>,
+    pub topic: Topic,
+    pub rows: Rows,
+    pub text: String,
+    ghost is_text: { string_bytes text ≡ text_of (ok_reply join_ref msg_ref topic (state_of rows)) },
+}
+
 /// The messages that answer a message, in the order in which they go out.
 #[derive(Debug, Drop)]
 pub enum Reply {
     Nothing,
     One(Written),
     Two(Written, Written),
+    Listed(Listed),
 }
 
 // Writes a message.
@@ -77,6 +95,52 @@ pub fn write_ok(
 {
     let reply = ok_reply_to(alloc, join_ref, message, response)?;
     write(alloc, reply)
+}
+
+// The text of the reply that tells rows in order of their keys.
+fn listed_text(
+    alloc: Global,
+    join_ref: &Option<MsgRef>,
+    message: &Message,
+    rows: &[(Dot, Row)],
+) -> Result<String, AllocError>
+    requires { AreInKeyOrder rows.now }
+    ensures { IfOk result (λ s. string_bytes s
+        ≡ text_of (ok_message join_ref.now message.now (state_of rows.now))) }
+{
+    replies_are_written();
+    let state = state_text(alloc, rows)?;
+    reply_text(
+        alloc,
+        join_ref,
+        &message.msg_ref,
+        &message.topic,
+        state.as_str(),
+    )
+}
+
+/// The reply that tells rows in order of their keys.
+pub fn write_listed(
+    alloc: Global,
+    join_ref: &Option<MsgRef>,
+    message: &Message,
+    rows: Rows,
+) -> Result<Listed, AllocError>
+    requires { AreInKeyOrder rows }
+    ensures { IfOk result (λ l. ok_reply l.join_ref l.msg_ref l.topic (state_of l.rows)
+        ≡ ok_message join_ref.now message.now (state_of rows)) }
+{
+    let text = listed_text(alloc, join_ref, message, rows.as_slice())?;
+    let join_ref = join_ref.clone()?;
+    let msg_ref = message.msg_ref.clone()?;
+    let topic = message.topic.clone()?;
+    Ok(Listed {
+        join_ref,
+        msg_ref,
+        topic,
+        rows,
+        text,
+    })
 }
 
 /// The reply that a message was refused for this reason.

@@ -75,20 +75,20 @@ pub fn rooms(alloc: Global) -> Result<Routes, RouteFault> {
     Ok(routes)
 }
 
-// Asks to join.
-fn ask_to_join(
+// Answers a text of the session.
+fn answer(
     alloc: Global,
     session: &mut Session,
     shard: &mut Shard,
     routes: &Routes,
+    text: &str,
 ) -> Result<Vec<String>, SessionFault> {
     let mut port = LocalPort::new(shard);
-    let text = r#"["1","1","room:a","phx_join",{}]"#;
     run_text(alloc, session, &mut port, routes, &NoHooks, text)
 }
 
 // Takes what waits.
-fn take_state(
+fn take_waiting(
     alloc: Global,
     session: &mut Session,
     shard: &mut Shard,
@@ -100,10 +100,71 @@ fn take_state(
     }
 }
 
+// How many texts a text is answered with, what waits behind it among them.
+fn exchange(
+    alloc: Global,
+    session: &mut Session,
+    shard: &mut Shard,
+    routes: &Routes,
+    text: &str,
+) -> Result<usize, SessionFault> {
+    let replies = answer(alloc, session, shard, routes, text)?;
+    let frames = take_waiting(alloc, session, shard)?;
+    Ok(replies.len().saturating_add(frames.len()))
+}
+
 /// Joins the room, and answers how many texts the reply and the state are.
 pub fn join(alloc: Global, room: &mut Room, routes: &Routes) -> Result<usize, SessionFault> {
     let mut session = Session::new(alloc, 1);
-    let replies = ask_to_join(alloc, &mut session, &mut room.shard, routes)?;
-    let frames = take_state(alloc, &mut session, &mut room.shard)?;
-    Ok(replies.len().saturating_add(frames.len()))
+    let text = r#"["1","1","room:a","phx_join",{}]"#;
+    exchange(alloc, &mut session, &mut room.shard, routes, text)
+}
+
+// Tracks a key of the session's own.
+fn track_own(
+    alloc: Global,
+    session: &mut Session,
+    shard: &mut Shard,
+    routes: &Routes,
+    n: u32,
+) -> Result<usize, SessionFault> {
+    let front = r#"["1","2","room:a","track",{"key":"o"#;
+    let back = r#"","meta":{"x":1}}]"#;
+    match format!(in alloc; "{front}{n}{back}") {
+        Ok(text) => exchange(alloc, session, shard, routes, text.as_str()),
+        Err(_) => Err(SessionFault::OutOfMemory),
+    }
+}
+
+/// Joins the room, and tracks so many keys there, each with its delivery.
+pub fn tracks(
+    alloc: Global,
+    room: &mut Room,
+    routes: &Routes,
+    count: u32,
+) -> Result<(), SessionFault> {
+    let mut session = Session::new(alloc, 1);
+    let text = r#"["1","1","room:a","phx_join",{}]"#;
+    exchange(alloc, &mut session, &mut room.shard, routes, text)?;
+    for n in 0..count {
+        track_own(alloc, &mut session, &mut room.shard, routes, n)?;
+    }
+    Ok(())
+}
+
+/// Joins the room, and lists it so many times.
+pub fn lists(
+    alloc: Global,
+    room: &mut Room,
+    routes: &Routes,
+    count: u32,
+) -> Result<(), SessionFault> {
+    let mut session = Session::new(alloc, 1);
+    let text = r#"["1","1","room:a","phx_join",{}]"#;
+    exchange(alloc, &mut session, &mut room.shard, routes, text)?;
+    for _ in 0..count {
+        let text = r#"["1","3","room:a","list",{}]"#;
+        exchange(alloc, &mut session, &mut room.shard, routes, text)?;
+    }
+    Ok(())
 }

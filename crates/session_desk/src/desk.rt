@@ -2,17 +2,28 @@
 
 use crate::port::TestPort;
 use crate::texts::{JOIN, JOINED, error_reply, message, ok_reply};
-use channel_session::{Delivery, Session, SessionFault, deliver, end, run_text};
+use channel_session::{Delivery, Session, SessionFault, ShardFault, deliver, end, run_text};
 use hook_registry::{NoHooks, Routes};
 use std::alloc::{AllocError, Global};
-use tracker_shard::ShardFault;
 
 // A session of number 1 over a shard of `a.1`, with the routes `room:*` and `chat`.
-#[derive(Drop)]
 pub struct Desk {
     session: Session,
     port: TestPort,
     routes: Routes,
+}
+
+impl Drop for Desk {
+    fn drop(self) {
+        let Desk {
+            session,
+            port,
+            routes,
+        } = self;
+        drop(session);
+        drop(port);
+        drop(routes);
+    }
 }
 
 pub fn desk_of(alloc: Global) -> Option<Desk> {

@@ -7,11 +7,12 @@ mod port;
 mod texts;
 
 // What the tests name of the session and its shard, given out here.
-pub use channel_session::{Delivery, LocalPort, Session, SessionFault, deliver, end, run_text};
+pub use channel_session::{
+    Delivery, LocalPort, Port, Session, SessionFault, Shard, ShardFault, deliver, end, run_text,
+};
 pub use desk::{Desk, are_texts, desk_of, fault_for, joined_desk};
 pub use port::TestPort;
 pub use texts::{
     CLOSE, JOIN, JOINED, LATE, LATE_STATE, LEAVE, LEFT, NEXT_STATE, REJOIN, REJOINED, STATE,
     UPDATE, UPDATED, error_reply, message, ok_reply,
 };
-pub use tracker_shard::{Shard, ShardFault};

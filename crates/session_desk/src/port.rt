@@ -1,11 +1,10 @@
 //! A port over a shard that refuses one of its calls.
 
-use channel_session::Port;
+use channel_session::{Port, Shard, ShardFault, Sub};
 use presence_base::{Dot, Json, Key, Meta, NodeName, Replica, Row, Topic};
 use presence_journal::Item;
 use presence_journal_walks::walk_topic;
 use std::alloc::Global;
-use tracker_shard::{Shard, ShardFault, Sub};
 
 // A shard whose call of number `refused`, from 0, is refused.
 #[derive(Drop)]

@@ -1,5 +1,5 @@
 use Rattle.std.proofs.Common.{rules, ◌≡◌}
-use Rattle.tracker_shard.specs.declared.fault.ShardFault.TheVariants.{NoSub}
+use Rattle.channel_session_rules.specs.ShardFault.TheVariants.{NoSub}
 use Rattle.channel_session.proofs.Endings.{rows_gone, rows_gone_unknown, kept}
 use Rattle.channel_session.proofs.ending.end_topic.Goals as goal
 

@@ -1,14 +1,14 @@
 use Rattle.std.proofs.Common.{[], ◌∷◌, rules}
-use Rattle.channel_session_rules.specs.Said.{listed}
+use Rattle.channel_session_rules.specs.Said.{listed, Worded}
 use Rattle.channel_session_rules.proofs.Saying.{replied_so}
+use Rattle.channel_session_events.proofs.Plainly.{made_after}
 use Rattle.channel_session_events.proofs.events.told_rows.Goals as goal
 
-pub returns-in-Ok-spoiling : goal.returns-in-Ok-spoiling
-returns-in-Ok-spoiling g c = record {
-  said = listed c.args.place.now.kind c.args.place.now.join_ref c.args.message.now c.in-Ok.rows.items ∷ [];
-  worded = (search rules, tt);
-  gives = λ s. search rules;
-}
+pub returns-in-Ok : goal.returns-in-Ok
+returns-in-Ok g c =
+    made_after (Worded (g.H.PresenceHooks.fetched c.args.hooks.now) (g.H.PresenceHooks.plain c.args.hooks.now)) _ _
+    (listed c.args.place.now.kind c.args.place.now.join_ref c.args.message.now c.new-rows.result ∷ []) c.rows_reply.result c.spoiling.result
+    c.rows_reply.ensures (λ s. search rules) (search rules) c.spoiling.ensures.ok c.spoiling.ensures.err
 
-pub returns : goal.returns
-returns g c = replied_so (g.H.PresenceHooks.fetched c.args.hooks.now) (g.H.PresenceHooks.plain c.args.hooks.now) _ _ _ (search rules)
+pub returns-in-Err : goal.returns-in-Err
+returns-in-Err g c = replied_so (g.H.PresenceHooks.fetched c.args.hooks.now) (g.H.PresenceHooks.plain c.args.hooks.now) _ _ _ (search rules)
