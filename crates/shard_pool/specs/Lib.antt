@@ -1,3 +1,6 @@
 pub mod Seats
 pub mod Settling
-pub mod Unseated
+pub use Rattle.shard_pool_lent.specs.declared.reply.Reply
+pub use Rattle.shard_pool_lent.specs.declared.lane.Lane
+pub use Rattle.shard_pool_settled.specs.Settled
+pub use Rattle.shard_pool_settled.specs.declared.fault.SettleFault

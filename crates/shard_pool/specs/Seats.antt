@@ -2,12 +2,11 @@
 use Rattle.std.specs.Prelude.{◌≡◌, ◌==◌, ◌%◌, ℕ, zero, suc, List, [], ◌∷◌, ◌++◌, cond, sum, Result, refl}
 use Rattle.std.specs.Coded.{Coded, code_by, coded×, coded_ℕ}
 use Rattle.presence_journal_data.specs.declared.step.Step.{Step}
-use Rattle.presence_journal.specs.History.{History, own}
-use Rattle.presence_journal.specs.Table.{IsLegal}
-use Rattle.tracker_shard.specs.declared.fault.ShardFault.{ShardFault}
+use Rattle.presence_journal.specs.History.{History}
+use Rattle.shard_pool_lent.specs.ShardFault.{ShardFault}
 use Rattle.shard_pool_lent.specs.declared.reply.Reply.{Reply}
 use Rattle.shard_pool_lent.specs.Hands.{Hand, hand_code, new_hand}
-use Rattle.shard_pool_lent.specs.Lent.{Notes, Replies}
+use Rattle.shard_pool_locks.specs.Seated.{Called}
 
 -- a seat at each shard
 pub record Hands : Type 0 where
@@ -46,15 +45,6 @@ with_hand h s x =
     (cond (s == 1) (record { number = h.number; first = h.first; second = x; third = h.third; fourth = h.fourth })
     (cond (s == 2) (record { number = h.number; first = h.first; second = h.second; third = x; fourth = h.fourth })
     (record { number = h.number; first = h.first; second = h.second; third = h.third; fourth = x })))
-
--- Some legal history of the node stands behind the answer: the part has the receipt of the step at its end where
--- the step was made, and the answer is the table's there.
-pub record Called {A : Type 0} (node : List ℕ) (old new : Hand) (step : Step) (Gives : History → A → Type 0) (r : Result (Reply A) ShardFault) : Type 0 where
-  pub history : History
-  pub legal : IsLegal history
-  pub of_node : (own history).name ≡ node
-  pub notes : Notes history old new step r
-  pub answer : Replies old.shard history step (Gives history) r
 
 -- the seat after a call at a shard: no other part is changed
 pub record CalledAt {A : Type 0} (node : List ℕ) (old new : Hands) (s : ℕ) (step : Step) (Gives : History → A → Type 0) (r : Result (Reply A) ShardFault) : Type 0 where

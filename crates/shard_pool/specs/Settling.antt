@@ -1,8 +1,8 @@
 -- The seats of a pool by their numbers, and the journals that it hands back.
 use Rattle.std.specs.Prelude.{◌≡◌, ◌==◌, ◌<◌, ℕ, zero, suc, List, [], ◌∷◌, ◌++◌, Bool, true, false, ◌&&◌, ◌||◌, cond, length, All}
-use Rattle.presence_journal.specs.History.{History, own}
-use Rattle.presence_journal.specs.Table.{IsLegal}
+use Rattle.presence_journal.specs.History.{History}
 use Rattle.shard_pool_settled.specs.declared.receipt.Receipt.{Receipt}
+use Rattle.shard_pool_locks.specs.Unseated.{IsOf}
 use Rattle.shard_pool.specs.Seats.{Hands}
 
 -- the receipts of a seat, shard by shard
@@ -30,10 +30,6 @@ has_seats hs (suc n) = has_seats hs n && has_seat hs n
 -- a seat below the number isn't among them
 abbrev pub IsMissing : List Hands → ℕ → Type 0
 IsMissing hs count = (k : ℕ) × (k < count) × (has_seat hs k ≡ false)
-
--- a legal journal of the node
-abbrev pub IsOf : List ℕ → History → Type 0
-IsOf node h = IsLegal h × ((own h).name ≡ node)
 
 -- the journals of this many shards of the node
 pub record AreOf (node : List ℕ) (count : ℕ) (js : List History) : Type 0 where

@@ -1,25 +1,23 @@
 //! Up to four shards, each behind a lock of its own, and seats that keep receipts of their calls.
 //!
 //! Its public contracts cite `specs/Seats`: a seat at all shards, and what a call does to it, and
-//! `specs/Settling`: the seats by number and the journals handed back; `specs/Unseated`: what stands behind
-//! a call without a seat. Those stand on `Hands` and `Lent` of shard_pool_lent and on `Settled` of
-//! shard_pool_settled.
+//! `specs/Settling`: the seats by number and the journals handed back. Those stand on `Seated` and `Unseated`
+//! of shard_pool_locks: what stands behind a call's answer, on `Hands` and `Lent` of shard_pool_lent and on
+//! `Settled` of shard_pool_settled.
 //!
 //! What no contract says of a pool call: that the history behind its answer is that of the lock which it
 //! took, and that a call without a seat makes its step. That is for tests with threads to say.
 #![tactic(auto)]
 
-mod gate;
 mod pool;
 mod seat;
 mod seated;
 mod settling;
-mod under_lock;
 mod unseated;
 
-pub use gate::{Gate, NoGate};
 pub use pool::Pool;
 pub use seat::Seat;
 pub use settling::check_seats;
 pub use shard_pool_lent::{Lane, PoolFault, Reply};
+pub use shard_pool_locks::{Gate, NoGate};
 pub use shard_pool_settled::{Receipt, SettleFault, check_receipts};

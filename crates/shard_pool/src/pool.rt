@@ -1,12 +1,12 @@
 ghost use Rattle.std.specs.Prelude.{◌≡◌, ◌+◌, ◌<◌, ◌≤◌, IfOk, IfErr};
 ghost use Rattle.presence_base.specs.Refs.{IsCount};
-ghost use Rattle.tracker_shard.specs.declared.fault.ShardFault.TheVariants.{OutOfMemory};
+ghost use Rattle.shard_pool_lent.specs.ShardFault.TheVariants.{OutOfMemory};
 ghost use Rattle.shard_pool.specs.Seats.{new_seat, new_seats};
 
-use crate::gate::Gate;
 use crate::seat::Seat;
 use presence_base::Replica;
 use shard_pool_lent::{Lane, Locked, Part, PoolFault};
+use shard_pool_locks::Gate;
 use std::alloc::Global;
 use std::sync::Mutex;
 use std::sync::ledger::{Blank, Book, Share};

@@ -2,14 +2,15 @@ ghost use Rattle.std.specs.Prelude.{◌≡◌, All, List, ℕ, ◌+◌, ◌<◌,
 ghost use Rattle.presence_journal.specs.History.{History};
 ghost use Rattle.shard_pool_settled.specs.Seated.{one_if};
 ghost use Rattle.shard_pool_settled.specs.Settled.{Agree, CountsDiffer, are_told};
-ghost use Rattle.shard_pool.specs.Settling.{has_seat, found, by_number, has_seats, IsMissing, IsOf, AreOf};
+ghost use Rattle.shard_pool_locks.specs.Unseated.{IsOf};
+ghost use Rattle.shard_pool.specs.Settling.{has_seat, found, by_number, has_seats, IsMissing, AreOf};
 
-use crate::gate::Gate;
 use crate::pool::Pool;
 use crate::seat::Seat;
 use presence_base::Replica;
 use presence_journal::Journal;
 use shard_pool_lent::{Lane, Locked};
+use shard_pool_locks::Gate;
 use shard_pool_settled::{Receipt, SettleFault, check_receipts};
 use std::alloc::Global;
 use std::sync::{Mutex, Wait};

@@ -1,71 +1,25 @@
-// The calls without a seat, each at a shard that is named by its number. What they do behind the lock is
-// that of `Locked`. Since they let the lock go, their contracts name a history behind the answer at most.
-ghost use Rattle.std.specs.Prelude.{◌≡◌, ◌<◌, IfOk};
-ghost use Rattle.presence_journal.specs.History.{IsTop};
+// The calls without a seat, each at a shard that is named by its number. Since they let the lock go, their
+// contracts name a history behind the answer at most.
+ghost use Rattle.std.specs.Prelude.{◌≡◌, ◌<◌, IfOk, IfErr};
+ghost use Rattle.presence_journal.specs.History.{IsTop, status};
 ghost use Rattle.presence_journal_sets.specs.Full.{IsFullOf};
+ghost use Rattle.shard_pool_lent.specs.ShardFault.TheVariants.{OutOfMemory};
+ghost use Rattle.shard_pool_locks.specs.Unseated.{IsOf, IsBehind, IsMade, IsCutMade, TellsWaiting};
 ghost use Rattle.shard_pool.specs.Seats.{shard_of};
-ghost use Rattle.shard_pool.specs.Settling.{IsOf};
-ghost use Rattle.shard_pool.specs.Unseated.{IsBehind, IsMade};
 
-use crate::gate::Gate;
 use crate::pool::Pool;
 use delta_range::Delta;
 use orswot_core_told::Told;
 use presence_base::{Replica, Topic, shard_of};
 use presence_journal::{Journal, Step};
 use replica_status::Status;
-use shard_pool_lent::{Lane, Locked, PoolFault};
+use shard_pool_lent::{Lane, PoolFault, Sub};
+use shard_pool_locks::{
+    Gate, locked_cut, locked_full, locked_heard, locked_journal, locked_merge, locked_permdown,
+    locked_status, locked_tick, locked_top, locked_waits,
+};
 use std::alloc::Global;
-use std::sync::{Mutex, Wait};
-use tracker_shard::Sub;
-
-// A copy of the journal behind a lock.
-fn locked_journal<L: Lane, R: Wait>(rt: &R, shard: &Mutex<Locked<L>>) -> Result<Journal, PoolFault>
-    ensures { IfOk result (λ j. IsOf L.node j) }
-{
-    let guard = shard.lock(rt);
-    let journal = guard.journal().clone()?;
-    Ok(journal)
-}
-
-// Each of these makes a call behind one lock. The journal is read to show that it is legal and of the node.
-
-#[tactic(auto, using(crate::proofs::Calls::unseated))]
-fn locked_merge<L: Lane, R: Wait>(
-    rt: &R,
-    alloc: Global,
-    shard: &Mutex<Locked<L>>,
-    told: &Told,
-) -> Result<(), PoolFault>
-    ensures { IsBehind L.node (λ h. IsMade h (Step.Merge told.now) result) }
-{
-    let mut guard = shard.lock(rt);
-    let _journal = guard.journal();
-    guard.merge(alloc, told)
-}
-
-#[tactic(auto, using(crate::proofs::Calls::unseated))]
-fn locked_full<L: Lane, R: Wait>(
-    rt: &R,
-    alloc: Global,
-    shard: &Mutex<Locked<L>>,
-) -> Result<Told, PoolFault>
-    ensures { IfOk result (λ t. IsBehind L.node (λ h. IsFullOf h t)) }
-{
-    let guard = shard.lock(rt);
-    let _journal = guard.journal();
-    let told = guard.full(alloc)?;
-    Ok(told)
-}
-
-#[tactic(auto, using(crate::proofs::Calls::unseated))]
-fn locked_top<L: Lane, R: Wait>(rt: &R, shard: &Mutex<Locked<L>>, replica: &Replica) -> u64
-    ensures { IsBehind L.node (λ h. IsTop h replica.now result) }
-{
-    let guard = shard.lock(rt);
-    let _journal = guard.journal();
-    guard.top(replica)
-}
+use std::sync::Wait;
 
 impl<G: Gate, A: Lane, B: Lane, C: Lane, D: Lane> Pool<G, A, B, C, D> {
     /// The number of the shard that has a topic.
@@ -76,10 +30,11 @@ impl<G: Gate, A: Lane, B: Lane, C: Lane, D: Lane> Pool<G, A, B, C, D> {
         shard_of(topic, self.shards)
     }
 
-    /// A copy of a shard's journal.
+    /// A copy of a shard's journal. It refuses with `OutOfMemory` alone.
     pub fn journal<R: Wait>(&self, rt: &R, _alloc: Global, shard: u32) -> Result<Journal, PoolFault>
         requires { shard < self.now.shards }
-        ensures { IfOk result (λ j. IsOf self.now.own.name j) }
+        ensures journal { IfOk result (λ j. IsOf self.now.own.name j) }
+        ensures err { IfErr result (λ e. e ≡ OutOfMemory) }
     {
         match shard {
             0 => locked_journal(rt, &self.first),
@@ -99,12 +54,13 @@ impl<G: Gate, A: Lane, B: Lane, C: Lane, D: Lane> Pool<G, A, B, C, D> {
         now: u64,
     ) -> Result<(), PoolFault>
         requires { shard < self.now.shards }
+        ensures { IsBehind self.now.own.name (λ h. IsMade h (Step.Heard replica now) result) }
     {
         match shard {
-            0 => self.first.lock(rt).heard(alloc, replica, now),
-            1 => self.second.lock(rt).heard(alloc, replica, now),
-            2 => self.third.lock(rt).heard(alloc, replica, now),
-            _ => self.fourth.lock(rt).heard(alloc, replica, now),
+            0 => locked_heard(rt, alloc, &self.first, replica, now),
+            1 => locked_heard(rt, alloc, &self.second, replica, now),
+            2 => locked_heard(rt, alloc, &self.third, replica, now),
+            _ => locked_heard(rt, alloc, &self.fourth, replica, now),
         }
     }
 
@@ -117,12 +73,13 @@ impl<G: Gate, A: Lane, B: Lane, C: Lane, D: Lane> Pool<G, A, B, C, D> {
         now: u64,
     ) -> Result<(), PoolFault>
         requires { shard < self.now.shards }
+        ensures { IsBehind self.now.own.name (λ h. IsMade h (Step.Tick now) result) }
     {
         match shard {
-            0 => self.first.lock(rt).tick(alloc, now),
-            1 => self.second.lock(rt).tick(alloc, now),
-            2 => self.third.lock(rt).tick(alloc, now),
-            _ => self.fourth.lock(rt).tick(alloc, now),
+            0 => locked_tick(rt, alloc, &self.first, now),
+            1 => locked_tick(rt, alloc, &self.second, now),
+            2 => locked_tick(rt, alloc, &self.third, now),
+            _ => locked_tick(rt, alloc, &self.fourth, now),
         }
     }
 
@@ -135,24 +92,26 @@ impl<G: Gate, A: Lane, B: Lane, C: Lane, D: Lane> Pool<G, A, B, C, D> {
         replica: Replica,
     ) -> Result<(), PoolFault>
         requires { shard < self.now.shards }
+        ensures { IsBehind self.now.own.name (λ h. IsMade h (Step.PermDown replica) result) }
     {
         match shard {
-            0 => self.first.lock(rt).permdown(alloc, replica),
-            1 => self.second.lock(rt).permdown(alloc, replica),
-            2 => self.third.lock(rt).permdown(alloc, replica),
-            _ => self.fourth.lock(rt).permdown(alloc, replica),
+            0 => locked_permdown(rt, alloc, &self.first, replica),
+            1 => locked_permdown(rt, alloc, &self.second, replica),
+            2 => locked_permdown(rt, alloc, &self.third, replica),
+            _ => locked_permdown(rt, alloc, &self.fourth, replica),
         }
     }
 
     /// What the own replica did at a shard since the last cut there.
     pub fn cut<R: Wait>(&self, rt: &R, alloc: Global, shard: u32) -> Result<Delta, PoolFault>
         requires { shard < self.now.shards }
+        ensures { IsBehind self.now.own.name (λ h. IsCutMade h result) }
     {
         match shard {
-            0 => self.first.lock(rt).cut(alloc),
-            1 => self.second.lock(rt).cut(alloc),
-            2 => self.third.lock(rt).cut(alloc),
-            _ => self.fourth.lock(rt).cut(alloc),
+            0 => locked_cut(rt, alloc, &self.first),
+            1 => locked_cut(rt, alloc, &self.second),
+            2 => locked_cut(rt, alloc, &self.third),
+            _ => locked_cut(rt, alloc, &self.fourth),
         }
     }
 
@@ -175,10 +134,11 @@ impl<G: Gate, A: Lane, B: Lane, C: Lane, D: Lane> Pool<G, A, B, C, D> {
         }
     }
 
-    /// All that a shard knows. It is no step.
+    /// All that a shard knows. It is no step, and refuses with `OutOfMemory` alone.
     pub fn full<R: Wait>(&self, rt: &R, alloc: Global, shard: u32) -> Result<Told, PoolFault>
         requires { shard < self.now.shards }
-        ensures { IfOk result (λ t. IsBehind self.now.own.name (λ h. IsFullOf h t)) }
+        ensures full { IfOk result (λ t. IsBehind self.now.own.name (λ h. IsFullOf h t)) }
+        ensures err { IfErr result (λ e. e ≡ OutOfMemory) }
     {
         match shard {
             0 => locked_full(rt, alloc, &self.first),
@@ -204,24 +164,26 @@ impl<G: Gate, A: Lane, B: Lane, C: Lane, D: Lane> Pool<G, A, B, C, D> {
     /// The status of a replica at a shard. It is no step.
     pub fn status<R: Wait>(&self, rt: &R, shard: u32, replica: &Replica) -> Status
         requires { shard < self.now.shards }
+        ensures { IsBehind self.now.own.name (λ h. result ≡ status h replica.now) }
     {
         match shard {
-            0 => self.first.lock(rt).status(replica),
-            1 => self.second.lock(rt).status(replica),
-            2 => self.third.lock(rt).status(replica),
-            _ => self.fourth.lock(rt).status(replica),
+            0 => locked_status(rt, &self.first, replica),
+            1 => locked_status(rt, &self.second, replica),
+            2 => locked_status(rt, &self.third, replica),
+            _ => locked_status(rt, &self.fourth, replica),
         }
     }
 
     /// Whether a subscriber of a shard is behind or has something waiting. It is no step.
     pub fn waits<R: Wait>(&self, rt: &R, shard: u32, sub: &Sub) -> Result<bool, PoolFault>
         requires { shard < self.now.shards }
+        ensures { IsBehind self.now.own.name (λ h. TellsWaiting h sub.now result) }
     {
         match shard {
-            0 => self.first.lock(rt).waits(sub),
-            1 => self.second.lock(rt).waits(sub),
-            2 => self.third.lock(rt).waits(sub),
-            _ => self.fourth.lock(rt).waits(sub),
+            0 => locked_waits(rt, &self.first, sub),
+            1 => locked_waits(rt, &self.second, sub),
+            2 => locked_waits(rt, &self.third, sub),
+            _ => locked_waits(rt, &self.fourth, sub),
         }
     }
 }

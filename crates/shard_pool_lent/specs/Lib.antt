@@ -1,2 +1,5 @@
 pub mod Hands
 pub mod Lent
+pub use Rattle.tracker_shard.specs.Steps
+pub use Rattle.tracker_shard.specs.declared.fault.ShardFault
+pub use Rattle.tracker_shard.specs.declared.shard.Sub

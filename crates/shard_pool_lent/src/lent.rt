@@ -11,10 +11,6 @@ use crate::lane::Lane;
 use crate::locked::Locked;
 use crate::noting::{is_made, keep_receipt};
 use crate::part::Part;
-use crate::planned::{
-    planned_get, planned_list, planned_shout, planned_subscribe, planned_take, planned_track,
-    planned_unsubscribe, planned_untrack, planned_untrack_all, planned_update,
-};
 use crate::reply::{PoolFault, Reply, reply_to};
 use presence_base::{Dot, Json, Key, Meta, Row, Topic};
 use presence_journal::{Item, Step};
@@ -53,7 +49,7 @@ pub fn lent_track<L: Lane>(
     }
     let number = locked.next_number();
     let step = Step::track(pid, topic, key, meta)?;
-    let outcome = planned_track(alloc, locked.journal(), pid, topic, key, meta)?;
+    let outcome = locked.foresee(alloc, &step)?;
     let answer = locked.track(alloc, share, *seat, pid, topic, key, meta);
     keep_receipt(receipts, *shard, number, step, outcome, is_made(&answer));
     reply_to(*shard, number, answer)
@@ -91,7 +87,7 @@ pub fn lent_update<L: Lane>(
     }
     let number = locked.next_number();
     let step = Step::update(pid, topic, key, meta)?;
-    let outcome = planned_update(alloc, locked.journal(), pid, topic, key, meta)?;
+    let outcome = locked.foresee(alloc, &step)?;
     let answer = locked.update(alloc, share, *seat, pid, topic, key, meta);
     keep_receipt(receipts, *shard, number, step, outcome, is_made(&answer));
     reply_to(*shard, number, answer)
@@ -127,7 +123,7 @@ pub fn lent_untrack<L: Lane>(
     }
     let number = locked.next_number();
     let step = Step::untrack(pid, topic, key)?;
-    let outcome = planned_untrack(alloc, locked.journal(), pid, topic, key)?;
+    let outcome = locked.foresee(alloc, &step)?;
     let answer = locked.untrack(alloc, share, *seat, pid, topic, key);
     keep_receipt(receipts, *shard, number, step, outcome, is_made(&answer));
     reply_to(*shard, number, answer)
@@ -162,7 +158,7 @@ pub fn lent_untrack_all<L: Lane>(
     }
     let number = locked.next_number();
     let step = Step::untrack_all(pid, topic)?;
-    let outcome = planned_untrack_all(alloc, locked.journal(), pid, topic)?;
+    let outcome = locked.foresee(alloc, &step)?;
     let answer = locked.untrack_all(alloc, share, *seat, pid, topic);
     keep_receipt(receipts, *shard, number, step, outcome, is_made(&answer));
     reply_to(*shard, number, answer)
@@ -195,7 +191,7 @@ pub fn lent_list<L: Lane>(
     }
     let number = locked.next_number();
     let step = Step::list(topic)?;
-    let outcome = planned_list(alloc, locked.journal(), topic)?;
+    let outcome = locked.foresee(alloc, &step)?;
     let answer = locked.list(alloc, share, *seat, topic);
     keep_receipt(receipts, *shard, number, step, outcome, is_made(&answer));
     reply_to(*shard, number, answer)
@@ -229,7 +225,7 @@ pub fn lent_get<L: Lane>(
     }
     let number = locked.next_number();
     let step = Step::get(topic, key)?;
-    let outcome = planned_get(alloc, locked.journal(), topic, key)?;
+    let outcome = locked.foresee(alloc, &step)?;
     let answer = locked.get(alloc, share, *seat, topic, key);
     keep_receipt(receipts, *shard, number, step, outcome, is_made(&answer));
     reply_to(*shard, number, answer)
@@ -262,7 +258,7 @@ pub fn lent_subscribe<L: Lane>(
     }
     let number = locked.next_number();
     let step = Step::subscribe(topic)?;
-    let outcome = planned_subscribe(locked.journal(), topic);
+    let outcome = locked.foresee(alloc, &step)?;
     let answer = locked.subscribe(alloc, share, *seat, topic);
     keep_receipt(receipts, *shard, number, step, outcome, is_made(&answer));
     reply_to(*shard, number, answer)
@@ -299,7 +295,7 @@ pub fn lent_take<L: Lane>(
     }
     let number = locked.next_number();
     let step = Step::take(sub.number, max);
-    let outcome = planned_take(alloc, locked.journal(), sub.number, max)?;
+    let outcome = locked.foresee(alloc, &step)?;
     let answer = locked.take(alloc, share, *seat, sub, max);
     keep_receipt(receipts, *shard, number, step, outcome, is_made(&answer));
     reply_to(*shard, number, answer)
@@ -334,7 +330,7 @@ pub fn lent_unsubscribe<L: Lane>(
     let step = Step::Unsubscribe {
         subscriber: sub.number,
     };
-    let outcome = planned_unsubscribe(locked.journal(), sub.number);
+    let outcome = locked.foresee(alloc, &step)?;
     let answer = locked.unsubscribe(alloc, share, *seat, sub);
     keep_receipt(receipts, *shard, number, step, outcome, is_made(&answer));
     reply_to(*shard, number, answer)
@@ -368,7 +364,7 @@ pub fn lent_shout<L: Lane>(
     }
     let number = locked.next_number();
     let step = Step::shout(topic, payload)?;
-    let outcome = planned_shout(locked.journal(), topic, payload);
+    let outcome = locked.foresee(alloc, &step)?;
     let answer = locked.shout(alloc, share, *seat, topic, payload);
     keep_receipt(receipts, *shard, number, step, outcome, is_made(&answer));
     reply_to(*shard, number, answer)

@@ -9,7 +9,6 @@ mod lent;
 mod locked;
 mod noting;
 mod part;
-mod planned;
 mod reply;
 mod start;
 
@@ -22,3 +21,4 @@ pub use locked::Locked;
 pub use part::Part;
 pub use reply::{PoolFault, Reply};
 pub use start::lent_start;
+pub use tracker_shard::{ShardFault, Sub};

@@ -17,19 +17,27 @@ use crate::noting::{count_call, is_made};
 use delta_range::Delta;
 use orswot_core_told::Told;
 use presence_base::{Dot, Json, Key, Meta, Replica, Row, Topic};
-use presence_journal::{Item, Journal, Step};
+use presence_journal::{Item, Journal, Outcome, Step};
 use replica_status::Status;
 use std::alloc::{AllocError, Global};
 use std::sync::ledger::{Book, Share};
 use tracker_shard::{Shard, ShardFault, Sub};
 
 /// A shard with the count of its seated calls: what stands behind a lock of the pool.
-#[derive(Drop)]
 pub struct Locked<L: Lane> {
     shard: Shard,
     calls: Book<L>,
     ghost counted: { calls.total ≡ seated shard },
     ghost of_node: { (own shard).name ≡ L.node },
+}
+
+// Written, as the shard's is.
+impl<L: Lane> Drop for Locked<L> {
+    fn drop(self) {
+        let Locked { shard, calls } = self;
+        drop(shard);
+        drop(calls);
+    }
 }
 
 impl<L: Lane> Locked<L> {
@@ -54,6 +62,19 @@ impl<L: Lane> Locked<L> {
         ensures node { (own self.now.shard).name ≡ L.node }
     {
         self.shard.journal()
+    }
+
+    // What a step would come to, without making it.
+    pub(crate) fn foresee(
+        &mut self,
+        alloc: Global,
+        step: &Step,
+    ) -> Result<Option<Outcome>, AllocError>
+        ensures same { self.new.shard ≡ self.old.shard }
+        ensures calls { self.new.calls ≡ self.old.calls }
+        ensures outcome { IfOk result (λ o. o ≡ outcome_of self.old.shard step.now) }
+    {
+        self.shard.foresee(alloc, step)
     }
 
     // The number that the next entry gets.

@@ -4,25 +4,25 @@ ghost use Rattle.presence_journal.specs.Limits.{is_payload, is_take_limit};
 ghost use Rattle.presence_journal.specs.Present.{listed, dots_of};
 ghost use Rattle.presence_journal.specs.Queue.{items_given};
 ghost use Rattle.presence_journal.specs.Table.{outcome_of, rows_of_key, rows_of_pid, listed_key};
-ghost use Rattle.tracker_shard.specs.Steps.{new_dot, slot_of};
-ghost use Rattle.shard_pool.specs.Seats.{Called};
+ghost use Rattle.shard_pool_lent.specs.Steps.{new_dot, slot_of};
+ghost use Rattle.shard_pool_locks.specs.Seated.{Called};
 
 use crate::gate::Gate;
 use presence_base::{Dot, Json, Key, Meta, Row, Topic};
 use presence_journal::{Item, Step};
 use shard_pool_lent::{
-    Lane, Locked, Part, PoolFault, Reply, lent_get, lent_list, lent_shout, lent_subscribe,
+    Lane, Locked, Part, PoolFault, Reply, Sub, lent_get, lent_list, lent_shout, lent_subscribe,
     lent_take, lent_track, lent_unsubscribe, lent_untrack, lent_untrack_all, lent_update,
 };
 use std::alloc::Global;
 use std::sync::{Mutex, Wait};
-use tracker_shard::Sub;
 
 // Each of these makes a lent step behind one lock, with the gate around it. The journal is read to show
 // that it is legal and of the node.
 
+/// A track behind its shard's lock.
 #[tactic(auto, using(crate::proofs::Calls::called))]
-pub(crate) fn locked_track<G: Gate, L: Lane, R: Wait>(
+pub fn locked_track<G: Gate, L: Lane, R: Wait>(
     rt: &R,
     alloc: Global,
     gate: &G,
@@ -48,8 +48,9 @@ pub(crate) fn locked_track<G: Gate, L: Lane, R: Wait>(
     answer
 }
 
+/// An update behind its shard's lock.
 #[tactic(auto, using(crate::proofs::Calls::called))]
-pub(crate) fn locked_update<G: Gate, L: Lane, R: Wait>(
+pub fn locked_update<G: Gate, L: Lane, R: Wait>(
     rt: &R,
     alloc: Global,
     gate: &G,
@@ -75,8 +76,9 @@ pub(crate) fn locked_update<G: Gate, L: Lane, R: Wait>(
     answer
 }
 
+/// An untrack behind its shard's lock.
 #[tactic(auto, using(crate::proofs::Calls::called))]
-pub(crate) fn locked_untrack<G: Gate, L: Lane, R: Wait>(
+pub fn locked_untrack<G: Gate, L: Lane, R: Wait>(
     rt: &R,
     alloc: Global,
     gate: &G,
@@ -100,8 +102,9 @@ pub(crate) fn locked_untrack<G: Gate, L: Lane, R: Wait>(
     answer
 }
 
+/// An untrack of all keys behind its shard's lock.
 #[tactic(auto, using(crate::proofs::Calls::called))]
-pub(crate) fn locked_untrack_all<G: Gate, L: Lane, R: Wait>(
+pub fn locked_untrack_all<G: Gate, L: Lane, R: Wait>(
     rt: &R,
     alloc: Global,
     gate: &G,
@@ -124,8 +127,9 @@ pub(crate) fn locked_untrack_all<G: Gate, L: Lane, R: Wait>(
     answer
 }
 
+/// A list behind its shard's lock.
 #[tactic(auto, using(crate::proofs::Calls::called))]
-pub(crate) fn locked_list<G: Gate, L: Lane, R: Wait>(
+pub fn locked_list<G: Gate, L: Lane, R: Wait>(
     rt: &R,
     alloc: Global,
     gate: &G,
@@ -145,8 +149,9 @@ pub(crate) fn locked_list<G: Gate, L: Lane, R: Wait>(
     answer
 }
 
+/// A get behind its shard's lock.
 #[tactic(auto, using(crate::proofs::Calls::called))]
-pub(crate) fn locked_get<G: Gate, L: Lane, R: Wait>(
+pub fn locked_get<G: Gate, L: Lane, R: Wait>(
     rt: &R,
     alloc: Global,
     gate: &G,
@@ -169,8 +174,9 @@ pub(crate) fn locked_get<G: Gate, L: Lane, R: Wait>(
     answer
 }
 
+/// A subscribe behind its shard's lock.
 #[tactic(auto, using(crate::proofs::Calls::called))]
-pub(crate) fn locked_subscribe<G: Gate, L: Lane, R: Wait>(
+pub fn locked_subscribe<G: Gate, L: Lane, R: Wait>(
     rt: &R,
     alloc: Global,
     gate: &G,
@@ -192,8 +198,9 @@ pub(crate) fn locked_subscribe<G: Gate, L: Lane, R: Wait>(
     answer
 }
 
+/// A take behind its shard's lock.
 #[tactic(auto, using(crate::proofs::Calls::called))]
-pub(crate) fn locked_take<G: Gate, L: Lane, R: Wait>(
+pub fn locked_take<G: Gate, L: Lane, R: Wait>(
     rt: &R,
     alloc: Global,
     gate: &G,
@@ -217,8 +224,9 @@ pub(crate) fn locked_take<G: Gate, L: Lane, R: Wait>(
     answer
 }
 
+/// An unsubscribe behind its shard's lock.
 #[tactic(auto, using(crate::proofs::Calls::called))]
-pub(crate) fn locked_unsubscribe<G: Gate, L: Lane, R: Wait>(
+pub fn locked_unsubscribe<G: Gate, L: Lane, R: Wait>(
     rt: &R,
     alloc: Global,
     gate: &G,
@@ -238,8 +246,9 @@ pub(crate) fn locked_unsubscribe<G: Gate, L: Lane, R: Wait>(
     answer
 }
 
+/// A shout behind its shard's lock.
 #[tactic(auto, using(crate::proofs::Calls::called))]
-pub(crate) fn locked_shout<G: Gate, L: Lane, R: Wait>(
+pub fn locked_shout<G: Gate, L: Lane, R: Wait>(
     rt: &R,
     alloc: Global,
     gate: &G,

@@ -1,0 +1,44 @@
+-- What stands behind the answer of a call without a seat, which has let the lock go.
+use Rattle.std.specs.Prelude.{◌≡◌, true, false, ℕ, Bool, List, None, Result, Ok, Err}
+use Rattle.delta_range.specs.Deltas.{DeltaValue}
+use Rattle.presence_journal_data.specs.declared.step.Step.{Step}
+use Rattle.presence_journal_data.specs.declared.step.Step.TheVariants as steps_are
+use Rattle.presence_journal.specs.History.{History, own}
+use Rattle.presence_journal.specs.Queue.{queue, is_waiting}
+use Rattle.presence_journal.specs.Table.{IsLegal, outcome_of}
+use Rattle.presence_journal_cuts.specs.Cuts.{IsCut}
+use Rattle.shard_pool_lent.specs.Sub.{Sub}
+use Rattle.shard_pool_lent.specs.ShardFault.{ShardFault}
+use Rattle.shard_pool_lent.specs.ShardFault.TheVariants.{NoSub}
+use Rattle.shard_pool_lent.specs.Steps.{Stepped, Answers, IsDue, refusal, is_found}
+
+-- a legal journal of the node
+abbrev pub IsOf : List ℕ → History → Type 0
+IsOf node h = IsLegal h × ((own h).name ≡ node)
+
+-- some legal history of the node is such
+pub record IsBehind (node : List ℕ) (Is : History → Type 0) : Type 0 where
+  pub history : History
+  pub legal : IsLegal history
+  pub of_node : (own history).name ≡ node
+  pub is : Is history
+
+-- the answer is that of the step without a seat at the history's end, and what it gives is such
+pub record IsMadeWith {A : Type 0} (Gives : A → Type 0) (h : History) (s : Step) (r : Result A ShardFault) : Type 0 where
+  pub left : History
+  pub step : Stepped h left None s r
+  pub answer : Answers Gives (outcome_of h s) r
+  pub due : IsDue r (refusal true h s)
+
+-- a step that gives nothing but that it was made
+abbrev pub IsMade : {A : Type 0} → History → Step → Result A ShardFault → Type 0
+IsMade h s r = IsMadeWith (λ _. Unit {0}) h s r
+
+-- the answer is that of a cut at the history's end, with the delta that it tells
+abbrev pub IsCutMade : History → Result DeltaValue ShardFault → Type 0
+IsCutMade h r = IsMadeWith (IsCut h) h steps_are.Cut r
+
+-- whether the subscriber is behind or has something waiting; one that is not there is refused
+abbrev pub TellsWaiting : History → Sub → Result Bool ShardFault → Type 0
+TellsWaiting h sub (Ok w) = (is_found h sub.slot sub.number ≡ true) × (w ≡ is_waiting (queue h sub.number))
+TellsWaiting h sub (Err e) = (is_found h sub.slot sub.number ≡ false) × (e ≡ NoSub)

@@ -1,0 +1,20 @@
+//! What a call of the pool does behind the lock of one shard, with the gate around each seated call.
+//!
+//! Its public contracts cite `specs/Seated`: what a seated call leaves, and `specs/Unseated`: what stands
+//! behind the answer of a call without a seat. Both name a history behind the answer at most, since the lock
+//! is let go.
+#![tactic(auto)]
+
+mod gate;
+mod seated;
+mod unseated;
+
+pub use gate::{Gate, NoGate};
+pub use seated::{
+    locked_get, locked_list, locked_shout, locked_subscribe, locked_take, locked_track,
+    locked_unsubscribe, locked_untrack, locked_untrack_all, locked_update,
+};
+pub use unseated::{
+    locked_cut, locked_full, locked_heard, locked_journal, locked_merge, locked_permdown,
+    locked_status, locked_tick, locked_top, locked_waits,
+};

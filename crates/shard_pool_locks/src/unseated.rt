@@ -1,0 +1,162 @@
+// The calls without a seat, each behind the lock of one shard. The journal is read to show that it is legal
+// and of the node.
+ghost use Rattle.std.specs.Prelude.{◌≡◌, IfOk, IfErr};
+ghost use Rattle.presence_journal.specs.History.{IsTop, status};
+ghost use Rattle.presence_journal_sets.specs.Full.{IsFullOf};
+ghost use Rattle.shard_pool_lent.specs.ShardFault.TheVariants.{OutOfMemory};
+ghost use Rattle.shard_pool_locks.specs.Unseated.{IsOf, IsBehind, IsMade, IsCutMade, TellsWaiting};
+
+use delta_range::Delta;
+use orswot_core_told::Told;
+use presence_base::Replica;
+use presence_journal::{Journal, Step};
+use replica_status::Status;
+use shard_pool_lent::{Lane, Locked, PoolFault, Sub};
+use std::alloc::Global;
+use std::sync::{Mutex, Wait};
+
+/// A copy of the journal. It refuses with `OutOfMemory` alone.
+pub fn locked_journal<L: Lane, R: Wait>(
+    rt: &R,
+    shard: &Mutex<Locked<L>>,
+) -> Result<Journal, PoolFault>
+    ensures journal { IfOk result (λ j. IsOf L.node j) }
+    ensures err { IfErr result (λ e. e ≡ OutOfMemory) }
+{
+    let guard = shard.lock(rt);
+    match guard.journal().clone() {
+        Ok(journal) => Ok(journal),
+        Err(_) => Err(PoolFault::OutOfMemory),
+    }
+}
+
+/// Notes that a replica was heard.
+#[tactic(auto, using(crate::proofs::Calls::unseated))]
+pub fn locked_heard<L: Lane, R: Wait>(
+    rt: &R,
+    alloc: Global,
+    shard: &Mutex<Locked<L>>,
+    replica: Replica,
+    now: u64,
+) -> Result<(), PoolFault>
+    ensures { IsBehind L.node (λ h. IsMade h (Step.Heard replica now) result) }
+{
+    let mut guard = shard.lock(rt);
+    let _journal = guard.journal();
+    guard.heard(alloc, replica, now)
+}
+
+/// Lets time pass.
+#[tactic(auto, using(crate::proofs::Calls::unseated))]
+pub fn locked_tick<L: Lane, R: Wait>(
+    rt: &R,
+    alloc: Global,
+    shard: &Mutex<Locked<L>>,
+    now: u64,
+) -> Result<(), PoolFault>
+    ensures { IsBehind L.node (λ h. IsMade h (Step.Tick now) result) }
+{
+    let mut guard = shard.lock(rt);
+    let _journal = guard.journal();
+    guard.tick(alloc, now)
+}
+
+/// Notes that a replica is gone for good.
+#[tactic(auto, using(crate::proofs::Calls::unseated))]
+pub fn locked_permdown<L: Lane, R: Wait>(
+    rt: &R,
+    alloc: Global,
+    shard: &Mutex<Locked<L>>,
+    replica: Replica,
+) -> Result<(), PoolFault>
+    ensures { IsBehind L.node (λ h. IsMade h (Step.PermDown replica) result) }
+{
+    let mut guard = shard.lock(rt);
+    let _journal = guard.journal();
+    guard.permdown(alloc, replica)
+}
+
+/// What the own replica did since the last cut.
+#[tactic(auto, using(crate::proofs::Calls::unseated))]
+pub fn locked_cut<L: Lane, R: Wait>(
+    rt: &R,
+    alloc: Global,
+    shard: &Mutex<Locked<L>>,
+) -> Result<Delta, PoolFault>
+    ensures { IsBehind L.node (λ h. IsCutMade h result) }
+{
+    let mut guard = shard.lock(rt);
+    let _journal = guard.journal();
+    guard.cut(alloc)
+}
+
+/// Takes in what another node told.
+#[tactic(auto, using(crate::proofs::Calls::unseated))]
+pub fn locked_merge<L: Lane, R: Wait>(
+    rt: &R,
+    alloc: Global,
+    shard: &Mutex<Locked<L>>,
+    told: &Told,
+) -> Result<(), PoolFault>
+    ensures { IsBehind L.node (λ h. IsMade h (Step.Merge told.now) result) }
+{
+    let mut guard = shard.lock(rt);
+    let _journal = guard.journal();
+    guard.merge(alloc, told)
+}
+
+/// All that the shard knows. It is no step, and refuses with `OutOfMemory` alone.
+#[tactic(auto, using(crate::proofs::Calls::unseated))]
+pub fn locked_full<L: Lane, R: Wait>(
+    rt: &R,
+    alloc: Global,
+    shard: &Mutex<Locked<L>>,
+) -> Result<Told, PoolFault>
+    ensures full { IfOk result (λ t. IsBehind L.node (λ h. IsFullOf h t)) }
+    ensures err { IfErr result (λ e. e ≡ OutOfMemory) }
+{
+    let guard = shard.lock(rt);
+    let _journal = guard.journal();
+    match guard.full(alloc) {
+        Ok(told) => Ok(told),
+        Err(_) => Err(PoolFault::OutOfMemory),
+    }
+}
+
+/// The count up to which the shard covers all of a replica's dots. It is no step.
+#[tactic(auto, using(crate::proofs::Calls::unseated))]
+pub fn locked_top<L: Lane, R: Wait>(rt: &R, shard: &Mutex<Locked<L>>, replica: &Replica) -> u64
+    ensures { IsBehind L.node (λ h. IsTop h replica.now result) }
+{
+    let guard = shard.lock(rt);
+    let _journal = guard.journal();
+    guard.top(replica)
+}
+
+/// The status of a replica. It is no step.
+#[tactic(auto, using(crate::proofs::Calls::unseated))]
+pub fn locked_status<L: Lane, R: Wait>(
+    rt: &R,
+    shard: &Mutex<Locked<L>>,
+    replica: &Replica,
+) -> Status
+    ensures { IsBehind L.node (λ h. result ≡ status h replica.now) }
+{
+    let guard = shard.lock(rt);
+    let _journal = guard.journal();
+    guard.status(replica)
+}
+
+/// Whether a subscriber is behind or has something waiting. It is no step.
+#[tactic(auto, using(crate::proofs::Calls::unseated))]
+pub fn locked_waits<L: Lane, R: Wait>(
+    rt: &R,
+    shard: &Mutex<Locked<L>>,
+    sub: &Sub,
+) -> Result<bool, PoolFault>
+    ensures { IsBehind L.node (λ h. TellsWaiting h sub.now result) }
+{
+    let guard = shard.lock(rt);
+    let _journal = guard.journal();
+    guard.waits(sub)
+}
