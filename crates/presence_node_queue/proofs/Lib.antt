@@ -1,1 +1,2 @@
 mod Risings
+pub mod Crossing

@@ -7,14 +7,14 @@ use Rattle.phx_message.specs.declared.message.TheConstants.Limits as the_limits
 use Rattle.phx_message.specs.declared.message.Message.{Message}
 use Rattle.phx_message.specs.declared.message.MessageFault.{MessageFault}
 use Rattle.presence_journal.specs.History.{History}
-use Rattle.channel_session_events.specs.declared.frames.Delivery.{Delivery}
+use Rattle.channel_session.specs.Delivery.{Delivery}
 use Rattle.channel_session.specs.Delivery.{Delivered, delivery}
-use Rattle.channel_session_rules.specs.InForce.{InForce}
-use Rattle.channel_session_rules.specs.Said.{Said, WritesAll}
+use Rattle.channel_session.specs.InForce.{InForce}
+use Rattle.channel_session.specs.Said.{Said, WritesAll}
 use Rattle.presence_node_stdio.specs.declared.local.TheConstants.{MAX_ITEMS}
-use Rattle.channel_session_laws.specs.Local.{LocalStep, played}
+use Rattle.channel_session.specs.Local.{LocalStep, played}
 use Rattle.channel_session.specs.Ran.{EndedSo, texts_in}
-use Rattle.channel_session_rules.specs.Rules.{End, answers, full, memory}
+use Rattle.channel_session.specs.Rules.{End, answers, full, memory}
 use Rattle.channel_session.specs.declared.fault.SessionFault.{SessionFault}
 use Rattle.channel_session.specs.declared.fault.SessionFault.TheVariants.{BadMessage, ShardFull, Failed}
 use Rattle.channel_session.proofs.Lent.{Leads, text_leads, full_leads, delivery_leads, full_delivery}

@@ -1,7 +1,7 @@
 -- Texts and notices of what is said, one piece of speech behind another.
 use Rattle.std.proofs.Common.{◌≡◌, ℕ, List, [], ◌∷◌, ◌++◌, refl, ap, ◌∙◌, append_assoc, append-nil}
-use Rattle.channel_session_rules.specs.Said.{Said, WritesAll, NotesAll}
-use Rattle.channel_session_rules.proofs.Saying.{writes_all_more, notes_all_more}
+use Rattle.channel_session.specs.Said.{Said, WritesAll, NotesAll}
+use Rattle.channel_session.proofs.Saying.{writes_all_more, notes_all_more}
 use Rattle.presence_node_lines.proofs.Known.{appends-itself, appends-then, appends-keeps, keeps-itself}
 use Rattle.presence_node_stdio.specs.Session.{Speech, silence, and_then, answering, dealing, Voice, Says, printed}
 use Rattle.presence_node_stdio.specs.Run.{Outs, KeepsOuts, Sends}

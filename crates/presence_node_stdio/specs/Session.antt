@@ -10,12 +10,12 @@ use Rattle.phx_message.specs.Reading.{decoded}
 use Rattle.phx_message.specs.declared.message.TheConstants.Limits as the_limits
 use Rattle.channel_session.specs.Delivery.{DeliveredBy, delivery}
 use Rattle.channel_session.specs.Ran.{RanBy}
-use Rattle.channel_session_events.specs.declared.frames.Delivery.{Delivery}
+use Rattle.channel_session.specs.Delivery.{Delivery}
 use Rattle.channel_session.specs.declared.fault.SessionFault.{SessionFault}
-use Rattle.channel_session_rules.specs.InForce.{InForce}
-use Rattle.channel_session_rules.specs.Said.{Said, Worded, WritesAll, Noted, NotesAll}
-use Rattle.channel_session_laws.specs.Local.{LocalStep, played}
-use Rattle.channel_session_rules.specs.Rules.{End, answers, full, memory, rules}
+use Rattle.channel_session.specs.InForce.{InForce}
+use Rattle.channel_session.specs.Said.{Said, Worded, WritesAll, Noted, NotesAll}
+use Rattle.channel_session.specs.Local.{LocalStep, played}
+use Rattle.channel_session.specs.Rules.{End, answers, full, memory, rules}
 use Rattle.channel_session.specs.declared.fault.SessionFault.TheVariants.{ShardFull, Failed}
 use Rattle.presence_node_lines.specs.Reading.{line_message}
 use Rattle.presence_node_stdio.specs.declared.fault.LineFault.{LineFault}

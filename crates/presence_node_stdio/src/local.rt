@@ -2,14 +2,13 @@ ghost use Rattle.std.specs.Prelude.{◌≡◌, ◌++◌, [], map, string_bytes, 
 ghost use Rattle.presence_node_stdio.specs.Session.{printed, voice_of, Answered, Dealt};
 
 use crate::fault::LineFault;
-use channel_session::{Delivery, LocalPort, Session, SessionFault, deliver, run_text};
+use channel_session::{Delivery, LocalPort, Session, SessionFault, Shard, deliver, run_text};
 use hook_registry::{Notice, PresenceHooks, Routes};
 use phx_message::Limits;
 use presence_base::Replica;
 use presence_node_lines::text_of_line;
 use presence_node_options::StdioOptions;
 use std::alloc::{AllocError, Global};
-use tracker_shard::Shard;
 
 /// The number of the one session.
 const PID: u64 = 1;

@@ -1,1 +1,2 @@
 mod Turnings
+pub mod Crossing

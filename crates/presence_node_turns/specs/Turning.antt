@@ -6,9 +6,9 @@ use Rattle.channel_session.specs.Ending.{EndedBy}
 use Rattle.channel_session.specs.Ran.{RanBy, texts_in}
 use Rattle.channel_session.specs.declared.fault.SessionFault.{SessionFault}
 use Rattle.channel_session.specs.declared.fault.SessionFault.TheVariants.{Failed}
-use Rattle.channel_session_events.specs.declared.frames.Delivery.{Delivery}
-use Rattle.channel_session_rules.specs.Asks.{Ask, Answer}
-use Rattle.channel_session_rules.specs.Said.{Said, Worded, Noted}
+use Rattle.channel_session.specs.Delivery.{Delivery}
+use Rattle.channel_session.specs.Asks.{Ask, Answer}
+use Rattle.channel_session.specs.Said.{Said, Worded, Noted}
 use Rattle.hook_registry.specs.declared.hooks.PresenceHooks.{Ghosts}
 use Rattle.phx_message.specs.Reading.{decoded}
 use Rattle.phx_message.specs.declared.message.Message.{Message}

@@ -54,13 +54,25 @@ pub enum Progress {
 }
 
 /// A client's connection.
-#[derive(Drop)]
 pub struct Connection<S, K> {
     pub socket: WebSocket<S, K>,
     pub session: Session,
     /// When the last message came, in milliseconds.
     pub heard: u64,
     pub stage: Stage,
+}
+
+impl<S: Drop, K: Drop> Drop for Connection<S, K> {
+    fn drop(self) {
+        let Connection {
+            socket,
+            session,
+            heard: _,
+            stage: _,
+        } = self;
+        drop(socket);
+        drop(session);
+    }
 }
 
 /// The configuration of a client's socket. A message may have as many bytes as a text of a client.

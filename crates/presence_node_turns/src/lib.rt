@@ -9,5 +9,6 @@ mod connection;
 mod hearing;
 
 pub use cause::{Cause, close_code};
+pub use channel_session::Port;
 pub use connection::{Connection, MAX_ITEMS, MAX_SILENCE, Progress, Stage, socket_config};
 pub use hearing::{Heard, hear};

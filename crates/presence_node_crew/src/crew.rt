@@ -1,0 +1,147 @@
+//! Starting the threads, waiting for their end, and joining them.
+ghost use Rattle.std.specs.Prelude.{◌≡◌, IfOk};
+ghost use Rattle.presence_node_crew.specs.HandedBack.{AreHandedBack, given_to};
+
+use crate::tools::{HandsBack, Tools};
+use std::alloc::Global;
+use std::snapshot::Snapshot;
+use std::sync::Wait;
+use std::thread;
+use std::thread::{PromisedHandle, Scope, Threads, join_promised};
+use thiserror::Error;
+
+/// Why not all threads could be started. Those that were have ended.
+#[derive(Clone, Copy, PartialEq, Eq, Debug, Error)]
+pub enum CrewFault {
+    #[error("the system gives no further thread")]
+    NoThread,
+    #[error("out of memory")]
+    Memory,
+}
+
+/// What the threads of a server do. Each worker has tools of its own, `T`, and the one at the door has `D`.
+pub trait Crew<R, T: Tools, D> {
+    /// Works until `stop`, and gives the tools back.
+    fn work(&self, rt: &R, tools: T) -> T
+        ensures { T.returns tools result };
+
+    /// Is at the door until `stop`.
+    fn attend(&self, rt: &R, door: D);
+
+    /// Lets the others end.
+    fn stop(&self);
+}
+
+/// What the caller's own thread waits for. It crosses to no other thread.
+pub trait Ending<R> {
+    /// Waits for the end: whether it has come. Where it will never come, the threads go on.
+    fn await_end(&self, rt: &R) -> bool;
+}
+
+/// What the threads are given: each worker's tools, in their order, and what the one at the door has.
+#[derive(Drop)]
+pub struct Posts<T, D> {
+    pub tools: Vec<T>,
+    pub door: D,
+}
+
+// A worker's thread.
+type Worker<T> = PromisedHandle<T, HandsBack<T>>;
+
+// Starts a worker's thread for each of these tools.
+fn start_workers<'s, E, R, C, T, D>(
+    scope: &Scope<'s, E>,
+    rt: &'s R,
+    alloc: Global,
+    crew: &'s C,
+    all: Vec<T>,
+) -> Result<Vec<Worker<T>>, CrewFault>
+where
+    R: Threads + Wait + Sync,
+    C: Crew<R, T, D> + Sync,
+    T: Tools + Send + Drop + 's,
+    D: Send + Drop + 's,
+    ensures { IfOk result (λ workers. given_to workers.items ≡ all.items) }
+{
+    let Ok(mut workers) = Vec::with_capacity(alloc, all.len()) else {
+        return Err(CrewFault::Memory);
+    };
+    for tools in all {
+        let promise = HandsBack(Snapshot::of(&tools));
+        let Ok(worker) = scope.spawn_with(promise, move || crew.work(rt, tools)) else {
+            return Err(CrewFault::NoThread);
+        };
+        if workers.push(worker).is_err() {
+            return Err(CrewFault::Memory);
+        }
+    }
+    Ok(workers)
+}
+
+// Starts the workers' threads, and the one at the door.
+fn start_all<'s, E, R, C, T, D>(
+    scope: &Scope<'s, E>,
+    rt: &'s R,
+    alloc: Global,
+    crew: &'s C,
+    posts: Posts<T, D>,
+) -> Result<Vec<Worker<T>>, CrewFault>
+where
+    R: Threads + Wait + Sync,
+    C: Crew<R, T, D> + Sync,
+    T: Tools + Send + Drop + 's,
+    D: Send + Drop + 's,
+    ensures { IfOk result (λ workers. given_to workers.items ≡ posts.tools.items) }
+{
+    let Posts { tools, door } = posts;
+    let workers = start_workers::<_, R, C, T, D>(scope, rt, alloc, crew, tools)?;
+    match scope.spawn(move || crew.attend(rt, door)) {
+        Ok(_) => Ok(workers),
+        Err(_) => Err(CrewFault::NoThread),
+    }
+}
+
+// What the workers hand back, once each has ended.
+fn join_all<R: Threads, T: Tools + Drop>(
+    rt: &R,
+    workers: Vec<Worker<T>>,
+) -> Result<Vec<T>, CrewFault>
+    ensures { IfOk result (λ backs. AreHandedBack T.returns (given_to workers.items) backs.items) }
+{
+    match join_promised(rt, workers) {
+        Ok(backs) => Ok(backs),
+        Err(_) => Err(CrewFault::Memory),
+    }
+}
+
+/// Runs the threads until their end has come, and hands the tools back in their order. Where not all can be
+/// started, those that were are stopped.
+pub fn run_crew<R, C, E, T, D>(
+    rt: &R,
+    alloc: Global,
+    crew: &C,
+    ending: &E,
+    posts: Posts<T, D>,
+) -> Result<Vec<T>, CrewFault>
+where
+    R: Threads + Wait + Sync,
+    C: Crew<R, T, D> + Sync,
+    E: Ending<R>,
+    T: Tools + Send + Drop,
+    D: Send + Drop,
+    ensures { IfOk result (λ backs. AreHandedBack T.returns posts.tools.items backs.items) }
+{
+    thread::scope(
+        thread::scope_env(),
+        rt,
+        |scope| -> Result<Vec<T>, CrewFault>
+            ensures { IfOk result (λ backs. AreHandedBack T.returns posts.tools.items backs.items) }
+        {
+            let started = start_all::<_, R, C, T, D>(scope, rt, alloc, crew, posts);
+            if started.is_err() || ending.await_end(rt) {
+                crew.stop();
+            }
+            join_all(rt, started?)
+        },
+    )
+}

@@ -1,0 +1,33 @@
+-- What one look at a handshake gives.
+use Rattle.std.specs.Prelude.{◌≡◌, ◌+◌, Option, None, Some}
+use Rattle.std.specs.declared.io.traits.Read.{Ghosts as ReadGhosts}
+use Rattle.std.specs.declared.io.traits.Write.{Ghosts as WriteGhosts}
+use Rattle.tungstenite.specs.Config.{HasLimits}
+use Rattle.tungstenite.specs.Heads.{Serves}
+use Rattle.tungstenite.specs.Socket.{Socket}
+use Rattle.presence_node_handshakes.specs.declared.greeting.Greeting.{Greeting}
+use Rattle.presence_node_handshakes.specs.declared.greeting.Greeted.{Greeted}
+use Rattle.presence_node_handshakes.specs.declared.greeting.Greeted.TheVariants.{Open, Waits, GivenUp}
+use Rattle.presence_node_handshakes.specs.declared.greeting.GivenUp.TheVariants.{Failed, Silent}
+use Rattle.presence_node_handshakes.specs.declared.greeting.TheConstants.{MAX_EMPTY_READS}
+
+module _ {S : Type 0} {reads : ReadGhosts S} {writes : WriteGhosts S} where
+  -- An open socket took the head of a request for a WebSocket, has done nothing since, and has the limits of the
+  -- configuration. A look after which the handshake waits is counted, and the last one that may be ends it.
+  abbrev pub GoesOn : Greeting S reads writes → Greeted S reads writes → Type 0
+  GoesOn old (Open socket) = Serves socket × HasLimits socket.conn.config old.config
+  GoesOn old (Waits new) = (new.config ≡ old.config) × (new.empty_reads ≡ old.empty_reads + 1)
+  GoesOn old (GivenUp Failed) = Unit {0}
+  GoesOn old (GivenUp Silent) = old.empty_reads + 1 ≡ MAX_EMPTY_READS
+
+  -- the socket of a handshake that is done
+  abbrev pub socket_of : Greeted S reads writes → Option (Socket S)
+  socket_of (Open socket) = Some socket
+  socket_of (Waits new) = None
+  socket_of (GivenUp cause) = None
+
+  -- the handshake, if it is not over
+  abbrev pub rest_of : Greeted S reads writes → Option (Greeting S reads writes)
+  rest_of (Open socket) = None
+  rest_of (Waits new) = Some new
+  rest_of (GivenUp cause) = None

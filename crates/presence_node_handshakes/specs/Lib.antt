@@ -1,0 +1,2 @@
+pub mod Greeting
+pub mod Guests

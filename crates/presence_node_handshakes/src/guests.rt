@@ -1,0 +1,176 @@
+//! The clients whose handshakes are not over.
+ghost use Rattle.std.specs.Prelude.{◌≡◌, ◌≤◌, ◌+◌, ◌==◌, [], map, filter, vec_len, vec_capacity, OnOk, OnErr, IfOk};
+ghost use Rattle.presence_node_handshakes.specs.Guests.{Admits, Looks, LooksAll, LooksInto, Turns, is_under_way, marked, readied};
+
+use crate::greeting::{Greeted, Greeting};
+use std::alloc::{AllocError, Global};
+use std::io::{Read, Write};
+use tungstenite::{NoMask, WebSocket, WebSocketConfig};
+
+/// A client under a number, by which its stream is known where it is ready.
+pub struct Guest<S: Read + Write + Drop> {
+    number: u64,
+    /// Whether it is looked at in the next turn.
+    ready: bool,
+    /// None where its handshake is over.
+    greeting: Option<Greeting<S>>,
+}
+
+impl<S: Read + Write + Drop> Drop for Guest<S> {
+    fn drop(self) {
+        let Guest {
+            number: _,
+            ready: _,
+            greeting,
+        } = self;
+        drop(greeting);
+    }
+}
+
+/// A socket whose handshake is done, under the number of its client.
+pub type Opened<S> = (u64, WebSocket<S, NoMask>);
+
+/// Clients in the order in which they came.
+pub struct Guests<S: Read + Write + Drop> {
+    guests: Vec<Guest<S>>,
+}
+
+impl<S: Read + Write + Drop> Drop for Guests<S> {
+    fn drop(self) {
+        let Guests { guests } = self;
+        drop(guests);
+    }
+}
+
+impl<S: Read + Write + Drop> Guest<S> {
+    // Lets it be looked at in the next turn, if this is its number.
+    fn mark(&mut self, number: u64)
+        ensures { self.new ≡ marked number self.old }
+    {
+        self.ready = self.ready || self.number == number;
+    }
+
+    // Goes on with the handshake, if the client is ready: the socket, if it is done.
+    fn look(&mut self) -> Option<WebSocket<S, NoMask>>
+        ensures { Looks self.old self.new result }
+    {
+        if !self.ready {
+            return None;
+        }
+        self.ready = false;
+        match self.greeting.take()?.go_on() {
+            Greeted::Open(socket) => Some(socket),
+            Greeted::Waits(greeting) => {
+                self.greeting = Some(greeting);
+                None
+            }
+            Greeted::GivenUp(_) => None,
+        }
+    }
+
+    // Goes on with the handshake, and puts its socket behind the others, if it is done.
+    fn look_into(&mut self, opened: &mut Vec<Opened<S>>) -> Result<(), AllocError>
+        ensures looked { OnOk result (LooksInto self.old self.new opened.old.items opened.new.items) }
+        ensures one { vec_len opened.new ≤ vec_len opened.old + 1 }
+        ensures capacity { vec_capacity opened.old ≤ vec_capacity opened.new }
+        ensures full { OnErr result (vec_capacity opened.old ≤ vec_len opened.old) }
+    {
+        let number = self.number;
+        if let Some(socket) = self.look() {
+            opened.push((number, socket))?;
+        }
+        Ok(())
+    }
+}
+
+impl<S: Read + Write + Drop> Guests<S> {
+    /// No client has come.
+    pub fn new(alloc: Global) -> Guests<S>
+        ensures { result.guests.items ≡ [] }
+    {
+        Guests {
+            guests: Vec::new(alloc),
+        }
+    }
+
+    /// How many handshakes are not over.
+    pub fn len(&self) -> usize
+        ensures { result ≡ vec_len self.now.guests }
+    {
+        self.guests.len()
+    }
+
+    /// Whether all are over.
+    pub fn is_empty(&self) -> bool
+        ensures { result ≡ (vec_len self.now.guests == 0) }
+    {
+        self.guests.is_empty()
+    }
+
+    /// Begins a handshake, which the next turn looks at. Each client has a number of its own.
+    pub fn admit(
+        &mut self,
+        alloc: Global,
+        number: u64,
+        stream: S,
+        config: WebSocketConfig,
+    ) -> Result<(), AllocError>
+        ensures admitted { OnOk result (Admits number config self.old.guests.items self.new.guests.items) }
+        ensures no_room { OnErr result (self.new.guests.items ≡ self.old.guests.items) }
+    {
+        self.guests.push(Guest {
+            number,
+            ready: true,
+            greeting: Some(Greeting::new(alloc, stream, config)),
+        })?;
+        Ok(())
+    }
+
+    /// Bytes may have come for the client of this number: it is looked at in the next turn.
+    pub fn mark(&mut self, number: u64)
+        ensures { self.new.guests.items ≡ map (marked number) self.old.guests.items }
+    {
+        for guest in self.guests.iter_mut() {
+            guest.mark(number);
+        }
+    }
+
+    /// Each is looked at in the next turn.
+    pub fn mark_all(&mut self)
+        ensures { self.new.guests.items ≡ map readied self.old.guests.items }
+    {
+        for guest in self.guests.iter_mut() {
+            guest.ready = true;
+        }
+    }
+
+    // Goes on with each handshake that is ready: the sockets of those that are done.
+    fn look_at_all(&mut self, alloc: Global) -> Result<Vec<Opened<S>>, AllocError>
+        ensures looked { IfOk result (λ opened. LooksAll self.old.guests.items self.new.guests.items opened.items) }
+        ensures no_room { OnErr result (self.new ≡ self.old) }
+    {
+        let mut opened = Vec::with_capacity(alloc, self.guests.len())?;
+        for guest in self.guests.iter_mut() {
+            guest.look_into(&mut opened)?;
+        }
+        Ok(opened)
+    }
+
+    // Those whose handshakes are over go.
+    fn give_up(&mut self)
+        ensures { self.new.guests.items ≡ filter is_under_way self.old.guests.items }
+    {
+        self.guests.retain(|guest| guest.greeting.is_some());
+    }
+
+    /// Goes on with each handshake that is ready: the sockets of those that are done, in the order of their clients.
+    /// Clients whose handshakes are over go. Where memory for all that may be done is wanting, nothing is done.
+    pub fn turn(&mut self, alloc: Global) -> Result<Vec<Opened<S>>, AllocError>
+        ensures turned { IfOk result (λ opened. Turns self.old.guests.items self.new.guests.items opened.items) }
+        ensures no_room { OnErr result (self.new.guests.items ≡ self.old.guests.items) }
+    {
+        let opened = self.look_at_all(alloc)?;
+        self.give_up();
+        Ok(opened)
+    }
+}

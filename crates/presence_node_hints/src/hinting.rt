@@ -1,0 +1,133 @@
+//! A port that notes which topics its calls may have changed.
+ghost use Rattle.std.specs.Prelude.{◌≡◌};
+
+use crate::inbox::Topics;
+use channel_session::{Port, ShardFault, Sub};
+use presence_base::{Dot, Json, Key, Meta, Row, Topic};
+use presence_journal::Item;
+use std::alloc::Global;
+use std::collections::BTreeSet;
+use std::mem;
+
+/// A port that notes which topics its calls may have changed. Each call is that of the port inside.
+#[derive(Drop)]
+pub struct HintingPort<P> {
+    port: P,
+    changed: Topics,
+}
+
+impl<P: Port + Drop> HintingPort<P> {
+    /// A port that has noted nothing.
+    pub fn new(alloc: Global, port: P) -> HintingPort<P> {
+        HintingPort {
+            port,
+            changed: BTreeSet::new(alloc),
+        }
+    }
+
+    /// The topics that were noted.
+    pub fn into_changed(self) -> Topics {
+        let HintingPort { port: _, changed } = self;
+        changed
+    }
+
+    // Notes the topic of an accepted call. One for which there is no room is not noted.
+    fn note<T>(&mut self, topic: &Topic, answer: &Result<T, ShardFault>)
+        ensures { self.new.port ≡ self.old.port }
+    {
+        if answer.is_ok() && !self.changed.contains(topic) {
+            if let Ok(copy) = topic.clone() {
+                let _lost = self.changed.insert(copy);
+            }
+        }
+    }
+}
+
+impl<P: Port + Drop> Port for HintingPort<P> {
+    ghost step = { λ old q a new. P.step old.port q a new.port };
+
+    fn track(
+        &mut self,
+        alloc: Global,
+        pid: u64,
+        topic: &Topic,
+        key: &Key,
+        meta: &Meta,
+    ) -> Result<Dot, ShardFault> {
+        let answer = self.port.track(alloc, pid, topic, key, meta);
+        self.note(topic, &answer);
+        answer
+    }
+
+    fn update(
+        &mut self,
+        alloc: Global,
+        pid: u64,
+        topic: &Topic,
+        key: &Key,
+        meta: &Meta,
+    ) -> Result<Dot, ShardFault> {
+        let answer = self.port.update(alloc, pid, topic, key, meta);
+        self.note(topic, &answer);
+        answer
+    }
+
+    fn untrack(
+        &mut self,
+        alloc: Global,
+        pid: u64,
+        topic: &Topic,
+        key: &Key,
+    ) -> Result<(), ShardFault> {
+        let answer = self.port.untrack(alloc, pid, topic, key);
+        self.note(topic, &answer);
+        answer
+    }
+
+    fn untrack_all(&mut self, alloc: Global, pid: u64, topic: &Topic) -> Result<(), ShardFault> {
+        let answer = self.port.untrack_all(alloc, pid, topic);
+        self.note(topic, &answer);
+        answer
+    }
+
+    fn list(&mut self, alloc: Global, topic: &Topic) -> Result<Vec<(Dot, Row)>, ShardFault> {
+        self.port.list(alloc, topic)
+    }
+
+    fn get(
+        &mut self,
+        alloc: Global,
+        topic: &Topic,
+        key: &Key,
+    ) -> Result<Vec<(Dot, Row)>, ShardFault> {
+        self.port.get(alloc, topic, key)
+    }
+
+    fn subscribe(&mut self, alloc: Global, topic: &Topic) -> Result<Sub, ShardFault> {
+        self.port.subscribe(alloc, topic)
+    }
+
+    fn take(
+        &mut self,
+        alloc: Global,
+        topic: &Topic,
+        sub: &Sub,
+        max: u32,
+    ) -> Result<Vec<Item>, ShardFault> {
+        self.port.take(alloc, topic, sub, max)
+    }
+
+    fn unsubscribe(&mut self, alloc: Global, topic: &Topic, sub: &Sub) -> Result<(), ShardFault> {
+        self.port.unsubscribe(alloc, topic, sub)
+    }
+
+    fn waits(&mut self, topic: &Topic, sub: &Sub) -> Result<bool, ShardFault> {
+        self.port.waits(topic, sub)
+    }
+
+    fn shout(&mut self, alloc: Global, topic: &Topic, payload: &Json) -> Result<(), ShardFault> {
+        let answer = self.port.shout(alloc, topic, payload);
+        self.note(topic, &answer);
+        answer
+    }
+}

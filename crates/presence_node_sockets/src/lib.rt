@@ -1,0 +1,12 @@
+//! Sockets that never block, and which of them are ready.
+//!
+//! Of what is registered, and of what a wait reports, no contract speaks: the system holds that.
+#![tactic(auto)]
+
+mod listening;
+#[cfg(test)]
+mod tests;
+mod watch;
+
+pub use listening::{listen, next_stream};
+pub use watch::{Bell, LAST_NUMBER, Watch, number_of};

@@ -1,0 +1,7 @@
+use Rattle.std.specs.Prelude.{◌≡◌}
+use Rattle.presence_node_workers.specs.Working.{readied}
+use Rattle.presence_node_workers.proofs.Lists.{PairwiseTo}
+use Rattle.presence_node_workers.proofs.worker.mark_each.Given as goal
+
+abbrev pub invariant-loop-client : goal.invariant-loop-client
+invariant-loop-client g l = PairwiseTo (λ old new. new ≡ readied old) l.fn.clients.items l.client-items l.client-index

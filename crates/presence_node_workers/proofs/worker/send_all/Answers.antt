@@ -1,0 +1,11 @@
+use Rattle.std.proofs.Common.{◌<◌, length, rules}
+use Rattle.presence_node_workers.specs.Working.{SendsIf}
+use Rattle.presence_node_workers.proofs.Lists.{pairwise_next}
+use Rattle.presence_node_workers.proofs.worker.send_all.Goals as goal
+
+pub loop-client-preserved : goal.loop-client-preserved
+loop-client-preserved g c =
+    let lt : c.loop-client.client-index < length c.loop-client.client-items = search rules in
+    pairwise_next (λ old new. SendsIf g.S.Write.contents old.unsent old new)
+    c.args.clients.now.items c.loop-client.client-items c.loop-client.client-index c.client-item.result c.flush.new.self
+    lt c.flush.ensures c.loop-client.invariant

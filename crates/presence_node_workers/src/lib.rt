@@ -1,0 +1,12 @@
+//! A worker: the connections that it serves, each in its turn.
+//!
+//! What its contracts cite: `specs/Working` has what a turn, a flush and a look at the queue do to the
+//! connections, by what presence_node_turns says of one connection alone.
+#![tactic(auto)]
+
+mod client;
+mod worker;
+
+pub use client::Client;
+pub use presence_node_turns::{Cause, Stage, socket_config};
+pub use worker::{MAX_CONNECTIONS, Worker};
