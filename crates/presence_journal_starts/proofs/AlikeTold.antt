@@ -1,0 +1,71 @@
+-- What is told in full and by a cut in histories that say the same.
+use Rattle.std.proofs.Common.{◌≡◌, cond, None, sym, ◌∙◌, ap, arith}
+use Rattle.presence_base.specs.declared.dots.Dot.{Dot}
+use Rattle.presence_base.specs.Order.{same_replica}
+use Rattle.dot_context.specs.Sets.{in_range}
+use Rattle.orswot_core_told.specs.Telling.{ToldValue}
+use Rattle.orswot_core.specs.Sets.{DotRows}
+use Rattle.delta_range.specs.Deltas.{DeltaValue}
+use Rattle.presence_journal.specs.History.{History}
+use Rattle.presence_journal_sets.specs.LeftOut.{HoldsCovered}
+use Rattle.presence_journal_sets.specs.Full.{IsFullOf}
+use Rattle.presence_journal_cuts.specs.Cuts.{recent, IsCut}
+use Rattle.presence_journal_starts.specs.Later.{IsLike, AlikeTellTheSame}
+use Rattle.presence_journal_starts.proofs.Alikes.{status_same, hears_same, top_of}
+use Rattle.presence_journal_starts.proofs.AlikeRows.{shown_same, present_same, listed_same}
+
+pub turned : (g h : History) → IsLike g h → IsLike h g
+turned g h a = record {
+  standings = λ r e. sym (a.standings r (ap (same_replica r) (sym a.own) ∙ e));
+  covers = λ d. sym (a.covers d);
+  rows = λ d. sym (a.rows d);
+  older = λ n low. sym (a.older n low);
+  chains = λ d r o e n low. sym (a.chains d r (o ∙ a.own) (sym (shown_same g h a d) ∙ e) n low);
+  unused = λ c l n low. sym (a.unused c (omega (arith, l, a.count)) n low);
+  time = sym a.time;
+  last_cut = sym a.last_cut;
+  own = sym a.own;
+  count = sym a.count;
+}
+
+-- ---- in full
+
+pub set_of : (g h : History) (s : DotRows) → IsLike g h → HoldsCovered h s → HoldsCovered g s
+set_of g h s a f = record {
+  covered = λ d. f.covered d ∙ sym (a.covers d);
+  live = λ d. f.live d ∙ sym (a.rows d);
+}
+
+pub full_of : (g h : History) (t : ToldValue) → IsLike g h → IsFullOf h t → IsFullOf g t
+full_of g h t a f = (f.0, set_of g h f.0 a f.1, f.2)
+
+-- ---- cuts
+
+pub recent_same : (g h : History) → IsLike g h → (d : Dot) → recent g d ≡ recent h d
+unfolding recent
+recent_same g h a d = λ i. cond (in_range (a.own i) (a.last_cut i) (a.count i) d) (shown_same g h a d i) None
+
+pub cut_of : (g h : History) (c : DeltaValue) → IsLike g h → IsCut h c → IsCut g c
+cut_of g h c a is = record {
+  owner = is.owner ∙ sym a.own;
+  from = is.from ∙ sym a.last_cut;
+  to = is.to ∙ sym a.count;
+  before = λ n low. is.before n low ∙ sym (a.older n low);
+  rows = λ d. is.rows d ∙ sym (recent_same g h a d);
+  in_order = is.in_order;
+}
+
+pub alike_tell_the_same : AlikeTellTheSame
+alike_tell_the_same g h a =
+    let b = turned g h a in
+    record {
+      status = status_same g h a;
+      hears = hears_same g h a;
+      covered = a.covers;
+      top = λ r n. (top_of g h r n a.covers, top_of h g r n b.covers);
+      shown = shown_same g h a;
+      present = present_same g h a;
+      listed = listed_same g h a;
+      full = λ t. (full_of g h t a, full_of h g t b);
+      cut = λ c. (cut_of g h c a, cut_of h g c b);
+    }

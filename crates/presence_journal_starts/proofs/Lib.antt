@@ -1,0 +1,15 @@
+pub mod Beginnings
+pub mod Alikes
+pub mod AlikeRows
+pub mod AlikeTold
+pub mod Sound
+pub mod Covered
+pub mod Shown
+pub mod Told
+pub mod Outcomes
+pub mod Thens
+pub mod Silent
+pub mod Next
+pub mod Later
+pub mod Steps
+mod Worked

@@ -1,0 +1,59 @@
+-- A checkpoint says what the history says: what is told in full and by a cut, and the subscribers.
+use Rattle.std.proofs.Common.{◌∙◌}
+use Rattle.orswot_core.proofs.FullFacts.{covers_all, rows_all}
+use Rattle.presence_journal.specs.History.{Begin}
+use Rattle.presence_journal.proofs.Topics.{topic_of-begin, queue-begin}
+use Rattle.presence_journal_starts.specs.Laws.{KeepsSet, KeepsFull, FullStands, KeepsCut, KeepsOlder, KeepsRecent, KeepsShownChains, KeepsUnusedChains, KeepsTopics, SubscribersAreBehind}
+use Rattle.presence_journal_starts.proofs.AlikeTold.{turned, set_of, full_of, cut_of, recent_same}
+use Rattle.presence_journal_starts.proofs.Covered.{begins_alike}
+
+-- ---- in full
+
+pub keeps_set : KeepsSet
+keeps_set h s c x =
+    let a = begins_alike h s c in (
+      set_of (Begin s) h x a,
+      set_of h (Begin s) x (turned (Begin s) h a),
+    )
+
+pub keeps_full : KeepsFull
+keeps_full h s c t =
+    let a = begins_alike h s c in (
+      full_of (Begin s) h t a,
+      full_of h (Begin s) t (turned (Begin s) h a),
+    )
+
+pub full_stands : FullStands
+full_stands h t f = (
+  λ d. covers_all f.0 t f.2 d ∙ f.1.covered d,
+  λ d. rows_all f.0 t f.2 d ∙ f.1.live d,
+)
+
+-- ---- cuts
+
+pub keeps_cut : KeepsCut
+keeps_cut h s c t =
+    let a = begins_alike h s c in (
+      cut_of (Begin s) h t a,
+      cut_of h (Begin s) t (turned (Begin s) h a),
+    )
+
+pub keeps_older : KeepsOlder
+keeps_older h s c = (begins_alike h s c).older
+
+pub keeps_recent : KeepsRecent
+keeps_recent h s c = recent_same (Begin s) h (begins_alike h s c)
+
+pub keeps_shown_chains : KeepsShownChains
+keeps_shown_chains h s c = (begins_alike h s c).chains
+
+pub keeps_unused_chains : KeepsUnusedChains
+keeps_unused_chains h s c = (begins_alike h s c).unused
+
+-- ---- subscribers
+
+pub keeps_topics : KeepsTopics
+keeps_topics h s c n = topic_of-begin s n ∙ c.stands.topics n
+
+pub subscribers_are_behind : SubscribersAreBehind
+subscribers_are_behind h s c n t e = queue-begin s n

@@ -1,0 +1,11 @@
+use Rattle.presence_journal_starts.proofs.Told.{keeps_set, keeps_full, full_stands}
+use Rattle.presence_journal_starts.proofs.laws.full_values_stay.Goals as goal
+
+pub returns-clause-set : goal.returns-clause-set
+returns-clause-set c = keeps_set
+
+pub returns-clause-full : goal.returns-clause-full
+returns-clause-full c = keeps_full
+
+pub returns-clause-content : goal.returns-clause-content
+returns-clause-content c = full_stands

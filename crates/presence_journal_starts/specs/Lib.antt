@@ -1,0 +1,4 @@
+pub mod Checkpoints
+pub mod Later
+pub mod Laws
+pub mod Worked
