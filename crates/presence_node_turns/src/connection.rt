@@ -21,8 +21,8 @@ pub const MAX_ITEMS: u32 = 256;
 /// How long a connection may be without a message, in milliseconds.
 pub const MAX_SILENCE: u64 = 60_000;
 
-/// How many bytes one read of a stream asks for.
-const READ_BYTES: usize = 4_096;
+/// How many bytes one read of a stream asks for. Each connection keeps twice as many.
+const READ_BYTES: usize = 1_024;
 
 /// How many bytes of output gather before they go to the stream by themselves.
 const WRITE_BYTES: usize = 1_048_576;
