@@ -25,9 +25,20 @@ stdio_app =
 abbrev pub fold_app : App
 fold_app = with_rule (new_app (codes "fold")) (flag_rule (codes "explain"))
 
+abbrev pub serve_app : App
+serve_app =
+    with_rule (with_rule (with_rule (with_rule (with_rule (with_rule (with_rule (new_app (codes "serve"))
+    (option_rule (codes "name") Set))
+    (option_rule (codes "incarnation") Set))
+    (option_rule (codes "port") Set))
+    (option_rule (codes "link-port") Set))
+    (option_rule (codes "shards") Set))
+    (option_rule (codes "workers") Set))
+    (option_rule (codes "route") Append)
+
 -- the program itself, which is nothing without a command
 abbrev pub top_app : App
 top_app = on_top (λ s. record s { subcommand_required = true }) (new_app (codes "presence_node"))
 
 abbrev pub program : App
-program = with_subcommand (with_subcommand top_app stdio_app.top) fold_app.top
+program = with_subcommand (with_subcommand (with_subcommand top_app stdio_app.top) fold_app.top) serve_app.top

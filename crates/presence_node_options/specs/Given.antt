@@ -13,12 +13,14 @@ use Rattle.presence_base.specs.Refs.{IsCount}
 use Rattle.presence_node_options.specs.CommandLine.{program}
 use Rattle.presence_node_options.specs.Limits.{numbered}
 use Rattle.presence_node_options.specs.declared.fault.UsageCause.{UsageCause}
-use Rattle.presence_node_options.specs.declared.fault.UsageCause.TheVariants.{Words, Name, Incarnation, Route}
+use Rattle.presence_node_options.specs.declared.fault.UsageCause.TheVariants.{Words, Name, Incarnation, Route, Port, LinkPort, Shards, Workers}
 use Rattle.presence_node_options.specs.declared.fault.UsageFault.{UsageFault}
 use Rattle.presence_node_options.specs.declared.fault.UsageFault.TheVariants.{Usage, Memory}
 use Rattle.presence_node_options.specs.declared.options.Options.{Options}
-use Rattle.presence_node_options.specs.declared.options.Options.TheVariants.{Help, Stdio, Fold}
+use Rattle.presence_node_options.specs.declared.options.Options.TheVariants.{Help, Stdio, Fold, Serve}
+use Rattle.presence_node_options.specs.declared.options.ServeOptions.{ServeOptions}
 use Rattle.presence_node_options.specs.declared.options.StdioOptions.{StdioOptions}
+use Rattle.presence_node_options.specs.declared.options.TheConstants.{MAX_SHARDS, MAX_WORKERS}
 
 -- the number that a text's digits write
 abbrev pub number_in : Text → ℕ
@@ -35,6 +37,19 @@ incarnation_given rows = unwrap_or (first_of (codes "incarnation") rows) (codes 
 -- the patterns that are given, in their order, or `room:*` alone
 abbrev pub patterns_given : List Row → List Text
 patterns_given rows = unwrap_or (all_of (codes "route") rows) (codes "room:*" ∷ [])
+
+-- the texts of the ports, of the number of shards and of that of workers that are given, or their defaults
+abbrev pub port_given : List Row → Text
+port_given rows = unwrap_or (first_of (codes "port") rows) (codes "4000")
+
+abbrev pub link_port_given : List Row → Text
+link_port_given rows = unwrap_or (first_of (codes "link-port") rows) (codes "4001")
+
+abbrev pub shards_given : List Row → Text
+shards_given rows = unwrap_or (first_of (codes "shards") rows) (codes "4")
+
+abbrev pub workers_given : List Row → Text
+workers_given rows = unwrap_or (first_of (codes "workers") rows) (codes "4")
 
 abbrev pub is_yes : Option Text → Bool
 is_yes None = false
@@ -60,6 +75,16 @@ pub record IsGiven (rows : List Row) (o : StdioOptions) : Type 0 where
   pub notices : o.notices ≡ notices_given rows
   pub explain : o.explain ≡ explain_given rows
 
+-- the same for a server
+pub record IsServed (rows : List Row) (o : ServeOptions) : Type 0 where
+  pub name : o.name ≡ name_given rows
+  pub incarnation : o.incarnation ≡ number_in (incarnation_given rows)
+  pub routes : o.routes ≡ numbered 0 (patterns_given rows)
+  pub port : o.port ≡ number_in (port_given rows)
+  pub link_port : o.link_port ≡ number_in (link_port_given rows)
+  pub shards : o.shards ≡ number_in (shards_given rows)
+  pub workers : o.workers ≡ number_in (workers_given rows)
+
 -- the words name this command, with these options
 abbrev pub Calls : List Text → Text → List Row → Type 0
 Calls words command rows = subcommand_of program words ≡ Some (command, rows)
@@ -69,6 +94,7 @@ abbrev pub AskFor : List Text → Options → Type 0
 AskFor words (Help text) = IsAmong DisplayHelp (fault_of program words)
 AskFor words (Stdio o) = (rows : List Row) × Calls words (codes "stdio") rows × IsGiven rows o
 AskFor words (Fold o) = (rows : List Row) × Calls words (codes "fold") rows × (o.explain ≡ explain_given rows)
+AskFor words (Serve o) = (rows : List Row) × Calls words (codes "serve") rows × IsServed rows o
 
 -- ---- refusals
 
@@ -80,6 +106,16 @@ pub record IsIncarnation (text : Text) : Type 0 where
 abbrev pub IsIncarnationIn : Text → Option ℕ → Type 0
 IsIncarnationIn text (Some n) = (n ≡ number_in text) × IsIncarnation text
 IsIncarnationIn text None = IsIncarnation text → ⊥
+
+-- the text is that of a number within these limits, where a plus and zeros may stand in front
+pub record IsNumberWithin (low high : ℕ) (text : Text) : Type 0 where
+  pub numeral : IsNumeral 10 (without_leading_plus text)
+  pub above : low ≤ number_in text
+  pub below : number_in text ≤ high
+
+abbrev pub IsNumberIn : ℕ → ℕ → Text → Option ℕ → Type 0
+IsNumberIn low high text (Some n) = (n ≡ number_in text) × IsNumberWithin low high text
+IsNumberIn low high text None = IsNumberWithin low high text → ⊥
 
 -- the pattern is one, and there is room for it behind these routes
 pub record MayFollow (routes : List (Text × ℕ)) (pattern : Text) : Type 0 where
@@ -107,10 +143,48 @@ Refuses rows Name = is_node_name (name_given rows) ≡ false
 Refuses rows Incarnation = IsTrue (is_node_name (name_given rows)) × (IsIncarnation (incarnation_given rows) → ⊥)
 Refuses rows Route =
     IsTrue (is_node_name (name_given rows)) × IsIncarnation (incarnation_given rows) × (AreFewPatterns (patterns_given rows) → ⊥)
+Refuses rows Port = ⊥
+Refuses rows LinkPort = ⊥
+Refuses rows Shards = ⊥
+Refuses rows Workers = ⊥
+
+-- the name and the incarnation are within their limits
+abbrev pub IsNamed : List Row → Type 0
+IsNamed rows = IsTrue (is_node_name (name_given rows)) × IsIncarnation (incarnation_given rows)
+
+-- and the ports, the shards and the workers too
+abbrev pub IsPort : List Row → Type 0
+IsPort rows = IsNumberWithin 1 65535 (port_given rows)
+
+abbrev pub IsLinkPort : List Row → Type 0
+IsLinkPort rows = IsNumberWithin 1 65535 (link_port_given rows)
+
+abbrev pub ArePorts : List Row → Type 0
+ArePorts rows = IsPort rows × IsLinkPort rows
+
+abbrev pub AreShards : List Row → Type 0
+AreShards rows = IsNumberWithin 1 MAX_SHARDS (shards_given rows)
+
+abbrev pub AreWorkers : List Row → Type 0
+AreWorkers rows = IsNumberWithin 1 MAX_WORKERS (workers_given rows)
+
+-- why the options of `serve` are refused: the name is looked at first, then the incarnation, the port, that of links, the
+-- shards, the workers and the routes
+abbrev pub ServeRefuses : List Row → UsageCause → Type 0
+ServeRefuses rows Port = IsNamed rows × (IsPort rows → ⊥)
+ServeRefuses rows LinkPort = IsNamed rows × IsPort rows × (IsLinkPort rows → ⊥)
+ServeRefuses rows Shards = IsNamed rows × ArePorts rows × (AreShards rows → ⊥)
+ServeRefuses rows Workers = IsNamed rows × ArePorts rows × AreShards rows × (AreWorkers rows → ⊥)
+ServeRefuses rows Route = IsNamed rows × ArePorts rows × AreShards rows × AreWorkers rows × (AreFewPatterns (patterns_given rows) → ⊥)
+ServeRefuses rows cause = Refuses rows cause
 
 abbrev pub IsWrong : List Row → UsageFault → Type 0
 IsWrong rows (Usage cause text) = Refuses rows cause
 IsWrong rows Memory = Unit {0}
+
+abbrev pub IsServedWrong : List Row → UsageFault → Type 0
+IsServedWrong rows (Usage cause text) = ServeRefuses rows cause
+IsServedWrong rows Memory = Unit {0}
 
 -- another refusal than the answer to a question for help
 pub record IsRefusal (words : List Text) : Type 0 where
@@ -118,15 +192,18 @@ pub record IsRefusal (words : List Text) : Type 0 where
   pub among : IsAmong kind (fault_of program words)
   pub other : kind ≡ DisplayHelp → ⊥
 
--- neither command is named
+-- no command is named
 pub record NamesNone (words : List Text) : Type 0 where
   pub stdio : (rows : List Row) → Calls words (codes "stdio") rows → ⊥
   pub fold : (rows : List Row) → Calls words (codes "fold") rows → ⊥
+  pub serve : (rows : List Row) → Calls words (codes "serve") rows → ⊥
 
 -- why words are refused
 abbrev pub RefusedFor : List Text → UsageCause → Type 0
 RefusedFor words Words = IsRefusal words ⊎ NamesNone words
-RefusedFor words cause = (rows : List Row) × Calls words (codes "stdio") rows × Refuses rows cause
+RefusedFor words cause =
+    ((rows : List Row) × Calls words (codes "stdio") rows × Refuses rows cause)
+    ⊎ ((rows : List Row) × Calls words (codes "serve") rows × ServeRefuses rows cause)
 
 abbrev pub Refused : List Text → UsageFault → Type 0
 Refused words (Usage cause text) = RefusedFor words cause
@@ -137,6 +214,7 @@ abbrev pub IsHelpFor : ErrorKind → Options → Type 0
 IsHelpFor kind (Help text) = kind ≡ DisplayHelp
 IsHelpFor kind (Stdio o) = ⊥
 IsHelpFor kind (Fold o) = ⊥
+IsHelpFor kind (Serve o) = ⊥
 
 -- an error that is neither that nor want of memory
 abbrev pub IsNoHelp : ErrorKind → Type 0
@@ -147,9 +225,10 @@ abbrev pub Chooses : Text → List Row → Options → Type 0
 Chooses name rows (Help text) = ⊥
 Chooses name rows (Stdio o) = (name ≡ codes "stdio") × IsGiven rows o
 Chooses name rows (Fold o) = (name ≡ codes "fold") × (o.explain ≡ explain_given rows)
+Chooses name rows (Serve o) = (name ≡ codes "serve") × IsServed rows o
 
 -- or why it gives nothing
 abbrev pub ChoosesNone : Text → List Row → UsageFault → Type 0
 ChoosesNone name rows Memory = Unit {0}
-ChoosesNone name rows (Usage Words text) = (name ≡ codes "stdio" → ⊥) × (name ≡ codes "fold" → ⊥)
-ChoosesNone name rows (Usage cause text) = (name ≡ codes "stdio") × Refuses rows cause
+ChoosesNone name rows (Usage Words text) = (name ≡ codes "stdio" → ⊥) × (name ≡ codes "fold" → ⊥) × (name ≡ codes "serve" → ⊥)
+ChoosesNone name rows (Usage cause text) = ((name ≡ codes "stdio") × Refuses rows cause) ⊎ ((name ≡ codes "serve") × ServeRefuses rows cause)

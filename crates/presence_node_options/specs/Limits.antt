@@ -6,8 +6,10 @@ use Rattle.presence_base.specs.Refs.{IsCount}
 use Rattle.hook_registry.specs.Patterns.{is_pattern}
 use Rattle.hook_registry.specs.declared.routes.TheConstants.{MAX_ROUTES}
 use Rattle.presence_node_options.specs.declared.options.StdioOptions.{StdioOptions}
+use Rattle.presence_node_options.specs.declared.options.ServeOptions.{ServeOptions}
+use Rattle.presence_node_options.specs.declared.options.TheConstants.{MAX_SHARDS, MAX_WORKERS}
 use Rattle.presence_node_options.specs.declared.options.Options.{Options}
-use Rattle.presence_node_options.specs.declared.options.Options.TheVariants.{Help, Stdio, Fold}
+use Rattle.presence_node_options.specs.declared.options.Options.TheVariants.{Help, Stdio, Fold, Serve}
 
 -- patterns with their positions, from this one on
 abbrev pub numbered : ℕ → List (List ℕ) → List (List ℕ × ℕ)
@@ -29,7 +31,18 @@ pub record IsWithin (o : StdioOptions) : Type 0 where
   pub incarnation : IsCount o.incarnation
   pub routes : AreRoutes o.routes
 
+-- the same for a server, with ports from 1 to 65535, and shards and workers as many as there may be
+pub record IsServedWithin (o : ServeOptions) : Type 0 where
+  pub name : IsTrue (is_node_name o.name)
+  pub incarnation : IsCount o.incarnation
+  pub routes : AreRoutes o.routes
+  pub port : (1 ≤ o.port) × (o.port ≤ 65535)
+  pub link_port : (1 ≤ o.link_port) × (o.link_port ≤ 65535)
+  pub shards : (1 ≤ o.shards) × (o.shards ≤ MAX_SHARDS)
+  pub workers : (1 ≤ o.workers) × (o.workers ≤ MAX_WORKERS)
+
 abbrev pub AreWithin : Options → Type 0
 AreWithin (Help text) = Unit {0}
 AreWithin (Stdio o) = IsWithin o
 AreWithin (Fold o) = Unit {0}
+AreWithin (Serve o) = IsServedWithin o

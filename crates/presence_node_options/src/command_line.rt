@@ -1,16 +1,19 @@
 ghost use Rattle.std.specs.Prelude.{◌≡◌, false, IfOk, IfErr, codes, map, option_map, unwrap_or};
 ghost use Rattle.clap.specs.Words.{app_of, first_of, found_of, kind_of, rows_of, rule_of, subcommand_rows_of};
-ghost use Rattle.presence_node_options.specs.CommandLine.{flag_rule, option_rule, stdio_app, fold_app, program};
-ghost use Rattle.presence_node_options.specs.Given.{AskFor, Chooses, ChoosesNone, HasCause, Refused, IsHelpFor, IsNoHelp, IsGiven, IsFor, IsWrong, AreFewPatterns, flag_given, patterns_given};
-ghost use Rattle.presence_node_options.specs.Limits.{AreRoutes, IsWithin, AreWithin, numbered};
+ghost use Rattle.presence_node_options.specs.CommandLine.{flag_rule, option_rule, stdio_app, fold_app, serve_app, program};
+ghost use Rattle.presence_node_options.specs.Given.{AskFor, Chooses, ChoosesNone, HasCause, Refused, IsHelpFor, IsNoHelp, IsGiven, IsServed, IsServedWrong, IsFor, IsWrong, AreFewPatterns, flag_given, patterns_given};
+ghost use Rattle.presence_node_options.specs.Limits.{AreRoutes, IsWithin, IsServedWithin, AreWithin, numbered};
 
 use crate::fault::{UsageCause, UsageFault};
 use crate::help::{
-    ALL_OPTIONS, ALLOWED, EXPLAIN_HELP, FOLD_REFUSALS, FOLD_USAGE, INCARNATION_HELP, NAME_HELP,
-    NOTICES_HELP, ROUTE_HELP, STDIO_REFUSALS, STDIO_USAGE, USAGES,
+    ALL_OPTIONS, ALLOWED, EXPLAIN_HELP, FOLD_REFUSALS, FOLD_USAGE, INCARNATION_HELP,
+    LINK_PORT_HELP, NAME_HELP, NOTICES_HELP, PORT_HELP, ROUTE_HELP, SERVE_ENDS, SERVE_USAGE,
+    SHARDS_HELP, STDIO_REFUSALS, STDIO_USAGE, USAGES, WORKERS_HELP,
 };
-use crate::options::{FoldOptions, Options, StdioOptions};
-use crate::values::{incarnation_of, name_of, routes_of, usage_of};
+use crate::options::{FoldOptions, Options, ServeOptions, StdioOptions};
+use crate::values::{
+    incarnation_of, link_port_of, name_of, port_of, routes_of, shards_of, usage_of, workers_of,
+};
 use clap::error::ErrorKind;
 use clap::{Arg, ArgAction, ArgMatches, Command, Error};
 use hook_registry::Routes;
@@ -74,6 +77,54 @@ fn route_option<'a>(alloc: Global) -> Arg<'a>
         .help(ROUTE_HELP)
 }
 
+// `--port PORT`.
+fn port_option<'a>(alloc: Global) -> Arg<'a>
+    ensures rule { rule_of result ≡ option_rule (codes "port") ArgAction.Set }
+    ensures local { result.global ≡ false }
+{
+    Arg::new(alloc, "port")
+        .long("port")
+        .value_name("PORT")
+        .action(ArgAction::Set)
+        .help(PORT_HELP)
+}
+
+// `--link-port PORT`.
+fn link_port_option<'a>(alloc: Global) -> Arg<'a>
+    ensures rule { rule_of result ≡ option_rule (codes "link-port") ArgAction.Set }
+    ensures local { result.global ≡ false }
+{
+    Arg::new(alloc, "link-port")
+        .long("link-port")
+        .value_name("PORT")
+        .action(ArgAction::Set)
+        .help(LINK_PORT_HELP)
+}
+
+// `--shards NUMBER`.
+fn shards_option<'a>(alloc: Global) -> Arg<'a>
+    ensures rule { rule_of result ≡ option_rule (codes "shards") ArgAction.Set }
+    ensures local { result.global ≡ false }
+{
+    Arg::new(alloc, "shards")
+        .long("shards")
+        .value_name("NUMBER")
+        .action(ArgAction::Set)
+        .help(SHARDS_HELP)
+}
+
+// `--workers NUMBER`.
+fn workers_option<'a>(alloc: Global) -> Arg<'a>
+    ensures rule { rule_of result ≡ option_rule (codes "workers") ArgAction.Set }
+    ensures local { result.global ≡ false }
+{
+    Arg::new(alloc, "workers")
+        .long("workers")
+        .value_name("NUMBER")
+        .action(ArgAction::Set)
+        .help(WORKERS_HELP)
+}
+
 // The command `stdio` with its options.
 fn stdio_command<'a>(alloc: Global) -> Result<Command<'a>, AllocError>
     ensures { IfOk result (λ c. app_of c ≡ stdio_app) }
@@ -102,19 +153,38 @@ fn fold_command<'a>(alloc: Global) -> Result<Command<'a>, AllocError>
         .arg(explain_flag(alloc))
 }
 
+// The command `serve` with its options.
+fn serve_command<'a>(alloc: Global) -> Result<Command<'a>, AllocError>
+    ensures { IfOk result (λ c. app_of c ≡ serve_app) }
+{
+    Command::new(alloc, "serve")
+        .about("Serves clients of Phoenix Channels by WebSocket")
+        .override_usage(SERVE_USAGE)
+        .after_help(SERVE_ENDS)
+        .arg(name_option(alloc))?
+        .arg(incarnation_option(alloc))?
+        .arg(port_option(alloc))?
+        .arg(link_port_option(alloc))?
+        .arg(shards_option(alloc))?
+        .arg(workers_option(alloc))?
+        .arg(route_option(alloc))
+}
+
 // The whole command line.
 fn command_of<'a>(alloc: Global) -> Result<Command<'a>, AllocError>
     ensures { IfOk result (λ c. app_of c ≡ program) }
 {
     let stdio = stdio_command(alloc)?;
     let fold = fold_command(alloc)?;
+    let serve = serve_command(alloc)?;
     Command::new(alloc, "presence_node")
         .about("A server of Phoenix Channels with Presence")
         .override_usage(USAGES)
         .after_help(ALL_OPTIONS)
         .subcommand_required(true)
         .subcommand(stdio)?
-        .subcommand(fold)
+        .subcommand(fold)?
+        .subcommand(serve)
 }
 
 // What the parser says in place of matches, without the line feeds behind it.
@@ -198,6 +268,30 @@ fn stdio_options(alloc: Global, matches: &ArgMatches<'_>) -> Result<StdioOptions
     })
 }
 
+// The options of the words behind `serve`.
+fn serve_options(alloc: Global, matches: &ArgMatches<'_>) -> Result<ServeOptions, UsageFault>
+    ensures given { IfOk result (IsServed (rows_of (found_of matches.now))) }
+    ensures limits { IfOk result IsServedWithin }
+    ensures cause { IfErr result (IsServedWrong (rows_of (found_of matches.now))) }
+{
+    let name = name_of(alloc, text_given(matches, "name", "a"))?;
+    let incarnation = incarnation_of(alloc, text_given(matches, "incarnation", "1"))?;
+    let port = port_of(alloc, text_given(matches, "port", "4000"))?;
+    let link_port = link_port_of(alloc, text_given(matches, "link-port", "4001"))?;
+    let shards = shards_of(alloc, text_given(matches, "shards", "4"))?;
+    let workers = workers_of(alloc, text_given(matches, "workers", "4"))?;
+    let routes = given_routes(alloc, matches)?;
+    Ok(ServeOptions {
+        name,
+        incarnation,
+        routes,
+        port,
+        link_port,
+        shards,
+        workers,
+    })
+}
+
 // The command that was met, with its own matches.
 #[tactic(auto, using(crate::proofs::Rows::met))]
 fn command_met<'m, 'a>(matches: &'m ArgMatches<'a>) -> Option<(&'a str, &'m ArgMatches<'a>)>
@@ -211,7 +305,10 @@ fn command_met<'m, 'a>(matches: &'m ArgMatches<'a>) -> Option<(&'a str, &'m ArgM
 fn no_command(alloc: Global) -> UsageFault
     ensures { HasCause UsageCause.Words result }
 {
-    let text = String::from_str(alloc, "presence_node: a command is wanted: stdio or fold");
+    let text = String::from_str(
+        alloc,
+        "presence_node: a command is wanted: stdio, fold or serve",
+    );
     usage_of(UsageCause::Words, text)
 }
 
@@ -231,6 +328,12 @@ fn chosen(alloc: Global, name: &str, matches: &ArgMatches<'_>) -> Result<Options
         return Ok(Options::Fold(FoldOptions {
             explain: is_flagged(matches, "explain"),
         }));
+    }
+    if name == "serve" {
+        return match serve_options(alloc, matches) {
+            Ok(options) => Ok(Options::Serve(options)),
+            Err(fault) => Err(fault),
+        };
     }
     Err(no_command(alloc))
 }

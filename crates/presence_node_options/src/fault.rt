@@ -12,6 +12,14 @@ pub enum UsageCause {
     Incarnation,
     /// A route is no pattern, or there are too many.
     Route,
+    /// The port is no number from 1 to 65535.
+    Port,
+    /// The port of links is no number from 1 to 65535.
+    LinkPort,
+    /// The number of shards is none from 1 to `MAX_SHARDS`.
+    Shards,
+    /// The number of workers is none from 1 to `MAX_WORKERS`.
+    Workers,
 }
 
 /// Why a command line was not taken: a cause with a text for the user, or want of memory.

@@ -2,7 +2,7 @@
 
 /// How the program is called.
 pub(crate) const USAGES: &str =
-    "presence_node stdio [--name NAME] [--incarnation NUMBER] [--route PATTERN].. [--notices] [--explain]\n       presence_node fold [--explain]";
+    "presence_node stdio [--name NAME] [--incarnation NUMBER] [--route PATTERN].. [--notices] [--explain]\n       presence_node fold [--explain]\n       presence_node serve [--name NAME] [--incarnation NUMBER] [--port PORT] [--link-port PORT] [--shards NUMBER] [--workers NUMBER] [--route PATTERN]..";
 
 /// How `stdio` is called.
 pub(crate) const STDIO_USAGE: &str =
@@ -11,7 +11,11 @@ pub(crate) const STDIO_USAGE: &str =
 /// How `fold` is called.
 pub(crate) const FOLD_USAGE: &str = "presence_node fold [--explain]";
 
-/// What `stdio` is told by each of its options.
+/// How `serve` is called.
+pub(crate) const SERVE_USAGE: &str =
+    "presence_node serve [--name NAME] [--incarnation NUMBER] [--port PORT] [--link-port PORT] [--shards NUMBER] [--workers NUMBER] [--route PATTERN]..";
+
+/// What `stdio` is told by each of its options, and `serve` by the first three.
 pub(crate) const NAME_HELP: &str = "The node's name: 1 to 32 characters of a-z, 0-9 [default: a]";
 
 pub(crate) const INCARNATION_HELP: &str =
@@ -23,7 +27,19 @@ pub(crate) const ROUTE_HELP: &str =
 pub(crate) const NOTICES_HELP: &str =
     "Say on standard error who joins and leaves, a line each, as join a.1.2; nothing is said of a state";
 
-/// What both commands are told by `--explain`.
+/// What `serve` is told by each further option.
+pub(crate) const PORT_HELP: &str =
+    "The port on which clients are served, 1 to 65535 [default: 4000]";
+
+pub(crate) const LINK_PORT_HELP: &str =
+    "The port for links of other nodes, 1 to 65535; nothing listens there in this version [default: 4001]";
+
+pub(crate) const SHARDS_HELP: &str = "How many shards the topics are dealt to, 1 to 4 [default: 4]";
+
+pub(crate) const WORKERS_HELP: &str =
+    "How many threads answer clients, 1 to 64, each at most 1024 of them [default: 4]";
+
+/// What `stdio` and `fold` are told by `--explain`.
 pub(crate) const EXPLAIN_HELP: &str = "Say in words, on a second line, why a line was refused";
 
 /// The options of all commands, which stand behind the program's help.
@@ -35,7 +51,16 @@ pub const ALL_OPTIONS: &str = "Options of stdio:
       --explain               Say in words, on a second line, why a line was refused
 
 Options of fold:
-      --explain               Say in words, on a second line, why a line was refused";
+      --explain               Say in words, on a second line, why a line was refused
+
+Options of serve:
+      --name <NAME>           The node's name: 1 to 32 characters of a-z, 0-9 [default: a]
+      --incarnation <NUMBER>  Which life of the node this is, 1 to 4611686018427387904 [default: 1]
+      --port <PORT>           The port on which clients are served, 1 to 65535 [default: 4000]
+      --link-port <PORT>      The port for links of other nodes, 1 to 65535; nothing listens there in this version [default: 4001]
+      --shards <NUMBER>       How many shards the topics are dealt to, 1 to 4 [default: 4]
+      --workers <NUMBER>      How many threads answer clients, 1 to 64, each at most 1024 of them [default: 4]
+      --route <PATTERN>       A topic that may be joined, or the front of such topics with one * behind it; up to 64 times [default: room:*]";
 
 /// What `stdio` says of a line that ends it.
 pub const STDIO_REFUSALS: &str =
@@ -65,6 +90,21 @@ pub const FOLD_REFUSALS: &str =
   F2  the payload is not an object from keys to objects with a list of objects as `metas`, nor `joins` and `leaves` of two such
   F3  a meta has no text as its `phx_ref`";
 
+/// How a run of `serve` goes and ends.
+pub const SERVE_ENDS: &str =
+    "Clients of Phoenix Channels connect by WebSocket to ws://127.0.0.1:PORT/socket/websocket?vsn=2.0.0. It prints ready once they may, and a line stop on standard input ends it: it prints settled and how many calls of the workers it found in the journals, with status 0. Where calls and journals don't agree, standard error has the number of the refusal, as not settled: P2, with status 4. A port in use ends it with status 1, want of memory with status 2.
+  P1  a worker's seat is missing
+  P2  a call of a worker is in no journal
+  P3  a journal has more calls, or fewer
+  P4  there was no memory to look at them
+A connection is closed with these codes:
+  1000  no message came for 60 seconds
+  1001  the server stops
+  1003  the message was binary
+  1008  the message was none of Phoenix Channels
+  1009  the message was longer than 65536 bytes
+  1011  the session failed";
+
 /// What each command takes.
 pub(crate) const ALLOWED: &str =
-    "stdio takes --name NAME, 1 to 32 characters of a-z, 0-9, --incarnation NUMBER, 1 to 4611686018427387904, up to 64 times --route PATTERN, a topic or the front of topics with one * behind it, of 1 to 255 bytes, --notices and --explain; fold takes --explain";
+    "stdio takes --name NAME, 1 to 32 characters of a-z, 0-9, --incarnation NUMBER, 1 to 4611686018427387904, up to 64 times --route PATTERN, a topic or the front of topics with one * behind it, of 1 to 255 bytes, --notices and --explain; fold takes --explain; serve takes --name, --incarnation and --route as stdio, --port PORT and --link-port PORT, 1 to 65535, --shards NUMBER, 1 to 4, and --workers NUMBER, 1 to 64";

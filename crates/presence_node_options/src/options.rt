@@ -1,4 +1,6 @@
+ghost use Rattle.std.specs.Prelude.{◌<◌, ◌≤◌};
 ghost use Rattle.presence_base.specs.Refs.{IsCount};
+ghost use Rattle.presence_node_options.specs.declared.options.TheConstants.{MAX_SHARDS, MAX_WORKERS};
 
 use hook_registry::Routes;
 use presence_base::NodeName;
@@ -22,6 +24,28 @@ pub struct FoldOptions {
     pub explain: bool,
 }
 
+/// The most shards that a node has.
+pub const MAX_SHARDS: u32 = 4;
+
+/// The most workers that a server has.
+pub const MAX_WORKERS: u32 = 64;
+
+/// What `serve` runs as: the node and its routes as those of `stdio`, the ports of its clients and of
+/// links, from 1 on, and how many shards and workers there are.
+#[derive(Debug, Drop)]
+pub struct ServeOptions {
+    pub name: NodeName,
+    pub incarnation: u64,
+    pub routes: Routes,
+    pub port: u16,
+    pub link_port: u16,
+    pub shards: u32,
+    pub workers: u32,
+    ghost is_count: { IsCount incarnation },
+    ghost some_shards: { (0 < shards) × (shards ≤ MAX_SHARDS) },
+    ghost some_workers: { (0 < workers) × (workers ≤ MAX_WORKERS) },
+}
+
 /// What a command line asks for.
 #[derive(Debug, Drop)]
 pub enum Options {
@@ -29,4 +53,5 @@ pub enum Options {
     Help(String),
     Stdio(StdioOptions),
     Fold(FoldOptions),
+    Serve(ServeOptions),
 }

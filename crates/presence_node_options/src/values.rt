@@ -1,10 +1,12 @@
 ghost use Rattle.std.specs.Prelude.{◌≡◌, ◌≤◌, ◌<◌, ◌++◌, [], ◌∷◌, false, IfOk, IfErr, OnOk, IsTrue, length, map};
 ghost use Rattle.presence_base.specs.Names.{is_node_name};
 ghost use Rattle.presence_base.specs.Refs.{IsCount};
-ghost use Rattle.presence_node_options.specs.Given.{number_in, IsIncarnation, IsIncarnationIn, HasCause, IsFor, MayFollow, AreFewPatterns};
+ghost use Rattle.presence_node_options.specs.Given.{number_in, IsIncarnation, IsIncarnationIn, IsNumberIn, IsNumberWithin, HasCause, IsFor, MayFollow, AreFewPatterns};
 ghost use Rattle.presence_node_options.specs.Limits.{ArePatterns, AreRoutes, numbered};
+ghost use Rattle.presence_node_options.specs.declared.options.TheConstants.{MAX_SHARDS, MAX_WORKERS};
 
 use crate::fault::{UsageCause, UsageFault};
+use crate::options::{MAX_SHARDS, MAX_WORKERS};
 use hook_registry::{MAX_PATTERN_BYTES, MAX_ROUTES, RouteFault, Routes};
 use presence_base::{MAX_COUNT, NodeName};
 use std::alloc::{AllocError, Global};
@@ -56,6 +58,86 @@ pub(crate) fn incarnation_of(alloc: Global, text: &str) -> Result<u64, UsageFaul
         None => Err(usage_of(
             UsageCause::Incarnation,
             format!(in alloc; "--incarnation '{text}': an incarnation is 1 to {MAX_COUNT}"),
+        )),
+    }
+}
+
+// The number within these limits that a text is, if it is one.
+fn number_within(text: &str, low: u64, high: u64) -> Option<u64>
+    ensures { IsNumberIn low high text.now result }
+{
+    match text.parse::<u64>() {
+        Ok(number) if number >= low && number <= high => Some(number),
+        _ => None,
+    }
+}
+
+// The port that a text is, if it is one.
+fn port_in(text: &str) -> Option<u16>
+    ensures { IsNumberIn 1 65535 text.now result }
+{
+    match number_within(text, 1, 65_535) {
+        Some(port) => Some(port as u16),
+        None => None,
+    }
+}
+
+/// The port of clients that a text is.
+pub(crate) fn port_of(alloc: Global, text: &str) -> Result<u16, UsageFault>
+    ensures number { IfOk result (λ n. n ≡ number_in text.now) }
+    ensures limits { IfOk result (λ n. IsNumberWithin 1 65535 text.now) }
+    ensures cause { IfErr result (IsFor UsageCause.Port (IsNumberWithin 1 65535 text.now → ⊥)) }
+{
+    match port_in(text) {
+        Some(port) => Ok(port),
+        None => Err(usage_of(
+            UsageCause::Port,
+            format!(in alloc; "--port '{text}': a port is 1 to 65535"),
+        )),
+    }
+}
+
+/// The port of links that a text is.
+pub(crate) fn link_port_of(alloc: Global, text: &str) -> Result<u16, UsageFault>
+    ensures number { IfOk result (λ n. n ≡ number_in text.now) }
+    ensures limits { IfOk result (λ n. IsNumberWithin 1 65535 text.now) }
+    ensures cause { IfErr result (IsFor UsageCause.LinkPort (IsNumberWithin 1 65535 text.now → ⊥)) }
+{
+    match port_in(text) {
+        Some(port) => Ok(port),
+        None => Err(usage_of(
+            UsageCause::LinkPort,
+            format!(in alloc; "--link-port '{text}': a port is 1 to 65535"),
+        )),
+    }
+}
+
+/// The number of shards that a text is.
+pub(crate) fn shards_of(alloc: Global, text: &str) -> Result<u32, UsageFault>
+    ensures number { IfOk result (λ n. n ≡ number_in text.now) }
+    ensures limits { IfOk result (λ n. IsNumberWithin 1 MAX_SHARDS text.now) }
+    ensures cause { IfErr result (IsFor UsageCause.Shards (IsNumberWithin 1 MAX_SHARDS text.now → ⊥)) }
+{
+    match number_within(text, 1, u64::from(MAX_SHARDS)) {
+        Some(shards) => Ok(shards as u32),
+        None => Err(usage_of(
+            UsageCause::Shards,
+            format!(in alloc; "--shards '{text}': there are 1 to {MAX_SHARDS} shards"),
+        )),
+    }
+}
+
+/// The number of workers that a text is.
+pub(crate) fn workers_of(alloc: Global, text: &str) -> Result<u32, UsageFault>
+    ensures number { IfOk result (λ n. n ≡ number_in text.now) }
+    ensures limits { IfOk result (λ n. IsNumberWithin 1 MAX_WORKERS text.now) }
+    ensures cause { IfErr result (IsFor UsageCause.Workers (IsNumberWithin 1 MAX_WORKERS text.now → ⊥)) }
+{
+    match number_within(text, 1, u64::from(MAX_WORKERS)) {
+        Some(workers) => Ok(workers as u32),
+        None => Err(usage_of(
+            UsageCause::Workers,
+            format!(in alloc; "--workers '{text}': there are 1 to {MAX_WORKERS} workers"),
         )),
     }
 }

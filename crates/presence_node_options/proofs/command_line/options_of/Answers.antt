@@ -14,3 +14,7 @@ returns-in-Err-try_get_matches_from-clause-refused c =
 pub returns-in-Some-clause-refused : goal.returns-in-Some-clause-refused
 returns-in-Some-clause-refused c =
     chosen_refused c.in-Ok.command _ c.in-Ok-try_get_matches_from.matches c.in-Some.name.now (rows_of (found_of c.in-Some.inner.now)) c.chosen.result c.in-Ok.ensures c.in-Ok-try_get_matches_from.ensures.matches c.in-Some.ensures c.chosen.ensures.refused
+
+pub returns-in-Some-clause-asked : goal.returns-in-Some-clause-asked
+returns-in-Some-clause-asked c =
+    chosen_asked c.in-Ok.command _ c.in-Ok-try_get_matches_from.matches c.in-Some.name.now (rows_of (found_of c.in-Some.inner.now)) c.chosen.result c.in-Ok.ensures c.in-Ok-try_get_matches_from.ensures.matches c.in-Some.ensures c.chosen.ensures.chosen
