@@ -4,6 +4,10 @@ use Rattle.presence_node_options.specs.declared.fault.UsageFault.{UsageFault}
 use Rattle.presence_node_options.specs.declared.fault.UsageFault.TheVariants.{Usage, Memory}
 use Rattle.presence_node_fold.specs.Told.{told_of_fold, fold_status_number}
 use Rattle.presence_node_fold.specs.declared.fault.FoldFault.{FoldFault}
+use Rattle.presence_node_serve.specs.Ends.{TellsEnd, serve_status}
+use Rattle.presence_node_serve.specs.declared.end.ServeEnd.{ServeEnd}
+use Rattle.presence_node_serve.specs.declared.end.ServeEnd.TheVariants as ends
+use Rattle.presence_node_serve.specs.declared.end.ServeEnd.TheVariants.{Stopped, NotSettled, PortTaken, NoPort, NoThreads}
 use Rattle.presence_node_stdio.specs.Told.{told_of, status_number}
 use Rattle.presence_node_stdio.specs.declared.fault.StdioFault.{StdioFault}
 use Rattle.presence_node_main.specs.declared.ending.Ending.{Ending}
@@ -45,3 +49,17 @@ EndsFold (Err fault) explain e = TellsFault (told_of_fold fault) (fold_status_nu
 abbrev pub EndsUsage : UsageFault → Ending → Type 0
 EndsUsage (Usage cause text) e = Prints Error (string_bytes text) 1 e
 EndsUsage Memory e = IsSilent 2 e
+
+-- that the server was stopped and settled goes to standard output, and all else to standard error
+abbrev pub serve_stream : ServeEnd → Stream
+serve_stream (Stopped receipts) = Output
+serve_stream (NotSettled fault) = Error
+serve_stream (PortTaken port) = Error
+serve_stream (NoPort port) = Error
+serve_stream NoThreads = Error
+serve_stream ends.Memory = Error
+
+pub record EndsServe (end : ServeEnd) (e : Ending) : Type 0 where
+  pub stream_is : e.stream ≡ serve_stream end
+  pub status_is : e.status ≡ serve_status end
+  pub line : TellsEnd end (option_map string_bytes e.line)

@@ -1,8 +1,9 @@
 ghost use Rattle.std.specs.Prelude.{◌≡◌, ◌++◌, ◌∷◌, IfOk, Some, None, option_map, string_bytes};
-ghost use Rattle.presence_node_main.specs.Ending.{EndsFold, EndsStdio, EndsUsage, IsSilent, Prints, Says};
+ghost use Rattle.presence_node_main.specs.Ending.{EndsFold, EndsServe, EndsStdio, EndsUsage, IsSilent, Prints, Says, serve_stream as serve_stream_in};
 
 use presence_node_fold::{FoldFault, fold_status_of, fold_told_line, fold_words};
 use presence_node_options::UsageFault;
+use presence_node_serve::{ServeEnd, end_of};
 use presence_node_stdio::{StdioFault, status_of, told_line, told_words};
 use std::alloc::{AllocError, Global};
 use std::io::ErrorKind;
@@ -90,6 +91,28 @@ pub fn fold_ending(
         stream: Stream::Error,
         line: Some(line),
         status: fold_status_of(fault),
+    })
+}
+
+// The stream of a run of the server's last line.
+fn serve_stream(end: ServeEnd) -> Stream
+    ensures { result ≡ serve_stream_in end }
+{
+    match end {
+        ServeEnd::Stopped(_) => Stream::Output,
+        _ => Stream::Error,
+    }
+}
+
+/// How a run of the server that ended so is told.
+pub fn serve_ending(alloc: Global, end: ServeEnd) -> Result<Ending, AllocError>
+    ensures { IfOk result (EndsServe end) }
+{
+    let (line, status) = end_of(alloc, &end)?;
+    Ok(Ending {
+        stream: serve_stream(end),
+        line,
+        status,
     })
 }
 

@@ -10,7 +10,8 @@ mod running;
 mod words;
 
 pub use ending::{
-    Ending, Stream, fold_ending, help_ending, stdio_ending, stopped_ending, usage_ending,
+    Ending, Stream, fold_ending, help_ending, serve_ending, stdio_ending, stopped_ending,
+    usage_ending,
 };
 // What an ending is of.
 pub use presence_node_stdio::{

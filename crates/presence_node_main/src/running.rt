@@ -1,16 +1,22 @@
 use crate::ending::{
-    Ending, Stream, fold_ending, help_ending, silent, stdio_ending, stopped_ending, usage_ending,
+    Ending, Stream, fold_ending, help_ending, serve_ending, silent, stdio_ending, stopped_ending,
+    usage_ending,
 };
 use crate::error_stream::ErrorStream;
 use crate::words::{texts_of, words_of};
 use hook_registry::{NoHooks, PresenceHooks};
 use presence_node_fold::{fold_status_of, run_fold};
 use presence_node_notices::ReferenceNotices;
-use presence_node_options::{FoldOptions, Options, StdioOptions, options_of};
+use presence_node_options::{FoldOptions, Options, ServeOptions, StdioOptions, options_of};
+use presence_node_serve::{serve, serve_status_of};
 use presence_node_stdio::{run_stdio, status_of};
 use std::env::Env;
 use std::io;
 use std::io::BufReader;
+use std::net::{Net, TcpListener, TcpStream};
+use std::sync::Wait;
+use std::thread::Threads;
+use std::time::Clock;
 
 // Runs one session over the standard streams, with notices on standard error. Each reply goes out
 // before the next line is read, so nothing is buffered behind the session.
@@ -54,8 +60,41 @@ fn fold_stdin<R: Input + Print + AllocGlobal>(rt: &R, options: FoldOptions) -> i
     }
 }
 
+// Serves clients.
+fn serve_clients<R, H>(rt: &R, hooks: &H, options: &ServeOptions) -> io::Result<Ending>
+where
+    R: Net<Listener = TcpListener, Stream = TcpStream>
+        + Threads
+        + Wait
+        + Clock
+        + Input
+        + Print
+        + AllocGlobal
+        + Sync,
+    H: PresenceHooks + Sync,
+{
+    let alloc = rt.alloc();
+    let end = serve(rt, alloc, hooks, options);
+    match serve_ending(alloc, end) {
+        Ok(ending) => Ok(ending),
+        Err(_) => Ok(silent(serve_status_of(end))),
+    }
+}
+
 // Does what the words of the command line ask for.
-fn run<R: Env + Input + Print + Eprint + AllocGlobal>(rt: &R) -> io::Result<Ending> {
+fn run<R>(rt: &R) -> io::Result<Ending>
+where
+    R: Net<Listener = TcpListener, Stream = TcpStream>
+        + Threads
+        + Wait
+        + Clock
+        + Env
+        + Input
+        + Print
+        + Eprint
+        + AllocGlobal
+        + Sync,
+{
     let alloc = rt.alloc();
     let words = words_of(rt)?;
     let texts = texts_of(alloc, words.as_slice())?;
@@ -63,6 +102,7 @@ fn run<R: Env + Input + Print + Eprint + AllocGlobal>(rt: &R) -> io::Result<Endi
         Ok(Options::Help(text)) => Ok(help_ending(text)),
         Ok(Options::Stdio(options)) => serve_plainly(rt, &options),
         Ok(Options::Fold(options)) => fold_stdin(rt, options),
+        Ok(Options::Serve(options)) => serve_clients(rt, &NoHooks, &options),
         Err(fault) => Ok(usage_ending(fault)),
     }
 }
@@ -104,7 +144,19 @@ fn finish<R: Print + Eprint>(rt: &R, ended: io::Result<Ending>) -> u8 {
 }
 
 /// Runs the program over its words and the standard streams, and gives the status to end with.
-pub fn run_program<R: Env + Input + Print + Eprint + AllocGlobal>(rt: &R) -> u8 {
+pub fn run_program<R>(rt: &R) -> u8
+where
+    R: Net<Listener = TcpListener, Stream = TcpStream>
+        + Threads
+        + Wait
+        + Clock
+        + Env
+        + Input
+        + Print
+        + Eprint
+        + AllocGlobal
+        + Sync,
+{
     finish(rt, run(rt))
 }
 

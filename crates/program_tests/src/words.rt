@@ -160,6 +160,38 @@ fn causes_of_wrong_words(rt: HostRuntime) -> Result<(), Fail> {
     Ok(())
 }
 
+#[test]
+fn words_of_a_server(rt: HostRuntime) -> Result<(), Fail> {
+    let alloc = rt.alloc();
+    let plain = match options_of(alloc, ["p", "serve"].as_slice()) {
+        Ok(Options::Serve(options)) => Some((
+            options.port,
+            options.link_port,
+            options.shards,
+            options.workers,
+        )),
+        _ => None,
+    };
+    assert!(rt; plain == Some((4000, 4001, 4, 4)));
+    for (word, value, cause) in [
+        ("--name", "A!", UsageCause::Name),
+        ("--port", "0", UsageCause::Port),
+        ("--port", "65536", UsageCause::Port),
+        ("--link-port", "4001x", UsageCause::LinkPort),
+        ("--shards", "5", UsageCause::Shards),
+        ("--workers", "65", UsageCause::Workers),
+        ("--route", "a*b", UsageCause::Route),
+        ("--notices", "1", UsageCause::Words),
+    ] {
+        let words = ["p", "serve", word, value];
+        assert!(rt;
+            cause_for(alloc, words.as_slice()) == Some(cause),
+            "{word} {value}"
+        );
+    }
+    Ok(())
+}
+
 // The incarnation that this text gives.
 fn incarnation_for(alloc: Global, text: &str) -> Option<u64> {
     let words = ["p", "stdio", "--incarnation", text];

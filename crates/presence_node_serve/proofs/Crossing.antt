@@ -1,0 +1,39 @@
+-- What the threads of the server are given, and what they share, may cross to them. One search for each gives up,
+-- so it goes by the parts.
+use denote.RattleType.{RattleType}
+use denote.Param.Send.{IsSend, IsSync, sendable}
+use Rattle.std.proofs.Crossing as heap
+use Rattle.std.proofs.MapsCrossing as maps
+use Rattle.std.specs.declared.sync.ledger.Ledger as Ledger
+use Rattle.shard_pool.specs.Lane as Lane
+use Rattle.shard_pool.proofs.Crossing.{seat_send}
+use Rattle.presence_node_workers.proofs.Crossing.{worker_send}
+use Rattle.presence_node_sockets.specs.contracts.watch.Watch as Watch
+use Rattle.hook_registry.specs.contracts.routes.Routes as Routes
+use Rattle.presence_node_serve.specs.contracts.bench.Bench as Bench
+use Rattle.presence_node_serve.specs.contracts.place.Place as Place
+use Rattle.presence_node_serve.specs.contracts.server.Mailbox as Mailbox
+
+-- ---- what is shared
+
+pub mailbox_sync : IsSync (Mailbox.the_field).row
+mailbox_sync = search (maps.crosses, heap.crosses, sendable) depth 60 fits 20000
+
+pub routes_sync : IsSync (Routes.the_field).row
+routes_sync = search (maps.crosses, heap.crosses, sendable) depth 60 fits 20000
+
+-- ---- what is given
+
+watch_send : IsSend (Watch.the_field).row
+watch_send = search (heap.crosses, sendable) depth 60 fits 20000
+
+module _ (A B C D : RattleType) (lane-a : Lane.Ghosts A.Denot) (lane-b : Lane.Ghosts B.Denot) (lane-c : Lane.Ghosts C.Denot) (lane-d : Lane.Ghosts D.Denot)
+    (a : Ledger.Ghosts A.Denot) (b : Ledger.Ghosts B.Denot) (c : Ledger.Ghosts C.Denot) (d : Ledger.Ghosts D.Denot) where
+  bench_send : IsSend (Bench.the_field A B C D lane-a a lane-b b lane-c c lane-d d).row
+  bench_send = search (seat_send, worker_send, watch_send, maps.crosses, heap.crosses, sendable) depth 60 fits 20000
+
+  pub place_send : IsSend (Place.the_field A B C D lane-a a lane-b b lane-c c lane-d d).row
+  place_send = search (bench_send, sendable) depth 60 fits 20000
+
+  pub place_row_send : IsSend (Place.the_row A B C D lane-a a lane-b b lane-c c lane-d d)
+  place_row_send = search (bench_send, sendable) depth 60 fits 20000

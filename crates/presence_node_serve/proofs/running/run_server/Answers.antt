@@ -1,0 +1,23 @@
+use Rattle.std.proofs.Common.{subst}
+use Rattle.presence_node_serve.specs.Ends.{Settles}
+use denote.Param.{param}
+use denote.Param.Send.{IsSync, sendable}
+use Rattle.std.proofs.Crossing as heap
+use Rattle.std.proofs.Crossing.{Vec-sync}
+use Rattle.shard_pool.proofs.Crossing.{pool_sync}
+use Rattle.presence_node_serve.proofs.Crossing.{mailbox_sync, place_row_send, routes_sync}
+use Rattle.presence_node_serve.proofs.running.run_server.Goals as goal
+
+pub run_crew-requires-send-T : goal.run_crew-requires-send-T
+run_crew-requires-send-T g c = search (place_row_send, sendable) depth 30
+
+pub run_crew-requires-sync-C : goal.run_crew-requires-sync-C
+run_crew-requires-sync-C g c κs within =
+    let hooks : IsSync (param 1 g.row.H) = c.type_bounds.sync-H in
+    search (pool_sync, mailbox_sync, routes_sync, Vec-sync, heap.crosses, sendable) depth 60 fits 20000
+
+pub returns : goal.returns
+returns c c' = (
+  c'.in_ok-seats.seats.items,
+  subst (λ p. Settles p.own.name p.shards p.seats c'.in_ok-seats.seats.items c'.settled.result) c'.into_pool.ensures c'.settled.ensures,
+)

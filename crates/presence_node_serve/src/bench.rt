@@ -1,0 +1,326 @@
+//! A worker's thread: it serves its connections in turns.
+use crate::server::{Server, time_behind};
+use hook_registry::PresenceHooks;
+use presence_node_hints::{HintingPort, Topics, follows};
+use presence_node_ports::PoolPort;
+use presence_node_queue::Taker;
+use presence_node_sockets::{Watch, number_of};
+use presence_node_workers::{Client, Stage, Worker};
+use shard_pool::{Lane, Seat};
+use std::alloc::Global;
+use std::net::TcpStream;
+use std::sync::{Arc, Wait};
+use std::thread;
+use std::time::{Clock, Duration};
+use tungstenite::{NoMask, WebSocket};
+
+/// So many turns may pass before what waits is sent, while messages come.
+const MAX_HELD: u32 = 16;
+
+/// How long one wait lasts where nothing is to be done, in milliseconds.
+const IDLE_MILLISECONDS: u64 = 1_000;
+
+/// How long one wait lasts where only an end is to be asked for again.
+const RETRY_MILLISECONDS: u64 = 20;
+
+/// What topics have new is looked at once in so long, so that what comes meanwhile is delivered in one.
+const GATHER_MILLISECONDS: u64 = 3;
+
+/// After so long each connection is looked at, so that silence is noticed and no hint that was lost matters.
+const SWEEP_MILLISECONDS: u64 = 2_000;
+
+/// So many turns are given to the sessions' ends where the server stops.
+const MAX_LAST_TURNS: u32 = 500;
+
+// The connections that have joined one of the topics and don't take the next turn anyway.
+fn followers(alloc: Global, clients: &[Client<TcpStream>], topics: &Topics) -> Vec<u64> {
+    let mut numbers = Vec::new(alloc);
+    for client in clients {
+        if !client.ready
+            && follows(&client.connection.session, topics)
+            && numbers.push(client.number).is_err()
+        {
+            break;
+        }
+    }
+    numbers
+}
+
+// Adds topics to others, as far as there is memory.
+fn add_topics(all: &mut Topics, topics: &Topics) {
+    for topic in topics {
+        let Ok(topic) = topic.clone() else {
+            break;
+        };
+        if all.insert(topic).is_err() {
+            break;
+        }
+    }
+}
+
+// The topics of all of these lists.
+fn joined_topics(alloc: Global, told: &[Arc<Topics>]) -> Topics {
+    let mut all = Topics::new(alloc);
+    for topics in told {
+        add_topics(&mut all, topics);
+    }
+    all
+}
+
+// The connections that were ready at the last wait take the next turn.
+fn mark_ready(watch: &Watch, worker: &mut Worker<TcpStream>) {
+    for event in watch.events() {
+        if let Some(number) = number_of(event) {
+            worker.mark(number);
+        }
+    }
+}
+
+// Watches these connections. One that can't be watched is looked at from time to time.
+fn watch_all(watch: &Watch, clients: &[Client<TcpStream>]) {
+    for client in clients {
+        let _lost = watch.add(client.connection.socket.get_ref(), client.number);
+    }
+}
+
+// Serves each connection that is ready, through the seat: the topics that may have something new.
+fn serve_ready<R: Wait, H: PresenceHooks, A: Lane, B: Lane, C: Lane, D: Lane>(
+    rt: &R,
+    server: &Server<'_, H, A, B, C, D>,
+    seat: &mut Seat<A, B, C, D>,
+    worker: &mut Worker<TcpStream>,
+    now: u64,
+) -> Topics {
+    let inner = PoolPort::new(rt, &server.pool, seat);
+    let mut port = HintingPort::new(server.alloc, inner);
+    worker.turn(server.alloc, &mut port, server.routes, server.hooks, now);
+    port.into_changed()
+}
+
+/// What a worker has of its own.
+pub(crate) struct Bench<A: Lane, B: Lane, C: Lane, D: Lane> {
+    seat: Seat<A, B, C, D>,
+    worker: Worker<TcpStream>,
+    watch: Watch,
+    /// How many turns have passed since what waited was sent.
+    held: u32,
+    /// The time of this turn, in milliseconds.
+    now: u64,
+    /// When all connections were looked at last.
+    swept: u64,
+    /// When those were that follow a topic which had something new.
+    dealt: u64,
+}
+
+impl<A: Lane, B: Lane, C: Lane, D: Lane> Drop for Bench<A, B, C, D> {
+    fn drop(self) {
+        let Bench {
+            seat,
+            worker,
+            watch,
+            held: _,
+            now: _,
+            swept: _,
+            dealt: _,
+        } = self;
+        drop(seat);
+        drop(worker);
+        drop(watch);
+    }
+}
+
+impl<A: Lane, B: Lane, C: Lane, D: Lane> Bench<A, B, C, D> {
+    ghost use Rattle.std.specs.Prelude.{◌≡◌};
+
+    /// A bench at this seat that serves nobody yet.
+    pub(crate) fn new(
+        alloc: Global,
+        seat: Seat<A, B, C, D>,
+        taker: Taker<WebSocket<TcpStream, NoMask>>,
+        watch: Watch,
+    ) -> Bench<A, B, C, D>
+        ensures { result.seat ≡ seat }
+    {
+        Bench {
+            seat,
+            worker: Worker::new(alloc, taker),
+            watch,
+            held: 0,
+            now: 0,
+            swept: 0,
+            dealt: 0,
+        }
+    }
+
+    /// The seat, once the work is over.
+    pub(crate) fn into_seat(self) -> Seat<A, B, C, D>
+        ensures { result ≡ self.seat }
+    {
+        let Bench {
+            seat,
+            worker,
+            watch,
+            held: _,
+            now: _,
+            swept: _,
+            dealt: _,
+        } = self;
+        drop(worker);
+        drop(watch);
+        seat
+    }
+
+    // Takes the connections that wait.
+    fn take_in<R: Wait>(&mut self, rt: &R, alloc: Global) {
+        let served = self.worker.len();
+        let _later = self.worker.take_in(rt, alloc, self.now);
+        let taken = self.worker.clients().get(served..).unwrap_or(&[]);
+        watch_all(&self.watch, taken);
+    }
+
+    // The connections that have joined one of the topics take the next turn.
+    fn mark_followers(&mut self, alloc: Global, topics: &Topics) {
+        for number in followers(alloc, self.worker.clients(), topics) {
+            self.worker.mark(number);
+        }
+    }
+
+    // Looks at what the workers told, all of it at once.
+    fn hear<R: Wait, H>(&mut self, rt: &R, server: &Server<'_, H, A, B, C, D>, own: usize) {
+        let Some(mailbox) = server.mailboxes.get(own) else {
+            return;
+        };
+        let told = mailbox.inbox.take(rt, server.alloc);
+        if told.is_empty() {
+            return;
+        }
+        self.dealt = self.now;
+        let topics = joined_topics(server.alloc, told.as_slice());
+        self.mark_followers(server.alloc, &topics);
+    }
+
+    // For how many milliseconds more what the workers tell is gathered.
+    fn gathers_for(&self) -> u64 {
+        GATHER_MILLISECONDS.saturating_sub(self.now.saturating_sub(self.dealt))
+    }
+
+    // Serves each connection that is ready: the topics that may have something new.
+    fn serve<R: Wait, H: PresenceHooks>(
+        &mut self,
+        rt: &R,
+        server: &Server<'_, H, A, B, C, D>,
+    ) -> Topics {
+        serve_ready(rt, server, &mut self.seat, &mut self.worker, self.now)
+    }
+
+    // Serves each connection that is ready, and lets all workers know which topics may have something new, this one
+    // too.
+    fn turn<R: Wait, H: PresenceHooks>(
+        &mut self,
+        rt: &R,
+        server: &Server<'_, H, A, B, C, D>,
+        own: usize,
+    ) {
+        let topics = self.serve(rt, server);
+        if topics.is_empty() {
+            return;
+        }
+        if let Ok(shared) = Arc::new(server.alloc, topics) {
+            server.tell(rt, own, &shared);
+        }
+    }
+
+    // Whether a connection may have a further message or delivery.
+    fn is_busy(&self) -> bool {
+        self.worker.clients().iter().any(|client| client.ready
+            && client.connection.stage == Stage::Open)
+    }
+
+    // Whether a connection takes the next turn at all.
+    fn is_ready(&self) -> bool {
+        self.worker.clients().iter().any(|client| client.ready)
+    }
+
+    // Sends what waits. It gathers for some turns while messages come.
+    fn send(&mut self, busy: bool) {
+        if busy && self.held < MAX_HELD {
+            self.held += 1;
+            return;
+        }
+        self.held = 0;
+        self.worker.flush();
+    }
+
+    // Waits until there is something to do, and marks the connections that take the next turn.
+    fn pause<R: Clock>(&mut self, rt: &R, busy: bool) {
+        let wait = if busy {
+            0
+        } else if self.gathers_for() > 0 {
+            self.gathers_for()
+        } else if self.is_ready() {
+            RETRY_MILLISECONDS
+        } else {
+            IDLE_MILLISECONDS
+        };
+        if self.watch.wait(wait).is_err() {
+            thread::sleep(rt, Duration::from_millis(RETRY_MILLISECONDS));
+        }
+        mark_ready(&self.watch, &mut self.worker);
+        self.now = time_behind(rt, self.now);
+        if self.now.saturating_sub(self.swept) >= SWEEP_MILLISECONDS {
+            self.swept = self.now;
+            self.worker.mark_all();
+        }
+    }
+
+    // Tells each client that the server stops, and asks for the end of each session, for some turns.
+    fn end_all<R: Wait + Clock, H: PresenceHooks>(
+        &mut self,
+        rt: &R,
+        server: &Server<'_, H, A, B, C, D>,
+    ) {
+        self.worker.stop_all();
+        for _ in 0..MAX_LAST_TURNS {
+            let _told = self.serve(rt, server);
+            self.worker.flush();
+            if self.worker.len() == 0 {
+                break;
+            }
+            thread::sleep(rt, Duration::from_millis(1));
+        }
+    }
+
+    // Takes in what waits, serves what is ready and waits for more.
+    fn round<R: Wait + Clock, H: PresenceHooks>(
+        &mut self,
+        rt: &R,
+        server: &Server<'_, H, A, B, C, D>,
+        own: usize,
+    ) {
+        self.take_in(rt, server.alloc);
+        self.turn(rt, server, own);
+        if self.gathers_for() == 0 {
+            self.hear(rt, server, own);
+        }
+        let busy = self.is_busy();
+        self.send(busy);
+        self.pause(rt, busy);
+    }
+
+    /// Serves connections at its place among the workers until the server is stopped.
+    pub(crate) fn work<R: Wait + Clock, H: PresenceHooks>(
+        &mut self,
+        rt: &R,
+        server: &Server<'_, H, A, B, C, D>,
+        own: usize,
+    ) {
+        self.now = time_behind(rt, 0);
+        for _ in rt.forever() {
+            if server.is_stopped() {
+                break;
+            }
+            self.round(rt, server, own);
+        }
+        self.end_all(rt, server);
+    }
+}

@@ -1,0 +1,111 @@
+//! What the threads of the server are given.
+use crate::bench::Bench;
+use crate::door::{Door, LISTENER};
+use crate::fault::BeginFault;
+use crate::place::Place;
+use crate::server::Mailbox;
+use presence_node_crew::Posts;
+use presence_node_hints::Inbox;
+use presence_node_queue::Giver;
+use presence_node_sockets::{Bell, Watch};
+use shard_pool::{Lane, Seat};
+use std::alloc::Global;
+use std::io;
+use std::net::{Net, TcpListener, TcpStream};
+use tungstenite::{NoMask, WebSocket};
+
+/// The end of the queue that the door gives connections to.
+type Waiting = Giver<WebSocket<TcpStream, NoMask>>;
+
+/// What the threads are given, and what wakes each of them.
+pub(crate) struct Stations<A: Lane, B: Lane, C: Lane, D: Lane> {
+    pub posts: Posts<Place<A, B, C, D>, Door>,
+    /// One of each worker, in their order.
+    pub mailboxes: Vec<Mailbox>,
+    pub door_bell: Bell,
+}
+
+/// The places of the workers, with what the others reach each of them by.
+#[derive(Drop)]
+struct Places<A: Lane, B: Lane, C: Lane, D: Lane> {
+    places: Vec<Place<A, B, C, D>>,
+    mailboxes: Vec<Mailbox>,
+}
+
+impl<A: Lane, B: Lane, C: Lane, D: Lane> Places<A, B, C, D> {
+    // Adds the next place, with this seat.
+    fn add<R: Net>(
+        &mut self,
+        net: &R,
+        alloc: Global,
+        waiting: &mut Waiting,
+        seat: Seat<A, B, C, D>,
+    ) -> io::Result<()> {
+        let watch = Watch::new(net, alloc)?;
+        self.mailboxes.push(mailbox_of(alloc, &watch)?)?;
+        let bench = Bench::new(alloc, seat, waiting.taker()?, watch);
+        let number = self.places.len();
+        self.places.push(Place { number, bench })?;
+        Ok(())
+    }
+}
+
+// What the others tell the worker of this watch, and wake it by.
+fn mailbox_of(alloc: Global, watch: &Watch) -> io::Result<Mailbox> {
+    let bell = watch.bell()?;
+    Ok(Mailbox {
+        inbox: Inbox::new(alloc),
+        bell,
+    })
+}
+
+// A place for each seat, in their order.
+fn places_for<R: Net, A: Lane, B: Lane, C: Lane, D: Lane>(
+    net: &R,
+    alloc: Global,
+    waiting: &mut Waiting,
+    seats: Vec<Seat<A, B, C, D>>,
+) -> io::Result<Places<A, B, C, D>> {
+    let mut all = Places {
+        places: Vec::new(alloc),
+        mailboxes: Vec::new(alloc),
+    };
+    for seat in seats {
+        all.add(net, alloc, waiting, seat)?;
+    }
+    Ok(all)
+}
+
+// The door at this listening socket, and what wakes it.
+fn door_at<R: Net>(
+    net: &R,
+    alloc: Global,
+    listener: TcpListener,
+    waiting: Waiting,
+) -> io::Result<(Door, Bell)> {
+    let watch = Watch::new(net, alloc)?;
+    watch.add(&listener, LISTENER)?;
+    let bell = watch.bell()?;
+    Ok((Door::new(alloc, listener, waiting, watch), bell))
+}
+
+/// A place for each seat, in their order, and the door at this listening socket.
+pub(crate) fn stations_for<R: Net, A: Lane, B: Lane, C: Lane, D: Lane>(
+    net: &R,
+    alloc: Global,
+    listener: TcpListener,
+    seats: Vec<Seat<A, B, C, D>>,
+) -> Result<Stations<A, B, C, D>, BeginFault> {
+    let mut waiting = Giver::new(alloc)?;
+    let Places { places, mailboxes } = places_for(net, alloc, &mut waiting, seats)?;
+    let (door, door_bell) = door_at(net, alloc, listener, waiting)?;
+    let posts = Posts {
+        tools: places,
+        door,
+    };
+    Ok(Stations {
+        posts,
+        mailboxes,
+        door_bell,
+    })
+}

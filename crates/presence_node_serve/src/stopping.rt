@@ -1,0 +1,36 @@
+//! Waiting for the line that stops the server.
+use presence_node_crew::Ending;
+use presence_node_lines::read_line;
+use std::alloc::Global;
+use std::io::{Input, Print, Read};
+
+/// The longest line that is kept whole.
+const MAX_BYTES: usize = 64;
+
+// Reads until a line `stop` comes: whether one did. Other lines are passed over, however long.
+fn await_stop<R: Read>(alloc: Global, reader: &mut R) -> bool {
+    let mut within = false;
+    for _ in 0..u64::MAX {
+        let Ok(Some(piece)) = read_line(alloc, reader, MAX_BYTES) else {
+            return false;
+        };
+        if !within && piece.as_slice() == b"stop".as_slice() {
+            return true;
+        }
+        within = piece.len() > MAX_BYTES;
+    }
+    false
+}
+
+/// The line that stops the server, on standard input.
+#[derive(Clone, Copy)]
+pub(crate) struct StopLine {
+    pub alloc: Global,
+}
+
+impl<R: Input + Print> Ending<R> for StopLine {
+    // The server is told to be ready first. Where nobody can be told, it ends.
+    fn await_end(&self, rt: &R) -> bool {
+        rt.println("ready").is_err() || await_stop(self.alloc, &mut rt.reader())
+    }
+}
