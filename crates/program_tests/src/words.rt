@@ -4,8 +4,8 @@ use presence_metas::FrameFault;
 use presence_node_lines::number_of;
 use presence_node_main::SessionFault;
 use presence_node_options::{
-    ALL_OPTIONS, FOLD_REFUSALS, FoldOptions, Options, STDIO_REFUSALS, UsageCause, UsageFault,
-    options_of,
+    ALL_OPTIONS, FOLD_REFUSALS, FoldOptions, Options, STDIO_REFUSALS, ServeOptions, UsageCause,
+    UsageFault, options_of,
 };
 use std::alloc::{AllocError, Global};
 use std::test::Fail;
@@ -160,18 +160,33 @@ fn causes_of_wrong_words(rt: HostRuntime) -> Result<(), Fail> {
     Ok(())
 }
 
+// What the words of a server ask for.
+fn served(alloc: Global, words: &[&str]) -> Option<ServeOptions> {
+    match options_of(alloc, words) {
+        Ok(Options::Serve(options)) => Some(options),
+        _ => None,
+    }
+}
+
+fn numbers_of(options: &ServeOptions) -> (u16, u16, u32, u32) {
+    (
+        options.port,
+        options.link_port,
+        options.shards,
+        options.workers,
+    )
+}
+
+// The ports, the shards and the workers that these words ask for.
+fn numbers_for(alloc: Global, words: &[&str]) -> Option<(u16, u16, u32, u32)> {
+    let options = served(alloc, words)?;
+    Some(numbers_of(&options))
+}
+
 #[test]
 fn words_of_a_server(rt: HostRuntime) -> Result<(), Fail> {
     let alloc = rt.alloc();
-    let plain = match options_of(alloc, ["p", "serve"].as_slice()) {
-        Ok(Options::Serve(options)) => Some((
-            options.port,
-            options.link_port,
-            options.shards,
-            options.workers,
-        )),
-        _ => None,
-    };
+    let plain = numbers_for(alloc, ["p", "serve"].as_slice());
     assert!(rt; plain == Some((4000, 4001, 4, 4)));
     for (word, value, cause) in [
         ("--name", "A!", UsageCause::Name),
