@@ -1,0 +1,117 @@
+ghost use Rattle.std.specs.Prelude.{◌≡◌};
+ghost use Rattle.presence_base.specs.Refs.{IsCount};
+
+use crate::desk::{replica, tracked_at};
+use presence_base::Replica;
+use shard_pool::{Gate, Lane, Pool};
+use std::alloc::Global;
+use std::marker::Brand;
+use std::sync::Wait;
+use std::sync::atomic::{AtomicBool, Ordering};
+use std::sync::ledger::Blank;
+use std::test::Fail;
+use std::thread;
+use std::thread::Threads;
+use std::time::{Clock, Duration};
+
+// Holds a call inside shard 0 until a call at shard 1 is over, for at most 10,000 turns of a millisecond.
+#[derive(Drop)]
+struct Crossing<R> {
+    clock: R,
+    crossed: AtomicBool,
+    gave_up: AtomicBool,
+}
+
+impl<R: Clock> Gate for Crossing<R> {
+    fn before(&self, _seat: u32, _shard: u32) {}
+
+    fn inside(&self, _seat: u32, shard: u32) {
+        if shard != 0 {
+            return;
+        }
+        for _ in 0..10_000 {
+            if self.crossed.load(Ordering::SeqCst) {
+                return;
+            }
+            thread::sleep(&self.clock, Duration::from_millis(1));
+        }
+        self.gave_up.store(true, Ordering::SeqCst);
+    }
+
+    fn after(&self, _seat: u32, shard: u32) {
+        if shard == 1 {
+            self.crossed.store(true, Ordering::SeqCst);
+        }
+    }
+}
+
+// The shards of a call on `room:a` and of one on `room:b`, at once, over two shards.
+fn two_shards<
+    G: Gate + Drop + Sync,
+    A: Lane + Send + Sync,
+    B: Lane + Send + Sync,
+    C: Lane + Send + Sync,
+    D: Lane + Send + Sync,
+    R: Threads + Wait + Sync,
+>(
+    rt: &R,
+    alloc: Global,
+    own: Replica,
+    gate: G,
+    first: Blank,
+    second: Blank,
+    third: Blank,
+    fourth: Blank,
+) -> Option<(u32, u32)>
+    requires count { IsCount own.incarnation }
+    requires first { (first.name ≡ A.name) × (first.parts ≡ A.parts) × (first.parts ≡ 2) × (own.name ≡ A.node) }
+    requires second { (second.name ≡ B.name) × (second.parts ≡ B.parts) × (second.parts ≡ 2) × (own.name ≡ B.node) }
+    requires third { (third.name ≡ C.name) × (third.parts ≡ C.parts) × (third.parts ≡ 2) × (own.name ≡ C.node) }
+    requires fourth { (fourth.name ≡ D.name) × (fourth.parts ≡ D.parts) × (fourth.parts ≡ 2) × (own.name ≡ D.node) }
+{
+    let started = Pool::<G, A, B, C, D>::start(
+        alloc, own, 2, 2, gate, first, second, third, fourth,
+    );
+    let Ok((pool, mut seats)) = started else {
+        return None;
+    };
+    let b = seats.pop()?;
+    let a = seats.pop()?;
+    let shared = &pool;
+    let (one, two) = thread::join(
+        rt,
+        move || tracked_at(rt, alloc, shared, a, "room:a"),
+        move || tracked_at(rt, alloc, shared, b, "room:b"),
+    );
+    Some((one?, two?))
+}
+
+fn crossed<G: Gate + Drop + Sync, R: Threads + Wait + Sync>(
+    rt: &R,
+    alloc: Global,
+    gate: G,
+) -> Option<(u32, u32)> {
+    let own = replica(alloc, "a")?;
+    two_shards::<G, Brand, Brand, Brand, Brand, R>(
+        rt,
+        alloc,
+        own,
+        gate,
+        Blank::new(2),
+        Blank::new(2),
+        Blank::new(2),
+        Blank::new(2),
+    )
+}
+
+#[test]
+fn gates_cross(rt: HostRuntime) -> Result<(), Fail> {
+    let gate = Crossing {
+        clock: rt,
+        crossed: AtomicBool::new(false),
+        gave_up: AtomicBool::new(false),
+    };
+    assert_eq!(rt; crossed(&rt, rt.alloc(), &gate), Some((0, 1)));
+    assert!(rt; !gate.gave_up.load(Ordering::SeqCst));
+    Ok(())
+}

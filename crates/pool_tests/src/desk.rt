@@ -1,0 +1,49 @@
+// What the tests give the pool.
+ghost use Rattle.std.specs.Prelude.{◌≡◌, IfSome};
+
+use presence_base::{Key, Meta, NodeName, Replica, Topic};
+use serde_json::Value;
+use shard_pool::{Gate, Lane, Pool, Seat};
+use std::alloc::Global;
+use std::sync::Wait;
+
+pub(crate) fn topic(alloc: Global, text: &str) -> Option<Topic> {
+    Topic::new(alloc, text).ok()?
+}
+
+pub(crate) fn key(alloc: Global, text: &str) -> Option<Key> {
+    Key::new(alloc, text).ok()?
+}
+
+pub(crate) fn meta(alloc: Global) -> Option<Meta> {
+    let value = Value::from_str(alloc, "{\"x\":1}").ok()?;
+    Meta::new(alloc, value).ok()?
+}
+
+pub(crate) fn replica(alloc: Global, name: &str) -> Option<Replica>
+    ensures { IfSome result (λ r. r.incarnation ≡ 1) }
+{
+    let name = NodeName::new(alloc, name).ok()??;
+    Some(Replica {
+        name,
+        incarnation: 1,
+    })
+}
+
+// The shard of a track on the topic.
+pub(crate) fn tracked_at<G: Gate, A: Lane, B: Lane, C: Lane, D: Lane, R: Wait>(
+    rt: &R,
+    alloc: Global,
+    pool: &Pool<G, A, B, C, D>,
+    seat: Seat<A, B, C, D>,
+    name: &str,
+) -> Option<u32> {
+    let mut seat = seat;
+    let topic = topic(alloc, name)?;
+    let key = key(alloc, "u1")?;
+    let meta = meta(alloc)?;
+    let reply = pool
+        .track(rt, alloc, &mut seat, 1, &topic, &key, &meta)
+        .ok()?;
+    Some(reply.shard)
+}

@@ -1,0 +1,266 @@
+// What another node tells late, through the pool, and what the own node then tells.
+ghost use Rattle.std.specs.Prelude.{◌≡◌};
+ghost use Rattle.presence_base.specs.Refs.{IsCount};
+
+use crate::desk::{key, meta, replica, topic};
+use crate::tellings::{first_removed, two_rows};
+use orswot_core_told::Told;
+use presence_base::Replica;
+use replica_status::Status;
+use shard_pool::{Gate, Lane, NoGate, Pool, Seat};
+use std::alloc::Global;
+use std::marker::Brand;
+use std::sync::Wait;
+use std::sync::ledger::Blank;
+use std::test::Fail;
+
+// Up to which count the other node is covered, and the rows of the lobby: how many, and the first one's count.
+#[derive(Clone, Copy, Debug, PartialEq)]
+struct Shown {
+    top: u64,
+    rows: usize,
+    first: u64,
+}
+
+// A delta of the own node: its counts, and how many rows it tells.
+#[derive(Clone, Copy, Debug, PartialEq)]
+struct Own {
+    from: u64,
+    to: u64,
+    rows: usize,
+}
+
+// What is seen after each telling, and after the other node is gone and the own one tracked a row.
+#[derive(Clone, Copy, Debug, PartialEq)]
+struct Played {
+    told: [Shown; 2],
+    live: usize,
+    before: Own,
+    status: Status,
+    gone: Shown,
+    tracked: Own,
+    again: Own,
+}
+
+// What the pool shows now.
+fn look<G: Gate, A: Lane, B: Lane, C: Lane, D: Lane, R: Wait>(
+    rt: &R,
+    alloc: Global,
+    pool: &Pool<G, A, B, C, D>,
+    seat: &mut Seat<A, B, C, D>,
+    other: &Replica,
+) -> Option<Shown> {
+    let topic = topic(alloc, "room:lobby")?;
+    let rows = pool.list(rt, alloc, seat, &topic).ok()?.value;
+    let first = match rows.first() {
+        Some(row) => row.0.count,
+        None => 0,
+    };
+    Some(Shown {
+        top: pool.top(rt, 0, other),
+        rows: rows.len(),
+        first,
+    })
+}
+
+// Cuts a delta of the own node.
+fn cut<G: Gate, A: Lane, B: Lane, C: Lane, D: Lane, R: Wait>(
+    rt: &R,
+    alloc: Global,
+    pool: &Pool<G, A, B, C, D>,
+) -> Option<Own> {
+    let delta = pool.cut(rt, alloc, 0).ok()?;
+    Some(Own {
+        from: delta.from(),
+        to: delta.to(),
+        rows: delta.live().len(),
+    })
+}
+
+// Takes in these in turn, and looks behind each.
+fn merge_both<G: Gate, A: Lane, B: Lane, C: Lane, D: Lane, R: Wait>(
+    rt: &R,
+    alloc: Global,
+    pool: &Pool<G, A, B, C, D>,
+    seat: &mut Seat<A, B, C, D>,
+    other: &Replica,
+    first: &Told,
+    second: &Told,
+) -> Option<[Shown; 2]> {
+    pool.merge(rt, alloc, 0, first).ok()?;
+    let before = look(rt, alloc, pool, seat, other)?;
+    pool.merge(rt, alloc, 0, second).ok()?;
+    let after = look(rt, alloc, pool, seat, other)?;
+    Some([before, after])
+}
+
+// Takes in both tellings of the other node, once it is heard, the second one first where it is late.
+fn tell<G: Gate, A: Lane, B: Lane, C: Lane, D: Lane, R: Wait>(
+    rt: &R,
+    alloc: Global,
+    pool: &Pool<G, A, B, C, D>,
+    seat: &mut Seat<A, B, C, D>,
+    other: &Replica,
+    late: bool,
+) -> Option<[Shown; 2]> {
+    pool.heard(rt, alloc, 0, *other, 0).ok()?;
+    let rows = two_rows(alloc, other)?;
+    let removal = first_removed(alloc, other)?;
+    if late {
+        merge_both(rt, alloc, pool, seat, other, &removal, &rows)
+    } else {
+        merge_both(rt, alloc, pool, seat, other, &rows, &removal)
+    }
+}
+
+// Tracks a row of the own node.
+fn track<G: Gate, A: Lane, B: Lane, C: Lane, D: Lane, R: Wait>(
+    rt: &R,
+    alloc: Global,
+    pool: &Pool<G, A, B, C, D>,
+    seat: &mut Seat<A, B, C, D>,
+) -> Option<()> {
+    let topic = topic(alloc, "room:lobby")?;
+    let key = key(alloc, "u1")?;
+    let meta = meta(alloc)?;
+    pool.track(rt, alloc, seat, 1, &topic, &key, &meta).ok()?;
+    Some(())
+}
+
+// How many live rows a full value of the pool has.
+fn live_rows<G: Gate, A: Lane, B: Lane, C: Lane, D: Lane, R: Wait>(
+    rt: &R,
+    alloc: Global,
+    pool: &Pool<G, A, B, C, D>,
+) -> Option<usize> {
+    let told = pool.full(rt, alloc, 0).ok()?;
+    Some(told.live().len())
+}
+
+// Tells both, and looks on while the other node is gone for good and the own one tracks a row.
+fn watch<G: Gate, A: Lane, B: Lane, C: Lane, D: Lane, R: Wait>(
+    rt: &R,
+    alloc: Global,
+    pool: &Pool<G, A, B, C, D>,
+    seat: &mut Seat<A, B, C, D>,
+    other: &Replica,
+    late: bool,
+) -> Option<Played> {
+    let told = tell(rt, alloc, pool, seat, other, late)?;
+    let live = live_rows(rt, alloc, pool)?;
+    let before = cut(rt, alloc, pool)?;
+    pool.permdown(rt, alloc, 0, *other).ok()?;
+    let status = pool.status(rt, 0, other);
+    let gone = look(rt, alloc, pool, seat, other)?;
+    track(rt, alloc, pool, seat)?;
+    Some(Played {
+        told,
+        live,
+        before,
+        status,
+        gone,
+        tracked: cut(rt, alloc, pool)?,
+        again: cut(rt, alloc, pool)?,
+    })
+}
+
+fn play<A: Lane, B: Lane, C: Lane, D: Lane, R: Wait>(
+    rt: &R,
+    alloc: Global,
+    own: Replica,
+    other: Replica,
+    late: bool,
+    first: Blank,
+    second: Blank,
+    third: Blank,
+    fourth: Blank,
+) -> Option<Played>
+    requires count { IsCount own.incarnation }
+    requires first { (first.name ≡ A.name) × (first.parts ≡ A.parts) × (first.parts ≡ 1) × (own.name ≡ A.node) }
+    requires second { (second.name ≡ B.name) × (second.parts ≡ B.parts) × (second.parts ≡ 1) × (own.name ≡ B.node) }
+    requires third { (third.name ≡ C.name) × (third.parts ≡ C.parts) × (third.parts ≡ 1) × (own.name ≡ C.node) }
+    requires fourth { (fourth.name ≡ D.name) × (fourth.parts ≡ D.parts) × (fourth.parts ≡ 1) × (own.name ≡ D.node) }
+{
+    let started = Pool::<NoGate, A, B, C, D>::start(
+        alloc, own, 1, 1, NoGate, first, second, third, fourth,
+    );
+    let Ok((pool, mut seats)) = started else {
+        return None;
+    };
+    let mut seat = seats.pop()?;
+    watch(rt, alloc, &pool, &mut seat, &other, late)
+}
+
+fn seen<R: Wait>(rt: &R, alloc: Global, late: bool) -> Option<Played> {
+    let own = replica(alloc, "a")?;
+    let other = replica(alloc, "b")?;
+    play::<Brand, Brand, Brand, Brand, R>(
+        rt,
+        alloc,
+        own,
+        other,
+        late,
+        Blank::new(1),
+        Blank::new(1),
+        Blank::new(1),
+        Blank::new(1),
+    )
+}
+
+// What both orders come to, behind what is shown once the first telling is taken in.
+fn wanted(first: Shown) -> Played {
+    Played {
+        told: [
+            first,
+            Shown {
+                top: 3,
+                rows: 1,
+                first: 2,
+            },
+        ],
+        live: 1,
+        before: Own {
+            from: 0,
+            to: 0,
+            rows: 0,
+        },
+        status: Status::Gone,
+        gone: Shown {
+            top: 0,
+            rows: 0,
+            first: 0,
+        },
+        tracked: Own {
+            from: 0,
+            to: 1,
+            rows: 1,
+        },
+        again: Own {
+            from: 1,
+            to: 1,
+            rows: 0,
+        },
+    }
+}
+
+#[test]
+fn a_late_gap_through_the_pool(rt: HostRuntime) -> Result<(), Fail> {
+    let first = Shown {
+        top: 1,
+        rows: 0,
+        first: 0,
+    };
+    assert_eq!(rt; seen(&rt, rt.alloc(), true), Some(wanted(first)));
+    Ok(())
+}
+
+#[test]
+fn tellings_in_order_through_the_pool(rt: HostRuntime) -> Result<(), Fail> {
+    let first = Shown {
+        top: 2,
+        rows: 2,
+        first: 1,
+    };
+    assert_eq!(rt; seen(&rt, rt.alloc(), false), Some(wanted(first)));
+    Ok(())
+}

@@ -1,0 +1,17 @@
+//! Tests of the pool, with threads: by outside values alone.
+#![tactic(auto)]
+
+#[cfg(test)]
+mod crossing;
+#[cfg(test)]
+mod desk;
+#[cfg(test)]
+mod gaps;
+#[cfg(test)]
+mod numbers;
+#[cfg(test)]
+mod statuses;
+#[cfg(test)]
+mod tellings;
+#[cfg(test)]
+mod threads;
