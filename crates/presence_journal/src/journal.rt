@@ -65,7 +65,7 @@ impl Journal {
     ghost use Rattle.presence_base.specs.Refs.{IsCount};
     ghost use Rattle.presence_journal.specs.History.{Begin, begun, onto, start_of, own, last_number, entry_count, is_full};
     ghost use Rattle.presence_journal.specs.Limits.{is_within_limits};
-    ghost use Rattle.presence_journal.specs.Table.{IsLegal, AreWithinLimits, outcome_of, after};
+    ghost use Rattle.presence_journal.specs.Table.{IsStart, IsLegal, AreWithinLimits, outcome_of, after};
 
     /// The journal of a new shard: an empty Start with number 0.
     pub fn new(alloc: Global, own: Replica) -> Journal
@@ -87,6 +87,17 @@ impl Journal {
                 subscribers: Subscribers::new(Vec::new(alloc)),
                 seated: 0,
             },
+            entries: Vec::new(alloc),
+        }
+    }
+
+    /// The journal that begins with a Start, without an entry after it.
+    pub fn of_start(alloc: Global, start: Start) -> Journal
+        requires { IsStart start }
+        ensures { result ≡ Begin start }
+    {
+        Journal {
+            start,
             entries: Vec::new(alloc),
         }
     }

@@ -2,3 +2,4 @@ mod FreshLemmas
 mod ChainLemmas
 mod UntoldLemmas
 mod ChangeLemmas
+mod ListingLemmas

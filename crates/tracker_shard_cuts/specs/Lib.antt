@@ -1,2 +1,3 @@
 pub mod Untold
 pub mod Changes
+pub mod Listed

@@ -4,11 +4,12 @@ ghost use Rattle.std.specs.Map.{keys_of};
 ghost use Rattle.presence_base.specs.Order.{dot_cmp};
 
 use crate::change::{Change, change_of, used_by};
+use crate::listing::listed_chains;
 use crate::putting::{add_runs, drop_chains, put_both};
 use crate::start::most_listed;
 use delta_range::{Delta, longest};
 use presence_base::{Dot, Replica, Row};
-use presence_journal::{Entry, Outcome, Start};
+use presence_journal::{Chains, Entry, Outcome, Runs, Start};
 use presence_journal_cuts::{Chain, dots_out, drop_dots, kept_chains, kept_rows, kept_runs};
 use std::alloc::{AllocError, Global};
 use std::collections::BTreeMap;
@@ -72,10 +73,11 @@ fn copies(alloc: Global, rows: &BTreeMap<Dot, Row>) -> Result<Vec<(Dot, Row)>, A
 
 impl Untold {
     ghost use Rattle.std.specs.Prelude.{◌≡◌, false, IfOk, OnOk, OnErr};
-    ghost use Rattle.presence_journal.specs.History.{History, Begin, begun};
+    ghost use Rattle.presence_journal.specs.History.{History, Begin, begun, last_cut as cut_in};
     ghost use Rattle.presence_journal.specs.Table.{IsLegal};
     ghost use Rattle.presence_journal_cuts.specs.Cuts.{IsCut};
     ghost use Rattle.tracker_shard_cuts.specs.Untold.{IsUntoldOf, IsOfOne, CanFollow, Follows, Stays};
+    ghost use Rattle.tracker_shard_cuts.specs.Listed.{AreOlder, AreListed};
     ghost use Rattle.tracker_shard_cuts.specs.Changes.{is_cut, IsChangeOf, IsToldTo};
 
     /// Where nothing was told, since nothing happened.
@@ -122,6 +124,29 @@ impl Untold {
         let older = longest(alloc, runs)?;
         let rows = copies(alloc, &self.rows)?;
         Ok(Delta::new(self.own, self.last, self.count, older, rows))
+    }
+
+    /// The count up to which the last cut told. Takes no memory.
+    pub fn last_cut(&self) -> u64
+        ensures { (h : History) → IsUntoldOf h self.now → result ≡ cut_in h }
+    {
+        self.last
+    }
+
+    /// The counts at or below it that went since, as a Start has them. It costs what it gives.
+    pub fn older(&self, alloc: Global) -> Result<Runs, AllocError>
+        ensures { IfOk result (λ rs. (h : History) → IsUntoldOf h self.now → AreOlder h rs) }
+    {
+        let runs = runs_of(alloc, &self.older)?;
+        Ok(Runs::new(runs))
+    }
+
+    /// All chains, as a Start has them. It costs what it gives.
+    pub fn chains(&self, alloc: Global) -> Result<Chains, AllocError>
+        ensures { IfOk result (λ xs. (h : History) → IsUntoldOf h self.now → AreListed h xs) }
+    {
+        let list = listed_chains(alloc, &self.chains)?;
+        Ok(Chains::new(list))
     }
 
     /// Brings it up to the next entry. Where memory is refused it is as it was.

@@ -8,3 +8,4 @@ pub mod LoopLemmas
 pub mod FeedsLemmas
 pub mod BegunLemmas
 pub mod Crossing
+pub mod ListingLemmas

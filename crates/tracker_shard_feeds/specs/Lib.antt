@@ -2,3 +2,4 @@ pub mod Fed
 pub mod Codes
 pub mod Laws
 pub mod Rings
+pub mod Listed

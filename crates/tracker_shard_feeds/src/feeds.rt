@@ -3,14 +3,16 @@ ghost use Rattle.tracker_shard_feeds.specs.Fed.{found, topic_at, waits_at, is_fo
 ghost use Rattle.tracker_shard_feeds.specs.Fed.{SameFed, IsChanged, IsDelivered};
 ghost use Rattle.orswot_core_told.specs.Checks.{has_repeat};
 ghost use Rattle.tracker_shard_feeds.specs.Laws.{IsBegun};
+ghost use Rattle.tracker_shard_feeds.specs.Listed.{AreListed};
 ghost use Rattle.tracker_shard_feeds.specs.Rings.{shared};
 
 use crate::followers::{
     Follower, add_follower, drop_follower, is_awaited, items_waiting, move_follower,
 };
+use crate::listing::listed_topics;
 use crate::rings::{Ring, push_all, reserve_all};
 use presence_base::Topic;
-use presence_journal_data::Item;
+use presence_journal_data::{Item, Subscribers};
 use std::alloc::{AllocError, Global};
 use std::collections::BTreeMap;
 use std::marker::Model;
@@ -74,6 +76,14 @@ impl Feeds {
             feeds.subscribe(alloc, subscriber.0, &subscriber.1)?;
         }
         Ok(feeds)
+    }
+
+    /// The subscribers with their topics, in order of number, as a Start has them. It costs what it gives.
+    pub fn subscribers(&self, alloc: Global) -> Result<Subscribers, AllocError>
+        ensures { IfOk result (AreListed self.now) }
+    {
+        let list = listed_topics(alloc, &self.followers)?;
+        Ok(Subscribers::new(list))
     }
 
     /// The topic of a subscriber.

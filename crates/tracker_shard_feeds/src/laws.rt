@@ -4,6 +4,7 @@ ghost use Rattle.tracker_shard_feeds.specs.Laws.{BeginningIsFed, SameIsFed, Next
 ghost use Rattle.tracker_shard_feeds.specs.Laws.{SubscribeIsFed, UnsubscribeIsFed, TakeIsFed};
 ghost use Rattle.tracker_shard_feeds.specs.Laws.{DeliveryIsFed, QuietIsFed};
 ghost use Rattle.tracker_shard_feeds.specs.Laws.{TopicsAreThose, WaitsAreThose, ItemsAreThose};
+ghost use Rattle.tracker_shard_feeds.specs.Listed.{ListedAreThose};
 
 /// Feeds begin as a journal's Start has them. From then on the number of the next entry is nobody's,
 /// and one delivery more can always be counted.
@@ -33,4 +34,9 @@ pub fn feeds_answer()
     ensures topics { TopicsAreThose }
     ensures waits { WaitsAreThose }
     ensures items { ItemsAreThose }
+{}
+
+/// The subscribers that are listed are those that are present, with numbers up to the last one.
+pub fn subscribers_are_listed()
+    ensures { ListedAreThose }
 {}

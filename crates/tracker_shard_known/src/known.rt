@@ -1,16 +1,19 @@
 ghost use Rattle.std.specs.Prelude.{◌≡◌, ℕ, IfOk, OnOk, OnErr, option_copied, true};
-ghost use Rattle.presence_journal.specs.History.{History, Begin, begun, covered, status, IsTop};
+ghost use Rattle.presence_journal_data.specs.StepLimits.{is_heard};
+ghost use Rattle.presence_journal.specs.History.{History, Begin, begun, covered, count as counted, status, time as time_in, IsTop};
 ghost use Rattle.presence_journal.specs.Laws.{is_callers};
 ghost use Rattle.presence_journal_sets.specs.Full.{IsFullOf};
 ghost use Rattle.tracker_shard_known.specs.Known.{IsKnownOf, CanFollow, Follows, FollowsStep, Stays, kept, next_left, AreRowsOf};
+ghost use Rattle.tracker_shard_known.specs.Starts.{ListsStandings};
 ghost use Rattle.tracker_shard_known.specs.Turns.{TurnsEntry, TurnsStep};
 
 use crate::fading::{forget_faded, forget_other};
+use crate::listing::{listed_standings, read_rows};
 use crate::own::{join_heard, take_own, used_by};
 use crate::starting::{others_of, set_of};
 use orswot_core::{Orswot, Told};
 use presence_base::{Dot, MAX_COUNT, Replica, Row};
-use presence_journal::{Entry, Start, Step};
+use presence_journal::{Entry, Standings, Start, Step};
 use replica_status::Status;
 use std::alloc::{AllocError, Global};
 use std::collections::btree_map::Range;
@@ -118,6 +121,38 @@ impl Known {
         ensures { IfOk result (λ t. (h : History) → IsKnownOf h self.now → IsFullOf h t) }
     {
         self.set.told(alloc)
+    }
+
+    /// The same, as a Start can have it. It costs what it gives.
+    pub fn content(&self, alloc: Global) -> Result<Told, AllocError>
+        ensures full { IfOk result (λ t. (h : History) → IsKnownOf h self.now → IsFullOf h t) }
+        ensures sound { IfOk result (λ t. is_heard t ≡ true) }
+    {
+        let told = self.told(alloc)?;
+        read_rows(told.live());
+        Ok(told)
+    }
+
+    /// The standings of the other replicas, each replica once. It costs what it gives.
+    pub fn standings(&self, alloc: Global) -> Result<Standings, AllocError>
+        ensures { IfOk result (λ xs. (h : History) → IsKnownOf h self.now → ListsStandings h xs) }
+    {
+        let list = listed_standings(alloc, &self.others.standings)?;
+        Ok(Standings::new(list))
+    }
+
+    /// The greatest time that was handed in, in milliseconds. Takes no memory.
+    pub fn time(&self) -> u64
+        ensures { (h : History) → IsKnownOf h self.now → result ≡ time_in h }
+    {
+        self.others.time
+    }
+
+    /// How many counts the own replica has used. Takes no memory.
+    pub fn count(&self) -> u64
+        ensures { (h : History) → IsKnownOf h self.now → result ≡ counted h }
+    {
+        self.count
     }
 
     /// Brings it up to the next entry. Where memory is refused it is as it was.

@@ -2,11 +2,13 @@
 //! rows, the standings of the other replicas, and the own count. And the turn of an entry: the rows that it
 //! shows and those that it hides.
 //!
-//! Its public contracts cite `specs/Known`, and `specs/Turns` with tracker_shard_turns' `Turns`.
+//! Its public contracts cite `specs/Known`, `specs/Turns` with tracker_shard_turns' `Turns`, and of `specs/Starts`
+//! `ListsStandings`.
 #![tactic(auto)]
 
 mod fading;
 mod known;
+mod listing;
 mod own;
 mod starting;
 
