@@ -1,5 +1,5 @@
 -- Lists of dots that tie are the same.
-use Rattle.std.proofs.Common.{◌≡◌, List, Bool, true}
+use Rattle.std.proofs.Common.{◌≡◌, List, true}
 use Rattle.std.specs.Cmp.{Equal-is}
 use Rattle.std.specs.Ordering.{eq_by_cmp}
 use Rattle.std.specs.Cmp.Lexicographic.{slice_cmp}

@@ -1,5 +1,5 @@
 -- What a call of a shard answers and leaves.
-use Rattle.std.specs.Prelude.{◌≡◌, ℕ, ◌+◌, Bool, true, cond, ◌&&◌, nat_eq, nat_lt, ◌^◌, List, [], ◌∷◌, Option, Some, None, is_some, Result, Ok, Err, Vec}
+use Rattle.std.specs.Prelude.{◌≡◌, ℕ, ◌+◌, Bool, true, cond, ◌&&◌, nat_eq, nat_lt, nat_le, ◌^◌, List, [], ◌∷◌, Option, Some, None, is_some, Result, Ok, Err, Vec}
 use Rattle.presence_base.specs.declared.dots.Dot.{Dot}
 use Rattle.presence_base.specs.declared.row.Row.{Row}
 use Rattle.presence_journal_data.specs.declared.entry.Outcome.TheVariants as outcomes_are
@@ -116,3 +116,7 @@ first_dot (x ∷ xs) = Some x.0
 -- the dot of the next count, where one is left
 abbrev pub next_counted : History → Option Dot
 next_counted h = cond (nat_lt (count h) (2 ^ 62)) (Some (next_dot h)) None
+
+-- the refusal that stands against a checkpoint: its Start needs a number
+abbrev pub checkpoint_refusal : History → Option ShardFault
+checkpoint_refusal h = cond (nat_le (2 ^ 62) (last_number h)) (Some JournalFull) None

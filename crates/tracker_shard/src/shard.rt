@@ -4,7 +4,7 @@ use crate::foreseen::foreseen;
 use crate::lists::Lists;
 use delta_range::Delta;
 use orswot_core::Told;
-use presence_base::{Dot, Json, Key, Meta, Replica, Row, Topic};
+use presence_base::{Dot, Json, Key, MAX_COUNT, Meta, Replica, Row, Topic};
 use presence_journal::{Dots, Item, Journal, Outcome, Step};
 use replica_status::Status;
 use std::alloc::{AllocError, Global};
@@ -59,7 +59,8 @@ impl Shard {
     ghost use Rattle.tracker_shard.specs.Steps.{Stepped, Answers, IsDue, refusal, refusal_at, is_found};
     ghost use Rattle.tracker_shard.specs.Steps.{AnswersDot, AnswersRowsOfKey, AnswersRowsOfPid, AnswersListed};
     ghost use Rattle.tracker_shard.specs.Steps.{AnswersListedKey, AnswersItems, AnswersSub};
-    ghost use Rattle.tracker_shard.specs.Steps.{found_topic};
+    ghost use Rattle.tracker_shard.specs.Steps.{found_topic, checkpoint_refusal};
+    ghost use Rattle.tracker_shard_indexed.specs.Starting.{IsBegunAgain};
 
     /// A shard of the replica with an empty journal.
     pub fn new(alloc: Global, own: Replica) -> Shard
@@ -489,6 +490,24 @@ impl Shard {
         self.table.ready(alloc)?;
         let step = Step::merge(told)?;
         write(&mut self.table, alloc, None, step, Outcome::Merged)
+    }
+
+    /// Puts a Start that stands for the journal in its place, and so makes room: the entries go, and what later ones depend
+    /// on stays. Each subscriber is owed the state of its topic from then on. It is no step. It costs a walk over the
+    /// entries, and needs memory for a second copy of all that is kept.
+    ///
+    /// It refuses with `JournalFull` where the last number is 2^62, else with `OutOfMemory`.
+    pub fn checkpoint(&mut self, alloc: Global) -> Result<(), ShardFault>
+        ensures ok { OnOk result (IsBegunAgain self.old self.new) }
+        ensures err { OnErr result (self.new ≡ self.old) }
+        ensures due { IsDue result (checkpoint_refusal self.old) }
+    {
+        if self.table.journal().last_number() >= MAX_COUNT {
+            return Err(ShardFault::JournalFull);
+        }
+        self.table.ready(alloc)?;
+        self.table.checkpoint(alloc)?;
+        Ok(())
     }
 
     /// All that the shard knows, for a node that missed what was told: of each replica that is not gone the counts up to its

@@ -13,7 +13,6 @@ use Rattle.presence_base.specs.contracts.dots.Dot as Dot
 use Rattle.dot_context.specs.contracts.runs.Runs as Runs
 use Rattle.dot_context.specs.contracts.context.Context as Context
 use Rattle.orswot_core.specs.contracts.set.Orswot as Orswot
-use Rattle.replica_status.specs.contracts.standing.Standing as Standing
 use Rattle.presence_journal_cuts.specs.contracts.chain.Chain as Chain
 use Rattle.tracker_shard_known_others.specs.contracts.others.Others as Others
 use Rattle.tracker_shard_known.specs.contracts.known.Known as Known
@@ -31,7 +30,6 @@ use Rattle.presence_journal_data.specs.contracts.standings.Standings as Standing
 use Rattle.presence_journal.specs.contracts.journal.Journal as Journal
 use Rattle.tracker_shard_shown.proofs.Crossing.{shown_send}
 use Rattle.tracker_shard_feeds.proofs.Crossing.{feeds_send}
-use Rattle.tracker_shard_indexed.specs.contracts.parts.Stage as Stage
 use Rattle.tracker_shard_indexed.specs.contracts.parts.Parts as Parts
 use Rattle.tracker_shard_indexed.specs.contracts.indexed.Indexed as Indexed
 

@@ -1,4 +1,11 @@
+ghost use Rattle.std.specs.Prelude.{◌≡◌, ◌<◌, ◌^◌, true, IfOk};
+ghost use Rattle.presence_journal.specs.History.{last_number};
+ghost use Rattle.presence_journal.specs.Table.{IsLegal as IsLegalHistory};
+ghost use Rattle.tracker_shard_indexed.specs.Parts.{IsKeptOf};
+ghost use Rattle.tracker_shard_indexed.specs.Starting.{IsBegunAgain as BeginsAgain};
+
 use crate::parts::{Parts, Stage};
+use crate::starting::{kept_of, start_of};
 use crate::taking::{copy_items, state_item, taken, taken_shared};
 use delta_range::Delta;
 use orswot_core::Told;
@@ -41,16 +48,31 @@ impl Model for Indexed {
     ghost invariant = { λ x. IsSound x.journal x.parts };
 }
 
+// A journal that begins with a Start that stands for this one, and what is kept of it.
+fn begun_again(alloc: Global, journal: &Journal, parts: &Parts) -> Result<Indexed, AllocError>
+    requires kept { IsKeptOf journal.now parts.now }
+    requires legal { IsLegalHistory journal.now }
+    requires room { last_number journal.now < 2 ^ 62 }
+    ensures begins { IfOk result (λ x. BeginsAgain journal.now x.history) }
+    ensures ready { IfOk result (λ x. x.is_ready ≡ true) }
+{
+    let start = start_of(alloc, journal, parts)?;
+    let parts = kept_of(alloc, &start)?;
+    let journal = Journal::of_start(alloc, start);
+    Ok(Indexed { journal, parts })
+}
+
 impl Indexed {
-    ghost use Rattle.std.specs.Prelude.{◌≡◌, true, false, Some, option_copied, option_map, IfOk, OnOk, OnErr};
+    ghost use Rattle.std.specs.Prelude.{◌≡◌, ◌<◌, ◌^◌, true, false, Some, option_copied, option_map, IfOk, OnOk, OnErr};
     ghost use Rattle.presence_base.specs.Refs.{IsCount};
-    ghost use Rattle.presence_journal.specs.History.{begun, is_full, status, IsTop};
+    ghost use Rattle.presence_journal.specs.History.{begun, is_full, last_number, status, IsTop};
     ghost use Rattle.presence_journal.specs.Limits.{is_within_limits};
     ghost use Rattle.presence_journal.specs.Present.{listed};
     ghost use Rattle.presence_journal.specs.Queue.{topic_of, queue, items_given, is_waiting};
     ghost use Rattle.presence_journal.specs.Table.{IsLegal, AreWithinLimits, outcome_of, after, listed_key, rows_of_key, rows_of_pid};
     ghost use Rattle.presence_journal_cuts.specs.Cuts.{IsCut};
     ghost use Rattle.presence_journal_sets.specs.Full.{IsFullOf};
+    ghost use Rattle.tracker_shard_indexed.specs.Starting.{IsBegunAgain};
     ghost use Rattle.tracker_shard_known.specs.Known.{next_left};
 
     /// An empty journal of the replica.
@@ -110,6 +132,24 @@ impl Indexed {
         self.journal.append(seat, step, outcome)?;
         self.parts.stage = Stage::Begun;
         let _ready = self.ready(alloc);
+        Ok(())
+    }
+
+    /// Puts a Start that stands for the journal in its place: the entries go, and what later ones depend on stays. Where
+    /// memory is refused nothing changes.
+    ///
+    /// It walks over the entries once, and needs memory for a second copy of all that is kept.
+    pub fn checkpoint(&mut self, alloc: Global) -> Result<(), AllocError>
+        requires ready { self.old.is_ready ≡ true }
+        requires room { last_number self.old.history < 2 ^ 62 }
+        ensures ok { OnOk result (IsBegunAgain self.old.history self.new.history) }
+        ensures ready { OnOk result (self.new.is_ready ≡ true) }
+        ensures err { OnErr result (self.new ≡ self.old) }
+    {
+        // Read for the proof alone: the journal is legal.
+        let _entries = self.journal.entries();
+        let next = begun_again(alloc, &self.journal, &self.parts)?;
+        *self = next;
         Ok(())
     }
 

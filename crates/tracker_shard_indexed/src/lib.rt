@@ -2,11 +2,13 @@
 //! what is not told yet.
 //!
 //! Its public contracts cite `specs/Seen`, on presence_journal's `History`, `Present`, `Queue` and `Table`. `specs/Parts`
-//! says how each part is tied to the history.
+//! says how each part is tied to the history, and `specs/Starting` what a journal is that begins again, on
+//! presence_journal_starts' `Checkpoints`.
 #![tactic(auto)]
 
 mod indexed;
 mod parts;
+mod starting;
 mod taking;
 
 pub use indexed::Indexed;

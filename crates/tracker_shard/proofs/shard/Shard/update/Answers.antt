@@ -1,9 +1,9 @@
-use Rattle.std.proofs.Common.{◌≡◌, false, Some, rules, arith, ap, sym, ◌∙◌}
+use Rattle.std.proofs.Common.{◌≡◌, false, Some, rules, ap, sym, ◌∙◌}
 use Rattle.presence_journal.specs.History.{History, is_full}
 use Rattle.presence_journal.specs.Table.{outcome_of}
 use Rattle.presence_journal_data.specs.declared.step.Step.TheVariants as steps_are
 use Rattle.presence_journal_data.specs.declared.entry.Outcome.TheVariants as outcomes_are
-use Rattle.tracker_shard.proofs.Tables.{tables, update_answers, update_replaced, none_due}
+use Rattle.tracker_shard.proofs.Tables.{update_answers, update_replaced, none_due}
 use Rattle.tracker_shard.proofs.shard.Shard.update.Goals as goal
 
 pub returns-clause-answer : goal.returns-clause-answer

@@ -1,4 +1,4 @@
-use Rattle.std.proofs.Common.{◌≡◌, Bool, true, false, not, Option, Some, None, List, ℕ, length, option_copied, sym, ap, ◌∙◌}
+use Rattle.std.proofs.Common.{false, Some, length, sym, ap, ◌∙◌}
 use Rattle.std.specs.Prelude.{is_some}
 use Rattle.presence_journal_data.specs.declared.entry.Outcome.{Outcome}
 use Rattle.presence_journal_data.specs.declared.entry.Outcome.TheVariants as outcomes_are
