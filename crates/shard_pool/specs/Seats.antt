@@ -5,7 +5,7 @@ use Rattle.presence_journal_data.specs.declared.step.Step.{Step}
 use Rattle.presence_journal.specs.History.{History}
 use Rattle.shard_pool_lent.specs.ShardFault.{ShardFault}
 use Rattle.shard_pool_lent.specs.declared.reply.Reply.{Reply}
-use Rattle.shard_pool_lent.specs.Hands.{Hand, hand_code, new_hand}
+use Rattle.shard_pool_lent.specs.Hands.{Hand, hand_code, new_hand, without_receipts}
 use Rattle.shard_pool_locks.specs.Seated.{Called}
 
 -- a seat at each shard
@@ -45,6 +45,18 @@ with_hand h s x =
     (cond (s == 1) (record { number = h.number; first = h.first; second = x; third = h.third; fourth = h.fourth })
     (cond (s == 2) (record { number = h.number; first = h.first; second = h.second; third = x; fourth = h.fourth })
     (record { number = h.number; first = h.first; second = h.second; third = h.third; fourth = x })))
+
+-- the seat that forgets its receipts at a shard up to a number
+abbrev pub without_receipts_at : Hands → ℕ → ℕ → Hands
+without_receipts_at h s n = with_hand h s (without_receipts (hand_at h s) n)
+
+-- the seat that forgets its receipts up to one number for each shard
+pub record IsTrimmed (old new : Hands) : Type 0 where
+  pub first : ℕ
+  pub second : ℕ
+  pub third : ℕ
+  pub fourth : ℕ
+  pub forgets : new ≡ record { number = old.number; first = without_receipts old.first first; second = without_receipts old.second second; third = without_receipts old.third third; fourth = without_receipts old.fourth fourth }
 
 -- the seat after a call at a shard: no other part is changed
 pub record CalledAt {A : Type 0} (node : List ℕ) (old new : Hands) (s : ℕ) (step : Step) (Gives : History → A → Type 0) (r : Result (Reply A) ShardFault) : Type 0 where

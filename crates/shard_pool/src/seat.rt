@@ -37,9 +37,9 @@ fn copied(alloc: Global, receipts: &[Receipt]) -> Result<Vec<Receipt>, AllocErro
 }
 
 impl<A: Lane, B: Lane, C: Lane, D: Lane> Seat<A, B, C, D> {
-    ghost use Rattle.std.specs.Prelude.{◌≡◌, IfOk};
+    ghost use Rattle.std.specs.Prelude.{◌≡◌, ◌<◌, IfOk};
     ghost use Rattle.shard_pool_lent.specs.Hands.{new_hand};
-    ghost use Rattle.shard_pool.specs.Seats.{new_seat};
+    ghost use Rattle.shard_pool.specs.Seats.{new_seat, without_receipts_at};
     ghost use Rattle.shard_pool.specs.Settling.{receipts_of};
 
     // A seat that made no call yet.
@@ -79,5 +79,18 @@ impl<A: Lane, B: Lane, C: Lane, D: Lane> Seat<A, B, C, D> {
         all.append(&mut copied(alloc, self.third.receipts())?)?;
         all.append(&mut copied(alloc, self.fourth.receipts())?)?;
         Ok(all)
+    }
+
+    /// Drops the receipts at a shard that are numbered at most `upto`. The calls stay counted.
+    pub fn forget(&mut self, shard: u32, upto: u64)
+        requires { shard < 4 }
+        ensures { self.new ≡ without_receipts_at self.old shard upto }
+    {
+        match shard {
+            0 => self.first.forget(upto),
+            1 => self.second.forget(upto),
+            2 => self.third.forget(upto),
+            _ => self.fourth.forget(upto),
+        }
     }
 }

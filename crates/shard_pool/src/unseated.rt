@@ -1,13 +1,14 @@
 // The calls without a seat, each at a shard that is named by its number. Since they let the lock go, their
 // contracts name a history behind the answer at most.
 ghost use Rattle.std.specs.Prelude.{◌≡◌, ◌<◌, IfOk, IfErr};
-ghost use Rattle.presence_journal.specs.History.{IsTop, status};
+ghost use Rattle.presence_journal.specs.History.{IsTop, start_of, status};
 ghost use Rattle.presence_journal_sets.specs.Full.{IsFullOf};
 ghost use Rattle.shard_pool_lent.specs.ShardFault.TheVariants.{OutOfMemory};
-ghost use Rattle.shard_pool_locks.specs.Unseated.{IsOf, IsBehind, IsMade, IsCutMade, TellsWaiting};
-ghost use Rattle.shard_pool.specs.Seats.{shard_of};
+ghost use Rattle.shard_pool_locks.specs.Unseated.{IsOf, IsBehind, IsMade, IsCutMade, IsCheckpointed, TellsWaiting};
+ghost use Rattle.shard_pool.specs.Seats.{shard_of, IsTrimmed};
 
 use crate::pool::Pool;
+use crate::seat::Seat;
 use delta_range::Delta;
 use orswot_core_told::Told;
 use presence_base::{Replica, Topic, shard_of};
@@ -15,8 +16,8 @@ use presence_journal::{Journal, Step};
 use replica_status::Status;
 use shard_pool_lent::{Lane, PoolFault, Sub};
 use shard_pool_locks::{
-    Gate, locked_cut, locked_full, locked_heard, locked_journal, locked_merge, locked_permdown,
-    locked_status, locked_tick, locked_top, locked_waits,
+    Gate, locked_checkpoint, locked_cut, locked_full, locked_heard, locked_journal, locked_merge,
+    locked_permdown, locked_start_of, locked_status, locked_tick, locked_top, locked_waits,
 };
 use std::alloc::Global;
 use std::sync::Wait;
@@ -185,5 +186,45 @@ impl<G: Gate, A: Lane, B: Lane, C: Lane, D: Lane> Pool<G, A, B, C, D> {
             2 => locked_waits(rt, &self.third, sub),
             _ => locked_waits(rt, &self.fourth, sub),
         }
+    }
+
+    /// Puts a Start in the place of a shard's journal, which makes room: the entries go, and all that later ones depend
+    /// on stays. Each subscriber of the shard is owed the state of its topic from then on. It is no step. While it
+    /// lasts nobody else is served by the shard; it costs a walk over the entries and a copy of all that the shard keeps.
+    ///
+    /// A seat's receipts from before have no entry any more: see `trim`.
+    pub fn checkpoint<R: Wait>(&self, rt: &R, alloc: Global, shard: u32) -> Result<(), PoolFault>
+        requires { shard < self.now.shards }
+        ensures { IsBehind self.now.own.name (λ h. IsCheckpointed h result) }
+    {
+        match shard {
+            0 => locked_checkpoint(rt, alloc, &self.first),
+            1 => locked_checkpoint(rt, alloc, &self.second),
+            2 => locked_checkpoint(rt, alloc, &self.third),
+            _ => locked_checkpoint(rt, alloc, &self.fourth),
+        }
+    }
+
+    /// The number of the Start of a shard's journal. It is no step.
+    pub fn start_of<R: Wait>(&self, rt: &R, shard: u32) -> u64
+        requires { shard < self.now.shards }
+        ensures { IsBehind self.now.own.name (λ h. result ≡ (start_of h).number) }
+    {
+        match shard {
+            0 => locked_start_of(rt, &self.first),
+            1 => locked_start_of(rt, &self.second),
+            2 => locked_start_of(rt, &self.third),
+            _ => locked_start_of(rt, &self.fourth),
+        }
+    }
+
+    /// Drops a seat's receipts up to the Start of each shard: those that have no entry any more.
+    pub fn trim<R: Wait>(&self, rt: &R, seat: &mut Seat<A, B, C, D>)
+        ensures { IsTrimmed seat.old seat.new }
+    {
+        seat.forget(0, locked_start_of(rt, &self.first));
+        seat.forget(1, locked_start_of(rt, &self.second));
+        seat.forget(2, locked_start_of(rt, &self.third));
+        seat.forget(3, locked_start_of(rt, &self.fourth));
     }
 }

@@ -1,5 +1,5 @@
 -- A seat at one shard: what it keeps of its calls there.
-use Rattle.std.specs.Prelude.{◌+◌, ℕ, zero, suc, List, [], ◌∷◌, ◌++◌, refl}
+use Rattle.std.specs.Prelude.{◌+◌, ℕ, zero, suc, List, [], ◌∷◌, ◌++◌, nat_lt, filter, refl}
 use Rattle.std.specs.Coded.{Coded, code_by, coded×, coded_ℕ, coded_list}
 use Rattle.presence_journal_data.specs.declared.step.Step.{Step}
 use Rattle.presence_journal_data.specs.declared.entry.Outcome.{Outcome}
@@ -22,6 +22,14 @@ receipt s n step o = record { shard = s; number = n; step = step; outcome = o }
 -- one call more
 abbrev pub with_call : Hand → Receipt → Hand
 with_call h r = record { seat = h.seat; shard = h.shard; receipts = h.receipts ++ r ∷ []; share = h.share + 1 }
+
+-- the receipts numbered above n
+abbrev pub above : ℕ → List Receipt → List Receipt
+above n = filter (λ r. nat_lt n r.number)
+
+-- the hand that forgets its receipts up to a number
+abbrev pub without_receipts : Hand → ℕ → Hand
+without_receipts h n = record { seat = h.seat; shard = h.shard; receipts = above n h.receipts; share = h.share }
 
 -- no call yet
 abbrev pub new_hand : ℕ → ℕ → Hand

@@ -8,8 +8,8 @@ ghost use Rattle.presence_journal_sets.specs.Full.{IsFullOf};
 ghost use Rattle.presence_journal_cuts.specs.Cuts.{IsCut};
 ghost use Rattle.tracker_shard.specs.Steps.{Stepped, Answers, AnswersDot, IsDue, refusal, refusal_at, is_found};
 ghost use Rattle.tracker_shard.specs.Steps.{AnswersRowsOfKey, AnswersRowsOfPid, AnswersListed, AnswersListedKey};
-ghost use Rattle.tracker_shard.specs.Steps.{AnswersItems, AnswersSub};
-ghost use Rattle.shard_pool_settled.specs.Seated.{seated};
+ghost use Rattle.tracker_shard.specs.Steps.{AnswersItems, AnswersSub, checkpoint_refusal};
+ghost use Rattle.tracker_shard.specs.Starting.{seats, IsBegunAgain};
 ghost use Rattle.shard_pool_lent.specs.Lent.{is_step, counted};
 
 use crate::lane::Lane;
@@ -27,7 +27,7 @@ use tracker_shard::{Shard, ShardFault, Sub};
 pub struct Locked<L: Lane> {
     shard: Shard,
     calls: Book<L>,
-    ghost counted: { calls.total ≡ seated shard },
+    ghost counted: { calls.total ≡ seats shard },
     ghost of_node: { (own shard).name ≡ L.node },
 }
 
@@ -383,6 +383,17 @@ impl<L: Lane> Locked<L> {
         ensures total { self.new.calls.total ≡ self.old.calls.total }
     {
         self.shard.merge(alloc, told)
+    }
+
+    /// Puts a Start that stands for the journal in its place, as `Shard::checkpoint` does. It is no step.
+    #[tactic(auto, using(crate::proofs::Counts::counts))]
+    pub fn checkpoint(&mut self, alloc: Global) -> Result<(), ShardFault>
+        ensures ok { OnOk result (IsBegunAgain self.old.shard self.new.shard) }
+        ensures err { OnErr result (self.new.shard ≡ self.old.shard) }
+        ensures due { IsDue result (checkpoint_refusal self.old.shard) }
+        ensures total { self.new.calls.total ≡ self.old.calls.total }
+    {
+        self.shard.checkpoint(alloc)
     }
 
     /// All that the shard knows. It is no step.

@@ -27,7 +27,7 @@ impl<L: Lane> Model for Part<L> {
 
 impl<L: Lane> Part<L> {
     ghost use Rattle.std.specs.Prelude.{◌≡◌, []};
-    ghost use Rattle.shard_pool_lent.specs.Hands.{new_hand};
+    ghost use Rattle.shard_pool_lent.specs.Hands.{new_hand, without_receipts};
 
     /// A part with one of the ledger's parts, for a seat that made no call yet.
     pub fn new(seat: u32, shard: u32, receipts: Vec<Receipt>, share: Share<L>) -> Part<L>
@@ -62,5 +62,12 @@ impl<L: Lane> Part<L> {
         ensures { result ≡ self.now.shard }
     {
         self.shard
+    }
+
+    /// Drops the receipts that are numbered at most `upto`. The calls stay counted.
+    pub fn forget(&mut self, upto: u64)
+        ensures { self.new ≡ without_receipts self.old upto }
+    {
+        self.receipts.retain(|receipt| receipt.number > upto);
     }
 }

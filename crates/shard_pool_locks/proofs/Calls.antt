@@ -1,16 +1,17 @@
 -- A call behind a lock, as it is seen once the lock is let go.
 use Rattle.std.proofs.Common.{◌≡◌, ℕ, List, None, true}
-use Rattle.std.specs.Prelude.{Result}
+use Rattle.std.specs.Prelude.{Result, OnOk, OnErr}
 use Rattle.presence_journal_data.specs.declared.step.Step.{Step}
 use Rattle.presence_journal.specs.History.{History, own}
 use Rattle.presence_journal.specs.Table.{IsLegal, outcome_of}
 use Rattle.shard_pool_lent.specs.ShardFault.{ShardFault}
-use Rattle.shard_pool_lent.specs.Steps.{Stepped, Answers, IsDue, refusal}
+use Rattle.shard_pool_lent.specs.Starting.{IsBegunAgain}
+use Rattle.shard_pool_lent.specs.Steps.{Stepped, Answers, IsDue, refusal, checkpoint_refusal}
 use Rattle.shard_pool_lent.specs.declared.reply.Reply.{Reply}
 use Rattle.shard_pool_lent.specs.Hands.{Hand}
 use Rattle.shard_pool_lent.specs.Lent.{Notes, Replies}
 use Rattle.shard_pool_locks.specs.Seated.{Called}
-use Rattle.shard_pool_locks.specs.Unseated.{IsBehind, IsMadeWith}
+use Rattle.shard_pool_locks.specs.Unseated.{IsBehind, IsMadeWith, IsCheckpointed}
 
 pub called : {A : Type 0} (h : History) (node : List ℕ) (old new : Hand) (step : Step) (Gives : History → A → Type 0) (r : Result (Reply A) ShardFault) → IsLegal h → (own h).name ≡ node → Notes h old new step r → Replies old.shard h step (Gives h) r → Called node old new step Gives r
 called h node old new step Gives r legal of_node notes answer = record { history = h; legal = legal; of_node = of_node; notes = notes; answer = answer }
@@ -21,4 +22,7 @@ is_behind h node Is legal of_node is = record { history = h; legal = legal; of_n
 pub is_made : {A : Type 0} (Gives : A → Type 0) (h left : History) (step : Step) (r : Result A ShardFault) → Stepped h left None step r → Answers Gives (outcome_of h step) r → IsDue r (refusal true h step) → IsMadeWith Gives h step r
 is_made Gives h left step r made answer due = record { left = left; step = made; answer = answer; due = due }
 
-pub ruleset unseated = (is_behind, is_made)
+pub is_checkpointed : (h left : History) (r : Result Unit ShardFault) → OnOk r (IsBegunAgain h left) → OnErr r (left ≡ h) → IsDue r (checkpoint_refusal h) → IsCheckpointed h r
+is_checkpointed h left r again same due = record { left = left; again = again; same = same; due = due }
+
+pub ruleset unseated = (is_behind, is_made, is_checkpointed)

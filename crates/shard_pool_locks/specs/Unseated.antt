@@ -1,5 +1,5 @@
 -- What stands behind the answer of a call without a seat, which has let the lock go.
-use Rattle.std.specs.Prelude.{◌≡◌, true, false, ℕ, Bool, List, None, Result, Ok, Err}
+use Rattle.std.specs.Prelude.{◌≡◌, true, false, ℕ, Bool, List, None, Result, Ok, Err, OnOk, OnErr}
 use Rattle.delta_range.specs.Deltas.{DeltaValue}
 use Rattle.presence_journal_data.specs.declared.step.Step.{Step}
 use Rattle.presence_journal_data.specs.declared.step.Step.TheVariants as steps_are
@@ -10,7 +10,8 @@ use Rattle.presence_journal_cuts.specs.Cuts.{IsCut}
 use Rattle.shard_pool_lent.specs.Sub.{Sub}
 use Rattle.shard_pool_lent.specs.ShardFault.{ShardFault}
 use Rattle.shard_pool_lent.specs.ShardFault.TheVariants.{NoSub}
-use Rattle.shard_pool_lent.specs.Steps.{Stepped, Answers, IsDue, refusal, is_found}
+use Rattle.shard_pool_lent.specs.Starting.{IsBegunAgain}
+use Rattle.shard_pool_lent.specs.Steps.{Stepped, Answers, IsDue, refusal, is_found, checkpoint_refusal}
 
 -- a legal journal of the node
 abbrev pub IsOf : List ℕ → History → Type 0
@@ -42,3 +43,10 @@ IsCutMade h r = IsMadeWith (IsCut h) h steps_are.Cut r
 abbrev pub TellsWaiting : History → Sub → Result Bool ShardFault → Type 0
 TellsWaiting h sub (Ok w) = (is_found h sub.slot sub.number ≡ true) × (w ≡ is_waiting (queue h sub.number))
 TellsWaiting h sub (Err e) = (is_found h sub.slot sub.number ≡ false) × (e ≡ NoSub)
+
+-- A Start that stands for the journal is put in its place, or it stays as it is where that is refused.
+pub record IsCheckpointed (h : History) (r : Result Unit ShardFault) : Type 0 where
+  pub left : History
+  pub again : OnOk r (IsBegunAgain h left)
+  pub same : OnErr r (left ≡ h)
+  pub due : IsDue r (checkpoint_refusal h)

@@ -15,6 +15,6 @@ pub use seated::{
     locked_unsubscribe, locked_untrack, locked_untrack_all, locked_update,
 };
 pub use unseated::{
-    locked_cut, locked_full, locked_heard, locked_journal, locked_merge, locked_permdown,
-    locked_status, locked_tick, locked_top, locked_waits,
+    locked_checkpoint, locked_cut, locked_full, locked_heard, locked_journal, locked_merge,
+    locked_permdown, locked_start_of, locked_status, locked_tick, locked_top, locked_waits,
 };

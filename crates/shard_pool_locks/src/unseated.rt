@@ -1,10 +1,10 @@
 // The calls without a seat, each behind the lock of one shard. The journal is read to show that it is legal
 // and of the node.
 ghost use Rattle.std.specs.Prelude.{◌≡◌, IfOk, IfErr};
-ghost use Rattle.presence_journal.specs.History.{IsTop, status};
+ghost use Rattle.presence_journal.specs.History.{IsTop, start_of, status};
 ghost use Rattle.presence_journal_sets.specs.Full.{IsFullOf};
 ghost use Rattle.shard_pool_lent.specs.ShardFault.TheVariants.{OutOfMemory};
-ghost use Rattle.shard_pool_locks.specs.Unseated.{IsOf, IsBehind, IsMade, IsCutMade, TellsWaiting};
+ghost use Rattle.shard_pool_locks.specs.Unseated.{IsOf, IsBehind, IsMade, IsCutMade, IsCheckpointed, TellsWaiting};
 
 use delta_range::Delta;
 use orswot_core_told::Told;
@@ -159,4 +159,28 @@ pub fn locked_waits<L: Lane, R: Wait>(
     let guard = shard.lock(rt);
     let _journal = guard.journal();
     guard.waits(sub)
+}
+
+/// Puts a Start that stands for the journal in its place.
+#[tactic(auto, using(crate::proofs::Calls::unseated))]
+pub fn locked_checkpoint<L: Lane, R: Wait>(
+    rt: &R,
+    alloc: Global,
+    shard: &Mutex<Locked<L>>,
+) -> Result<(), PoolFault>
+    ensures { IsBehind L.node (λ h. IsCheckpointed h result) }
+{
+    let mut guard = shard.lock(rt);
+    let _journal = guard.journal();
+    guard.checkpoint(alloc)
+}
+
+/// The number of the journal's Start.
+#[tactic(auto, using(crate::proofs::Calls::unseated))]
+pub fn locked_start_of<L: Lane, R: Wait>(rt: &R, shard: &Mutex<Locked<L>>) -> u64
+    ensures { IsBehind L.node (λ h. result ≡ (start_of h).number) }
+{
+    let guard = shard.lock(rt);
+    let journal = guard.journal();
+    journal.start().number
 }
