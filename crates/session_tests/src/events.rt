@@ -1,31 +1,32 @@
 //! Events of a joined topic, heartbeats, and what they are answered.
 
-use session_desk::{Desk, STATE, joined_desk, message};
+use crate::script::{Act, plays};
+use session_desk::{Desk, JOIN, JOINED, STATE, joined_desk, message};
 use std::alloc::Global;
 
-#[test]
-fn the_shout(rt: HostRuntime) {
-    let alloc = rt.alloc();
-    let Some(mut desk) = joined_desk(alloc) else {
-        assert!(rt; false);
-        return;
-    };
-    assert!(rt; desk.delivers(alloc, &[STATE]));
-    assert!(rt; desk.answers(alloc, r#"["1","6","room:lobby","shout",{"b":2}]"#, &[]));
-    assert!(rt; desk.delivers(alloc, &[r#"[null,null,"room:lobby","shout",{"b":2}]"#]));
-}
+const ONE_SHOUT: &[Act] = &[
+    Act::Says(JOIN, &[JOINED]),
+    Act::Told(&[STATE]),
+    Act::Says(r#"["1","6","room:lobby","shout",{"b":2}]"#, &[]),
+    Act::Told(&[r#"[null,null,"room:lobby","shout",{"b":2}]"#]),
+];
+
+const PING_AND_HEARTBEAT: &[Act] = &[
+    Act::Says(JOIN, &[JOINED]),
+    Act::Says(
+        r#"["9","2","room:lobby","ping",{"n":[1]}]"#,
+        &[r#"["1","2","room:lobby","phx_reply",{"response":{"n":[1]},"status":"ok"}]"#],
+    ),
+    Act::Says(
+        r#"["9","3","phoenix","heartbeat",1]"#,
+        &[r#"[null,"3","phoenix","phx_reply",{"response":{},"status":"ok"}]"#],
+    ),
+];
 
 #[test]
-fn heartbeats_and_pings(rt: HostRuntime) {
-    let alloc = rt.alloc();
-    let Some(mut desk) = joined_desk(alloc) else {
-        assert!(rt; false);
-        return;
-    };
-    let pong = r#"["1","2","room:lobby","phx_reply",{"response":{"n":[1]},"status":"ok"}]"#;
-    assert!(rt; desk.answers(alloc, r#"["9","2","room:lobby","ping",{"n":[1]}]"#, &[pong]));
-    let beat = r#"[null,"3","phoenix","phx_reply",{"response":{},"status":"ok"}]"#;
-    assert!(rt; desk.answers(alloc, r#"["9","3","phoenix","heartbeat",1]"#, &[beat]));
+fn shouts_pings_and_heartbeats(rt: HostRuntime) {
+    assert!(rt; plays(rt.alloc(), ONE_SHOUT));
+    assert!(rt; plays(rt.alloc(), PING_AND_HEARTBEAT));
 }
 
 const ROWS: &str = r#"{"u1":{"metas":[{"phx_ref":"a.1.1","x":1}]}}"#;

@@ -1,12 +1,16 @@
-//! Tests of the session: asked by texts over a port of a shard of its own, and over a lent shard. They
-//! have a crate of their own, so that they are checked over what is proved of the session, and the
-//! session isn't proved anew with them.
+//! Tests of the session: asked by texts over a port of a shard of its own, which may refuse a call of it,
+//! and over a lent shard, with and without a server's hooks. They have a crate of their own, so that they
+//! are checked over what is proved of the session, and the session isn't proved anew with them.
 #![tactic(auto)]
 
+#[cfg(test)]
+mod client;
 #[cfg(test)]
 mod deliveries;
 #[cfg(test)]
 mod events;
+#[cfg(test)]
+mod hooked;
 #[cfg(test)]
 mod joins;
 #[cfg(test)]
@@ -15,5 +19,13 @@ mod lent;
 mod limits;
 #[cfg(test)]
 mod reasons;
+#[cfg(test)]
+mod refusals;
+#[cfg(test)]
+mod refused_deliveries;
+#[cfg(test)]
+mod refused_events;
+#[cfg(test)]
+mod script;
 #[cfg(test)]
 mod words;

@@ -1,88 +1,82 @@
-use crate::desk::{new_shard, row_references, track, untrack, untrack_all, update};
-use delta_range::Delta;
-use std::alloc::{AllocError, Global};
+//! Cuts: the range, the runs of older counts and the rows of each.
+
+use crate::desk::{Ask, answers};
 use std::test::Fail;
-use tracker_shard::Shard;
 
-// The range, the runs of older counts and the rows of a delta.
-fn told(alloc: Global, delta: &Delta) -> Result<String, AllocError> {
-    let mut text = format!(in alloc; "{}-{}:", delta.from(), delta.to())?;
-    for run in delta.older() {
-        let counts = format!(in alloc; " {}-{}", run.0, run.1)?;
-        text.push_str(counts.as_str())?;
+const TRACK_AND_UNTRACK: &[Ask] = &[
+    Ask::Track(5, "u2"),
+    Ask::Cut,
+    Ask::Untrack(5, "u2"),
+    Ask::Cut,
+    Ask::Cut,
+];
+
+// A cut tells whole chains: a node that gets the first and the third alone knows all three counts, and
+// shows nothing.
+const WHOLE_CHAINS: &[Ask] = &[
+    Ask::Track(5, "u2"),
+    Ask::Cut,
+    Ask::Update(5, "u2"),
+    Ask::Cut,
+    Ask::Untrack(5, "u2"),
+    Ask::Cut,
+];
+
+// Rows that come and go between two cuts are told by the range.
+const BETWEEN_TWO_CUTS: &[Ask] = &[
+    Ask::Track(5, "u1"),
+    Ask::Update(5, "u1"),
+    Ask::Track(5, "u2"),
+    Ask::Untrack(5, "u1"),
+    Ask::Cut,
+];
+
+// A cut tells of a chain what went since the last one: the second update's old row came since then, and
+// what it had replaced is older.
+const SINCE_THE_LAST_CUT: &[Ask] = &[
+    Ask::Track(5, "u2"),
+    Ask::Cut,
+    Ask::Update(5, "u2"),
+    Ask::Update(5, "u2"),
+    Ask::Cut,
+    Ask::Untrack(5, "u2"),
+    Ask::Cut,
+];
+
+// Rows that go at once are told with their chains. An untrack of all names them in order of their keys.
+const AT_ONCE: &[Ask] = &[
+    Ask::Track(5, "u1"),
+    Ask::Track(5, "u2"),
+    Ask::Cut,
+    Ask::Update(5, "u1"),
+    Ask::Cut,
+    Ask::UntrackAll(5),
+    Ask::Cut,
+    Ask::Cut,
+];
+
+#[test]
+fn worked_cuts(rt: HostRuntime) -> Result<(), Fail> {
+    for (asks, want) in [
+        (
+            TRACK_AND_UNTRACK,
+            "a.1.1;0-1:: a.1.1 ;a.1.1 ;1-2: 0-1: ;2-2:: ;",
+        ),
+        (
+            WHOLE_CHAINS,
+            "a.1.1;0-1:: a.1.1 ;a.1.2;1-2: 0-1: a.1.2 ;a.1.2 ;2-3: 0-2: ;",
+        ),
+        (BETWEEN_TWO_CUTS, "a.1.1;a.1.2;a.1.3;a.1.2 ;0-4:: a.1.3 ;"),
+        (
+            SINCE_THE_LAST_CUT,
+            "a.1.1;0-1:: a.1.1 ;a.1.2;a.1.3;1-3: 0-1: a.1.3 ;a.1.3 ;3-4: 0-3: ;",
+        ),
+        (
+            AT_ONCE,
+            "a.1.1;a.1.2;0-2:: a.1.1 a.1.2 ;a.1.3;2-3: 0-1: a.1.3 ;a.1.3 a.1.2 ;3-4: 0-3: ;4-4:: ;",
+        ),
+    ] {
+        assert!(rt; answers(rt.alloc(), asks, want)?, "{want}");
     }
-    text.push_str(": ")?;
-    let rows = row_references(alloc, delta.live())?;
-    text.push_str(rows.as_str())?;
-    Ok(text)
-}
-
-fn cut(alloc: Global, shard: &mut Shard) -> Result<String, Fail> {
-    let delta = shard.cut(alloc)?;
-    Ok(told(alloc, &delta)?)
-}
-
-#[test]
-fn a_cut_of_a_track_and_one_of_its_untrack(rt: HostRuntime) -> Result<(), Fail> {
-    let mut shard = new_shard(rt.alloc())?;
-    track(rt.alloc(), &mut shard, 5, "u2")?;
-    assert!(rt; cut(rt.alloc(), &mut shard)?.as_str() == "0-1:: a.1.1 ");
-    untrack(rt.alloc(), &mut shard, 5, "u2")?;
-    assert!(rt; cut(rt.alloc(), &mut shard)?.as_str() == "1-2: 0-1: ");
-    assert!(rt; cut(rt.alloc(), &mut shard)?.as_str() == "2-2:: ");
-    Ok(())
-}
-
-// A node that gets the first and the third alone knows all three counts, and shows nothing.
-#[test]
-fn a_cut_tells_whole_chains(rt: HostRuntime) -> Result<(), Fail> {
-    let mut shard = new_shard(rt.alloc())?;
-    track(rt.alloc(), &mut shard, 5, "u2")?;
-    assert!(rt; cut(rt.alloc(), &mut shard)?.as_str() == "0-1:: a.1.1 ");
-    update(rt.alloc(), &mut shard, 5, "u2")?;
-    assert!(rt; cut(rt.alloc(), &mut shard)?.as_str() == "1-2: 0-1: a.1.2 ");
-    untrack(rt.alloc(), &mut shard, 5, "u2")?;
-    assert!(rt; cut(rt.alloc(), &mut shard)?.as_str() == "2-3: 0-2: ");
-    Ok(())
-}
-
-#[test]
-fn rows_that_come_and_go_between_two_cuts_are_told_by_the_range(
-    rt: HostRuntime,
-) -> Result<(), Fail> {
-    let mut shard = new_shard(rt.alloc())?;
-    track(rt.alloc(), &mut shard, 5, "u1")?;
-    update(rt.alloc(), &mut shard, 5, "u1")?;
-    track(rt.alloc(), &mut shard, 5, "u2")?;
-    untrack(rt.alloc(), &mut shard, 5, "u1")?;
-    assert!(rt; cut(rt.alloc(), &mut shard)?.as_str() == "0-4:: a.1.3 ");
-    Ok(())
-}
-
-// The second update's old row came since the last cut, and what it had replaced is older.
-#[test]
-fn a_cut_tells_of_a_chain_what_went_since_the_last_one(rt: HostRuntime) -> Result<(), Fail> {
-    let mut shard = new_shard(rt.alloc())?;
-    track(rt.alloc(), &mut shard, 5, "u2")?;
-    assert!(rt; cut(rt.alloc(), &mut shard)?.as_str() == "0-1:: a.1.1 ");
-    update(rt.alloc(), &mut shard, 5, "u2")?;
-    update(rt.alloc(), &mut shard, 5, "u2")?;
-    assert!(rt; cut(rt.alloc(), &mut shard)?.as_str() == "1-3: 0-1: a.1.3 ");
-    untrack(rt.alloc(), &mut shard, 5, "u2")?;
-    assert!(rt; cut(rt.alloc(), &mut shard)?.as_str() == "3-4: 0-3: ");
-    Ok(())
-}
-
-#[test]
-fn a_cut_tells_rows_that_go_at_once_with_their_chains(rt: HostRuntime) -> Result<(), Fail> {
-    let mut shard = new_shard(rt.alloc())?;
-    track(rt.alloc(), &mut shard, 5, "u1")?;
-    track(rt.alloc(), &mut shard, 5, "u2")?;
-    assert!(rt; cut(rt.alloc(), &mut shard)?.as_str() == "0-2:: a.1.1 a.1.2 ");
-    update(rt.alloc(), &mut shard, 5, "u1")?;
-    assert!(rt; cut(rt.alloc(), &mut shard)?.as_str() == "2-3: 0-1: a.1.3 ");
-    untrack_all(rt.alloc(), &mut shard, 5)?;
-    assert!(rt; cut(rt.alloc(), &mut shard)?.as_str() == "3-4: 0-3: ");
-    assert!(rt; cut(rt.alloc(), &mut shard)?.as_str() == "4-4:: ");
     Ok(())
 }

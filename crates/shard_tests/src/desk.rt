@@ -1,55 +1,73 @@
-use presence_base::{
-    Dot, Json, Key, Meta, NodeName, Replica, Row, Topic, has_float, is_within_depth, ref_text,
-};
+//! A shard at its desk: what it is asked, and its answers as text.
+
+use crate::merge_desk::{Telling, replica, told};
+use presence_base::{Dot, Json, Key, Meta, Row, Topic, has_float, is_within_depth, ref_text};
 use presence_journal::{Item, MAX_PAYLOAD_DEPTH};
+use presence_journal_walks::walk_status;
 use serde_json::Value;
 use std::alloc::{AllocError, Global};
-use std::test::Fail;
 use tracker_shard::{Shard, ShardFault, Sub};
 
-// A call of a shard in a test. A pid stands first, then a key; the topic is `room:lobby` where none is named.
+pub(crate) const ROOM: &str = "room:lobby";
+
+// A call of a shard in a test. A pid stands first, then a key; the topic is the lobby where none is named.
 #[derive(Clone, Copy)]
 pub(crate) enum Ask {
     Track(u32, &'static str),
     Update(u32, &'static str),
+    // So many updates, of which the last is answered.
+    Updates(u32, &'static str, u32),
     Untrack(u32, &'static str),
     UntrackAll(u32),
     List,
     Get(&'static str),
     Subscribe(&'static str),
+    // A letter for each item.
     Take(u64),
+    // The items with their rows.
+    TakeRows(u64),
     Unsubscribe(u64),
     Shout(&'static str),
+    // So many shouts in the lobby, of which the last is answered.
+    Shouts(u32),
     Waits(u64, u64),
+    Cut,
+    Merge(Telling),
+    Heard(&'static str, u64),
+    Tick(u64),
+    PermDown(&'static str),
+    Status(&'static str),
+    // The same as the journal is walked.
+    WalkedStatus(&'static str),
+    Top(&'static str),
+    // How many rows of all nodes there are, shown or not.
+    LiveCount,
+    LastNumber,
 }
 
-pub(crate) fn topic(alloc: Global, text: &str) -> Result<Topic, Fail> {
-    Ok(Topic::new(alloc, text)?.ok_or("a topic")?)
+pub(crate) fn topic(alloc: Global, text: &str) -> Result<Topic, AllocError> {
+    Topic::new(alloc, text)?.ok_or(AllocError)
 }
 
-pub(crate) fn key(alloc: Global, text: &str) -> Result<Key, Fail> {
-    Ok(Key::new(alloc, text)?.ok_or("a key")?)
+pub(crate) fn key(alloc: Global, text: &str) -> Result<Key, AllocError> {
+    Key::new(alloc, text)?.ok_or(AllocError)
 }
 
-pub(crate) fn meta(alloc: Global) -> Result<Meta, Fail> {
-    let value = Value::from_str(alloc, "{\"x\":1}")?;
-    Ok(Meta::new(alloc, value)?.ok_or("a meta")?)
+pub(crate) fn meta(alloc: Global, text: &str) -> Result<Meta, AllocError> {
+    match Value::from_str(alloc, text) {
+        Ok(value) => Meta::new(alloc, value)?.ok_or(AllocError),
+        Err(_) => Err(AllocError),
+    }
 }
 
-pub(crate) fn new_shard(alloc: Global) -> Result<Shard, Fail> {
-    let name = NodeName::new(alloc, "a")?.ok_or("a name")?;
-    let own = Replica {
-        name,
-        incarnation: 1,
-    };
+// The shard of a node.
+pub(crate) fn shard_of(alloc: Global, name: &str) -> Result<Shard, AllocError> {
+    let own = replica(alloc, name)?;
     Ok(Shard::new(alloc, own))
 }
 
 // The dot's reference, or the refusal's name.
-pub(crate) fn dot_text(
-    alloc: Global,
-    answer: Result<Dot, ShardFault>,
-) -> Result<String, AllocError> {
+fn dot_text(alloc: Global, answer: Result<Dot, ShardFault>) -> Result<String, AllocError> {
     match answer {
         Ok(dot) => ref_text(alloc, &dot),
         Err(fault) => format!(in alloc; "{fault:?}"),
@@ -57,10 +75,7 @@ pub(crate) fn dot_text(
 }
 
 // The references, each with a space after it, or the refusal's name.
-pub(crate) fn dots_text(
-    alloc: Global,
-    answer: Result<Vec<Dot>, ShardFault>,
-) -> Result<String, AllocError> {
+fn dots_text(alloc: Global, answer: Result<Vec<Dot>, ShardFault>) -> Result<String, AllocError> {
     match answer {
         Ok(dots) => references(alloc, &dots),
         Err(fault) => format!(in alloc; "{fault:?}"),
@@ -77,7 +92,7 @@ pub(crate) fn references(alloc: Global, dots: &[Dot]) -> Result<String, AllocErr
     Ok(text)
 }
 
-pub(crate) fn rows_text(
+fn rows_text(
     alloc: Global,
     answer: Result<Vec<(Dot, Row)>, ShardFault>,
 ) -> Result<String, AllocError> {
@@ -97,81 +112,89 @@ pub(crate) fn row_references(alloc: Global, rows: &[(Dot, Row)]) -> Result<Strin
     Ok(text)
 }
 
+fn done(alloc: Global, answer: Result<(), ShardFault>) -> Result<String, AllocError> {
+    format!(in alloc; "{answer:?}")
+}
+
 // The calls, with what they answer as text.
 
-pub(crate) fn track(
-    alloc: Global,
-    shard: &mut Shard,
-    pid: u32,
-    name: &str,
-) -> Result<String, Fail> {
-    let topic = topic(alloc, "room:lobby")?;
+fn track(alloc: Global, shard: &mut Shard, pid: u32, name: &str) -> Result<String, AllocError> {
+    let topic = topic(alloc, ROOM)?;
     let key = key(alloc, name)?;
-    let meta = meta(alloc)?;
+    let meta = meta(alloc, "{\"x\":1}")?;
     let answer = shard.track(alloc, None, u64::from(pid), &topic, &key, &meta);
-    Ok(dot_text(alloc, answer)?)
+    dot_text(alloc, answer)
 }
 
-pub(crate) fn update(
-    alloc: Global,
-    shard: &mut Shard,
-    pid: u32,
-    name: &str,
-) -> Result<String, Fail> {
-    let topic = topic(alloc, "room:lobby")?;
+fn update(alloc: Global, shard: &mut Shard, pid: u32, name: &str) -> Result<String, AllocError> {
+    let topic = topic(alloc, ROOM)?;
     let key = key(alloc, name)?;
-    let meta = meta(alloc)?;
+    let meta = meta(alloc, "{\"x\":1}")?;
     let answer = shard.update(alloc, None, u64::from(pid), &topic, &key, &meta);
-    Ok(dot_text(alloc, answer)?)
+    dot_text(alloc, answer)
 }
 
-pub(crate) fn untrack(
+fn updates(
     alloc: Global,
     shard: &mut Shard,
     pid: u32,
     name: &str,
-) -> Result<String, Fail> {
-    let topic = topic(alloc, "room:lobby")?;
+    count: u32,
+) -> Result<String, AllocError> {
+    for _ in 1..count {
+        update(alloc, shard, pid, name)?;
+    }
+    update(alloc, shard, pid, name)
+}
+
+fn untrack(alloc: Global, shard: &mut Shard, pid: u32, name: &str) -> Result<String, AllocError> {
+    let topic = topic(alloc, ROOM)?;
     let key = key(alloc, name)?;
     let answer = shard.untrack(alloc, None, u64::from(pid), &topic, &key);
-    Ok(dots_text(alloc, answer)?)
+    dots_text(alloc, answer)
 }
 
-pub(crate) fn untrack_all(alloc: Global, shard: &mut Shard, pid: u32) -> Result<String, Fail> {
-    let topic = topic(alloc, "room:lobby")?;
+fn untrack_all(alloc: Global, shard: &mut Shard, pid: u32) -> Result<String, AllocError> {
+    let topic = topic(alloc, ROOM)?;
     let answer = shard.untrack_all(alloc, None, u64::from(pid), &topic);
-    Ok(dots_text(alloc, answer)?)
+    dots_text(alloc, answer)
 }
 
-pub(crate) fn list(alloc: Global, shard: &mut Shard) -> Result<String, Fail> {
-    let topic = topic(alloc, "room:lobby")?;
+fn list(alloc: Global, shard: &mut Shard) -> Result<String, AllocError> {
+    let topic = topic(alloc, ROOM)?;
     let answer = shard.list(alloc, None, &topic);
-    Ok(rows_text(alloc, answer)?)
+    rows_text(alloc, answer)
 }
 
-pub(crate) fn get(alloc: Global, shard: &mut Shard, name: &str) -> Result<String, Fail> {
-    let topic = topic(alloc, "room:lobby")?;
+fn get(alloc: Global, shard: &mut Shard, name: &str) -> Result<String, AllocError> {
+    let topic = topic(alloc, ROOM)?;
     let key = key(alloc, name)?;
     let answer = shard.get(alloc, None, &topic, &key);
-    Ok(rows_text(alloc, answer)?)
+    rows_text(alloc, answer)
 }
 
-pub(crate) fn subscribe(alloc: Global, shard: &mut Shard, room: &str) -> Result<String, Fail> {
+fn subscribe(alloc: Global, shard: &mut Shard, room: &str) -> Result<String, AllocError> {
     let topic = topic(alloc, room)?;
     let answer = shard.subscribe(alloc, None, &topic);
-    Ok(format!(in alloc; "{answer:?}")?)
+    format!(in alloc; "{answer:?}")
 }
 
-// A letter for each item that is taken, or the refusal's name.
-pub(crate) fn take(alloc: Global, shard: &mut Shard, number: u64) -> Result<String, AllocError> {
+// What is taken, or the refusal's name: letters, or rows.
+fn take(
+    alloc: Global,
+    shard: &mut Shard,
+    number: u64,
+    with_rows: bool,
+) -> Result<String, AllocError> {
     let sub = Sub { slot: 0, number };
     match shard.take(alloc, None, &sub, 256) {
+        Ok(items) if with_rows => items_text(alloc, &items),
         Ok(items) => item_letters(alloc, &items),
         Err(fault) => format!(in alloc; "{fault:?}"),
     }
 }
 
-pub(crate) fn item_letters(alloc: Global, items: &[Item]) -> Result<String, AllocError> {
+fn item_letters(alloc: Global, items: &[Item]) -> Result<String, AllocError> {
     let mut text = String::new(alloc);
     for item in items {
         text.push(letter(item))?;
@@ -179,7 +202,7 @@ pub(crate) fn item_letters(alloc: Global, items: &[Item]) -> Result<String, Allo
     Ok(text)
 }
 
-pub(crate) fn letter(item: &Item) -> char {
+fn letter(item: &Item) -> char {
     match item {
         Item::State(_) => 'S',
         Item::Diff(_) => 'D',
@@ -187,57 +210,153 @@ pub(crate) fn letter(item: &Item) -> char {
     }
 }
 
-pub(crate) fn unsubscribe(
+fn items_text(alloc: Global, items: &[Item]) -> Result<String, AllocError> {
+    let mut text = String::new(alloc);
+    for item in items {
+        let item = item_text(alloc, item)?;
+        text.push_str(item.as_str())?;
+    }
+    Ok(text)
+}
+
+// An item: `state`, or what joins and what leaves.
+fn item_text(alloc: Global, item: &Item) -> Result<String, AllocError> {
+    match item {
+        Item::State(rows) => {
+            let rows = row_references(alloc, rows.as_slice())?;
+            format!(in alloc; "state {rows}")
+        }
+        Item::Diff(diff) => changes_text(alloc, diff.joins.as_slice(), diff.leaves.as_slice()),
+        Item::Shout(_) => String::from_str(alloc, "shout "),
+    }
+}
+
+pub(crate) fn changes_text(
     alloc: Global,
-    shard: &mut Shard,
-    number: u64,
+    joins: &[(Dot, Row)],
+    leaves: &[(Dot, Row)],
 ) -> Result<String, AllocError> {
-    let answer = shard.unsubscribe(alloc, None, &Sub { slot: 0, number });
-    format!(in alloc; "{answer:?}")
+    let joins = row_references(alloc, joins)?;
+    let leaves = row_references(alloc, leaves)?;
+    format!(in alloc; "+ {joins}- {leaves}")
 }
 
-pub(crate) fn payload(alloc: Global) -> Result<Json, Fail> {
-    Ok(Json::new(Value::from_str(alloc, "{\"b\":2}")?))
+fn payload(alloc: Global) -> Result<Json, AllocError> {
+    match Value::from_str(alloc, "{\"b\":2}") {
+        Ok(value) => Ok(Json::new(value)),
+        Err(_) => Err(AllocError),
+    }
 }
 
-pub(crate) fn shout(alloc: Global, shard: &mut Shard, room: &str) -> Result<String, Fail> {
+fn shout(alloc: Global, shard: &mut Shard, room: &str) -> Result<String, AllocError> {
     let topic = topic(alloc, room)?;
     let payload = payload(alloc)?;
     if !is_within_depth(payload.as_value(), MAX_PAYLOAD_DEPTH) || has_float(payload.as_value()) {
-        return Err("a payload".into());
+        return Err(AllocError);
     }
     let answer = shard.shout(alloc, None, &topic, &payload);
-    Ok(format!(in alloc; "{answer:?}")?)
+    done(alloc, answer)
 }
 
-pub(crate) fn waits(
-    alloc: Global,
-    shard: &Shard,
-    slot: u64,
-    number: u64,
-) -> Result<String, AllocError> {
-    let answer = shard.waits(&Sub { slot, number });
-    format!(in alloc; "{answer:?}")
+fn shouts(alloc: Global, shard: &mut Shard, count: u32) -> Result<String, AllocError> {
+    for _ in 1..count {
+        shout(alloc, shard, ROOM)?;
+    }
+    shout(alloc, shard, ROOM)
 }
 
-pub(crate) fn call(alloc: Global, shard: &mut Shard, ask: Ask) -> Result<String, Fail> {
+// The range, the runs of older counts and the rows of a cut, or the refusal's name.
+fn cut(alloc: Global, shard: &mut Shard) -> Result<String, AllocError> {
+    let delta = match shard.cut(alloc) {
+        Ok(delta) => delta,
+        Err(fault) => return format!(in alloc; "{fault:?}"),
+    };
+    let mut text = format!(in alloc; "{}-{}:", delta.from(), delta.to())?;
+    for run in delta.older() {
+        let counts = format!(in alloc; " {}-{}", run.0, run.1)?;
+        text.push_str(counts.as_str())?;
+    }
+    let rows = row_references(alloc, delta.live())?;
+    format!(in alloc; "{text}: {rows}")
+}
+
+// Takes in what is told.
+fn merge(alloc: Global, shard: &mut Shard, telling: &Telling) -> Result<String, AllocError> {
+    let told = told(alloc, telling)?;
+    let answer = shard.merge(alloc, &told);
+    done(alloc, answer)
+}
+
+fn status(alloc: Global, shard: &Shard, name: &str, walked: bool) -> Result<String, AllocError> {
+    let replica = replica(alloc, name)?;
+    let status = if walked {
+        walk_status(shard.journal(), &replica)
+    } else {
+        shard.status(&replica)
+    };
+    format!(in alloc; "{status:?}")
+}
+
+// A call that no session makes.
+fn note(alloc: Global, shard: &mut Shard, ask: Ask) -> Result<String, AllocError> {
+    match ask {
+        Ask::Cut => cut(alloc, shard),
+        Ask::Merge(telling) => merge(alloc, shard, &telling),
+        Ask::Heard(name, now) => {
+            let replica = replica(alloc, name)?;
+            done(alloc, shard.heard(alloc, replica, now))
+        }
+        Ask::Tick(now) => done(alloc, shard.tick(alloc, now)),
+        Ask::PermDown(name) => {
+            let replica = replica(alloc, name)?;
+            done(alloc, shard.permdown(alloc, replica))
+        }
+        Ask::Status(name) => status(alloc, shard, name, false),
+        Ask::WalkedStatus(name) => status(alloc, shard, name, true),
+        Ask::Top(name) => {
+            let replica = replica(alloc, name)?;
+            let top = shard.top(&replica);
+            format!(in alloc; "{top}")
+        }
+        Ask::LiveCount => {
+            let full = shard.full(alloc)?;
+            format!(in alloc; "{}", full.live().len())
+        }
+        Ask::LastNumber => format!(in alloc; "{}", shard.journal().last_number()),
+        _ => String::from_str(alloc, "no such call"),
+    }
+}
+
+fn call(alloc: Global, shard: &mut Shard, ask: Ask) -> Result<String, AllocError> {
     match ask {
         Ask::Track(pid, name) => track(alloc, shard, pid, name),
         Ask::Update(pid, name) => update(alloc, shard, pid, name),
+        Ask::Updates(pid, name, count) => updates(alloc, shard, pid, name, count),
         Ask::Untrack(pid, name) => untrack(alloc, shard, pid, name),
         Ask::UntrackAll(pid) => untrack_all(alloc, shard, pid),
         Ask::List => list(alloc, shard),
         Ask::Get(name) => get(alloc, shard, name),
         Ask::Subscribe(room) => subscribe(alloc, shard, room),
-        Ask::Take(number) => Ok(take(alloc, shard, number)?),
-        Ask::Unsubscribe(number) => Ok(unsubscribe(alloc, shard, number)?),
+        Ask::Take(number) => take(alloc, shard, number, false),
+        Ask::TakeRows(number) => take(alloc, shard, number, true),
+        Ask::Unsubscribe(number) => {
+            done(
+                alloc,
+                shard.unsubscribe(alloc, None, &Sub { slot: 0, number }),
+            )
+        }
         Ask::Shout(room) => shout(alloc, shard, room),
-        Ask::Waits(slot, number) => Ok(waits(alloc, shard, slot, number)?),
+        Ask::Shouts(count) => shouts(alloc, shard, count),
+        Ask::Waits(slot, number) => {
+            let answer = shard.waits(&Sub { slot, number });
+            format!(in alloc; "{answer:?}")
+        }
+        other => note(alloc, shard, other),
     }
 }
 
 // What the calls answer in turn, each with a semicolon after it.
-pub(crate) fn said(alloc: Global, shard: &mut Shard, asks: &[Ask]) -> Result<String, Fail> {
+pub(crate) fn said(alloc: Global, shard: &mut Shard, asks: &[Ask]) -> Result<String, AllocError> {
     let mut text = String::new(alloc);
     for ask in asks {
         let answer = call(alloc, shard, *ask)?;
@@ -247,15 +366,16 @@ pub(crate) fn said(alloc: Global, shard: &mut Shard, asks: &[Ask]) -> Result<Str
     Ok(text)
 }
 
-// The same, of a new shard.
-pub(crate) fn answers(alloc: Global, asks: &[Ask]) -> Result<String, Fail> {
-    let mut shard = new_shard(alloc)?;
-    said(alloc, &mut shard, asks)
+// Whether the calls of a new shard of `a` are answered so.
+pub(crate) fn answers(alloc: Global, asks: &[Ask], want: &str) -> Result<bool, AllocError> {
+    let mut shard = shard_of(alloc, "a")?;
+    let said = said(alloc, &mut shard, asks)?;
+    Ok(said.as_str() == want)
 }
 
-// The shard after these calls.
-pub(crate) fn shard_after(alloc: Global, asks: &[Ask]) -> Result<Shard, Fail> {
-    let mut shard = new_shard(alloc)?;
+// The shard of `a` after these calls.
+pub(crate) fn shard_after(alloc: Global, asks: &[Ask]) -> Result<Shard, AllocError> {
+    let mut shard = shard_of(alloc, "a")?;
     said(alloc, &mut shard, asks)?;
     Ok(shard)
 }

@@ -1,4 +1,5 @@
-//! Tests of a shard and its journal, by their public calls.
+//! Tests of a shard and its journal by their public calls, of a shard that hears what other nodes tell, and
+//! of a link between nodes with shards.
 #![tactic(auto)]
 
 #[cfg(test)]
@@ -9,5 +10,21 @@ mod cuts;
 mod desk;
 #[cfg(test)]
 mod journal;
+#[cfg(test)]
+mod link_node;
+#[cfg(test)]
+mod link_runs;
+#[cfg(test)]
+mod link_telling;
+#[cfg(test)]
+mod link_wire;
+#[cfg(test)]
+mod merge_cuts;
+#[cfg(test)]
+mod merge_desk;
+#[cfg(test)]
+mod merge_telling;
+#[cfg(test)]
+mod merging;
 #[cfg(test)]
 mod statuses;

@@ -1,34 +1,10 @@
 //! One node's cuts and full value, as lines to another node.
-use crate::node::{Shards, at_a, replica, shards_of};
+use crate::desk::{key, meta, topic};
+use crate::link_node::{Shards, at_a, shards_of};
+use crate::merge_desk::replica;
 use delta_range::Delta;
 use node_links::{Line, encode_line};
-use presence_base::{Key, Meta, Topic};
-use serde_json::Value;
 use std::alloc::Global;
-
-fn key(alloc: Global, text: &str) -> Option<Key> {
-    match Key::new(alloc, text) {
-        Ok(key) => key,
-        Err(_) => None,
-    }
-}
-
-fn room(alloc: Global) -> Option<Topic> {
-    match Topic::new(alloc, "room:a") {
-        Ok(topic) => topic,
-        Err(_) => None,
-    }
-}
-
-fn meta(alloc: Global) -> Option<Meta> {
-    let Ok(value) = Value::from_str(alloc, "{}") else {
-        return None;
-    };
-    match Meta::new(alloc, value) {
-        Ok(meta) => meta,
-        Err(_) => None,
-    }
-}
 
 // Node `b`, and the lines that it sent.
 #[derive(Drop)]
@@ -39,9 +15,9 @@ struct Teller {
 
 // Session 5 is tracked in the room.
 fn comes(alloc: Global, teller: &mut Teller, name: &str) -> Option<()> {
-    let room = room(alloc)?;
-    let key = key(alloc, name)?;
-    let meta = meta(alloc)?;
+    let room = topic(alloc, "room:a").ok()?;
+    let key = key(alloc, name).ok()?;
+    let meta = meta(alloc, "{}").ok()?;
     match teller
         .shards
         .first
@@ -53,8 +29,8 @@ fn comes(alloc: Global, teller: &mut Teller, name: &str) -> Option<()> {
 }
 
 fn goes(alloc: Global, teller: &mut Teller, name: &str) -> Option<()> {
-    let room = room(alloc)?;
-    let key = key(alloc, name)?;
+    let room = topic(alloc, "room:a").ok()?;
+    let key = key(alloc, name).ok()?;
     match teller.shards.first.untrack(alloc, None, 5, &room, &key) {
         Ok(_) => Some(()),
         Err(_) => None,
@@ -73,7 +49,7 @@ fn sends(alloc: Global, teller: &mut Teller, line: &Line) -> Option<()> {
 
 // The beat of `b` with what its first shard did since its last cut.
 fn beat(alloc: Global, delta: &Delta) -> Option<Line> {
-    let replica = replica(alloc, "b")?;
+    let replica = replica(alloc, "b").ok()?;
     match delta.told(alloc) {
         Ok(told) => Some(Line::Beat {
             shard: 0,

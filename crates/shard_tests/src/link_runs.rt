@@ -1,5 +1,5 @@
 //! The worked run of a link, over shards.
-use crate::node::{Node, at_a};
+use crate::link_node::{Node, at_a};
 use node_links::DialFault;
 use std::alloc::Global;
 
@@ -64,18 +64,6 @@ fn makes_no_entry(alloc: Global, lines: &str, is_taken: bool) -> bool {
     }
 }
 
-#[test]
-fn a_beat_of_the_own_node_makes_no_entry(rt: HostRuntime) {
-    let alloc = rt.alloc();
-    assert!(rt;
-        makes_no_entry(
-            alloc,
-            "[\"hello\",\"b\",1,2]\n[\"beat\",0,\"a\",1,9,null]\n",
-            true
-        )
-    );
-}
-
 // Lines that are refused, each for another reason.
 const JUNK: [&str; 8] = [
     "[\"beat\",0,\"b\",1,2",
@@ -88,18 +76,11 @@ const JUNK: [&str; 8] = [
     "[\"hello\",\"b\",1,3]",
 ];
 
-fn junk_makes_no_entry(alloc: Global, junk: &str) -> bool {
-    match format!(in alloc; "{HELLO}{junk}\n") {
-        Ok(lines) => makes_no_entry(alloc, lines.as_str(), false),
+// Whether a line behind the hello makes no entry, be it taken or refused.
+fn line_makes_no_entry(alloc: Global, line: &str, is_taken: bool) -> bool {
+    match format!(in alloc; "{HELLO}{line}\n") {
+        Ok(lines) => makes_no_entry(alloc, lines.as_str(), is_taken),
         Err(_) => false,
-    }
-}
-
-#[test]
-fn refused_lines_leave_the_shards_as_they_were(rt: HostRuntime) {
-    let alloc = rt.alloc();
-    for junk in &JUNK {
-        assert!(rt; junk_makes_no_entry(alloc, junk));
     }
 }
 
@@ -107,6 +88,7 @@ fn is_refused_without_entry(alloc: Global, node: &mut Node<'_>) -> bool {
     matches!(node.accepts(alloc), Err(DialFault::Link(_))) && node.shards.entries() == 0
 }
 
+// Whether a line before any hello is refused, and makes no entry.
 fn refuses_a_line_first(alloc: Global) -> bool {
     match at_a(alloc, "[\"beat\",0,\"b\",1,2,null]\n") {
         Some(mut node) => is_refused_without_entry(alloc, &mut node),
@@ -114,7 +96,14 @@ fn refuses_a_line_first(alloc: Global) -> bool {
     }
 }
 
+// Refused lines leave the shards as they were, and so does a beat of the own node.
 #[test]
-fn a_line_before_any_hello_makes_no_entry(rt: HostRuntime) {
-    assert!(rt; refuses_a_line_first(rt.alloc()));
+fn lines_that_make_no_entry(rt: HostRuntime) {
+    let alloc = rt.alloc();
+    for junk in JUNK {
+        assert!(rt; line_makes_no_entry(alloc, junk, false), "{junk}");
+    }
+    let own = "[\"beat\",0,\"a\",1,9,null]";
+    assert!(rt; line_makes_no_entry(alloc, own, true));
+    assert!(rt; refuses_a_line_first(alloc));
 }

@@ -1,5 +1,6 @@
-//! Each call that a text makes of the port refused in turn, and what that leaves.
+//! Each call that a text or the end of a session makes of the port refused in turn, and what that leaves.
 
+use crate::script::ends_clear;
 use session_desk::{
     CLOSE, Desk, JOIN, JOINED, LATE, LEAVE, LEFT, REJOIN, REJOINED, SessionFault, ShardFault,
     UPDATE, UPDATED, desk_of, fault_for,
@@ -165,46 +166,6 @@ fn an_unknown_subscriber_at_the_end_of_a_join(rt: HostRuntime) {
     }
 }
 
-// A second join whose track the port refuses because the key is tracked has ended the old join, and
-// isn't joined itself. The session goes on.
-#[test]
-fn a_second_join_of_a_tracked_key(rt: HostRuntime) {
-    let alloc = rt.alloc();
-    let Some(mut desk) = desk_after(alloc, &[JOIN]) else {
-        assert!(rt; false);
-        return;
-    };
-    desk.refuse(2, ShardFault::AlreadyTracked);
-    let reply =
-        r#"["4","4","room:lobby","phx_reply",{"response":{"reason":"already tracked"},"status":"error"}]"#;
-    assert!(rt; desk.answers(alloc, REJOIN, &[CLOSE, reply]));
-    assert!(rt; !desk.failed());
-    assert!(rt; desk.names(&[]));
-    assert!(rt; desk.is_clear(alloc, "room:lobby"));
-    assert!(rt; desk.answers(alloc, REJOIN, &[REJOINED]));
-}
-
-#[test]
-fn a_refused_subscription_behind_a_track(rt: HostRuntime) {
-    let alloc = rt.alloc();
-    let Some(mut desk) = desk_after(alloc, &[JOIN]) else {
-        assert!(rt; false);
-        return;
-    };
-    desk.refuse(1, ShardFault::JournalFull);
-    assert!(rt; desk.fault(alloc, LATE) == Some(SessionFault::ShardFull));
-    assert!(rt; desk.failed());
-    assert!(rt; desk.names(&["room:lobby", "room:x"]));
-    assert!(rt; desk.fault(alloc, LATE) == Some(SessionFault::Failed));
-    desk.refuse(1, ShardFault::JournalFull);
-    assert!(rt; desk.end(alloc) == Err(SessionFault::ShardFull));
-    assert!(rt; desk.names(&["room:lobby"]));
-    assert!(rt; desk.end(alloc) == Ok(()));
-    assert!(rt; desk.names(&[]));
-    assert!(rt; desk.is_clear(alloc, "room:lobby"));
-    assert!(rt; desk.is_clear(alloc, "room:x"));
-}
-
 // Whether the end of a session of two topics, its call of this number refused, keeps the topic of
 // that call alone, and may be repeated.
 fn ends_again(alloc: Global, call: u32, fault: ShardFault) -> bool {
@@ -213,15 +174,7 @@ fn ends_again(alloc: Global, call: u32, fault: ShardFault) -> bool {
     };
     desk.refuse(call, fault);
     let stays = if call < 2 { "room:lobby" } else { "room:x" };
-    desk.end(alloc) == Err(fault_for(fault))
-        && desk.names(&[stays])
-        && desk.end(alloc) == Ok(())
-        && is_gone(alloc, &mut desk)
-}
-
-// Whether nothing is left of a session of two topics.
-fn is_gone(alloc: Global, desk: &mut Desk) -> bool {
-    desk.names(&[]) && desk.is_clear(alloc, "room:lobby") && desk.is_clear(alloc, "room:x")
+    desk.end(alloc) == Err(fault_for(fault)) && desk.names(&[stays]) && ends_clear(alloc, &mut desk)
 }
 
 #[test]
@@ -232,17 +185,4 @@ fn each_call_of_an_end_refused(rt: HostRuntime) {
             assert!(rt; ends_again(alloc, call, fault), "{call} {fault}");
         }
     }
-}
-
-// An unknown subscriber counts as gone.
-#[test]
-fn an_end_of_an_unknown_subscriber(rt: HostRuntime) {
-    let alloc = rt.alloc();
-    let Some(mut desk) = desk_after(alloc, &[JOIN]) else {
-        assert!(rt; false);
-        return;
-    };
-    desk.refuse(0, ShardFault::NoSub);
-    assert!(rt; desk.end(alloc) == Ok(()));
-    assert!(rt; desk.names(&[]));
 }

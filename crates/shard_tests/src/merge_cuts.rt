@@ -1,12 +1,13 @@
-// What one node cuts, told to another.
-use crate::desk::{ROOM, heard_b, replica, shard_of, subscribe, takes, topic};
+//! What one node cuts, told to another.
+
+use crate::desk::{Ask, ROOM, key, meta, said, shard_after, shard_of, topic};
+use crate::merge_desk::replica;
 use delta_range::Delta;
 use orswot_core::Told;
 use presence_base::{Dot, Key, Meta, Row, Topic, ref_text};
-use serde_json::Value;
 use std::alloc::{AllocError, Global};
 use std::test::Fail;
-use tracker_shard::{Shard, Sub};
+use tracker_shard::Shard;
 
 const DESK: &str = "{\"at\":\"desk\"}";
 
@@ -32,15 +33,8 @@ struct Place {
 
 fn place_of(alloc: Global, name: &str) -> Result<Place, AllocError> {
     let topic = topic(alloc, ROOM)?;
-    let key = Key::new(alloc, name)?.ok_or(AllocError)?;
+    let key = key(alloc, name)?;
     Ok(Place { topic, key })
-}
-
-fn meta(alloc: Global, text: &str) -> Result<Meta, AllocError> {
-    match Value::from_str(alloc, text) {
-        Ok(value) => Meta::new(alloc, value)?.ok_or(AllocError),
-        Err(_) => Err(AllocError),
-    }
 }
 
 fn come(alloc: Global, shard: &mut Shard, at: &Place) -> Result<(), AllocError> {
@@ -141,9 +135,7 @@ fn take_in_all(
 
 // Node `a`, for which `b` is up.
 fn hearer(alloc: Global) -> Result<Shard, AllocError> {
-    let mut shard = shard_of(alloc, "a")?;
-    heard_b(alloc, &mut shard, 0)?;
-    Ok(shard)
+    shard_after(alloc, &[Ask::Heard("b", 0)])
 }
 
 // Node `b`, and all that it tells.
@@ -236,93 +228,66 @@ fn the_teller_shows_its_rows(rt: HostRuntime) -> Result<(), Fail> {
     Ok(())
 }
 
+const FIRST: &str = "b.1.1 u1 {\"at\":\"desk\"}; b.1.2 u2 {\"at\":\"desk\"}; ";
+
+const SECOND: &str = "b.1.3 u1 {\"at\":\"lunch\"} for b.1.1; b.1.2 u2 {\"at\":\"desk\"}; ";
+
+const THIRD: &str = "b.1.3 u1 {\"at\":\"lunch\"} for b.1.1; b.1.5 u3 {\"at\":\"desk\"}; ";
+
+const NEWEST: &str = "b.1.6 u1 {\"at\":\"lunch\"} for b.1.3; ";
+
+const WITHOUT_THE_THIRD: &str =
+    "b.1.6 u1 {\"at\":\"lunch\"} for b.1.3; b.1.2 u2 {\"at\":\"desk\"}; ";
+
+// What is told, in order of coming, and what `a` then shows, with the counts of `b` that are covered.
+const TOLD: [(&[usize], u64, &str); 16] = [
+    // In order.
+    (&[0], 2, FIRST),
+    (&[0, 1], 3, SECOND),
+    (&[0, 1, 2], 5, THIRD),
+    (&[0, 1, 2, 3], 6, LAST),
+    // Late: the last cut tells with its row that counts 3 and 1 went, and the one before it that count 2 did.
+    (&[3], 1, NEWEST),
+    (&[3, 2], 6, LAST),
+    (&[3, 2, 1], 6, LAST),
+    (&[3, 2, 1, 0], 6, LAST),
+    // Twice.
+    (&[0, 0, 1, 1, 2, 2, 3, 3], 6, LAST),
+    (&[0, 1, 2, 3, 0, 1, 2, 3], 6, LAST),
+    // With one lost of which a later one tells: the second cut's count is one that the last cut tells of,
+    // with the count that it had replaced.
+    (&[0, 2, 3], 6, LAST),
+    (&[1, 2, 3], 6, LAST),
+    // With one lost, and then a full value.
+    (&[0, 1, 3], 3, WITHOUT_THE_THIRD),
+    (&[0, 1, 3, FULL], 6, LAST),
+    (&[0, 1, 3, FULL, 2, 0], 6, LAST),
+    (&[FULL, 0, 1], 6, LAST),
+];
+
 #[test]
-fn cuts_that_come_in_order(rt: HostRuntime) -> Result<(), Fail> {
-    let first = "b.1.1 u1 {\"at\":\"desk\"}; b.1.2 u2 {\"at\":\"desk\"}; ";
-    assert!(rt; shows(rt.alloc(), &[0], 2, first)?);
-    let second = "b.1.3 u1 {\"at\":\"lunch\"} for b.1.1; b.1.2 u2 {\"at\":\"desk\"}; ";
-    assert!(rt; shows(rt.alloc(), &[0, 1], 3, second)?);
-    let third = "b.1.3 u1 {\"at\":\"lunch\"} for b.1.1; b.1.5 u3 {\"at\":\"desk\"}; ";
-    assert!(rt; shows(rt.alloc(), &[0, 1, 2], 5, third)?);
-    assert!(rt; shows(rt.alloc(), &[0, 1, 2, 3], 6, LAST)?);
-    Ok(())
-}
-
-// The last cut tells with its row that counts 3 and 1 went, and the one before it that count 2 did.
-#[test]
-fn cuts_that_come_late(rt: HostRuntime) -> Result<(), Fail> {
-    let newest = "b.1.6 u1 {\"at\":\"lunch\"} for b.1.3; ";
-    assert!(rt; shows(rt.alloc(), &[3], 1, newest)?);
-    assert!(rt; shows(rt.alloc(), &[3, 2], 6, LAST)?);
-    assert!(rt; shows(rt.alloc(), &[3, 2, 1], 6, LAST)?);
-    assert!(rt; shows(rt.alloc(), &[3, 2, 1, 0], 6, LAST)?);
-    Ok(())
-}
-
-#[test]
-fn cuts_that_come_twice(rt: HostRuntime) -> Result<(), Fail> {
-    assert!(rt; shows(rt.alloc(), &[0, 0, 1, 1, 2, 2, 3, 3], 6, LAST)?);
-    assert!(rt; shows(rt.alloc(), &[0, 1, 2, 3, 0, 1, 2, 3], 6, LAST)?);
-    Ok(())
-}
-
-// The second cut's count is one that the last cut tells of, with the count that it had replaced.
-#[test]
-fn a_lost_cut_of_which_a_later_one_tells(rt: HostRuntime) -> Result<(), Fail> {
-    assert!(rt; shows(rt.alloc(), &[0, 2, 3], 6, LAST)?);
-    assert!(rt; shows(rt.alloc(), &[1, 2, 3], 6, LAST)?);
-    Ok(())
-}
-
-#[test]
-fn a_lost_cut_and_then_a_full_value(rt: HostRuntime) -> Result<(), Fail> {
-    let without_the_third = "b.1.6 u1 {\"at\":\"lunch\"} for b.1.3; b.1.2 u2 {\"at\":\"desk\"}; ";
-    assert!(rt; shows(rt.alloc(), &[0, 1, 3], 3, without_the_third)?);
-    assert!(rt; shows(rt.alloc(), &[0, 1, 3, FULL], 6, LAST)?);
-    assert!(rt; shows(rt.alloc(), &[0, 1, 3, FULL, 2, 0], 6, LAST)?);
-    assert!(rt; shows(rt.alloc(), &[FULL, 0, 1], 6, LAST)?);
-    Ok(())
-}
-
-// Node `a` with a subscriber that has taken the state.
-#[derive(Drop)]
-struct Listener {
-    shard: Shard,
-    sub: Sub,
-}
-
-fn subscribed(alloc: Global) -> Result<Listener, AllocError> {
-    let mut shard = hearer(alloc)?;
-    let sub = subscribe(alloc, &mut shard, ROOM)?;
-    if !takes(alloc, &mut shard, &sub, "state ")? {
-        return Err(AllocError);
+fn cuts_that_come_in_order_late_twice_or_not_at_all(rt: HostRuntime) -> Result<(), Fail> {
+    for (places, top, want) in TOLD {
+        assert!(rt; shows(rt.alloc(), places, top, want)?, "{top} {want}");
     }
-    Ok(Listener { shard, sub })
-}
-
-// Whether the subscriber takes this once something is taken in.
-fn takes_after(
-    alloc: Global,
-    listener: &mut Listener,
-    told: Option<&Told>,
-    want: &str,
-) -> Result<bool, AllocError> {
-    take_in(alloc, &mut listener.shard, told)?;
-    takes(alloc, &mut listener.shard, &listener.sub, want)
+    Ok(())
 }
 
 // What each cut makes, in turn, and the first once more.
 const DIFFS: [(usize, &str); 5] = [
-    (0, "+ b.1.1 b.1.2 - "),
-    (1, "+ b.1.3 - b.1.1 "),
-    (2, "+ b.1.5 - b.1.2 "),
-    (3, "+ b.1.6 - b.1.3 "),
-    (0, ""),
+    (0, "+ b.1.1 b.1.2 - ;"),
+    (1, "+ b.1.3 - b.1.1 ;"),
+    (2, "+ b.1.5 - b.1.2 ;"),
+    (3, "+ b.1.6 - b.1.3 ;"),
+    (0, ";"),
 ];
 
-fn takes_each(alloc: Global, listener: &mut Listener, told: &[Told]) -> Result<bool, AllocError> {
-    for (place, want) in &DIFFS {
-        if !takes_after(alloc, listener, told.get(*place), want)? {
+// Whether the subscriber of number 2 takes each of them once it is taken in.
+fn takes_each(alloc: Global, shard: &mut Shard, told: &[Told]) -> Result<bool, AllocError> {
+    for (place, want) in DIFFS {
+        take_in(alloc, shard, told.get(place))?;
+        let taken = said(alloc, shard, &[Ask::TakeRows(2)])?;
+        if taken.as_str() != want {
             return Ok(false);
         }
     }
@@ -332,8 +297,14 @@ fn takes_each(alloc: Global, listener: &mut Listener, told: &[Told]) -> Result<b
 #[test]
 fn each_cut_makes_one_diff(rt: HostRuntime) -> Result<(), Fail> {
     let teller = told_teller(rt.alloc())?;
-    let mut listener = subscribed(rt.alloc())?;
-    assert!(rt; takes_each(rt.alloc(), &mut listener, &teller.told)?);
+    let mut shard = hearer(rt.alloc())?;
+    let state = said(
+        rt.alloc(),
+        &mut shard,
+        &[Ask::Subscribe(ROOM), Ask::TakeRows(2)],
+    )?;
+    assert_eq!(rt; state.as_str(), "Ok(Sub { slot: 0, number: 2 });state ;");
+    assert!(rt; takes_each(rt.alloc(), &mut shard, &teller.told)?);
     Ok(())
 }
 

@@ -1,5 +1,6 @@
 //! Each call that a delivery makes of the port refused in turn, and what that leaves.
 
+use crate::script::ends_clear;
 use session_desk::{Desk, JOIN, JOINED, LATE, LATE_STATE, STATE, ShardFault, desk_of, fault_for};
 use std::alloc::Global;
 
@@ -24,16 +25,8 @@ fn delivery_is_refused(alloc: Global, call: u32, fault: ShardFault) -> bool {
     if call < 2 {
         told && !desk.failed() && desk.delivers(alloc, &[STATE, LATE_STATE])
     } else {
-        told && desk.failed() && ends(alloc, &mut desk)
+        told && desk.failed() && ends_clear(alloc, &mut desk)
     }
-}
-
-// Whether the end of the session leaves nothing.
-fn ends(alloc: Global, desk: &mut Desk) -> bool {
-    desk.end(alloc) == Ok(())
-        && desk.names(&[])
-        && desk.is_clear(alloc, "room:lobby")
-        && desk.is_clear(alloc, "room:x")
 }
 
 #[test]

@@ -1,8 +1,10 @@
 //! A node of two shards, as the port of its links.
-use crate::wire::Wire;
+use crate::desk::{shard_of, topic};
+use crate::link_wire::Wire;
+use crate::merge_desk::replica;
 use node_links::{ActFault, DialFault, End, LinkPort, Peer, accept_one};
 use orswot_core::Told;
-use presence_base::{NodeName, Replica, Topic};
+use presence_base::Replica;
 use replica_status::Status;
 use std::alloc::Global;
 use tracker_shard::{Shard, ShardFault};
@@ -32,10 +34,8 @@ impl Shards {
     }
 
     // How many rows the topic has, which the first shard keeps.
-    pub fn rows(&mut self, alloc: Global, topic: &str) -> Option<usize> {
-        let Ok(Some(topic)) = Topic::new(alloc, topic) else {
-            return None;
-        };
+    pub fn rows(&mut self, alloc: Global, text: &str) -> Option<usize> {
+        let topic = topic(alloc, text).ok()?;
         match self.first.list(alloc, None, &topic) {
             Ok(rows) => Some(rows.len()),
             Err(_) => None,
@@ -109,30 +109,9 @@ impl LinkPort for Shards {
     }
 }
 
-pub(super) fn replica(alloc: Global, name: &str) -> Option<Replica> {
-    match NodeName::new(alloc, name) {
-        Ok(Some(name)) => Some(Replica {
-            name,
-            incarnation: 1,
-        }),
-        _ => None,
-    }
-}
-
-fn new_shard(alloc: Global, name: &str) -> Option<Shard> {
-    let Ok(Some(name)) = NodeName::new(alloc, name) else {
-        return None;
-    };
-    let own = Replica {
-        name,
-        incarnation: 1,
-    };
-    Some(Shard::new(alloc, own))
-}
-
 pub(super) fn shards_of(alloc: Global, name: &str) -> Option<Shards> {
-    let first = new_shard(alloc, name)?;
-    let second = new_shard(alloc, name)?;
+    let first = shard_of(alloc, name).ok()?;
+    let second = shard_of(alloc, name).ok()?;
     Some(Shards { first, second })
 }
 
@@ -146,7 +125,7 @@ pub(super) struct Node<'a> {
 
 // The node `a`, dialled by one that sends these lines.
 pub(super) fn at_a<'a>(alloc: Global, lines: &'a str) -> Option<Node<'a>> {
-    let own = replica(alloc, "a")?;
+    let own = replica(alloc, "a").ok()?;
     let shards = shards_of(alloc, "a")?;
     Some(Node {
         peer: Peer::new(own, 2, End::Accepting),
