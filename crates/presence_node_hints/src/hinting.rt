@@ -25,6 +25,13 @@ impl<P: Port + Drop> HintingPort<P> {
         }
     }
 
+    /// The port inside.
+    pub fn port(&self) -> &P
+        ensures { result.now ≡ self.now.port }
+    {
+        &self.port
+    }
+
     /// The topics that were noted.
     pub fn into_changed(self) -> Topics {
         let HintingPort { port: _, changed } = self;

@@ -1,12 +1,12 @@
 -- A call of the pool, as the port tells its answer.
-use Rattle.std.proofs.Common.{◌≡◌, ℕ, List, Vec, Global, refl}
-use Rattle.std.specs.Prelude.{Result, Ok, Err}
+use Rattle.std.proofs.Common.{◌≡◌, ℕ, Bool, true, false, cond, List, Vec, Global, refl, sym, ap, subst, ◌∙◌}
+use Rattle.std.specs.Prelude.{◌==◌, Result, Ok, Err}
 use Rattle.presence_journal_data.specs.declared.step.Step.{Step}
 use Rattle.presence_journal.specs.History.{History}
 use Rattle.channel_session_rules.specs.ShardFault.{ShardFault}
 use Rattle.channel_session_rules.specs.ShardFault.TheVariants.{AlreadyTracked, NoPresence, ClockFull, JournalFull, NoSub, OutOfMemory}
 use Rattle.shard_pool.specs.Reply.{Reply}
-use Rattle.shard_pool.specs.Seats.{Hands, CalledAt, shard_of}
+use Rattle.shard_pool.specs.Seats.{Hands, CalledAt, hand_at, shard_of, with_hand}
 use Rattle.channel_session_rules.specs.Seen.{seen_by}
 use Rattle.presence_node_ports.specs.Asking.{Asked, value_of}
 
@@ -49,3 +49,65 @@ module _ (node : List ℕ) (n : ℕ) (old new : Hands) (t : List ℕ) (step : St
   asked_done {A} Gives r c =
       let f : A → Unit {0} = λ _. tt {0} in
       record { reply = seen f r; called = seen_call f node old new (shard_of t n) step Gives (λ h _. Unit {0}) (λ h v e. tt {0}) r c; told = seen_value f r }
+
+-- a call that found the journal full left the seat as it was
+
+same_hands : (h : Hands) (s : ℕ) → with_hand h s (hand_at h s) ≡ h
+same_hands h s = go (s == 0) (s == 1) (s == 2)
+  where
+    go : (a b c : Bool) →
+        cond a (record { number = h.number; first = cond a h.first (cond b h.second (cond c h.third h.fourth)); second = h.second; third = h.third; fourth = h.fourth })
+        (cond b (record { number = h.number; first = h.first; second = cond a h.first (cond b h.second (cond c h.third h.fourth)); third = h.third; fourth = h.fourth })
+        (cond c (record { number = h.number; first = h.first; second = h.second; third = cond a h.first (cond b h.second (cond c h.third h.fourth)); fourth = h.fourth })
+        (record { number = h.number; first = h.first; second = h.second; third = h.third; fourth = cond a h.first (cond b h.second (cond c h.third h.fourth)) }))) ≡ h
+    go true b c = refl
+    go false true c = refl
+    go false false true = refl
+    go false false false = refl
+
+pub full_keeps : {A : Type 0} (node : List ℕ) (old new : Hands) (s : ℕ) (step : Step) (Gives : History → A → Type 0) (r : Result (Reply A) ShardFault) → r ≡ Err JournalFull → CalledAt node old new s step Gives r → new ≡ old
+full_keeps node old new s step Gives r full c =
+    let called = subst (λ (x : Result (Reply _) ShardFault). CalledAt node old new s step Gives x) full c in
+    called.others ∙ (ap (with_hand old s) called.call.notes ∙ same_hands old s)
+
+-- so the call that is made anew is one from the seat as it was first
+pub called_anew : {A : Type 0} (node : List ℕ) (old mid left new : Hands) (s : ℕ) (step : Step) (Gives : History → A → Type 0) (r again : Result (Reply A) ShardFault) → r ≡ Err JournalFull → CalledAt node old mid s step Gives r → left ≡ mid
+    → CalledAt node left new s step Gives again → CalledAt node old new s step Gives again
+called_anew node old mid left new s step Gives r again full first same second =
+    subst (λ (h : Hands). CalledAt node h new s step Gives again) (same ∙ full_keeps node old mid s step Gives r full first) second
+
+module _ (node : List ℕ) (n : ℕ) (old : Hands) (t : List ℕ) (step : Step) where
+  -- the same where something is left between a call and its end
+  pub first_items : {X : Type 0} (items : History → List X) (mid left : Hands) (r : Result (Reply (Vec X Global)) ShardFault) (a : Result (Vec X Global) ShardFault) → left ≡ mid → a ≡ value_of r
+      → CalledAt node old mid (shard_of t n) step (λ h v. v.items ≡ items h) r → Asked node n old left t step (λ h l. l ≡ items h) (seen_by (λ v. v.items) a)
+  first_items {X} items mid left r a same is c =
+      subst (λ (x : Hands). Asked node n old x t step (λ h l. l ≡ items h) (seen_by (λ (v : Vec X Global). v.items) a)) (sym same)
+      (subst (λ (y : Result (Vec X Global) ShardFault). Asked node n old mid t step (λ h l. l ≡ items h) (seen_by (λ (v : Vec X Global). v.items) y)) (sym is) (asked_items node n old mid t step items r c))
+
+  pub first_done : {A : Type 0} (Gives : History → A → Type 0) (mid left : Hands) (r : Result (Reply A) ShardFault) (a : Result (Unit {0}) ShardFault) → left ≡ mid → a ≡ seen_by (λ _. tt {0}) (value_of r)
+      → CalledAt node old mid (shard_of t n) step Gives r → Asked node n old left t step (λ h _. Unit {0}) a
+  first_done Gives mid left r a same is c =
+      subst (λ (x : Hands). Asked node n old x t step (λ h _. Unit {0}) a) (sym same)
+      (subst (λ (y : Result (Unit {0}) ShardFault). Asked node n old mid t step (λ h _. Unit {0}) y) (sym is) (asked_done node n old mid t step Gives r c))
+
+  -- a call that is made anew, of the same pool
+  anew : {A : Type 0} (Gives : History → A → Type 0) (mid left new : Hands) (name : List ℕ) (shards : ℕ) (r again : Result (Reply A) ShardFault) → left ≡ mid → name ≡ node → shards ≡ n → r ≡ Err JournalFull
+      → CalledAt node old mid (shard_of t n) step Gives r → CalledAt name left new (shard_of t shards) step Gives again → CalledAt node old new (shard_of t n) step Gives again
+  anew Gives mid left new name shards r again same named many full first second =
+      called_anew node old mid left new (shard_of t n) step Gives r again full first same
+      (subst (λ (x : List ℕ). CalledAt x left new (shard_of t n) step Gives again) named
+      (subst (λ (x : ℕ). CalledAt name left new (shard_of t x) step Gives again) many second))
+
+  pub again_items : {X : Type 0} (items : History → List X) (mid left new : Hands) (name : List ℕ) (shards : ℕ) (r again : Result (Reply (Vec X Global)) ShardFault) (a : Result (Vec X Global) ShardFault)
+      → left ≡ mid → name ≡ node → shards ≡ n → r ≡ Err JournalFull → a ≡ value_of again
+      → CalledAt node old mid (shard_of t n) step (λ h v. v.items ≡ items h) r → CalledAt name left new (shard_of t shards) step (λ h v. v.items ≡ items h) again
+      → Asked node n old new t step (λ h l. l ≡ items h) (seen_by (λ v. v.items) a)
+  again_items items mid left new name shards r again a same named many full is first second =
+      first_items items new new again a refl is (anew (λ h v. v.items ≡ items h) mid left new name shards r again same named many full first second)
+
+  pub again_done : {A : Type 0} (Gives : History → A → Type 0) (mid left new : Hands) (name : List ℕ) (shards : ℕ) (r again : Result (Reply A) ShardFault) (a : Result (Unit {0}) ShardFault)
+      → left ≡ mid → name ≡ node → shards ≡ n → r ≡ Err JournalFull → a ≡ seen_by (λ _. tt {0}) (value_of again)
+      → CalledAt node old mid (shard_of t n) step Gives r → CalledAt name left new (shard_of t shards) step Gives again
+      → Asked node n old new t step (λ h _. Unit {0}) a
+  again_done Gives mid left new name shards r again a same named many full is first second =
+      first_done Gives new new again a refl is (anew Gives mid left new name shards r again same named many full first second)

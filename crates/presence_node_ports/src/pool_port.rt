@@ -1,5 +1,6 @@
-ghost use Rattle.std.specs.Prelude.{◌≡◌};
+ghost use Rattle.std.specs.Prelude.{◌≡◌, true, Err};
 ghost use Rattle.channel_session_rules.specs.Seen.{seen_by};
+ghost use Rattle.channel_session_rules.specs.ShardFault.TheVariants.{JournalFull};
 ghost use Rattle.presence_node_ports.specs.Asking.{value_of};
 
 use channel_session_rules::{Port, ShardFault, Sub};
@@ -10,12 +11,27 @@ use std::alloc::Global;
 use std::sync::Wait;
 
 /// A port over a pool: each of its calls is that call of the pool, through the seat that it is lent.
-/// A call waits for the lock of its topic's shard.
+/// A call waits for the lock of its topic's shard. One that finds the shard's journal full makes room there by a
+/// checkpoint and is tried once more.
 #[derive(Drop)]
 pub struct PoolPort<'a, R: Wait, G: Gate, A: Lane, B: Lane, C: Lane, D: Lane> {
     rt: &'a R,
     pool: &'a Pool<G, A, B, C, D>,
     seat: &'a mut Seat<A, B, C, D>,
+    has_made_room: bool,
+}
+
+// What is told of a call of the pool. One that finds the journal of its topic's shard full is made once more where a
+// checkpoint makes room.
+macro_rules! tried {
+    ($port:ident, $alloc:ident, $topic:ident, $tell:ident, $call:expr) => {{
+        let reply = $call;
+        if !$port.makes_room($alloc, $topic, &reply) {
+            return $tell(reply);
+        }
+        let again = $call;
+        $tell(again)
+    }};
 }
 
 // The value of a reply, without the shard and the number of its entry.
@@ -31,6 +47,16 @@ fn value<T: Drop>(reply: Result<Reply<T>, PoolFault>) -> Result<T, ShardFault>
             },
         ) => Ok(value),
         Err(fault) => Err(fault),
+    }
+}
+
+// Whether the shard's journal was full.
+fn is_full<T>(reply: &Result<Reply<T>, PoolFault>) -> bool
+    ensures { result ≡ true → reply.now ≡ Err JournalFull }
+{
+    match reply {
+        Err(PoolFault::JournalFull) => true,
+        _ => false,
     }
 }
 
@@ -57,7 +83,37 @@ impl<'a, R: Wait, G: Gate, A: Lane, B: Lane, C: Lane, D: Lane> PoolPort<'a, R, G
         ensures pool { result.pool.now ≡ pool.now }
         ensures seat { result.seat.now ≡ seat.old }
     {
-        PoolPort { rt, pool, seat }
+        PoolPort {
+            rt,
+            pool,
+            seat,
+            has_made_room: false,
+        }
+    }
+
+    /// Whether a call made room in a shard's journal, so that receipts from before have no entry any more.
+    pub fn has_made_room(&self) -> bool {
+        self.has_made_room
+    }
+
+    // Whether the call found its topic's journal full and there is room now, so that it is worth another try.
+    fn makes_room<T>(
+        &mut self,
+        alloc: Global,
+        topic: &Topic,
+        reply: &Result<Reply<T>, PoolFault>,
+    ) -> bool
+        ensures pool { self.new.pool ≡ self.old.pool }
+        ensures seat { self.new.seat ≡ self.old.seat }
+        ensures full { result ≡ true → reply.now ≡ Err JournalFull }
+    {
+        if !is_full(reply) {
+            return false;
+        }
+        let shard = self.pool.shard_of(topic);
+        let is_made = self.pool.checkpoint(self.rt, alloc, shard).is_ok();
+        self.has_made_room = self.has_made_room || is_made;
+        is_made
     }
 }
 
@@ -75,10 +131,14 @@ impl<'a, R: Wait, G: Gate, A: Lane, B: Lane, C: Lane, D: Lane> Port
         key: &Key,
         meta: &Meta,
     ) -> Result<Dot, ShardFault> {
-        let reply = self
-            .pool
-            .track(self.rt, alloc, &mut *self.seat, pid, topic, key, meta);
-        value(reply)
+        tried!(
+            self,
+            alloc,
+            topic,
+            value,
+            self.pool
+                .track(self.rt, alloc, &mut *self.seat, pid, topic, key, meta)
+        )
     }
 
     fn update(
@@ -89,10 +149,14 @@ impl<'a, R: Wait, G: Gate, A: Lane, B: Lane, C: Lane, D: Lane> Port
         key: &Key,
         meta: &Meta,
     ) -> Result<Dot, ShardFault> {
-        let reply = self
-            .pool
-            .update(self.rt, alloc, &mut *self.seat, pid, topic, key, meta);
-        value(reply)
+        tried!(
+            self,
+            alloc,
+            topic,
+            value,
+            self.pool
+                .update(self.rt, alloc, &mut *self.seat, pid, topic, key, meta)
+        )
     }
 
     fn untrack(
@@ -102,22 +166,35 @@ impl<'a, R: Wait, G: Gate, A: Lane, B: Lane, C: Lane, D: Lane> Port
         topic: &Topic,
         key: &Key,
     ) -> Result<(), ShardFault> {
-        let reply = self
-            .pool
-            .untrack(self.rt, alloc, &mut *self.seat, pid, topic, key);
-        accepted(reply)
+        tried!(
+            self,
+            alloc,
+            topic,
+            accepted,
+            self.pool
+                .untrack(self.rt, alloc, &mut *self.seat, pid, topic, key)
+        )
     }
 
     fn untrack_all(&mut self, alloc: Global, pid: u64, topic: &Topic) -> Result<(), ShardFault> {
-        let reply = self
-            .pool
-            .untrack_all(self.rt, alloc, &mut *self.seat, pid, topic);
-        accepted(reply)
+        tried!(
+            self,
+            alloc,
+            topic,
+            accepted,
+            self.pool
+                .untrack_all(self.rt, alloc, &mut *self.seat, pid, topic)
+        )
     }
 
     fn list(&mut self, alloc: Global, topic: &Topic) -> Result<Vec<(Dot, Row)>, ShardFault> {
-        let reply = self.pool.list(self.rt, alloc, &mut *self.seat, topic);
-        value(reply)
+        tried!(
+            self,
+            alloc,
+            topic,
+            value,
+            self.pool.list(self.rt, alloc, &mut *self.seat, topic)
+        )
     }
 
     fn get(
@@ -126,13 +203,23 @@ impl<'a, R: Wait, G: Gate, A: Lane, B: Lane, C: Lane, D: Lane> Port
         topic: &Topic,
         key: &Key,
     ) -> Result<Vec<(Dot, Row)>, ShardFault> {
-        let reply = self.pool.get(self.rt, alloc, &mut *self.seat, topic, key);
-        value(reply)
+        tried!(
+            self,
+            alloc,
+            topic,
+            value,
+            self.pool.get(self.rt, alloc, &mut *self.seat, topic, key)
+        )
     }
 
     fn subscribe(&mut self, alloc: Global, topic: &Topic) -> Result<Sub, ShardFault> {
-        let reply = self.pool.subscribe(self.rt, alloc, &mut *self.seat, topic);
-        value(reply)
+        tried!(
+            self,
+            alloc,
+            topic,
+            value,
+            self.pool.subscribe(self.rt, alloc, &mut *self.seat, topic)
+        )
     }
 
     fn take(
@@ -142,17 +229,25 @@ impl<'a, R: Wait, G: Gate, A: Lane, B: Lane, C: Lane, D: Lane> Port
         sub: &Sub,
         max: u32,
     ) -> Result<Vec<Item>, ShardFault> {
-        let reply = self
-            .pool
-            .take(self.rt, alloc, &mut *self.seat, topic, sub, max);
-        value(reply)
+        tried!(
+            self,
+            alloc,
+            topic,
+            value,
+            self.pool
+                .take(self.rt, alloc, &mut *self.seat, topic, sub, max)
+        )
     }
 
     fn unsubscribe(&mut self, alloc: Global, topic: &Topic, sub: &Sub) -> Result<(), ShardFault> {
-        let reply = self
-            .pool
-            .unsubscribe(self.rt, alloc, &mut *self.seat, topic, sub);
-        value(reply)
+        tried!(
+            self,
+            alloc,
+            topic,
+            value,
+            self.pool
+                .unsubscribe(self.rt, alloc, &mut *self.seat, topic, sub)
+        )
     }
 
     fn waits(&mut self, topic: &Topic, sub: &Sub) -> Result<bool, ShardFault> {
@@ -160,9 +255,13 @@ impl<'a, R: Wait, G: Gate, A: Lane, B: Lane, C: Lane, D: Lane> Port
     }
 
     fn shout(&mut self, alloc: Global, topic: &Topic, payload: &Json) -> Result<(), ShardFault> {
-        let reply = self
-            .pool
-            .shout(self.rt, alloc, &mut *self.seat, topic, payload);
-        value(reply)
+        tried!(
+            self,
+            alloc,
+            topic,
+            value,
+            self.pool
+                .shout(self.rt, alloc, &mut *self.seat, topic, payload)
+        )
     }
 }

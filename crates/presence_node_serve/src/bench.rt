@@ -29,6 +29,9 @@ const GATHER_MILLISECONDS: u64 = 3;
 /// After so long each connection is looked at, so that silence is noticed and no hint that was lost matters.
 const SWEEP_MILLISECONDS: u64 = 2_000;
 
+/// A seat forgets the receipts that have no entry any more in each turn of such a number.
+const TRIM_TURNS: u64 = 1_024;
+
 /// So many turns are given to the sessions' ends where the server stops.
 const MAX_LAST_TURNS: u32 = 500;
 
@@ -83,18 +86,29 @@ fn watch_all(watch: &Watch, clients: &[Client<TcpStream>]) {
     }
 }
 
-// Serves each connection that is ready, through the seat: the topics that may have something new.
+// What came of a turn: the topics that may have something new, and whether a journal was replaced by its Start.
+#[derive(Drop)]
+struct Served {
+    topics: Topics,
+    has_made_room: bool,
+}
+
+// Serves each connection that is ready, through the seat.
 fn serve_ready<R: Wait, H: PresenceHooks, A: Lane, B: Lane, C: Lane, D: Lane>(
     rt: &R,
     server: &Server<'_, H, A, B, C, D>,
     seat: &mut Seat<A, B, C, D>,
     worker: &mut Worker<TcpStream>,
     now: u64,
-) -> Topics {
+) -> Served {
     let inner = PoolPort::new(rt, &server.pool, seat);
     let mut port = HintingPort::new(server.alloc, inner);
     worker.turn(server.alloc, &mut port, server.routes, server.hooks, now);
-    port.into_changed()
+    let has_made_room = port.port().has_made_room();
+    Served {
+        topics: port.into_changed(),
+        has_made_room,
+    }
 }
 
 /// What a worker has of its own.
@@ -110,6 +124,8 @@ pub(crate) struct Bench<A: Lane, B: Lane, C: Lane, D: Lane> {
     swept: u64,
     /// When those were that follow a topic which had something new.
     dealt: u64,
+    /// How many turns there were.
+    turns: u64,
 }
 
 impl<A: Lane, B: Lane, C: Lane, D: Lane> Drop for Bench<A, B, C, D> {
@@ -122,6 +138,7 @@ impl<A: Lane, B: Lane, C: Lane, D: Lane> Drop for Bench<A, B, C, D> {
             now: _,
             swept: _,
             dealt: _,
+            turns: _,
         } = self;
         drop(seat);
         drop(worker);
@@ -149,6 +166,7 @@ impl<A: Lane, B: Lane, C: Lane, D: Lane> Bench<A, B, C, D> {
             now: 0,
             swept: 0,
             dealt: 0,
+            turns: 0,
         }
     }
 
@@ -164,6 +182,7 @@ impl<A: Lane, B: Lane, C: Lane, D: Lane> Bench<A, B, C, D> {
             now: _,
             swept: _,
             dealt: _,
+            turns: _,
         } = self;
         drop(worker);
         drop(watch);
@@ -204,13 +223,22 @@ impl<A: Lane, B: Lane, C: Lane, D: Lane> Bench<A, B, C, D> {
         GATHER_MILLISECONDS.saturating_sub(self.now.saturating_sub(self.dealt))
     }
 
-    // Serves each connection that is ready: the topics that may have something new.
+    // Serves each connection that is ready: the topics that may have something new. Where a journal was replaced, each
+    // connection takes the next turn, since each may be owed a state.
     fn serve<R: Wait, H: PresenceHooks>(
         &mut self,
         rt: &R,
         server: &Server<'_, H, A, B, C, D>,
     ) -> Topics {
-        serve_ready(rt, server, &mut self.seat, &mut self.worker, self.now)
+        let served = serve_ready(rt, server, &mut self.seat, &mut self.worker, self.now);
+        self.turns = self.turns.wrapping_add(1);
+        if served.has_made_room {
+            self.worker.mark_all();
+        }
+        if served.has_made_room || self.turns % TRIM_TURNS == 0 {
+            server.pool.trim(rt, &mut self.seat);
+        }
+        served.topics
     }
 
     // Serves each connection that is ready, and lets all workers know which topics may have something new, this one

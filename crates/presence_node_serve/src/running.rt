@@ -68,6 +68,17 @@ fn port_refused(options: &ServeOptions, kind: ErrorKind) -> ServeEnd
     }
 }
 
+// Drops the receipts that have no entry any more.
+fn trim_all<R: Wait, A: Lane, B: Lane, C: Lane, D: Lane>(
+    rt: &R,
+    pool: &Pool<NoGate, A, B, C, D>,
+    seats: &mut Vec<Seat<A, B, C, D>>,
+) {
+    for seat in seats.iter_mut() {
+        pool.trim(rt, seat);
+    }
+}
+
 // Runs the threads of this server until it is stopped, and settles.
 fn run_server<R, H, A, B, C, D>(
     rt: &R,
@@ -86,8 +97,10 @@ where
 {
     let alloc = server.alloc;
     let places = run_crew(rt, alloc, &server, &StopLine { alloc }, posts)?;
-    let seats = seats_of(alloc, places)?;
-    Ok(settled(rt, alloc, server.into_pool(), seats))
+    let mut seats = seats_of(alloc, places)?;
+    let pool = server.into_pool();
+    trim_all(rt, &pool, &mut seats);
+    Ok(settled(rt, alloc, pool, seats))
 }
 
 // Runs the threads over this pool until the server is stopped, and settles.

@@ -18,6 +18,6 @@ run_crew-requires-sync-C g c κs within =
 
 pub returns : goal.returns
 returns c c' = (
-  c'.in_ok-seats.seats.items,
-  subst (λ p. Settles p.own.name p.shards p.seats c'.in_ok-seats.seats.items c'.settled.result) c'.into_pool.ensures c'.settled.ensures,
+  c'.trim_all.new.seats.items,
+  subst (λ p. Settles p.own.name p.shards p.seats c'.trim_all.new.seats.items c'.settled.result) c'.into_pool-pool.ensures c'.settled.ensures,
 )

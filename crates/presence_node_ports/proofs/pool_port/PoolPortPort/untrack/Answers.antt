@@ -1,15 +1,25 @@
-use Rattle.std.proofs.Common.{◌≡◌, Vec, Global, refl}
+use Rattle.std.proofs.Common.{◌≡◌, Vec, Global, ap}
 use Rattle.presence_base.specs.declared.dots.Dot.{Dot}
 use Rattle.presence_journal_data.specs.declared.step.Step.TheVariants as steps_are
 use Rattle.presence_journal.specs.History.{History}
 use Rattle.presence_journal.specs.Present.{dots_of}
 use Rattle.presence_journal.specs.Table.{rows_of_key}
-use Rattle.presence_node_ports.proofs.Asking.{asked_done}
+use Rattle.presence_node_ports.proofs.Asking.{first_done, again_done}
 use Rattle.presence_node_ports.proofs.pool_port.PoolPortPort.untrack.Goals as goal
 
+pub returns-then-not-makes_room : goal.returns-then-not-makes_room
+returns-then-not-makes_room g c =
+    let old = c.args.self.now in
+    let room = c.makes_room.ensures in (
+      (room.pool, ap (λ s. s.ghost_name) room.seat),
+      first_done old.pool.now.own.name old.pool.now.shards old.seat.now c.args.topic.now (steps_are.Untrack c.args.pid c.args.topic.now c.args.key.now) (λ (h : History) (dots : Vec Dot Global). dots.items ≡ dots_of (rows_of_key h c.args.pid c.args.topic.now c.args.key.now)) c.untrack-reply.new.seat c.makes_room.new.self.seat.now c.untrack-reply.result c.accepted.result (ap (λ s. s.now) room.seat) c.accepted.ensures c.untrack-reply.ensures,
+    )
+
 pub returns : goal.returns
-returns g c = (
-  (refl, refl),
-  rw c.accepted.ensures (asked_done c.args.self.now.pool.now.own.name c.args.self.now.pool.now.shards c.args.self.now.seat.now c.untrack-reply.new.seat c.args.topic.now (steps_are.Untrack c.args.pid c.args.topic.now c.args.key.now)
-      (λ (h : History) (dots : Vec Dot Global). dots.items ≡ dots_of (rows_of_key h c.args.pid c.args.topic.now c.args.key.now)) c.untrack-reply.result c.untrack-reply.ensures),
-)
+returns g c =
+    let old = c.args.self.now in
+    let left = c.makes_room.new.self in
+    let room = c.makes_room.ensures in (
+      (room.pool, ap (λ s. s.ghost_name) room.seat),
+      again_done old.pool.now.own.name old.pool.now.shards old.seat.now c.args.topic.now (steps_are.Untrack c.args.pid c.args.topic.now c.args.key.now) (λ (h : History) (dots : Vec Dot Global). dots.items ≡ dots_of (rows_of_key h c.args.pid c.args.topic.now c.args.key.now)) c.untrack-reply.new.seat left.seat.now c.untrack-again.new.seat left.pool.now.own.name left.pool.now.shards c.untrack-reply.result c.untrack-again.result c.accepted-2.result (ap (λ s. s.now) room.seat) (ap (λ p. p.now.own.name) room.pool) (ap (λ p. p.now.shards) room.pool) (room.full c.if-not-makes_room.false) c.accepted-2.ensures c.untrack-reply.ensures c.untrack-again.ensures,
+    )
