@@ -1,78 +1,94 @@
-use phx_message::MessageFault;
-use presence_metas::FrameFault;
-use presence_node_fold::FoldFault;
-use presence_node_lines::ReadFault;
-use presence_node_main::{Ending, StdioFault, Stream, fold_ending, stdio_ending, usage_ending};
-use presence_node_options::{UsageCause, UsageFault};
-use std::alloc::Global;
-use std::test::Fail;
+//! How ends are told that no command line reaches, and of a failed read: by a line, if by any, by words
+//! and with a status.
 
-// What is said on standard error of a run that ended so, and the status.
-fn said(alloc: Global, fault: StdioFault, explain: bool) -> Option<(String, u8)> {
-    match stdio_ending(alloc, &Err(fault), explain) {
-        Ok(ending) => error_line(ending),
-        Err(_) => None,
+use presence_node_fold::{FoldFault, fold_status_of, fold_told_line, fold_words};
+use presence_node_lines::ReadFault;
+use presence_node_stdio::{SessionFault, StdioFault, status_of, told_line, told_words};
+use std::alloc::{AllocError, Global};
+
+// How an end is told.
+#[derive(Clone, Copy)]
+struct Telling {
+    line: Option<&'static str>,
+    words: &'static str,
+    status: u8,
+}
+
+const FULL: Telling = Telling {
+    line: Some("line 7: C3"),
+    words: "the shard is full",
+    status: 1,
+};
+
+const FAILED: Telling = Telling {
+    line: Some("line 7: C4"),
+    words: "the session has failed",
+    status: 1,
+};
+
+const UNREAD: Telling = Telling {
+    line: None,
+    words: "the input could not be read",
+    status: 1,
+};
+
+const TOO_MANY: Telling = Telling {
+    line: None,
+    words: "the input has more than 1048576 lines",
+    status: 1,
+};
+
+const MEMORY: Telling = Telling {
+    line: None,
+    words: "out of memory",
+    status: 2,
+};
+
+fn is_line(told: Result<Option<String>, AllocError>, want: Option<&str>) -> bool {
+    match told {
+        Ok(Some(line)) => want == Some(line.as_str()),
+        Ok(None) => want.is_none(),
+        Err(_) => false,
     }
+}
+
+fn are_words(told: Result<String, AllocError>, want: &str) -> bool {
+    match told {
+        Ok(words) => words.as_str() == want,
+        Err(_) => false,
+    }
+}
+
+// Whether a run that ended so is told so.
+fn run_is_told(alloc: Global, fault: &StdioFault, want: &Telling) -> bool {
+    is_line(told_line(alloc, fault), want.line)
+        && are_words(told_words(alloc, fault), want.words)
+        && status_of(fault) == want.status
 }
 
 // The same of a fold.
-fn said_of_fold(alloc: Global, fault: FoldFault, explain: bool) -> Option<(String, u8)> {
-    match fold_ending(alloc, &Err(fault), explain) {
-        Ok(ending) => error_line(ending),
-        Err(_) => None,
+fn fold_is_told(alloc: Global, fault: &FoldFault, want: &Telling) -> bool {
+    is_line(fold_told_line(alloc, fault), want.line)
+        && are_words(fold_words(alloc, fault), want.words)
+        && fold_status_of(fault) == want.status
+}
+
+#[test]
+fn ends_in_words(rt: HostRuntime) {
+    let alloc = rt.alloc();
+    for (fault, want) in [
+        (StdioFault::Session(7, SessionFault::ShardFull), FULL),
+        (StdioFault::Session(7, SessionFault::Failed), FAILED),
+        (StdioFault::Read(ReadFault::Failed), UNREAD),
+        (StdioFault::Memory, MEMORY),
+    ] {
+        assert!(rt; run_is_told(alloc, &fault, &want));
     }
-}
-
-// The line that goes to standard error, and the status.
-fn error_line(ending: Ending) -> Option<(String, u8)> {
-    if ending.stream != Stream::Error {
-        return None;
+    for (fault, want) in [
+        (FoldFault::Read(ReadFault::Failed), UNREAD),
+        (FoldFault::Read(ReadFault::TooManyLines), TOO_MANY),
+        (FoldFault::Memory, MEMORY),
+    ] {
+        assert!(rt; fold_is_told(alloc, &fault, &want));
     }
-    let status = ending.status;
-    match ending.line {
-        Some(line) => Some((line, status)),
-        None => None,
-    }
-}
-
-#[test]
-fn a_refused_line(rt: HostRuntime) -> Result<(), Fail> {
-    let fault = StdioFault::Line(2, MessageFault::NotJson);
-    let told = said(rt.alloc(), fault, false);
-    assert!(rt; told.is_some_and(|(line, status)| line.as_str() == "line 2: M2" && status == 1));
-    let told = said(rt.alloc(), fault, true);
-    let want = "line 2: M2\nthe text is not JSON: one value that nests at most 127 deep is allowed";
-    assert!(rt; told.is_some_and(|(line, status)| line.as_str() == want && status == 1));
-    Ok(())
-}
-
-#[test]
-fn a_failed_read_and_too_many_lines(rt: HostRuntime) -> Result<(), Fail> {
-    let told = said(rt.alloc(), StdioFault::Read(ReadFault::Failed), false);
-    let want = "the input could not be read";
-    assert!(rt; told.is_some_and(|(line, status)| line.as_str() == want && status == 1));
-    let told = said_of_fold(rt.alloc(), FoldFault::Read(ReadFault::TooManyLines), true);
-    let want = "the input has more than 1048576 lines";
-    assert!(rt; told.is_some_and(|(line, status)| line.as_str() == want && status == 1));
-    Ok(())
-}
-
-#[test]
-fn a_refused_frame(rt: HostRuntime) -> Result<(), Fail> {
-    let fault = FoldFault::Frame(3, FrameFault::NoRef);
-    let told = said_of_fold(rt.alloc(), fault, true);
-    let want = "line 3: F3\na meta has no text as its `phx_ref`";
-    assert!(rt; told.is_some_and(|(line, status)| line.as_str() == want && status == 1));
-    let told = said_of_fold(rt.alloc(), FoldFault::Memory, false);
-    assert!(rt; told.is_some_and(|(line, status)| line.as_str() == "out of memory" && status == 2));
-    Ok(())
-}
-
-#[test]
-fn wrong_words(rt: HostRuntime) -> Result<(), Fail> {
-    let text = String::from_str(rt.alloc(), "no")?;
-    let told = error_line(usage_ending(UsageFault::Usage(UsageCause::Words, text)));
-    assert!(rt; told.is_some_and(|(line, status)| line.as_str() == "no" && status == 1));
-    assert!(rt; usage_ending(UsageFault::Memory).status == 2);
-    Ok(())
 }

@@ -1,15 +1,16 @@
-use crate::support::{Sink, options_for};
+//! Runs with stored closures: what they add and note, and what a closure or a second writer that fails
+//! leaves.
+
+use crate::support::{Sink, lines_in, options_for, plain_options};
 use hook_registry::{Extra, NoHooks, Notice, PresenceHooks};
 use presence_base::{Dot, Key, Topic};
-use presence_node_fold::run_fold;
-use presence_node_main::{StdioFault, run_stdio};
 use presence_node_notices::ReferenceNotices;
 use presence_node_options::StdioOptions;
+use presence_node_stdio::{StdioFault, run_stdio};
 use serde_json::json;
 use std::alloc::{AllocError, Global};
 use std::cell::Cell;
 use std::io::ErrorKind;
-use std::test::Fail;
 
 // A tracked join, an update of its row, and a list.
 const LINES: &str = r#"["1","1","room:lobby","phx_join",{"key":"u1","meta":{"x":1}}]
@@ -32,9 +33,6 @@ const NAMED: &str =
 [null,null,"room:lobby","presence_diff",{"joins":{"u1":{"metas":[{"phx_ref":"a.1.2","phx_ref_prev":"a.1.1","x":2}],"user":{"n":"Ann"}}},"leaves":{"u1":{"metas":[{"phx_ref":"a.1.1","x":1}],"user":{"n":"Ann"}}}}]
 ["1","3","room:lobby","phx_reply",{"response":{"u1":{"metas":[{"phx_ref":"a.1.2","phx_ref_prev":"a.1.1","x":2}],"user":{"n":"Ann"}}},"status":"ok"}]
 "#;
-
-const FOLDED: &str =
-    "{\"room:lobby\":{\"u1\":{\"metas\":[{\"phx_ref\":\"a.1.2\",\"phx_ref_prev\":\"a.1.1\",\"x\":2}]}}}\n";
 
 const NOTES: &str = "join a.1.2\nleave a.1.1\n";
 
@@ -153,80 +151,52 @@ struct Ran {
     notes: Vec<u8>,
 }
 
-// The run of node `a` over the lines, with these hooks and routes.
-fn run_hooked<H: PresenceHooks>(
-    alloc: Global,
-    hooks: &H,
-    words: &[&str],
-    input: &str,
-) -> Option<Ran> {
+// The run of these words over the lines, with the hooks that refuse this call.
+fn run_ann(alloc: Global, words: &[&str], refused: u32) -> Option<Ran> {
     let options = options_for(alloc, words)?;
-    let mut reader = input.as_bytes();
+    let mut reader = LINES.as_bytes();
     let mut texts = Vec::new(alloc);
     let mut notes = Vec::new(alloc);
-    let end = run_stdio(alloc, &mut reader, &mut texts, &mut notes, hooks, &options);
+    let hooks = Ann::new(refused);
+    let end = run_stdio(alloc, &mut reader, &mut texts, &mut notes, &hooks, &options);
     Some(Ran { end, texts, notes })
 }
 
-// Whether that run ends after all three lines with these texts and notices.
-fn tells<H: PresenceHooks>(alloc: Global, hooks: &H, texts: &str, notes: &str) -> bool {
-    let Some(ran) = run_hooked(alloc, hooks, &["p", "stdio"], LINES) else {
-        return false;
-    };
-    ran.end == Ok(3)
-        && ran.texts.as_slice() == texts.as_bytes()
-        && ran.notes.as_slice() == notes.as_bytes()
-}
-
+// The kind of a notice is the place of the route by which its topic was joined.
 #[test]
-fn notices_of_a_tracked_join_and_its_update(rt: HostRuntime) -> Result<(), Fail> {
-    assert!(rt; tells(rt.alloc(), &ReferenceNotices, PLAIN, NOTES));
-    Ok(())
-}
-
-#[test]
-fn the_fetched_member(rt: HostRuntime) -> Result<(), Fail> {
-    let notes = "came 0 room:lobby\nwent 0 room:lobby\n";
-    assert!(rt; tells(rt.alloc(), &Ann::new(0), NAMED, notes));
-    Ok(())
-}
-
-// What the frames of a run are folded to.
-fn folded(alloc: Global, texts: &str) -> Vec<u8> {
-    let mut reader = texts.as_bytes();
-    let mut output = Vec::new(alloc);
-    let _end = run_fold(alloc, &mut reader, &mut output);
-    output
-}
-
-#[test]
-fn a_fold_is_the_same_with_the_fetched_member(rt: HostRuntime) -> Result<(), Fail> {
-    for texts in [PLAIN, NAMED] {
-        assert!(rt; folded(rt.alloc(), texts).as_slice() == FOLDED.as_bytes());
+fn the_fetched_member_and_the_kinds_of_notices(rt: HostRuntime) {
+    let plain: &[&str] = &["p", "stdio"];
+    let routed: &[&str] = &["p", "stdio", "--route", "chat", "--route", "room:*"];
+    for (words, notes) in [
+        (plain, "came 0 room:lobby\nwent 0 room:lobby\n"),
+        (routed, "came 1 room:lobby\nwent 1 room:lobby\n"),
+    ] {
+        let Some(ran) = run_ann(rt.alloc(), words, 0) else {
+            assert!(rt; false);
+            return;
+        };
+        assert!(rt; ran.end == Ok(3), "{notes}");
+        assert!(rt; ran.texts.as_slice() == NAMED.as_bytes(), "{notes}");
+        assert!(rt; ran.notes.as_slice() == notes.as_bytes(), "{notes}");
     }
-    Ok(())
 }
 
-#[test]
-fn the_kind_of_a_notice_is_the_place_of_the_route(rt: HostRuntime) -> Result<(), Fail> {
-    let words = ["p", "stdio", "--route", "chat", "--route", "room:*"];
-    let Some(ran) = run_hooked(rt.alloc(), &Ann::new(0), words.as_slice(), LINES) else {
-        assert!(rt; false);
-        return Ok(());
-    };
-    assert!(rt; ran.notes.as_slice() == "came 1 room:lobby\nwent 1 room:lobby\n".as_bytes());
-    Ok(())
-}
-
-// How many lines there are.
-fn lines_in(bytes: &[u8]) -> usize {
-    bytes.iter().filter(|b| **b == b'\n').count()
+// Whether the refusal of this call ends the run behind so many lines and notices.
+fn ends_behind(alloc: Global, refused: u32, texts: usize, notes: usize) -> bool {
+    match run_ann(alloc, &["p", "stdio"], refused) {
+        Some(ran) => {
+            ran.end == Err(StdioFault::Memory)
+                && lines_in(ran.texts.as_slice()) == texts
+                && lines_in(ran.notes.as_slice()) == notes
+                && NAMED.as_bytes().starts_with(ran.texts.as_slice())
+        }
+        None => false,
+    }
 }
 
 // The join asks for one extra, the update for two and for two notices, and the list for one extra.
 #[test]
-fn the_kth_call_that_is_refused_ends_the_run(rt: HostRuntime) -> Result<(), Fail> {
-    let alloc = rt.alloc();
+fn the_kth_call_that_is_refused_ends_the_run(rt: HostRuntime) {
     for (refused, texts, notes) in [
         (1, 0, 0),
         (2, 2, 0),
@@ -235,29 +205,18 @@ fn the_kth_call_that_is_refused_ends_the_run(rt: HostRuntime) -> Result<(), Fail
         (5, 2, 0),
         (6, 4, 2),
     ] {
-        let Some(ran) = run_hooked(alloc, &Ann::new(refused), &["p", "stdio"], LINES) else {
-            assert!(rt; false);
-            return Ok(());
-        };
-        assert!(rt; ran.end == Err(StdioFault::Memory), "{refused}");
-        assert!(rt; lines_in(ran.texts.as_slice()) == texts, "{refused}");
-        assert!(rt; lines_in(ran.notes.as_slice()) == notes, "{refused}");
-        assert!(rt;
-            NAMED.as_bytes().starts_with(ran.texts.as_slice()),
-            "{refused}"
-        );
+        assert!(rt; ends_behind(rt.alloc(), refused, texts, notes), "{refused}");
     }
-    Ok(())
 }
 
-// How that run ends whose write of this number to the second writer fails so, its texts, and the notices written.
+// What a run into a second writer came to whose write of this number fails so.
 fn noted_into<H: PresenceHooks>(
     alloc: Global,
     hooks: &H,
     options: &StdioOptions,
     fails: usize,
     so: Option<ErrorKind>,
-) -> (Result<u64, StdioFault>, Vec<u8>, Vec<u8>) {
+) -> Ran {
     let mut reader = LINES.as_bytes();
     let mut texts = Vec::new(alloc);
     let mut sink = Sink {
@@ -268,43 +227,54 @@ fn noted_into<H: PresenceHooks>(
         so,
     };
     let end = run_stdio(alloc, &mut reader, &mut texts, &mut sink, hooks, options);
-    (end, texts, sink.taken)
+    Ran {
+        end,
+        texts,
+        notes: sink.taken,
+    }
+}
+
+// Whether the write of this number fails so, behind the notices before it and the texts of the update.
+fn notices_end(alloc: Global, options: &StdioOptions, fails: usize, so: Option<ErrorKind>) -> bool {
+    let ran = noted_into(alloc, &ReferenceNotices, options, fails, so);
+    ran.end == Err(StdioFault::Write)
+        && lines_in(ran.texts.as_slice()) == 4
+        && PLAIN.as_bytes().starts_with(ran.texts.as_slice())
+        && ran.notes.len() == fails
+        && NOTES.as_bytes().starts_with(ran.notes.as_slice())
 }
 
 #[test]
-fn a_write_of_notices_fails_at_each_call(rt: HostRuntime) -> Result<(), Fail> {
+fn a_write_of_notices_fails_at_each_call(rt: HostRuntime) {
     let alloc = rt.alloc();
-    let Some(options) = options_for(alloc, &["p", "stdio"]) else {
+    let Some(options) = plain_options(alloc) else {
         assert!(rt; false);
-        return Ok(());
+        return;
     };
     for so in [Some(ErrorKind::ConnectionReset), None] {
         for fails in 0..NOTES.len() {
-            let (end, texts, notes) = noted_into(alloc, &ReferenceNotices, &options, fails, so);
-            assert!(rt; end == Err(StdioFault::Write), "{fails}");
-            assert!(rt; lines_in(texts.as_slice()) == 4, "{fails}");
-            assert!(rt; PLAIN.as_bytes().starts_with(texts.as_slice()), "{fails}");
-            assert!(rt; notes.len() == fails, "{fails}");
-            assert!(rt; NOTES.as_bytes().starts_with(notes.as_slice()), "{fails}");
+            assert!(rt; notices_end(alloc, &options, fails, so), "{fails}");
         }
     }
-    let (end, texts, notes) = noted_into(alloc, &ReferenceNotices, &options, NOTES.len(), None);
-    assert!(rt; end == Ok(3));
-    assert!(rt; texts.as_slice() == PLAIN.as_bytes());
-    assert!(rt; notes.as_slice() == NOTES.as_bytes());
-    Ok(())
 }
 
+// Whether a run ends after all three lines with the texts of no hooks, and with these notices.
+fn tells(ran: &Ran, notes: &str) -> bool {
+    ran.end == Ok(3)
+        && ran.texts.as_slice() == PLAIN.as_bytes()
+        && ran.notes.as_slice() == notes.as_bytes()
+}
+
+// Nothing is written behind the last notice, and nothing at all where nothing is noted.
 #[test]
-fn nothing_is_written_where_nothing_is_noted(rt: HostRuntime) -> Result<(), Fail> {
+fn a_write_that_is_not_made_fails_nothing(rt: HostRuntime) {
     let alloc = rt.alloc();
-    let Some(options) = options_for(alloc, &["p", "stdio"]) else {
+    let Some(options) = plain_options(alloc) else {
         assert!(rt; false);
-        return Ok(());
+        return;
     };
-    let (end, texts, notes) = noted_into(alloc, &NoHooks, &options, 0, None);
-    assert!(rt; end == Ok(3));
-    assert!(rt; texts.as_slice() == PLAIN.as_bytes());
-    assert!(rt; notes.is_empty());
-    Ok(())
+    let noted = noted_into(alloc, &ReferenceNotices, &options, NOTES.len(), None);
+    assert!(rt; tells(&noted, NOTES));
+    let quiet = noted_into(alloc, &NoHooks, &options, 0, None);
+    assert!(rt; tells(&quiet, ""));
 }

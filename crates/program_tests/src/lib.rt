@@ -1,9 +1,8 @@
-//! Tests of the program: its runs and folds over readers and writers that fail, its command line, and
-//! what it says at its end.
+//! Tests of the program for which a run of it is no measure: over readers and writers that fail, with
+//! stored closures, of what a session leaves in its shard, and of ends that no command line reaches.
+//! The runs that a command line reaches are in tests/program.
 #![tactic(auto)]
 
-#[cfg(test)]
-mod channel;
 #[cfg(test)]
 mod endings;
 #[cfg(test)]

@@ -1,16 +1,16 @@
-use crate::support::{INPUT, go_plainly, options_for};
+//! What a session leaves in its shard, and how it ends where the shard refuses a call.
+
+use crate::support::{INPUT, go_plainly, plain_options};
 use presence_journal::{Entry, Outcome};
-use presence_node_main::{LocalSession, SessionFault, StdioFault};
+use presence_node_stdio::{LocalSession, SessionFault, StdioFault};
 use std::alloc::Global;
-use std::test::Fail;
 use tracker_shard::Sub;
 
 const JOIN: &str = "[\"2\",\"2\",\"room:lobby\",\"phx_join\",{}]\n";
 
 // Node `a` after these lines, none where one of them ended the run.
 fn node_after(alloc: Global, input: &str) -> Option<LocalSession> {
-    let words = ["presence_node", "stdio"];
-    let options = options_for(alloc, words.as_slice())?;
+    let options = plain_options(alloc)?;
     let Ok(mut node) = LocalSession::new(alloc, &options) else {
         return None;
     };
@@ -35,10 +35,10 @@ fn told(entry: &Entry) -> &'static str {
 }
 
 #[test]
-fn the_journal_of_the_first_run(rt: HostRuntime) -> Result<(), Fail> {
+fn the_journal_of_the_first_run(rt: HostRuntime) {
     let Some(node) = node_after(rt.alloc(), INPUT) else {
         assert!(rt; false);
-        return Ok(());
+        return;
     };
     let journal = node.shard.journal();
     assert!(rt; journal.start().number == 0 && journal.last_number() == 5);
@@ -53,7 +53,6 @@ fn the_journal_of_the_first_run(rt: HostRuntime) -> Result<(), Fail> {
     for (entry, want) in journal.entries().iter().zip(wanted.iter()) {
         assert!(rt; told(entry) == *want, "{want}");
     }
-    Ok(())
 }
 
 // Node `a` after a join whose subscriber is gone from the shard.
@@ -66,34 +65,28 @@ fn deserted(alloc: Global) -> Option<LocalSession> {
     }
 }
 
-// How a line ends the run of such a node, and what goes out for it.
-fn end_of(alloc: Global, line: &str) -> Option<(Result<u64, StdioFault>, Vec<u8>)> {
-    let mut node = deserted(alloc)?;
+// Whether this line ends the run of such a node since its shard refuses a call, behind this.
+fn ends_behind(alloc: Global, line: &str, want: &str) -> bool {
+    let Some(mut node) = deserted(alloc) else {
+        return false;
+    };
     let mut reader = line.as_bytes();
     let mut output = Vec::new(alloc);
     let end = go_plainly(alloc, &mut node, &mut reader, &mut output, 9);
-    Some((end, output))
+    end == Err(StdioFault::Session(1, SessionFault::ShardFull))
+        && output.as_slice() == want.as_bytes()
 }
 
 // A delivery that the shard refuses comes behind the line's own texts; of a line whose own calls it
 // refuses nothing goes out.
 #[test]
-fn a_shard_that_refuses_ends_the_run(rt: HostRuntime) -> Result<(), Fail> {
+fn a_shard_that_refuses_ends_the_run(rt: HostRuntime) {
     let pong =
         "[\"2\",\"3\",\"room:lobby\",\"phx_reply\",{\"response\":{\"n\":1},\"status\":\"ok\"}]\n";
     for (line, want) in [
         ("[\"2\",\"3\",\"room:lobby\",\"ping\",{\"n\":1}]\n", pong),
         ("[\"2\",\"3\",\"room:lobby\",\"phx_leave\",{}]\n", ""),
     ] {
-        let Some((end, output)) = end_of(rt.alloc(), line) else {
-            assert!(rt; false);
-            return Ok(());
-        };
-        assert!(rt;
-            end == Err(StdioFault::Session(1, SessionFault::ShardFull)),
-            "{line}"
-        );
-        assert!(rt; output.as_slice() == want.as_bytes(), "{line}");
+        assert!(rt; ends_behind(rt.alloc(), line, want), "{line}");
     }
-    Ok(())
 }

@@ -1,6 +1,8 @@
+//! The first run, readers and writers that fail, and runs without hooks.
+
 use hook_registry::NoHooks;
-use presence_node_main::{LocalSession, StdioFault, run_lines, run_stdio};
-use presence_node_options::{Options, StdioOptions, UsageFault, options_of};
+use presence_node_options::{Options, StdioOptions, options_of};
+use presence_node_stdio::{LocalSession, StdioFault, run_lines, run_stdio};
 use std::alloc::Global;
 use std::io;
 use std::io::{ErrorKind, Read, Write};
@@ -75,12 +77,22 @@ impl io::Write for Sink {
     }
 }
 
+// How many lines these are.
+pub(crate) fn lines_in(bytes: &[u8]) -> usize {
+    bytes.iter().filter(|b| **b == b'\n').count()
+}
+
 // The options that these words give.
 pub(crate) fn options_for(alloc: Global, words: &[&str]) -> Option<StdioOptions> {
     match options_of(alloc, words) {
         Ok(Options::Stdio(options)) => Some(options),
         _ => None,
     }
+}
+
+// The options of node `a`.
+pub(crate) fn plain_options(alloc: Global) -> Option<StdioOptions> {
+    options_for(alloc, ["presence_node", "stdio"].as_slice())
 }
 
 // A run without hooks, which notes nothing.
@@ -104,20 +116,4 @@ pub(crate) fn go_plainly<R: Read, W: Write>(
 ) -> Result<u64, StdioFault> {
     let mut notes = Vec::new(alloc);
     run_lines(alloc, local, &NoHooks, reader, writer, &mut notes, max)
-}
-
-// The help that these words ask for.
-pub(crate) fn help_for(alloc: Global, words: &[&str]) -> Option<String> {
-    match options_of(alloc, words) {
-        Ok(Options::Help(text)) => Some(text),
-        _ => None,
-    }
-}
-
-// What is told where these words are wrong.
-pub(crate) fn told_for(alloc: Global, words: &[&str]) -> Option<String> {
-    match options_of(alloc, words) {
-        Err(UsageFault::Usage(_, text)) => Some(text),
-        _ => None,
-    }
 }
