@@ -1,3 +1,4 @@
+//! Two calls that cross: one is held inside its shard until the other, at another shard, is over.
 ghost use Rattle.std.specs.Prelude.{◌≡◌};
 ghost use Rattle.presence_base.specs.Refs.{IsCount};
 

@@ -1,4 +1,4 @@
-// What the tests give the pool.
+//! What the tests give the pool.
 ghost use Rattle.std.specs.Prelude.{◌≡◌, IfSome};
 
 use presence_base::{Key, Meta, NodeName, Replica, Topic};
@@ -30,20 +30,31 @@ pub(crate) fn replica(alloc: Global, name: &str) -> Option<Replica>
     })
 }
 
-// The shard of a track on the topic.
+// Tracks a key of session 1 on a topic: the shard, and the number of the entry.
+pub(crate) fn track<G: Gate, A: Lane, B: Lane, C: Lane, D: Lane, R: Wait>(
+    rt: &R,
+    alloc: Global,
+    pool: &Pool<G, A, B, C, D>,
+    seat: &mut Seat<A, B, C, D>,
+    room: &str,
+    name: &str,
+) -> Option<(u32, u64)> {
+    let topic = topic(alloc, room)?;
+    let key = key(alloc, name)?;
+    let meta = meta(alloc)?;
+    let reply = pool.track(rt, alloc, seat, 1, &topic, &key, &meta).ok()?;
+    Some((reply.shard, reply.number))
+}
+
+// The shard of a track on the topic, with a seat that is not given back.
 pub(crate) fn tracked_at<G: Gate, A: Lane, B: Lane, C: Lane, D: Lane, R: Wait>(
     rt: &R,
     alloc: Global,
     pool: &Pool<G, A, B, C, D>,
     seat: Seat<A, B, C, D>,
-    name: &str,
+    room: &str,
 ) -> Option<u32> {
     let mut seat = seat;
-    let topic = topic(alloc, name)?;
-    let key = key(alloc, "u1")?;
-    let meta = meta(alloc)?;
-    let reply = pool
-        .track(rt, alloc, &mut seat, 1, &topic, &key, &meta)
-        .ok()?;
-    Some(reply.shard)
+    let (shard, _number) = track(rt, alloc, pool, &mut seat, room, "u1")?;
+    Some(shard)
 }

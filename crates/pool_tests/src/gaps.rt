@@ -1,18 +1,13 @@
-// What another node tells late, through the pool, and what the own node then tells.
-ghost use Rattle.std.specs.Prelude.{◌≡◌};
-ghost use Rattle.presence_base.specs.Refs.{IsCount};
+//! What another node tells late or in order, through the pool, and what the own node then tells.
 
-use crate::desk::{key, meta, replica, topic};
+use crate::desk::{topic, track};
 use crate::tellings::{first_removed, two_rows};
 use orswot_core_told::Told;
 use presence_base::Replica;
 use replica_status::Status;
-use shard_pool::{Gate, Lane, NoGate, Pool, Seat};
+use shard_pool::{Gate, Lane, Pool, Seat};
 use std::alloc::Global;
-use std::marker::Brand;
 use std::sync::Wait;
-use std::sync::ledger::Blank;
-use std::test::Fail;
 
 // Up to which count the other node is covered, and the rows of the lobby: how many, and the first one's count.
 #[derive(Clone, Copy, Debug, PartialEq)]
@@ -32,7 +27,7 @@ struct Own {
 
 // What is seen after each telling, and after the other node is gone and the own one tracked a row.
 #[derive(Clone, Copy, Debug, PartialEq)]
-struct Played {
+pub(crate) struct Played {
     told: [Shown; 2],
     live: usize,
     before: Own,
@@ -113,20 +108,6 @@ fn tell<G: Gate, A: Lane, B: Lane, C: Lane, D: Lane, R: Wait>(
     }
 }
 
-// Tracks a row of the own node.
-fn track<G: Gate, A: Lane, B: Lane, C: Lane, D: Lane, R: Wait>(
-    rt: &R,
-    alloc: Global,
-    pool: &Pool<G, A, B, C, D>,
-    seat: &mut Seat<A, B, C, D>,
-) -> Option<()> {
-    let topic = topic(alloc, "room:lobby")?;
-    let key = key(alloc, "u1")?;
-    let meta = meta(alloc)?;
-    pool.track(rt, alloc, seat, 1, &topic, &key, &meta).ok()?;
-    Some(())
-}
-
 // How many live rows a full value of the pool has.
 fn live_rows<G: Gate, A: Lane, B: Lane, C: Lane, D: Lane, R: Wait>(
     rt: &R,
@@ -138,7 +119,7 @@ fn live_rows<G: Gate, A: Lane, B: Lane, C: Lane, D: Lane, R: Wait>(
 }
 
 // Tells both, and looks on while the other node is gone for good and the own one tracks a row.
-fn watch<G: Gate, A: Lane, B: Lane, C: Lane, D: Lane, R: Wait>(
+pub(crate) fn watch<G: Gate, A: Lane, B: Lane, C: Lane, D: Lane, R: Wait>(
     rt: &R,
     alloc: Global,
     pool: &Pool<G, A, B, C, D>,
@@ -152,7 +133,7 @@ fn watch<G: Gate, A: Lane, B: Lane, C: Lane, D: Lane, R: Wait>(
     pool.permdown(rt, alloc, 0, *other).ok()?;
     let status = pool.status(rt, 0, other);
     let gone = look(rt, alloc, pool, seat, other)?;
-    track(rt, alloc, pool, seat)?;
+    track(rt, alloc, pool, seat, "room:lobby", "u1")?;
     Some(Played {
         told,
         live,
@@ -164,51 +145,21 @@ fn watch<G: Gate, A: Lane, B: Lane, C: Lane, D: Lane, R: Wait>(
     })
 }
 
-fn play<A: Lane, B: Lane, C: Lane, D: Lane, R: Wait>(
-    rt: &R,
-    alloc: Global,
-    own: Replica,
-    other: Replica,
-    late: bool,
-    first: Blank,
-    second: Blank,
-    third: Blank,
-    fourth: Blank,
-) -> Option<Played>
-    requires count { IsCount own.incarnation }
-    requires first { (first.name ≡ A.name) × (first.parts ≡ A.parts) × (first.parts ≡ 1) × (own.name ≡ A.node) }
-    requires second { (second.name ≡ B.name) × (second.parts ≡ B.parts) × (second.parts ≡ 1) × (own.name ≡ B.node) }
-    requires third { (third.name ≡ C.name) × (third.parts ≡ C.parts) × (third.parts ≡ 1) × (own.name ≡ C.node) }
-    requires fourth { (fourth.name ≡ D.name) × (fourth.parts ≡ D.parts) × (fourth.parts ≡ 1) × (own.name ≡ D.node) }
-{
-    let started = Pool::<NoGate, A, B, C, D>::start(
-        alloc, own, 1, 1, NoGate, first, second, third, fourth,
-    );
-    let Ok((pool, mut seats)) = started else {
-        return None;
+// What both orders come to. Behind the first telling the removal alone shows nothing, and the rows alone show both.
+pub(crate) fn wanted(late: bool) -> Played {
+    let first = if late {
+        Shown {
+            top: 1,
+            rows: 0,
+            first: 0,
+        }
+    } else {
+        Shown {
+            top: 2,
+            rows: 2,
+            first: 1,
+        }
     };
-    let mut seat = seats.pop()?;
-    watch(rt, alloc, &pool, &mut seat, &other, late)
-}
-
-fn seen<R: Wait>(rt: &R, alloc: Global, late: bool) -> Option<Played> {
-    let own = replica(alloc, "a")?;
-    let other = replica(alloc, "b")?;
-    play::<Brand, Brand, Brand, Brand, R>(
-        rt,
-        alloc,
-        own,
-        other,
-        late,
-        Blank::new(1),
-        Blank::new(1),
-        Blank::new(1),
-        Blank::new(1),
-    )
-}
-
-// What both orders come to, behind what is shown once the first telling is taken in.
-fn wanted(first: Shown) -> Played {
     Played {
         told: [
             first,
@@ -241,26 +192,4 @@ fn wanted(first: Shown) -> Played {
             rows: 0,
         },
     }
-}
-
-#[test]
-fn a_late_gap_through_the_pool(rt: HostRuntime) -> Result<(), Fail> {
-    let first = Shown {
-        top: 1,
-        rows: 0,
-        first: 0,
-    };
-    assert_eq!(rt; seen(&rt, rt.alloc(), true), Some(wanted(first)));
-    Ok(())
-}
-
-#[test]
-fn tellings_in_order_through_the_pool(rt: HostRuntime) -> Result<(), Fail> {
-    let first = Shown {
-        top: 2,
-        rows: 2,
-        first: 1,
-    };
-    assert_eq!(rt; seen(&rt, rt.alloc(), false), Some(wanted(first)));
-    Ok(())
 }

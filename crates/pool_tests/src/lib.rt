@@ -1,6 +1,8 @@
-//! Tests of the pool, with threads: by outside values alone.
+//! Tests of the pool, with threads, by outside values alone.
 #![tactic(auto)]
 
+#[cfg(test)]
+mod checkpoints;
 #[cfg(test)]
 mod crossing;
 #[cfg(test)]
@@ -8,7 +10,7 @@ mod desk;
 #[cfg(test)]
 mod gaps;
 #[cfg(test)]
-mod numbers;
+mod one_seat;
 #[cfg(test)]
 mod statuses;
 #[cfg(test)]

@@ -1,4 +1,4 @@
-// What another node tells the pool.
+//! What another node tells the pool.
 use orswot_core_told::{RawRow, RawTold, Told};
 use presence_base::{Dot, Replica};
 use serde_json::{Map, Value};

@@ -1,7 +1,8 @@
+//! Two threads with a seat each at one shard, and how their receipts and the journal agree.
 ghost use Rattle.std.specs.Prelude.{◌≡◌, ◌<◌};
 ghost use Rattle.presence_base.specs.Refs.{IsCount};
 
-use crate::desk::{key, meta, replica, topic};
+use crate::desk::{replica, topic, track};
 use presence_base::Replica;
 use presence_journal::Journal;
 use shard_pool::{Gate, Lane, NoGate, Pool, Receipt, Seat, SettleFault, check_receipts};
@@ -32,10 +33,8 @@ fn track_and_list<G: Gate, A: Lane, B: Lane, C: Lane, D: Lane, R: Wait>(
     seat: &mut Seat<A, B, C, D>,
     name: &str,
 ) -> Option<bool> {
+    track(rt, alloc, pool, seat, "room:a", name)?;
     let topic = topic(alloc, "room:a")?;
-    let key = key(alloc, name)?;
-    let meta = meta(alloc)?;
-    pool.track(rt, alloc, seat, 1, &topic, &key, &meta).ok()?;
     let rows = pool.list(rt, alloc, seat, &topic).ok()?.value;
     Some(rows.iter().any(|row| row.1.key.as_str() == name))
 }
@@ -227,9 +226,9 @@ fn settled<R: Threads + Wait + Sync>(
     )
 }
 
+// A seat that is left out is missing.
 #[test]
 fn two_threads_settle(rt: HostRuntime) -> Result<(), Fail> {
-    let seen = settled(&rt, rt.alloc(), false);
     let wanted = Seen {
         own_rows: true,
         whole: Ok(()),
@@ -238,15 +237,8 @@ fn two_threads_settle(rt: HostRuntime) -> Result<(), Fail> {
         entries: 4,
         seated: 4,
     };
-    assert_eq!(rt; seen, Some(Ok(wanted)));
-    Ok(())
-}
-
-#[test]
-fn a_seat_left_out_is_missing(rt: HostRuntime) -> Result<(), Fail> {
-    assert_eq!(rt;
-        settled(&rt, rt.alloc(), true),
-        Some(Err(SettleFault::MissingSeat))
-    );
+    for (leave_out, want) in [(false, Ok(wanted)), (true, Err(SettleFault::MissingSeat))] {
+        assert_eq!(rt; settled(&rt, rt.alloc(), leave_out), Some(want));
+    }
     Ok(())
 }

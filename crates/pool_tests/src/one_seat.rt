@@ -1,0 +1,137 @@
+//! A new pool with one seat: which shard a topic goes to, what it holds of another node that is silent or tells late, and
+//! what a checkpoint leaves. The pool settles behind each run.
+ghost use Rattle.std.specs.Prelude.{◌≡◌, ◌<◌, ◌≤◌};
+ghost use Rattle.presence_base.specs.Refs.{IsCount};
+
+use crate::checkpoints::{Behind, WANTED as WANTED_BEHIND, checkpointed};
+use crate::desk::{replica, track};
+use crate::gaps::{Played, wanted, watch};
+use crate::statuses::{WANTED as WANTED_STATUSES, statuses};
+use presence_base::Replica;
+use replica_status::Status;
+use shard_pool::{Lane, NoGate, Pool, Seat};
+use std::alloc::Global;
+use std::marker::Brand;
+use std::sync::Wait;
+use std::sync::ledger::Blank;
+use std::test::Fail;
+
+// What is done over a pool.
+#[derive(Clone, Copy)]
+enum Run {
+    // A track on a topic.
+    Track(&'static str),
+    Statuses,
+    // Both tellings of another node, the second one first where it is late.
+    Tellings(bool),
+    Checkpoint,
+}
+
+// What came of it: the shard of the track.
+#[derive(Clone, Copy, Debug, PartialEq)]
+enum Came {
+    Shard(u32),
+    Statuses([Status; 5]),
+    Tellings(Played),
+    Checkpoint(Behind),
+}
+
+fn run_over<A: Lane, B: Lane, C: Lane, D: Lane, R: Wait>(
+    rt: &R,
+    alloc: Global,
+    pool: &Pool<NoGate, A, B, C, D>,
+    seat: &mut Seat<A, B, C, D>,
+    other: &Replica,
+    run: Run,
+) -> Option<Came>
+    requires { 0 < pool.now.shards }
+{
+    match run {
+        Run::Track(room) => {
+            let (shard, _number) = track(rt, alloc, pool, seat, room, "u1")?;
+            Some(Came::Shard(shard))
+        }
+        Run::Statuses => Some(Came::Statuses(statuses(rt, alloc, pool, other)?)),
+        Run::Tellings(late) => Some(Came::Tellings(watch(rt, alloc, pool, seat, other, late)?)),
+        Run::Checkpoint => Some(Came::Checkpoint(checkpointed(rt, alloc, pool, seat)?)),
+    }
+}
+
+// What comes of a run over a new pool of so many shards, if the pool settles behind it.
+fn settled_run<A: Lane, B: Lane, C: Lane, D: Lane, R: Wait>(
+    rt: &R,
+    alloc: Global,
+    own: Replica,
+    other: Replica,
+    shards: u32,
+    run: Run,
+    first: Blank,
+    second: Blank,
+    third: Blank,
+    fourth: Blank,
+) -> Option<Came>
+    requires shards { (0 < shards) × (shards ≤ 4) }
+    requires count { IsCount own.incarnation }
+    requires first { (first.name ≡ A.name) × (first.parts ≡ A.parts) × (first.parts ≡ 1) × (own.name ≡ A.node) }
+    requires second { (second.name ≡ B.name) × (second.parts ≡ B.parts) × (second.parts ≡ 1) × (own.name ≡ B.node) }
+    requires third { (third.name ≡ C.name) × (third.parts ≡ C.parts) × (third.parts ≡ 1) × (own.name ≡ C.node) }
+    requires fourth { (fourth.name ≡ D.name) × (fourth.parts ≡ D.parts) × (fourth.parts ≡ 1) × (own.name ≡ D.node) }
+{
+    let started = Pool::<NoGate, A, B, C, D>::start(
+        alloc, own, shards, 1, NoGate, first, second, third, fourth,
+    );
+    let Ok((pool, mut seats)) = started else {
+        return None;
+    };
+    let mut seat = seats.pop()?;
+    let came = run_over(rt, alloc, &pool, &mut seat, &other, run)?;
+    seats.push(seat).ok()?;
+    if pool.settle(rt, alloc, seats).is_err() {
+        return None;
+    }
+    Some(came)
+}
+
+fn outcome_of<R: Wait>(rt: &R, alloc: Global, shards: u32, run: Run) -> Option<Came>
+    requires { (0 < shards) × (shards ≤ 4) }
+{
+    let own = replica(alloc, "a")?;
+    let other = replica(alloc, "b")?;
+    settled_run::<Brand, Brand, Brand, Brand, R>(
+        rt,
+        alloc,
+        own,
+        other,
+        shards,
+        run,
+        Blank::new(1),
+        Blank::new(1),
+        Blank::new(1),
+        Blank::new(1),
+    )
+}
+
+#[test]
+fn topics_go_to_their_shards(rt: HostRuntime) -> Result<(), Fail> {
+    let alloc = rt.alloc();
+    let lobby = outcome_of(&rt, alloc, 4, Run::Track("room:lobby"));
+    assert_eq!(rt; lobby, Some(Came::Shard(3)));
+    let first = outcome_of(&rt, alloc, 2, Run::Track("room:a"));
+    assert_eq!(rt; first, Some(Came::Shard(0)));
+    let second = outcome_of(&rt, alloc, 2, Run::Track("room:b"));
+    assert_eq!(rt; second, Some(Came::Shard(1)));
+    Ok(())
+}
+
+#[test]
+fn runs_over_one_shard(rt: HostRuntime) -> Result<(), Fail> {
+    for (run, want) in [
+        (Run::Statuses, Came::Statuses(WANTED_STATUSES)),
+        (Run::Tellings(true), Came::Tellings(wanted(true))),
+        (Run::Tellings(false), Came::Tellings(wanted(false))),
+        (Run::Checkpoint, Came::Checkpoint(WANTED_BEHIND)),
+    ] {
+        assert_eq!(rt; outcome_of(&rt, rt.alloc(), 1, run), Some(want));
+    }
+    Ok(())
+}
