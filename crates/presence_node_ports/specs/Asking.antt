@@ -10,6 +10,7 @@ use Rattle.channel_session_rules.specs.Steps.{new_dot, slot_of}
 use Rattle.channel_session_rules.specs.ShardFault.{ShardFault}
 use Rattle.channel_session_rules.specs.Asks.{Ask, track, update, untrack, untrack_all, list, get, subscribe, take, unsubscribe, waits, shout, Answer}
 use Rattle.shard_pool.specs.Reply.{Reply}
+use Rattle.shard_pool.specs.Unseated.{IsBehind, TellsWaiting}
 use Rattle.shard_pool.specs.Seats.{Hands, CalledAt, shard_of}
 
 -- the value of a reply, or the refusal
@@ -28,7 +29,8 @@ pub record Asked {A : Type 0} (node : List ℕ) (shards : ℕ) (old new : Hands)
   pub called : CalledAt node old new (shard_of topic shards) step Gives reply
   pub told : answer ≡ value_of reply
 
--- From the one seat to the other this was asked of the pool and this answered. To ask what waits is no step.
+-- From the one seat to the other this was asked of the pool and this answered. To ask what waits is no step, and
+-- some legal history of the node stands behind its answer.
 abbrev pub PoolStep : List ℕ → ℕ → Hands → (q : Ask) → Answer q → Hands → Type 0
 PoolStep node n old (track pid t k m) a new = Asked node n old new t (steps_are.Track pid t k m) (λ h d. new_dot (outcome_of h (steps_are.Track pid t k m)) ≡ Some d) a
 PoolStep node n old (update pid t k m) a new = Asked node n old new t (steps_are.Update pid t k m) (λ h d. new_dot (outcome_of h (steps_are.Update pid t k m)) ≡ Some d) a
@@ -39,5 +41,5 @@ PoolStep node n old (get t k) a new = Asked node n old new t (steps_are.Get t k)
 PoolStep node n old (subscribe t) a new = Asked node n old new t (steps_are.Subscribe t) (λ h sub. (sub.number ≡ last_number h + 1) × (sub.slot ≡ slot_of sub.number)) a
 PoolStep node n old (take t s max) a new = Asked node n old new t (steps_are.Take s.number max) (λ h items. items ≡ items_given h s.number max) a
 PoolStep node n old (unsubscribe t s) a new = Asked node n old new t (steps_are.Unsubscribe s.number) (λ h _. Unit {0}) a
-PoolStep node n old (waits t s) a new = new ≡ old
+PoolStep node n old (waits t s) a new = (new ≡ old) × IsBehind node (λ h. TellsWaiting h s a)
 PoolStep node n old (shout t p) a new = Asked node n old new t (steps_are.Shout t p) (λ h _. Unit {0}) a

@@ -52,7 +52,8 @@ fn value<T: Drop>(reply: Result<Reply<T>, PoolFault>) -> Result<T, ShardFault>
 
 // Whether the shard's journal was full.
 fn is_full<T>(reply: &Result<Reply<T>, PoolFault>) -> bool
-    ensures { result ≡ true → reply.now ≡ Err JournalFull }
+    ensures full { result ≡ true → reply.now ≡ Err JournalFull }
+    ensures told { reply.now ≡ Err JournalFull → result ≡ true }
 {
     match reply {
         Err(PoolFault::JournalFull) => true,
@@ -71,7 +72,7 @@ fn accepted<T: Drop>(reply: Result<Reply<T>, PoolFault>) -> Result<(), ShardFaul
 }
 
 impl<'a, R: Wait, G: Gate, A: Lane, B: Lane, C: Lane, D: Lane> PoolPort<'a, R, G, A, B, C, D> {
-    ghost use Rattle.std.specs.Prelude.{◌≡◌};
+    ghost use Rattle.std.specs.Prelude.{◌≡◌, ◌||◌, false};
 
     /// The port of a seat of this pool.
     pub fn new(
@@ -82,6 +83,7 @@ impl<'a, R: Wait, G: Gate, A: Lane, B: Lane, C: Lane, D: Lane> PoolPort<'a, R, G
         ensures same_reference { result.seat.ghost_name ≡ seat.entry.ghost_name }
         ensures pool { result.pool.now ≡ pool.now }
         ensures seat { result.seat.now ≡ seat.old }
+        ensures room { result.has_made_room ≡ false }
     {
         PoolPort {
             rt,
@@ -92,7 +94,9 @@ impl<'a, R: Wait, G: Gate, A: Lane, B: Lane, C: Lane, D: Lane> PoolPort<'a, R, G
     }
 
     /// Whether a call made room in a shard's journal, so that receipts from before have no entry any more.
-    pub fn has_made_room(&self) -> bool {
+    pub fn has_made_room(&self) -> bool
+        ensures { result ≡ self.now.has_made_room }
+    {
         self.has_made_room
     }
 
@@ -106,6 +110,7 @@ impl<'a, R: Wait, G: Gate, A: Lane, B: Lane, C: Lane, D: Lane> PoolPort<'a, R, G
         ensures pool { self.new.pool ≡ self.old.pool }
         ensures seat { self.new.seat ≡ self.old.seat }
         ensures full { result ≡ true → reply.now ≡ Err JournalFull }
+        ensures room { self.new.has_made_room ≡ (self.old.has_made_room || result) }
     {
         if !is_full(reply) {
             return false;
