@@ -1,0 +1,82 @@
+-- A port over a pool: the call of the pool that each question of a link is, and what a period asks of a shard.
+use Rattle.std.specs.Prelude.{◌≡◌, ◌⊎◌, ◌<◌, ◌==◌, ℕ, List, Option, Some, None, cond, Result, Ok, Err, IfErr}
+use Rattle.presence_base.specs.declared.dots.Replica.{Replica}
+use Rattle.orswot_core_told.specs.Telling.{ToldValue}
+use Rattle.delta_range.specs.Deltas.{DeltaValue, telling}
+use Rattle.replica_status.specs.declared.status.Status.{Status}
+use Rattle.presence_journal_data.specs.declared.step.Step.{Step}
+use Rattle.presence_journal_data.specs.declared.step.Step.TheVariants as steps_are
+use Rattle.presence_journal.specs.History.{History, IsTop, status as status_in}
+use Rattle.presence_journal_sets.specs.Full.{IsFullOf}
+use Rattle.shard_pool_lent.specs.ShardFault.{ShardFault}
+use Rattle.shard_pool_lent.specs.ShardFault.TheVariants as faults
+use Rattle.shard_pool_locks.specs.Unseated.{IsBehind, IsMade, IsCutMade}
+use Rattle.node_links_lines.specs.declared.lines.Line.{Line}
+use Rattle.node_links_lines.specs.declared.lines.Line.TheVariants as lines
+use Rattle.node_links_acts.specs.Asks.{Ask, Answer, status, heard, merge, permdown, top, told_from, full}
+use Rattle.node_links_acts.specs.declared.port.ActFault.{ActFault}
+use Rattle.node_links_acts.specs.declared.port.ActFault.TheVariants as acts
+
+-- what a link is told of a refusal
+abbrev pub act_fault : ShardFault → ActFault
+act_fault faults.OutOfMemory = acts.OutOfMemory
+act_fault fault = acts.ShardFull
+
+-- what it is told of a reply
+abbrev pub told_of : {A : Type 0} → Result A ShardFault → Result A ActFault
+told_of (Ok value) = Ok value
+told_of (Err fault) = Err (act_fault fault)
+
+-- there is no such shard, and the question is refused
+pub record HasNoShard {A : Type 0} (shards shard : ℕ) (answer : Result A ActFault) : Type 0 where
+  pub none : shard < shards → ⊥
+  pub refused : answer ≡ Err acts.ShardFull
+
+-- The pool made its call of this step: some legal history of its node stands behind the reply, of which the answer tells.
+pub record Made (node : List ℕ) (step : Step) (answer : Result (Unit {0}) ActFault) : Type 0 where
+  pub reply : Result (Unit {0}) ShardFault
+  pub behind : IsBehind node (λ h. IsMade h step reply)
+  pub told : answer ≡ told_of reply
+
+-- what is read without a step, of some legal history of the node
+abbrev pub Reads : {A : Type 0} → List ℕ → (History → A → Type 0) → Result A ActFault → Type 0
+Reads node Is (Ok value) = IsBehind node (λ h. Is h value)
+Reads node Is (Err fault) = ⊥
+
+-- all that is known, unless there is no memory
+abbrev pub TellsAll : List ℕ → Result ToldValue ActFault → Type 0
+TellsAll node (Ok told) = IsBehind node (λ h. IsFullOf h told)
+TellsAll node (Err fault) = fault ≡ acts.OutOfMemory
+
+-- what is answered at a shard that is there
+abbrev pub Asked : List ℕ → (q : Ask) → Answer q → Type 0
+Asked node (status s r) a = Reads node (λ h x. x ≡ status_in h r) a
+Asked node (heard s r now) a = Made node (steps_are.Heard r now) a
+Asked node (merge s t) a = Made node (steps_are.Merge t) a
+Asked node (permdown s r) a = Made node (steps_are.PermDown r) a
+Asked node (top s r) a = Reads node (λ h n. IsTop h r n) a
+Asked node (told_from s from) a = TellsAll node a
+Asked node (full s) a = TellsAll node a
+
+abbrev pub shard_in : Ask → ℕ
+shard_in (status s r) = s
+shard_in (heard s r now) = s
+shard_in (merge s t) = s
+shard_in (permdown s r) = s
+shard_in (top s r) = s
+shard_in (told_from s from) = s
+shard_in (full s) = s
+
+-- this was asked of the pool and this answered
+abbrev pub LinkStep : List ℕ → ℕ → (q : Ask) → Answer q → Type 0
+LinkStep node shards q a = HasNoShard shards (shard_in q) a ⊎ Asked node q a
+
+-- ---- a period
+
+-- what a cut tells: nothing where there are no new counts
+abbrev pub news_of : DeltaValue → Option ToldValue
+news_of d = cond (d.from == d.to) None (Some (telling d))
+
+-- the beat of a cut: it has the count up to which the cut goes
+abbrev pub beat_line : ℕ → DeltaValue → Line
+beat_line shard d = lines.Beat shard d.owner d.to (news_of d)

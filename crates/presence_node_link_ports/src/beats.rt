@@ -1,0 +1,73 @@
+//! What a period of the ticker asks of a shard, and the beat that it makes.
+ghost use Rattle.std.specs.Prelude.{◌≡◌, ◌<◌, IfOk};
+ghost use Rattle.presence_journal_data.specs.declared.step.Step.TheVariants as steps_are;
+ghost use Rattle.shard_pool_locks.specs.Unseated.{IsBehind, IsMade, IsCutMade};
+ghost use Rattle.presence_node_link_ports.specs.Asking.{beat_line, news_of};
+
+use crate::fault::is_full;
+use delta_range::Delta;
+use node_links_lines::Line;
+use orswot_core_told::Told;
+use shard_pool::{Gate, Lane, Pool, PoolFault};
+use std::alloc::{AllocError, Global};
+use std::sync::Wait;
+
+/// Lets time pass at a shard, up to a time in milliseconds. Where the shard's journal is full room is made by a
+/// checkpoint, and it is tried once more.
+pub fn let_pass<R: Wait, G: Gate, A: Lane, B: Lane, C: Lane, D: Lane>(
+    rt: &R,
+    alloc: Global,
+    pool: &Pool<G, A, B, C, D>,
+    shard: u32,
+    now: u64,
+) -> Result<(), PoolFault>
+    requires { shard < pool.now.shards }
+    ensures { IsBehind pool.now.own.name (λ h. IsMade h (steps_are.Tick now) result) }
+{
+    let reply = pool.tick(rt, alloc, shard, now);
+    if !is_full(&reply) || pool.checkpoint(rt, alloc, shard).is_err() {
+        return reply;
+    }
+    pool.tick(rt, alloc, shard, now)
+}
+
+/// What the own replica did at a shard since the last cut there. Where the shard's journal is full room is made by a
+/// checkpoint, and it is tried once more.
+pub fn cut_off<R: Wait, G: Gate, A: Lane, B: Lane, C: Lane, D: Lane>(
+    rt: &R,
+    alloc: Global,
+    pool: &Pool<G, A, B, C, D>,
+    shard: u32,
+) -> Result<Delta, PoolFault>
+    requires { shard < pool.now.shards }
+    ensures { IsBehind pool.now.own.name (λ h. IsCutMade h result) }
+{
+    let reply = pool.cut(rt, alloc, shard);
+    if !is_full(&reply) || pool.checkpoint(rt, alloc, shard).is_err() {
+        return reply;
+    }
+    pool.cut(rt, alloc, shard)
+}
+
+// What a cut tells, where there are new counts.
+fn news(alloc: Global, cut: &Delta) -> Result<Option<Told>, AllocError>
+    ensures { IfOk result (λ told. told ≡ news_of cut.now) }
+{
+    if cut.from() == cut.to() {
+        return Ok(None);
+    }
+    Ok(Some(cut.told(alloc)?))
+}
+
+/// The beat of a cut: up to which count it goes, and what it tells where there are new counts.
+pub fn beat_of(alloc: Global, shard: u32, cut: &Delta) -> Result<Line, AllocError>
+    ensures { IfOk result (λ line. line ≡ beat_line shard cut.now) }
+{
+    let delta = news(alloc, cut)?;
+    Ok(Line::Beat {
+        shard,
+        replica: cut.owner(),
+        count: cut.to(),
+        delta,
+    })
+}

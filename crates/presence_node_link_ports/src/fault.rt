@@ -1,0 +1,37 @@
+ghost use Rattle.std.specs.Prelude.{◌≡◌, true, false, Err};
+ghost use Rattle.shard_pool_lent.specs.ShardFault.TheVariants.{JournalFull};
+ghost use Rattle.presence_node_link_ports.specs.Asking.{act_fault, told_of};
+
+use node_links_acts::ActFault;
+use shard_pool::PoolFault;
+
+// What a link is told of a refusal.
+fn act_fault_of(fault: PoolFault) -> ActFault
+    ensures { result ≡ act_fault fault }
+{
+    match fault {
+        PoolFault::OutOfMemory => ActFault::OutOfMemory,
+        _ => ActFault::ShardFull,
+    }
+}
+
+/// What a link is told of a reply.
+pub(crate) fn told<T>(reply: Result<T, PoolFault>) -> Result<T, ActFault>
+    ensures { result ≡ told_of reply }
+{
+    match reply {
+        Ok(value) => Ok(value),
+        Err(fault) => Err(act_fault_of(fault)),
+    }
+}
+
+/// Whether a shard's journal was full.
+pub(crate) fn is_full<T>(reply: &Result<T, PoolFault>) -> bool
+    ensures full { result ≡ true → reply.now ≡ Err JournalFull }
+    ensures only { result ≡ false → reply.now ≡ Err JournalFull → ⊥ }
+{
+    match reply {
+        Err(PoolFault::JournalFull) => true,
+        _ => false,
+    }
+}

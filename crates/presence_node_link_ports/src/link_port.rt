@@ -1,0 +1,168 @@
+ghost use Rattle.std.specs.Prelude.{◌≡◌, true, Err};
+ghost use Rattle.shard_pool_lent.specs.ShardFault.TheVariants.{JournalFull};
+
+use crate::fault::{is_full, told};
+use node_links_acts::{ActFault, LinkPort};
+use orswot_core_told::Told;
+use presence_base::Replica;
+use replica_status::Status;
+use shard_pool::{Gate, Lane, Pool, PoolFault};
+use std::alloc::Global;
+use std::sync::Wait;
+
+/// The port of a link over a pool: each of its calls is that call of the pool, without a seat, and waits for the lock of
+/// the shard. One that finds the shard's journal full makes room there by a checkpoint and is tried once more.
+///
+/// Nothing but the last cut is kept of what was told: `told_from` tells all that is known, as `full` does.
+#[derive(Drop)]
+pub struct PoolLinkPort<'a, R: Wait, G: Gate, A: Lane, B: Lane, C: Lane, D: Lane> {
+    rt: &'a R,
+    pool: &'a Pool<G, A, B, C, D>,
+    shards: u32,
+    /// Whether the replica of the last status was shown.
+    is_up: bool,
+    has_changed: bool,
+    ghost all: { shards ≡ pool.now.shards },
+}
+
+// What is told of a call of the pool at a shard, where there is such a shard. One that finds the journal full is made
+// once more where a checkpoint makes room.
+macro_rules! tried {
+    ($port:ident, $alloc:ident, $shard:ident, $call:expr) => {{
+        if $shard >= $port.shards {
+            return Err(ActFault::ShardFull);
+        }
+        let reply = $call;
+        if !$port.makes_room($alloc, $shard, &reply) {
+            return told(reply);
+        }
+        let again = $call;
+        told(again)
+    }};
+}
+
+impl<'a, R: Wait, G: Gate, A: Lane, B: Lane, C: Lane, D: Lane> PoolLinkPort<'a, R, G, A, B, C, D> {
+    ghost use Rattle.std.specs.Prelude.{◌≡◌, ◌<◌};
+
+    /// The port of this pool, which has so many shards.
+    pub fn new(
+        rt: &'a R,
+        pool: &'a Pool<G, A, B, C, D>,
+        shards: u32,
+    ) -> PoolLinkPort<'a, R, G, A, B, C, D>
+        requires { shards ≡ pool.now.shards }
+        ensures { result.pool.now ≡ pool.now }
+    {
+        PoolLinkPort {
+            rt,
+            pool,
+            shards,
+            is_up: false,
+            has_changed: false,
+        }
+    }
+
+    /// Whether a call may have changed what clients are shown. It is a hint.
+    pub fn has_changed(&self) -> bool {
+        self.has_changed
+    }
+
+    // Whether the call found the shard's journal full and there is room now, so that it is worth another try.
+    fn makes_room<T>(&mut self, alloc: Global, shard: u32, reply: &Result<T, PoolFault>) -> bool
+        requires { shard < self.old.shards }
+        ensures pool { self.new.pool ≡ self.old.pool }
+        ensures full { result ≡ true → reply.now ≡ Err JournalFull }
+    {
+        if !is_full(reply) {
+            return false;
+        }
+        let is_made = self.pool.checkpoint(self.rt, alloc, shard).is_ok();
+        self.has_changed = self.has_changed || is_made;
+        is_made
+    }
+}
+
+impl<'a, R: Wait, G: Gate, A: Lane, B: Lane, C: Lane, D: Lane> LinkPort
+    for PoolLinkPort<'a, R, G, A, B, C, D> {
+    ghost use Rattle.std.specs.Prelude.{◌≡◌};
+    ghost use Rattle.presence_node_link_ports.specs.Asking.{LinkStep};
+
+    ghost step = { λ old q a new. (new.pool ≡ old.pool) × LinkStep old.pool.now.own.name old.pool.now.shards q a };
+
+    ghost shard_count = { λ p. p.pool.now.shards };
+
+    fn shards(&self) -> u32 {
+        self.shards
+    }
+
+    fn status(
+        &mut self,
+        _alloc: Global,
+        shard: u32,
+        replica: &Replica,
+    ) -> Result<Status, ActFault> {
+        if shard >= self.shards {
+            return Err(ActFault::ShardFull);
+        }
+        let status = self.pool.status(self.rt, shard, replica);
+        self.is_up = matches!(&status, Status::Up);
+        Ok(status)
+    }
+
+    fn heard(
+        &mut self,
+        alloc: Global,
+        shard: u32,
+        replica: Replica,
+        now: u64,
+    ) -> Result<(), ActFault> {
+        self.has_changed = self.has_changed || !self.is_up;
+        let who = &replica;
+        tried!(
+            self,
+            alloc,
+            shard,
+            self.pool.heard(self.rt, alloc, shard, *who, now)
+        )
+    }
+
+    fn merge(&mut self, alloc: Global, shard: u32, told: &Told) -> Result<(), ActFault> {
+        self.has_changed = true;
+        let news = told;
+        tried!(
+            self,
+            alloc,
+            shard,
+            self.pool.merge(self.rt, alloc, shard, news)
+        )
+    }
+
+    fn permdown(&mut self, alloc: Global, shard: u32, replica: Replica) -> Result<(), ActFault> {
+        self.has_changed = true;
+        let who = &replica;
+        tried!(
+            self,
+            alloc,
+            shard,
+            self.pool.permdown(self.rt, alloc, shard, *who)
+        )
+    }
+
+    fn top(&mut self, _alloc: Global, shard: u32, replica: &Replica) -> Result<u64, ActFault> {
+        if shard >= self.shards {
+            return Err(ActFault::ShardFull);
+        }
+        Ok(self.pool.top(self.rt, shard, replica))
+    }
+
+    fn told_from(&mut self, alloc: Global, shard: u32, _from: u64) -> Result<Told, ActFault> {
+        self.full(alloc, shard)
+    }
+
+    fn full(&mut self, alloc: Global, shard: u32) -> Result<Told, ActFault> {
+        if shard >= self.shards {
+            return Err(ActFault::ShardFull);
+        }
+        told(self.pool.full(self.rt, alloc, shard))
+    }
+}
