@@ -19,8 +19,9 @@ pub enum CrewFault {
     Memory,
 }
 
-/// What the threads of a server do. Each worker has tools of its own, `T`, and the one at the door has `D`.
-pub trait Crew<R, T: Tools, D> {
+/// What the threads of a server do. Each worker has tools of its own, `T`, the one at the door has `D`, and each further
+/// one a task, `K`.
+pub trait Crew<R, T: Tools, D, K> {
     /// Works until `stop`, and gives the tools back.
     fn work(&self, rt: &R, tools: T) -> T
         ensures { T.returns tools result };
@@ -28,8 +29,11 @@ pub trait Crew<R, T: Tools, D> {
     /// Is at the door until `stop`.
     fn attend(&self, rt: &R, door: D);
 
+    /// Does a task until `stop`.
+    fn tend(&self, rt: &R, task: K);
+
     /// Lets the others end.
-    fn stop(&self);
+    fn stop(&self, rt: &R);
 }
 
 /// What the caller's own thread waits for. It crosses to no other thread.
@@ -38,18 +42,20 @@ pub trait Ending<R> {
     fn await_end(&self, rt: &R) -> bool;
 }
 
-/// What the threads are given: each worker's tools, in their order, and what the one at the door has.
+/// What the threads are given: each worker's tools, in their order, what the one at the door has, and the tasks of the
+/// others.
 #[derive(Drop)]
-pub struct Posts<T, D> {
+pub struct Posts<T, D, K> {
     pub tools: Vec<T>,
     pub door: D,
+    pub tasks: Vec<K>,
 }
 
 // A worker's thread.
 type Worker<T> = PromisedHandle<T, HandsBack<T>>;
 
 // Starts a worker's thread for each of these tools.
-fn start_workers<'s, E, R, C, T, D>(
+fn start_workers<'s, E, R, C, T, D, K>(
     scope: &Scope<'s, E>,
     rt: &'s R,
     alloc: Global,
@@ -58,9 +64,10 @@ fn start_workers<'s, E, R, C, T, D>(
 ) -> Result<Vec<Worker<T>>, CrewFault>
 where
     R: Threads + Wait + Sync,
-    C: Crew<R, T, D> + Sync,
+    C: Crew<R, T, D, K> + Sync,
     T: Tools + Send + Drop + 's,
     D: Send + Drop + 's,
+    K: Send + Drop + 's,
     ensures { IfOk result (λ workers. given_to workers.items ≡ all.items) }
 {
     let Ok(mut workers) = Vec::with_capacity(alloc, all.len()) else {
@@ -78,23 +85,47 @@ where
     Ok(workers)
 }
 
-// Starts the workers' threads, and the one at the door.
-fn start_all<'s, E, R, C, T, D>(
+// Starts a thread for each of these tasks.
+fn start_tasks<'s, E, R, C, T, D, K>(
+    scope: &Scope<'s, E>,
+    rt: &'s R,
+    crew: &'s C,
+    tasks: Vec<K>,
+) -> Result<(), CrewFault>
+where
+    R: Threads + Wait + Sync,
+    C: Crew<R, T, D, K> + Sync,
+    T: Tools + Send + Drop + 's,
+    D: Send + Drop + 's,
+    K: Send + Drop + 's,
+{
+    for task in tasks {
+        if scope.spawn(move || crew.tend(rt, task)).is_err() {
+            return Err(CrewFault::NoThread);
+        }
+    }
+    Ok(())
+}
+
+// Starts the workers' threads, those of the tasks, and the one at the door.
+fn start_all<'s, E, R, C, T, D, K>(
     scope: &Scope<'s, E>,
     rt: &'s R,
     alloc: Global,
     crew: &'s C,
-    posts: Posts<T, D>,
+    posts: Posts<T, D, K>,
 ) -> Result<Vec<Worker<T>>, CrewFault>
 where
     R: Threads + Wait + Sync,
-    C: Crew<R, T, D> + Sync,
+    C: Crew<R, T, D, K> + Sync,
     T: Tools + Send + Drop + 's,
     D: Send + Drop + 's,
+    K: Send + Drop + 's,
     ensures { IfOk result (λ workers. given_to workers.items ≡ posts.tools.items) }
 {
-    let Posts { tools, door } = posts;
-    let workers = start_workers::<_, R, C, T, D>(scope, rt, alloc, crew, tools)?;
+    let Posts { tools, door, tasks } = posts;
+    let workers = start_workers::<_, R, C, T, D, K>(scope, rt, alloc, crew, tools)?;
+    start_tasks::<_, R, C, T, D, K>(scope, rt, crew, tasks)?;
     match scope.spawn(move || crew.attend(rt, door)) {
         Ok(_) => Ok(workers),
         Err(_) => Err(CrewFault::NoThread),
@@ -116,19 +147,20 @@ fn join_all<R: Threads, T: Tools + Drop>(
 
 /// Runs the threads until their end has come, and hands the tools back in their order. Where not all can be
 /// started, those that were are stopped.
-pub fn run_crew<R, C, E, T, D>(
+pub fn run_crew<R, C, E, T, D, K>(
     rt: &R,
     alloc: Global,
     crew: &C,
     ending: &E,
-    posts: Posts<T, D>,
+    posts: Posts<T, D, K>,
 ) -> Result<Vec<T>, CrewFault>
 where
     R: Threads + Wait + Sync,
-    C: Crew<R, T, D> + Sync,
+    C: Crew<R, T, D, K> + Sync,
     E: Ending<R>,
     T: Tools + Send + Drop,
     D: Send + Drop,
+    K: Send + Drop,
     ensures { IfOk result (λ backs. AreHandedBack T.returns posts.tools.items backs.items) }
 {
     thread::scope(
@@ -137,9 +169,9 @@ where
         |scope| -> Result<Vec<T>, CrewFault>
             ensures { IfOk result (λ backs. AreHandedBack T.returns posts.tools.items backs.items) }
         {
-            let started = start_all::<_, R, C, T, D>(scope, rt, alloc, crew, posts);
+            let started = start_all::<_, R, C, T, D, K>(scope, rt, alloc, crew, posts);
             if started.is_err() || ending.await_end(rt) {
-                crew.stop();
+                crew.stop(rt);
             }
             join_all(rt, started?)
         },

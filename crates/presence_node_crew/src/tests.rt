@@ -17,6 +17,8 @@ struct Halvers {
     // How often the crew was told to stop.
     stops: AtomicU64,
     at_work: AtomicU64,
+    // The sum of the tasks.
+    tended: AtomicU64,
     attended: AtomicBool,
     workers: u64,
     // Whether the end comes from outside. Where it doesn't, the one at the door stops all.
@@ -29,6 +31,7 @@ impl Halvers {
             stopped: AtomicBool::new(false),
             stops: AtomicU64::new(0),
             at_work: AtomicU64::new(0),
+            tended: AtomicU64::new(0),
             attended: AtomicBool::new(false),
             workers,
             ends,
@@ -54,7 +57,7 @@ impl Halvers {
     }
 }
 
-impl<R: Wait> Crew<R, u64, u32> for Halvers {
+impl<R: Wait> Crew<R, u64, u32, u64> for Halvers {
     fn work(&self, rt: &R, tools: u64) -> u64 {
         self.at_work.fetch_add(1, Ordering::SeqCst);
         self.await_stop(rt);
@@ -71,7 +74,12 @@ impl<R: Wait> Crew<R, u64, u32> for Halvers {
         self.await_stop(rt);
     }
 
-    fn stop(&self) {
+    fn tend(&self, rt: &R, task: u64) {
+        self.tended.fetch_add(task, Ordering::SeqCst);
+        self.await_stop(rt);
+    }
+
+    fn stop(&self, _rt: &R) {
         self.stops.fetch_add(1, Ordering::SeqCst);
         self.stopped.store(true, Ordering::SeqCst);
     }
@@ -89,22 +97,27 @@ impl<R: Wait> Ending<R> for Halvers {
     }
 }
 
-fn posts_of(tools: Vec<u64>) -> Posts<u64, u32>
+fn posts_of(tools: Vec<u64>, tasks: Vec<u64>) -> Posts<u64, u32, u64>
     ensures { result.tools ≡ tools }
 {
-    Posts { tools, door: 9 }
+    Posts {
+        tools,
+        door: 9,
+        tasks,
+    }
 }
 
 #[test]
 fn each_works_until_the_end_and_hands_its_tools_back(rt: HostRuntime) -> Result<(), Fail> {
     let alloc = rt.alloc();
     let halvers = Halvers::new(3, true);
-    let posts = posts_of(vec![in alloc; 2u64, 4, 6]?);
+    let posts = posts_of(vec![in alloc; 2u64, 4, 6]?, vec![in alloc; 5u64, 7]?);
     let Ok(back) = run_crew(&rt, alloc, &halvers, &halvers, posts) else {
         panic!(rt; "no threads");
     };
     assert_eq!(rt; back.as_slice(), [1u64, 2, 3].as_slice());
     assert_eq!(rt; halvers.at_work.load(Ordering::SeqCst), 0u64);
+    assert_eq!(rt; halvers.tended.load(Ordering::SeqCst), 12u64);
     assert_eq!(rt; halvers.stops.load(Ordering::SeqCst), 1u64);
     Ok(())
 }
@@ -113,7 +126,7 @@ fn each_works_until_the_end_and_hands_its_tools_back(rt: HostRuntime) -> Result<
 fn an_end_that_never_comes_stops_none(rt: HostRuntime) -> Result<(), Fail> {
     let alloc = rt.alloc();
     let halvers = Halvers::new(2, false);
-    let posts = posts_of(vec![in alloc; 8u64, 10]?);
+    let posts = posts_of(vec![in alloc; 8u64, 10]?, Vec::new(alloc));
     let Ok(back) = run_crew(&rt, alloc, &halvers, &halvers, posts) else {
         panic!(rt; "no threads");
     };
@@ -126,7 +139,7 @@ fn an_end_that_never_comes_stops_none(rt: HostRuntime) -> Result<(), Fail> {
 fn no_tools_are_no_workers(rt: HostRuntime) -> Result<(), Fail> {
     let alloc = rt.alloc();
     let halvers = Halvers::new(0, true);
-    let posts = posts_of(Vec::new(alloc));
+    let posts = posts_of(Vec::new(alloc), vec![in alloc; 1u64]?);
     let back = run_crew(&rt, alloc, &halvers, &halvers, posts);
     assert!(rt; back.is_ok_and(|back| back.is_empty()));
     assert!(rt; halvers.attended.load(Ordering::SeqCst));

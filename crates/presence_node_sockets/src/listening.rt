@@ -2,15 +2,12 @@
 use std::io;
 use std::net::{Net, TcpListener, TcpStream};
 
-/// The address on which clients are served.
-pub const ADDRESS: &str = "127.0.0.1";
-
-/// A socket that listens on this port and never blocks.
-pub fn listen<R>(net: &R, port: u16) -> io::Result<TcpListener>
+/// A socket that listens on this port of an address of the machine and never blocks.
+pub fn listen<R>(net: &R, address: &str, port: u16) -> io::Result<TcpListener>
 where
     R: Net<Listener = TcpListener, Stream = TcpStream>,
 {
-    let listener = TcpListener::bind(net, (ADDRESS, port))?;
+    let listener = TcpListener::bind(net, (address, port))?;
     listener.set_nonblocking(true)?;
     Ok(listener)
 }

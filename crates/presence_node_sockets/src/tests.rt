@@ -28,7 +28,7 @@ where
 
 #[test]
 fn a_connection_and_its_bytes_are_reported(rt: HostRuntime) -> Result<(), Fail> {
-    let listener = listen(&rt, 0)?;
+    let listener = listen(&rt, "127.0.0.1", 0)?;
     let mut watch = Watch::new(&rt, rt.alloc())?;
     watch.add(&listener, 5)?;
     assert!(rt; next_stream(&listener).is_none());
@@ -52,7 +52,7 @@ fn a_connection_and_its_bytes_are_reported(rt: HostRuntime) -> Result<(), Fail> 
 
 #[test]
 fn what_was_removed_is_not_reported(rt: HostRuntime) -> Result<(), Fail> {
-    let listener = listen(&rt, 0)?;
+    let listener = listen(&rt, "127.0.0.1", 0)?;
     let mut watch = Watch::new(&rt, rt.alloc())?;
     watch.add(&listener, 5)?;
     watch.remove(&listener)?;
@@ -64,7 +64,7 @@ fn what_was_removed_is_not_reported(rt: HostRuntime) -> Result<(), Fail> {
 
 #[test]
 fn a_number_above_the_last_is_refused(rt: HostRuntime) -> Result<(), Fail> {
-    let listener = listen(&rt, 0)?;
+    let listener = listen(&rt, "127.0.0.1", 0)?;
     let watch = Watch::new(&rt, rt.alloc())?;
     let refused = watch.add(&listener, LAST_NUMBER + 1);
     assert!(rt; is_refused_as(refused, ErrorKind::InvalidInput));
