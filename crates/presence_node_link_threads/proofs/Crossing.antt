@@ -1,0 +1,109 @@
+-- What the threads of links share and are given may cross to them. One search for each gives up, so it goes by the parts.
+use denote.Param.Send.{IsSend, IsSync, sendable}
+use Rattle.std.proofs.Crossing as heap
+use Rattle.std.proofs.MapsCrossing as maps
+use Rattle.serde_json.proofs.value.Value.TheLaws.TheKnot as value
+use Rattle.presence_base.specs.contracts.json.Json as Json
+use Rattle.presence_base.specs.contracts.meta.Meta as Meta
+use Rattle.presence_base.specs.contracts.row.Row as Row
+use Rattle.presence_base.specs.contracts.names.Topic as Topic
+use Rattle.presence_base.specs.contracts.names.Key as Key
+use Rattle.presence_base.specs.contracts.dots.Replica as Replica
+use Rattle.presence_base.specs.contracts.dots.Dot as Dot
+use Rattle.orswot_core_told.specs.contracts.told.Told as Told
+use Rattle.node_links_lines.specs.contracts.lines.Line as Line
+use Rattle.presence_node_sockets.specs.contracts.watch.Bell as Bell
+use Rattle.presence_node_sockets.specs.contracts.watch.Watch as Watch
+use Rattle.presence_node_link_threads.specs.contracts.dialling.Dialler as Dialler
+use Rattle.presence_node_link_threads.specs.contracts.incoming.LinkDoor as LinkDoor
+use Rattle.presence_node_link_threads.specs.contracts.incoming.Waiting as Waiting
+use Rattle.presence_node_link_threads.specs.contracts.links.Links as Links
+use Rattle.presence_node_link_threads.specs.contracts.stopping.Stopping as Stopping
+use Rattle.presence_node_link_threads.specs.contracts.tasks.LinkTask as LinkTask
+
+-- ---- a line
+
+json_send : IsSend (Json.the_field).row
+json_send = search (maps.crosses, heap.crosses, value.crosses, sendable) depth 60 fits 20000
+
+json_sync : IsSync (Json.the_field).row
+json_sync = search (maps.crosses, heap.crosses, value.crosses, sendable) depth 60 fits 20000
+
+meta_send : IsSend (Meta.the_field).row
+meta_send = search (json_send, json_sync, heap.crosses, sendable) depth 60 fits 20000
+
+meta_sync : IsSync (Meta.the_field).row
+meta_sync = search (json_send, json_sync, heap.crosses, sendable) depth 60 fits 20000
+
+topic_send : IsSend (Topic.the_field).row
+topic_send = search (heap.crosses, sendable) depth 60 fits 20000
+
+topic_sync : IsSync (Topic.the_field).row
+topic_sync = search (heap.crosses, sendable) depth 60 fits 20000
+
+key_send : IsSend (Key.the_field).row
+key_send = search (heap.crosses, sendable) depth 60 fits 20000
+
+key_sync : IsSync (Key.the_field).row
+key_sync = search (heap.crosses, sendable) depth 60 fits 20000
+
+replica_send : IsSend (Replica.the_field).row
+replica_send = search sendable depth 60 fits 20000
+
+replica_sync : IsSync (Replica.the_field).row
+replica_sync = search sendable depth 60 fits 20000
+
+dot_send : IsSend (Dot.the_field).row
+dot_send = search sendable depth 60 fits 20000
+
+dot_sync : IsSync (Dot.the_field).row
+dot_sync = search sendable depth 60 fits 20000
+
+row_send : IsSend (Row.the_field).row
+row_send = search (meta_send, topic_send, key_send, dot_send, sendable) depth 60 fits 20000
+
+row_sync : IsSync (Row.the_field).row
+row_sync = search (meta_sync, topic_sync, key_sync, dot_sync, sendable) depth 60 fits 20000
+
+told_send : IsSend (Told.the_field).row
+told_send = search (row_send, dot_send, replica_send, heap.crosses, sendable) depth 60 fits 20000
+
+told_sync : IsSync (Told.the_field).row
+told_sync = search (row_sync, dot_sync, replica_sync, heap.crosses, sendable) depth 60 fits 20000
+
+line_send : IsSend (Line.the_field).row
+line_send = search (told_send, replica_send, sendable) depth 60 fits 20000
+
+line_sync : IsSync (Line.the_field).row
+line_sync = search (told_sync, replica_sync, sendable) depth 60 fits 20000
+
+-- ---- what is shared
+
+waiting_sync : IsSync (Waiting.the_field).row
+waiting_sync = search (heap.crosses, sendable) depth 60 fits 20000
+
+stopping_sync : IsSync (Stopping.the_field).row
+stopping_sync = search (heap.crosses, sendable) depth 60 fits 20000
+
+bell_sync : IsSync (Bell.the_field).row
+bell_sync = search (heap.crosses, sendable) depth 60 fits 20000
+
+pub links_sync : IsSync (Links.the_field).row
+links_sync = search (line_send, line_sync, waiting_sync, stopping_sync, bell_sync, replica_sync, heap.crosses, sendable) depth 60 fits 20000
+
+-- ---- what is given
+
+dialler_send : IsSend (Dialler.the_field).row
+dialler_send = search (heap.crosses, sendable) depth 60 fits 20000
+
+watch_send : IsSend (Watch.the_field).row
+watch_send = search (heap.crosses, sendable) depth 60 fits 20000
+
+door_send : IsSend (LinkDoor.the_field).row
+door_send = search (watch_send, sendable) depth 60 fits 20000
+
+pub task_send : IsSend (LinkTask.the_field).row
+task_send = search (dialler_send, door_send, sendable) depth 60 fits 20000
+
+pub task_row_send : IsSend LinkTask.the_row
+task_row_send = search (task_send, sendable) depth 60 fits 20000

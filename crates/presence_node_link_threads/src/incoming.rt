@@ -1,0 +1,161 @@
+//! The sockets of links that came in, and the thread where they do.
+use crate::links::Links;
+use presence_node_link_words::LinkEnd;
+use presence_node_sockets::{Watch, next_stream};
+use std::alloc::Global;
+use std::net::{TcpListener, TcpStream};
+use std::sync::{Condvar, Mutex, Wait};
+use std::thread;
+use std::time::{Clock, Duration};
+
+/// How long one wait for a link lasts, in milliseconds.
+const IDLE_MILLISECONDS: u64 = 1_000;
+
+/// How long one wait lasts where the system gives none.
+const RETRY_MILLISECONDS: u64 = 50;
+
+/// The number of the listening socket.
+pub(crate) const LISTENER: u64 = 0;
+
+/// How many links one turn takes.
+const MAX_TAKEN: usize = 64;
+
+// The sockets that no thread has taken yet.
+struct Sockets {
+    sockets: Vec<TcpStream>,
+    /// How many threads wait for one.
+    idle: usize,
+    has_ended: bool,
+}
+
+impl Drop for Sockets {
+    fn drop(self) {
+        let Sockets {
+            sockets,
+            idle: _,
+            has_ended: _,
+        } = self;
+        drop(sockets);
+    }
+}
+
+/// Sockets of links that wait for a thread: never more than there are threads that wait for one.
+pub(crate) struct Waiting {
+    sockets: Mutex<Sockets>,
+    bell: Condvar,
+}
+
+impl Drop for Waiting {
+    fn drop(self) {
+        let Waiting { sockets, bell } = self;
+        drop(sockets);
+        drop(bell);
+    }
+}
+
+impl Waiting {
+    pub(crate) fn new(alloc: Global) -> Waiting {
+        let sockets = Sockets {
+            sockets: Vec::new(alloc),
+            idle: 0,
+            has_ended: false,
+        };
+        Waiting {
+            sockets: Mutex::new(sockets),
+            bell: Condvar::new(),
+        }
+    }
+
+    // Hands a socket to a thread that waits for one: whether there is one.
+    fn give<R: Wait>(&self, rt: &R, socket: TcpStream) -> bool {
+        let mut guard = self.sockets.lock(rt);
+        let waiting = &mut *guard;
+        if waiting.sockets.len() >= waiting.idle || waiting.sockets.push(socket).is_err() {
+            return false;
+        }
+        self.bell.notify_one();
+        true
+    }
+
+    /// The next socket, or none once the links are to end.
+    pub(crate) fn take<R: Wait>(&self, rt: &R) -> Option<TcpStream> {
+        let mut first = self.sockets.lock(rt);
+        first.idle = first.idle.saturating_add(1);
+        let mut guard = self.bell.wait_while(rt, first, |waiting| {
+            !waiting.has_ended && waiting.sockets.is_empty()
+        });
+        let waiting = &mut *guard;
+        waiting.idle = waiting.idle.saturating_sub(1);
+        if waiting.has_ended {
+            return None;
+        }
+        waiting.sockets.pop()
+    }
+
+    /// Lets the threads that wait end.
+    pub(crate) fn end<R: Wait>(&self, rt: &R) {
+        let mut guard = self.sockets.lock(rt);
+        guard.has_ended = true;
+        drop(guard);
+        self.bell.notify_all();
+    }
+}
+
+/// What the thread where links come in has of its own.
+pub struct LinkDoor {
+    listener: TcpListener,
+    watch: Watch,
+}
+
+impl Drop for LinkDoor {
+    fn drop(self) {
+        let LinkDoor { listener, watch } = self;
+        drop(listener);
+        drop(watch);
+    }
+}
+
+impl LinkDoor {
+    /// The listening socket is watched as `LISTENER`.
+    pub(crate) fn new(listener: TcpListener, watch: Watch) -> LinkDoor {
+        LinkDoor { listener, watch }
+    }
+
+    // Takes one link, if one waits: whether there may be another.
+    fn take_one<R: Wait + Eprint>(&self, rt: &R, links: &Links) -> bool {
+        let Some(socket) = next_stream(&self.listener) else {
+            return false;
+        };
+        if !links.waiting.give(rt, socket) {
+            links.tell_down(rt, "from another node", LinkEnd::TooMany);
+        }
+        true
+    }
+
+    // Takes the links that wait, as many as a turn may: whether there may be more.
+    fn take_in<R: Wait + Eprint>(&self, rt: &R, links: &Links) -> bool {
+        for _ in 0..MAX_TAKEN {
+            if !self.take_one(rt, links) {
+                return false;
+            }
+        }
+        true
+    }
+
+    /// Takes links until they are to end.
+    pub(crate) fn attend<R: Wait + Clock + Eprint>(&mut self, rt: &R, links: &Links) {
+        for _ in rt.forever() {
+            if links.is_stopped() {
+                break;
+            }
+            let wait = if self.take_in(rt, links) {
+                0
+            } else {
+                IDLE_MILLISECONDS
+            };
+            if self.watch.wait(wait).is_err() {
+                thread::sleep(rt, Duration::from_millis(RETRY_MILLISECONDS));
+            }
+        }
+    }
+}

@@ -1,0 +1,19 @@
+//! The threads of links between nodes: one that makes the beats, one for each node that is dialled, one where links come
+//! in, and those that serve them.
+//!
+//! Of what they tell each other, and of what goes over a socket, no contract speaks. What each exchange does is
+//! `node_links`', and what it asks of the shards `presence_node_link_ports`'.
+#![tactic(auto)]
+
+mod dialling;
+mod incoming;
+mod links;
+mod serving;
+mod stopping;
+mod stream;
+mod tasks;
+mod ticking;
+
+pub use links::{Links, Wakes};
+pub use stopping::time_behind;
+pub use tasks::{LinkTask, LinkTasks, tasks_for};

@@ -1,0 +1,99 @@
+//! The stream of a link: a socket that is given up after a silence, or once the links are to end.
+use crate::stopping::Stopping;
+use std::alloc::Global;
+use std::io;
+use std::io::{BufReader, ErrorKind, Read, Write};
+use std::net::TcpStream;
+use std::time::Duration;
+
+/// How long one look at a socket lasts, in milliseconds.
+const LOOK_MILLISECONDS: u64 = 200;
+
+/// After so many looks that find nothing a link is given up: 30,000 milliseconds.
+const MAX_LOOKS: u32 = 150;
+
+/// A socket whose reads and writes last for `MAX_LOOKS` looks at most, and end with a look once the links are to end.
+#[derive(Drop)]
+struct Patient<'a> {
+    socket: TcpStream,
+    stopping: &'a Stopping,
+}
+
+fn is_silence(kind: ErrorKind) -> bool {
+    matches!(kind, ErrorKind::WouldBlock | ErrorKind::TimedOut)
+}
+
+impl Read for Patient<'_> {
+    fn read(&mut self, buf: &mut [u8]) -> io::Result<usize> {
+        for _ in 0..MAX_LOOKS {
+            match self.socket.read(buf) {
+                Err(e) if is_silence(e.kind()) => {
+                    if self.stopping.is_stopped() {
+                        break;
+                    }
+                }
+                done => return done,
+            }
+        }
+        Err(io::Error::from(ErrorKind::TimedOut))
+    }
+}
+
+impl Write for Patient<'_> {
+    fn write(&mut self, buf: &[u8]) -> io::Result<usize> {
+        for _ in 0..MAX_LOOKS {
+            match self.socket.write(buf) {
+                Err(e) if is_silence(e.kind()) => {
+                    if self.stopping.is_stopped() {
+                        break;
+                    }
+                }
+                done => return done,
+            }
+        }
+        Err(io::Error::from(ErrorKind::TimedOut))
+    }
+
+    fn flush(&mut self) -> io::Result<()> {
+        self.socket.flush()
+    }
+}
+
+/// The stream of a link.
+#[derive(Drop)]
+pub(crate) struct LinkStream<'a> {
+    reader: BufReader<Patient<'a>>,
+}
+
+impl<'a> LinkStream<'a> {
+    /// The stream over this socket, which may be one that never blocks.
+    pub(crate) fn new(
+        alloc: Global,
+        socket: TcpStream,
+        stopping: &'a Stopping,
+    ) -> io::Result<LinkStream<'a>> {
+        let look = Duration::from_millis(LOOK_MILLISECONDS);
+        socket.set_nonblocking(false)?;
+        socket.set_nodelay(true)?;
+        socket.set_read_timeout(Some(look))?;
+        socket.set_write_timeout(Some(look))?;
+        let reader = BufReader::new(alloc, Patient { socket, stopping })?;
+        Ok(LinkStream { reader })
+    }
+}
+
+impl Read for LinkStream<'_> {
+    fn read(&mut self, buf: &mut [u8]) -> io::Result<usize> {
+        self.reader.read(buf)
+    }
+}
+
+impl Write for LinkStream<'_> {
+    fn write(&mut self, buf: &[u8]) -> io::Result<usize> {
+        self.reader.get_mut().write(buf)
+    }
+
+    fn flush(&mut self) -> io::Result<()> {
+        self.reader.get_mut().flush()
+    }
+}

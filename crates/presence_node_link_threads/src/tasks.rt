@@ -1,0 +1,168 @@
+//! What each of the threads of links does.
+ghost use Rattle.std.specs.Prelude.{◌≡◌, ◌≤◌, IfOk};
+
+use crate::dialling::{Dialler, dial_one};
+use crate::incoming::{LISTENER, LinkDoor, Waiting};
+use crate::links::{Links, Wakes};
+use crate::serving::serve_links;
+use crate::stopping::Stopping;
+use crate::ticking::tick;
+use presence_base::{NodeName, Replica};
+use presence_node_link_words::MAX_LINKS;
+use presence_node_mailboxes::Mailbox;
+use presence_node_sockets::{Bell, Watch};
+use shard_pool::{Gate, Lane, Pool};
+use std::alloc::{AllocError, Global};
+use std::io;
+use std::net::{Net, TcpListener, TcpStream};
+use std::sync::Wait;
+use std::sync::atomic::AtomicBool;
+use std::time::Clock;
+
+/// What one thread of links does until they are to end.
+pub enum LinkTask {
+    /// Makes the beats.
+    Tick,
+    /// Takes the links that come in.
+    Attend(LinkDoor),
+    /// Serves links that came in.
+    Serve,
+    /// Dials another node.
+    Dial(Dialler),
+}
+
+impl Drop for LinkTask {
+    fn drop(self) {
+        match self {
+            LinkTask::Tick | LinkTask::Serve => {}
+            LinkTask::Attend(door) => drop(door),
+            LinkTask::Dial(dialler) => drop(dialler),
+        }
+    }
+}
+
+impl LinkTask {
+    /// Does the task until the links are to end.
+    pub fn run<R, G, A, B, C, D, W>(
+        self,
+        rt: &R,
+        links: &Links,
+        pool: &Pool<G, A, B, C, D>,
+        wakes: &W,
+    )
+    where
+        R: Net<Listener = TcpListener, Stream = TcpStream> + Wait + Clock + Eprint,
+        G: Gate,
+        A: Lane,
+        B: Lane,
+        C: Lane,
+        D: Lane,
+        W: Wakes,
+        requires { links.now.shards ≡ pool.now.shards }
+    {
+        match self {
+            LinkTask::Tick => tick(rt, links, pool, wakes),
+            LinkTask::Attend(door) => {
+                let mut door = door;
+                door.attend(rt, links);
+            }
+            LinkTask::Serve => serve_links(rt, links, pool, wakes),
+            LinkTask::Dial(dialler) => dial_one(rt, links, pool, wakes, &dialler),
+        }
+    }
+}
+
+/// What the threads of links share, and what each of them does.
+#[derive(Drop)]
+pub struct LinkTasks {
+    pub links: Links,
+    pub tasks: Vec<LinkTask>,
+}
+
+// The thread that dials a node, which has this place among them.
+fn dialler_of(
+    alloc: Global,
+    number: usize,
+    name: NodeName,
+    host: &str,
+    port: u16,
+) -> Result<Dialler, AllocError> {
+    let named = name.as_str();
+    let place = format!(in alloc; "to {named} at {host}:{port}")?;
+    let host = String::from_str(alloc, host)?;
+    Ok(Dialler {
+        number,
+        name,
+        host,
+        port,
+        place,
+    })
+}
+
+impl LinkTasks {
+    ghost use Rattle.std.specs.Prelude.{◌≡◌};
+
+    /// What is shared, and what each thread does.
+    pub fn into_parts(self) -> (Links, Vec<LinkTask>)
+        ensures { result.0 ≡ self.links }
+    {
+        let LinkTasks { links, tasks } = self;
+        (links, tasks)
+    }
+
+    /// Dials the node of this name too, at this host and port.
+    pub fn dial(
+        &mut self,
+        alloc: Global,
+        name: NodeName,
+        host: &str,
+        port: u16,
+    ) -> Result<(), AllocError>
+        ensures { self.new.links.shards ≡ self.old.links.shards }
+    {
+        let dialler = dialler_of(alloc, self.links.mailboxes.len(), name, host, port)?;
+        self.tasks.push(LinkTask::Dial(dialler))?;
+        self.links.mailboxes.push(Mailbox::new(alloc))?;
+        Ok(())
+    }
+}
+
+// The thread where links come in, and what wakes it.
+fn door_at<R: Net>(net: &R, alloc: Global, listener: TcpListener) -> io::Result<(LinkDoor, Bell)> {
+    let watch = Watch::new(net, alloc)?;
+    watch.add(&listener, LISTENER)?;
+    let bell = watch.bell()?;
+    Ok((LinkDoor::new(listener, watch), bell))
+}
+
+/// What the threads of links of this node share, and what each of them does: links come in at this listening socket, and
+/// no node is dialled yet.
+pub fn tasks_for<R: Net>(
+    net: &R,
+    alloc: Global,
+    own: Replica,
+    shards: u32,
+    listener: TcpListener,
+) -> io::Result<LinkTasks>
+    requires { 1 ≤ shards }
+    ensures { IfOk result (λ t. t.links.shards ≡ shards) }
+{
+    let (door, bell) = door_at(net, alloc, listener)?;
+    let mut tasks = Vec::new(alloc);
+    tasks.push(LinkTask::Tick)?;
+    tasks.push(LinkTask::Attend(door))?;
+    for _ in 0..MAX_LINKS {
+        tasks.push(LinkTask::Serve)?;
+    }
+    let links = Links {
+        alloc,
+        own,
+        shards,
+        mailboxes: Vec::new(alloc),
+        waiting: Waiting::new(alloc),
+        bell,
+        stopping: Stopping::new(),
+        has_met: AtomicBool::new(false),
+    };
+    Ok(LinkTasks { links, tasks })
+}

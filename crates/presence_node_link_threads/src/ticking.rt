@@ -1,0 +1,97 @@
+//! The thread that lets time pass at the shards and makes the beats.
+ghost use Rattle.std.specs.Prelude.{◌≡◌, ◌<◌};
+
+use crate::links::{Links, Wakes};
+use crate::stopping::time_behind;
+use node_links::Line;
+use presence_node_link_ports::{beat_of, cut_off, let_pass};
+use shard_pool::{Gate, Lane, Pool};
+use std::sync::{Arc, Wait};
+use std::time::Clock;
+
+/// The period of the beats, in milliseconds.
+pub(crate) const PERIOD_MILLISECONDS: u64 = 1_500;
+
+// One period of a shard, and its beat. What is refused waits for the next.
+fn beat<R, G, A, B, C, D>(
+    rt: &R,
+    links: &Links,
+    pool: &Pool<G, A, B, C, D>,
+    shard: u32,
+    now: u64,
+) -> Option<Arc<Line>>
+where
+    R: Wait,
+    G: Gate,
+    A: Lane,
+    B: Lane,
+    C: Lane,
+    D: Lane,
+    requires { shard < pool.now.shards }
+{
+    let _later = let_pass(rt, links.alloc, pool, shard, now);
+    let Ok(cut) = cut_off(rt, links.alloc, pool, shard) else {
+        return None;
+    };
+    let Ok(line) = beat_of(links.alloc, shard, &cut) else {
+        return None;
+    };
+    Arc::new(links.alloc, line).ok()
+}
+
+// One period of all shards, and their beats.
+fn beats<R, G, A, B, C, D>(
+    rt: &R,
+    links: &Links,
+    pool: &Pool<G, A, B, C, D>,
+    now: u64,
+) -> Vec<(u32, Arc<Line>)>
+where
+    R: Wait,
+    G: Gate,
+    A: Lane,
+    B: Lane,
+    C: Lane,
+    D: Lane,
+    requires { links.now.shards ≡ pool.now.shards }
+{
+    let mut beats = Vec::new(links.alloc);
+    for shard in 0..links.shards {
+        if let Some(beat) = beat(rt, links, pool, shard, now) {
+            let _lost = beats.push((shard, beat));
+        }
+    }
+    beats
+}
+
+/// Lets time pass at each shard, and posts what each did, once a period, until the links are to end.
+pub(crate) fn tick<R, G, A, B, C, D, W>(
+    rt: &R,
+    links: &Links,
+    pool: &Pool<G, A, B, C, D>,
+    wakes: &W,
+)
+where
+    R: Wait + Clock,
+    G: Gate,
+    A: Lane,
+    B: Lane,
+    C: Lane,
+    D: Lane,
+    W: Wakes,
+    requires { links.now.shards ≡ pool.now.shards }
+{
+    let mut now = 0;
+    for _ in rt.forever() {
+        if links.is_stopped() {
+            break;
+        }
+        now = time_behind(rt, now);
+        let beats = beats(rt, links, pool, now);
+        links.post(rt, beats.as_slice());
+        if links.has_met() {
+            wakes.look();
+        }
+        links.stopping.pause(rt, PERIOD_MILLISECONDS);
+    }
+}
