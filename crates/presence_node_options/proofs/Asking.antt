@@ -1,6 +1,6 @@
 -- From what the parser answers to what the words ask for.
-use Rattle.std.proofs.Common.{◌≡◌, ◌⊎◌, ◌∙◌, inl, inr, List, [], ◌∷◌, Bool, true, codes, Option, Some, None, Result, Ok, Err, IfOk, IfErr, option_map, refl, sym, ap, subst}
-use Rattle.clap.specs.Words.{App, HasMatchesOf, IsAmong, Kinds, FailsBy, HasKind, Row, Text, app_of, fault_of, is_simple, is_simple_and_free, kind_of, subcommand_of, subcommand_rows_of}
+use Rattle.std.proofs.Common.{◌≡◌, ◌⊎◌, ◌∙◌, inl, inr, List, [], true, codes, Option, Some, None, Result, Ok, Err, IfOk, IfErr, refl, sym, ap, subst}
+use Rattle.clap.specs.Words.{HasMatchesOf, IsAmong, Kinds, HasKind, Row, Text, app_of, fault_of, is_simple, is_simple_and_free, kind_of, subcommand_of, subcommand_rows_of}
 use Rattle.clap.specs.declared.builder.command.Command.{Command}
 use Rattle.clap.specs.declared.error.Error.{Error}
 use Rattle.clap.specs.declared.error.kind.ErrorKind.{ErrorKind}
@@ -8,9 +8,9 @@ use Rattle.clap.specs.declared.error.kind.ErrorKind.TheVariants.{DisplayHelp, Ou
 use Rattle.clap.specs.declared.parser.matches.ArgMatches.{ArgMatches}
 use Rattle.clap.proofs.OnLiterals.{clap_on_literals}
 use Rattle.presence_node_options.specs.CommandLine.{program}
-use Rattle.presence_node_options.specs.Given.{AskFor, Calls, Chooses, ChoosesNone, HasCause, IsFor, IsHelpFor, IsRefusal, NamesNone, Refused, RefusedFor, Refuses, ServeRefuses}
+use Rattle.presence_node_options.specs.Given.{AskFor, Calls, Chooses, ChoosesNone, HasCause, IsFor, IsHelpFor, Refused, RefusedFor, Refuses, ServeRefuses}
 use Rattle.presence_node_options.specs.declared.fault.UsageCause.{UsageCause}
-use Rattle.presence_node_options.specs.declared.fault.UsageCause.TheVariants.{Words, Name, Incarnation, Route, Port, LinkPort, Shards, Workers}
+use Rattle.presence_node_options.specs.declared.fault.UsageCause.TheVariants.{Words, Name, Incarnation, Route, Port, LinkPort, Shards, Workers, Peer}
 use Rattle.presence_node_options.specs.declared.fault.UsageFault.{UsageFault}
 use Rattle.presence_node_options.specs.declared.fault.UsageFault.TheVariants.{Usage, Memory}
 use Rattle.presence_node_options.specs.declared.options.Options.{Options}
@@ -107,6 +107,7 @@ chosen_refused c words m name rows (Err (Usage Port text)) is h met none = why_r
 chosen_refused c words m name rows (Err (Usage LinkPort text)) is h met none = why_refused c words m name rows LinkPort is h met none
 chosen_refused c words m name rows (Err (Usage Shards text)) is h met none = why_refused c words m name rows Shards is h met none
 chosen_refused c words m name rows (Err (Usage Workers text)) is h met none = why_refused c words m name rows Workers is h met none
+chosen_refused c words m name rows (Err (Usage Peer text)) is h met none = why_refused c words m name rows Peer is h met none
 
 -- no command is named
 pub none_named : (c : Command) (words : List Text) (m : ArgMatches) (f : UsageFault) → app_of c ≡ program → HasMatchesOf (app_of c) words m → None ≡ subcommand_rows_of m → HasCause Words f → Refused words f

@@ -2,3 +2,4 @@ pub mod Rows
 pub mod Patterns
 pub mod Plain
 pub mod Asking
+pub mod Peers

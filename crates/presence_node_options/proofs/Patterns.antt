@@ -6,7 +6,7 @@ use Rattle.hook_registry.specs.Patterns.{is_pattern}
 use Rattle.hook_registry.specs.declared.routes.TheConstants.{MAX_ROUTES}
 use Rattle.hook_registry.specs.Routes.{Answers, refusal}
 use Rattle.hook_registry.specs.declared.routes.RouteFault.{RouteFault}
-use Rattle.presence_node_options.specs.Given.{MayFollow, AreFewPatterns}
+use Rattle.presence_node_options.specs.Given.{MayFollow}
 use Rattle.presence_node_options.specs.Limits.{numbered, ArePatterns, AreRoutes}
 use Rattle.hook_registry.specs.declared.routes.RouteFault.TheVariants.{BadPattern, TooMany, OutOfMemory}
 

@@ -1,5 +1,5 @@
 -- What the parser found of an option, as the rows of its matches have it.
-use Rattle.std.proofs.Common.{◌≡◌, List, ℕ, map, option_map, unwrap_or, codes, Option, Some, None, refl, sym, ap, ◌∙◌}
+use Rattle.std.proofs.Common.{◌≡◌, option_map, Option, Some, None, refl}
 use Rattle.clap.specs.Words.{Text, all_of, first_of, first_value, matched_of, raw_values, rows_of}
 use Rattle.clap.specs.declared.parser.matches.Found.{Found}
 use Rattle.clap.proofs.WalkLemmas.{first_value-rows, raw_values-rows}

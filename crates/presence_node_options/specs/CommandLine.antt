@@ -25,16 +25,25 @@ stdio_app =
 abbrev pub fold_app : App
 fold_app = with_rule (new_app (codes "fold")) (flag_rule (codes "explain"))
 
-abbrev pub serve_app : App
-serve_app =
-    with_rule (with_rule (with_rule (with_rule (with_rule (with_rule (with_rule (new_app (codes "serve"))
+-- the options of the node itself
+abbrev pub served_app : App
+served_app =
+    with_rule (with_rule (with_rule (with_rule (with_rule (with_rule (new_app (codes "serve"))
     (option_rule (codes "name") Set))
     (option_rule (codes "incarnation") Set))
     (option_rule (codes "port") Set))
     (option_rule (codes "link-port") Set))
     (option_rule (codes "shards") Set))
-    (option_rule (codes "workers") Set))
-    (option_rule (codes "route") Append)
+    (option_rule (codes "workers") Set)
+
+-- and those of its topics and of links
+abbrev pub serve_app : App
+serve_app =
+    with_rule (with_rule (with_rule (with_rule served_app
+    (option_rule (codes "route") Append))
+    (option_rule (codes "peer") Append))
+    (option_rule (codes "listen") Set))
+    (option_rule (codes "link-listen") Set)
 
 -- the program itself, which is nothing without a command
 abbrev pub top_app : App

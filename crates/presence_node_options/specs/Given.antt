@@ -1,5 +1,5 @@
 -- Which options the words of a command line give, and which words are refused.
-use Rattle.std.specs.Prelude.{◌≡◌, ◌⊎◌, ◌≤◌, ◌<◌, ℕ, List, [], ◌∷◌, Bool, false, IsTrue, length, codes, unwrap_or, Option, Some, None}
+use Rattle.std.specs.Prelude.{◌≡◌, ◌⊎◌, ◌≤◌, ◌<◌, ℕ, List, [], ◌∷◌, ◌++◌, Bool, false, IsTrue, length, codes, string_bytes, unwrap_or, Option, Some, None}
 use Rattle.std.specs.List.{AllByRecursion}
 use Rattle.std.specs.Str.{bytes_eq}
 use Rattle.std.specs.Str.Parse.{IsNumeral, digits_value, without_leading_plus}
@@ -13,11 +13,12 @@ use Rattle.presence_base.specs.Refs.{IsCount}
 use Rattle.presence_node_options.specs.CommandLine.{program}
 use Rattle.presence_node_options.specs.Limits.{numbered}
 use Rattle.presence_node_options.specs.declared.fault.UsageCause.{UsageCause}
-use Rattle.presence_node_options.specs.declared.fault.UsageCause.TheVariants.{Words, Name, Incarnation, Route, Port, LinkPort, Shards, Workers}
+use Rattle.presence_node_options.specs.declared.fault.UsageCause.TheVariants.{Words, Name, Incarnation, Route, Port, LinkPort, Shards, Workers, Peer}
 use Rattle.presence_node_options.specs.declared.fault.UsageFault.{UsageFault}
 use Rattle.presence_node_options.specs.declared.fault.UsageFault.TheVariants.{Usage, Memory}
 use Rattle.presence_node_options.specs.declared.options.Options.{Options}
 use Rattle.presence_node_options.specs.declared.options.Options.TheVariants.{Help, Stdio, Fold, Serve}
+use Rattle.presence_node_options.specs.declared.options.PeerOption.{PeerOption}
 use Rattle.presence_node_options.specs.declared.options.ServeOptions.{ServeOptions}
 use Rattle.presence_node_options.specs.declared.options.StdioOptions.{StdioOptions}
 use Rattle.presence_node_options.specs.declared.options.TheConstants.{MAX_SHARDS, MAX_WORKERS}
@@ -51,6 +52,17 @@ shards_given rows = unwrap_or (first_of (codes "shards") rows) (codes "4")
 abbrev pub workers_given : List Row → Text
 workers_given rows = unwrap_or (first_of (codes "workers") rows) (codes "4")
 
+-- the texts of the peers that are given, in their order
+abbrev pub peers_given : List Row → List Text
+peers_given rows = unwrap_or (all_of (codes "peer") rows) []
+
+-- the addresses of clients and of links that are given, or this machine's own
+abbrev pub listen_given : List Row → Text
+listen_given rows = unwrap_or (first_of (codes "listen") rows) (codes "127.0.0.1")
+
+abbrev pub link_listen_given : List Row → Text
+link_listen_given rows = unwrap_or (first_of (codes "link-listen") rows) (codes "127.0.0.1")
+
 abbrev pub is_yes : Option Text → Bool
 is_yes None = false
 is_yes (Some text) = bytes_eq text (codes "true")
@@ -66,6 +78,52 @@ explain_given rows = flag_given (codes "explain") rows
 -- whether notices are asked for
 abbrev pub notices_given : List Row → Bool
 notices_given rows = flag_given (codes "notices") rows
+
+-- ---- peers
+
+-- the text is that of a number within these limits, where a plus and zeros may stand in front
+pub record IsNumberWithin (low high : ℕ) (text : Text) : Type 0 where
+  pub numeral : IsNumeral 10 (without_leading_plus text)
+  pub above : low ≤ number_in text
+  pub below : number_in text ≤ high
+
+-- a host that is not empty and a port, with `:` between them, which is the last one: no port has one
+pub record IsAddress (text host port : Text) : Type 0 where
+  pub cut : text ≡ host ++ 58 ∷ port
+  pub host_is : host ≡ [] → ⊥
+  pub port_is : IsNumberWithin 1 65535 port
+
+abbrev pub IsAddressIn : Text → Option (Text × ℕ) → Type 0
+IsAddressIn text (Some (host, n)) = (port : Text) × IsAddress text host port × (n ≡ number_in port)
+IsAddressIn text None = (host port : Text) → IsAddress text host port → ⊥
+
+-- a node's name and an address, with `=` between them, which is the first one: no name has one
+pub record IsPeer (text name host port : Text) : Type 0 where
+  pub address : Text
+  pub cut : text ≡ name ++ 61 ∷ address
+  pub name_is : IsTrue (is_node_name name)
+  pub address_is : IsAddress address host port
+
+-- the text is such a peer
+pub record IsPeerText (text : Text) : Type 0 where
+  pub name : Text
+  pub host : Text
+  pub port : Text
+  pub is : IsPeer text name host port
+
+-- the peer that the text is, if it is one
+abbrev pub IsPeerIn : Text → Option PeerOption → Type 0
+IsPeerIn text (Some o) = (port : Text) × IsPeer text o.name (string_bytes o.host) port × (o.port ≡ number_in port)
+IsPeerIn text None = IsPeerText text → ⊥
+
+-- these texts are these peers, in order
+abbrev pub ArePeers : List Text → List PeerOption → Type 0
+ArePeers [] [] = Unit {0}
+ArePeers (t ∷ ts) (o ∷ os) = IsPeerIn t (Some o) × ArePeers ts os
+ArePeers _ _ = ⊥
+
+abbrev pub AllArePeers : List Text → Type 0
+AllArePeers texts = AllByRecursion IsPeerText texts
 
 -- the options are those that were given, each route with its position as its kind
 pub record IsGiven (rows : List Row) (o : StdioOptions) : Type 0 where
@@ -84,6 +142,9 @@ pub record IsServed (rows : List Row) (o : ServeOptions) : Type 0 where
   pub link_port : o.link_port ≡ number_in (link_port_given rows)
   pub shards : o.shards ≡ number_in (shards_given rows)
   pub workers : o.workers ≡ number_in (workers_given rows)
+  pub peers : ArePeers (peers_given rows) o.peers.items
+  pub listen : string_bytes o.listen ≡ listen_given rows
+  pub link_listen : string_bytes o.link_listen ≡ link_listen_given rows
 
 -- the words name this command, with these options
 abbrev pub Calls : List Text → Text → List Row → Type 0
@@ -106,12 +167,6 @@ pub record IsIncarnation (text : Text) : Type 0 where
 abbrev pub IsIncarnationIn : Text → Option ℕ → Type 0
 IsIncarnationIn text (Some n) = (n ≡ number_in text) × IsIncarnation text
 IsIncarnationIn text None = IsIncarnation text → ⊥
-
--- the text is that of a number within these limits, where a plus and zeros may stand in front
-pub record IsNumberWithin (low high : ℕ) (text : Text) : Type 0 where
-  pub numeral : IsNumeral 10 (without_leading_plus text)
-  pub above : low ≤ number_in text
-  pub below : number_in text ≤ high
 
 abbrev pub IsNumberIn : ℕ → ℕ → Text → Option ℕ → Type 0
 IsNumberIn low high text (Some n) = (n ≡ number_in text) × IsNumberWithin low high text
@@ -147,6 +202,7 @@ Refuses rows Port = ⊥
 Refuses rows LinkPort = ⊥
 Refuses rows Shards = ⊥
 Refuses rows Workers = ⊥
+Refuses rows Peer = ⊥
 
 -- the name and the incarnation are within their limits
 abbrev pub IsNamed : List Row → Type 0
@@ -169,13 +225,16 @@ abbrev pub AreWorkers : List Row → Type 0
 AreWorkers rows = IsNumberWithin 1 MAX_WORKERS (workers_given rows)
 
 -- why the options of `serve` are refused: the name is looked at first, then the incarnation, the port, that of links, the
--- shards, the workers and the routes
+-- shards, the workers, the peers and the routes
 abbrev pub ServeRefuses : List Row → UsageCause → Type 0
 ServeRefuses rows Port = IsNamed rows × (IsPort rows → ⊥)
 ServeRefuses rows LinkPort = IsNamed rows × IsPort rows × (IsLinkPort rows → ⊥)
 ServeRefuses rows Shards = IsNamed rows × ArePorts rows × (AreShards rows → ⊥)
 ServeRefuses rows Workers = IsNamed rows × ArePorts rows × AreShards rows × (AreWorkers rows → ⊥)
-ServeRefuses rows Route = IsNamed rows × ArePorts rows × AreShards rows × AreWorkers rows × (AreFewPatterns (patterns_given rows) → ⊥)
+ServeRefuses rows Peer = IsNamed rows × ArePorts rows × AreShards rows × AreWorkers rows × (AllArePeers (peers_given rows) → ⊥)
+ServeRefuses rows Route =
+    IsNamed rows × ArePorts rows × AreShards rows × AreWorkers rows × AllArePeers (peers_given rows)
+    × (AreFewPatterns (patterns_given rows) → ⊥)
 ServeRefuses rows cause = Refuses rows cause
 
 abbrev pub IsWrong : List Row → UsageFault → Type 0

@@ -1,18 +1,20 @@
-ghost use Rattle.std.specs.Prelude.{◌≡◌, false, IfOk, IfErr, codes, map, option_map, unwrap_or};
+ghost use Rattle.std.specs.Prelude.{◌≡◌, false, IfOk, IfErr, OnOk, codes, map, option_map, unwrap_or};
 ghost use Rattle.clap.specs.Words.{app_of, first_of, found_of, kind_of, rows_of, rule_of, subcommand_rows_of};
-ghost use Rattle.presence_node_options.specs.CommandLine.{flag_rule, option_rule, stdio_app, fold_app, serve_app, program};
-ghost use Rattle.presence_node_options.specs.Given.{AskFor, Chooses, ChoosesNone, HasCause, Refused, IsHelpFor, IsNoHelp, IsGiven, IsServed, IsServedWrong, IsFor, IsWrong, AreFewPatterns, flag_given, patterns_given};
+ghost use Rattle.presence_node_options.specs.CommandLine.{flag_rule, option_rule, stdio_app, fold_app, serve_app, served_app, program};
+ghost use Rattle.presence_node_options.specs.Given.{AskFor, Chooses, ChoosesNone, HasCause, Refused, IsHelpFor, IsNoHelp, IsGiven, IsServed, IsServedWrong, IsFor, IsWrong, AreFewPatterns, AllArePeers, ArePeers, flag_given, patterns_given, peers_given};
 ghost use Rattle.presence_node_options.specs.Limits.{AreRoutes, IsWithin, IsServedWithin, AreWithin, numbered};
 
 use crate::fault::{UsageCause, UsageFault};
 use crate::help::{
     ALL_OPTIONS, ALLOWED, EXPLAIN_HELP, FOLD_REFUSALS, FOLD_USAGE, INCARNATION_HELP,
-    LINK_PORT_HELP, NAME_HELP, NOTICES_HELP, PORT_HELP, ROUTE_HELP, SERVE_ENDS, SERVE_USAGE,
-    SHARDS_HELP, STDIO_REFUSALS, STDIO_USAGE, USAGES, WORKERS_HELP,
+    LINK_LISTEN_HELP, LINK_PORT_HELP, LISTEN_HELP, NAME_HELP, NOTICES_HELP, PEER_HELP, PORT_HELP,
+    ROUTE_HELP, SERVE_ENDS, SERVE_USAGE, SHARDS_HELP, STDIO_REFUSALS, STDIO_USAGE, USAGES,
+    WORKERS_HELP,
 };
-use crate::options::{FoldOptions, Options, ServeOptions, StdioOptions};
+use crate::options::{FoldOptions, Options, PeerOption, ServeOptions, StdioOptions};
 use crate::values::{
-    incarnation_of, link_port_of, name_of, port_of, routes_of, shards_of, usage_of, workers_of,
+    address_of, incarnation_of, link_port_of, name_of, peers_of, port_of, routes_of, shards_of,
+    usage_of, workers_of,
 };
 use clap::error::ErrorKind;
 use clap::{Arg, ArgAction, ArgMatches, Command, Error};
@@ -125,6 +127,42 @@ fn workers_option<'a>(alloc: Global) -> Arg<'a>
         .help(WORKERS_HELP)
 }
 
+// `--peer NAME=HOST:PORT`, as often as one likes.
+fn peer_option<'a>(alloc: Global) -> Arg<'a>
+    ensures rule { rule_of result ≡ option_rule (codes "peer") ArgAction.Append }
+    ensures local { result.global ≡ false }
+{
+    Arg::new(alloc, "peer")
+        .long("peer")
+        .value_name("NAME=HOST:PORT")
+        .action(ArgAction::Append)
+        .help(PEER_HELP)
+}
+
+// `--listen ADDRESS`.
+fn listen_option<'a>(alloc: Global) -> Arg<'a>
+    ensures rule { rule_of result ≡ option_rule (codes "listen") ArgAction.Set }
+    ensures local { result.global ≡ false }
+{
+    Arg::new(alloc, "listen")
+        .long("listen")
+        .value_name("ADDRESS")
+        .action(ArgAction::Set)
+        .help(LISTEN_HELP)
+}
+
+// `--link-listen ADDRESS`.
+fn link_listen_option<'a>(alloc: Global) -> Arg<'a>
+    ensures rule { rule_of result ≡ option_rule (codes "link-listen") ArgAction.Set }
+    ensures local { result.global ≡ false }
+{
+    Arg::new(alloc, "link-listen")
+        .long("link-listen")
+        .value_name("ADDRESS")
+        .action(ArgAction::Set)
+        .help(LINK_LISTEN_HELP)
+}
+
 // The command `stdio` with its options.
 fn stdio_command<'a>(alloc: Global) -> Result<Command<'a>, AllocError>
     ensures { IfOk result (λ c. app_of c ≡ stdio_app) }
@@ -153,9 +191,9 @@ fn fold_command<'a>(alloc: Global) -> Result<Command<'a>, AllocError>
         .arg(explain_flag(alloc))
 }
 
-// The command `serve` with its options.
-fn serve_command<'a>(alloc: Global) -> Result<Command<'a>, AllocError>
-    ensures { IfOk result (λ c. app_of c ≡ serve_app) }
+// The command `serve` with the options of the node itself.
+fn served_command<'a>(alloc: Global) -> Result<Command<'a>, AllocError>
+    ensures { IfOk result (λ c. app_of c ≡ served_app) }
 {
     Command::new(alloc, "serve")
         .about("Serves clients of Phoenix Channels by WebSocket")
@@ -166,8 +204,18 @@ fn serve_command<'a>(alloc: Global) -> Result<Command<'a>, AllocError>
         .arg(port_option(alloc))?
         .arg(link_port_option(alloc))?
         .arg(shards_option(alloc))?
-        .arg(workers_option(alloc))?
-        .arg(route_option(alloc))
+        .arg(workers_option(alloc))
+}
+
+// The command `serve` with all of its options.
+fn serve_command<'a>(alloc: Global) -> Result<Command<'a>, AllocError>
+    ensures { IfOk result (λ c. app_of c ≡ serve_app) }
+{
+    served_command(alloc)?
+        .arg(route_option(alloc))?
+        .arg(peer_option(alloc))?
+        .arg(listen_option(alloc))?
+        .arg(link_listen_option(alloc))
 }
 
 // The whole command line.
@@ -239,6 +287,20 @@ fn given_routes(alloc: Global, matches: &ArgMatches<'_>) -> Result<Routes, Usage
     }
 }
 
+// The peers that are given.
+#[tactic(auto, using(crate::proofs::Rows::all_read))]
+fn given_peers(alloc: Global, matches: &ArgMatches<'_>) -> Result<Vec<PeerOption>, UsageFault>
+    ensures peers { IfOk result (λ peers. ArePeers (peers_given (rows_of (found_of matches.now))) peers.items) }
+    ensures all { OnOk result (AllArePeers (peers_given (rows_of (found_of matches.now)))) }
+    ensures cause { IfErr result (IsFor UsageCause.Peer
+        (AllArePeers (peers_given (rows_of (found_of matches.now))) → ⊥)) }
+{
+    match matches.get_strs("peer") {
+        Some(texts) => peers_of(alloc, texts),
+        None => peers_of(alloc, &[]),
+    }
+}
+
 // Whether the flag is given.
 #[tactic(auto, using(crate::proofs::Rows::first_read))]
 fn is_flagged(matches: &ArgMatches<'_>, id: &str) -> bool
@@ -280,7 +342,10 @@ fn serve_options(alloc: Global, matches: &ArgMatches<'_>) -> Result<ServeOptions
     let link_port = link_port_of(alloc, text_given(matches, "link-port", "4001"))?;
     let shards = shards_of(alloc, text_given(matches, "shards", "4"))?;
     let workers = workers_of(alloc, text_given(matches, "workers", "4"))?;
+    let peers = given_peers(alloc, matches)?;
     let routes = given_routes(alloc, matches)?;
+    let listen = address_of(alloc, text_given(matches, "listen", "127.0.0.1"))?;
+    let link_listen = address_of(alloc, text_given(matches, "link-listen", "127.0.0.1"))?;
     Ok(ServeOptions {
         name,
         incarnation,
@@ -289,6 +354,9 @@ fn serve_options(alloc: Global, matches: &ArgMatches<'_>) -> Result<ServeOptions
         link_port,
         shards,
         workers,
+        peers,
+        listen,
+        link_listen,
     })
 }
 

@@ -20,6 +20,8 @@ pub enum UsageCause {
     Shards,
     /// The number of workers is none from 1 to `MAX_WORKERS`.
     Workers,
+    /// A peer is no name, host and port.
+    Peer,
 }
 
 /// Why a command line was not taken: a cause with a text for the user, or want of memory.

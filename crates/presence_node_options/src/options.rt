@@ -30,8 +30,28 @@ pub const MAX_SHARDS: u32 = 4;
 /// The most workers that a server has.
 pub const MAX_WORKERS: u32 = 64;
 
+/// Another node that is linked to: its name, and the host and the port where its links come in.
+#[derive(Debug)]
+pub struct PeerOption {
+    pub name: NodeName,
+    pub host: String,
+    pub port: u16,
+}
+
+impl Drop for PeerOption {
+    fn drop(self) {
+        let PeerOption {
+            name: _,
+            host,
+            port: _,
+        } = self;
+        drop(host);
+    }
+}
+
 /// What `serve` runs as: the node and its routes as those of `stdio`, the ports of its clients and of
-/// links, from 1 on, and how many shards and workers there are.
+/// links, from 1 on, how many shards and workers there are, the nodes that are linked to, and the addresses of both
+/// ports.
 #[derive(Debug, Drop)]
 pub struct ServeOptions {
     pub name: NodeName,
@@ -41,6 +61,9 @@ pub struct ServeOptions {
     pub link_port: u16,
     pub shards: u32,
     pub workers: u32,
+    pub peers: Vec<PeerOption>,
+    pub listen: String,
+    pub link_listen: String,
     ghost is_count: { IsCount incarnation },
     ghost some_shards: { (0 < shards) × (shards ≤ MAX_SHARDS) },
     ghost some_workers: { (0 < workers) × (workers ≤ MAX_WORKERS) },

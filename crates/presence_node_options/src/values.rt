@@ -1,12 +1,12 @@
-ghost use Rattle.std.specs.Prelude.{◌≡◌, ◌≤◌, ◌<◌, ◌++◌, [], ◌∷◌, false, IfOk, IfErr, OnOk, IsTrue, length, map};
+ghost use Rattle.std.specs.Prelude.{◌≡◌, ◌≤◌, ◌<◌, ◌++◌, [], ◌∷◌, false, option_map, IfOk, IfErr, OnOk, IsTrue, length, map, Some, string_bytes};
 ghost use Rattle.presence_base.specs.Names.{is_node_name};
 ghost use Rattle.presence_base.specs.Refs.{IsCount};
-ghost use Rattle.presence_node_options.specs.Given.{number_in, IsIncarnation, IsIncarnationIn, IsNumberIn, IsNumberWithin, HasCause, IsFor, MayFollow, AreFewPatterns};
+ghost use Rattle.presence_node_options.specs.Given.{number_in, AllArePeers, ArePeers, IsAddressIn, IsPeerIn, IsPeerText, IsIncarnation, IsIncarnationIn, IsNumberIn, IsNumberWithin, HasCause, IsFor, MayFollow, AreFewPatterns};
 ghost use Rattle.presence_node_options.specs.Limits.{ArePatterns, AreRoutes, numbered};
 ghost use Rattle.presence_node_options.specs.declared.options.TheConstants.{MAX_SHARDS, MAX_WORKERS};
 
 use crate::fault::{UsageCause, UsageFault};
-use crate::options::{MAX_SHARDS, MAX_WORKERS};
+use crate::options::{MAX_SHARDS, MAX_WORKERS, PeerOption};
 use hook_registry::{MAX_PATTERN_BYTES, MAX_ROUTES, RouteFault, Routes};
 use presence_base::{MAX_COUNT, NodeName};
 use std::alloc::{AllocError, Global};
@@ -196,4 +196,86 @@ pub(crate) fn routes_of(alloc: Global, patterns: &[&str]) -> Result<Routes, Usag
     ensures cause { IfErr result (IsFor UsageCause.Route (AreFewPatterns (map (λ p. p.now) patterns.now) → ⊥)) }
 {
     numbered_routes(alloc, patterns)
+}
+
+// The host and the port that a text is, cut at its last `:`.
+fn address_in(text: &str) -> Option<(&str, u16)>
+    ensures { IsAddressIn text.now (option_map (λ p. (p.0.now, p.1)) result) }
+{
+    let Some((host, port)) = text.rsplit_once(':') else {
+        return None;
+    };
+    if host.is_empty() {
+        return None;
+    }
+    match port_in(port) {
+        Some(port) => Some((host, port)),
+        None => None,
+    }
+}
+
+// The peer that a text is, cut at its first `=`.
+fn peer_in(alloc: Global, text: &str) -> Result<Option<PeerOption>, AllocError>
+    ensures { IfOk result (IsPeerIn text.now) }
+{
+    let Some((name, address)) = text.split_once('=') else {
+        return Ok(None);
+    };
+    let Some(name) = NodeName::new(alloc, name)? else {
+        return Ok(None);
+    };
+    let Some((host, port)) = address_in(address) else {
+        return Ok(None);
+    };
+    let host = String::from_str(alloc, host)?;
+    Ok(Some(PeerOption { name, host, port }))
+}
+
+// The peer that a text is, or what is wrong with it.
+fn peer_of(alloc: Global, text: &str) -> Result<PeerOption, UsageFault>
+    ensures peer { IfOk result (λ peer. IsPeerIn text.now (Some peer)) }
+    ensures text { OnOk result (IsPeerText text.now) }
+    ensures cause { IfErr result (IsFor UsageCause.Peer (IsPeerText text.now → ⊥)) }
+{
+    match peer_in(alloc, text) {
+        Ok(Some(peer)) => Ok(peer),
+        Ok(None) => Err(usage_of(
+            UsageCause::Peer,
+            format!(in alloc;
+                "--peer '{text}': a peer is the name of a node, 1 to 32 characters of a-z, 0-9, then = and its host, then : and its link port, 1 to 65535, as b=10.0.0.2:4001"
+            ),
+        )),
+        Err(_) => Err(UsageFault::Memory),
+    }
+}
+
+/// The peers that these texts are, in their order.
+#[tactic(auto, using(crate::proofs::Peers::peers_all))]
+pub(crate) fn peers_of(alloc: Global, texts: &[&str]) -> Result<Vec<PeerOption>, UsageFault>
+    ensures peers { IfOk result (λ peers. ArePeers (map (λ t. t.now) texts.now) peers.items) }
+    ensures all { OnOk result (AllArePeers (map (λ t. t.now) texts.now)) }
+    ensures cause { IfErr result (IsFor UsageCause.Peer (AllArePeers (map (λ t. t.now) texts.now) → ⊥)) }
+{
+    let mut peers = Vec::new(alloc);
+    for text in texts {
+        let peer = match peer_of(alloc, text) {
+            Ok(peer) => peer,
+            Err(fault) => return Err(fault),
+        };
+        if peers.push(peer).is_err() {
+            return Err(UsageFault::Memory);
+        }
+    }
+    Ok(peers)
+}
+
+/// The text of an address.
+pub(crate) fn address_of(alloc: Global, text: &str) -> Result<String, UsageFault>
+    ensures text { IfOk result (λ address. string_bytes address ≡ text.now) }
+    ensures cause { IfErr result (λ fault. fault ≡ UsageFault.Memory) }
+{
+    match String::from_str(alloc, text) {
+        Ok(address) => Ok(address),
+        Err(_) => Err(UsageFault::Memory),
+    }
 }

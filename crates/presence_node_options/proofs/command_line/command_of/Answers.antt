@@ -1,6 +1,6 @@
 use Rattle.std.proofs.Common.{rules, ◌≡◌, ◌∙◌, ap, ap₂}
 use Rattle.std.proofs.lemmas.Result.{IfOk-weaker}
-use Rattle.clap.specs.Words.{App, app_of, new_app, with_subcommand}
+use Rattle.clap.specs.Words.{App, app_of, with_subcommand}
 use Rattle.presence_node_options.specs.CommandLine.{top_app}
 use Rattle.presence_node_options.proofs.Plain.{no_globals}
 use Rattle.presence_node_options.proofs.command_line.command_of.Goals as goal

@@ -1,6 +1,5 @@
 use Rattle.clap.specs.Words.{found_of, rows_of}
-use Rattle.std.proofs.Common.{map}
-use Rattle.presence_node_options.proofs.Asking.{help_asked, words_refused, chosen_asked, chosen_refused, none_named}
+use Rattle.presence_node_options.proofs.Asking.{help_asked, words_refused, chosen_asked, chosen_refused}
 use Rattle.presence_node_options.proofs.command_line.options_of.Goals as goal
 
 pub returns-in-Err-try_get_matches_from-clause-asked : goal.returns-in-Err-try_get_matches_from-clause-asked
