@@ -7,7 +7,7 @@ use Rattle.presence_node_fold.specs.declared.fault.FoldFault.{FoldFault}
 use Rattle.presence_node_serve.specs.Ends.{TellsEnd, serve_status}
 use Rattle.presence_node_serve.specs.declared.end.ServeEnd.{ServeEnd}
 use Rattle.presence_node_serve.specs.declared.end.ServeEnd.TheVariants as ends
-use Rattle.presence_node_serve.specs.declared.end.ServeEnd.TheVariants.{Stopped, NotSettled, PortTaken, NoPort, NoThreads}
+use Rattle.presence_node_serve.specs.declared.end.ServeEnd.TheVariants.{Stopped, NotSettled, PortTaken, NoPort, LinkPortTaken, NoLinkPort, NoThreads}
 use Rattle.presence_node_stdio.specs.Told.{told_of, status_number}
 use Rattle.presence_node_stdio.specs.declared.fault.StdioFault.{StdioFault}
 use Rattle.presence_node_main.specs.declared.ending.Ending.{Ending}
@@ -56,6 +56,8 @@ serve_stream (Stopped receipts) = Output
 serve_stream (NotSettled fault) = Error
 serve_stream (PortTaken port) = Error
 serve_stream (NoPort port) = Error
+serve_stream (LinkPortTaken port) = Error
+serve_stream (NoLinkPort port) = Error
 serve_stream NoThreads = Error
 serve_stream ends.Memory = Error
 

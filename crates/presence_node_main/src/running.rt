@@ -69,6 +69,7 @@ where
         + Clock
         + Input
         + Print
+        + Eprint
         + AllocGlobal
         + Sync,
     H: PresenceHooks + Sync,

@@ -3,18 +3,20 @@ use Rattle.std.specs.Prelude.{◌≡◌, ℕ, List, ◌++◌, Some, decimal}
 use Rattle.std.proofs.Common.{ap}
 use Rattle.shard_pool.specs.Seats.{Hands}
 use Rattle.presence_node_serve.specs.declared.end.ServeEnd.{ServeEnd}
-use Rattle.presence_node_serve.specs.declared.end.ServeEnd.TheVariants.{Stopped, NotSettled, PortTaken, NoPort, NoThreads, Memory}
+use Rattle.presence_node_serve.specs.declared.end.ServeEnd.TheVariants.{Stopped, NotSettled, PortTaken, NoPort, LinkPortTaken, NoLinkPort, NoThreads, Memory}
 use Rattle.presence_node_serve.specs.Ends.{IsEndOf, Names, Settles}
 
 -- what settles seats is an end of a run at any port
-pub settled_ends : (node : List ℕ) (shards workers port : ℕ) (hs : List Hands) (end : ServeEnd)
-    → Settles node shards workers hs end → IsEndOf node shards workers port end
-settled_ends node shards workers port hs (Stopped receipts) settles = (hs, settles)
-settled_ends node shards workers port hs (NotSettled fault) settles = (hs, settles)
-settled_ends node shards workers port hs (PortTaken taken) settles = absurd settles
-settled_ends node shards workers port hs (NoPort refused) settles = absurd settles
-settled_ends node shards workers port hs NoThreads settles = absurd settles
-settled_ends node shards workers port hs Memory settles = tt
+pub settled_ends : (node : List ℕ) (shards workers port link_port : ℕ) (hs : List Hands) (end : ServeEnd)
+    → Settles node shards workers hs end → IsEndOf node shards workers port link_port end
+settled_ends node shards workers port link_port hs (Stopped receipts) settles = (hs, settles)
+settled_ends node shards workers port link_port hs (NotSettled fault) settles = (hs, settles)
+settled_ends node shards workers port link_port hs (PortTaken taken) settles = absurd settles
+settled_ends node shards workers port link_port hs (NoPort refused) settles = absurd settles
+settled_ends node shards workers port link_port hs (LinkPortTaken taken) settles = absurd settles
+settled_ends node shards workers port link_port hs (NoLinkPort refused) settles = absurd settles
+settled_ends node shards workers port link_port hs NoThreads settles = absurd settles
+settled_ends node shards workers port link_port hs Memory settles = tt
 
 -- a line with the port's digits in it names the port
 pub names_port : (port : ℕ) (front back line : List ℕ) → line ≡ front ++ (decimal port ++ back) → Names port (Some line)

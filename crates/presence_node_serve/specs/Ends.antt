@@ -8,7 +8,7 @@ use Rattle.shard_pool.specs.Settled.{Agree, CountsDiffer, are_told}
 use Rattle.shard_pool.specs.SettleFault.{SettleFault}
 use Rattle.shard_pool.specs.SettleFault.TheVariants as faults
 use Rattle.presence_node_serve.specs.declared.end.ServeEnd.{ServeEnd}
-use Rattle.presence_node_serve.specs.declared.end.ServeEnd.TheVariants.{Stopped, NotSettled, PortTaken, NoPort, NoThreads, Memory}
+use Rattle.presence_node_serve.specs.declared.end.ServeEnd.TheVariants.{Stopped, NotSettled, PortTaken, NoPort, LinkPortTaken, NoLinkPort, NoThreads, Memory}
 
 -- the number of a refusal to settle
 abbrev pub settle_number : SettleFault → ℕ
@@ -22,6 +22,8 @@ serve_status (Stopped receipts) = 0
 serve_status (NotSettled fault) = 4
 serve_status (PortTaken port) = 1
 serve_status (NoPort port) = 1
+serve_status (LinkPortTaken port) = 1
+serve_status (NoLinkPort port) = 1
 serve_status NoThreads = 1
 serve_status Memory = 2
 
@@ -39,6 +41,8 @@ TellsEnd (Stopped receipts) line = line ≡ Some (codes "settled " ++ decimal re
 TellsEnd (NotSettled fault) line = line ≡ Some (codes "not settled: P" ++ decimal (settle_number fault))
 TellsEnd (PortTaken port) line = Names port line
 TellsEnd (NoPort port) line = Names port line
+TellsEnd (LinkPortTaken port) line = Names port line
+TellsEnd (NoLinkPort port) line = Names port line
 TellsEnd NoThreads line = HasWords line
 TellsEnd Memory line = line ≡ None
 
@@ -71,19 +75,23 @@ Settles node shards count hs (Stopped receipts) = (receipts ≡ receipts_in hs) 
 Settles node shards count hs (NotSettled fault) = IsApart node shards count hs fault
 Settles node shards count hs (PortTaken port) = ⊥
 Settles node shards count hs (NoPort port) = ⊥
+Settles node shards count hs (LinkPortTaken port) = ⊥
+Settles node shards count hs (NoLinkPort port) = ⊥
 Settles node shards count hs NoThreads = ⊥
 Settles node shards count hs Memory = Unit {0}
 
 -- ---- a run
 
--- How a run at this port may end. What is told of receipts is so of seats of that many workers.
-abbrev pub IsEndOf : List ℕ → ℕ → ℕ → ℕ → ServeEnd → Type 0
-IsEndOf node shards workers port (Stopped receipts) = (hs : List Hands) × Settles node shards workers hs (Stopped receipts)
-IsEndOf node shards workers port (NotSettled fault) = (hs : List Hands) × Settles node shards workers hs (NotSettled fault)
-IsEndOf node shards workers port (PortTaken taken) = taken ≡ port
-IsEndOf node shards workers port (NoPort refused) = refused ≡ port
-IsEndOf node shards workers port NoThreads = Unit {0}
-IsEndOf node shards workers port Memory = Unit {0}
+-- How a run at this port, and this one of links, may end. What is told of receipts is so of seats of that many workers.
+abbrev pub IsEndOf : List ℕ → ℕ → ℕ → ℕ → ℕ → ServeEnd → Type 0
+IsEndOf node shards workers port link_port (Stopped receipts) = (hs : List Hands) × Settles node shards workers hs (Stopped receipts)
+IsEndOf node shards workers port link_port (NotSettled fault) = (hs : List Hands) × Settles node shards workers hs (NotSettled fault)
+IsEndOf node shards workers port link_port (PortTaken taken) = taken ≡ port
+IsEndOf node shards workers port link_port (NoPort refused) = refused ≡ port
+IsEndOf node shards workers port link_port (LinkPortTaken taken) = taken ≡ link_port
+IsEndOf node shards workers port link_port (NoLinkPort refused) = refused ≡ link_port
+IsEndOf node shards workers port link_port NoThreads = Unit {0}
+IsEndOf node shards workers port link_port Memory = Unit {0}
 
 abbrev pub IsEndFor : ServeOptions → ServeEnd → Type 0
-IsEndFor options end = IsEndOf options.name options.shards options.workers options.port end
+IsEndFor options end = IsEndOf options.name options.shards options.workers options.port options.link_port end

@@ -1,7 +1,8 @@
 //! A worker's thread: it serves its connections in turns.
-use crate::server::{Server, time_behind};
+use crate::server::Server;
 use hook_registry::PresenceHooks;
 use presence_node_hints::{HintingPort, Topics, follows};
+use presence_node_link_threads::time_behind;
 use presence_node_ports::PoolPort;
 use presence_node_queue::Taker;
 use presence_node_sockets::{Watch, number_of};
@@ -204,11 +205,15 @@ impl<A: Lane, B: Lane, C: Lane, D: Lane> Bench<A, B, C, D> {
         }
     }
 
-    // Looks at what the workers told, all of it at once.
+    // Looks at what the workers and the links told, all of it at once.
     fn hear<R: Wait, H>(&mut self, rt: &R, server: &Server<'_, H, A, B, C, D>, own: usize) {
         let Some(mailbox) = server.mailboxes.get(own) else {
             return;
         };
+        if mailbox.looked() {
+            self.dealt = self.now;
+            self.worker.mark_all();
+        }
         let told = mailbox.inbox.take(rt, server.alloc);
         if told.is_empty() {
             return;

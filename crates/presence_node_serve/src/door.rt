@@ -1,8 +1,9 @@
 //! The thread at the door: it takes connections, does their handshakes and hands them to the workers.
 ghost use Rattle.std.specs.Prelude.{◌<◌};
 
-use crate::server::{Server, time_behind};
+use crate::server::Server;
 use presence_node_handshakes::{Guests, Opened};
+use presence_node_link_threads::time_behind;
 use presence_node_queue::Giver;
 use presence_node_sockets::{LAST_NUMBER, Watch, next_stream, number_of};
 use presence_node_workers::socket_config;

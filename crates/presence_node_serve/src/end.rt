@@ -16,6 +16,10 @@ pub enum ServeEnd {
     PortTaken(u16),
     /// The port can't be had for another reason.
     NoPort(u16),
+    /// The port of links is in use.
+    LinkPortTaken(u16),
+    /// The port of links can't be had for another reason.
+    NoLinkPort(u16),
     /// The system gives no thread or nothing to wait on.
     NoThreads,
     Memory,
@@ -40,7 +44,11 @@ pub fn serve_status_of(end: ServeEnd) -> u8
     match end {
         ServeEnd::Stopped(_) => 0,
         ServeEnd::NotSettled(_) => 4,
-        ServeEnd::PortTaken(_) | ServeEnd::NoPort(_) | ServeEnd::NoThreads => 1,
+        ServeEnd::PortTaken(_)
+        | ServeEnd::NoPort(_)
+        | ServeEnd::LinkPortTaken(_)
+        | ServeEnd::NoLinkPort(_)
+        | ServeEnd::NoThreads => 1,
         ServeEnd::Memory => 2,
     }
 }
@@ -66,7 +74,25 @@ fn no_port(alloc: Global, port: u16) -> Result<String, AllocError>
     ensures { IfOk result (λ s. Names port (Some (string_bytes s))) }
 {
     let line = format!(in alloc;
-        "presence_node: --port {port}: the system doesn't give this port"
+        "presence_node: --port {port}: the system doesn't give this port at --listen"
+    )?;
+    Ok(line)
+}
+
+// What is told of a port of links that is in use.
+fn link_port_taken(alloc: Global, port: u16) -> Result<String, AllocError>
+    ensures { IfOk result (λ s. Names port (Some (string_bytes s))) }
+{
+    let line = format!(in alloc; "presence_node: --link-port {port}: this port is in use")?;
+    Ok(line)
+}
+
+// What is told of a port of links that can't be had.
+fn no_link_port(alloc: Global, port: u16) -> Result<String, AllocError>
+    ensures { IfOk result (λ s. Names port (Some (string_bytes s))) }
+{
+    let line = format!(in alloc;
+        "presence_node: --link-port {port}: the system doesn't give this port at --link-listen"
     )?;
     Ok(line)
 }
@@ -80,6 +106,8 @@ fn serve_line(alloc: Global, end: ServeEnd) -> Result<Option<String>, AllocError
         ServeEnd::NotSettled(fault) => not_settled(alloc, fault)?,
         ServeEnd::PortTaken(port) => port_taken(alloc, port)?,
         ServeEnd::NoPort(port) => no_port(alloc, port)?,
+        ServeEnd::LinkPortTaken(port) => link_port_taken(alloc, port)?,
+        ServeEnd::NoLinkPort(port) => no_link_port(alloc, port)?,
         ServeEnd::NoThreads => {
             String::from_str(
                 alloc,

@@ -6,12 +6,14 @@ use crate::place::Place;
 use crate::server::Mailbox;
 use presence_node_crew::Posts;
 use presence_node_hints::Inbox;
+use presence_node_link_threads::LinkTask;
 use presence_node_queue::Giver;
 use presence_node_sockets::{Bell, Watch};
 use shard_pool::{Lane, Seat};
 use std::alloc::Global;
 use std::io;
 use std::net::{Net, TcpListener, TcpStream};
+use std::sync::atomic::AtomicBool;
 use tungstenite::{NoMask, WebSocket};
 
 /// The end of the queue that the door gives connections to.
@@ -19,7 +21,7 @@ type Waiting = Giver<WebSocket<TcpStream, NoMask>>;
 
 /// What the threads are given, and what wakes each of them.
 pub(crate) struct Stations<A: Lane, B: Lane, C: Lane, D: Lane> {
-    pub posts: Posts<Place<A, B, C, D>, Door>,
+    pub posts: Posts<Place<A, B, C, D>, Door, LinkTask>,
     /// One of each worker, in their order.
     pub mailboxes: Vec<Mailbox>,
     pub door_bell: Bell,
@@ -55,6 +57,7 @@ fn mailbox_of(alloc: Global, watch: &Watch) -> io::Result<Mailbox> {
     let bell = watch.bell()?;
     Ok(Mailbox {
         inbox: Inbox::new(alloc),
+        looks: AtomicBool::new(false),
         bell,
     })
 }
@@ -89,12 +92,13 @@ fn door_at<R: Net>(
     Ok((Door::new(alloc, listener, waiting, watch), bell))
 }
 
-/// A place for each seat, in their order, and the door at this listening socket.
+/// A place for each seat, in their order, the door at this listening socket, and the tasks of links.
 pub(crate) fn stations_for<R: Net, A: Lane, B: Lane, C: Lane, D: Lane>(
     net: &R,
     alloc: Global,
     listener: TcpListener,
     seats: Vec<Seat<A, B, C, D>>,
+    tasks: Vec<LinkTask>,
 ) -> Result<Stations<A, B, C, D>, BeginFault> {
     let mut waiting = Giver::new(alloc)?;
     let Places { places, mailboxes } = places_for(net, alloc, &mut waiting, seats)?;
@@ -102,6 +106,7 @@ pub(crate) fn stations_for<R: Net, A: Lane, B: Lane, C: Lane, D: Lane>(
     let posts = Posts {
         tools: places,
         door,
+        tasks,
     };
     Ok(Stations {
         posts,

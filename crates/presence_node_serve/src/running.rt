@@ -1,5 +1,5 @@
 //! A run of the server, from its port to its last line.
-ghost use Rattle.std.specs.Prelude.{◌≡◌, List, IfOk};
+ghost use Rattle.std.specs.Prelude.{◌≡◌, List, IfOk, IfErr};
 ghost use Rattle.shard_pool.specs.Seats.{Hands};
 ghost use Rattle.presence_node_serve.specs.Ends.{IsEndFor, Settles};
 ghost use Rattle.presence_node_serve.specs.Ledgers.{HaveParts};
@@ -15,10 +15,11 @@ use crate::stopping::StopLine;
 use hook_registry::PresenceHooks;
 use presence_base::Replica;
 use presence_node_crew::{Posts, run_crew};
-use presence_node_options::ServeOptions;
+use presence_node_link_threads::{LinkTask, LinkTasks, tasks_for};
+use presence_node_options::{PeerOption, ServeOptions};
 use presence_node_sockets::listen;
 use shard_pool::{Lane, NoGate, Pool, Seat};
-use std::alloc::Global;
+use std::alloc::{AllocError, Global};
 use std::io::{ErrorKind, Input, Print};
 use std::marker::Brand;
 use std::net::{Net, TcpListener, TcpStream};
@@ -56,6 +57,28 @@ fn blanks_of(parts: u64) -> Blanks
     }
 }
 
+/// What listens for clients, and for links.
+struct Listeners {
+    clients: TcpListener,
+    links: TcpListener,
+}
+
+impl Drop for Listeners {
+    fn drop(self) {
+        let Listeners { clients, links } = self;
+        drop(clients);
+        drop(links);
+    }
+}
+
+impl Listeners {
+    // What listens for clients, and what for links.
+    fn into_parts(self) -> (TcpListener, TcpListener) {
+        let Listeners { clients, links } = self;
+        (clients, links)
+    }
+}
+
 // The end of a run whose port could not be had.
 fn port_refused(options: &ServeOptions, kind: ErrorKind) -> ServeEnd
     ensures { IsEndFor options.now result }
@@ -66,6 +89,62 @@ fn port_refused(options: &ServeOptions, kind: ErrorKind) -> ServeEnd
         ErrorKind::AddrInUse => ServeEnd::PortTaken(port),
         _ => ServeEnd::NoPort(port),
     }
+}
+
+// The end of a run whose port of links could not be had.
+fn link_port_refused(options: &ServeOptions, kind: ErrorKind) -> ServeEnd
+    ensures { IsEndFor options.now result }
+{
+    let port = options.link_port;
+    match kind {
+        ErrorKind::OutOfMemory => ServeEnd::Memory,
+        ErrorKind::AddrInUse => ServeEnd::LinkPortTaken(port),
+        _ => ServeEnd::NoLinkPort(port),
+    }
+}
+
+// Both listening sockets, or the end of a run that can't have them.
+fn listeners_for<R>(rt: &R, options: &ServeOptions) -> Result<Listeners, ServeEnd>
+where
+    R: Net<Listener = TcpListener, Stream = TcpStream>,
+    ensures { IfErr result (λ end. IsEndFor options.now end) }
+{
+    let clients = match listen(rt, options.listen.as_str(), options.port) {
+        Ok(clients) => clients,
+        Err(e) => return Err(port_refused(options, e.kind())),
+    };
+    match listen(rt, options.link_listen.as_str(), options.link_port) {
+        Ok(links) => Ok(Listeners { clients, links }),
+        Err(e) => Err(link_port_refused(options, e.kind())),
+    }
+}
+
+// Dials each of these nodes.
+fn dial_all(alloc: Global, peers: &[PeerOption], tasks: &mut LinkTasks) -> Result<(), AllocError>
+    ensures { tasks.new.links.shards ≡ tasks.old.links.shards }
+{
+    for peer in peers {
+        tasks.dial(alloc, peer.name, peer.host.as_str(), peer.port)?;
+    }
+    Ok(())
+}
+
+// What the threads of links share and do: links come in at this listening socket, and the peers are dialled.
+fn links_for<R: Net>(
+    rt: &R,
+    alloc: Global,
+    options: &ServeOptions,
+    listener: TcpListener,
+) -> Result<LinkTasks, BeginFault>
+    ensures { IfOk result (λ tasks. tasks.links.shards ≡ options.now.shards) }
+{
+    let own = Replica {
+        name: options.name,
+        incarnation: options.incarnation,
+    };
+    let mut tasks = tasks_for(rt, alloc, own, options.shards, listener)?;
+    dial_all(alloc, options.peers.as_slice(), &mut tasks)?;
+    Ok(tasks)
 }
 
 // Drops the receipts that have no entry any more.
@@ -83,10 +162,17 @@ fn trim_all<R: Wait, A: Lane, B: Lane, C: Lane, D: Lane>(
 fn run_server<R, H, A, B, C, D>(
     rt: &R,
     server: Server<'_, H, A, B, C, D>,
-    posts: Posts<Place<A, B, C, D>, Door>,
+    posts: Posts<Place<A, B, C, D>, Door, LinkTask>,
 ) -> Result<ServeEnd, BeginFault>
 where
-    R: Threads + Wait + Clock + Input + Print + Sync,
+    R: Net<Listener = TcpListener, Stream = TcpStream>
+        + Threads
+        + Wait
+        + Clock
+        + Input
+        + Print
+        + Eprint
+        + Sync,
     H: PresenceHooks + Sync,
     A: Lane + Send + Sync,
     B: Lane + Send + Sync,
@@ -107,7 +193,7 @@ where
 fn run_threads<R, H, A, B, C, D>(
     rt: &R,
     setting: &Setting<'_, H>,
-    listener: TcpListener,
+    listeners: Listeners,
     pool: Pool<NoGate, A, B, C, D>,
     seats: Vec<Seat<A, B, C, D>>,
 ) -> Result<ServeEnd, BeginFault>
@@ -118,27 +204,33 @@ where
         + Clock
         + Input
         + Print
+        + Eprint
         + Sync,
     H: PresenceHooks + Sync,
     A: Lane + Send + Sync,
     B: Lane + Send + Sync,
     C: Lane + Send + Sync,
     D: Lane + Send + Sync,
+    requires { setting.now.options.now.shards ≡ pool.shards }
     ensures { IfOk result (λ end. (hs : List Hands) × Settles pool.own.name pool.shards pool.seats hs end) }
 {
     let alloc = setting.alloc;
+    let options = setting.options;
+    let (clients, links) = listeners.into_parts();
+    let (links, tasks) = links_for(rt, alloc, options, links)?.into_parts();
     let Stations {
         posts,
         mailboxes,
         door_bell,
-    } = stations_for(rt, alloc, listener, seats)?;
+    } = stations_for(rt, alloc, clients, seats, tasks)?;
     let server = Server {
         alloc,
         pool,
-        routes: &setting.options.routes,
+        routes: &options.routes,
         hooks: setting.hooks,
         mailboxes,
         door_bell,
+        links,
         stopped: AtomicBool::new(false),
     };
     run_server(rt, server, posts)
@@ -149,7 +241,7 @@ where
 fn serve_lanes<R, H, A, B, C, D>(
     rt: &R,
     setting: &Setting<'_, H>,
-    listener: TcpListener,
+    listeners: Listeners,
     blanks: Blanks,
 ) -> ServeEnd
 where
@@ -159,6 +251,7 @@ where
         + Clock
         + Input
         + Print
+        + Eprint
         + Sync,
     H: PresenceHooks + Sync,
     A: Lane + Send + Sync,
@@ -199,17 +292,18 @@ where
     let Ok((pool, seats)) = started else {
         return ServeEnd::Memory;
     };
-    match run_threads(rt, setting, listener, pool, seats) {
+    match run_threads(rt, setting, listeners, pool, seats) {
         Ok(end) => end,
         Err(BeginFault::NoThread) => ServeEnd::NoThreads,
         Err(BeginFault::Memory) => ServeEnd::Memory,
     }
 }
 
-/// Serves clients on a port of this machine's own address, until a line `stop` comes on standard input. It prints
-/// `ready` once connections are taken. The end of the input does not end it.
+/// Serves clients on a port, and links it to other nodes, until a line `stop` comes on standard input. It prints `ready`
+/// once connections are taken. The end of the input does not end it. Standard error is told of each link that comes up
+/// or goes.
 ///
-/// That a client is served, and when, no contract says.
+/// That a client is served or a node told of anything, and when, no contract says.
 pub fn serve<R, H>(rt: &R, alloc: Global, hooks: &H, options: &ServeOptions) -> ServeEnd
 where
     R: Net<Listener = TcpListener, Stream = TcpStream>
@@ -218,13 +312,14 @@ where
         + Clock
         + Input
         + Print
+        + Eprint
         + Sync,
     H: PresenceHooks + Sync,
     ensures { IsEndFor options.now result }
 {
-    let listener = match listen(rt, options.port) {
-        Ok(listener) => listener,
-        Err(e) => return port_refused(options, e.kind()),
+    let listeners = match listeners_for(rt, options) {
+        Ok(listeners) => listeners,
+        Err(end) => return end,
     };
     let blanks = blanks_of(u64::from(options.workers));
     let setting = Setting {
@@ -232,5 +327,5 @@ where
         hooks,
         options,
     };
-    serve_lanes::<R, H, Brand, Brand, Brand, Brand>(rt, &setting, listener, blanks)
+    serve_lanes::<R, H, Brand, Brand, Brand, Brand>(rt, &setting, listeners, blanks)
 }

@@ -1,31 +1,49 @@
 //! What the threads of the server share.
+ghost use Rattle.std.specs.Prelude.{◌≡◌};
+
 use crate::door::Door;
 use crate::place::Place;
 use hook_registry::{PresenceHooks, Routes};
 use presence_node_crew::Crew;
 use presence_node_hints::{Inbox, Topics};
+use presence_node_link_threads::{LinkTask, Links, Wakes};
 use presence_node_sockets::Bell;
 use shard_pool::{Lane, NoGate, Pool};
 use std::alloc::Global;
+use std::net::{Net, TcpListener, TcpStream};
 use std::sync::atomic::{AtomicBool, Ordering};
 use std::sync::{Arc, Wait};
 use std::time::Clock;
 
-/// What the workers tell one of them, and what wakes it.
+/// What the workers and the links tell a worker, and what wakes it.
 pub(crate) struct Mailbox {
     pub inbox: Inbox,
+    /// Whether each connection is to be looked at: a link may have changed any topic.
+    pub looks: AtomicBool,
     pub bell: Bell,
 }
 
 impl Drop for Mailbox {
     fn drop(self) {
-        let Mailbox { inbox, bell } = self;
+        let Mailbox { inbox, looks, bell } = self;
         drop(inbox);
+        drop(looks);
         drop(bell);
     }
 }
 
 impl Mailbox {
+    /// Lets each connection be looked at, and wakes the worker.
+    fn look(&self) {
+        self.looks.store(true, Ordering::SeqCst);
+        self.bell.ring();
+    }
+
+    /// Whether each connection was to be looked at.
+    pub(crate) fn looked(&self) -> bool {
+        self.looks.swap(false, Ordering::SeqCst)
+    }
+
     // Tells its worker of these topics: whether it is to be woken. One that can't be told looks by itself, later.
     fn tell<R: Wait>(&self, rt: &R, topics: &Arc<Topics>) -> bool {
         self.inbox.put(rt, topics).unwrap_or(true)
@@ -41,7 +59,9 @@ pub(crate) struct Server<'a, H, A: Lane, B: Lane, C: Lane, D: Lane> {
     /// One of each worker, in their order.
     pub mailboxes: Vec<Mailbox>,
     pub door_bell: Bell,
+    pub links: Links,
     pub stopped: AtomicBool,
+    ghost all_shards: { links.shards ≡ pool.shards },
 }
 
 impl<'a, H, A: Lane, B: Lane, C: Lane, D: Lane> Drop for Server<'a, H, A, B, C, D> {
@@ -53,20 +73,14 @@ impl<'a, H, A: Lane, B: Lane, C: Lane, D: Lane> Drop for Server<'a, H, A, B, C, 
             hooks: _,
             mailboxes,
             door_bell,
+            links,
             stopped,
         } = self;
         drop(pool);
         drop(mailboxes);
         drop(door_bell);
+        drop(links);
         drop(stopped);
-    }
-}
-
-/// So many milliseconds since some time; where the clock can't be read, the time that was read last.
-pub(crate) fn time_behind<R: Clock>(rt: &R, last: u64) -> u64 {
-    match rt.monotonic() {
-        Ok(time) => u64::try_from(time.as_millis()).unwrap_or(last),
-        Err(_) => last,
     }
 }
 
@@ -104,18 +118,28 @@ impl<'a, H, A: Lane, B: Lane, C: Lane, D: Lane> Server<'a, H, A, B, C, D> {
             hooks: _,
             mailboxes,
             door_bell,
+            links,
             stopped,
         } = self;
         drop(mailboxes);
         drop(door_bell);
+        drop(links);
         drop(stopped);
         pool
     }
 }
 
-impl<R, H, A, B, C, D> Crew<R, Place<A, B, C, D>, Door> for Server<'_, H, A, B, C, D>
+impl<'a, H, A: Lane, B: Lane, C: Lane, D: Lane> Wakes for Server<'a, H, A, B, C, D> {
+    fn look(&self) {
+        for mailbox in self.mailboxes.iter() {
+            mailbox.look();
+        }
+    }
+}
+
+impl<R, H, A, B, C, D> Crew<R, Place<A, B, C, D>, Door, LinkTask> for Server<'_, H, A, B, C, D>
 where
-    R: Wait + Clock,
+    R: Net<Listener = TcpListener, Stream = TcpStream> + Wait + Clock + Eprint,
     H: PresenceHooks,
     A: Lane,
     B: Lane,
@@ -133,7 +157,12 @@ where
         door.attend(rt, self);
     }
 
-    fn stop(&self) {
+    fn tend(&self, rt: &R, task: LinkTask) {
+        task.run(rt, &self.links, &self.pool, self);
+    }
+
+    fn stop(&self, rt: &R) {
+        self.links.stop(rt);
         self.stopped.store(true, Ordering::SeqCst);
         self.door_bell.ring();
         for mailbox in self.mailboxes.iter() {

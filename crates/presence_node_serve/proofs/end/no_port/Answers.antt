@@ -4,4 +4,4 @@ use Rattle.presence_node_serve.proofs.end.no_port.Goals as goal
 
 pub returns : goal.returns
 returns c =
-    names_port c.args.port (codes "presence_node: --port ") (codes ": the system doesn't give this port") (string_bytes c.in_ok-line.line) c.in_ok-line.ensures.ok
+    names_port c.args.port (codes "presence_node: --port ") (codes ": the system doesn't give this port at --listen") (string_bytes c.in_ok-line.line) c.in_ok-line.ensures.ok
