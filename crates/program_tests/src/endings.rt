@@ -3,7 +3,9 @@
 
 use presence_node_fold::{FoldFault, fold_status_of, fold_told_line, fold_words};
 use presence_node_lines::ReadFault;
+use presence_node_serve::{ServeEnd, end_of};
 use presence_node_stdio::{SessionFault, StdioFault, status_of, told_line, told_words};
+use shard_pool::SettleFault;
 use std::alloc::{AllocError, Global};
 
 // How an end is told.
@@ -90,5 +92,30 @@ fn ends_in_words(rt: HostRuntime) {
         (FoldFault::Memory, MEMORY),
     ] {
         assert!(rt; fold_is_told(alloc, &fault, &want));
+    }
+}
+
+// Whether a run of the server that ended so is told by this line, with this status.
+fn server_is_told(alloc: Global, end: ServeEnd, line: &str, status: u8) -> bool {
+    let Ok(ended) = end_of(alloc, &end) else {
+        return false;
+    };
+    let (told, with) = ended;
+    match told {
+        Some(told) => told.as_str() == line && with == status,
+        None => false,
+    }
+}
+
+#[test]
+fn ends_of_a_server(rt: HostRuntime) {
+    let missing = ServeEnd::NotSettled(SettleFault::MissingSeat);
+    let taken = "presence_node: --link-port 4001: this port is in use";
+    for (end, line, status) in [
+        (ServeEnd::Stopped(7), "settled 7", 0),
+        (missing, "not settled: P1", 4),
+        (ServeEnd::LinkPortTaken(4001), taken, 1),
+    ] {
+        assert!(rt; server_is_told(rt.alloc(), end, line, status), "{line}");
     }
 }

@@ -1,11 +1,12 @@
 //! What a run doesn't show of the words of a command line: the cause of a refusal, and what a server
 //! is asked for.
 
-use presence_node_options::{Options, UsageCause, UsageFault, options_of};
+use presence_node_options::{Options, ServeOptions, UsageCause, UsageFault, options_of};
 use std::alloc::Global;
+use std::test::Fail;
 
 // A command, an option with a value, and why these words are wrong.
-const WRONG: [(&str, &str, &str, UsageCause); 13] = [
+const WRONG: [(&str, &str, &str, UsageCause); 18] = [
     ("stdio", "--name", "A!", UsageCause::Name),
     ("stdio", "--incarnation", "0", UsageCause::Incarnation),
     ("stdio", "--route", "a*b", UsageCause::Route),
@@ -18,6 +19,11 @@ const WRONG: [(&str, &str, &str, UsageCause); 13] = [
     ("serve", "--shards", "5", UsageCause::Shards),
     ("serve", "--workers", "65", UsageCause::Workers),
     ("serve", "--route", "a*b", UsageCause::Route),
+    ("serve", "--peer", "b", UsageCause::Peer),
+    ("serve", "--peer", "B=host:1", UsageCause::Peer),
+    ("serve", "--peer", "b=:1", UsageCause::Peer),
+    ("serve", "--peer", "b=host:0", UsageCause::Peer),
+    ("serve", "--peer", "b=host", UsageCause::Peer),
     ("serve", "--notices", "1", UsageCause::Words),
 ];
 
@@ -41,20 +47,51 @@ fn causes_of_wrong_words(rt: HostRuntime) {
     }
 }
 
-// The ports, the shards and the workers that a server without options is asked for.
-fn plain_server(alloc: Global) -> Option<(u16, u16, u32, u32)> {
-    match options_of(alloc, ["p", "serve"].as_slice()) {
-        Ok(Options::Serve(options)) => Some((
-            options.port,
-            options.link_port,
-            options.shards,
-            options.workers,
-        )),
+// What a server is asked for by these words.
+fn served(alloc: Global, words: &[&str]) -> Option<ServeOptions> {
+    match options_of(alloc, words) {
+        Ok(Options::Serve(options)) => Some(options),
         _ => None,
     }
 }
 
 #[test]
-fn a_server_without_options(rt: HostRuntime) {
-    assert!(rt; plain_server(rt.alloc()) == Some((4000, 4001, 4, 4)));
+fn a_server_without_options(rt: HostRuntime) -> Result<(), Fail> {
+    let Some(plain) = served(rt.alloc(), ["p", "serve"].as_slice()) else {
+        panic!(rt; "no options");
+    };
+    assert!(rt; (plain.port, plain.link_port, plain.shards, plain.workers) == (4000, 4001, 4, 4));
+    assert!(rt; plain.peers.is_empty());
+    assert_eq!(rt; plain.listen.as_str(), "127.0.0.1");
+    assert_eq!(rt; plain.link_listen.as_str(), "127.0.0.1");
+    Ok(())
+}
+
+// The first peer that a server is asked to link to: its name, host and port.
+fn first_peer(options: &ServeOptions) -> Option<(&str, &str, u16)> {
+    let peer = options.peers.first()?;
+    Some((peer.name.as_str(), peer.host.as_str(), peer.port))
+}
+
+// A peer is cut at its first `=` and its last `:`.
+#[test]
+fn peers_and_addresses_of_a_server(rt: HostRuntime) -> Result<(), Fail> {
+    let words = [
+        "p",
+        "serve",
+        "--peer",
+        "b=x=[::1]:4001",
+        "--peer",
+        "c=c:2",
+        "--listen",
+        "0.0.0.0",
+    ];
+    let Some(linked) = served(rt.alloc(), words.as_slice()) else {
+        panic!(rt; "no options");
+    };
+    assert_eq!(rt; linked.peers.len(), 2);
+    assert!(rt; first_peer(&linked) == Some(("b", "x=[::1]", 4001)));
+    assert_eq!(rt; linked.listen.as_str(), "0.0.0.0");
+    assert_eq!(rt; linked.link_listen.as_str(), "127.0.0.1");
+    Ok(())
 }
