@@ -1,0 +1,51 @@
+//! What node a hears of node b, which dialled it, and what it shows behind each line.
+ghost use Rattle.std.specs.Prelude.{◌≡◌};
+
+use crate::desk::topic;
+use crate::node::node_over;
+use crate::saying::{ANSWERED, SAID};
+use node_links::End;
+use presence_base::Replica;
+use shard_pool::{Lane, NoGate, Pool, Seat};
+use std::alloc::Global;
+use std::sync::Wait;
+
+// The count of the row that is listed behind each line, 0 where none is; whether more lines come; and whether it answers as
+// node b was answered.
+pub(crate) type Hearing = ([u64; 6], Option<bool>, bool);
+
+pub(crate) const HEARING: Hearing = ([0, 1, 1, 0, 0, 0], Some(false), true);
+
+// The count of the first row of the room, or 0.
+fn first_row<R: Wait, A: Lane, B: Lane, C: Lane, D: Lane>(
+    rt: &R,
+    alloc: Global,
+    pool: &Pool<NoGate, A, B, C, D>,
+    seat: &mut Seat<A, B, C, D>,
+) -> Option<u64> {
+    let topic = topic(alloc, "room:a")?;
+    let rows = pool.list(rt, alloc, seat, &topic).ok()?.value;
+    match rows.first() {
+        Some(row) => Some(row.0.count),
+        None => Some(0),
+    }
+}
+
+pub(crate) fn hear<R: Wait, A: Lane, B: Lane, C: Lane, D: Lane>(
+    rt: &R,
+    alloc: Global,
+    pool: &Pool<NoGate, A, B, C, D>,
+    seat: &mut Seat<A, B, C, D>,
+    own: Replica,
+) -> Option<Hearing>
+    requires { pool.now.shards ≡ 2 }
+{
+    let mut node = node_over(rt, alloc, pool, own, End::Accepting, SAID);
+    let mut rows = [0; 6];
+    for row in &mut rows {
+        node.accepts(alloc)?;
+        *row = first_row(rt, alloc, pool, seat)?;
+    }
+    let more = node.accepts(alloc);
+    Some((rows, more, node.wrote(ANSWERED)))
+}

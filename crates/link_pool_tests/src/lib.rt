@@ -1,0 +1,20 @@
+//! Tests of links between servers, by outside values alone: what two pools say to each other over a link, a link at a full
+//! journal, what a mailbox holds, and the lines on standard error.
+#![tactic(auto)]
+
+#[cfg(test)]
+mod desk;
+#[cfg(test)]
+mod full;
+#[cfg(test)]
+mod hearing;
+#[cfg(test)]
+mod node;
+#[cfg(test)]
+mod pools;
+#[cfg(test)]
+mod saying;
+#[cfg(test)]
+mod waiting;
+#[cfg(test)]
+mod wire;
