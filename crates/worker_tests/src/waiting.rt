@@ -1,0 +1,88 @@
+//! Connections that wait for a worker: as many as may, one too many, and one behind them.
+
+use crate::desk::{Desk, desk_over};
+use crate::run::{Run, Seen, over_both};
+use crate::script::got;
+use presence_node_queue::{GiveFault, MAX_WAITING};
+use serving_desk::{Wire, frames, socket_over, wire_of};
+use session_desk::Port;
+use std::alloc::Global;
+use std::sync::Wait;
+use std::test::Fail;
+
+const BEAT: &str = "[null,\"1\",\"phoenix\",\"heartbeat\",{}]\n";
+
+const BEATEN: &str = "[null,\"1\",\"phoenix\",\"phx_reply\",{\"response\":{},\"status\":\"ok\"}]\n";
+
+// Hands over as many connections as may wait: whether each may.
+fn fill<'w, P: Port, R: Wait>(
+    rt: &R,
+    alloc: Global,
+    desk: &mut Desk<'_, Wire<'w>, P>,
+    bytes: &'w [u8],
+) -> bool {
+    for place in 0..MAX_WAITING {
+        let given = desk.give(rt, socket_over(alloc, wire_of(alloc, bytes)));
+        if given != Ok(place as u64 + 1) {
+            return false;
+        }
+    }
+    true
+}
+
+// Whether a further one is dropped, all that wait are taken then, and one behind them has the next number.
+fn admit_behind<'w, P: Port, R: Wait>(
+    rt: &R,
+    alloc: Global,
+    desk: &mut Desk<'_, Wire<'w>, P>,
+    bytes: &'w [u8],
+) -> bool {
+    let dropped = desk.give(rt, socket_over(alloc, wire_of(alloc, bytes)));
+    dropped == Err(GiveFault::Full)
+        && desk.take_in(rt, alloc) == Some(256)
+        && desk.admit_wire(rt, alloc, wire_of(alloc, bytes)) == Some(257)
+}
+
+// How many clients have got this.
+fn answered<P: Port>(desk: &Desk<'_, Wire<'_>, P>, wanted: &[u8]) -> usize {
+    let clients = desk.worker.clients();
+    clients
+        .iter()
+        .filter(|client| got(client) == wanted)
+        .count()
+}
+
+// How many clients that say this get that in one turn, with the one behind those that waited.
+fn serve_all<P: Port, R: Wait>(
+    rt: &R,
+    alloc: Global,
+    port: &mut P,
+    said: &[u8],
+    told: &[u8],
+) -> Option<usize> {
+    let mut desk = desk_over(alloc, port)?;
+    if !fill(rt, alloc, &mut desk, said) || !admit_behind(rt, alloc, &mut desk, said) {
+        return None;
+    }
+    desk.turn(alloc);
+    let count = answered(&desk, told);
+    if desk.stop(alloc) { Some(count) } else { None }
+}
+
+// The same, where each says a heartbeat.
+pub(crate) fn serve_behind<P: Port, R: Wait>(rt: &R, alloc: Global, port: &mut P) -> Option<usize> {
+    let said = frames(alloc, true, BEAT).ok()?;
+    let told = frames(alloc, false, BEATEN).ok()?;
+    serve_all(rt, alloc, port, &said, &told)
+}
+
+// A heartbeat takes no step.
+#[test]
+fn behind_those_that_wait(rt: HostRuntime) -> Result<(), Fail> {
+    let wanted = Seen {
+        pool: Some((257, Ok(0))),
+        shard: Some(257),
+    };
+    assert_eq!(rt; over_both(&rt, rt.alloc(), Run::Behind), wanted);
+    Ok(())
+}
