@@ -1,11 +1,12 @@
-ghost use Rattle.std.specs.Prelude.{◌≡◌, ◌≤◌, true, IfOk, OnOk};
+ghost use Rattle.std.specs.Prelude.{◌≡◌, ◌≤◌, true, Err, IfOk, OnOk};
 ghost use Rattle.std.specs.List.{list_all};
 ghost use Rattle.std.specs.FinSet as set;
 ghost use Rattle.presence_base.specs.Order.{same_replica, same_dot};
 ghost use Rattle.presence_base.specs.declared.dots.Dot.{Dot as DotValue};
 ghost use Rattle.orswot_core_told.specs.Limits.{is_dot};
 ghost use Rattle.orswot_core_told.specs.Telling.{lies_in, is_among, is_told_by, CoversMore, cut_to};
-ghost use Rattle.orswot_core_told.specs.Checks.{raw_value, IsAnswer, IsTold, first_fault, has_repeat, replicas_of, dots_of};
+ghost use Rattle.orswot_core_told.specs.declared.told.ToldFault.TheVariants.{TooMany};
+ghost use Rattle.orswot_core_told.specs.Checks.{raw_value, IsAnswer, IsTold, is_too_many, first_fault, has_repeat, replicas_of, dots_of};
 
 use crate::cut::{ReplicaTest, cut_extras, cut_ranges, cut_rows};
 use crate::limits::{are_dots_within, are_ranges_forward, are_ranges_within};
@@ -24,7 +25,7 @@ mod clones;
 pub const MAX_ROWS: usize = 65_536;
 
 /// Why a told value is refused: the first that applies, in this order. Memory may run out in place
-/// of any answer.
+/// of any answer but the first.
 #[derive(Clone, Copy, PartialEq, Eq, Debug, Drop, Error)]
 pub enum ToldFault {
     #[error("more than 65,536 rows and extras")]
@@ -90,10 +91,12 @@ impl Model for Told {
 }
 
 impl Told {
-    /// The told value, where nothing is wrong with it for this one of `shards` shards.
+    /// The told value, where nothing is wrong with it for this one of `shards` shards. One that brings
+    /// too many rows and extras is refused without memory.
     pub fn check(alloc: Global, raw: RawTold, shard: u32, shards: u32) -> Result<Told, ToldFault>
         requires { 1 ≤ shards }
-        ensures { IsAnswer result (raw_value raw) (first_fault shard shards (raw_value raw)) }
+        ensures answer { IsAnswer result (raw_value raw) (first_fault shard shards (raw_value raw)) }
+        ensures many { is_too_many (raw_value raw) ≡ true → result ≡ Err TooMany }
     {
         let RawTold {
             ranges,
