@@ -2,12 +2,12 @@
 use Rattle.std.proofs.Common.{◌≡◌, ℕ, Bool, true, false, not, cond, ◌&&◌, ◌||◌, ◌==◌, nat_lt, nat_le, List, [], ◌∷◌, ◌++◌, refl, sym, ◌∙◌, ap, Option, Some, None, is_some, arith, Ordering, true≢false, ◌≤◌, length, drop}
 use Rattle.std.proofs.lemmas.Bool.Decides.{nat_tests}
 use Rattle.std.proofs.lemmas.List.{drop_all}
-use Rattle.std.specs.List.{list_any}
+use Rattle.std.specs.List.{filter, list_any}
 use Rattle.std.specs.Ordering.{is_eq, is_lt, is_gt, nat_cmp, ordering_then}
 use Rattle.std.specs.declared.cmp.Ordering.TheVariants.{Less, Equal, Greater}
 use Rattle.std.specs.declared.ops.Bound.TheVariants.{Included, Excluded}
 use Rattle.std.specs.BTreeMap.{get}
-use Rattle.std.specs.BTreeMap.Range.{range_contains, entries_between}
+use Rattle.std.specs.BTreeMap.Range.{range_contains}
 use Rattle.std.specs.Map.{lookup, keys_of}
 use Rattle.std.proofs.lemmas.Map.Entries.{lookup-filter-keys}
 use Rattle.std.proofs.lemmas.Map.Made.{is_some-lookup}
@@ -125,15 +125,14 @@ left_and : (here there here' b : Bool) → here' ≡ (here && b) → ((here && n
 left_and true there here' b e = ap (λ x. not there && x) e
 left_and false there here' b e = refl
 
--- the live rows between the two ends are the live ones of the range
+-- the rows in the range are the live ones of the range
 pub in_between : (here there : Rows) (g : Range) (es : List (Dot × Row)) (q : Dot)
-    → es ≡ entries_between dot_cmp (Excluded (record { replica = g.0; count = g.1 })) (Included (record { replica = g.0; count = g.2 })) here.entries
+    → es ≡ filter (λ e. range_has e.0 g) here.entries
     → (is_left (get dot_cmp here q) (get dot_cmp there q) && list_any (same_dot q) (keys_of es)) ≡ (is_left (get dot_cmp here q) (get dot_cmp there q) && range_has q g)
 in_between here there g es q is =
     left_and (is_some (get dot_cmp here q)) (is_some (get dot_cmp there q)) (list_any (same_dot q) (keys_of es)) (range_has q g)
     (sym (is_some-lookup (same_dot q) es) ∙ ap (λ l. is_some (lookup (same_dot q) l)) is
-    ∙ ap is_some (lookup-filter-keys (same_dot q) (range_contains dot_cmp (Excluded (record { replica = g.0; count = g.1 })) (Included (record { replica = g.0; count = g.2 }))) (range_has q g)
-    (λ k same. ap (range_contains dot_cmp (Excluded (record { replica = g.0; count = g.1 })) (Included (record { replica = g.0; count = g.2 }))) (sym (dots_equal q k same)) ∙ between_dots g.0 g.1 g.2 q) here.entries)
+    ∙ ap is_some (lookup-filter-keys (same_dot q) (λ d. range_has d g) (range_has q g) (λ k same. ap (λ (d : Dot). range_has d g) (sym (dots_equal q k same))) here.entries)
     ∙ some_cond (range_has q g) (get dot_cmp here q))
 
 -- of the rows in a range, one more is done

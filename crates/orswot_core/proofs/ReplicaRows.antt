@@ -1,4 +1,4 @@
--- The rows of a replica among the live ones.
+-- The rows of a replica, and those in a range, among the live ones.
 use Rattle.std.proofs.Common.{◌≡◌, ℕ, Bool, true, false, cond, ◌&&◌, nat_lt, nat_le, List, [], ◌∷◌, refl, ◌∙◌, ap, Option, Some, None, is_some, arith}
 use Rattle.std.proofs.lemmas.Bool.Decides.{nat_tests}
 use Rattle.std.specs.List.{filter}
@@ -13,9 +13,9 @@ use Rattle.presence_base.specs.declared.row.Row.{Row}
 use Rattle.presence_base.specs.Order.{dot_cmp, same_dot, same_replica}
 use Rattle.dot_context.specs.Sets.{DotSet}
 use Rattle.orswot_core_told.specs.Limits.{is_count, is_dot, is_row}
-use Rattle.orswot_core_told.specs.Telling.{range_has}
+use Rattle.orswot_core_told.specs.Telling.{Range, range_has}
 use Rattle.orswot_core_told.proofs.OrderFacts.{same_itself}
-use Rattle.orswot_core.specs.Sets.{Rows, LiveRows, rows_of, rows_by, is_sound, IsSound}
+use Rattle.orswot_core.specs.Sets.{Rows, LiveRows, rows_of, rows_by, rows_within, is_sound, IsSound}
 use Rattle.orswot_core.proofs.SoundFacts.{sound_at}
 use Rattle.orswot_core.proofs.FullFacts.{entries_are}
 
@@ -60,3 +60,7 @@ rows_found s m live r sound sorted e =
     (second (is_count d.replica.incarnation) (is_count d.count) (live_dot d (set.contains s d) (get dot_cmp m d) (sound_at s m sound d) there)))
     ∙ ap (filter (λ e. same_replica e.0.replica r)) (entries_are m.entries sorted)
     ∙ ap (λ l. rows_by l r) e
+
+pub rows_in_are : (m : Rows) (live : LiveRows) (g : Range) → IsStrictlySortedBy dot_cmp (keys_of m.entries) → rows_of m.entries ≡ live
+    → filter (λ e. range_has e.0 g) m.entries ≡ rows_within live g
+rows_in_are m live g sorted e = ap (filter (λ e. range_has e.0 g)) (entries_are m.entries sorted) ∙ ap (λ l. rows_within l g) e

@@ -12,6 +12,7 @@ use Rattle.presence_base.specs.Order.{dot_cmp, same_dot, same_replica}
 use Rattle.presence_base.specs.Codes.{dot_code, row_code}
 use Rattle.dot_context.specs.Sets.{DotSet, without}
 use Rattle.orswot_core_told.specs.Limits.{is_dot, is_row}
+use Rattle.orswot_core_told.specs.Telling.{Range, range_has}
 
 abbrev pub Rows : Type 0
 Rows = BTreeMap Dot Row
@@ -39,6 +40,10 @@ with_dot s d r = record { covered = set.insert s.covered d; live = map.insert s.
 -- the live rows of a replica, in order of dot
 abbrev pub rows_by : LiveRows → Replica → List (Dot × Row)
 rows_by m r = filter (λ e. same_replica e.0.replica r) (map.entries m)
+
+-- the live rows in a range, in order of dot
+abbrev pub rows_within : LiveRows → Range → List (Dot × Row)
+rows_within m g = filter (λ e. range_has e.0 g) (map.entries m)
 
 abbrev pub without_rows : LiveRows → List Dot → LiveRows
 without_rows m [] = m

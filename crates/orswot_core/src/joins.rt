@@ -13,12 +13,12 @@ ghost use Rattle.orswot_core.specs.Sets.{is_left, AreNeeded};
 ghost use Rattle.orswot_core.specs.Steps.{ChangesRow, SameRows, KeepsRows, DropsRows, KeepsFirst, TakesMissing, KeepsCovered, Joins};
 ghost use Rattle.orswot_core.specs.Steps.{AreCovered, CoversAll, Removes, lacks, is_missing_of, left_at, Lists, Gathers, GathersLeft};
 
+use crate::rows::rows_in_range;
 use dot_context::Context;
 use orswot_core_told::{Told, add_dots, told_context};
 use presence_base::{Dot, Replica, Row};
 use std::alloc::{AllocError, Global};
 use std::collections::BTreeMap;
-use std::ops::Bound;
 
 fn insert_row(live: &mut BTreeMap<Dot, Row>, dot: Dot, row: Row) -> Result<(), AllocError>
     ensures ok { OnOk result (ChangesRow live.old live.new dot (Some row)) }
@@ -213,15 +213,7 @@ fn gather_range(
     requires { is_forward range.now ≡ true }
     ensures { OnOk result (GathersLeft live.now told.now gone.old.items gone.new.items (λ q. range_has q range.now)) }
 {
-    let low = Dot {
-        replica: range.0,
-        count: range.1,
-    };
-    let high = Dot {
-        replica: range.0,
-        count: range.2,
-    };
-    for (dot, _row) in live.range((Bound::Excluded(low), Bound::Included(high))) {
+    for (dot, _row) in rows_in_range(live, range) {
         gather_dot(gone, live, told, dot)?;
     }
     Ok(())

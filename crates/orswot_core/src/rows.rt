@@ -1,31 +1,32 @@
-// The live rows of a replica, found by the order of dots.
-ghost use Rattle.std.specs.Prelude.{◌≡◌};
+// The live rows of a range, found by the order of dots.
+ghost use Rattle.std.specs.Prelude.{◌≡◌, true};
 ghost use Rattle.std.specs.List.{filter};
 ghost use Rattle.std.specs.List.Sorted.{IsStrictlySortedBy};
 ghost use Rattle.std.specs.Map.{keys_of};
 ghost use Rattle.presence_base.specs.Order.{dot_cmp};
-ghost use Rattle.presence_base.specs.declared.dots.TheConstants.{MAX_COUNT};
+ghost use Rattle.orswot_core_told.specs.Checks.{is_forward};
 ghost use Rattle.orswot_core_told.specs.Telling.{range_has};
 
-use presence_base::{Dot, MAX_COUNT, Replica, Row};
+use presence_base::{Dot, Replica, Row};
 use std::collections::BTreeMap;
 use std::collections::btree_map::Range;
 use std::ops::Bound;
 
 pub(crate) fn rows_in_range<'a>(
     live: &'a BTreeMap<Dot, Row>,
-    replica: &Replica,
+    range: &(Replica, u64, u64),
 ) -> Range<'a, Dot, Row>
-    ensures rows { result ≡ filter (λ e. range_has e.0 (replica.now, 0, MAX_COUNT)) live.now.entries }
+    requires { is_forward range.now ≡ true }
+    ensures rows { result ≡ filter (λ e. range_has e.0 range.now) live.now.entries }
     ensures ordered { IsStrictlySortedBy dot_cmp (keys_of live.now.entries) }
 {
     let low = Dot {
-        replica: *replica,
-        count: 0,
+        replica: range.0,
+        count: range.1,
     };
     let high = Dot {
-        replica: *replica,
-        count: MAX_COUNT,
+        replica: range.0,
+        count: range.2,
     };
     live.range((Bound::Excluded(low), Bound::Included(high)))
 }

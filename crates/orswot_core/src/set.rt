@@ -4,11 +4,12 @@ ghost use Rattle.std.specs.FinSet as set;
 ghost use Rattle.std.specs.FinMap as map;
 ghost use Rattle.presence_base.specs.declared.dots.Dot.{Dot as DotValue};
 ghost use Rattle.dot_context.specs.Sets.{HasUpTo};
+ghost use Rattle.orswot_core_told.specs.Checks.{is_forward};
 ghost use Rattle.orswot_core_told.specs.Limits.{is_dot, is_row};
 ghost use Rattle.orswot_core_told.specs.Telling.{covers, live_row, cut_to};
 ghost use Rattle.orswot_core.specs.Full.{IsFull};
 ghost use Rattle.orswot_core.specs.Laws.{TakesIn};
-ghost use Rattle.orswot_core.specs.Sets.{with_dot, removed, IsJoin, without_replica, rows_by};
+ghost use Rattle.orswot_core.specs.Sets.{with_dot, removed, IsJoin, without_replica, rows_by, rows_within};
 
 use crate::full::full_told;
 use crate::joins::{add_row, forget_rows, join_rows, parts_of, remove_rows};
@@ -16,7 +17,7 @@ use crate::plan::{JoinPlan, plan_parts};
 use crate::rows::rows_in_range;
 use dot_context::Context;
 use orswot_core_told::{ReplicaTest, Told};
-use presence_base::{Dot, Replica, Row};
+use presence_base::{Dot, MAX_COUNT, Replica, Row};
 use std::alloc::{AllocError, Global};
 use std::collections::BTreeMap;
 use std::collections::btree_map::{Iter, Range};
@@ -93,7 +94,17 @@ impl Orswot {
     pub fn rows_of(&self, replica: &Replica) -> Range<'_, Dot, Row>
         ensures { result ≡ rows_by self.now.live replica.now }
     {
-        rows_in_range(&self.live, replica)
+        let range = (*replica, 0, MAX_COUNT);
+        rows_in_range(&self.live, &range)
+    }
+
+    /// The live rows in the range, in order of dot: those above its first count, up to its second. Takes no memory, and
+    /// looks at no other rows.
+    pub fn rows_in(&self, range: &(Replica, u64, u64)) -> Range<'_, Dot, Row>
+        requires { is_forward range.now ≡ true }
+        ensures { result ≡ rows_within self.now.live range.now }
+    {
+        rows_in_range(&self.live, range)
     }
 
     /// Covers the dot, and adds the row at it.

@@ -1,16 +1,13 @@
 use Rattle.std.proofs.Common.{◌||◌, ◌∙◌, ap}
 use Rattle.std.specs.List.{list_any}
 use Rattle.presence_base.specs.Order.{same_dot}
-use Rattle.orswot_core.proofs.GatherFacts.{in_between, next_keys, forward_ends}
+use Rattle.orswot_core.proofs.GatherFacts.{in_between, next_keys}
 use Rattle.orswot_core.proofs.joins.gather_range.Goals as goal
-
-pub range-dot-items-requires : goal.range-dot-items-requires
-range-dot-items-requires c = forward_ends c.args.range.now c.requires
 
 pub loop-dot-init : goal.loop-dot-init
 loop-dot-init c = λ q. ap (λ b. list_any (same_dot q) c.args.gone.now.items || b)
     (in_between c.args.live.now c.args.told.now c.args.range.now c.into_iter-dot-iterator.result q
-    (c.into_iter-dot-iterator.ensures.into_iter_gives ∙ c.range-dot-items.ensures.between tt))
+    (c.into_iter-dot-iterator.ensures.into_iter_gives ∙ c.rows_in_range-dot-items.ensures.rows))
 
 pub loop-dot-preserved : goal.loop-dot-preserved
 loop-dot-preserved c = λ q.
