@@ -2,21 +2,17 @@
 use Rattle.std.proofs.Common.{◌≡◌, ℕ, ◌^◌, ◌≤◌, Bool, true, false, not, cond, ◌&&◌, ◌||◌, nat_le, nat_lt, List, [], ◌∷◌, ◌++◌, refl, sym, ◌∙◌, ap, subst, arith, true≢false}
 use Rattle.std.proofs.lemmas.Bool.Decides.{nat_tests}
 use Rattle.std.specs.List.{list_any, list_all, filter}
-use Rattle.std.specs.FinSet as set
 use Rattle.std.proofs.lemmas.List.Folds.{list_any-append, list_all-append}
-use Rattle.std.proofs.lemmas.List.Elements.{filter_agree}
-use Rattle.presence_base.specs.declared.dots.Replica.{Replica}
 use Rattle.presence_base.specs.declared.dots.Dot.{Dot}
 use Rattle.presence_base.specs.declared.row.Row.{Row}
 use Rattle.presence_base.specs.Order.{same_replica, same_dot}
 use Rattle.dot_context.specs.Runs.{in_run, holds, AreLong}
-use Rattle.dot_context.specs.Sets.{DotSet}
 use Rattle.orswot_core.specs.Limits.{is_count, is_dot, is_row, is_range}
 use Rattle.orswot_core.specs.Telling.{range_has, covers}
 use Rattle.orswot_core.specs.Checks.{has_repeat, dots_of}
 use Rattle.orswot_core.proofs.OrderFacts.{dots_equal}
 use Rattle.delta_range.specs.Deltas.{DeltaValue, telling, own_dots, older_dots, IsDelta, GoesOn}
-use Rattle.delta_range.specs.Longest.{up_to, longest}
+use Rattle.delta_range.specs.Longest.{up_to}
 use Rattle.delta_range.specs.Joining.{not_covered, joined}
 use Rattle.delta_range.proofs.BoolFacts.{both, and_both}
 use Rattle.delta_range.proofs.RunFacts.{long_runs, long_append, long_up_to, longest_runs, holds_longest, ends_longest, holds_up_to, ends_up_to}
@@ -239,19 +235,3 @@ module _ (a b : DeltaValue) (ha : IsDelta a) (hb : IsDelta b) (next : GoesOn a.o
     within = rows_within;
     once = rows_once;
   }
-
-  -- the parts that are put together are those of the joined delta
-  pub parts_joined : (older : List (ℕ × ℕ)) (live : List (Dot × Row)) (owner : Replica) (from to : ℕ) (removed : DotSet) (oa ob ob' : List (ℕ × ℕ)) (la lb : List (Dot × Row))
-      → older ≡ longest (up_to from (oa ++ ob)) → live ≡ filter (λ x. not (set.contains removed x.0)) la ++ lb
-      → ((q : Dot) → set.contains removed q ≡ (same_replica q.replica owner && holds ob' q.count))
-      → owner ≡ a.owner → from ≡ a.from → to ≡ b.to → oa ≡ a.older → ob ≡ b.older → ob' ≡ b.older → la ≡ a.live → lb ≡ b.live
-      → ◌≡◌ {A = DeltaValue} (record { owner = owner; from = from; to = to; older = older; live = live }) (joined a b)
-  unfolding joined
-  parts_joined older live owner from to removed oa ob ob' la lb is_older is_live is_removed e-owner e-from e-to e-oa e-ob e-ob' e-la e-lb =
-      let older_joined : older ≡ longest (up_to a.from (a.older ++ b.older)) = is_older ∙ (λ i. longest (up_to (e-from i) (e-oa i ++ e-ob i))) in
-      let is_gone : (q : Dot) → set.contains removed q ≡ (same_replica q.replica a.owner && holds b.older q.count) = λ q. is_removed q ∙ (λ i. same_replica q.replica (e-owner i) && holds (e-ob' i) q.count) in
-      let left : filter (λ x. not (set.contains removed x.0)) la ≡ filter (λ x. not (same_replica x.0.replica a.owner && holds b.older x.0.count)) la
-      = filter_agree (λ (x : Dot × Row). not (set.contains removed x.0)) (λ (x : Dot × Row). not (same_replica x.0.replica a.owner && holds b.older x.0.count)) (λ x. ap not (is_gone x.0)) la in
-      let live_joined : live ≡ not_covered (telling b) a.live ++ b.live =
-      is_live ∙ ap (λ l. l ++ lb) left ∙ (λ i. filter (λ x. not (same_replica x.0.replica a.owner && holds b.older x.0.count)) (e-la i) ++ e-lb i) ∙ ap (λ l. l ++ b.live) left_rows in
-      λ i. record { owner = e-owner i; from = e-from i; to = e-to i; older = older_joined i; live = live_joined i }

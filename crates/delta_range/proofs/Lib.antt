@@ -6,3 +6,5 @@ pub mod JoinFacts
 pub mod ViewFacts
 pub mod OrderKept
 pub mod KeepFacts
+pub mod NothingFacts
+pub mod GrowthFacts

@@ -1,6 +1,5 @@
 -- Steps of loops.
-use Rattle.std.proofs.Common.{◌≡◌, ℕ, suc, ◌+◌, ◌-◌, ◌<◌, Bool, true, false, cond, ◌&&◌, ◌||◌, List, [], ◌∷◌, ◌++◌, refl, sym, ◌∙◌, ap, append_assoc, arith}
-use Rattle.std.specs.List.{filter}
+use Rattle.std.proofs.Common.{◌≡◌, ℕ, suc, ◌+◌, ◌-◌, ◌<◌, Bool, true, false, ◌&&◌, ◌||◌, List, [], ◌∷◌, ◌++◌, refl, sym, ◌∙◌, ap, append_assoc, arith}
 use Rattle.std.specs.FinSet as set
 use Rattle.presence_base.specs.declared.dots.Replica.{Replica}
 use Rattle.presence_base.specs.declared.dots.Dot.{Dot}
@@ -9,20 +8,6 @@ use Rattle.dot_context.specs.Runs.{in_run, holds}
 use Rattle.dot_context.specs.Sets.{DotSet, span, range}
 use Rattle.dot_context.proofs.SetFacts.{contains-range}
 use Rattle.orswot_core.proofs.OrderFacts.{dot_total}
-
--- one more element passes, and one fewer is left
-pub passed : {A : Type 0} (p : A → Bool) (x : A) (before now xs rest : List A) → xs ≡ x ∷ rest → p x ≡ true → now ≡ before ++ x ∷ [] → now ++ filter p rest ≡ before ++ filter p xs
-passed p x before now xs rest split e step =
-    ap (λ l. l ++ filter p rest) step
-    ∙ append_assoc before (x ∷ []) (filter p rest)
-    ∙ ap (λ b. before ++ cond b (x ∷ filter p rest) (filter p rest)) (sym e)
-    ∙ ap (λ l. before ++ filter p l) (sym split)
-
--- one that fails is left out
-pub failed : {A : Type 0} (p : A → Bool) (x : A) (before xs rest : List A) → xs ≡ x ∷ rest → p x ≡ false → before ++ filter p rest ≡ before ++ filter p xs
-failed p x before xs rest split e =
-    ap (λ b. before ++ cond b (x ∷ filter p rest) (filter p rest)) (sym e)
-    ∙ ap (λ l. before ++ filter p l) (sym split)
 
 -- one more element, and one fewer is left
 pub pushed_one : {A : Type 0} (x : A) (before now xs rest : List A) → xs ≡ x ∷ rest → now ≡ before ++ x ∷ [] → now ++ rest ≡ before ++ xs

@@ -166,7 +166,7 @@ tells_in_turn s x y z a b ha hb next hx hy hz = same_at z y (λ d.
 
 -- ---- sizes
 
-length_left : {A : Type 0} (p : A → Bool) (xs : List A) → length (filter p xs) ≤ length xs
+pub length_left : {A : Type 0} (p : A → Bool) (xs : List A) → length (filter p xs) ≤ length xs
 length_left p [] = omega arith
 length_left p (x ∷ xs) =
     let rest : length (filter p xs) ≤ length xs = length_left p xs in

@@ -45,9 +45,9 @@ pub record Joined (a b c : DeltaValue) : Type 0 where
 abbrev pub first_fault : DeltaValue → DeltaValue → Option DeltaFault
 first_fault a b = cond (not (same_replica a.owner b.owner)) (Some OtherOwner) (cond (not (nat_eq a.to b.from)) (Some NotContiguous) None)
 
--- the fault is the first one, or memory ran out
+-- the fault is the first one; memory runs out only where there is none
 abbrev pub IsFault : DeltaFault → Option DeltaFault → Type 0
-IsFault OutOfMemory first = Unit {0}
+IsFault OutOfMemory first = first ≡ None
 IsFault f first = first ≡ Some f
 
 -- the joined delta exactly where there is no fault, else that fault

@@ -1,11 +1,11 @@
 -- Generations: three joined deltas, of which a shorter one begins later.
-use Rattle.std.specs.Prelude.{◌≡◌, ℕ, ◌+◌, ◌≤◌, cond, nat_le, length, Option, Some, None, refl}
+use Rattle.std.specs.Prelude.{◌≡◌, ℕ, ◌+◌, ◌≤◌, Bool, cond, ◌&&◌, nat_le, nat_eq, length, Option, Some, None, refl}
 use Rattle.std.specs.Coded.{Coded, code_by, coded×, coded_ℕ, coded_option}
 use Rattle.presence_base.specs.declared.dots.Replica.{Replica}
 use Rattle.presence_base.specs.Names.{guarded}
 use Rattle.presence_base.specs.Codes.{replica_code}
 use Rattle.delta_range.specs.declared.generations.TheConstants.{SHORT_CAP, MIDDLE_CAP, LONG_CAP}
-use Rattle.delta_range.specs.Deltas.{DeltaValue, delta_code, GoesOn}
+use Rattle.delta_range.specs.Deltas.{DeltaValue, delta_code, IsDelta, GoesOn}
 use Rattle.delta_range.specs.Joining.{joined}
 
 -- where the last delta that was pushed ended, and what each generation keeps
@@ -24,6 +24,10 @@ kept_code =
 -- its live rows and older runs together
 abbrev pub size : DeltaValue → ℕ
 size d = length d.older + length d.live
+
+-- it tells no count, and nothing that went
+abbrev pub is_nothing : DeltaValue → Bool
+is_nothing d = nat_eq d.from d.to && (nat_eq (length d.older) 0 && nat_eq (length d.live) 0)
 
 -- the delta, where it is within the cap
 abbrev pub alone : ℕ → DeltaValue → Option DeltaValue
@@ -69,3 +73,8 @@ from_count k n = first_of_both (begun n k.short) (first_of_both (begun n k.middl
 abbrev pub GoesOnFrom : Option DeltaValue → DeltaValue → Type 0
 GoesOnFrom None d = Unit {0}
 GoesOnFrom (Some old) d = GoesOn old.owner old.to d
+
+-- what a generation keeps is a delta
+abbrev pub IsDeltaIfSome : Option DeltaValue → Type 0
+IsDeltaIfSome None = Unit {0}
+IsDeltaIfSome (Some d) = IsDelta d

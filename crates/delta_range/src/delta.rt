@@ -1,14 +1,16 @@
-ghost use Rattle.std.specs.Prelude.{◌≡◌, IfOk};
+ghost use Rattle.std.specs.Prelude.{◌≡◌, false, IfOk, IfErr, Ok, None};
 ghost use Rattle.std.specs.List.{list_all};
 ghost use Rattle.presence_base.specs.Names.{guarded};
 ghost use Rattle.presence_base.specs.Order.{same_replica};
 ghost use Rattle.orswot_core.specs.Telling.{range_has};
 ghost use Rattle.delta_range.specs.Deltas.{DeltaValue, telling, delta_of, is_older, is_delta, IsDelta, GoesOn};
+ghost use Rattle.delta_range.specs.Growing.{IsRemoval};
 ghost use Rattle.delta_range.specs.Joining.{joined, Joined, IsJoinAnswer};
 
 use crate::fault::DeltaFault;
-use crate::joining::{joined_rows, joined_runs, one_range, rows_of};
-use crate::runs::{dots_of, longest, run_set, runs_of};
+use crate::growth::{Growth, Removal, removal_of};
+use crate::joining::{one_range, rows_of};
+use crate::runs::{dots_of, longest, runs_of};
 use orswot_core::Told;
 use presence_base::{Dot, Replica, Row};
 use std::alloc::{AllocError, Global};
@@ -17,6 +19,7 @@ use std::marker::Model;
 /// What an owner tells of its counts above one and up to another: the rows of that range that are
 /// live, and older counts of its own that were removed meanwhile, as longest runs (a delta of
 /// Phoenix.Tracker, over the set of Bieniusa et al., 2012).
+#[derive(Debug)]
 pub struct Delta {
     owner: Replica,
     from: u64,
@@ -74,9 +77,10 @@ impl Delta {
     }
 
     /// The told value as a delta, where it has one range, all its rows lie in that range, and all its
-    /// extras are dots of the same owner at or below the range.
+    /// extras are dots of the same owner at or below the range. None needs no memory.
     pub fn of_told(alloc: Global, told: &Told) -> Result<Option<Delta>, AllocError>
-        ensures { IfOk result (λ o. o ≡ guarded (is_delta told.now) (delta_of told.now)) }
+        ensures delta { IfOk result (λ o. o ≡ guarded (is_delta told.now) (delta_of told.now)) }
+        ensures none { is_delta told.now ≡ false → result ≡ Ok None }
     {
         if !has_delta_form(told) {
             return Ok(None);
@@ -127,8 +131,9 @@ impl Delta {
     }
 
     /// The two as one, where the next begins at the count where this one ends. What the next removed
-    /// is gone from it, and what lies in its range is no older count. The cost is that of copying the rows of both, of a
-    /// search among the next one's older runs for each row of this one, and of a sort of the runs.
+    /// is gone from it, and what lies in its range is no older count. Two that don't go together are
+    /// refused without memory. The cost is that of copying the rows of both, and, where the next has
+    /// older runs, of a search among them for each row of this one and of a sort of the runs.
     pub fn join_next(&self, alloc: Global, next: &Delta) -> Result<Delta, DeltaFault>
         ensures answer { IsJoinAnswer result self.now next.now }
         ensures joined { IfOk result (λ d. Joined self.now next.now d) }
@@ -142,6 +147,52 @@ impl Delta {
         match join_contiguous(alloc, self, next) {
             Ok(joined) => Ok(joined),
             Err(_) => Err(DeltaFault::OutOfMemory),
+        }
+    }
+
+    /// Copies the rows of the next delta, and makes room for them. Where memory is refused, it answers the delta as it was.
+    pub(crate) fn plan_join(
+        self,
+        alloc: Global,
+        removal: Option<Removal>,
+        next: &Delta,
+    ) -> Result<Growth, Delta>
+        requires follows { GoesOn self.owner self.to next.now }
+        requires removal { IsRemoval removal self next.now }
+        ensures before { IfOk result (λ g. g.before ≡ self) }
+        ensures after { IfOk result (λ g. g.after ≡ joined self next.now) }
+        ensures joined { IfOk result (λ g. Joined self next.now g.after) }
+        ensures err { IfErr result (λ d. d ≡ self) }
+    {
+        let Ok(rows) = rows_of(alloc, next.live()) else {
+            return Err(self);
+        };
+        let Delta {
+            owner,
+            from,
+            to,
+            older,
+            mut live,
+        } = self;
+        let end = next.to();
+        match live.reserve(rows.len()) {
+            Ok(()) => Ok(Growth {
+                owner,
+                from,
+                to,
+                older,
+                live,
+                removal,
+                rows,
+                end,
+            }),
+            Err(_) => Err(Delta {
+                owner,
+                from,
+                to,
+                older,
+                live,
+            }),
         }
     }
 
@@ -217,18 +268,15 @@ fn has_delta_form(told: &Told) -> bool
 }
 
 // The two as one, where the second goes on from the first.
-pub(crate) fn join_contiguous(
-    alloc: Global,
-    first: &Delta,
-    next: &Delta,
-) -> Result<Delta, AllocError>
+fn join_contiguous(alloc: Global, first: &Delta, next: &Delta) -> Result<Delta, AllocError>
     requires { GoesOn first.now.owner first.now.to next.now }
     ensures value { IfOk result (λ d. d ≡ joined first.now next.now) }
     ensures joined { IfOk result (λ d. Joined first.now next.now d) }
 {
-    let (owner, from, to) = (first.owner(), first.from(), next.to());
-    let older = joined_runs(alloc, first.older(), next.older(), from)?;
-    let removed = run_set(alloc, &owner, next.older())?;
-    let live = joined_rows(alloc, first.live(), &removed, next.live())?;
-    Ok(Delta::new(owner, from, to, older, live))
+    let removal = removal_of(alloc, first, next)?;
+    let copied = first.clone()?;
+    match copied.plan_join(alloc, removal, next) {
+        Ok(growth) => Ok(growth.commit()),
+        Err(_) => Err(AllocError),
+    }
 }

@@ -2,8 +2,8 @@ use std::alloc::AllocError;
 use std::fmt;
 use thiserror::Error;
 
-/// Why two deltas are not joined: the first that applies, in this order. Memory may run out in place
-/// of any answer.
+/// Why two deltas are not joined: the first that applies, in this order. Memory may run out only where
+/// nothing else is wrong.
 #[derive(Clone, Copy, PartialEq, Eq, Debug, Drop, Error)]
 pub enum DeltaFault {
     #[error("deltas of two owners")]

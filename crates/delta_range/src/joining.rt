@@ -1,11 +1,9 @@
-// The lists of a joined delta.
-ghost use Rattle.std.specs.Prelude.{◌≡◌, ◌++◌, ◌∷◌, [], IfOk, OnOk};
+// The lists of a delta.
+ghost use Rattle.std.specs.Prelude.{◌≡◌, ◌++◌, ◌∷◌, [], IfOk};
 ghost use Rattle.dot_context.specs.Runs.{AreRuns};
-ghost use Rattle.delta_range.specs.Joining.{not_in};
 ghost use Rattle.delta_range.specs.Longest.{up_to, longest};
 
 use crate::runs::{longest, push_up_to};
-use dot_context::Context;
 use presence_base::{Dot, Replica, Row};
 use std::alloc::{AllocError, Global};
 
@@ -26,61 +24,11 @@ pub(crate) fn joined_runs(
     longest(alloc, runs)
 }
 
-fn push_row(rows: &mut Vec<(Dot, Row)>, row: &(Dot, Row)) -> Result<(), AllocError>
-    ensures { OnOk result (rows.new.items ≡ rows.old.items ++ row.now ∷ []) }
-{
-    let row = row.clone()?;
-    rows.push(row)?;
-    Ok(())
-}
-
-// Adds the rows whose dots were not removed.
-fn push_left(
-    rows: &mut Vec<(Dot, Row)>,
-    more: &[(Dot, Row)],
-    removed: &Context,
-) -> Result<(), AllocError>
-    ensures { OnOk result (rows.new.items ≡ rows.old.items ++ not_in removed.now more.now) }
-{
-    for row in more {
-        if !removed.covers(&row.0) {
-            push_row(rows, row)?;
-        }
-    }
-    Ok(())
-}
-
-fn push_rows(rows: &mut Vec<(Dot, Row)>, more: &[(Dot, Row)]) -> Result<(), AllocError>
-    ensures { OnOk result (rows.new.items ≡ rows.old.items ++ more.now) }
-{
-    for row in more {
-        push_row(rows, row)?;
-    }
-    Ok(())
-}
-
-// The rows.
+// Copies of the rows.
 pub(crate) fn rows_of(alloc: Global, rows: &[(Dot, Row)]) -> Result<Vec<(Dot, Row)>, AllocError>
     ensures { IfOk result (λ v. v.items ≡ rows.now) }
 {
-    let mut copied = Vec::new(alloc);
-    push_rows(&mut copied, rows)?;
-    Ok(copied)
-}
-
-// The rows of the first whose dots were not removed, and the rows of the next.
-pub(crate) fn joined_rows(
-    alloc: Global,
-    first: &[(Dot, Row)],
-    removed: &Context,
-    next: &[(Dot, Row)],
-) -> Result<Vec<(Dot, Row)>, AllocError>
-    ensures { IfOk result (λ v. v.items ≡ not_in removed.now first.now ++ next.now) }
-{
-    let mut rows = Vec::new(alloc);
-    push_left(&mut rows, first, removed)?;
-    push_rows(&mut rows, next)?;
-    Ok(rows)
+    Vec::from_clones(alloc, rows)
 }
 
 pub(crate) fn one_range(

@@ -4,6 +4,7 @@
 mod delta;
 mod fault;
 mod generations;
+mod growth;
 mod joining;
 pub mod laws;
 mod runs;
