@@ -1,4 +1,4 @@
-use crate::limits::Payload;
+use crate::shared::{SharedDiff, SharedShout};
 use presence_base::{Dot, Key, Row};
 use std::marker::Model;
 
@@ -70,6 +70,6 @@ pub struct RowDiff {
 #[derive(Debug, Drop)]
 pub enum Item {
     State(Rows),
-    Diff(RowDiff),
-    Shout(Payload),
+    Diff(SharedDiff),
+    Shout(SharedShout),
 }
