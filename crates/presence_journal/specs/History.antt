@@ -11,6 +11,7 @@ use Rattle.presence_base.specs.declared.dots.Dot.{Dot}
 use Rattle.presence_base.specs.declared.row.Row.{Row}
 use Rattle.presence_base.specs.Order.{same_replica, same_dot}
 use Rattle.orswot_core_told.specs.Telling.{ToldValue, covers, live_row, tells_removed}
+use Rattle.delta_range.specs.Keeping.{Kept}
 use Rattle.presence_journal_data.specs.declared.step.Step.TheVariants as steps_are
 use Rattle.presence_journal_data.specs.declared.entry.Outcome.TheVariants as outcomes_are
 use Rattle.presence_journal.specs.declared.journal.TheConstants.{MAX_ENTRIES}
@@ -24,9 +25,12 @@ pub data History : Type 0 where
 abbrev pub nothing_told : ToldValue
 nothing_told = record { ranges = []; extras = []; live = [] }
 
+abbrev pub nothing_kept : Kept
+nothing_kept = record { last = None; short = None; middle = None; long = None }
+
 -- the history of a new shard: nothing came before it
 abbrev pub begun : Replica → History
-begun r = Begin (record { number = 0; own = r; count = 0; content = nothing_told; standings = []; time = 0; last_cut = 0; older = []; chains = []; subscribers = []; seated = 0 })
+begun r = Begin (record { number = 0; own = r; count = 0; content = nothing_told; standings = []; time = 0; last_cut = 0; older = []; chains = []; kept = nothing_kept; subscribers = []; seated = 0 })
 
 -- the entries in order, the oldest first, upon a history
 abbrev pub onto : History → List Entry → History

@@ -9,6 +9,8 @@ use Rattle.presence_base.specs.Refs.{IsCount}
 use Rattle.dot_context.specs.Runs.{AreLong}
 use Rattle.orswot_core_told.specs.Checks.{has_repeat}
 use Rattle.orswot_core_told.specs.Telling.{covers}
+use Rattle.delta_range.specs.Deltas.{DeltaValue, GoesOn}
+use Rattle.delta_range.specs.Keeping.{IsNext}
 use Rattle.presence_journal_data.specs.declared.step.Step.TheVariants as steps_are
 use Rattle.presence_journal_data.specs.declared.entry.Outcome.TheVariants as outcomes_are
 use Rattle.presence_journal_data.specs.StepLimits.{is_heard, is_within_limits}
@@ -105,7 +107,7 @@ abbrev pub is_subscriber : ℕ → ℕ × List ℕ → Bool
 is_subscriber last x = nat_le x.0 last && is_short_text x.1
 
 -- The limits of what a journal begins with. Of the own replica all counts that were used are covered, and no others. What
--- went since the last cut lies at or below it; no run is hollow.
+-- went since the last cut lies at or below it; no run is hollow. The next cut goes on from the kept deltas.
 pub record IsStart (s : Start) : Type 0 where
   pub name : IsTrue (is_node_name s.own.name)
   pub incarnation : IsCount s.own.incarnation
@@ -117,6 +119,7 @@ pub record IsStart (s : Start) : Type 0 where
   pub older : AreLong s.older
   pub older_low : list_all (λ r. nat_le r.1 s.last_cut) s.older ≡ true
   pub chains : AllByRecursion (λ x. AreLong x.1) s.chains
+  pub kept : (d : DeltaValue) → GoesOn s.own s.last_cut d → IsNext s.kept.last d
   pub subscribers : list_all (is_subscriber s.number) s.subscribers ≡ true
   pub subscribers_once : has_repeat nat_eq (map (λ x. x.0) s.subscribers) ≡ false
   pub seated : s.seated ≤ s.number

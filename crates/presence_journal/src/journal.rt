@@ -1,5 +1,6 @@
 ghost use Rattle.std.specs.Prelude.{◌≡◌, ◌++◌, ◌∷◌, [], OnOk, OnErr};
 
+use delta_range::Generations;
 use orswot_core_told::Told;
 use presence_base::{MAX_COUNT, Replica};
 use presence_journal_data::{Chains, Entry, Outcome, Runs, Standings, Start, Step, Subscribers};
@@ -84,6 +85,7 @@ impl Journal {
                 last_cut: 0,
                 older: Runs::new(Vec::new(alloc)),
                 chains: Chains::new(Vec::new(alloc)),
+                kept: Generations::new(),
                 subscribers: Subscribers::new(Vec::new(alloc)),
                 seated: 0,
             },

@@ -1,6 +1,7 @@
 use crate::kept::{Chains, Runs, Subscribers};
 use crate::standings::Standings;
 use crate::step::Step;
+use delta_range::Generations;
 use orswot_core_told::Told;
 use presence_base::{Dot, Replica};
 use std::alloc::{AllocError, Global};
@@ -130,6 +131,8 @@ pub struct Start {
     pub older: Runs,
     /// For the count of an own live row, the counts that it stands for.
     pub chains: Chains,
+    /// The kept deltas: what the cuts so far told, joined.
+    pub kept: Generations,
     /// The subscribers that are present, each of them behind.
     pub subscribers: Subscribers,
     /// How many entries that came before were made through seats.
@@ -201,6 +204,7 @@ impl Clone for Start {
         let standings = self.standings.clone()?;
         let older = self.older.clone()?;
         let chains = self.chains.clone()?;
+        let kept = self.kept.clone()?;
         let subscribers = self.subscribers.clone()?;
         Ok(Start {
             number: self.number,
@@ -212,6 +216,7 @@ impl Clone for Start {
             last_cut: self.last_cut,
             older,
             chains,
+            kept,
             subscribers,
             seated: self.seated,
         })

@@ -7,6 +7,7 @@ mod entry;
 mod kept;
 mod limits;
 mod rows;
+mod shared;
 mod standings;
 mod step;
 
@@ -14,5 +15,6 @@ pub use entry::{Dots, Entry, Outcome, Start};
 pub use kept::{Chains, Runs, Subscribers};
 pub use limits::{MAX_PAYLOAD_DEPTH, MAX_TAKEN, Payload, TakeLimit};
 pub use rows::{Item, Place, RowDiff, Rows};
+pub use shared::{SharedDiff, SharedShout};
 pub use standings::Standings;
 pub use step::Step;
