@@ -3,5 +3,6 @@ pub mod Histories
 pub mod Keeping
 pub mod RunLemmas
 pub mod Goings
+pub mod KeptLemmas
 mod Joined
 mod PlainLemmas

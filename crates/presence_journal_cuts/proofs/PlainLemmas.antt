@@ -54,6 +54,7 @@ empty_legal = record {
   older = tt;
   older_low = refl;
   chains = tt;
+  kept = λ d next. tt;
   subscribers = refl;
   subscribers_once = refl;
   seated = omega arith;

@@ -2,3 +2,4 @@ pub mod Cuts
 pub mod Chains
 pub mod Joined
 pub mod Plain
+pub mod KeptDeltas

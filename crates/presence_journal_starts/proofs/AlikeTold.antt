@@ -1,15 +1,17 @@
 -- What is told in full and by a cut in histories that say the same.
-use Rattle.std.proofs.Common.{◌≡◌, cond, None, sym, ◌∙◌, ap, arith}
+use Rattle.std.proofs.Common.{◌≡◌, ℕ, cond, Option, Some, None, sym, ◌∙◌, ap, arith}
 use Rattle.presence_base.specs.declared.dots.Dot.{Dot}
 use Rattle.presence_base.specs.Order.{same_replica}
 use Rattle.dot_context.specs.Sets.{in_range}
 use Rattle.orswot_core_told.specs.Telling.{ToldValue}
 use Rattle.orswot_core.specs.Sets.{DotRows}
 use Rattle.delta_range.specs.Deltas.{DeltaValue}
+use Rattle.delta_range.specs.Keeping.{from_count}
 use Rattle.presence_journal.specs.History.{History}
 use Rattle.presence_journal_sets.specs.LeftOut.{HoldsCovered}
 use Rattle.presence_journal_sets.specs.Full.{IsFullOf}
 use Rattle.presence_journal_cuts.specs.Cuts.{recent, IsCut}
+use Rattle.presence_journal_cuts.specs.KeptDeltas.{TellsOrAll, IsToldFrom}
 use Rattle.presence_journal_starts.specs.Later.{IsLike, AlikeTellTheSame}
 use Rattle.presence_journal_starts.proofs.Alikes.{status_same, hears_same, top_of}
 use Rattle.presence_journal_starts.proofs.AlikeRows.{shown_same, present_same, listed_same}
@@ -22,6 +24,7 @@ turned g h a = record {
   older = λ n low. sym (a.older n low);
   chains = λ d r o e n low. sym (a.chains d r (o ∙ a.own) (sym (shown_same g h a d) ∙ e) n low);
   unused = λ c l n low. sym (a.unused c (omega (arith, l, a.count)) n low);
+  deltas = λ k. ((a.deltas k).1, (a.deltas k).0);
   time = sym a.time;
   last_cut = sym a.last_cut;
   own = sym a.own;
@@ -55,6 +58,19 @@ cut_of g h c a is = record {
   in_order = is.in_order;
 }
 
+-- ---- from a count on
+
+tells_of : (g h : History) (t : ToldValue) → IsLike g h → (o : Option DeltaValue) → TellsOrAll o h t → TellsOrAll o g t
+tells_of g h t a (Some d) p = p
+tells_of g h t a None p = full_of g h t a p
+
+pub told_from_of : (g h : History) (n : ℕ) (t : ToldValue) → IsLike g h → IsToldFrom h n t → IsToldFrom g n t
+told_from_of g h n t a f = record {
+  kept = f.kept;
+  of = (a.deltas f.kept).1 f.of;
+  tells = tells_of g h t a (from_count f.kept n) f.tells;
+}
+
 pub alike_tell_the_same : AlikeTellTheSame
 alike_tell_the_same g h a =
     let b = turned g h a in
@@ -68,4 +84,5 @@ alike_tell_the_same g h a =
       listed = listed_same g h a;
       full = λ t. (full_of g h t a, full_of h g t b);
       cut = λ c. (cut_of g h c a, cut_of h g c b);
+      told_from = λ n t. (told_from_of g h n t a, told_from_of h g n t b);
     }

@@ -1,11 +1,14 @@
 -- A checkpoint says what the history says: the counts, who is up and heard, and what is covered.
-use Rattle.std.proofs.Common.{◌≡◌, Bool, true, false, cond, not, ◌&&◌, Option, None, refl, sym, ◌∙◌}
+use Rattle.std.proofs.Common.{◌≡◌, ◌↔◌, Bool, true, false, cond, not, ◌&&◌, Option, None, refl, sym, ◌∙◌, subst}
 use Rattle.presence_base.specs.declared.dots.Replica.{Replica}
 use Rattle.presence_base.specs.declared.row.Row.{Row}
 use Rattle.presence_base.specs.Order.{same_replica}
+use Rattle.delta_range.specs.Keeping.{Kept}
 use Rattle.presence_journal.specs.Steps.{Start}
 use Rattle.presence_journal.specs.History.{History, Begin, own, standing, status, is_gone, known, live}
 use Rattle.presence_journal_sets.proofs.StatusLemmas.{own-begin}
+use Rattle.presence_journal_cuts.specs.KeptDeltas.{AreKeptOf}
+use Rattle.presence_journal_cuts.proofs.KeptLemmas.{kept-begin, begin-kept, one_kept}
 use Rattle.presence_journal_starts.specs.Checkpoints.{StandsFor}
 use Rattle.presence_journal_starts.specs.Later.{IsLike, BeginsAlike}
 use Rattle.presence_journal_starts.specs.Laws.{KeepsCounts, KeepsStatus, KeepsHearing, KeepsCoveredDots, KeepsTop, KeepsKnown}
@@ -30,6 +33,7 @@ stands_alike h s st = record {
   older = λ n low. older-begin s n ∙ st.older n low;
   chains = λ d r o e n low. chain-begin s d.count n ∙ st.chains d r o e n low;
   unused = λ c l n low. chain-begin s c n ∙ st.unused c l n low;
+  deltas = begin_deltas;
   time = time-begin s ∙ st.time;
   last_cut = last_cut-begin s ∙ st.last_cut;
   own = mine;
@@ -41,6 +45,12 @@ stands_alike h s st = record {
 
     others : (r : Replica) → same_replica r (own h) ≡ false → standing (Begin s) r ≡ standing h r
     others = λ r e. standing-begin s r ∙ st.standings r e
+
+    begin_deltas : (k : Kept) → AreKeptOf (Begin s) k ↔ AreKeptOf h k
+    begin_deltas k = (
+      λ p. subst (AreKeptOf h) (sym (begin-kept s k p)) st.deltas,
+      λ p. kept-begin s k (one_kept h k s.kept p st.deltas),
+    )
 
     up : (r : Replica) → status (Begin s) r ≡ status h r
     up = status_from (Begin s) h mine others

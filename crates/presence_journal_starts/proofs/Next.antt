@@ -1,5 +1,5 @@
 -- Behind entries that were asked and answered the same, histories that say the same still do.
-use Rattle.std.proofs.Common.{◌≡◌, ℕ, ◌+◌, ◌<◌, ◌≤◌, Bool, true, false, cond, not, ◌&&◌, ◌||◌, nat_eq, nat_le, List, [], ◌∷◌, Option, Some, None, refl, sym, ◌∙◌, ap, arith}
+use Rattle.std.proofs.Common.{◌≡◌, ◌↔◌, ℕ, ◌+◌, ◌<◌, ◌≤◌, Bool, true, false, cond, not, ◌&&◌, ◌||◌, nat_eq, nat_le, List, [], ◌∷◌, Option, Some, None, refl, sym, ◌∙◌, ap, subst, arith}
 use Rattle.std.specs.Prelude.{max}
 use Rattle.std.specs.List.{AllByRecursion}
 use Rattle.presence_base.specs.declared.dots.Replica.{Replica}
@@ -7,6 +7,8 @@ use Rattle.presence_base.specs.declared.dots.Dot.{Dot}
 use Rattle.presence_base.specs.declared.row.Row.{Row}
 use Rattle.presence_base.specs.Order.{same_replica}
 use Rattle.orswot_core_told.specs.Telling.{ToldValue, covers, live_row}
+use Rattle.delta_range.specs.Deltas.{DeltaValue}
+use Rattle.delta_range.specs.Keeping.{Kept}
 use Rattle.presence_journal_data.specs.declared.step.Step.TheVariants as steps_are
 use Rattle.presence_journal_data.specs.declared.entry.Outcome.TheVariants as outcomes_are
 use Rattle.presence_journal.specs.Steps.{Step, Outcome, Entry}
@@ -18,11 +20,14 @@ use Rattle.presence_journal.specs.Merges.{is_of_rows, row_taken_in}
 use Rattle.presence_journal.proofs.HistoryLemmas.{Kind, IsOwnShown, kind_of, legal_knows, known-then, live_by, own-then, count-then, shown-live, one_added}
 use Rattle.presence_journal.proofs.Merges.{merge_is_live, own_steps_alone}
 use Rattle.presence_journal_cuts.specs.Chains.{Counts}
-use Rattle.presence_journal_cuts.specs.Cuts.{goes, chain, chain_after, older, older_after}
+use Rattle.presence_journal_cuts.specs.Cuts.{goes, chain, chain_after, older, older_after, IsCut}
+use Rattle.presence_journal_cuts.specs.KeptDeltas.{KeepsAfter, AreKeptOf}
+use Rattle.presence_journal_cuts.proofs.KeptLemmas.{kept-then, then-kept}
 use Rattle.presence_journal_starts.specs.Checkpoints.{kept}
 use Rattle.presence_journal_starts.specs.Later.{IsLike}
 use Rattle.presence_journal_starts.proofs.Alikes.{status_from, hears_same, known_same, and_false}
 use Rattle.presence_journal_starts.proofs.AlikeRows.{live_same}
+use Rattle.presence_journal_starts.proofs.AlikeTold.{turned, cut_of}
 use Rattle.presence_journal_starts.proofs.Thens.{standing-then, time-then, cut-then, chain-then, older-then, there_before, taken_shown}
 
 -- ---- a merge
@@ -38,6 +43,20 @@ merge_of _ f = absurd (cc)
 no_rows_of : (s : Step) → tells s ≡ true → is_of_rows s ≡ false
 no_rows_of (steps_are.Merge t) f = refl
 no_rows_of _ f = absurd (cc)
+
+-- ---- kept deltas
+
+-- what an entry keeps by what one history kept and cuts, it keeps by another that keeps and cuts the same
+carried : (g h : History) (o : Outcome) (k : Kept) → ((j : Kept) → AreKeptOf g j → AreKeptOf h j) → ((c : DeltaValue) → IsCut g c → IsCut h c) → KeepsAfter o (AreKeptOf g) g k → KeepsAfter o (AreKeptOf h) h k
+carried g h (outcomes_are.CutAt from to) k keeps cuts p = record {
+  before = p.before;
+  was = keeps p.before p.was;
+  delta = p.delta;
+  cut = cuts p.delta p.cut;
+  sound = p.sound;
+  is = p.is;
+}
+carried g h _ k keeps cuts p = keeps k p
 
 -- ---- chains
 
@@ -182,6 +201,12 @@ module _ (g h : History) (e f : Entry) (a : IsLike g h) (lg : IsLegal (Then g e)
   unused_next : (c : ℕ) → count (Then h f) < c → Counts (chain (Then g e) c) (chain (Then h f) c)
   unused_next c l n low = chain_next c n low (a.unused c (omega (arith, l, count-then h f)) n low)
 
+  deltas_next : (k : Kept) → AreKeptOf (Then g e) k ↔ AreKeptOf (Then h f) k
+  deltas_next k = (
+    λ of. kept-then h f k (subst (λ (o : Outcome). KeepsAfter o (AreKeptOf h) h k) q (carried g h e.outcome k (λ j. (a.deltas j).0) (λ c. cut_of h g c (turned g h a)) (then-kept g e k of))),
+    λ of. kept-then g e k (subst (λ (o : Outcome). KeepsAfter o (AreKeptOf g) g k) (sym q) (carried h g f.outcome k (λ j. (a.deltas j).1) (λ c. cut_of g h c a) (then-kept h f k of))),
+  )
+
   pub alike_next : IsLike (Then g e) (Then h f)
   alike_next = record {
     standings = standing_next;
@@ -190,6 +215,7 @@ module _ (g h : History) (e f : Entry) (a : IsLike g h) (lg : IsLegal (Then g e)
     older = older_next;
     chains = chains_next;
     unused = unused_next;
+    deltas = deltas_next;
     time = time-then g e ∙ ((λ i. max (a.time i) (time_of (p i))) ∙ sym (time-then h f));
     last_cut = cut-then g e ∙ ((λ i. cut_after (q i) (a.last_cut i)) ∙ sym (cut-then h f));
     own = own_next;

@@ -17,6 +17,8 @@ use Rattle.presence_journal.proofs.HistoryLemmas.{is_quiet, quiet_row, quiet_tak
 use Rattle.presence_journal.proofs.ToldLemmas.{none_told_covers}
 use Rattle.presence_journal.proofs.Walking.{quiet_uses_none}
 use Rattle.presence_journal_cuts.specs.Cuts.{chain, chain_after, older, older_after}
+use Rattle.presence_journal_cuts.specs.KeptDeltas.{is_cut}
+use Rattle.presence_journal_cuts.proofs.KeptLemmas.{kept_other, other_kept}
 use Rattle.presence_journal_starts.specs.Later.{IsLike, is_of_subscribers}
 use Rattle.presence_journal_starts.proofs.Thens.{standing-then, time-then, cut-then, chain-then, older-then}
 
@@ -75,6 +77,12 @@ quiet (outcomes_are.Taken state items) f = refl
 quiet outcomes_are.Ended f = refl
 quiet _ f = absurd (cc)
 
+uncut : (o : Outcome) → is_silent o ≡ true → is_cut o ≡ false
+uncut (outcomes_are.Subscribed n) f = refl
+uncut (outcomes_are.Taken state items) f = refl
+uncut outcomes_are.Ended f = refl
+uncut _ f = absurd (cc)
+
 same_cut : (o : Outcome) (n : ℕ) → is_silent o ≡ true → cut_after o n ≡ n
 same_cut (outcomes_are.Subscribed k) n f = refl
 same_cut (outcomes_are.Taken state items) n f = refl
@@ -131,6 +139,7 @@ module _ (h : History) (e : Entry) (l : IsLegal (Then h e)) (of : is_of_subscrib
     older = λ n low. older-then h e n ∙ same_older e.outcome (last_cut h) (chain h) (older h) n silent_here;
     chains = λ d r o s n low. chain-then h e d.count n ∙ same_chain e.outcome (chain h) d.count n silent_here;
     unused = λ c m n low. chain-then h e c n ∙ same_chain e.outcome (chain h) c n silent_here;
+    deltas = λ k. (other_kept h e k (uncut e.outcome silent_here), kept_other h e k (uncut e.outcome silent_here));
     time = time_here;
     last_cut = cut-then h e ∙ same_cut e.outcome (last_cut h) silent_here;
     own = own-then h e;

@@ -8,14 +8,17 @@ use Rattle.presence_base.specs.declared.dots.Dot.{Dot}
 use Rattle.presence_base.specs.Names.{is_node_name}
 use Rattle.presence_base.specs.Refs.{IsCount}
 use Rattle.orswot_core_told.specs.Telling.{covers}
+use Rattle.delta_range.specs.Deltas.{DeltaValue, GoesOn}
+use Rattle.delta_range.specs.Keeping.{IsNext}
 use Rattle.presence_journal.specs.declared.journal.TheConstants.{MAX_ENTRIES}
 use Rattle.presence_journal.specs.Steps.{Start}
-use Rattle.presence_journal.specs.History.{History, Begin, entry_count, last_number, own, count, is_counted, status, is_gone, known, covered}
+use Rattle.presence_journal.specs.History.{History, Begin, entry_count, last_number, own, count, last_cut, is_counted, status, is_gone, known, covered}
 use Rattle.presence_journal.specs.Table.{IsLegal}
 use Rattle.presence_journal.proofs.HistoryLemmas.{own-start_of, counted_parts, counted_from, known_from, known_parts, status-own}
 use Rattle.presence_journal.proofs.Walking.{count-limit}
 use Rattle.presence_journal_cuts.proofs.Histories.{last_cut-low}
 use Rattle.presence_journal_cuts.proofs.Keeping.{start_legal}
+use Rattle.presence_journal_cuts.proofs.KeptLemmas.{goes_on_from}
 use Rattle.presence_journal_starts.specs.Checkpoints.{IsCheckpoint}
 use Rattle.presence_journal_starts.specs.Laws.{IsSound, BeginsLegal, BeginsKept, BeginsWithRoom}
 use Rattle.presence_journal_starts.proofs.Beginnings.{number-begin, one_truth}
@@ -51,6 +54,12 @@ own_dots h s d c o =
     ∙ (covered_own h d c.legal (o ∙ st.own)
     ∙ (λ i. is_counted (sym st.own i) (sym st.count i) d))
 
+-- what is cut next goes on from the kept deltas
+next_goes_on : (h : History) (s : Start) → IsCheckpoint h s → (d : DeltaValue) → GoesOn s.own s.last_cut d → IsNext s.kept.last d
+next_goes_on h s c d next =
+    let st = c.stands in
+    goes_on_from h s.kept c.legal st.deltas d (record { owned = next.owned ∙ st.own; begins = next.begins ∙ st.last_cut })
+
 pub is_sound : IsSound
 is_sound h s c =
     let st = c.stands in
@@ -67,6 +76,7 @@ is_sound h s c =
       older = st.low.0;
       older_low = ap (λ (n : ℕ). list_all (λ r. nat_le r.1 n) s.older) st.last_cut ∙ st.low.1;
       chains = st.long;
+      kept = λ d next. next_goes_on h s c d next;
       subscribers = st.subscribers;
       subscribers_once = st.once;
       seated = st.seated;

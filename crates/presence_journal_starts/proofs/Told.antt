@@ -3,8 +3,9 @@ use Rattle.std.proofs.Common.{◌∙◌}
 use Rattle.orswot_core.proofs.FullFacts.{covers_all, rows_all}
 use Rattle.presence_journal.specs.History.{Begin}
 use Rattle.presence_journal.proofs.Topics.{topic_of-begin, queue-begin}
-use Rattle.presence_journal_starts.specs.Laws.{KeepsSet, KeepsFull, FullStands, KeepsCut, KeepsOlder, KeepsRecent, KeepsShownChains, KeepsUnusedChains, KeepsTopics, SubscribersAreBehind}
-use Rattle.presence_journal_starts.proofs.AlikeTold.{turned, set_of, full_of, cut_of, recent_same}
+use Rattle.presence_journal_starts.specs.Laws.{KeepsSet, KeepsFull, FullStands, KeepsCut, KeepsOlder, KeepsRecent, KeepsShownChains, KeepsUnusedChains, OneKept, OthersKeep, KeepsKeptDeltas, KeepsToldFrom, KeepsTopics, SubscribersAreBehind}
+use Rattle.presence_journal_cuts.proofs.KeptLemmas.{kept_other, other_kept, one_kept}
+use Rattle.presence_journal_starts.proofs.AlikeTold.{turned, set_of, full_of, cut_of, recent_same, told_from_of}
 use Rattle.presence_journal_starts.proofs.Covered.{begins_alike}
 
 -- ---- in full
@@ -49,6 +50,24 @@ keeps_shown_chains h s c = (begins_alike h s c).chains
 
 pub keeps_unused_chains : KeepsUnusedChains
 keeps_unused_chains h s c = (begins_alike h s c).unused
+
+-- ---- kept deltas
+
+pub one_kept_each : OneKept
+one_kept_each = one_kept
+
+pub others_keep : OthersKeep
+others_keep h e uncut k = (kept_other h e k uncut, other_kept h e k uncut)
+
+pub keeps_kept_deltas : KeepsKeptDeltas
+keeps_kept_deltas h s c k = let a = begins_alike h s c in ((a.deltas k).1, (a.deltas k).0)
+
+pub keeps_told_from : KeepsToldFrom
+keeps_told_from h s c n t =
+    let a = begins_alike h s c in (
+      told_from_of (Begin s) h n t a,
+      told_from_of h (Begin s) n t (turned (Begin s) h a),
+    )
 
 -- ---- subscribers
 

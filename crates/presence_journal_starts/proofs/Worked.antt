@@ -18,7 +18,7 @@ use Rattle.replica_status.specs.Boards.{standing_in}
 use Rattle.presence_journal_data.specs.declared.step.Step.TheVariants as steps_are
 use Rattle.presence_journal_data.specs.declared.entry.Outcome.TheVariants as outcomes_are
 use Rattle.presence_journal.specs.Steps.{Step, Outcome, Entry}
-use Rattle.presence_journal.specs.History.{History, Then, own, count, last_number, entry_count, time, standing, status, is_up, is_gone, hears, last_cut, is_counted, told_covers, known, covered, first_some, row_added, told_row, removed, row, live, shown}
+use Rattle.presence_journal.specs.History.{History, Then, nothing_kept, own, count, last_number, entry_count, time, standing, status, is_up, is_gone, hears, last_cut, is_counted, told_covers, known, covered, first_some, row_added, told_row, removed, row, live, shown}
 use Rattle.presence_journal.specs.Present.{dots}
 use Rattle.presence_journal.specs.Queue.{topic_at, topic_of}
 use Rattle.presence_journal.specs.Table.{IsLegal, is_step, outcome_of, after}
@@ -29,6 +29,7 @@ use Rattle.presence_journal.proofs.FoldOthers.{stays_legal}
 use Rattle.presence_journal.proofs.WorkedTables.{ran_is}
 use Rattle.presence_journal_cuts.specs.Chains.{Counts}
 use Rattle.presence_journal_cuts.specs.Cuts.{chain_in, goes, chain, older}
+use Rattle.presence_journal_cuts.specs.KeptDeltas.{AreKeptOf}
 use Rattle.presence_journal_starts.specs.Checkpoints.{kept, StandsFor, IsCheckpoint}
 use Rattle.presence_journal_starts.specs.Worked.{node_a, node_b, plain, dot_of_b, told_by_b, track_one, update_one, worked_steps, worked_run, worked_start, StartStands}
 use Rattle.presence_journal_starts.proofs.Alikes.{and_false}
@@ -56,6 +57,7 @@ empty_legal = record {
   older = tt;
   older_low = refl;
   chains = tt;
+  kept = λ d next. tt;
   subscribers = refl;
   subscribers_once = refl;
   seated = omega arith;
@@ -247,6 +249,10 @@ topic_whole : (n : ℕ) → topic_at worked_start.subscribers n ≡ topic_of who
 unfolding topic_of
 topic_whole n = ap (λ b. cond b (Some room) None) (turn n)
 
+deltas_whole : AreKeptOf whole nothing_kept
+unfolding AreKeptOf
+deltas_whole = refl
+
 time_whole : worked_start.time ≡ time whole
 unfolding time
 time_whole = refl
@@ -271,6 +277,7 @@ stands_whole = record {
       subst (λ (k : ℕ). chain_in worked_start.chains k n ≡ chain whole k n) (sym c) (chain_two n);
   unused = λ c l n low. chain_unused c n (other_count c (omega (arith, l, count_whole)));
   long = ((omega arith, tt), tt);
+  deltas = deltas_whole;
   topics = topic_whole;
   subscribers = refl;
   once = refl;

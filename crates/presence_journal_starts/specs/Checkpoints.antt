@@ -16,6 +16,7 @@ use Rattle.presence_journal.specs.Queue.{topic_at, topic_of}
 use Rattle.presence_journal.specs.Table.{IsLegal, is_subscriber}
 use Rattle.presence_journal_cuts.specs.Chains.{AreUpTo, Counts}
 use Rattle.presence_journal_cuts.specs.Cuts.{chain_in, chain, older}
+use Rattle.presence_journal_cuts.specs.KeptDeltas.{AreKeptOf}
 
 -- the live row of a dot, where its replica is not gone
 abbrev pub kept : History → Dot → Option Row
@@ -44,6 +45,7 @@ pub record StandsFor (h : History) (s : Start) : Type 0 where
   pub chains : ListsChains h s.chains
   pub unused : ListsUnused h s.chains
   pub long : AllByRecursion (λ x. AreLong x.1) s.chains
+  pub deltas : AreKeptOf h s.kept
   pub topics : (n : ℕ) → topic_at s.subscribers n ≡ topic_of h n
   pub subscribers : list_all (is_subscriber s.number) s.subscribers ≡ true
   pub once : has_repeat nat_eq (map (λ x. x.0) s.subscribers) ≡ false

@@ -7,6 +7,7 @@ use Rattle.presence_base.specs.declared.row.Row.{Row}
 use Rattle.presence_base.specs.Order.{same_replica}
 use Rattle.orswot_core_told.specs.Telling.{ToldValue}
 use Rattle.delta_range.specs.Deltas.{DeltaValue}
+use Rattle.delta_range.specs.Keeping.{Kept}
 use Rattle.presence_journal_data.specs.declared.step.Step.TheVariants as steps_are
 use Rattle.presence_journal.specs.Steps.{Step, Outcome, Entry, Start}
 use Rattle.presence_journal.specs.History.{History, Begin, onto, own, count, time, standing, status, hears, last_cut, is_full, covered, IsTop, shown}
@@ -15,6 +16,7 @@ use Rattle.presence_journal.specs.Table.{IsLegal, is_step, outcome_of, after}
 use Rattle.presence_journal_sets.specs.Full.{IsFullOf}
 use Rattle.presence_journal_cuts.specs.Chains.{Counts}
 use Rattle.presence_journal_cuts.specs.Cuts.{chain, older, IsCut}
+use Rattle.presence_journal_cuts.specs.KeptDeltas.{AreKeptOf, IsToldFrom}
 use Rattle.presence_journal_starts.specs.Checkpoints.{kept, IsCheckpoint}
 
 -- They say the same of all that the answers to later steps depend on, but for numbers and subscribers.
@@ -25,6 +27,7 @@ pub record IsLike (g h : History) : Type 0 where
   pub older : Counts (older g) (older h)
   pub chains : (d : Dot) (r : Row) → d.replica ≡ own h → shown h d ≡ Some r → Counts (chain g d.count) (chain h d.count)
   pub unused : (c : ℕ) → count h < c → Counts (chain g c) (chain h c)
+  pub deltas : (k : Kept) → AreKeptOf g k ↔ AreKeptOf h k
   pub time : time g ≡ time h
   pub last_cut : last_cut g ≡ last_cut h
   pub own : own g ≡ own h
@@ -41,6 +44,7 @@ pub record TellTheSame (g h : History) : Type 0 where
   pub listed : (t : List ℕ) → listed g t ≡ listed h t
   pub full : (t : ToldValue) → IsFullOf h t ↔ IsFullOf g t
   pub cut : (c : DeltaValue) → IsCut h c ↔ IsCut g c
+  pub told_from : (n : ℕ) (t : ToldValue) → IsToldFrom h n t ↔ IsToldFrom g n t
 
 abbrev pub AlikeTellTheSame : Type 0
 AlikeTellTheSame = (g h : History) → IsLike g h → TellTheSame g h

@@ -6,8 +6,9 @@ use Rattle.presence_base.specs.declared.row.Row.{Row}
 use Rattle.orswot_core_told.specs.Telling.{ToldValue, covers, live_row}
 use Rattle.orswot_core.specs.Sets.{DotRows}
 use Rattle.delta_range.specs.Deltas.{DeltaValue}
-use Rattle.presence_journal.specs.Steps.{Start}
-use Rattle.presence_journal.specs.History.{History, Begin, own, count, last_number, time, last_cut, is_full, next_dot, status, is_gone, hears, known, covered, IsTop, removed, live, shown}
+use Rattle.delta_range.specs.Keeping.{Kept}
+use Rattle.presence_journal.specs.Steps.{Start, Entry}
+use Rattle.presence_journal.specs.History.{History, Begin, Then, own, count, last_number, time, last_cut, is_full, next_dot, status, is_gone, hears, known, covered, IsTop, removed, live, shown}
 use Rattle.presence_journal.specs.Present.{present, listed}
 use Rattle.presence_journal.specs.Queue.{Behind, topic_of, queue}
 use Rattle.presence_journal.specs.Table.{IsStart, IsLegal, IsKept}
@@ -15,6 +16,7 @@ use Rattle.presence_journal_sets.specs.Full.{IsFullOf}
 use Rattle.presence_journal_sets.specs.LeftOut.{HoldsCovered}
 use Rattle.presence_journal_cuts.specs.Chains.{Counts}
 use Rattle.presence_journal_cuts.specs.Cuts.{chain, older, recent, IsCut}
+use Rattle.presence_journal_cuts.specs.KeptDeltas.{is_cut, AreKeptOf, IsToldFrom}
 use Rattle.presence_journal_starts.specs.Checkpoints.{kept, IsCheckpoint}
 
 -- a checkpoint is a sound Start: a legal history can begin with it, and a journal can
@@ -108,6 +110,21 @@ KeepsShownChains = (h : History) (s : Start) → IsCheckpoint h s → (d : Dot) 
 
 abbrev pub KeepsUnusedChains : Type 0
 KeepsUnusedChains = (h : History) (s : Start) → IsCheckpoint h s → (c : ℕ) → count h < c → Counts (chain (Begin s) c) (chain h c)
+
+-- a history has its kept deltas once
+abbrev pub OneKept : Type 0
+OneKept = (h : History) (j k : Kept) → AreKeptOf h j → AreKeptOf h k → j ≡ k
+
+-- an entry that is no cut leaves them
+abbrev pub OthersKeep : Type 0
+OthersKeep = (h : History) (e : Entry) → is_cut e.outcome ≡ false → (k : Kept) → AreKeptOf h k ↔ AreKeptOf (Then h e) k
+
+-- and so does a checkpoint, with what is told from a count on
+abbrev pub KeepsKeptDeltas : Type 0
+KeepsKeptDeltas = (h : History) (s : Start) → IsCheckpoint h s → (k : Kept) → AreKeptOf h k ↔ AreKeptOf (Begin s) k
+
+abbrev pub KeepsToldFrom : Type 0
+KeepsToldFrom = (h : History) (s : Start) → IsCheckpoint h s → (n : ℕ) (t : ToldValue) → IsToldFrom h n t ↔ IsToldFrom (Begin s) n t
 
 -- who subscribes to what
 abbrev pub KeepsTopics : Type 0

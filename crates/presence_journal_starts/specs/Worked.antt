@@ -7,7 +7,7 @@ use Rattle.orswot_core_told.specs.Telling.{ToldValue}
 use Rattle.replica_status.specs.declared.standing.Standing.TheVariants.{Gone}
 use Rattle.presence_journal_data.specs.declared.step.Step.TheVariants as steps_are
 use Rattle.presence_journal.specs.Steps.{Step, Start}
-use Rattle.presence_journal.specs.History.{History}
+use Rattle.presence_journal.specs.History.{History, nothing_kept}
 use Rattle.presence_journal.specs.Laws.{ran, empty, dot, room, user, row_of, subscribe}
 use Rattle.presence_journal_starts.specs.Checkpoints.{IsCheckpoint}
 
@@ -52,6 +52,7 @@ worked_start = record {
   last_cut = 0;
   older = [];
   chains = (2, (0, 1) ∷ []) ∷ [];
+  kept = nothing_kept;
   subscribers = (1, room) ∷ [];
   seated = 0;
 }

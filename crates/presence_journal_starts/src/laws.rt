@@ -5,6 +5,7 @@ ghost use Rattle.presence_journal_starts.specs.Laws.{KeepsStatus, KeepsHearing, 
 ghost use Rattle.presence_journal_starts.specs.Laws.{KeepsShown, KeepsLive, KeepsRemoved, LiveIsKept};
 ghost use Rattle.presence_journal_starts.specs.Laws.{KeepsPresent, KeepsListed, KeepsSet, KeepsFull, FullStands};
 ghost use Rattle.presence_journal_starts.specs.Laws.{KeepsCut, KeepsOlder, KeepsRecent, KeepsShownChains, KeepsUnusedChains};
+ghost use Rattle.presence_journal_starts.specs.Laws.{OneKept, OthersKeep, KeepsKeptDeltas, KeepsToldFrom};
 ghost use Rattle.presence_journal_starts.specs.Laws.{KeepsTopics, SubscribersAreBehind};
 ghost use Rattle.presence_journal_starts.specs.Later.{BeginsAlike, AlikeTellTheSame, SameOutcomes, StepsLeaveAlike};
 ghost use Rattle.presence_journal_starts.specs.Later.{StaysAlike, GoOnTellingTheSame};
@@ -60,6 +61,15 @@ pub fn cuts_stay()
     ensures recent { KeepsRecent }
     ensures chains { KeepsShownChains }
     ensures unused { KeepsUnusedChains }
+{}
+
+/// A history has its kept deltas once. Every entry but a cut leaves them, and so does a checkpoint: what is told from
+/// a count on is what would have been told.
+pub fn kept_deltas_stay()
+    ensures once { OneKept }
+    ensures others { OthersKeep }
+    ensures kept { KeepsKeptDeltas }
+    ensures told { KeepsToldFrom }
 {}
 
 /// Each subscriber keeps its topic, and is owed the whole state.

@@ -1,0 +1,44 @@
+-- The kept deltas: what the cuts of a history told, joined in three generations, and what is told of them from a count on.
+use Rattle.std.specs.Prelude.{◌≡◌, ℕ, Bool, true, false, Option, Some, None}
+use Rattle.orswot_core_told.specs.Telling.{ToldValue}
+use Rattle.delta_range.specs.Deltas.{DeltaValue, telling, IsDelta}
+use Rattle.delta_range.specs.Keeping.{Kept, pushed, from_count}
+use Rattle.presence_journal_data.specs.declared.entry.Outcome.TheVariants as outcomes_are
+use Rattle.presence_journal.specs.Steps.{Outcome}
+use Rattle.presence_journal.specs.History.{History, Begin, Then}
+use Rattle.presence_journal_sets.specs.Full.{IsFullOf}
+use Rattle.presence_journal_cuts.specs.Cuts.{IsCut}
+
+abbrev pub is_cut : Outcome → Bool
+is_cut (outcomes_are.CutAt from to) = true
+is_cut _ = false
+
+-- what a cut of h tells comes to what was kept before it
+pub record IsPushed (Before : Kept → Type 0) (h : History) (k : Kept) : Type 0 where
+  pub before : Kept
+  pub was : Before before
+  pub delta : DeltaValue
+  pub cut : IsCut h delta
+  pub sound : IsDelta delta
+  pub is : k ≡ pushed before delta
+
+-- nothing but a cut changes what is kept
+abbrev pub KeepsAfter : Outcome → (Kept → Type 0) → History → Kept → Type 0
+KeepsAfter (outcomes_are.CutAt from to) Before h k = IsPushed Before h k
+KeepsAfter o Before h k = Before k
+
+-- what the Start holds, with each cut since
+unfoldable pub AreKeptOf : History → Kept → Type 0
+AreKeptOf (Begin s) k = k ≡ s.kept
+AreKeptOf (Then h e) k = KeepsAfter e.outcome (AreKeptOf h) h k
+
+-- the delta as it is told, or all that is known where there is none
+abbrev pub TellsOrAll : Option DeltaValue → History → ToldValue → Type 0
+TellsOrAll (Some d) h t = t ≡ telling d
+TellsOrAll None h t = IsFullOf h t
+
+-- from a count on: the kept delta of the smallest cap that begins at or below it, else the full value
+pub record IsToldFrom (h : History) (n : ℕ) (t : ToldValue) : Type 0 where
+  pub kept : Kept
+  pub of : AreKeptOf h kept
+  pub tells : TellsOrAll (from_count kept n) h t
