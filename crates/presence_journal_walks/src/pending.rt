@@ -12,7 +12,9 @@ use crate::diff::diff_rows;
 use crate::entries::diff_entry;
 use crate::lists::rows_of_entries;
 use presence_base::{Dot, Row, Topic};
-use presence_journal::{Entry, Item, Journal, MAX_WAITING, RowDiff, Start, Step};
+use presence_journal::{
+    Entry, Item, Journal, MAX_WAITING, RowDiff, SharedDiff, SharedShout, Start, Step,
+};
 use presence_journal_waits::{is_callers, listed_topic, topic_after_entry};
 use std::alloc::{AllocError, Global};
 use std::collections::BTreeMap;
@@ -71,13 +73,19 @@ fn diff_items(alloc: Global, diff: RowDiff) -> Result<Vec<Item>, AllocError>
 {
     let mut items = Vec::new(alloc);
     if !diff.joins.as_slice().is_empty() || !diff.leaves.as_slice().is_empty() {
+        let diff = SharedDiff::new(alloc, diff)?;
         items.push(Item::Diff(diff))?;
     }
     Ok(items)
 }
 
 // Puts the item of a shout on the topic.
-fn push_shout(items: &mut Vec<Item>, step: &Step, topic: &Topic) -> Result<(), AllocError>
+fn push_shout(
+    alloc: Global,
+    items: &mut Vec<Item>,
+    step: &Step,
+    topic: &Topic,
+) -> Result<(), AllocError>
     ensures { OnOk result (items.new.items ≡ items.old.items ++ shout_item step.now topic.now) }
 {
     if let Step::Shout {
@@ -86,8 +94,8 @@ fn push_shout(items: &mut Vec<Item>, step: &Step, topic: &Topic) -> Result<(), A
     } = step
     {
         if shouted_on.cmp(topic).is_eq() {
-            let payload = payload.clone()?;
-            items.push(Item::Shout(payload))?;
+            let shout = SharedShout::new(alloc, payload.clone()?)?;
+            items.push(Item::Shout(shout))?;
         }
     }
     Ok(())
@@ -103,7 +111,7 @@ fn items_of(
     ensures { IfOk result (λ v. v.items ≡ diff_item diff ++ shout_item step.now topic.now) }
 {
     let mut items = diff_items(alloc, diff)?;
-    push_shout(&mut items, step, topic)?;
+    push_shout(alloc, &mut items, step, topic)?;
     Ok(items)
 }
 
