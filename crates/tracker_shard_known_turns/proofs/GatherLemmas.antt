@@ -14,9 +14,10 @@ use Rattle.presence_base.specs.declared.dots.Replica.{Replica}
 use Rattle.presence_base.specs.declared.dots.Dot.{Dot}
 use Rattle.presence_base.specs.declared.row.Row.{Row}
 use Rattle.presence_base.specs.Order.{dot_cmp, same_dot, same_replica}
+use Rattle.orswot_core_told.specs.Telling.{Range, range_has}
 use Rattle.orswot_core_told.specs.Checks.{has_repeat, dots_of}
 use Rattle.orswot_core_told.proofs.OrderFacts.{dots_equal, flipped}
-use Rattle.orswot_core.specs.Sets.{Rows, LiveRows, first_row, rows_by}
+use Rattle.orswot_core.specs.Sets.{Rows, LiveRows, first_row, rows_by, rows_within}
 use Rattle.orswot_core.proofs.RowFacts.{find_is}
 use Rattle.presence_journal_data.specs.declared.entry.Outcome.TheVariants as outcomes_are
 use Rattle.presence_journal.specs.Steps.{Step, Outcome}
@@ -125,25 +126,24 @@ replica_keys source r m es is q = ap (λ o. first_row o (get dot_cmp m q)) (go (
     go None e = cond_none (keyed_by es q) ∙ sym (cond_none (same_replica q.replica r))
     go (Some x) e = ap (λ b. cond b (Some x) None) (keyed ∙ (ap (λ o. is_some (cond (same_replica q.replica r) o None)) e ∙ some_of (same_replica q.replica r) x))
 
--- of a range of a replica, without some dots
+-- of a range, without some dots
 
-pub range_keys : (source : LiveRows) (r : Replica) (out : Dot → Bool) (m : Rows) (es : List (Dot × Row)) → es ≡ rows_by source r → ((q : Dot) → out q ≡ true → same_replica q.replica r ≡ true) → Still source (λ q. keyed_by es q && out q) m out m
-range_keys source r out m es is within q = go (out q) refl
+-- the live rows in a range, by dot
+found_within : (m : LiveRows) (g : Range) (d : Dot) → lookup (same_dot d) (rows_within m g) ≡ cond (range_has d g) (map.get m d) None
+found_within m g d =
+    lookup-filter-keys (same_dot d) (λ k. range_has k g) (range_has d g) (λ k same. ap (λ (x : Dot). range_has x g) (sym (dots_equal d k same))) (map.entries m)
+    ∙ ap (λ o. cond (range_has d g) o None) (row_at_entries m d)
+
+-- a dot is among those of the rows in a range where it lies there and has a row
+pub range_keys : (source : LiveRows) (g : Range) (stays : Dot → Bool) (m : Rows) (es : List (Dot × Row)) → es ≡ rows_within source g
+    → Still source (λ q. keyed_by es q && stays q) m (λ q. range_has q g && stays q) m
+range_keys source g stays m es is q = ap (λ o. first_row o (get dot_cmp m q)) (same_where (keyed_by es q) (range_has q g) (stays q) (map.get source q)
+    (sym (is_some-lookup (same_dot q) es) ∙ (ap (λ l. is_some (lookup (same_dot q) l)) is ∙ ap is_some (found_within source g q))))
   where
-    and_true : (b : Bool) → (b && true) ≡ b
-    and_true true = refl
-    and_true false = refl
-
-    never : (b : Bool) → (b && false) ≡ false
-    never true = refl
-    never false = refl
-
-    go : (b : Bool) → out q ≡ b → first_row (cond (keyed_by es q && b) (map.get source q) None) (get dot_cmp m q) ≡ first_row (cond b (map.get source q) None) (get dot_cmp m q)
-    go true f =
-        ap (λ b. first_row (cond b (map.get source q) None) (get dot_cmp m q)) (and_true (keyed_by es q))
-        ∙ (replica_keys source r m es is q
-        ∙ ap (λ b. first_row (cond b (map.get source q) None) (get dot_cmp m q)) (within q f))
-    go false f = ap (λ b. first_row (cond b (map.get source q) None) (get dot_cmp m q)) (never (keyed_by es q))
+    same_where : (a b n : Bool) (o : Option Row) → a ≡ is_some (cond b o None) → cond (a && n) o None ≡ cond (b && n) o None
+    same_where a b n None e = cond_none (a && n) ∙ sym (cond_none (b && n))
+    same_where a true n (Some x) e = ap (λ c. cond (c && n) (Some x) None) e
+    same_where a false n (Some x) e = ap (λ c. cond (c && n) (Some x) None) e
 
 pub range_split : (out : Dot → Bool) (es rest : List (Dot × Row)) (d : Dot) (r : Row) → es ≡ (d, r) ∷ rest → (q : Dot) → (keyed_by es q && out q) ≡ ((same_dot q d && out q) || (keyed_by rest q && out q))
 range_split out es rest d r split q = ap (λ b. b && out q) (keys_split es rest d r split q) ∙ go (same_dot q d) (keyed_by rest q) (out q)

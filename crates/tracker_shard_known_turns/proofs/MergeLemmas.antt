@@ -46,9 +46,6 @@ dots_at_end xs i q b done = sym (go b) ∙ ap (λ l. b || list_any (same_dot q) 
 in_range-replica : (g : Range) (q : Dot) → range_has q g ≡ true → same_replica q.replica g.0 ≡ true
 in_range-replica g q has = (and_parts (same_replica q.replica g.0) _ has).0
 
-pub out_within : (told : BTreeSet Dot) (g : Range) (q : Dot) → out_of told g q ≡ true → same_replica q.replica g.0 ≡ true
-out_within told g q out = in_range-replica g q (and_parts (range_has q g) (not (contains dot_cmp told q)) out).0
-
 never : (b : Bool) → (b && false) ≡ false
 never true = refl
 never false = refl

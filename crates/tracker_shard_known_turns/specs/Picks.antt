@@ -66,10 +66,11 @@ is_out o t d = shows_told o d.replica && (covers t d && not (is_some (live_row t
 abbrev pub out_of : BTreeSet Dot → Range → Dot → Bool
 out_of told g q = range_has q g && not (contains dot_cmp told q)
 
--- the same of one dot, and where the rows of its replica are shown
-abbrev pub one_out_of : BTreeSet Dot → Range → Dot → Dot → Bool
-one_out_of told g d q = same_dot q d && out_of told g q
+-- the dot is this one, and is not told live
+abbrev pub one_untold : BTreeSet Dot → Dot → Dot → Bool
+one_untold told d q = same_dot q d && not (contains dot_cmp told q)
 
+-- the dot lies in the range, and is not told live, and its row was shown
 abbrev pub shown_out_of : Others → BTreeSet Dot → Range → Dot → Bool
 shown_out_of o told g q = shows_told o q.replica && out_of told g q
 

@@ -1,14 +1,14 @@
-// The turn of a merge: it looks at what is told, and at the live rows of the replicas whose ranges are told.
-ghost use Rattle.std.specs.Prelude.{◌≡◌, ◌&&◌, ◌++◌, ◌∷◌, [], not, is_some, IfOk, OnOk};
-ghost use Rattle.std.specs.List.{filter};
+// The turn of a merge: it looks at what is told, and at the live rows in the ranges that are told.
+ghost use Rattle.std.specs.Prelude.{◌≡◌, ◌&&◌, ◌++◌, ◌∷◌, [], true, not, is_some, IfOk, OnOk};
+ghost use Rattle.std.specs.List.{filter, list_all};
 ghost use Rattle.std.specs.Map.{lookup};
 ghost use Rattle.std.specs.BTreeSet.{contains as contains_dot};
 ghost use Rattle.std.specs.FinSet as dots_in;
 ghost use Rattle.presence_base.specs.declared.dots.Dot.{Dot as DotValue};
 ghost use Rattle.presence_base.specs.Order.{dot_cmp, same_dot};
-ghost use Rattle.orswot_core_told.specs.Telling.{range_has};
+ghost use Rattle.orswot_core_told.specs.Checks.{is_forward};
 ghost use Rattle.tracker_shard_known_turns.specs.Picks.{Gathers, IsPick, shows_told, is_new, row_told, is_out, out_of};
-ghost use Rattle.tracker_shard_known_turns.specs.Picks.{one_out_of, shown_out_of, one_extra_out, out_ranges, out_extras};
+ghost use Rattle.tracker_shard_known_turns.specs.Picks.{one_untold, shown_out_of, one_extra_out, out_ranges, out_extras};
 ghost use Rattle.tracker_shard_turns.specs.Turns.{IsListOf};
 
 use crate::gather::{gather_dot, listed};
@@ -70,42 +70,33 @@ fn live_dots(alloc: Global, live: &[(Dot, Row)]) -> Result<BTreeSet<Dot>, AllocE
     Ok(dots)
 }
 
-// Whether the dot lies in the range and is not told live.
-fn is_out_of(told: &BTreeSet<Dot>, range: &(Replica, u64, u64), dot: &Dot) -> bool
-    ensures { result ≡ (range_has dot.now range.now && not (contains_dot dot_cmp told.now dot.now)) }
-{
-    is_same(&dot.replica, &range.0)
-        && (range.1 < dot.count && dot.count <= range.2)
-        && !told.contains(dot)
-}
-
-// Gathers the row of a dot, where that lies in the range and is not told live.
-fn gather_out_of(
+// Gathers the row of a dot that is not told live.
+fn gather_untold(
     rows: &mut BTreeMap<Dot, Row>,
     set: &Orswot,
     told: &BTreeSet<Dot>,
-    range: &(Replica, u64, u64),
     dot: &Dot,
 ) -> Result<(), AllocError>
-    ensures { OnOk result (Gathers set.now.live (one_out_of told.now range.now dot.now) rows.old rows.new) }
+    ensures { OnOk result (Gathers set.now.live (one_untold told.now dot.now) rows.old rows.new) }
 {
-    if !is_out_of(told, range, dot) {
+    if told.contains(dot) {
         return Ok(());
     }
     gather_dot(rows, set, dot)
 }
 
-// Gathers the rows of the range that are not told live.
+// Gathers the rows of the range that are not told live. It looks at no other live rows than those in the range.
 fn gather_range(
     rows: &mut BTreeMap<Dot, Row>,
     set: &Orswot,
     told: &BTreeSet<Dot>,
     range: &(Replica, u64, u64),
 ) -> Result<(), AllocError>
+    requires { is_forward range.now ≡ true }
     ensures { OnOk result (Gathers set.now.live (out_of told.now range.now) rows.old rows.new) }
 {
-    for (dot, _row) in set.rows_of(&range.0) {
-        gather_out_of(rows, set, told, range, dot)?;
+    for (dot, _row) in set.rows_in(range) {
+        gather_untold(rows, set, told, dot)?;
     }
     Ok(())
 }
@@ -118,6 +109,7 @@ fn gather_shown_range(
     told: &BTreeSet<Dot>,
     range: &(Replica, u64, u64),
 ) -> Result<(), AllocError>
+    requires { is_forward range.now ≡ true }
     ensures { OnOk result (Gathers set.now.live (shown_out_of others.now told.now range.now) rows.old rows.new) }
 {
     if !shows_told(others, &range.0) {
@@ -134,6 +126,7 @@ fn gather_ranges(
     told: &BTreeSet<Dot>,
     ranges: &[(Replica, u64, u64)],
 ) -> Result<(), AllocError>
+    requires { list_all is_forward ranges.now ≡ true }
     ensures { OnOk result (Gathers set.now.live (out_ranges others.now told.now ranges.now) rows.old rows.new) }
 {
     for range in ranges {
