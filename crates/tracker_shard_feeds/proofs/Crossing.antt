@@ -13,6 +13,8 @@ use Rattle.presence_journal_data.specs.contracts.limits.Payload as Payload
 use Rattle.presence_journal_data.specs.contracts.rows.Rows as Rows
 use Rattle.presence_journal_data.specs.contracts.rows.RowDiff as RowDiff
 use Rattle.presence_journal_data.specs.contracts.rows.Item as Item
+use Rattle.presence_journal_data.specs.contracts.shared.SharedDiff as SharedDiff
+use Rattle.presence_journal_data.specs.contracts.shared.SharedShout as SharedShout
 use Rattle.tracker_shard_feeds.specs.contracts.followers.Follower as Follower
 use Rattle.tracker_shard_feeds.specs.contracts.rings.Ring as Ring
 use Rattle.tracker_shard_feeds.specs.contracts.feeds.Feeds as Feeds
@@ -68,9 +70,6 @@ rows_send = search (row_send, dot_send, heap.crosses, sendable) depth 60 fits 20
 diff_send : IsSend (RowDiff.the_field).row
 diff_send = search (rows_send, sendable) depth 60 fits 20000
 
-item_send : IsSend (Item.the_field).row
-item_send = search (rows_send, diff_send, payload_send, sendable) depth 60 fits 20000
-
 payload_sync : IsSync (Payload.the_field).row
 payload_sync = search (json_sync, sendable) depth 60 fits 20000
 
@@ -80,8 +79,23 @@ rows_sync = search (row_sync, dot_sync, heap.crosses, sendable) depth 60 fits 20
 diff_sync : IsSync (RowDiff.the_field).row
 diff_sync = search (rows_sync, sendable) depth 60 fits 20000
 
+shared_diff_send : IsSend (SharedDiff.the_field).row
+shared_diff_send = search (diff_send, diff_sync, heap.crosses, sendable) depth 60 fits 20000
+
+shared_diff_sync : IsSync (SharedDiff.the_field).row
+shared_diff_sync = search (diff_send, diff_sync, heap.crosses, sendable) depth 60 fits 20000
+
+shared_shout_send : IsSend (SharedShout.the_field).row
+shared_shout_send = search (payload_send, payload_sync, heap.crosses, sendable) depth 60 fits 20000
+
+shared_shout_sync : IsSync (SharedShout.the_field).row
+shared_shout_sync = search (payload_send, payload_sync, heap.crosses, sendable) depth 60 fits 20000
+
+item_send : IsSend (Item.the_field).row
+item_send = search (rows_send, shared_diff_send, shared_shout_send, sendable) depth 60 fits 20000
+
 item_sync : IsSync (Item.the_field).row
-item_sync = search (rows_sync, diff_sync, payload_sync, sendable) depth 60 fits 20000
+item_sync = search (rows_sync, shared_diff_sync, shared_shout_sync, sendable) depth 60 fits 20000
 
 follower_send : IsSend (Follower.the_field).row
 follower_send = search (topic_send, sendable) depth 60 fits 20000

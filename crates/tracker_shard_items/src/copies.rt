@@ -1,6 +1,6 @@
 ghost use Rattle.std.specs.Prelude.{◌≡◌, IfOk};
 
-use presence_journal_data::{Item, RowDiff, Rows};
+use presence_journal_data::{Item, Rows};
 use std::alloc::{AllocError, Global};
 
 fn copy_rows(alloc: Global, rows: &Rows) -> Result<Rows, AllocError>
@@ -10,21 +10,13 @@ fn copy_rows(alloc: Global, rows: &Rows) -> Result<Rows, AllocError>
     Ok(Rows::new(rows))
 }
 
-fn copy_diff(alloc: Global, diff: &RowDiff) -> Result<RowDiff, AllocError>
-    ensures { IfOk result (λ d. d ≡ diff.now) }
-{
-    let joins = copy_rows(alloc, &diff.joins)?;
-    let leaves = copy_rows(alloc, &diff.leaves)?;
-    Ok(RowDiff { joins, leaves })
-}
-
-/// A copy of an item for one subscriber.
+/// An item for one subscriber more. Differences and shouts are shared, the rows of a state are copied.
 pub fn copy_item(alloc: Global, item: &Item) -> Result<Item, AllocError>
     ensures { IfOk result (λ i. i ≡ item.now) }
 {
     match item {
         Item::State(rows) => Ok(Item::State(copy_rows(alloc, rows)?)),
-        Item::Diff(diff) => Ok(Item::Diff(copy_diff(alloc, diff)?)),
-        Item::Shout(payload) => Ok(Item::Shout(payload.clone()?)),
+        Item::Diff(diff) => Ok(Item::Diff(diff.share()?)),
+        Item::Shout(shout) => Ok(Item::Shout(shout.share()?)),
     }
 }

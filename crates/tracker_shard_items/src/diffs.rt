@@ -4,7 +4,7 @@ ghost use Rattle.presence_journal.specs.Queue.{is_empty};
 ghost use Rattle.tracker_shard_items.specs.Making.{IsDiffOf, AddsDiff, AddsDiffs, IsAdded};
 
 use presence_base::{Dot, Row, Topic};
-use presence_journal_data::{Item, RowDiff, Rows};
+use presence_journal_data::{Item, RowDiff, Rows, SharedDiff};
 use std::alloc::{AllocError, Global};
 use std::collections::BTreeMap;
 use std::sync::Arc;
@@ -51,6 +51,19 @@ pub(crate) fn put_item(
     Ok(())
 }
 
+// Puts the difference of a topic, with its text.
+fn put_diff(
+    alloc: Global,
+    made: &mut BTreeMap<Topic, Arc<Item>>,
+    topic: &Topic,
+    diff: RowDiff,
+) -> Result<(), AllocError>
+    ensures { OnOk result (IsAdded topic.now (Item.Diff diff) made.old made.new) }
+{
+    let diff = SharedDiff::new(alloc, diff)?;
+    put_item(alloc, made, topic, Item::Diff(diff))
+}
+
 // Adds what joins and leaves on a topic, if it is followed and not added yet.
 fn add_diff(
     alloc: Global,
@@ -68,7 +81,7 @@ fn add_diff(
     if is_quiet(&diff) {
         return Ok(());
     }
-    put_item(alloc, made, topic, Item::Diff(diff))
+    put_diff(alloc, made, topic, diff)
 }
 
 // Adds what joins and leaves on the topics of these rows.

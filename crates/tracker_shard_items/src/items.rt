@@ -3,7 +3,7 @@ ghost use Rattle.tracker_shard_items.specs.Making.{MakesDiffs, MakesItems, Makes
 
 use crate::diffs::{Changes, add_diffs, put_item};
 use presence_base::Topic;
-use presence_journal_data::{Item, Payload, Step};
+use presence_journal_data::{Item, Payload, SharedShout, Step};
 use std::alloc::{AllocError, Global};
 use std::collections::BTreeMap;
 use std::sync::Arc;
@@ -44,8 +44,8 @@ fn shout_of(
     if !feeds.is_followed(topic) {
         return Ok(made);
     }
-    let payload = payload.clone()?;
-    put_item(alloc, &mut made, topic, Item::Shout(payload))?;
+    let shout = SharedShout::new(alloc, payload.clone()?)?;
+    put_item(alloc, &mut made, topic, Item::Shout(shout))?;
     Ok(made)
 }
 

@@ -18,7 +18,7 @@ returns-then-is_quiet c =
 
 pub returns : goal.returns
 returns c =
-    on_ok_weaker c.put_item.result
-    (told c.args.feeds.now c.args.changes.now c.args.topic.now c.args.made.now c.put_item.new.made c.in_ok-diff.diff
+    on_ok_weaker c.put_diff.result
+    (told c.args.feeds.now c.args.changes.now c.args.topic.now c.args.made.now c.put_diff.new.made c.in_ok-diff.diff
     (sym c.is_followed.ensures ∙ c.if-not-is_followed.false) c.in_ok-diff.ensures (sym c.is_quiet.ensures ∙ c.if-is_quiet.false))
-    c.put_item.ensures
+    c.put_diff.ensures
