@@ -55,6 +55,7 @@ impl Shard {
     ghost use Rattle.presence_journal.specs.Queue.{queue, is_waiting};
     ghost use Rattle.presence_journal.specs.Table.{IsLegal, AreWithinLimits, outcome_of};
     ghost use Rattle.presence_journal_cuts.specs.Cuts.{IsCut};
+    ghost use Rattle.presence_journal_cuts.specs.KeptDeltas.{IsToldFrom};
     ghost use Rattle.presence_journal_sets.specs.Full.{IsFullOf};
     ghost use Rattle.tracker_shard.specs.Steps.{Stepped, Answers, IsDue, refusal, refusal_at, is_found};
     ghost use Rattle.tracker_shard.specs.Steps.{AnswersDot, AnswersRowsOfKey, AnswersRowsOfPid, AnswersListed};
@@ -455,7 +456,7 @@ impl Shard {
 
     /// What the own replica did since the last cut, for other nodes: its rows that came and are live, and the older ones that
     /// went, each with those that it had replaced in turn. It costs what it tells: these rows, and the runs of the counts that
-    /// went.
+    /// went; and, where it tells anything, a copy of the kept deltas, which have at most 11,100 rows and runs together.
     ///
     /// It refuses with `JournalFull`, else with `OutOfMemory`.
     #[tactic(auto, using(crate::proofs::Tables::tables))]
@@ -516,6 +517,16 @@ impl Shard {
         ensures { IfOk result (λ t. IsFullOf self.now t) }
     {
         self.table.full(alloc)
+    }
+
+    /// What a node that knows the own dots up to a count has missed: of the kept deltas that begin at or below the count the
+    /// shortest, or all that the shard knows where none does. It is no step, and costs what it tells.
+    pub fn told_from(&mut self, alloc: Global, count: u64) -> Result<Told, AllocError>
+        ensures same { self.new ≡ self.old }
+        ensures told { IfOk result (IsToldFrom self.old count) }
+    {
+        self.table.ready(alloc)?;
+        self.table.told_from(alloc, count)
     }
 
     /// The count up to which all of a replica's dots are covered; 0 for one that is gone. It is no step, and takes no memory.

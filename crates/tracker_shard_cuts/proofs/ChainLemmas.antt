@@ -23,7 +23,8 @@ use Rattle.presence_journal_cuts.proofs.RunLemmas.{holds_append}
 use Rattle.presence_journal_cuts.proofs.Histories.{own_shown}
 use Rattle.tracker_shard_cuts.specs.declared.change.Link.{Link}
 use Rattle.tracker_shard_cuts.specs.Untold.{HasChains, HasUnused, AreBelow, AreSettled}
-use Rattle.tracker_shard_cuts.specs.Changes.{told_in, is_cut, is_counted, IsLinkOf, linked, IsLinked, LosesChains}
+use Rattle.presence_journal_cuts.specs.KeptDeltas.{is_cut}
+use Rattle.tracker_shard_cuts.specs.Changes.{told_in, is_counted, IsLinkOf, linked, IsLinked, LosesChains}
 use Rattle.tracker_shard_cuts.proofs.FreshLemmas.{counted, added_next, added_stays, replaced_parts, taken_shown}
 
 abbrev Runs : Type 0

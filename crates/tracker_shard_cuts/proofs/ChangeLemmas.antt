@@ -17,10 +17,12 @@ use Rattle.presence_journal_sets.specs.ByDot.{Alike, over}
 use Rattle.presence_journal_cuts.specs.Chains.{Chains, AreUpTo, has, unless_cut, recent_after}
 use Rattle.presence_journal_cuts.specs.Cuts.{goes}
 use Rattle.presence_journal_cuts.proofs.RunLemmas.{all_append}
+use Rattle.presence_journal_cuts.proofs.KeptLemmas.{kept_other}
 use Rattle.tracker_shard_cuts.specs.declared.change.Change.{Change}
 use Rattle.tracker_shard_cuts.specs.declared.untold.Untold.{Untold}
 use Rattle.tracker_shard_cuts.specs.Untold.{AreBelow, AreSettled, Follows}
-use Rattle.tracker_shard_cuts.specs.Changes.{DotRows, is_cut, dot_in, IsNew, IsWithoutDot, IsChange, IsLinked, LosesChains}
+use Rattle.presence_journal_cuts.specs.KeptDeltas.{is_cut, AreKeptOf}
+use Rattle.tracker_shard_cuts.specs.Changes.{DotRows, dot_in, IsNew, IsWithoutDot, IsChange, IsLinked, LosesChains}
 use Rattle.tracker_shard_cuts.proofs.FreshLemmas.{added_stays}
 use Rattle.tracker_shard_cuts.proofs.ChainLemmas.{Hands, hands_on, stays_long, chains_then, unused_then, few_then, goes_told, older_then, settled_then}
 use Rattle.tracker_shard_cuts.proofs.UntoldLemmas.{taken}
@@ -72,8 +74,8 @@ back o x m n k is new there out = go o (subst (λ y. IsWithoutDot y n k) is out)
 
 pub committed : (u v : Untold) (e : Entry) (c : Change) (w : Chains) → is_cut e.outcome ≡ false → IsChange u.last u.unsettled u.chains e c → v.own ≡ u.own → v.count ≡ u.count + counts_used e.outcome → v.last ≡ u.last → v.unsettled ≡ u.unsettled
     → v.older.items ≡ u.older.items ++ c.gone.items → IsLinked c.link u.chains w → LosesChains (dots_taken e.outcome) w v.chains
-    → Alike (get dot_cmp v.rows) (without (dots_taken e.outcome) (over (row_at c.row) (get dot_cmp u.rows))) → Follows u e v
-committed u v e c w uncut change owns counts last opens older put lost rows h l k =
+    → Alike (get dot_cmp v.rows) (without (dots_taken e.outcome) (over (row_at c.row) (get dot_cmp u.rows))) → v.kept ≡ u.kept → Follows u e v
+committed u v e c w uncut change owns counts last opens older put lost rows deltas h l k =
     let hands : Hands e.outcome (has u.chains) (has v.chains) = hands_on e.outcome u.chains w v.chains c.link change.link put lost in
     taken u v e h l k (record {
       chains = chains_then h e u.chains v.chains l k.chains k.unused hands;
@@ -86,6 +88,7 @@ committed u v e c w uncut change owns counts last opens older put lost rows h l 
       counts = λ n low. older_then h e u.last u.chains u.older.items v.older.items n l uncut k.chains k.last k.counts low (after n low);
       low = subst (λ n. AreUpTo n v.older.items) (sym last) (low_taken u.last u.older.items c.gone.items v.older.items older change.low k.low);
       rows = rows_taken h e (get dot_cmp u.rows) (get dot_cmp v.rows) c.row l uncut change.row rows;
+      kept = subst (AreKeptOf (Then h e)) (sym deltas) (kept_other h e u.kept uncut k.kept);
       last = last ∙ stays_last e.outcome u.last uncut;
       own = owns;
       count = counts;

@@ -1,5 +1,6 @@
 -- What is kept, at the beginning and entry by entry.
-use Rattle.std.proofs.Common.{◌≡◌, ℕ, ◌+◌, ◌<◌, ◌≤◌, ◌^◌, true, false, cond, nat_eq, List, [], Option, None, Result, Ok, Err, OnErr, refl, sym, ◌∙◌, ap, subst, arith}
+use Rattle.std.proofs.Common.{◌≡◌, ℕ, ◌+◌, ◌<◌, ◌≤◌, ◌^◌, true, false, cond, nat_eq, List, [], Option, None, Result, Ok, Err, OnOk, OnErr, refl, sym, ◌∙◌, ap, subst, arith}
+use Rattle.std.specs.Prelude.{option_map}
 use Rattle.std.specs.BTreeMap.{get, is_at}
 use Rattle.std.specs.List.Sorted.{IsStrictlySortedBy}
 use Rattle.std.specs.Map.{lookup, keys_of}
@@ -10,11 +11,13 @@ use Rattle.presence_base.specs.declared.row.Row.{Row}
 use Rattle.presence_base.specs.Order.{dot_cmp}
 use Rattle.dot_context.specs.Runs.{holds, AreLong}
 use Rattle.dot_context.specs.Sets.{listed}
-use Rattle.delta_range.specs.Deltas.{DeltaValue, IsDelta}
+use Rattle.orswot_core_told.specs.Telling.{ToldValue}
+use Rattle.delta_range.specs.Deltas.{DeltaValue, telling, IsDelta}
 use Rattle.delta_range.specs.Longest.{longest}
+use Rattle.delta_range.specs.Keeping.{Kept as KeptDeltas, pushed, IsNext, from_count}
 use Rattle.presence_journal_data.specs.declared.entry.Outcome.TheVariants as outcomes_are
 use Rattle.presence_journal.specs.Steps.{Start, Outcome, Entry}
-use Rattle.presence_journal.specs.History.{History, Begin, Then, begun, start_of, own, count, counts_used, cut_after, last_cut}
+use Rattle.presence_journal.specs.History.{History, Begin, Then, begun, nothing_kept, start_of, own, count, counts_used, cut_after, last_cut}
 use Rattle.presence_journal.specs.Present.{dots_taken}
 use Rattle.presence_journal.specs.Table.{IsLegal, IsStart}
 use Rattle.presence_journal.proofs.HistoryLemmas.{own-then, count-then}
@@ -22,12 +25,14 @@ use Rattle.presence_journal.proofs.Walking.{count-limit}
 use Rattle.presence_journal_sets.specs.ByDot.{Alike}
 use Rattle.presence_journal_cuts.specs.Chains.{Chains, AreChains, AreUpTo, Counts, has, recent_after, rows_recent}
 use Rattle.presence_journal_cuts.specs.Cuts.{chain, older_after, older, IsCut}
+use Rattle.presence_journal_cuts.specs.KeptDeltas.{IsPushed, AreKeptOf}
 use Rattle.presence_journal_cuts.proofs.Histories.{CutsHere, cuts_here, last_cut-begin, last_more, recent-begin, recent-more}
 use Rattle.presence_journal_cuts.proofs.Goings.{Gone, gone_start}
 use Rattle.presence_journal_cuts.proofs.Keeping.{cut_keeps, cut_is}
+use Rattle.presence_journal_cuts.proofs.KeptLemmas.{kept-begin, kept_cut, next_cut}
 use Rattle.tracker_shard_cuts.specs.declared.untold.Untold.{Untold}
-use Rattle.tracker_shard_cuts.specs.Untold.{HasChains, HasUnused, AreBelow, AreSettled, IsUntoldOf, IsOfOne, CanFollow, Follows, Stays}
-use Rattle.tracker_shard_cuts.specs.Changes.{is_counted, SameChains, IsToldTo}
+use Rattle.tracker_shard_cuts.specs.Untold.{HasChains, HasUnused, AreBelow, AreSettled, IsUntoldOf, IsKeptFrom, IsOfOne, CanFollow, Follows, Stays}
+use Rattle.tracker_shard_cuts.specs.Changes.{is_counted, SameChains, with_kept, KeepsCut, IsToldTo}
 use Rattle.tracker_shard_cuts.proofs.ChainLemmas.{Hands, handed, chains_then, unused_then, few_then}
 
 abbrev Rows : Type 0
@@ -38,9 +43,9 @@ Kept = List (ℕ × List (ℕ × ℕ))
 
 -- where a journal begins
 pub opens : (s : Start) (u : Untold) → IsStart s → u.own ≡ s.own → u.count ≡ s.count → u.last ≡ s.last_cut → u.last ≤ u.unsettled → ((c : ℕ) → u.unsettled < c → lookup (nat_eq c) s.chains ≡ None)
-    → ((c : ℕ) → get nat_cmp u.chains c ≡ lookup (nat_eq c) s.chains) → u.older.items ≡ s.older → Alike (get dot_cmp u.rows) (rows_recent s s.content.live) → IsUntoldOf (Begin s) u
+    → ((c : ℕ) → get nat_cmp u.chains c ≡ lookup (nat_eq c) s.chains) → u.older.items ≡ s.older → Alike (get dot_cmp u.rows) (rows_recent s s.content.live) → u.kept ≡ s.kept → IsUntoldOf (Begin s) u
 unfolding own count
-opens s u start own_is count_is last_is most none found older_is rows_are =
+opens s u start own_is count_is last_is most none found older_is rows_are kept_is =
     let g : Gone s.last_cut u.chains u.older.items (Begin s) = gone_start s u.chains u.older.items start found older_is in
     record {
       chains = λ d r mine there n low. g.chained d.count n low;
@@ -52,6 +57,7 @@ opens s u start own_is count_is last_is most none found older_is rows_are =
       counts = g.counts;
       low = subst (λ n. AreUpTo n u.older.items) (sym last_is) g.kept;
       rows = λ d. rows_are d ∙ sym (recent-begin s d);
+      kept = kept-begin s u.kept kept_is;
       last = last_is ∙ sym (last_cut-begin s);
       own = own_is;
       count = count_is;
@@ -61,9 +67,9 @@ opens s u start own_is count_is last_is most none found older_is rows_are =
     no_has c n over = ap (λ (o : Option (List (ℕ × ℕ))). holds (listed o) n) (found c ∙ none c over)
 
 -- a new shard
-pub begins : (r : Replica) (u : Untold) → u.own ≡ r → u.count ≡ 0 → u.last ≡ 0 → u.unsettled ≡ 0 → u.chains.entries ≡ [] → u.older.items ≡ [] → u.rows.entries ≡ [] → IsUntoldOf (begun r) u
+pub begins : (r : Replica) (u : Untold) → u.own ≡ r → u.count ≡ 0 → u.last ≡ 0 → u.unsettled ≡ 0 → u.chains.entries ≡ [] → u.older.items ≡ [] → u.rows.entries ≡ [] → u.kept ≡ nothing_kept → IsUntoldOf (begun r) u
 unfolding own count chain older
-begins r u own_is count_is last_is open_is no_chain none no_row = record {
+begins r u own_is count_is last_is open_is no_chain none no_row kept_is = record {
   chains = λ d s mine there n low. no_has d.count n;
   unused = λ c n low above. no_has c n;
   long = λ c. subst (λ (es : Kept). AreLong (listed (lookup (is_at (nat_cmp c)) es))) (sym no_chain) tt;
@@ -73,6 +79,7 @@ begins r u own_is count_is last_is open_is no_chain none no_row = record {
   counts = λ n low. ap (λ (xs : List (ℕ × ℕ)). holds xs n) none;
   low = subst (AreUpTo u.last) (sym none) (tt, refl);
   rows = λ d. ap (λ (es : Rows). lookup (is_at (dot_cmp d)) es) no_row ∙ sym (recent-begin (start_of (begun r)) d);
+  kept = kept-begin (start_of (begun r)) u.kept kept_is;
   last = last_is ∙ sym (last_cut-begin (start_of (begun r)));
   own = own_is;
   count = count_is;
@@ -92,6 +99,7 @@ pub record Takes (h : History) (u : Untold) (e : Entry) (v : Untold) : Type 0 wh
   pub counts : Counts (holds v.older.items) (older (Then h e))
   pub low : AreUpTo v.last v.older.items
   pub rows : Alike (get dot_cmp v.rows) (recent_after e (get dot_cmp u.rows))
+  pub kept : AreKeptOf (Then h e) v.kept
   pub last : v.last ≡ cut_after e.outcome u.last
   pub own : v.own ≡ u.own
   pub count : v.count ≡ u.count + counts_used e.outcome
@@ -107,6 +115,7 @@ taken u v e h l k t = record {
   counts = t.counts;
   low = t.low;
   rows = recent-more (get dot_cmp u.rows) (get dot_cmp v.rows) h e l t.rows k.rows;
+  kept = t.kept;
   last = last_more u.last v.last h e t.last k.last;
   own = t.own ∙ (k.own ∙ sym (own-then h e));
   count = t.count ∙ (ap (λ n. n + counts_used e.outcome) k.count ∙ sym (count-then h e));
@@ -124,23 +133,25 @@ older_cut h e from to n is = ap (λ o. older_after o (last_cut h) (chain h) (old
 to_count : (h : History) (e : Entry) (from to : ℕ) → IsLegal (Then h e) → e.outcome ≡ outcomes_are.CutAt from to → to ≡ count h
 to_count h e from to l is = (subst (CutsHere h) is (cuts_here h e.step e.outcome l.1)).1
 
-pub told_to : (u v : Untold) (e : Entry) (from to : ℕ) → e.outcome ≡ outcomes_are.CutAt from to → IsToldTo to u v → Follows u e v
-told_to u v e from to is t h l k =
+pub told_to : (u v : Untold) (deltas : KeptDeltas) (e : Entry) (from to : ℕ) → e.outcome ≡ outcomes_are.CutAt from to → ((h : History) → IsUntoldOf h u → IsPushed (AreKeptOf h) h deltas) → IsToldTo to (with_kept u deltas) v → Follows u e v
+told_to u v deltas e from to is push t h l k =
     let hands : Hands e.outcome (has u.chains) (has v.chains) = none_lost u.chains v.chains e.outcome from to is t.chains in
+    let opened : u.unsettled ≤ v.unsettled = t.unsettled in
     taken u v e h l k (record {
       chains = chains_then h e u.chains v.chains l k.chains k.unused hands;
       unused = unused_then h e u.chains v.chains l k.chains k.unused hands;
       long = subst AreChains (sym t.chains) k.long;
-      few = λ c n low above over. few_then h e u.unsettled (has u.chains) (has v.chains) l k.few hands c n low above (omega (arith, over, t.unsettled));
+      few = λ c n low above over. few_then h e u.unsettled (has u.chains) (has v.chains) l k.few hands c n low above (omega (arith, over, opened));
       settled = λ c n low within above f.
           let is_to : to ≡ count h = to_count h e from to l is in
           let over : count h < c = omega (arith, above, t.above, is_to) in
-          let none : false ≡ true = sym (k.few c n low over (omega (arith, above, t.unsettled))) ∙ (sym (ap (λ (x : Chains). has x c n) t.chains) ∙ f) in
+          let none : false ≡ true = sym (k.few c n low over (omega (arith, above, opened))) ∙ (sym (ap (λ (x : Chains). has x c n) t.chains) ∙ f) in
           absurd (cc);
       unsettled = omega (arith, t.last, t.above);
       counts = λ n low. ap (λ (xs : List (ℕ × ℕ)). holds xs n) t.older ∙ sym (older_cut h e from to n is);
       low = subst (AreUpTo v.last) (sym t.older) (tt, refl);
       rows = λ d. ap (λ (es : Rows). lookup (is_at (dot_cmp d)) es) t.rows ∙ ap (λ o. recent_after (record { number = e.number; seat = e.seat; step = e.step; outcome = o }) (get dot_cmp u.rows) d) (sym is);
+      kept = subst (AreKeptOf (Then h e)) (sym t.kept) (kept_cut h e deltas from to is (push h k));
       last = t.last ∙ ap (λ o. cut_after o u.last) (sym is);
       own = t.own;
       count = t.count ∙ (plus u.count ∙ ap (λ o. u.count + counts_used o) (sym is));
@@ -148,6 +159,17 @@ told_to u v e from to is t h l k =
   where
     plus : (n : ℕ) → n ≡ n + 0
     plus n = omega arith
+
+-- once what it tells is kept
+pub kept_to : (u v w : Untold) (e : Entry) (from to : ℕ) → e.outcome ≡ outcomes_are.CutAt from to → KeepsCut u v → IsToldTo to v w → Follows u e w
+kept_to u v w e from to is keeps t = told_to u w v.kept e from to is keeps.pushed (subst (λ (x : Untold). IsToldTo to x w) keeps.same t)
+
+-- what is cut goes on from what is kept
+pub goes_on : (u : Untold) (d : DeltaValue) → IsOfOne u → ((h : History) → IsUntoldOf h u → IsCut h d) → IsNext u.kept.last d
+goes_on u d one cut = next_cut one.history u.kept d one.legal one.kept.kept (cut one.history one.kept)
+
+pub one_before : (u : Untold) (e : Entry) → CanFollow u e → IsOfOne u
+one_before u e can = record { history = can.before; legal = can.legal.0; kept = can.kept }
 
 -- what the next cut tells
 
@@ -172,8 +194,8 @@ told_cut h u runs rows k runs_are rows_are sorted =
     (cut_is h u.older.items u.rows.entries (low_of h u k) k.counts k.rows sorted)
 
 -- where nothing changes
-pub stays : (u v : Untold) → v.own ≡ u.own → v.count ≡ u.count → v.last ≡ u.last → v.unsettled ≡ u.unsettled → SameChains u.chains v.chains → v.older.items ≡ u.older.items → Alike (get dot_cmp v.rows) (get dot_cmp u.rows) → Stays u v
-stays u v owns counts last opens_same chains older rows h k = record {
+pub stays : (u v : Untold) → v.own ≡ u.own → v.count ≡ u.count → v.last ≡ u.last → v.unsettled ≡ u.unsettled → SameChains u.chains v.chains → v.older.items ≡ u.older.items → Alike (get dot_cmp v.rows) (get dot_cmp u.rows) → v.kept ≡ u.kept → Stays u v
+stays u v owns counts last opens_same chains older rows deltas h k = record {
   chains = λ d r mine there n low. same_has d.count n ∙ k.chains d r mine there n low;
   long = λ c. subst (λ (o : Option (List (ℕ × ℕ))). AreLong (listed o)) (sym (chains c)) (k.long c);
   unused = λ c n low above. same_has c n ∙ k.unused c n low above;
@@ -185,6 +207,7 @@ stays u v owns counts last opens_same chains older rows h k = record {
   counts = λ n low. ap (λ (xs : List (ℕ × ℕ)). holds xs n) older ∙ k.counts n low;
   low = subst (λ n. AreUpTo n v.older.items) (sym last) (subst (AreUpTo u.last) (sym older) k.low);
   rows = λ d. rows d ∙ k.rows d;
+  kept = subst (AreKeptOf h) (sym deltas) k.kept;
   last = last ∙ k.last;
   own = owns ∙ k.own;
   count = counts ∙ k.count;
@@ -204,3 +227,20 @@ count_room u e can =
 pub err_leaves : {A E P : Type 0} (r : Result A E) → P → OnErr r P
 err_leaves (Ok x) p = tt
 err_leaves (Err e) p = p
+
+-- what is told of the kept deltas
+pub kept_from : (u : Untold) (n : ℕ) (o : Option ToldValue) → o ≡ option_map telling (from_count u.kept n) → (h : History) → IsUntoldOf h u → IsKeptFrom h n o
+kept_from u n o is h k = record { kept = u.kept; of = k.kept; is = is }
+
+-- once a cut is pushed, or memory was refused for it
+
+pub cut_kept : {A E : Type 0} (r : Result A E) (u : Untold) (k : KeptDeltas) (d : DeltaValue) → ((h : History) → IsUntoldOf h u → IsCut h d) → IsDelta d → OnOk r (k ≡ pushed u.kept d) → OnOk r (KeepsCut u (with_kept u k))
+cut_kept (Ok x) u k d cuts sound is = record {
+  same = refl;
+  pushed = λ h of. record { before = u.kept; was = of.kept; delta = d; cut = cuts h of; sound = sound; is = is };
+}
+cut_kept (Err e) u k d cuts sound is = tt
+
+pub cut_stays : {A E : Type 0} (r : Result A E) (u : Untold) (k : KeptDeltas) → OnErr r (k ≡ u.kept) → OnErr r (Stays u (with_kept u k))
+cut_stays (Ok x) u k same = tt
+cut_stays (Err e) u k same = stays u (with_kept u k) refl refl refl refl (λ c. refl) refl (λ d. refl) same

@@ -9,18 +9,17 @@ use Rattle.presence_base.specs.Order.{dot_cmp, same_dot}
 use Rattle.dot_context.specs.Runs.{holds, AreLong}
 use Rattle.presence_journal_data.specs.declared.entry.Outcome.TheVariants as outcomes_are
 use Rattle.presence_journal.specs.Steps.{Outcome, Entry}
-use Rattle.presence_journal.specs.History.{row_added}
+use Rattle.delta_range.specs.Keeping.{Kept}
+use Rattle.presence_journal.specs.History.{History, row_added}
 use Rattle.presence_journal.specs.Present.{dots_taken}
 use Rattle.presence_journal.specs.Walk.{row_at}
 use Rattle.presence_journal_cuts.specs.Chains.{Chains, AreUpTo, Counts, TakesIn, has}
 use Rattle.presence_journal_cuts.specs.Cuts.{stands_for}
+use Rattle.presence_journal_cuts.specs.KeptDeltas.{IsPushed, AreKeptOf}
 use Rattle.tracker_shard_cuts.specs.declared.change.Link.{Link}
 use Rattle.tracker_shard_cuts.specs.declared.change.Change.{Change}
 use Rattle.tracker_shard_cuts.specs.declared.untold.Untold.{Untold}
-
-abbrev pub is_cut : Outcome → Bool
-is_cut (outcomes_are.CutAt from to) = true
-is_cut _ = false
+use Rattle.tracker_shard_cuts.specs.Untold.{IsUntoldOf}
 
 abbrev pub DotRows : Type 0
 DotRows = BTreeMap Dot Row
@@ -85,7 +84,25 @@ abbrev pub IsWithoutDot : Option Dot → DotRows → DotRows → Type 0
 IsWithoutDot None m n = (d : Dot) → get dot_cmp n d ≡ get dot_cmp m d
 IsWithoutDot (Some x) m n = (d : Dot) → get dot_cmp n d ≡ cond (same_dot x d) None (get dot_cmp m d)
 
--- all is told up to a count, and only the chains stay
+-- with these kept deltas
+abbrev pub with_kept : Untold → Kept → Untold
+with_kept u k = record {
+  own = u.own;
+  count = u.count;
+  last = u.last;
+  unsettled = u.unsettled;
+  chains = u.chains;
+  older = u.older;
+  rows = u.rows;
+  kept = k;
+}
+
+-- what a cut tells comes to the kept deltas, and nothing else changes
+pub record KeepsCut (u v : Untold) : Type 0 where
+  pub same : v ≡ with_kept u v.kept
+  pub pushed : (h : History) → IsUntoldOf h u → IsPushed (AreKeptOf h) h v.kept
+
+-- all is told up to a count, and only the chains and the kept deltas stay
 pub record IsToldTo (to : ℕ) (u v : Untold) : Type 0 where
   pub own : v.own ≡ u.own
   pub count : v.count ≡ u.count
@@ -95,3 +112,4 @@ pub record IsToldTo (to : ℕ) (u v : Untold) : Type 0 where
   pub chains : v.chains ≡ u.chains
   pub older : v.older.items ≡ []
   pub rows : v.rows.entries ≡ []
+  pub kept : v.kept ≡ u.kept

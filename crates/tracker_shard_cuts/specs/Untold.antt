@@ -1,16 +1,20 @@
 -- What is kept of a history for the next cut.
-use Rattle.std.specs.Prelude.{◌≡◌, ℕ, ◌≤◌, ◌<◌, Bool, true, false, List, Some}
+use Rattle.std.specs.Prelude.{◌≡◌, ℕ, ◌≤◌, ◌<◌, Bool, true, false, List, Option, Some, option_map}
 use Rattle.std.specs.BTreeMap.{get}
 use Rattle.presence_base.specs.declared.dots.Dot.{Dot}
 use Rattle.presence_base.specs.declared.row.Row.{Row}
 use Rattle.presence_base.specs.Order.{dot_cmp}
 use Rattle.dot_context.specs.Runs.{holds}
+use Rattle.orswot_core_told.specs.Telling.{ToldValue}
+use Rattle.delta_range.specs.Deltas.{telling}
+use Rattle.delta_range.specs.Keeping.{Kept, from_count}
 use Rattle.presence_journal.specs.Steps.{Entry}
 use Rattle.presence_journal.specs.History.{History, Then, own, count, last_cut, shown}
 use Rattle.presence_journal.specs.Table.{IsLegal}
 use Rattle.presence_journal_sets.specs.ByDot.{Alike}
 use Rattle.presence_journal_cuts.specs.Chains.{Chains, AreChains, AreUpTo, Counts, has}
 use Rattle.presence_journal_cuts.specs.Cuts.{chain, older, recent}
+use Rattle.presence_journal_cuts.specs.KeptDeltas.{AreKeptOf}
 use Rattle.tracker_shard_cuts.specs.declared.untold.Untold.{Untold}
 
 -- each own row that is shown has its chain
@@ -29,7 +33,8 @@ AreBelow most unsettled f = (c n : ℕ) → 1 ≤ n → most < c → unsettled <
 abbrev pub AreSettled : ℕ → ℕ → (ℕ → ℕ → Bool) → List (ℕ × ℕ) → Type 0
 AreSettled last unsettled f rs = (c n : ℕ) → 1 ≤ n → n ≤ last → unsettled < c → f c n ≡ true → holds rs n ≡ true
 
--- the chains of the own rows that are shown, the older counts that went since the last cut, and the own rows above it
+-- the chains of the own rows that are shown, the older counts that went since the last cut, the own rows above it, and the
+-- kept deltas
 pub record IsUntoldOf (h : History) (u : Untold) : Type 0 where
   pub chains : HasChains h u.chains
   pub unused : HasUnused h u.chains
@@ -40,6 +45,7 @@ pub record IsUntoldOf (h : History) (u : Untold) : Type 0 where
   pub counts : Counts (holds u.older.items) (older h)
   pub low : AreUpTo u.last u.older.items
   pub rows : Alike (get dot_cmp u.rows) (recent h)
+  pub kept : AreKeptOf h u.kept
   pub last : u.last ≡ last_cut h
   pub own : u.own ≡ own h
   pub count : u.count ≡ count h
@@ -59,6 +65,12 @@ pub record CanFollow (u : Untold) (e : Entry) : Type 0 where
 -- what is kept after the entry, where u was kept before it
 abbrev pub Follows : Untold → Entry → Untold → Type 0
 Follows u e v = (h : History) → IsLegal (Then h e) → IsUntoldOf h u → IsUntoldOf (Then h e) v
+
+-- what is told of the kept deltas from a count on, where one of them begins at or below it
+pub record IsKeptFrom (h : History) (n : ℕ) (o : Option ToldValue) : Type 0 where
+  pub kept : Kept
+  pub of : AreKeptOf h kept
+  pub is : o ≡ option_map telling (from_count kept n)
 
 -- v keeps what u kept
 abbrev pub Stays : Untold → Untold → Type 0

@@ -1,7 +1,8 @@
 //! What a shard has not told other nodes yet of its own replica, kept in place of walked: the rows above the last
-//! cut, the older counts that went since, and the chains of the own rows. A cut costs what it tells.
+//! cut, the older counts that went since, and the chains of the own rows. A cut costs what it tells. What the cuts told
+//! is kept too, joined, for nodes that missed some.
 //!
-//! Its public contracts cite `specs/Untold`, on presence_journal_cuts' `Cuts`, and `specs/Listed`, on
+//! Its public contracts cite `specs/Untold`, on presence_journal_cuts' `Cuts` and `KeptDeltas`, and `specs/Listed`, on
 //! presence_journal_starts' `Checkpoints`. `specs/Changes` is of what an entry changes of it.
 #![tactic(auto)]
 

@@ -7,14 +7,15 @@ use crate::change::{Change, change_of, used_by};
 use crate::listing::listed_chains;
 use crate::putting::{add_runs, drop_chains, put_both};
 use crate::start::most_listed;
-use delta_range::{Delta, longest};
+use delta_range::{Delta, Generations, longest};
+use orswot_core::Told;
 use presence_base::{Dot, Replica, Row};
 use presence_journal::{Chains, Entry, Outcome, Runs, Start};
 use presence_journal_cuts::{Chain, dots_out, drop_dots, kept_chains, kept_rows, kept_runs};
 use std::alloc::{AllocError, Global};
 use std::collections::BTreeMap;
 
-/// What a shard has not told yet of its own replica.
+/// What a shard has not told yet of its own replica, and the kept deltas of what it told.
 pub struct Untold {
     own: Replica,
     count: u64,
@@ -24,6 +25,7 @@ pub struct Untold {
     chains: BTreeMap<u64, Chain>,
     older: Vec<(u64, u64)>,
     rows: BTreeMap<Dot, Row>,
+    kept: Generations,
 }
 
 impl Drop for Untold {
@@ -36,10 +38,12 @@ impl Drop for Untold {
             chains,
             older,
             rows,
+            kept,
         } = self;
         drop(chains);
         drop(older);
         drop(rows);
+        drop(kept);
     }
 }
 
@@ -76,9 +80,10 @@ impl Untold {
     ghost use Rattle.presence_journal.specs.History.{History, Begin, begun, last_cut as cut_in};
     ghost use Rattle.presence_journal.specs.Table.{IsLegal};
     ghost use Rattle.presence_journal_cuts.specs.Cuts.{IsCut};
-    ghost use Rattle.tracker_shard_cuts.specs.Untold.{IsUntoldOf, IsOfOne, CanFollow, Follows, Stays};
+    ghost use Rattle.presence_journal_cuts.specs.KeptDeltas.{is_cut, AreKeptOf};
+    ghost use Rattle.tracker_shard_cuts.specs.Untold.{IsUntoldOf, IsKeptFrom, IsOfOne, CanFollow, Follows, Stays};
     ghost use Rattle.tracker_shard_cuts.specs.Listed.{AreOlder, AreListed};
-    ghost use Rattle.tracker_shard_cuts.specs.Changes.{is_cut, IsChangeOf, IsToldTo};
+    ghost use Rattle.tracker_shard_cuts.specs.Changes.{IsChangeOf, IsToldTo, KeepsCut};
 
     /// Where nothing was told, since nothing happened.
     pub fn new(alloc: Global, own: Replica) -> Untold
@@ -92,6 +97,7 @@ impl Untold {
             chains: BTreeMap::new(alloc),
             older: Vec::new(alloc),
             rows: BTreeMap::new(alloc),
+            kept: Generations::new(),
         }
     }
 
@@ -103,6 +109,7 @@ impl Untold {
         let chains = kept_chains(alloc, listed)?;
         let older = kept_runs(alloc, &start.older)?;
         let rows = kept_rows(alloc, start)?;
+        let kept = start.kept.clone()?;
         let unsettled = most_listed(listed).max(start.last_cut);
         Ok(Untold {
             own: start.own,
@@ -112,6 +119,7 @@ impl Untold {
             chains,
             older,
             rows,
+            kept,
         })
     }
 
@@ -124,6 +132,25 @@ impl Untold {
         let older = longest(alloc, runs)?;
         let rows = copies(alloc, &self.rows)?;
         Ok(Delta::new(self.own, self.last, self.count, older, rows))
+    }
+
+    /// What the kept deltas tell from a count on, where one begins at or below it: the shortest. It costs what it gives.
+    pub fn told_from(&self, alloc: Global, count: u64) -> Result<Option<Told>, AllocError>
+        ensures { IfOk result (λ o. (h : History) → IsUntoldOf h self.now → IsKeptFrom h count o) }
+    {
+        let Some(delta) = self.kept.from_count(count) else {
+            return Ok(None);
+        };
+        let told = delta.told(alloc)?;
+        Ok(Some(told))
+    }
+
+    /// The kept deltas, as a Start has them. It costs what it gives.
+    pub fn kept(&self) -> Result<Generations, AllocError>
+        ensures { IfOk result (λ k. (h : History) → IsUntoldOf h self.now → AreKeptOf h k) }
+    {
+        let kept = self.kept.clone()?;
+        Ok(kept)
     }
 
     /// The count up to which the last cut told. Takes no memory.
@@ -151,18 +178,32 @@ impl Untold {
 
     /// Brings it up to the next entry. Where memory is refused it is as it was.
     ///
-    /// It costs the rows that the entry adds or takes out, with their chains.
+    /// It costs the rows that the entry adds or takes out, with their chains, and for a cut that tells anything the rows of
+    /// the kept deltas.
     pub fn apply(&mut self, alloc: Global, entry: &Entry) -> Result<(), AllocError>
         requires { CanFollow self.old entry.now }
         ensures ok { OnOk result (Follows self.old entry.now self.new) }
         ensures err { OnErr result (Stays self.old self.new) }
     {
         if let Outcome::CutAt(_, to) = &entry.outcome {
+            self.keep_cut(alloc)?;
             self.take_cut(alloc, *to);
             return Ok(());
         }
         let change = change_of(alloc, &self.chains, self.last, self.unsettled, entry)?;
         self.commit(entry, change)
+    }
+
+    // What a cut tells is joined to the kept deltas.
+    fn keep_cut(&mut self, alloc: Global) -> Result<(), AllocError>
+        requires { IsOfOne self.old }
+        ensures ok { OnOk result (KeepsCut self.old self.new) }
+        ensures err { OnErr result (Stays self.old self.new) }
+    {
+        let delta = self.cut(alloc)?;
+        // Read for the proof alone: what is told is a delta.
+        let _live = delta.live();
+        self.kept.push(alloc, delta)
     }
 
     // A cut told all of it but the chains.

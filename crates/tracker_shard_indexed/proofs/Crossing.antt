@@ -13,6 +13,8 @@ use Rattle.presence_base.specs.contracts.dots.Dot as Dot
 use Rattle.dot_context.specs.contracts.runs.Runs as Runs
 use Rattle.dot_context.specs.contracts.context.Context as Context
 use Rattle.orswot_core.specs.contracts.set.Orswot as Orswot
+use Rattle.delta_range.specs.contracts.delta.Delta as Delta
+use Rattle.delta_range.specs.contracts.generations.Generations as Generations
 use Rattle.presence_journal_cuts.specs.contracts.chain.Chain as Chain
 use Rattle.tracker_shard_known_others.specs.contracts.others.Others as Others
 use Rattle.tracker_shard_known.specs.contracts.known.Known as Known
@@ -72,11 +74,17 @@ others_send = search (replica_send, maps.crosses, heap.crosses, sendable) depth 
 known_send : IsSend (Known.the_field).row
 known_send = search (set_send, others_send, sendable) depth 60 fits 20000
 
+delta_send : IsSend (Delta.the_field).row
+delta_send = search (replica_send, dot_send, row_send, heap.crosses, sendable) depth 60 fits 20000
+
+generations_send : IsSend (Generations.the_field).row
+generations_send = search (replica_send, delta_send, heap.crosses, sendable) depth 60 fits 20000
+
 chain_send : IsSend (Chain.the_field).row
 chain_send = search (heap.crosses, sendable) depth 60 fits 20000
 
 untold_send : IsSend (Untold.the_field).row
-untold_send = search (replica_send, chain_send, dot_send, row_send, maps.crosses, heap.crosses, sendable) depth 60 fits 20000
+untold_send = search (replica_send, chain_send, dot_send, row_send, generations_send, maps.crosses, heap.crosses, sendable) depth 60 fits 20000
 
 told_send : IsSend (Told.the_field).row
 told_send = search (row_send, dot_send, replica_send, maps.crosses, heap.crosses, sendable) depth 60 fits 20000
@@ -106,7 +114,7 @@ standings_send : IsSend (Standings.the_field).row
 standings_send = search (replica_send, heap.crosses, sendable) depth 60 fits 20000
 
 start_send : IsSend (Start.the_field).row
-start_send = search (replica_send, told_send, standings_send, chains_send, subscribers_send, heap.crosses, sendable) depth 60 fits 20000
+start_send = search (replica_send, told_send, standings_send, chains_send, generations_send, subscribers_send, heap.crosses, sendable) depth 60 fits 20000
 
 entry_send : IsSend (Entry.the_field).row
 entry_send = search (step_send, outcome_send, sendable) depth 60 fits 20000

@@ -1,6 +1,6 @@
 -- What holds of a journal with what is kept of it.
 use Rattle.std.proofs.Common.{◌≡◌, ℕ, zero, suc, ◌+◌, ◌-◌, ◌≤◌, Bool, true, false, cond, List, [], ◌∷◌, Option, Some, None, slice_get, length, refl, sym, ◌∙◌, ap, subst, arith}
-use Rattle.std.specs.Prelude.{Result, IfOk}
+use Rattle.std.specs.Prelude.{Result, IfOk, option_map}
 use Rattle.std.proofs.lemmas.Option.{same_Some, slice_get_within}
 use Rattle.std.proofs.lemmas.Result.{IfOk-weaker}
 use Rattle.presence_base.specs.declared.dots.Replica.{Replica}
@@ -14,15 +14,17 @@ use Rattle.presence_journal.specs.History.{History, Begin, Then, begun, onto, st
 use Rattle.presence_journal.specs.Limits.{is_within_limits}
 use Rattle.presence_journal.specs.Table.{IsLegal, AreWithinLimits, IsKept, outcome_of, next_entry, after}
 use Rattle.presence_journal.proofs.HistoryLemmas.{after-accepted, within_step}
-use Rattle.delta_range.specs.Deltas.{DeltaValue}
+use Rattle.delta_range.specs.Deltas.{DeltaValue, telling}
+use Rattle.delta_range.specs.Keeping.{from_count}
 use Rattle.presence_journal_cuts.specs.Cuts.{IsCut}
+use Rattle.presence_journal_cuts.specs.KeptDeltas.{TellsOrAll, IsToldFrom}
 use Rattle.presence_journal_sets.specs.LeftOut.{HoldsCovered}
 use Rattle.presence_journal_sets.specs.Full.{IsFullOf}
 use Rattle.tracker_shard_known.specs.Known.{IsKnownOf}
 use Rattle.tracker_shard_shown.specs.declared.shown.Shown.{Shown}
 use Rattle.tracker_shard_shown.specs.Kept.{IsShownOf, IsNothing}
 use Rattle.tracker_shard_shown.proofs.TurnLemmas.{at_first, shown_from}
-use Rattle.tracker_shard_cuts.specs.Untold.{IsUntoldOf, IsOfOne}
+use Rattle.tracker_shard_cuts.specs.Untold.{IsUntoldOf, IsOfOne, IsKeptFrom}
 use Rattle.tracker_shard_feeds.specs.Fed.{Fed, found, IsFedBy}
 use Rattle.tracker_shard_feeds.proofs.LawLemmas as laws
 use Rattle.tracker_shard_indexed.specs.Seen.{Seen}
@@ -170,3 +172,26 @@ of_one h p done sound = record { history = h; legal = sound.kept.legal; kept = (
 
 pub cut_kept : {E : Type 0} (s : Seen) (j : History) (p : Parts) (r : Result DeltaValue E) → seen j p ≡ s → p.stage ≡ Done → IsSound j p → IfOk r (λ d. (h : History) → IsUntoldOf h p.untold → IsCut h d) → IfOk r (IsCut s.history)
 cut_kept s j p r view done sound told = IfOk-weaker r (λ d. (h : History) → IsUntoldOf h p.untold → IsCut h d) (IsCut s.history) (λ d f. f s.history (kept_at_end s j p view done sound).untold) told
+
+-- What is told from a count on.
+
+tells_one : (o : Option DeltaValue) (h : History) (t : ToldValue) → Some t ≡ option_map telling o → TellsOrAll o h t
+tells_one None h t e = absurd (cc)
+tells_one (Some d) h t e = same_Some t (telling d) e
+
+tells_all : (o : Option DeltaValue) (h : History) (t : ToldValue) → None ≡ option_map telling o → IsFullOf h t → TellsOrAll o h t
+tells_all None h t e full = full
+tells_all (Some d) h t e full = absurd (cc)
+
+abbrev KeptFrom : Parts → ℕ → Option ToldValue → Type 0
+KeptFrom p n o = (h : History) → IsUntoldOf h p.untold → IsKeptFrom h n o
+
+pub told_kept : (s : Seen) (j : History) (p : Parts) (n : ℕ) (o : Option ToldValue) (t : ToldValue) → seen j p ≡ s → s.is_ready ≡ true → IsSound j p → KeptFrom p n o → o ≡ Some t → IsToldFrom s.history n t
+told_kept s j p n o t view ready sound told is =
+    let f = told s.history (kept_seen s j p view ready sound).untold in
+    record { kept = f.kept; of = f.of; tells = tells_one (from_count f.kept n) s.history t (sym is ∙ f.is) }
+
+pub told_all : {E : Type 0} (s : Seen) (j : History) (p : Parts) (n : ℕ) (o : Option ToldValue) (r : Result ToldValue E) → seen j p ≡ s → s.is_ready ≡ true → IsSound j p → KeptFrom p n o → o ≡ None → IfOk r (IsFullOf s.history) → IfOk r (IsToldFrom s.history n)
+told_all s j p n o r view ready sound told is full =
+    let f = told s.history (kept_seen s j p view ready sound).untold in
+    IfOk-weaker r (IsFullOf s.history) (IsToldFrom s.history n) (λ t whole. record { kept = f.kept; of = f.of; tells = tells_all (from_count f.kept n) s.history t (sym is ∙ f.is) whole }) full

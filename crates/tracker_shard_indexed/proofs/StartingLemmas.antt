@@ -7,6 +7,7 @@ use Rattle.presence_journal.specs.Steps.{Entry, Start}
 use Rattle.presence_journal.specs.History.{History, Begin, Then, onto, own, count, last_number, time, last_cut}
 use Rattle.presence_journal.specs.Table.{IsStart, IsLegal}
 use Rattle.presence_journal_sets.specs.Full.{IsFullOf}
+use Rattle.presence_journal_cuts.specs.KeptDeltas.{AreKeptOf}
 use Rattle.presence_journal_starts.proofs.Sound.{is_sound, begins_kept}
 use Rattle.presence_journal_starts.proofs.Told.{full_stands}
 use Rattle.tracker_shard_known.specs.Starts.{ListsStandings}
@@ -48,9 +49,9 @@ seats_low (Then h e) l = omega (arith, seats_low h l.0, one_low (is_some e.seat)
 
 pub is_start : (h : History) (f : Fed) (s : Start) → IsLegal h → last_number h < 2 ^ 62 → IsFedBy h f
     → s.number ≡ last_number h + 1 → s.own ≡ own h → s.count ≡ count h → s.time ≡ time h → s.last_cut ≡ last_cut h → s.seated ≡ seats h
-    → IsFullOf h s.content → is_heard s.content ≡ true → ListsStandings h s.standings → AreOlder h s.older → AreListedChains h s.chains → AreListed f s.subscribers
+    → IsFullOf h s.content → is_heard s.content ≡ true → ListsStandings h s.standings → AreOlder h s.older → AreListedChains h s.chains → AreKeptOf h s.kept → AreListed f s.subscribers
     → IsStartOf h s
-is_start h f s legal room fed number mine counts at cut seated full sound others older chains subscribers =
+is_start h f s legal room fed number mine counts at cut seated full sound others older chains deltas subscribers =
     let told = full_stands h s.content full in
     let topics = listed_are_those h f s.number s.subscribers legal fed (omega (arith, number)) subscribers in
     record {
@@ -68,6 +69,7 @@ is_start h f s legal room fed number mine counts at cut seated full sound others
           chains = chains.shown;
           unused = chains.unused;
           long = chains.long;
+          deltas = deltas;
           topics = topics.topics;
           subscribers = topics.within;
           once = topics.once;

@@ -71,6 +71,7 @@ impl Indexed {
     ghost use Rattle.presence_journal.specs.Queue.{topic_of, queue, items_given, is_waiting};
     ghost use Rattle.presence_journal.specs.Table.{IsLegal, AreWithinLimits, outcome_of, after, listed_key, rows_of_key, rows_of_pid};
     ghost use Rattle.presence_journal_cuts.specs.Cuts.{IsCut};
+    ghost use Rattle.presence_journal_cuts.specs.KeptDeltas.{IsToldFrom};
     ghost use Rattle.presence_journal_sets.specs.Full.{IsFullOf};
     ghost use Rattle.tracker_shard_indexed.specs.Starting.{IsBegunAgain};
     ghost use Rattle.tracker_shard_known.specs.Known.{next_left};
@@ -297,6 +298,19 @@ impl Indexed {
         match self.parts.stage {
             Stage::Done => self.parts.known.told(alloc),
             _ => walk_set(alloc, &self.journal)?.told(alloc),
+        }
+    }
+
+    /// What a node that knows the own dots up to a count is told: the shortest kept delta that begins at or below it, or all
+    /// that is known where there is none. It costs what it tells.
+    pub fn told_from(&self, alloc: Global, count: u64) -> Result<Told, AllocError>
+        requires { self.now.is_ready ≡ true }
+        ensures { IfOk result (IsToldFrom self.now.history count) }
+    {
+        let kept = self.parts.untold.told_from(alloc, count)?;
+        match kept {
+            Some(told) => Ok(told),
+            None => self.full(alloc),
         }
     }
 

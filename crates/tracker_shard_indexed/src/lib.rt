@@ -3,7 +3,7 @@
 //!
 //! Its public contracts cite `specs/Seen`, on presence_journal's `History`, `Present`, `Queue` and `Table`. `specs/Parts`
 //! says how each part is tied to the history, and `specs/Starting` what a journal is that begins again, on
-//! presence_journal_starts' `Checkpoints`.
+//! presence_journal_starts' `Checkpoints`; what is told from a count on is presence_journal_cuts' `KeptDeltas`.
 #![tactic(auto)]
 
 mod indexed;

@@ -48,6 +48,7 @@ pub(crate) fn start_of(alloc: Global, journal: &Journal, parts: &Parts) -> Resul
     let standings = parts.known.standings(alloc)?;
     let older = parts.untold.older(alloc)?;
     let chains = parts.untold.chains(alloc)?;
+    let kept = parts.untold.kept()?;
     let subscribers = parts.feeds.subscribers(alloc)?;
     Ok(Start {
         number: journal.last_number() + 1,
@@ -59,6 +60,7 @@ pub(crate) fn start_of(alloc: Global, journal: &Journal, parts: &Parts) -> Resul
         last_cut: parts.untold.last_cut(),
         older,
         chains,
+        kept,
         subscribers,
         seated: seats_of(journal),
     })

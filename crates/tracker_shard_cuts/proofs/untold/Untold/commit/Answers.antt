@@ -17,8 +17,8 @@ pub returns-in_err-put_both-clause-err : goal.returns-in_err-put_both-clause-err
 returns-in_err-put_both-clause-err c =
     let u = c.args.self.now in
     err_leaves c.from_residual-in_err-put_both.result
-    (stays u (record { own = u.own; count = u.count; last = u.last; unsettled = u.unsettled; chains = c.put_both.new.chains; older = c.reserve.new.self; rows = c.put_both.new.rows })
-    refl refl refl refl c.in_err-put_both.ensures.same_chains c.reserve.ensures.items c.in_err-put_both.ensures.same_rows)
+    (stays u (record { own = u.own; count = u.count; last = u.last; unsettled = u.unsettled; chains = c.put_both.new.chains; older = c.reserve.new.self; rows = c.put_both.new.rows; kept = u.kept })
+    refl refl refl refl c.in_err-put_both.ensures.same_chains c.reserve.ensures.items c.in_err-put_both.ensures.same_rows refl)
 
 pub overflow_add-self : goal.overflow_add-self
 overflow_add-self c = let room = count_room c.args.self.now c.args.entry.now c.requires.follows in omega (arith, room, c.used_by.ensures)
@@ -26,9 +26,10 @@ overflow_add-self c = let room = count_room c.args.self.now c.args.entry.now c.r
 pub returns-clause-ok : goal.returns-clause-ok
 returns-clause-ok c =
     let u = c.args.self.now in
-    committed u (record { own = u.own; count = u.count + c.used_by.result; last = u.last; unsettled = u.unsettled; chains = c.drop_chains.new.chains; older = c.add_runs.new.runs; rows = c.drop_dots.new.rows }) c.args.entry.now c.args.change c.put_both.new.chains
+    committed u (record { own = u.own; count = u.count + c.used_by.result; last = u.last; unsettled = u.unsettled; chains = c.drop_chains.new.chains; older = c.add_runs.new.runs; rows = c.drop_dots.new.rows; kept = u.kept }) c.args.entry.now c.args.change c.put_both.new.chains
     c.requires.other c.requires.change refl (ap (λ n. u.count + n) c.used_by.ensures) refl refl
     (c.add_runs.ensures ∙ ap (λ (xs : List (ℕ × ℕ)). xs ++ c.args.change.gone.items) c.reserve.ensures.items)
     c.in_ok-put_both.ensures.chains
     (λ k. c.drop_chains.ensures k ∙ ap (λ ds. cond (is_counted ds k) None (get nat_cmp c.put_both.new.chains k)) c.dots_out-out.ensures)
     (λ d. c.drop_dots.ensures d ∙ (λ i. cond (has_dot (c.dots_out-out.ensures i) d) None (c.in_ok-put_both.ensures.rows d i)))
+    refl
