@@ -6,6 +6,7 @@ ghost use Rattle.presence_journal.specs.Queue.{queue, is_waiting};
 ghost use Rattle.presence_journal.specs.Table.{IsLegal, outcome_of};
 ghost use Rattle.presence_journal_sets.specs.Full.{IsFullOf};
 ghost use Rattle.presence_journal_cuts.specs.Cuts.{IsCut};
+ghost use Rattle.presence_journal_cuts.specs.KeptDeltas.{IsToldFrom};
 ghost use Rattle.tracker_shard.specs.Steps.{Stepped, Answers, AnswersDot, IsDue, refusal, refusal_at, is_found};
 ghost use Rattle.tracker_shard.specs.Steps.{AnswersRowsOfKey, AnswersRowsOfPid, AnswersListed, AnswersListedKey};
 ghost use Rattle.tracker_shard.specs.Steps.{AnswersItems, AnswersSub, checkpoint_refusal};
@@ -401,6 +402,16 @@ impl<L: Lane> Locked<L> {
         ensures { IfOk result (λ t. IsFullOf self.now.shard t) }
     {
         self.shard.full(alloc)
+    }
+
+    /// What a node is told that knows the own dots up to a count, as `Shard::told_from` tells it. It is no step.
+    #[tactic(auto, using(crate::proofs::Counts::counts))]
+    pub fn told_from(&mut self, alloc: Global, count: u64) -> Result<Told, AllocError>
+        ensures told { IfOk result (IsToldFrom self.old.shard count) }
+        ensures same { self.new.shard ≡ self.old.shard }
+        ensures total { self.new.calls.total ≡ self.old.calls.total }
+    {
+        self.shard.told_from(alloc, count)
     }
 
     /// The count up to which all of a replica's dots are covered. It is no step.
