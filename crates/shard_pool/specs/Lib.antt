@@ -6,3 +6,4 @@ pub use Rattle.shard_pool_settled.specs.Settled
 pub use Rattle.shard_pool_settled.specs.declared.fault.SettleFault
 pub use Rattle.shard_pool_lent.specs.ShardFault
 pub use Rattle.shard_pool_locks.specs.Unseated
+pub use Rattle.shard_pool_locks.specs.Seated

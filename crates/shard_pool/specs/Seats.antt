@@ -1,12 +1,13 @@
 -- What a seat keeps of its calls at all shards, and what a call of the pool does to it.
-use Rattle.std.specs.Prelude.{◌≡◌, ◌==◌, ◌%◌, ℕ, zero, suc, List, [], ◌∷◌, ◌++◌, cond, sum, Result, refl}
+use Rattle.std.specs.Prelude.{◌≡◌, ◌==◌, ◌%◌, ℕ, zero, suc, Bool, List, [], ◌∷◌, ◌++◌, cond, sum, Result, refl}
 use Rattle.std.specs.Coded.{Coded, code_by, coded×, coded_ℕ}
 use Rattle.presence_journal_data.specs.declared.step.Step.{Step}
-use Rattle.presence_journal.specs.History.{History}
+use Rattle.presence_journal.specs.History.{History, start_of}
 use Rattle.shard_pool_lent.specs.ShardFault.{ShardFault}
 use Rattle.shard_pool_lent.specs.declared.reply.Reply.{Reply}
 use Rattle.shard_pool_lent.specs.Hands.{Hand, hand_code, new_hand, without_receipts}
 use Rattle.shard_pool_locks.specs.Seated.{Called}
+use Rattle.shard_pool_locks.specs.Unseated.{IsBehind}
 
 -- a seat at each shard
 pub record Hands : Type 0 where
@@ -50,16 +51,21 @@ with_hand h s x =
 abbrev pub without_receipts_at : Hands → ℕ → ℕ → Hands
 without_receipts_at h s n = with_hand h s (without_receipts (hand_at h s) n)
 
--- the seat that forgets its receipts up to one number for each shard
-pub record IsTrimmed (old new : Hands) : Type 0 where
+-- the number of the Start of some legal history of the node
+abbrev pub IsStartOf : List ℕ → ℕ → Type 0
+IsStartOf node n = IsBehind node (λ h. n ≡ (start_of h).number)
+
+-- the seat that forgets its receipts up to the Start of each shard
+pub record IsTrimmed (node : List ℕ) (old new : Hands) : Type 0 where
   pub first : ℕ
   pub second : ℕ
   pub third : ℕ
   pub fourth : ℕ
+  pub starts : IsStartOf node first × IsStartOf node second × IsStartOf node third × IsStartOf node fourth
   pub forgets : new ≡ record { number = old.number; first = without_receipts old.first first; second = without_receipts old.second second; third = without_receipts old.third third; fourth = without_receipts old.fourth fourth }
 
 -- the seat after a call at a shard: no other part is changed
-pub record CalledAt {A : Type 0} (node : List ℕ) (old new : Hands) (s : ℕ) (step : Step) (Gives : History → A → Type 0) (r : Result (Reply A) ShardFault) : Type 0 where
+pub record CalledAt {A : Type 0} (node : List ℕ) (there : History → Bool) (old new : Hands) (s : ℕ) (step : Step) (Gives : History → A → Type 0) (r : Result (Reply A) ShardFault) : Type 0 where
   pub others : new ≡ with_hand old s (hand_at new s)
   pub shard : (hand_at old s).shard ≡ s
-  pub call : Called node (hand_at old s) (hand_at new s) step Gives r
+  pub call : Called node there (hand_at old s) (hand_at new s) step Gives r

@@ -71,7 +71,9 @@ pub fn check_seats<A: Lane, B: Lane, C: Lane, D: Lane>(
     ensures agree { OnOk result (Agree journals.now (by_number seats.now count)) }
     ensures missing { result ≡ Err SettleFault.MissingSeat → IsMissing seats.now count }
     ensures untold { result ≡ Err SettleFault.NoSuchEntry → are_told journals.now (by_number seats.now count) ≡ false }
+    ensures untold_here { result ≡ Err SettleFault.NoSuchEntry → has_seats seats.now count ≡ true }
     ensures differs { result ≡ Err SettleFault.CountDiffers → CountsDiffer journals.now (by_number seats.now count) }
+    ensures differs_here { result ≡ Err SettleFault.CountDiffers → has_seats seats.now count ≡ true }
 {
     let receipts = receipts_by_number(alloc, seats, count)?;
     check_receipts(alloc, journals, receipts.as_slice())
@@ -87,6 +89,7 @@ fn taken_out<L: Lane>(shard: Mutex<Locked<L>>) -> Journal
 }
 
 // Puts the journal behind the others, where it is of a shard that is used. The replica's name is a proof's.
+#[tactic(auto, using(crate::proofs::Settled::settled))]
 fn put_if(
     used: bool,
     journals: &mut Vec<Journal>,
@@ -148,8 +151,10 @@ impl<G: Gate + Drop, A: Lane, B: Lane, C: Lane, D: Lane> Pool<G, A, B, C, D> {
         ensures missing { result ≡ Err SettleFault.MissingSeat → IsMissing seats.items self.seats }
         ensures untold { result ≡ Err SettleFault.NoSuchEntry → (js : List History)
             × AreOf self.own.name self.shards js × (are_told js (by_number seats.items self.seats) ≡ false) }
+        ensures untold_here { result ≡ Err SettleFault.NoSuchEntry → has_seats seats.items self.seats ≡ true }
         ensures differs { result ≡ Err SettleFault.CountDiffers → (js : List History)
             × AreOf self.own.name self.shards js × CountsDiffer js (by_number seats.items self.seats) }
+        ensures differs_here { result ≡ Err SettleFault.CountDiffers → has_seats seats.items self.seats ≡ true }
     {
         let Pool {
             own,

@@ -3,6 +3,7 @@
 ghost use Rattle.std.specs.Prelude.{◌≡◌, ◌<◌, IfOk, IfErr};
 ghost use Rattle.presence_journal.specs.History.{IsTop, start_of, status};
 ghost use Rattle.presence_journal_sets.specs.Full.{IsFullOf};
+ghost use Rattle.presence_journal_cuts.specs.KeptDeltas.{IsToldFrom};
 ghost use Rattle.shard_pool_lent.specs.ShardFault.TheVariants.{OutOfMemory};
 ghost use Rattle.shard_pool_locks.specs.Unseated.{IsOf, IsBehind, IsMade, IsCutMade, IsCheckpointed, TellsWaiting};
 ghost use Rattle.shard_pool.specs.Seats.{shard_of, IsTrimmed};
@@ -17,7 +18,8 @@ use replica_status::Status;
 use shard_pool_lent::{Lane, PoolFault, Sub};
 use shard_pool_locks::{
     Gate, locked_checkpoint, locked_cut, locked_full, locked_heard, locked_journal, locked_merge,
-    locked_permdown, locked_start_of, locked_status, locked_tick, locked_top, locked_waits,
+    locked_permdown, locked_start_of, locked_status, locked_tick, locked_told_from, locked_top,
+    locked_waits,
 };
 use std::alloc::Global;
 use std::sync::Wait;
@@ -149,6 +151,27 @@ impl<G: Gate, A: Lane, B: Lane, C: Lane, D: Lane> Pool<G, A, B, C, D> {
         }
     }
 
+    /// What a node is told that knows the shard's own dots up to a count: of the kept deltas that begin at or below it the
+    /// shortest, else all that the shard knows. It is no step, and refuses with `OutOfMemory` alone.
+    pub fn told_from<R: Wait>(
+        &self,
+        rt: &R,
+        alloc: Global,
+        shard: u32,
+        count: u64,
+    ) -> Result<Told, PoolFault>
+        requires { shard < self.now.shards }
+        ensures told { IfOk result (λ t. IsBehind self.now.own.name (λ h. IsToldFrom h count t)) }
+        ensures err { IfErr result (λ e. e ≡ OutOfMemory) }
+    {
+        match shard {
+            0 => locked_told_from(rt, alloc, &self.first, count),
+            1 => locked_told_from(rt, alloc, &self.second, count),
+            2 => locked_told_from(rt, alloc, &self.third, count),
+            _ => locked_told_from(rt, alloc, &self.fourth, count),
+        }
+    }
+
     /// The count up to which a shard covers all of a replica's dots. It is no step.
     pub fn top<R: Wait>(&self, rt: &R, shard: u32, replica: &Replica) -> u64
         requires { shard < self.now.shards }
@@ -219,8 +242,9 @@ impl<G: Gate, A: Lane, B: Lane, C: Lane, D: Lane> Pool<G, A, B, C, D> {
     }
 
     /// Drops a seat's receipts up to the Start of each shard: those that have no entry any more.
+    #[tactic(auto, using(crate::proofs::Trims::trimmed))]
     pub fn trim<R: Wait>(&self, rt: &R, seat: &mut Seat<A, B, C, D>)
-        ensures { IsTrimmed seat.old seat.new }
+        ensures { IsTrimmed self.now.own.name seat.old seat.new }
     {
         seat.forget(0, locked_start_of(rt, &self.first));
         seat.forget(1, locked_start_of(rt, &self.second));

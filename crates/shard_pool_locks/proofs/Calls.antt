@@ -1,5 +1,5 @@
 -- A call behind a lock, as it is seen once the lock is let go.
-use Rattle.std.proofs.Common.{◌≡◌, ℕ, List, None, true}
+use Rattle.std.proofs.Common.{◌≡◌, ℕ, Bool, List, Some, None, true}
 use Rattle.std.specs.Prelude.{Result, OnOk, OnErr}
 use Rattle.presence_journal_data.specs.declared.step.Step.{Step}
 use Rattle.presence_journal.specs.History.{History, own}
@@ -9,12 +9,13 @@ use Rattle.shard_pool_lent.specs.Starting.{IsBegunAgain}
 use Rattle.shard_pool_lent.specs.Steps.{Stepped, Answers, IsDue, refusal, checkpoint_refusal}
 use Rattle.shard_pool_lent.specs.declared.reply.Reply.{Reply}
 use Rattle.shard_pool_lent.specs.Hands.{Hand}
-use Rattle.shard_pool_lent.specs.Lent.{Notes, Replies}
+use Rattle.shard_pool_lent.specs.Lent.{Notes, Replies, IsDueOnceNoted}
 use Rattle.shard_pool_locks.specs.Seated.{Called}
 use Rattle.shard_pool_locks.specs.Unseated.{IsBehind, IsMadeWith, IsCheckpointed}
 
-pub called : {A : Type 0} (h : History) (node : List ℕ) (old new : Hand) (step : Step) (Gives : History → A → Type 0) (r : Result (Reply A) ShardFault) → IsLegal h → (own h).name ≡ node → Notes h old new step r → Replies old.shard h step (Gives h) r → Called node old new step Gives r
-called h node old new step Gives r legal of_node notes answer = record { history = h; legal = legal; of_node = of_node; notes = notes; answer = answer }
+pub called : {A : Type 0} (h left : History) (node : List ℕ) (there : History → Bool) (old new : Hand) (step : Step) (Gives : History → A → Type 0) (r : Result (Reply A) ShardFault)
+    → IsLegal h → (own h).name ≡ node → Stepped h left (Some old.seat) step r → Notes h old new step r → Replies old.shard h step (Gives h) r → IsDueOnceNoted r (refusal (there h) h step) → Called node there old new step Gives r
+called h left node there old new step Gives r legal of_node made notes answer due = record { history = h; left = left; legal = legal; of_node = of_node; made = made; notes = notes; answer = answer; due = due }
 
 pub is_behind : (h : History) (node : List ℕ) (Is : History → Type 0) → IsLegal h → (own h).name ≡ node → Is h → IsBehind node Is
 is_behind h node Is legal of_node is = record { history = h; legal = legal; of_node = of_node; is = is }

@@ -16,5 +16,6 @@ pub use seated::{
 };
 pub use unseated::{
     locked_checkpoint, locked_cut, locked_full, locked_heard, locked_journal, locked_merge,
-    locked_permdown, locked_start_of, locked_status, locked_tick, locked_top, locked_waits,
+    locked_permdown, locked_start_of, locked_status, locked_tick, locked_told_from, locked_top,
+    locked_waits,
 };

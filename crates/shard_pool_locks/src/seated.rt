@@ -5,7 +5,7 @@ ghost use Rattle.presence_journal.specs.Present.{listed, dots_of};
 ghost use Rattle.presence_journal.specs.Queue.{items_given};
 ghost use Rattle.presence_journal.specs.Table.{outcome_of, rows_of_key, rows_of_pid, listed_key};
 ghost use Rattle.shard_pool_lent.specs.Steps.{new_dot, slot_of};
-ghost use Rattle.shard_pool_locks.specs.Seated.{Called};
+ghost use Rattle.shard_pool_locks.specs.Seated.{Called, always, finds};
 
 use crate::gate::Gate;
 use presence_base::{Dot, Json, Key, Meta, Row, Topic};
@@ -34,7 +34,7 @@ pub fn locked_track<G: Gate, L: Lane, R: Wait>(
     meta: &Meta,
 ) -> Result<Reply<Dot>, PoolFault>
     requires pid { pid ≤ 2 ^ 62 }
-    ensures { Called L.node part.old part.new
+    ensures { Called L.node always part.old part.new
         (Step.Track pid topic.now key.now meta.now)
         (λ h d. new_dot (outcome_of h (Step.Track pid topic.now key.now meta.now)) ≡ Some d) result }
 {
@@ -62,7 +62,7 @@ pub fn locked_update<G: Gate, L: Lane, R: Wait>(
     meta: &Meta,
 ) -> Result<Reply<Dot>, PoolFault>
     requires pid { pid ≤ 2 ^ 62 }
-    ensures { Called L.node part.old part.new
+    ensures { Called L.node always part.old part.new
         (Step.Update pid topic.now key.now meta.now)
         (λ h d. new_dot (outcome_of h (Step.Update pid topic.now key.now meta.now)) ≡ Some d) result }
 {
@@ -88,7 +88,7 @@ pub fn locked_untrack<G: Gate, L: Lane, R: Wait>(
     topic: &Topic,
     key: &Key,
 ) -> Result<Reply<Vec<Dot>>, PoolFault>
-    ensures { Called L.node part.old part.new
+    ensures { Called L.node always part.old part.new
         (Step.Untrack pid topic.now key.now)
         (λ h dots. dots.items ≡ dots_of (rows_of_key h pid topic.now key.now)) result }
 {
@@ -113,7 +113,7 @@ pub fn locked_untrack_all<G: Gate, L: Lane, R: Wait>(
     pid: u64,
     topic: &Topic,
 ) -> Result<Reply<Vec<Dot>>, PoolFault>
-    ensures { Called L.node part.old part.new
+    ensures { Called L.node always part.old part.new
         (Step.UntrackAll pid topic.now)
         (λ h dots. dots.items ≡ dots_of (rows_of_pid h pid topic.now)) result }
 {
@@ -137,7 +137,9 @@ pub fn locked_list<G: Gate, L: Lane, R: Wait>(
     part: &mut Part<L>,
     topic: &Topic,
 ) -> Result<Reply<Vec<(Dot, Row)>>, PoolFault>
-    ensures { Called L.node part.old part.new (Step.List topic.now) (λ h rows. rows.items ≡ listed h topic.now) result }
+    ensures { Called L.node always part.old part.new
+        (Step.List topic.now)
+        (λ h rows. rows.items ≡ listed h topic.now) result }
 {
     gate.before(part.seat(), part.shard());
     let mut guard = shard.lock(rt);
@@ -160,7 +162,7 @@ pub fn locked_get<G: Gate, L: Lane, R: Wait>(
     topic: &Topic,
     key: &Key,
 ) -> Result<Reply<Vec<(Dot, Row)>>, PoolFault>
-    ensures { Called L.node part.old part.new
+    ensures { Called L.node always part.old part.new
         (Step.Get topic.now key.now)
         (λ h rows. rows.items ≡ listed_key h topic.now key.now) result }
 {
@@ -184,7 +186,7 @@ pub fn locked_subscribe<G: Gate, L: Lane, R: Wait>(
     part: &mut Part<L>,
     topic: &Topic,
 ) -> Result<Reply<Sub>, PoolFault>
-    ensures { Called L.node part.old part.new
+    ensures { Called L.node always part.old part.new
         (Step.Subscribe topic.now)
         (λ h sub. (sub.number ≡ last_number h + 1) × (sub.slot ≡ slot_of sub.number)) result }
 {
@@ -210,7 +212,7 @@ pub fn locked_take<G: Gate, L: Lane, R: Wait>(
     max: u32,
 ) -> Result<Reply<Vec<Item>>, PoolFault>
     requires limit { IsTrue (is_take_limit max) }
-    ensures { Called L.node part.old part.new
+    ensures { Called L.node (finds sub.now) part.old part.new
         (Step.Take sub.now.number max)
         (λ h items. items.items ≡ items_given h sub.now.number max) result }
 {
@@ -234,7 +236,9 @@ pub fn locked_unsubscribe<G: Gate, L: Lane, R: Wait>(
     part: &mut Part<L>,
     sub: &Sub,
 ) -> Result<Reply<()>, PoolFault>
-    ensures { Called L.node part.old part.new (Step.Unsubscribe sub.now.number) (λ h _. Unit {0}) result }
+    ensures { Called L.node (finds sub.now) part.old part.new
+        (Step.Unsubscribe sub.now.number)
+        (λ h _. Unit {0}) result }
 {
     gate.before(part.seat(), part.shard());
     let mut guard = shard.lock(rt);
@@ -258,7 +262,7 @@ pub fn locked_shout<G: Gate, L: Lane, R: Wait>(
     payload: &Json,
 ) -> Result<Reply<()>, PoolFault>
     requires payload { IsTrue (is_payload payload.now) }
-    ensures { Called L.node part.old part.new (Step.Shout topic.now payload.now) (λ h _. Unit {0}) result }
+    ensures { Called L.node always part.old part.new (Step.Shout topic.now payload.now) (λ h _. Unit {0}) result }
 {
     gate.before(part.seat(), part.shard());
     let mut guard = shard.lock(rt);

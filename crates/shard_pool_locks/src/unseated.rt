@@ -3,6 +3,7 @@
 ghost use Rattle.std.specs.Prelude.{◌≡◌, IfOk, IfErr};
 ghost use Rattle.presence_journal.specs.History.{IsTop, start_of, status};
 ghost use Rattle.presence_journal_sets.specs.Full.{IsFullOf};
+ghost use Rattle.presence_journal_cuts.specs.KeptDeltas.{IsToldFrom};
 ghost use Rattle.shard_pool_lent.specs.ShardFault.TheVariants.{OutOfMemory};
 ghost use Rattle.shard_pool_locks.specs.Unseated.{IsOf, IsBehind, IsMade, IsCutMade, IsCheckpointed, TellsWaiting};
 
@@ -118,6 +119,25 @@ pub fn locked_full<L: Lane, R: Wait>(
     let guard = shard.lock(rt);
     let _journal = guard.journal();
     match guard.full(alloc) {
+        Ok(told) => Ok(told),
+        Err(_) => Err(PoolFault::OutOfMemory),
+    }
+}
+
+/// What a node is told that knows the own dots up to a count. It is no step, and refuses with `OutOfMemory` alone.
+#[tactic(auto, using(crate::proofs::Calls::unseated))]
+pub fn locked_told_from<L: Lane, R: Wait>(
+    rt: &R,
+    alloc: Global,
+    shard: &Mutex<Locked<L>>,
+    count: u64,
+) -> Result<Told, PoolFault>
+    ensures told { IfOk result (λ t. IsBehind L.node (λ h. IsToldFrom h count t)) }
+    ensures err { IfErr result (λ e. e ≡ OutOfMemory) }
+{
+    let mut guard = shard.lock(rt);
+    let _journal = guard.journal();
+    match guard.told_from(alloc, count) {
         Ok(told) => Ok(told),
         Err(_) => Err(PoolFault::OutOfMemory),
     }
