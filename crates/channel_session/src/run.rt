@@ -1,8 +1,10 @@
-ghost use Rattle.std.specs.Prelude.{◌≡◌, [], ◌≤◌, map, vec_capacity, IsTrue, if◌then◌else◌};
+ghost use Rattle.std.specs.Prelude.{◌≡◌, [], ◌<◌, ◌≤◌, length, map, vec_capacity, false, Err, IsTrue, if◌then◌else◌};
 ghost use Rattle.presence_journal.specs.Limits.{is_payload};
 ghost use Rattle.phx_message.specs.Reading.{decoded};
+ghost use Rattle.phx_message.specs.declared.message.MessageFault.TheVariants.{TooLong};
 ghost use Rattle.channel_session_rules.specs.Replies.{messages_of};
 ghost use Rattle.channel_session_rules.specs.Said.{Worded, text_of};
+ghost use Rattle.channel_session.specs.declared.fault.SessionFault.TheVariants.{BadMessage};
 ghost use Rattle.channel_session.specs.Ran.{MessageRanBy, RanBy, failed_at, fault_of, texts_in};
 
 use crate::acting::act;
@@ -90,7 +92,7 @@ fn run_message<P: Port, H: PresenceHooks>(
 /// `Limits::CLIENT`. A fault leaves the session and the port as they were, unless a call was made
 /// that leaves something behind: one that was accepted (asking what waits is none), or one of the
 /// two that end a join, accepted or not. Then the session has failed, the topic is among those
-/// that `joined` names, and only `end` acts.
+/// that `joined` names, and only `end` acts. A text that is too long is refused without memory.
 pub fn run_text<P: Port, H: PresenceHooks>(
     alloc: Global,
     session: &mut Session,
@@ -99,18 +101,21 @@ pub fn run_text<P: Port, H: PresenceHooks>(
     hooks: &H,
     text: &str,
 ) -> Result<Vec<String>, SessionFault>
-    ensures { RanBy (Worded (H.fetched hooks.now) (H.plain hooks.now)) P.step
+    ensures ran { RanBy (Worded (H.fetched hooks.now) (H.plain hooks.now)) P.step
         routes.now session.old (decoded Limits.CLIENT text.now) port.old port.new session.new result }
+    ensures long { session.old.failed ≡ false → Limits.CLIENT.bytes < length text.now
+        → result ≡ Err (BadMessage TooLong) }
 {
     if session.failed {
         return Err(SessionFault::Failed);
     }
+    let message = match decode(alloc, text, Limits::CLIENT) {
+        Ok(message) => message,
+        Err(MessageFault::OutOfMemory) => return Err(SessionFault::OutOfMemory),
+        Err(fault) => return Err(SessionFault::BadMessage(fault)),
+    };
     let Ok(texts) = Vec::with_capacity(alloc, 2) else {
         return Err(SessionFault::OutOfMemory);
     };
-    match decode(alloc, text, Limits::CLIENT) {
-        Err(MessageFault::OutOfMemory) => Err(SessionFault::OutOfMemory),
-        Err(fault) => Err(SessionFault::BadMessage(fault)),
-        Ok(message) => run_message(alloc, session, port, routes, hooks, message, texts),
-    }
+    run_message(alloc, session, port, routes, hooks, message, texts)
 }

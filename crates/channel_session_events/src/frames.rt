@@ -12,8 +12,8 @@ use hook_registry::{Notice, PresenceHooks, notices, render_diff, render_state};
 use phx_message::laws::pushes_are_written;
 use phx_message::{Message, broadcast, encode, push, push_text};
 use presence_base::{Json, Topic};
-use presence_journal::{Item, Payload, RowDiff, Rows};
-use presence_metas_texts::{are_in_key_order, diff_text, state_text};
+use presence_journal::{Item, Rows, SharedDiff, SharedShout};
+use presence_metas_texts::{are_in_key_order, state_text};
 use std::alloc::{AllocError, Global};
 
 /// What a delivery gives.
@@ -53,13 +53,13 @@ fn diff_message<H: PresenceHooks>(
     hooks: &H,
     topic: &Topic,
     place: &Place,
-    diff: &RowDiff,
+    diff: &SharedDiff,
 ) -> Result<Message, AllocError>
     ensures worded { IfOk result (λ m. Worded (H.fetched hooks.now) (H.plain hooks.now)
         (told (joined_of (topic.now, place.now)) (Item.Diff diff.now)) m) }
     ensures whole { IfOk result (λ m. has_float m.payload ≡ false) }
 {
-    let value = render_diff(alloc, hooks, place.kind, topic, diff)?;
+    let value = render_diff(alloc, hooks, place.kind, topic, diff.diff())?;
     broadcast(alloc, topic.clone()?, "presence_diff", Json::new(value))
 }
 
@@ -86,15 +86,12 @@ fn plain_state_frame(
 }
 
 // The frame of a diff to which nothing is added.
-fn plain_diff_frame(alloc: Global, topic: &Topic, diff: &RowDiff) -> Result<String, AllocError>
-    requires joins { AreInKeyOrder diff.now.joins }
-    requires leaves { AreInKeyOrder diff.now.leaves }
+fn plain_diff_frame(alloc: Global, topic: &Topic, diff: &SharedDiff) -> Result<String, AllocError>
     ensures { IfOk result (λ t. string_bytes t
         ≡ text_of (broadcast_of topic.now (codes "presence_diff") (diff_of diff.now.joins diff.now.leaves))) }
 {
     pushes_are_written();
-    let diff = diff_text(alloc, diff.joins.as_slice(), diff.leaves.as_slice())?;
-    push_text(alloc, &None, topic, "presence_diff", diff.as_str())
+    push_text(alloc, &None, topic, "presence_diff", diff.payload())
 }
 
 // The frame of a state: the rows' text alone, where nothing is added to them.
@@ -115,26 +112,18 @@ fn state_frame<H: PresenceHooks>(
     encode(alloc, &message)
 }
 
-// Whether the rows on both sides are in order of their keys.
-fn is_in_key_order(diff: &RowDiff) -> bool
-    ensures joins { result ≡ true → AreInKeyOrder diff.now.joins }
-    ensures leaves { result ≡ true → AreInKeyOrder diff.now.leaves }
-{
-    are_in_key_order(diff.joins.as_slice()) && are_in_key_order(diff.leaves.as_slice())
-}
-
-// The frame of a diff: the rows' texts alone, where nothing is added to them.
+// The frame of a diff: round the text that is shared, where nothing is added to it.
 fn diff_frame<H: PresenceHooks>(
     alloc: Global,
     hooks: &H,
     topic: &Topic,
     place: &Place,
-    diff: &RowDiff,
+    diff: &SharedDiff,
 ) -> Result<String, AllocError>
     ensures { IfOk result (λ t. Writes (Worded (H.fetched hooks.now) (H.plain hooks.now))
         (told (joined_of (topic.now, place.now)) (Item.Diff diff.now)) (string_bytes t)) }
 {
-    if hooks.is_plain() && is_in_key_order(diff) {
+    if hooks.is_plain() {
         return plain_diff_frame(alloc, topic, diff);
     }
     let message = diff_message(alloc, hooks, topic, place, diff)?;
@@ -142,13 +131,12 @@ fn diff_frame<H: PresenceHooks>(
 }
 
 // The frame of a shout on a topic.
-fn shout_frame(alloc: Global, topic: &Topic, payload: &Payload) -> Result<String, AllocError>
+fn shout_frame(alloc: Global, topic: &Topic, shout: &SharedShout) -> Result<String, AllocError>
     ensures { IfOk result (λ t. string_bytes t
-        ≡ text_of (broadcast_of topic.now (codes "shout") payload.now)) }
+        ≡ text_of (broadcast_of topic.now (codes "shout") shout.now)) }
 {
     pushes_are_written();
-    let payload = payload.as_json().as_value().to_string(alloc)?;
-    push_text(alloc, &None, topic, "shout", payload.as_str())
+    push_text(alloc, &None, topic, "shout", shout.payload())
 }
 
 // The frame that tells an item to the join of its topic.
@@ -165,7 +153,7 @@ fn item_frame<H: PresenceHooks>(
     match item {
         Item::State(rows) => state_frame(alloc, hooks, topic, place, rows),
         Item::Diff(diff) => diff_frame(alloc, hooks, topic, place, diff),
-        Item::Shout(payload) => shout_frame(alloc, topic, payload),
+        Item::Shout(shout) => shout_frame(alloc, topic, shout),
     }
 }
 
@@ -181,7 +169,7 @@ fn item_notices<H: PresenceHooks>(
         (told (joined_of (topic.now, place.now)) item.now) v.items) }
 {
     match item {
-        Item::Diff(diff) => notices(alloc, hooks, place.kind, topic, diff),
+        Item::Diff(diff) => notices(alloc, hooks, place.kind, topic, diff.diff()),
         Item::State(_) | Item::Shout(_) => Ok(Vec::new(alloc)),
     }
 }

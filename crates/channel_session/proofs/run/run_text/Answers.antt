@@ -1,7 +1,7 @@
 use Rattle.std.proofs.Common.{◌≡◌, [], false, inl, refl, rules}
 use Rattle.channel_session.proofs.run.run_text.Goals as goal
 
-pub returns-in-Err-OutOfMemory : goal.returns-in-Err-OutOfMemory
-returns-in-Err-OutOfMemory g c =
+pub returns-in-Err-OutOfMemory-clause-ran : goal.returns-in-Err-OutOfMemory-clause-ran
+returns-in-Err-OutOfMemory-clause-ran g c =
     let lives : c.args.session.now.failed ≡ false = search rules in
     record { said = []; writes = tt; ended = (lives, inl (record { port = refl; session = refl })) }
