@@ -1,5 +1,5 @@
 -- Which message a line is.
-use Rattle.std.proofs.Common.{◌≡◌, ◌≤◌, ◌<◌, ◌+◌, ℕ, List, length, take, Bool, true, false, nat_lt, Err, refl, sym, ap, ◌∙◌, arith}
+use Rattle.std.proofs.Common.{◌≡◌, ◌≤◌, ◌<◌, ◌+◌, ℕ, List, length, take, Bool, true, false, nat_lt, Some, None, Err, refl, sym, ap, ◌∙◌, arith}
 use Rattle.std.specs.Str.{IsUtf8, is_utf8}
 use Rattle.std.proofs.lemmas.Str.{IsUtf8-from_is_utf8, is_utf8-from_IsUtf8}
 use Rattle.std.proofs.lemmas.Bool.Decides.{nat_tests}
@@ -8,7 +8,7 @@ use Rattle.phx_message.specs.Reading.{decoded}
 use Rattle.phx_message.specs.declared.message.Limits.{Limits}
 use Rattle.phx_message.specs.declared.message.MessageFault.TheVariants.{TooLong, NotJson}
 use Rattle.phx_message.specs.declared.message.TheConstants.Limits as the_limits
-use Rattle.presence_node_lines.specs.Reading.{message_in, line_message, line_limit}
+use Rattle.presence_node_lines.specs.Reading.{bytes_fault, message_in, line_message, line_limit}
 
 within : (n : ℕ) (line : List ℕ) → length line ≤ n → nat_lt n (length line) ≡ false
 within n line h = grind (arith, nat_tests)
@@ -29,6 +29,16 @@ no_text false line e lacks = refl
 pub line_of_bytes : (limits : Limits) (line : List ℕ) → length line ≤ limits.bytes → ¬ (IsUtf8 line) → message_in limits line ≡ Err NotJson
 unfolding message_in
 line_of_bytes limits line h lacks = rw (within limits.bytes line h, no_text (is_utf8 line) line refl lacks) refl
+
+-- nothing is wrong with the bytes of a text within the limit
+pub bytes_of_text : (limits : Limits) (line : List ℕ) → length line ≤ limits.bytes → IsUtf8 line → bytes_fault limits line ≡ None
+bytes_of_text limits line h utf8 = rw (within limits.bytes line h, is_utf8-from_IsUtf8 line utf8) refl
+
+pub bytes_of_none : (limits : Limits) (line : List ℕ) → length line ≤ limits.bytes → ¬ (IsUtf8 line) → bytes_fault limits line ≡ Some NotJson
+bytes_of_none limits line h lacks = rw (within limits.bytes line h, no_text (is_utf8 line) line refl lacks) refl
+
+pub bytes_too_many : (limits : Limits) (line : List ℕ) → limits.bytes < length line → bytes_fault limits line ≡ Some TooLong
+bytes_too_many limits line h = rw (beyond limits.bytes line h) refl
 
 pub too_long : (limits : Limits) (line : List ℕ) → limits.bytes < length line → message_in limits line ≡ Err TooLong
 unfolding message_in

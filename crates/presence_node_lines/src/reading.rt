@@ -1,14 +1,17 @@
-ghost use Rattle.std.specs.Prelude.{◌≡◌, IfOk, IfErr, Err};
+ghost use Rattle.std.specs.Prelude.{◌≡◌, Some, IfOk, IfErr, Err};
+ghost use Rattle.phx_message.specs.declared.message.MessageFault.{MessageFault as Fault};
 ghost use Rattle.phx_message.specs.Reading.{Answers, decoded};
-ghost use Rattle.presence_node_lines.specs.Reading.{message_in, line_message};
+ghost use Rattle.presence_node_lines.specs.Reading.{bytes_fault, message_in, line_message};
 
 use phx_message::{Limits, Message, MessageFault, decode};
 use std::alloc::Global;
 
-/// The message that a line is under these limits, without its line feed.
+/// The message that a line is under these limits, without its line feed. A line that is too long, or
+/// no UTF-8, is refused without memory.
 #[tactic(auto, unfolding(crate::specs::Reading::message_in))]
 pub fn message_within(alloc: Global, line: &[u8], limits: Limits) -> Result<Message, MessageFault>
-    ensures { Answers result (message_in limits line.now) }
+    ensures message { Answers result (message_in limits line.now) }
+    ensures none { (fault : Fault) → bytes_fault limits line.now ≡ Some fault → result ≡ Err fault }
 {
     if line.len() > limits.bytes {
         return Err(MessageFault::TooLong);
