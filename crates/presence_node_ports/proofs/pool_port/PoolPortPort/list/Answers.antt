@@ -2,6 +2,7 @@ use Rattle.std.proofs.Common.{ap}
 use Rattle.presence_journal_data.specs.declared.step.Step.TheVariants as steps_are
 use Rattle.presence_journal.specs.History.{History}
 use Rattle.presence_journal.specs.Present.{listed}
+use Rattle.shard_pool.specs.Seated.{always}
 use Rattle.presence_node_ports.proofs.Asking.{first_items, again_items}
 use Rattle.presence_node_ports.proofs.pool_port.PoolPortPort.list.Goals as goal
 
@@ -10,7 +11,7 @@ returns-then-not-makes_room g c =
     let old = c.args.self.now in
     let room = c.makes_room.ensures in (
       (room.pool, ap (λ s. s.ghost_name) room.seat),
-      first_items old.pool.now.own.name old.pool.now.shards old.seat.now c.args.topic.now (steps_are.List c.args.topic.now) (λ (h : History). listed h c.args.topic.now) c.list-reply.new.seat c.makes_room.new.self.seat.now c.list-reply.result c.value.result (ap (λ s. s.now) room.seat) c.value.ensures c.list-reply.ensures,
+      first_items old.pool.now.own.name always old.pool.now.shards old.seat.now c.args.topic.now (steps_are.List c.args.topic.now) (λ (h : History). listed h c.args.topic.now) c.list-reply.new.seat c.makes_room.new.self.seat.now c.list-reply.result c.value.result (ap (λ s. s.now) room.seat) c.value.ensures c.list-reply.ensures,
     )
 
 pub returns : goal.returns
@@ -19,5 +20,5 @@ returns g c =
     let left = c.makes_room.new.self in
     let room = c.makes_room.ensures in (
       (room.pool, ap (λ s. s.ghost_name) room.seat),
-      again_items old.pool.now.own.name old.pool.now.shards old.seat.now c.args.topic.now (steps_are.List c.args.topic.now) (λ (h : History). listed h c.args.topic.now) c.list-reply.new.seat left.seat.now c.list-again.new.seat left.pool.now.own.name left.pool.now.shards c.list-reply.result c.list-again.result c.value-2.result (ap (λ s. s.now) room.seat) (ap (λ p. p.now.own.name) room.pool) (ap (λ p. p.now.shards) room.pool) (room.full c.if-not-makes_room.false) c.value-2.ensures c.list-reply.ensures c.list-again.ensures,
+      again_items old.pool.now.own.name always old.pool.now.shards old.seat.now c.args.topic.now (steps_are.List c.args.topic.now) (λ (h : History). listed h c.args.topic.now) c.list-reply.new.seat left.seat.now c.list-again.new.seat left.pool.now.own.name left.pool.now.shards c.list-reply.result c.list-again.result c.value-2.result (ap (λ s. s.now) room.seat) (ap (λ p. p.now.own.name) room.pool) (ap (λ p. p.now.shards) room.pool) (room.full c.if-not-makes_room.false) c.value-2.ensures c.list-reply.ensures c.list-again.ensures,
     )
