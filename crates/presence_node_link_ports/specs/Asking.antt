@@ -8,6 +8,7 @@ use Rattle.presence_journal_data.specs.declared.step.Step.{Step}
 use Rattle.presence_journal_data.specs.declared.step.Step.TheVariants as steps_are
 use Rattle.presence_journal.specs.History.{History, IsTop, status as status_in}
 use Rattle.presence_journal_sets.specs.Full.{IsFullOf}
+use Rattle.presence_journal_cuts.specs.KeptDeltas.{IsToldFrom}
 use Rattle.shard_pool_lent.specs.ShardFault.{ShardFault}
 use Rattle.shard_pool_lent.specs.ShardFault.TheVariants as faults
 use Rattle.shard_pool_locks.specs.Unseated.{IsBehind, IsMade, IsCutMade}
@@ -48,6 +49,11 @@ abbrev pub TellsAll : List ℕ → Result ToldValue ActFault → Type 0
 TellsAll node (Ok told) = IsBehind node (λ h. IsFullOf h told)
 TellsAll node (Err fault) = fault ≡ acts.OutOfMemory
 
+-- what is told from a count on, unless there is no memory
+abbrev pub TellsFrom : List ℕ → ℕ → Result ToldValue ActFault → Type 0
+TellsFrom node from (Ok told) = IsBehind node (λ h. IsToldFrom h from told)
+TellsFrom node from (Err fault) = fault ≡ acts.OutOfMemory
+
 -- what is answered at a shard that is there
 abbrev pub Asked : List ℕ → (q : Ask) → Answer q → Type 0
 Asked node (status s r) a = Reads node (λ h x. x ≡ status_in h r) a
@@ -55,7 +61,7 @@ Asked node (heard s r now) a = Made node (steps_are.Heard r now) a
 Asked node (merge s t) a = Made node (steps_are.Merge t) a
 Asked node (permdown s r) a = Made node (steps_are.PermDown r) a
 Asked node (top s r) a = Reads node (λ h n. IsTop h r n) a
-Asked node (told_from s from) a = TellsAll node a
+Asked node (told_from s from) a = TellsFrom node from a
 Asked node (full s) a = TellsAll node a
 
 abbrev pub shard_in : Ask → ℕ

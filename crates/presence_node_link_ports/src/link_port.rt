@@ -12,8 +12,6 @@ use std::sync::Wait;
 
 /// The port of a link over a pool: each of its calls is that call of the pool, without a seat, and waits for the lock of
 /// the shard. One that finds the shard's journal full makes room there by a checkpoint and is tried once more.
-///
-/// Nothing but the last cut is kept of what was told: `told_from` tells all that is known, as `full` does.
 #[derive(Drop)]
 pub struct PoolLinkPort<'a, R: Wait, G: Gate, A: Lane, B: Lane, C: Lane, D: Lane> {
     rt: &'a R,
@@ -155,8 +153,11 @@ impl<'a, R: Wait, G: Gate, A: Lane, B: Lane, C: Lane, D: Lane> LinkPort
         Ok(self.pool.top(self.rt, shard, replica))
     }
 
-    fn told_from(&mut self, alloc: Global, shard: u32, _from: u64) -> Result<Told, ActFault> {
-        self.full(alloc, shard)
+    fn told_from(&mut self, alloc: Global, shard: u32, from: u64) -> Result<Told, ActFault> {
+        if shard >= self.shards {
+            return Err(ActFault::ShardFull);
+        }
+        told(self.pool.told_from(self.rt, alloc, shard, from))
     }
 
     fn full(&mut self, alloc: Global, shard: u32) -> Result<Told, ActFault> {
