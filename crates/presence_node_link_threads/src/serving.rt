@@ -5,6 +5,7 @@ use crate::links::{Links, Wakes};
 use crate::stopping::time_behind;
 use crate::stream::LinkStream;
 use node_links::{DialFault, End, LinkFault, Peer, accept_one};
+use presence_base::Replica;
 use presence_node_link_ports::PoolLinkPort;
 use presence_node_link_words::{LinkEnd, greeted};
 use shard_pool::{Gate, Lane, Pool};
@@ -19,6 +20,13 @@ fn place_of(alloc: Global, socket: &TcpStream) -> Result<String, AllocError> {
         Ok(address) => format!(in alloc; "from {address}"),
         Err(_) => String::from_str(alloc, "from another node"),
     }
+}
+
+// The same with the node that is there, once it said which it is.
+fn place_with(alloc: Global, place: &str, other: &Replica) -> Result<String, AllocError> {
+    let name = other.name.as_str();
+    let incarnation = other.incarnation;
+    format!(in alloc; "{place}, {name}.{incarnation}")
 }
 
 // Why a link that broke off is told to have ended.
@@ -63,6 +71,10 @@ impl Incoming<'_> {
             greeted(&links.own, None, &other)?;
             self.is_up = true;
             links.tell_up(rt, self.place.as_str(), &other);
+            // Where memory is wanting its end is told with the address alone.
+            if let Ok(place) = place_with(links.alloc, self.place.as_str(), &other) {
+                self.place = place;
+            }
         }
         Ok(())
     }
