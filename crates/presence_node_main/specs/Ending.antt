@@ -1,5 +1,7 @@
 -- What the program says at its end: a line, the stream that it goes to, and the status.
-use Rattle.std.specs.Prelude.{◌≡◌, ℕ, List, ◌∷◌, ◌++◌, Bool, true, false, Option, Some, None, Result, Ok, Err, option_map, string_bytes}
+use Rattle.std.specs.Prelude.{◌≡◌, ℕ, List, ◌∷◌, ◌++◌, Bool, true, false, Option, Some, None, Result, Ok, Err, option_map, string_bytes, codes}
+use Rattle.std.specs.declared.io.ErrorKind.{ErrorKind}
+use Rattle.std.specs.declared.io.ErrorKind.TheVariants.{OutOfMemory, InvalidData}
 use Rattle.presence_node_options.specs.declared.fault.UsageFault.{UsageFault}
 use Rattle.presence_node_options.specs.declared.fault.UsageFault.TheVariants.{Usage, Memory}
 use Rattle.presence_node_fold.specs.Told.{told_of_fold, fold_status_number}
@@ -65,3 +67,13 @@ pub record EndsServe (end : ServeEnd) (e : Ending) : Type 0 where
   pub stream_is : e.stream ≡ serve_stream end
   pub status_is : e.status ≡ serve_status end
   pub line : TellsEnd end (option_map string_bytes e.line)
+
+-- why the words can't be read or help can't be written; of want of memory nothing is said
+abbrev pub stopped_words : ErrorKind → Option (List ℕ)
+stopped_words OutOfMemory = None
+stopped_words InvalidData = Some (codes "presence_node: a word of the command line is not UTF-8, as each must be; presence_node --help tells the words")
+stopped_words _ = Some (codes "presence_node: the output could not be written")
+
+abbrev pub stopped_status : ErrorKind → ℕ
+stopped_status OutOfMemory = 2
+stopped_status _ = 1

@@ -1,5 +1,5 @@
 ghost use Rattle.std.specs.Prelude.{◌≡◌, ◌++◌, ◌∷◌, IfOk, Some, None, option_map, string_bytes};
-ghost use Rattle.presence_node_main.specs.Ending.{EndsFold, EndsServe, EndsStdio, EndsUsage, IsSilent, Prints, Says, serve_stream as serve_stream_in};
+ghost use Rattle.presence_node_main.specs.Ending.{EndsFold, EndsServe, EndsStdio, EndsUsage, IsSilent, Prints, Says, serve_stream as serve_stream_in, stopped_status, stopped_words};
 
 use presence_node_fold::{FoldFault, fold_status_of, fold_told_line, fold_words};
 use presence_node_options::UsageFault;
@@ -146,8 +146,8 @@ pub fn usage_ending(fault: UsageFault) -> Ending
 
 /// Why the words were not read or the help was not written, if that is known, and the status.
 pub fn stopped_ending(kind: ErrorKind) -> (Option<&'static str>, u8)
-    ensures memory { kind ≡ ErrorKind.OutOfMemory → result.1 ≡ 2 }
-    ensures other { (kind ≡ ErrorKind.OutOfMemory → ⊥) → result.1 ≡ 1 }
+    ensures words { option_map (λ words. words.now) result.0 ≡ stopped_words kind }
+    ensures status { result.1 ≡ stopped_status kind }
 {
     match kind {
         ErrorKind::OutOfMemory => (None, 2),

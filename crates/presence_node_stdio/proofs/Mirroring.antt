@@ -167,6 +167,7 @@ begun_legal o name incarnation = record {
   older = tt;
   older_low = refl;
   chains = tt;
+  kept = λ d next. tt;
   subscribers = refl;
   subscribers_once = refl;
   seated = omega arith;

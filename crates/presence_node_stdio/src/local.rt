@@ -141,7 +141,7 @@ impl LocalSession {
     {
         let routes = options.routes.clone()?;
         let own = Replica {
-            name: options.name.clone()?,
+            name: options.name,
             incarnation: options.incarnation,
         };
         Ok(LocalSession {

@@ -4,12 +4,12 @@ use Rattle.presence_node_stdio.proofs.local.run_port.Goals as goal
 
 pub returns-clause-same_reference : goal.returns-clause-same_reference
 returns-clause-same_reference g c =
-    let ran = c.run_text.ensures in
+    let ran = c.run_text.ensures.ran in
     text_keeps _ (λ p. p.shard.ghost_name) (λ old new q a h. h.0) _ _ _ c.args.port.now c.run_text.new.port _ (said_by ran.said c.run_text.result) ran.ended
 
 pub returns-clause-answered : goal.returns-clause-answered
 returns-clause-answered g c =
-    let ran = c.run_text.ensures in record {
+    let ran = c.run_text.ensures.ran in record {
       said = ran.said;
       writes = ran.writes;
       ended = text_local _ (λ p. p.shard.now) (λ old new q a h. h.1) _ _ _ c.args.port.now c.run_text.new.port _ (said_by ran.said c.run_text.result) ran.ended;
