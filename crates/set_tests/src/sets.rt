@@ -5,6 +5,7 @@ use orswot_core::{Orswot, RawRow, RawTold, ReplicaTest, Told};
 use presence_base::{Dot, Key, Meta, NodeName, Replica, Row, Topic};
 use serde_json::{Map, Value};
 use std::alloc::{AllocError, Global};
+use std::collections::btree_map::Range;
 use std::test::Fail;
 
 // The replica `b`, incarnation 1.
@@ -392,6 +393,46 @@ fn what_is_told_of_a_replica_is_left_out(rt: HostRuntime) -> Result<(), Fail> {
     let told = first_two(alloc)?;
     assert!(rt; without(alloc, &told, "b")? == (0, false));
     assert!(rt; without(alloc, &told, "c")? == (2, true));
+    Ok(())
+}
+
+// The range up to 4 with a row at each count.
+fn first_four(alloc: Global) -> Result<Told, AllocError> {
+    let mut raw = empty(alloc);
+    raw.ranges.push((replica(alloc)?, 0, 4))?;
+    raw.live.push(raw_row(alloc, 1, "u1")?)?;
+    raw.live.push(raw_row(alloc, 2, "u2")?)?;
+    raw.live.push(raw_row(alloc, 3, "u3")?)?;
+    raw.live.push(raw_row(alloc, 4, "u4")?)?;
+    told(alloc, raw)
+}
+
+fn next_count(rows: &mut Range<'_, Dot, Row>) -> Option<u64> {
+    match rows.next() {
+        Some((dot, _row)) => Some(dot.count),
+        None => None,
+    }
+}
+
+// The counts of the first three live rows above 1 and up to 3, where so many are there.
+fn counts_in_range(
+    alloc: Global,
+    told: &Told,
+) -> Result<(Option<u64>, Option<u64>, Option<u64>), AllocError> {
+    let mut set = Orswot::new(alloc);
+    set.join(alloc, told)?;
+    let range = (replica(alloc)?, 1, 3);
+    let mut rows = set.rows_in(&range);
+    let first = next_count(&mut rows);
+    let second = next_count(&mut rows);
+    Ok((first, second, next_count(&mut rows)))
+}
+
+#[test]
+fn the_rows_in_a_range_are_above_its_first_count(rt: HostRuntime) -> Result<(), Fail> {
+    let alloc = rt.alloc();
+    let told = first_four(alloc)?;
+    assert!(rt; counts_in_range(alloc, &told)? == (Some(2), Some(3), None));
     Ok(())
 }
 

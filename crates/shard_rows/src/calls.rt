@@ -16,6 +16,7 @@ pub enum Call {
     PermDown,
     Merge(Tells),
     Cut,
+    Checkpoint,
 }
 
 /// The subscriber that the entry of this number makes.
@@ -80,5 +81,6 @@ pub fn make(shard: &mut Shard, alloc: Global, call: &Call) -> Result<(), ShardFa
         Call::PermDown => shard.permdown(alloc, other_replica(alloc)?),
         Call::Merge(tells) => merge(shard, alloc, tells),
         Call::Cut => cut(shard, alloc),
+        Call::Checkpoint => shard.checkpoint(alloc),
     }
 }

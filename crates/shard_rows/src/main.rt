@@ -11,7 +11,7 @@ mod texts;
 
 use calls::Call;
 use making::{ROOM, Tells, own_replica};
-use playing::play;
+use playing::{play, play_told_from};
 use std::io;
 use std::process::ExitCode;
 use tracker_shard::Shard;
@@ -88,6 +88,19 @@ fn go_out<R: Print + AllocGlobal>(rt: &R, shard: &mut Shard) -> io::Result<()> {
     play(rt, shard, "merge two rows", &Call::Merge(first_two()))
 }
 
+// The journal begins again, and the kept deltas stay: two cuts, joined, and then a third.
+fn begin_again<R: Print + AllocGlobal>(rt: &R, shard: &mut Shard) -> io::Result<()> {
+    play(rt, shard, "track u6", &Call::Track("u6"))?;
+    play_told_from(rt, shard, 1)?;
+    play(rt, shard, "checkpoint", &Call::Checkpoint)?;
+    play_told_from(rt, shard, 1)?;
+    play(rt, shard, "take", &Call::Take(1))?;
+    play(rt, shard, "cut", &Call::Cut)?;
+    play_told_from(rt, shard, 3)?;
+    play(rt, shard, "cut", &Call::Cut)?;
+    play(rt, shard, "untrack u6", &Call::Untrack("u6"))
+}
+
 fn run<R: Print + AllocGlobal>(rt: &R) -> io::Result<()> {
     let Some(own) = own_replica(rt.alloc())? else {
         return Err(io::Error::from(io::ErrorKind::InvalidData));
@@ -96,7 +109,8 @@ fn run<R: Print + AllocGlobal>(rt: &R) -> io::Result<()> {
     follow(rt, &mut shard)?;
     hear(rt, &mut shard)?;
     go_down(rt, &mut shard)?;
-    go_out(rt, &mut shard)
+    go_out(rt, &mut shard)?;
+    begin_again(rt, &mut shard)
 }
 
 fn main(rt: HostRuntime) -> ExitCode {

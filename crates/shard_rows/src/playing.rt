@@ -1,6 +1,6 @@
 // One call, made and told.
 use crate::calls::{Call, make};
-use crate::texts::tell;
+use crate::texts::{tell, tell_from};
 use std::alloc::Global;
 use std::io;
 use tracker_shard::{Shard, ShardFault};
@@ -24,6 +24,24 @@ fn tell_refusal<R: Print + AllocGlobal>(rt: &R, shard: &Shard, before: &str) -> 
         rt.println("  refused, as before")
     } else {
         println!(rt; "  refused, changed: {now}")
+    }
+}
+
+/// Tells what a node is told that knows the own dots up to a count. It is asked once more where memory was refused.
+pub fn play_told_from<R: Print + AllocGlobal>(
+    rt: &R,
+    shard: &mut Shard,
+    count: u64,
+) -> io::Result<()> {
+    let alloc = rt.alloc();
+    let before = told(alloc, shard)?;
+    if let Ok(text) = tell_from(alloc, shard, count) {
+        return println!(rt; "  told from {count}: {text}");
+    }
+    tell_refusal(rt, shard, before.as_str())?;
+    match tell_from(alloc, shard, count) {
+        Ok(text) => println!(rt; "  told from {count}: {text}"),
+        Err(_) => Err(want_of_memory()),
     }
 }
 

@@ -119,6 +119,14 @@ fn push_waits(text: &mut String, shard: &Shard) -> Result<(), AllocError> {
     text.push_str(" }")
 }
 
+/// What the shard tells from a count on.
+pub fn tell_from(alloc: Global, shard: &mut Shard, count: u64) -> Result<String, AllocError> {
+    let told = shard.told_from(alloc, count)?;
+    let mut text = String::new(alloc);
+    push_told(&mut text, &told)?;
+    Ok(text)
+}
+
 /// What the shard's public calls and its journal say of it.
 pub fn tell(alloc: Global, shard: &Shard) -> Result<String, AllocError> {
     let mut text = String::new(alloc);

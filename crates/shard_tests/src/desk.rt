@@ -1,6 +1,7 @@
 //! A shard at its desk: what it is asked, and its answers as text.
 
 use crate::merge_desk::{Telling, replica, told};
+use orswot_core::Told;
 use presence_base::{Dot, Json, Key, Meta, Row, Topic, has_float, is_within_depth, ref_text};
 use presence_journal::{Item, MAX_PAYLOAD_DEPTH};
 use presence_journal_walks::walk_status;
@@ -14,6 +15,8 @@ pub(crate) const ROOM: &str = "room:lobby";
 #[derive(Clone, Copy)]
 pub(crate) enum Ask {
     Track(u32, &'static str),
+    // So many tracks of keys of their own, of which the last is answered.
+    Tracks(u32),
     Update(u32, &'static str),
     // So many updates, of which the last is answered.
     Updates(u32, &'static str, u32),
@@ -32,6 +35,11 @@ pub(crate) enum Ask {
     Shouts(u32),
     Waits(u64, u64),
     Cut,
+    // What is told of the own dots from a count on.
+    ToldFrom(u64),
+    // The same: its ranges, and how many rows it has.
+    ToldSize(u64),
+    Checkpoint,
     Merge(Telling),
     Heard(&'static str, u64),
     Tick(u64),
@@ -124,6 +132,20 @@ fn track(alloc: Global, shard: &mut Shard, pid: u32, name: &str) -> Result<Strin
     let meta = meta(alloc, "{\"x\":1}")?;
     let answer = shard.track(alloc, None, u64::from(pid), &topic, &key, &meta);
     dot_text(alloc, answer)
+}
+
+// A track of a key that no track had before.
+fn track_next(alloc: Global, shard: &mut Shard) -> Result<String, AllocError> {
+    let number = shard.journal().last_number();
+    let name = format!(in alloc; "k{number}")?;
+    track(alloc, shard, 5, name.as_str())
+}
+
+fn tracks(alloc: Global, shard: &mut Shard, count: u32) -> Result<String, AllocError> {
+    for _ in 1..count {
+        track_next(alloc, shard)?;
+    }
+    track_next(alloc, shard)
 }
 
 fn update(alloc: Global, shard: &mut Shard, pid: u32, name: &str) -> Result<String, AllocError> {
@@ -226,7 +248,10 @@ fn item_text(alloc: Global, item: &Item) -> Result<String, AllocError> {
             let rows = row_references(alloc, rows.as_slice())?;
             format!(in alloc; "state {rows}")
         }
-        Item::Diff(diff) => changes_text(alloc, diff.joins.as_slice(), diff.leaves.as_slice()),
+        Item::Diff(shared) => {
+            let diff = shared.diff();
+            changes_text(alloc, diff.joins.as_slice(), diff.leaves.as_slice())
+        }
         Item::Shout(_) => String::from_str(alloc, "shout "),
     }
 }
@@ -280,6 +305,30 @@ fn cut(alloc: Global, shard: &mut Shard) -> Result<String, AllocError> {
     format!(in alloc; "{text}: {rows}")
 }
 
+fn ranges_text(alloc: Global, told: &Told) -> Result<String, AllocError> {
+    let mut text = String::new(alloc);
+    for range in told.ranges() {
+        let range = format!(in alloc; "{}-{}:", range.1, range.2)?;
+        text.push_str(range.as_str())?;
+    }
+    Ok(text)
+}
+
+fn told_size(alloc: Global, shard: &mut Shard, count: u64) -> Result<String, AllocError> {
+    let told = shard.told_from(alloc, count)?;
+    let ranges = ranges_text(alloc, &told)?;
+    format!(in alloc; "{ranges} {}", told.live().len())
+}
+
+// The ranges, the extras and the rows of what is told from a count on.
+fn told_from(alloc: Global, shard: &mut Shard, count: u64) -> Result<String, AllocError> {
+    let told = shard.told_from(alloc, count)?;
+    let text = ranges_text(alloc, &told)?;
+    let extras = references(alloc, told.extras())?;
+    let rows = row_references(alloc, told.live())?;
+    format!(in alloc; "{text} {extras}: {rows}")
+}
+
 // Takes in what is told.
 fn merge(alloc: Global, shard: &mut Shard, telling: &Telling) -> Result<String, AllocError> {
     let told = told(alloc, telling)?;
@@ -301,6 +350,9 @@ fn status(alloc: Global, shard: &Shard, name: &str, walked: bool) -> Result<Stri
 fn note(alloc: Global, shard: &mut Shard, ask: Ask) -> Result<String, AllocError> {
     match ask {
         Ask::Cut => cut(alloc, shard),
+        Ask::ToldFrom(count) => told_from(alloc, shard, count),
+        Ask::ToldSize(count) => told_size(alloc, shard, count),
+        Ask::Checkpoint => done(alloc, shard.checkpoint(alloc)),
         Ask::Merge(telling) => merge(alloc, shard, &telling),
         Ask::Heard(name, now) => {
             let replica = replica(alloc, name)?;
@@ -330,6 +382,7 @@ fn note(alloc: Global, shard: &mut Shard, ask: Ask) -> Result<String, AllocError
 fn call(alloc: Global, shard: &mut Shard, ask: Ask) -> Result<String, AllocError> {
     match ask {
         Ask::Track(pid, name) => track(alloc, shard, pid, name),
+        Ask::Tracks(count) => tracks(alloc, shard, count),
         Ask::Update(pid, name) => update(alloc, shard, pid, name),
         Ask::Updates(pid, name, count) => updates(alloc, shard, pid, name, count),
         Ask::Untrack(pid, name) => untrack(alloc, shard, pid, name),

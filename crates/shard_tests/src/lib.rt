@@ -11,6 +11,8 @@ mod desk;
 #[cfg(test)]
 mod journal;
 #[cfg(test)]
+mod kept_deltas;
+#[cfg(test)]
 mod link_node;
 #[cfg(test)]
 mod link_runs;
