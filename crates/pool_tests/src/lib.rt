@@ -2,13 +2,21 @@
 #![tactic(auto)]
 
 #[cfg(test)]
+mod apart;
+#[cfg(test)]
 mod checkpoints;
 #[cfg(test)]
 mod crossing;
 #[cfg(test)]
 mod desk;
 #[cfg(test)]
+mod diffs;
+#[cfg(test)]
 mod gaps;
+#[cfg(test)]
+mod kept_deltas;
+#[cfg(test)]
+mod lent;
 #[cfg(test)]
 mod one_seat;
 #[cfg(test)]

@@ -1,11 +1,14 @@
-//! A new pool with one seat: which shard a topic goes to, what it holds of another node that is silent or tells late, and
-//! what a checkpoint leaves. The pool settles behind each run.
+//! A new pool with one seat: which shard a topic goes to, what it holds of another node that is silent or tells late, what
+//! a checkpoint leaves, with the kept deltas, and that calls stay at their shard. The pool settles behind each run.
 ghost use Rattle.std.specs.Prelude.{◌≡◌, ◌<◌, ◌≤◌};
 ghost use Rattle.presence_base.specs.Refs.{IsCount};
 
+use crate::apart::{Sides, WANTED as WANTED_SIDES, called_apart};
 use crate::checkpoints::{Behind, WANTED as WANTED_BEHIND, checkpointed};
 use crate::desk::{replica, track};
+use crate::diffs::{GONE_WHILE_DOWN, GONE_WHILE_UP, SILENT, Told, told};
 use crate::gaps::{Played, wanted, watch};
+use crate::kept_deltas::{Tells, WANTED as WANTED_KEPT, kept};
 use crate::statuses::{WANTED as WANTED_STATUSES, statuses};
 use presence_base::Replica;
 use replica_status::Status;
@@ -22,9 +25,14 @@ enum Run {
     // A track on a topic.
     Track(&'static str),
     Statuses,
+    // What comes of another node, and what a subscriber is told of it.
+    Told(Told),
     // Both tellings of another node, the second one first where it is late.
     Tellings(bool),
     Checkpoint,
+    Kept,
+    // A track in the first room, and calls at the shard of the second.
+    Apart(&'static str, &'static str),
 }
 
 // What came of it: the shard of the track.
@@ -32,8 +40,12 @@ enum Run {
 enum Came {
     Shard(u32),
     Statuses([Status; 5]),
+    // How much of it is told so.
+    Told(usize),
     Tellings(Played),
     Checkpoint(Behind),
+    Kept([Tells; 4]),
+    Apart(Sides),
 }
 
 fn run_over<A: Lane, B: Lane, C: Lane, D: Lane, R: Wait>(
@@ -52,8 +64,13 @@ fn run_over<A: Lane, B: Lane, C: Lane, D: Lane, R: Wait>(
             Some(Came::Shard(shard))
         }
         Run::Statuses => Some(Came::Statuses(statuses(rt, alloc, pool, other)?)),
+        Run::Told(acts) => Some(Came::Told(told(rt, alloc, pool, seat, other, acts)?)),
         Run::Tellings(late) => Some(Came::Tellings(watch(rt, alloc, pool, seat, other, late)?)),
         Run::Checkpoint => Some(Came::Checkpoint(checkpointed(rt, alloc, pool, seat)?)),
+        Run::Kept => Some(Came::Kept(kept(rt, alloc, pool, seat)?)),
+        Run::Apart(tracked, called) => Some(Came::Apart(called_apart(
+            rt, alloc, pool, seat, other, tracked, called,
+        )?)),
     }
 }
 
@@ -127,11 +144,32 @@ fn topics_go_to_their_shards(rt: HostRuntime) -> Result<(), Fail> {
 fn runs_over_one_shard(rt: HostRuntime) -> Result<(), Fail> {
     for (run, want) in [
         (Run::Statuses, Came::Statuses(WANTED_STATUSES)),
+        (Run::Told(SILENT), Came::Told(SILENT.len())),
+        (Run::Told(GONE_WHILE_UP), Came::Told(GONE_WHILE_UP.len())),
+        (
+            Run::Told(GONE_WHILE_DOWN),
+            Came::Told(GONE_WHILE_DOWN.len()),
+        ),
         (Run::Tellings(true), Came::Tellings(wanted(true))),
         (Run::Tellings(false), Came::Tellings(wanted(false))),
         (Run::Checkpoint, Came::Checkpoint(WANTED_BEHIND)),
+        (Run::Kept, Came::Kept(WANTED_KEPT)),
     ] {
         assert_eq!(rt; outcome_of(&rt, rt.alloc(), 1, run), Some(want));
+    }
+    Ok(())
+}
+
+#[test]
+fn calls_stay_at_their_shards(rt: HostRuntime) -> Result<(), Fail> {
+    for (tracked, called) in [
+        ("room:d", "room:a"),
+        ("room:a", "room:b"),
+        ("room:b", "room:c"),
+        ("room:c", "room:d"),
+    ] {
+        let seen = outcome_of(&rt, rt.alloc(), 4, Run::Apart(tracked, called));
+        assert_eq!(rt; seen, Some(Came::Apart(WANTED_SIDES)));
     }
     Ok(())
 }

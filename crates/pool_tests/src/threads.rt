@@ -95,7 +95,7 @@ fn both(
     Some(all)
 }
 
-fn checked(
+pub(crate) fn checked(
     alloc: Global,
     journals: &[Journal],
     first: &[Receipt],
