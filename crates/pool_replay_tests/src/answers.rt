@@ -1,0 +1,16 @@
+//! What a thread gives back. The lemmas on what crosses threads name it, so it stands outside the tests.
+use shard_pool::Receipt;
+
+/// An answer as text, with the number of its entry.
+#[derive(Debug, Drop)]
+pub struct Answered {
+    pub number: u64,
+    pub text: String,
+}
+
+/// What a thread was answered, and the receipts of its seat.
+#[derive(Drop)]
+pub struct Called {
+    pub answers: Vec<Answered>,
+    pub receipts: Vec<Receipt>,
+}
