@@ -1,11 +1,14 @@
-//! What a link and a period ask of a shard whose journal is full.
+//! What a link, a period and a session ask of a shard whose journal is full.
 ghost use Rattle.std.specs.Prelude.{◌≡◌};
 
+use crate::desk::topic;
 use crate::node::NOW;
+use channel_session_rules::Port;
 use node_links::LinkPort;
 use presence_base::Replica;
 use presence_node_link_ports::{PoolLinkPort, cut_off, let_pass};
-use shard_pool::{Lane, NoGate, Pool, PoolFault};
+use presence_node_ports::PoolPort;
+use shard_pool::{Lane, NoGate, Pool, PoolFault, Seat};
 use std::alloc::Global;
 use std::sync::Wait;
 
@@ -20,6 +23,8 @@ pub(crate) enum Asked {
     // By a period: a tick, and a cut.
     Tick,
     Cut,
+    // By a session: the list of a room.
+    List,
 }
 
 // How many entries found room before, and the number of the Start behind the call.
@@ -46,10 +51,27 @@ fn fill<R: Wait, A: Lane, B: Lane, C: Lane, D: Lane>(
     None
 }
 
+// A list by a session's port, which makes room.
+fn list<R: Wait, A: Lane, B: Lane, C: Lane, D: Lane>(
+    rt: &R,
+    alloc: Global,
+    pool: &Pool<NoGate, A, B, C, D>,
+    seat: &mut Seat<A, B, C, D>,
+) -> Option<()> {
+    let topic = topic(alloc, "room:a")?;
+    let mut port = PoolPort::new(rt, pool, seat);
+    let rows = port.list(alloc, &topic).ok()?;
+    if !rows.is_empty() || !port.has_made_room() {
+        return None;
+    }
+    Some(())
+}
+
 fn ask<R: Wait, A: Lane, B: Lane, C: Lane, D: Lane>(
     rt: &R,
     alloc: Global,
     pool: &Pool<NoGate, A, B, C, D>,
+    seat: &mut Seat<A, B, C, D>,
     own: Replica,
     asked: Asked,
 ) -> Option<()>
@@ -63,6 +85,7 @@ fn ask<R: Wait, A: Lane, B: Lane, C: Lane, D: Lane>(
         Asked::Cut => {
             cut_off(rt, alloc, pool, 0).ok()?;
         }
+        Asked::List => list(rt, alloc, pool, seat)?,
     }
     Some(())
 }
@@ -71,12 +94,13 @@ pub(crate) fn ask_when_full<R: Wait, A: Lane, B: Lane, C: Lane, D: Lane>(
     rt: &R,
     alloc: Global,
     pool: &Pool<NoGate, A, B, C, D>,
+    seat: &mut Seat<A, B, C, D>,
     own: Replica,
     asked: Asked,
 ) -> Option<Filled>
     requires { pool.now.shards ≡ 2 }
 {
     let entries = fill(rt, alloc, pool)?;
-    ask(rt, alloc, pool, own, asked)?;
+    ask(rt, alloc, pool, seat, own, asked)?;
     Some((entries, pool.start_of(rt, 0)))
 }

@@ -1,5 +1,5 @@
-//! Tests of links between servers, by outside values alone: what two pools say to each other over a link, a link at a full
-//! journal, what a mailbox holds, and the lines on standard error.
+//! Tests of links between servers, by outside values alone: what two pools say to each other over a link, over sockets
+//! and where cuts are lost too, a link at a full journal, what a mailbox holds, and the lines on standard error.
 #![tactic(auto)]
 
 #[cfg(test)]
@@ -8,6 +8,10 @@ mod desk;
 mod full;
 #[cfg(test)]
 mod hearing;
+#[cfg(test)]
+mod loopback;
+#[cfg(test)]
+mod lost;
 #[cfg(test)]
 mod node;
 #[cfg(test)]

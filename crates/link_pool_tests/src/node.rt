@@ -12,6 +12,13 @@ use std::sync::Wait;
 // The time of each line.
 pub(crate) const NOW: u64 = 1_000;
 
+// The lines that node b says over a link that it dialled, and those that node a answers.
+#[derive(Clone, Copy)]
+pub(crate) struct Dialogue {
+    pub said: &'static str,
+    pub answered: &'static str,
+}
+
 #[derive(Drop)]
 pub(crate) struct Node<'a, R: Wait, A: Lane, B: Lane, C: Lane, D: Lane> {
     pub port: PoolLinkPort<'a, R, NoGate, A, B, C, D>,

@@ -4,30 +4,42 @@ ghost use Rattle.presence_base.specs.Refs.{IsCount};
 
 use crate::desk::replica;
 use crate::full::{Asked, FILLED, Filled, ask_when_full};
-use crate::hearing::{HEARING, Hearing, hear};
-use crate::saying::{SAYING, Saying, say};
+use crate::hearing::{HEARING, HEARING_KEPT, HEARING_OUTGROWN, Hearing, hear};
+use crate::loopback::{ACCEPTED, Accepted, DIALLED, Dialled, accept_over, both_ends, dial_over};
+use crate::lost::{KEPT, Lost, OUTGROWN, SAYING_LOST, SayingLost, say_lost};
+use crate::node::Dialogue;
+use crate::saying::{FIRST, SAYING, Saying, say};
 use presence_base::Replica;
 use shard_pool::{Lane, NoGate, Pool, Seat};
 use std::alloc::Global;
 use std::marker::Brand;
+use std::net::TcpStream;
 use std::sync::Wait;
 use std::sync::ledger::Blank;
 use std::test::Fail;
+use std::thread;
 
 // What is done over a pool.
-#[derive(Clone, Copy)]
+#[derive(Drop)]
 enum Run {
     Say,
-    Hear,
+    SayLost(Lost),
+    Hear(Dialogue),
     Fill(Asked),
+    // At one end of a connection.
+    Dial(TcpStream),
+    Accept(TcpStream),
 }
 
 // What came of it.
 #[derive(Clone, Copy, Debug, PartialEq)]
 enum Came {
     Said(Saying),
+    SaidLost(SayingLost),
     Heard(Hearing),
     Filled(Filled),
+    Dialled(Dialled),
+    Accepted(Accepted),
 }
 
 fn run_over<A: Lane, B: Lane, C: Lane, D: Lane, R: Wait>(
@@ -42,8 +54,25 @@ fn run_over<A: Lane, B: Lane, C: Lane, D: Lane, R: Wait>(
 {
     match run {
         Run::Say => Some(Came::Said(say(rt, alloc, pool, seat, own)?)),
-        Run::Hear => Some(Came::Heard(hear(rt, alloc, pool, seat, *own)?)),
-        Run::Fill(asked) => Some(Came::Filled(ask_when_full(rt, alloc, pool, *own, asked)?)),
+        Run::SayLost(lost) => Some(Came::SaidLost(say_lost(rt, alloc, pool, seat, own, lost)?)),
+        Run::Hear(dialogue) => Some(Came::Heard(hear(rt, alloc, pool, seat, *own, dialogue)?)),
+        Run::Fill(asked) => Some(Came::Filled(ask_when_full(rt, alloc, pool, seat, *own, asked)?)),
+        Run::Dial(mut stream) => Some(Came::Dialled(dial_over(
+            rt,
+            alloc,
+            pool,
+            seat,
+            own,
+            &mut stream,
+        )?)),
+        Run::Accept(mut stream) => Some(Came::Accepted(accept_over(
+            rt,
+            alloc,
+            pool,
+            seat,
+            own,
+            &mut stream,
+        )?)),
     }
 }
 
@@ -104,9 +133,45 @@ fn two_pools_over_a_link(rt: HostRuntime) -> Result<(), Fail> {
         Some(Came::Said(SAYING))
     );
     assert_eq!(rt;
-        came_of(&rt, alloc, "a", Run::Hear),
+        came_of(&rt, alloc, "a", Run::Hear(FIRST)),
         Some(Came::Heard(HEARING))
     );
+    Ok(())
+}
+
+// Whether node b says so where these cuts are lost, and node a hears it so.
+fn is_told_of<R: Wait>(
+    rt: &R,
+    alloc: Global,
+    lost: Lost,
+    dialogue: Dialogue,
+    hearing: Hearing,
+) -> bool {
+    came_of(rt, alloc, "b", Run::SayLost(lost)) == Some(Came::SaidLost(SAYING_LOST))
+        && came_of(rt, alloc, "a", Run::Hear(dialogue)) == Some(Came::Heard(hearing))
+}
+
+// Node a asks for what it missed of two cuts, and gets what is kept of them.
+#[test]
+fn kept_cuts_over_a_link(rt: HostRuntime) {
+    assert!(rt; is_told_of(&rt, rt.alloc(), Lost::Kept, KEPT, HEARING_KEPT));
+}
+
+// The first of them told more than is kept, and node a gets all that node b knows.
+#[test]
+fn outgrown_cuts_over_a_link(rt: HostRuntime) {
+    assert!(rt; is_told_of(&rt, rt.alloc(), Lost::Outgrown, OUTGROWN, HEARING_OUTGROWN));
+}
+
+// Each pool is in a thread of its own. The dialling end hangs up once its run is over.
+#[test]
+fn two_pools_over_sockets(rt: HostRuntime) -> Result<(), Fail> {
+    let alloc = rt.alloc();
+    let (dialling, accepting) = both_ends(&rt)?;
+    let dialled = thread::spawn(&rt, move || came_of(&rt, alloc, "b", Run::Dial(dialling)))?;
+    let accepted = came_of(&rt, alloc, "a", Run::Accept(accepting));
+    assert_eq!(rt; dialled.join(&rt), Some(Came::Dialled(DIALLED)));
+    assert_eq!(rt; accepted, Some(Came::Accepted(ACCEPTED)));
     Ok(())
 }
 
@@ -128,4 +193,9 @@ fn a_tick_at_a_full_journal(rt: HostRuntime) {
 #[test]
 fn a_cut_at_a_full_journal(rt: HostRuntime) {
     assert!(rt; begins_again(&rt, rt.alloc(), Asked::Cut));
+}
+
+#[test]
+fn a_list_at_a_full_journal(rt: HostRuntime) {
+    assert!(rt; begins_again(&rt, rt.alloc(), Asked::List));
 }

@@ -1,8 +1,8 @@
 //! What node b says over a link that it dialled: a row, nothing of its removal until it is asked, and that it ends.
 ghost use Rattle.std.specs.Prelude.{◌≡◌};
 
-use crate::desk::{key, meta, topic};
-use crate::node::{NOW, Node, node_over};
+use crate::desk::{key, topic, track};
+use crate::node::{Dialogue, NOW, Node, node_over};
 use node_links::{End, Line};
 use presence_base::Replica;
 use presence_node_link_ports::{beat_of, cut_off, let_pass};
@@ -10,7 +10,7 @@ use shard_pool::{Lane, NoGate, Pool, Seat};
 use std::alloc::Global;
 use std::sync::Wait;
 
-pub(crate) const SAID: &str = r#"["hello","b",1,2]
+const SAID: &str = r#"["hello","b",1,2]
 ["beat",0,"b",1,1,[[["b",1,0,1]],[],[["b",1,1,"room:a","u2",5,{"x":1},null]]]]
 ["beat",0,"b",1,2,null]
 ["told",0,[[["b",1,0,2]],[],[]]]
@@ -18,7 +18,7 @@ pub(crate) const SAID: &str = r#"["hello","b",1,2]
 ["beat",0,"b",1,2,null]
 "#;
 
-pub(crate) const ANSWERED: &str = r#"["hello","a",1,2]
+const ANSWERED: &str = r#"["hello","a",1,2]
 ["ok"]
 ["want",0,"b",1,1]
 ["ok"]
@@ -26,11 +26,29 @@ pub(crate) const ANSWERED: &str = r#"["hello","a",1,2]
 ["gone","b",1]
 "#;
 
+pub(crate) const FIRST: Dialogue = Dialogue {
+    said: SAID,
+    answered: ANSWERED,
+};
+
 // Whether it is told that it is gone, at its hello, its three beats and its end, in the order in which they go out; and whether
 // it says all of the above.
 pub(crate) type Saying = ([bool; 5], bool);
 
 pub(crate) const SAYING: Saying = ([false, false, false, false, true], true);
+
+// The beat of one period of the first shard.
+pub(crate) fn next_beat<R: Wait, A: Lane, B: Lane, C: Lane, D: Lane>(
+    rt: &R,
+    alloc: Global,
+    pool: &Pool<NoGate, A, B, C, D>,
+) -> Option<Line>
+    requires { pool.now.shards ≡ 2 }
+{
+    let_pass(rt, alloc, pool, 0, NOW).ok()?;
+    let cut = cut_off(rt, alloc, pool, 0).ok()?;
+    beat_of(alloc, 0, &cut).ok()
+}
 
 // One period of the first shard, whose beat goes out.
 fn beats<R: Wait, A: Lane, B: Lane, C: Lane, D: Lane>(
@@ -41,27 +59,21 @@ fn beats<R: Wait, A: Lane, B: Lane, C: Lane, D: Lane>(
 ) -> Option<bool>
     requires { pool.now.shards ≡ 2 }
 {
-    let_pass(rt, alloc, pool, 0, NOW).ok()?;
-    let cut = cut_off(rt, alloc, pool, 0).ok()?;
-    let beat = beat_of(alloc, 0, &cut).ok()?;
+    let beat = next_beat(rt, alloc, pool)?;
     node.dials(alloc, &beat)
 }
 
-fn comes<R: Wait, A: Lane, B: Lane, C: Lane, D: Lane>(
+pub(crate) fn comes<R: Wait, A: Lane, B: Lane, C: Lane, D: Lane>(
     rt: &R,
     alloc: Global,
     pool: &Pool<NoGate, A, B, C, D>,
     seat: &mut Seat<A, B, C, D>,
 ) -> Option<()> {
-    let topic = topic(alloc, "room:a")?;
-    let key = key(alloc, "u2")?;
-    let meta = meta(alloc)?;
-    pool.track(rt, alloc, seat, 5, &topic, &key, &meta).ok()?;
-    Some(())
+    track(rt, alloc, pool, seat, "u2")
 }
 
 // The row goes, and the beat that would say so is lost.
-fn goes_unheard<R: Wait, A: Lane, B: Lane, C: Lane, D: Lane>(
+pub(crate) fn goes_unheard<R: Wait, A: Lane, B: Lane, C: Lane, D: Lane>(
     rt: &R,
     alloc: Global,
     pool: &Pool<NoGate, A, B, C, D>,
