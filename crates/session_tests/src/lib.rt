@@ -10,7 +10,11 @@ mod deliveries;
 #[cfg(test)]
 mod events;
 #[cfg(test)]
+mod hints;
+#[cfg(test)]
 mod hooked;
+#[cfg(test)]
+mod inbox;
 #[cfg(test)]
 mod joins;
 #[cfg(test)]

@@ -5,6 +5,8 @@
 #[cfg(test)]
 mod desk;
 #[cfg(test)]
+mod ending;
+#[cfg(test)]
 mod failing;
 #[cfg(test)]
 mod pool;

@@ -1,0 +1,235 @@
+//! A port that notes which topics its calls may have changed: each of its calls, accepted and refused.
+
+use presence_base::{Json, Key, Meta, Topic, has_float, is_within_depth};
+use presence_journal::{MAX_PAYLOAD_DEPTH, Payload};
+use presence_node_hints::HintingPort;
+use serde_json::Value;
+use session_desk::{Port, ShardFault, TestPort};
+use std::alloc::Global;
+use std::test::Fail;
+use tracker_shard::Sub;
+
+// A call of session 1 on `room:lobby`.
+#[derive(Clone, Copy)]
+enum Call {
+    Track(&'static str),
+    Update(&'static str),
+    Untrack(&'static str),
+    UntrackAll,
+    List,
+    Get(&'static str),
+    Subscribe,
+    Take,
+    Waits,
+    Unsubscribe,
+    Shout,
+}
+
+// What it is answered: the count of a dot, how many rows or items, a subscriber's number, or whether something waits.
+#[derive(Clone, Copy, Debug, PartialEq)]
+enum Answer {
+    Done,
+    Count(u64),
+    Rows(usize),
+    Items(usize),
+    Subscriber(u64),
+    Waits(bool),
+}
+
+// The answer, whether the topic was noted, and how many topics were.
+#[derive(Clone, Copy, Debug, PartialEq)]
+struct Seen {
+    answer: Result<Answer, ShardFault>,
+    noted: bool,
+    topics: usize,
+}
+
+// What the calls are made with.
+#[derive(Drop)]
+struct Place {
+    topic: Topic,
+    key: Key,
+    meta: Meta,
+    payload: Payload,
+    sub: Sub,
+}
+
+fn topic_of(alloc: Global, text: &str) -> Option<Topic> {
+    Topic::new(alloc, text).ok()?
+}
+
+fn key_of(alloc: Global, text: &str) -> Option<Key> {
+    Key::new(alloc, text).ok()?
+}
+
+fn meta_of(alloc: Global) -> Option<Meta> {
+    let value = Value::from_str(alloc, r#"{"x":1}"#).ok()?;
+    Meta::new(alloc, value).ok()?
+}
+
+fn payload_of(alloc: Global) -> Option<Payload> {
+    let value = Value::from_str(alloc, r#"{"b":2}"#).ok()?;
+    if !is_within_depth(&value, MAX_PAYLOAD_DEPTH) || has_float(&value) {
+        return None;
+    }
+    Some(Payload::new(Json::new(value)))
+}
+
+// The key that a call names, or one that it has no use for.
+fn key_named(call: Call) -> &'static str {
+    match call {
+        Call::Track(key) | Call::Update(key) | Call::Untrack(key) | Call::Get(key) => key,
+        _ => "u1",
+    }
+}
+
+// The place of a call, where session 1 tracks `u1` as row `a.1.1`, and the subscriber has number 2.
+fn place_of<P: Port>(alloc: Global, port: &mut P, call: Call) -> Option<Place> {
+    let topic = topic_of(alloc, "room:lobby")?;
+    let first = key_of(alloc, "u1")?;
+    let meta = meta_of(alloc)?;
+    let _dot = port.track(alloc, 1, &topic, &first, &meta).ok()?;
+    let sub = port.subscribe(alloc, &topic).ok()?;
+    Some(Place {
+        topic,
+        key: key_of(alloc, key_named(call))?,
+        meta,
+        payload: payload_of(alloc)?,
+        sub,
+    })
+}
+
+// Makes a call that changes the topic, where it is accepted.
+fn change<P: Port>(
+    alloc: Global,
+    port: &mut P,
+    place: &Place,
+    call: Call,
+) -> Result<Answer, ShardFault> {
+    let Place {
+        topic,
+        key,
+        meta,
+        payload,
+        sub: _,
+    } = place;
+    match call {
+        Call::Track(_) => Ok(Answer::Count(port.track(alloc, 1, topic, key, meta)?.count)),
+        Call::Update(_) => Ok(Answer::Count(port.update(alloc, 1, topic, key, meta)?.count)),
+        Call::Untrack(_) => {
+            port.untrack(alloc, 1, topic, key)?;
+            Ok(Answer::Done)
+        }
+        Call::UntrackAll => {
+            port.untrack_all(alloc, 1, topic)?;
+            Ok(Answer::Done)
+        }
+        _ => {
+            port.shout(alloc, topic, payload.as_json())?;
+            Ok(Answer::Done)
+        }
+    }
+}
+
+fn make<P: Port>(
+    alloc: Global,
+    port: &mut P,
+    place: &Place,
+    call: Call,
+) -> Result<Answer, ShardFault> {
+    let topic = &place.topic;
+    match call {
+        Call::List => Ok(Answer::Rows(port.list(alloc, topic)?.len())),
+        Call::Get(_) => Ok(Answer::Rows(port.get(alloc, topic, &place.key)?.len())),
+        Call::Subscribe => Ok(Answer::Subscriber(port.subscribe(alloc, topic)?.number)),
+        Call::Take => Ok(Answer::Items(port.take(alloc, topic, &place.sub, 256)?.len())),
+        Call::Waits => Ok(Answer::Waits(port.waits(topic, &place.sub)?)),
+        Call::Unsubscribe => {
+            port.unsubscribe(alloc, topic, &place.sub)?;
+            Ok(Answer::Done)
+        }
+        _ => change(alloc, port, place, call),
+    }
+}
+
+// What is seen of a call, which the port inside may refuse.
+fn seen_of(alloc: Global, call: Call, fault: Option<ShardFault>) -> Option<Seen> {
+    let mut inner = TestPort::new(alloc)?;
+    let place = place_of(alloc, &mut inner, call)?;
+    if let Some(fault) = fault {
+        inner.refuse_next(fault);
+    }
+    let mut port = HintingPort::new(alloc, inner);
+    let answer = make(alloc, &mut port, &place, call);
+    let topics = port.into_changed();
+    Some(Seen {
+        answer,
+        noted: topics.contains(&place.topic),
+        topics: topics.len(),
+    })
+}
+
+const fn noted(answer: Answer) -> Seen {
+    Seen {
+        answer: Ok(answer),
+        noted: true,
+        topics: 1,
+    }
+}
+
+const fn beside(answer: Result<Answer, ShardFault>) -> Seen {
+    Seen {
+        answer,
+        noted: false,
+        topics: 0,
+    }
+}
+
+// A new subscriber is owed a state. An untrack of no row is accepted too.
+#[test]
+fn accepted_calls_that_change_are_noted(rt: HostRuntime) -> Result<(), Fail> {
+    for (call, want) in [
+        (Call::Track("u2"), noted(Answer::Count(2))),
+        (Call::Update("u1"), noted(Answer::Count(2))),
+        (Call::Untrack("u1"), noted(Answer::Done)),
+        (Call::Untrack("u9"), noted(Answer::Done)),
+        (Call::UntrackAll, noted(Answer::Done)),
+        (Call::Shout, noted(Answer::Done)),
+        (Call::List, beside(Ok(Answer::Rows(1)))),
+        (Call::Get("u1"), beside(Ok(Answer::Rows(1)))),
+        (Call::Get("u9"), beside(Ok(Answer::Rows(0)))),
+        (Call::Subscribe, beside(Ok(Answer::Subscriber(3)))),
+        (Call::Take, beside(Ok(Answer::Items(1)))),
+        (Call::Waits, beside(Ok(Answer::Waits(true)))),
+        (Call::Unsubscribe, beside(Ok(Answer::Done))),
+        (Call::Track("u1"), beside(Err(ShardFault::AlreadyTracked))),
+        (Call::Update("u9"), beside(Err(ShardFault::NoPresence))),
+    ] {
+        assert_eq!(rt; seen_of(rt.alloc(), call, None), Some(want));
+    }
+    Ok(())
+}
+
+#[test]
+fn refused_calls_are_not_noted(rt: HostRuntime) -> Result<(), Fail> {
+    let fault = ShardFault::JournalFull;
+    for call in [
+        Call::Track("u2"),
+        Call::Update("u1"),
+        Call::Untrack("u1"),
+        Call::UntrackAll,
+        Call::Shout,
+        Call::List,
+        Call::Get("u1"),
+        Call::Subscribe,
+        Call::Take,
+        Call::Waits,
+        Call::Unsubscribe,
+    ] {
+        assert_eq!(rt;
+            seen_of(rt.alloc(), call, Some(fault)),
+            Some(beside(Err(fault)))
+        );
+    }
+    Ok(())
+}
