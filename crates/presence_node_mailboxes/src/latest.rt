@@ -1,4 +1,4 @@
-ghost use Rattle.std.specs.Prelude.{◌≡◌, ◌++◌, ◌∷◌, [], OnOk, OnErr};
+ghost use Rattle.std.specs.Prelude.{◌≡◌, ◌==◌, ◌++◌, ◌∷◌, [], vec_len, OnOk, OnErr};
 ghost use Rattle.presence_node_mailboxes.specs.Latest.{others};
 
 use std::alloc::{AllocError, Global};
@@ -21,7 +21,9 @@ impl<T: Drop> Latest<T> {
     }
 
     /// Whether no shard has a value.
-    pub fn is_empty(&self) -> bool {
+    pub fn is_empty(&self) -> bool
+        ensures { result ≡ (vec_len self.now.kept == 0) }
+    {
         self.kept.is_empty()
     }
 
