@@ -19,14 +19,14 @@ one : (a : Knowledge) (j : ℕ) (u : Knowledge) → get_elem? (a ∷ []) j ≡ s
 one a zero u e = (refl, mathlib.Core.Option.some-injective a u e)
 one a (suc j) u e = absurd (some-ne-none u (sym e))
 
-pub begins : (S : Type 0) → Rises {S = S} [] (knowledge true 0 0 ∷ [])
+pub begins : (S : Type 0) → Rises {S = S} [] (knowledge true 0 0 0 ∷ [])
 begins S =
     record {
       writer = 0;
       floor = 0;
       top = 0;
       rises = omega arith;
-      known = λ j u e. let o = one (knowledge true 0 0) j u e in subst (λ (y : ℕ × Knowledge). Knows 0 0 0 y.0 y.1) (λ i. (sym o.0 i, o.1 i)) (omega arith, λ _. (refl, refl));
+      known = λ j u e. let o = one (knowledge true 0 0 0) j u e in subst (λ (y : ℕ × Knowledge). Knows 0 0 0 y.0 y.1) (λ i. (sym o.0 i, o.1 i)) (omega arith, λ _. (refl, refl));
     }
 
 module _ {S : Type 0} where
@@ -38,9 +38,9 @@ module _ {S : Type 0} where
   more floor top [] x up h = (omega arith, omega arith)
   more floor top (c ∷ cs) x up h = (h.0, more c.number top cs x up h.1)
 
-  pub gives : (n port : ℕ) (v : Knowledge) (x : Numbered S) → v.pushes ≡ true → v.pushed < x.number → Pushes Rises n port v x (λ w. w ≡ knowledge v.pushes x.number v.taken)
+  pub gives : (n port : ℕ) (v : Knowledge) (x : Numbered S) → v.pushes ≡ true → v.pushed < x.number → Pushes Rises n port v x (λ w. w ≡ knowledge v.pushes x.number v.taken v.pops)
   gives n port v x may up items views _ h at =
-      let w : Knowledge = knowledge v.pushes x.number v.taken in
+      let w : Knowledge = knowledge v.pushes x.number v.taken v.pops in
       let mine = h.known port v at in
       let top = (mine.1 may).1 in (
         w,
@@ -61,9 +61,9 @@ module _ {S : Type 0} where
       let top = ((h.known port v at).1 may).1 in
       record { floor = h.floor; top = h.top; rises = h.rises; below = omega (arith, top) }
 
-  pub takes : (port : ℕ) (v : Knowledge) → Pops (Rises {S = S}) port v (λ x w. (v.taken < x.number) × (w ≡ knowledge v.pushes v.pushed x.number))
+  pub takes : (port : ℕ) (v : Knowledge) → Pops (Rises {S = S}) port v (λ x w. (v.taken < x.number) × (w ≡ knowledge v.pushes v.pushed x.number (v.pops + 1)))
   takes port v x items views h at =
-      let w : Knowledge = knowledge v.pushes v.pushed x.number in
+      let w : Knowledge = knowledge v.pushes v.pushed x.number (v.pops + 1) in
       let mine = h.known port v at in
       let up : h.floor < x.number = h.rises.0 in
       let below : v.taken ≤ h.floor = mine.0 in (
@@ -79,11 +79,11 @@ module _ {S : Type 0} where
         (omega arith, refl),
       )
 
-  pub forks : (port : ℕ) (v : Knowledge) → Forks (Rises {S = S}) port v v (knowledge false 0 0)
+  pub forks : (port : ℕ) (v : Knowledge) → Forks (Rises {S = S}) port v v (knowledge false 0 0 0)
   forks port v items views h at =
       let mine = h.known port v at in
       let F : ℕ → Knowledge → Type 0 = Knows h.writer h.floor h.top in
-      let r : Knowledge = knowledge false 0 0 in
+      let r : Knowledge = knowledge false 0 0 0 in
       let vs : List Knowledge = set views port v in
       let old : All F vs = all_set F views port v mine (λ j u other e. h.known j u e) in
       record {

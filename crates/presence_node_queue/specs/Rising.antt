@@ -10,8 +10,8 @@ use Rattle.presence_node_queue.specs.declared.numbered.Numbered.{Numbered}
 use Rattle.presence_node_queue.specs.declared.numbered.TheConstants.{LAST_NUMBER}
 use Rattle.presence_node_queue.specs.declared.queue.TheConstants.{MAX_WAITING}
 
-abbrev pub knowledge : Bool → ℕ → ℕ → Knowledge
-knowledge pushes pushed taken = record { pushes = pushes; pushed = pushed; taken = taken }
+abbrev pub knowledge : Bool → ℕ → ℕ → ℕ → Knowledge
+knowledge pushes pushed taken pops = record { pushes = pushes; pushed = pushed; taken = taken; pops = pops }
 
 -- from above `floor` the numbers rise, and the last is at most `top`
 abbrev pub RisesBetween : {S : Type 0} → ℕ → ℕ → List (Numbered S) → Type 0

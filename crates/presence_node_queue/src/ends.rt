@@ -61,6 +61,7 @@ impl<S: Drop> Giver<S> {
     pub fn taker(&mut self) -> Result<Taker<S>, AllocError>
         ensures next { self.new.next ≡ self.old.next }
         ensures taker { IfOk result (λ taker. (view taker.pass).taken ≡ 0) }
+        ensures pops { IfOk result (λ taker. (view taker.pass).pops ≡ 0) }
     {
         let line = Arc::try_clone(&self.line)?;
         let pass = taker(&self.line, &mut self.pass);
@@ -88,11 +89,14 @@ impl<S: Drop> Giver<S> {
 }
 
 impl<S: Drop> Taker<S> {
-    /// The oldest connection that waits. Its number is above each that this end took before.
+    /// The oldest connection that waits. Its number is above each that this end took before. No other leaves the queue.
     pub fn take<R: Wait>(&mut self, rt: &R) -> Option<Numbered<S>>
-        ensures { MatchOption result
+        ensures rises { MatchOption result
             ((view self.new.pass).taken ≡ (view self.old.pass).taken)
             (λ c. ((view self.old.pass).taken < c.number) × ((view self.new.pass).taken ≡ c.number)) }
+        ensures one { MatchOption result
+            ((view self.new.pass).pops ≡ (view self.old.pass).pops)
+            (λ c. (view self.new.pass).pops ≡ (view self.old.pass).pops + 1) }
     {
         take(rt, &self.line, &mut self.pass)
     }

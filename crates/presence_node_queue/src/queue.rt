@@ -12,12 +12,13 @@ use std::sync::Wait;
 /// How many connections may wait for a worker.
 pub const MAX_WAITING: usize = 256;
 
-/// What a pass may do (push), the last number that it pushed and the last that it took. No value of
-/// it is made.
+/// What a pass may do (push), the last number that it pushed, the last that it took, and how many it took. No value of it
+/// is made.
 pub struct Knowledge {
     pub pushes: bool,
     pub pushed: u64,
     pub taken: u64,
+    pub pops: u64,
 }
 
 // What the queue holds rises, lies above all that was taken, and is at most what was pushed.
@@ -29,7 +30,7 @@ impl<S> Protocol<Numbered<S>, Knowledge> for Rising {
 
     ghost holds = { Rises };
 
-    ghost first = { knowledge true 0 0 };
+    ghost first = { knowledge true 0 0 0 };
 }
 
 // A new pass takes, and has taken nothing.
@@ -41,7 +42,7 @@ impl Split<Knowledge> for NewTaker {
 
     ghost left = { λ v. v };
 
-    ghost right = { λ v. knowledge false 0 0 };
+    ghost right = { λ v. knowledge false 0 0 0 };
 }
 
 // A push: the number is the last that was pushed.
@@ -51,7 +52,7 @@ impl<S> Outcome<Numbered<S>, Knowledge> for Given {
     ghost use Rattle.std.specs.Prelude.{◌≡◌};
     ghost use Rattle.presence_node_queue.specs.Rising.{knowledge};
 
-    ghost then = { λ v x w. w ≡ knowledge v.pushes x.number v.taken };
+    ghost then = { λ v x w. w ≡ knowledge v.pushes x.number v.taken v.pops };
 }
 
 impl<S> Lesson<Numbered<S>, Knowledge> for Given {
@@ -61,14 +62,14 @@ impl<S> Lesson<Numbered<S>, Knowledge> for Given {
     ghost fact = { λ v items. RisesBelow (v.pushed + 1) items };
 }
 
-// A pop: the number is the last that was taken.
+// A pop: the number is the last that was taken, and one more was.
 pub struct Taken;
 
 impl<S> Outcome<Numbered<S>, Knowledge> for Taken {
-    ghost use Rattle.std.specs.Prelude.{◌≡◌, ◌<◌};
+    ghost use Rattle.std.specs.Prelude.{◌≡◌, ◌<◌, ◌+◌};
     ghost use Rattle.presence_node_queue.specs.Rising.{knowledge};
 
-    ghost then = { λ v x w. (v.taken < x.number) × (w ≡ knowledge v.pushes v.pushed x.number) };
+    ghost then = { λ v x w. (v.taken < x.number) × (w ≡ knowledge v.pushes v.pushed x.number (v.pops + 1)) };
 }
 
 impl<S> Lesson<Numbered<S>, Knowledge> for Taken {
@@ -83,7 +84,7 @@ pub(crate) type Line<S> = RuledArrayQueue<Numbered<S>, Knowledge, Rising, Global
 /// A new queue, with the acceptor's pass.
 pub(crate) fn line<S>(alloc: Global) -> Result<(Line<S>, Pass<Numbered<S>, Knowledge>), AllocError>
     ensures room { IfOk result (λ q. ruled_capacity q.0 ≡ MAX_WAITING) }
-    ensures pass { IfOk result (λ q. IsPassOf q.0 q.1 × (view q.1 ≡ knowledge true 0 0)) }
+    ensures pass { IfOk result (λ q. IsPassOf q.0 q.1 × (view q.1 ≡ knowledge true 0 0 0)) }
 {
     Line::ruled(alloc, MAX_WAITING)
 }
@@ -95,7 +96,7 @@ pub(crate) fn taker<S>(
 ) -> Pass<Numbered<S>, Knowledge>
     requires { IsPassOf line.now pass.old }
     ensures pass { IsPassOf line.now pass.new × (view pass.new ≡ view pass.old) }
-    ensures taker { IsPassOf line.now result × (view result ≡ knowledge false 0 0) }
+    ensures taker { IsPassOf line.now result × (view result ≡ knowledge false 0 0 0) }
 {
     line.another::<NewTaker>(pass)
 }
@@ -111,7 +112,7 @@ pub(crate) fn give<S, R: Wait>(
     requires rises { (view pass.old).pushed < connection.number }
     ensures pass { IsPassOf line.now pass.new }
     ensures given { MatchResult result
-        (λ _. view pass.new ≡ knowledge true connection.number (view pass.old).taken)
+        (λ _. view pass.new ≡ knowledge true connection.number (view pass.old).taken (view pass.old).pops)
         (λ back. (view pass.new ≡ view pass.old)
         × WasFull S (ruled_capacity line.now) ((view pass.old).pushed + 1)) }
 {
@@ -129,7 +130,8 @@ pub(crate) fn take<S, R: Wait>(
     ensures rises { MatchOption result
         (view pass.new ≡ view pass.old)
         (λ c. ((view pass.old).taken < c.number)
-        × (view pass.new ≡ knowledge (view pass.old).pushes (view pass.old).pushed c.number)) }
+        × (view pass.new
+        ≡ knowledge (view pass.old).pushes (view pass.old).pushed c.number ((view pass.old).pops + 1))) }
 {
     line.pop_as::<Taken, R>(rt, pass)
 }
