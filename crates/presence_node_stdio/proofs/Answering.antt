@@ -1,5 +1,5 @@
 -- From what followed the rules over the shard to the node's answer.
-use Rattle.std.proofs.Common.{◌≡◌, ◌++◌, ℕ, Bool, true, false, cond, List, [], Option, Some, None, IfOk, Result, Ok, Err, refl, sym, ap, subst, ◌∙◌}
+use Rattle.std.proofs.Common.{◌≡◌, ◌++◌, ℕ, true, false, cond, List, [], Option, Some, None, IfOk, Result, Ok, Err, refl, ap, ◌∙◌}
 use Rattle.std.specs.Prelude.{String, Vec}
 use Rattle.std.specs.Global.{Global}
 use Rattle.phx_message.specs.Reading.{decoded}
@@ -10,8 +10,8 @@ use Rattle.presence_journal.specs.History.{History}
 use Rattle.channel_session.specs.Delivery.{Delivery}
 use Rattle.channel_session.specs.Delivery.{Delivered, delivery}
 use Rattle.channel_session.specs.InForce.{InForce}
-use Rattle.channel_session.specs.Said.{Said, WritesAll}
-use Rattle.presence_node_stdio.specs.declared.local.TheConstants.{MAX_ITEMS}
+use Rattle.channel_session.specs.Said.{Said}
+use Rattle.presence_journal_data.specs.declared.limits.TheConstants.{MAX_TAKEN}
 use Rattle.channel_session.specs.Local.{LocalStep, played}
 use Rattle.channel_session.specs.Ran.{EndedSo, texts_in}
 use Rattle.channel_session.specs.Rules.{End, answers, full, memory}
@@ -44,14 +44,14 @@ bad_follows st read f e = ap (answer_to st) e
 -- ---- the delivery
 
 module _ (routes : List (List ℕ × ℕ)) (speech : Speech) (s : InForce) (h : History) (new : History) (after : InForce) where
-  played_so : (end : End) → played (delivery MAX_ITEMS s) h ≡ (end, new) → with_delivery routes speech s h ≡ delivered routes speech end new
+  played_so : (end : End) → played (delivery MAX_TAKEN s) h ≡ (end, new) → with_delivery routes speech s h ≡ delivered routes speech end new
   played_so end e = ap (λ (x : End × History). delivered routes speech x.0 x.1) e
 
-  delivered_so : (said : List Said) → Delivered LocalStep MAX_ITEMS s h new after (Ok said) → with_delivery routes speech s h ≡ delivered routes speech (answers said after) new
-  delivered_so said d = rw d.1 (played_so (answers said s) (delivery_leads MAX_ITEMS s h new after said d))
+  delivered_so : (said : List Said) → Delivered LocalStep MAX_TAKEN s h new after (Ok said) → with_delivery routes speech s h ≡ delivered routes speech (answers said after) new
+  delivered_so said d = rw d.1 (played_so (answers said s) (delivery_leads MAX_TAKEN s h new after said d))
 
-  full_so : Delivered LocalStep MAX_ITEMS s h new after (Err ShardFull) → with_delivery routes speech s h ≡ ends speech (stopped_by ShardFull)
-  full_so d = played_so full (full_delivery MAX_ITEMS s h new after d)
+  full_so : Delivered LocalStep MAX_TAKEN s h new after (Err ShardFull) → with_delivery routes speech s h ≡ ends speech (stopped_by ShardFull)
+  full_so d = played_so full (full_delivery MAX_TAKEN s h new after d)
 
 -- ---- what the code tells
 
@@ -122,7 +122,7 @@ module _ (v : Voice) where
   pub if_kept : {E : Type 0} (st before after : State) (text : List ℕ) (texts : Vec (String Global) Global) (session : InForce) (shard : History) (r : Result Output E) → Answered v st.routes text st.session st.shard shard session (Ok texts)
       → IfOk r (λ o. TellsDelivery v (record { routes = st.routes; session = session; shard = shard }) (printed (texts_in texts)) after o) → IfOk r (λ o. Keeps o.fault before after)
   if_kept st before after text texts session shard (Err e) a told = tt
-  if_kept st before after text texts session shard (Ok o) a told = at_end (answering a.said) (played (delivery MAX_ITEMS session) shard).0 (played (delivery MAX_ITEMS session) shard).1 o.fault (told a.said (texts_in texts) a.writes refl).next
+  if_kept st before after text texts session shard (Ok o) a told = at_end (answering a.said) (played (delivery MAX_TAKEN session) shard).0 (played (delivery MAX_TAKEN session) shard).1 o.fault (told a.said (texts_in texts) a.writes refl).next
     where
       no_fault : (x : State) (f : LineFault) → ◌≡◌ {A = Result State LineFault} (Ok x) (Err f) → ⊥
       no_fault x f e = cc

@@ -12,16 +12,15 @@ use Rattle.phx_message.specs.declared.message.TheConstants.Limits as the_limits
 use Rattle.phx_message.specs.declared.message.MessageFault.TheVariants.{TooLong, NotJson}
 use Rattle.phx_message.specs.declared.message.Message.{Message}
 use Rattle.phx_message.specs.declared.message.MessageFault.{MessageFault}
-use Rattle.presence_base.specs.declared.dots.Dot.{Dot}
 use Rattle.presence_base.specs.Names.{is_node_name}
 use Rattle.presence_base.specs.Order.{same_replica}
 use Rattle.presence_base.specs.Refs.{IsCount}
 use Rattle.presence_journal.specs.History.{History}
 use Rattle.presence_journal.specs.Table.{IsLegal}
 use Rattle.channel_session.specs.Delivery.{delivery}
-use Rattle.channel_session.specs.Keeping.{Past, behind, then_past, served, lined, all_lined, begun, fresh}
+use Rattle.channel_session.specs.Keeping.{Past, behind, then_past, served, lined, all_lined, fresh}
 use Rattle.channel_session.specs.Keeping as keeping
-use Rattle.presence_node_stdio.specs.declared.local.TheConstants.{MAX_ITEMS}
+use Rattle.presence_journal_data.specs.declared.limits.TheConstants.{MAX_TAKEN}
 use Rattle.channel_session.specs.Local.{played}
 use Rattle.channel_session.specs.Rules.{End, answers, full, memory, rules}
 use Rattle.channel_session.specs.Said.{Said, plainly, EachBy, Worded}
@@ -70,7 +69,7 @@ module _ (routes : List (List ℕ × ℕ)) (before : List Said) where
   dealt_is said memory g t is = absurd (stopped _ t is)
 
   ruled_is : (e : End) (g : History) (t : State) → (ruled routes e g).next ≡ Ok t → LineIs routes before (then_past (behind before e g) served) (ruled routes e g).speech t
-  ruled_is (answers said s) g t is = dealt_is said (played (delivery MAX_ITEMS s) g).0 (played (delivery MAX_ITEMS s) g).1 t is
+  ruled_is (answers said s) g t is = dealt_is said (played (delivery MAX_TAKEN s) g).0 (played (delivery MAX_TAKEN s) g).1 t is
   ruled_is full g t is = absurd (stopped _ t is)
   ruled_is memory g t is = absurd (stopped _ t is)
 

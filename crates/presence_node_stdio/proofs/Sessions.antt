@@ -1,5 +1,5 @@
 -- What the engine needs to know of a session: the bytes that are kept of a line tell its answer, and a line that isn't kept whole ends the run.
-use Rattle.std.proofs.Common.{◌≡◌, ◌≤◌, ◌<◌, ◌+◌, ℕ, List, [], length, take, Bool, true, false, cond, Result, Ok, Err, sym, ap, ◌∙◌, arith}
+use Rattle.std.proofs.Common.{◌≡◌, ◌≤◌, ◌<◌, ◌+◌, ℕ, List, length, take, Bool, true, false, cond, Result, Ok, Err, sym, ap, ◌∙◌, arith}
 use Rattle.phx_message.specs.declared.message.Message.{Message}
 use Rattle.phx_message.specs.declared.message.MessageFault.{MessageFault}
 use Rattle.phx_message.specs.declared.message.MessageFault.TheVariants.{TooLong}

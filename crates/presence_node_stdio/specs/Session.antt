@@ -20,7 +20,7 @@ use Rattle.channel_session.specs.declared.fault.SessionFault.TheVariants.{ShardF
 use Rattle.presence_node_lines.specs.Reading.{line_message}
 use Rattle.presence_node_stdio.specs.declared.fault.LineFault.{LineFault}
 use Rattle.presence_node_stdio.specs.declared.fault.LineFault.TheVariants.{Message as no_message, Session as stopped_by}
-use Rattle.presence_node_stdio.specs.declared.local.TheConstants.{MAX_ITEMS}
+use Rattle.presence_journal_data.specs.declared.limits.TheConstants.{MAX_TAKEN}
 use Rattle.presence_node_stdio.specs.declared.local.LocalSession.{LocalSession}
 use Rattle.presence_node_stdio.specs.declared.local.Output.{Output}
 use Rattle.presence_node_options.specs.declared.options.StdioOptions.{StdioOptions}
@@ -98,7 +98,7 @@ delivered routes speech memory h = ends speech (stopped_by ShardFull)
 
 -- One delivery takes all that ever waits for a topic.
 abbrev pub with_delivery : List (List ℕ × ℕ) → Speech → InForce → History → Answer
-with_delivery routes speech s h = let x = played (delivery MAX_ITEMS s) h in delivered routes speech x.0 x.1
+with_delivery routes speech s h = let x = played (delivery MAX_TAKEN s) h in delivered routes speech x.0 x.1
 
 -- what the rules answer, and then a delivery
 abbrev pub ruled : List (List ℕ × ℕ) → End → History → Answer
@@ -139,7 +139,7 @@ Answered v routes text s old new after r = RanBy v.worded LocalStep routes s (de
 
 -- and one delivery
 abbrev pub Dealt : Voice → InForce → History → History → InForce → Result Delivery SessionFault → Type 0
-Dealt v s old new after r = DeliveredBy v.worded v.noted LocalStep MAX_ITEMS s old new after r
+Dealt v s old new after r = DeliveredBy v.worded v.noted LocalStep MAX_TAKEN s old new after r
 
 -- the output is what a delivery behind this text answers, whatever it is a text of
 abbrev pub TellsDelivery : Voice → State → List ℕ → State → Output → Type 0

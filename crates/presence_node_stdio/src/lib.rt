@@ -15,6 +15,6 @@ mod telling;
 pub use channel_session::SessionFault;
 pub use fault::{LineFault, StdioFault};
 pub use laws::joined_topics_are_mirrored;
-pub use local::{LocalSession, MAX_ITEMS, Output};
+pub use local::{LocalSession, Output};
 pub use run::{run_lines, run_stdio};
 pub use telling::{status_of, told_line, told_words};

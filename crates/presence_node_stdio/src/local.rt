@@ -6,15 +6,13 @@ use channel_session::{Delivery, LocalPort, Session, SessionFault, Shard, deliver
 use hook_registry::{Notice, PresenceHooks, Routes};
 use phx_message::Limits;
 use presence_base::Replica;
+use presence_journal::MAX_TAKEN;
 use presence_node_lines::text_of_line;
 use presence_node_options::StdioOptions;
 use std::alloc::{AllocError, Global};
 
 /// The number of the one session.
 const PID: u64 = 1;
-
-/// How many items one delivery takes from a topic: all that ever wait.
-pub const MAX_ITEMS: u32 = 256;
 
 /// One session over one shard.
 #[derive(Drop)]
@@ -114,7 +112,7 @@ fn deliver_port<H: PresenceHooks>(
     ensures dealt { Dealt (voice_of H.PresenceHooks hooks.now)
         session.old port.old.shard.now port.new.shard.now session.new result }
 {
-    deliver(alloc, session, port, hooks, MAX_ITEMS)
+    deliver(alloc, session, port, hooks, MAX_TAKEN)
 }
 
 // Delivers what waits in the shard.

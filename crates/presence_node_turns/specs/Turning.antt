@@ -30,7 +30,8 @@ use Rattle.presence_node_turns.specs.declared.connection.Progress.{Progress}
 use Rattle.presence_node_turns.specs.declared.connection.Progress.TheVariants as progress
 use Rattle.presence_node_turns.specs.declared.connection.Stage.{Stage}
 use Rattle.presence_node_turns.specs.declared.connection.Stage.TheVariants.{Open, Ending, Over}
-use Rattle.presence_node_turns.specs.declared.connection.TheConstants.{MAX_ITEMS, MAX_SILENCE}
+use Rattle.presence_journal_data.specs.declared.limits.TheConstants.{MAX_TAKEN}
+use Rattle.presence_node_turns.specs.declared.connection.TheConstants.{MAX_SILENCE}
 use Rattle.presence_node_turns.specs.declared.hearing.Heard.{Heard}
 use Rattle.presence_node_turns.specs.declared.hearing.Heard.TheVariants.{Text, Sign, Nothing, Ends}
 
@@ -142,7 +143,7 @@ module _ {S K P : Type 0} (w : Around S P) where
   pub record Deals (old new : Connection S K) (before after : P) (result : Result (Unit {0}) Cause) : Type 0 where
     pub delivery : Result Delivery SessionFault
     pub failed : old.session.failed ≡ true → (delivery ≡ Err Failed) × (new.session ≡ old.session) × (after ≡ before)
-    pub delivered : old.session.failed ≡ false → DeliveredBy w.worded w.noted w.step MAX_ITEMS old.session before after new.session delivery
+    pub delivered : old.session.failed ≡ false → DeliveredBy w.worded w.noted w.step MAX_TAKEN old.session before after new.session delivery
     pub sent : GoOut w.contents old.socket new.socket (dealt_texts delivery) result
     pub kept : new ≡ record old { socket = new.socket; session = new.session }
 

@@ -10,13 +10,11 @@ use crate::hearing::{Heard, hear};
 use channel_session::{Delivery, Port, Session, SessionFault, deliver, end, run_text};
 use hook_registry::{PresenceHooks, Routes};
 use phx_message::Limits;
+use presence_journal::MAX_TAKEN;
 use presence_node_sending::queue_all;
 use std::alloc::Global;
 use std::io::{ErrorKind, Read, Write};
 use tungstenite::{CloseFrame, Error, MaskKeys, Utf8Bytes, WebSocket, WebSocketConfig};
-
-/// How many items one delivery takes from a topic: all that ever wait.
-pub const MAX_ITEMS: u32 = 256;
 
 /// How long a connection may be without a message, in milliseconds.
 pub const MAX_SILENCE: u64 = 60_000;
@@ -201,7 +199,7 @@ impl<S: Read + Write + Drop, K: MaskKeys + Drop> Connection<S, K> {
         ensures { Deals (around S.remaining S.contents P.step H.PresenceHooks hooks.now)
             self.old self.new port.old port.new result }
     {
-        match deliver(alloc, &mut self.session, port, hooks, MAX_ITEMS) {
+        match deliver(alloc, &mut self.session, port, hooks, MAX_TAKEN) {
             Ok(delivery) => self.send(alloc, &delivery.texts),
             Err(fault) => Err(Cause::Fault(fault)),
         }

@@ -10,5 +10,5 @@ mod hearing;
 
 pub use cause::{Cause, close_code};
 pub use channel_session::Port;
-pub use connection::{Connection, MAX_ITEMS, MAX_SILENCE, Progress, Stage, socket_config};
+pub use connection::{Connection, MAX_SILENCE, Progress, Stage, socket_config};
 pub use hearing::{Heard, hear};

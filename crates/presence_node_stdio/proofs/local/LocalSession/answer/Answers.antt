@@ -1,4 +1,4 @@
-use Rattle.std.proofs.Common.{◌≡◌, true, false, sym, ◌∙◌}
+use Rattle.std.proofs.Common.{◌≡◌, true, false}
 use Rattle.presence_node_stdio.specs.Session.{voice_of}
 use Rattle.presence_node_stdio.proofs.Answering.{tells_failed, tells_no_line}
 use Rattle.presence_node_stdio.proofs.local.LocalSession.answer.Goals as goal
