@@ -1,12 +1,13 @@
 -- Who may be at the other end of a link, and what is said of a link.
-use Rattle.std.specs.Prelude.{◌≡◌, ℕ, List, ◌++◌, Option, Some, None, Result, Ok, Err, cond, codes, decimal}
+use Rattle.std.specs.Prelude.{ℕ, List, ◌++◌, Option, Some, None, Result, Ok, Err, cond, codes, decimal}
 use Rattle.presence_base.specs.Order.{same_text}
 use Rattle.presence_base.specs.declared.dots.Replica.{Replica}
+use Rattle.node_links_acts.specs.declared.port.ActFault.TheVariants as acts
 use Rattle.node_links.specs.declared.fault.DialFault.TheVariants as dials
 use Rattle.node_links_members.specs.declared.fault.LinkFault.{LinkFault}
 use Rattle.node_links_members.specs.declared.fault.LinkFault.TheVariants as faults
 use Rattle.presence_node_link_words.specs.declared.end.LinkEnd.{LinkEnd}
-use Rattle.presence_node_link_words.specs.declared.end.LinkEnd.TheVariants.{Fault, OwnName, OtherName}
+use Rattle.presence_node_link_words.specs.declared.end.LinkEnd.TheVariants.{Fault, Closed, GivenUp, OwnName, OtherName, NotReached, TooMany, Stopped}
 
 -- the own name is refused first, then another than the one that is wanted
 abbrev pub met : List ℕ → Option (List ℕ) → List ℕ → Result (Unit {0}) LinkEnd
@@ -25,15 +26,40 @@ fault_number faults.WriteFailed = 7
 fault_number faults.OutOfMemory = 8
 fault_number faults.CutLine = 9
 
--- the reason of an end: of a link's fault its number, and words
-abbrev pub Tells : LinkEnd → List ℕ → Type 0
-Tells (Fault (dials.Link fault)) text = (words : List ℕ) × (text ≡ codes "N" ++ (decimal (fault_number fault) ++ (codes " " ++ words)))
-Tells end text = Unit {0}
+-- what is said of a refusal behind its number
+abbrev pub fault_words : LinkFault → List ℕ
+fault_words faults.LineTooLong = codes "a line is too long: 4194304 bytes are allowed"
+fault_words faults.NotJson = codes "a line is not JSON"
+fault_words faults.BadLine = codes "a line is none that is allowed here, or a member of it is outside its limits"
+fault_words (faults.BadTold fault) = codes "a told value is refused"
+fault_words faults.OtherShards = codes "the other node has another number of shards"
+fault_words faults.ReadFailed = codes "reading failed, or nothing came for 30 seconds"
+fault_words faults.WriteFailed = codes "writing failed"
+fault_words faults.OutOfMemory = codes "out of memory"
+fault_words faults.CutLine = codes "the end came within a line"
+
+-- what is said of an end
+abbrev pub end_words : LinkEnd → List ℕ
+end_words (Fault (dials.Link fault)) = fault_words fault
+end_words (Fault (dials.Act acts.ShardFull)) = codes "a shard takes nothing more in, though a checkpoint was tried"
+end_words (Fault (dials.Act acts.OutOfMemory)) = codes "out of memory"
+end_words Closed = codes "the other node closed it"
+end_words GivenUp = codes "this incarnation is gone at the other node: start this one with a higher --incarnation"
+end_words OwnName = codes "the other node has this node's own name"
+end_words OtherName = codes "the other node has another name than --peer says"
+end_words NotReached = codes "nobody answers there"
+end_words TooMany = codes "there are 32 links that came in, and no more are taken"
+end_words Stopped = codes "this node stops"
+
+-- the reason of an end: of a link's fault its number too
+abbrev pub reason : LinkEnd → List ℕ
+reason (Fault (dials.Link fault)) = codes "N" ++ (decimal (fault_number fault) ++ (codes " " ++ fault_words fault))
+reason end = end_words end
 
 -- the line of a link that has come up
 abbrev pub up_text : List ℕ → Replica → List ℕ
 up_text place other = codes "link " ++ (place ++ (codes ": up, with " ++ (other.name ++ (codes "." ++ (decimal other.incarnation ++ codes "\n")))))
 
 -- the line of a link that went
-abbrev pub IsDownText : List ℕ → LinkEnd → List ℕ → Type 0
-IsDownText place end text = (why : List ℕ) × Tells end why × (text ≡ codes "link " ++ (place ++ (codes ": down: " ++ (why ++ codes "\n"))))
+abbrev pub down_text : List ℕ → LinkEnd → List ℕ
+down_text place end = codes "link " ++ (place ++ (codes ": down: " ++ (reason end ++ codes "\n")))

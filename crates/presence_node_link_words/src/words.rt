@@ -1,6 +1,6 @@
 //! The lines on standard error.
 ghost use Rattle.std.specs.Prelude.{◌≡◌, IfOk, string_bytes};
-ghost use Rattle.presence_node_link_words.specs.Words.{IsDownText, Tells, fault_number, up_text};
+ghost use Rattle.presence_node_link_words.specs.Words.{down_text, end_words, fault_number, fault_words, reason, up_text};
 
 use crate::end::LinkEnd;
 use node_links::{ActFault, DialFault, LinkFault};
@@ -11,7 +11,7 @@ use std::alloc::{AllocError, Global};
 pub const MAX_LINKS: usize = 32;
 
 // The number of a refusal, as it is told.
-fn number_of(fault: LinkFault) -> u8
+fn fault_number(fault: LinkFault) -> u8
     ensures { result ≡ fault_number fault }
 {
     match fault {
@@ -27,7 +27,9 @@ fn number_of(fault: LinkFault) -> u8
     }
 }
 
-fn words_of(fault: LinkFault) -> &'static str {
+fn fault_words(fault: LinkFault) -> &'static str
+    ensures { result.now ≡ fault_words fault }
+{
     match fault {
         LinkFault::LineTooLong => "a line is too long: 4194304 bytes are allowed",
         LinkFault::NotJson => "a line is not JSON",
@@ -45,19 +47,22 @@ fn words_of(fault: LinkFault) -> &'static str {
 
 // The reason of a fault of the link, with its number.
 fn refusal(alloc: Global, fault: LinkFault) -> Result<String, AllocError>
-    ensures { IfOk result (λ s. Tells (LinkEnd.Fault (DialFault.Link fault)) (string_bytes s)) }
+    ensures { IfOk result (λ s. string_bytes s ≡ reason (LinkEnd.Fault (DialFault.Link fault))) }
 {
-    let number = number_of(fault);
-    let words = words_of(fault);
+    let number = fault_number(fault);
+    let words = fault_words(fault);
     format!(in alloc; "N{number} {words}")
 }
 
-fn plain_words(end: LinkEnd) -> &'static str {
+fn end_words(end: LinkEnd) -> &'static str
+    ensures { result.now ≡ end_words end }
+{
     match end {
         LinkEnd::Fault(DialFault::Act(ActFault::ShardFull)) => {
             "a shard takes nothing more in, though a checkpoint was tried"
         }
-        LinkEnd::Fault(_) => "out of memory",
+        LinkEnd::Fault(DialFault::Act(ActFault::OutOfMemory)) => "out of memory",
+        LinkEnd::Fault(DialFault::Link(fault)) => fault_words(fault),
         LinkEnd::Closed => "the other node closed it",
         LinkEnd::GivenUp => {
             "this incarnation is gone at the other node: start this one with a higher --incarnation"
@@ -72,11 +77,11 @@ fn plain_words(end: LinkEnd) -> &'static str {
 
 // The reason of an end.
 fn reason(alloc: Global, end: LinkEnd) -> Result<String, AllocError>
-    ensures { IfOk result (λ s. Tells end (string_bytes s)) }
+    ensures { IfOk result (λ s. string_bytes s ≡ reason end) }
 {
     match end {
         LinkEnd::Fault(DialFault::Link(fault)) => refusal(alloc, fault),
-        _ => String::from_str(alloc, plain_words(end)),
+        _ => String::from_str(alloc, end_words(end)),
     }
 }
 
@@ -91,7 +96,7 @@ pub fn up_line(alloc: Global, place: &str, other: &Replica) -> Result<String, Al
 
 /// The line of a link that went, or that can't be had.
 pub fn down_line(alloc: Global, place: &str, end: LinkEnd) -> Result<String, AllocError>
-    ensures { IfOk result (λ s. IsDownText place.now end (string_bytes s)) }
+    ensures { IfOk result (λ s. string_bytes s ≡ down_text place.now end) }
 {
     let why = reason(alloc, end)?;
     let line = format!(in alloc; "link {place}: down: {why}\n")?;
