@@ -1,4 +1,4 @@
-ghost use Rattle.std.specs.Prelude.{◌≡◌, All, List, ℕ, ◌+◌, ◌<◌, ◌≤◌, length, map, IfOk, IfErr, OnOk, true, false, ◌⊎◌};
+ghost use Rattle.std.specs.Prelude.{◌≡◌, All, List, [], ◌∷◌, ◌++◌, ℕ, ◌+◌, ◌<◌, ◌≤◌, cond, length, map, take, IfOk, IfErr, OnOk, true, false, ◌⊎◌};
 ghost use Rattle.presence_journal.specs.History.{History};
 ghost use Rattle.shard_pool_settled.specs.Seated.{one_if};
 ghost use Rattle.shard_pool_settled.specs.Settled.{Agree, CountsDiffer, are_told};
@@ -100,6 +100,7 @@ fn put_if(
     requires one { IsOf own.now.name journal }
     ensures all { OnOk result (All (IsOf own.now.name) journals.new.items) }
     ensures length { OnOk result (length journals.new.items ≡ length journals.old.items + one_if used) }
+    ensures behind { OnOk result (journals.new.items ≡ journals.old.items ++ cond used (journal ∷ []) []) }
     ensures err { IfErr result (λ e. e ≡ SettleFault.OutOfMemory) }
 {
     if used && journals.push(journal).is_err() {
@@ -108,7 +109,8 @@ fn put_if(
     Ok(())
 }
 
-// The journals of the shards that are used, in order.
+// The journals of the shards that are used, in order. Their order is a proof's.
+#[tactic(auto, using(crate::proofs::Settled::in_order))]
 fn journals_of(
     alloc: Global,
     own: &Replica,
@@ -124,6 +126,7 @@ fn journals_of(
     requires third { IsOf own.now.name third }
     requires fourth { IsOf own.now.name fourth }
     ensures ok { IfOk result (λ js. AreOf own.now.name shards js.items) }
+    ensures order { IfOk result (λ js. js.items ≡ take shards (first ∷ second ∷ third ∷ fourth ∷ [])) }
     ensures err { IfErr result (λ e. e ≡ SettleFault.OutOfMemory) }
 {
     let mut all = Vec::new(alloc);

@@ -19,7 +19,7 @@ use shard_pool_lent::{Lane, PoolFault, Sub};
 use shard_pool_locks::{
     Gate, locked_checkpoint, locked_cut, locked_full, locked_heard, locked_journal, locked_merge,
     locked_permdown, locked_start_of, locked_status, locked_tick, locked_told_from, locked_top,
-    locked_waits,
+    locked_trim, locked_waits,
 };
 use std::alloc::Global;
 use std::sync::Wait;
@@ -242,13 +242,12 @@ impl<G: Gate, A: Lane, B: Lane, C: Lane, D: Lane> Pool<G, A, B, C, D> {
     }
 
     /// Drops a seat's receipts up to the Start of each shard: those that have no entry any more.
-    #[tactic(auto, using(crate::proofs::Trims::trimmed))]
     pub fn trim<R: Wait>(&self, rt: &R, seat: &mut Seat<A, B, C, D>)
         ensures { IsTrimmed self.now.own.name seat.old seat.new }
     {
-        seat.forget(0, locked_start_of(rt, &self.first));
-        seat.forget(1, locked_start_of(rt, &self.second));
-        seat.forget(2, locked_start_of(rt, &self.third));
-        seat.forget(3, locked_start_of(rt, &self.fourth));
+        let _start = locked_trim(rt, &self.first, &mut seat.first);
+        let _start = locked_trim(rt, &self.second, &mut seat.second);
+        let _start = locked_trim(rt, &self.third, &mut seat.third);
+        let _start = locked_trim(rt, &self.fourth, &mut seat.fourth);
     }
 }

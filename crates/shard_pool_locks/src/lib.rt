@@ -17,5 +17,5 @@ pub use seated::{
 pub use unseated::{
     locked_checkpoint, locked_cut, locked_full, locked_heard, locked_journal, locked_merge,
     locked_permdown, locked_start_of, locked_status, locked_tick, locked_told_from, locked_top,
-    locked_waits,
+    locked_trim, locked_waits,
 };

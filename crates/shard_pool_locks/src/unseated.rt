@@ -4,6 +4,7 @@ ghost use Rattle.std.specs.Prelude.{◌≡◌, IfOk, IfErr};
 ghost use Rattle.presence_journal.specs.History.{IsTop, start_of, status};
 ghost use Rattle.presence_journal_sets.specs.Full.{IsFullOf};
 ghost use Rattle.presence_journal_cuts.specs.KeptDeltas.{IsToldFrom};
+ghost use Rattle.shard_pool_lent.specs.Hands.{without_receipts};
 ghost use Rattle.shard_pool_lent.specs.ShardFault.TheVariants.{OutOfMemory};
 ghost use Rattle.shard_pool_locks.specs.Unseated.{IsOf, IsBehind, IsMade, IsCutMade, IsCheckpointed, TellsWaiting};
 
@@ -12,7 +13,7 @@ use orswot_core_told::Told;
 use presence_base::Replica;
 use presence_journal::{Journal, Step};
 use replica_status::Status;
-use shard_pool_lent::{Lane, Locked, PoolFault, Sub};
+use shard_pool_lent::{Lane, Locked, Part, PoolFault, Sub};
 use std::alloc::Global;
 use std::sync::{Mutex, Wait};
 
@@ -203,4 +204,15 @@ pub fn locked_start_of<L: Lane, R: Wait>(rt: &R, shard: &Mutex<Locked<L>>) -> u6
     let guard = shard.lock(rt);
     let journal = guard.journal();
     journal.start().number
+}
+
+/// Drops the receipts of a seat's part up to the Start of its shard's journal, those that have no entry any more, and gives
+/// the number of that Start.
+pub fn locked_trim<L: Lane, R: Wait>(rt: &R, shard: &Mutex<Locked<L>>, part: &mut Part<L>) -> u64
+    ensures start { IsBehind L.node (λ h. result ≡ (start_of h).number) }
+    ensures forgets { part.new ≡ without_receipts part.old result }
+{
+    let start = locked_start_of(rt, shard);
+    part.forget(start);
+    start
 }
