@@ -14,8 +14,7 @@ use channel_session_rules::{
 use hook_registry::{PresenceHooks, render_state};
 use phx_message::{Message, MsgRef};
 use presence_base::{Dot, Json, Key, Row};
-use presence_journal::Rows;
-use presence_metas_texts::are_in_key_order;
+use presence_journal::SharedRows;
 use std::alloc::{AllocError, Global};
 
 // What a refusal of the port leads to.
@@ -305,12 +304,12 @@ fn rows_reply<H: PresenceHooks>(
     hooks: &H,
     place: &Place,
     message: &Message,
-    rows: Rows,
+    rows: SharedRows,
 ) -> Result<Reply, AllocError>
     ensures { IfOk result (λ r. EachBy (Worded (H.fetched hooks.now) (H.plain hooks.now))
         (listed place.now.kind place.now.join_ref message.now rows ∷ []) (messages_of r)) }
 {
-    if hooks.is_plain() && are_in_key_order(rows.as_slice()) {
+    if hooks.is_plain() {
         let reply = write_listed(alloc, &place.join_ref, message, rows)?;
         return Ok(Reply::Listed(reply));
     }
@@ -318,23 +317,19 @@ fn rows_reply<H: PresenceHooks>(
     Ok(Reply::One(reply))
 }
 
-// What the port's answer to a list or a get leads to.
+// What the port's answer to a list leads to.
 fn told_rows<H: PresenceHooks>(
     alloc: Global,
     hooks: &H,
     place: &Place,
     message: &Message,
-    answer: Result<Vec<(Dot, Row)>, ShardFault>,
+    answer: Result<SharedRows, ShardFault>,
 ) -> Result<Reply, Stop>
     ensures { RepliesBy (Worded (H.fetched hooks.now) (H.plain hooks.now))
-        (λ s. after_list place.now.kind s place.now.join_ref message.now (seen_by (λ v. v.items) answer))
-        (is_ok (seen_by (λ v. v.items) answer)) result }
+        (λ s. after_list place.now.kind s place.now.join_ref message.now answer) (is_ok answer) result }
 {
     match answer {
-        Ok(rows) => {
-            let rows = Rows::new(rows);
-            spoiling(rows_reply(alloc, hooks, place, message, rows))
-        }
+        Ok(rows) => spoiling(rows_reply(alloc, hooks, place, message, rows)),
         Err(fault) => refused(
             alloc,
             &place.join_ref,
@@ -359,6 +354,45 @@ pub(crate) fn list<P: Port, H: PresenceHooks>(
     told_rows(alloc, hooks, place, message, answer)
 }
 
+// The reply to a get.
+fn got_reply<H: PresenceHooks>(
+    alloc: Global,
+    hooks: &H,
+    place: &Place,
+    message: &Message,
+    rows: Vec<(Dot, Row)>,
+) -> Result<Reply, AllocError>
+    ensures { IfOk result (λ r. EachBy (Worded (H.fetched hooks.now) (H.plain hooks.now))
+        (listed place.now.kind place.now.join_ref message.now rows.items ∷ []) (messages_of r)) }
+{
+    let rows = SharedRows::new(alloc, rows)?;
+    rows_reply(alloc, hooks, place, message, rows)
+}
+
+// What the port's answer to a get leads to.
+fn told_got<H: PresenceHooks>(
+    alloc: Global,
+    hooks: &H,
+    place: &Place,
+    message: &Message,
+    answer: Result<Vec<(Dot, Row)>, ShardFault>,
+) -> Result<Reply, Stop>
+    ensures { RepliesBy (Worded (H.fetched hooks.now) (H.plain hooks.now))
+        (λ s. after_list place.now.kind s place.now.join_ref message.now (seen_by (λ v. v.items) answer))
+        (is_ok (seen_by (λ v. v.items) answer)) result }
+{
+    match answer {
+        Ok(rows) => spoiling(got_reply(alloc, hooks, place, message, rows)),
+        Err(fault) => refused(
+            alloc,
+            &place.join_ref,
+            message,
+            fault,
+            full_reason(true, fault),
+        ),
+    }
+}
+
 fn get_asked<P: Port, H: PresenceHooks>(
     alloc: Global,
     hooks: &H,
@@ -373,7 +407,7 @@ fn get_asked<P: Port, H: PresenceHooks>(
     match key {
         Some(key) => {
             let answer = port.get(alloc, &message.topic, &key);
-            told_rows(alloc, hooks, place, message, answer)
+            told_got(alloc, hooks, place, message, answer)
         }
         None => bad_payload(alloc, &place.join_ref, message),
     }

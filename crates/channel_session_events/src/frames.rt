@@ -2,7 +2,6 @@ ghost use Rattle.std.specs.Prelude.{◌≡◌, ◌∷◌, [], true, false, map, 
 ghost use Rattle.serde_json.specs.Written.{has_float};
 ghost use Rattle.phx_message.specs.Making.{push_of, broadcast_of};
 ghost use Rattle.presence_metas.specs.Values.{state_of, diff_of};
-ghost use Rattle.presence_metas_texts.specs.KeyOrder.{AreInKeyOrder};
 ghost use Rattle.channel_session_rules.specs.InForce.{joined_of};
 ghost use Rattle.channel_session_rules.specs.Said.{told, text_of, Worded, Writes, Noted};
 ghost use Rattle.channel_session_events.specs.Carrying.{AddsTo};
@@ -12,8 +11,7 @@ use hook_registry::{Notice, PresenceHooks, notices, render_diff, render_state};
 use phx_message::laws::pushes_are_written;
 use phx_message::{Message, broadcast, encode, push, push_text};
 use presence_base::{Json, Topic};
-use presence_journal::{Item, Rows, SharedDiff, SharedShout};
-use presence_metas_texts::{are_in_key_order, state_text};
+use presence_journal::{Item, SharedDiff, SharedRows, SharedShout};
 use std::alloc::{AllocError, Global};
 
 /// What a delivery gives.
@@ -31,7 +29,7 @@ fn state_message<H: PresenceHooks>(
     hooks: &H,
     topic: &Topic,
     place: &Place,
-    rows: &Rows,
+    rows: &SharedRows,
 ) -> Result<Message, AllocError>
     ensures worded { IfOk result (λ m. Worded (H.fetched hooks.now) (H.plain hooks.now)
         (told (joined_of (topic.now, place.now)) (Item.State rows.now)) m) }
@@ -63,19 +61,21 @@ fn diff_message<H: PresenceHooks>(
     broadcast(alloc, topic.clone()?, "presence_diff", Json::new(value))
 }
 
-// The frame of a state to which nothing is added.
+// The frame of a state to which nothing is added: round its text where that is shared.
 fn plain_state_frame(
     alloc: Global,
     topic: &Topic,
     place: &Place,
-    rows: &Rows,
+    rows: &SharedRows,
 ) -> Result<String, AllocError>
-    requires { AreInKeyOrder rows.now }
     ensures { IfOk result (λ t. string_bytes t
         ≡ text_of (push_of place.now.join_ref topic.now (codes "presence_state") (state_of rows.now))) }
 {
     pushes_are_written();
-    let state = state_text(alloc, rows.as_slice())?;
+    if let Some(state) = rows.text() {
+        return push_text(alloc, &place.join_ref, topic, "presence_state", state);
+    }
+    let state = rows.write_text(alloc)?;
     push_text(
         alloc,
         &place.join_ref,
@@ -100,12 +100,12 @@ fn state_frame<H: PresenceHooks>(
     hooks: &H,
     topic: &Topic,
     place: &Place,
-    rows: &Rows,
+    rows: &SharedRows,
 ) -> Result<String, AllocError>
     ensures { IfOk result (λ t. Writes (Worded (H.fetched hooks.now) (H.plain hooks.now))
         (told (joined_of (topic.now, place.now)) (Item.State rows.now)) (string_bytes t)) }
 {
-    if hooks.is_plain() && are_in_key_order(rows.as_slice()) {
+    if hooks.is_plain() {
         return plain_state_frame(alloc, topic, place, rows);
     }
     let message = state_message(alloc, hooks, topic, place, rows)?;

@@ -1,6 +1,6 @@
 use channel_session_rules::{Port, Shard, ShardFault, Sub};
 use presence_base::{Dot, Json, Key, Meta, Row, Topic};
-use presence_journal::Item;
+use presence_journal::{Item, SharedRows};
 use std::alloc::Global;
 
 /// A port that is lent one shard: each of its calls is that call of the shard, without a seat. What
@@ -76,7 +76,7 @@ impl<'a> Port for LocalPort<'a> {
         }
     }
 
-    fn list(&mut self, alloc: Global, topic: &Topic) -> Result<Vec<(Dot, Row)>, ShardFault> {
+    fn list(&mut self, alloc: Global, topic: &Topic) -> Result<SharedRows, ShardFault> {
         self.shard.list(alloc, None, topic)
     }
 

@@ -1,5 +1,5 @@
 use presence_base::{Dot, Json, Key, Meta, Row, Topic};
-use presence_journal::Item;
+use presence_journal::{Item, SharedRows};
 use std::alloc::Global;
 use tracker_shard::{ShardFault, Sub};
 
@@ -48,8 +48,8 @@ pub trait Port {
     fn untrack_all(&mut self, alloc: Global, pid: u64, topic: &Topic) -> Result<(), ShardFault>
         ensures { step self.old (untrack_all pid topic.now) result self.new };
 
-    fn list(&mut self, alloc: Global, topic: &Topic) -> Result<Vec<(Dot, Row)>, ShardFault>
-        ensures { step self.old (list topic.now) (seen_by (λ v. v.items) result) self.new };
+    fn list(&mut self, alloc: Global, topic: &Topic) -> Result<SharedRows, ShardFault>
+        ensures { step self.old (list topic.now) result self.new };
 
     fn get(
         &mut self,

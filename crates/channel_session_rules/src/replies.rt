@@ -1,16 +1,14 @@
 ghost use Rattle.std.specs.Prelude.{◌≡◌, IfOk, string_bytes, false};
-ghost use Rattle.serde_json.specs.Written.{has_float as float_within};
+ghost use Rattle.serde_json.specs.Written.{compact_text, has_float as float_within};
 ghost use Rattle.phx_message.specs.Making.{closing, ok_reply};
 ghost use Rattle.presence_metas.specs.Values.{state_of};
-ghost use Rattle.presence_metas_texts.specs.KeyOrder.{AreInKeyOrder};
 ghost use Rattle.channel_session_rules.specs.Said.{text_of};
 ghost use Rattle.channel_session_rules.specs.Rules.{ok as ok_message, error as error_message, told_ref, empty as empty_of};
 
 use phx_message::laws::replies_are_written;
 use phx_message::{Message, MsgRef, close_of, encode, reply_error, reply_ok, reply_text};
-use presence_base::{Dot, Json, Row, Topic, ref_text};
-use presence_journal::Rows;
-use presence_metas_texts::state_text;
+use presence_base::{Dot, Json, Topic, ref_text};
+use presence_journal::SharedRows;
 use serde_json::{Map, Value, json};
 use std::alloc::{AllocError, Global};
 
@@ -30,7 +28,7 @@ pub struct Listed {
     pub join_ref: Option<MsgRef>,
     pub msg_ref: Option<MsgRef>,
     pub topic: Topic,
-    pub rows: Rows,
+    pub rows: SharedRows,
     pub text: String,
     ghost is_text: { string_bytes text ≡ text_of (ok_reply join_ref msg_ref topic (state_of rows)) },
 }
@@ -97,40 +95,50 @@ pub fn write_ok(
     write(alloc, reply)
 }
 
-// The text of the reply that tells rows in order of their keys.
+// The text of the reply that tells rows, round the text of their payload. The rows are named for the contract alone.
+fn text_round(
+    alloc: Global,
+    join_ref: &Option<MsgRef>,
+    message: &Message,
+    _rows: &SharedRows,
+    state: &str,
+) -> Result<String, AllocError>
+    requires { state.now ≡ compact_text (state_of _rows.now) }
+    ensures { IfOk result (λ s. string_bytes s
+        ≡ text_of (ok_message join_ref.now message.now (state_of _rows.now))) }
+{
+    replies_are_written();
+    reply_text(alloc, join_ref, &message.msg_ref, &message.topic, state)
+}
+
+// The text of the reply that tells rows: round their text where that is shared.
 fn listed_text(
     alloc: Global,
     join_ref: &Option<MsgRef>,
     message: &Message,
-    rows: &[(Dot, Row)],
+    rows: &SharedRows,
 ) -> Result<String, AllocError>
-    requires { AreInKeyOrder rows.now }
     ensures { IfOk result (λ s. string_bytes s
         ≡ text_of (ok_message join_ref.now message.now (state_of rows.now))) }
 {
-    replies_are_written();
-    let state = state_text(alloc, rows)?;
-    reply_text(
-        alloc,
-        join_ref,
-        &message.msg_ref,
-        &message.topic,
-        state.as_str(),
-    )
+    if let Some(state) = rows.text() {
+        return text_round(alloc, join_ref, message, rows, state);
+    }
+    let state = rows.write_text(alloc)?;
+    text_round(alloc, join_ref, message, rows, state.as_str())
 }
 
-/// The reply that tells rows in order of their keys.
+/// The reply that tells rows.
 pub fn write_listed(
     alloc: Global,
     join_ref: &Option<MsgRef>,
     message: &Message,
-    rows: Rows,
+    rows: SharedRows,
 ) -> Result<Listed, AllocError>
-    requires { AreInKeyOrder rows }
     ensures { IfOk result (λ l. ok_reply l.join_ref l.msg_ref l.topic (state_of l.rows)
         ≡ ok_message join_ref.now message.now (state_of rows)) }
 {
-    let text = listed_text(alloc, join_ref, message, rows.as_slice())?;
+    let text = listed_text(alloc, join_ref, message, &rows)?;
     let join_ref = join_ref.clone()?;
     let msg_ref = message.msg_ref.clone()?;
     let topic = message.topic.clone()?;

@@ -61,7 +61,7 @@ fn list<R: Wait, A: Lane, B: Lane, C: Lane, D: Lane>(
     let topic = topic(alloc, "room:a")?;
     let mut port = PoolPort::new(rt, pool, seat);
     let rows = port.list(alloc, &topic).ok()?;
-    if !rows.is_empty() || !port.has_made_room() {
+    if !rows.as_slice().is_empty() || !port.has_made_room() {
         return None;
     }
     Some(())

@@ -33,7 +33,7 @@ fn first_row<R: Wait, A: Lane, B: Lane, C: Lane, D: Lane>(
 ) -> Option<u64> {
     let topic = topic(alloc, "room:a")?;
     let rows = pool.list(rt, alloc, seat, &topic).ok()?.value;
-    match rows.first() {
+    match rows.as_slice().first() {
         Some(row) => Some(row.0.count),
         None => Some(0),
     }

@@ -87,10 +87,10 @@ fn listed<R: Wait, A: Lane, B: Lane, C: Lane, D: Lane>(
 ) -> Option<Listed> {
     let topic = topic(alloc, "room:a")?;
     let rows = pool.list(rt, alloc, seat, &topic).ok()?.value;
-    let is_told = rows.first().is_some_and(|(dot, row)| {
+    let is_told = rows.as_slice().first().is_some_and(|(dot, row)| {
         dot.count == 1 && dot.replica.name.as_str() == "b" && row.key.as_str() == "u2"
     });
-    Some((rows.len(), is_told))
+    Some((rows.as_slice().len(), is_told))
 }
 
 pub(crate) fn accept_over<R: Wait, A: Lane, B: Lane, C: Lane, D: Lane, S: Read + Write>(

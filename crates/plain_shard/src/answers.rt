@@ -7,7 +7,7 @@ ghost use Rattle.tracker_shard.specs.Steps.{first_dot};
 
 use delta_range::Delta;
 use presence_base::{Dot, Row, Topic};
-use presence_journal::{Item, Journal, Outcome, Rows};
+use presence_journal::{Item, Journal, Outcome, SharedRows};
 use presence_journal_walks::{Pending, walk_list};
 use std::alloc::{AllocError, Global};
 
@@ -51,8 +51,9 @@ fn state_item(alloc: Global, journal: &Journal, topic: &Topic) -> Result<Vec<Ite
     ensures { IfOk result (λ v. v.items ≡ Item.State (listed journal.now topic.now) ∷ []) }
 {
     let rows = walk_list(alloc, journal, topic)?;
+    let state = SharedRows::new(alloc, rows)?;
     let mut items = Vec::new(alloc);
-    items.push(Item::State(Rows::new(rows)))?;
+    items.push(Item::State(state))?;
     Ok(items)
 }
 

@@ -4,7 +4,7 @@ use crate::answers::{
 use delta_range::Delta;
 use orswot_core::Told;
 use presence_base::{Dot, Json, Key, MAX_COUNT, Meta, Replica, Row, Topic};
-use presence_journal::{Dots, Item, Journal, Outcome, Step};
+use presence_journal::{Dots, Item, Journal, Outcome, SharedRows, Step};
 use presence_journal_cuts::walk_cut;
 use presence_journal_walks::{
     walk_count, walk_get, walk_list, walk_own_row, walk_own_rows, walk_pending, walk_set,
@@ -293,7 +293,7 @@ impl PlainShard {
         alloc: Global,
         seat: Option<u32>,
         topic: &Topic,
-    ) -> Result<Vec<(Dot, Row)>, ShardFault>
+    ) -> Result<SharedRows, ShardFault>
         ensures step { Stepped self.old self.new seat (Step.List topic.now) result }
         ensures answer { AnswersListed self.old topic.now result }
         ensures due { IsDue result (refusal true self.old (Step.List topic.now)) }
@@ -303,6 +303,7 @@ impl PlainShard {
         }
         let rows = walk_list(alloc, &self.journal, topic)?;
         let dots = dots_of_rows(alloc, &rows)?;
+        let rows = SharedRows::new(alloc, rows)?;
         let step = Step::list(topic)?;
         self.write(seat, step, Outcome::Shown(Dots::new(dots)))?;
         Ok(rows)

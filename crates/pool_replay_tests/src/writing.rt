@@ -2,7 +2,7 @@
 //! or not, which what is written here does not show.
 use orswot_core_told::Told;
 use presence_base::{Dot, Key, Meta, Row, Topic};
-use presence_journal::{Entry, Item, Outcome, Step};
+use presence_journal::{Entry, Item, Outcome, SharedRows, Step};
 use serde_json::Value;
 use std::alloc::{AllocError, Global};
 use std::fmt::Debug;
@@ -38,6 +38,12 @@ impl Written for Vec<Dot> {
 }
 
 impl Written for Vec<(Dot, Row)> {
+    fn written(&self, alloc: Global) -> Result<String, AllocError> {
+        rows_text(alloc, self.as_slice())
+    }
+}
+
+impl Written for SharedRows {
     fn written(&self, alloc: Global) -> Result<String, AllocError> {
         rows_text(alloc, self.as_slice())
     }

@@ -19,6 +19,7 @@ mod waiting;
 pub use journal::{Journal, MAX_ENTRIES};
 pub use presence_journal_data::{
     Chains, Dots, Entry, Item, MAX_PAYLOAD_DEPTH, MAX_TAKEN, Outcome, Payload, Place, RowDiff,
-    Rows, Runs, SharedDiff, SharedShout, Standings, Start, Step, Subscribers, TakeLimit,
+    Rows, Runs, SharedDiff, SharedRows, SharedShout, Standings, Start, Step, Subscribers,
+    TakeLimit,
 };
 pub use waiting::MAX_WAITING;

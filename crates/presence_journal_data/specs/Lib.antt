@@ -1,3 +1,4 @@
 pub mod Limits
 pub mod StepLimits
 pub mod HeldDots
+pub mod HeldRows

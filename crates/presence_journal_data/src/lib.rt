@@ -8,6 +8,7 @@ mod kept;
 mod limits;
 mod rows;
 mod shared;
+mod shared_rows;
 mod standings;
 mod step;
 
@@ -16,5 +17,6 @@ pub use kept::{Chains, Runs, Subscribers};
 pub use limits::{MAX_PAYLOAD_DEPTH, MAX_TAKEN, Payload, TakeLimit};
 pub use rows::{Item, Place, RowDiff, Rows};
 pub use shared::{SharedDiff, SharedShout};
+pub use shared_rows::SharedRows;
 pub use standings::Standings;
 pub use step::Step;

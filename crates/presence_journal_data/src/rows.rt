@@ -1,4 +1,5 @@
 use crate::shared::{SharedDiff, SharedShout};
+use crate::shared_rows::SharedRows;
 use presence_base::{Dot, Key, Row};
 use std::marker::Model;
 
@@ -69,7 +70,7 @@ pub struct RowDiff {
 /// What waits for a subscriber.
 #[derive(Debug, Drop)]
 pub enum Item {
-    State(Rows),
+    State(SharedRows),
     Diff(SharedDiff),
     Shout(SharedShout),
 }

@@ -4,7 +4,7 @@ ghost use Rattle.std.specs.Prelude.{◌≡◌};
 use crate::inbox::Topics;
 use channel_session::{Port, ShardFault, Sub};
 use presence_base::{Dot, Json, Key, Meta, Row, Topic};
-use presence_journal::Item;
+use presence_journal::{Item, SharedRows};
 use std::alloc::Global;
 use std::collections::BTreeSet;
 use std::mem;
@@ -97,7 +97,7 @@ impl<P: Port + Drop> Port for HintingPort<P> {
         answer
     }
 
-    fn list(&mut self, alloc: Global, topic: &Topic) -> Result<Vec<(Dot, Row)>, ShardFault> {
+    fn list(&mut self, alloc: Global, topic: &Topic) -> Result<SharedRows, ShardFault> {
         self.port.list(alloc, topic)
     }
 

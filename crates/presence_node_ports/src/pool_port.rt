@@ -5,7 +5,7 @@ ghost use Rattle.presence_node_ports.specs.Asking.{value_of};
 
 use channel_session_rules::{Port, ShardFault, Sub};
 use presence_base::{Dot, Json, Key, Meta, Row, Topic};
-use presence_journal::Item;
+use presence_journal::{Item, SharedRows};
 use shard_pool::{Gate, Lane, Pool, PoolFault, Reply, Seat};
 use std::alloc::Global;
 use std::sync::Wait;
@@ -192,7 +192,7 @@ impl<'a, R: Wait, G: Gate, A: Lane, B: Lane, C: Lane, D: Lane> Port
         )
     }
 
-    fn list(&mut self, alloc: Global, topic: &Topic) -> Result<Vec<(Dot, Row)>, ShardFault> {
+    fn list(&mut self, alloc: Global, topic: &Topic) -> Result<SharedRows, ShardFault> {
         tried!(
             self,
             alloc,

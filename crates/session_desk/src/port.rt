@@ -2,7 +2,7 @@
 
 use channel_session::{Port, Shard, ShardFault, Sub};
 use presence_base::{Dot, Json, Key, Meta, NodeName, Replica, Row, Topic};
-use presence_journal::Item;
+use presence_journal::{Item, SharedRows};
 use presence_journal_walks::walk_topic;
 use std::alloc::Global;
 
@@ -55,7 +55,7 @@ impl TestPort {
             return false;
         };
         match self.shard.list(alloc, None, &topic) {
-            Ok(rows) => rows.is_empty() && is_unheard(&self.shard),
+            Ok(rows) => rows.as_slice().is_empty() && is_unheard(&self.shard),
             Err(_) => false,
         }
     }
@@ -129,7 +129,7 @@ impl Port for TestPort {
         }
     }
 
-    fn list(&mut self, alloc: Global, topic: &Topic) -> Result<Vec<(Dot, Row)>, ShardFault> {
+    fn list(&mut self, alloc: Global, topic: &Topic) -> Result<SharedRows, ShardFault> {
         match self.refusal() {
             Some(fault) => Err(fault),
             None => self.shard.list(alloc, None, topic),

@@ -139,7 +139,7 @@ fn make<P: Port>(
 ) -> Result<Answer, ShardFault> {
     let topic = &place.topic;
     match call {
-        Call::List => Ok(Answer::Rows(port.list(alloc, topic)?.len())),
+        Call::List => Ok(Answer::Rows(port.list(alloc, topic)?.as_slice().len())),
         Call::Get(_) => Ok(Answer::Rows(port.get(alloc, topic, &place.key)?.len())),
         Call::Subscribe => Ok(Answer::Subscriber(port.subscribe(alloc, topic)?.number)),
         Call::Take => Ok(Answer::Items(port.take(alloc, topic, &place.sub, 256)?.len())),

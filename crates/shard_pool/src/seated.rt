@@ -11,7 +11,7 @@ ghost use Rattle.shard_pool.specs.Seats.{CalledAt, shard_of};
 use crate::pool::Pool;
 use crate::seat::Seat;
 use presence_base::{Dot, Json, Key, Meta, Row, Topic, shard_of};
-use presence_journal::{Item, Step};
+use presence_journal::{Item, SharedRows, Step};
 use shard_pool_lent::{Lane, PoolFault, Reply, Sub};
 use shard_pool_locks::{
     Gate, locked_get, locked_list, locked_shout, locked_subscribe, locked_take, locked_track,
@@ -253,10 +253,10 @@ impl<G: Gate, A: Lane, B: Lane, C: Lane, D: Lane> Pool<G, A, B, C, D> {
         alloc: Global,
         seat: &mut Seat<A, B, C, D>,
         topic: &Topic,
-    ) -> Result<Reply<Vec<(Dot, Row)>>, PoolFault>
+    ) -> Result<Reply<SharedRows>, PoolFault>
         ensures { CalledAt self.now.own.name always seat.old seat.new (shard_of topic.now self.now.shards)
             (Step.List topic.now)
-            (λ h rows. rows.items ≡ listed h topic.now) result }
+            (λ h rows. rows ≡ listed h topic.now) result }
     {
         let shard = shard_of(topic, self.shards);
         let Seat {

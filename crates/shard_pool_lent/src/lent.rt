@@ -13,7 +13,7 @@ use crate::noting::{is_made, keep_receipt};
 use crate::part::Part;
 use crate::reply::{PoolFault, Reply, reply_to};
 use presence_base::{Dot, Json, Key, Meta, Row, Topic};
-use presence_journal::{Item, Step};
+use presence_journal::{Item, SharedRows, Step};
 use std::alloc::Global;
 use tracker_shard::Sub;
 
@@ -171,11 +171,11 @@ pub fn lent_list<L: Lane>(
     locked: &mut Locked<L>,
     part: &mut Part<L>,
     topic: &Topic,
-) -> Result<Reply<Vec<(Dot, Row)>>, PoolFault>
+) -> Result<Reply<SharedRows>, PoolFault>
     ensures step { Stepped locked.old.shard locked.new.shard (Some part.old.seat) (Step.List topic.now) result }
     ensures answer { Replies part.old.shard locked.old.shard
         (Step.List topic.now)
-        (λ rows. rows.items ≡ listed locked.old.shard topic.now) result }
+        (λ rows. rows ≡ listed locked.old.shard topic.now) result }
     ensures due { IsDueOnceNoted result (refusal true locked.old.shard (Step.List topic.now)) }
     ensures notes { Notes locked.old.shard part.old part.new (Step.List topic.now) result }
     ensures total { locked.new.calls.total ≡ counted locked.old.calls.total (is_step result) }

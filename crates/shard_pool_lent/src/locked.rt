@@ -18,7 +18,7 @@ use crate::noting::{count_call, is_made};
 use delta_range::Delta;
 use orswot_core_told::Told;
 use presence_base::{Dot, Json, Key, Meta, Replica, Row, Topic};
-use presence_journal::{Item, Journal, Outcome, Step};
+use presence_journal::{Item, Journal, Outcome, SharedRows, Step};
 use replica_status::Status;
 use std::alloc::{AllocError, Global};
 use std::sync::ledger::{Book, Share};
@@ -196,7 +196,7 @@ impl<L: Lane> Locked<L> {
         share: &mut Share<L>,
         seat: u32,
         topic: &Topic,
-    ) -> Result<Vec<(Dot, Row)>, ShardFault>
+    ) -> Result<SharedRows, ShardFault>
         requires share { share.old.parts ≡ 1 }
         ensures step { Stepped self.old.shard self.new.shard (Some seat) (Step.List topic.now) result }
         ensures answer { AnswersListed self.old.shard topic.now result }

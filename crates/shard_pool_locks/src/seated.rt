@@ -9,7 +9,7 @@ ghost use Rattle.shard_pool_locks.specs.Seated.{Called, always, finds};
 
 use crate::gate::Gate;
 use presence_base::{Dot, Json, Key, Meta, Row, Topic};
-use presence_journal::{Item, Step};
+use presence_journal::{Item, SharedRows, Step};
 use shard_pool_lent::{
     Lane, Locked, Part, PoolFault, Reply, Sub, lent_get, lent_list, lent_shout, lent_subscribe,
     lent_take, lent_track, lent_unsubscribe, lent_untrack, lent_untrack_all, lent_update,
@@ -136,10 +136,10 @@ pub fn locked_list<G: Gate, L: Lane, R: Wait>(
     shard: &Mutex<Locked<L>>,
     part: &mut Part<L>,
     topic: &Topic,
-) -> Result<Reply<Vec<(Dot, Row)>>, PoolFault>
+) -> Result<Reply<SharedRows>, PoolFault>
     ensures { Called L.node always part.old part.new
         (Step.List topic.now)
-        (λ h rows. rows.items ≡ listed h topic.now) result }
+        (λ h rows. rows ≡ listed h topic.now) result }
 {
     gate.before(part.seat(), part.shard());
     let mut guard = shard.lock(rt);

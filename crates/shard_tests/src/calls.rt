@@ -75,6 +75,21 @@ const UNKNOWN_SUBSCRIBER: &[Ask] = &[
     Ask::Unsubscribe(1),
 ];
 
+// The second take of rows that stay writes their text, which later ones share.
+const STATES: &[Ask] = &[
+    Ask::Track(1, "u1"),
+    Ask::Track(1, "u2"),
+    Ask::Subscribe(ROOM),
+    Ask::Subscribe(ROOM),
+    Ask::Subscribe(ROOM),
+    Ask::Take(3),
+    Ask::Take(4),
+    Ask::Take(5),
+    Ask::Track(1, "u3"),
+    Ask::Subscribe(ROOM),
+    Ask::Take(10),
+];
+
 #[test]
 fn worked_calls(rt: HostRuntime) -> Result<(), Fail> {
     for (asks, want) in [
@@ -96,6 +111,10 @@ fn worked_calls(rt: HostRuntime) -> Result<(), Fail> {
         (
             SHOUT,
             "Ok(Sub { slot: 0, number: 1 });Ok(Sub { slot: 0, number: 2 });S;S;Ok(());H;;",
+        ),
+        (
+            STATES,
+            "a.1.1;a.1.2;Ok(Sub { slot: 0, number: 3 });Ok(Sub { slot: 0, number: 4 });Ok(Sub { slot: 0, number: 5 });S;T;T;a.1.3;Ok(Sub { slot: 0, number: 10 });S;",
         ),
         (
             UNKNOWN_SUBSCRIBER,

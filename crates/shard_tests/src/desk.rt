@@ -184,8 +184,10 @@ fn untrack_all(alloc: Global, shard: &mut Shard, pid: u32) -> Result<String, All
 
 fn list(alloc: Global, shard: &mut Shard) -> Result<String, AllocError> {
     let topic = topic(alloc, ROOM)?;
-    let answer = shard.list(alloc, None, &topic);
-    rows_text(alloc, answer)
+    match shard.list(alloc, None, &topic) {
+        Ok(rows) => row_references(alloc, rows.as_slice()),
+        Err(fault) => format!(in alloc; "{fault:?}"),
+    }
 }
 
 fn get(alloc: Global, shard: &mut Shard, name: &str) -> Result<String, AllocError> {
@@ -224,8 +226,10 @@ fn item_letters(alloc: Global, items: &[Item]) -> Result<String, AllocError> {
     Ok(text)
 }
 
+// A state that has its text is a `T`.
 fn letter(item: &Item) -> char {
     match item {
+        Item::State(rows) if rows.text().is_some() => 'T',
         Item::State(_) => 'S',
         Item::Diff(_) => 'D',
         Item::Shout(_) => 'H',

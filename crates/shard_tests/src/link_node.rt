@@ -37,7 +37,7 @@ impl Shards {
     pub fn rows(&mut self, alloc: Global, text: &str) -> Option<usize> {
         let topic = topic(alloc, text).ok()?;
         match self.first.list(alloc, None, &topic) {
-            Ok(rows) => Some(rows.len()),
+            Ok(rows) => Some(rows.as_slice().len()),
             Err(_) => None,
         }
     }

@@ -202,7 +202,7 @@ fn rows_text(alloc: Global, rows: &[(Dot, Row)]) -> Result<String, AllocError> {
 fn rows(alloc: Global, shard: &mut Shard) -> Result<String, AllocError> {
     let topic = topic(alloc, ROOM)?;
     match shard.list(alloc, None, &topic) {
-        Ok(rows) => rows_text(alloc, &rows),
+        Ok(rows) => rows_text(alloc, rows.as_slice()),
         Err(_) => Err(AllocError),
     }
 }

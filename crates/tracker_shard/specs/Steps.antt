@@ -85,8 +85,8 @@ AnswersRowsOfKey h pid t key r = Answers (λ dots. dots.items ≡ dots_of (rows_
 abbrev pub AnswersRowsOfPid : {A : Type 0} → History → ℕ → List ℕ → Result (Vec Dot A) ShardFault → Type 0
 AnswersRowsOfPid h pid t r = Answers (λ dots. dots.items ≡ dots_of (rows_of_pid h pid t)) (outcome_of h (steps_are.UntrackAll pid t)) r
 
-abbrev pub AnswersListed : {A : Type 0} → History → List ℕ → Result (Vec (Dot × Row) A) ShardFault → Type 0
-AnswersListed h t r = Answers (λ rows. rows.items ≡ listed h t) (outcome_of h (steps_are.List t)) r
+abbrev pub AnswersListed : History → List ℕ → Result (List (Dot × Row)) ShardFault → Type 0
+AnswersListed h t r = Answers (λ rows. rows ≡ listed h t) (outcome_of h (steps_are.List t)) r
 
 abbrev pub AnswersListedKey : {A : Type 0} → History → List ℕ → List ℕ → Result (Vec (Dot × Row) A) ShardFault → Type 0
 AnswersListedKey h t key r = Answers (λ rows. rows.items ≡ listed_key h t key) (outcome_of h (steps_are.Get t key)) r

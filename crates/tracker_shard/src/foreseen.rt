@@ -104,7 +104,9 @@ pub(crate) fn foreseen(
         Step::UntrackAll { pid, topic } => {
             removal(table, alloc, &table.rows_of_pid(alloc, *pid, topic)?)
         }
-        Step::List { topic } => listed(lists, alloc, topic, &table.listed(alloc, topic)?),
+        Step::List { topic } => {
+            listed(lists, alloc, topic, table.listed(alloc, topic)?.as_slice())
+        }
         Step::Get { topic, key } => shown(alloc, &table.listed_key(alloc, topic, key)?),
         Step::Subscribe { .. } => Ok(Some(Outcome::Subscribed(table.journal().last_number() + 1))),
         Step::Take { subscriber, max } => table.take_outcome(alloc, *subscriber, max.get()),

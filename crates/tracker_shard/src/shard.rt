@@ -5,7 +5,7 @@ use crate::lists::Lists;
 use delta_range::Delta;
 use orswot_core::Told;
 use presence_base::{Dot, Json, Key, MAX_COUNT, Meta, Replica, Row, Topic};
-use presence_journal::{Dots, Item, Journal, Outcome, Step};
+use presence_journal::{Dots, Item, Journal, Outcome, SharedRows, Step};
 use replica_status::Status;
 use std::alloc::{AllocError, Global};
 use std::marker::Model;
@@ -254,7 +254,7 @@ impl Shard {
         alloc: Global,
         seat: Option<u32>,
         topic: &Topic,
-    ) -> Result<Vec<(Dot, Row)>, ShardFault>
+    ) -> Result<SharedRows, ShardFault>
         ensures step { Stepped self.old self.new seat (Step.List topic.now) result }
         ensures answer { AnswersListed self.old topic.now result }
         ensures due { IsDue result (refusal true self.old (Step.List topic.now)) }
@@ -263,8 +263,8 @@ impl Shard {
             return Err(ShardFault::JournalFull);
         }
         self.table.ready(alloc)?;
-        let rows = self.table.listed(alloc, topic)?;
-        let dots = dots_of_rows(alloc, &rows)?;
+        let rows = self.table.state(alloc, topic)?;
+        let dots = dots_of_rows(alloc, rows.as_slice())?;
         let dots = self.lists.share(alloc, topic, dots)?;
         let step = Step::list(topic)?;
         write(&mut self.table, alloc, seat, step, Outcome::Shown(dots))?;

@@ -15,6 +15,7 @@ use Rattle.presence_journal_data.specs.contracts.rows.RowDiff as RowDiff
 use Rattle.presence_journal_data.specs.contracts.rows.Item as Item
 use Rattle.presence_journal_data.specs.contracts.shared.SharedDiff as SharedDiff
 use Rattle.presence_journal_data.specs.contracts.shared.SharedShout as SharedShout
+use Rattle.presence_journal_data.specs.contracts.shared_rows.SharedRows as SharedRows
 use Rattle.tracker_shard_feeds.specs.contracts.followers.Follower as Follower
 use Rattle.tracker_shard_feeds.specs.contracts.rings.Ring as Ring
 use Rattle.tracker_shard_feeds.specs.contracts.feeds.Feeds as Feeds
@@ -91,11 +92,17 @@ shared_shout_send = search (payload_send, payload_sync, heap.crosses, sendable) 
 shared_shout_sync : IsSync (SharedShout.the_field).row
 shared_shout_sync = search (payload_send, payload_sync, heap.crosses, sendable) depth 60 fits 20000
 
+shared_rows_send : IsSend (SharedRows.the_field).row
+shared_rows_send = search (row_send, row_sync, dot_send, dot_sync, heap.crosses, sendable) depth 60 fits 20000
+
+shared_rows_sync : IsSync (SharedRows.the_field).row
+shared_rows_sync = search (row_send, row_sync, dot_send, dot_sync, heap.crosses, sendable) depth 60 fits 20000
+
 item_send : IsSend (Item.the_field).row
-item_send = search (rows_send, shared_diff_send, shared_shout_send, sendable) depth 60 fits 20000
+item_send = search (shared_rows_send, shared_diff_send, shared_shout_send, sendable) depth 60 fits 20000
 
 item_sync : IsSync (Item.the_field).row
-item_sync = search (rows_sync, shared_diff_sync, shared_shout_sync, sendable) depth 60 fits 20000
+item_sync = search (shared_rows_sync, shared_diff_sync, shared_shout_sync, sendable) depth 60 fits 20000
 
 follower_send : IsSend (Follower.the_field).row
 follower_send = search (topic_send, sendable) depth 60 fits 20000

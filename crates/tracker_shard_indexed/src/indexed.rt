@@ -12,7 +12,7 @@ use orswot_core::Told;
 use presence_base::{Dot, Key, Replica, Row, Topic};
 use presence_journal::Journal;
 use presence_journal_cuts::walk_cut;
-use presence_journal_data::{Item, Outcome, Step};
+use presence_journal_data::{Item, Outcome, SharedRows, Step};
 use presence_journal_walks::{walk_set, walk_status, walk_top, walk_topic, walk_waits};
 use replica_status::Status;
 use std::alloc::{AllocError, Global};
@@ -163,11 +163,21 @@ impl Indexed {
     }
 
     /// The present rows of a topic, in order of key and dot.
-    pub fn listed(&self, alloc: Global, topic: &Topic) -> Result<Vec<(Dot, Row)>, AllocError>
+    pub fn listed(&self, alloc: Global, topic: &Topic) -> Result<SharedRows, AllocError>
         requires { self.now.is_ready ≡ true }
-        ensures { IfOk result (λ v. v.items ≡ listed self.now.history topic.now) }
+        ensures { IfOk result (λ v. v ≡ listed self.now.history topic.now) }
     {
         self.parts.shown.listed(alloc, topic)
+    }
+
+    /// The same rows, to be shared: a topic that stays is listed at the first ask alone, and its text is written at the second
+    /// one.
+    pub fn state(&mut self, alloc: Global, topic: &Topic) -> Result<SharedRows, AllocError>
+        requires { self.old.is_ready ≡ true }
+        ensures state { IfOk result (λ v. v ≡ listed self.old.history topic.now) }
+        ensures same { self.new ≡ self.old }
+    {
+        self.parts.shown.state(alloc, topic)
     }
 
     /// The present rows of a key.
@@ -212,20 +222,21 @@ impl Indexed {
 
     /// What a take of at most `max` items gives a subscriber of the topic, and what it comes to.
     pub fn given(
-        &self,
+        &mut self,
         alloc: Global,
         number: u64,
         topic: &Topic,
         max: u32,
     ) -> Result<(Vec<Item>, Outcome), AllocError>
-        requires ready { self.now.is_ready ≡ true }
-        requires topic { topic_of self.now.history number ≡ Some topic.now }
-        ensures items { IfOk result (λ t. t.0.items ≡ items_given self.now.history number max) }
-        ensures outcome { IfOk result (λ t. outcome_of self.now.history (Step.Take number max) ≡ Some t.1) }
+        requires ready { self.old.is_ready ≡ true }
+        requires topic { topic_of self.old.history number ≡ Some topic.now }
+        ensures items { IfOk result (λ t. t.0.items ≡ items_given self.old.history number max) }
+        ensures outcome { IfOk result (λ t. outcome_of self.old.history (Step.Take number max) ≡ Some t.1) }
+        ensures same { self.new ≡ self.old }
     {
         let Some(shared) = self.parts.feeds.given(alloc, number, max)? else {
-            let rows = self.parts.shown.listed(alloc, topic)?;
-            return Ok((state_item(alloc, rows)?, Outcome::Taken(true, 1)));
+            let state = self.state(alloc, topic)?;
+            return Ok((state_item(alloc, state)?, Outcome::Taken(true, 1)));
         };
         let items = copy_items(alloc, shared.as_slice())?;
         let outcome = taken(items.as_slice());

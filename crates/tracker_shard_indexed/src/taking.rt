@@ -1,10 +1,8 @@
 // What a take gives, and what it comes to.
 ghost use Rattle.std.specs.Prelude.{◌≡◌, ◌∷◌, [], true, false, length, Some, IfOk};
-ghost use Rattle.presence_journal.specs.Present.{listed};
 ghost use Rattle.tracker_shard_feeds.specs.Rings.{values};
 
-use presence_base::{Dot, Row};
-use presence_journal_data::{Item, Outcome, Rows};
+use presence_journal_data::{Item, Outcome, SharedRows};
 use std::alloc::{AllocError, Global};
 use std::sync::Arc;
 use tracker_shard_items::copy_item;
@@ -15,18 +13,18 @@ pub(crate) fn copy_items(alloc: Global, items: &[Arc<Item>]) -> Result<Vec<Item>
 {
     let mut copies = Vec::new(alloc);
     for item in items {
-        let copy = copy_item(alloc, item)?;
+        let copy = copy_item(item)?;
         copies.push(copy)?;
     }
     Ok(copies)
 }
 
 /// The state of a topic as the one item.
-pub(crate) fn state_item(alloc: Global, rows: Vec<(Dot, Row)>) -> Result<Vec<Item>, AllocError>
-    ensures { IfOk result (λ v. v.items ≡ Item.State rows.items ∷ []) }
+pub(crate) fn state_item(alloc: Global, state: SharedRows) -> Result<Vec<Item>, AllocError>
+    ensures { IfOk result (λ v. v.items ≡ Item.State state ∷ []) }
 {
     let mut items = Vec::new(alloc);
-    items.push(Item::State(Rows::new(rows)))?;
+    items.push(Item::State(state))?;
     Ok(items)
 }
 

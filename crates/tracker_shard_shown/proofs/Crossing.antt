@@ -9,9 +9,12 @@ use Rattle.presence_base.specs.contracts.names.Topic as Topic
 use Rattle.presence_base.specs.contracts.names.Key as Key
 use Rattle.presence_base.specs.contracts.dots.Replica as Replica
 use Rattle.presence_base.specs.contracts.dots.Dot as Dot
-use Rattle.tracker_shard_shown.specs.contracts.stand.Mark as Mark
-use Rattle.tracker_shard_shown.specs.contracts.stand.Holder as Holder
 use Rattle.tracker_shard_shown.specs.contracts.stand.Stand as Stand
+use Rattle.presence_journal_data.specs.contracts.shared_rows.WrittenRows as WrittenRows
+use Rattle.presence_journal_data.specs.contracts.shared_rows.HeldRows as HeldRows
+use Rattle.presence_journal_data.specs.contracts.shared_rows.SharedRows as SharedRows
+use Rattle.tracker_shard_shown.specs.contracts.table.Table as Table
+use Rattle.tracker_shard_shown.specs.contracts.states.States as States
 use Rattle.tracker_shard_shown.specs.contracts.shown.Shown as Shown
 
 json_send : IsSend (Json.the_field).row
@@ -41,5 +44,39 @@ row_send = search (meta_send, topic_send, key_send, dot_send, sendable) depth 60
 stand_send : IsSend (Stand.the_field).row
 stand_send = search (topic_send, key_send, dot_send, sendable) depth 60 fits 20000
 
+meta_sync : IsSync (Meta.the_field).row
+meta_sync = search (json_send, json_sync, heap.crosses, sendable) depth 60 fits 20000
+
+topic_sync : IsSync (Topic.the_field).row
+topic_sync = search (heap.crosses, sendable) depth 60 fits 20000
+
+key_sync : IsSync (Key.the_field).row
+key_sync = search (heap.crosses, sendable) depth 60 fits 20000
+
+dot_sync : IsSync (Dot.the_field).row
+dot_sync = search sendable depth 60 fits 20000
+
+row_sync : IsSync (Row.the_field).row
+row_sync = search (meta_sync, topic_sync, key_sync, dot_sync, sendable) depth 60 fits 20000
+
+written_send : IsSend (WrittenRows.the_field).row
+written_send = search (row_send, row_sync, dot_send, dot_sync, heap.crosses, sendable) depth 60 fits 20000
+
+written_sync : IsSync (WrittenRows.the_field).row
+written_sync = search (row_send, row_sync, dot_send, dot_sync, heap.crosses, sendable) depth 60 fits 20000
+
+held_rows_send : IsSend (HeldRows.the_field).row
+held_rows_send =
+    search (written_send, written_sync, row_send, row_sync, dot_send, dot_sync, heap.crosses, sendable) depth 60 fits 20000
+
+shared_rows_send : IsSend (SharedRows.the_field).row
+shared_rows_send = search (held_rows_send, sendable) depth 60 fits 20000
+
+table_send : IsSend (Table.the_field).row
+table_send = search (stand_send, row_send, replica_send, maps.crosses, heap.crosses, sendable) depth 60 fits 20000
+
+states_send : IsSend (States.the_field).row
+states_send = search (topic_send, shared_rows_send, maps.crosses, heap.crosses, sendable) depth 60 fits 20000
+
 pub shown_send : IsSend (Shown.the_field).row
-shown_send = search (stand_send, row_send, replica_send, maps.crosses, heap.crosses, sendable) depth 60 fits 20000
+shown_send = search (table_send, states_send, sendable) depth 60 fits 20000

@@ -3,4 +3,5 @@ pub mod ListLemmas
 pub mod TurnLemmas
 pub mod PlaceLemmas
 pub mod OpeningLemmas
+pub mod StateLemmas
 pub mod Crossing

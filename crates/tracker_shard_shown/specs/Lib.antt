@@ -4,3 +4,4 @@ pub mod Turns
 pub mod Listing
 pub mod Placing
 pub mod Opening
+pub mod States

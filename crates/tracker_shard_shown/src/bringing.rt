@@ -1,6 +1,7 @@
 // Rows brought up to an entry.
 ghost use Rattle.std.specs.Prelude.{OnOk};
 ghost use Rattle.tracker_shard_shown.specs.Turns.{PutsAll, TakesAll, KeepsBetween, Joins, Leaves};
+ghost use Rattle.tracker_shard_shown.specs.States.{LeavesOthers};
 
 use crate::kept::{put_row, take_row};
 use crate::stand::Stand;
@@ -16,6 +17,7 @@ pub(crate) fn take_all(
 ) -> Result<(), AllocError>
     ensures ok { OnOk result (TakesAll own.now leaves.now rows.old rows.new) }
     ensures between { KeepsBetween Leaves own.now leaves.now rows.old rows.new }
+    ensures others { LeavesOthers leaves.now rows.old rows.new }
 {
     for leave in leaves {
         take_row(rows, own, &leave.0, &leave.1)?;
@@ -31,6 +33,7 @@ pub(crate) fn put_all(
 ) -> Result<(), AllocError>
     ensures ok { OnOk result (PutsAll own.now joins.now rows.old rows.new) }
     ensures between { KeepsBetween Joins own.now joins.now rows.old rows.new }
+    ensures others { LeavesOthers joins.now rows.old rows.new }
 {
     for join in joins {
         put_row(rows, own, &join.0, &join.1)?;

@@ -6,7 +6,8 @@
 //! - `specs/Turns`: how that follows a turn, which stands in tracker_shard_turns
 //! - `specs/Placing`: rows of any kind, found by their places
 //!
-//! `specs/Stands` is of the order in which rows are kept, `specs/Opening` of the rows that a journal begins with.
+//! `specs/Stands` is of the order in which rows are kept, `specs/Opening` of the rows that a journal begins with,
+//! `specs/States` of the states that are kept beside them.
 #![tactic(auto)]
 
 mod bringing;
@@ -16,6 +17,8 @@ mod opening;
 mod placed;
 mod shown;
 mod stand;
+mod states;
+mod table;
 
 pub use placed::Placed;
 pub use shown::Shown;

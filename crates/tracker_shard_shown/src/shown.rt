@@ -1,24 +1,55 @@
+ghost use Rattle.std.specs.Prelude.{◌≡◌};
+
 use crate::bringing::{put_all, take_all};
 use crate::kept::{put_row, row_at, take_row};
 use crate::listing::{list_key, list_topic};
 use crate::opening::put_up;
-use crate::stand::{Holder, Stand};
+use crate::stand::Holder;
+use crate::states::States;
+use crate::table::Table;
 use presence_base::{Dot, Key, Replica, Row, Topic};
-use presence_journal_data::Start;
+use presence_journal_data::{SharedRows, Start};
 use std::alloc::{AllocError, Global};
-use std::collections::BTreeMap;
+use std::marker::Model;
 use tracker_shard_turns::Turn;
 
-/// The rows that a shard shows, by topic, key and dot, and its own ones by session too.
+/// The rows that a shard shows, by topic, key and dot, and its own ones by session too. It keeps the states of topics that
+/// were asked for until a row of theirs changes.
 pub struct Shown {
-    own: Replica,
-    rows: BTreeMap<Stand, Row>,
+    table: Table,
+    states: States,
 }
 
 impl Drop for Shown {
     fn drop(self) {
-        let Shown { own: _, rows } = self;
-        drop(rows);
+        let Shown { table, states } = self;
+        drop(table);
+        drop(states);
+    }
+}
+
+impl Model for Shown {
+    ghost use Rattle.tracker_shard_shown.specs.declared.table.Table.{Table};
+    ghost use Rattle.tracker_shard_shown.specs.contracts.table.Table as one_table;
+
+    ghost Value = { Table };
+
+    ghost coded = { one_table.the_row.coded };
+
+    ghost use Rattle.tracker_shard_shown.specs.States.{AreStatesOf};
+
+    ghost view = { λ x. x.table };
+
+    ghost invariant = { λ x. AreStatesOf x.table.rows x.states.kept };
+}
+
+// The rows of a table, before any state was asked for.
+fn shown_of(alloc: Global, table: Table) -> Shown
+    ensures { result ≡ table }
+{
+    Shown {
+        table,
+        states: States::new(alloc),
     }
 }
 
@@ -35,19 +66,16 @@ impl Shown {
         ensures own { result.own ≡ own }
         ensures rows { IsNothing result.rows }
     {
-        Shown {
-            own,
-            rows: BTreeMap::new(alloc),
-        }
+        shown_of(alloc, Table::new(alloc, own))
     }
 
     /// Where these rows are shown.
     pub fn of_rows(alloc: Global, own: Replica, rows: &[(Dot, Row)]) -> Result<Shown, AllocError>
         ensures { IfOk result (IsOpenedWith own rows.now) }
     {
-        let mut shown = Shown::new(alloc, own);
-        put_all(&mut shown.rows, &shown.own, rows)?;
-        Ok(shown)
+        let mut table = Table::new(alloc, own);
+        put_all(&mut table.rows, &table.own, rows)?;
+        Ok(shown_of(alloc, table))
     }
 
     /// Where the rows that a journal begins with are shown. It costs the logarithm of the rows for each, and for one of
@@ -55,9 +83,9 @@ impl Shown {
     pub fn of_start(alloc: Global, start: &Start) -> Result<Shown, AllocError>
         ensures { IfOk result (IsShownOf (Begin start.now)) }
     {
-        let mut shown = Shown::new(alloc, start.own);
-        put_up(&mut shown.rows, start, start.content.live())?;
-        Ok(shown)
+        let mut table = Table::new(alloc, start.own);
+        put_up(&mut table.rows, start, start.content.live())?;
+        Ok(shown_of(alloc, table))
     }
 
     /// Shows a row. Where memory runs out it may be shown to all that see its topic and not yet to its session.
@@ -66,7 +94,8 @@ impl Shown {
         ensures err { OnErr result (IsPartlySetIn dot.now row.now (Some row.now) self.old self.new) }
         ensures own { self.new.own ≡ self.old.own }
     {
-        put_row(&mut self.rows, &self.own, dot, row)
+        self.states.forget(&row.topic);
+        put_row(&mut self.table.rows, &self.table.own, dot, row)
     }
 
     /// Shows a row no longer.
@@ -75,7 +104,8 @@ impl Shown {
         ensures err { OnErr result (IsPartlySetIn dot.now row.now None self.old self.new) }
         ensures own { self.new.own ≡ self.old.own }
     {
-        take_row(&mut self.rows, &self.own, dot, row)
+        self.states.forget(&row.topic);
+        take_row(&mut self.table.rows, &self.table.own, dot, row)
     }
 
     /// Shows what is shown after an entry. Where memory runs out each place is as before the entry or as after it, and
@@ -84,22 +114,49 @@ impl Shown {
         ensures ok { OnOk result (BringsUp turn.now self.old self.new) }
         ensures err { OnErr result (StaysBetween turn.now self.old self.new) }
     {
-        take_all(&mut self.rows, &self.own, turn.leaves.as_slice())?;
-        put_all(&mut self.rows, &self.own, turn.joins.as_slice())
+        let leaves = turn.leaves.as_slice();
+        let joins = turn.joins.as_slice();
+        self.states.forget_all(leaves);
+        self.states.forget_all(joins);
+        take_all(&mut self.table.rows, &self.table.own, leaves)?;
+        put_all(&mut self.table.rows, &self.table.own, joins)
     }
 
     /// The row that is present at a place of a topic.
     pub fn row(&self, topic: &Topic, key: &Key, dot: &Dot) -> Result<Option<Row>, AllocError>
         ensures { IfOk result (IsAsShown self.now (λ g. present_at g topic.now key.now dot.now)) }
     {
-        row_at(&self.rows, Holder::Room, topic, key, dot)
+        row_at(&self.table.rows, Holder::Room, topic, key, dot)
     }
 
-    /// The present rows of a topic, in order of key and dot.
-    pub fn listed(&self, alloc: Global, topic: &Topic) -> Result<Vec<(Dot, Row)>, AllocError>
-        ensures { IfOk result (λ v. IsAsShown self.now (λ g. listed g topic.now) v.items) }
+    /// The present rows of a topic, in order of key and dot. Those that an ask for its state kept are shared, and no others
+    /// are kept.
+    pub fn listed(&self, alloc: Global, topic: &Topic) -> Result<SharedRows, AllocError>
+        ensures { IfOk result (IsAsShown self.now (λ g. listed g topic.now)) }
     {
-        list_topic(alloc, &self.rows, Holder::Room, topic)
+        if let Some(state) = self.states.shared(topic)? {
+            return Ok(state);
+        }
+        let rows = list_topic(alloc, &self.table.rows, Holder::Room, topic)?;
+        let state = SharedRows::new(alloc, rows)?;
+        Ok(state)
+    }
+
+    /// The same rows, to be kept. The first ask of a topic's state keeps it, the second one writes its text, and from then on
+    /// each shares both, until a row of the topic changes: then a state costs no more than a look-up. Where memory is wanting
+    /// it is given without being kept. States of one row are not kept, and no more than 1,024 of others are.
+    pub fn state(&mut self, alloc: Global, topic: &Topic) -> Result<SharedRows, AllocError>
+        ensures state { IfOk result (IsAsShown self.old (λ g. listed g topic.now)) }
+        ensures same { self.new ≡ self.old }
+    {
+        if let Some(state) = self.states.state(alloc, topic)? {
+            return Ok(state);
+        }
+        let rows = list_topic(alloc, &self.table.rows, Holder::Room, topic)?;
+        let state = SharedRows::new(alloc, rows)?;
+        // Where memory is wanting it isn't kept, and the next ask lists the topic anew.
+        let _kept = self.states.keep(topic, &state);
+        Ok(state)
     }
 
     /// The present rows of a key.
@@ -111,7 +168,7 @@ impl Shown {
     ) -> Result<Vec<(Dot, Row)>, AllocError>
         ensures { IfOk result (λ v. IsAsShown self.now (λ g. listed_key g topic.now key.now) v.items) }
     {
-        list_key(alloc, &self.rows, Holder::Room, topic, key)
+        list_key(alloc, &self.table.rows, Holder::Room, topic, key)
     }
 
     /// The own present rows of a session on a topic.
@@ -123,7 +180,7 @@ impl Shown {
     ) -> Result<Vec<(Dot, Row)>, AllocError>
         ensures { IfOk result (λ v. IsAsShown self.now (λ g. rows_of_pid g pid topic.now) v.items) }
     {
-        list_topic(alloc, &self.rows, Holder::Session(pid), topic)
+        list_topic(alloc, &self.table.rows, Holder::Session(pid), topic)
     }
 
     /// Those under one key.
@@ -136,6 +193,6 @@ impl Shown {
     ) -> Result<Vec<(Dot, Row)>, AllocError>
         ensures { IfOk result (λ v. IsAsShown self.now (λ g. rows_of_key g pid topic.now key.now) v.items) }
     {
-        list_key(alloc, &self.rows, Holder::Session(pid), topic, key)
+        list_key(alloc, &self.table.rows, Holder::Session(pid), topic, key)
     }
 }

@@ -1,6 +1,7 @@
 use Rattle.std.proofs.Common.{None}
 use Rattle.tracker_shard_shown.specs.Turns.{Leaves}
 use Rattle.tracker_shard_shown.proofs.TurnLemmas.{SetTo, BetweenTo}
+use Rattle.tracker_shard_shown.proofs.StateLemmas.{OthersTo}
 use Rattle.tracker_shard_shown.proofs.bringing.take_all.Given as goal
 
 abbrev pub invariant-loop-leave : goal.invariant-loop-leave
@@ -8,4 +9,5 @@ invariant-loop-leave l =
     record {
       set : SetTo (λ r. None) l.own l.leaves l.leave-index l.fn.rows l.rows;
       between : BetweenTo Leaves l.own l.leaves l.leave-index l.fn.rows l.rows;
+      others : OthersTo l.leaves l.leave-index l.fn.rows l.rows;
     }
