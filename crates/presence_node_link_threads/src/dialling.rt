@@ -123,6 +123,7 @@ where
         wakes.look();
     }
     match done {
+        Ok(false) if link.stream.is_ended() => Err(LinkEnd::Closed),
         Ok(false) => Ok(()),
         Ok(true) => Err(LinkEnd::GivenUp),
         Err(fault) => Err(end_of(links, fault)),

@@ -18,7 +18,7 @@ const RETRY_MILLISECONDS: u64 = 50;
 pub(crate) const LISTENER: u64 = 0;
 
 /// How many links one turn takes.
-const MAX_TAKEN: usize = 64;
+const MAX_ACCEPTED: usize = 64;
 
 // The sockets that no thread has taken yet.
 struct Sockets {
@@ -134,7 +134,7 @@ impl LinkDoor {
 
     // Takes the links that wait, as many as a turn may: whether there may be more.
     fn take_in<R: Wait + Eprint>(&self, rt: &R, links: &Links) -> bool {
-        for _ in 0..MAX_TAKEN {
+        for _ in 0..MAX_ACCEPTED {
             if !self.take_one(rt, links) {
                 return false;
             }

@@ -17,6 +17,8 @@ const MAX_LOOKS: u32 = 150;
 struct Patient<'a> {
     socket: TcpStream,
     stopping: &'a Stopping,
+    /// Whether a read has met the end of the stream.
+    is_ended: bool,
 }
 
 fn is_silence(kind: ErrorKind) -> bool {
@@ -31,6 +33,10 @@ impl Read for Patient<'_> {
                     if self.stopping.is_stopped() {
                         break;
                     }
+                }
+                Ok(0) => {
+                    self.is_ended = true;
+                    return Ok(0);
                 }
                 done => return done,
             }
@@ -77,8 +83,18 @@ impl<'a> LinkStream<'a> {
         socket.set_nodelay(true)?;
         socket.set_read_timeout(Some(look))?;
         socket.set_write_timeout(Some(look))?;
-        let reader = BufReader::new(alloc, Patient { socket, stopping })?;
+        let patient = Patient {
+            socket,
+            stopping,
+            is_ended: false,
+        };
+        let reader = BufReader::new(alloc, patient)?;
         Ok(LinkStream { reader })
+    }
+
+    /// Whether the other end has closed the link: a read has met the end of the stream.
+    pub(crate) fn is_ended(&self) -> bool {
+        self.reader.get_ref().is_ended
     }
 }
 

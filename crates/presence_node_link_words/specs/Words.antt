@@ -6,6 +6,8 @@ use Rattle.node_links_acts.specs.declared.port.ActFault.TheVariants as acts
 use Rattle.node_links.specs.declared.fault.DialFault.TheVariants as dials
 use Rattle.node_links_members.specs.declared.fault.LinkFault.{LinkFault}
 use Rattle.node_links_members.specs.declared.fault.LinkFault.TheVariants as faults
+use Rattle.orswot_core_told.specs.declared.told.ToldFault.{ToldFault}
+use Rattle.orswot_core_told.specs.declared.told.ToldFault.TheVariants as tolds
 use Rattle.presence_node_link_words.specs.declared.end.LinkEnd.{LinkEnd}
 use Rattle.presence_node_link_words.specs.declared.end.LinkEnd.TheVariants.{Fault, Closed, GivenUp, OwnName, OtherName, NotReached, TooMany, Stopped}
 
@@ -14,24 +16,44 @@ abbrev pub met : List ℕ → Option (List ℕ) → List ℕ → Result (Unit {0
 met own None other = cond (same_text other own) (Err OwnName) (Ok tt)
 met own (Some name) other = cond (same_text other own) (Err OwnName) (cond (same_text other name) (Ok tt) (Err OtherName))
 
+-- the number of a refused told value
+abbrev pub told_label : ToldFault → List ℕ
+told_label tolds.TwoRanges = codes "N4 B1"
+told_label tolds.BadRange = codes "N4 B2"
+told_label tolds.LiveNotCovered = codes "N4 B3"
+told_label tolds.LiveTwice = codes "N4 B4"
+told_label tolds.TooMany = codes "N4 B5"
+told_label tolds.RowLimits = codes "N4 B6"
+told_label tolds.OutOfMemory = codes "N8"
+
+-- what is said of a refused told value behind its number
+abbrev pub told_words : ToldFault → List ℕ
+told_words tolds.TwoRanges = codes "a told value has two ranges of one node"
+told_words tolds.BadRange = codes "a told value has a range that ends below its start"
+told_words tolds.LiveNotCovered = codes "a told value has a row that none of its ranges and extras covers"
+told_words tolds.LiveTwice = codes "a told value has a row twice"
+told_words tolds.TooMany = codes "a told value has more than 65536 rows and extras"
+told_words tolds.RowLimits = codes "a told value has a row outside its limits, or of a topic of another shard"
+told_words tolds.OutOfMemory = codes "out of memory"
+
 -- the number of a refusal
-abbrev pub fault_number : LinkFault → ℕ
-fault_number faults.LineTooLong = 1
-fault_number faults.NotJson = 2
-fault_number faults.BadLine = 3
-fault_number (faults.BadTold fault) = 4
-fault_number faults.OtherShards = 5
-fault_number faults.ReadFailed = 6
-fault_number faults.WriteFailed = 7
-fault_number faults.OutOfMemory = 8
-fault_number faults.CutLine = 9
+abbrev pub fault_label : LinkFault → List ℕ
+fault_label faults.LineTooLong = codes "N1"
+fault_label faults.NotJson = codes "N2"
+fault_label faults.BadLine = codes "N3"
+fault_label (faults.BadTold fault) = told_label fault
+fault_label faults.OtherShards = codes "N5"
+fault_label faults.ReadFailed = codes "N6"
+fault_label faults.WriteFailed = codes "N7"
+fault_label faults.OutOfMemory = codes "N8"
+fault_label faults.CutLine = codes "N9"
 
 -- what is said of a refusal behind its number
 abbrev pub fault_words : LinkFault → List ℕ
 fault_words faults.LineTooLong = codes "a line is too long: 4194304 bytes are allowed"
 fault_words faults.NotJson = codes "a line is not JSON"
 fault_words faults.BadLine = codes "a line is none that is allowed here, or a member of it is outside its limits"
-fault_words (faults.BadTold fault) = codes "a told value is refused"
+fault_words (faults.BadTold fault) = told_words fault
 fault_words faults.OtherShards = codes "the other node has another number of shards"
 fault_words faults.ReadFailed = codes "reading failed, or nothing came for 30 seconds"
 fault_words faults.WriteFailed = codes "writing failed"
@@ -53,7 +75,7 @@ end_words Stopped = codes "this node stops"
 
 -- the reason of an end: of a link's fault its number too
 abbrev pub reason : LinkEnd → List ℕ
-reason (Fault (dials.Link fault)) = codes "N" ++ (decimal (fault_number fault) ++ (codes " " ++ fault_words fault))
+reason (Fault (dials.Link fault)) = fault_label fault ++ (codes " " ++ fault_words fault)
 reason end = end_words end
 
 -- the line of a link that has come up

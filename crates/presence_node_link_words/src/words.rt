@@ -1,29 +1,62 @@
 //! The lines on standard error.
 ghost use Rattle.std.specs.Prelude.{◌≡◌, IfOk, string_bytes};
-ghost use Rattle.presence_node_link_words.specs.Words.{down_text, end_words, fault_number, fault_words, reason, up_text};
+ghost use Rattle.presence_node_link_words.specs.Words.{down_text, end_words, fault_label, fault_words};
+ghost use Rattle.presence_node_link_words.specs.Words.{reason, told_label, told_words, up_text};
 
 use crate::end::LinkEnd;
 use node_links::{ActFault, DialFault, LinkFault};
+use orswot_core_told::ToldFault;
 use presence_base::Replica;
 use std::alloc::{AllocError, Global};
 
 /// How many links may come in at the same time.
 pub const MAX_LINKS: usize = 32;
 
-// The number of a refusal, as it is told.
-fn fault_number(fault: LinkFault) -> u8
-    ensures { result ≡ fault_number fault }
+// The number of a refused told value, as it is told.
+fn told_label(fault: ToldFault) -> &'static str
+    ensures { result.now ≡ told_label fault }
 {
     match fault {
-        LinkFault::LineTooLong => 1,
-        LinkFault::NotJson => 2,
-        LinkFault::BadLine => 3,
-        LinkFault::BadTold(_) => 4,
-        LinkFault::OtherShards => 5,
-        LinkFault::ReadFailed => 6,
-        LinkFault::WriteFailed => 7,
-        LinkFault::OutOfMemory => 8,
-        LinkFault::CutLine => 9,
+        ToldFault::TwoRanges => "N4 B1",
+        ToldFault::BadRange => "N4 B2",
+        ToldFault::LiveNotCovered => "N4 B3",
+        ToldFault::LiveTwice => "N4 B4",
+        ToldFault::TooMany => "N4 B5",
+        ToldFault::RowLimits => "N4 B6",
+        ToldFault::OutOfMemory => "N8",
+    }
+}
+
+fn told_words(fault: ToldFault) -> &'static str
+    ensures { result.now ≡ told_words fault }
+{
+    match fault {
+        ToldFault::TwoRanges => "a told value has two ranges of one node",
+        ToldFault::BadRange => "a told value has a range that ends below its start",
+        ToldFault::LiveNotCovered =>
+            "a told value has a row that none of its ranges and extras covers",
+        ToldFault::LiveTwice => "a told value has a row twice",
+        ToldFault::TooMany => "a told value has more than 65536 rows and extras",
+        ToldFault::RowLimits =>
+            "a told value has a row outside its limits, or of a topic of another shard",
+        ToldFault::OutOfMemory => "out of memory",
+    }
+}
+
+// The number of a refusal, as it is told.
+fn fault_label(fault: LinkFault) -> &'static str
+    ensures { result.now ≡ fault_label fault }
+{
+    match fault {
+        LinkFault::LineTooLong => "N1",
+        LinkFault::NotJson => "N2",
+        LinkFault::BadLine => "N3",
+        LinkFault::BadTold(fault) => told_label(fault),
+        LinkFault::OtherShards => "N5",
+        LinkFault::ReadFailed => "N6",
+        LinkFault::WriteFailed => "N7",
+        LinkFault::OutOfMemory => "N8",
+        LinkFault::CutLine => "N9",
     }
 }
 
@@ -36,7 +69,7 @@ fn fault_words(fault: LinkFault) -> &'static str
         LinkFault::BadLine => {
             "a line is none that is allowed here, or a member of it is outside its limits"
         }
-        LinkFault::BadTold(_) => "a told value is refused",
+        LinkFault::BadTold(fault) => told_words(fault),
         LinkFault::OtherShards => "the other node has another number of shards",
         LinkFault::ReadFailed => "reading failed, or nothing came for 30 seconds",
         LinkFault::WriteFailed => "writing failed",
@@ -49,9 +82,9 @@ fn fault_words(fault: LinkFault) -> &'static str
 fn refusal(alloc: Global, fault: LinkFault) -> Result<String, AllocError>
     ensures { IfOk result (λ s. string_bytes s ≡ reason (LinkEnd.Fault (DialFault.Link fault))) }
 {
-    let number = fault_number(fault);
+    let label = fault_label(fault);
     let words = fault_words(fault);
-    format!(in alloc; "N{number} {words}")
+    format!(in alloc; "{label} {words}")
 }
 
 fn end_words(end: LinkEnd) -> &'static str

@@ -118,7 +118,10 @@ A link is closed for these reasons:
   N1  the line is too long
   N2  the line is not JSON
   N3  the line is none that is allowed here, or a member of it is outside its limits
-  N4  the told value is refused
+  N4  the told value is refused; B1 to B6 behind it say why: it has two ranges of one
+      node, a range that ends below its start, a row that none of its ranges and extras
+      covers, a row twice, more than 65536 rows and extras, or a row outside its limits
+      or of a topic of another shard
   N5  the other node has another number of shards
   N6  reading failed, or nothing came for 30 seconds
   N7  writing failed
