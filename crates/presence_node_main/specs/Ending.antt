@@ -6,10 +6,10 @@ use Rattle.presence_node_options.specs.declared.fault.UsageFault.{UsageFault}
 use Rattle.presence_node_options.specs.declared.fault.UsageFault.TheVariants.{Usage, Memory}
 use Rattle.presence_node_fold.specs.Told.{told_of_fold, fold_status_number}
 use Rattle.presence_node_fold.specs.declared.fault.FoldFault.{FoldFault}
-use Rattle.presence_node_serve.specs.Ends.{TellsEnd, serve_status}
-use Rattle.presence_node_serve.specs.declared.end.ServeEnd.{ServeEnd}
-use Rattle.presence_node_serve.specs.declared.end.ServeEnd.TheVariants as ends
-use Rattle.presence_node_serve.specs.declared.end.ServeEnd.TheVariants.{Stopped, NotSettled, PortTaken, NoPort, LinkPortTaken, NoLinkPort, NoThreads}
+use Rattle.presence_node_ends.specs.Ends.{TellsEnd, serve_status}
+use Rattle.presence_node_ends.specs.declared.end.ServeEnd.{ServeEnd}
+use Rattle.presence_node_ends.specs.declared.end.ServeEnd.TheVariants as ends
+use Rattle.presence_node_ends.specs.declared.end.ServeEnd.TheVariants.{Stopped, NotSettled, PortTaken, NoPort, LinkPortTaken, NoLinkPort, NoThreads}
 use Rattle.presence_node_stdio.specs.Told.{told_of, status_number}
 use Rattle.presence_node_stdio.specs.declared.fault.StdioFault.{StdioFault}
 use Rattle.presence_node_main.specs.declared.ending.Ending.{Ending}

@@ -1,9 +1,9 @@
 ghost use Rattle.std.specs.Prelude.{◌≡◌, ◌++◌, ◌∷◌, IfOk, Some, None, option_map, string_bytes};
 ghost use Rattle.presence_node_main.specs.Ending.{EndsFold, EndsServe, EndsStdio, EndsUsage, IsSilent, Prints, Says, serve_stream as serve_stream_in, stopped_status, stopped_words};
 
+use presence_node_ends::{ServeEnd, end_of};
 use presence_node_fold::{FoldFault, fold_status_of, fold_told_line, fold_words};
 use presence_node_options::UsageFault;
-use presence_node_serve::{ServeEnd, end_of};
 use presence_node_stdio::{StdioFault, status_of, told_line, told_words};
 use std::alloc::{AllocError, Global};
 use std::io::ErrorKind;

@@ -1,10 +1,10 @@
--- How a run of the server may end, and what is said of it.
-use Rattle.std.specs.Prelude.{◌≡◌, ℕ, List, ◌++◌, Some, decimal}
-use Rattle.std.proofs.Common.{ap}
+-- How a run of the server may end.
+use Rattle.std.specs.Prelude.{ℕ, List}
 use Rattle.shard_pool.specs.Seats.{Hands}
-use Rattle.presence_node_serve.specs.declared.end.ServeEnd.{ServeEnd}
-use Rattle.presence_node_serve.specs.declared.end.ServeEnd.TheVariants.{Stopped, NotSettled, PortTaken, NoPort, LinkPortTaken, NoLinkPort, NoThreads, Memory}
-use Rattle.presence_node_serve.specs.Ends.{IsEndOf, Names, Settles}
+use Rattle.presence_node_ends.specs.declared.end.ServeEnd.{ServeEnd}
+use Rattle.presence_node_ends.specs.declared.end.ServeEnd.TheVariants.{Stopped, NotSettled, PortTaken, NoPort, LinkPortTaken, NoLinkPort, NoThreads, Memory}
+use Rattle.presence_node_ends.specs.Ends.{Settles}
+use Rattle.presence_node_serve.specs.Ends.{IsEndOf}
 
 -- what settles seats is an end of a run at any port
 pub settled_ends : (node : List ℕ) (shards workers port link_port : ℕ) (hs : List Hands) (end : ServeEnd)
@@ -17,7 +17,3 @@ settled_ends node shards workers port link_port hs (LinkPortTaken taken) settles
 settled_ends node shards workers port link_port hs (NoLinkPort refused) settles = absurd settles
 settled_ends node shards workers port link_port hs NoThreads settles = absurd settles
 settled_ends node shards workers port link_port hs Memory settles = tt
-
--- a line with the port's digits in it names the port
-pub names_port : (port : ℕ) (front back line : List ℕ) → line ≡ front ++ (decimal port ++ back) → Names port (Some line)
-names_port port front back line is = (front, back, ap Some is)

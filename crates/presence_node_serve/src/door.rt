@@ -5,7 +5,7 @@ use crate::server::Server;
 use presence_node_handshakes::{Guests, Opened};
 use presence_node_link_threads::time_behind;
 use presence_node_queue::Giver;
-use presence_node_sockets::{LAST_NUMBER, Watch, next_stream, number_of};
+use presence_node_sockets::{LAST_TOKEN, Watch, next_stream, number_of};
 use presence_node_workers::socket_config;
 use shard_pool::Lane;
 use std::alloc::Global;
@@ -19,7 +19,7 @@ use tungstenite::{NoMask, WebSocket};
 const MAX_GUESTS: usize = 1_024;
 
 /// How many connections one turn takes.
-const MAX_TAKEN: usize = 256;
+const MAX_ACCEPTED: usize = 256;
 
 /// How long one wait lasts while handshakes are under way, in milliseconds.
 const LOOK_MILLISECONDS: u64 = 50;
@@ -108,7 +108,7 @@ impl Door {
         let Some(stream) = next_stream(&self.listener) else {
             return false;
         };
-        if self.guests.len() >= MAX_GUESTS || self.number >= LAST_NUMBER {
+        if self.guests.len() >= MAX_GUESTS || self.number >= LAST_TOKEN {
             return true;
         }
         self.number += 1;
@@ -123,7 +123,7 @@ impl Door {
     // Takes the connections that wait, as many as a turn may.
     fn take_in(&mut self, alloc: Global) {
         self.more = true;
-        for _ in 0..MAX_TAKEN {
+        for _ in 0..MAX_ACCEPTED {
             if !self.take_one(alloc) {
                 self.more = false;
                 break;

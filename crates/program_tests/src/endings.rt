@@ -1,9 +1,9 @@
 //! How ends are told that no command line reaches, and of a failed read: by a line, if by any, by words
 //! and with a status.
 
+use presence_node_ends::{ServeEnd, end_of};
 use presence_node_fold::{FoldFault, fold_status_of, fold_told_line, fold_words};
 use presence_node_lines::ReadFault;
-use presence_node_serve::{ServeEnd, end_of};
 use presence_node_stdio::{SessionFault, StdioFault, status_of, told_line, told_words};
 use shard_pool::SettleFault;
 use std::alloc::{AllocError, Global};

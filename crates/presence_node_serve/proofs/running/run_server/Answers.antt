@@ -1,5 +1,5 @@
 use Rattle.std.proofs.Common.{subst}
-use Rattle.presence_node_serve.specs.Ends.{Settles}
+use Rattle.presence_node_ends.specs.Ends.{Settles}
 use denote.Param.{param}
 use denote.Param.Send.{IsSync, sendable}
 use Rattle.std.proofs.Crossing as heap

@@ -1,6 +1,6 @@
 //! What is told of the workers' seats in the end.
 ghost use Rattle.std.specs.Prelude.{◌≡◌, IfSome};
-ghost use Rattle.presence_node_serve.specs.Ends.{Settles, receipts_in};
+ghost use Rattle.presence_node_ends.specs.Ends.{Settles, receipts_in};
 
 use crate::end::ServeEnd;
 use shard_pool::{Gate, Lane, Pool, Seat};
@@ -23,7 +23,7 @@ fn receipts_of<A: Lane, B: Lane, C: Lane, D: Lane>(
 }
 
 /// Settles the seats of a pool with its journals. So many receipts are told only where they agree.
-pub(crate) fn settled<R: Wait, G: Gate + Drop, A: Lane, B: Lane, C: Lane, D: Lane>(
+pub fn settled<R: Wait, G: Gate + Drop, A: Lane, B: Lane, C: Lane, D: Lane>(
     rt: &R,
     alloc: Global,
     pool: Pool<G, A, B, C, D>,

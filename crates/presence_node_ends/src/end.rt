@@ -1,6 +1,6 @@
 //! How a run of the server ends.
 ghost use Rattle.std.specs.Prelude.{◌≡◌, IfOk, option_map, string_bytes, Some};
-ghost use Rattle.presence_node_serve.specs.Ends.{HasWords, Names, TellsEnd, serve_status, settle_number};
+ghost use Rattle.presence_node_ends.specs.Ends.{HasWords, Names, TellsEnd, serve_status, settle_number};
 
 use shard_pool::SettleFault;
 use std::alloc::{AllocError, Global};

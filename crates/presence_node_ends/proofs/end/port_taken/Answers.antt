@@ -1,6 +1,6 @@
 use Rattle.std.specs.Prelude.{codes, string_bytes}
-use Rattle.presence_node_serve.proofs.Endings.{names_port}
-use Rattle.presence_node_serve.proofs.end.port_taken.Goals as goal
+use Rattle.presence_node_ends.proofs.Naming.{names_port}
+use Rattle.presence_node_ends.proofs.end.port_taken.Goals as goal
 
 pub returns : goal.returns
 returns c =
