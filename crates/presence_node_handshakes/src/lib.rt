@@ -5,8 +5,6 @@
 
 mod greeting;
 mod guests;
-#[cfg(test)]
-mod tests;
 
 pub use greeting::{GivenUp, Greeted, Greeting, MAX_EMPTY_READS};
 pub use guests::{Guests, Opened};

@@ -8,7 +8,7 @@ use Rattle.presence_node_queue.specs.declared.ends.GiveFault.TheVariants.{Full, 
 use Rattle.presence_node_queue.specs.declared.queue.Knowledge.{Knowledge}
 use Rattle.presence_node_queue.specs.declared.numbered.Numbered.{Numbered}
 use Rattle.presence_node_queue.specs.declared.numbered.TheConstants.{LAST_NUMBER}
-use Rattle.presence_node_queue.specs.declared.queue.TheConstants.{MAX_WAITING}
+use Rattle.presence_node_queue.specs.declared.queue.TheConstants.{MAX_QUEUED}
 
 abbrev pub knowledge : Bool → ℕ → ℕ → ℕ → Knowledge
 knowledge pushes pushed taken pops = record { pushes = pushes; pushed = pushed; taken = taken; pops = pops }
@@ -44,7 +44,7 @@ WasFull S room next = Held {T = Numbered S} room (RisesBelow next)
 -- A connection went in under the next number, or it was dropped for this cause and its number is still the next one.
 abbrev pub Gives : Type 0 → ℕ → ℕ → Result ℕ GiveFault → Type 0
 Gives S old new (Ok number) = (number ≡ old) × (new ≡ old + 1) × (number ≤ LAST_NUMBER)
-Gives S old new (Err Full) = (new ≡ old) × WasFull S MAX_WAITING old
+Gives S old new (Err Full) = (new ≡ old) × WasFull S MAX_QUEUED old
 Gives S old new (Err Spent) = (new ≡ old) × (LAST_NUMBER < old)
 
 -- The oldest connection that waits has a number above all that any end took before, so that none is taken twice.

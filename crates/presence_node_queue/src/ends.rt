@@ -4,10 +4,10 @@ ghost use Rattle.std.specs.Arc.{arc_value};
 ghost use Rattle.crossbeam_queue.specs.Passes.{view, IsPassOf, ruled_capacity};
 ghost use Rattle.presence_node_queue.specs.Rising.{Gives};
 ghost use Rattle.presence_node_queue.specs.declared.numbered.TheConstants.{LAST_NUMBER};
-ghost use Rattle.presence_node_queue.specs.declared.queue.TheConstants.{MAX_WAITING};
+ghost use Rattle.presence_node_queue.specs.declared.queue.TheConstants.{MAX_QUEUED};
 
 use crate::numbered::{LAST_NUMBER, Numbered};
-use crate::queue::{Knowledge, Line, MAX_WAITING, give, line, take, taker};
+use crate::queue::{Knowledge, Line, MAX_QUEUED, give, line, take, taker};
 use crossbeam_queue::Pass;
 use std::alloc::{AllocError, Global};
 use std::sync::{Arc, Wait};
@@ -28,7 +28,7 @@ pub struct Giver<S: Drop> {
     line: Arc<Line<S>>,
     pass: Pass<Numbered<S>, Knowledge>,
     next: u64,
-    ghost room: { ruled_capacity (arc_value line) ≡ MAX_WAITING },
+    ghost room: { ruled_capacity (arc_value line) ≡ MAX_QUEUED },
     ghost ours: { IsPassOf (arc_value line) pass },
     ghost pushes: { (view pass).pushes ≡ true },
     ghost below: { (view pass).pushed < next },

@@ -10,4 +10,4 @@ mod queue;
 
 pub use ends::{GiveFault, Giver, Taker};
 pub use numbered::{LAST_NUMBER, Numbered};
-pub use queue::MAX_WAITING;
+pub use queue::MAX_QUEUED;

@@ -10,7 +10,7 @@ use std::alloc::{AllocError, Global};
 use std::sync::Wait;
 
 /// How many connections may wait for a worker.
-pub const MAX_WAITING: usize = 256;
+pub const MAX_QUEUED: usize = 256;
 
 /// What a pass may do (push), the last number that it pushed, the last that it took, and how many it took. No value of it
 /// is made.
@@ -83,10 +83,10 @@ pub(crate) type Line<S> = RuledArrayQueue<Numbered<S>, Knowledge, Rising, Global
 
 /// A new queue, with the acceptor's pass.
 pub(crate) fn line<S>(alloc: Global) -> Result<(Line<S>, Pass<Numbered<S>, Knowledge>), AllocError>
-    ensures room { IfOk result (λ q. ruled_capacity q.0 ≡ MAX_WAITING) }
+    ensures room { IfOk result (λ q. ruled_capacity q.0 ≡ MAX_QUEUED) }
     ensures pass { IfOk result (λ q. IsPassOf q.0 q.1 × (view q.1 ≡ knowledge true 0 0 0)) }
 {
-    Line::ruled(alloc, MAX_WAITING)
+    Line::ruled(alloc, MAX_QUEUED)
 }
 
 /// A worker's pass.

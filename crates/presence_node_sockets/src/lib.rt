@@ -4,9 +4,7 @@
 #![tactic(auto)]
 
 mod listening;
-#[cfg(test)]
-mod tests;
 mod watch;
 
 pub use listening::{listen, next_stream};
-pub use watch::{Bell, LAST_NUMBER, Watch, number_of};
+pub use watch::{Bell, LAST_TOKEN, Watch, number_of};

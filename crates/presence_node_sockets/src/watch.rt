@@ -21,7 +21,7 @@ use std::time::Duration;
 const MAX_EVENTS: usize = 1_024;
 
 /// The highest number that a source may have.
-pub const LAST_NUMBER: u64 = 4_611_686_018_427_387_904;
+pub const LAST_TOKEN: u64 = 4_611_686_018_427_387_904;
 
 /// The token of what ends a wait from another thread, which is no number of a source.
 const BELL: usize = usize::MAX;
@@ -86,9 +86,9 @@ impl Watch {
     /// Watches a source under this number, for bytes that come and for room to send. That a wait then reports it is
     /// only tested.
     pub fn add<S: AsRawFd>(&self, source: &S, number: u64) -> io::Result<()>
-        ensures { LAST_NUMBER < number → IsErr result }
+        ensures { LAST_TOKEN < number → IsErr result }
     {
-        if number > LAST_NUMBER {
+        if number > LAST_TOKEN {
             return Err(io::Error::from(ErrorKind::InvalidInput));
         }
         let descriptor = source.as_raw_fd();

@@ -1,7 +1,7 @@
 //! The queue by which connections go to the workers: in one thread, and in two.
 
 use presence_node_queue::laws::connections_are_taken_once;
-use presence_node_queue::{GiveFault, Giver, MAX_WAITING, Taker};
+use presence_node_queue::{GiveFault, Giver, MAX_QUEUED, Taker};
 use std::sync::Wait;
 use std::test::Fail;
 use std::thread;
@@ -66,6 +66,6 @@ fn ends_in_threads(rt: HostRuntime) -> Result<(), Fail> {
     })?;
     assert_eq!(rt; acceptor.join(&rt), 200);
     assert_eq!(rt; worker.join(&rt), Some(200));
-    assert!(rt; MAX_WAITING >= 200);
+    assert!(rt; MAX_QUEUED >= 200);
     Ok(())
 }

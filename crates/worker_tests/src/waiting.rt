@@ -3,7 +3,7 @@
 use crate::desk::{Desk, desk_over};
 use crate::run::{Run, Seen, over_both};
 use crate::script::got;
-use presence_node_queue::{GiveFault, MAX_WAITING};
+use presence_node_queue::{GiveFault, MAX_QUEUED};
 use serving_desk::{Wire, frames, socket_over, wire_of};
 use session_desk::Port;
 use std::alloc::Global;
@@ -21,7 +21,7 @@ fn fill<'w, P: Port, R: Wait>(
     desk: &mut Desk<'_, Wire<'w>, P>,
     bytes: &'w [u8],
 ) -> bool {
-    for place in 0..MAX_WAITING {
+    for place in 0..MAX_QUEUED {
         let given = desk.give(rt, socket_over(alloc, wire_of(alloc, bytes)));
         if given != Ok(place as u64 + 1) {
             return false;

@@ -1,4 +1,6 @@
-use super::*;
+//! Handshakes over streams that give their bytes in pieces, and have nothing in between.
+
+use presence_node_handshakes::Guests;
 use std::alloc::Global;
 use std::io;
 use std::io::{ErrorKind, Read, Write};

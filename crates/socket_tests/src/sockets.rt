@@ -1,4 +1,6 @@
-use super::*;
+//! Which sockets are ready, and a bell that ends a wait.
+
+use presence_node_sockets::{LAST_TOKEN, Watch, listen, next_stream, number_of};
 use std::io;
 use std::io::{ErrorKind, Read, Write};
 use std::net::TcpStream;
@@ -66,9 +68,9 @@ fn what_was_removed_is_not_reported(rt: HostRuntime) -> Result<(), Fail> {
 fn a_number_above_the_last_is_refused(rt: HostRuntime) -> Result<(), Fail> {
     let listener = listen(&rt, "127.0.0.1", 0)?;
     let watch = Watch::new(&rt, rt.alloc())?;
-    let refused = watch.add(&listener, LAST_NUMBER + 1);
+    let refused = watch.add(&listener, LAST_TOKEN + 1);
     assert!(rt; is_refused_as(refused, ErrorKind::InvalidInput));
-    watch.add(&listener, LAST_NUMBER)?;
+    watch.add(&listener, LAST_TOKEN)?;
     Ok(())
 }
 
