@@ -3,48 +3,16 @@ ghost use Rattle.std.specs.Prelude.{◌≡◌};
 ghost use Rattle.presence_base.specs.Refs.{IsCount};
 
 use crate::desk::{replica, tracked_at};
+use crate::gate::Crossing;
 use presence_base::Replica;
 use shard_pool::{Gate, Lane, Pool};
 use std::alloc::Global;
 use std::marker::Brand;
 use std::sync::Wait;
-use std::sync::atomic::{AtomicBool, Ordering};
 use std::sync::ledger::Blank;
 use std::test::Fail;
 use std::thread;
 use std::thread::Threads;
-use std::time::{Clock, Duration};
-
-// Holds a call inside shard 0 until a call at shard 1 is over, for at most 10,000 turns of a millisecond.
-#[derive(Drop)]
-struct Crossing<R> {
-    clock: R,
-    crossed: AtomicBool,
-    gave_up: AtomicBool,
-}
-
-impl<R: Clock> Gate for Crossing<R> {
-    fn before(&self, _seat: u32, _shard: u32) {}
-
-    fn inside(&self, _seat: u32, shard: u32) {
-        if shard != 0 {
-            return;
-        }
-        for _ in 0..10_000 {
-            if self.crossed.load(Ordering::SeqCst) {
-                return;
-            }
-            thread::sleep(&self.clock, Duration::from_millis(1));
-        }
-        self.gave_up.store(true, Ordering::SeqCst);
-    }
-
-    fn after(&self, _seat: u32, shard: u32) {
-        if shard == 1 {
-            self.crossed.store(true, Ordering::SeqCst);
-        }
-    }
-}
 
 // The shards of a call on `room:a` and of one on `room:b`, at once, over two shards.
 fn two_shards<
@@ -107,12 +75,8 @@ fn crossed<G: Gate + Drop + Sync, R: Threads + Wait + Sync>(
 
 #[test]
 fn gates_cross(rt: HostRuntime) -> Result<(), Fail> {
-    let gate = Crossing {
-        clock: rt,
-        crossed: AtomicBool::new(false),
-        gave_up: AtomicBool::new(false),
-    };
+    let gate = Crossing::new(rt);
     assert_eq!(rt; crossed(&rt, rt.alloc(), &gate), Some((0, 1)));
-    assert!(rt; !gate.gave_up.load(Ordering::SeqCst));
+    assert!(rt; !gate.gave_up());
     Ok(())
 }

@@ -47,13 +47,13 @@ fn look<G: Gate, A: Lane, B: Lane, C: Lane, D: Lane, R: Wait>(
 ) -> Option<Shown> {
     let topic = topic(alloc, "room:lobby")?;
     let rows = pool.list(rt, alloc, seat, &topic).ok()?.value;
-    let first = match rows.first() {
+    let first = match rows.as_slice().first() {
         Some(row) => row.0.count,
         None => 0,
     };
     Some(Shown {
         top: pool.top(rt, 0, other),
-        rows: rows.len(),
+        rows: rows.as_slice().len(),
         first,
     })
 }

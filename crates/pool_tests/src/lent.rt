@@ -85,7 +85,7 @@ fn track_and_list<L: Lane>(
     let listed = lent_list(alloc, locked, part, &topic).ok()?;
     Some(Replies {
         numbers: [tracked.number, listed.number],
-        values: [tracked.value.count, listed.value.len() as u64],
+        values: [tracked.value.count, listed.value.as_slice().len() as u64],
     })
 }
 
@@ -114,7 +114,7 @@ fn first_five<L: Lane>(
             tracked.value.count,
             updated.value.count,
             got.value.len() as u64,
-            listed.value.len() as u64,
+            listed.value.as_slice().len() as u64,
             0,
         ],
     })

@@ -13,6 +13,7 @@ mod desk;
 mod diffs;
 #[cfg(test)]
 mod gaps;
+mod gate;
 #[cfg(test)]
 mod kept_deltas;
 #[cfg(test)]
@@ -25,3 +26,5 @@ mod statuses;
 mod tellings;
 #[cfg(test)]
 mod threads;
+
+pub use gate::Crossing;

@@ -36,7 +36,7 @@ fn track_and_list<G: Gate, A: Lane, B: Lane, C: Lane, D: Lane, R: Wait>(
     track(rt, alloc, pool, seat, "room:a", name)?;
     let topic = topic(alloc, "room:a")?;
     let rows = pool.list(rt, alloc, seat, &topic).ok()?.value;
-    Some(rows.iter().any(|row| row.1.key.as_str() == name))
+    Some(rows.as_slice().iter().any(|row| row.1.key.as_str() == name))
 }
 
 // The same, with the seat given back.

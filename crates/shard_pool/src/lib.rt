@@ -18,6 +18,10 @@ mod unseated;
 pub use pool::Pool;
 pub use seat::Seat;
 pub use settling::check_seats;
-pub use shard_pool_lent::{Lane, PoolFault, Reply};
+pub use shard_pool_lent::{
+    Lane, Locked, Part, PoolFault, Reply, lent_get, lent_list, lent_shout, lent_start,
+    lent_subscribe, lent_take, lent_track, lent_unsubscribe, lent_untrack, lent_untrack_all,
+    lent_update,
+};
 pub use shard_pool_locks::{Gate, NoGate};
 pub use shard_pool_settled::{Receipt, SettleFault, check_receipts};
