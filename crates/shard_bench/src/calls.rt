@@ -1,6 +1,6 @@
 // The calls that are timed.
 use crate::making::{key, told};
-use crate::room::{PID, Room, take, track};
+use crate::room::{PID, Room, take, track, update_told};
 use orswot_core::Told;
 use presence_base::Key;
 use std::alloc::Global;
@@ -22,12 +22,13 @@ pub enum Call {
     Merge,
     Tick,
     Cut,
+    CutOlder,
     Full,
     Checkpoint,
 }
 
 /// Each call once.
-pub fn calls() -> [Call; 16] {
+pub fn calls() -> [Call; 17] {
     [
         Call::Track,
         Call::TrackAgain,
@@ -43,6 +44,7 @@ pub fn calls() -> [Call; 16] {
         Call::Merge,
         Call::Tick,
         Call::Cut,
+        Call::CutOlder,
         Call::Full,
         Call::Checkpoint,
     ]
@@ -65,6 +67,7 @@ pub fn name_of(call: Call) -> &'static str {
         Call::Merge => "merge_one_row",
         Call::Tick => "tick",
         Call::Cut => "cut_one_row",
+        Call::CutOlder => "cut_one_updated_row",
         Call::Full => "full",
         Call::Checkpoint => "checkpoint",
     }
@@ -89,6 +92,10 @@ fn lead_up(alloc: Global, room: &mut Room, call: Call, n: u64) -> Result<Sub, Sh
         Call::Take => {
             take(alloc, room)?;
             track(alloc, room, name_of(call), n)?;
+            Ok(room.sub)
+        }
+        Call::CutOlder => {
+            update_told(alloc, room, n)?;
             Ok(room.sub)
         }
         Call::State => room.shard.subscribe(alloc, None, &room.topic),
@@ -181,7 +188,7 @@ pub fn make(alloc: Global, room: &mut Room, call: Call, given: &Given) -> Result
         Call::Take | Call::State => take_of(alloc, &mut room.shard, &given.sub),
         Call::Merge => room.shard.merge(alloc, &given.told),
         Call::Tick => room.shard.tick(alloc, given.now),
-        Call::Cut => cut(alloc, &mut room.shard),
+        Call::Cut | Call::CutOlder => cut(alloc, &mut room.shard),
         Call::Checkpoint => room.shard.checkpoint(alloc),
         Call::Waits | Call::Top | Call::Status | Call::Full => ask(alloc, room, call),
     }

@@ -50,6 +50,14 @@ pub fn track(alloc: Global, room: &mut Room, word: &str, n: u64) -> Result<(), S
     Ok(())
 }
 
+/// Updates a row with which the room was filled, whose count an earlier cut has told.
+pub fn update_told(alloc: Global, room: &mut Room, n: u64) -> Result<(), ShardFault> {
+    let key = key(alloc, "u", n)?;
+    room.shard
+        .update(alloc, None, PID, &room.topic, &key, &room.meta)?;
+    Ok(())
+}
+
 /// Takes what waits for the room's own subscriber.
 pub fn take(alloc: Global, room: &mut Room) -> Result<(), ShardFault> {
     room.shard.take(alloc, None, &room.sub, 256)?;
