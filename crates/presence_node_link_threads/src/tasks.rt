@@ -1,5 +1,7 @@
 //! What each of the threads of links does.
-ghost use Rattle.std.specs.Prelude.{◌≡◌, ◌≤◌, IfOk};
+ghost use Rattle.std.specs.Prelude.{◌≡◌, ◌≤◌, [], vec_len, string_bytes, IfOk, OnOk};
+ghost use Rattle.presence_node_link_threads.specs.Tasks.{AreFirst, Dials};
+ghost use Rattle.presence_node_link_words.specs.declared.words.TheConstants.{MAX_LINKS};
 
 use crate::dialling::{Dialler, dial_one};
 use crate::incoming::{LISTENER, LinkDoor, Waiting};
@@ -86,7 +88,12 @@ fn dialler_of(
     name: NodeName,
     host: &str,
     port: u16,
-) -> Result<Dialler, AllocError> {
+) -> Result<Dialler, AllocError>
+    ensures number { IfOk result (λ d. d.number ≡ number) }
+    ensures name { IfOk result (λ d. d.name ≡ name) }
+    ensures host { IfOk result (λ d. string_bytes d.host ≡ host.now) }
+    ensures port { IfOk result (λ d. d.port ≡ port) }
+{
     let named = name.as_str();
     let place = format!(in alloc; "to {named} at {host}:{port}")?;
     let host = String::from_str(alloc, host)?;
@@ -104,7 +111,8 @@ impl LinkTasks {
 
     /// What is shared, and what each thread does.
     pub fn into_parts(self) -> (Links, Vec<LinkTask>)
-        ensures { result.0 ≡ self.links }
+        ensures links { result.0 ≡ self.links }
+        ensures tasks { result.1 ≡ self.tasks }
     {
         let LinkTasks { links, tasks } = self;
         (links, tasks)
@@ -118,7 +126,8 @@ impl LinkTasks {
         host: &str,
         port: u16,
     ) -> Result<(), AllocError>
-        ensures { self.new.links.shards ≡ self.old.links.shards }
+        ensures shards { self.new.links.shards ≡ self.old.links.shards }
+        ensures dials { OnOk result (Dials name host.now port self.old self.new) }
     {
         let dialler = dialler_of(alloc, self.links.mailboxes.len(), name, host, port)?;
         self.tasks.push(LinkTask::Dial(dialler))?;
@@ -135,6 +144,19 @@ fn door_at<R: Net>(net: &R, alloc: Global, listener: TcpListener) -> io::Result<
     Ok((LinkDoor::new(listener, watch), bell))
 }
 
+// What the first threads do, of which one takes the links that come in at this door.
+fn first_tasks(alloc: Global, door: LinkDoor) -> Result<Vec<LinkTask>, AllocError>
+    ensures { IfOk result (λ tasks. AreFirst MAX_LINKS tasks.items) }
+{
+    let mut tasks = Vec::new(alloc);
+    tasks.push(LinkTask::Tick)?;
+    tasks.push(LinkTask::Attend(door))?;
+    for _ in 0..MAX_LINKS {
+        tasks.push(LinkTask::Serve)?;
+    }
+    Ok(tasks)
+}
+
 /// What the threads of links of this node share, and what each of them does: links come in at this listening socket, and
 /// no node is dialled yet.
 pub fn tasks_for<R: Net>(
@@ -145,15 +167,13 @@ pub fn tasks_for<R: Net>(
     listener: TcpListener,
 ) -> io::Result<LinkTasks>
     requires { 1 ≤ shards }
-    ensures { IfOk result (λ t. t.links.shards ≡ shards) }
+    ensures shards { IfOk result (λ t. t.links.shards ≡ shards) }
+    ensures own { IfOk result (λ t. t.links.own ≡ own) }
+    ensures tasks { IfOk result (λ t. AreFirst MAX_LINKS t.tasks.items) }
+    ensures dialled { IfOk result (λ t. t.links.mailboxes.items ≡ []) }
 {
     let (door, bell) = door_at(net, alloc, listener)?;
-    let mut tasks = Vec::new(alloc);
-    tasks.push(LinkTask::Tick)?;
-    tasks.push(LinkTask::Attend(door))?;
-    for _ in 0..MAX_LINKS {
-        tasks.push(LinkTask::Serve)?;
-    }
+    let tasks = first_tasks(alloc, door)?;
     let links = Links {
         alloc,
         own,

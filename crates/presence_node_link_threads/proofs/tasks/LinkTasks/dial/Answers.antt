@@ -1,0 +1,14 @@
+use Rattle.std.proofs.Common.{rules}
+use Rattle.presence_node_link_threads.proofs.tasks.LinkTasks.dial.Goals as goal
+
+pub returns-clause-dials : goal.returns-clause-dials
+returns-clause-dials c =
+    record {
+      dialler = c.in_ok-dialler.dialler;
+      its_name = c.in_ok-dialler.ensures.name;
+      its_host = c.in_ok-dialler.ensures.host;
+      its_port = c.in_ok-dialler.ensures.port;
+      its_number = search rules;
+      task = c.in_ok-push.ensures.items;
+      mailbox = search rules;
+    }

@@ -1,0 +1,27 @@
+-- What the threads of links do, and what a node that is dialled adds to it.
+use Rattle.std.specs.Prelude.{◌≡◌, ◌+◌, ℕ, zero, suc, List, [], ◌∷◌, ◌++◌, length, string_bytes}
+use Rattle.presence_node_link_threads.specs.declared.dialling.Dialler.{Dialler}
+use Rattle.presence_node_link_threads.specs.declared.incoming.LinkDoor.{LinkDoor}
+use Rattle.presence_node_link_threads.specs.declared.tasks.LinkTask.{LinkTask}
+use Rattle.presence_node_link_threads.specs.declared.tasks.LinkTask.TheVariants.{Tick, Attend, Serve, Dial}
+use Rattle.presence_node_link_threads.specs.declared.tasks.LinkTasks.{LinkTasks}
+
+-- so many threads serve links that came in
+abbrev pub serving : ℕ → List LinkTask
+serving zero = []
+serving (suc n) = Serve ∷ serving n
+
+-- one makes the beats, one takes the links that come in, and so many serve those
+pub record AreFirst (n : ℕ) (tasks : List LinkTask) : Type 0 where
+  pub door : LinkDoor
+  pub are : tasks ≡ Tick ∷ Attend door ∷ serving n
+
+-- One thread more dials the node of this name, at this host and port. It has a mailbox of its own, in the next place.
+pub record Dials (name host : List ℕ) (port : ℕ) (old new : LinkTasks) : Type 0 where
+  pub dialler : Dialler
+  pub its_name : dialler.name ≡ name
+  pub its_host : string_bytes dialler.host ≡ host
+  pub its_port : dialler.port ≡ port
+  pub its_number : dialler.number ≡ length old.links.mailboxes.items
+  pub task : new.tasks.items ≡ old.tasks.items ++ Dial dialler ∷ []
+  pub mailbox : length new.links.mailboxes.items ≡ length old.links.mailboxes.items + 1
