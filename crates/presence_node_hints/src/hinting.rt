@@ -1,6 +1,7 @@
-//! A port that notes which topics its calls may have changed.
+//! A port that notes which topics its calls may have changed, and which are followed from then on.
 ghost use Rattle.std.specs.Prelude.{◌≡◌};
 
+use crate::followed::Followed;
 use crate::inbox::Topics;
 use channel_session::{Port, ShardFault, Sub};
 use presence_base::{Dot, Json, Key, Meta, Row, Topic};
@@ -9,11 +10,21 @@ use std::alloc::Global;
 use std::collections::BTreeSet;
 use std::mem;
 
-/// A port that notes which topics its calls may have changed. Each call is that of the port inside.
+/// What a port has noted.
+#[derive(Drop)]
+pub struct Noted {
+    /// The topics that may have something new.
+    pub changed: Topics,
+    /// Those that have a new subscriber.
+    pub followed: Followed,
+}
+
+/// A port that notes which topics its calls may have changed, and which have a new subscriber. Each call is that of the
+/// port inside.
 #[derive(Drop)]
 pub struct HintingPort<P> {
     port: P,
-    changed: Topics,
+    noted: Noted,
 }
 
 impl<P: Port + Drop> HintingPort<P> {
@@ -21,7 +32,10 @@ impl<P: Port + Drop> HintingPort<P> {
     pub fn new(alloc: Global, port: P) -> HintingPort<P> {
         HintingPort {
             port,
-            changed: BTreeSet::new(alloc),
+            noted: Noted {
+                changed: BTreeSet::new(alloc),
+                followed: Followed::new(alloc),
+            },
         }
     }
 
@@ -32,19 +46,19 @@ impl<P: Port + Drop> HintingPort<P> {
         &self.port
     }
 
-    /// The topics that were noted.
-    pub fn into_changed(self) -> Topics {
-        let HintingPort { port: _, changed } = self;
-        changed
+    /// What was noted.
+    pub fn into_noted(self) -> Noted {
+        let HintingPort { port: _, noted } = self;
+        noted
     }
 
     // Notes the topic of an accepted call. One for which there is no room is not noted.
     fn note<T>(&mut self, topic: &Topic, answer: &Result<T, ShardFault>)
         ensures { self.new.port ≡ self.old.port }
     {
-        if answer.is_ok() && !self.changed.contains(topic) {
+        if answer.is_ok() && !self.noted.changed.contains(topic) {
             if let Ok(copy) = topic.clone() {
-                let _lost = self.changed.insert(copy);
+                let _lost = self.noted.changed.insert(copy);
             }
         }
     }
@@ -111,7 +125,11 @@ impl<P: Port + Drop> Port for HintingPort<P> {
     }
 
     fn subscribe(&mut self, alloc: Global, topic: &Topic) -> Result<Sub, ShardFault> {
-        self.port.subscribe(alloc, topic)
+        let answer = self.port.subscribe(alloc, topic);
+        if answer.is_ok() {
+            self.noted.followed.add(topic);
+        }
+        answer
     }
 
     fn take(

@@ -1,4 +1,5 @@
 //! What the workers tell each other.
+use crate::followed::Followed;
 use channel_session::Session;
 use presence_base::Topic;
 use std::alloc::{AllocError, Global};
@@ -9,39 +10,67 @@ use std::sync::{Arc, Mutex, Wait};
 /// Topics that have something new.
 pub type Topics = BTreeSet<Topic>;
 
-/// What other workers told a worker, and it hasn't looked at yet.
+// What other workers told a worker, and it hasn't looked at yet; and the topics of which it wants to be told.
+#[derive(Drop)]
+struct Kept {
+    waiting: Vec<Arc<Topics>>,
+    followed: Followed,
+}
+
+/// What other workers told a worker, and it hasn't looked at yet. It is told of the topics that its sessions follow alone.
 pub struct Inbox {
-    waiting: Mutex<Vec<Arc<Topics>>>,
+    kept: Mutex<Kept>,
 }
 
 impl Drop for Inbox {
     fn drop(self) {
-        let Inbox { waiting } = self;
-        drop(waiting);
+        let Inbox { kept } = self;
+        drop(kept);
     }
 }
 
 impl Inbox {
+    /// Nothing waits, and no topic is followed.
     pub fn new(alloc: Global) -> Inbox {
         Inbox {
-            waiting: Mutex::new(Vec::new(alloc)),
+            kept: Mutex::new(Kept {
+                waiting: Vec::new(alloc),
+                followed: Followed::new(alloc),
+            }),
         }
     }
 
-    /// Tells of these topics: whether nothing else waited.
+    /// Its worker's sessions follow these topics too.
+    pub fn follow<R: Wait>(&self, rt: &R, topics: Followed) {
+        let mut guard = self.kept.lock(rt);
+        let kept = &mut *guard;
+        kept.followed.add_all(topics);
+    }
+
+    /// They follow these topics and no others.
+    pub fn follow_only<R: Wait>(&self, rt: &R, topics: Followed) {
+        let mut guard = self.kept.lock(rt);
+        let kept = &mut *guard;
+        kept.followed = topics;
+    }
+
+    /// Tells of these topics, if one of them is followed: whether it is, and nothing else waited.
     pub fn put<R: Wait>(&self, rt: &R, topics: &Arc<Topics>) -> Result<bool, AllocError> {
-        let theirs = Arc::try_clone(topics)?;
-        let mut guard = self.waiting.lock(rt);
-        let waiting = &mut *guard;
-        let first = waiting.is_empty();
-        waiting.push(theirs)?;
+        let mut guard = self.kept.lock(rt);
+        let kept = &mut *guard;
+        if !kept.followed.has_one_of(topics) {
+            return Ok(false);
+        }
+        let first = kept.waiting.is_empty();
+        kept.waiting.push(Arc::try_clone(topics)?)?;
         Ok(first)
     }
 
     /// All that waits.
     pub fn take<R: Wait>(&self, rt: &R, alloc: Global) -> Vec<Arc<Topics>> {
-        let mut guard = self.waiting.lock(rt);
-        mem::replace(&mut *guard, Vec::new(alloc))
+        let mut guard = self.kept.lock(rt);
+        let kept = &mut *guard;
+        mem::replace(&mut kept.waiting, Vec::new(alloc))
     }
 }
 

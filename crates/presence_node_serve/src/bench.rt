@@ -1,7 +1,7 @@
 //! A worker's thread: it serves its connections in turns.
 use crate::server::Server;
 use hook_registry::PresenceHooks;
-use presence_node_hints::{HintingPort, Topics, follows};
+use presence_node_hints::{Followed, HintingPort, Noted, Topics, follows};
 use presence_node_link_threads::time_behind;
 use presence_node_ports::PoolPort;
 use presence_node_queue::Taker;
@@ -36,18 +36,14 @@ const TRIM_TURNS: u64 = 1_024;
 /// So many turns are given to the sessions' ends where the server stops.
 const MAX_LAST_TURNS: u32 = 500;
 
-// The connections that have joined one of the topics and don't take the next turn anyway.
-fn followers(alloc: Global, clients: &[Client<TcpStream>], topics: &Topics) -> Vec<u64> {
-    let mut numbers = Vec::new(alloc);
-    for client in clients {
-        if !client.ready
-            && follows(&client.connection.session, topics)
-            && numbers.push(client.number).is_err()
-        {
-            break;
-        }
+// The token of the connection at a place, if it has joined one of the topics and doesn't take the next turn anyway.
+fn follower(worker: &Worker<TcpStream>, place: usize, topics: &Topics) -> Option<usize> {
+    let client = worker.at(place)?;
+    if !client.ready && follows(&client.connection.session, topics) {
+        Some(client.token)
+    } else {
+        None
     }
-    numbers
 }
 
 // Adds topics to others, as far as there is memory.
@@ -74,23 +70,42 @@ fn joined_topics(alloc: Global, told: &[Arc<Topics>]) -> Topics {
 // The connections that were ready at the last wait take the next turn.
 fn mark_ready(watch: &Watch, worker: &mut Worker<TcpStream>) {
     for event in watch.events() {
-        if let Some(number) = number_of(event) {
-            worker.mark(number);
+        if let Some(token) = number_of(event) {
+            worker.mark(token as usize);
         }
     }
 }
 
-// Watches these connections. One that can't be watched is looked at from time to time.
-fn watch_all(watch: &Watch, clients: &[Client<TcpStream>]) {
-    for client in clients {
-        let _lost = watch.add(client.connection.socket.get_ref(), client.number);
+// Watches the connections from this place on, each by its token. One that can't be watched is looked at from time to
+// time.
+fn watch_from(watch: &Watch, worker: &Worker<TcpStream>, place: usize) {
+    for place in place..worker.len() {
+        if let Some(client) = worker.at(place) {
+            let _lost = watch.add(client.connection.socket.get_ref(), client.token as u64);
+        }
     }
 }
 
-// What came of a turn: the topics that may have something new, and whether a journal was replaced by its Start.
+// Whether a connection may have a further message or delivery.
+fn is_busy(client: &Client<TcpStream>) -> bool {
+    client.ready && client.connection.stage == Stage::Open
+}
+
+// The topics that the sessions of a worker have joined.
+fn followed_by(alloc: Global, worker: &Worker<TcpStream>) -> Followed {
+    let mut followed = Followed::new(alloc);
+    for place in 0..worker.len() {
+        if let Some(client) = worker.at(place) {
+            followed.add_joined(&client.connection.session);
+        }
+    }
+    followed
+}
+
+// What came of a turn: what its port noted, and whether a journal was replaced by its Start.
 #[derive(Drop)]
 struct Served {
-    topics: Topics,
+    noted: Noted,
     has_made_room: bool,
 }
 
@@ -107,7 +122,7 @@ fn serve_ready<R: Wait, H: PresenceHooks, A: Lane, B: Lane, C: Lane, D: Lane>(
     worker.turn(server.alloc, &mut port, server.routes, server.hooks, now);
     let has_made_room = port.port().has_made_room();
     Served {
-        topics: port.into_changed(),
+        noted: port.into_noted(),
         has_made_room,
     }
 }
@@ -194,14 +209,15 @@ impl<A: Lane, B: Lane, C: Lane, D: Lane> Bench<A, B, C, D> {
     fn take_in<R: Wait>(&mut self, rt: &R, alloc: Global) {
         let served = self.worker.len();
         let _later = self.worker.take_in(rt, alloc, self.now);
-        let taken = self.worker.clients().get(served..).unwrap_or(&[]);
-        watch_all(&self.watch, taken);
+        watch_from(&self.watch, &self.worker, served);
     }
 
     // The connections that have joined one of the topics take the next turn.
-    fn mark_followers(&mut self, alloc: Global, topics: &Topics) {
-        for number in followers(alloc, self.worker.clients(), topics) {
-            self.worker.mark(number);
+    fn mark_followers(&mut self, topics: &Topics) {
+        for place in 0..self.worker.len() {
+            if let Some(token) = follower(&self.worker, place, topics) {
+                self.worker.mark(token);
+            }
         }
     }
 
@@ -220,7 +236,7 @@ impl<A: Lane, B: Lane, C: Lane, D: Lane> Bench<A, B, C, D> {
         }
         self.dealt = self.now;
         let topics = joined_topics(server.alloc, told.as_slice());
-        self.mark_followers(server.alloc, &topics);
+        self.mark_followers(&topics);
     }
 
     // For how many milliseconds more what the workers tell is gathered.
@@ -228,13 +244,13 @@ impl<A: Lane, B: Lane, C: Lane, D: Lane> Bench<A, B, C, D> {
         GATHER_MILLISECONDS.saturating_sub(self.now.saturating_sub(self.dealt))
     }
 
-    // Serves each connection that is ready: the topics that may have something new. Where a journal was replaced, each
-    // connection takes the next turn, since each may be owed a state.
+    // Serves each connection that is ready: what was noted. Where a journal was replaced, each connection takes the next
+    // turn, since each may be owed a state.
     fn serve<R: Wait, H: PresenceHooks>(
         &mut self,
         rt: &R,
         server: &Server<'_, H, A, B, C, D>,
-    ) -> Topics {
+    ) -> Noted {
         let served = serve_ready(rt, server, &mut self.seat, &mut self.worker, self.now);
         self.turns = self.turns.wrapping_add(1);
         if served.has_made_room {
@@ -243,35 +259,38 @@ impl<A: Lane, B: Lane, C: Lane, D: Lane> Bench<A, B, C, D> {
         if served.has_made_room || self.turns % TRIM_TURNS == 0 {
             server.pool.trim(rt, &mut self.seat);
         }
-        served.topics
+        served.noted
     }
 
-    // Serves each connection that is ready, and lets all workers know which topics may have something new, this one
-    // too.
+    // Serves each connection that is ready, and lets the workers that follow them know which topics may have something
+    // new, this one too. Of topics that it follows from now on it is told from now on: what came before is found in the
+    // next turn, which a connection that has joined a topic takes.
     fn turn<R: Wait, H: PresenceHooks>(
         &mut self,
         rt: &R,
         server: &Server<'_, H, A, B, C, D>,
         own: usize,
     ) {
-        let topics = self.serve(rt, server);
-        if topics.is_empty() {
+        let Noted { changed, followed } = self.serve(rt, server);
+        if !followed.is_empty() {
+            server.follow(rt, own, followed);
+        }
+        if changed.is_empty() {
             return;
         }
-        if let Ok(shared) = Arc::new(server.alloc, topics) {
+        if let Ok(shared) = Arc::new(server.alloc, changed) {
             server.tell(rt, own, &shared);
         }
     }
 
-    // Whether a connection may have a further message or delivery.
+    // Whether one of the connections may.
     fn is_busy(&self) -> bool {
-        self.worker.clients().iter().any(|client| client.ready
-            && client.connection.stage == Stage::Open)
+        (0..self.worker.len()).any(|place| self.worker.at(place).is_some_and(is_busy))
     }
 
     // Whether a connection takes the next turn at all.
     fn is_ready(&self) -> bool {
-        self.worker.clients().iter().any(|client| client.ready)
+        (0..self.worker.len()).any(|place| self.worker.at(place).is_some_and(|client| client.ready))
     }
 
     // Sends what waits. It gathers for some turns while messages come.
@@ -300,10 +319,16 @@ impl<A: Lane, B: Lane, C: Lane, D: Lane> Bench<A, B, C, D> {
         }
         mark_ready(&self.watch, &mut self.worker);
         self.now = time_behind(rt, self.now);
-        if self.now.saturating_sub(self.swept) >= SWEEP_MILLISECONDS {
-            self.swept = self.now;
-            self.worker.mark_all();
+    }
+
+    // From time to time each connection is looked at, and the worker is told of no topic any more that none has joined.
+    fn sweep<R: Wait, H>(&mut self, rt: &R, server: &Server<'_, H, A, B, C, D>, own: usize) {
+        if self.now.saturating_sub(self.swept) < SWEEP_MILLISECONDS {
+            return;
         }
+        self.swept = self.now;
+        self.worker.mark_all();
+        server.follow_only(rt, own, followed_by(server.alloc, &self.worker));
     }
 
     // Tells each client that the server stops, and asks for the end of each session, for some turns.
@@ -338,6 +363,7 @@ impl<A: Lane, B: Lane, C: Lane, D: Lane> Bench<A, B, C, D> {
         let busy = self.is_busy();
         self.send(busy);
         self.pause(rt, busy);
+        self.sweep(rt, server, own);
     }
 
     /// Serves connections at its place among the workers until the server is stopped.

@@ -5,7 +5,7 @@ use crate::door::Door;
 use crate::place::Place;
 use hook_registry::{PresenceHooks, Routes};
 use presence_node_crew::Crew;
-use presence_node_hints::{Inbox, Topics};
+use presence_node_hints::{Followed, Inbox, Topics};
 use presence_node_link_threads::{LinkTask, Links, Wakes};
 use presence_node_sockets::Bell;
 use shard_pool::{Lane, NoGate, Pool};
@@ -98,7 +98,21 @@ impl<'a, H, A: Lane, B: Lane, C: Lane, D: Lane> Server<'a, H, A, B, C, D> {
         }
     }
 
-    /// Tells each worker of these topics, and wakes the others.
+    /// This worker's sessions follow these topics too.
+    pub(crate) fn follow<R: Wait>(&self, rt: &R, worker: usize, topics: Followed) {
+        if let Some(mailbox) = self.mailboxes.get(worker) {
+            mailbox.inbox.follow(rt, topics);
+        }
+    }
+
+    /// They follow these topics and no others.
+    pub(crate) fn follow_only<R: Wait>(&self, rt: &R, worker: usize, topics: Followed) {
+        if let Some(mailbox) = self.mailboxes.get(worker) {
+            mailbox.inbox.follow_only(rt, topics);
+        }
+    }
+
+    /// Tells each worker whose sessions follow one of these topics, and wakes it, if it isn't this one.
     pub(crate) fn tell<R: Wait>(&self, rt: &R, from: usize, topics: &Arc<Topics>) {
         for (worker, mailbox) in self.mailboxes.iter().enumerate() {
             if mailbox.tell(rt, topics) && worker != from {

@@ -1,4 +1,7 @@
 pub mod Lists
 pub mod Numbers
 pub mod Takings
+pub mod Places
+pub mod Leaving
+pub mod Marking
 pub mod Crossing

@@ -1,6 +1,6 @@
--- The numbers of connections rise, whatever is done to the connections.
-use Rattle.std.proofs.Common.{◌≡◌, ℕ, ◌+◌, ◌<◌, ◌≤◌, Bool, true, false, List, [], ◌∷◌, ◌++◌, length, refl, ap, arith}
-use Rattle.std.specs.Prelude.{Option, filter, cond, if◌then◌else◌}
+-- Connections keep their numbers, which rise, and their tokens, whatever is done to the connections.
+use Rattle.std.proofs.Common.{◌≡◌, ℕ, ◌<◌, ◌≤◌, Bool, true, false, List, [], ◌∷◌, ◌++◌, map, ap, arith}
+use Rattle.std.specs.Prelude.{Option, filter, cond}
 use Rattle.presence_node_turns.specs.Turning.{Around}
 use Rattle.presence_node_workers.specs.declared.client.Client.{Client}
 use Rattle.presence_node_workers.specs.Working.{Pairwise, RisesBetween, ServesIf, ServesAll, SendsIf, StopsOne, goes_on, marked, readied}
@@ -10,6 +10,10 @@ serves_number : {S P : Type 0} (w : Around S P) (routes : List (List ℕ × ℕ)
 serves_number w routes now true c d before after h = ap (λ x. x.number) h.client
 serves_number w routes now false c d before after h = ap (λ x. x.number) h.0
 
+pub serves_token : {S P : Type 0} (w : Around S P) (routes : List (List ℕ × ℕ)) (now : ℕ) (ready : Bool) (c d : Client S) (before after : P) → ServesIf w routes now ready c d before after → d.token ≡ c.token
+serves_token w routes now true c d before after h = ap (λ x. x.token) h.client
+serves_token w routes now false c d before after h = ap (λ x. x.token) h.0
+
 pub serves_rising : {S P : Type 0} (w : Around S P) (routes : List (List ℕ × ℕ)) (now floor top : ℕ) (cs ds : List (Client S)) (before after : P) → ServesAll w routes now cs ds before after → RisesBetween floor top cs → RisesBetween floor top ds
 serves_rising w routes now floor top [] [] before after h r = r
 serves_rising w routes now floor top [] (d ∷ ds) before after h r = absurd h
@@ -17,14 +21,6 @@ serves_rising w routes now floor top (c ∷ cs) [] before after h r = absurd h
 serves_rising {S} w routes now floor top (c ∷ cs) (d ∷ ds) before after h r =
     let e : d.number ≡ c.number = serves_number w routes now c.ready c d before h.0 h.1 in
     (rw e r.0, rw e (serves_rising w routes now c.number top cs ds h.0 after h.2 r.1))
-
-pub serves_length : {S P : Type 0} (w : Around S P) (routes : List (List ℕ × ℕ)) (now : ℕ) (cs ds : List (Client S)) (before after : P) → ServesAll w routes now cs ds before after → length ds ≡ length cs
-serves_length w routes now [] [] before after h = refl
-serves_length w routes now [] (d ∷ ds) before after h = absurd h
-serves_length w routes now (c ∷ cs) [] before after h = absurd h
-serves_length w routes now (c ∷ cs) (d ∷ ds) before after h =
-    let e : length ds ≡ length cs = serves_length w routes now cs ds h.0 after h.2 in
-    omega (arith, e)
 
 -- what keeps each number keeps the numbers rising
 pub pairwise_rising : {S : Type 0} (R : Client S → Client S → Type 0) → ((c d : Client S) → R c d → d.number ≡ c.number) → (floor top : ℕ) (cs ds : List (Client S)) → Pairwise R cs ds → RisesBetween floor top cs → RisesBetween floor top ds
@@ -35,21 +31,14 @@ pairwise_rising R same floor top (c ∷ cs) (d ∷ ds) h r =
     let e : d.number ≡ c.number = same c d h.0 in
     (rw e r.0, rw e (pairwise_rising R same c.number top cs ds h.1 r.1))
 
-pub pairwise_length : {S : Type 0} (R : Client S → Client S → Type 0) (cs ds : List (Client S)) → Pairwise R cs ds → length ds ≡ length cs
-pairwise_length R [] [] h = refl
-pairwise_length R [] (d ∷ ds) h = absurd h
-pairwise_length R (c ∷ cs) [] h = absurd h
-pairwise_length R (c ∷ cs) (d ∷ ds) h =
-    let e : length ds ≡ length cs = pairwise_length R cs ds h.1 in
-    omega (arith, e)
-
--- a flush keeps the number, and so do a mark and a stop
+-- a flush keeps the number and the token, and so do a mark and a stop
 pub sends_number : {S : Type 0} (contents : S → Option (List ℕ)) (unsent : Bool) (c d : Client S) → SendsIf contents unsent c d → d.number ≡ c.number
 sends_number contents true c d h = ap (λ x. x.number) h.client
 sends_number contents false c d h = ap (λ x. x.number) h
 
-pub marks_number : {S : Type 0} (number : ℕ) (c d : Client S) → d ≡ marked number c → d.number ≡ c.number
-marks_number number c d e = ap (λ x. x.number) e
+pub sends_token : {S : Type 0} (contents : S → Option (List ℕ)) (unsent : Bool) (c d : Client S) → SendsIf contents unsent c d → d.token ≡ c.token
+sends_token contents true c d h = ap (λ x. x.token) h.client
+sends_token contents false c d h = ap (λ x. x.token) h
 
 pub readies_number : {S : Type 0} (c d : Client S) → d ≡ readied c → d.number ≡ c.number
 readies_number c d e = ap (λ x. x.number) e
@@ -79,29 +68,12 @@ rising_more floor top (d ∷ cs) c lt r = (r.0, rising_more d.number top cs c lt
 pub rising_to : {S : Type 0} (floor top other : ℕ) (cs : List (Client S)) → other ≡ top → RisesBetween floor top cs → RisesBetween floor other cs
 rising_to floor top other cs e r = rw e r
 
--- no more stay than were there
-kept_by : {S : Type 0} (b : Bool) (n : ℕ) (c : Client S) (cs : List (Client S)) → length cs ≤ n → length (cond b (c ∷ cs) cs) ≤ n + 1
-kept_by true n c cs le = omega (arith, le)
-kept_by false n c cs le = omega (arith, le)
-
-pub kept_length : {S : Type 0} (cs : List (Client S)) → length (filter goes_on cs) ≤ length cs
-kept_length [] = omega arith
-kept_length (c ∷ cs) = let k = kept_by (goes_on c) (length cs) c (filter goes_on cs) (kept_length cs) in omega (arith, k)
-
 -- above a higher top they rise too
 pub higher : {S : Type 0} (floor top other : ℕ) (cs : List (Client S)) → top ≤ other → RisesBetween floor top cs → RisesBetween floor other cs
 higher floor top other [] le r = let f : floor ≤ top = r in omega (arith, f, le)
 higher floor top other (c ∷ cs) le r = (r.0, higher c.number top other cs le r.1)
 
-one_longer : {S : Type 0} (cs : List (Client S)) (c : Client S) → length (cs ++ c ∷ []) ≡ length cs + 1
-one_longer [] c = omega arith
-one_longer (d ∷ cs) c = let e : length (cs ++ c ∷ []) ≡ length cs + 1 = one_longer cs c in omega (arith, e)
-
--- one more was taken in, or there was no room for it
-pub more_few : {S : Type 0} (b : Bool) (most : ℕ) (cs news : List (Client S)) (c : Client S) → news ≡ (if b then cs ++ c ∷ [] else cs) → length cs < most → length news ≤ most
-more_few true most cs news c e lt = let one : length (cs ++ c ∷ []) ≡ length cs + 1 = one_longer cs c in rw e (omega (arith, one, lt))
-more_few false most cs news c e lt = rw e (omega (arith, lt))
-
-pub more_rising : {S : Type 0} (b : Bool) (top other : ℕ) (cs news : List (Client S)) (c : Client S) → news ≡ (if b then cs ++ c ∷ [] else cs) → top < c.number → other ≡ c.number → RisesBetween 0 top cs → RisesBetween 0 other news
-more_rising true top other cs news c e lt is r = rw e (rw is (rising_more 0 top cs c lt r))
-more_rising false top other cs news c e lt is r = rw e (rw is (higher 0 top c.number cs (omega (arith, lt)) r))
+-- those that are marked keep their numbers
+pub marked_rising : {S : Type 0} (token floor top : ℕ) (cs : List (Client S)) → RisesBetween floor top cs → RisesBetween floor top (map (marked token) cs)
+marked_rising token floor top [] r = r
+marked_rising token floor top (c ∷ cs) r = (r.0, marked_rising token c.number top cs r.1)

@@ -1,5 +1,5 @@
 -- What a worker's turn, a flush and a look at the queue do to its connections.
-use Rattle.std.specs.Prelude.{◌≡◌, ◌<◌, ◌≤◌, ℕ, Bool, true, false, not, ◌==◌, ◌||◌, List, [], ◌∷◌, ◌++◌, filter, Option, None, Result, Ok, Err}
+use Rattle.std.specs.Prelude.{◌≡◌, ◌<◌, ◌≤◌, ℕ, Bool, true, false, not, ◌==◌, ◌||◌, List, [], ◌∷◌, ◌++◌, filter, Option, Some, None, Result, Ok, Err}
 use Rattle.std.specs.declared.alloc.AllocError.{AllocError}
 use Rattle.std.specs.List.{AllByRecursion}
 use mathlib.Core.HLevel.{×_prop}
@@ -34,6 +34,11 @@ has_ended c = is_over c.connection.stage
 
 abbrev pub goes_on : {S : Type 0} → Client S → Bool
 goes_on c = not (has_ended c)
+
+-- whether there is one that has ended
+abbrev pub ended_at : {S : Type 0} → Option (Client S) → Bool
+ended_at None = false
+ended_at (Some c) = has_ended c
 
 -- ---- lists of connections
 
@@ -106,11 +111,11 @@ module _ {S : Type 0} (contents : S → Option (List ℕ)) where
 
 -- ---- marks
 
--- the connection of this number takes the next turn
+-- the connection of this token takes the next turn
 abbrev pub marked : {S : Type 0} → ℕ → Client S → Client S
-marked number c = record c { ready = c.ready || (c.number == number) }
+marked token c = record c { ready = c.ready || (c.token == token) }
 
--- it takes the next turn, whatever its number
+-- it takes the next turn, whatever its token
 abbrev pub readied : {S : Type 0} → Client S → Client S
 readied c = record c { ready = true }
 
@@ -128,10 +133,11 @@ module _ {S : Type 0} (contents : S → Option (List ℕ)) where
 -- ---- new connections
 
 -- a connection that was just taken: its session has joined nothing, and its number is its pid
-abbrev pub newcomer : {S : Type 0} → ℕ → Socket S → ℕ → Client S
-newcomer number socket now =
+abbrev pub newcomer : {S : Type 0} → ℕ → ℕ → Socket S → ℕ → Client S
+newcomer number token socket now =
     record {
       number = number;
+      token = token;
       ready = true;
       unsent = false;
       connection = record {
@@ -144,8 +150,9 @@ newcomer number socket now =
 
 pub record IsNew {S : Type 0} (now : ℕ) (c : Client S) : Type 0 where
   pub number : ℕ
+  pub token : ℕ
   pub socket : Socket S
-  pub new : c ≡ newcomer number socket now
+  pub new : c ≡ newcomer number token socket now
 
 -- One was taken and stands behind the others, or none was.
 abbrev pub TakesOne : {S : Type 0} → ℕ → List (Client S) → List (Client S) → Result Bool AllocError → Type 0

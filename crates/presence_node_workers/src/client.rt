@@ -1,7 +1,7 @@
 //! A connection at its worker.
 ghost use Rattle.std.specs.Prelude.{◌≡◌};
 ghost use Rattle.presence_node_turns.specs.Turning.{around};
-ghost use Rattle.presence_node_workers.specs.Working.{SendsIf, Serves, StopsOne, has_ended, is_ending, is_over, marked, readied, stays_ready as stays_ready_in};
+ghost use Rattle.presence_node_workers.specs.Working.{SendsIf, Serves, StopsOne, has_ended, is_ending, is_over, readied, stays_ready as stays_ready_in};
 
 use hook_registry::{PresenceHooks, Routes};
 use presence_node_turns::{Connection, Port, Progress, Stage};
@@ -13,6 +13,8 @@ use tungstenite::NoMask;
 pub struct Client<S> {
     /// The number by which it was taken from the queue, which is its session's pid.
     pub number: u64,
+    /// Its key at its worker, which is free again once it has gone.
+    pub token: usize,
     /// Whether it takes the next turn.
     pub ready: bool,
     /// Whether bytes may wait to be sent.
@@ -24,6 +26,7 @@ impl<S: Drop> Drop for Client<S> {
     fn drop(self) {
         let Client {
             number: _,
+            token: _,
             ready: _,
             unsent: _,
             connection,
@@ -91,13 +94,6 @@ impl<S: Read + Write + Drop> Client<S> {
         ensures { result ≡ has_ended self.now }
     {
         is_done(self.connection.stage)
-    }
-
-    // Lets it take the next turn, if this is its number.
-    pub(crate) fn mark(&mut self, number: u64)
-        ensures { self.new ≡ marked number self.old }
-    {
-        self.ready = self.ready || self.number == number;
     }
 
     // Lets it take the next turn.

@@ -1,14 +1,17 @@
 //! The connections of a worker.
-ghost use Rattle.std.specs.Prelude.{◌≡◌, ◌≤◌, [], length, map, vec_len, filter};
+ghost use Rattle.std.specs.Prelude.{◌≡◌, ◌≤◌, [], length, map, option_copied, slice_get};
 ghost use Rattle.crossbeam_queue.specs.Passes.{view};
+ghost use Rattle.slab.specs.Slab.{get};
 ghost use Rattle.presence_node_turns.specs.Turning.{around};
 ghost use Rattle.presence_node_workers.specs.declared.worker.TheConstants.{MAX_CONNECTIONS};
-ghost use Rattle.presence_node_workers.specs.Working.{Pairwise, RisesBetween, Sends, SendsAll, Serves, ServesAll, StopsAll, TakesIn, TakesOne, goes_on, marked, readied, rises_prop};
+ghost use Rattle.presence_node_workers.specs.Places.{AreKept, AreLeft, kept_prop, served};
+ghost use Rattle.presence_node_workers.specs.Working.{Pairwise, RisesBetween, Sends, SendsAll, Serves, ServesAll, StopsAll, TakesIn, TakesOne, ended_at, marked, readied, rises_prop};
 
 use crate::client::Client;
 use hook_registry::{PresenceHooks, Routes};
 use presence_node_queue::{Numbered, Taker};
 use presence_node_turns::{Connection, Port};
+use slab::Slab;
 use std::alloc::{AllocError, Global};
 use std::io::{Read, Write};
 use std::sync::Wait;
@@ -17,127 +20,164 @@ use tungstenite::{NoMask, WebSocket};
 /// How many connections a worker serves at most.
 pub const MAX_CONNECTIONS: usize = 1_024;
 
-/// The connections of one worker, in order of their numbers, and its end of the queue.
+/// The connections of one worker, each at a key that a slab picks, and its end of the queue.
 pub struct Worker<S: Read + Write + Drop> {
-    clients: Vec<Client<S>>,
+    clients: Slab<Client<S>>,
+    /// The key of each connection, in order of their numbers.
+    order: Vec<usize>,
     taker: Taker<WebSocket<S, NoMask>>,
-    ghost few: { length clients.items ≤ MAX_CONNECTIONS },
-    ghost rising: { RisesBetween 0 (view taker.pass).taken clients.items } by { rises_prop 0 (view taker.pass).taken clients.items },
+    ghost kept: { AreKept clients order.items } by { kept_prop clients order.items },
+    ghost few: { length order.items ≤ MAX_CONNECTIONS },
+    ghost rising: { RisesBetween 0 (view taker.pass).taken (served clients order.items) } by { rises_prop 0 (view taker.pass).taken (served clients order.items) },
 }
 
 impl<S: Read + Write + Drop> Drop for Worker<S> {
     fn drop(self) {
-        let Worker { clients, taker } = self;
+        let Worker {
+            clients,
+            order,
+            taker,
+        } = self;
         drop(clients);
+        drop(order);
         drop(taker);
     }
 }
 
-// Each connection takes its turn, one behind the other over the same port.
+// The connection at each key takes its turn, one behind the other over the same port.
 fn serve_all<S: Read + Write + Drop, P: Port, H: PresenceHooks>(
     alloc: Global,
-    clients: &mut Vec<Client<S>>,
+    clients: &mut Slab<Client<S>>,
+    order: &[usize],
     port: &mut P,
     routes: &Routes,
     hooks: &H,
     now: u64,
 )
-    ensures { ServesAll (around S.remaining S.contents P.step H.PresenceHooks hooks.now)
-        routes.now now clients.old.items clients.new.items port.old port.new }
+    requires { AreKept clients.old order.now }
+    ensures kept { AreKept clients.new order.now }
+    ensures serves { ServesAll (around S.remaining S.contents P.step H.PresenceHooks hooks.now)
+        routes.now now (served clients.old order.now) (served clients.new order.now) port.old port.new }
 {
-    for client in clients.iter_mut() {
-        client.turn(alloc, port, routes, hooks, now);
+    for key in order {
+        if let Some(client) = clients.get_mut(*key) {
+            client.turn(alloc, port, routes, hooks, now);
+        }
     }
 }
 
-// Each connection sends what waits.
-fn send_all<S: Read + Write + Drop>(clients: &mut Vec<Client<S>>)
-    ensures { SendsAll S.contents clients.old.items clients.new.items }
+// Each sends what waits.
+fn send_all<S: Read + Write + Drop>(clients: &mut Slab<Client<S>>, order: &[usize])
+    requires { AreKept clients.old order.now }
+    ensures kept { AreKept clients.new order.now }
+    ensures sends { SendsAll S.contents (served clients.old order.now) (served clients.new order.now) }
 {
-    for client in clients.iter_mut() {
-        client.flush();
-    }
-}
-
-// The one of this number takes the next turn.
-fn mark_in<S: Read + Write + Drop>(clients: &mut Vec<Client<S>>, number: u64)
-    ensures { Pairwise (λ old new. new ≡ marked number old) clients.old.items clients.new.items }
-{
-    for client in clients.iter_mut() {
-        client.mark(number);
+    for key in order {
+        if let Some(client) = clients.get_mut(*key) {
+            client.flush();
+        }
     }
 }
 
 // Each takes the next turn.
-fn mark_each<S: Read + Write + Drop>(clients: &mut Vec<Client<S>>)
-    ensures { Pairwise (λ old new. new ≡ readied old) clients.old.items clients.new.items }
+fn mark_each<S: Read + Write + Drop>(clients: &mut Slab<Client<S>>, order: &[usize])
+    requires { AreKept clients.old order.now }
+    ensures kept { AreKept clients.new order.now }
+    ensures marks { Pairwise (λ old new. new ≡ readied old) (served clients.old order.now) (served clients.new order.now) }
 {
-    for client in clients.iter_mut() {
-        client.get_ready();
+    for key in order {
+        if let Some(client) = clients.get_mut(*key) {
+            client.get_ready();
+        }
     }
 }
 
 // Each is told that the server stops.
-fn stop_each<S: Read + Write + Drop>(clients: &mut Vec<Client<S>>)
-    ensures { StopsAll S.contents clients.old.items clients.new.items }
+fn stop_each<S: Read + Write + Drop>(clients: &mut Slab<Client<S>>, order: &[usize])
+    requires { AreKept clients.old order.now }
+    ensures kept { AreKept clients.new order.now }
+    ensures stops { StopsAll S.contents (served clients.old order.now) (served clients.new order.now) }
 {
-    for client in clients.iter_mut() {
-        client.stop();
+    for key in order {
+        if let Some(client) = clients.get_mut(*key) {
+            client.stop();
+        }
     }
 }
 
-// Those that have ended go.
-fn give_up<S: Read + Write + Drop>(clients: &mut Vec<Client<S>>)
-    ensures { clients.new.items ≡ filter goes_on clients.old.items }
+// Whether the connection at this key has ended.
+fn has_ended_at<S: Read + Write + Drop>(clients: &Slab<Client<S>>, key: usize) -> bool
+    ensures { result ≡ ended_at (get clients.now key) }
 {
-    clients.retain(|client| !client.has_ended());
+    match clients.get(key) {
+        Some(client) => client.has_ended(),
+        None => false,
+    }
+}
+
+// Those that have ended go from their keys.
+fn let_go<S: Read + Write + Drop>(clients: &mut Slab<Client<S>>, order: &[usize])
+    requires { AreKept clients.old order.now }
+    ensures { AreLeft clients.old clients.new order.now }
+{
+    for key in order {
+        if has_ended_at(clients, *key) {
+            clients.try_remove(*key);
+        }
+    }
 }
 
 impl<S: Read + Write + Drop> Worker<S> {
     /// A worker at this end of the queue that serves nobody yet.
     pub fn new(alloc: Global, taker: Taker<WebSocket<S, NoMask>>) -> Worker<S>
-        ensures { result.clients.items ≡ [] }
+        ensures { served result.clients result.order.items ≡ [] }
     {
         Worker {
-            clients: Vec::new(alloc),
+            clients: Slab::new(alloc),
+            order: Vec::new(alloc),
             taker,
         }
     }
 
     /// How many connections it serves.
     pub fn len(&self) -> usize
-        ensures { result ≡ vec_len self.now.clients }
+        ensures { result ≡ length (served self.now.clients self.now.order.items) }
     {
-        self.clients.len()
+        self.order.len()
     }
 
-    /// The connections, in order of their numbers.
-    pub fn clients(&self) -> &[Client<S>]
-        ensures { result.now ≡ self.now.clients.items }
+    /// The connection at this place, of all in order of their numbers.
+    pub fn at(&self, place: usize) -> Option<&Client<S>>
+        ensures { option_copied result ≡ slice_get (served self.now.clients self.now.order.items) place }
     {
-        self.clients.as_slice()
+        self.clients.get(*self.order.get(place)?)
     }
 
-    /// The connection of this number takes the next turn, if it is one of this worker's.
-    pub fn mark(&mut self, number: u64)
-        ensures { self.new.clients.items ≡ map (marked number) self.old.clients.items }
+    /// The connection of this token takes the next turn, if one of this worker's has it.
+    pub fn mark(&mut self, token: usize)
+        ensures { served self.new.clients self.new.order.items
+            ≡ map (marked token) (served self.old.clients self.old.order.items) }
     {
-        mark_in(&mut self.clients, number);
+        if let Some(client) = self.clients.get_mut(token) {
+            client.get_ready();
+        }
     }
 
     /// Each connection takes the next turn.
     pub fn mark_all(&mut self)
-        ensures { self.new.clients.items ≡ map readied self.old.clients.items }
+        ensures { served self.new.clients self.new.order.items
+            ≡ map readied (served self.old.clients self.old.order.items) }
     {
-        mark_each(&mut self.clients);
+        mark_each(&mut self.clients, self.order.as_slice());
     }
 
     /// Ends each connection since the server stops: its client is told so at the next flush, and its
     /// session's end is asked for in each turn from the next one on, until it is accepted.
     pub fn stop_all(&mut self)
-        ensures { StopsAll S.contents self.old.clients.items self.new.clients.items }
+        ensures { StopsAll S.contents (served self.old.clients self.old.order.items)
+            (served self.new.clients self.new.order.items) }
     {
-        stop_each(&mut self.clients);
+        stop_each(&mut self.clients, self.order.as_slice());
     }
 
     /// One turn, at this time: each connection that is ready, in order of its number, has at most one
@@ -150,43 +190,61 @@ impl<S: Read + Write + Drop> Worker<S> {
         hooks: &H,
         now: u64,
     )
-        ensures { ServesAll (around S.remaining S.contents P.step H.PresenceHooks hooks.now)
-            routes.now now self.old.clients.items self.new.clients.items port.old port.new }
+        ensures { ServesAll (around S.remaining S.contents P.step H.PresenceHooks hooks.now) routes.now now
+            (served self.old.clients self.old.order.items) (served self.new.clients self.new.order.items)
+            port.old port.new }
     {
-        serve_all(alloc, &mut self.clients, port, routes, hooks, now);
+        serve_all(
+            alloc,
+            &mut self.clients,
+            self.order.as_slice(),
+            port,
+            routes,
+            hooks,
+            now,
+        );
     }
 
     /// Hands what waits to be sent to the streams, and gives up the connections that have ended.
     pub fn flush(&mut self)
-        ensures { Sends S.contents self.old.clients.items self.new.clients.items }
+        ensures { Sends S.contents (served self.old.clients self.old.order.items)
+            (served self.new.clients self.new.order.items) }
     {
-        send_all(&mut self.clients);
-        give_up(&mut self.clients);
+        send_all(&mut self.clients, self.order.as_slice());
+        let_go(&mut self.clients, self.order.as_slice());
+        let clients = &self.clients;
+        self.order.retain(|key| clients.get(*key).is_some());
     }
 
     // Takes a connection from the queue, if one waits.
     fn take_one<R: Wait>(&mut self, rt: &R, alloc: Global, now: u64) -> Result<bool, AllocError>
-        ensures { TakesOne now self.old.clients.items self.new.clients.items result }
+        ensures { TakesOne now (served self.old.clients self.old.order.items)
+            (served self.new.clients self.new.order.items) result }
     {
-        if self.clients.len() >= MAX_CONNECTIONS {
+        if self.order.len() >= MAX_CONNECTIONS {
             return Ok(false);
         }
+        self.order.reserve(1)?;
         self.clients.reserve(1)?;
         let Some(Numbered { number, stream }) = self.taker.take(rt) else {
             return Ok(false);
         };
-        self.clients.push(Client {
+        let token = self.clients.vacant_key();
+        let key = self.clients.insert_reserved(Client {
             number,
+            token,
             ready: true,
             unsent: false,
             connection: Connection::new(alloc, stream, number, now),
-        })?;
+        });
+        self.order.push_reserved(key);
         Ok(true)
     }
 
     /// Takes connections from the queue, at this time, while some wait and there is room.
     pub fn take_in<R: Wait>(&mut self, rt: &R, alloc: Global, now: u64) -> Result<(), AllocError>
-        ensures { TakesIn now self.old.clients.items self.new.clients.items }
+        ensures { TakesIn now (served self.old.clients self.old.order.items)
+            (served self.new.clients self.new.order.items) }
     {
         for _ in 0..MAX_CONNECTIONS {
             if !self.take_one(rt, alloc, now)? {

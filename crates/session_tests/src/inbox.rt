@@ -2,7 +2,7 @@
 
 use hook_registry::{NoHooks, Routes};
 use presence_base::Topic;
-use presence_node_hints::{HintingPort, Inbox, Topics, follows};
+use presence_node_hints::{Followed, HintingPort, Inbox, Noted, Topics, follows};
 use session_desk::{JOIN, LATE, LEAVE, Session, TestPort, run_text};
 use std::alloc::Global;
 use std::collections::BTreeSet;
@@ -21,7 +21,23 @@ fn topics_of(alloc: Global, names: &[&str]) -> Option<Topics> {
     Some(topics)
 }
 
-// Tells of these topics: whether nothing else waited.
+// These topics, as those that are followed.
+fn followed_of(alloc: Global, names: &[&str]) -> Option<Followed> {
+    let mut followed = Followed::new(alloc);
+    for topic in topics_of(alloc, names)? {
+        followed.add(&topic);
+    }
+    Some(followed)
+}
+
+// An inbox of a worker whose sessions follow these topics.
+fn inbox_of<R: Wait>(rt: &R, alloc: Global, names: &[&str]) -> Option<Inbox> {
+    let inbox = Inbox::new(alloc);
+    inbox.follow(rt, followed_of(alloc, names)?);
+    Some(inbox)
+}
+
+// Tells of these topics: whether one is followed and nothing else waited.
 fn put<R: Wait>(rt: &R, alloc: Global, inbox: &Inbox, names: &[&str]) -> Option<bool> {
     let topics = topics_of(alloc, names)?;
     let shared = Arc::new(alloc, topics).ok()?;
@@ -45,7 +61,9 @@ fn are_told(alloc: Global, told: &[Arc<Topics>], wanted: &[&[&str]]) -> Option<b
 #[test]
 fn an_inbox_gives_what_came(rt: HostRuntime) -> Result<(), Fail> {
     let alloc = rt.alloc();
-    let inbox = Inbox::new(alloc);
+    let Some(inbox) = inbox_of(&rt, alloc, &["room:a", "room:b"]) else {
+        return Err(Fail::new("no inbox was made"));
+    };
     assert!(rt; inbox.take(&rt, alloc).is_empty());
     assert_eq!(rt; put(&rt, alloc, &inbox, &["room:b", "room:c"]), Some(true));
     assert_eq!(rt; put(&rt, alloc, &inbox, &["room:a"]), Some(false));
@@ -60,11 +78,41 @@ fn an_inbox_gives_what_came(rt: HostRuntime) -> Result<(), Fail> {
     Ok(())
 }
 
-// Which of the topics `room:lobby` and `room:x` a session follows behind these texts, and which its port noted.
+// How many times the worker of an inbox was told, of these topics one by one.
+fn times_told<R: Wait>(rt: &R, alloc: Global, inbox: &Inbox, names: &[&str]) -> Option<usize> {
+    for name in names {
+        put(rt, alloc, inbox, &[name])?;
+    }
+    Some(inbox.take(rt, alloc).len())
+}
+
+// Of `room:a`, `room:b` and `room:c`: none at first, one, two, and then the last one alone.
+fn told_of_followed<R: Wait>(rt: &R, alloc: Global) -> Option<[usize; 4]> {
+    let names = ["room:a", "room:b", "room:c"];
+    let inbox = Inbox::new(alloc);
+    let none = times_told(rt, alloc, &inbox, &names)?;
+    inbox.follow(rt, followed_of(alloc, &["room:a"])?);
+    let one = times_told(rt, alloc, &inbox, &names)?;
+    inbox.follow(rt, followed_of(alloc, &["room:a", "room:b"])?);
+    let two = times_told(rt, alloc, &inbox, &names)?;
+    inbox.follow_only(rt, followed_of(alloc, &["room:c"])?);
+    Some([none, one, two, times_told(rt, alloc, &inbox, &names)?])
+}
+
+#[test]
+fn an_inbox_is_told_of_what_is_followed(rt: HostRuntime) -> Result<(), Fail> {
+    assert_eq!(rt; told_of_followed(&rt, rt.alloc()), Some([0, 1, 2, 1]));
+    Ok(())
+}
+
+// Which of the topics `room:lobby` and `room:x` a session follows behind these texts, and which its port noted as changed
+// and as followed.
 #[derive(Clone, Copy, Debug, PartialEq)]
 struct Known {
     follows: [bool; 2],
+    joined: [bool; 2],
     noted: [bool; 2],
+    followed: [bool; 2],
 }
 
 fn known_behind(alloc: Global, texts: &[&str]) -> Option<Known> {
@@ -77,17 +125,24 @@ fn known_behind(alloc: Global, texts: &[&str]) -> Option<Known> {
     for text in texts {
         let _texts = run_text(alloc, &mut session, &mut port, &routes, &NoHooks, text).ok()?;
     }
-    known_of(alloc, &session, &port.into_changed())
+    known_of(alloc, &session, &port.into_noted())
 }
 
-fn known_of(alloc: Global, session: &Session, changed: &Topics) -> Option<Known> {
+fn known_of(alloc: Global, session: &Session, noted: &Noted) -> Option<Known> {
     let lobby = topics_of(alloc, &["room:lobby"])?;
     let other = topics_of(alloc, &["room:x"])?;
+    let mut joined = Followed::new(alloc);
+    joined.add_joined(session);
     Some(Known {
         follows: [follows(session, &lobby), follows(session, &other)],
+        joined: [joined.has_one_of(&lobby), joined.has_one_of(&other)],
         noted: [
-            lobby.iter().all(|topic| changed.contains(topic)),
-            other.iter().all(|topic| changed.contains(topic)),
+            lobby.iter().all(|topic| noted.changed.contains(topic)),
+            other.iter().all(|topic| noted.changed.contains(topic)),
+        ],
+        followed: [
+            noted.followed.has_one_of(&lobby),
+            noted.followed.has_one_of(&other),
         ],
     })
 }
@@ -102,7 +157,12 @@ fn sessions_follow_what_they_joined(rt: HostRuntime) -> Result<(), Fail> {
         (&[JOIN, LATE, LEAVE], [false, true], [true, true]),
     ];
     for (texts, follows, noted) in runs {
-        let want = Known { follows, noted };
+        let want = Known {
+            follows,
+            joined: follows,
+            noted,
+            followed: noted,
+        };
         assert_eq!(rt; known_behind(rt.alloc(), texts), Some(want));
     }
     Ok(())

@@ -21,6 +21,8 @@ mod script;
 #[cfg(test)]
 mod socket;
 #[cfg(test)]
+mod tokens;
+#[cfg(test)]
 mod two_clients;
 #[cfg(test)]
 mod waiting;

@@ -1,7 +1,7 @@
 //! What clients say to a worker and are told by it, turn by turn.
 
 use crate::desk::{Desk, desk_over};
-use presence_node_workers::Client;
+use presence_node_workers::{Client, Worker};
 use serving_desk::{Wire, add_frame, wire_of};
 use session_desk::Port;
 use std::alloc::{AllocError, Global};
@@ -25,8 +25,8 @@ pub(crate) struct Part {
 // A turn of the worker.
 #[derive(Clone, Copy)]
 pub(crate) struct Turn {
-    // The connection that is marked before it, since its topic has something new.
-    pub marked: Option<u64>,
+    // The token of the connection that is marked before it, since its topic has something new.
+    pub marked: Option<usize>,
     // The parts of the clients that are served, in order of their numbers.
     pub parts: &'static [Part],
 }
@@ -85,17 +85,22 @@ pub(crate) fn got<'a>(client: &'a Client<Wire<'_>>) -> &'a [u8] {
     client.connection.socket.get_ref().taken.as_slice()
 }
 
-// Whether each of these clients got what it was told in these turns, and no more.
-fn got_what_is_told(alloc: Global, clients: &[Client<Wire<'_>>], turns: &[Turn]) -> bool {
-    for (place, client) in clients.iter().enumerate() {
-        let Ok(wanted) = bytes_told(alloc, turns, place) else {
-            return false;
-        };
-        if got(client) != wanted.as_slice() {
-            return false;
-        }
+// Whether the client at this place got what it was told in these turns, and no more.
+fn got_what_is_told(
+    alloc: Global,
+    worker: &Worker<Wire<'_>>,
+    turns: &[Turn],
+    place: usize,
+) -> bool {
+    match (worker.at(place), bytes_told(alloc, turns, place)) {
+        (Some(client), Ok(wanted)) => got(client) == wanted.as_slice(),
+        _ => false,
     }
-    true
+}
+
+// Whether each client did.
+fn all_got_what_is_told(alloc: Global, worker: &Worker<Wire<'_>>, turns: &[Turn]) -> bool {
+    (0..worker.len()).all(|place| got_what_is_told(alloc, worker, turns, place))
 }
 
 // How many clients are served behind a turn.
@@ -108,8 +113,8 @@ fn left_by(turn: &Turn) -> usize {
 
 // Takes a turn.
 fn take_turn<P: Port>(alloc: Global, desk: &mut Desk<'_, Wire<'_>, P>, turn: &Turn) {
-    if let Some(number) = turn.marked {
-        desk.worker.mark(number);
+    if let Some(token) = turn.marked {
+        desk.worker.mark(token);
     }
     desk.turn(alloc);
 }
@@ -122,9 +127,8 @@ fn turns_as_said<P: Port>(
 ) -> usize {
     for played in 0..turns.len() {
         take_turn(alloc, desk, &turns[played]);
-        let clients = desk.worker.clients();
-        if clients.len() != left_by(&turns[played])
-            || !got_what_is_told(alloc, clients, &turns[..=played])
+        if desk.worker.len() != left_by(&turns[played])
+            || !all_got_what_is_told(alloc, &desk.worker, &turns[..=played])
         {
             return played;
         }

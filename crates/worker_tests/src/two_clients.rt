@@ -104,7 +104,7 @@ const SECOND_CLOSES: Turn = Turn {
 
 // Once it is marked it is told of both.
 const FIRST_IS_MARKED: Turn = Turn {
-    marked: Some(1),
+    marked: Some(0),
     parts: &[Part {
         says: Says::Nothing,
         told: &[

@@ -45,10 +45,11 @@ fn admit_behind<'w, P: Port, R: Wait>(
 
 // How many clients have got this.
 fn answered<P: Port>(desk: &Desk<'_, Wire<'_>, P>, wanted: &[u8]) -> usize {
-    let clients = desk.worker.clients();
-    clients
-        .iter()
-        .filter(|client| got(client) == wanted)
+    (0..desk.worker.len())
+        .filter(|place| desk
+            .worker
+            .at(*place)
+            .is_some_and(|client| got(client) == wanted))
         .count()
 }
 

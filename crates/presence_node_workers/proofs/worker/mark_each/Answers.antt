@@ -1,11 +1,23 @@
-use Rattle.std.proofs.Common.{◌≡◌, ◌<◌, length, rules}
+use Rattle.std.proofs.Common.{◌≡◌, sym, ap, ◌∙◌}
+use Rattle.std.specs.Option.{option_copied_mut}
 use Rattle.presence_node_workers.specs.Working.{readied}
-use Rattle.presence_node_workers.proofs.Lists.{pairwise_next}
+use Rattle.presence_node_workers.proofs.Places.{pairwise_at, pairwise_all, some_at}
+use Rattle.presence_node_workers.proofs.worker.mark_each.Goals.{in-Some, in_default}
 use Rattle.presence_node_workers.proofs.worker.mark_each.Goals as goal
 
-pub loop-client-preserved : goal.loop-client-preserved
-loop-client-preserved g c =
-    let lt : c.loop-client.client-index < length c.loop-client.client-items = search rules in
-    pairwise_next (λ old new. new ≡ readied old)
-    c.args.clients.now.items c.loop-client.client-items c.loop-client.client-index c.client-item.result c.get_ready.new.self
-    lt c.get_ready.ensures c.loop-client.invariant
+pub loop-key-preserved : goal.loop-key-preserved
+loop-key-preserved g c = elim c.match-get_mut.branch [
+  | in-Some b ↦
+      rw b.clients-is (pairwise_at (λ old new. new ≡ readied old) c.args.clients.now c.loop-key.clients c.args.order.now
+      c.loop-key.key-index 0 b.in-Some.client.now b.get_ready.new.self c.loop-key-test.true
+      (sym c.get_mut.follows ∙ ap option_copied_mut b.in-Some.is)
+      (ap (λ x. x.token) b.get_ready.ensures) b.get_ready.ensures c.loop-key.invariant)
+  | in_default b ↦
+      absurd (some_at c.loop-key.clients c.args.order.now c.loop-key.key-index 0 c.loop-key.invariant.0 c.loop-key-test.true
+      (sym c.get_mut.follows ∙ ap option_copied_mut b.in_default.is))
+]
+
+pub returns-clause-marks : goal.returns-clause-marks
+returns-clause-marks g c =
+    pairwise_all (λ old new. new ≡ readied old) c.args.clients.now c.loop-key.clients c.args.order.now c.loop-key.key-index
+    c.loop-key-test.false c.requires c.loop-key.invariant

@@ -1,7 +1,10 @@
 use Rattle.std.specs.Prelude.{◌≡◌}
+use Rattle.presence_node_workers.specs.Places.{AreKept, served}
 use Rattle.presence_node_workers.specs.Working.{readied}
 use Rattle.presence_node_workers.proofs.Lists.{PairwiseTo}
 use Rattle.presence_node_workers.proofs.worker.mark_each.Given as goal
 
-abbrev pub invariant-loop-client : goal.invariant-loop-client
-invariant-loop-client g l = PairwiseTo (λ old new. new ≡ readied old) l.fn.clients.items l.client-items l.client-index
+abbrev pub invariant-loop-key : goal.invariant-loop-key
+invariant-loop-key g l =
+    AreKept l.clients l.fn.order
+    × PairwiseTo (λ old new. new ≡ readied old) (served l.fn.clients l.fn.order) (served l.clients l.fn.order) l.key-index

@@ -1,12 +1,29 @@
-use Rattle.std.proofs.Common.{◌<◌, length, rules}
+use Rattle.std.proofs.Common.{sym, ap, ◌∙◌}
+use Rattle.std.specs.Option.{option_copied_mut}
 use Rattle.presence_node_turns.specs.Turning.{around}
 use Rattle.presence_node_workers.specs.Working.{Serves}
-use Rattle.presence_node_workers.proofs.Lists.{chained_next}
+use Rattle.presence_node_workers.proofs.Numbers.{serves_token}
+use Rattle.presence_node_workers.proofs.Places.{chained_at, chained_all, some_at}
+use Rattle.presence_node_workers.proofs.worker.serve_all.Goals.{in-Some, in_default}
 use Rattle.presence_node_workers.proofs.worker.serve_all.Goals as goal
 
-pub loop-client-preserved : goal.loop-client-preserved
-loop-client-preserved g c =
-    let lt : c.loop-client.client-index < length c.loop-client.client-items = search rules in
-    chained_next (Serves (around g.S.Read.remaining g.S.Write.contents g.P.Port.step g.H.PresenceHooks c.args.hooks.now) c.args.routes.now c.args.now)
-    c.args.clients.now.items c.loop-client.client-items c.loop-client.client-index c.client-item.result c.turn.new.self
-    c.args.port.now c.loop-client.port c.turn.new.port lt c.turn.ensures c.loop-client.invariant
+pub loop-key-preserved : goal.loop-key-preserved
+loop-key-preserved g c =
+    let w = around g.S.Read.remaining g.S.Write.contents g.P.Port.step g.H.PresenceHooks c.args.hooks.now in
+    elim c.match-get_mut.branch [
+      | in-Some b ↦
+          rw (b.clients-is, b.port-is) (chained_at (Serves w c.args.routes.now c.args.now) c.args.clients.now c.loop-key.clients c.args.order.now
+          c.loop-key.key-index 0 b.in-Some.client.now b.turn.new.self c.args.port.now c.loop-key.port b.turn.new.port c.loop-key-test.true
+          (sym c.get_mut.follows ∙ ap option_copied_mut b.in-Some.is)
+          (serves_token w c.args.routes.now c.args.now b.in-Some.client.now.ready b.in-Some.client.now b.turn.new.self c.loop-key.port b.turn.new.port b.turn.ensures)
+          b.turn.ensures c.loop-key.invariant)
+      | in_default b ↦
+          absurd (some_at c.loop-key.clients c.args.order.now c.loop-key.key-index 0 c.loop-key.invariant.0 c.loop-key-test.true
+          (sym c.get_mut.follows ∙ ap option_copied_mut b.in_default.is))
+    ]
+
+pub returns-clause-serves : goal.returns-clause-serves
+returns-clause-serves g c =
+    let w = around g.S.Read.remaining g.S.Write.contents g.P.Port.step g.H.PresenceHooks c.args.hooks.now in
+    chained_all (Serves w c.args.routes.now c.args.now) c.args.clients.now c.loop-key.clients c.args.order.now c.loop-key.key-index
+    c.args.port.now c.loop-key.port c.loop-key-test.false c.requires c.loop-key.invariant

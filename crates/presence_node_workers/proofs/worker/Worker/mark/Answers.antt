@@ -1,21 +1,28 @@
-use Rattle.std.proofs.Common.{◌≡◌, ◌≤◌, ℕ, List, subst, sym}
+use Rattle.std.proofs.Common.{◌≡◌, Some, sym, ap, ◌∙◌}
+use Rattle.std.specs.Option.{option_copied_mut}
 use Rattle.crossbeam_queue.specs.Passes.{view}
-use Rattle.presence_node_workers.specs.Working.{marked}
-use Rattle.presence_node_workers.specs.declared.client.Client.{Client}
-use Rattle.presence_node_workers.specs.declared.worker.TheConstants.{MAX_CONNECTIONS}
-use Rattle.presence_node_workers.proofs.Lists.{pairwise_map}
-use Rattle.presence_node_workers.proofs.Numbers.{marks_number, pairwise_length, pairwise_rising}
+use Rattle.slab.specs.Slab.{get}
+use Rattle.presence_node_workers.specs.Places.{served}
+use Rattle.presence_node_workers.proofs.Numbers.{marked_rising}
+use Rattle.presence_node_workers.proofs.Marking.{marked_kept, marked_served, unmarked_served}
 use Rattle.presence_node_workers.proofs.worker.Worker.mark.Goals as goal
 
 pub invariant_of-self : goal.invariant_of-self
 invariant_of-self g c =
-    let R : Client g.row.S.Denot → Client g.row.S.Denot → Type 0 = λ x y. y ≡ marked c.args.number x in
-    let old : List (Client g.row.S.Denot) = c.args.self.now.clients.items in
-    let new : List (Client g.row.S.Denot) = c.mark_in.new.clients.items in
+    let there : get c.args.self.now.clients c.args.token ≡ Some c.in-Some.client.now = sym c.get_mut.follows ∙ ap option_copied_mut c.in-Some.is in
     record {
-      few = subst (λ (n : ℕ). n ≤ MAX_CONNECTIONS) (sym (pairwise_length R old new c.mark_in.ensures)) c.args.self.now.few;
-      rising = pairwise_rising R (λ x y h. marks_number c.args.number x y h) 0 (view c.args.self.now.taker.pass).taken old new c.mark_in.ensures c.args.self.now.rising;
+      kept = marked_kept c.args.self.now.clients c.args.token c.in-Some.client.now c.get_ready.new.self c.args.self.now.order.items there c.get_ready.ensures c.args.self.now.kept;
+      few = c.args.self.now.few;
+      rising = rw (marked_served c.args.self.now.clients c.args.token c.in-Some.client.now c.get_ready.new.self c.args.self.now.order.items there c.get_ready.ensures c.args.self.now.kept)
+          (marked_rising c.args.token 0 (view c.args.self.now.taker.pass).taken (served c.args.self.now.clients c.args.self.now.order.items) c.args.self.now.rising);
     }
 
-pub returns : goal.returns
-returns g c = pairwise_map (marked c.args.number) c.args.self.now.clients.items c.mark_in.new.clients.items c.mark_in.ensures
+pub returns-in-Some : goal.returns-in-Some
+returns-in-Some g c =
+    let there : get c.args.self.now.clients c.args.token ≡ Some c.in-Some.client.now = sym c.get_mut.follows ∙ ap option_copied_mut c.in-Some.is in
+    marked_served c.args.self.now.clients c.args.token c.in-Some.client.now c.get_ready.new.self c.args.self.now.order.items there c.get_ready.ensures c.args.self.now.kept
+
+pub returns-in_default : goal.returns-in_default
+returns-in_default g c =
+    unmarked_served c.args.self.now.clients c.args.token c.args.self.now.order.items
+    (sym c.get_mut.follows ∙ ap option_copied_mut c.in_default.is) c.args.self.now.kept

@@ -1,5 +1,6 @@
+use Rattle.presence_node_workers.specs.Places.{served}
 use Rattle.presence_node_workers.specs.Working.{TakesIn}
 use Rattle.presence_node_workers.proofs.worker.Worker.take_in.Given as goal
 
 abbrev pub invariant-loop : goal.invariant-loop
-invariant-loop g l = TakesIn l.fn.now l.fn.self.clients.items l.self.clients.items
+invariant-loop g l = TakesIn l.fn.now (served l.fn.self.clients l.fn.self.order.items) (served l.self.clients l.self.order.items)

@@ -1,28 +1,70 @@
-use Rattle.std.proofs.Common.{◌≡◌, ◌<◌, ◌++◌, ◌∷◌, [], true, false, List, length, rules, refl, ap, ◌∙◌, subst}
-use Rattle.std.specs.Prelude.{is_ok, if◌then◌else◌}
+use Rattle.std.proofs.Common.{◌≡◌, ◌<◌, ◌++◌, ◌∷◌, [], ℕ, true, false, List, refl, sym, ap, ◌∙◌, rules}
 use Rattle.crossbeam_queue.specs.Passes.{view}
+use Rattle.presence_node_workers.specs.Places.{AreKept, served}
 use Rattle.presence_node_workers.specs.declared.client.Client.{Client}
-use Rattle.presence_node_workers.specs.declared.worker.TheConstants.{MAX_CONNECTIONS}
-use Rattle.presence_node_workers.proofs.Numbers.{more_few, more_rising}
+use Rattle.presence_node_workers.proofs.Numbers.{rising_more}
+use Rattle.presence_node_workers.proofs.Places.{same_kept, same_served, pushed_kept, pushed_served}
 use Rattle.presence_node_workers.proofs.worker.Worker.take_one.Goals as goal
+
+pub invariant_of-self-in-Break-branch-2 : goal.invariant_of-self-in-Break-branch-2
+invariant_of-self-in-Break-branch-2 g c =
+    let keys : List ℕ = c.args.self.now.order.items in
+    let slots = ap (λ s. s.slots) c.reserve-2.ensures.rest_kept in
+    let same : served c.reserve-2.new.self keys ≡ served c.args.self.now.clients keys = same_served c.args.self.now.clients c.reserve-2.new.self keys slots in
+    record {
+      kept = rw c.reserve.ensures.items (same_kept c.args.self.now.clients c.reserve-2.new.self keys slots c.args.self.now.kept);
+      few = rw c.reserve.ensures.items c.args.self.now.few;
+      rising = rw (c.reserve.ensures.items, same) c.args.self.now.rising;
+    }
+
+pub invariant_of-self-in_default : goal.invariant_of-self-in_default
+invariant_of-self-in_default g c =
+    let keys : List ℕ = c.args.self.now.order.items in
+    let slots = ap (λ s. s.slots) c.reserve-2.ensures.rest_kept in
+    let same : served c.reserve-2.new.self keys ≡ served c.args.self.now.clients keys = same_served c.args.self.now.clients c.reserve-2.new.self keys slots in
+    let none : (view c.take.new.self.pass).taken ≡ (view c.args.self.now.taker.pass).taken = search rules in
+    record {
+      kept = rw c.reserve.ensures.items (same_kept c.args.self.now.clients c.reserve-2.new.self keys slots c.args.self.now.kept);
+      few = rw c.reserve.ensures.items c.args.self.now.few;
+      rising = rw (c.reserve.ensures.items, same, none) c.args.self.now.rising;
+    }
 
 pub invariant_of-self-2 : goal.invariant_of-self-2
 invariant_of-self-2 g c =
-    let x : Client g.row.S.Denot = record { number = c.in-Some.field-0.number; ready = true; unsent = false; connection = c.new.result } in
-    let old : List (Client g.row.S.Denot) = c.args.self.now.clients.items in
-    let pushed : c.push.new.self.items ≡ (if is_ok c.push.result then old ++ x ∷ [] else old) =
-    subst (λ (l : List (Client g.row.S.Denot)). c.push.new.self.items ≡ (if is_ok c.push.result then l ++ x ∷ [] else l)) c.in_ok-reserve.ensures.items c.push.ensures.items in
-    let room : length old < MAX_CONNECTIONS = search rules in
+    let keys : List ℕ = c.args.self.now.order.items in
+    let slots = ap (λ s. s.slots) c.reserve-2.ensures.rest_kept in
+    let x : Client g.row.S.Denot = record { number = c.in-Some.field-0.number; token = c.vacant_key-token.result; ready = true; unsent = false; connection = c.new.result } in
+    let room : AreKept c.reserve-2.new.self keys = same_kept c.args.self.now.clients c.reserve-2.new.self keys slots c.args.self.now.kept in
+    let same : served c.reserve-2.new.self keys ≡ served c.args.self.now.clients keys = same_served c.args.self.now.clients c.reserve-2.new.self keys slots in
+    let more : c.push_reserved.new.self.items ≡ keys ++ c.insert_reserved-key.result ∷ [] =
+    c.push_reserved.ensures.items ∙ ap (λ l. l ++ c.insert_reserved-key.result ∷ []) c.reserve.ensures.items in
+    let all : served c.insert_reserved-key.new.self (keys ++ c.insert_reserved-key.result ∷ []) ≡ served c.args.self.now.clients keys ++ x ∷ [] =
+    pushed_served c.reserve-2.new.self c.insert_reserved-key.new.self c.insert_reserved-key.result x keys
+    c.insert_reserved-key.ensures.updates c.insert_reserved-key.ensures.was_vacant room ∙ ap (λ (l : List (Client g.row.S.Denot)). l ++ x ∷ []) same in
+    let top : ℕ = (view c.args.self.now.taker.pass).taken in
+    let above : top < c.in-Some.field-0.number = search rules in
+    let is : (view c.take.new.self.pass).taken ≡ c.in-Some.field-0.number = search rules in
     record {
-      few = more_few (is_ok c.push.result) MAX_CONNECTIONS old c.push.new.self.items x pushed room;
-      rising = more_rising (is_ok c.push.result) (view c.args.self.now.taker.pass).taken (view c.take.new.self.pass).taken old c.push.new.self.items x pushed
-          (search rules) (search rules) c.args.self.now.rising;
+      kept = rw more (pushed_kept c.reserve-2.new.self c.insert_reserved-key.new.self c.insert_reserved-key.result x keys
+          c.insert_reserved-key.ensures.updates c.insert_reserved-key.ensures.was_vacant
+          (c.vacant_key-token.ensures.value ∙ sym c.insert_reserved-key.ensures.key) room);
+      few = search rules;
+      rising = rw (more, all, is) (rising_more 0 top (served c.args.self.now.clients keys) x above c.args.self.now.rising);
     }
 
 pub returns : goal.returns
 returns g c =
-    let x : Client g.row.S.Denot = record { number = c.in-Some.field-0.number; ready = true; unsent = false; connection = c.new.result } in (
+    let keys : List ℕ = c.args.self.now.order.items in
+    let slots = ap (λ s. s.slots) c.reserve-2.ensures.rest_kept in
+    let x : Client g.row.S.Denot = record { number = c.in-Some.field-0.number; token = c.vacant_key-token.result; ready = true; unsent = false; connection = c.new.result } in
+    let room : AreKept c.reserve-2.new.self keys = same_kept c.args.self.now.clients c.reserve-2.new.self keys slots c.args.self.now.kept in
+    let same : served c.reserve-2.new.self keys ≡ served c.args.self.now.clients keys = same_served c.args.self.now.clients c.reserve-2.new.self keys slots in
+    let more : c.push_reserved.new.self.items ≡ keys ++ c.insert_reserved-key.result ∷ [] =
+    c.push_reserved.ensures.items ∙ ap (λ l. l ++ c.insert_reserved-key.result ∷ []) c.reserve.ensures.items in
+    let all : served c.insert_reserved-key.new.self (keys ++ c.insert_reserved-key.result ∷ []) ≡ served c.args.self.now.clients keys ++ x ∷ [] =
+    pushed_served c.reserve-2.new.self c.insert_reserved-key.new.self c.insert_reserved-key.result x keys
+    c.insert_reserved-key.ensures.updates c.insert_reserved-key.ensures.was_vacant room ∙ ap (λ (l : List (Client g.row.S.Denot)). l ++ x ∷ []) same in (
       x,
-      record { number = c.in-Some.field-0.number; socket = c.in-Some.field-0.stream; new = rw c.new.ensures refl },
-      c.in_ok-push.ensures.items ∙ ap (λ (l : List (Client g.row.S.Denot)). l ++ x ∷ []) c.in_ok-reserve.ensures.items,
+      record { number = c.in-Some.field-0.number; token = c.vacant_key-token.result; socket = c.in-Some.field-0.stream; new = rw c.new.ensures refl },
+      rw more all,
     )

@@ -1,0 +1,5 @@
+use Rattle.presence_node_workers.proofs.Leaving.{LeftTo}
+use Rattle.presence_node_workers.proofs.worker.let_go.Given as goal
+
+abbrev pub invariant-loop-key : goal.invariant-loop-key
+invariant-loop-key g l = LeftTo l.fn.clients l.clients l.fn.order l.key-index
