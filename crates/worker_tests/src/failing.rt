@@ -43,6 +43,13 @@ fn failing_wire(alloc: Global, bytes: &[u8], read: usize, write: usize) -> Wire<
     wire
 }
 
+// Whether the first client that is left is the second one, and got this.
+fn second_got<P: Port>(desk: &Desk<'_, Wire<'_>, P>, wanted: &[u8]) -> bool {
+    desk.worker
+        .at(0)
+        .is_some_and(|client| client.number == 2 && got(client) == wanted)
+}
+
 // Nine turns: how many clients are left, where the second one got this if it is the only one.
 fn left_behind_turns<P: Port>(
     alloc: Global,
@@ -52,9 +59,8 @@ fn left_behind_turns<P: Port>(
     for _ in 0..9_u32 {
         desk.turn(alloc);
     }
-    let first = desk.worker.at(0)?;
     match desk.worker.len() {
-        1 if first.number == 2 && got(first) == wanted => Some(1),
+        1 if second_got(desk, wanted) => Some(1),
         2 => Some(2),
         _ => None,
     }
