@@ -1,9 +1,9 @@
 -- Connections that are taken one after another.
-use Rattle.std.proofs.Common.{◌≡◌, ℕ, Bool, List, [], ◌∷◌, ◌++◌, refl, sym, ap, ◌∙◌, subst, true, false, Result, Ok, Err}
+use Rattle.std.proofs.Common.{◌≡◌, ℕ, ◌+◌, Bool, List, [], ◌∷◌, ◌++◌, length, refl, sym, ap, ◌∙◌, subst, true, false, Result, Ok, Err, arith}
 use Rattle.std.specs.declared.alloc.AllocError.{AllocError}
 use Rattle.std.specs.List.{AllByRecursion}
 use Rattle.presence_node_workers.specs.declared.client.Client.{Client}
-use Rattle.presence_node_workers.specs.Working.{IsNew, TakesIn, TakesOne}
+use Rattle.presence_node_workers.specs.Working.{IsNew, NoneLost, TakesIn, TakesOne}
 
 append_none : {X : Type 0} (xs : List X) → xs ++ [] ≡ xs
 append_none [] = refl
@@ -33,3 +33,23 @@ pub takes_by : {S : Type 0} (now : ℕ) (old mid new : List (Client S)) (r : Res
 takes_by now old mid new (Ok true) one h = takes_more now old mid new one.0 one.1 one.2 h
 takes_by {S} now old mid new (Ok false) one h = subst (λ (l : List (Client S)). TakesIn now old l) (sym one) h
 takes_by {S} now old mid new (Err e) one h = subst (λ (l : List (Client S)). TakesIn now old l) (sym one) h
+
+-- ---- none is lost
+
+pub lost_none : {S : Type 0} (pops : ℕ) (cs : List (Client S)) → NoneLost pops pops cs cs
+lost_none pops cs = refl
+
+pub lost_neither : {S : Type 0} (a b c : ℕ) (old mid new : List (Client S)) → NoneLost a b old mid → NoneLost b c mid new → NoneLost a c old new
+lost_neither a b c old mid new h k =
+    let one : b + length old ≡ a + length mid = h in
+    let two : c + length mid ≡ b + length new = k in
+    omega (arith, one, two)
+
+one_longer : {S : Type 0} (cs : List (Client S)) (c : Client S) → length (cs ++ c ∷ []) ≡ length cs + 1
+one_longer [] c = omega arith
+one_longer (d ∷ cs) c = let e : length (cs ++ c ∷ []) ≡ length cs + 1 = one_longer cs c in omega (arith, e)
+
+pub lost_not : {S : Type 0} (before after : ℕ) (cs news : List (Client S)) (c : Client S) → after ≡ before + 1 → news ≡ cs ++ c ∷ [] → NoneLost before after cs news
+lost_not before after cs news c e n =
+    let more : length news ≡ length cs + 1 = ap length n ∙ one_longer cs c in
+    omega (arith, e, more)

@@ -1,5 +1,5 @@
 -- What a worker's turn, a flush and a look at the queue do to its connections.
-use Rattle.std.specs.Prelude.{◌≡◌, ◌<◌, ◌≤◌, ℕ, Bool, true, false, not, ◌==◌, ◌||◌, List, [], ◌∷◌, ◌++◌, filter, Option, Some, None, Result, Ok, Err}
+use Rattle.std.specs.Prelude.{◌≡◌, ◌<◌, ◌≤◌, ◌+◌, ℕ, Bool, true, false, not, ◌==◌, ◌||◌, List, [], ◌∷◌, ◌++◌, length, filter, Option, Some, None, Result, Ok, Err}
 use Rattle.std.specs.declared.alloc.AllocError.{AllocError}
 use Rattle.std.specs.List.{AllByRecursion}
 use mathlib.Core.HLevel.{×_prop}
@@ -165,3 +165,7 @@ pub record TakesIn {S : Type 0} (now : ℕ) (old new : List (Client S)) : Type 0
   pub taken : List (Client S)
   pub new_ones : AllByRecursion (IsNew now) taken
   pub behind : new ≡ old ++ taken
+
+-- As many connections stand more at the worker as have left the queue at its end: none that was taken is lost.
+abbrev pub NoneLost : {S : Type 0} → ℕ → ℕ → List (Client S) → List (Client S) → Type 0
+NoneLost before after old new = after + length old ≡ before + length new

@@ -5,7 +5,7 @@ ghost use Rattle.slab.specs.Slab.{get};
 ghost use Rattle.presence_node_turns.specs.Turning.{around};
 ghost use Rattle.presence_node_workers.specs.declared.worker.TheConstants.{MAX_CONNECTIONS};
 ghost use Rattle.presence_node_workers.specs.Places.{AreKept, AreLeft, kept_prop, served};
-ghost use Rattle.presence_node_workers.specs.Working.{Pairwise, RisesBetween, Sends, SendsAll, Serves, ServesAll, StopsAll, TakesIn, TakesOne, ended_at, marked, readied, rises_prop};
+ghost use Rattle.presence_node_workers.specs.Working.{NoneLost, Pairwise, RisesBetween, Sends, SendsAll, Serves, ServesAll, StopsAll, TakesIn, TakesOne, ended_at, marked, readied, rises_prop};
 
 use crate::client::Client;
 use hook_registry::{PresenceHooks, Routes};
@@ -218,8 +218,10 @@ impl<S: Read + Write + Drop> Worker<S> {
 
     // Takes a connection from the queue, if one waits.
     fn take_one<R: Wait>(&mut self, rt: &R, alloc: Global, now: u64) -> Result<bool, AllocError>
-        ensures { TakesOne now (served self.old.clients self.old.order.items)
+        ensures takes { TakesOne now (served self.old.clients self.old.order.items)
             (served self.new.clients self.new.order.items) result }
+        ensures none_lost { NoneLost (view self.old.taker.pass).pops (view self.new.taker.pass).pops
+            (served self.old.clients self.old.order.items) (served self.new.clients self.new.order.items) }
     {
         if self.order.len() >= MAX_CONNECTIONS {
             return Ok(false);
@@ -243,8 +245,10 @@ impl<S: Read + Write + Drop> Worker<S> {
 
     /// Takes connections from the queue, at this time, while some wait and there is room.
     pub fn take_in<R: Wait>(&mut self, rt: &R, alloc: Global, now: u64) -> Result<(), AllocError>
-        ensures { TakesIn now (served self.old.clients self.old.order.items)
+        ensures takes { TakesIn now (served self.old.clients self.old.order.items)
             (served self.new.clients self.new.order.items) }
+        ensures none_lost { NoneLost (view self.old.taker.pass).pops (view self.new.taker.pass).pops
+            (served self.old.clients self.old.order.items) (served self.new.clients self.new.order.items) }
     {
         for _ in 0..MAX_CONNECTIONS {
             if !self.take_one(rt, alloc, now)? {

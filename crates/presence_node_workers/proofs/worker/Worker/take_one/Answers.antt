@@ -1,8 +1,9 @@
-use Rattle.std.proofs.Common.{◌≡◌, ◌<◌, ◌++◌, ◌∷◌, [], ℕ, true, false, List, refl, sym, ap, ◌∙◌, rules}
+use Rattle.std.proofs.Common.{◌≡◌, ◌<◌, ◌+◌, ◌++◌, ◌∷◌, [], ℕ, true, false, List, refl, sym, ap, ◌∙◌, rules}
 use Rattle.crossbeam_queue.specs.Passes.{view}
 use Rattle.presence_node_workers.specs.Places.{AreKept, served}
 use Rattle.presence_node_workers.specs.declared.client.Client.{Client}
 use Rattle.presence_node_workers.proofs.Numbers.{rising_more}
+use Rattle.presence_node_workers.proofs.Takings.{lost_not}
 use Rattle.presence_node_workers.proofs.Places.{same_kept, same_served, pushed_kept, pushed_served}
 use Rattle.presence_node_workers.proofs.worker.Worker.take_one.Goals as goal
 
@@ -52,8 +53,8 @@ invariant_of-self-2 g c =
       rising = rw (more, all, is) (rising_more 0 top (served c.args.self.now.clients keys) x above c.args.self.now.rising);
     }
 
-pub returns : goal.returns
-returns g c =
+pub returns-clause-takes : goal.returns-clause-takes
+returns-clause-takes g c =
     let keys : List ℕ = c.args.self.now.order.items in
     let slots = ap (λ s. s.slots) c.reserve-2.ensures.rest_kept in
     let x : Client g.row.S.Denot = record { number = c.in-Some.field-0.number; token = c.vacant_key-token.result; ready = true; unsent = false; connection = c.new.result } in
@@ -68,3 +69,19 @@ returns g c =
       record { number = c.in-Some.field-0.number; token = c.vacant_key-token.result; socket = c.in-Some.field-0.stream; new = rw c.new.ensures refl },
       rw more all,
     )
+
+pub returns-clause-none_lost : goal.returns-clause-none_lost
+returns-clause-none_lost g c =
+    let keys : List ℕ = c.args.self.now.order.items in
+    let slots = ap (λ s. s.slots) c.reserve-2.ensures.rest_kept in
+    let x : Client g.row.S.Denot = record { number = c.in-Some.field-0.number; token = c.vacant_key-token.result; ready = true; unsent = false; connection = c.new.result } in
+    let room : AreKept c.reserve-2.new.self keys = same_kept c.args.self.now.clients c.reserve-2.new.self keys slots c.args.self.now.kept in
+    let same : served c.reserve-2.new.self keys ≡ served c.args.self.now.clients keys = same_served c.args.self.now.clients c.reserve-2.new.self keys slots in
+    let more : c.push_reserved.new.self.items ≡ keys ++ c.insert_reserved-key.result ∷ [] =
+    c.push_reserved.ensures.items ∙ ap (λ l. l ++ c.insert_reserved-key.result ∷ []) c.reserve.ensures.items in
+    let all : served c.insert_reserved-key.new.self (keys ++ c.insert_reserved-key.result ∷ []) ≡ served c.args.self.now.clients keys ++ x ∷ [] =
+    pushed_served c.reserve-2.new.self c.insert_reserved-key.new.self c.insert_reserved-key.result x keys
+    c.insert_reserved-key.ensures.updates c.insert_reserved-key.ensures.was_vacant room ∙ ap (λ (l : List (Client g.row.S.Denot)). l ++ x ∷ []) same in
+    let one : (view c.take.new.self.pass).pops ≡ (view c.args.self.now.taker.pass).pops + 1 = search rules in
+    lost_not (view c.args.self.now.taker.pass).pops (view c.take.new.self.pass).pops (served c.args.self.now.clients keys)
+    (served c.insert_reserved-key.new.self c.push_reserved.new.self.items) x one (rw more all)
