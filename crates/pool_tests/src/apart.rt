@@ -1,8 +1,8 @@
 //! Calls at one of two shards, which the other shows nothing of.
 ghost use Rattle.std.specs.Prelude.{◌<◌, IfSome};
 
-use crate::desk::{topic, track};
 use crate::tellings::two_rows;
+use pool_desk::{topic, track};
 use presence_base::Replica;
 use replica_status::Status;
 use shard_pool::{Gate, Lane, Pool, PoolFault, Seat};

@@ -1,7 +1,7 @@
 //! A checkpoint through the pool: the numbers around it, the receipts from before, and a subscriber from before.
 ghost use Rattle.std.specs.Prelude.{◌<◌};
 
-use crate::desk::{topic, track};
+use pool_desk::{topic, track};
 use presence_journal::Item;
 use shard_pool::{Lane, NoGate, Pool, Seat, SettleFault, check_receipts};
 use std::alloc::Global;

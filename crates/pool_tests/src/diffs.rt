@@ -1,7 +1,7 @@
 //! What a subscriber of the pool is told of the rows of another node that is heard, silent, heard again and gone.
 
-use crate::desk::topic;
 use crate::tellings::{first_removed, two_rows};
+use pool_desk::topic;
 use presence_base::{Dot, Replica, Row, Topic};
 use presence_journal::Item;
 use shard_pool::{Gate, Lane, Pool, Seat};

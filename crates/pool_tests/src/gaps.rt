@@ -1,8 +1,8 @@
 //! What another node tells late or in order, through the pool, and what the own node then tells.
 
-use crate::desk::{topic, track};
 use crate::tellings::{first_removed, two_rows};
 use orswot_core_told::Told;
+use pool_desk::{topic, track};
 use presence_base::Replica;
 use replica_status::Status;
 use shard_pool::{Gate, Lane, Pool, Seat};

@@ -1,7 +1,7 @@
 //! What a pool tells of its own replica from a count on, once it cut, and behind a checkpoint.
 ghost use Rattle.std.specs.Prelude.{◌<◌};
 
-use crate::desk::{key, topic, track};
+use pool_desk::{key, topic, track};
 use shard_pool::{Lane, NoGate, Pool, Seat};
 use std::alloc::Global;
 use std::sync::Wait;

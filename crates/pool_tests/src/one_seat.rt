@@ -5,11 +5,11 @@ ghost use Rattle.presence_base.specs.Refs.{IsCount};
 
 use crate::apart::{Sides, WANTED as WANTED_SIDES, called_apart};
 use crate::checkpoints::{Behind, WANTED as WANTED_BEHIND, checkpointed};
-use crate::desk::{replica, track};
 use crate::diffs::{GONE_WHILE_DOWN, GONE_WHILE_UP, SILENT, Told, told};
 use crate::gaps::{Played, wanted, watch};
 use crate::kept_deltas::{Tells, WANTED as WANTED_KEPT, kept};
 use crate::statuses::{WANTED as WANTED_STATUSES, statuses};
+use pool_desk::{replica, track};
 use presence_base::Replica;
 use replica_status::Status;
 use shard_pool::{Lane, NoGate, Pool, Seat};

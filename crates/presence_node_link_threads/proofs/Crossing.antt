@@ -18,7 +18,7 @@ use Rattle.presence_node_link_threads.specs.contracts.dialling.Dialler as Dialle
 use Rattle.presence_node_link_threads.specs.contracts.incoming.LinkDoor as LinkDoor
 use Rattle.presence_node_link_threads.specs.contracts.incoming.Waiting as Waiting
 use Rattle.presence_node_link_threads.specs.contracts.links.Links as Links
-use Rattle.presence_node_link_threads.specs.contracts.stopping.Stopping as Stopping
+use Rattle.presence_node_link_streams.specs.contracts.stopping.Stopping as Stopping
 use Rattle.presence_node_link_threads.specs.contracts.tasks.LinkTask as LinkTask
 
 -- ---- a line

@@ -3,11 +3,10 @@ ghost use Rattle.std.specs.Prelude.{◌≡◌};
 
 use crate::links::{Beats, Links, Wakes};
 use crate::serving::end_of;
-use crate::stopping::time_behind;
-use crate::stream::LinkStream;
 use node_links::{DialFault, End, Line, LinkFault, Peer, dial};
 use presence_base::{NodeName, Replica};
 use presence_node_link_ports::PoolLinkPort;
+use presence_node_link_streams::{LinkStream, time_behind};
 use presence_node_link_words::{LinkEnd, greeted};
 use shard_pool::{Gate, Lane, Pool};
 use std::net::{Net, SocketAddr, TcpListener, TcpStream, ToSocketAddrs};

@@ -9,11 +9,9 @@ mod dialling;
 mod incoming;
 mod links;
 mod serving;
-mod stopping;
-mod stream;
 mod tasks;
 mod ticking;
 
 pub use links::{Links, Wakes};
-pub use stopping::time_behind;
+pub use presence_node_link_streams::time_behind;
 pub use tasks::{LinkTask, LinkTasks, tasks_for};

@@ -2,9 +2,9 @@
 ghost use Rattle.std.specs.Prelude.{◌≤◌};
 
 use crate::incoming::Waiting;
-use crate::stopping::Stopping;
 use node_links::{End, Line, Peer};
 use presence_base::Replica;
+use presence_node_link_streams::Stopping;
 use presence_node_link_words::{LinkEnd, down_line, up_line};
 use presence_node_mailboxes::Mailbox;
 use presence_node_sockets::Bell;

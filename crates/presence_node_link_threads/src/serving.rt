@@ -2,11 +2,10 @@
 ghost use Rattle.std.specs.Prelude.{◌≡◌};
 
 use crate::links::{Links, Wakes};
-use crate::stopping::time_behind;
-use crate::stream::LinkStream;
 use node_links::{DialFault, End, LinkFault, Peer, accept_one};
 use presence_base::Replica;
 use presence_node_link_ports::PoolLinkPort;
+use presence_node_link_streams::{LinkStream, time_behind};
 use presence_node_link_words::{LinkEnd, greeted};
 use shard_pool::{Gate, Lane, Pool};
 use std::alloc::{AllocError, Global};

@@ -2,9 +2,9 @@
 ghost use Rattle.std.specs.Prelude.{◌≡◌, ◌<◌};
 
 use crate::links::{Links, Wakes};
-use crate::stopping::time_behind;
 use node_links::Line;
 use presence_node_link_ports::{beat_of, cut_off, let_pass};
+use presence_node_link_streams::time_behind;
 use shard_pool::{Gate, Lane, Pool};
 use std::sync::{Arc, Wait};
 use std::time::Clock;

@@ -1,10 +1,7 @@
 //! What the threads of the server are given.
-use crate::bench::Bench;
-use crate::door::{Door, LISTENER};
 use crate::fault::BeginFault;
-use crate::place::Place;
-use crate::server::Mailbox;
 use presence_node_crew::Posts;
+use presence_node_duties::{Bench, Door, LISTENER, Mailbox, Place};
 use presence_node_hints::Inbox;
 use presence_node_link_threads::LinkTask;
 use presence_node_queue::Giver;

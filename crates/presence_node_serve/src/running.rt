@@ -5,15 +5,13 @@ ghost use Rattle.presence_node_ends.specs.Ends.{Settles};
 ghost use Rattle.presence_node_serve.specs.Ends.{IsEndFor};
 ghost use Rattle.presence_node_serve.specs.Ledgers.{HaveParts};
 
-use crate::door::Door;
 use crate::fault::BeginFault;
 use crate::pieces::{Stations, stations_for};
-use crate::place::{Place, seats_of};
-use crate::server::Server;
 use crate::stopping::StopLine;
 use hook_registry::PresenceHooks;
 use presence_base::Replica;
 use presence_node_crew::{Posts, run_crew};
+use presence_node_duties::{Door, Place, Server, seats_of};
 use presence_node_ends::{ServeEnd, settled};
 use presence_node_link_threads::{LinkTask, LinkTasks, tasks_for};
 use presence_node_options::{PeerOption, ServeOptions};

@@ -4,7 +4,7 @@ ghost use Rattle.presence_base.specs.Refs.{IsCount};
 
 use crate::run::{Run, own_replica, play};
 use crate::script::{Part, Says, Turn};
-use pool_tests::Crossing;
+use pool_desk::Crossing;
 use presence_base::Replica;
 use presence_node_ports::PoolPort;
 use shard_pool::{Gate, Lane, Pool, Seat};

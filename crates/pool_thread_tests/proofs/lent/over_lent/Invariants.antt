@@ -1,4 +1,4 @@
-use Rattle.pool_tests.proofs.lent.over_lent.Given as goal
+use Rattle.pool_thread_tests.proofs.lent.over_lent.Given as goal
 
 abbrev pub ghosts-two_parts-L-Ledger : goal.ghosts-two_parts-L-Ledger
 ghosts-two_parts-L-Ledger a = record { name = a.blank.name; parts = a.blank.parts }

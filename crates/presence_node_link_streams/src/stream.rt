@@ -67,13 +67,13 @@ impl Write for Patient<'_> {
 
 /// The stream of a link.
 #[derive(Drop)]
-pub(crate) struct LinkStream<'a> {
+pub struct LinkStream<'a> {
     reader: BufReader<Patient<'a>>,
 }
 
 impl<'a> LinkStream<'a> {
     /// The stream over this socket, which may be one that never blocks.
-    pub(crate) fn new(
+    pub fn new(
         alloc: Global,
         socket: TcpStream,
         stopping: &'a Stopping,
@@ -93,7 +93,7 @@ impl<'a> LinkStream<'a> {
     }
 
     /// Whether the other end has closed the link: a read has met the end of the stream.
-    pub(crate) fn is_ended(&self) -> bool {
+    pub fn is_ended(&self) -> bool {
         self.reader.get_ref().is_ended
     }
 }

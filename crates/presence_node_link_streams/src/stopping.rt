@@ -12,7 +12,7 @@ pub fn time_behind<R: Clock>(rt: &R, last: u64) -> u64 {
 }
 
 /// Whether the links are to end, and what ends a wait for that.
-pub(crate) struct Stopping {
+pub struct Stopping {
     stopped: AtomicBool,
     lock: Mutex<()>,
     bell: Condvar,
@@ -32,7 +32,7 @@ impl Drop for Stopping {
 }
 
 impl Stopping {
-    pub(crate) fn new() -> Stopping {
+    pub fn new() -> Stopping {
         Stopping {
             stopped: AtomicBool::new(false),
             lock: Mutex::new(()),
@@ -40,11 +40,11 @@ impl Stopping {
         }
     }
 
-    pub(crate) fn is_stopped(&self) -> bool {
+    pub fn is_stopped(&self) -> bool {
         self.stopped.load(Ordering::SeqCst)
     }
 
-    pub(crate) fn stop<R: Wait>(&self, rt: &R) {
+    pub fn stop<R: Wait>(&self, rt: &R) {
         let guard = self.lock.lock(rt);
         self.stopped.store(true, Ordering::SeqCst);
         drop(guard);
@@ -52,7 +52,7 @@ impl Stopping {
     }
 
     /// Waits for so many milliseconds, or until the links are to end.
-    pub(crate) fn pause<R: Wait + Clock>(&self, rt: &R, milliseconds: u64) {
+    pub fn pause<R: Wait + Clock>(&self, rt: &R, milliseconds: u64) {
         let guard = self.lock.lock(rt);
         if self.is_stopped() {
             return;

@@ -7,20 +7,24 @@ use shard_pool::{Gate, Lane, Pool, Seat};
 use std::alloc::Global;
 use std::sync::Wait;
 
-pub(crate) fn topic(alloc: Global, text: &str) -> Option<Topic> {
+/// A topic of this text.
+pub fn topic(alloc: Global, text: &str) -> Option<Topic> {
     Topic::new(alloc, text).ok()?
 }
 
-pub(crate) fn key(alloc: Global, text: &str) -> Option<Key> {
+/// A key of this text.
+pub fn key(alloc: Global, text: &str) -> Option<Key> {
     Key::new(alloc, text).ok()?
 }
 
-pub(crate) fn meta(alloc: Global) -> Option<Meta> {
+/// A meta of one member.
+pub fn meta(alloc: Global) -> Option<Meta> {
     let value = Value::from_str(alloc, "{\"x\":1}").ok()?;
     Meta::new(alloc, value).ok()?
 }
 
-pub(crate) fn replica(alloc: Global, name: &str) -> Option<Replica>
+/// The first incarnation of a node of this name.
+pub fn replica(alloc: Global, name: &str) -> Option<Replica>
     ensures { IfSome result (λ r. r.incarnation ≡ 1) }
 {
     let name = NodeName::new(alloc, name).ok()??;
@@ -30,8 +34,8 @@ pub(crate) fn replica(alloc: Global, name: &str) -> Option<Replica>
     })
 }
 
-// Tracks a key of session 1 on a topic: the shard, and the number of the entry.
-pub(crate) fn track<G: Gate, A: Lane, B: Lane, C: Lane, D: Lane, R: Wait>(
+/// Tracks a key of session 1 on a topic: the shard, and the number of the entry.
+pub fn track<G: Gate, A: Lane, B: Lane, C: Lane, D: Lane, R: Wait>(
     rt: &R,
     alloc: Global,
     pool: &Pool<G, A, B, C, D>,
@@ -46,8 +50,8 @@ pub(crate) fn track<G: Gate, A: Lane, B: Lane, C: Lane, D: Lane, R: Wait>(
     Some((reply.shard, reply.number))
 }
 
-// The shard of a track on the topic, with a seat that is not given back.
-pub(crate) fn tracked_at<G: Gate, A: Lane, B: Lane, C: Lane, D: Lane, R: Wait>(
+/// The shard of a track on the topic, with a seat that is not given back.
+pub fn tracked_at<G: Gate, A: Lane, B: Lane, C: Lane, D: Lane, R: Wait>(
     rt: &R,
     alloc: Global,
     pool: &Pool<G, A, B, C, D>,

@@ -128,7 +128,7 @@ fn serve_ready<R: Wait, H: PresenceHooks, A: Lane, B: Lane, C: Lane, D: Lane>(
 }
 
 /// What a worker has of its own.
-pub(crate) struct Bench<A: Lane, B: Lane, C: Lane, D: Lane> {
+pub struct Bench<A: Lane, B: Lane, C: Lane, D: Lane> {
     seat: Seat<A, B, C, D>,
     worker: Worker<TcpStream>,
     watch: Watch,
@@ -166,7 +166,7 @@ impl<A: Lane, B: Lane, C: Lane, D: Lane> Bench<A, B, C, D> {
     ghost use Rattle.std.specs.Prelude.{◌≡◌};
 
     /// A bench at this seat that serves nobody yet.
-    pub(crate) fn new(
+    pub fn new(
         alloc: Global,
         seat: Seat<A, B, C, D>,
         taker: Taker<WebSocket<TcpStream, NoMask>>,

@@ -16,7 +16,7 @@ use std::sync::{Arc, Wait};
 use std::time::Clock;
 
 /// What the workers and the links tell a worker, and what wakes it.
-pub(crate) struct Mailbox {
+pub struct Mailbox {
     pub inbox: Inbox,
     /// Whether each connection is to be looked at: a link may have changed any topic.
     pub looks: AtomicBool,
@@ -51,7 +51,7 @@ impl Mailbox {
 }
 
 /// What the threads of the server share.
-pub(crate) struct Server<'a, H, A: Lane, B: Lane, C: Lane, D: Lane> {
+pub struct Server<'a, H, A: Lane, B: Lane, C: Lane, D: Lane> {
     pub alloc: Global,
     pub pool: Pool<NoGate, A, B, C, D>,
     pub routes: &'a Routes,
@@ -122,7 +122,7 @@ impl<'a, H, A: Lane, B: Lane, C: Lane, D: Lane> Server<'a, H, A, B, C, D> {
     }
 
     /// The pool, once the threads have ended.
-    pub(crate) fn into_pool(self) -> Pool<NoGate, A, B, C, D>
+    pub fn into_pool(self) -> Pool<NoGate, A, B, C, D>
         ensures { result ≡ self.entry.pool }
     {
         let Server {

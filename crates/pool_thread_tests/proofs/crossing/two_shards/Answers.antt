@@ -1,7 +1,7 @@
 use denote.Param.{param}
 use denote.Param.Send.{IsSync, sendable}
 use Rattle.shard_pool.proofs.Crossing.{seat_row_send, pool_row_sync}
-use Rattle.pool_tests.proofs.crossing.two_shards.Goals as goal
+use Rattle.pool_thread_tests.proofs.crossing.two_shards.Goals as goal
 
 pub join-one-requires-send-F : goal.join-one-requires-send-F
 join-one-requires-send-F g c κs within =

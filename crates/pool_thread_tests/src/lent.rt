@@ -2,8 +2,8 @@
 ghost use Rattle.std.specs.Prelude.{◌≡◌};
 ghost use Rattle.presence_base.specs.Refs.{IsCount};
 
-use crate::desk::{key, meta, replica, topic};
 use crate::threads::checked;
+use pool_desk::{key, meta, replica, topic};
 use presence_base::{Json, Key, Meta, Replica, Topic, has_float, is_within_depth};
 use presence_journal::{Item, Journal, MAX_PAYLOAD_DEPTH, Payload};
 use serde_json::Value;

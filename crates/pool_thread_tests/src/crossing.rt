@@ -2,8 +2,7 @@
 ghost use Rattle.std.specs.Prelude.{◌≡◌};
 ghost use Rattle.presence_base.specs.Refs.{IsCount};
 
-use crate::desk::{replica, tracked_at};
-use crate::gate::Crossing;
+use pool_desk::{Crossing, replica, tracked_at};
 use presence_base::Replica;
 use shard_pool::{Gate, Lane, Pool};
 use std::alloc::Global;

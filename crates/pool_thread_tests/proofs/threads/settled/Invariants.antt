@@ -1,4 +1,4 @@
-use Rattle.pool_tests.proofs.threads.settled.Given as goal
+use Rattle.pool_thread_tests.proofs.threads.settled.Given as goal
 
 abbrev pub ghosts-two_threads-A-Ledger : goal.ghosts-two_threads-A-Ledger
 ghosts-two_threads-A-Ledger g a = record { name = a.first.name; parts = a.first.parts }

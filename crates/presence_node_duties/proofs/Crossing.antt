@@ -10,9 +10,9 @@ use Rattle.shard_pool.proofs.Crossing.{seat_send}
 use Rattle.presence_node_workers.proofs.Crossing.{worker_send}
 use Rattle.presence_node_sockets.specs.contracts.watch.Watch as Watch
 use Rattle.hook_registry.specs.contracts.routes.Routes as Routes
-use Rattle.presence_node_serve.specs.contracts.bench.Bench as Bench
-use Rattle.presence_node_serve.specs.contracts.place.Place as Place
-use Rattle.presence_node_serve.specs.contracts.server.Mailbox as Mailbox
+use Rattle.presence_node_duties.specs.contracts.bench.Bench as Bench
+use Rattle.presence_node_duties.specs.contracts.place.Place as Place
+use Rattle.presence_node_duties.specs.contracts.server.Mailbox as Mailbox
 
 -- ---- what is shared
 

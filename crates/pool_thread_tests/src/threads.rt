@@ -2,7 +2,7 @@
 ghost use Rattle.std.specs.Prelude.{◌≡◌, ◌<◌};
 ghost use Rattle.presence_base.specs.Refs.{IsCount};
 
-use crate::desk::{replica, topic, track};
+use pool_desk::{replica, topic, track};
 use presence_base::Replica;
 use presence_journal::Journal;
 use shard_pool::{Gate, Lane, NoGate, Pool, Receipt, Seat, SettleFault, check_receipts};

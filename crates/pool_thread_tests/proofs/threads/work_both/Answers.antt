@@ -2,9 +2,9 @@ use contract.Lifetimes.{Lfts}
 use denote.Param.{param}
 use denote.Param.Send.{IsSend, IsSync, param_send, sendable}
 use Rattle.shard_pool.proofs.Crossing.{seat_row_send, pool_row_sync}
-use Rattle.pool_tests.proofs.threads.work_both.Given as given
-use Rattle.pool_tests.proofs.threads.work_both.Lts as types
-use Rattle.pool_tests.proofs.threads.work_both.Goals as goal
+use Rattle.pool_thread_tests.proofs.threads.work_both.Given as given
+use Rattle.pool_thread_tests.proofs.threads.work_both.Lts as types
+use Rattle.pool_thread_tests.proofs.threads.work_both.Goals as goal
 
 -- What a thread is given may cross to it. A search among all that is known at the call gives up, so it stands here.
 given_send : (g : given.Over) (κs : Lfts 10) → IsSync (param 5 g.row.R) → IsSync (param 0 g.row.G)

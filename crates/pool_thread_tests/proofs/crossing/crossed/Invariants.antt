@@ -1,4 +1,4 @@
-use Rattle.pool_tests.proofs.crossing.crossed.Given as goal
+use Rattle.pool_thread_tests.proofs.crossing.crossed.Given as goal
 
 abbrev pub ghosts-two_shards-A-Ledger : goal.ghosts-two_shards-A-Ledger
 ghosts-two_shards-A-Ledger g a = record { name = a.first.name; parts = a.first.parts }

@@ -28,10 +28,10 @@ const LOOK_MILLISECONDS: u64 = 50;
 const IDLE_MILLISECONDS: u64 = 1_000;
 
 /// The number of the listening socket. Clients have the numbers above it.
-pub(crate) const LISTENER: u64 = 0;
+pub const LISTENER: u64 = 0;
 
 /// What the thread at the door has of its own.
-pub(crate) struct Door {
+pub struct Door {
     listener: TcpListener,
     giver: Giver<WebSocket<TcpStream, NoMask>>,
     watch: Watch,
@@ -84,7 +84,7 @@ fn next_of(worker: usize, workers: usize) -> usize
 
 impl Door {
     /// The listening socket is watched as `LISTENER`.
-    pub(crate) fn new(
+    pub fn new(
         alloc: Global,
         listener: TcpListener,
         giver: Giver<WebSocket<TcpStream, NoMask>>,

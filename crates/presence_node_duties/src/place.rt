@@ -6,7 +6,7 @@ use std::alloc::{AllocError, Global};
 
 /// A place among the workers, and the bench there.
 #[derive(Drop)]
-pub(crate) struct Place<A: Lane, B: Lane, C: Lane, D: Lane> {
+pub struct Place<A: Lane, B: Lane, C: Lane, D: Lane> {
     pub number: usize,
     pub bench: Bench<A, B, C, D>,
 }
@@ -30,7 +30,7 @@ impl<A: Lane, B: Lane, C: Lane, D: Lane> Place<A, B, C, D> {
 }
 
 /// The seats of all places.
-pub(crate) fn seats_of<A: Lane, B: Lane, C: Lane, D: Lane>(
+pub fn seats_of<A: Lane, B: Lane, C: Lane, D: Lane>(
     alloc: Global,
     places: Vec<Place<A, B, C, D>>,
 ) -> Result<Vec<Seat<A, B, C, D>>, AllocError> {
