@@ -2,3 +2,4 @@ pub mod Ended
 pub mod Carried
 pub mod Plainly
 pub mod Within
+pub mod Plain
