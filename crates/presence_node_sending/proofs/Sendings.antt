@@ -1,7 +1,6 @@
 -- What sending one text after another does to a socket.
-use Rattle.std.proofs.Common.{◌≡◌, ℕ, List, [], ◌∷◌, ◌++◌, Option, Some, refl, sym, ap, ◌∙◌, subst, append_assoc, append-nil, map, take, length, ◌<◌, ◌+◌}
-use Rattle.std.proofs.Math.ListN.{get_or}
-use Rattle.std.proofs.lemmas.List.{take_more, map-append}
+use Rattle.std.proofs.Common.{ℕ, List, [], ◌∷◌, ◌++◌, Option, Some, refl, sym, ap, ◌∙◌, subst, append_assoc, append-nil, map}
+use Rattle.std.proofs.lemmas.List.{map-append}
 use Rattle.std.proofs.Common.{Ok, Err}
 use Rattle.websocket.specs.Connection.{Outgoing, Sends, send, write_step, check_can_write}
 use Rattle.websocket.specs.Content.{text}
@@ -67,10 +66,8 @@ module _ {S : Type 0} where
   pub wrote : (contents : S → Option (List ℕ)) (a b : Socket S) (words : List ℕ) → Writes contents a b (write_step a.conn (text words)) → SentAll contents a b (words ∷ [])
   wrote contents a b words h = wrote_where contents a b words (check_can_write a.conn.state) h
 
-  -- one text more of a list
-  pub sent_more : {X : Type 0} (f : X → List ℕ) (contents : S → Option (List ℕ)) (a b d : Socket S) (xs : List X) (i : ℕ) (x : X) → i < length xs → x ≡ get_or xs i x
-      → SentAll contents a b (map f (take i xs)) → SentAll contents b d (f x ∷ []) → SentAll contents a d (map f (take (i + 1) xs))
-  sent_more f contents a b d xs i x lt is h k =
-      let e : map f (take (i + 1) xs) ≡ map f (take i xs) ++ f x ∷ [] =
-      ap (λ l. map f l) (take_more xs i x lt) ∙ map-append f (take i xs) (get_or xs i x ∷ []) ∙ ap (λ y. map f (take i xs) ++ f y ∷ []) (sym is) in
-      subst (λ l. SentAll contents a d l) (sym e) (sent_then contents a b d (map f (take i xs)) (f x ∷ []) h k)
+  -- one text more
+  pub sent_more : {X : Type 0} (f : X → List ℕ) (contents : S → Option (List ℕ)) (a b d : Socket S) (xs : List X) (x : X)
+      → SentAll contents a b (map f xs) → SentAll contents b d (f x ∷ []) → SentAll contents a d (map f (xs ++ x ∷ []))
+  sent_more f contents a b d xs x h k =
+      subst (λ l. SentAll contents a d l) (sym (map-append f xs (x ∷ []))) (sent_then contents a b d (map f xs) (f x ∷ []) h k)

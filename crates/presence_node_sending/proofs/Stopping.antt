@@ -1,6 +1,9 @@
 -- What is sent where a write fails.
-use Rattle.std.proofs.Common.{◌≡◌, inl, inr, ℕ, zero, suc, ◌<◌, List, [], ◌∷◌, ◌++◌, Option, refl, sym, ap, ◌∙◌, subst, append_assoc, length, map, take, drop, arith}
-use Rattle.std.proofs.Math.ListN.{get_or}
+use Rattle.std.proofs.Common.{◌≡◌, inl, inr, ℕ, ◌<◌, List, [], ◌∷◌, ◌++◌, Option, refl, sym, ap, ◌∙◌, subst, append_assoc, length, map, arith}
+use Rattle.std.proofs.lemmas.List.{map-append}
+use Rattle.std.specs.Iterator.{Yields}
+use Rattle.std.specs.Vec.Iter.{into_iter_items, into_iter_steps}
+use Rattle.std.specs.declared.vec.IntoIter.{IntoIter}
 use Rattle.tungstenite.proofs.SocketLemmas.{io-outside}
 use Rattle.tungstenite.specs.Failure.{IsIo, WriteFails}
 use Rattle.tungstenite.specs.Socket.{Socket, Flushed, Writes}
@@ -83,12 +86,14 @@ module _ {S : Type 0} (contents : S → Option (List ℕ)) where
         kept = λ want. absurd (not_want e io want);
       }
 
--- the list from an element on
-pub split_at : {X : Type 0} (f : X → List ℕ) (xs : List X) (i : ℕ) (x : X) → i < length xs → x ≡ get_or xs i x
-    → map f xs ≡ map f (take i xs) ++ f x ∷ map f (drop (suc i) xs)
-split_at f [] i x lt is = absurd (omega arith)
-split_at f (y ∷ ys) zero x lt is = ap (λ z. f z ∷ map f ys) (sym is)
-split_at f (y ∷ ys) (suc i) x lt is = ap (λ l. f y ∷ l) (split_at f ys i x (omega arith) is)
+-- what the iterator of a vector has given is a front of its items
+pub taken_front : {X A : Type 0} (s : IntoIter X A) (xs : List X) (t : IntoIter X A) → Yields into_iter_steps s xs t → into_iter_items s ≡ xs ++ into_iter_items t
+taken_front s [] t y = ap into_iter_items y
+taken_front s (x ∷ xs) t y = y.1.0 ∙ ap (λ ys. x ∷ ys) (taken_front y.0 xs t y.2)
+
+-- a list, by those before an element, that one, and those behind it
+pub split_at : {X : Type 0} (f : X → List ℕ) (all xs rest : List X) (x : X) → all ≡ (xs ++ x ∷ []) ++ rest → map f all ≡ map f xs ++ f x ∷ map f rest
+split_at f all xs rest x e = ap (λ l. map f l) (e ∙ append_assoc xs (x ∷ []) rest) ∙ map-append f xs (x ∷ rest)
 
 pub some_mapped : {X : Type 0} (f : X → List ℕ) (xs : List X) → 0 < length xs → 0 < length (map f xs)
 some_mapped f [] lt = absurd (omega arith)

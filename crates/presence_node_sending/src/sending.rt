@@ -1,24 +1,22 @@
 ghost use Rattle.std.specs.Prelude.{◌≡◌, ◌<◌, [], ◌∷◌, length, map, string_bytes, OnOk, IfErr};
 ghost use Rattle.presence_node_sending.specs.Sending.{SentAll, Stops};
 
-use std::alloc::Global;
 use std::io::{ErrorKind, Read, Write};
-use tungstenite::{Error, MaskKeys, Message, WebSocket};
+use tungstenite::{Error, MaskKeys, Message, Utf8Bytes, WebSocket};
 
-// Puts a text in what waits to be sent. A stream that would block leaves it there.
+// Puts a text in what waits to be sent, without a copy of its own. A stream that would block leaves it there.
 #[tactic(auto, using(crate::proofs::Sendings::wrote, crate::proofs::Stopping::stops_at, crate::proofs::Stopping::stops_for_memory))]
 fn queue_text<S: Read + Write + Drop, K: MaskKeys + Drop>(
-    alloc: Global,
     socket: &mut WebSocket<S, K>,
-    text: &str,
+    text: String,
 ) -> Result<(), Error>
-    ensures sent { OnOk result (SentAll S.contents socket.old socket.new (text.now ∷ [])) }
-    ensures stops { IfErr result (Stops S.contents socket.old socket.new (text.now ∷ [])) }
+    ensures sent { OnOk result (SentAll S.contents socket.old socket.new (string_bytes text ∷ [])) }
+    ensures stops { IfErr result (Stops S.contents socket.old socket.new (string_bytes text ∷ [])) }
 {
-    let Ok(message) = Message::text(alloc, text) else {
+    let Ok(words) = Utf8Bytes::from_string(text) else {
         return Err(Error::OutOfMemory);
     };
-    match socket.write(message) {
+    match socket.write(Message::Text(words)) {
         Ok(()) => Ok(()),
         Err(Error::Io(cause)) if cause.kind() == ErrorKind::WouldBlock => Ok(()),
         Err(error) => Err(error),
@@ -28,15 +26,14 @@ fn queue_text<S: Read + Write + Drop, K: MaskKeys + Drop>(
 /// Puts texts in what waits to be sent, in their order. Some of what waits goes out where it has
 /// grown to the socket's `write_buffer_size`; a stream that would block is no error.
 pub fn queue_all<S: Read + Write + Drop, K: MaskKeys + Drop>(
-    alloc: Global,
     socket: &mut WebSocket<S, K>,
-    texts: &[String],
+    texts: Vec<String>,
 ) -> Result<(), Error>
-    ensures sent { OnOk result (SentAll S.contents socket.old socket.new (map string_bytes texts.now)) }
-    ensures stops { IfErr result (Stops S.contents socket.old socket.new (map string_bytes texts.now)) }
+    ensures sent { OnOk result (SentAll S.contents socket.old socket.new (map string_bytes texts.items)) }
+    ensures stops { IfErr result (Stops S.contents socket.old socket.new (map string_bytes texts.items)) }
 {
     for text in texts {
-        match queue_text(alloc, socket, text.as_str()) {
+        match queue_text(socket, text) {
             Ok(()) => {}
             Err(error) => return Err(error),
         }
@@ -50,16 +47,16 @@ pub fn queue_all<S: Read + Write + Drop, K: MaskKeys + Drop>(
 /// error of kind `WouldBlock` all texts wait to be sent, and a later flush sends them.
 #[tactic(auto, using(crate::proofs::Sendings::sent_flushed))]
 pub fn send_all<S: Read + Write + Drop, K: MaskKeys + Drop>(
-    alloc: Global,
     socket: &mut WebSocket<S, K>,
-    texts: &[String],
+    texts: Vec<String>,
 ) -> Result<(), Error>
-    ensures sent { OnOk result (SentAll S.contents socket.old socket.new (map string_bytes texts.now)) }
-    ensures nothing_waits { OnOk result (0 < length texts.now → socket.new.output ≡ []) }
-    ensures stops { IfErr result (Stops S.contents socket.old socket.new (map string_bytes texts.now)) }
+    ensures sent { OnOk result (SentAll S.contents socket.old socket.new (map string_bytes texts.items)) }
+    ensures nothing_waits { OnOk result (0 < length texts.items → socket.new.output ≡ []) }
+    ensures stops { IfErr result (Stops S.contents socket.old socket.new (map string_bytes texts.items)) }
 {
-    queue_all(alloc, socket, texts)?;
-    if texts.is_empty() {
+    let has_some = !texts.is_empty();
+    queue_all(socket, texts)?;
+    if !has_some {
         return Ok(());
     }
     match socket.flush() {

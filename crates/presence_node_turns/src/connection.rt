@@ -123,11 +123,11 @@ impl<S: Read + Write + Drop, K: MaskKeys + Drop> Connection<S, K> {
     }
 
     // Puts the texts that the session gave in what waits to be sent.
-    fn send(&mut self, alloc: Global, texts: &[String]) -> Result<(), Cause>
-        ensures sent { GoOut S.contents self.old.socket self.new.socket (Ok (map string_bytes texts.now)) result }
+    fn send(&mut self, texts: Vec<String>) -> Result<(), Cause>
+        ensures sent { GoOut S.contents self.old.socket self.new.socket (Ok (map string_bytes texts.items)) result }
         ensures kept { self.new ≡ record self.old { socket = self.new.socket } }
     {
-        match queue_all(alloc, &mut self.socket, texts) {
+        match queue_all(&mut self.socket, texts) {
             Ok(()) => Ok(()),
             Err(error) => Err(cause_of(&error)),
         }
@@ -146,7 +146,7 @@ impl<S: Read + Write + Drop, K: MaskKeys + Drop> Connection<S, K> {
             routes.now text.now self.old self.new port.old port.new result }
     {
         match run_text(alloc, &mut self.session, port, routes, hooks, text) {
-            Ok(texts) => self.send(alloc, &texts),
+            Ok(texts) => self.send(texts),
             Err(fault) => Err(Cause::Fault(fault)),
         }
     }
@@ -200,7 +200,10 @@ impl<S: Read + Write + Drop, K: MaskKeys + Drop> Connection<S, K> {
             self.old self.new port.old port.new result }
     {
         match deliver(alloc, &mut self.session, port, hooks, MAX_TAKEN) {
-            Ok(delivery) => self.send(alloc, &delivery.texts),
+            Ok(Delivery { texts, notices }) => {
+                drop(notices);
+                self.send(texts)
+            }
             Err(fault) => Err(Cause::Fault(fault)),
         }
     }

@@ -28,9 +28,9 @@ fn two_are_sent(rt: HostRuntime) -> Result<(), Fail> {
     let texts = two_texts(alloc)?;
     let wanted = frames(alloc, false, "one\nsecond\n")?;
     let mut socket = socket(alloc, wire_of(alloc, b""), socket_config());
-    assert!(rt; send_all(alloc, &mut socket, &[]).is_ok());
+    assert!(rt; send_all(&mut socket, Vec::new(alloc)).is_ok());
     assert_eq!(rt; socket.get_ref().writes, 0);
-    assert!(rt; send_all(alloc, &mut socket, &texts).is_ok());
+    assert!(rt; send_all(&mut socket, texts).is_ok());
     assert_eq!(rt; socket.get_ref().taken.as_slice(), wanted.as_slice());
     Ok(())
 }
@@ -45,7 +45,7 @@ fn blocked_texts_wait(rt: HostRuntime) -> Result<(), Fail> {
     blocked.fails_write = 0;
     blocked.so = ErrorKind::WouldBlock;
     let mut socket = socket(alloc, blocked, socket_config());
-    let sent = send_all(alloc, &mut socket, &texts);
+    let sent = send_all(&mut socket, texts);
     assert!(rt; matches!(&sent, Err(Error::Io(_))));
     assert!(rt; socket.get_ref().taken.is_empty());
     assert!(rt; socket.flush().is_ok());
@@ -61,7 +61,7 @@ fn no_room_to_wait(rt: HostRuntime) -> Result<(), Fail> {
     let wanted = frames(alloc, false, "one\n")?;
     let config = socket_config().max_write_buffer_size(9);
     let mut socket = socket(alloc, wire_of(alloc, b""), config);
-    let sent = send_all(alloc, &mut socket, &texts);
+    let sent = send_all(&mut socket, texts);
     assert!(rt; matches!(&sent, Err(Error::WriteBufferFull)));
     assert!(rt; socket.flush().is_ok());
     assert_eq!(rt; socket.get_ref().taken.as_slice(), wanted.as_slice());

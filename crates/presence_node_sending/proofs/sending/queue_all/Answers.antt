@@ -1,22 +1,23 @@
-use Rattle.std.proofs.Common.{string_bytes, suc, ◌<◌, length, rules, subst, ◌∷◌, [], map, take, drop}
-use Rattle.presence_node_sending.specs.Sending.{SentAll, Stops}
+use Rattle.std.proofs.Common.{◌≡◌, ◌++◌, ◌∷◌, [], string_bytes, map, sym, ◌∙◌, rules}
+use Rattle.std.proofs.iter.Next.{Yields-more}
+use Rattle.std.specs.Vec.Iter.{into_iter_items, into_iter_steps}
 use Rattle.presence_node_sending.proofs.Sendings.{sent_more}
-use Rattle.presence_node_sending.proofs.Stopping.{stops_behind, split_at}
+use Rattle.presence_node_sending.proofs.Stopping.{split_at, stops_behind, taken_front}
 use Rattle.presence_node_sending.proofs.sending.queue_all.Goals as goal
 
 pub returns-in-Err-clause-stops : goal.returns-in-Err-clause-stops
 returns-in-Err-clause-stops g c =
-    let lt : c.loop-text.text-index < length c.args.texts.now = search rules in
-    let one : Stops g.S.Write.contents c.loop-text.socket c.queue_text.new.socket (string_bytes c.text-item.result ∷ []) c.in-Err.error =
-    subst (λ t. Stops g.S.Write.contents c.loop-text.socket c.queue_text.new.socket (t ∷ []) c.in-Err.error) c.as_str.ensures.value c.in-Err.ensures.stops in
-    stops_behind g.S.Write.contents c.args.socket.now c.loop-text.socket c.queue_text.new.socket (map string_bytes (take c.loop-text.text-index c.args.texts.now))
-    (string_bytes c.text-item.result) (map string_bytes (drop (suc c.loop-text.text-index) c.args.texts.now)) (map string_bytes c.args.texts.now) c.in-Err.error c.loop-text.invariant one
-    (split_at string_bytes c.args.texts.now c.loop-text.text-index c.text-item.result lt c.text-item.is)
+    let it = c.into_iter-text-iterator.result in
+    let xs = c.loop-text.yielded in
+    let more = Yields-more into_iter_steps it xs c.loop-text.text-iterator c.in-Some.text c.next.new.self c.loop-text.yielded_by c.in-Some.ensures.steps in
+    let whole : into_iter_items it ≡ c.args.texts.items = search rules in
+    let all : c.args.texts.items ≡ (xs ++ c.in-Some.text ∷ []) ++ into_iter_items c.next.new.self =
+    sym whole ∙ taken_front it (xs ++ c.in-Some.text ∷ []) c.next.new.self more in
+    stops_behind g.S.Write.contents c.args.socket.now c.loop-text.socket c.queue_text.new.socket (map string_bytes xs)
+    (string_bytes c.in-Some.text) (map string_bytes (into_iter_items c.next.new.self)) (map string_bytes c.args.texts.items) c.in-Err.error
+    c.loop-text.invariant c.in-Err.ensures.stops (split_at string_bytes c.args.texts.items xs (into_iter_items c.next.new.self) c.in-Some.text all)
 
 pub loop-text-preserved : goal.loop-text-preserved
 loop-text-preserved g c =
-    let lt : c.loop-text.text-index < length c.args.texts.now = search rules in
-    let said : SentAll g.S.Write.contents c.loop-text.socket c.queue_text.new.socket (c.as_str.result.now ∷ []) = c.in-Ok.ensures.sent in
-    let one : SentAll g.S.Write.contents c.loop-text.socket c.queue_text.new.socket (string_bytes c.text-item.result ∷ []) =
-    subst (λ t. SentAll g.S.Write.contents c.loop-text.socket c.queue_text.new.socket (t ∷ [])) c.as_str.ensures.value said in
-    sent_more string_bytes g.S.Write.contents c.args.socket.now c.loop-text.socket c.queue_text.new.socket c.args.texts.now c.loop-text.text-index c.text-item.result lt c.text-item.is c.loop-text.invariant one
+    sent_more string_bytes g.S.Write.contents c.args.socket.now c.loop-text.socket c.queue_text.new.socket c.loop-text.yielded c.in-Some.text
+    c.loop-text.invariant c.in-Ok.ensures.sent
