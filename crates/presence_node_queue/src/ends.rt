@@ -1,5 +1,5 @@
 //! The two ends of the queue: the acceptor's, which numbers connections, and the workers'.
-ghost use Rattle.std.specs.Prelude.{◌≡◌, ◌<◌, ◌≤◌, ◌+◌, true, IfOk, MatchOption};
+ghost use Rattle.std.specs.Prelude.{◌≡◌, ◌<◌, ◌≤◌, ◌+◌, true, IfOk, MatchResult};
 ghost use Rattle.std.specs.Arc.{arc_value};
 ghost use Rattle.crossbeam_queue.specs.Passes.{view, IsPassOf, ruled_capacity};
 ghost use Rattle.presence_node_queue.specs.Rising.{Gives};
@@ -20,6 +20,12 @@ pub enum GiveFault {
     Full,
     #[error("no number is left for a connection")]
     Spent,
+}
+
+/// That no connection waited when a worker's end looked. Only such a look makes one.
+#[derive(Clone, Copy, PartialEq, Eq, Debug)]
+pub struct NoneWaits {
+    looked: (),
 }
 
 /// The acceptor's end. Its next number lies above each that it pushed.
@@ -89,15 +95,19 @@ impl<S: Drop> Giver<S> {
 }
 
 impl<S: Drop> Taker<S> {
-    /// The oldest connection that waits. Its number is above each that this end took before. No other leaves the queue.
-    pub fn take<R: Wait>(&mut self, rt: &R) -> Option<Numbered<S>>
-        ensures rises { MatchOption result
-            ((view self.new.pass).taken ≡ (view self.old.pass).taken)
-            (λ c. ((view self.old.pass).taken < c.number) × ((view self.new.pass).taken ≡ c.number)) }
-        ensures one { MatchOption result
-            ((view self.new.pass).pops ≡ (view self.old.pass).pops)
-            (λ c. (view self.new.pass).pops ≡ (view self.old.pass).pops + 1) }
+    /// The oldest connection that waits, or that none does. Its number is above each that this end took before. No other
+    /// leaves the queue.
+    pub fn take<R: Wait>(&mut self, rt: &R) -> Result<Numbered<S>, NoneWaits>
+        ensures rises { MatchResult result
+            (λ c. ((view self.old.pass).taken < c.number) × ((view self.new.pass).taken ≡ c.number))
+            (λ _. (view self.new.pass).taken ≡ (view self.old.pass).taken) }
+        ensures one { MatchResult result
+            (λ c. (view self.new.pass).pops ≡ (view self.old.pass).pops + 1)
+            (λ _. (view self.new.pass).pops ≡ (view self.old.pass).pops) }
     {
-        take(rt, &self.line, &mut self.pass)
+        match take(rt, &self.line, &mut self.pass) {
+            Some(connection) => Ok(connection),
+            None => Err(NoneWaits { looked: () }),
+        }
     }
 }

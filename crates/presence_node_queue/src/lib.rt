@@ -8,6 +8,6 @@ pub mod laws;
 mod numbered;
 mod queue;
 
-pub use ends::{GiveFault, Giver, Taker};
+pub use ends::{GiveFault, Giver, NoneWaits, Taker};
 pub use numbered::{LAST_NUMBER, Numbered};
 pub use queue::MAX_QUEUED;

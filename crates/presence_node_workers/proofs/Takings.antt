@@ -1,9 +1,11 @@
 -- Connections that are taken one after another.
-use Rattle.std.proofs.Common.{◌≡◌, ℕ, ◌+◌, Bool, List, [], ◌∷◌, ◌++◌, length, refl, sym, ap, ◌∙◌, subst, true, false, Result, Ok, Err, arith}
+use Rattle.std.proofs.Common.{◌≡◌, ℕ, ◌+◌, ◌≤◌, List, [], ◌∷◌, ◌++◌, length, refl, sym, ap, ◌∙◌, subst, Option, Some, None, Result, Ok, Err, arith}
 use Rattle.std.specs.declared.alloc.AllocError.{AllocError}
 use Rattle.std.specs.List.{AllByRecursion}
 use Rattle.presence_node_workers.specs.declared.client.Client.{Client}
-use Rattle.presence_node_workers.specs.Working.{IsNew, NoneLost, TakesIn, TakesOne}
+use Rattle.presence_node_workers.specs.declared.worker.NoMore.{NoMore}
+use Rattle.presence_node_workers.specs.declared.worker.TheConstants.{MAX_CONNECTIONS}
+use Rattle.presence_node_workers.specs.Working.{EndsAt, IsNew, NoneLost, TakesIn, TakesOne}
 
 append_none : {X : Type 0} (xs : List X) → xs ++ [] ≡ xs
 append_none [] = refl
@@ -29,9 +31,9 @@ takes_more {S} now old mid new c is e h =
     }
 
 -- one look at the queue more
-pub takes_by : {S : Type 0} (now : ℕ) (old mid new : List (Client S)) (r : Result Bool AllocError) → TakesOne now mid new r → TakesIn now old mid → TakesIn now old new
-takes_by now old mid new (Ok true) one h = takes_more now old mid new one.0 one.1 one.2 h
-takes_by {S} now old mid new (Ok false) one h = subst (λ (l : List (Client S)). TakesIn now old l) (sym one) h
+pub takes_by : {S : Type 0} (now : ℕ) (old mid new : List (Client S)) (r : Result (Option NoMore) AllocError) → TakesOne now mid new r → TakesIn now old mid → TakesIn now old new
+takes_by now old mid new (Ok None) one h = takes_more now old mid new one.0 one.1 one.2 h
+takes_by {S} now old mid new (Ok (Some why)) one h = subst (λ (l : List (Client S)). TakesIn now old l) (sym one.0) h
 takes_by {S} now old mid new (Err e) one h = subst (λ (l : List (Client S)). TakesIn now old l) (sym one) h
 
 -- ---- none is lost
@@ -53,3 +55,27 @@ pub lost_not : {S : Type 0} (before after : ℕ) (cs news : List (Client S)) (c 
 lost_not before after cs news c e n =
     let more : length news ≡ length cs + 1 = ap length n ∙ one_longer cs c in
     omega (arith, e, more)
+
+-- ---- why no more are taken
+
+-- a look that took one
+pub took_by : {S : Type 0} (now : ℕ) (mid new : List (Client S)) (r : Result (Option NoMore) AllocError) → TakesOne now mid new r → r ≡ Ok None → length new ≡ length mid + 1
+took_by {S} now mid new r one e =
+    let took = subst (λ z. TakesOne {S = S} now mid new z) e one in
+    ap length took.2 ∙ one_longer mid took.0
+
+-- a look that took none tells why
+pub ends_by : {S : Type 0} (now : ℕ) (mid new : List (Client S)) (r : Result (Option NoMore) AllocError) (why : NoMore) → TakesOne now mid new r → r ≡ Ok (Some why) → EndsAt new why
+ends_by {S} now mid new r why one e = (subst (λ z. TakesOne {S = S} now mid new z) e one).1
+
+-- one more was taken in each of so many looks
+pub counted : (first mid new i : ℕ) → mid ≡ first + i → new ≡ mid + 1 → new ≡ first + (i + 1)
+counted first mid new i m n = omega (arith, m, n)
+
+-- as many looks as it may serve at most leave it full
+pub full : (first now i : ℕ) → now ≡ first + i → MAX_CONNECTIONS ≤ i → now ≤ MAX_CONNECTIONS → now ≡ MAX_CONNECTIONS
+full first now i e enough few = omega (arith, e, enough, few)
+
+-- what is no less and no more
+pub just : (n : ℕ) → MAX_CONNECTIONS ≤ n → n ≤ MAX_CONNECTIONS → n ≡ MAX_CONNECTIONS
+just n enough few = omega (arith, enough, few)

@@ -11,6 +11,9 @@ use Rattle.presence_node_turns.specs.declared.connection.Progress.TheVariants as
 use Rattle.presence_node_turns.specs.declared.connection.Stage.{Stage}
 use Rattle.presence_node_turns.specs.declared.connection.Stage.TheVariants.{Open, Ending, Over}
 use Rattle.presence_node_workers.specs.declared.client.Client.{Client}
+use Rattle.presence_node_workers.specs.declared.worker.NoMore.{NoMore}
+use Rattle.presence_node_workers.specs.declared.worker.NoMore.TheVariants.{Full, NoneWaits}
+use Rattle.presence_node_workers.specs.declared.worker.TheConstants.{MAX_CONNECTIONS}
 
 -- a connection that may go on, or whose end was refused, takes the turn behind this one too
 abbrev pub stays_ready : Progress → Bool
@@ -154,10 +157,15 @@ pub record IsNew {S : Type 0} (now : ℕ) (c : Client S) : Type 0 where
   pub socket : Socket S
   pub new : c ≡ newcomer number token socket now
 
+-- Why no more are taken: the worker serves as many as it may, or none waited when it looked, of which a look alone makes the token.
+abbrev pub EndsAt : {S : Type 0} → List (Client S) → NoMore → Type 0
+EndsAt cs Full = length cs ≡ MAX_CONNECTIONS
+EndsAt cs (NoneWaits looked) = Unit {0}
+
 -- One was taken and stands behind the others, or none was.
-abbrev pub TakesOne : {S : Type 0} → ℕ → List (Client S) → List (Client S) → Result Bool AllocError → Type 0
-TakesOne {S} now old new (Ok true) = (c : Client S) × IsNew now c × (new ≡ old ++ c ∷ [])
-TakesOne now old new (Ok false) = new ≡ old
+abbrev pub TakesOne : {S : Type 0} → ℕ → List (Client S) → List (Client S) → Result (Option NoMore) AllocError → Type 0
+TakesOne {S} now old new (Ok None) = (c : Client S) × IsNew now c × (new ≡ old ++ c ∷ [])
+TakesOne now old new (Ok (Some why)) = (new ≡ old) × EndsAt new why
 TakesOne now old new (Err e) = new ≡ old
 
 -- Those that were taken stand behind the others, each as new.

@@ -10,4 +10,4 @@ mod worker;
 
 pub use client::Client;
 pub use presence_node_turns::{Cause, Stage, socket_config};
-pub use worker::{MAX_CONNECTIONS, Worker};
+pub use worker::{MAX_CONNECTIONS, NoMore, Worker};

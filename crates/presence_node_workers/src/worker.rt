@@ -1,15 +1,15 @@
 //! The connections of a worker.
-ghost use Rattle.std.specs.Prelude.{◌≡◌, ◌≤◌, [], length, map, option_copied, slice_get};
+ghost use Rattle.std.specs.Prelude.{◌≡◌, ◌≤◌, [], length, map, option_copied, slice_get, IfOk};
 ghost use Rattle.crossbeam_queue.specs.Passes.{view};
 ghost use Rattle.slab.specs.Slab.{get};
 ghost use Rattle.presence_node_turns.specs.Turning.{around};
 ghost use Rattle.presence_node_workers.specs.declared.worker.TheConstants.{MAX_CONNECTIONS};
 ghost use Rattle.presence_node_workers.specs.Places.{AreKept, AreLeft, kept_prop, served};
-ghost use Rattle.presence_node_workers.specs.Working.{NoneLost, Pairwise, RisesBetween, Sends, SendsAll, Serves, ServesAll, StopsAll, TakesIn, TakesOne, ended_at, marked, readied, rises_prop};
+ghost use Rattle.presence_node_workers.specs.Working.{EndsAt, NoneLost, Pairwise, RisesBetween, Sends, SendsAll, Serves, ServesAll, StopsAll, TakesIn, TakesOne, ended_at, marked, readied, rises_prop};
 
 use crate::client::Client;
 use hook_registry::{PresenceHooks, Routes};
-use presence_node_queue::{Numbered, Taker};
+use presence_node_queue::{NoneWaits, Numbered, Taker};
 use presence_node_turns::{Connection, Port};
 use slab::Slab;
 use std::alloc::{AllocError, Global};
@@ -19,6 +19,15 @@ use tungstenite::{NoMask, WebSocket};
 
 /// How many connections a worker serves at most.
 pub const MAX_CONNECTIONS: usize = 1_024;
+
+/// Why a worker takes no more connections in.
+#[derive(Clone, Copy, PartialEq, Eq, Debug)]
+pub enum NoMore {
+    /// It serves as many as it may.
+    Full,
+    /// None waited when it looked.
+    NoneWaits(NoneWaits),
+}
 
 /// The connections of one worker, each at a key that a slab picks, and its end of the queue.
 pub struct Worker<S: Read + Write + Drop> {
@@ -216,20 +225,26 @@ impl<S: Read + Write + Drop> Worker<S> {
         self.order.retain(|key| clients.get(*key).is_some());
     }
 
-    // Takes a connection from the queue, if one waits.
-    fn take_one<R: Wait>(&mut self, rt: &R, alloc: Global, now: u64) -> Result<bool, AllocError>
+    // Takes a connection from the queue, or tells why it takes none.
+    fn take_one<R: Wait>(
+        &mut self,
+        rt: &R,
+        alloc: Global,
+        now: u64,
+    ) -> Result<Option<NoMore>, AllocError>
         ensures takes { TakesOne now (served self.old.clients self.old.order.items)
             (served self.new.clients self.new.order.items) result }
         ensures none_lost { NoneLost (view self.old.taker.pass).pops (view self.new.taker.pass).pops
             (served self.old.clients self.old.order.items) (served self.new.clients self.new.order.items) }
     {
         if self.order.len() >= MAX_CONNECTIONS {
-            return Ok(false);
+            return Ok(Some(NoMore::Full));
         }
         self.order.reserve(1)?;
         self.clients.reserve(1)?;
-        let Some(Numbered { number, stream }) = self.taker.take(rt) else {
-            return Ok(false);
+        let Numbered { number, stream } = match self.taker.take(rt) {
+            Ok(connection) => connection,
+            Err(none) => return Ok(Some(NoMore::NoneWaits(none))),
         };
         let token = self.clients.vacant_key();
         let key = self.clients.insert_reserved(Client {
@@ -240,21 +255,27 @@ impl<S: Read + Write + Drop> Worker<S> {
             connection: Connection::new(alloc, stream, number, now),
         });
         self.order.push_reserved(key);
-        Ok(true)
+        Ok(None)
     }
 
-    /// Takes connections from the queue, at this time, while some wait and there is room.
-    pub fn take_in<R: Wait>(&mut self, rt: &R, alloc: Global, now: u64) -> Result<(), AllocError>
+    /// Takes connections from the queue, at this time, until none waits or there is no room for more.
+    pub fn take_in<R: Wait>(
+        &mut self,
+        rt: &R,
+        alloc: Global,
+        now: u64,
+    ) -> Result<NoMore, AllocError>
         ensures takes { TakesIn now (served self.old.clients self.old.order.items)
             (served self.new.clients self.new.order.items) }
         ensures none_lost { NoneLost (view self.old.taker.pass).pops (view self.new.taker.pass).pops
             (served self.old.clients self.old.order.items) (served self.new.clients self.new.order.items) }
+        ensures ends { IfOk result (EndsAt (served self.new.clients self.new.order.items)) }
     {
         for _ in 0..MAX_CONNECTIONS {
-            if !self.take_one(rt, alloc, now)? {
-                break;
+            if let Some(no_more) = self.take_one(rt, alloc, now)? {
+                return Ok(no_more);
             }
         }
-        Ok(())
+        Ok(NoMore::Full)
     }
 }

@@ -16,12 +16,12 @@ fn full_queue(rt: HostRuntime) -> Result<(), Fail> {
     }
     assert_eq!(rt; giver.give(&rt, 257), Err(GiveFault::Full));
     for number in 1..257_u64 {
-        let Some(connection) = taker.take(&rt) else {
+        let Ok(connection) = taker.take(&rt) else {
             return Err(Fail::new("none was given"));
         };
         assert_eq!(rt; (connection.number, connection.stream), (number, number));
     }
-    assert!(rt; taker.take(&rt).is_none());
+    assert!(rt; taker.take(&rt).is_err());
     connections_are_taken_once::<u64>();
     assert_eq!(rt; giver.give(&rt, 300), Ok(257));
     Ok(())
@@ -36,14 +36,14 @@ fn take_rising<R: Wait>(rt: &R, mut taker: Taker<u64>, most: u32) -> Option<u32>
             return Some(taken);
         }
         match taker.take(rt) {
-            Some(connection) => {
+            Ok(connection) => {
                 if connection.number <= last || connection.stream != connection.number {
                     return None;
                 }
                 last = connection.number;
                 taken = taken.saturating_add(1);
             }
-            None => thread::yield_now(),
+            Err(_) => thread::yield_now(),
         }
     }
     None

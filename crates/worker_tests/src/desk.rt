@@ -2,7 +2,7 @@
 
 use hook_registry::{NoHooks, Routes};
 use presence_node_queue::{GiveFault, Giver};
-use presence_node_workers::Worker;
+use presence_node_workers::{NoMore, Worker};
 use serving_desk::{Wire, rooms, socket_over};
 use session_desk::Port;
 use std::alloc::Global;
@@ -44,10 +44,12 @@ impl<S: Read + Write + Drop, P: Port> Desk<'_, S, P> {
         self.giver.give(rt, socket)
     }
 
-    // Takes the connections that wait: how many are served then.
+    // Takes the connections that wait, until none does: how many are served then.
     pub fn take_in<R: Wait>(&mut self, rt: &R, alloc: Global) -> Option<usize> {
-        self.worker.take_in(rt, alloc, 0).ok()?;
-        Some(self.worker.len())
+        match self.worker.take_in(rt, alloc, 0) {
+            Ok(NoMore::NoneWaits(_)) => Some(self.worker.len()),
+            Ok(NoMore::Full) | Err(_) => None,
+        }
     }
 
     // Hands a connection over and takes it: its number.

@@ -1,10 +1,11 @@
-use Rattle.std.proofs.Common.{◌≡◌, ◌<◌, ◌+◌, ◌++◌, ◌∷◌, [], ℕ, true, false, List, refl, sym, ap, ◌∙◌, rules}
+use Rattle.std.proofs.Common.{◌≡◌, ◌<◌, ◌≤◌, ◌+◌, ◌++◌, ◌∷◌, [], ℕ, true, false, List, length, refl, sym, ap, ◌∙◌, rules}
 use Rattle.crossbeam_queue.specs.Passes.{view}
 use Rattle.presence_node_workers.specs.Places.{AreKept, served}
 use Rattle.presence_node_workers.specs.declared.client.Client.{Client}
+use Rattle.presence_node_workers.specs.declared.worker.TheConstants.{MAX_CONNECTIONS}
 use Rattle.presence_node_workers.proofs.Numbers.{rising_more}
-use Rattle.presence_node_workers.proofs.Takings.{lost_not}
-use Rattle.presence_node_workers.proofs.Places.{same_kept, same_served, pushed_kept, pushed_served}
+use Rattle.presence_node_workers.proofs.Takings.{lost_not, just}
+use Rattle.presence_node_workers.proofs.Places.{kept_length, same_kept, same_served, pushed_kept, pushed_served}
 use Rattle.presence_node_workers.proofs.worker.Worker.take_one.Goals as goal
 
 pub invariant_of-self-in-Break-branch-2 : goal.invariant_of-self-in-Break-branch-2
@@ -18,8 +19,8 @@ invariant_of-self-in-Break-branch-2 g c =
       rising = rw (c.reserve.ensures.items, same) c.args.self.now.rising;
     }
 
-pub invariant_of-self-in_default : goal.invariant_of-self-in_default
-invariant_of-self-in_default g c =
+pub invariant_of-self-in-Err-1 : goal.invariant_of-self-in-Err-1
+invariant_of-self-in-Err-1 g c =
     let keys : List ℕ = c.args.self.now.order.items in
     let slots = ap (λ s. s.slots) c.reserve-2.ensures.rest_kept in
     let same : served c.reserve-2.new.self keys ≡ served c.args.self.now.clients keys = same_served c.args.self.now.clients c.reserve-2.new.self keys slots in
@@ -34,7 +35,7 @@ pub invariant_of-self-2 : goal.invariant_of-self-2
 invariant_of-self-2 g c =
     let keys : List ℕ = c.args.self.now.order.items in
     let slots = ap (λ s. s.slots) c.reserve-2.ensures.rest_kept in
-    let x : Client g.row.S.Denot = record { number = c.in-Some.field-0.number; token = c.vacant_key-token.result; ready = true; unsent = false; connection = c.new.result } in
+    let x : Client g.row.S.Denot = record { number = c.in-Ok.connection.number; token = c.vacant_key-token.result; ready = true; unsent = false; connection = c.new.result } in
     let room : AreKept c.reserve-2.new.self keys = same_kept c.args.self.now.clients c.reserve-2.new.self keys slots c.args.self.now.kept in
     let same : served c.reserve-2.new.self keys ≡ served c.args.self.now.clients keys = same_served c.args.self.now.clients c.reserve-2.new.self keys slots in
     let more : c.push_reserved.new.self.items ≡ keys ++ c.insert_reserved-key.result ∷ [] =
@@ -43,8 +44,8 @@ invariant_of-self-2 g c =
     pushed_served c.reserve-2.new.self c.insert_reserved-key.new.self c.insert_reserved-key.result x keys
     c.insert_reserved-key.ensures.updates c.insert_reserved-key.ensures.was_vacant room ∙ ap (λ (l : List (Client g.row.S.Denot)). l ++ x ∷ []) same in
     let top : ℕ = (view c.args.self.now.taker.pass).taken in
-    let above : top < c.in-Some.field-0.number = search rules in
-    let is : (view c.take.new.self.pass).taken ≡ c.in-Some.field-0.number = search rules in
+    let above : top < c.in-Ok.connection.number = search rules in
+    let is : (view c.take.new.self.pass).taken ≡ c.in-Ok.connection.number = search rules in
     record {
       kept = rw more (pushed_kept c.reserve-2.new.self c.insert_reserved-key.new.self c.insert_reserved-key.result x keys
           c.insert_reserved-key.ensures.updates c.insert_reserved-key.ensures.was_vacant
@@ -53,11 +54,18 @@ invariant_of-self-2 g c =
       rising = rw (more, all, is) (rising_more 0 top (served c.args.self.now.clients keys) x above c.args.self.now.rising);
     }
 
+pub returns-then-len-ge-MAX_CONNECTIONS-clause-takes : goal.returns-then-len-ge-MAX_CONNECTIONS-clause-takes
+returns-then-len-ge-MAX_CONNECTIONS-clause-takes g c =
+    let keys : List ℕ = c.args.self.now.order.items in
+    let many : length (served c.args.self.now.clients keys) ≡ length keys = kept_length c.args.self.now.clients keys c.args.self.now.kept in
+    let enough : MAX_CONNECTIONS ≤ length keys = search rules in
+    (refl, many ∙ just (length keys) enough c.args.self.now.few)
+
 pub returns-clause-takes : goal.returns-clause-takes
 returns-clause-takes g c =
     let keys : List ℕ = c.args.self.now.order.items in
     let slots = ap (λ s. s.slots) c.reserve-2.ensures.rest_kept in
-    let x : Client g.row.S.Denot = record { number = c.in-Some.field-0.number; token = c.vacant_key-token.result; ready = true; unsent = false; connection = c.new.result } in
+    let x : Client g.row.S.Denot = record { number = c.in-Ok.connection.number; token = c.vacant_key-token.result; ready = true; unsent = false; connection = c.new.result } in
     let room : AreKept c.reserve-2.new.self keys = same_kept c.args.self.now.clients c.reserve-2.new.self keys slots c.args.self.now.kept in
     let same : served c.reserve-2.new.self keys ≡ served c.args.self.now.clients keys = same_served c.args.self.now.clients c.reserve-2.new.self keys slots in
     let more : c.push_reserved.new.self.items ≡ keys ++ c.insert_reserved-key.result ∷ [] =
@@ -66,7 +74,7 @@ returns-clause-takes g c =
     pushed_served c.reserve-2.new.self c.insert_reserved-key.new.self c.insert_reserved-key.result x keys
     c.insert_reserved-key.ensures.updates c.insert_reserved-key.ensures.was_vacant room ∙ ap (λ (l : List (Client g.row.S.Denot)). l ++ x ∷ []) same in (
       x,
-      record { number = c.in-Some.field-0.number; token = c.vacant_key-token.result; socket = c.in-Some.field-0.stream; new = rw c.new.ensures refl },
+      record { number = c.in-Ok.connection.number; token = c.vacant_key-token.result; socket = c.in-Ok.connection.stream; new = rw c.new.ensures refl },
       rw more all,
     )
 
@@ -74,7 +82,7 @@ pub returns-clause-none_lost : goal.returns-clause-none_lost
 returns-clause-none_lost g c =
     let keys : List ℕ = c.args.self.now.order.items in
     let slots = ap (λ s. s.slots) c.reserve-2.ensures.rest_kept in
-    let x : Client g.row.S.Denot = record { number = c.in-Some.field-0.number; token = c.vacant_key-token.result; ready = true; unsent = false; connection = c.new.result } in
+    let x : Client g.row.S.Denot = record { number = c.in-Ok.connection.number; token = c.vacant_key-token.result; ready = true; unsent = false; connection = c.new.result } in
     let room : AreKept c.reserve-2.new.self keys = same_kept c.args.self.now.clients c.reserve-2.new.self keys slots c.args.self.now.kept in
     let same : served c.reserve-2.new.self keys ≡ served c.args.self.now.clients keys = same_served c.args.self.now.clients c.reserve-2.new.self keys slots in
     let more : c.push_reserved.new.self.items ≡ keys ++ c.insert_reserved-key.result ∷ [] =
