@@ -2,4 +2,3 @@ pub mod Ended
 pub mod Carried
 pub mod Plainly
 pub mod Within
-pub mod Plain

@@ -6,7 +6,7 @@ ghost use Rattle.channel_session_rules.specs.InForce.{joined_of};
 ghost use Rattle.channel_session_rules.specs.Said.{told, text_of, Worded, Writes, Noted};
 ghost use Rattle.channel_session_events.specs.Carrying.{AddsTo};
 
-use crate::framing::push_frame;
+use channel_session_frames::push_frame;
 use channel_session_rules::Place;
 use hook_registry::{Notice, PresenceHooks, notices, render_diff, render_state};
 use phx_message::laws::pushes_are_written;

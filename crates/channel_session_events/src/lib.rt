@@ -7,9 +7,7 @@
 mod dispatch;
 mod events;
 mod frames;
-mod framing;
 mod joins;
-mod quoting;
 
 pub use dispatch::{heartbeat, topic_event, unmatched};
 pub use frames::{Delivery, add_items};

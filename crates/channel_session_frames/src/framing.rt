@@ -12,7 +12,7 @@ const BESIDE: usize = 32;
 
 /// The text of a push whose payload is written already. It asks for memory once, but where the reference is long or a
 /// name has to be escaped.
-pub(crate) fn push_frame(
+pub fn push_frame(
     alloc: Global,
     join_ref: &Option<MsgRef>,
     topic: &Topic,
