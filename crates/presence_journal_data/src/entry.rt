@@ -1,9 +1,8 @@
-use crate::kept::{Chains, Runs, Subscribers};
-use crate::standings::Standings;
 use crate::step::Step;
 use delta_range::Generations;
 use orswot_core_told::Told;
 use presence_base::{Dot, Replica};
+use presence_journal_kept::{Chains, Runs, Standings, Subscribers};
 use std::alloc::{AllocError, Global};
 use std::marker::Model;
 use std::sync::Arc;

@@ -4,19 +4,16 @@
 #![tactic(auto)]
 
 mod entry;
-mod kept;
 mod limits;
 mod rows;
 mod shared;
 mod shared_rows;
-mod standings;
 mod step;
 
 pub use entry::{Dots, Entry, Outcome, Start};
-pub use kept::{Chains, Runs, Subscribers};
 pub use limits::{MAX_PAYLOAD_DEPTH, MAX_TAKEN, Payload, TakeLimit};
+pub use presence_journal_kept::{Chains, Runs, Standings, Subscribers};
 pub use rows::{Item, Place, RowDiff, Rows};
 pub use shared::{SharedDiff, SharedShout};
 pub use shared_rows::SharedRows;
-pub use standings::Standings;
 pub use step::Step;

@@ -26,9 +26,9 @@ use Rattle.presence_journal_data.specs.contracts.entry.Dots as Dots
 use Rattle.presence_journal_data.specs.contracts.entry.Outcome as Outcome
 use Rattle.presence_journal_data.specs.contracts.entry.Entry as Entry
 use Rattle.presence_journal_data.specs.contracts.entry.Start as Start
-use Rattle.presence_journal_data.specs.contracts.kept.Chains as Chains
-use Rattle.presence_journal_data.specs.contracts.kept.Subscribers as Subscribers
-use Rattle.presence_journal_data.specs.contracts.standings.Standings as Standings
+use Rattle.presence_journal_kept.specs.contracts.kept.Chains as Chains
+use Rattle.presence_journal_kept.specs.contracts.kept.Subscribers as Subscribers
+use Rattle.presence_journal_kept.specs.contracts.standings.Standings as Standings
 use Rattle.presence_journal.specs.contracts.journal.Journal as Journal
 use Rattle.tracker_shard_shown.proofs.Crossing.{shown_send}
 use Rattle.tracker_shard_feeds.proofs.Crossing.{feeds_send}

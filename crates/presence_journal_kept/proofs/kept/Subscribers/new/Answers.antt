@@ -1,5 +1,5 @@
 use Rattle.std.proofs.Common.{refl}
-use Rattle.presence_journal_data.proofs.kept.Subscribers.new.Goals as goal
+use Rattle.presence_journal_kept.proofs.kept.Subscribers.new.Goals as goal
 
 pub returns : goal.returns
 returns c = refl

@@ -1,0 +1,9 @@
+//! The lists in what a shard's journal begins with: runs and chains of counts, subscribers with their topics, and the
+//! standings of other replicas. Contracts see each as a list.
+#![tactic(auto)]
+
+mod kept;
+mod standings;
+
+pub use kept::{Chains, Runs, Subscribers};
+pub use standings::Standings;
