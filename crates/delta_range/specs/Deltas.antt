@@ -7,7 +7,7 @@ use Rattle.presence_base.specs.declared.dots.Dot.{Dot}
 use Rattle.presence_base.specs.declared.row.Row.{Row}
 use Rattle.presence_base.specs.Order.{same_replica, same_dot}
 use Rattle.presence_base.specs.Codes.{replica_code, dot_code, row_code}
-use Rattle.dot_context.specs.Runs.{AreRuns}
+use Rattle.dot_context_runs.specs.Runs.{AreRuns}
 use Rattle.dot_context.specs.Sets.{run_dots}
 use Rattle.orswot_core.specs.Limits.{is_dot, is_row, is_range}
 use Rattle.orswot_core.specs.Telling.{Range, ToldValue, range_has}

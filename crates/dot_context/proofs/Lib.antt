@@ -1,6 +1,3 @@
-pub mod RunFacts
-pub mod StepFacts
-pub mod LoopFacts
 pub mod SetFacts
 pub mod OuterFacts
 pub mod FormFacts

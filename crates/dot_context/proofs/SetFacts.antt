@@ -11,7 +11,7 @@ use Rattle.std.specs.Map.{lookup}
 use Rattle.presence_base.specs.declared.dots.Replica.{Replica}
 use Rattle.presence_base.specs.declared.dots.Dot.{Dot}
 use Rattle.presence_base.specs.Order.{replica_cmp, dot_cmp, same_replica}
-use Rattle.dot_context.specs.Runs.{holds, in_run, AreApart, top_count}
+use Rattle.dot_context_runs.specs.Runs.{holds, in_run, AreApart, top_count}
 use Rattle.std.specs.BTreeMap.{get}
 use Rattle.std.specs.Cmp.{eq_by_cmp_equiv}
 use Rattle.dot_context.specs.Sets.{DotSet, RunsOf, span, range, in_range, run_dots, set_of, without, listed, runs_at}

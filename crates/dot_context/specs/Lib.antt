@@ -1,4 +1,3 @@
-pub mod Runs
 pub mod Sets
 pub mod Changes
 pub mod Forms

@@ -7,7 +7,7 @@ use Rattle.presence_base.specs.declared.dots.Dot.{Dot}
 use Rattle.presence_base.specs.Codes.{dot_code}
 use Rattle.std.specs.Coded.{Coded, code_by, coded×}
 use Rattle.presence_base.specs.Order.{dot_cmp, replica_cmp, same_replica}
-use Rattle.dot_context.specs.Runs.{AreRuns, AreApart, has_room, is_hollow, begins}
+use Rattle.dot_context_runs.specs.Runs.{AreRuns, AreApart, has_room, is_hollow, begins}
 
 abbrev pub DotSet : Type 0
 DotSet = set.FinSet dot_cmp

@@ -2,12 +2,12 @@
 ghost use Rattle.std.specs.Prelude.{◌≡◌, ◌≤◌, ◌<◌, ◌&&◌, ◌+◌, ℕ, true, false, Some, None, OnOk, OnErr};
 ghost use Rattle.std.specs.BTreeMap.{IsUnchanged};
 ghost use Rattle.presence_base.specs.Order.{same_replica};
-ghost use Rattle.dot_context.specs.Runs.{holds, AreLong};
+ghost use Rattle.dot_context_runs.specs.Runs.{holds, AreLong};
 ghost use Rattle.dot_context.specs.Sets.{in_range, runs_at, IsCompact, HasRoomFor};
 ghost use Rattle.dot_context.specs.Changes.{ChangesAt, has_dot, SameDots, AddsDots, AllApart, AllHaveRuns, OthersHaveRuns, NoneHasRuns};
 ghost use Rattle.dot_context.specs.Changes.{held_by, begun_by, held_in, begun_in, HasRoomAt, OpensAll, FillsAll, SweepsAll};
 
-use crate::runs::Runs;
+use dot_context_runs::Runs;
 use presence_base::{Dot, Replica};
 use std::alloc::{AllocError, Global};
 use std::collections::BTreeMap;

@@ -17,12 +17,12 @@ use Rattle.presence_base.specs.declared.dots.TheConstants.{MAX_COUNT}
 use Rattle.presence_base.specs.declared.dots.Dot.{Dot}
 use Rattle.presence_base.specs.declared.row.Row.{Row}
 use Rattle.presence_base.specs.Order.{replica_cmp, dot_cmp, same_replica, same_dot}
-use Rattle.dot_context.specs.Runs.{holds, AreRuns, top_count, above_top}
+use Rattle.dot_context_runs.specs.Runs.{holds, AreRuns, top_count, above_top}
 use Rattle.dot_context.specs.Sets.{DotSet}
 use Rattle.dot_context.specs.Forms.{Form, IsForm, IfFormed, tops_of, cloud_of}
 use Rattle.dot_context.proofs.FormFacts.{held_within, only_form}
 use Rattle.dot_context.proofs.SetFacts.{top_held, next_not_held}
-use Rattle.dot_context.proofs.LoopFacts.{loose}
+use Rattle.dot_context_runs.proofs.LoopFacts.{loose}
 use Rattle.orswot_core_told.specs.Limits.{is_count, is_dot, is_row, is_range}
 use Rattle.orswot_core_told.specs.Telling.{Range, ToldValue, range_has, covers, live_row}
 use Rattle.orswot_core_told.specs.Checks.{IsTold, has_repeat, replicas_of, dots_of, is_forward}

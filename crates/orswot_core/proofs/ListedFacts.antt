@@ -11,7 +11,7 @@ use Rattle.std.specs.Map.{lookup, keys_of}
 use Rattle.presence_base.specs.declared.dots.Replica.{Replica}
 use Rattle.presence_base.specs.declared.dots.Dot.{Dot}
 use Rattle.presence_base.specs.Order.{replica_cmp, same_replica, same_dot}
-use Rattle.dot_context.specs.Runs.{holds, AreRuns, top_count, above_top}
+use Rattle.dot_context_runs.specs.Runs.{holds, AreRuns, top_count, above_top}
 use Rattle.dot_context.specs.Sets.{DotSet, span, run_dots, set_of, listed}
 use Rattle.dot_context.specs.Forms.{Form, cloud_of}
 use Rattle.dot_context.proofs.SetFacts.{contains-set_of, any_append, and_false, in_run_dots}

@@ -1,6 +1,6 @@
 ghost use Rattle.std.specs.Prelude.{◌≡◌, [], ◌∷◌, IfOk};
 ghost use Rattle.presence_journal_walks.specs.Pending.{waiting_of};
-ghost use Rattle.presence_journal.specs.Present.{dots_of, listed};
+ghost use Rattle.presence_journal.specs.Present.{listed};
 ghost use Rattle.presence_journal.specs.Queue.{given};
 ghost use Rattle.presence_journal.specs.Table.{take_outcome};
 ghost use Rattle.tracker_shard.specs.Steps.{first_dot};
@@ -10,17 +10,6 @@ use presence_base::{Dot, Row, Topic};
 use presence_journal::{Item, Journal, Outcome, SharedRows};
 use presence_journal_walks::{Pending, walk_list};
 use std::alloc::{AllocError, Global};
-
-// The dots of these rows.
-pub(crate) fn dots_of_rows(alloc: Global, rows: &[(Dot, Row)]) -> Result<Vec<Dot>, AllocError>
-    ensures { IfOk result (λ v. v.items ≡ dots_of rows.now) }
-{
-    let mut dots = Vec::new(alloc);
-    for row in rows {
-        dots.push(row.0)?;
-    }
-    Ok(dots)
-}
 
 // The dot of the first row, where there is one.
 pub(crate) fn first_dot_of(rows: &[(Dot, Row)]) -> Option<Dot>

@@ -1,10 +1,8 @@
-use crate::answers::{
-    cut_outcome, dots_of_rows, first_dot_of, given_items, replaced, taken_outcome,
-};
+use crate::answers::{cut_outcome, first_dot_of, given_items, replaced, taken_outcome};
 use delta_range::Delta;
 use orswot_core::Told;
 use presence_base::{Dot, Json, Key, MAX_COUNT, Meta, Replica, Row, Topic};
-use presence_journal::{Dots, Item, Journal, Outcome, SharedRows, Step};
+use presence_journal::{Dots, Item, Journal, Outcome, SharedRows, Step, dots_of_rows};
 use presence_journal_cuts::walk_cut;
 use presence_journal_walks::{
     walk_count, walk_get, walk_list, walk_own_row, walk_own_rows, walk_pending, walk_set,

@@ -6,7 +6,7 @@ use Rattle.presence_base.specs.declared.row.Row.{Row}
 use Rattle.presence_base.specs.Names.{is_node_name, is_short_text}
 use Rattle.presence_base.specs.Order.{same_text, same_replica}
 use Rattle.presence_base.specs.Refs.{IsCount}
-use Rattle.dot_context.specs.Runs.{AreLong}
+use Rattle.dot_context_runs.specs.Runs.{AreLong}
 use Rattle.orswot_core_told.specs.Checks.{has_repeat}
 use Rattle.orswot_core_told.specs.Telling.{covers}
 use Rattle.delta_range.specs.Deltas.{DeltaValue, GoesOn}

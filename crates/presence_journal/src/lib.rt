@@ -20,6 +20,6 @@ pub use journal::{Journal, MAX_ENTRIES};
 pub use presence_journal_data::{
     Chains, Dots, Entry, Item, MAX_PAYLOAD_DEPTH, MAX_TAKEN, Outcome, Payload, Place, RowDiff,
     Rows, Runs, SharedDiff, SharedRows, SharedShout, Standings, Start, Step, Subscribers,
-    TakeLimit,
+    TakeLimit, dots_of_rows,
 };
 pub use waiting::MAX_WAITING;

@@ -14,7 +14,7 @@ use Rattle.presence_base.specs.declared.dots.Dot.{Dot}
 use Rattle.presence_base.specs.declared.row.Row.{Row}
 use Rattle.presence_base.specs.Order.{dot_cmp, same_dot, same_replica}
 use Rattle.dot_context.specs.Sets.{in_range}
-use Rattle.dot_context.specs.Runs.{holds}
+use Rattle.dot_context_runs.specs.Runs.{holds}
 use Rattle.orswot_core_told.specs.Limits.{is_count, is_dot, is_prev, is_row}
 use Rattle.orswot_core_told.specs.Checks.{has_repeat}
 use Rattle.delta_range.specs.Deltas.{IsDelta}

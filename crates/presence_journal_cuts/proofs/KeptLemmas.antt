@@ -8,7 +8,7 @@ use Rattle.presence_base.specs.declared.dots.Replica.{Replica}
 use Rattle.presence_base.specs.declared.dots.Dot.{Dot}
 use Rattle.presence_base.specs.declared.row.Row.{Row}
 use Rattle.presence_base.specs.Order.{dot_cmp, same_dot}
-use Rattle.dot_context.specs.Runs.{holds}
+use Rattle.dot_context_runs.specs.Runs.{holds}
 use Rattle.dot_context.proofs.FormFacts.{same_runs}
 use Rattle.orswot_core_told.proofs.OrderFacts.{dot_total, dot_antisymmetric}
 use Rattle.orswot_core.proofs.RowFacts.{find_is}

@@ -8,7 +8,7 @@ use Rattle.std.proofs.lemmas.Bool.Decides.{nat_tests}
 use Rattle.presence_base.specs.declared.dots.Dot.{Dot}
 use Rattle.presence_base.specs.declared.row.Row.{Row}
 use Rattle.presence_base.specs.Order.{same_replica, same_dot}
-use Rattle.dot_context.specs.Runs.{holds}
+use Rattle.dot_context_runs.specs.Runs.{holds}
 use Rattle.dot_context.specs.Sets.{run_dots}
 use Rattle.dot_context.proofs.SetFacts.{and_false, in_run_dots}
 use Rattle.orswot_core_told.specs.Telling.{covers, is_among, lies_in, live_row, tells_removed}

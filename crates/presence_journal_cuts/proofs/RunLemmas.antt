@@ -2,7 +2,7 @@
 use Rattle.std.proofs.Common.{◌≡◌, ℕ, ◌-◌, ◌<◌, ◌≤◌, Bool, true, false, ◌&&◌, ◌||◌, nat_eq, nat_le, nat_lt, List, [], ◌∷◌, ◌++◌, zero, suc, length, get_or, set, take, drop, refl, sym, ◌∙◌, ap, subst, arith}
 use Rattle.std.proofs.lemmas.Bool.Decides.{nat_tests}
 use Rattle.std.specs.List.{list_all}
-use Rattle.dot_context.specs.Runs.{in_run, holds, AreLong}
+use Rattle.dot_context_runs.specs.Runs.{in_run, holds, AreLong}
 use Rattle.delta_range.specs.Longest.{up_to}
 use Rattle.delta_range.proofs.RunFacts.{long_append, long_up_to, holds_up_to, ends_up_to}
 use Rattle.presence_journal_cuts.specs.Chains.{AreUpTo}

@@ -4,7 +4,7 @@ use Rattle.std.specs.List.{list_any}
 use Rattle.std.specs.Map.{lookup}
 use Rattle.presence_base.specs.declared.dots.Dot.{Dot}
 use Rattle.presence_base.specs.declared.row.Row.{Row}
-use Rattle.dot_context.specs.Runs.{holds}
+use Rattle.dot_context_runs.specs.Runs.{holds}
 use Rattle.dot_context.specs.Sets.{in_range, listed}
 use Rattle.orswot_core_told.specs.Telling.{live_row}
 use Rattle.delta_range.specs.Deltas.{DeltaValue, telling}

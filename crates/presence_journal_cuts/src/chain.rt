@@ -2,7 +2,7 @@
 ghost use Rattle.std.specs.Prelude.{◌≡◌, ◌<◌, ◌≤◌, ◌||◌, ℕ, nat_eq, false, IsTrue, OnOk, option_copied};
 ghost use Rattle.std.specs.BTreeMap.{get};
 ghost use Rattle.std.specs.Ordering.{nat_cmp};
-ghost use Rattle.dot_context.specs.Runs.{holds, AreLong};
+ghost use Rattle.dot_context_runs.specs.Runs.{holds, AreLong};
 ghost use Rattle.dot_context.specs.Sets.{listed};
 ghost use Rattle.presence_journal_cuts.specs.Chains.{AreChains, Chained, Counts, GrowsBy, PutsChain, has, put_at};
 ghost use Rattle.presence_journal_cuts.specs.Cuts.{chain_after, left_at};
@@ -48,7 +48,7 @@ impl Clone for Chain {
 
 impl Chain {
     ghost use Rattle.std.specs.Prelude.{◌≡◌, ◌≤◌, ◌||◌, ℕ, nat_eq, [], IfOk, OnOk};
-    ghost use Rattle.dot_context.specs.Runs.{holds, AreLong};
+    ghost use Rattle.dot_context_runs.specs.Runs.{holds, AreLong};
     ghost use Rattle.presence_journal_cuts.specs.Chains.{Counts};
 
     /// No counts.

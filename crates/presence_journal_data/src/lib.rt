@@ -1,6 +1,6 @@
 //! What a shard's journal is made of: steps, what they came to, entries, and rows as lists.
 //!
-//! Its contracts cite `specs/Limits` and `specs/StepLimits`: what a step may hold.
+//! Its contracts cite `specs/Limits` and `specs/StepLimits`: what a step may hold; and `specs/HeldRows`: the dots of rows.
 #![tactic(auto)]
 
 mod entry;
@@ -15,5 +15,5 @@ pub use limits::{MAX_PAYLOAD_DEPTH, MAX_TAKEN, Payload, TakeLimit};
 pub use presence_journal_kept::{Chains, Runs, Standings, Subscribers};
 pub use rows::{Item, Place, RowDiff, Rows};
 pub use shared::{SharedDiff, SharedShout};
-pub use shared_rows::SharedRows;
+pub use shared_rows::{SharedRows, dots_of_rows};
 pub use step::Step;

@@ -3,7 +3,9 @@ ghost use Rattle.std.specs.Prelude.{◌≡◌, IfOk, IfSome, string_bytes};
 ghost use Rattle.std.specs.Arc.{arc_value};
 ghost use Rattle.serde_json.specs.Written.{compact_text};
 ghost use Rattle.presence_metas.specs.Values.{state_of};
+ghost use Rattle.presence_journal_data.specs.HeldRows.{dots_in};
 
+use crate::entry::Dots;
 use presence_base::{Dot, Row};
 use presence_metas::state_value;
 use presence_metas_texts::{are_in_key_order, state_text};
@@ -12,22 +14,34 @@ use std::fmt::{self, Debug, Formatter, Write};
 use std::marker::Model;
 use std::sync::Arc;
 
+// Fewer dots than this are kept by each list for itself.
+const MIN_SHARED: usize = 2;
+
+// Rows with their dots.
+#[derive(Drop)]
+struct ListedRows {
+    rows: Vec<(Dot, Row)>,
+    dots: Dots,
+    ghost exact: { dots ≡ dots_in rows.items },
+}
+
 // Rows with the text of the payload that tells them.
 #[derive(Drop)]
 struct WrittenRows {
-    rows: Arc<Vec<(Dot, Row)>, Global>,
+    listed: Arc<ListedRows, Global>,
     text: String,
-    ghost exact: { string_bytes text ≡ compact_text (state_of (arc_value rows).items) },
+    ghost exact: { string_bytes text ≡ compact_text (state_of (arc_value listed).rows.items) },
 }
 
 // Where the rows lie.
 #[derive(Drop)]
 enum HeldRows {
-    Bare(Arc<Vec<(Dot, Row)>, Global>),
+    Bare(Arc<ListedRows, Global>),
     Written(Arc<WrittenRows, Global>),
 }
 
-/// The rows of a topic, with the text that tells them where it was written. Those who share them share both.
+/// The rows of a topic with their dots, and with the text that tells them where it was written. Those who share them
+/// share all of it.
 pub struct SharedRows {
     held: HeldRows,
 }
@@ -60,6 +74,30 @@ impl Debug for SharedRows {
     }
 }
 
+/// The dots of these rows.
+pub fn dots_of_rows(alloc: Global, rows: &[(Dot, Row)]) -> Result<Vec<Dot>, AllocError>
+    ensures { IfOk result (λ v. v.items ≡ dots_in rows.now) }
+{
+    let mut dots = Vec::new(alloc);
+    for row in rows {
+        dots.push(row.0)?;
+    }
+    Ok(dots)
+}
+
+// The rows with their dots.
+fn listed_rows(alloc: Global, rows: Vec<(Dot, Row)>) -> Result<ListedRows, AllocError>
+    ensures { IfOk result (λ l. l.rows.items ≡ rows.items) }
+{
+    let dots = dots_of_rows(alloc, &rows)?;
+    let dots = if dots.len() < MIN_SHARED {
+        Dots::new(dots)
+    } else {
+        Dots::shared(alloc, dots)?
+    };
+    Ok(ListedRows { rows, dots })
+}
+
 // The text of the payload that tells a topic's rows.
 fn write_state(alloc: Global, rows: &[(Dot, Row)]) -> Result<String, AllocError>
     ensures { IfOk result (λ s. string_bytes s ≡ compact_text (state_of rows.now)) }
@@ -74,13 +112,13 @@ fn write_state(alloc: Global, rows: &[(Dot, Row)]) -> Result<String, AllocError>
 // Writes the text of rows that lie where they are shared.
 fn write_rows(
     alloc: Global,
-    rows: &Arc<Vec<(Dot, Row)>, Global>,
+    listed: &Arc<ListedRows, Global>,
 ) -> Result<Arc<WrittenRows, Global>, AllocError>
-    ensures { IfOk result (λ w. (arc_value (arc_value w).rows).items ≡ (arc_value rows.now).items) }
+    ensures { IfOk result (λ w. (arc_value (arc_value w).listed).rows.items ≡ (arc_value listed.now).rows.items) }
 {
-    let text = write_state(alloc, rows.as_slice())?;
-    let rows = Arc::try_clone(rows)?;
-    let written = Arc::new(alloc, WrittenRows { rows, text })?;
+    let text = write_state(alloc, listed.rows.as_slice())?;
+    let listed = Arc::try_clone(listed)?;
+    let written = Arc::new(alloc, WrittenRows { listed, text })?;
     Ok(written)
 }
 
@@ -88,12 +126,14 @@ impl SharedRows {
     ghost use Rattle.std.specs.Prelude.{◌≡◌, IfOk, IfSome, string_bytes};
     ghost use Rattle.serde_json.specs.Written.{compact_text};
     ghost use Rattle.presence_metas.specs.Values.{state_of};
+    ghost use Rattle.presence_journal_data.specs.HeldRows.{dots_in};
 
-    /// The rows, without their text. It copies none of them.
+    /// The rows, without their text. It copies none of them but their dots.
     pub fn new(alloc: Global, rows: Vec<(Dot, Row)>) -> Result<SharedRows, AllocError>
         ensures { IfOk result (λ s. s ≡ rows.items) }
     {
-        let held = HeldRows::Bare(Arc::new(alloc, rows)?);
+        let listed = listed_rows(alloc, rows)?;
+        let held = HeldRows::Bare(Arc::new(alloc, listed)?);
         Ok(SharedRows { held })
     }
 
@@ -102,7 +142,7 @@ impl SharedRows {
         ensures { IfOk result (λ s. s ≡ self.now) }
     {
         let held = match &self.held {
-            HeldRows::Bare(rows) => HeldRows::Bare(Arc::try_clone(rows)?),
+            HeldRows::Bare(listed) => HeldRows::Bare(Arc::try_clone(listed)?),
             HeldRows::Written(written) => HeldRows::Written(Arc::try_clone(written)?),
         };
         Ok(SharedRows { held })
@@ -114,7 +154,7 @@ impl SharedRows {
         ensures { IfOk result (λ s. s ≡ self.now) }
     {
         let held = match &self.held {
-            HeldRows::Bare(rows) => HeldRows::Written(write_rows(alloc, rows)?),
+            HeldRows::Bare(listed) => HeldRows::Written(write_rows(alloc, listed)?),
             HeldRows::Written(written) => HeldRows::Written(Arc::try_clone(written)?),
         };
         Ok(SharedRows { held })
@@ -124,8 +164,18 @@ impl SharedRows {
         ensures { result.now ≡ self.now }
     {
         match &self.held {
-            HeldRows::Bare(rows) => rows.as_slice(),
-            HeldRows::Written(written) => written.rows.as_slice(),
+            HeldRows::Bare(listed) => listed.rows.as_slice(),
+            HeldRows::Written(written) => written.listed.rows.as_slice(),
+        }
+    }
+
+    /// The dots of the rows, which all who share the rows share. It copies one dot at most.
+    pub fn dots(&self) -> Result<Dots, AllocError>
+        ensures { IfOk result (λ d. d ≡ dots_in self.now) }
+    {
+        match &self.held {
+            HeldRows::Bare(listed) => listed.dots.clone(),
+            HeldRows::Written(written) => written.listed.dots.clone(),
         }
     }
 

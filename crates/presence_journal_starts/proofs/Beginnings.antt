@@ -4,7 +4,7 @@ use Rattle.std.specs.Prelude.{is_none}
 use Rattle.presence_base.specs.declared.dots.Dot.{Dot}
 use Rattle.presence_base.specs.declared.dots.Replica.{Replica}
 use Rattle.presence_base.specs.declared.row.Row.{Row}
-use Rattle.dot_context.specs.Runs.{holds}
+use Rattle.dot_context_runs.specs.Runs.{holds}
 use Rattle.orswot_core_told.specs.Telling.{covers, live_row, tells_removed}
 use Rattle.replica_status.specs.Boards.{standing_in}
 use Rattle.presence_journal.specs.Steps.{Start}

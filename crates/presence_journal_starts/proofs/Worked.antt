@@ -8,7 +8,7 @@ use Rattle.presence_base.specs.declared.dots.Replica.{Replica}
 use Rattle.presence_base.specs.declared.dots.Dot.{Dot}
 use Rattle.presence_base.specs.declared.row.Row.{Row}
 use Rattle.presence_base.specs.Order.{same_replica, same_dot}
-use Rattle.dot_context.specs.Runs.{holds}
+use Rattle.dot_context_runs.specs.Runs.{holds}
 use Rattle.dot_context.specs.Sets.{listed}
 use Rattle.orswot_core_told.specs.Telling.{covers, live_row}
 use Rattle.replica_status.specs.declared.standing.Standing.TheVariants.{Unheard, Gone}

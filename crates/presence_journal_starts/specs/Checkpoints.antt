@@ -5,7 +5,7 @@ use Rattle.presence_base.specs.declared.dots.Replica.{Replica}
 use Rattle.presence_base.specs.declared.dots.Dot.{Dot}
 use Rattle.presence_base.specs.declared.row.Row.{Row}
 use Rattle.presence_base.specs.Order.{same_replica}
-use Rattle.dot_context.specs.Runs.{holds, AreLong}
+use Rattle.dot_context_runs.specs.Runs.{holds, AreLong}
 use Rattle.orswot_core_told.specs.Checks.{has_repeat}
 use Rattle.orswot_core_told.specs.Telling.{covers, live_row}
 use Rattle.replica_status.specs.Boards.{standing_in}

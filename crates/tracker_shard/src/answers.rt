@@ -9,20 +9,9 @@ ghost use Rattle.tracker_shard.specs.Steps.{Made, Stepped, Answers, IsDue, refus
 use crate::fault::ShardFault;
 use delta_range::Delta;
 use presence_base::{Dot, Key, Row, Topic};
-use presence_journal::{Dots, Outcome, Step};
+use presence_journal::{Dots, Outcome, Step, dots_of_rows};
 use std::alloc::{AllocError, Global};
 use tracker_shard_indexed::Indexed;
-
-// The dots of these rows.
-pub(crate) fn dots_of_rows(alloc: Global, rows: &[(Dot, Row)]) -> Result<Vec<Dot>, AllocError>
-    ensures { IfOk result (λ v. v.items ≡ dots_of rows.now) }
-{
-    let mut dots = Vec::new(alloc);
-    for row in rows {
-        dots.push(row.0)?;
-    }
-    Ok(dots)
-}
 
 // The dot of the first row, where there is one.
 fn first_dot_of(rows: &[(Dot, Row)]) -> Option<Dot>

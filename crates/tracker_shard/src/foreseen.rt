@@ -3,10 +3,9 @@ ghost use Rattle.std.specs.Prelude.{◌≡◌, true, Some, IfOk};
 ghost use Rattle.presence_journal.specs.Present.{dots_of};
 ghost use Rattle.presence_journal.specs.Table.{outcome_of};
 
-use crate::answers::{cut_outcome, dots_of_rows, own_dot, removal, replaced};
-use crate::lists::Lists;
+use crate::answers::{cut_outcome, own_dot, removal, replaced};
 use presence_base::{Dot, Key, Meta, Row, Topic};
-use presence_journal::{Dots, Outcome, Step};
+use presence_journal::{Dots, Outcome, Step, dots_of_rows};
 use std::alloc::{AllocError, Global};
 use tracker_shard_indexed::Indexed;
 
@@ -61,29 +60,27 @@ fn shown(alloc: Global, rows: &[(Dot, Row)]) -> Result<Option<Outcome>, AllocErr
     Ok(Some(Outcome::Shown(Dots::new(dots_of_rows(alloc, rows)?))))
 }
 
-// What showing the rows of a topic comes to.
-fn listed(
-    lists: &mut Lists,
-    alloc: Global,
-    topic: &Topic,
-    rows: &[(Dot, Row)],
-) -> Result<Option<Outcome>, AllocError>
-    ensures { IfOk result (λ o. o ≡ Some (Outcome.Shown (dots_of rows.now))) }
+// What showing the rows of a topic comes to. What is asked for here is kept for the list itself.
+#[tactic(auto, using(crate::proofs::Tables::tables))]
+fn listed(table: &mut Indexed, alloc: Global, topic: &Topic) -> Result<Option<Outcome>, AllocError>
+    requires { table.old.is_ready ≡ true }
+    ensures same { table.new ≡ table.old }
+    ensures outcome { IfOk result (λ o. o ≡ outcome_of table.old.history (Step.List topic.now)) }
 {
-    let dots = dots_of_rows(alloc, rows)?;
-    Ok(Some(Outcome::Shown(lists.share(alloc, topic, dots)?)))
+    let rows = table.state(alloc, topic)?;
+    Ok(Some(Outcome::Shown(rows.dots()?)))
 }
 
 // What a step about rows would come to, or one that another node asks for.
 #[tactic(auto, using(crate::proofs::Tables::tables, crate::proofs::Tables::subscriber_tables))]
 pub(crate) fn foreseen(
-    table: &Indexed,
-    lists: &mut Lists,
+    table: &mut Indexed,
     alloc: Global,
     step: &Step,
 ) -> Result<Option<Outcome>, AllocError>
-    requires { table.now.is_ready ≡ true }
-    ensures { IfOk result (λ o. o ≡ outcome_of table.now.history step.now) }
+    requires { table.old.is_ready ≡ true }
+    ensures same { table.new ≡ table.old }
+    ensures outcome { IfOk result (λ o. o ≡ outcome_of table.old.history step.now) }
 {
     match step {
         Step::Track {
@@ -104,9 +101,7 @@ pub(crate) fn foreseen(
         Step::UntrackAll { pid, topic } => {
             removal(table, alloc, &table.rows_of_pid(alloc, *pid, topic)?)
         }
-        Step::List { topic } => {
-            listed(lists, alloc, topic, table.listed(alloc, topic)?.as_slice())
-        }
+        Step::List { topic } => listed(table, alloc, topic),
         Step::Get { topic, key } => shown(alloc, &table.listed_key(alloc, topic, key)?),
         Step::Subscribe { .. } => Ok(Some(Outcome::Subscribed(table.journal().last_number() + 1))),
         Step::Take { subscriber, max } => table.take_outcome(alloc, *subscriber, max.get()),

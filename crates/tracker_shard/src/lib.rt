@@ -7,7 +7,6 @@
 mod answers;
 mod fault;
 mod foreseen;
-mod lists;
 mod shard;
 
 pub use fault::ShardFault;

@@ -1,11 +1,10 @@
-use crate::answers::{cut_outcome, dots_of_rows, note, own_dot, removal, replaced, write};
+use crate::answers::{cut_outcome, note, own_dot, removal, replaced, write};
 use crate::fault::ShardFault;
 use crate::foreseen::foreseen;
-use crate::lists::Lists;
 use delta_range::Delta;
 use orswot_core::Told;
 use presence_base::{Dot, Json, Key, MAX_COUNT, Meta, Replica, Row, Topic};
-use presence_journal::{Dots, Item, Journal, Outcome, SharedRows, Step};
+use presence_journal::{Dots, Item, Journal, Outcome, SharedRows, Step, dots_of_rows};
 use replica_status::Status;
 use std::alloc::{AllocError, Global};
 use std::marker::Model;
@@ -24,15 +23,13 @@ pub struct Sub {
 /// its answer is given all the same, and the next call that may want memory completes what is kept.
 pub struct Shard {
     table: Indexed,
-    lists: Lists,
 }
 
 // Written, since each function that drops a value whose type derives it proves anew how its parts are dropped.
 impl Drop for Shard {
     fn drop(self) {
-        let Shard { table, lists } = self;
+        let Shard { table } = self;
         drop(table);
-        drop(lists);
     }
 }
 
@@ -70,7 +67,6 @@ impl Shard {
     {
         Shard {
             table: Indexed::new(alloc, own),
-            lists: Lists::new(alloc),
         }
     }
 
@@ -87,8 +83,7 @@ impl Shard {
     pub fn into_journal(self) -> Journal
         ensures { result ≡ self }
     {
-        let Shard { table, lists } = self;
-        drop(lists);
+        let Shard { table } = self;
         table.into_journal()
     }
 
@@ -109,7 +104,7 @@ impl Shard {
         ensures outcome { IfOk result (λ o. o ≡ outcome_of self.old step.now) }
     {
         self.table.ready(alloc)?;
-        foreseen(&self.table, &mut self.lists, alloc, step)
+        foreseen(&mut self.table, alloc, step)
     }
 
     /// Tracks the pid under the key on the topic, and answers the dot of the new row.
@@ -264,8 +259,7 @@ impl Shard {
         }
         self.table.ready(alloc)?;
         let rows = self.table.state(alloc, topic)?;
-        let dots = dots_of_rows(alloc, rows.as_slice())?;
-        let dots = self.lists.share(alloc, topic, dots)?;
+        let dots = rows.dots()?;
         let step = Step::list(topic)?;
         write(&mut self.table, alloc, seat, step, Outcome::Shown(dots))?;
         Ok(rows)

@@ -4,7 +4,7 @@ use Rattle.std.specs.BTreeMap.{get}
 use Rattle.presence_base.specs.declared.dots.Dot.{Dot}
 use Rattle.presence_base.specs.declared.row.Row.{Row}
 use Rattle.presence_base.specs.Order.{dot_cmp, same_dot}
-use Rattle.dot_context.specs.Runs.{holds}
+use Rattle.dot_context_runs.specs.Runs.{holds}
 use Rattle.delta_range.proofs.RunFacts.{long_append}
 use Rattle.presence_journal_data.specs.declared.entry.Outcome.TheVariants as outcomes_are
 use Rattle.presence_journal.specs.Steps.{Outcome, Entry}

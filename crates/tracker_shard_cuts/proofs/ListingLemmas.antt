@@ -5,7 +5,7 @@ use Rattle.std.specs.Map.{lookup}
 use Rattle.std.specs.Ordering.{nat_cmp}
 use Rattle.std.specs.Cmp.{unsigned_tied}
 use Rattle.std.specs.BTreeMap.{get, is_at}
-use Rattle.dot_context.specs.Runs.{holds, AreLong}
+use Rattle.dot_context_runs.specs.Runs.{holds, AreLong}
 use Rattle.dot_context.specs.Sets.{listed}
 use Rattle.presence_journal.specs.History.{History, last_cut}
 use Rattle.presence_journal_cuts.specs.Chains.{Chains, AreChains, AreUpTo, has}

@@ -9,7 +9,7 @@ use Rattle.presence_base.specs.declared.dots.Replica.{Replica}
 use Rattle.presence_base.specs.declared.dots.Dot.{Dot}
 use Rattle.presence_base.specs.declared.row.Row.{Row}
 use Rattle.presence_base.specs.Order.{dot_cmp}
-use Rattle.dot_context.specs.Runs.{holds, AreLong}
+use Rattle.dot_context_runs.specs.Runs.{holds, AreLong}
 use Rattle.dot_context.specs.Sets.{listed}
 use Rattle.orswot_core_told.specs.Telling.{ToldValue}
 use Rattle.delta_range.specs.Deltas.{DeltaValue, telling, IsDelta}

@@ -1,7 +1,7 @@
 -- What a Start lists of what is not told yet.
 use Rattle.std.specs.Prelude.{ℕ, List}
 use Rattle.std.specs.List.{AllByRecursion}
-use Rattle.dot_context.specs.Runs.{holds, AreLong}
+use Rattle.dot_context_runs.specs.Runs.{holds, AreLong}
 use Rattle.presence_journal.specs.History.{History, last_cut}
 use Rattle.presence_journal_cuts.specs.Chains.{AreUpTo, Counts}
 use Rattle.presence_journal_cuts.specs.Cuts.{older}

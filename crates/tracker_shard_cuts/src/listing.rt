@@ -3,7 +3,7 @@ ghost use Rattle.std.specs.Prelude.{◌≡◌, ◌++◌, ◌∷◌, [], ℕ, IfO
 ghost use Rattle.std.specs.List.{AllByRecursion};
 ghost use Rattle.std.specs.BTreeMap.{get};
 ghost use Rattle.std.specs.Ordering.{nat_cmp};
-ghost use Rattle.dot_context.specs.Runs.{AreLong};
+ghost use Rattle.dot_context_runs.specs.Runs.{AreLong};
 ghost use Rattle.presence_journal_cuts.specs.Chains.{AreChains};
 
 use presence_journal::Runs;

@@ -162,16 +162,8 @@ impl Indexed {
         self.parts.known.next_dot()
     }
 
-    /// The present rows of a topic, in order of key and dot.
-    pub fn listed(&self, alloc: Global, topic: &Topic) -> Result<SharedRows, AllocError>
-        requires { self.now.is_ready ≡ true }
-        ensures { IfOk result (λ v. v ≡ listed self.now.history topic.now) }
-    {
-        self.parts.shown.listed(alloc, topic)
-    }
-
-    /// The same rows, to be shared: a topic that stays is listed at the first ask alone, and its text is written at the second
-    /// one.
+    /// The present rows of a topic, in order of key and dot, to be shared: a topic that stays is listed at the first ask alone,
+    /// and its text is written at the second one.
     pub fn state(&mut self, alloc: Global, topic: &Topic) -> Result<SharedRows, AllocError>
         requires { self.old.is_ready ≡ true }
         ensures state { IfOk result (λ v. v ≡ listed self.old.history topic.now) }

@@ -10,6 +10,9 @@ use Rattle.presence_base.specs.contracts.names.Key as Key
 use Rattle.presence_base.specs.contracts.dots.Replica as Replica
 use Rattle.presence_base.specs.contracts.dots.Dot as Dot
 use Rattle.tracker_shard_shown.specs.contracts.stand.Stand as Stand
+use Rattle.presence_journal_data.specs.contracts.entry.HeldDots as HeldDots
+use Rattle.presence_journal_data.specs.contracts.entry.Dots as Dots
+use Rattle.presence_journal_data.specs.contracts.shared_rows.ListedRows as ListedRows
 use Rattle.presence_journal_data.specs.contracts.shared_rows.WrittenRows as WrittenRows
 use Rattle.presence_journal_data.specs.contracts.shared_rows.HeldRows as HeldRows
 use Rattle.presence_journal_data.specs.contracts.shared_rows.SharedRows as SharedRows
@@ -59,15 +62,32 @@ dot_sync = search sendable depth 60 fits 20000
 row_sync : IsSync (Row.the_field).row
 row_sync = search (meta_sync, topic_sync, key_sync, dot_sync, sendable) depth 60 fits 20000
 
+held_dots_send : IsSend (HeldDots.the_field).row
+held_dots_send = search (dot_send, dot_sync, heap.crosses, sendable) depth 60 fits 20000
+
+held_dots_sync : IsSync (HeldDots.the_field).row
+held_dots_sync = search (dot_send, dot_sync, heap.crosses, sendable) depth 60 fits 20000
+
+dots_send : IsSend (Dots.the_field).row
+dots_send = search (held_dots_send, sendable) depth 60 fits 20000
+
+dots_sync : IsSync (Dots.the_field).row
+dots_sync = search (held_dots_sync, sendable) depth 60 fits 20000
+
+listed_send : IsSend (ListedRows.the_field).row
+listed_send = search (row_send, dot_send, dots_send, heap.crosses, sendable) depth 60 fits 20000
+
+listed_sync : IsSync (ListedRows.the_field).row
+listed_sync = search (row_sync, dot_sync, dots_sync, heap.crosses, sendable) depth 60 fits 20000
+
 written_send : IsSend (WrittenRows.the_field).row
-written_send = search (row_send, row_sync, dot_send, dot_sync, heap.crosses, sendable) depth 60 fits 20000
+written_send = search (listed_send, listed_sync, heap.crosses, sendable) depth 60 fits 20000
 
 written_sync : IsSync (WrittenRows.the_field).row
-written_sync = search (row_send, row_sync, dot_send, dot_sync, heap.crosses, sendable) depth 60 fits 20000
+written_sync = search (listed_send, listed_sync, heap.crosses, sendable) depth 60 fits 20000
 
 held_rows_send : IsSend (HeldRows.the_field).row
-held_rows_send =
-    search (written_send, written_sync, row_send, row_sync, dot_send, dot_sync, heap.crosses, sendable) depth 60 fits 20000
+held_rows_send = search (written_send, written_sync, listed_send, listed_sync, heap.crosses, sendable) depth 60 fits 20000
 
 shared_rows_send : IsSend (SharedRows.the_field).row
 shared_rows_send = search (held_rows_send, sendable) depth 60 fits 20000

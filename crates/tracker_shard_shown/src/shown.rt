@@ -129,21 +129,8 @@ impl Shown {
         row_at(&self.table.rows, Holder::Room, topic, key, dot)
     }
 
-    /// The present rows of a topic, in order of key and dot. Those that an ask for its state kept are shared, and no others
-    /// are kept.
-    pub fn listed(&self, alloc: Global, topic: &Topic) -> Result<SharedRows, AllocError>
-        ensures { IfOk result (IsAsShown self.now (λ g. listed g topic.now)) }
-    {
-        if let Some(state) = self.states.shared(topic)? {
-            return Ok(state);
-        }
-        let rows = list_topic(alloc, &self.table.rows, Holder::Room, topic)?;
-        let state = SharedRows::new(alloc, rows)?;
-        Ok(state)
-    }
-
-    /// The same rows, to be kept. The first ask of a topic's state keeps it, the second one writes its text, and from then on
-    /// each shares both, until a row of the topic changes: then a state costs no more than a look-up. Where memory is wanting
+    /// The present rows of a topic, in order of key and dot. The first ask keeps them, the second one writes their text, and from
+    /// then on each shares both, until a row of the topic changes: then a state costs no more than a look-up. Where memory is wanting
     /// it is given without being kept. States of one row are not kept, and no more than 1,024 of others are.
     pub fn state(&mut self, alloc: Global, topic: &Topic) -> Result<SharedRows, AllocError>
         ensures state { IfOk result (IsAsShown self.old (λ g. listed g topic.now)) }

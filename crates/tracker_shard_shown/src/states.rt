@@ -62,16 +62,6 @@ impl States {
         }
     }
 
-    /// The state of a topic, where it is kept, with its text if that is written.
-    pub(crate) fn shared(&self, topic: &Topic) -> Result<Option<SharedRows>, AllocError>
-        ensures { IfOk result (λ o. IfSome o (λ s. state_at self.now.kept topic.now ≡ Some s)) }
-    {
-        match self.kept.get(topic) {
-            Some(state) => Ok(Some(state.share()?)),
-            None => Ok(None),
-        }
-    }
-
     /// The state of a topic, where it is kept. A further ask writes its text.
     pub(crate) fn state(
         &mut self,

@@ -1,5 +1,5 @@
 use Rattle.std.proofs.Common.{◌≡◌, ℕ, ◌-◌, ◌++◌, ◌∷◌, [], List, length, ap, subst, sym, ◌∙◌, arith}
-use Rattle.dot_context.specs.Runs.{AreLong}
+use Rattle.dot_context_runs.specs.Runs.{AreLong}
 use Rattle.presence_journal_cuts.proofs.RunLemmas.{left_whole, long_pushed}
 use Rattle.presence_journal_cuts.proofs.chain.push_count.Goals as goal
 

@@ -2,7 +2,7 @@ use Rattle.std.proofs.Common.{List, ℕ, ◌++◌, sym, ◌∙◌, ap, subst}
 use Rattle.std.proofs.lemmas.List.{append-nil}
 use Rattle.std.specs.List.{AllByRecursion}
 use Rattle.std.proofs.lemmas.List.Elements.{recursion_from_All}
-use Rattle.dot_context.specs.Runs.{AreLong}
+use Rattle.dot_context_runs.specs.Runs.{AreLong}
 use Rattle.tracker_shard_cuts.proofs.ListingLemmas.{found_long}
 use Rattle.tracker_shard_cuts.proofs.listing.listed_chains.Goals as goal
 

@@ -1,5 +1,5 @@
 use Rattle.std.proofs.Common.{map, sym, ◌∙◌, ap, subst}
-use Rattle.dot_context.specs.Runs.{AreLong}
+use Rattle.dot_context_runs.specs.Runs.{AreLong}
 use Rattle.delta_range.specs.Deltas.{run_of}
 use Rattle.delta_range.proofs.DeltaFacts.{dot_runs_long, parts_kept}
 use Rattle.delta_range.proofs.delta.Delta.of_told.Goals as goal

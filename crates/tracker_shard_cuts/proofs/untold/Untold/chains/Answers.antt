@@ -1,6 +1,6 @@
 use Rattle.std.proofs.Common.{ℕ, List, sym, ◌∙◌, subst}
 use Rattle.std.specs.List.{AllByRecursion}
-use Rattle.dot_context.specs.Runs.{AreLong}
+use Rattle.dot_context_runs.specs.Runs.{AreLong}
 use Rattle.tracker_shard_cuts.proofs.ListingLemmas.{are_listed}
 use Rattle.tracker_shard_cuts.proofs.untold.Untold.chains.Goals as goal
 
