@@ -5,8 +5,9 @@ ghost use Rattle.channel_session_rules.specs.Said.{Worded};
 ghost use Rattle.channel_session_rules.specs.Rules.{says_ok, says_error, on_event, empty as empty_of};
 
 use crate::events::{get, list, ping, shout, track, unknown, untrack, update};
-use channel_session_frames::write_ok;
-use channel_session_rules::{Place, Port, Reply, Stop, TopicEvent, empty_object, write_error};
+use channel_session_rules::{
+    Place, Port, Reply, Stop, TopicEvent, empty_object, write_error, write_ok,
+};
 use hook_registry::PresenceHooks;
 use phx_message::Message;
 use std::alloc::Global;

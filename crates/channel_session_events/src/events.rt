@@ -6,11 +6,10 @@ ghost use Rattle.channel_session_rules.specs.Rules.{said, says_ok, says_error, a
 ghost use Rattle.channel_session_rules.specs.Replies.{Runs, RunsBy, RepliesWith, RepliesBy, messages_of};
 ghost use Rattle.channel_session_rules.specs.Said.{listed, EachBy, Worded};
 
-use channel_session_frames::write_ok;
 use channel_session_rules::{
     Asked, Place, Port, Reply, ShardFault, Stop, Written, empty_object, full_reason, read_asked,
     read_key, ref_response, spoiling, stop_of, track_reason, update_reason, write_error,
-    write_listed,
+    write_listed, write_ok,
 };
 use hook_registry::{PresenceHooks, render_state};
 use phx_message::{Message, MsgRef};

@@ -6,11 +6,10 @@ ghost use Rattle.channel_session_rules.specs.InForce.{joined_of};
 ghost use Rattle.channel_session_rules.specs.Said.{told, text_of, Worded, Writes, Noted};
 ghost use Rattle.channel_session_events.specs.Carrying.{AddsTo};
 
-use channel_session_frames::push_frame;
 use channel_session_rules::Place;
 use hook_registry::{Notice, PresenceHooks, notices, render_diff, render_state};
 use phx_message::laws::pushes_are_written;
-use phx_message::{Message, broadcast, encode, push};
+use phx_message::{Message, broadcast, encode, push, push_text};
 use presence_base::{Json, Topic};
 use presence_journal::{Item, SharedDiff, SharedRows, SharedShout};
 use std::alloc::{AllocError, Global};
@@ -74,10 +73,10 @@ fn plain_state_frame(
 {
     pushes_are_written();
     if let Some(state) = rows.text() {
-        return push_frame(alloc, &place.join_ref, topic, "presence_state", state);
+        return push_text(alloc, &place.join_ref, topic, "presence_state", state);
     }
     let state = rows.write_text(alloc)?;
-    push_frame(
+    push_text(
         alloc,
         &place.join_ref,
         topic,
@@ -92,7 +91,7 @@ fn plain_diff_frame(alloc: Global, topic: &Topic, diff: &SharedDiff) -> Result<S
         ≡ text_of (broadcast_of topic.now (codes "presence_diff") (diff_of diff.now.joins diff.now.leaves))) }
 {
     pushes_are_written();
-    push_frame(alloc, &None, topic, "presence_diff", diff.payload())
+    push_text(alloc, &None, topic, "presence_diff", diff.payload())
 }
 
 // The frame of a state: the rows' text alone, where nothing is added to them.
@@ -137,7 +136,7 @@ fn shout_frame(alloc: Global, topic: &Topic, shout: &SharedShout) -> Result<Stri
         ≡ text_of (broadcast_of topic.now (codes "shout") shout.now)) }
 {
     pushes_are_written();
-    push_frame(alloc, &None, topic, "shout", shout.payload())
+    push_text(alloc, &None, topic, "shout", shout.payload())
 }
 
 // The frame that tells an item to the join of its topic.

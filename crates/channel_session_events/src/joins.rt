@@ -9,10 +9,10 @@ ghost use Rattle.channel_session_rules.specs.Said.{message as say};
 ghost use Rattle.channel_session_rules.specs.Replies.{Acts, RepliesWith, reply_end};
 ghost use Rattle.channel_session_rules.specs.Rules.{InForce, said, refuses, after_subscribe, subscribes, tracks, join_asked as join_asked_rule, join_ref_of as join_ref_in, told_ref, empty as empty_of, ok as ok_message, on_leave, rejoins, says_ok, left};
 
-use channel_session_frames::write_ok;
 use channel_session_rules::{
     Asked, MAX_TOPICS, Place, Port, Reply, ShardFault, Stop, Sub, Written, empty_object,
     full_reason, read_asked, ref_response, spoil, stop_of, track_reason, write_close, write_error,
+    write_ok,
 };
 use phx_message::{Message, MsgRef};
 use presence_base::{Dot, Json, Key, Meta, Topic};

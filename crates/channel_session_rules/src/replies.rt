@@ -81,6 +81,37 @@ fn error_reply_to(
     reply_error(alloc, join_ref, msg_ref, topic, reason)
 }
 
+// The text of the reply, round that of its response. The response is named for the contract alone.
+fn response_round(
+    alloc: Global,
+    join_ref: &Option<MsgRef>,
+    message: &Message,
+    _response: &Json,
+    told: &str,
+) -> Result<String, AllocError>
+    requires { told.now ≡ compact_text _response.now }
+    ensures { IfOk result (λ s. string_bytes s
+        ≡ text_of (ok_message join_ref.now message.now _response.now)) }
+{
+    replies_are_written();
+    reply_text(alloc, join_ref, &message.msg_ref, &message.topic, told)
+}
+
+// The text of the reply that a message went well.
+fn ok_text_of(
+    alloc: Global,
+    join_ref: &Option<MsgRef>,
+    message: &Message,
+    response: &Json,
+) -> Result<String, AllocError>
+    requires { float_within response.now ≡ false }
+    ensures { IfOk result (λ s. string_bytes s
+        ≡ text_of (ok_message join_ref.now message.now response.now)) }
+{
+    let told = response.as_value().to_string(alloc)?;
+    response_round(alloc, join_ref, message, response, told.as_str())
+}
+
 /// The reply that a message went well.
 pub fn write_ok(
     alloc: Global,
@@ -91,8 +122,9 @@ pub fn write_ok(
     requires { float_within response ≡ false }
     ensures { IfOk result (λ w. w.message ≡ ok_message join_ref.now message.now response) }
 {
-    let reply = ok_reply_to(alloc, join_ref, message, response)?;
-    write(alloc, reply)
+    let text = ok_text_of(alloc, join_ref, message, &response)?;
+    let message = ok_reply_to(alloc, join_ref, message, response)?;
+    Ok(Written { message, text })
 }
 
 // The text of the reply that tells rows, round the text of their payload. The rows are named for the contract alone.

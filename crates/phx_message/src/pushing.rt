@@ -1,31 +1,20 @@
-ghost use Rattle.std.specs.Prelude.{◌≡◌, IfOk, string_bytes};
+// The texts of pushes and of ok replies, written once round the text of what they tell. They ask for memory once, but
+// where a reference is a number or long, or a name has to be escaped.
+ghost use Rattle.std.specs.Prelude.{◌≡◌, ◌∷◌, ◌++◌, IfOk, OnOk, string_bytes};
 ghost use Rattle.serde_json.specs.Written.{compact_text};
 ghost use Rattle.json.specs.Print.{quoted as quoted_text};
 ghost use Rattle.phx_message.specs.Message.{ref_value};
 ghost use Rattle.phx_message.specs.Pushing.{push_text as text_of_push, ok_text};
 
 use crate::message::MsgRef;
+use crate::quoting::{push_quoted, push_ref};
 use presence_base::Topic;
-use serde_json::Value;
 use std::alloc::{AllocError, Global};
 
-/// A text in quotes, as JSON writes it.
-pub fn quoted(alloc: Global, text: &str) -> Result<String, AllocError>
-    ensures { IfOk result (λ s. string_bytes s ≡ quoted_text text.now) }
-{
-    Value::String(String::from_str(alloc, text)?).to_string(alloc)
-}
-
-// A reference as it is written.
-fn reference(alloc: Global, msg_ref: &Option<MsgRef>) -> Result<String, AllocError>
-    ensures { IfOk result (λ s. string_bytes s ≡ compact_text (ref_value msg_ref.now)) }
-{
-    match msg_ref {
-        None => String::from_str(alloc, "null"),
-        Some(MsgRef::Text(text)) => quoted(alloc, text.as_str()),
-        Some(MsgRef::Number(n)) => format!(in alloc; "{n}"),
-    }
-}
+// How many bytes a push has beside its topic, its event and its payload, where its reference is short.
+const BESIDE_A_PUSH: usize = 32;
+// How many bytes a reply has beside its topic and its response, where its references are short.
+const BESIDE_A_REPLY: usize = 80;
 
 /// The text of a push whose payload is written already: that of `encode`, without the value.
 pub fn push_text(
@@ -38,10 +27,42 @@ pub fn push_text(
     ensures { IfOk result (λ s. string_bytes s
         ≡ text_of_push join_ref.now topic.now event.now payload.now) }
 {
-    let join_ref = reference(alloc, join_ref)?;
-    let topic = quoted(alloc, topic.as_str())?;
-    let event = quoted(alloc, event)?;
-    format!(in alloc; "[{join_ref},null,{topic},{event},{payload}]")
+    let names = topic.as_str().len().saturating_add(event.len());
+    let bytes = payload
+        .len()
+        .saturating_add(names)
+        .saturating_add(BESIDE_A_PUSH);
+    let mut text = String::with_capacity(alloc, bytes)?;
+    text.push_str("[")?;
+    push_ref(alloc, &mut text, join_ref)?;
+    text.push_str(",null,")?;
+    push_quoted(alloc, &mut text, topic.as_str())?;
+    text.push_str(",")?;
+    push_quoted(alloc, &mut text, event)?;
+    text.push_str(",")?;
+    text.push_str(payload)?;
+    text.push_str("]")?;
+    Ok(text)
+}
+
+// Writes what stands in front of a reply's event.
+fn push_asked(
+    alloc: Global,
+    text: &mut String,
+    join_ref: &Option<MsgRef>,
+    msg_ref: &Option<MsgRef>,
+    topic: &Topic,
+) -> Result<(), AllocError>
+    ensures { OnOk result (string_bytes text.new ≡ string_bytes text.old
+        ++ (91 ∷ (compact_text (ref_value join_ref.now) ++ (44 ∷ (compact_text (ref_value msg_ref.now)
+        ++ (44 ∷ quoted_text topic.now)))))) }
+{
+    text.push_str("[")?;
+    push_ref(alloc, text, join_ref)?;
+    text.push_str(",")?;
+    push_ref(alloc, text, msg_ref)?;
+    text.push_str(",")?;
+    push_quoted(alloc, text, topic.as_str())
 }
 
 /// The text of a reply that all went well, whose response is written already: that of `encode`,
@@ -56,10 +77,11 @@ pub fn reply_text(
     ensures { IfOk result (λ s. string_bytes s
         ≡ ok_text join_ref.now msg_ref.now topic.now response.now) }
 {
-    let join = reference(alloc, join_ref)?;
-    let asked = reference(alloc, msg_ref)?;
-    let topic = quoted(alloc, topic.as_str())?;
-    format!(in alloc;
-        "[{join},{asked},{topic},\"phx_reply\",{{\"response\":{response},\"status\":\"ok\"}}]"
-    )
+    let names = topic.as_str().len().saturating_add(BESIDE_A_REPLY);
+    let mut text = String::with_capacity(alloc, response.len().saturating_add(names))?;
+    push_asked(alloc, &mut text, join_ref, msg_ref, topic)?;
+    text.push_str(",\"phx_reply\",{\"response\":")?;
+    text.push_str(response)?;
+    text.push_str(",\"status\":\"ok\"}]")?;
+    Ok(text)
 }

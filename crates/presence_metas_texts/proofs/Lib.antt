@@ -1,4 +1,3 @@
 pub mod InOrder
 pub mod Listed
-pub mod Plain
 pub mod WithRefs

@@ -5,8 +5,8 @@ ghost use Rattle.serde_json.specs.Written.{comma_if, has_float, members_have_flo
 ghost use Rattle.presence_base.specs.Order.{text_cmp};
 ghost use Rattle.presence_metas_texts.specs.Places.{is_apart, all_apart, with_refs, member_text, due_text};
 
-use crate::quoting::push_quoted;
 use crate::refs::push_refs;
+use phx_message::push_quoted;
 use presence_base::Dot;
 use serde_json::{Map, Value};
 use std::alloc::{AllocError, Global};

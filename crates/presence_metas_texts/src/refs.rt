@@ -3,7 +3,7 @@ ghost use Rattle.json.specs.Print.{quoted as quoted_text};
 ghost use Rattle.presence_base.specs.Refs.{ref_of};
 ghost use Rattle.presence_metas_texts.specs.Places.{prev_text, refs_text};
 
-use crate::quoting::push_quoted;
+use phx_message::push_quoted;
 use presence_base::{Dot, ref_text};
 use std::alloc::{AllocError, Global};
 

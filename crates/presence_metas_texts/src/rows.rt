@@ -2,7 +2,7 @@ ghost use Rattle.std.specs.Prelude.{◌≡◌, ◌++◌, Some, OnOk, option_copi
 ghost use Rattle.presence_metas_texts.specs.Texts.{key_text, row_text, between, ending};
 
 use crate::metas::push_meta;
-use crate::quoting::push_quoted;
+use phx_message::push_quoted;
 use presence_base::{Dot, Key, Row};
 use std::alloc::{AllocError, Global};
 

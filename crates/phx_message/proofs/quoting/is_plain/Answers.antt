@@ -1,5 +1,5 @@
-use Rattle.channel_session_frames.proofs.Plain.{plain_on}
-use Rattle.channel_session_frames.proofs.quoting.is_plain.Goals as goal
+use Rattle.phx_message.proofs.Plain.{plain_on}
+use Rattle.phx_message.proofs.quoting.is_plain.Goals as goal
 
 pub loop-byte-preserved : goal.loop-byte-preserved
 loop-byte-preserved c = λ h.

@@ -1,11 +1,19 @@
 // Names in quotes, and references, written at the end of a text.
-ghost use Rattle.std.specs.Prelude.{◌≡◌, ◌++◌, true, OnOk, string_bytes};
+ghost use Rattle.std.specs.Prelude.{◌≡◌, ◌++◌, true, IfOk, OnOk, string_bytes};
 ghost use Rattle.json.specs.Print.{escape, quoted as quoted_text};
 ghost use Rattle.serde_json.specs.Written.{compact_text};
 ghost use Rattle.phx_message.specs.Message.{ref_value};
 
-use phx_message::{MsgRef, quoted};
+use crate::message::MsgRef;
+use serde_json::Value;
 use std::alloc::{AllocError, Global};
+
+/// A text in quotes, as JSON writes it.
+pub fn quoted(alloc: Global, text: &str) -> Result<String, AllocError>
+    ensures { IfOk result (λ s. string_bytes s ≡ quoted_text text.now) }
+{
+    Value::String(String::from_str(alloc, text)?).to_string(alloc)
+}
 
 // Whether JSON writes the text as it is.
 fn is_plain(text: &str) -> bool
@@ -19,9 +27,9 @@ fn is_plain(text: &str) -> bool
     true
 }
 
-// Writes a text in quotes.
+/// Writes a name in quotes behind a text. Where memory is wanting, a part of it may have been written.
 #[tactic(auto, using(crate::proofs::Plain::plain_quoted))]
-pub(crate) fn push_quoted(alloc: Global, text: &mut String, name: &str) -> Result<(), AllocError>
+pub fn push_quoted(alloc: Global, text: &mut String, name: &str) -> Result<(), AllocError>
     ensures { OnOk result (string_bytes text.new ≡ string_bytes text.old ++ quoted_text name.now) }
 {
     if !is_plain(name) {
@@ -33,8 +41,8 @@ pub(crate) fn push_quoted(alloc: Global, text: &mut String, name: &str) -> Resul
     text.push_str("\"")
 }
 
-// Writes a reference, or null.
-pub(crate) fn push_ref(
+/// Writes a reference, or null, behind a text. Where memory is wanting, a part of it may have been written.
+pub fn push_ref(
     alloc: Global,
     text: &mut String,
     msg_ref: &Option<MsgRef>,

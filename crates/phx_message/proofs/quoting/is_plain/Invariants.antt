@@ -1,6 +1,6 @@
 use Rattle.std.proofs.Common.{◌≡◌, drop}
 use Rattle.json.specs.Print.{escape}
-use Rattle.presence_metas_texts.proofs.quoting.is_plain.Given as goal
+use Rattle.phx_message.proofs.quoting.is_plain.Given as goal
 
 -- what is left decides
 abbrev pub invariant-loop-byte : goal.invariant-loop-byte
