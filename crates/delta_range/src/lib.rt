@@ -1,4 +1,15 @@
 //! Deltas of the observed-remove set: what an owner tells of a range of its counts, and joined deltas.
+//!
+//! Its contracts cite these definitions:
+//! - `specs/Caps`: how many rows and older runs each kept delta may have: the generations cite them by these names
+//! - `specs/Deltas`: deltas: what an owner tells of one range of its counts, with the older ones that it removed
+//! - `specs/Growing`: growing: a delta that takes in the next one in place, and all that it needs for that
+//! - `specs/Joining`: joined: two deltas of one owner, the second of which goes on from the first, as one
+//! - `specs/Keeping`: generations: three joined deltas, of which a shorter one begins later
+//! - `specs/Laws`: what a joined delta tells, beside its two parts
+//! - `specs/Longest`: longest runs of counts, made from any runs. A run is the pair of the count below its first one
+//!   and its last one
+//! - `specs/Planning`: planning: what a generation was, and what it becomes
 #![tactic(auto)]
 
 mod delta;

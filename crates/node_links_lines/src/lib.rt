@@ -1,4 +1,11 @@
 //! The lines that nodes exchange over a link: one JSON array and a line feed each.
+//!
+//! Its contracts cite these definitions:
+//! - `specs/Kinds`: the kind that an array's first member names
+//! - `specs/Limits`: the limits of lines
+//! - `specs/Reading`: which line a text is, or the first thing that is wrong with it
+//! - `specs/Values`: the JSON value that a line is written as
+//! - `specs/Writing`: the text that a line is written as
 #![tactic(auto)]
 
 mod kinds;

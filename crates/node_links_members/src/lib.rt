@@ -1,5 +1,14 @@
 //! The members of the lines that nodes exchange over a link, read from JSON values: arrays of just so many, numbers,
 //! replicas and told values; and why a link ends.
+//!
+//! Its contracts cite these definitions:
+//! - `specs/Arrays`: arrays of just so many values
+//! - `specs/Members`: the members of a line: which JSON values are numbers within limits, names, replicas, dots and
+//!   ranges
+//! - `specs/Results`: what a step of reading answers: what it found, or the first fault
+//! - `specs/Taken`: the data of the members of an array, lent or taken out
+//! - `specs/Telling`: which JSON values are the parts of a told value: ranges, dots and rows, and lists of these
+//! - `specs/Told`: which JSON value is a told value, and what is wrong with one
 #![tactic(auto)]
 
 mod arrays;

@@ -1,4 +1,9 @@
 //! What is told of an observed-remove set, and the check of what comes from outside (Bieniusa et al., 2012).
+//!
+//! Its contracts cite these definitions:
+//! - `specs/Checks`: what is wrong with a told value: the first fault, in order
+//! - `specs/Limits`: the limits of dots, rows and ranges
+//! - `specs/Telling`: telling: what a told value covers, and which adds and removes it tells (Bieniusa et al., 2012)
 #![tactic(auto)]
 
 mod cut;

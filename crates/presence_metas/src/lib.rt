@@ -1,5 +1,17 @@
 //! The presence list as a client keeps it (Phoenix.Presence): the objects of states and diffs, the
 //! frames that carry them, and the mirror that folds them.
+//!
+//! Its contracts cite these definitions:
+//! - `specs/Codes`: how the logic stores presences
+//! - `specs/Fold`: the fold of a client's frames, as a map from key and reference to meta
+//! - `specs/Frames`: what a message tells a client of presences, or the first thing that is wrong with it
+//! - `specs/Laws`: what lists, objects and frames hold, key by key; and that the frames that rows make are read as
+//!   these rows
+//! - `specs/Listing`: a client's lists: keys in order, each with its metas; and how the joins and leaves of a diff
+//!   change them
+//! - `specs/Lists`: what lists keep: keys in order, each with metas
+//! - `specs/Rows`: the lists that rows make
+//! - `specs/Values`: the objects that tell presences
 #![tactic(auto)]
 
 mod frame;

@@ -3,6 +3,9 @@
 //!
 //! Of what they tell each other, and of what goes over a socket, no contract speaks. What each exchange does is
 //! `node_links`', and what it asks of the shards `presence_node_link_ports`'.
+//!
+//! Its contracts cite these definitions:
+//! - `specs/Tasks`: what the threads of links do, and what a node that is dialled adds to it
 #![tactic(auto)]
 
 mod dialling;

@@ -1,6 +1,9 @@
 //! Sockets that never block, and which of them are ready.
 //!
 //! Of what is registered, and of what a wait reports, no contract speaks: the system holds that.
+//!
+//! Its contracts cite these definitions:
+//! - `specs/Watching`: what a watch reports
 #![tactic(auto)]
 
 mod listening;
