@@ -1,5 +1,5 @@
 -- The rows of a topic, wherever they lie.
-use Rattle.std.specs.Prelude.{List, map}
+use Rattle.std.specs.Prelude.{List}
 use Rattle.std.specs.Arc.{arc_value}
 use Rattle.presence_base.specs.declared.dots.Dot.{Dot}
 use Rattle.presence_base.specs.declared.row.Row.{Row}
@@ -9,7 +9,3 @@ use Rattle.presence_journal_data.specs.declared.shared_rows.HeldRows.TheVariants
 abbrev pub held_rows : HeldRows → List (Dot × Row)
 held_rows (Bare a) = (arc_value a).rows.items
 held_rows (Written w) = (arc_value (arc_value w).listed).rows.items
-
--- the dots of rows
-abbrev pub dots_in : List (Dot × Row) → List Dot
-dots_in = map (λ x. x.0)

@@ -1,6 +1,6 @@
 //! What a shard's journal is made of: steps, what they came to, entries, and rows as lists.
 //!
-//! Its contracts cite `specs/Limits` and `specs/StepLimits`: what a step may hold; and `specs/HeldRows`: the dots of rows.
+//! Its contracts cite `specs/Limits` and `specs/StepLimits`: what a step may hold; and `specs/RowDots`: the dots of rows.
 #![tactic(auto)]
 
 mod entry;

@@ -3,7 +3,7 @@ ghost use Rattle.std.specs.Prelude.{◌≡◌, IfOk, IfSome, string_bytes};
 ghost use Rattle.std.specs.Arc.{arc_value};
 ghost use Rattle.serde_json.specs.Written.{compact_text};
 ghost use Rattle.presence_metas.specs.Values.{state_of};
-ghost use Rattle.presence_journal_data.specs.HeldRows.{dots_in};
+ghost use Rattle.presence_journal_data.specs.RowDots.{dots_in};
 
 use crate::entry::Dots;
 use presence_base::{Dot, Row};
@@ -126,7 +126,7 @@ impl SharedRows {
     ghost use Rattle.std.specs.Prelude.{◌≡◌, IfOk, IfSome, string_bytes};
     ghost use Rattle.serde_json.specs.Written.{compact_text};
     ghost use Rattle.presence_metas.specs.Values.{state_of};
-    ghost use Rattle.presence_journal_data.specs.HeldRows.{dots_in};
+    ghost use Rattle.presence_journal_data.specs.RowDots.{dots_in};
 
     /// The rows, without their text. It copies none of them but their dots.
     pub fn new(alloc: Global, rows: Vec<(Dot, Row)>) -> Result<SharedRows, AllocError>

@@ -10,7 +10,7 @@ use Rattle.presence_base.specs.contracts.names.Topic as Topic
 use Rattle.presence_base.specs.contracts.names.Key as Key
 use Rattle.presence_base.specs.contracts.dots.Replica as Replica
 use Rattle.presence_base.specs.contracts.dots.Dot as Dot
-use Rattle.dot_context.specs.contracts.runs.Runs as Runs
+use Rattle.dot_context_runs.specs.contracts.runs.Runs as Runs
 use Rattle.dot_context.specs.contracts.context.Context as Context
 use Rattle.orswot_core.specs.contracts.set.Orswot as Orswot
 use Rattle.delta_range.specs.contracts.delta.Delta as Delta

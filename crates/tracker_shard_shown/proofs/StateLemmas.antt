@@ -119,6 +119,10 @@ same_written ss us u old new was through same t = (through.3 (found_state ss u o
 pub no_entries : (ss us : StateMap) → us.entries ≡ [] → LosesSome ss us
 no_entries ss us e t v is = let none : None ≡ Some v = sym (ap (lookup (is_at (text_cmp t))) e) ∙ is in absurd (cc)
 
+-- where memory ran out, the states that were left are those that were kept
+pub stays_too : (u : List ℕ) (s : List (Dot × Row)) (ss ts us : StateMap) → LosesSome ss ts → us.entries ≡ ts.entries → KeepsToo u s ss us
+stays_too u s ss ts us loses same t v is = inl (loses t v (subst (λ es. lookup (is_at (text_cmp t)) es ≡ Some v) same is))
+
 -- a state that is put in
 pub put_too : (u k : List ℕ) (s w : List (Dot × Row)) (ss ts us : StateMap) → k ≡ u → w ≡ s → LosesSome ss ts → ((t : List ℕ) → state_at us t ≡ cond (same_text k t) (Some w) (state_at ts t)) → KeepsToo u s ss us
 put_too u k s w ss ts us key same loses put t v is = go (same_text k t) refl (sym (put t) ∙ is)

@@ -1,5 +1,5 @@
 use Rattle.std.proofs.Common.{◌≡◌, ◌++◌, drop}
-use Rattle.presence_journal_data.specs.HeldRows.{dots_in}
+use Rattle.presence_journal_data.specs.RowDots.{dots_in}
 use Rattle.presence_journal_data.proofs.shared_rows.dots_of_rows.Given as goal
 
 -- the dots so far, and those of the rows that are left
