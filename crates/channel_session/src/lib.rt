@@ -4,7 +4,8 @@
 //! `channel_session_events` (their functions over any port) and `channel_session_laws` (a lent shard
 //! and the laws over it). What its contracts cite: `specs/Rules` the rules, `specs/Ran` what a text
 //! does, `specs/Delivery` a delivery, `specs/Ending` the end, `specs/Said` what is said and by which
-//! messages.
+//! messages; and over a lent shard `specs/Naming`, that a session names each topic on which a row of
+//! its own stands, and `specs/LeftBehind`, that an accepted end leaves nothing of it there.
 #![tactic(auto)]
 
 mod acting;

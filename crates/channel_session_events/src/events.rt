@@ -180,7 +180,8 @@ pub(crate) fn track<P: Port>(
     message: &Message,
 ) -> Result<Reply, Stop>
     requires { pid ≤ 2 ^ 62 }
-    ensures { Runs P.step (λ s. on_track pid s join_ref.now message.now (asked_of message.now.payload)) port.old port.new result }
+    ensures { Runs P.step (λ s. on_track pid s join_ref.now message.now (asked_of message.now.payload))
+        port.old port.new result }
 {
     let asked = read_asked(alloc, message.payload.as_value())?;
     track_asked(alloc, pid, join_ref, port, message, asked)
@@ -215,7 +216,8 @@ pub(crate) fn update<P: Port>(
     message: &Message,
 ) -> Result<Reply, Stop>
     requires { pid ≤ 2 ^ 62 }
-    ensures { Runs P.step (λ s. on_update pid s join_ref.now message.now (asked_of message.now.payload)) port.old port.new result }
+    ensures { Runs P.step (λ s. on_update pid s join_ref.now message.now (asked_of message.now.payload))
+        port.old port.new result }
 {
     let asked = read_asked(alloc, message.payload.as_value())?;
     update_asked(alloc, pid, join_ref, port, message, asked)
@@ -277,7 +279,8 @@ pub(crate) fn untrack<P: Port>(
     port: &mut P,
     message: &Message,
 ) -> Result<Reply, Stop>
-    ensures { Runs P.step (λ s. on_untrack pid s join_ref.now message.now (key_asked message.now.payload)) port.old port.new result }
+    ensures { Runs P.step (λ s. on_untrack pid s join_ref.now message.now (key_asked message.now.payload))
+        port.old port.new result }
 {
     let key = read_key(alloc, message.payload.as_value())?;
     untrack_asked(alloc, pid, join_ref, port, message, key)

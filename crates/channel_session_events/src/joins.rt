@@ -71,7 +71,8 @@ fn refused_join(
     reason: Option<&'static str>,
 ) -> Result<JoinReply, Stop>
     ensures { JoinRepliesWith
-        (λ before kind s. said (refuses before s message.now) fault (option_map (λ r. r.now) reason.entry)) false message.now result }
+        (λ before kind s. said (refuses before s message.now) fault (option_map (λ r. r.now) reason.entry))
+        false message.now result }
 {
     match reason {
         Some(reason) => refusing(alloc, message, reason),

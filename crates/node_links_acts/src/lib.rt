@@ -1,7 +1,7 @@
 //! What the actions of a line ask of a node's shards, and what comes of it.
 //!
-//! `LinkPort` is what is asked; the definitions are `specs/Acting.antt`: `Acts`, with `Does` for one
-//! action, a line each.
+//! `LinkPort` is what is asked. What its contracts cite: `specs/Asks` has the questions and their answers,
+//! `specs/Acting` what comes of a line's actions: `Acts`, with `Does` for one action, a line each.
 #![tactic(auto)]
 
 mod acting;

@@ -42,7 +42,8 @@ fn answer_line<H: PresenceHooks, W: Write, N: Write>(
     n: u64,
 ) -> Result<(), StdioFault>
     ensures { AnswerOf (voice_of H.PresenceHooks hooks.now) n local.old local.new
-        (outs (W.contents writer.old) (N.contents notes.old)) (outs (W.contents writer.new) (N.contents notes.new)) line.now result }
+        (outs (W.contents writer.old) (N.contents notes.old))
+        (outs (W.contents writer.new) (N.contents notes.new)) line.now result }
 {
     let output = match local.answer(alloc, hooks, line) {
         Ok(output) => output,
@@ -67,7 +68,9 @@ fn turn<R: Read, H: PresenceHooks, W: Write, N: Write>(
     n: u64,
 ) -> Result<bool, StdioFault>
     ensures { TurnOf (voice_of H.PresenceHooks hooks.now) n local.old local.new
-        (R.remaining reader.old) (R.remaining reader.new) (outs (W.contents writer.old) (N.contents notes.old)) (outs (W.contents writer.new) (N.contents notes.new)) result }
+        (R.remaining reader.old) (R.remaining reader.new)
+        (outs (W.contents writer.old) (N.contents notes.old))
+        (outs (W.contents writer.new) (N.contents notes.new)) result }
 {
     let line = match read_line(alloc, reader, Limits::CLIENT.bytes) {
         Ok(Some(line)) => line,
@@ -92,7 +95,9 @@ pub fn run_lines<R: Read, H: PresenceHooks, W: Write, N: Write>(
     max: u64,
 ) -> Result<u64, StdioFault>
     ensures { Tells (voice_of H.PresenceHooks hooks.now) max local.old
-        (R.remaining reader.old) (R.remaining reader.new) (outs (W.contents writer.old) (N.contents notes.old)) (outs (W.contents writer.new) (N.contents notes.new)) result }
+        (R.remaining reader.old) (R.remaining reader.new)
+        (outs (W.contents writer.old) (N.contents notes.old))
+        (outs (W.contents writer.new) (N.contents notes.new)) result }
 {
     for n in 0..max {
         match turn(alloc, local, hooks, reader, writer, notes, n + 1) {
@@ -131,10 +136,14 @@ pub fn run_stdio<R: Read, W: Write, N: Write, H: PresenceHooks>(
     hooks: &H,
     options: &StdioOptions,
 ) -> Result<u64, StdioFault>
-    ensures input { IfSome (R.remaining reader.old) (λ input. TellsInput (voice_of H.PresenceHooks hooks.now) MAX_LINES (start options.now)
-        (outs (W.contents writer.old) (N.contents notes.old)) (outs (W.contents writer.new) (N.contents notes.new)) input result) }
+    ensures input { IfSome (R.remaining reader.old) (λ input.
+        TellsInput (voice_of H.PresenceHooks hooks.now) MAX_LINES (start options.now)
+        (outs (W.contents writer.old) (N.contents notes.old))
+        (outs (W.contents writer.new) (N.contents notes.new)) input result) }
     ensures lines { Tells (voice_of H.PresenceHooks hooks.now) MAX_LINES (start options.now)
-        (R.remaining reader.old) (R.remaining reader.new) (outs (W.contents writer.old) (N.contents notes.old)) (outs (W.contents writer.new) (N.contents notes.new)) result }
+        (R.remaining reader.old) (R.remaining reader.new)
+        (outs (W.contents writer.old) (N.contents notes.old))
+        (outs (W.contents writer.new) (N.contents notes.new)) result }
     ensures mirrors { MirroredBehindLines H.PresenceHooks hooks.now options.now }
 {
     mirrored(hooks, options);

@@ -92,7 +92,8 @@ fn send_all<S: Read + Write + Drop>(clients: &mut Slab<Client<S>>, order: &[usiz
 fn mark_each<S: Read + Write + Drop>(clients: &mut Slab<Client<S>>, order: &[usize])
     requires { AreKept clients.old order.now }
     ensures kept { AreKept clients.new order.now }
-    ensures marks { Pairwise (λ old new. new ≡ readied old) (served clients.old order.now) (served clients.new order.now) }
+    ensures marks { Pairwise (λ old new. new ≡ readied old)
+        (served clients.old order.now) (served clients.new order.now) }
 {
     for key in order {
         if let Some(client) = clients.get_mut(*key) {

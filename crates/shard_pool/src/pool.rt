@@ -132,10 +132,14 @@ impl<G: Gate + Drop, A: Lane, B: Lane, C: Lane, D: Lane> Pool<G, A, B, C, D> {
         requires shards { (0 < shards) × (shards ≤ 4) }
         requires seats { seats ≤ 64 }
         requires count { IsCount own.incarnation }
-        requires first { (first.name ≡ A.name) × (first.parts ≡ A.parts) × (first.parts ≡ seats) × (own.name ≡ A.node) }
-        requires second { (second.name ≡ B.name) × (second.parts ≡ B.parts) × (second.parts ≡ seats) × (own.name ≡ B.node) }
-        requires third { (third.name ≡ C.name) × (third.parts ≡ C.parts) × (third.parts ≡ seats) × (own.name ≡ C.node) }
-        requires fourth { (fourth.name ≡ D.name) × (fourth.parts ≡ D.parts) × (fourth.parts ≡ seats) × (own.name ≡ D.node) }
+        requires first { (first.name ≡ A.name) × (first.parts ≡ A.parts) × (first.parts ≡ seats)
+            × (own.name ≡ A.node) }
+        requires second { (second.name ≡ B.name) × (second.parts ≡ B.parts) × (second.parts ≡ seats)
+            × (own.name ≡ B.node) }
+        requires third { (third.name ≡ C.name) × (third.parts ≡ C.parts) × (third.parts ≡ seats)
+            × (own.name ≡ C.node) }
+        requires fourth { (fourth.name ≡ D.name) × (fourth.parts ≡ D.parts) × (fourth.parts ≡ seats)
+            × (own.name ≡ D.node) }
         ensures pool { IfOk result (λ r. (r.0.own ≡ own) × (r.0.shards ≡ shards) × (r.0.seats ≡ seats)) }
         ensures seats { IfOk result (λ r. r.1.items ≡ new_seats seats) }
         ensures err { IfErr result (λ e. e ≡ OutOfMemory) }

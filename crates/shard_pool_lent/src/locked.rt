@@ -99,7 +99,8 @@ impl<L: Lane> Locked<L> {
     ) -> Result<Dot, ShardFault>
         requires pid { pid ≤ 2 ^ 62 }
         requires share { share.old.parts ≡ 1 }
-        ensures step { Stepped self.old.shard self.new.shard (Some seat) (Step.Track pid topic.now key.now meta.now) result }
+        ensures step { Stepped self.old.shard self.new.shard (Some seat)
+            (Step.Track pid topic.now key.now meta.now) result }
         ensures answer { AnswersDot self.old.shard (Step.Track pid topic.now key.now meta.now) result }
         ensures due { IsDue result (refusal true self.old.shard (Step.Track pid topic.now key.now meta.now)) }
         ensures total { self.new.calls.total ≡ counted self.old.calls.total (is_step result) }
@@ -126,7 +127,8 @@ impl<L: Lane> Locked<L> {
     ) -> Result<Dot, ShardFault>
         requires pid { pid ≤ 2 ^ 62 }
         requires share { share.old.parts ≡ 1 }
-        ensures step { Stepped self.old.shard self.new.shard (Some seat) (Step.Update pid topic.now key.now meta.now) result }
+        ensures step { Stepped self.old.shard self.new.shard (Some seat)
+            (Step.Update pid topic.now key.now meta.now) result }
         ensures answer { AnswersDot self.old.shard (Step.Update pid topic.now key.now meta.now) result }
         ensures due { IsDue result (refusal true self.old.shard (Step.Update pid topic.now key.now meta.now)) }
         ensures total { self.new.calls.total ≡ counted self.old.calls.total (is_step result) }
@@ -272,7 +274,8 @@ impl<L: Lane> Locked<L> {
         requires share { share.old.parts ≡ 1 }
         ensures step { Stepped self.old.shard self.new.shard (Some seat) (Step.Take sub.now.number max) result }
         ensures answer { AnswersItems self.old.shard sub.now.number max result }
-        ensures due { IsDue result (refusal_at sub.now.slot sub.now.number self.old.shard (Step.Take sub.now.number max)) }
+        ensures due { IsDue result (refusal_at sub.now.slot sub.now.number self.old.shard
+            (Step.Take sub.now.number max)) }
         ensures total { self.new.calls.total ≡ counted self.old.calls.total (is_step result) }
         ensures amount { share.new.amount ≡ counted share.old.amount (is_step result) }
         ensures parts { share.new.parts ≡ share.old.parts }
@@ -295,7 +298,8 @@ impl<L: Lane> Locked<L> {
         requires share { share.old.parts ≡ 1 }
         ensures step { Stepped self.old.shard self.new.shard (Some seat) (Step.Unsubscribe sub.now.number) result }
         ensures answer { Answers (λ _. Unit {0}) (outcome_of self.old.shard (Step.Unsubscribe sub.now.number)) result }
-        ensures due { IsDue result (refusal_at sub.now.slot sub.now.number self.old.shard (Step.Unsubscribe sub.now.number)) }
+        ensures due { IsDue result (refusal_at sub.now.slot sub.now.number self.old.shard
+            (Step.Unsubscribe sub.now.number)) }
         ensures total { self.new.calls.total ≡ counted self.old.calls.total (is_step result) }
         ensures amount { share.new.amount ≡ counted share.old.amount (is_step result) }
         ensures parts { share.new.parts ≡ share.old.parts }

@@ -168,8 +168,10 @@ pub fn check_receipts(
     receipts: &[Vec<Receipt>],
 ) -> Result<(), SettleFault>
     ensures agree { OnOk result (Agree journals.now (map (λ v. v.items) receipts.now)) }
-    ensures untold { result ≡ Err SettleFault.NoSuchEntry → are_told journals.now (map (λ v. v.items) receipts.now) ≡ false }
-    ensures differs { result ≡ Err SettleFault.CountDiffers → CountsDiffer journals.now (map (λ v. v.items) receipts.now) }
+    ensures untold { result ≡ Err SettleFault.NoSuchEntry
+        → are_told journals.now (map (λ v. v.items) receipts.now) ≡ false }
+    ensures differs { result ≡ Err SettleFault.CountDiffers
+        → CountsDiffer journals.now (map (λ v. v.items) receipts.now) }
     ensures missing { result ≢ Err SettleFault.MissingSeat }
 {
     if !all_have_entries(alloc, journals, receipts)? {
