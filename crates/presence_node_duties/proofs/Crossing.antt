@@ -11,7 +11,8 @@ use Rattle.presence_node_workers.proofs.Crossing.{worker_send}
 use Rattle.presence_node_sockets.specs.contracts.watch.Watch as Watch
 use Rattle.hook_registry.specs.contracts.routes.Routes as Routes
 use Rattle.presence_node_duties.specs.contracts.bench.Bench as Bench
-use Rattle.presence_node_duties.specs.contracts.place.Place as Place
+use Rattle.presence_node_duties.specs.contracts.leaving.Leavers as Leavers
+use Rattle.presence_node_duties.specs.contracts.place.Workplace as Workplace
 use Rattle.presence_node_duties.specs.contracts.server.Mailbox as Mailbox
 
 -- ---- what is shared
@@ -27,13 +28,16 @@ routes_sync = search (maps.crosses, heap.crosses, sendable) depth 60 fits 20000
 watch_send : IsSend (Watch.the_field).row
 watch_send = search (heap.crosses, sendable) depth 60 fits 20000
 
+leavers_send : IsSend (Leavers.the_field).row
+leavers_send = search (heap.crosses, sendable) depth 60 fits 20000
+
 module _ (A B C D : RattleType) (lane-a : Lane.Ghosts A.Denot) (lane-b : Lane.Ghosts B.Denot) (lane-c : Lane.Ghosts C.Denot) (lane-d : Lane.Ghosts D.Denot)
     (a : Ledger.Ghosts A.Denot) (b : Ledger.Ghosts B.Denot) (c : Ledger.Ghosts C.Denot) (d : Ledger.Ghosts D.Denot) where
   bench_send : IsSend (Bench.the_field A B C D lane-a a lane-b b lane-c c lane-d d).row
-  bench_send = search (seat_send, worker_send, watch_send, maps.crosses, heap.crosses, sendable) depth 60 fits 20000
+  bench_send = search (seat_send, worker_send, watch_send, leavers_send, maps.crosses, heap.crosses, sendable) depth 60 fits 20000
 
-  pub place_send : IsSend (Place.the_field A B C D lane-a a lane-b b lane-c c lane-d d).row
+  pub place_send : IsSend (Workplace.the_field A B C D lane-a a lane-b b lane-c c lane-d d).row
   place_send = search (bench_send, sendable) depth 60 fits 20000
 
-  pub place_row_send : IsSend (Place.the_row A B C D lane-a a lane-b b lane-c c lane-d d)
+  pub place_row_send : IsSend (Workplace.the_row A B C D lane-a a lane-b b lane-c c lane-d d)
   place_row_send = search (bench_send, sendable) depth 60 fits 20000

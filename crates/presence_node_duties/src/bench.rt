@@ -1,4 +1,5 @@
 //! A worker's thread: it serves its connections in turns.
+use crate::leaving::Leavers;
 use crate::server::Server;
 use hook_registry::PresenceHooks;
 use presence_node_hints::{Followed, HintingPort, Noted, Topics, follows};
@@ -21,7 +22,7 @@ const MAX_HELD: u32 = 16;
 /// How long one wait lasts where nothing is to be done, in milliseconds.
 const IDLE_MILLISECONDS: u64 = 1_000;
 
-/// How long one wait lasts where only an end is to be asked for again.
+/// How long one wait lasts where only an end is to be asked for again, or clients that leave are read.
 const RETRY_MILLISECONDS: u64 = 20;
 
 /// What topics have new is looked at once in so long, so that what comes meanwhile is delivered in one.
@@ -132,6 +133,7 @@ pub struct Bench<A: Lane, B: Lane, C: Lane, D: Lane> {
     seat: Seat<A, B, C, D>,
     worker: Worker<TcpStream>,
     watch: Watch,
+    leavers: Leavers,
     /// How many turns have passed since what waited was sent.
     held: u32,
     /// The time of this turn, in milliseconds.
@@ -150,6 +152,7 @@ impl<A: Lane, B: Lane, C: Lane, D: Lane> Drop for Bench<A, B, C, D> {
             seat,
             worker,
             watch,
+            leavers,
             held: _,
             now: _,
             swept: _,
@@ -159,6 +162,7 @@ impl<A: Lane, B: Lane, C: Lane, D: Lane> Drop for Bench<A, B, C, D> {
         drop(seat);
         drop(worker);
         drop(watch);
+        drop(leavers);
     }
 }
 
@@ -178,6 +182,7 @@ impl<A: Lane, B: Lane, C: Lane, D: Lane> Bench<A, B, C, D> {
             seat,
             worker: Worker::new(alloc, taker),
             watch,
+            leavers: Leavers::new(alloc),
             held: 0,
             now: 0,
             swept: 0,
@@ -194,6 +199,7 @@ impl<A: Lane, B: Lane, C: Lane, D: Lane> Bench<A, B, C, D> {
             seat,
             worker,
             watch,
+            leavers,
             held: _,
             now: _,
             swept: _,
@@ -202,6 +208,7 @@ impl<A: Lane, B: Lane, C: Lane, D: Lane> Bench<A, B, C, D> {
         } = self;
         drop(worker);
         drop(watch);
+        drop(leavers);
         seat
     }
 
@@ -293,14 +300,16 @@ impl<A: Lane, B: Lane, C: Lane, D: Lane> Bench<A, B, C, D> {
         (0..self.worker.len()).any(|place| self.worker.at(place).is_some_and(|client| client.ready))
     }
 
-    // Sends what waits. It gathers for some turns while messages come.
+    // Sends what waits. It gathers for some turns while messages come. A client that is given up here leaves.
     fn send(&mut self, busy: bool) {
         if busy && self.held < MAX_HELD {
             self.held += 1;
             return;
         }
         self.held = 0;
+        let first = self.leavers.admit(&self.worker, &self.watch, self.now);
         self.worker.flush();
+        self.leavers.hang_up(first);
     }
 
     // Waits until there is something to do, and marks the connections that take the next turn.
@@ -309,7 +318,7 @@ impl<A: Lane, B: Lane, C: Lane, D: Lane> Bench<A, B, C, D> {
             0
         } else if self.gathers_for() > 0 {
             self.gathers_for()
-        } else if self.is_ready() {
+        } else if self.is_ready() || !self.leavers.is_empty() {
             RETRY_MILLISECONDS
         } else {
             IDLE_MILLISECONDS
@@ -362,6 +371,7 @@ impl<A: Lane, B: Lane, C: Lane, D: Lane> Bench<A, B, C, D> {
         }
         let busy = self.is_busy();
         self.send(busy);
+        self.leavers.turn(self.now);
         self.pause(rt, busy);
         self.sweep(rt, server, own);
     }

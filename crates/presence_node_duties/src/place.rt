@@ -6,25 +6,25 @@ use std::alloc::{AllocError, Global};
 
 /// A place among the workers, and the bench there.
 #[derive(Drop)]
-pub struct Place<A: Lane, B: Lane, C: Lane, D: Lane> {
+pub struct Workplace<A: Lane, B: Lane, C: Lane, D: Lane> {
     pub number: usize,
     pub bench: Bench<A, B, C, D>,
 }
 
-impl<A: Lane, B: Lane, C: Lane, D: Lane> Tools for Place<A, B, C, D> {
+impl<A: Lane, B: Lane, C: Lane, D: Lane> Tools for Workplace<A, B, C, D> {
     ghost use Rattle.std.specs.Prelude.{◌≡◌};
 
     ghost returns = { λ given back. back.number ≡ given.number };
 }
 
-impl<A: Lane, B: Lane, C: Lane, D: Lane> Place<A, B, C, D> {
+impl<A: Lane, B: Lane, C: Lane, D: Lane> Workplace<A, B, C, D> {
     ghost use Rattle.std.specs.Prelude.{◌≡◌};
 
     /// The seat, once the work is over.
     pub(crate) fn into_seat(self) -> Seat<A, B, C, D>
         ensures { result ≡ self.bench.seat }
     {
-        let Place { number: _, bench } = self;
+        let Workplace { number: _, bench } = self;
         bench.into_seat()
     }
 }
@@ -32,7 +32,7 @@ impl<A: Lane, B: Lane, C: Lane, D: Lane> Place<A, B, C, D> {
 /// The seats of all places.
 pub fn seats_of<A: Lane, B: Lane, C: Lane, D: Lane>(
     alloc: Global,
-    places: Vec<Place<A, B, C, D>>,
+    places: Vec<Workplace<A, B, C, D>>,
 ) -> Result<Vec<Seat<A, B, C, D>>, AllocError> {
     let mut seats = Vec::with_capacity(alloc, places.len())?;
     for place in places {

@@ -2,7 +2,7 @@
 ghost use Rattle.std.specs.Prelude.{◌≡◌};
 
 use crate::door::Door;
-use crate::place::Place;
+use crate::place::Workplace;
 use hook_registry::{PresenceHooks, Routes};
 use presence_node_crew::Crew;
 use presence_node_hints::{Followed, Inbox, Topics};
@@ -151,7 +151,7 @@ impl<'a, H, A: Lane, B: Lane, C: Lane, D: Lane> Wakes for Server<'a, H, A, B, C,
     }
 }
 
-impl<R, H, A, B, C, D> Crew<R, Place<A, B, C, D>, Door, LinkTask> for Server<'_, H, A, B, C, D>
+impl<R, H, A, B, C, D> Crew<R, Workplace<A, B, C, D>, Door, LinkTask> for Server<'_, H, A, B, C, D>
 where
     R: Net<Listener = TcpListener, Stream = TcpStream> + Wait + Clock + Eprint,
     H: PresenceHooks,
@@ -160,10 +160,10 @@ where
     C: Lane,
     D: Lane,
 {
-    fn work(&self, rt: &R, place: Place<A, B, C, D>) -> Place<A, B, C, D> {
-        let Place { number, mut bench } = place;
+    fn work(&self, rt: &R, place: Workplace<A, B, C, D>) -> Workplace<A, B, C, D> {
+        let Workplace { number, mut bench } = place;
         bench.work(rt, self, number);
-        Place { number, bench }
+        Workplace { number, bench }
     }
 
     fn attend(&self, rt: &R, door: Door) {

@@ -1,7 +1,7 @@
 //! What the threads of the server are given.
 use crate::fault::BeginFault;
 use presence_node_crew::Posts;
-use presence_node_duties::{Bench, Door, LISTENER, Mailbox, Place};
+use presence_node_duties::{Bench, Door, LISTENER, Mailbox, Workplace};
 use presence_node_hints::Inbox;
 use presence_node_link_threads::LinkTask;
 use presence_node_queue::Giver;
@@ -18,7 +18,7 @@ type Waiting = Giver<WebSocket<TcpStream, NoMask>>;
 
 /// What the threads are given, and what wakes each of them.
 pub(crate) struct Stations<A: Lane, B: Lane, C: Lane, D: Lane> {
-    pub posts: Posts<Place<A, B, C, D>, Door, LinkTask>,
+    pub posts: Posts<Workplace<A, B, C, D>, Door, LinkTask>,
     /// One of each worker, in their order.
     pub mailboxes: Vec<Mailbox>,
     pub door_bell: Bell,
@@ -27,7 +27,7 @@ pub(crate) struct Stations<A: Lane, B: Lane, C: Lane, D: Lane> {
 /// The places of the workers, with what the others reach each of them by.
 #[derive(Drop)]
 struct Places<A: Lane, B: Lane, C: Lane, D: Lane> {
-    places: Vec<Place<A, B, C, D>>,
+    places: Vec<Workplace<A, B, C, D>>,
     mailboxes: Vec<Mailbox>,
 }
 
@@ -44,7 +44,7 @@ impl<A: Lane, B: Lane, C: Lane, D: Lane> Places<A, B, C, D> {
         self.mailboxes.push(mailbox_of(alloc, &watch)?)?;
         let bench = Bench::new(alloc, seat, waiting.taker()?, watch);
         let number = self.places.len();
-        self.places.push(Place { number, bench })?;
+        self.places.push(Workplace { number, bench })?;
         Ok(())
     }
 }

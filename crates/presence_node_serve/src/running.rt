@@ -11,7 +11,7 @@ use crate::stopping::StopLine;
 use hook_registry::PresenceHooks;
 use presence_base::Replica;
 use presence_node_crew::{Posts, run_crew};
-use presence_node_duties::{Door, Place, Server, seats_of};
+use presence_node_duties::{Door, Server, Workplace, seats_of};
 use presence_node_ends::{ServeEnd, settled};
 use presence_node_link_threads::{LinkTask, LinkTasks, tasks_for};
 use presence_node_options::{PeerOption, ServeOptions};
@@ -160,7 +160,7 @@ fn trim_all<R: Wait, A: Lane, B: Lane, C: Lane, D: Lane>(
 fn run_server<R, H, A, B, C, D>(
     rt: &R,
     server: Server<'_, H, A, B, C, D>,
-    posts: Posts<Place<A, B, C, D>, Door, LinkTask>,
+    posts: Posts<Workplace<A, B, C, D>, Door, LinkTask>,
 ) -> Result<ServeEnd, BeginFault>
 where
     R: Net<Listener = TcpListener, Stream = TcpStream>
