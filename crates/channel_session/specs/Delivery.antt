@@ -19,29 +19,38 @@ abbrev pub failing : InForce → InForce
 failing s = record { pid = s.pid; failed = true; joined = s.joined; cut_short = s.cut_short }
 
 -- A fault: the calls up to it, and a session that has failed where one of them left something behind, and else is as before.
-pub record CutShort {P : Type 0} (step : P → (q : Ask) → Answer q → P → Type 0) (script : Script End) (s : InForce) (old new : P) (after : InForce) (fault : SessionFault) : Type 0 where
+pub record CutShort {P : Type 0} (step : P → (q : Ask) → Answer q → P → Type 0) (script : Script End) (s : InForce)
+    (old new : P) (after : InForce) (fault : SessionFault) : Type 0 where
   pub stop : Stop
   pub fault_is : fault ≡ fault_of stop.kind
   pub calls : Follows step script old new (Err stop)
   pub left : after ≡ (if stop.spoiled then failing s else s)
 
 -- From the one port and session to the others this was said, and the session is as before; or this fault came.
-abbrev pub Delivered : {P : Type 0} → (P → (q : Ask) → Answer q → P → Type 0) → ℕ → InForce → P → P → InForce → Result (List Said) SessionFault → Type 0
+abbrev pub Delivered : {P : Type 0} → (P → (q : Ask) → Answer q → P → Type 0) → ℕ → InForce → P → P → InForce
+    → Result (List Said) SessionFault → Type 0
 Delivered step max s old new after (Ok said) = Follows step (delivery max s) old new (Ok (answers said s)) × (after ≡ s)
 Delivered step max s old new after (Err fault) = CutShort step (delivery max s) s old new after fault
 
 -- The calls of the script were made, and these texts and notices are of what it says.
-pub record DealsBy {P : Type 0} (W : Said → Message → Type 0) (N : Said → List (List ℕ) → Type 0) (step : P → (q : Ask) → Answer q → P → Type 0) (script : Script End) (old new : P) (s : InForce) (result : Result Delivery Stop) : Type 0 where
+pub record DealsBy {P : Type 0} (W : Said → Message → Type 0) (N : Said → List (List ℕ) → Type 0)
+    (step : P → (q : Ask) → Answer q → P → Type 0) (script : Script End) (old new : P) (s : InForce)
+    (result : Result Delivery Stop) : Type 0 where
   pub said : List Said
   pub carries : IfOk result (λ d. Carries W N said d)
   pub deals : Follows step script old new (seen (λ d. answers said s) result)
 
 -- What a delivery did, and by which texts and notices.
-pub record DeliveredBy {P : Type 0} (W : Said → Message → Type 0) (N : Said → List (List ℕ) → Type 0) (step : P → (q : Ask) → Answer q → P → Type 0) (max : ℕ) (s : InForce) (old new : P) (after : InForce) (result : Result Delivery SessionFault) : Type 0 where
+pub record DeliveredBy {P : Type 0} (W : Said → Message → Type 0) (N : Said → List (List ℕ) → Type 0)
+    (step : P → (q : Ask) → Answer q → P → Type 0) (max : ℕ) (s : InForce) (old new : P) (after : InForce)
+    (result : Result Delivery SessionFault) : Type 0 where
   pub said : List Said
   pub carries : IfOk result (λ d. Carries W N said d)
   pub delivered : Delivered step max s old new after (said_by said result)
 
 -- So it is whatever was said before and is in force, where this tells what was said.
-abbrev pub DealsBehind : {P : Type 0} → (Said → Message → Type 0) → (Said → List (List ℕ) → Type 0) → (P → (q : Ask) → Answer q → P → Type 0) → (List Said → InForce → Script End) → P → P → Delivery → Result Delivery Stop → Type 0
-DealsBehind W N step script old new before result = (said : List Said) (s : InForce) → Carries W N said before → DealsBy W N step (script said s) old new s result
+abbrev pub DealsBehind : {P : Type 0} → (Said → Message → Type 0) → (Said → List (List ℕ) → Type 0)
+    → (P → (q : Ask) → Answer q → P → Type 0) → (List Said → InForce → Script End) → P → P → Delivery
+    → Result Delivery Stop → Type 0
+DealsBehind W N step script old new before result = (said : List Said) (s : InForce) → Carries W N said before
+    → DealsBy W N step (script said s) old new s result

@@ -15,7 +15,8 @@ abbrev pub topics_named : InForce → List (List ℕ)
 topics_named s = map (λ j. j.topic) s.joined ++ option_to_list s.cut_short
 
 -- From the one port to the other just the calls of the script were made, and they led to this end.
-pub record Played {P E : Type 0} (step : P → (q : Ask) → Answer q → P → Type 0) (script : Script E) (old new : P) (end : E) : Type 0 where
+pub record Played {P E : Type 0} (step : P → (q : Ask) → Answer q → P → Type 0) (script : Script E) (old new : P)
+    (end : E) : Type 0 where
   pub made : List Call
   pub calls : Made step old made new
   pub plays : Plays script made end
@@ -30,7 +31,8 @@ abbrev pub Leaving : Type 0
 Leaving = List Joined → Result (Unit {0}) ShardFault → Ended
 
 -- an unknown subscriber counts as gone
-abbrev pub then_rows : ℕ → List ℕ → (Result (Unit {0}) ShardFault → Script Ended) → Result (Unit {0}) ShardFault → Script Ended
+abbrev pub then_rows : ℕ → List ℕ → (Result (Unit {0}) ShardFault → Script Ended) → Result (Unit {0}) ShardFault
+    → Script Ended
 then_rows pid topic next (Ok u) = ask (untrack_all pid topic) next
 then_rows pid topic next (Err NoSub) = ask (untrack_all pid topic) next
 then_rows pid topic next (Err e) = next (Err e)
@@ -50,9 +52,11 @@ ends_topics pid leaving [] = done (leaving [] (Ok tt))
 ends_topics pid leaving (j ∷ js) = ends_topic pid j.topic j.sub (λ r. ends_topics pid (staying j r leaving) js)
 
 -- Both calls for a topic: whatever follows them is made from here on.
-abbrev pub Gone : {P : Type 0} → (P → (q : Ask) → Answer q → P → Type 0) → ℕ → List ℕ → Sub → P → P → Result (Unit {0}) ShardFault → Type 0
+abbrev pub Gone : {P : Type 0} → (P → (q : Ask) → Answer q → P → Type 0) → ℕ → List ℕ → Sub → P → P
+    → Result (Unit {0}) ShardFault → Type 0
 Gone {P} step pid topic sub old new r =
-    (next : Result (Unit {0}) ShardFault → Script Ended) (last : P) (e : Ended) → Played step (next r) new last e → Played step (ends_topic pid topic sub next) old last e
+    (next : Result (Unit {0}) ShardFault → Script Ended) (last : P) (e : Ended) → Played step (next r) new last e
+    → Played step (ends_topic pid topic sub next) old last e
 
 -- a session whose end was refused has failed
 abbrev pub failed_by : Bool → Result (Unit {0}) ShardFault → Bool
@@ -66,7 +70,8 @@ pub record Keeps (s after : InForce) (a : Result (Unit {0}) ShardFault) : Type 0
   pub cut_short : after.cut_short ≡ s.cut_short
 
 abbrev pub left_with : InForce → Option (List ℕ) → Leaving
-left_with s named js a = record { after = record { pid = s.pid; failed = failed_by s.failed a; joined = js; cut_short = named }; answer = a }
+left_with s named js a =
+    record { after = record { pid = s.pid; failed = failed_by s.failed a; joined = js; cut_short = named }; answer = a }
 
 -- The topic of a join that was cut short stays named where its rows did, and its refusal is the first.
 abbrev pub then_topics : InForce → List ℕ → Result (Unit {0}) ShardFault → Script Ended
@@ -91,7 +96,8 @@ ended_as (Ok u) = Ok u
 ended_as (Err e) = Err (fault_of_refusal e)
 
 -- The calls of the end were made: this session is left, and this answered.
-pub record EndedBy {P : Type 0} (step : P → (q : Ask) → Answer q → P → Type 0) (s : InForce) (old new : P) (after : InForce) (result : Result (Unit {0}) SessionFault) : Type 0 where
+pub record EndedBy {P : Type 0} (step : P → (q : Ask) → Answer q → P → Type 0) (s : InForce) (old new : P)
+    (after : InForce) (result : Result (Unit {0}) SessionFault) : Type 0 where
   pub answer : Result (Unit {0}) ShardFault
   pub played : Played step (ends s) old new (record { after = after; answer = answer })
   pub answer_is : result ≡ ended_as answer

@@ -19,7 +19,8 @@ is_named t ts = list_any (same_text t) ts
 
 -- each own row of the pid that is present stands on one of these topics
 abbrev pub StandsOn : List (List ℕ) → ℕ → History → Type 0
-StandsOn ts pid h = (t : List ℕ) (p : Place) (r : Row) → map.get (present h t) p ≡ Some r → is_mine h pid (p.dot, r) ≡ true → is_named t ts ≡ true
+StandsOn ts pid h = (t : List ℕ) (p : Place) (r : Row) → map.get (present h t) p ≡ Some r
+    → is_mine h pid (p.dot, r) ≡ true → is_named t ts ≡ true
 
 -- the join's subscriber is no more
 abbrev pub IsOver : History → Joined → Type 0
@@ -33,5 +34,6 @@ pub record LeavesNothing (s : InForce) (h : History) : Type 0 where
 -- A session that names each topic on which a row of its pid stands leaves nothing behind by an accepted end.
 abbrev pub EndLeavesNothing : Type 0
 EndLeavesNothing =
-    (s after : InForce) (old new : History) → IsLegal old → StandsOn (topics_named s) s.pid old → EndedBy LocalStep s old new after (Ok tt)
+    (s after : InForce) (old new : History) → IsLegal old → StandsOn (topics_named s) s.pid old
+    → EndedBy LocalStep s old new after (Ok tt)
     → LeavesNothing s new

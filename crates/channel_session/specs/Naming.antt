@@ -24,7 +24,8 @@ pub record NamesItsTopics (s : InForce) (h : History) : Type 0 where
 -- so it is behind a text, however that ends
 abbrev pub TextsKeepNames : Type 0
 TextsKeepNames =
-    (routes : List (List ℕ × ℕ)) (s after : InForce) (reading : Result Message MessageFault) (old new : History) (result : Result (List Said) SessionFault)
+    (routes : List (List ℕ × ℕ)) (s after : InForce) (reading : Result Message MessageFault) (old new : History)
+    (result : Result (List Said) SessionFault)
     → NamesItsTopics s old → EndedSo LocalStep routes s reading old new after result → NamesItsTopics after new
 
 -- and behind a delivery

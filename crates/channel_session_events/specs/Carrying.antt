@@ -5,10 +5,13 @@ use Rattle.channel_session_rules.specs.Said.{Said, WritesAll, NotesAll}
 use Rattle.channel_session_events.specs.declared.frames.Delivery.{Delivery}
 
 -- The texts are of messages that tell what is said, and the notices note it.
-pub record Carries (W : Said → Message → Type 0) (N : Said → List (List ℕ) → Type 0) (said : List Said) (d : Delivery) : Type 0 where
+pub record Carries (W : Said → Message → Type 0) (N : Said → List (List ℕ) → Type 0) (said : List Said)
+    (d : Delivery) : Type 0 where
   pub texts : WritesAll W said (map string_bytes d.texts.items)
   pub notices : NotesAll N said d.notices.items
 
 -- With what was told before, this was told too, whatever that was.
-abbrev pub AddsTo : {E : Type 0} → (Said → Message → Type 0) → (Said → List (List ℕ) → Type 0) → Delivery → List Said → Result Delivery E → Type 0
-AddsTo W N d more result = (before : List Said) → Carries W N before d → IfOk result (λ e. Carries W N (before ++ more) e)
+abbrev pub AddsTo : {E : Type 0} → (Said → Message → Type 0) → (Said → List (List ℕ) → Type 0) → Delivery → List Said
+    → Result Delivery E → Type 0
+AddsTo W N d more result = (before : List Said) → Carries W N before d
+    → IfOk result (λ e. Carries W N (before ++ more) e)

@@ -13,9 +13,12 @@ use Rattle.channel_session_events.specs.declared.joins.JoinReply.{JoinReply}
 use Rattle.channel_session_events.specs.declared.joins.RejoinReply.{RejoinReply}
 
 -- Whatever follows them: what follows is made from here on, or they were refused.
-abbrev pub Leads : {P : Type 0} → (P → (q : Ask) → Answer q → P → Type 0) → ℕ → List ℕ → Sub → P → P → Result (Unit {0}) Stop → Type 0
-Leads {P} step pid topic sub old new (Ok u) = (next : Script End) (last : P) (r : Result End Stop) → Follows step next new last r → Follows step (ended pid topic sub next) old last (spoilt r)
-Leads step pid topic sub old new (Err stop) = (next : Script End) → Follows step (ended pid topic sub next) old new (Err stop)
+abbrev pub Leads : {P : Type 0} → (P → (q : Ask) → Answer q → P → Type 0) → ℕ → List ℕ → Sub → P → P
+    → Result (Unit {0}) Stop → Type 0
+Leads {P} step pid topic sub old new (Ok u) = (next : Script End) (last : P) (r : Result End Stop)
+    → Follows step next new last r → Follows step (ended pid topic sub next) old last (spoilt r)
+Leads step pid topic sub old new (Err stop) = (next : Script End)
+    → Follows step (ended pid topic sub next) old new (Err stop)
 
 -- What a join of a topic of this kind leaves in force: nothing new where it was refused.
 abbrev pub joined_by : ℕ → InForce → Message → Option Sub → InForce
@@ -29,15 +32,20 @@ abbrev pub rejoin_end : ℕ → InForce → Message → RejoinReply → End
 rejoin_end kind s m r = join_end (message r.close.message ∷ []) kind s m r.join
 
 -- the calls of the join's rule were made, whatever was said before, whatever the topic's kind is and whatever is in force
-abbrev pub JoinRuns : {P : Type 0} → (P → (q : Ask) → Answer q → P → Type 0) → (List Said → ℕ → InForce → Script End) → Message → P → P → Result JoinReply Stop → Type 0
-JoinRuns step rule m old new result = (before : List Said) (kind : ℕ) (s : InForce) → Follows step (rule before kind s) old new (seen (join_end before kind s m) result)
+abbrev pub JoinRuns : {P : Type 0} → (P → (q : Ask) → Answer q → P → Type 0) → (List Said → ℕ → InForce → Script End)
+    → Message → P → P → Result JoinReply Stop → Type 0
+JoinRuns step rule m old new result = (before : List Said) (kind : ℕ) (s : InForce)
+    → Follows step (rule before kind s) old new (seen (join_end before kind s m) result)
 
 -- where it is at its end
 abbrev pub JoinRepliesWith : (List Said → ℕ → InForce → End) → Bool → Message → Result JoinReply Stop → Type 0
-JoinRepliesWith end spoiled m result = (before : List Said) (kind : ℕ) (s : InForce) → Gives (end before kind s) spoiled (seen (join_end before kind s m) result)
+JoinRepliesWith end spoiled m result = (before : List Said) (kind : ℕ) (s : InForce)
+    → Gives (end before kind s) spoiled (seen (join_end before kind s m) result)
 
-abbrev pub RejoinRuns : {P : Type 0} → (P → (q : Ask) → Answer q → P → Type 0) → (ℕ → InForce → Script End) → Message → P → P → Result RejoinReply Stop → Type 0
-RejoinRuns step rule m old new result = (kind : ℕ) (s : InForce) → Follows step (rule kind s) old new (seen (rejoin_end kind s m) result)
+abbrev pub RejoinRuns : {P : Type 0} → (P → (q : Ask) → Answer q → P → Type 0) → (ℕ → InForce → Script End) → Message
+    → P → P → Result RejoinReply Stop → Type 0
+RejoinRuns step rule m old new result = (kind : ℕ) (s : InForce)
+    → Follows step (rule kind s) old new (seen (rejoin_end kind s m) result)
 
 -- the reply to a leave, and the close behind it
 abbrev pub leave_end : Joined → Message → InForce → End

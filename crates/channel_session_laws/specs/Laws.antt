@@ -24,7 +24,8 @@ use Rattle.channel_session_rules.specs.Script.{Script}
 
 -- what a lent shard answers, and the history that it leaves, are the sequential table's, unless memory is wanted
 abbrev pub AnswersByTable : Type 0
-AnswersByTable = (old new : History) (q : Ask) (a : Answer q) → LocalStep old q a new → (a ≡ Err OutOfMemory → ⊥) → (a ≡ answer_in old q) × (new ≡ after_in old q)
+AnswersByTable = (old new : History) (q : Ask) (a : Answer q) → LocalStep old q a new → (a ≡ Err OutOfMemory → ⊥)
+    → (a ≡ answer_in old q) × (new ≡ after_in old q)
 
 -- want of memory leaves the history as it was
 abbrev pub WantStays : Type 0
@@ -47,26 +48,31 @@ DeliveriesArePlayed = (max : ℕ) (s : InForce) → IsPlayed (delivery max s)
 -- client's lists, whatever they were, to mirror the present rows of its topic.
 abbrev pub FramesMirror : Type 0
 FramesMirror =
-    (h : History) → IsLegal h → (n : ℕ) (t : List ℕ) → topic_of h n ≡ Some t → (q : List Item) → queue h n ≡ Queued q → (join_ref : Option MsgRef) (before : Listing)
+    (h : History) → IsLegal h → (n : ℕ) (t : List ℕ) → topic_of h n ≡ Some t → (q : List Item) → queue h n ≡ Queued q
+    → (join_ref : Option MsgRef) (before : Listing)
     → Mirrors (mirror_from before (map (message_of join_ref t) (taken h n ++ q))) (listed h t)
 
 -- once nothing waits for it, all frames that it was ever given do
 abbrev pub AllFramesMirror : Type 0
 AllFramesMirror =
-    (h : History) → IsLegal h → (n : ℕ) (t : List ℕ) → topic_of h n ≡ Some t → is_waiting (queue h n) ≡ false → (join_ref : Option MsgRef) (before : Listing)
+    (h : History) → IsLegal h → (n : ℕ) (t : List ℕ) → topic_of h n ≡ Some t → is_waiting (queue h n) ≡ false
+    → (join_ref : Option MsgRef) (before : Listing)
     → Mirrors (mirror_from before (map (message_of join_ref t) (given_to h n))) (listed h t)
 
 -- a call of a lent shard gives a subscriber what it answers to its take, and nothing else does
 abbrev pub CallsGive : Type 0
-CallsGive = (old new : History) (q : Ask) (a : Answer q) → LocalStep old q a new → (n : ℕ) → given_to new n ≡ given_to old n ++ given_by q a n
+CallsGive = (old new : History) (q : Ask) (a : Answer q) → LocalStep old q a new → (n : ℕ)
+    → given_to new n ≡ given_to old n ++ given_by q a n
 
 -- Whatever a port answers: after turns of a session that had joined nothing, none of which left it failed, in force are the topics whose last
 -- join was answered ok and that have no later leave.
 abbrev pub InForceByTurns : Type 0
-InForceByTurns = (routes : List (List ℕ × ℕ)) (pid : ℕ) (turns : List Turn) (s : InForce) → AllTurned routes (fresh pid) turns s → s.joined ≡ in_force routes turns
+InForceByTurns = (routes : List (List ℕ × ℕ)) (pid : ℕ) (turns : List Turn) (s : InForce)
+    → AllTurned routes (fresh pid) turns s → s.joined ≡ in_force routes turns
 
 -- a join that was answered ok is of a topic with a kind, and the port gave it a subscriber
 abbrev pub OkJoinsAreGiven : Type 0
 OkJoinsAreGiven =
-    (routes : List (List ℕ × ℕ)) (s : InForce) (m : Message) (calls : List Call) (said : List Said) (t : InForce) → Turned routes s (heard m calls said) t
+    (routes : List (List ℕ × ℕ)) (s : InForce) (m : Message) (calls : List Call) (said : List Said) (t : InForce)
+    → Turned routes s (heard m calls said) t
     → (is_join m && answered_ok said) ≡ true → (j : Joined) × (joined_by routes (heard m calls said) ≡ j ∷ [])

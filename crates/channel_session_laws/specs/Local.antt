@@ -20,7 +20,8 @@ use Rattle.channel_session_rules.specs.Script.{Script, done, ask}
 -- ---- the calls
 
 -- the step was asked of the shard, without a seat: what it left, what it answered, and that a refusal is the one that stands
-pub record Asked {A : Type 0} (found : Bool) (old new : History) (step : Step) (Gives : A → Type 0) (answer : Result A ShardFault) : Type 0 where
+pub record Asked {A : Type 0} (found : Bool) (old new : History) (step : Step) (Gives : A → Type 0)
+    (answer : Result A ShardFault) : Type 0 where
   pub stepped : Stepped old new None step answer
   pub given : Answers Gives (outcome_of old step) answer
   pub due : IsDue answer (refusal found old step)
@@ -39,15 +40,20 @@ waiting_at h sub = cond (is_found h sub.slot sub.number) (Ok (is_waiting (queue 
 
 -- from the one history to the other this was asked and this answered
 abbrev pub LocalStep : History → (q : Ask) → Answer q → History → Type 0
-LocalStep old (track pid t k m) a new = Asked true old new (steps_are.Track pid t k m) (IsNew old (steps_are.Track pid t k m)) a
-LocalStep old (update pid t k m) a new = Asked true old new (steps_are.Update pid t k m) (IsNew old (steps_are.Update pid t k m)) a
+LocalStep old (track pid t k m) a new =
+    Asked true old new (steps_are.Track pid t k m) (IsNew old (steps_are.Track pid t k m)) a
+LocalStep old (update pid t k m) a new =
+    Asked true old new (steps_are.Update pid t k m) (IsNew old (steps_are.Update pid t k m)) a
 LocalStep old (untrack pid t k) a new = Asked true old new (steps_are.Untrack pid t k) (λ _. Unit {0}) a
 LocalStep old (untrack_all pid t) a new = Asked true old new (steps_are.UntrackAll pid t) (λ _. Unit {0}) a
 LocalStep old (list t) a new = Asked true old new (steps_are.List t) (λ rows. rows ≡ listed old t) a
 LocalStep old (get t k) a new = Asked true old new (steps_are.Get t k) (λ rows. rows ≡ listed_key old t k) a
 LocalStep old (subscribe t) a new = Asked true old new (steps_are.Subscribe t) (IsNext old) a
-LocalStep old (take t s n) a new = Asked (is_found old s.slot s.number) old new (steps_are.Take s.number n) (λ items. items ≡ items_given old s.number n) a
-LocalStep old (unsubscribe t s) a new = Asked (is_found old s.slot s.number) old new (steps_are.Unsubscribe s.number) (λ _. Unit {0}) a
+LocalStep old (take t s n) a new =
+    Asked (is_found old s.slot s.number) old new (steps_are.Take s.number n)
+    (λ items. items ≡ items_given old s.number n) a
+LocalStep old (unsubscribe t s) a new =
+    Asked (is_found old s.slot s.number) old new (steps_are.Unsubscribe s.number) (λ _. Unit {0}) a
 LocalStep old (waits t s) a new = (new ≡ old) × (a ≡ waiting_at old s)
 LocalStep old (shout t p) a new = Asked true old new (steps_are.Shout t p) (λ _. Unit {0}) a
 
@@ -79,8 +85,10 @@ answer_in h (untrack pid t k) = answer_of true h (steps_are.Untrack pid t k) tt
 answer_in h (untrack_all pid t) = answer_of true h (steps_are.UntrackAll pid t) tt
 answer_in h (list t) = answer_of true h (steps_are.List t) (listed h t)
 answer_in h (get t k) = answer_of true h (steps_are.Get t k) (listed_key h t k)
-answer_in h (subscribe t) = answer_of true h (steps_are.Subscribe t) (record { slot = slot_of (last_number h + 1); number = last_number h + 1 })
-answer_in h (take t s n) = answer_of (is_found h s.slot s.number) h (steps_are.Take s.number n) (items_given h s.number n)
+answer_in h (subscribe t) =
+    answer_of true h (steps_are.Subscribe t) (record { slot = slot_of (last_number h + 1); number = last_number h + 1 })
+answer_in h (take t s n) =
+    answer_of (is_found h s.slot s.number) h (steps_are.Take s.number n) (items_given h s.number n)
 answer_in h (unsubscribe t s) = answer_of (is_found h s.slot s.number) h (steps_are.Unsubscribe s.number) tt
 answer_in h (waits t s) = waiting_at h s
 answer_in h (shout t p) = answer_of true h (steps_are.Shout t p) tt

@@ -32,7 +32,8 @@ mirror_from ls (m ∷ ms) = mirror_from (after_reading ls (frame_in m)) ms
 -- the meta of the row of this key whose dot has this reference, with its references, if there is such a row
 abbrev pub told_at : List (Dot × Row) → List ℕ → List ℕ → Option Data
 told_at [] k r = None
-told_at (x ∷ xs) k r = if (same_text x.1.key k && same_text (ref_of x.0) r) then Some (tracked_of x.0 x.1).meta else told_at xs k r
+told_at (x ∷ xs) k r =
+    if (same_text x.1.key k && same_text (ref_of x.0) r) then Some (tracked_of x.0 x.1).meta else told_at xs k r
 
 -- at each key and reference the lists have the meta of the row of that key and reference, and nothing where there is none
 abbrev pub Mirrors : Listing → List (Dot × Row) → Type 0

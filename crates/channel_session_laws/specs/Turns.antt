@@ -65,7 +65,8 @@ joined_as _ _ m = []
 
 -- the topic of a join that was answered ok
 abbrev pub joined_by : List (List ℕ × ℕ) → Turn → List Joined
-joined_by routes (heard m calls said) = if is_join m && answered_ok said then joined_as (first_kind m.topic routes) (sub_given calls) m else []
+joined_by routes (heard m calls said) =
+    if is_join m && answered_ok said then joined_as (first_kind m.topic routes) (sub_given calls) m else []
 joined_by routes _ = []
 
 -- no later turn leaves the topic or joins it again

@@ -39,7 +39,8 @@ EndsSo script made (Ok end) = Plays script made end
 EndsSo script made (Err stop) = Stopped stop.kind script made × (stop.spoiled ≡ some_spoils made)
 
 -- From the one port to the other the calls of the script were made, in its order, up to this end.
-pub record Follows {P : Type 0} (step : P → (q : Ask) → Answer q → P → Type 0) (script : Script End) (old new : P) (result : Result End Stop) : Type 0 where
+pub record Follows {P : Type 0} (step : P → (q : Ask) → Answer q → P → Type 0) (script : Script End) (old new : P)
+    (result : Result End Stop) : Type 0 where
   pub made : List Call
   pub calls : Made step old made new
   pub ends : EndsSo script made result

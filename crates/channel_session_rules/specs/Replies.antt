@@ -23,11 +23,13 @@ abbrev pub reply_end : InForce → Reply → End
 reply_end s r = answers (map message (messages_of r)) s
 
 -- the calls of the rule were made, and its reply leaves this session
-abbrev pub Acts : {P : Type 0} → (P → (q : Ask) → Answer q → P → Type 0) → Script End → P → P → InForce → Result Reply Stop → Type 0
+abbrev pub Acts : {P : Type 0} → (P → (q : Ask) → Answer q → P → Type 0) → Script End → P → P → InForce
+    → Result Reply Stop → Type 0
 Acts step rule old new after result = Follows step rule old new (seen (reply_end after) result)
 
 -- so it is whatever is in force, which the reply leaves as it was
-abbrev pub Runs : {P : Type 0} → (P → (q : Ask) → Answer q → P → Type 0) → (InForce → Script End) → P → P → Result Reply Stop → Type 0
+abbrev pub Runs : {P : Type 0} → (P → (q : Ask) → Answer q → P → Type 0) → (InForce → Script End) → P → P
+    → Result Reply Stop → Type 0
 Runs step rule old new result = (s : InForce) → Acts step (rule s) old new s result
 
 -- where the rule is at its end, whatever is in force
@@ -45,16 +47,19 @@ abbrev pub IsWordedBy : (Said → Message → Type 0) → List Said → Result R
 IsWordedBy W said result = IfOk result (λ r. EachBy W said (messages_of r))
 
 -- The calls of the rule were made: this session is left, and the reply tells what is said.
-pub record ActsBy {P : Type 0} (W : Said → Message → Type 0) (step : P → (q : Ask) → Answer q → P → Type 0) (rule : Script End) (old new : P) (after : InForce) (result : Result Reply Stop) : Type 0 where
+pub record ActsBy {P : Type 0} (W : Said → Message → Type 0) (step : P → (q : Ask) → Answer q → P → Type 0)
+    (rule : Script End) (old new : P) (after : InForce) (result : Result Reply Stop) : Type 0 where
   pub said : List Said
   pub worded : IsWordedBy W said result
   pub acts : Follows step rule old new (seen (said_end said after) result)
 
-abbrev pub RunsBy : {P : Type 0} → (Said → Message → Type 0) → (P → (q : Ask) → Answer q → P → Type 0) → (InForce → Script End) → P → P → Result Reply Stop → Type 0
+abbrev pub RunsBy : {P : Type 0} → (Said → Message → Type 0) → (P → (q : Ask) → Answer q → P → Type 0)
+    → (InForce → Script End) → P → P → Result Reply Stop → Type 0
 RunsBy W step rule old new result = (s : InForce) → ActsBy W step (rule s) old new s result
 
 -- where the rule is at its end, whatever is in force
-pub record RepliesBy (W : Said → Message → Type 0) (end : InForce → End) (spoiled : Bool) (result : Result Reply Stop) : Type 0 where
+pub record RepliesBy (W : Said → Message → Type 0) (end : InForce → End) (spoiled : Bool)
+    (result : Result Reply Stop) : Type 0 where
   pub said : List Said
   pub worded : IsWordedBy W said result
   pub gives : (s : InForce) → Gives (end s) spoiled (seen (said_end said s) result)

@@ -85,7 +85,8 @@ said answer e None = unsaid e
 
 -- ---- events of a joined topic of this kind, whose present join's reference is r
 
-abbrev pub replied : {A : Type 0} → InForce → Option MsgRef → Message → (ShardFault → Option (List ℕ)) → (A → List Said) → Result A ShardFault → End
+abbrev pub replied : {A : Type 0} → InForce → Option MsgRef → Message → (ShardFault → Option (List ℕ))
+    → (A → List Said) → Result A ShardFault → End
 replied s r m reason reply (Ok x) = answers (reply x) s
 replied s r m reason reply (Err e) = said (λ t. says (error r m t ∷ []) s) e (reason e)
 
@@ -151,7 +152,8 @@ ended pid topic sub next = ask (unsubscribe topic sub) (then_next (ask (untrack_
 
 -- a leave of a topic that isn't joined is answered ok under the message's own join reference
 abbrev pub on_leave : ℕ → InForce → Option Joined → Message → Script End
-on_leave pid s (Some j) m = ended pid m.topic j.sub (done (says (ok j.join_ref m empty ∷ closing j.join_ref m.topic ∷ []) (left s m.topic)))
+on_leave pid s (Some j) m =
+    ended pid m.topic j.sub (done (says (ok j.join_ref m empty ∷ closing j.join_ref m.topic ∷ []) (left s m.topic)))
 on_leave pid s None m = done (says_ok m.join_ref m empty s)
 
 -- ---- joins: `before` is said before the join's own reply, `first` tells whether its first call is the text's, `kind` is that of the topic
@@ -165,7 +167,12 @@ abbrev pub join_ref_of : Message → Option MsgRef
 join_ref_of m = or_ref m.join_ref m.msg_ref
 
 abbrev pub joins : ℕ → InForce → Message → Sub → InForce
-joins kind s m sub = record { pid = s.pid; failed = s.failed; joined = s.joined ++ record { topic = m.topic; kind = kind; join_ref = join_ref_of m; sub = sub } ∷ []; cut_short = s.cut_short }
+joins kind s m sub = record {
+  pid = s.pid;
+  failed = s.failed;
+  joined = s.joined ++ record { topic = m.topic; kind = kind; join_ref = join_ref_of m; sub = sub } ∷ [];
+  cut_short = s.cut_short;
+}
 
 abbrev pub answers_join : List Said → Message → InForce → End
 answers_join before reply s = answers (before ++ message reply ∷ []) s
@@ -174,11 +181,13 @@ abbrev pub refuses : List Said → InForce → Message → List ℕ → End
 refuses before s m reason = answers_join before (error (join_ref_of m) m reason) s
 
 abbrev pub after_subscribe : Bool → List Said → ℕ → InForce → Message → Data → Result Sub ShardFault → End
-after_subscribe first before kind s m response (Ok sub) = answers_join before (ok (join_ref_of m) m response) (joins kind s m sub)
+after_subscribe first before kind s m response (Ok sub) =
+    answers_join before (ok (join_ref_of m) m response) (joins kind s m sub)
 after_subscribe first before kind s m response (Err e) = said (refuses before s m) e (full_reason first e)
 
 abbrev pub subscribes : Bool → List Said → ℕ → InForce → Message → Data → Script End
-subscribes first before kind s m response = ask (subscribe m.topic) (λ a. done (after_subscribe first before kind s m response a))
+subscribes first before kind s m response =
+    ask (subscribe m.topic) (λ a. done (after_subscribe first before kind s m response a))
 
 abbrev pub then_subscribe : Bool → List Said → ℕ → InForce → Message → Result Dot ShardFault → Script End
 then_subscribe first before kind s m (Ok d) = subscribes false before kind s m (told_ref d)
@@ -189,17 +198,20 @@ tracks pid first before kind s m key meta = ask (track pid m.topic key meta) (th
 
 -- a join of one topic too many is refused, and any other goes on
 abbrev pub within : ℕ → List Said → InForce → Message → Script End → Script End
-within count before s m next = if nat_le MAX_TOPICS count then done (refuses before s m (codes "too many topics")) else next
+within count before s m next =
+    if nat_le MAX_TOPICS count then done (refuses before s m (codes "too many topics")) else next
 
 -- a bad payload is told first
 abbrev pub join_asked : ℕ → ℕ → Bool → List Said → ℕ → InForce → Message → Asked → Script End
 join_asked pid count first before kind s m Bad = done (refuses before s m (codes "bad payload"))
 join_asked pid count first before kind s m Nothing = within count before s m (subscribes first before kind s m empty)
-join_asked pid count first before kind s m (Wants key meta) = within count before s m (tracks pid first before kind s m key meta)
+join_asked pid count first before kind s m (Wants key meta) =
+    within count before s m (tracks pid first before kind s m key meta)
 
 -- The old join ends, its close goes out, and the new join is handled.
 abbrev pub rejoins : ℕ → ℕ → Joined → ℕ → InForce → Message → Asked → Script End
-rejoins pid count j kind s m a = ended pid m.topic j.sub (join_asked pid count false (message (closing j.join_ref m.topic) ∷ []) kind s m a)
+rejoins pid count j kind s m a =
+    ended pid m.topic j.sub (join_asked pid count false (message (closing j.join_ref m.topic) ∷ []) kind s m a)
 
 abbrev pub on_join : ℕ → ℕ → ℕ → InForce → Option Joined → Message → Asked → Script End
 on_join pid count kind s None m a = join_asked pid count true [] kind s m a
@@ -234,7 +246,8 @@ by_route pid count s j m (Some kind) = on_join pid count kind s j m (asked m.pay
 
 -- heartbeats on `phoenix`; joins of a topic that can be joined; leaves; everything else
 abbrev pub by_kind : Bool → Option ℕ → ℕ → ℕ → InForce → Option Joined → Message → EventKind → Script End
-by_kind phoenix route pid count s j m kinds_are.Heartbeat = if phoenix then on_heartbeat s m else on_topic pid s j m events_are.Unknown
+by_kind phoenix route pid count s j m kinds_are.Heartbeat =
+    if phoenix then on_heartbeat s m else on_topic pid s j m events_are.Unknown
 by_kind phoenix route pid count s j m kinds_are.Join = by_route pid count s j m route
 by_kind phoenix route pid count s j m kinds_are.Leave = on_leave pid s j m
 by_kind phoenix route pid count s j m (kinds_are.Topic event) = on_topic pid s j m event

@@ -35,14 +35,17 @@ plainly (told j i) = message_of j.join_ref j.topic i
 
 -- The message tells an item to its join, for some answers of the fetch of that kind and topic.
 abbrev pub TellsItem : (List ℕ → Members → Type 0) → Joined → Item → Message → Type 0
-TellsItem answers j (items_are.State rows) x = (d : Data) × RendersState answers rows d × (x ≡ push_of j.join_ref j.topic (codes "presence_state") d)
-TellsItem answers j (items_are.Diff r) x = (d : Data) × RendersDiff answers r.joins r.leaves d × (x ≡ broadcast_of j.topic (codes "presence_diff") d)
+TellsItem answers j (items_are.State rows) x = (d : Data) × RendersState answers rows d
+    × (x ≡ push_of j.join_ref j.topic (codes "presence_state") d)
+TellsItem answers j (items_are.Diff r) x = (d : Data) × RendersDiff answers r.joins r.leaves d
+    × (x ≡ broadcast_of j.topic (codes "presence_diff") d)
 TellsItem answers j (items_are.Shout payload) x = x ≡ broadcast_of j.topic (codes "shout") payload
 
 -- The message tells it, for some answers of this fetch, which is asked with a kind, a topic and a key.
 abbrev pub Tells : (ℕ → List ℕ → List ℕ → Members → Type 0) → Said → Message → Type 0
 Tells fetched (message m) x = x ≡ m
-Tells fetched (listed kind r m rows) x = (d : Data) × RendersState (fetched kind m.topic) rows d × (x ≡ ok_reply r m.msg_ref m.topic d)
+Tells fetched (listed kind r m rows) x = (d : Data) × RendersState (fetched kind m.topic) rows d
+    × (x ≡ ok_reply r m.msg_ref m.topic d)
 Tells fetched (told j i) x = TellsItem (fetched j.kind j.topic) j i x
 
 -- and tells it plainly where the fetch adds nothing
@@ -67,7 +70,8 @@ WritesAll W said texts = (ms : List Message) × EachBy W said ms × (texts ≡ m
 
 -- what is noted of it: of a diff one notice for each row, of anything else none
 abbrev pub Notes : (joined left : ℕ → List ℕ → List ℕ → Dot → List ℕ → Type 0) → Said → List (List ℕ) → Type 0
-Notes joined left (told j (items_are.Diff d)) ns = NoticesOf (joined j.kind j.topic) (left j.kind j.topic) d.joins d.leaves ns
+Notes joined left (told j (items_are.Diff d)) ns =
+    NoticesOf (joined j.kind j.topic) (left j.kind j.topic) d.joins d.leaves ns
 Notes joined left _ ns = ns ≡ []
 
 -- nothing where all is quiet
@@ -77,4 +81,5 @@ Noted joined left quiet said ns = (quiet ≡ false → Notes joined left said ns
 -- the notices of all that is said, one after the other
 abbrev pub NotesAll : (Said → List (List ℕ) → Type 0) → List Said → List (List ℕ) → Type 0
 NotesAll N [] ns = ns ≡ []
-NotesAll N (x ∷ xs) ns = (of_it : List (List ℕ)) × (rest : List (List ℕ)) × (ns ≡ of_it ++ rest) × N x of_it × NotesAll N xs rest
+NotesAll N (x ∷ xs) ns = (of_it : List (List ℕ)) × (rest : List (List ℕ)) × (ns ≡ of_it ++ rest) × N x of_it
+    × NotesAll N xs rest

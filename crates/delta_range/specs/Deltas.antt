@@ -24,8 +24,11 @@ pub record DeltaValue : Type 0 where
 
 abbrev pub delta_code : Coded DeltaValue
 delta_code =
-    code_by (Replica × (ℕ × (ℕ × (List (ℕ × ℕ) × List (Dot × Row))))) (coded× replica_code (coded× coded_ℕ (coded× coded_ℕ (coded× (coded_list (coded× coded_ℕ coded_ℕ)) (coded_list (coded× dot_code row_code))))))
-    (λ d. (d.owner, (d.from, (d.to, (d.older, d.live))))) (λ p. record { owner = p.0; from = p.1.0; to = p.1.1.0; older = p.1.1.1.0; live = p.1.1.1.1 }) (λ _. refl)
+    code_by (Replica × (ℕ × (ℕ × (List (ℕ × ℕ) × List (Dot × Row)))))
+    (coded× replica_code (coded× coded_ℕ
+    (coded× coded_ℕ (coded× (coded_list (coded× coded_ℕ coded_ℕ)) (coded_list (coded× dot_code row_code))))))
+    (λ d. (d.owner, (d.from, (d.to, (d.older, d.live)))))
+    (λ p. record { owner = p.0; from = p.1.0; to = p.1.1.0; older = p.1.1.1.0; live = p.1.1.1.1 }) (λ _. refl)
 
 abbrev pub own_dots : DeltaValue → Range
 own_dots d = (d.owner, d.from, d.to)
@@ -63,7 +66,13 @@ run_of d = (d.count - 1, d.count)
 
 -- the told value as a delta
 abbrev pub delta_of : ToldValue → DeltaValue
-delta_of t = record { owner = (own_range t.ranges).0; from = (own_range t.ranges).1; to = (own_range t.ranges).2; older = longest (map run_of t.extras); live = t.live }
+delta_of t = record {
+  owner = (own_range t.ranges).0;
+  from = (own_range t.ranges).1;
+  to = (own_range t.ranges).2;
+  older = longest (map run_of t.extras);
+  live = t.live;
+}
 
 -- whether a dot is the owner's, at or below a count
 abbrev pub is_older : Replica → ℕ → Dot → Bool

@@ -14,7 +14,8 @@ pub record Growing : Type 0 where
   pub after : DeltaValue
 
 abbrev pub growing_code : Coded Growing
-growing_code = code_by (DeltaValue × DeltaValue) (coded× delta_code delta_code) (λ g. (g.before, g.after)) (λ p. record { before = p.0; after = p.1 }) (λ _. refl)
+growing_code = code_by (DeltaValue × DeltaValue) (coded× delta_code delta_code) (λ g. (g.before, g.after))
+    (λ p. record { before = p.0; after = p.1 }) (λ _. refl)
 
 -- the older runs, with those of a removal where there is one
 abbrev pub runs_with : Option Removal → List (ℕ × ℕ) → List (ℕ × ℕ)
@@ -30,7 +31,14 @@ rows_left (Some r) rows = not_in r.dots rows
 abbrev pub growing : DeltaValue → Option Removal → List (Dot × Row) → ℕ → Growing
 growing d r rows end = record {
   before = d;
-  after = record { owner = d.owner; from = d.from; to = end; older = runs_with r d.older; live = rows_left r d.live ++ rows };
+  after =
+      record {
+        owner = d.owner;
+        from = d.from;
+        to = end;
+        older = runs_with r d.older;
+        live = rows_left r d.live ++ rows;
+      };
 }
 
 pub record AreDeltas (g : Growing) : Type 0 where

@@ -39,11 +39,14 @@ joined a b = record {
 -- c covers what a or b covers; what b covers is told as b tells it, and all else as a does
 pub record Joined (a b c : DeltaValue) : Type 0 where
   pub union : (d : Dot) → covers (telling c) d ≡ (covers (telling a) d || covers (telling b) d)
-  pub rows : (d : Dot) → live_row (telling c) d ≡ cond (covers (telling b) d) (live_row (telling b) d) (live_row (telling a) d)
+  pub rows : (d : Dot)
+      → live_row (telling c) d ≡ cond (covers (telling b) d) (live_row (telling b) d) (live_row (telling a) d)
 
 -- why b doesn't go on from a, memory aside
 abbrev pub first_fault : DeltaValue → DeltaValue → Option DeltaFault
-first_fault a b = cond (not (same_replica a.owner b.owner)) (Some OtherOwner) (cond (not (nat_eq a.to b.from)) (Some NotContiguous) None)
+first_fault a b =
+    cond (not (same_replica a.owner b.owner)) (Some OtherOwner)
+    (cond (not (nat_eq a.to b.from)) (Some NotContiguous) None)
 
 -- the fault is the first one; memory runs out only where there is none
 abbrev pub IsFault : DeltaFault → Option DeltaFault → Type 0

@@ -18,8 +18,10 @@ pub record Kept : Type 0 where
 abbrev pub kept_code : Coded Kept
 kept_code =
     code_by (Option (Replica × ℕ) × (Option DeltaValue × (Option DeltaValue × Option DeltaValue)))
-    (coded× (coded_option (coded× replica_code coded_ℕ)) (coded× (coded_option delta_code) (coded× (coded_option delta_code) (coded_option delta_code))))
-    (λ k. (k.last, (k.short, (k.middle, k.long)))) (λ p. record { last = p.0; short = p.1.0; middle = p.1.1.0; long = p.1.1.1 }) (λ _. refl)
+    (coded× (coded_option (coded× replica_code coded_ℕ))
+    (coded× (coded_option delta_code) (coded× (coded_option delta_code) (coded_option delta_code))))
+    (λ k. (k.last, (k.short, (k.middle, k.long))))
+    (λ p. record { last = p.0; short = p.1.0; middle = p.1.1.0; long = p.1.1.1 }) (λ _. refl)
 
 -- its live rows and older runs together
 abbrev pub size : DeltaValue → ℕ
@@ -39,7 +41,12 @@ grown cap None d = alone cap d
 grown cap (Some old) d = cond (nat_le (size (joined old d)) cap) (Some (joined old d)) (alone cap d)
 
 abbrev pub pushed : Kept → DeltaValue → Kept
-pushed k d = record { last = Some (d.owner, d.to); short = grown SHORT_CAP k.short d; middle = grown MIDDLE_CAP k.middle d; long = grown LONG_CAP k.long d }
+pushed k d = record {
+  last = Some (d.owner, d.to);
+  short = grown SHORT_CAP k.short d;
+  middle = grown MIDDLE_CAP k.middle d;
+  long = grown LONG_CAP k.long d;
+}
 
 -- the delta goes on from the last one that was pushed
 abbrev pub IsNext : Option (Replica × ℕ) → DeltaValue → Type 0

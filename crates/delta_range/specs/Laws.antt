@@ -22,7 +22,8 @@ IsInOrder d = IsStrictlySortedBy dot_cmp (dots_of d.live)
 
 -- the rows of a joined delta are in order where those of both parts are
 abbrev pub StaysInOrder : Type 0
-StaysInOrder = (a b : DeltaValue) → IsDelta a → IsDelta b → GoesOn a.owner a.to b → IsInOrder a → IsInOrder b → IsInOrder (joined a b)
+StaysInOrder = (a b : DeltaValue) → IsDelta a → IsDelta b → GoesOn a.owner a.to b → IsInOrder a → IsInOrder b
+    → IsInOrder (joined a b)
 
 -- the older dots of every delta are in order, each once
 abbrev pub OlderInOrder : Type 0

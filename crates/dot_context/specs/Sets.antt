@@ -41,7 +41,8 @@ run_dots r (x ∷ xs) = span r x.0 (x.1 - x.0) ++ run_dots r xs
 -- the dots that the runs of each replica stand for
 unfoldable pub set_of : List (Replica × List (ℕ × ℕ)) → DotSet
 set_of [] = set.empty
-set_of (e ∷ es) = set.union (set.from_list (run_dots e.0 e.1)) (set.retain (set_of es) (λ d. not (same_replica d.replica e.0)))
+set_of (e ∷ es) =
+    set.union (set.from_list (run_dots e.0 e.1)) (set.retain (set_of es) (λ d. not (same_replica d.replica e.0)))
 
 abbrev pub RunsOf : Type 0
 RunsOf = BTreeMap Replica (List (ℕ × ℕ))
@@ -84,4 +85,5 @@ pub record Planned : Type 0 where
   pub more : DotSet
 
 abbrev pub planned_code : Coded Planned
-planned_code = code_by (DotSet × DotSet) (coded× (set.code dot_code) (set.code dot_code)) (λ p. (p.held, p.more)) (λ p. record { held = p.0; more = p.1 }) (λ _. refl)
+planned_code = code_by (DotSet × DotSet) (coded× (set.code dot_code) (set.code dot_code)) (λ p. (p.held, p.more))
+    (λ p. record { held = p.0; more = p.1 }) (λ _. refl)

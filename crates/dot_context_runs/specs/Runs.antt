@@ -11,7 +11,8 @@ in_run r n = nat_lt r.0 n && nat_le n r.1
 
 -- the last run that begins at or below a count
 abbrev pub IsLastAt : BTreeMap ℕ ℕ → ℕ → ℕ × ℕ → Type 0
-IsLastAt runs n r = (r.0 ≤ n) × (get nat_cmp runs r.0 ≡ Some r.1) × ((f : ℕ) → f ≤ n → IsSome (get nat_cmp runs f) → f ≤ r.0)
+IsLastAt runs n r = (r.0 ≤ n) × (get nat_cmp runs r.0 ≡ Some r.1)
+    × ((f : ℕ) → f ≤ n → IsSome (get nat_cmp runs f) → f ≤ r.0)
 
 -- whether one of the runs has the count
 abbrev pub holds : List (ℕ × ℕ) → ℕ → Bool

@@ -15,6 +15,8 @@ Noticed answers (p ∷ ps) (n ∷ ns) = answers p.1.key p.0 n × Noticed answers
 Noticed answers ps ns = ⊥
 
 -- the notices of the rows that joined, and behind them those of the rows that left
-abbrev pub NoticesOf : (List ℕ → Dot → List ℕ → Type 0) → (List ℕ → Dot → List ℕ → Type 0) → List (Dot × Row) → List (Dot × Row) → List (List ℕ) → Type 0
+abbrev pub NoticesOf : (List ℕ → Dot → List ℕ → Type 0) → (List ℕ → Dot → List ℕ → Type 0) → List (Dot × Row)
+    → List (Dot × Row) → List (List ℕ) → Type 0
 NoticesOf joined left joins leaves ns =
-    (of_joins : List (List ℕ)) × (of_leaves : List (List ℕ)) × (ns ≡ of_joins ++ of_leaves) × Noticed joined joins of_joins × Noticed left leaves of_leaves
+    (of_joins : List (List ℕ)) × (of_leaves : List (List ℕ)) × (ns ≡ of_joins ++ of_leaves)
+    × Noticed joined joins of_joins × Noticed left leaves of_leaves

@@ -43,10 +43,12 @@ RendersListing answers ls d = (extras : Extras) × Fetched answers extras ls × 
 
 -- the state of rows with fetched members
 abbrev pub RendersState : (List ℕ → Members → Type 0) → List (Dot × Row) → Data → Type 0
-RendersState answers rows d = (extras : Extras) × Fetched answers extras (listing_of rows) × (d ≡ state_with extras rows)
+RendersState answers rows d = (extras : Extras) × Fetched answers extras (listing_of rows)
+    × (d ≡ state_with extras rows)
 
 -- the diff of rows with fetched members, which may be others for the same key among the joins and among the leaves
 abbrev pub RendersDiff : (List ℕ → Members → Type 0) → List (Dot × Row) → List (Dot × Row) → Data → Type 0
 RendersDiff answers joins leaves d =
-    (of_joins : Extras) × (of_leaves : Extras) × Fetched answers of_joins (listing_of joins) × Fetched answers of_leaves (listing_of leaves)
+    (of_joins : Extras) × (of_leaves : Extras) × Fetched answers of_joins (listing_of joins)
+    × Fetched answers of_leaves (listing_of leaves)
     × (d ≡ diff_with of_joins of_leaves joins leaves)

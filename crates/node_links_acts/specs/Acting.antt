@@ -54,7 +54,8 @@ abbrev pub Asks : {P B : Type 0} → Steps P → (q : Ask) → (Given q → B) �
 Asks step q f old new r = (a : Answer q) × step old q a new × (r ≡ comes_to f a)
 
 -- where it was accepted what follows goes on from there; a refusal is the end
-abbrev pub GoesOn : {P A B : Type 0} → (A → P → P → Result B ActFault → Type 0) → Result A ActFault → P → P → Result B ActFault → Type 0
+abbrev pub GoesOn : {P A B : Type 0} → (A → P → P → Result B ActFault → Type 0) → Result A ActFault → P → P
+    → Result B ActFault → Type 0
 GoesOn next (Ok x) mid new r = next x mid new r
 GoesOn next (Err e) mid new r = (new ≡ mid) × (r ≡ Err e)
 
@@ -66,7 +67,8 @@ Downs {P} step q (suc n) k old new r = (a : Answer (permdown k q)) × (mid : P) 
 
 -- the replica is put down on every shard
 abbrev pub DownsAll : {P : Type 0} → Steps P → (P → ℕ) → Replica → Act → P → P → Result Turn ActFault → Type 0
-DownsAll step shards q act old new r = (a : Result Unit ActFault) × Downs step q (shards old) 0 old new a × (r ≡ comes_to (λ _. Next act) a)
+DownsAll step shards q act old new r = (a : Result Unit ActFault) × Downs step q (shards old) 0 old new a
+    × (r ≡ comes_to (λ _. Next act) a)
 
 -- what this shard counted above a count is told, or all of it
 abbrev pub Tells : {P : Type 0} → Steps P → ℕ → Act → Option ℕ → P → P → Result Turn ActFault → Type 0
@@ -84,14 +86,16 @@ Does step shards (actions_are.AnswerTold k from) act old new r = Tells step k ac
 Does step shards (actions_are.Answer line) act old new r = (new ≡ old) × (r ≡ Ok (Next (answers act line)))
 Does step shards actions_are.GivenUp act old new r = (new ≡ old) × (r ≡ Ok (Next (gives_up act)))
 
-abbrev pub Turns : {P : Type 0} → (Act → P → P → Result Act ActFault → Type 0) → Turn → P → P → Result Act ActFault → Type 0
+abbrev pub Turns : {P : Type 0} → (Act → P → P → Result Act ActFault → Type 0) → Turn → P → P → Result Act ActFault
+    → Type 0
 Turns next (Next act) mid new r = next act mid new r
 Turns next (Last act) mid new r = (new ≡ mid) × (r ≡ Ok act)
 
 -- the actions one after another, behind what is answered so far
 abbrev pub Plays : {P : Type 0} → Steps P → (P → ℕ) → List LinkAction → Act → P → P → Result Act ActFault → Type 0
 Plays step shards [] act old new r = (new ≡ old) × (r ≡ Ok act)
-Plays {P} step shards (x ∷ xs) act old new r = (turn : Result Turn ActFault) × (mid : P) × Does step shards x act old mid turn
+Plays {P} step shards (x ∷ xs) act old new r = (turn : Result Turn ActFault) × (mid : P)
+    × Does step shards x act old mid turn
     × GoesOn (Turns (Plays step shards xs)) turn mid new r
 
 -- From the one port to the other the calls of the actions were made, in their order, up to a refusal or

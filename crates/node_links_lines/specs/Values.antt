@@ -30,7 +30,8 @@ row_value x = array_of (string x.0.replica.name ∷ whole x.0.replica.incarnatio
 
 -- three lists: ranges, extras, live rows
 abbrev pub told_value : ToldValue → Data
-told_value t = array_of (array_of (map range_value t.ranges) ∷ array_of (map dot_value t.extras) ∷ array_of (map row_value t.live) ∷ [])
+told_value t = array_of
+    (array_of (map range_value t.ranges) ∷ array_of (map dot_value t.extras) ∷ array_of (map row_value t.live) ∷ [])
 
 abbrev pub delta_value : Option ToldValue → Data
 delta_value None = null
@@ -39,8 +40,10 @@ delta_value (Some t) = told_value t
 -- an array whose first member names the line's kind
 abbrev pub value_of : Line → Data
 value_of (lines_are.Hello r n) = array_of (string (codes "hello") ∷ string r.name ∷ whole r.incarnation ∷ whole n ∷ [])
-value_of (lines_are.Beat k r n t) = array_of (string (codes "beat") ∷ whole k ∷ string r.name ∷ whole r.incarnation ∷ whole n ∷ delta_value t ∷ [])
-value_of (lines_are.Want k r n) = array_of (string (codes "want") ∷ whole k ∷ string r.name ∷ whole r.incarnation ∷ whole n ∷ [])
+value_of (lines_are.Beat k r n t) =
+    array_of (string (codes "beat") ∷ whole k ∷ string r.name ∷ whole r.incarnation ∷ whole n ∷ delta_value t ∷ [])
+value_of (lines_are.Want k r n) =
+    array_of (string (codes "want") ∷ whole k ∷ string r.name ∷ whole r.incarnation ∷ whole n ∷ [])
 value_of (lines_are.Told k t) = array_of (string (codes "told") ∷ whole k ∷ told_value t ∷ [])
 value_of (lines_are.PermDown r) = array_of (string (codes "permdown") ∷ string r.name ∷ whole r.incarnation ∷ [])
 value_of (lines_are.Gone r) = array_of (string (codes "gone") ∷ string r.name ∷ whole r.incarnation ∷ [])

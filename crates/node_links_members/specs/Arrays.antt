@@ -50,7 +50,8 @@ abbrev pub Eight : Type 0
 Eight = Data × Data × Data × Data × Data × Data × Data × Data
 
 abbrev pub eight_items : Items → Option Eight
-eight_items (item a (item b (item c (item d (item e (item f (item g (item h no_items)))))))) = Some (a, b, c, d, e, f, g, h)
+eight_items (item a (item b (item c (item d (item e (item f (item g (item h no_items)))))))) =
+    Some (a, b, c, d, e, f, g, h)
 eight_items _ = None
 
 abbrev pub eight_in : Data → Option Eight

@@ -21,4 +21,5 @@ abbrev pub taken_six : Value × Value × Value × Value × Value × Value → Si
 taken_six m = (view m.0, view m.1, view m.2, view m.3, view m.4, view m.5)
 
 abbrev pub taken_row : RowMembers → Eight
-taken_row m = (view m.name, view m.incarnation, view m.count, view m.topic, view m.key, view m.pid, view m.meta, view m.prev)
+taken_row m =
+    (view m.name, view m.incarnation, view m.count, view m.topic, view m.key, view m.pid, view m.meta, view m.prev)

@@ -42,7 +42,8 @@ is_one_range r _ = false
 
 -- one range, and nothing of another replica
 abbrev pub is_delta_of : Replica → ToldValue → Bool
-is_delta_of r t = is_one_range r t.ranges && (list_all (λ d. same_replica d.replica r) t.extras && list_all (λ x. same_replica x.0.replica r) t.live)
+is_delta_of r t = is_one_range r t.ranges
+    && (list_all (λ d. same_replica d.replica r) t.extras && list_all (λ x. same_replica x.0.replica r) t.live)
 
 abbrev pub own_delta : Replica → ToldValue → Result ToldValue LinkFault
 own_delta r t = or_bad (guarded (is_delta_of r t) t)

@@ -27,9 +27,11 @@ pub record IsTopRange (s : DotSet) (g : Range) : Type 0 where
 -- the ranges in order of replica, extras and rows in order of dot, each once
 pub record IsFull (s : DotRows) (t : ToldValue) : Type 0 where
   pub ranges : All (IsTopRange s.covered) t.ranges
-  pub replicas : (d : Dot) → set.contains s.covered d ≡ true → list_any (same_replica d.replica) (replicas_of t.ranges) ≡ true
+  pub replicas : (d : Dot) → set.contains s.covered d ≡ true
+      → list_any (same_replica d.replica) (replicas_of t.ranges) ≡ true
   pub ranges_in_order : IsStrictlySortedBy replica_cmp (replicas_of t.ranges)
-  pub extras : (d : Dot) → list_any (same_dot d) t.extras ≡ (set.contains s.covered d && not (list_any (range_has d) t.ranges))
+  pub extras : (d : Dot)
+      → list_any (same_dot d) t.extras ≡ (set.contains s.covered d && not (list_any (range_has d) t.ranges))
   pub extras_in_order : IsStrictlySortedBy dot_cmp t.extras
   pub live : t.live ≡ map.entries s.live
 

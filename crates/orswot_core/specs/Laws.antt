@@ -31,20 +31,24 @@ abbrev pub Commutative : Type 0
 Commutative = (a b x y : DotRows) → Agree a b → IsUnion a b x → IsUnion b a y → x ≡ y
 
 abbrev pub Associative : Type 0
-Associative = (a b c ab bc x y : DotRows) → IsSet a → IsSet b → IsSet c → IsUnion a b ab → IsUnion ab c x → IsUnion b c bc → IsUnion a bc y → x ≡ y
+Associative = (a b c ab bc x y : DotRows) → IsSet a → IsSet b → IsSet c → IsUnion a b ab → IsUnion ab c x
+    → IsUnion b c bc → IsUnion a bc y → x ≡ y
 
 -- what was covered without a row never gets one, whatever is joined: these dots covered, with these rows
 abbrev pub RemovedStays : Type 0
-RemovedStays = (s x : DotRows) (has : Dot → Bool) (row : Dot → Option Row) (d : Dot) → set.contains s.covered d ≡ true → map.get s.live d ≡ None → IsJoin s has row x
+RemovedStays = (s x : DotRows) (has : Dot → Bool) (row : Dot → Option Row) (d : Dot) → set.contains s.covered d ≡ true
+    → map.get s.live d ≡ None → IsJoin s has row x
     → (set.contains x.covered d ≡ true) × (map.get x.live d ≡ None)
 
 -- what is told as removed is removed where it is taken in
 abbrev pub RemovalsAreHeard : Type 0
-RemovalsAreHeard = (s x : DotRows) (t : ToldValue) (d : Dot) → tells_removed t d ≡ true → TakesIn s t x → (set.contains x.covered d ≡ true) × (map.get x.live d ≡ None)
+RemovalsAreHeard = (s x : DotRows) (t : ToldValue) (d : Dot) → tells_removed t d ≡ true → TakesIn s t x
+    → (set.contains x.covered d ≡ true) × (map.get x.live d ≡ None)
 
 -- the set knows what is told: it covers each dot that is covered there, and none that is removed there is live
 abbrev pub Knows : DotRows → ToldValue → Type 0
-Knows s t = (d : Dot) → covers t d ≡ true → (set.contains s.covered d ≡ true) × (live_row t d ≡ None → map.get s.live d ≡ None)
+Knows s t = (d : Dot) → covers t d ≡ true → (set.contains s.covered d ≡ true)
+    × (live_row t d ≡ None → map.get s.live d ≡ None)
 
 -- a set that takes in what is told knows it
 abbrev pub Learns : Type 0
@@ -52,12 +56,14 @@ Learns = (s x : DotRows) (t : ToldValue) → TakesIn s t x → Knows x t
 
 -- what a set knows it keeps knowing, whatever is joined
 abbrev pub JoinsKeepKnown : Type 0
-JoinsKeepKnown = (s x : DotRows) (t : ToldValue) (has : Dot → Bool) (row : Dot → Option Row) → Knows s t → IsJoin s has row x → Knows x t
+JoinsKeepKnown = (s x : DotRows) (t : ToldValue) (has : Dot → Bool) (row : Dot → Option Row) → Knows s t
+    → IsJoin s has row x → Knows x t
 
 -- and whatever it adds or removes
 abbrev pub StepsKeepKnown : Type 0
 StepsKeepKnown = (s : DotRows) (t : ToldValue) → Knows s t
-    → ((d : Dot) (r : Row) → set.contains s.covered d ≡ false → Knows (with_dot s d r) t) × ((ds : List Dot) (event : Dot) → Knows (removed s ds event) t)
+    → ((d : Dot) (r : Row) → set.contains s.covered d ≡ false → Knows (with_dot s d r) t)
+    × ((ds : List Dot) (event : Dot) → Knows (removed s ds event) t)
 
 -- what a set knows changes nothing when it is told
 abbrev pub KnownChangesNothing : Type 0
@@ -70,7 +76,8 @@ TakesInAll x (t ∷ ts) y = (z : DotRows) × TakesIn x t z × TakesInAll z ts y
 
 -- a told value that comes again, after any others, changes nothing
 abbrev pub OldChangesNothing : Type 0
-OldChangesNothing = (s x y z : DotRows) (old : ToldValue) (others : List ToldValue) → IsTold old → TakesIn s old x → TakesInAll x others y → TakesIn y old z → z ≡ y
+OldChangesNothing = (s x y z : DotRows) (old : ToldValue) (others : List ToldValue) → IsTold old → TakesIn s old x
+    → TakesInAll x others y → TakesIn y old z → z ≡ y
 
 -- two values that each tell all of a set are one
 abbrev pub OneFull : Type 0

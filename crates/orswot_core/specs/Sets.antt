@@ -28,7 +28,8 @@ pub record DotRows : Type 0 where
   pub live : LiveRows
 
 abbrev pub rows_code : Coded DotRows
-rows_code = code_by (DotSet × LiveRows) (coded× (set.code dot_code) (map.code dot_code row_code)) (λ s. (s.covered, s.live)) (λ p. record { covered = p.0; live = p.1 }) (λ _. refl)
+rows_code = code_by (DotSet × LiveRows) (coded× (set.code dot_code) (map.code dot_code row_code))
+    (λ s. (s.covered, s.live)) (λ p. record { covered = p.0; live = p.1 }) (λ _. refl)
 
 -- the set of these covered dots and live rows
 abbrev pub seen : DotSet → Rows → DotRows
@@ -51,11 +52,13 @@ without_rows m (d ∷ ds) = map.remove (without_rows m ds) d
 
 -- the dots lose their rows; they and the event are covered
 abbrev pub removed : DotRows → List Dot → Dot → DotRows
-removed s ds event = record { covered = set.insert (set.union s.covered (set.from_list ds)) event; live = without_rows s.live ds }
+removed s ds event =
+    record { covered = set.insert (set.union s.covered (set.from_list ds)) event; live = without_rows s.live ds }
 
 -- the other replicas' dots and rows
 abbrev pub without_replica : DotRows → Replica → DotRows
-without_replica s r = record { covered = without s.covered r; live = map.retain_keys s.live (λ d. not (same_replica d.replica r)) }
+without_replica s r =
+    record { covered = without s.covered r; live = map.retain_keys s.live (λ d. not (same_replica d.replica r)) }
 
 -- what a join leaves at a dot, where each side may cover it and have a row for it
 abbrev pub joined_row : Option Row → Bool → Option Row → Bool → Option Row
@@ -102,7 +105,8 @@ IsJoinWith s heard rows s' = IsJoin s (set.contains heard) (get dot_cmp rows) s'
 pub record AreNeeded (s : DotSet) (m : Rows) (heard : DotSet) (rows : Rows) (adds takes : List Dot) : Type 0 where
   pub sound : (d : Dot) → is_sound d (set.contains heard d) (get dot_cmp rows d) ≡ true
   pub added : (d : Dot) → list_any (same_dot d) adds ≡ is_missing (set.contains s d) (get dot_cmp rows d)
-  pub gone : (d : Dot) → list_any (same_dot d) takes ≡ (is_left (get dot_cmp m d) (get dot_cmp rows d) && set.contains heard d)
+  pub gone : (d : Dot)
+      → list_any (same_dot d) takes ≡ (is_left (get dot_cmp m d) (get dot_cmp rows d) && set.contains heard d)
 
 -- a set with what a join makes of it
 pub record Planned : Type 0 where
@@ -110,7 +114,8 @@ pub record Planned : Type 0 where
   pub after : DotRows
 
 abbrev pub planned_code : Coded Planned
-planned_code = code_by (DotRows × DotRows) (coded× rows_code rows_code) (λ p. (p.before, p.after)) (λ p. record { before = p.0; after = p.1 }) (λ _. refl)
+planned_code = code_by (DotRows × DotRows) (coded× rows_code rows_code) (λ p. (p.before, p.after))
+    (λ p. record { before = p.0; after = p.1 }) (λ _. refl)
 
 -- what covers these dots, and has these rows without those of some dots
 abbrev pub leaving : DotSet → LiveRows → List Dot → DotRows

@@ -31,17 +31,20 @@ KeepsFirst m n row = (q : Dot) → get dot_cmp n q ≡ first_row (get dot_cmp m 
 
 -- n has the others' rows where the dot is not covered and has none in m
 abbrev pub TakesMissing : DotSet → Rows → Rows → Rows → Type 0
-TakesMissing s others m n = (q : Dot) → set.contains s q ≡ false → get dot_cmp m q ≡ None → get dot_cmp n q ≡ get dot_cmp others q
+TakesMissing s others m n = (q : Dot) → set.contains s q ≡ false → get dot_cmp m q ≡ None
+    → get dot_cmp n q ≡ get dot_cmp others q
 
 -- and changes no other row
 abbrev pub KeepsCovered : DotSet → Rows → Rows → Rows → Type 0
-KeepsCovered s others m n = (q : Dot) → is_missing (set.contains s q) (get dot_cmp others q) ≡ false → get dot_cmp n q ≡ get dot_cmp m q
+KeepsCovered s others m n = (q : Dot) → is_missing (set.contains s q) (get dot_cmp others q) ≡ false
+    → get dot_cmp n q ≡ get dot_cmp m q
 
 -- t and n are what a join leaves of the dots s and the rows m, with heard dots and their rows
 abbrev pub Joins : DotSet → DotSet → Rows → Rows → DotSet → Rows → Type 0
 Joins s t m n heard rows =
     (t ≡ set.union s heard)
-    × ((q : Dot) → get dot_cmp n q ≡ joined_row (get dot_cmp m q) (set.contains s q) (get dot_cmp rows q) (set.contains heard q))
+    × ((q : Dot)
+    → get dot_cmp n q ≡ joined_row (get dot_cmp m q) (set.contains s q) (get dot_cmp rows q) (set.contains heard q))
 
 -- only covered dots have rows
 abbrev pub AreCovered : DotSet → Rows → Type 0
@@ -49,7 +52,8 @@ AreCovered s m = (q : Dot) → is_some (get dot_cmp m q) ≡ true → set.contai
 
 -- t covers the dots of s, the event and the dots
 abbrev pub CoversAll : DotSet → DotSet → Dot → List Dot → Type 0
-CoversAll s t event ds = (q : Dot) → set.contains t q ≡ (same_dot q event || (set.contains s q || list_any (same_dot q) ds))
+CoversAll s t event ds = (q : Dot)
+    → set.contains t q ≡ (same_dot q event || (set.contains s q || list_any (same_dot q) ds))
 
 -- and the rows of the dots are taken out of m
 abbrev pub Removes : DotSet → Rows → List Dot → Dot → DotSet → Rows → Type 0

@@ -21,10 +21,13 @@ pub record ToldValue : Type 0 where
   pub live : List (Dot × Row)
 
 abbrev pub range_code : Coded Range
-range_code = code_by (Replica × (ℕ × ℕ)) (coded× replica_code (coded× coded_ℕ coded_ℕ)) (λ g. (g.0, (g.1, g.2))) (λ p. (p.0, p.1.0, p.1.1)) (λ _. refl)
+range_code = code_by (Replica × (ℕ × ℕ)) (coded× replica_code (coded× coded_ℕ coded_ℕ)) (λ g. (g.0, (g.1, g.2)))
+    (λ p. (p.0, p.1.0, p.1.1)) (λ _. refl)
 
 abbrev pub told_code : Coded ToldValue
-told_code = code_by (List Range × (List Dot × List (Dot × Row))) (coded× (coded_list range_code) (coded× (coded_list dot_code) (coded_list (coded× dot_code row_code)))) (λ t. (t.ranges, (t.extras, t.live))) (λ p. record { ranges = p.0; extras = p.1.0; live = p.1.1 }) (λ _. refl)
+told_code = code_by (List Range × (List Dot × List (Dot × Row)))
+    (coded× (coded_list range_code) (coded× (coded_list dot_code) (coded_list (coded× dot_code row_code))))
+    (λ t. (t.ranges, (t.extras, t.live))) (λ p. record { ranges = p.0; extras = p.1.0; live = p.1.1 }) (λ _. refl)
 
 abbrev pub range_has : Dot → Range → Bool
 range_has d g = in_range g.0 g.1 g.2 d
@@ -65,4 +68,5 @@ cut_to picks t = record {
 -- it covers their dots, and tells their rows
 abbrev pub CutTellsOfSome : Type 0
 CutTellsOfSome = (picks : Replica → Bool) (t : ToldValue) (d : Dot)
-    → (covers (cut_to picks t) d ≡ (picks d.replica && covers t d)) × (live_row (cut_to picks t) d ≡ cond (picks d.replica) (live_row t d) None)
+    → (covers (cut_to picks t) d ≡ (picks d.replica && covers t d))
+    × (live_row (cut_to picks t) d ≡ cond (picks d.replica) (live_row t d) None)

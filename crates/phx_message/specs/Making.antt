@@ -12,7 +12,8 @@ status_text status_is.Error = codes "error"
 
 -- the payload of a reply
 abbrev pub reply_value : Status → Data → Data
-reply_value status response = object (member (codes "response") response (member (codes "status") (string (status_text status)) no_members))
+reply_value status response =
+    object (member (codes "response") response (member (codes "status") (string (status_text status)) no_members))
 
 -- the response of a refusal
 abbrev pub reason_value : List ℕ → Data
@@ -36,7 +37,8 @@ error_reply join_ref msg_ref topic reason = reply_of join_ref msg_ref topic stat
 
 -- a push has no reference
 abbrev pub push_of : Option MsgRef → List ℕ → List ℕ → Data → Message
-push_of join_ref topic event payload = record { join_ref = join_ref; msg_ref = None; topic = topic; event = event; payload = payload }
+push_of join_ref topic event payload =
+    record { join_ref = join_ref; msg_ref = None; topic = topic; event = event; payload = payload }
 
 -- a broadcast has neither
 abbrev pub broadcast_of : List ℕ → List ℕ → Data → Message
@@ -44,4 +46,10 @@ broadcast_of topic event payload = push_of None topic event payload
 
 -- `phx_close` under the join's reference in both places
 abbrev pub closing : Option MsgRef → List ℕ → Message
-closing join_ref topic = record { join_ref = join_ref; msg_ref = join_ref; topic = topic; event = codes "phx_close"; payload = object no_members }
+closing join_ref topic = record {
+  join_ref = join_ref;
+  msg_ref = join_ref;
+  topic = topic;
+  event = codes "phx_close";
+  payload = object no_members;
+}

@@ -15,7 +15,8 @@ ref_value (Some (Number n)) = number (unsigned n)
 
 -- the array of the five members
 abbrev pub value_of : Message → Data
-value_of m = array (item (ref_value m.join_ref) (item (ref_value m.msg_ref) (item (string m.topic) (item (string m.event) (item m.payload no_items)))))
+value_of m = array (item (ref_value m.join_ref)
+    (item (ref_value m.msg_ref) (item (string m.topic) (item (string m.event) (item m.payload no_items)))))
 
 -- 1 to 64 bytes (MAX_EVENT_BYTES)
 abbrev pub is_event : List ℕ → Bool

@@ -10,11 +10,14 @@ use Rattle.phx_message.specs.declared.message.MsgRef.{MsgRef}
 -- `[join_ref,null,topic,event,payload]`
 abbrev pub push_text : Option MsgRef → List ℕ → List ℕ → List ℕ → List ℕ
 push_text join_ref topic event payload =
-    91 ∷ (compact_text (ref_value join_ref) ++ (44 ∷ (codes "null" ++ (44 ∷ (quoted topic ++ (44 ∷ (quoted event ++ (44 ∷ (payload ++ 93 ∷ [])))))))))
+    91 ∷ (compact_text (ref_value join_ref)
+    ++ (44 ∷ (codes "null" ++ (44 ∷ (quoted topic ++ (44 ∷ (quoted event ++ (44 ∷ (payload ++ 93 ∷ [])))))))))
 
 -- round the text of a value it is the text of the message that pushes the value
 abbrev pub PushesAreWritten : Type 0
-PushesAreWritten = (join_ref : Option MsgRef) (topic event : List ℕ) (payload : Data) → push_text join_ref topic event (compact_text payload) ≡ compact_text (value_of (push_of join_ref topic event payload))
+PushesAreWritten = (join_ref : Option MsgRef) (topic event : List ℕ) (payload : Data)
+    → push_text join_ref topic event (compact_text payload)
+    ≡ compact_text (value_of (push_of join_ref topic event payload))
 
 -- `[join_ref,ref,topic,"phx_reply",{"response":response,"status":"ok"}]`
 abbrev pub ok_text : Option MsgRef → Option MsgRef → List ℕ → List ℕ → List ℕ
@@ -24,4 +27,6 @@ ok_text join_ref msg_ref topic response =
 
 -- round the text of a value it is the text of the reply whose response the value is
 abbrev pub RepliesAreWritten : Type 0
-RepliesAreWritten = (join_ref msg_ref : Option MsgRef) (topic : List ℕ) (response : Data) → ok_text join_ref msg_ref topic (compact_text response) ≡ compact_text (value_of (ok_reply join_ref msg_ref topic response))
+RepliesAreWritten = (join_ref msg_ref : Option MsgRef) (topic : List ℕ) (response : Data)
+    → ok_text join_ref msg_ref topic (compact_text response)
+    ≡ compact_text (value_of (ok_reply join_ref msg_ref topic response))

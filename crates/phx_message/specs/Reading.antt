@@ -52,7 +52,8 @@ pub record Five : Type 0 where
   pub fifth : Data
 
 abbrev pub five_items : Items → Result Five MessageFault
-five_items (item a (item b (item c (item d (item e no_items))))) = Ok (record { first = a; second = b; third = c; fourth = d; fifth = e })
+five_items (item a (item b (item c (item d (item e no_items))))) =
+    Ok (record { first = a; second = b; third = c; fourth = d; fifth = e })
 five_items _ = Err NotFive
 
 abbrev pub five_in : Data → Result Five MessageFault
@@ -73,7 +74,8 @@ text_in test e _ = Err e
 
 -- a payload within the depth, with whole numbers alone
 abbrev pub payload_in : ℕ → Data → Result Data MessageFault
-payload_in max_depth d = if nat_le (depth d) max_depth then (if has_float d then Err Fraction else Ok d) else Err TooDeep
+payload_in max_depth d =
+    if nat_le (depth d) max_depth then (if has_float d then Err Fraction else Ok d) else Err TooDeep
 
 -- the message that the value is
 abbrev pub message_in : ℕ → Data → Result Message MessageFault

@@ -19,4 +19,5 @@ abbrev pub parts_code : Coded (Start × List Entry)
 parts_code = coded× beginning.the_row.coded (coded_list one_entry.the_row.coded)
 
 abbrev pub history_code : Coded History
-history_code = code_by (Start × List Entry) parts_code (λ h. (start_of h, newest_first h)) (λ p. from_newest p.0 p.1) from_newest-newest_first
+history_code = code_by (Start × List Entry) parts_code (λ h. (start_of h, newest_first h))
+    (λ p. from_newest p.0 p.1) from_newest-newest_first

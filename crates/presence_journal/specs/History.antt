@@ -30,7 +30,20 @@ nothing_kept = record { last = None; short = None; middle = None; long = None }
 
 -- the history of a new shard: nothing came before it
 abbrev pub begun : Replica → History
-begun r = Begin (record { number = 0; own = r; count = 0; content = nothing_told; standings = []; time = 0; last_cut = 0; older = []; chains = []; kept = nothing_kept; subscribers = []; seated = 0 })
+begun r = Begin (record {
+  number = 0;
+  own = r;
+  count = 0;
+  content = nothing_told;
+  standings = [];
+  time = 0;
+  last_cut = 0;
+  older = [];
+  chains = [];
+  kept = nothing_kept;
+  subscribers = [];
+  seated = 0;
+})
 
 -- the entries in order, the oldest first, upon a history
 abbrev pub onto : History → List Entry → History
@@ -163,8 +176,10 @@ has_dot ds d = list_any (same_dot d) ds
 
 -- the row that a step makes, which replaces the row of `prev`
 abbrev pub row_made : Step → Option Dot → Option Row
-row_made (steps_are.Track pid topic key meta) prev = Some (record { topic = topic; key = key; pid = pid; meta = meta; prev = prev })
-row_made (steps_are.Update pid topic key meta) prev = Some (record { topic = topic; key = key; pid = pid; meta = meta; prev = prev })
+row_made (steps_are.Track pid topic key meta) prev =
+    Some (record { topic = topic; key = key; pid = pid; meta = meta; prev = prev })
+row_made (steps_are.Update pid topic key meta) prev =
+    Some (record { topic = topic; key = key; pid = pid; meta = meta; prev = prev })
 row_made _ prev = None
 
 -- the row that an entry adds under a dot

@@ -20,7 +20,8 @@ use Rattle.presence_journal.specs.Table.{IsLegal, IsKept, is_step, accepted, nex
 
 -- what a subscriber took since its last State, followed by what waits for it, folds to the present rows of its topic
 abbrev pub FoldsToPresent : Type 0
-FoldsToPresent = (h : History) → IsLegal h → (n : ℕ) (t : List ℕ) → topic_of h n ≡ Some t → (q : List Item) → queue h n ≡ Queued q → fold (taken h n ++ q) ≡ present h t
+FoldsToPresent = (h : History) → IsLegal h → (n : ℕ) (t : List ℕ) → topic_of h n ≡ Some t → (q : List Item)
+    → queue h n ≡ Queued q → fold (taken h n ++ q) ≡ present h t
 
 abbrev pub of_key : List ℕ → Option Row → Option Row
 of_key k None = None
@@ -28,7 +29,8 @@ of_key k (Some r) = cond (same_text r.key k) (Some r) None
 
 -- at a key and dot, the present rows of a topic have the row that is shown under the dot, if it has the topic and the key
 abbrev pub PresentIsShown : Type 0
-PresentIsShown = (h : History) (t : List ℕ) (p : Place) → map.get (present h t) p ≡ of_key p.key (of_topic t (shown h p.dot))
+PresentIsShown = (h : History) (t : List ℕ) (p : Place)
+    → map.get (present h t) p ≡ of_key p.key (of_topic t (shown h p.dot))
 
 -- each row stands at its own key
 abbrev pub IsPlaced : RowMap → Type 0
@@ -40,11 +42,13 @@ Agrees m n = (p : Place) (r s : Row) → map.get m p ≡ Some r → map.get n p 
 
 -- the changes between two tables lead from the one to the other
 abbrev pub ChangesLead : Type 0
-ChangesLead = (old new : RowMap) → IsPlaced old → IsPlaced new → Agrees old new → apply_item old (items_are.Diff (changes old new)) ≡ new
+ChangesLead = (old new : RowMap) → IsPlaced old → IsPlaced new → Agrees old new
+    → apply_item old (items_are.Diff (changes old new)) ≡ new
 
 -- so does the difference that an entry makes
 abbrev pub DiffsLead : Type 0
-DiffsLead = (h : History) (e : Entry) (t : List ℕ) → apply_item (present h t) (items_are.Diff (diff_of h e t)) ≡ present (Then h e) t
+DiffsLead = (h : History) (e : Entry) (t : List ℕ)
+    → apply_item (present h t) (items_are.Diff (diff_of h e t)) ≡ present (Then h e) t
 
 -- the step may change rows of the topic: what is told of other replicas, what is heard of them and the time that passes
 -- concern every topic
@@ -69,7 +73,8 @@ is_callers _ = true
 
 -- a step leaves the present rows of each topic that it does not concern
 abbrev pub OthersStay : Type 0
-OthersStay = (h : History) → IsLegal h → (s : Step) (seat : Option ℕ) (t : List ℕ) → concerns s t ≡ false → present (after h s seat) t ≡ present h t
+OthersStay = (h : History) → IsLegal h → (s : Step) (seat : Option ℕ) (t : List ℕ) → concerns s t ≡ false
+    → present (after h s seat) t ≡ present h t
 
 -- the step may make items for the subscribers of the topic
 abbrev pub reaches : Step → List ℕ → Bool
@@ -78,7 +83,8 @@ reaches s t = concerns s t
 
 -- a step makes no items for the subscribers of a topic that it does not reach
 abbrev pub OthersHearNothing : Type 0
-OthersHearNothing = (h : History) → IsLegal h → (s : Step) (seat : Option ℕ) (o : Outcome) → accepted h s ≡ Some o → (t : List ℕ) → reaches s t ≡ false → items_made h (next_entry h s seat o) t ≡ []
+OthersHearNothing = (h : History) → IsLegal h → (s : Step) (seat : Option ℕ) (o : Outcome) → accepted h s ≡ Some o
+    → (t : List ℕ) → reaches s t ≡ false → items_made h (next_entry h s seat o) t ≡ []
 
 -- a step that is refused changes nothing
 abbrev pub RefusedStays : Type 0
@@ -90,15 +96,18 @@ StaysLegal = (h : History) → IsLegal h → (s : Step) (seat : Option ℕ) → 
 
 -- and one that is within all its limits leads from what a journal keeps to what it keeps
 abbrev pub StaysKept : Type 0
-StaysKept = (h : History) → IsKept h → (s : Step) (seat : Option ℕ) → is_within_limits s ≡ true → IsKept (after h s seat)
+StaysKept = (h : History) → IsKept h → (s : Step) (seat : Option ℕ) → is_within_limits s ≡ true
+    → IsKept (after h s seat)
 
 -- a dot that a step adds was not counted before it
 abbrev pub NewIsUnknown : Type 0
-NewIsUnknown = (h : History) → IsLegal h → (s : Step) (o : Outcome) → accepted h s ≡ Some o → (d : Dot) → has_dot (dots_added o) d ≡ true → known h d ≡ false
+NewIsUnknown = (h : History) → IsLegal h → (s : Step) (o : Outcome) → accepted h s ≡ Some o → (d : Dot)
+    → has_dot (dots_added o) d ≡ true → known h d ≡ false
 
 -- and is from then on
 abbrev pub NewIsCounted : Type 0
-NewIsCounted = (h : History) → IsLegal h → (s : Step) (seat : Option ℕ) (o : Outcome) → accepted h s ≡ Some o → (d : Dot) → has_dot (dots_added o) d ≡ true → known (after h s seat) d ≡ true
+NewIsCounted = (h : History) → IsLegal h → (s : Step) (seat : Option ℕ) (o : Outcome) → accepted h s ≡ Some o
+    → (d : Dot) → has_dot (dots_added o) d ≡ true → known (after h s seat) d ≡ true
 
 -- a row stands under a dot that was counted
 abbrev pub RowsAreKnown : Type 0
@@ -106,11 +115,14 @@ RowsAreKnown = (h : History) → IsLegal h → (d : Dot) (r : Row) → row h d �
 
 -- no two rows of a history have one reference
 abbrev pub RefsAreDistinct : Type 0
-RefsAreDistinct = (h : History) → IsLegal h → (d e : Dot) (r s : Row) → row h d ≡ Some r → row h e ≡ Some s → ref_of d ≡ ref_of e → d ≡ e
+RefsAreDistinct = (h : History) → IsLegal h → (d e : Dot) (r s : Row) → row h d ≡ Some r → row h e ≡ Some s
+    → ref_of d ≡ ref_of e → d ≡ e
 
 -- but for the row under the new dot, a step of the own replica alone leaves every row as it was, and takes out those alone that its outcome names
 abbrev pub OnlyNamedLeave : Type 0
-OnlyNamedLeave = (h : History) → IsLegal h → (s : Step) (seat : Option ℕ) (o : Outcome) → is_callers s ≡ true → accepted h s ≡ Some o → (t : List ℕ) (p : Place) → has_dot (dots_added o) p.dot ≡ false → map.get (present (after h s seat) t) p ≡ cond (has_dot (dots_taken o) p.dot) None (map.get (present h t) p)
+OnlyNamedLeave = (h : History) → IsLegal h → (s : Step) (seat : Option ℕ) (o : Outcome) → is_callers s ≡ true
+    → accepted h s ≡ Some o → (t : List ℕ) (p : Place) → has_dot (dots_added o) p.dot ≡ false
+    → map.get (present (after h s seat) t) p ≡ cond (has_dot (dots_taken o) p.dot) None (map.get (present h t) p)
 
 -- no more items wait for a subscriber than may
 abbrev pub HoldsMost : Type 0
@@ -124,15 +136,20 @@ renews _ number n = false
 
 -- any other entry puts what it makes behind what waits for a subscriber
 abbrev pub QueuesItems : Type 0
-QueuesItems = (h : History) (e : Entry) (n : ℕ) (t : List ℕ) (q : List Item) → topic_of h n ≡ Some t → queue h n ≡ Queued q → renews e.step e.number n ≡ false → length (q ++ items_made h e t) ≤ most_waiting → queue (Then h e) n ≡ Queued (q ++ items_made h e t)
+QueuesItems = (h : History) (e : Entry) (n : ℕ) (t : List ℕ) (q : List Item) → topic_of h n ≡ Some t
+    → queue h n ≡ Queued q → renews e.step e.number n ≡ false → length (q ++ items_made h e t) ≤ most_waiting
+    → queue (Then h e) n ≡ Queued (q ++ items_made h e t)
 
 -- where that is more than may wait, the subscriber falls behind
 abbrev pub FallsBehind : Type 0
-FallsBehind = (h : History) (e : Entry) (n : ℕ) (t : List ℕ) (q : List Item) → topic_of h n ≡ Some t → queue h n ≡ Queued q → renews e.step e.number n ≡ false → most_waiting < length (q ++ items_made h e t) → queue (Then h e) n ≡ Behind
+FallsBehind = (h : History) (e : Entry) (n : ℕ) (t : List ℕ) (q : List Item) → topic_of h n ≡ Some t
+    → queue h n ≡ Queued q → renews e.step e.number n ≡ false → most_waiting < length (q ++ items_made h e t)
+    → queue (Then h e) n ≡ Behind
 
 -- and stays so until it takes
 abbrev pub StaysBehind : Type 0
-StaysBehind = (h : History) (e : Entry) (n : ℕ) → queue h n ≡ Behind → renews e.step e.number n ≡ false → queue (Then h e) n ≡ Behind
+StaysBehind = (h : History) (e : Entry) (n : ℕ) → queue h n ≡ Behind → renews e.step e.number n ≡ false
+    → queue (Then h e) n ≡ Behind
 
 -- Worked runs, of a node `a` in its first life.
 
@@ -243,18 +260,28 @@ abbrev pub caught_up : History
 caught_up = ran empty (subscribe ∷ take_all ∷ track 1 ∷ shouts 256 ++ take_all ∷ [])
 
 pub record AsWorked : Type 0 where
-  pub first_outcomes : outcomes first_run ≡ outcomes_are.Subscribed 1 ∷ outcomes_are.Taken true 1 ∷ outcomes_are.Added (dot 1) ∷ outcomes_are.Taken false 1 ∷ outcomes_are.Shown (dot 1 ∷ []) ∷ []
-  pub first_items : taken first_run 1 ≡ items_are.State [] ∷ items_are.Diff (record { joins = (dot 1, row_of 1 here None) ∷ []; leaves = [] }) ∷ []
-  pub update_replaces : outcomes updated_run ≡ outcomes_are.Subscribed 1 ∷ outcomes_are.Added (dot 1) ∷ outcomes_are.Taken true 1 ∷ outcomes_are.Replaced (dot 2) (dot 1) ∷ []
+  pub first_outcomes : outcomes first_run ≡ outcomes_are.Subscribed 1 ∷ outcomes_are.Taken true 1
+      ∷ outcomes_are.Added (dot 1) ∷ outcomes_are.Taken false 1 ∷ outcomes_are.Shown (dot 1 ∷ []) ∷ []
+  pub first_items : taken first_run 1 ≡ items_are.State []
+      ∷ items_are.Diff (record { joins = (dot 1, row_of 1 here None) ∷ []; leaves = [] }) ∷ []
+  pub update_replaces : outcomes updated_run ≡ outcomes_are.Subscribed 1 ∷ outcomes_are.Added (dot 1)
+      ∷ outcomes_are.Taken true 1 ∷ outcomes_are.Replaced (dot 2) (dot 1) ∷ []
   pub update_shows : listed updated_run room ≡ (dot 2, row_of 1 away (Some (dot 1))) ∷ []
-  pub update_waits : queue updated_run 1 ≡ Queued (items_are.Diff (record { joins = (dot 2, row_of 1 away (Some (dot 1))) ∷ []; leaves = (dot 1, row_of 1 here None) ∷ [] }) ∷ [])
+  pub update_waits : queue updated_run 1 ≡ Queued
+      (items_are.Diff
+      (record { joins = (dot 2, row_of 1 away (Some (dot 1))) ∷ []; leaves = (dot 1, row_of 1 here None) ∷ [] }) ∷ [])
   pub second_track : outcomes tracked_twice ≡ outcomes_are.Added (dot 1) ∷ outcomes_are.AlreadyTracked ∷ []
-  pub removal_counts : outcomes tracked_again ≡ outcomes_are.Added (dot 1) ∷ outcomes_are.Removed (dot 1 ∷ []) ∷ outcomes_are.Added (dot 3) ∷ []
+  pub removal_counts : outcomes tracked_again ≡ outcomes_are.Added (dot 1) ∷ outcomes_are.Removed (dot 1 ∷ [])
+      ∷ outcomes_are.Added (dot 3) ∷ []
   pub both_present : listed two_pids room ≡ (dot 1, row_of 1 here None) ∷ (dot 2, row_of 2 here None) ∷ []
   pub own_leaves : listed (ran two_pids (untrack 1 ∷ [])) room ≡ (dot 2, row_of 2 here None) ∷ []
-  pub empty_removal : outcomes untracked_twice ≡ outcomes_are.Added (dot 1) ∷ outcomes_are.Removed (dot 1 ∷ []) ∷ outcomes_are.Removed [] ∷ outcomes_are.Added (dot 3) ∷ []
-  pub key_shown : outcomes key_run ≡ outcomes_are.Added (dot 1) ∷ outcomes_are.Added (dot 2) ∷ outcomes_are.Added (dot 3) ∷ outcomes_are.Added (dot 4) ∷ outcomes_are.Shown (dot 2 ∷ dot 4 ∷ []) ∷ outcomes_are.Shown (dot 3 ∷ []) ∷ []
-  pub all_removed : outcomes untracked_all ≡ outcomes_are.Added (dot 1) ∷ outcomes_are.Added (dot 2) ∷ outcomes_are.Added (dot 3) ∷ outcomes_are.Added (dot 4) ∷ outcomes_are.Removed (dot 2 ∷ dot 1 ∷ []) ∷ []
+  pub empty_removal : outcomes untracked_twice ≡ outcomes_are.Added (dot 1) ∷ outcomes_are.Removed (dot 1 ∷ [])
+      ∷ outcomes_are.Removed [] ∷ outcomes_are.Added (dot 3) ∷ []
+  pub key_shown : outcomes key_run ≡ outcomes_are.Added (dot 1) ∷ outcomes_are.Added (dot 2)
+      ∷ outcomes_are.Added (dot 3) ∷ outcomes_are.Added (dot 4) ∷ outcomes_are.Shown (dot 2 ∷ dot 4 ∷ [])
+      ∷ outcomes_are.Shown (dot 3 ∷ []) ∷ []
+  pub all_removed : outcomes untracked_all ≡ outcomes_are.Added (dot 1) ∷ outcomes_are.Added (dot 2)
+      ∷ outcomes_are.Added (dot 3) ∷ outcomes_are.Added (dot 4) ∷ outcomes_are.Removed (dot 2 ∷ dot 1 ∷ []) ∷ []
   pub others_keep : listed untracked_all room ≡ (dot 4, row_of 2 here None) ∷ []
   pub topics_keep : listed untracked_all attic ≡ (dot 3, row_at attic user 1 here None) ∷ []
   pub ends : outcomes ended_run ≡ outcomes_are.Subscribed 1 ∷ outcomes_are.Taken true 1 ∷ outcomes_are.Ended ∷ []

@@ -27,11 +27,14 @@ row_taken_in None is_known None is_covered = None
 
 -- what a merge makes known: what is told of the replicas that are heard
 abbrev pub MergeIsKnown : Type 0
-MergeIsKnown = (h : History) (e : Entry) → IsLegal (Then h e) → (t : ToldValue) → e.step ≡ steps_are.Merge t → (d : Dot) → known (Then h e) d ≡ (known h d || (hears h d.replica && covers t d))
+MergeIsKnown = (h : History) (e : Entry) → IsLegal (Then h e) → (t : ToldValue) → e.step ≡ steps_are.Merge t
+    → (d : Dot) → known (Then h e) d ≡ (known h d || (hears h d.replica && covers t d))
 
 -- and what it makes live
 abbrev pub MergeIsLive : Type 0
-MergeIsLive = (h : History) (e : Entry) → IsLegal (Then h e) → (t : ToldValue) → e.step ≡ steps_are.Merge t → (d : Dot) → live (Then h e) d ≡ cond (hears h d.replica) (row_taken_in (live h d) (known h d) (live_row t d) (covers t d)) (live h d)
+MergeIsLive = (h : History) (e : Entry) → IsLegal (Then h e) → (t : ToldValue) → e.step ≡ steps_are.Merge t → (d : Dot)
+    → live (Then h e) d
+    ≡ cond (hears h d.replica) (row_taken_in (live h d) (known h d) (live_row t d) (covers t d)) (live h d)
 
 -- the dots whose rows an entry adds, takes out or tells
 abbrev pub touches : History → Entry → Dot → Bool
@@ -39,11 +42,13 @@ touches h e d = has_dot (dots_added e.outcome) d || (has_dot (dots_taken e.outco
 
 -- of any other dot the same is live
 abbrev pub LiveStays : Type 0
-LiveStays = (h : History) (e : Entry) → IsLegal (Then h e) → (d : Dot) → touches h e d ≡ false → live (Then h e) d ≡ live h d
+LiveStays = (h : History) (e : Entry) → IsLegal (Then h e) → (d : Dot) → touches h e d ≡ false
+    → live (Then h e) d ≡ live h d
 
 -- and the same is shown, where its replica keeps its status
 abbrev pub ShownStays : Type 0
-ShownStays = (h : History) (e : Entry) → IsLegal (Then h e) → (d : Dot) → touches h e d ≡ false → status (Then h e) d.replica ≡ status h d.replica → shown (Then h e) d ≡ shown h d
+ShownStays = (h : History) (e : Entry) → IsLegal (Then h e) → (d : Dot) → touches h e d ≡ false
+    → status (Then h e) d.replica ≡ status h d.replica → shown (Then h e) d ≡ shown h d
 
 -- the steps that may change own rows
 abbrev pub is_of_rows : Step → Bool
@@ -62,4 +67,5 @@ pub record SameOwn (g h : History) (d : Dot) : Type 0 where
 
 -- no other step, a merge among them, changes the own count or what is known of an own dot
 abbrev pub OwnStepsAlone : Type 0
-OwnStepsAlone = (h : History) (e : Entry) → IsLegal (Then h e) → is_of_rows e.step ≡ false → (count (Then h e) ≡ count h) × ((d : Dot) → d.replica ≡ own h → SameOwn (Then h e) h d)
+OwnStepsAlone = (h : History) (e : Entry) → IsLegal (Then h e) → is_of_rows e.step ≡ false
+    → (count (Then h e) ≡ count h) × ((d : Dot) → d.replica ≡ own h → SameOwn (Then h e) h d)

@@ -127,7 +127,8 @@ pub record IsStart (s : Start) : Type 0 where
 -- each entry has the outcome of the table and the next number, and stands where there was room for it
 abbrev pub IsLegal : History → Type 0
 IsLegal (Begin s) = IsStart s
-IsLegal (Then h e) = IsLegal h × (outcome_of h e.step ≡ Some e.outcome) × (e.number ≡ last_number h + 1) × (is_full h ≡ false) × (is_step e.step ≡ true)
+IsLegal (Then h e) = IsLegal h × (outcome_of h e.step ≡ Some e.outcome) × (e.number ≡ last_number h + 1)
+    × (is_full h ≡ false) × (is_step e.step ≡ true)
 
 -- each step is within all its limits
 abbrev pub AreWithinLimits : History → Type 0

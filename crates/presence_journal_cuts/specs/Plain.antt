@@ -49,7 +49,8 @@ third_delta = record { owner = node_a; from = 2; to = 3; older = (1, 2) ∷ []; 
 -- another node, to which the first delta came, but not the second, and then a third one
 abbrev pub hearer : DeltaValue → History
 hearer third =
-    ran (begun (record { name = codes "b"; incarnation = 1 })) (steps_are.Heard node_a 0 ∷ merge_of first_delta ∷ merge_of third ∷ [])
+    ran (begun (record { name = codes "b"; incarnation = 1 }))
+    (steps_are.Heard node_a 0 ∷ merge_of first_delta ∷ merge_of third ∷ [])
 
 -- With no chain the other node comes to know each count of the owner, and shows a row that went. With its chain, the
 -- third cut tells that it went.

@@ -23,7 +23,9 @@ is_asked pid topic = is_short_text topic && nat_lt pid (2 ^ 64)
 
 -- whether a told value is sound
 abbrev pub is_told : ToldValue → Bool
-is_told t = not (has_two_ranges t) && (are_forward t && (list_all is_range t.ranges && (list_all is_dot t.extras && (list_all (λ x. is_dot x.0 && is_row x.1) t.live && (are_live_covered t && not (has_live_twice t))))))
+is_told t = not (has_two_ranges t) && (are_forward t
+    && (list_all is_range t.ranges && (list_all is_dot t.extras
+    && (list_all (λ x. is_dot x.0 && is_row x.1) t.live && (are_live_covered t && not (has_live_twice t))))))
 
 -- what another node may tell: rows within their limits, under dots whose names are names
 abbrev pub is_named : Dot × Row → Bool

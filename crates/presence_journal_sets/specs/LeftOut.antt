@@ -19,8 +19,10 @@ pub record HoldsCovered (h : History) (s : DotRows) : Type 0 where
 
 -- the same, but for replicas that may still have to be left out
 pub record LeavesOut (h : History) (left : Replica → Bool) (s : DotRows) : Type 0 where
-  pub kept : (d : Dot) → is_gone (status h d.replica) ≡ false → (set.contains s.covered d ≡ known h d) × (map.get s.live d ≡ live h d)
-  pub lost : (d : Dot) → is_gone (status h d.replica) ≡ true → left d.replica ≡ false → (set.contains s.covered d ≡ false) × (map.get s.live d ≡ None)
+  pub kept : (d : Dot) → is_gone (status h d.replica) ≡ false → (set.contains s.covered d ≡ known h d)
+      × (map.get s.live d ≡ live h d)
+  pub lost : (d : Dot) → is_gone (status h d.replica) ≡ true → left d.replica ≡ false
+      → (set.contains s.covered d ≡ false) × (map.get s.live d ≡ None)
 
 -- without the replica, where it is gone
 abbrev pub without_gone : History → DotRows → Option Replica → DotRows

@@ -24,7 +24,8 @@ kept h d = cond (is_gone (status h d.replica)) None (live h d)
 
 -- each own row that is shown has its chain
 abbrev pub ListsChains : History → List (ℕ × List (ℕ × ℕ)) → Type 0
-ListsChains h xs = (d : Dot) (r : Row) → d.replica ≡ own h → shown h d ≡ Some r → Counts (chain_in xs d.count) (chain h d.count)
+ListsChains h xs = (d : Dot) (r : Row) → d.replica ≡ own h → shown h d ≡ Some r
+    → Counts (chain_in xs d.count) (chain h d.count)
 
 -- and so has each count that is not used yet
 abbrev pub ListsUnused : History → List (ℕ × List (ℕ × ℕ)) → Type 0

@@ -70,11 +70,14 @@ answers es = map (λ e. (e.step, e.outcome)) (filter (λ e. not (is_of_subscribe
 
 -- behind the same answers, a checkpoint and the history that it stands for still say the same
 abbrev pub StaysAlike : Type 0
-StaysAlike = (h : History) (s : Start) (es fs : List Entry) → IsCheckpoint h s → IsLegal (onto (Begin s) es) → IsLegal (onto h fs) → answers es ≡ answers fs → IsLike (onto (Begin s) es) (onto h fs)
+StaysAlike = (h : History) (s : Start) (es fs : List Entry) → IsCheckpoint h s → IsLegal (onto (Begin s) es)
+    → IsLegal (onto h fs) → answers es ≡ answers fs → IsLike (onto (Begin s) es) (onto h fs)
 
 abbrev pub GoOnTellingTheSame : Type 0
-GoOnTellingTheSame = (h : History) (s : Start) (es fs : List Entry) → IsCheckpoint h s → IsLegal (onto (Begin s) es) → IsLegal (onto h fs) → answers es ≡ answers fs → TellTheSame (onto (Begin s) es) (onto h fs)
+GoOnTellingTheSame = (h : History) (s : Start) (es fs : List Entry) → IsCheckpoint h s → IsLegal (onto (Begin s) es)
+    → IsLegal (onto h fs) → answers es ≡ answers fs → TellTheSame (onto (Begin s) es) (onto h fs)
 
 -- a step that both have room for leaves both alike
 abbrev pub StepsLeaveAlike : Type 0
-StepsLeaveAlike = (g h : History) → IsLike g h → IsLegal g → IsLegal h → is_full g ≡ false → is_full h ≡ false → (s : Step) → is_step s ≡ true → (x y : Option ℕ) → IsLike (after g s x) (after h s y)
+StepsLeaveAlike = (g h : History) → IsLike g h → IsLegal g → IsLegal h → is_full g ≡ false → is_full h ≡ false
+    → (s : Step) → is_step s ≡ true → (x y : Option ℕ) → IsLike (after g s x) (after h s y)

@@ -60,17 +60,20 @@ abbrev pub KeepsTop : Type 0
 KeepsTop = (h : History) (s : Start) → IsCheckpoint h s → (r : Replica) (n : ℕ) → IsTop h r n ↔ IsTop (Begin s) r n
 
 abbrev pub KeepsKnown : Type 0
-KeepsKnown = (h : History) (s : Start) → IsCheckpoint h s → (d : Dot) → is_gone (status h d.replica) ≡ false → known (Begin s) d ≡ known h d
+KeepsKnown = (h : History) (s : Start) → IsCheckpoint h s → (d : Dot) → is_gone (status h d.replica) ≡ false
+    → known (Begin s) d ≡ known h d
 
 -- what is shown of each dot, and live and removed, where the replica is not gone
 abbrev pub KeepsShown : Type 0
 KeepsShown = (h : History) (s : Start) → IsCheckpoint h s → (d : Dot) → shown (Begin s) d ≡ shown h d
 
 abbrev pub KeepsLive : Type 0
-KeepsLive = (h : History) (s : Start) → IsCheckpoint h s → (d : Dot) → is_gone (status h d.replica) ≡ false → live (Begin s) d ≡ live h d
+KeepsLive = (h : History) (s : Start) → IsCheckpoint h s → (d : Dot) → is_gone (status h d.replica) ≡ false
+    → live (Begin s) d ≡ live h d
 
 abbrev pub KeepsRemoved : Type 0
-KeepsRemoved = (h : History) (s : Start) → IsCheckpoint h s → (d : Dot) → is_gone (status h d.replica) ≡ false → removed (Begin s) d ≡ removed h d
+KeepsRemoved = (h : History) (s : Start) → IsCheckpoint h s → (d : Dot) → is_gone (status h d.replica) ≡ false
+    → removed (Begin s) d ≡ removed h d
 
 -- what is live of any dot: nothing, where its replica is gone
 abbrev pub LiveIsKept : Type 0
@@ -92,7 +95,8 @@ KeepsFull = (h : History) (s : Start) → IsCheckpoint h s → (t : ToldValue) �
 
 -- all that is told of a history in full can be the content of its checkpoint
 abbrev pub FullStands : Type 0
-FullStands = (h : History) (t : ToldValue) → IsFullOf h t → ((d : Dot) → covers t d ≡ covered h d) × ((d : Dot) → live_row t d ≡ kept h d)
+FullStands = (h : History) (t : ToldValue) → IsFullOf h t → ((d : Dot) → covers t d ≡ covered h d)
+    × ((d : Dot) → live_row t d ≡ kept h d)
 
 -- what the next cut tells: the older counts that went since the last one, and the own rows above it
 abbrev pub KeepsCut : Type 0
@@ -106,10 +110,12 @@ KeepsRecent = (h : History) (s : Start) → IsCheckpoint h s → (d : Dot) → r
 
 -- the chains of the own rows that are shown, and those of counts that are not used yet
 abbrev pub KeepsShownChains : Type 0
-KeepsShownChains = (h : History) (s : Start) → IsCheckpoint h s → (d : Dot) (r : Row) → d.replica ≡ own h → shown h d ≡ Some r → Counts (chain (Begin s) d.count) (chain h d.count)
+KeepsShownChains = (h : History) (s : Start) → IsCheckpoint h s → (d : Dot) (r : Row) → d.replica ≡ own h
+    → shown h d ≡ Some r → Counts (chain (Begin s) d.count) (chain h d.count)
 
 abbrev pub KeepsUnusedChains : Type 0
-KeepsUnusedChains = (h : History) (s : Start) → IsCheckpoint h s → (c : ℕ) → count h < c → Counts (chain (Begin s) c) (chain h c)
+KeepsUnusedChains = (h : History) (s : Start) → IsCheckpoint h s → (c : ℕ) → count h < c
+    → Counts (chain (Begin s) c) (chain h c)
 
 -- a history has its kept deltas once
 abbrev pub OneKept : Type 0
@@ -124,7 +130,8 @@ abbrev pub KeepsKeptDeltas : Type 0
 KeepsKeptDeltas = (h : History) (s : Start) → IsCheckpoint h s → (k : Kept) → AreKeptOf h k ↔ AreKeptOf (Begin s) k
 
 abbrev pub KeepsToldFrom : Type 0
-KeepsToldFrom = (h : History) (s : Start) → IsCheckpoint h s → (n : ℕ) (t : ToldValue) → IsToldFrom h n t ↔ IsToldFrom (Begin s) n t
+KeepsToldFrom = (h : History) (s : Start) → IsCheckpoint h s → (n : ℕ) (t : ToldValue)
+    → IsToldFrom h n t ↔ IsToldFrom (Begin s) n t
 
 -- who subscribes to what
 abbrev pub KeepsTopics : Type 0
@@ -132,4 +139,5 @@ KeepsTopics = (h : History) (s : Start) → IsCheckpoint h s → (n : ℕ) → t
 
 -- each present subscriber is behind, and owed the whole state
 abbrev pub SubscribersAreBehind : Type 0
-SubscribersAreBehind = (h : History) (s : Start) → IsCheckpoint h s → (n : ℕ) (t : List ℕ) → topic_of h n ≡ Some t → queue (Begin s) n ≡ Behind
+SubscribersAreBehind = (h : History) (s : Start) → IsCheckpoint h s → (n : ℕ) (t : List ℕ) → topic_of h n ≡ Some t
+    → queue (Begin s) n ≡ Behind

@@ -42,7 +42,8 @@ tally_of (Queued q) = tallies_are.Items (length q)
 
 abbrev pub tally_pushed : Bool → Tally → Tally
 tally_pushed b tallies_are.Behind = tallies_are.Behind
-tally_pushed b (tallies_are.Items n) = cond b (cond (nat_lt n most_waiting) (tallies_are.Items (n + 1)) tallies_are.Behind) (tallies_are.Items n)
+tally_pushed b (tallies_are.Items n) =
+    cond b (cond (nat_lt n most_waiting) (tallies_are.Items (n + 1)) tallies_are.Behind) (tallies_are.Items n)
 
 abbrev pub tally_left : ℕ → Tally → Tally
 tally_left max tallies_are.Behind = tallies_are.Items 0

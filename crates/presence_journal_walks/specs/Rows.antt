@@ -22,20 +22,25 @@ apart f g d = cond (is_some (g d)) None (f d)
 
 -- the difference that any entry makes on any topic, where f gives the rows before it and g those after it
 abbrev pub IsDiffBetween : (Dot → Option Row) → (Dot → Option Row) → RowDiff → Type 0
-IsDiffBetween f g x = (h : History) (e : Entry) (t : List ℕ) → Alike f (shown_of h t) → Alike g (shown_of (Then h e) t) → x ≡ diff_of h e t
+IsDiffBetween f g x = (h : History) (e : Entry) (t : List ℕ) → Alike f (shown_of h t) → Alike g (shown_of (Then h e) t)
+    → x ≡ diff_of h e t
 
 -- the difference that an entry of the own replica alone makes, where f gives the rows of the topic before it
 abbrev pub IsDiffOf : Entry → List ℕ → (Dot → Option Row) → RowDiff → Type 0
-IsDiffOf e t f x = (h : History) → IsLegal (Then h e) → is_callers e.step ≡ true → Alike f (shown_of h t) → x ≡ diff_of h e t
+IsDiffOf e t f x = (h : History) → IsLegal (Then h e) → is_callers e.step ≡ true → Alike f (shown_of h t)
+    → x ≡ diff_of h e t
 
 -- An entry is the last one of a history, and f gives the rows of the topic before it: g gives those after it, x is how they
 -- differ, and these items are made for the topic.
 
 abbrev pub AreNext : Entry → List ℕ → History → (Dot → Option Row) → (Dot → Option Row) → Type 0
-AreNext e t whole f g = (h : History) → IsLegal (Then h e) → Then h e ≡ whole → Alike f (shown_of h t) → Alike g (shown_of (Then h e) t)
+AreNext e t whole f g = (h : History) → IsLegal (Then h e) → Then h e ≡ whole → Alike f (shown_of h t)
+    → Alike g (shown_of (Then h e) t)
 
 abbrev pub IsDiffAt : Entry → List ℕ → History → (Dot → Option Row) → RowDiff → Type 0
-IsDiffAt e t whole f x = (h : History) → IsLegal (Then h e) → Then h e ≡ whole → Alike f (shown_of h t) → x ≡ diff_of h e t
+IsDiffAt e t whole f x = (h : History) → IsLegal (Then h e) → Then h e ≡ whole → Alike f (shown_of h t)
+    → x ≡ diff_of h e t
 
 abbrev pub AreMadeAt : Entry → List ℕ → History → (Dot → Option Row) → List Item → Type 0
-AreMadeAt e t whole f is = (h : History) → IsLegal (Then h e) → Then h e ≡ whole → Alike f (shown_of h t) → is ≡ items_made h e t
+AreMadeAt e t whole f is = (h : History) → IsLegal (Then h e) → Then h e ≡ whole → Alike f (shown_of h t)
+    → is ≡ items_made h e t

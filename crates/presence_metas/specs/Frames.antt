@@ -115,7 +115,9 @@ state_in d = if is_listing d then (listing_in d >>= (λ ls. Ok (frame_is.State l
 
 abbrev pub diff_in : Data → Result Frame FrameFault
 diff_in d =
-    if is_diff d then (some_listing_in (get (codes "joins") d) >>= (λ joins. some_listing_in (get (codes "leaves") d) >>= (λ leaves. Ok (frame_is.Diff (record { joins = joins; leaves = leaves })))))
+    if is_diff d then (some_listing_in (get (codes "joins") d)
+    >>= (λ joins. some_listing_in (get (codes "leaves") d)
+    >>= (λ leaves. Ok (frame_is.Diff (record { joins = joins; leaves = leaves })))))
     else Err BadShape
 
 unfoldable pub frame_in : Message → Result Frame FrameFault
@@ -127,4 +129,5 @@ frame_in m =
 abbrev pub shape_fault : Message → Option FrameFault
 shape_fault m =
     if bytes_eq m.event (codes "presence_state") then (if is_listing m.payload then None else Some BadShape)
-    else (if bytes_eq m.event (codes "presence_diff") then (if is_diff m.payload then None else Some BadShape) else Some NotPresence)
+    else (if bytes_eq m.event (codes "presence_diff") then
+    (if is_diff m.payload then None else Some BadShape) else Some NotPresence)

@@ -17,7 +17,8 @@ use Rattle.presence_metas.specs.Values.{metas_value, state_of, diff_of}
 use Rattle.presence_metas.specs.Frames.{AllNamed, frame_in}
 
 abbrev pub StatesReadBack : Type 0
-StatesReadBack = (m : Message) (rows : List (Dot × Row)) → m.event ≡ codes "presence_state" → m.payload ≡ state_of rows → frame_in m ≡ Ok (frame_is.State (listing_of rows))
+StatesReadBack = (m : Message) (rows : List (Dot × Row)) → m.event ≡ codes "presence_state" → m.payload ≡ state_of rows
+    → frame_in m ≡ Ok (frame_is.State (listing_of rows))
 
 abbrev pub DiffsReadBack : Type 0
 DiffsReadBack =
@@ -61,9 +62,11 @@ IsReadByKey d ls = NamesDiffer (members_in d) → (k : List ℕ) → AreMetasOf 
 
 abbrev pub StatesAreRead : Type 0
 StatesAreRead =
-    (m : Message) (ls : Listing) → m.event ≡ codes "presence_state" → frame_in m ≡ Ok (frame_is.State ls) → IsReadByKey m.payload ls
+    (m : Message) (ls : Listing) → m.event ≡ codes "presence_state" → frame_in m ≡ Ok (frame_is.State ls)
+    → IsReadByKey m.payload ls
 
 abbrev pub DiffsAreRead : Type 0
 DiffsAreRead =
     (m : Message) (d : Diff) (joins leaves : Data) → m.event ≡ codes "presence_diff" → frame_in m ≡ Ok (frame_is.Diff d)
-    → get (codes "joins") m.payload ≡ Some joins → get (codes "leaves") m.payload ≡ Some leaves → IsReadByKey joins d.joins × IsReadByKey leaves d.leaves
+    → get (codes "joins") m.payload ≡ Some joins → get (codes "leaves") m.payload ≡ Some leaves
+    → IsReadByKey joins d.joins × IsReadByKey leaves d.leaves

@@ -26,7 +26,10 @@ with_prev (Some d) ms = put_member (codes "phx_ref_prev") (string (ref_of d)) ms
 
 -- a row's meta with its reference
 abbrev pub tracked_of : Dot → Row → TrackedMeta
-tracked_of d r = record { reference = ref_of d; meta = object (with_prev r.prev (put_member (codes "phx_ref") (string (ref_of d)) (members_in r.meta))) }
+tracked_of d r = record {
+  reference = ref_of d;
+  meta = object (with_prev r.prev (put_member (codes "phx_ref") (string (ref_of d)) (members_in r.meta)));
+}
 
 -- each row's meta follows those of its key
 abbrev pub add_row : Listing → Dot × Row → Listing

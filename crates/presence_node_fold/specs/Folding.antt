@@ -53,8 +53,10 @@ Folds lines = (ms : Mirrors) × FoldsTo lines ms
 -- What it comes to that these lines were read and folded, and then these bytes were read. Of more lines than are allowed a byte is read.
 abbrev pub FoldedBy : ℕ → List (List ℕ) → List ℕ → Option (List ℕ) → Result Mirrors FoldFault → Type 0
 FoldedBy max lines part left (Ok ms) = (part ≡ []) × IsAtEnd left × FoldsTo lines ms
-FoldedBy max lines part left (Err (Line n f)) = IsWhole frame_limit part left × (folded 1 [] (lines ++ first_line part ∷ []) ≡ Err (Line n f)) × (length lines < max)
-FoldedBy max lines part left (Err (BadFrame n f)) = IsWhole frame_limit part left × (folded 1 [] (lines ++ first_line part ∷ []) ≡ Err (BadFrame n f)) × (length lines < max)
+FoldedBy max lines part left (Err (Line n f)) = IsWhole frame_limit part left
+    × (folded 1 [] (lines ++ first_line part ∷ []) ≡ Err (Line n f)) × (length lines < max)
+FoldedBy max lines part left (Err (BadFrame n f)) = IsWhole frame_limit part left
+    × (folded 1 [] (lines ++ first_line part ∷ []) ≡ Err (BadFrame n f)) × (length lines < max)
 FoldedBy max lines part left (Err (Read Failed)) = Folds lines × IsPart frame_limit part × (lacks_feed part ≡ true)
 FoldedBy max lines part left (Err (Read TooManyLines)) = Folds lines × (length lines ≡ max) × (length part ≡ 1)
 FoldedBy max lines part left (Err Memory) = Folds lines × IsPart frame_limit part
@@ -80,7 +82,8 @@ Prints ms old new (Err (Line n f)) = ⊥
 Prints ms old new (Err (BadFrame n f)) = ⊥
 
 -- nothing goes out where the lines are refused
-abbrev pub PrintsRead : Result Mirrors FoldFault → Option (List ℕ) → Option (List ℕ) → Result (Unit {0}) FoldFault → Type 0
+abbrev pub PrintsRead : Result Mirrors FoldFault → Option (List ℕ) → Option (List ℕ) → Result (Unit {0}) FoldFault
+    → Type 0
 PrintsRead (Ok ms) old new r = Prints ms old new r
 PrintsRead (Err e) old new r = (r ≡ Err e) × Keeps old new
 
@@ -96,7 +99,8 @@ FoldsInput input old new (Ok x) = (ms : Mirrors) × (folded_input input ≡ Ok m
 FoldsInput input old new (Err (Line n f)) = (folded_input input ≡ Err (Line n f)) × Keeps old new
 FoldsInput input old new (Err (BadFrame n f)) = (folded_input input ≡ Err (BadFrame n f)) × Keeps old new
 FoldsInput input old new (Err (Read f)) = Keeps old new
-FoldsInput input old new (Err Write) = (ms : Mirrors) × (folded_input input ≡ Ok ms) × AppendsFront old new (mirrors_text ms)
+FoldsInput input old new (Err Write) = (ms : Mirrors) × (folded_input input ≡ Ok ms)
+    × AppendsFront old new (mirrors_text ms)
 FoldsInput input old new (Err Memory) = Keeps old new
 
 -- ---- one line
@@ -120,7 +124,8 @@ FoldsMessage ms after m (Err OutOfMemory) = Unit {0}
 
 -- ---- one turn: a line of the input is read and folded in
 
-pub record FoldsTurn (n : ℕ) (ms : Mirrors) (before left : Option (List ℕ)) (r : Result Mirrors FoldFault) : Type 0 where
+pub record FoldsTurn (n : ℕ) (ms : Mirrors) (before left : Option (List ℕ))
+    (r : Result Mirrors FoldFault) : Type 0 where
   pub line : List ℕ
   pub read : TakesLine frame_limit before left line
   pub folds : fold_line n ms line ≡ r

@@ -35,7 +35,8 @@ module _ {S : Type 0} {reads : ReadGhosts S} {writes : WriteGhosts S} where
   Admits number config old new = (g : Guest S reads writes) × IsNew number config g × (new ≡ old ++ g ∷ [])
 
   -- One look at the handshake, if it is not over.
-  abbrev pub LooksAt : Option (Greeting S reads writes) → Guest S reads writes → Guest S reads writes → Option (Socket S) → Type 0
+  abbrev pub LooksAt : Option (Greeting S reads writes) → Guest S reads writes → Guest S reads writes
+      → Option (Socket S) → Type 0
   LooksAt None old new opened = (new ≡ record old { ready = false }) × (opened ≡ None)
   LooksAt (Some greeting) old new opened =
       (gave : Greeted S reads writes) × GoesOn greeting gave
@@ -51,8 +52,10 @@ module _ {S : Type 0} {reads : ReadGhosts S} {writes : WriteGhosts S} where
   Looks old new opened = LooksIf old.ready old new opened
 
   -- It is looked at if it is ready, and its socket, if the handshake is done, stands behind the others.
-  abbrev pub LooksInto : Guest S reads writes → Guest S reads writes → List (ℕ × Socket S) → List (ℕ × Socket S) → Type 0
-  LooksInto old new before after = (opened : Option (Socket S)) × Looks old new opened × (after ≡ before ++ numbered old.number opened)
+  abbrev pub LooksInto : Guest S reads writes → Guest S reads writes → List (ℕ × Socket S) → List (ℕ × Socket S)
+      → Type 0
+  LooksInto old new before after = (opened : Option (Socket S)) × Looks old new opened
+      × (after ≡ before ++ numbered old.number opened)
 
   -- Each that is ready is looked at once, in their order, and the sockets of those that are done are `opened`.
   abbrev pub LooksAll : List (Guest S reads writes) → List (Guest S reads writes) → List (ℕ × Socket S) → Type 0

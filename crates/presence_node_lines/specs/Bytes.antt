@@ -12,7 +12,8 @@ FindsEnd old new = Consumes old new [] × IsAtEnd new
 
 -- a byte, or none at the end, or nothing at an error
 abbrev pub TakesByte : {E : Type 0} → Option (List ℕ) → Option (List ℕ) → Result (Option ℕ) E → Type 0
-TakesByte old new r = MatchResult r (λ o. MatchOption o (FindsEnd old new) (λ b. Consumes old new (b ∷ []))) (λ _. Keeps old new)
+TakesByte old new r =
+    MatchResult r (λ o. MatchOption o (FindsEnd old new) (λ b. Consumes old new (b ∷ []))) (λ _. Keeps old new)
 
 -- interrupted reads end an input only after this many in a row
 abbrev pub IsPatient : ℕ → Unread → Type 0
@@ -51,8 +52,10 @@ pub record BreaksLine (limit : ℕ) (old new : Option (List ℕ)) : Type 0 where
   pub plain : lacks_feed part ≡ true
 
 -- a line, or none at the end, or a fault within a line
-abbrev pub TakesNext : {V E : Type 0} → ℕ → Option (List ℕ) → Option (List ℕ) → Result (Option V) E → (V → List ℕ) → Type 0
-TakesNext limit old new r bytes = MatchResult r (λ o. MatchOption o (FindsEnd old new) (λ v. TakesLine limit old new (bytes v))) (λ _. BreaksLine limit old new)
+abbrev pub TakesNext : {V E : Type 0} → ℕ → Option (List ℕ) → Option (List ℕ) → Result (Option V) E → (V → List ℕ)
+    → Type 0
+TakesNext limit old new r bytes = MatchResult r
+    (λ o. MatchOption o (FindsEnd old new) (λ v. TakesLine limit old new (bytes v))) (λ _. BreaksLine limit old new)
 
 -- known bytes were these lines, then these bytes, and then what is left
 abbrev pub Splits : Option (List ℕ) → Option (List ℕ) → List (List ℕ) → List ℕ → Type 0

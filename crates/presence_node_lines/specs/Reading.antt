@@ -10,11 +10,14 @@ use Rattle.phx_message.specs.Reading.{decoded}
 
 -- A line of more bytes than allowed is too long whatever its bytes, and one that is no UTF-8 is no JSON.
 unfoldable pub message_in : Limits → List ℕ → Result Message MessageFault
-message_in limits line = if nat_lt limits.bytes (length line) then Err TooLong else (if is_utf8 line then decoded limits line else Err NotJson)
+message_in limits line =
+    if nat_lt limits.bytes (length line) then Err TooLong else
+    (if is_utf8 line then decoded limits line else Err NotJson)
 
 -- what is wrong with a line before its text is read
 abbrev pub bytes_fault : Limits → List ℕ → Option MessageFault
-bytes_fault limits line = if nat_lt limits.bytes (length line) then Some TooLong else (if is_utf8 line then None else Some NotJson)
+bytes_fault limits line =
+    if nat_lt limits.bytes (length line) then Some TooLong else (if is_utf8 line then None else Some NotJson)
 
 -- the most bytes of a client's line, and of a line with a frame
 abbrev pub line_limit : ℕ

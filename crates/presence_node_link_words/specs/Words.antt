@@ -14,7 +14,8 @@ use Rattle.presence_node_link_words.specs.declared.end.LinkEnd.TheVariants.{Faul
 -- the own name is refused first, then another than the one that is wanted
 abbrev pub met : List ℕ → Option (List ℕ) → List ℕ → Result (Unit {0}) LinkEnd
 met own None other = cond (same_text other own) (Err OwnName) (Ok tt)
-met own (Some name) other = cond (same_text other own) (Err OwnName) (cond (same_text other name) (Ok tt) (Err OtherName))
+met own (Some name) other =
+    cond (same_text other own) (Err OwnName) (cond (same_text other name) (Ok tt) (Err OtherName))
 
 -- the number of a refused told value
 abbrev pub told_label : ToldFault → List ℕ
@@ -80,7 +81,8 @@ reason end = end_words end
 
 -- the line of a link that has come up
 abbrev pub up_text : List ℕ → Replica → List ℕ
-up_text place other = codes "link " ++ (place ++ (codes ": up, with " ++ (other.name ++ (codes "." ++ (decimal other.incarnation ++ codes "\n")))))
+up_text place other = codes "link "
+    ++ (place ++ (codes ": up, with " ++ (other.name ++ (codes "." ++ (decimal other.incarnation ++ codes "\n")))))
 
 -- the line of a link that went
 abbrev pub down_text : List ℕ → LinkEnd → List ℕ

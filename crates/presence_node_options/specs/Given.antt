@@ -197,7 +197,8 @@ Refuses rows Words = ⊥
 Refuses rows Name = is_node_name (name_given rows) ≡ false
 Refuses rows Incarnation = IsTrue (is_node_name (name_given rows)) × (IsIncarnation (incarnation_given rows) → ⊥)
 Refuses rows Route =
-    IsTrue (is_node_name (name_given rows)) × IsIncarnation (incarnation_given rows) × (AreFewPatterns (patterns_given rows) → ⊥)
+    IsTrue (is_node_name (name_given rows)) × IsIncarnation (incarnation_given rows)
+    × (AreFewPatterns (patterns_given rows) → ⊥)
 Refuses rows Port = ⊥
 Refuses rows LinkPort = ⊥
 Refuses rows Shards = ⊥
@@ -231,7 +232,8 @@ ServeRefuses rows Port = IsNamed rows × (IsPort rows → ⊥)
 ServeRefuses rows LinkPort = IsNamed rows × IsPort rows × (IsLinkPort rows → ⊥)
 ServeRefuses rows Shards = IsNamed rows × ArePorts rows × (AreShards rows → ⊥)
 ServeRefuses rows Workers = IsNamed rows × ArePorts rows × AreShards rows × (AreWorkers rows → ⊥)
-ServeRefuses rows Peer = IsNamed rows × ArePorts rows × AreShards rows × AreWorkers rows × (AllArePeers (peers_given rows) → ⊥)
+ServeRefuses rows Peer = IsNamed rows × ArePorts rows × AreShards rows × AreWorkers rows
+    × (AllArePeers (peers_given rows) → ⊥)
 ServeRefuses rows Route =
     IsNamed rows × ArePorts rows × AreShards rows × AreWorkers rows × AllArePeers (peers_given rows)
     × (AreFewPatterns (patterns_given rows) → ⊥)
@@ -289,5 +291,7 @@ Chooses name rows (Serve o) = (name ≡ codes "serve") × IsServed rows o
 -- or why it gives nothing
 abbrev pub ChoosesNone : Text → List Row → UsageFault → Type 0
 ChoosesNone name rows Memory = Unit {0}
-ChoosesNone name rows (Usage Words text) = (name ≡ codes "stdio" → ⊥) × (name ≡ codes "fold" → ⊥) × (name ≡ codes "serve" → ⊥)
-ChoosesNone name rows (Usage cause text) = ((name ≡ codes "stdio") × Refuses rows cause) ⊎ ((name ≡ codes "serve") × ServeRefuses rows cause)
+ChoosesNone name rows (Usage Words text) = (name ≡ codes "stdio" → ⊥) × (name ≡ codes "fold" → ⊥)
+    × (name ≡ codes "serve" → ⊥)
+ChoosesNone name rows (Usage cause text) = ((name ≡ codes "stdio") × Refuses rows cause)
+    ⊎ ((name ≡ codes "serve") × ServeRefuses rows cause)

@@ -8,8 +8,10 @@ use Rattle.presence_node_ends.specs.declared.end.ServeEnd.TheVariants.{Stopped, 
 
 -- How a run at this port, and this one of links, may end. What is told of receipts is so of seats of that many workers.
 abbrev pub IsEndOf : List ℕ → ℕ → ℕ → ℕ → ℕ → ServeEnd → Type 0
-IsEndOf node shards workers port link_port (Stopped receipts) = (hs : List Hands) × Settles node shards workers hs (Stopped receipts)
-IsEndOf node shards workers port link_port (NotSettled fault) = (hs : List Hands) × Settles node shards workers hs (NotSettled fault)
+IsEndOf node shards workers port link_port (Stopped receipts) = (hs : List Hands)
+    × Settles node shards workers hs (Stopped receipts)
+IsEndOf node shards workers port link_port (NotSettled fault) = (hs : List Hands)
+    × Settles node shards workers hs (NotSettled fault)
 IsEndOf node shards workers port link_port (PortTaken taken) = taken ≡ port
 IsEndOf node shards workers port link_port (NoPort refused) = refused ≡ port
 IsEndOf node shards workers port link_port (LinkPortTaken taken) = taken ≡ link_port

@@ -33,7 +33,8 @@ IsReadBack m = length (text_of m) ≤ the_limits.FRAME.bytes → decoded the_lim
 
 -- what is fetched has its names in byte order, each once, and so have the objects in it, and its whole numbers are of 64 bits
 abbrev pub FetchesOrderly : {S : Type 0} → Ghosts S → S → Type 0
-FetchesOrderly H hooks = (kind : ℕ) (topic key : List ℕ) (e : Members) → H.fetched hooks kind topic key e → MembersAreOrderly e
+FetchesOrderly H hooks = (kind : ℕ) (topic key : List ℕ) (e : Members) → H.fetched hooks kind topic key e
+    → MembersAreOrderly e
 
 -- the client's lists of each joined topic have its present rows after these messages
 abbrev pub MirrorAll : List Message → State → Type 0
@@ -45,11 +46,14 @@ pub record IsMirrored {S : Type 0} (H : Ghosts S) (hooks : S) (speech : Speech) 
   pub said : AllByRecursion IsSaid speech.said
   pub in_step : InStep s.session s.shard
   pub mirrors : (ms : List Message) → EachBy (voice_of H hooks).worded speech.said ms → MirrorAll ms s
-  pub read_back : (ms : List Message) → EachBy (voice_of H hooks).worded speech.said ms → (H.plain hooks ≡ true) ⊎ FetchesOrderly H hooks → AllByRecursion IsReadBack ms
+  pub read_back : (ms : List Message) → EachBy (voice_of H hooks).worded speech.said ms → (H.plain hooks ≡ true)
+      ⊎ FetchesOrderly H hooks → AllByRecursion IsReadBack ms
 
 -- so it is behind each line of every input, as long as the lines are answered
 abbrev pub MirroredBehindLines : {S : Type 0} → Ghosts S → S → StdioOptions → Type 0
-MirroredBehindLines H hooks o = (lines : List (List ℕ)) (s : State) → after_lines (start o) lines ≡ Some s → IsMirrored H hooks (run (start o) lines).speech s
+MirroredBehindLines H hooks o = (lines : List (List ℕ)) (s : State) → after_lines (start o) lines ≡ Some s
+    → IsMirrored H hooks (run (start o) lines).speech s
 
 abbrev pub JoinedAreMirrored : {S : Type 0} → Ghosts S → S → Type 0
-JoinedAreMirrored H hooks = (o : StdioOptions) → IsTrue (is_node_name o.name) → IsCount o.incarnation → MirroredBehindLines H hooks o
+JoinedAreMirrored H hooks = (o : StdioOptions) → IsTrue (is_node_name o.name) → IsCount o.incarnation
+    → MirroredBehindLines H hooks o

@@ -50,7 +50,8 @@ outs texts notes = record { texts = texts; notes = notes }
 -- these bytes went out, or some of them and not all: those of texts first
 abbrev pub WritesFront : Outs → Outs → List ℕ → List ℕ → Type 0
 WritesFront old new text notes =
-    (AppendsFront old.texts new.texts text × Keeps old.notes new.notes) ⊎ (Appends old.texts new.texts text × AppendsFront old.notes new.notes notes)
+    (AppendsFront old.texts new.texts text × Keeps old.notes new.notes)
+    ⊎ (Appends old.texts new.texts text × AppendsFront old.notes new.notes notes)
 
 abbrev pub Writes : {T : Type 0} → Outs → Outs → List ℕ → List ℕ → Result T StdioFault → Type 0
 Writes old new text notes (Ok x) = Appends old.texts new.texts text × Appends old.notes new.notes notes
@@ -95,23 +96,31 @@ pub record BreaksOff (v : Voice) (s : State) (old new : Outs) (lines : List (Lis
   pub front : SendsFront v between new next
 
 -- the next line was refused, and what was said to it went out
-abbrev pub RefusesLine : Voice → ℕ → State → List (List ℕ) → List ℕ → Option (List ℕ) → Outs → Outs → ℕ → LineFault → Type 0
-RefusesLine v max s lines part left old new n f = IsWhole line_limit part left × TellsAll v max old new (run s (lines ++ first_line part ∷ [])) n (refused f)
+abbrev pub RefusesLine : Voice → ℕ → State → List (List ℕ) → List ℕ → Option (List ℕ) → Outs → Outs → ℕ → LineFault
+    → Type 0
+RefusesLine v max s lines part left old new n f = IsWhole line_limit part left
+    × TellsAll v max old new (run s (lines ++ first_line part ∷ [])) n (refused f)
 
 -- What was written where these lines were read and answered, and then these bytes were read. Of more lines than are allowed a byte is read.
-abbrev pub ToldBy : Voice → ℕ → State → List (List ℕ) → List ℕ → Option (List ℕ) → Outs → Outs → Result ℕ StdioFault → Type 0
-ToldBy v max s lines part left old new (Ok n) = (part ≡ []) × IsAtEnd left × TellsAll v max old new (run s lines) n finished
+abbrev pub ToldBy : Voice → ℕ → State → List (List ℕ) → List ℕ → Option (List ℕ) → Outs → Outs → Result ℕ StdioFault
+    → Type 0
+ToldBy v max s lines part left old new (Ok n) = (part ≡ []) × IsAtEnd left
+    × TellsAll v max old new (run s lines) n finished
 ToldBy v max s lines part left old new (Err (Line n f)) = RefusesLine v max s lines part left old new n (no_message f)
-ToldBy v max s lines part left old new (Err (Session n f)) = RefusesLine v max s lines part left old new n (stopped_by f)
+ToldBy v max s lines part left old new (Err (Session n f)) =
+    RefusesLine v max s lines part left old new n (stopped_by f)
 ToldBy v max s lines part left old new (Err (Read Failed)) =
     TellsAll v max old new (run s lines) (length lines) finished × IsPart line_limit part × (lacks_feed part ≡ true)
 ToldBy v max s lines part left old new (Err (Read TooManyLines)) =
     TellsAll v max old new (run s lines) (length lines) finished × (length lines ≡ max) × (length part ≡ 1)
-ToldBy v max s lines part left old new (Err Write) = IsWhole line_limit part left × BreaksOff v s old new lines (first_line part) × (length lines < max)
-ToldBy v max s lines part left old new (Err Memory) = IsPart line_limit part × TellsAll v max old new (run s lines) (length lines) finished
+ToldBy v max s lines part left old new (Err Write) = IsWhole line_limit part left
+    × BreaksOff v s old new lines (first_line part) × (length lines < max)
+ToldBy v max s lines part left old new (Err Memory) = IsPart line_limit part
+    × TellsAll v max old new (run s lines) (length lines) finished
 
 -- What a run read and wrote, by how it ended.
-pub record Tells (v : Voice) (max : ℕ) (s : State) (before left : Option (List ℕ)) (old new : Outs) (r : Result ℕ StdioFault) : Type 0 where
+pub record Tells (v : Voice) (max : ℕ) (s : State) (before left : Option (List ℕ)) (old new : Outs)
+    (r : Result ℕ StdioFault) : Type 0 where
   pub lines : List (List ℕ)
   pub part : List ℕ
   pub read : HasRead line_limit before left lines part
@@ -120,8 +129,10 @@ pub record Tells (v : Voice) (max : ℕ) (s : State) (before left : Option (List
 -- a run that comes to the end or to a refused line tells what the lines of the whole input do
 abbrev pub TellsInput : Voice → ℕ → State → Outs → Outs → List ℕ → Result ℕ StdioFault → Type 0
 TellsInput v max s old new input (Ok n) = TellsAll v max old new (run s (lines_of input)) n finished
-TellsInput v max s old new input (Err (Line n f)) = TellsAll v max old new (run s (lines_of input)) n (refused (no_message f))
-TellsInput v max s old new input (Err (Session n f)) = TellsAll v max old new (run s (lines_of input)) n (refused (stopped_by f))
+TellsInput v max s old new input (Err (Line n f)) =
+    TellsAll v max old new (run s (lines_of input)) n (refused (no_message f))
+TellsInput v max s old new input (Err (Session n f)) =
+    TellsAll v max old new (run s (lines_of input)) n (refused (stopped_by f))
 TellsInput v max s old new input (Err (Read f)) = Unit {0}
 TellsInput v max s old new input (Err Write) = Unit {0}
 TellsInput v max s old new input (Err Memory) = Unit {0}
@@ -129,7 +140,8 @@ TellsInput v max s old new input (Err Memory) = Unit {0}
 -- ---- one line
 
 -- what is said to the line went out, and this follows it
-pub record AnswersLine (v : Voice) (s : State) (next : Result State LineFault) (old new : Outs) (line : List ℕ) : Type 0 where
+pub record AnswersLine (v : Voice) (s : State) (next : Result State LineFault) (old new : Outs)
+    (line : List ℕ) : Type 0 where
   pub follows : (answer s line).next ≡ next
   pub sent : Sends v old new (answer s line).speech
 
@@ -143,7 +155,8 @@ AnswerOf v n s after old new line (Err Memory) = KeepsOuts old new
 
 -- ---- one turn: a line of the input is read and answered
 
-pub record TurnsLine (v : Voice) (s : State) (next : Result State LineFault) (before left : Option (List ℕ)) (old new : Outs) : Type 0 where
+pub record TurnsLine (v : Voice) (s : State) (next : Result State LineFault) (before left : Option (List ℕ))
+    (old new : Outs) : Type 0 where
   pub line : List ℕ
   pub read : TakesLine line_limit before left line
   pub answers : AnswersLine v s next old new line
@@ -160,11 +173,14 @@ pub record Stops (before left : Option (List ℕ)) (old new : Outs) : Type 0 whe
   pub is_part : IsPart line_limit part
   pub kept : KeepsOuts old new
 
-abbrev pub TurnOf : Voice → ℕ → State → State → Option (List ℕ) → Option (List ℕ) → Outs → Outs → Result Bool StdioFault → Type 0
+abbrev pub TurnOf : Voice → ℕ → State → State → Option (List ℕ) → Option (List ℕ) → Outs → Outs
+    → Result Bool StdioFault → Type 0
 TurnOf v n s after before left old new (Ok true) = TurnsLine v s (Ok after) before left old new
 TurnOf v n s after before left old new (Ok false) = FindsEnd before left × KeepsOuts old new
-TurnOf v n s after before left old new (Err (Line k f)) = (k ≡ n) × TurnsLine v s (Err (no_message f)) before left old new
-TurnOf v n s after before left old new (Err (Session k f)) = (k ≡ n) × TurnsLine v s (Err (stopped_by f)) before left old new
+TurnOf v n s after before left old new (Err (Line k f)) = (k ≡ n)
+    × TurnsLine v s (Err (no_message f)) before left old new
+TurnOf v n s after before left old new (Err (Session k f)) = (k ≡ n)
+    × TurnsLine v s (Err (stopped_by f)) before left old new
 TurnOf v n s after before left old new (Err (Read TooManyLines)) = ⊥
 TurnOf v n s after before left old new (Err (Read Failed)) = BreaksLine line_limit before left × KeepsOuts old new
 TurnOf v n s after before left old new (Err Write) = LosesLine v s before left old new

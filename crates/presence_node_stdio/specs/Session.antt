@@ -51,7 +51,10 @@ pub record Voice : Type 1 where
 
 -- the voice of hooks, by what their closures may answer
 abbrev pub voice_of : {S : Type 0} → Ghosts S → S → Voice
-voice_of H hooks = record { worded = Worded (H.fetched hooks) (H.plain hooks); noted = Noted (H.joined hooks) (H.left hooks) (H.quiet hooks) }
+voice_of H hooks = record {
+  worded = Worded (H.fetched hooks) (H.plain hooks);
+  noted = Noted (H.joined hooks) (H.left hooks) (H.quiet hooks);
+}
 
 -- what is said to the client, and what of it a delivery said
 pub record Speech : Type 0 where
@@ -92,7 +95,8 @@ ends speech f = record { speech = speech; next = Err f }
 
 -- what was delivered is said behind the line's own answer
 abbrev pub delivered : List (List ℕ × ℕ) → Speech → End → History → Answer
-delivered routes speech (answers said s) h = record { speech = and_then speech (dealing said); next = Ok (record { routes = routes; session = s; shard = h }) }
+delivered routes speech (answers said s) h =
+    record { speech = and_then speech (dealing said); next = Ok (record { routes = routes; session = s; shard = h }) }
 delivered routes speech full h = ends speech (stopped_by ShardFull)
 delivered routes speech memory h = ends speech (stopped_by ShardFull)
 
@@ -134,8 +138,10 @@ Keeps (Some (no_message f)) s after = after ≡ s
 Keeps _ s after = Unit {0}
 
 -- what one text came to over the shard
-abbrev pub Answered : Voice → List (List ℕ × ℕ) → List ℕ → InForce → History → History → InForce → Result (Vec (String Global) Global) SessionFault → Type 0
-Answered v routes text s old new after r = RanBy v.worded LocalStep routes s (decoded the_limits.CLIENT text) old new after r
+abbrev pub Answered : Voice → List (List ℕ × ℕ) → List ℕ → InForce → History → History → InForce
+    → Result (Vec (String Global) Global) SessionFault → Type 0
+Answered v routes text s old new after r =
+    RanBy v.worded LocalStep routes s (decoded the_limits.CLIENT text) old new after r
 
 -- and one delivery
 abbrev pub Dealt : Voice → InForce → History → History → InForce → Result Delivery SessionFault → Type 0

@@ -43,7 +43,8 @@ pub record Around (S P : Type 0) : Type 1 where
   pub worded : Said → Message → Type 0
   pub noted : Said → List (List ℕ) → Type 0
 
-abbrev pub around : {S P H : Type 0} → (S → Option (List ℕ)) → (S → Option (List ℕ)) → (P → (q : Ask) → Answer q → P → Type 0) → Ghosts H → H → Around S P
+abbrev pub around : {S P H : Type 0} → (S → Option (List ℕ)) → (S → Option (List ℕ))
+    → (P → (q : Ask) → Answer q → P → Type 0) → Ghosts H → H → Around S P
 around remaining contents step G hooks =
     record {
       remaining = remaining;
@@ -98,7 +99,8 @@ progress_behind (Err fault) = progress.Ending
 
 module _ {S K P : Type 0} (step : P → (q : Ask) → Answer q → P → Type 0) where
   -- The session's end is asked for once, and the connection is over where that is accepted.
-  pub record EndsSession (cause : Cause) (old new : Connection S K) (before after : P) (result : Progress) : Type 0 where
+  pub record EndsSession (cause : Cause) (old new : Connection S K) (before after : P)
+      (result : Progress) : Type 0 where
     pub answer : Result (Unit {0}) SessionFault
     pub ended : EndedBy step old.session before after new.session answer
     pub kept : new ≡ record old { session = new.session; stage = stage_behind cause answer }
@@ -116,14 +118,16 @@ module _ {S K P : Type 0} (w : Around S P) where
   -- ---- one message
 
   -- The session answers a text, and its texts go out.
-  pub record Answers (routes : List (List ℕ × ℕ)) (text : List ℕ) (old new : Connection S K) (before after : P) (result : Result (Unit {0}) Cause) : Type 0 where
+  pub record Answers (routes : List (List ℕ × ℕ)) (text : List ℕ) (old new : Connection S K) (before after : P)
+      (result : Result (Unit {0}) Cause) : Type 0 where
     pub answer : Result (Vec (String Global) Global) SessionFault
     pub ran : RanBy w.worded w.step routes old.session (decoded the_limits.CLIENT text) before after new.session answer
     pub sent : GoOut w.contents old.socket new.socket (ran_texts answer) result
     pub kept : new ≡ record old { socket = new.socket; session = new.session }
 
   -- nothing was done, and this comes of it
-  pub record Rests (old new : Connection S K) (before after : P) (result outcome : Result (Unit {0}) Cause) : Type 0 where
+  pub record Rests (old new : Connection S K) (before after : P)
+      (result outcome : Result (Unit {0}) Cause) : Type 0 where
     pub connection : new ≡ old
     pub port : after ≡ before
     pub outcome_is : result ≡ outcome
@@ -132,8 +136,10 @@ module _ {S K P : Type 0} (w : Around S P) where
   heard_at now c = record c { heard = now }
 
   -- What is done by what was read.
-  abbrev pub Responds : List (List ℕ × ℕ) → ℕ → Heard → Connection S K → Connection S K → P → P → Result (Unit {0}) Cause → Type 0
-  Responds routes now (Text words) old new before after result = Answers routes words (heard_at now old) new before after result
+  abbrev pub Responds : List (List ℕ × ℕ) → ℕ → Heard → Connection S K → Connection S K → P → P
+      → Result (Unit {0}) Cause → Type 0
+  Responds routes now (Text words) old new before after result =
+      Answers routes words (heard_at now old) new before after result
   Responds routes now Sign old new before after result = Rests (heard_at now old) new before after result (Ok tt)
   Responds routes now Nothing old new before after result = Rests old new before after result (patience old.heard now)
   Responds routes now (Ends cause) old new before after result = Rests old new before after result (Err cause)
@@ -143,18 +149,21 @@ module _ {S K P : Type 0} (w : Around S P) where
   pub record Deals (old new : Connection S K) (before after : P) (result : Result (Unit {0}) Cause) : Type 0 where
     pub delivery : Result Delivery SessionFault
     pub failed : old.session.failed ≡ true → (delivery ≡ Err Failed) × (new.session ≡ old.session) × (after ≡ before)
-    pub delivered : old.session.failed ≡ false → DeliveredBy w.worded w.noted w.step MAX_TAKEN old.session before after new.session delivery
+    pub delivered : old.session.failed ≡ false
+        → DeliveredBy w.worded w.noted w.step MAX_TAKEN old.session before after new.session delivery
     pub sent : GoOut w.contents old.socket new.socket (dealt_texts delivery) result
     pub kept : new ≡ record old { socket = new.socket; session = new.session }
 
   -- Behind the message comes one delivery, unless the connection ends; and whether a message came is told.
-  abbrev pub Continues : Bool → Result (Unit {0}) Cause → Connection S K → Connection S K → P → P → Result Bool Cause → Type 0
+  abbrev pub Continues : Bool → Result (Unit {0}) Cause → Connection S K → Connection S K → P → P → Result Bool Cause
+      → Type 0
   Continues came (Err cause) mid new between after result = (new ≡ mid) × (after ≡ between) × (result ≡ Err cause)
   Continues came (Ok u) mid new between after (Ok told) = (told ≡ came) × Deals mid new between after (Ok tt)
   Continues came (Ok u) mid new between after (Err cause) = Deals mid new between after (Err cause)
 
   -- At most one message is read and answered, and what waits is delivered.
-  pub record Serves (routes : List (List ℕ × ℕ)) (now : ℕ) (old new : Connection S K) (before after : P) (result : Result Bool Cause) : Type 0 where
+  pub record Serves (routes : List (List ℕ × ℕ)) (now : ℕ) (old new : Connection S K) (before after : P)
+      (result : Result Bool Cause) : Type 0 where
     pub heard : Heard
     pub socket : Socket S
     pub hears : Hears w.remaining old.socket socket heard
@@ -171,7 +180,8 @@ module _ {S K P : Type 0} (w : Around S P) where
       (closed : Socket S) × ClosesBy w.contents (code_of cause) served.socket closed
       × EndsSession w.step cause (record served { socket = closed }) new between after result
 
-  pub record TakesTurn (routes : List (List ℕ × ℕ)) (now : ℕ) (old new : Connection S K) (before after : P) (result : Progress) : Type 0 where
+  pub record TakesTurn (routes : List (List ℕ × ℕ)) (now : ℕ) (old new : Connection S K) (before after : P)
+      (result : Progress) : Type 0 where
     pub served : Connection S K
     pub between : P
     pub outcome : Result Bool Cause

@@ -97,7 +97,12 @@ module _ {S : Type 0} (contents : S → Option (List ℕ)) where
   pub record SendsOne (old new : Client S) : Type 0 where
     pub all : Bool
     pub flushes : Flushes contents old.connection new.connection all
-    pub client : new ≡ record old { ready = old.ready || is_ending new.connection.stage; unsent = not all; connection = new.connection }
+    pub client : new
+        ≡ record old {
+          ready = old.ready || is_ending new.connection.stage;
+          unsent = not all;
+          connection = new.connection;
+        }
 
   abbrev pub SendsIf : Bool → Client S → Client S → Type 0
   SendsIf true old new = SendsOne old new

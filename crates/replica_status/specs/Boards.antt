@@ -46,7 +46,12 @@ abbrev pub after_permdown : BoardValue → Replica → BoardValue
 after_permdown b r = record { own = b.own; time = b.time; standings = changed put_down b r }
 
 abbrev pub after_tick : BoardValue → ℕ → BoardValue
-after_tick b now = record { own = b.own; time = time_at b now; standings = map (λ e. (e.0, ticked_at (time_at b now) e.1)) b.standings }
+after_tick b now =
+    record {
+      own = b.own;
+      time = time_at b now;
+      standings = map (λ e. (e.0, ticked_at (time_at b now) e.1)) b.standings;
+    }
 
 abbrev pub same_status : Status → Status → Bool
 same_status status_is.Unheard status_is.Unheard = true
@@ -57,7 +62,8 @@ same_status _ _ = false
 
 -- the change from one standing to another, where the status is another one
 abbrev pub change_between : Replica → Standing → Standing → Option Change
-change_between r old new = cond (same_status (status_of old) (status_of new)) None (Some (record { replica = r; before = status_of old; after = status_of new }))
+change_between r old new = cond (same_status (status_of old) (status_of new)) None
+    (Some (record { replica = r; before = status_of old; after = status_of new }))
 
 -- what a tick at a time changes
 abbrev pub changes_in : List (Replica × Standing) → ℕ → List Change

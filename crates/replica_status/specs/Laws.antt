@@ -9,13 +9,15 @@ use Rattle.replica_status.specs.Boards.{BoardValue, standing_in, status, time_at
 
 -- each step changes the standing of a replica by the table, or not at all
 pub record FollowsTable (b : BoardValue) (q : Replica) (s : Standing) : Type 0 where
-  pub hears : (r : Replica) (now : ℕ) → standing_in (after_heard b r now).standings q ≡ cond (same_replica q r) (heard_at (time_at b now) s) s
+  pub hears : (r : Replica) (now : ℕ)
+      → standing_in (after_heard b r now).standings q ≡ cond (same_replica q r) (heard_at (time_at b now) s) s
   pub ticks : (now : ℕ) → standing_in (after_tick b now).standings q ≡ ticked_at (time_at b now) s
   pub goes : (r : Replica) → standing_in (after_permdown b r).standings q ≡ cond (same_replica q r) (put_down s) s
 
 -- each other replica
 abbrev pub BoardFollowsTable : Type 0
-BoardFollowsTable = (b : BoardValue) (q : Replica) → same_replica q b.own ≡ false → FollowsTable b q (standing_in b.standings q)
+BoardFollowsTable = (b : BoardValue) (q : Replica) → same_replica q b.own ≡ false
+    → FollowsTable b q (standing_in b.standings q)
 
 -- no step brings it back
 pub record StaysGone (b : BoardValue) (q : Replica) : Type 0 where

@@ -30,9 +30,11 @@ equal_from_is_eq Greater e = absurd (cc)
 
 pub same_replica_is : (x y : Replica) → IsTrue (same_replica x y) → x ≡ y
 same_replica_is x y e =
-    let parts = both_equal (slice_cmp nat_cmp x.name y.name) (nat_cmp x.incarnation y.incarnation) (equal_from_is_eq (replica_cmp x y) e) in
+    let parts = both_equal (slice_cmp nat_cmp x.name y.name) (nat_cmp x.incarnation y.incarnation)
+    (equal_from_is_eq (replica_cmp x y) e) in
     let names : x.name ≡ y.name = set.slice_cmp-IsAntisymmetric set.nat_cmp-IsAntisymmetric x.name y.name parts.0 in
-    let incarnations : x.incarnation ≡ y.incarnation = set.nat_cmp-IsAntisymmetric x.incarnation y.incarnation parts.1 in
+    let incarnations : x.incarnation ≡ y.incarnation =
+    set.nat_cmp-IsAntisymmetric x.incarnation y.incarnation parts.1 in
     λ i. record { name = names i; incarnation = incarnations i }
 
 -- what a hasher is fed of a replica

@@ -26,7 +26,8 @@ heard_at time Gone = Gone
 -- a tick at a time: the longer limit goes before the shorter one
 abbrev pub ticked_at : ℕ → Standing → Standing
 ticked_at time Unheard = Unheard
-ticked_at time (Up heard) = cond (is_over GONE_AFTER_MS heard time) Gone (cond (is_over DOWN_AFTER_MS heard time) (Down heard) (Up heard))
+ticked_at time (Up heard) =
+    cond (is_over GONE_AFTER_MS heard time) Gone (cond (is_over DOWN_AFTER_MS heard time) (Down heard) (Up heard))
 ticked_at time (Down heard) = cond (is_over GONE_AFTER_MS heard time) Gone (Down heard)
 ticked_at time Gone = Gone
 

@@ -18,10 +18,14 @@ pub record Hands : Type 0 where
   pub fourth : Hand
 
 abbrev pub hands_code : Coded Hands
-hands_code = code_by (ℕ × (Hand × (Hand × (Hand × Hand)))) (coded× coded_ℕ (coded× hand_code (coded× hand_code (coded× hand_code hand_code)))) (λ h. (h.number, (h.first, (h.second, (h.third, h.fourth))))) (λ p. record { number = p.0; first = p.1.0; second = p.1.1.0; third = p.1.1.1.0; fourth = p.1.1.1.1 }) (λ _. refl)
+hands_code = code_by (ℕ × (Hand × (Hand × (Hand × Hand))))
+    (coded× coded_ℕ (coded× hand_code (coded× hand_code (coded× hand_code hand_code))))
+    (λ h. (h.number, (h.first, (h.second, (h.third, h.fourth)))))
+    (λ p. record { number = p.0; first = p.1.0; second = p.1.1.0; third = p.1.1.1.0; fourth = p.1.1.1.1 }) (λ _. refl)
 
 abbrev pub new_seat : ℕ → Hands
-new_seat n = record { number = n; first = new_hand n 0; second = new_hand n 1; third = new_hand n 2; fourth = new_hand n 3 }
+new_seat n =
+    record { number = n; first = new_hand n 0; second = new_hand n 1; third = new_hand n 2; fourth = new_hand n 3 }
 
 -- a new seat for each number from 0
 abbrev pub new_seats : ℕ → List Hands
@@ -30,7 +34,9 @@ new_seats (suc n) = new_seats n ++ new_seat n ∷ []
 
 -- each part is of the seat, and of its shard
 abbrev pub IsSeated : Hands → Type 0
-IsSeated h = (h.first.seat ≡ h.number) × (h.second.seat ≡ h.number) × (h.third.seat ≡ h.number) × (h.fourth.seat ≡ h.number) × (h.first.shard ≡ 0) × (h.second.shard ≡ 1) × (h.third.shard ≡ 2) × (h.fourth.shard ≡ 3)
+IsSeated h = (h.first.seat ≡ h.number) × (h.second.seat ≡ h.number) × (h.third.seat ≡ h.number)
+    × (h.fourth.seat ≡ h.number) × (h.first.shard ≡ 0) × (h.second.shard ≡ 1) × (h.third.shard ≡ 2)
+    × (h.fourth.shard ≡ 3)
 
 -- the shard that has a topic
 abbrev pub shard_of : List ℕ → ℕ → ℕ
@@ -62,10 +68,17 @@ pub record IsTrimmed (node : List ℕ) (old new : Hands) : Type 0 where
   pub third : ℕ
   pub fourth : ℕ
   pub starts : IsStartOf node first × IsStartOf node second × IsStartOf node third × IsStartOf node fourth
-  pub forgets : new ≡ record { number = old.number; first = without_receipts old.first first; second = without_receipts old.second second; third = without_receipts old.third third; fourth = without_receipts old.fourth fourth }
+  pub forgets : new ≡ record {
+    number = old.number;
+    first = without_receipts old.first first;
+    second = without_receipts old.second second;
+    third = without_receipts old.third third;
+    fourth = without_receipts old.fourth fourth;
+  }
 
 -- the seat after a call at a shard: no other part is changed
-pub record CalledAt {A : Type 0} (node : List ℕ) (there : History → Bool) (old new : Hands) (s : ℕ) (step : Step) (Gives : History → A → Type 0) (r : Result (Reply A) ShardFault) : Type 0 where
+pub record CalledAt {A : Type 0} (node : List ℕ) (there : History → Bool) (old new : Hands) (s : ℕ) (step : Step)
+    (Gives : History → A → Type 0) (r : Result (Reply A) ShardFault) : Type 0 where
   pub others : new ≡ with_hand old s (hand_at new s)
   pub shard : (hand_at old s).shard ≡ s
   pub call : Called node there (hand_at old s) (hand_at new s) step Gives r

@@ -14,7 +14,10 @@ pub record Hand : Type 0 where
   pub share : ℕ
 
 abbrev pub hand_code : Coded Hand
-hand_code = code_by (ℕ × (ℕ × (List Receipt × ℕ))) (coded× coded_ℕ (coded× coded_ℕ (coded× (coded_list one_receipt.the_row.coded) coded_ℕ))) (λ h. (h.seat, (h.shard, (h.receipts, h.share)))) (λ p. record { seat = p.0; shard = p.1.0; receipts = p.1.1.0; share = p.1.1.1 }) (λ _. refl)
+hand_code = code_by (ℕ × (ℕ × (List Receipt × ℕ)))
+    (coded× coded_ℕ (coded× coded_ℕ (coded× (coded_list one_receipt.the_row.coded) coded_ℕ)))
+    (λ h. (h.seat, (h.shard, (h.receipts, h.share))))
+    (λ p. record { seat = p.0; shard = p.1.0; receipts = p.1.1.0; share = p.1.1.1 }) (λ _. refl)
 
 abbrev pub receipt : ℕ → ℕ → Step → Outcome → Receipt
 receipt s n step o = record { shard = s; number = n; step = step; outcome = o }

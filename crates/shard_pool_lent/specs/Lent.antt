@@ -53,7 +53,8 @@ reply_of s n (Err f) = Err f
 
 -- what is answered is the table's outcome, as `Gives` ties them where the call is accepted
 abbrev pub Replies : {A : Type 0} → ℕ → History → Step → (A → Type 0) → Result (Reply A) ShardFault → Type 0
-Replies s h step Gives r = Answers (λ x. (x.shard ≡ s) × (x.number ≡ last_number h + 1) × Gives x.value) (outcome_of h step) r
+Replies s h step Gives r =
+    Answers (λ x. (x.shard ≡ s) × (x.number ≡ last_number h + 1) × Gives x.value) (outcome_of h step) r
 
 -- Each refusal is given where it is the one that stands. Want of memory for the receipt goes before all others.
 abbrev pub IsDueOnceNoted : {A : Type 0} → Result A ShardFault → Option ShardFault → Type 0

@@ -21,7 +21,8 @@ finds sub h = is_found h sub.slot sub.number
 -- Some legal history of the node stands behind the answer: the step was made at its end, the part has the receipt of a step
 -- that was made, the answer is the table's there, and a refusal is the one that stands there. `there` tells
 -- whether the call's subscriber is.
-pub record Called {A : Type 0} (node : List ℕ) (there : History → Bool) (old new : Hand) (step : Step) (Gives : History → A → Type 0) (r : Result (Reply A) ShardFault) : Type 0 where
+pub record Called {A : Type 0} (node : List ℕ) (there : History → Bool) (old new : Hand) (step : Step)
+    (Gives : History → A → Type 0) (r : Result (Reply A) ShardFault) : Type 0 where
   pub history : History
   pub left : History
   pub legal : IsLegal history

@@ -25,7 +25,8 @@ pub record IsBehind (node : List ℕ) (Is : History → Type 0) : Type 0 where
   pub is : Is history
 
 -- the answer is that of the step without a seat at the history's end, and what it gives is such
-pub record IsMadeWith {A : Type 0} (Gives : A → Type 0) (h : History) (s : Step) (r : Result A ShardFault) : Type 0 where
+pub record IsMadeWith {A : Type 0} (Gives : A → Type 0) (h : History) (s : Step)
+    (r : Result A ShardFault) : Type 0 where
   pub left : History
   pub step : Stepped h left None s r
   pub answer : Answers Gives (outcome_of h s) r

@@ -22,11 +22,13 @@ same_dots = eq_by_cmp (slice_cmp dot_cmp)
 -- Is this that step? One question for each kind.
 
 abbrev pub is_track : ℕ → List ℕ → List ℕ → Data → Step → Bool
-is_track pid topic key meta (steps_are.Track p t k m) = nat_eq p pid && (same_text t topic && (same_text k key && same_value m meta))
+is_track pid topic key meta (steps_are.Track p t k m) =
+    nat_eq p pid && (same_text t topic && (same_text k key && same_value m meta))
 is_track pid topic key meta _ = false
 
 abbrev pub is_update : ℕ → List ℕ → List ℕ → Data → Step → Bool
-is_update pid topic key meta (steps_are.Update p t k m) = nat_eq p pid && (same_text t topic && (same_text k key && same_value m meta))
+is_update pid topic key meta (steps_are.Update p t k m) =
+    nat_eq p pid && (same_text t topic && (same_text k key && same_value m meta))
 is_update pid topic key meta _ = false
 
 abbrev pub is_untrack : ℕ → List ℕ → List ℕ → Step → Bool

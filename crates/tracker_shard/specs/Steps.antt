@@ -46,7 +46,9 @@ cause s = ClockFull
 
 -- The refusal that stands against a step, in the order in which they are tried. `found` tells whether its subscriber is there.
 abbrev pub refusal : Bool → History → Step → Option ShardFault
-refusal found h s = cond found (cond (is_full h) (Some JournalFull) (cond (is_some (outcome_of h s)) None (Some (cause s)))) (Some NoSub)
+refusal found h s =
+    cond found (cond (is_full h) (Some JournalFull) (cond (is_some (outcome_of h s)) None (Some (cause s))))
+    (Some NoSub)
 
 -- want of memory may come in place of any answer but these two
 abbrev pub MayRunOut : Option ShardFault → Type 0
@@ -80,10 +82,12 @@ abbrev pub AnswersDot : History → Step → Result Dot ShardFault → Type 0
 AnswersDot h s r = Answers (λ d. new_dot (outcome_of h s) ≡ Some d) (outcome_of h s) r
 
 abbrev pub AnswersRowsOfKey : {A : Type 0} → History → ℕ → List ℕ → List ℕ → Result (Vec Dot A) ShardFault → Type 0
-AnswersRowsOfKey h pid t key r = Answers (λ dots. dots.items ≡ dots_of (rows_of_key h pid t key)) (outcome_of h (steps_are.Untrack pid t key)) r
+AnswersRowsOfKey h pid t key r =
+    Answers (λ dots. dots.items ≡ dots_of (rows_of_key h pid t key)) (outcome_of h (steps_are.Untrack pid t key)) r
 
 abbrev pub AnswersRowsOfPid : {A : Type 0} → History → ℕ → List ℕ → Result (Vec Dot A) ShardFault → Type 0
-AnswersRowsOfPid h pid t r = Answers (λ dots. dots.items ≡ dots_of (rows_of_pid h pid t)) (outcome_of h (steps_are.UntrackAll pid t)) r
+AnswersRowsOfPid h pid t r =
+    Answers (λ dots. dots.items ≡ dots_of (rows_of_pid h pid t)) (outcome_of h (steps_are.UntrackAll pid t)) r
 
 abbrev pub AnswersListed : History → List ℕ → Result (List (Dot × Row)) ShardFault → Type 0
 AnswersListed h t r = Answers (λ rows. rows ≡ listed h t) (outcome_of h (steps_are.List t)) r
@@ -95,7 +99,8 @@ abbrev pub AnswersItems : {A : Type 0} → History → ℕ → ℕ → Result (V
 AnswersItems h n max r = Answers (λ items. items.items ≡ items_given h n max) (outcome_of h (steps_are.Take n max)) r
 
 abbrev pub AnswersSub : History → List ℕ → Result Sub ShardFault → Type 0
-AnswersSub h t r = Answers (λ sub. (sub.number ≡ last_number h + 1) × (sub.slot ≡ slot_of sub.number)) (outcome_of h (steps_are.Subscribe t)) r
+AnswersSub h t r = Answers (λ sub. (sub.number ≡ last_number h + 1) × (sub.slot ≡ slot_of sub.number))
+    (outcome_of h (steps_are.Subscribe t)) r
 
 abbrev pub is_found : History → ℕ → ℕ → Bool
 is_found h slot number = is_some (topic_of h number) && nat_eq slot (slot_of number)

@@ -19,10 +19,13 @@ waiting_of-listed Behind = refl
 waiting_of-listed (Queued q) = refl
 
 abbrev pub waiting_code : Coded Waiting
-waiting_code = code_by (Option (List Item)) (coded_option (coded_list one_item.the_row.coded)) listed waiting_of waiting_of-listed
+waiting_code =
+    code_by (Option (List Item)) (coded_option (coded_list one_item.the_row.coded)) listed waiting_of waiting_of-listed
 
 abbrev pub subscriber_code : Coded Subscriber
-subscriber_code = code_by (List ℕ × Waiting) (coded× (coded_list coded_ℕ) waiting_code) (λ s. (s.topic, s.waiting)) (λ p. record { topic = p.0; waiting = p.1 }) (λ _. refl)
+subscriber_code = code_by (List ℕ × Waiting) (coded× (coded_list coded_ℕ) waiting_code) (λ s. (s.topic, s.waiting))
+    (λ p. record { topic = p.0; waiting = p.1 }) (λ _. refl)
 
 abbrev pub fed_code : Coded Fed
-fed_code = code_by (List (ℕ × Subscriber) × ℕ) (coded× (coded_list (coded× coded_ℕ subscriber_code)) coded_ℕ) (λ f. (f.subscribers, f.delivered)) (λ p. record { subscribers = p.0; delivered = p.1 }) (λ _. refl)
+fed_code = code_by (List (ℕ × Subscriber) × ℕ) (coded× (coded_list (coded× coded_ℕ subscriber_code)) coded_ℕ)
+    (λ f. (f.subscribers, f.delivered)) (λ p. record { subscribers = p.0; delivered = p.1 }) (λ _. refl)

@@ -32,13 +32,17 @@ abbrev pub CanDeliver : Type 0
 CanDeliver = (h : History) (f : Fed) → IsLegal h → IsFedBy h f → f.delivered < 2 ^ 63
 
 abbrev pub SubscribeIsFed : Type 0
-SubscribeIsFed = (h : History) (e : Entry) (t : List ℕ) (old new : Fed) → IsLegal (Then h e) → e.step ≡ steps_are.Subscribe t → IsChanged old new e.number (Some (newcomer t)) → IsFedBy h old → IsFedBy (Then h e) new
+SubscribeIsFed = (h : History) (e : Entry) (t : List ℕ) (old new : Fed) → IsLegal (Then h e)
+    → e.step ≡ steps_are.Subscribe t → IsChanged old new e.number (Some (newcomer t)) → IsFedBy h old
+    → IsFedBy (Then h e) new
 
 abbrev pub UnsubscribeIsFed : Type 0
-UnsubscribeIsFed = (h : History) (e : Entry) (n : ℕ) (old new : Fed) → IsLegal (Then h e) → e.step ≡ steps_are.Unsubscribe n → IsChanged old new n None → IsFedBy h old → IsFedBy (Then h e) new
+UnsubscribeIsFed = (h : History) (e : Entry) (n : ℕ) (old new : Fed) → IsLegal (Then h e)
+    → e.step ≡ steps_are.Unsubscribe n → IsChanged old new n None → IsFedBy h old → IsFedBy (Then h e) new
 
 abbrev pub TakeIsFed : Type 0
-TakeIsFed = (h : History) (e : Entry) (n max : ℕ) (old new : Fed) → IsLegal (Then h e) → e.step ≡ steps_are.Take n max → IsChanged old new n (option_map (left_with max) (found old n)) → IsFedBy h old → IsFedBy (Then h e) new
+TakeIsFed = (h : History) (e : Entry) (n max : ℕ) (old new : Fed) → IsLegal (Then h e) → e.step ≡ steps_are.Take n max
+    → IsChanged old new n (option_map (left_with max) (found old n)) → IsFedBy h old → IsFedBy (Then h e) new
 
 -- a step of a subscriber alone
 abbrev pub is_of_subscriber : Step → Bool
@@ -49,11 +53,14 @@ is_of_subscriber _ = false
 
 -- after any other step, where what it makes for each topic that is followed is delivered
 abbrev pub DeliveryIsFed : Type 0
-DeliveryIsFed = (h : History) (e : Entry) (items : List ℕ → List Item) (old new : Fed) → IsLegal (Then h e) → is_of_subscriber e.step ≡ false → ((t : List ℕ) → is_followed old t ≡ true → items t ≡ items_made h e t) → IsDelivered old new items → IsFedBy h old → IsFedBy (Then h e) new
+DeliveryIsFed = (h : History) (e : Entry) (items : List ℕ → List Item) (old new : Fed) → IsLegal (Then h e)
+    → is_of_subscriber e.step ≡ false → ((t : List ℕ) → is_followed old t ≡ true → items t ≡ items_made h e t)
+    → IsDelivered old new items → IsFedBy h old → IsFedBy (Then h e) new
 
 -- and where it makes nothing for them
 abbrev pub QuietIsFed : Type 0
-QuietIsFed = (h : History) (e : Entry) (f : Fed) → IsLegal (Then h e) → is_of_subscriber e.step ≡ false → ((t : List ℕ) → is_followed f t ≡ true → items_made h e t ≡ []) → IsFedBy h f → IsFedBy (Then h e) f
+QuietIsFed = (h : History) (e : Entry) (f : Fed) → IsLegal (Then h e) → is_of_subscriber e.step ≡ false
+    → ((t : List ℕ) → is_followed f t ≡ true → items_made h e t ≡ []) → IsFedBy h f → IsFedBy (Then h e) f
 
 -- What the feeds of a history answer.
 
@@ -61,12 +68,16 @@ abbrev pub TopicsAreThose : Type 0
 TopicsAreThose = (h : History) (f : Fed) (n : ℕ) → IsFedBy h f → topic_at f n ≡ topic_of h n
 
 abbrev pub WaitsAreThose : Type 0
-WaitsAreThose = (h : History) (f : Fed) (n : ℕ) (t : List ℕ) → IsFedBy h f → topic_of h n ≡ Some t → waits_at f n ≡ Some (is_waiting (queue h n))
+WaitsAreThose = (h : History) (f : Fed) (n : ℕ) (t : List ℕ) → IsFedBy h f → topic_of h n ≡ Some t
+    → waits_at f n ≡ Some (is_waiting (queue h n))
 
 -- a take comes to these items, or to the state where none are named
 abbrev pub IsTakeOf : History → ℕ → ℕ → List ℕ → Option (List Item) → Type 0
-IsTakeOf h n max t None = (items_given h n max ≡ items_are.State (listed h t) ∷ []) × (outcome_of h (steps_are.Take n max) ≡ Some (outcomes_are.Taken true 1))
-IsTakeOf h n max t (Some is) = (items_given h n max ≡ is) × (outcome_of h (steps_are.Take n max) ≡ Some (outcomes_are.Taken false (length is)))
+IsTakeOf h n max t None = (items_given h n max ≡ items_are.State (listed h t) ∷ [])
+    × (outcome_of h (steps_are.Take n max) ≡ Some (outcomes_are.Taken true 1))
+IsTakeOf h n max t (Some is) = (items_given h n max ≡ is)
+    × (outcome_of h (steps_are.Take n max) ≡ Some (outcomes_are.Taken false (length is)))
 
 abbrev pub ItemsAreThose : Type 0
-ItemsAreThose = (h : History) (f : Fed) (n max : ℕ) (t : List ℕ) → IsFedBy h f → topic_of h n ≡ Some t → IsTakeOf h n max t (items_of max (found f n))
+ItemsAreThose = (h : History) (f : Fed) (n max : ℕ) (t : List ℕ) → IsFedBy h f → topic_of h n ≡ Some t
+    → IsTakeOf h n max t (items_of max (found f n))

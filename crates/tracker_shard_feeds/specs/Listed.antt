@@ -27,4 +27,5 @@ pub record AreSubscribers (h : History) (last : ℕ) (xs : List (ℕ × List ℕ
 
 -- those that are listed of a history's feeds are the history's
 abbrev pub ListedAreThose : Type 0
-ListedAreThose = (h : History) (f : Fed) (last : ℕ) (xs : List (ℕ × List ℕ)) → IsLegal h → IsFedBy h f → last_number h ≤ last → AreListed f xs → AreSubscribers h last xs
+ListedAreThose = (h : History) (f : Fed) (last : ℕ) (xs : List (ℕ × List ℕ)) → IsLegal h → IsFedBy h f
+    → last_number h ≤ last → AreListed f xs → AreSubscribers h last xs

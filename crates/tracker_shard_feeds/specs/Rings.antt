@@ -37,19 +37,22 @@ seen_at rings t = option_map seen (get text_cmp rings t)
 abbrev pub waiting : Option Seen → Option ℕ → Waiting
 waiting None next = Behind
 waiting (Some s) None = Behind
-waiting (Some s) (Some n) = cond (nat_lt most_waiting (s.made - n)) Behind (Queued (drop (length s.items - (s.made - n)) s.items))
+waiting (Some s) (Some n) =
+    cond (nat_lt most_waiting (s.made - n)) Behind (Queued (drop (length s.items - (s.made - n)) s.items))
 
 -- How many items wait for one who has come so far, where it isn't behind: these are the last ones of the ring.
 abbrev pub IsAhead : Seen → Option ℕ → Option ℕ → Type 0
 IsAhead s next None = waiting (Some s) next ≡ Behind
-IsAhead s next (Some c) = (waiting (Some s) next ≡ Queued (drop (length s.items - c) s.items)) × (c ≤ length s.items) × (c ≤ s.made)
+IsAhead s next (Some c) = (waiting (Some s) next ≡ Queued (drop (length s.items - c) s.items)) × (c ≤ length s.items)
+    × (c ≤ s.made)
 
 abbrev pub subscriber : (List ℕ → Option Seen) → Follower → Subscriber
 subscriber rings f = on_topic f.topic (waiting (rings f.topic) f.next)
 
 -- what is seen of rings and cursors together
 abbrev pub fed : (List ℕ → Option Seen) → List (ℕ × Follower) → ℕ → Fed
-fed rings followers n = record { subscribers = each (λ (e : ℕ × Follower). (e.0, subscriber rings e.1)) followers; delivered = n }
+fed rings followers n =
+    record { subscribers = each (λ (e : ℕ × Follower). (e.0, subscriber rings e.1)) followers; delivered = n }
 
 -- one for each subscriber of the topic
 abbrev pub one_on : List ℕ → Follower → ℕ
@@ -129,7 +132,8 @@ SameRings old new = (u : List ℕ) → seen_at new u ≡ seen_at old u
 
 -- one subscriber of the topic fewer: where it is the last, the ring is still to go
 abbrev pub IsParted : RingMap → RingMap → List ℕ → Bool → Type 0
-IsParted old new t last = (u : List ℕ) → cond (last && same_text t u) None (seen_at new u) ≡ cond (same_text t u) (parted (seen_at old u)) (seen_at old u)
+IsParted old new t last = (u : List ℕ)
+    → cond (last && same_text t u) None (seen_at new u) ≡ cond (same_text t u) (parted (seen_at old u)) (seen_at old u)
 
 abbrev pub IsPushed : RingMap → RingMap → List ℕ → Item → Type 0
 IsPushed old new t i = IsRingChanged old new t (λ s. pushed s (i ∷ []))
@@ -183,6 +187,7 @@ abbrev pub moved_to : Follower → ℕ → Follower
 moved_to f next = record { topic = f.topic; next = Some next }
 
 -- one, where it is there, took up to so many items
-abbrev pub IsMoved : (List ℕ → Option Seen) → List (ℕ × Follower) → List (ℕ × Follower) → ℕ → ℕ → Option Follower → Type 0
+abbrev pub IsMoved : (List ℕ → Option Seen) → List (ℕ × Follower) → List (ℕ × Follower) → ℕ → ℕ → Option Follower
+    → Type 0
 IsMoved rings old new n max None = new ≡ old
 IsMoved rings old new n max (Some f) = (next : ℕ) × IsPut old new n (Some (moved_to f next)) × IsTaken rings f max next

@@ -10,4 +10,5 @@ pub record Seen : Type 0 where
   pub is_ready : Bool
 
 abbrev pub seen_code : Coded Seen
-seen_code = code_by (History × Bool) (coded× history_code coded_bool) (λ s. (s.history, s.is_ready)) (λ p. record { history = p.0; is_ready = p.1 }) (λ _. refl)
+seen_code = code_by (History × Bool) (coded× history_code coded_bool) (λ s. (s.history, s.is_ready))
+    (λ p. record { history = p.0; is_ready = p.1 }) (λ _. refl)

@@ -15,7 +15,8 @@ listed_other own xs r = cond (same_replica r own) None (lookup (same_replica r) 
 
 -- n has what m has, and else this standing, where it is of another replica than the own one
 abbrev pub KeepsFirst : Replica → Replica → Standing → StandingMap → StandingMap → Type 0
-KeepsFirst own r x m n = (q : Replica) → get replica_cmp n q ≡ first_some (get replica_cmp m q) (listed_other own ((r, x) ∷ []) q)
+KeepsFirst own r x m n = (q : Replica)
+    → get replica_cmp n q ≡ first_some (get replica_cmp m q) (listed_other own ((r, x) ∷ []) q)
 
 -- the list has the standing of each other replica
 abbrev pub ListsStandings : History → List (Replica × Standing) → Type 0

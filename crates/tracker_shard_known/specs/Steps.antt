@@ -31,7 +31,8 @@ Takes next s e u = (h : History) → IsLegal (Then h e) → next ≡ next_dot h 
 
 -- the set after an entry that merges this
 abbrev pub TakesMerge : DotRows → Others → ToldValue → DotRows → Type 0
-TakesMerge s o t u = (h : History) (e : Entry) → IsLegal (Then h e) → e.step ≡ steps_are.Merge t → AreOthersOf h o → HoldsCovered h s → HoldsCovered (Then h e) u
+TakesMerge s o t u = (h : History) (e : Entry) → IsLegal (Then h e) → e.step ≡ steps_are.Merge t → AreOthersOf h o
+    → HoldsCovered h s → HoldsCovered (Then h e) u
 
 -- what is told of an update: both dots are covered, and the row is under the new one
 abbrev pub told_swap : Dot → Dot → Row → ToldValue

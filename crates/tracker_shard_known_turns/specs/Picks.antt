@@ -20,7 +20,8 @@ use Rattle.tracker_shard_turns.specs.Turns.{IsListOf}
 
 -- of the dots that pass the test n has the rows of the source, and else those of m
 abbrev pub Gathers : LiveRows → (Dot → Bool) → Rows → Rows → Type 0
-Gathers source test m n = (d : Dot) → get dot_cmp n d ≡ first_row (cond (test d) (map.get source d) None) (get dot_cmp m d)
+Gathers source test m n = (d : Dot)
+    → get dot_cmp n d ≡ first_row (cond (test d) (map.get source d) None) (get dot_cmp m d)
 
 -- n has the row for the dot, and else those of m
 abbrev pub PutsRow : Rows → Rows → Dot → Row → Type 0
