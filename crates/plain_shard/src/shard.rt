@@ -479,7 +479,7 @@ impl PlainShard {
         ensures answer { Answers (λ _. Unit {0}) (outcome_of self.old (Step.Heard replica now)) result }
         ensures due { IsDue result (refusal true self.old (Step.Heard replica now)) }
     {
-        self.note(Step::Heard { replica, now })
+        self.note(Step::heard(replica, now))
     }
 
     /// Lets time pass: a replica that was silent for too long is down, or gone.
@@ -503,7 +503,7 @@ impl PlainShard {
         ensures answer { Answers (λ _. Unit {0}) (outcome_of self.old (Step.PermDown replica)) result }
         ensures due { IsDue result (refusal true self.old (Step.PermDown replica)) }
     {
-        self.note(Step::PermDown { replica })
+        self.note(Step::permdown(replica))
     }
 
     /// What the own replica did since the last cut, for other nodes: its rows that came and are live, and the older ones that

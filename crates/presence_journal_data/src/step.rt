@@ -191,6 +191,24 @@ impl Step {
         Ok(Step::Shout { topic, payload })
     }
 
+    /// A replica was heard at a time.
+    pub fn heard(replica: Replica, now: u64) -> Step
+        ensures step { result ≡ Step.Heard replica now }
+        ensures limits { is_within_limits result ≡ true }
+    {
+        let _name = replica.name.as_str();
+        Step::Heard { replica, now }
+    }
+
+    /// A replica is gone for good.
+    pub fn permdown(replica: Replica) -> Step
+        ensures step { result ≡ Step.PermDown replica }
+        ensures limits { is_within_limits result ≡ true }
+    {
+        let _name = replica.name.as_str();
+        Step::PermDown { replica }
+    }
+
     /// A merge of what another node told.
     pub fn merge(told: &Told) -> Result<Step, AllocError>
         ensures step { IfOk result (λ s. s ≡ Step.Merge told.now) }

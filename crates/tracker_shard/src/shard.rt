@@ -421,7 +421,7 @@ impl Shard {
         ensures answer { Answers (λ _. Unit {0}) (outcome_of self.old (Step.Heard replica now)) result }
         ensures due { IsDue result (refusal true self.old (Step.Heard replica now)) }
     {
-        note(&mut self.table, alloc, Step::Heard { replica, now })
+        note(&mut self.table, alloc, Step::heard(replica, now))
     }
 
     /// Lets time pass: a replica that was silent for too long is down, or gone.
@@ -445,7 +445,7 @@ impl Shard {
         ensures answer { Answers (λ _. Unit {0}) (outcome_of self.old (Step.PermDown replica)) result }
         ensures due { IsDue result (refusal true self.old (Step.PermDown replica)) }
     {
-        note(&mut self.table, alloc, Step::PermDown { replica })
+        note(&mut self.table, alloc, Step::permdown(replica))
     }
 
     /// What the own replica did since the last cut, for other nodes: its rows that came and are live, and the older ones that
