@@ -5,61 +5,19 @@ ghost use Rattle.std.specs.List.Sorted.{IsStrictlySortedBy};
 ghost use Rattle.std.specs.Map.{keys_of, lookup};
 ghost use Rattle.presence_base.specs.declared.dots.Dot.{Dot};
 ghost use Rattle.presence_base.specs.Order.{dot_cmp, same_dot};
-ghost use Rattle.presence_journal.specs.History.{row_made, row_added};
+ghost use Rattle.presence_journal.specs.History.{row_added};
 ghost use Rattle.presence_journal.specs.Walk.{row_at, without};
-ghost use Rattle.presence_journal_sets.specs.ByDot.{Alike, over, row_with};
+ghost use Rattle.presence_journal_sets.specs.ByDot.{Alike, over};
 ghost use Rattle.presence_journal_cuts.specs.Chains.{recent_after};
 ghost use Rattle.presence_journal_cuts.specs.Cuts.{recent};
 
 use crate::kept::kept_rows;
 use crate::last::dots_out;
-use presence_base::{Dot, Key, Meta, Row, Topic};
-use presence_journal::{Entry, Journal, Outcome, Step};
+use presence_base::{Dot, Row};
+use presence_journal::{Entry, Journal, Outcome};
+use presence_journal_sets::made_row;
 use std::alloc::{AllocError, Global};
 use std::collections::BTreeMap;
-
-// The row of these fields.
-fn row_of(
-    pid: u64,
-    topic: &Topic,
-    key: &Key,
-    meta: &Meta,
-    prev: Option<Dot>,
-) -> Result<Row, AllocError>
-    ensures { IfOk result (λ r. r ≡ row_with pid topic.now key.now meta.now prev) }
-{
-    let topic = topic.clone()?;
-    let key = key.clone()?;
-    let meta = meta.clone()?;
-    Ok(Row {
-        topic,
-        key,
-        pid,
-        meta,
-        prev,
-    })
-}
-
-// The row that a step makes.
-fn made_row(step: &Step, prev: Option<Dot>) -> Result<Option<Row>, AllocError>
-    ensures { IfOk result (λ o. o ≡ row_made step.now prev) }
-{
-    match step {
-        Step::Track {
-            pid,
-            topic,
-            key,
-            meta,
-        }
-        | Step::Update {
-            pid,
-            topic,
-            key,
-            meta,
-        } => Ok(Some(row_of(*pid, topic, key, meta, prev)?)),
-        _ => Ok(None),
-    }
-}
 
 // The row under a dot.
 fn under_dot(dot: Dot, row: Option<Row>) -> Option<(Dot, Row)>

@@ -4,8 +4,8 @@ ghost use Rattle.presence_journal.specs.Table.{IsLegal};
 
 use presence_journal::{Entry, Journal, Outcome, Start};
 
-// How many counts an outcome uses.
-pub(crate) fn used_by(outcome: &Outcome) -> u64
+/// How many counts an outcome uses.
+pub fn used_by(outcome: &Outcome) -> u64
     ensures { result ≡ counts_used outcome.now }
 {
     match outcome {

@@ -52,7 +52,9 @@ fn is_counted(own: &Replica, used: u64, dot: &Dot) -> bool
 
 // Whether an entry behind these makes the dot known: the own replica used so many counts with it.
 fn makes_known(start: &Start, entries: &[Entry], entry: &Entry, used: u64, dot: &Dot) -> bool
-    ensures { result ≡ (is_counted start.now.own used dot.now || told_covers (onto (Begin start.now) entries.now) entry.now.step dot.now) }
+    ensures { result
+        ≡ (is_counted start.now.own used dot.now
+        || told_covers (onto (Begin start.now) entries.now) entry.now.step dot.now) }
 {
     is_counted(&start.own, used, dot) || told_covers(start, entries, &entry.step, dot)
 }

@@ -11,8 +11,8 @@ mod sets;
 mod statuses;
 mod walked;
 
-pub use counts::walk_count;
+pub use counts::{used_by, walk_count};
 pub use leaving::walk_set;
 pub use sets::{walk_covers, walk_top};
 pub use statuses::{hears_after, status_after, walk_status};
-pub use walked::{row_of, walk_set_of};
+pub use walked::{made_row, row_of, walk_set_of};

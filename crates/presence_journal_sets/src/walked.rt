@@ -5,6 +5,7 @@ ghost use Rattle.orswot_core_told.specs.Limits.{is_dot};
 ghost use Rattle.presence_journal.specs.History.{Begin, Then, onto, row_made, next_dot};
 ghost use Rattle.presence_journal.specs.Table.{IsLegal};
 ghost use Rattle.presence_journal.specs.Walk.{tells};
+ghost use Rattle.presence_journal_sets.specs.ByDot.{row_with};
 ghost use Rattle.presence_journal_sets.specs.Walked.{Holds, IsMergeAfter, with_made, IsMadeWithin, told_in};
 
 use crate::counts::used_by;
@@ -57,7 +58,7 @@ fn join_heard(
     Ok(())
 }
 
-// The row of these fields.
+/// The row of these fields.
 pub fn row_of(
     pid: u64,
     topic: &Topic,
@@ -65,7 +66,7 @@ pub fn row_of(
     meta: &Meta,
     prev: Option<Dot>,
 ) -> Result<Row, AllocError>
-    ensures { IfOk result (λ r. r ≡ record { topic = topic.now; key = key.now; pid = pid; meta = meta.now; prev = prev }) }
+    ensures { IfOk result (λ r. r ≡ row_with pid topic.now key.now meta.now prev) }
 {
     let topic = topic.clone()?;
     let key = key.clone()?;
@@ -79,8 +80,8 @@ pub fn row_of(
     })
 }
 
-// The row that a step makes.
-fn made_row(step: &Step, prev: Option<Dot>) -> Result<Option<Row>, AllocError>
+/// The row that a step makes.
+pub fn made_row(step: &Step, prev: Option<Dot>) -> Result<Option<Row>, AllocError>
     ensures { IfOk result (λ o. o ≡ row_made step.now prev) }
 {
     match step {

@@ -3,7 +3,6 @@ ghost use Rattle.std.specs.Prelude.{◌≡◌, [], IfOk};
 ghost use Rattle.std.specs.BTreeMap.{get};
 ghost use Rattle.std.specs.Ordering.{nat_cmp};
 ghost use Rattle.dot_context.specs.Sets.{listed};
-ghost use Rattle.presence_journal.specs.History.{counts_used};
 ghost use Rattle.presence_journal.specs.Present.{dots_taken};
 ghost use Rattle.presence_journal_cuts.specs.Chains.{AreChains, AreUpTo, TakesIn};
 ghost use Rattle.tracker_shard_cuts.specs.Changes.{told_in, IsLinkOf, IsChange};
@@ -27,18 +26,6 @@ pub(crate) struct Change {
     pub row: Option<(Dot, Row)>,
     pub link: Option<Link>,
     pub gone: Vec<(u64, u64)>,
-}
-
-/// How many counts an outcome uses.
-pub(crate) fn used_by(outcome: &Outcome) -> u64
-    ensures { result ≡ counts_used outcome.now }
-{
-    match outcome {
-        Outcome::Added(_) => 1,
-        Outcome::Replaced(_, _) => 1,
-        Outcome::Removed(dots) => { if dots.as_slice().is_empty() { 0 } else { 1 } }
-        _ => 0,
-    }
 }
 
 // A copy of the chain of a count, or none.
@@ -93,7 +80,8 @@ fn gone_of(
     unsettled: u64,
     outcome: &Outcome,
 ) -> Result<Vec<(u64, u64)>, AllocError>
-    ensures counts { IfOk result (λ v. TakesIn last chains.now (told_in unsettled (dots_taken outcome.now)) [] v.items) }
+    ensures counts { IfOk result (λ v.
+        TakesIn last chains.now (told_in unsettled (dots_taken outcome.now)) [] v.items) }
     ensures kept { IfOk result (λ v. AreChains chains.now → AreUpTo last v.items) }
 {
     let told = told_dots(alloc, dots_out(outcome), unsettled)?;

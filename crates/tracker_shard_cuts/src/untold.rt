@@ -3,7 +3,7 @@ ghost use Rattle.std.specs.List.Sorted.{IsStrictlySortedBy};
 ghost use Rattle.std.specs.Map.{keys_of};
 ghost use Rattle.presence_base.specs.Order.{dot_cmp};
 
-use crate::change::{Change, change_of, used_by};
+use crate::change::{Change, change_of};
 use crate::listing::listed_chains;
 use crate::putting::{add_runs, drop_chains, put_both};
 use crate::start::most_listed;
@@ -12,6 +12,7 @@ use orswot_core::Told;
 use presence_base::{Dot, Replica, Row};
 use presence_journal::{Chains, Entry, Outcome, Runs, Start};
 use presence_journal_cuts::{Chain, dots_out, drop_dots, kept_chains, kept_rows, kept_runs};
+use presence_journal_sets::used_by;
 use std::alloc::{AllocError, Global};
 use std::collections::BTreeMap;
 

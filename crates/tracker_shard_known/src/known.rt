@@ -9,11 +9,12 @@ ghost use Rattle.tracker_shard_known.specs.Turns.{TurnsEntry, TurnsStep};
 
 use crate::fading::{forget_faded, forget_other};
 use crate::listing::{listed_standings, read_rows};
-use crate::own::{join_heard, take_own, used_by};
+use crate::own::{join_heard, take_own};
 use crate::starting::{others_of, set_of};
 use orswot_core::{Orswot, Told};
 use presence_base::{Dot, MAX_COUNT, Replica, Row};
 use presence_journal::{Entry, Standings, Start, Step};
+use presence_journal_sets::used_by;
 use replica_status::Status;
 use std::alloc::{AllocError, Global};
 use std::collections::btree_map::Range;

@@ -2,7 +2,7 @@
 ghost use Rattle.std.specs.Prelude.{◌≡◌, true, false, IfOk, OnOk, OnErr, None, length};
 ghost use Rattle.std.specs.FinSet as dots_in;
 ghost use Rattle.orswot_core_told.specs.Limits.{is_dot};
-ghost use Rattle.presence_journal.specs.History.{row_made, counts_used};
+ghost use Rattle.presence_journal.specs.History.{row_made};
 ghost use Rattle.presence_journal.specs.Laws.{is_callers};
 ghost use Rattle.presence_journal_sets.specs.Walked.{with_made, IsMadeWithin};
 ghost use Rattle.orswot_core_told.specs.Checks.{IsTold};
@@ -11,9 +11,9 @@ ghost use Rattle.tracker_shard_known.specs.Steps.{CanTake, Takes, TakesMerge, to
 use orswot_core::{Orswot, ReplicaTest, Told};
 use presence_base::{Dot, Replica, Row};
 use presence_journal::{Entry, Outcome, Step};
+use presence_journal_sets::made_row;
 use std::alloc::{AllocError, Global};
 use tracker_shard_known_others::Others;
-use tracker_shard_known_turns::made_row;
 
 // The replicas of which what is told is heard.
 #[derive(Drop)]
@@ -44,18 +44,6 @@ pub(crate) fn join_heard(
 {
     let heard = Heard { others };
     set.join_some(alloc, told, &heard)
-}
-
-// How many counts an outcome uses.
-pub(crate) fn used_by(outcome: &Outcome) -> u64
-    ensures { result ≡ counts_used outcome.now }
-{
-    match outcome {
-        Outcome::Added(_) => 1,
-        Outcome::Replaced(_, _) => 1,
-        Outcome::Removed(dots) => { if dots.as_slice().is_empty() { 0 } else { 1 } }
-        _ => 0,
-    }
 }
 
 // Adds the row that a step makes under a dot.

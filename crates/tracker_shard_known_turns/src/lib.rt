@@ -9,4 +9,4 @@ mod merge_turn;
 mod turn;
 
 pub use merge_turn::turn_of_merge;
-pub use turn::{made_row, rows_added, rows_dropped, rows_taken, turn_of_replica};
+pub use turn::{rows_added, rows_dropped, rows_taken, turn_of_replica};

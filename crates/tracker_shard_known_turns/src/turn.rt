@@ -1,6 +1,6 @@
 // The turn of an entry of the own replica, and of one that hears of others.
 ghost use Rattle.std.specs.Prelude.{◌≡◌, ◌&&◌, not, IfOk, OnOk};
-ghost use Rattle.presence_journal.specs.History.{row_added, has_dot, row_made};
+ghost use Rattle.presence_journal.specs.History.{row_added, has_dot};
 ghost use Rattle.presence_journal.specs.Present.{dots_taken};
 ghost use Rattle.tracker_shard_known_turns.specs.Picks.{Gathers, IsPick, of_replica_if, drops, of_dropped, made_rows};
 ghost use Rattle.tracker_shard_turns.specs.Turns.{IsListOf};
@@ -9,33 +9,12 @@ use crate::gather::{gather_dots, gather_replica, listed};
 use orswot_core::Orswot;
 use presence_base::{Dot, Replica, Row};
 use presence_journal::{Entry, Outcome, Step};
-use presence_journal_sets::row_of;
+use presence_journal_sets::made_row;
 use replica_status::{Standing, Status};
 use std::alloc::{AllocError, Global};
 use std::collections::BTreeMap;
 use tracker_shard_known_others::is_up;
 use tracker_shard_turns::Turn;
-
-/// The row that a step makes.
-pub fn made_row(step: &Step, prev: Option<Dot>) -> Result<Option<Row>, AllocError>
-    ensures { IfOk result (λ o. o ≡ row_made step.now prev) }
-{
-    match step {
-        Step::Track {
-            pid,
-            topic,
-            key,
-            meta,
-        }
-        | Step::Update {
-            pid,
-            topic,
-            key,
-            meta,
-        } => Ok(Some(row_of(*pid, topic, key, meta, prev)?)),
-        _ => Ok(None),
-    }
-}
 
 // The row that a step makes under a dot, as a list.
 fn made_under(
@@ -127,8 +106,10 @@ pub fn turn_of_replica(
     was_up: bool,
     is_up: bool,
 ) -> Result<Turn, AllocError>
-    ensures joins { IfOk result (λ t. IsPick set.now.live (of_replica_if replica.now (not was_up && is_up)) t.joins.items) }
-    ensures leaves { IfOk result (λ t. IsPick set.now.live (of_replica_if replica.now (was_up && not is_up)) t.leaves.items) }
+    ensures joins { IfOk result (λ t.
+        IsPick set.now.live (of_replica_if replica.now (not was_up && is_up)) t.joins.items) }
+    ensures leaves { IfOk result (λ t.
+        IsPick set.now.live (of_replica_if replica.now (was_up && not is_up)) t.leaves.items) }
 {
     let joins = rows_where(alloc, set, replica, begins(was_up, is_up))?;
     let leaves = rows_where(alloc, set, replica, ends(was_up, is_up))?;
