@@ -4,6 +4,7 @@ use Rattle.std.specs.Prelude.{◌≡◌, ◌⊎◌, codes, ◌≤◌, ◌^◌, �
 use Rattle.std.specs.List.{AllByRecursion, filter}
 use Rattle.presence_base.specs.Order.{same_text}
 use Rattle.phx_message.specs.declared.message.Message.{Message}
+use Rattle.presence_journal_data.specs.declared.limits.TheConstants.{MAX_TAKEN}
 use Rattle.presence_journal.specs.History.{History}
 use Rattle.presence_journal.specs.Present.{listed}
 use Rattle.presence_journal.specs.Queue.{Queued, queue, topic_of}
@@ -62,7 +63,7 @@ ruled routes p m = let x = played (rules routes p.session m) p.history in behind
 
 -- each topic gets what waits for it
 abbrev pub served : Past → Option Past
-served p = let x = played (delivery 256 p.session) p.history in behind p.said x.0 x.1
+served p = let x = played (delivery MAX_TAKEN p.session) p.history in behind p.said x.0 x.1
 
 -- a line: the message, and then one delivery
 abbrev pub lined : List (List ℕ × ℕ) → Past → Message → Option Past

@@ -18,7 +18,8 @@ use Rattle.node_links_lines.specs.declared.lines.Line.{Line}
 use Rattle.node_links_lines.specs.declared.lines.Line.TheVariants as lines_are
 use Rattle.node_links_members.specs.declared.fault.LinkFault.{LinkFault}
 use Rattle.node_links_members.specs.declared.fault.LinkFault.TheVariants.{LineTooLong}
-use Rattle.node_links_lines.specs.declared.lines.TheConstants.{MAX_LINE_BYTES, MAX_SHARDS}
+use Rattle.presence_base.specs.declared.names.TheConstants.{MAX_SHARDS}
+use Rattle.node_links_lines.specs.declared.lines.TheConstants.{MAX_LINE_BYTES}
 use Rattle.node_links_lines.specs.Limits.{is_from_to, is_counted, is_bound, is_replica, is_told_range, is_told_dot, is_told_prev, is_told_row, is_told, is_sound, is_delta, is_within}
 use Rattle.node_links_members.specs.Members.{number_in, name_in, replica_in, dot_in}
 use Rattle.node_links_lines.specs.Reading.{shard_in, line_in, value_in, decoded, IsLine}

@@ -12,7 +12,8 @@ use Rattle.node_links_lines.specs.declared.kinds.Kind.TheVariants as kinds_are
 use Rattle.node_links_lines.specs.declared.lines.Line.{Line}
 use Rattle.node_links_members.specs.declared.fault.LinkFault.{LinkFault}
 use Rattle.node_links_members.specs.declared.fault.LinkFault.TheVariants.{LineTooLong, NotJson, BadLine, BadTold, OtherShards, ReadFailed, WriteFailed, OutOfMemory, CutLine}
-use Rattle.node_links_lines.specs.declared.lines.TheConstants.{MAX_LINE_BYTES, MAX_SHARDS}
+use Rattle.presence_base.specs.declared.names.TheConstants.{MAX_SHARDS}
+use Rattle.node_links_lines.specs.declared.lines.TheConstants.{MAX_LINE_BYTES}
 use Rattle.presence_base.specs.Names.{guarded}
 use Rattle.node_links_members.specs.Arrays.{three_in, four_in, five_in, six_in}
 use Rattle.node_links_lines.specs.Kinds.{kind_in}

@@ -12,7 +12,8 @@ use Rattle.orswot_core.specs.Telling.{Range, ToldValue}
 use Rattle.orswot_core.specs.Checks.{first_fault}
 use Rattle.node_links_lines.specs.declared.lines.Line.{Line}
 use Rattle.node_links_lines.specs.declared.lines.Line.TheVariants as lines_are
-use Rattle.node_links_lines.specs.declared.lines.TheConstants.{MAX_LINE_BYTES, MAX_SHARDS}
+use Rattle.presence_base.specs.declared.names.TheConstants.{MAX_SHARDS}
+use Rattle.node_links_lines.specs.declared.lines.TheConstants.{MAX_LINE_BYTES}
 use Rattle.node_links_members.specs.Told.{is_delta_of}
 
 -- the limits, which the other definitions cite by their names

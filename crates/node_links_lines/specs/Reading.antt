@@ -7,7 +7,8 @@ use Rattle.node_links_lines.specs.declared.lines.Line.{Line}
 use Rattle.node_links_lines.specs.declared.lines.Line.TheVariants as lines_are
 use Rattle.node_links_members.specs.declared.fault.LinkFault.{LinkFault}
 use Rattle.node_links_members.specs.declared.fault.LinkFault.TheVariants.{LineTooLong, NotJson, BadLine, BadTold, OutOfMemory}
-use Rattle.node_links_lines.specs.declared.lines.TheConstants.{MAX_LINE_BYTES, MAX_SHARDS}
+use Rattle.presence_base.specs.declared.names.TheConstants.{MAX_SHARDS}
+use Rattle.node_links_lines.specs.declared.lines.TheConstants.{MAX_LINE_BYTES}
 use Rattle.node_links_lines.specs.declared.kinds.Kind.{Kind}
 use Rattle.node_links_lines.specs.declared.kinds.Kind.TheVariants as kinds_are
 use Rattle.node_links_members.specs.Arrays.{three_in, four_in, five_in, six_in}

@@ -15,6 +15,7 @@ mod reading;
 mod texts;
 mod values;
 
-pub use lines::{Line, MAX_LINE_BYTES, MAX_SHARDS};
+pub use lines::{Line, MAX_LINE_BYTES};
 pub use node_links_members::LinkFault;
+pub use presence_base::MAX_SHARDS;
 pub use texts::{decode_line, encode_line};

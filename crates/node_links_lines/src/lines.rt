@@ -4,9 +4,6 @@ use presence_base::Replica;
 /// The longest line without its line feed, in bytes.
 pub const MAX_LINE_BYTES: usize = 4_194_304;
 
-/// The most shards of a node.
-pub const MAX_SHARDS: u32 = 4;
-
 /// One line of a link.
 ///
 /// A replica names a node in one of its lives, a shard is told by its number, and what is told of a

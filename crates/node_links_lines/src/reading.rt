@@ -5,11 +5,12 @@ ghost use Rattle.node_links_lines.specs.Reading.{shard_in, hello_in, beat_in, wa
 ghost use Rattle.node_links_members.specs.Results.{Answers, or_bad as found_or_bad};
 
 use crate::kinds::{Kind, kind_of};
-use crate::lines::{Line, MAX_SHARDS};
+use crate::lines::Line;
 use node_links_members::{
     LinkFault, bound_of, delta_of, five_of, four_of, number_of, replica_of, take_six, take_three,
     three_of, told_of, whole_of,
 };
+use presence_base::MAX_SHARDS;
 use serde_json::Value;
 use std::alloc::Global;
 

@@ -8,7 +8,7 @@ use crate::dots::{Dot, Replica};
 use crate::names::NodeName;
 use std::cmp::Ordering;
 
-/// The limits of names, counts and metas.
+/// The limits of names, counts, metas and shards.
 pub fn limits_are_these()
     ensures { LimitsAreThese }
 {}

@@ -15,6 +15,9 @@ pub const MAX_NAME_BYTES: usize = 32;
 /// The longest topic or key, in bytes of UTF-8.
 pub const MAX_TEXT_BYTES: usize = 255;
 
+/// The most shards that a node's table is cut into.
+pub const MAX_SHARDS: u32 = 4;
+
 /// The name of a node: 1 to 32 lower case letters and digits.
 ///
 /// The bytes lie in the value itself, with zeros after them, so that equal names are equal throughout and a name is copied.

@@ -21,7 +21,8 @@ use Rattle.presence_node_options.specs.declared.options.Options.TheVariants.{Hel
 use Rattle.presence_node_options.specs.declared.options.PeerOption.{PeerOption}
 use Rattle.presence_node_options.specs.declared.options.ServeOptions.{ServeOptions}
 use Rattle.presence_node_options.specs.declared.options.StdioOptions.{StdioOptions}
-use Rattle.presence_node_options.specs.declared.options.TheConstants.{MAX_SHARDS, MAX_WORKERS}
+use Rattle.presence_base.specs.declared.names.TheConstants.{MAX_SHARDS}
+use Rattle.presence_node_options.specs.declared.options.TheConstants.{MAX_WORKERS}
 
 -- the number that a text's digits write
 abbrev pub number_in : Text → ℕ

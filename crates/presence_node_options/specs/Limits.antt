@@ -7,7 +7,8 @@ use Rattle.hook_registry.specs.Patterns.{is_pattern}
 use Rattle.hook_registry.specs.declared.routes.TheConstants.{MAX_ROUTES}
 use Rattle.presence_node_options.specs.declared.options.StdioOptions.{StdioOptions}
 use Rattle.presence_node_options.specs.declared.options.ServeOptions.{ServeOptions}
-use Rattle.presence_node_options.specs.declared.options.TheConstants.{MAX_SHARDS, MAX_WORKERS}
+use Rattle.presence_base.specs.declared.names.TheConstants.{MAX_SHARDS}
+use Rattle.presence_node_options.specs.declared.options.TheConstants.{MAX_WORKERS}
 use Rattle.presence_node_options.specs.declared.options.Options.{Options}
 use Rattle.presence_node_options.specs.declared.options.Options.TheVariants.{Help, Stdio, Fold, Serve}
 

@@ -13,6 +13,4 @@ mod values;
 pub use command_line::options_of;
 pub use fault::{UsageCause, UsageFault};
 pub use help::{ALL_OPTIONS, FOLD_REFUSALS, SERVE_ENDS, STDIO_REFUSALS};
-pub use options::{
-    FoldOptions, MAX_SHARDS, MAX_WORKERS, Options, PeerOption, ServeOptions, StdioOptions,
-};
+pub use options::{FoldOptions, MAX_WORKERS, Options, PeerOption, ServeOptions, StdioOptions};

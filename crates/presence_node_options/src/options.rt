@@ -1,6 +1,7 @@
 ghost use Rattle.std.specs.Prelude.{◌<◌, ◌≤◌};
 ghost use Rattle.presence_base.specs.Refs.{IsCount};
-ghost use Rattle.presence_node_options.specs.declared.options.TheConstants.{MAX_SHARDS, MAX_WORKERS};
+ghost use Rattle.presence_base.specs.declared.names.TheConstants.{MAX_SHARDS};
+ghost use Rattle.presence_node_options.specs.declared.options.TheConstants.{MAX_WORKERS};
 
 use hook_registry::Routes;
 use presence_base::NodeName;
@@ -23,9 +24,6 @@ pub struct StdioOptions {
 pub struct FoldOptions {
     pub explain: bool,
 }
-
-/// The most shards that a node has.
-pub const MAX_SHARDS: u32 = 4;
 
 /// The most workers that a server has.
 pub const MAX_WORKERS: u32 = 64;

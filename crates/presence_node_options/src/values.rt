@@ -3,12 +3,13 @@ ghost use Rattle.presence_base.specs.Names.{is_node_name};
 ghost use Rattle.presence_base.specs.Refs.{IsCount};
 ghost use Rattle.presence_node_options.specs.Given.{number_in, AllArePeers, ArePeers, IsAddressIn, IsPeerIn, IsPeerText, IsIncarnation, IsIncarnationIn, IsNumberIn, IsNumberWithin, HasCause, IsFor, MayFollow, AreFewPatterns};
 ghost use Rattle.presence_node_options.specs.Limits.{ArePatterns, AreRoutes, numbered};
-ghost use Rattle.presence_node_options.specs.declared.options.TheConstants.{MAX_SHARDS, MAX_WORKERS};
+ghost use Rattle.presence_base.specs.declared.names.TheConstants.{MAX_SHARDS};
+ghost use Rattle.presence_node_options.specs.declared.options.TheConstants.{MAX_WORKERS};
 
 use crate::fault::{UsageCause, UsageFault};
-use crate::options::{MAX_SHARDS, MAX_WORKERS, PeerOption};
+use crate::options::{MAX_WORKERS, PeerOption};
 use hook_registry::{MAX_PATTERN_BYTES, MAX_ROUTES, RouteFault, Routes};
-use presence_base::{MAX_COUNT, NodeName};
+use presence_base::{MAX_COUNT, MAX_SHARDS, NodeName};
 use std::alloc::{AllocError, Global};
 
 /// A usage fault with this text.
