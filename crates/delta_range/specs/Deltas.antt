@@ -1,12 +1,10 @@
 -- Deltas: what an owner tells of one range of its counts, with the older ones that it removed.
-use Rattle.std.specs.Prelude.{◌≡◌, ℕ, ◌≤◌, ◌-◌, Bool, true, false, ◌&&◌, nat_le, nat_eq, List, [], ◌∷◌, length, map, refl}
+use Rattle.std.specs.Prelude.{◌≡◌, ℕ, ◌≤◌, ◌-◌, Bool, true, false, ◌&&◌, nat_le, nat_eq, List, [], ◌∷◌, length, map}
 use Rattle.std.specs.List.{list_all}
-use Rattle.std.specs.Coded.{Coded, code_by, coded×, coded_ℕ, coded_list}
 use Rattle.presence_base.specs.declared.dots.Replica.{Replica}
 use Rattle.presence_base.specs.declared.dots.Dot.{Dot}
 use Rattle.presence_base.specs.declared.row.Row.{Row}
 use Rattle.presence_base.specs.Order.{same_replica, same_dot}
-use Rattle.presence_base.specs.Codes.{replica_code, dot_code, row_code}
 use Rattle.dot_context_runs.specs.Runs.{AreRuns}
 use Rattle.dot_context.specs.Sets.{run_dots}
 use Rattle.orswot_core.specs.Limits.{is_dot, is_row, is_range}
@@ -21,14 +19,6 @@ pub record DeltaValue : Type 0 where
   pub to : ℕ
   pub older : List (ℕ × ℕ)
   pub live : List (Dot × Row)
-
-abbrev pub delta_code : Coded DeltaValue
-delta_code =
-    code_by (Replica × (ℕ × (ℕ × (List (ℕ × ℕ) × List (Dot × Row)))))
-    (coded× replica_code (coded× coded_ℕ
-    (coded× coded_ℕ (coded× (coded_list (coded× coded_ℕ coded_ℕ)) (coded_list (coded× dot_code row_code))))))
-    (λ d. (d.owner, (d.from, (d.to, (d.older, d.live)))))
-    (λ p. record { owner = p.0; from = p.1.0; to = p.1.1.0; older = p.1.1.1.0; live = p.1.1.1.1 }) (λ _. refl)
 
 abbrev pub own_dots : DeltaValue → Range
 own_dots d = (d.owner, d.from, d.to)

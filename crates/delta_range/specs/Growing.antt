@@ -1,10 +1,9 @@
 -- Growing: a delta that takes in the next one in place, and all that it needs for that.
-use Rattle.std.specs.Prelude.{◌≡◌, ℕ, List, ◌++◌, Option, Some, None, refl}
-use Rattle.std.specs.Coded.{Coded, code_by, coded×}
+use Rattle.std.specs.Prelude.{◌≡◌, ℕ, List, ◌++◌, Option, Some, None}
 use Rattle.presence_base.specs.declared.dots.Dot.{Dot}
 use Rattle.presence_base.specs.declared.row.Row.{Row}
 use Rattle.delta_range.specs.declared.growth.Removal.{Removal}
-use Rattle.delta_range.specs.Deltas.{DeltaValue, delta_code, telling, IsDelta}
+use Rattle.delta_range.specs.Deltas.{DeltaValue, telling, IsDelta}
 use Rattle.delta_range.specs.Longest.{up_to, longest}
 use Rattle.delta_range.specs.Joining.{not_in, not_covered}
 
@@ -12,10 +11,6 @@ use Rattle.delta_range.specs.Joining.{not_in, not_covered}
 pub record Growing : Type 0 where
   pub before : DeltaValue
   pub after : DeltaValue
-
-abbrev pub growing_code : Coded Growing
-growing_code = code_by (DeltaValue × DeltaValue) (coded× delta_code delta_code) (λ g. (g.before, g.after))
-    (λ p. record { before = p.0; after = p.1 }) (λ _. refl)
 
 -- the older runs, with those of a removal where there is one
 abbrev pub runs_with : Option Removal → List (ℕ × ℕ) → List (ℕ × ℕ)

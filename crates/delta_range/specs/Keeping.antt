@@ -1,11 +1,9 @@
 -- Generations: three joined deltas, of which a shorter one begins later.
-use Rattle.std.specs.Prelude.{◌≡◌, ℕ, ◌+◌, ◌≤◌, Bool, cond, ◌&&◌, nat_le, nat_eq, length, Option, Some, None, refl}
-use Rattle.std.specs.Coded.{Coded, code_by, coded×, coded_ℕ, coded_option}
+use Rattle.std.specs.Prelude.{◌≡◌, ℕ, ◌+◌, ◌≤◌, Bool, cond, ◌&&◌, nat_le, nat_eq, length, Option, Some, None}
 use Rattle.presence_base.specs.declared.dots.Replica.{Replica}
 use Rattle.presence_base.specs.Names.{guarded}
-use Rattle.presence_base.specs.Codes.{replica_code}
 use Rattle.delta_range.specs.declared.generations.TheConstants.{SHORT_CAP, MIDDLE_CAP, LONG_CAP}
-use Rattle.delta_range.specs.Deltas.{DeltaValue, delta_code, IsDelta, GoesOn}
+use Rattle.delta_range.specs.Deltas.{DeltaValue, IsDelta, GoesOn}
 use Rattle.delta_range.specs.Joining.{joined}
 
 -- where the last delta that was pushed ended, and what each generation keeps
@@ -14,14 +12,6 @@ pub record Kept : Type 0 where
   pub short : Option DeltaValue
   pub middle : Option DeltaValue
   pub long : Option DeltaValue
-
-abbrev pub kept_code : Coded Kept
-kept_code =
-    code_by (Option (Replica × ℕ) × (Option DeltaValue × (Option DeltaValue × Option DeltaValue)))
-    (coded× (coded_option (coded× replica_code coded_ℕ))
-    (coded× (coded_option delta_code) (coded× (coded_option delta_code) (coded_option delta_code))))
-    (λ k. (k.last, (k.short, (k.middle, k.long))))
-    (λ p. record { last = p.0; short = p.1.0; middle = p.1.1.0; long = p.1.1.1 }) (λ _. refl)
 
 -- its live rows and older runs together
 abbrev pub size : DeltaValue → ℕ

@@ -4,5 +4,6 @@ pub mod Deltas
 pub mod Joining
 pub mod Growing
 pub mod Keeping
+pub mod Codes
 pub mod Planning
 pub mod Laws

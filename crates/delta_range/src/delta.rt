@@ -43,7 +43,8 @@ impl Drop for Delta {
 }
 
 impl Model for Delta {
-    ghost use Rattle.delta_range.specs.Deltas.{DeltaValue, delta_code, IsDelta};
+    ghost use Rattle.delta_range.specs.Deltas.{DeltaValue, IsDelta};
+    ghost use Rattle.delta_range.specs.Codes.{delta_code};
 
     ghost Value = { DeltaValue };
 

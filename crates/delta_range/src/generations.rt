@@ -44,7 +44,8 @@ impl Drop for Generations {
 }
 
 impl Model for Generations {
-    ghost use Rattle.delta_range.specs.Keeping.{Kept, kept_code, AreKept};
+    ghost use Rattle.delta_range.specs.Keeping.{Kept, AreKept};
+    ghost use Rattle.delta_range.specs.Codes.{kept_code};
 
     ghost Value = { Kept };
 

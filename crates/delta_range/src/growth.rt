@@ -36,7 +36,8 @@ pub(crate) struct Growth {
 
 impl Model for Growth {
     ghost use Rattle.std.specs.Prelude.{◌≤◌, ◌+◌, length, vec_capacity};
-    ghost use Rattle.delta_range.specs.Growing.{Growing, growing_code, growing, AreDeltas};
+    ghost use Rattle.delta_range.specs.Growing.{Growing, growing, AreDeltas};
+    ghost use Rattle.delta_range.specs.Codes.{growing_code};
 
     ghost Value = { Growing };
 

@@ -1,11 +1,9 @@
 -- What the runs of each replica stand for: a set of dots.
-use Rattle.std.specs.Prelude.{◌≡◌, ℕ, true, ◌-◌, ◌<◌, ◌≤◌, zero, suc, Bool, not, cond, ◌&&◌, nat_lt, nat_le, List, [], ◌∷◌, ◌++◌, length, Option, Some, None, refl}
+use Rattle.std.specs.Prelude.{◌≡◌, ℕ, true, ◌-◌, ◌<◌, ◌≤◌, zero, suc, Bool, not, cond, ◌&&◌, nat_lt, nat_le, List, [], ◌∷◌, ◌++◌, length, Option, Some, None}
 use Rattle.std.specs.FinSet as set
 use Rattle.std.specs.BTreeMap.{BTreeMap, get}
 use Rattle.presence_base.specs.declared.dots.Replica.{Replica}
 use Rattle.presence_base.specs.declared.dots.Dot.{Dot}
-use Rattle.presence_base.specs.Codes.{dot_code}
-use Rattle.std.specs.Coded.{Coded, code_by, coded×}
 use Rattle.presence_base.specs.Order.{dot_cmp, replica_cmp, same_replica}
 use Rattle.dot_context_runs.specs.Runs.{AreRuns, AreApart, has_room, is_hollow, begins}
 
@@ -83,7 +81,3 @@ pub record HasRoomFor (m others : RunsOf) : Type 0 where
 pub record Planned : Type 0 where
   pub held : DotSet
   pub more : DotSet
-
-abbrev pub planned_code : Coded Planned
-planned_code = code_by (DotSet × DotSet) (coded× (set.code dot_code) (set.code dot_code)) (λ p. (p.held, p.more))
-    (λ p. record { held = p.0; more = p.1 }) (λ _. refl)

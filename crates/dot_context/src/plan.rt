@@ -17,7 +17,8 @@ pub struct ContextPlan {
 }
 
 impl Model for ContextPlan {
-    ghost use Rattle.dot_context.specs.Sets.{Planned, planned_code, set_of, HasRoomFor};
+    ghost use Rattle.dot_context.specs.Sets.{Planned, set_of, HasRoomFor};
+    ghost use Rattle.dot_context.specs.Codes.{planned_code};
 
     ghost Value = { Planned };
 

@@ -1,15 +1,13 @@
 -- An observed-remove set: the dots that it covers, and the rows that are live.
-use Rattle.std.specs.Prelude.{◌≡◌, Bool, true, false, cond, not, is_some, ◌&&◌, ◌||◌, List, [], ◌∷◌, Option, Some, None, refl}
+use Rattle.std.specs.Prelude.{◌≡◌, Bool, true, false, cond, not, is_some, ◌&&◌, ◌||◌, List, [], ◌∷◌, Option, Some, None}
 use Rattle.std.specs.FinSet as set
 use Rattle.std.specs.FinMap as map
 use Rattle.std.specs.BTreeMap.{BTreeMap, get}
 use Rattle.std.specs.List.{filter, list_any}
-use Rattle.std.specs.Coded.{Coded, code_by, coded×}
 use Rattle.presence_base.specs.declared.dots.Dot.{Dot}
 use Rattle.presence_base.specs.declared.row.Row.{Row}
 use Rattle.presence_base.specs.declared.dots.Replica.{Replica}
 use Rattle.presence_base.specs.Order.{dot_cmp, same_dot, same_replica}
-use Rattle.presence_base.specs.Codes.{dot_code, row_code}
 use Rattle.dot_context.specs.Sets.{DotSet, without}
 use Rattle.orswot_core_told.specs.Limits.{is_dot, is_row}
 use Rattle.orswot_core_told.specs.Telling.{Range, range_has}
@@ -26,10 +24,6 @@ rows_of es = map.from_entries {R = dot_cmp} es
 pub record DotRows : Type 0 where
   pub covered : DotSet
   pub live : LiveRows
-
-abbrev pub rows_code : Coded DotRows
-rows_code = code_by (DotSet × LiveRows) (coded× (set.code dot_code) (map.code dot_code row_code))
-    (λ s. (s.covered, s.live)) (λ p. record { covered = p.0; live = p.1 }) (λ _. refl)
 
 -- the set of these covered dots and live rows
 abbrev pub seen : DotSet → Rows → DotRows
@@ -112,10 +106,6 @@ pub record AreNeeded (s : DotSet) (m : Rows) (heard : DotSet) (rows : Rows) (add
 pub record Planned : Type 0 where
   pub before : DotRows
   pub after : DotRows
-
-abbrev pub planned_code : Coded Planned
-planned_code = code_by (DotRows × DotRows) (coded× rows_code rows_code) (λ p. (p.before, p.after))
-    (λ p. record { before = p.0; after = p.1 }) (λ _. refl)
 
 -- what covers these dots, and has these rows without those of some dots
 abbrev pub leaving : DotSet → LiveRows → List Dot → DotRows

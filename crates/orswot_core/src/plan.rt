@@ -19,7 +19,8 @@ pub struct JoinPlan {
 
 impl Model for JoinPlan {
     ghost use Rattle.std.specs.FinSet as set;
-    ghost use Rattle.orswot_core.specs.Sets.{Planned, planned_code, leaving, rows_of, ArePlanned};
+    ghost use Rattle.orswot_core.specs.Sets.{Planned, leaving, rows_of, ArePlanned};
+    ghost use Rattle.orswot_core.specs.Codes.{planned_code};
 
     ghost Value = { Planned };
 

@@ -40,7 +40,8 @@ impl Drop for Orswot {
 }
 
 impl Model for Orswot {
-    ghost use Rattle.orswot_core.specs.Sets.{DotRows, rows_code, rows_of, IsSound};
+    ghost use Rattle.orswot_core.specs.Sets.{DotRows, rows_of, IsSound};
+    ghost use Rattle.orswot_core.specs.Codes.{rows_code};
 
     ghost Value = { DotRows };
 

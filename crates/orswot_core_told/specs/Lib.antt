@@ -1,3 +1,4 @@
 pub mod Limits
 pub mod Telling
+pub mod Codes
 pub mod Checks

@@ -1,14 +1,12 @@
 -- Telling: what a told value covers, and which adds and removes it tells (Bieniusa et al., 2012).
-use Rattle.std.specs.Prelude.{◌≡◌, ℕ, Bool, cond, ◌&&◌, ◌||◌, List, Option, None, is_none, refl}
+use Rattle.std.specs.Prelude.{◌≡◌, ℕ, Bool, cond, ◌&&◌, ◌||◌, List, Option, None, is_none}
 use Rattle.std.specs.List.{filter, list_any}
 use Rattle.std.specs.Map.{lookup}
 use Rattle.std.specs.FinSet as set
-use Rattle.std.specs.Coded.{Coded, code_by, coded×, coded_ℕ, coded_list}
 use Rattle.presence_base.specs.declared.dots.Replica.{Replica}
 use Rattle.presence_base.specs.declared.dots.Dot.{Dot}
 use Rattle.presence_base.specs.declared.row.Row.{Row}
 use Rattle.presence_base.specs.Order.{same_dot}
-use Rattle.presence_base.specs.Codes.{replica_code, dot_code, row_code}
 use Rattle.dot_context.specs.Sets.{DotSet, in_range}
 
 -- the dots of a replica above one count, up to another
@@ -19,15 +17,6 @@ pub record ToldValue : Type 0 where
   pub ranges : List Range
   pub extras : List Dot
   pub live : List (Dot × Row)
-
-abbrev pub range_code : Coded Range
-range_code = code_by (Replica × (ℕ × ℕ)) (coded× replica_code (coded× coded_ℕ coded_ℕ)) (λ g. (g.0, (g.1, g.2)))
-    (λ p. (p.0, p.1.0, p.1.1)) (λ _. refl)
-
-abbrev pub told_code : Coded ToldValue
-told_code = code_by (List Range × (List Dot × List (Dot × Row)))
-    (coded× (coded_list range_code) (coded× (coded_list dot_code) (coded_list (coded× dot_code row_code))))
-    (λ t. (t.ranges, (t.extras, t.live))) (λ p. record { ranges = p.0; extras = p.1.0; live = p.1.1 }) (λ _. refl)
 
 abbrev pub range_has : Dot → Range → Bool
 range_has d g = in_range g.0 g.1 g.2 d

@@ -78,7 +78,8 @@ impl Drop for Told {
 }
 
 impl Model for Told {
-    ghost use Rattle.orswot_core_told.specs.Telling.{ToldValue, told_code};
+    ghost use Rattle.orswot_core_told.specs.Telling.{ToldValue};
+    ghost use Rattle.orswot_core_told.specs.Codes.{told_code};
     ghost use Rattle.orswot_core_told.specs.Checks.{IsTold};
 
     ghost Value = { ToldValue };

@@ -1,4 +1,5 @@
 pub mod Seats
+pub mod Codes
 pub mod Settling
 pub use Rattle.shard_pool_lent.specs.declared.reply.Reply
 pub use Rattle.shard_pool_lent.specs.declared.lane.Lane

@@ -1,11 +1,10 @@
 -- What a seat keeps of its calls at all shards, and what a call of the pool does to it.
-use Rattle.std.specs.Prelude.{◌≡◌, ◌==◌, ◌%◌, ℕ, zero, suc, Bool, List, [], ◌∷◌, ◌++◌, cond, sum, Result, refl}
-use Rattle.std.specs.Coded.{Coded, code_by, coded×, coded_ℕ}
+use Rattle.std.specs.Prelude.{◌≡◌, ◌==◌, ◌%◌, ℕ, zero, suc, Bool, List, [], ◌∷◌, ◌++◌, cond, sum, Result}
 use Rattle.presence_journal_data.specs.declared.step.Step.{Step}
 use Rattle.presence_journal.specs.History.{History, start_of}
 use Rattle.shard_pool_lent.specs.ShardFault.{ShardFault}
 use Rattle.shard_pool_lent.specs.declared.reply.Reply.{Reply}
-use Rattle.shard_pool_lent.specs.Hands.{Hand, hand_code, new_hand, without_receipts}
+use Rattle.shard_pool_lent.specs.Hands.{Hand, new_hand, without_receipts}
 use Rattle.shard_pool_locks.specs.Seated.{Called}
 use Rattle.shard_pool_locks.specs.Unseated.{IsBehind}
 
@@ -16,12 +15,6 @@ pub record Hands : Type 0 where
   pub second : Hand
   pub third : Hand
   pub fourth : Hand
-
-abbrev pub hands_code : Coded Hands
-hands_code = code_by (ℕ × (Hand × (Hand × (Hand × Hand))))
-    (coded× coded_ℕ (coded× hand_code (coded× hand_code (coded× hand_code hand_code))))
-    (λ h. (h.number, (h.first, (h.second, (h.third, h.fourth)))))
-    (λ p. record { number = p.0; first = p.1.0; second = p.1.1.0; third = p.1.1.1.0; fourth = p.1.1.1.1 }) (λ _. refl)
 
 abbrev pub new_seat : ℕ → Hands
 new_seat n =

@@ -17,7 +17,8 @@ pub struct Seat<A: Lane, B: Lane, C: Lane, D: Lane> {
 
 impl<A: Lane, B: Lane, C: Lane, D: Lane> Model for Seat<A, B, C, D> {
     ghost use Rattle.std.specs.Prelude.{◌≡◌};
-    ghost use Rattle.shard_pool.specs.Seats.{Hands, IsSeated, hands_code};
+    ghost use Rattle.shard_pool.specs.Seats.{Hands, IsSeated};
+    ghost use Rattle.shard_pool.specs.Codes.{hands_code};
 
     ghost Value = { Hands };
 

@@ -1,10 +1,8 @@
 -- A seat at one shard: what it keeps of its calls there.
-use Rattle.std.specs.Prelude.{◌+◌, ℕ, zero, suc, List, [], ◌∷◌, ◌++◌, nat_lt, filter, refl}
-use Rattle.std.specs.Coded.{Coded, code_by, coded×, coded_ℕ, coded_list}
+use Rattle.std.specs.Prelude.{◌+◌, ℕ, zero, suc, List, [], ◌∷◌, ◌++◌, nat_lt, filter}
 use Rattle.presence_journal_data.specs.declared.step.Step.{Step}
 use Rattle.presence_journal_data.specs.declared.entry.Outcome.{Outcome}
 use Rattle.shard_pool_settled.specs.declared.receipt.Receipt.{Receipt}
-use Rattle.shard_pool_settled.specs.contracts.receipt.Receipt as one_receipt
 
 -- the seat's number, the shard's, the receipts there in order, and how many calls the seat made there
 pub record Hand : Type 0 where
@@ -12,12 +10,6 @@ pub record Hand : Type 0 where
   pub shard : ℕ
   pub receipts : List Receipt
   pub share : ℕ
-
-abbrev pub hand_code : Coded Hand
-hand_code = code_by (ℕ × (ℕ × (List Receipt × ℕ)))
-    (coded× coded_ℕ (coded× coded_ℕ (coded× (coded_list one_receipt.the_row.coded) coded_ℕ)))
-    (λ h. (h.seat, (h.shard, (h.receipts, h.share))))
-    (λ p. record { seat = p.0; shard = p.1.0; receipts = p.1.1.0; share = p.1.1.1 }) (λ _. refl)
 
 abbrev pub receipt : ℕ → ℕ → Step → Outcome → Receipt
 receipt s n step o = record { shard = s; number = n; step = step; outcome = o }

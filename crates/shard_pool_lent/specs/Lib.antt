@@ -1,4 +1,5 @@
 pub mod Hands
+pub mod Codes
 pub mod Lent
 pub use Rattle.tracker_shard.specs.Steps
 pub use Rattle.tracker_shard.specs.declared.fault.ShardFault

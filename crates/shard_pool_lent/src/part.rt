@@ -14,7 +14,8 @@ pub struct Part<L: Lane> {
 
 impl<L: Lane> Model for Part<L> {
     ghost use Rattle.std.specs.Prelude.{◌≡◌};
-    ghost use Rattle.shard_pool_lent.specs.Hands.{Hand, hand_code};
+    ghost use Rattle.shard_pool_lent.specs.Hands.{Hand};
+    ghost use Rattle.shard_pool_lent.specs.Codes.{hand_code};
 
     ghost Value = { Hand };
 

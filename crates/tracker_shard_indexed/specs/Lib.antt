@@ -1,3 +1,4 @@
 pub mod Seen
+pub mod Codes
 pub mod Parts
 pub mod Starting

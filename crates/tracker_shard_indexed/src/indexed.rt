@@ -36,7 +36,8 @@ impl Drop for Indexed {
 }
 
 impl Model for Indexed {
-    ghost use Rattle.tracker_shard_indexed.specs.Seen.{Seen, seen_code};
+    ghost use Rattle.tracker_shard_indexed.specs.Seen.{Seen};
+    ghost use Rattle.tracker_shard_indexed.specs.Codes.{seen_code};
     ghost use Rattle.tracker_shard_indexed.specs.Parts.{is_done, IsSound};
 
     ghost Value = { Seen };
@@ -266,7 +267,8 @@ impl Indexed {
 
     /// Whether a subscriber is behind or has something waiting; `None` where there is none of the number. Takes no memory.
     pub fn waits(&self, number: u64) -> Option<bool>
-        ensures { result ≡ option_map (λ _. is_waiting (queue self.now.history number)) (topic_of self.now.history number) }
+        ensures { result
+            ≡ option_map (λ _. is_waiting (queue self.now.history number)) (topic_of self.now.history number) }
     {
         match self.parts.stage {
             Stage::Begun => walk_waits(&self.journal, number),
