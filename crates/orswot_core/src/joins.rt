@@ -46,7 +46,8 @@ pub(crate) fn add_row(
 ) -> Result<(), AllocError>
     requires counted { 1 ≤ dot.count }
     requires new { get dot_cmp live.old dot ≡ None }
-    ensures ok { OnOk result ((covered.new ≡ set.insert covered.old dot) × ChangesRow live.old live.new dot (Some row)) }
+    ensures ok { OnOk result ((covered.new ≡ set.insert covered.old dot)
+        × ChangesRow live.old live.new dot (Some row)) }
     ensures err { OnErr result ((covered.new ≡ covered.old) × SameRows live.old live.new) }
 {
     insert_row(live, dot, row)?;

@@ -37,8 +37,11 @@ fn diff_fresh(
     topic: &Topic,
 ) -> Result<RowDiff, AllocError>
     requires { IsLegal (onto (Begin start.now) entries.now) }
-    ensures rows { OnOk result (AreNext entry.now topic.now (onto (Begin start.now) entries.now) (get dot_cmp rows.old) (get dot_cmp rows.new)) }
-    ensures diff { IfOk result (IsDiffAt entry.now topic.now (onto (Begin start.now) entries.now) (get dot_cmp rows.old)) }
+    ensures rows { OnOk result
+        (AreNext entry.now topic.now (onto (Begin start.now) entries.now) (get dot_cmp rows.old)
+        (get dot_cmp rows.new)) }
+    ensures diff { IfOk result
+        (IsDiffAt entry.now topic.now (onto (Begin start.now) entries.now) (get dot_cmp rows.old)) }
 {
     let after = rows_of_entries(alloc, start, entries, topic)?;
     let diff = diff_rows(alloc, rows, &after)?;
@@ -57,8 +60,11 @@ fn next_diff(
     topic: &Topic,
 ) -> Result<RowDiff, AllocError>
     requires { IsLegal (onto (Begin start.now) entries.now) }
-    ensures rows { OnOk result (AreNext entry.now topic.now (onto (Begin start.now) entries.now) (get dot_cmp rows.old) (get dot_cmp rows.new)) }
-    ensures diff { IfOk result (IsDiffAt entry.now topic.now (onto (Begin start.now) entries.now) (get dot_cmp rows.old)) }
+    ensures rows { OnOk result
+        (AreNext entry.now topic.now (onto (Begin start.now) entries.now) (get dot_cmp rows.old)
+        (get dot_cmp rows.new)) }
+    ensures diff { IfOk result
+        (IsDiffAt entry.now topic.now (onto (Begin start.now) entries.now) (get dot_cmp rows.old)) }
 {
     if is_callers(&entry.step) {
         diff_entry(alloc, rows, entry, topic)
@@ -125,8 +131,11 @@ fn made_items(
     topic: &Topic,
 ) -> Result<Vec<Item>, AllocError>
     requires { IsLegal (onto (Begin start.now) entries.now) }
-    ensures rows { OnOk result (AreNext entry.now topic.now (onto (Begin start.now) entries.now) (get dot_cmp rows.old) (get dot_cmp rows.new)) }
-    ensures items { IfOk result (λ v. AreMadeAt entry.now topic.now (onto (Begin start.now) entries.now) (get dot_cmp rows.old) v.items) }
+    ensures rows { OnOk result
+        (AreNext entry.now topic.now (onto (Begin start.now) entries.now) (get dot_cmp rows.old)
+        (get dot_cmp rows.new)) }
+    ensures items { IfOk result
+        (λ v. AreMadeAt entry.now topic.now (onto (Begin start.now) entries.now) (get dot_cmp rows.old) v.items) }
 {
     let diff = next_diff(alloc, rows, start, entries, entry, topic)?;
     items_of(alloc, diff, &entry.step, topic)

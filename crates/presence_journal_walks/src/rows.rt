@@ -42,7 +42,8 @@ pub(crate) fn put_row(
 
 // Whether a live row is shown on a topic after these entries.
 fn is_shown(start: &Start, entries: &[Entry], topic: &Topic, dot: &Dot, row: &Row) -> bool
-    ensures { result ≡ (same_text row.now.topic topic.now && is_up (status (onto (Begin start.now) entries.now) dot.now.replica)) }
+    ensures { result
+        ≡ (same_text row.now.topic topic.now && is_up (status (onto (Begin start.now) entries.now) dot.now.replica)) }
 {
     if row.topic.cmp(topic).is_eq() {
         is_up(status_after(start, entries, &dot.replica))

@@ -183,7 +183,8 @@ pub fn told_of(alloc: Global, tells: &Tells) -> Result<Told, Fault> {
 }
 
 fn told_delta(alloc: Global, of: &DeltaOf) -> Result<Told, Fault>
-    ensures { IfOk result (λ t. t.ranges ≡ (record { name = of.now.node.now; incarnation = 1 }, of.now.from, of.now.to) ∷ []) }
+    ensures { IfOk result (λ t. t.ranges
+        ≡ (record { name = of.now.node.now; incarnation = 1 }, of.now.from, of.now.to) ∷ []) }
 {
     let ranges = range_of(alloc, of.node, of.from, of.to)?;
     let extras = extras_of(alloc, of.node, of.extras)?;
