@@ -5,6 +5,8 @@ use Rattle.std.specs.Io.KnownBytes.{Keeps, Consumes, IsAtEnd, Appends}
 use Rattle.node_links_members.specs.declared.fault.LinkFault.{LinkFault}
 use Rattle.node_links_members.specs.declared.fault.LinkFault.TheVariants.{LineTooLong, ReadFailed, WriteFailed, OutOfMemory, CutLine}
 use Rattle.node_links_lines.specs.declared.lines.TheConstants.{MAX_LINE_BYTES}
+use Rattle.node_links_streams.specs.declared.bytes.Unread.{Unread}
+use Rattle.node_links_streams.specs.declared.bytes.Unread.TheVariants.{Failed, Interrupted}
 
 -- what a reader has left, or a writer holds
 abbrev pub Known : Type 0
@@ -15,10 +17,15 @@ abbrev pub FindsEnd : Known → Known → Type 0
 FindsEnd old new = Consumes old new [] × IsAtEnd new
 
 -- a byte, or none at the end; a failed read reads nothing
-abbrev pub TakesByte : Known → Known → Result (Option ℕ) LinkFault → Type 0
+abbrev pub TakesByte : {E : Type 0} → Known → Known → Result (Option ℕ) E → Type 0
 TakesByte old new (Ok None) = FindsEnd old new
 TakesByte old new (Ok (Some b)) = Consumes old new (b ∷ [])
 TakesByte old new (Err e) = Keeps old new
+
+-- interrupted reads are a failed read only after this many in a row
+abbrev pub IsPatient : ℕ → Unread → Type 0
+IsPatient most Failed = Unit {0}
+IsPatient most (Interrupted times) = times ≡ most
 
 abbrev pub lacks_feed : List ℕ → Bool
 lacks_feed = list_all (λ b. not (b == 10))

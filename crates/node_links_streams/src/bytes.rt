@@ -1,29 +1,40 @@
-ghost use Rattle.node_links_streams.specs.Bytes.{TakesByte, TakesText, WritesAll};
+ghost use Rattle.std.specs.Prelude.{IfErr};
+ghost use Rattle.node_links_streams.specs.Bytes.{TakesByte, IsPatient, TakesText, WritesAll};
 
 use node_links_lines::{LinkFault, MAX_LINE_BYTES};
 use std::alloc::Global;
 use std::io::{ErrorKind, Read, Write};
 
-/// How many interrupted reads in a row are tried.
-const MAX_TRIES: u32 = 200;
+/// How many interrupted reads in a row are a failed read.
+const MAX_INTERRUPTS: u32 = 200;
+
+/// Why no byte came: the read failed, or so many reads in a row were interrupted.
+#[derive(Clone, Copy)]
+enum Unread {
+    Failed,
+    Interrupted(u32),
+}
 
 // The next byte, or none at the end.
-fn next_byte<R: Read>(reader: &mut R) -> Result<Option<u8>, LinkFault>
-    ensures { TakesByte (R.remaining reader.old) (R.remaining reader.new) result }
+fn next_byte<R: Read>(reader: &mut R) -> Result<Option<u8>, Unread>
+    ensures byte { TakesByte (R.remaining reader.old) (R.remaining reader.new) result }
+    ensures patience { IfErr result (λ why. IsPatient 200 why) }
 {
     let mut byte = [0u8; 1];
-    for _ in 0..MAX_TRIES {
+    let mut interrupted = 0;
+    while interrupted < MAX_INTERRUPTS {
         match reader.read(&mut byte) {
             Ok(0) => return Ok(None),
             Ok(_) => return Ok(Some(byte[0])),
             Err(e) => {
                 if e.kind() != ErrorKind::Interrupted {
-                    return Err(LinkFault::ReadFailed);
+                    return Err(Unread::Failed);
                 }
+                interrupted += 1;
             }
         }
     }
-    Err(LinkFault::ReadFailed)
+    Err(Unread::Interrupted(interrupted))
 }
 
 /// The bytes of the next line without its line feed, or none at the end. Of a line above the limit
