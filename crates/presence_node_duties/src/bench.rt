@@ -340,14 +340,16 @@ impl<A: Lane, B: Lane, C: Lane, D: Lane> Bench<A, B, C, D> {
         server.follow_only(rt, own, followed_by(server.alloc, &self.worker));
     }
 
-    // Tells each client that the server stops, and asks for the end of each session, for some turns.
+    // Tells each client that the server stops, those too that still wait in the queue, and asks for the end of each
+    // session, for some turns.
     fn end_all<R: Wait + Clock, H: PresenceHooks>(
         &mut self,
         rt: &R,
         server: &Server<'_, H, A, B, C, D>,
     ) {
-        self.worker.stop_all();
         for _ in 0..MAX_LAST_TURNS {
+            self.take_in(rt, server.alloc);
+            self.worker.stop_all();
             let _told = self.serve(rt, server);
             self.worker.flush();
             if self.worker.len() == 0 {
