@@ -107,8 +107,25 @@ fn call<G: Gate, A: Lane, B: Lane, C: Lane, D: Lane, R: Wait>(
     }
 }
 
-// Ten calls: one of each kind, those of a subscriber round the others. `twice` has a second track, which is
-// refused, in place of the untrack of one key.
+// A take of up to so many items as a round's own calls and those of some others make.
+fn take<G: Gate, A: Lane, B: Lane, C: Lane, D: Lane, R: Wait>(
+    rt: &R,
+    alloc: Global,
+    pool: &Pool<G, A, B, C, D>,
+    seat: &mut Seat<A, B, C, D>,
+    asking: &Asking,
+    sub: &Sub,
+    answers: &mut Vec<Answered>,
+) -> Option<()> {
+    noted(
+        alloc,
+        answers,
+        pool.take(rt, alloc, seat, &asking.topic, sub, 8),
+    )
+}
+
+// Ten calls: a subscriber takes the state, and once there are a new row, an update and a shout what waits for it.
+// `twice` has a second track, which is refused, in place of the untrack of one key, and a list in place of a get.
 fn round<G: Gate, A: Lane, B: Lane, C: Lane, D: Lane, R: Wait>(
     rt: &R,
     alloc: Global,
@@ -121,18 +138,13 @@ fn round<G: Gate, A: Lane, B: Lane, C: Lane, D: Lane, R: Wait>(
     let reply = pool.subscribe(rt, alloc, seat, &asking.topic).ok()?;
     let sub: Sub = reply.value;
     noted(alloc, answers, Ok(reply))?;
-    for turn in 0..3 {
+    take(rt, alloc, pool, seat, asking, &sub, answers)?;
+    let (shown, last) = if twice { (2, 0) } else { (3, 5) };
+    for turn in [0, 1, shown, 4] {
         call(rt, alloc, pool, seat, asking, turn, answers)?;
     }
-    noted(
-        alloc,
-        answers,
-        pool.take(rt, alloc, seat, &asking.topic, &sub, 2),
-    )?;
-    call(rt, alloc, pool, seat, asking, 3, answers)?;
-    call(rt, alloc, pool, seat, asking, 4, answers)?;
-    let fifth = if twice { 0 } else { 5 };
-    call(rt, alloc, pool, seat, asking, fifth, answers)?;
+    take(rt, alloc, pool, seat, asking, &sub, answers)?;
+    call(rt, alloc, pool, seat, asking, last, answers)?;
     call(rt, alloc, pool, seat, asking, 6, answers)?;
     noted(
         alloc,

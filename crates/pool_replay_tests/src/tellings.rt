@@ -4,9 +4,9 @@ use presence_base::{Dot, Replica};
 use serde_json::{Map, Value};
 use std::alloc::Global;
 
-// A row in the lobby under this key.
+// A row under this key, in the room of the calls.
 fn raw_row(alloc: Global, key: &str) -> Option<RawRow> {
-    let topic = String::from_str(alloc, "room:lobby").ok()?;
+    let topic = String::from_str(alloc, "room:a").ok()?;
     let key = String::from_str(alloc, key).ok()?;
     Some(RawRow {
         topic,

@@ -3,7 +3,7 @@
 use crate::tellings::{first_removed, two_rows};
 use orswot_core_told::Told;
 use pool_desk::{topic, track};
-use presence_base::Replica;
+use presence_base::{Dot, Replica, Row};
 use replica_status::Status;
 use shard_pool::{Gate, Lane, Pool, Seat};
 use std::alloc::Global;
@@ -17,19 +17,33 @@ struct Shown {
     first: u64,
 }
 
-// A delta of the own node: its counts, and how many rows it tells.
+// The live rows that are told: how many, the first one's count, and whether it is the other node's.
+#[derive(Clone, Copy, Debug, PartialEq)]
+struct Live {
+    rows: usize,
+    first: u64,
+    of_other: bool,
+}
+
+const NONE: Live = Live {
+    rows: 0,
+    first: 0,
+    of_other: false,
+};
+
+// A delta of the own node: its counts, and the rows that it tells.
 #[derive(Clone, Copy, Debug, PartialEq)]
 struct Own {
     from: u64,
     to: u64,
-    rows: usize,
+    live: Live,
 }
 
 // What is seen after each telling, and after the other node is gone and the own one tracked a row.
 #[derive(Clone, Copy, Debug, PartialEq)]
 pub(crate) struct Played {
     told: [Shown; 2],
-    live: usize,
+    live: Live,
     before: Own,
     status: Status,
     gone: Shown,
@@ -58,17 +72,30 @@ fn look<G: Gate, A: Lane, B: Lane, C: Lane, D: Lane, R: Wait>(
     })
 }
 
+// Which live rows are told.
+fn live_of(rows: &[(Dot, Row)], other: &Replica) -> Live {
+    match rows.first() {
+        Some(row) => Live {
+            rows: rows.len(),
+            first: row.0.count,
+            of_other: row.0.replica == *other,
+        },
+        None => NONE,
+    }
+}
+
 // Cuts a delta of the own node.
 fn cut<G: Gate, A: Lane, B: Lane, C: Lane, D: Lane, R: Wait>(
     rt: &R,
     alloc: Global,
     pool: &Pool<G, A, B, C, D>,
+    other: &Replica,
 ) -> Option<Own> {
     let delta = pool.cut(rt, alloc, 0).ok()?;
     Some(Own {
         from: delta.from(),
         to: delta.to(),
-        rows: delta.live().len(),
+        live: live_of(delta.live(), other),
     })
 }
 
@@ -108,14 +135,15 @@ fn tell<G: Gate, A: Lane, B: Lane, C: Lane, D: Lane, R: Wait>(
     }
 }
 
-// How many live rows a full value of the pool has.
+// Which live rows a full value of the pool has.
 fn live_rows<G: Gate, A: Lane, B: Lane, C: Lane, D: Lane, R: Wait>(
     rt: &R,
     alloc: Global,
     pool: &Pool<G, A, B, C, D>,
-) -> Option<usize> {
+    other: &Replica,
+) -> Option<Live> {
     let told = pool.full(rt, alloc, 0).ok()?;
-    Some(told.live().len())
+    Some(live_of(told.live(), other))
 }
 
 // Tells both, and looks on while the other node is gone for good and the own one tracks a row.
@@ -128,8 +156,8 @@ pub(crate) fn watch<G: Gate, A: Lane, B: Lane, C: Lane, D: Lane, R: Wait>(
     late: bool,
 ) -> Option<Played> {
     let told = tell(rt, alloc, pool, seat, other, late)?;
-    let live = live_rows(rt, alloc, pool)?;
-    let before = cut(rt, alloc, pool)?;
+    let live = live_rows(rt, alloc, pool, other)?;
+    let before = cut(rt, alloc, pool, other)?;
     pool.permdown(rt, alloc, 0, *other).ok()?;
     let status = pool.status(rt, 0, other);
     let gone = look(rt, alloc, pool, seat, other)?;
@@ -140,8 +168,8 @@ pub(crate) fn watch<G: Gate, A: Lane, B: Lane, C: Lane, D: Lane, R: Wait>(
         before,
         status,
         gone,
-        tracked: cut(rt, alloc, pool)?,
-        again: cut(rt, alloc, pool)?,
+        tracked: cut(rt, alloc, pool, other)?,
+        again: cut(rt, alloc, pool, other)?,
     })
 }
 
@@ -169,11 +197,15 @@ pub(crate) fn wanted(late: bool) -> Played {
                 first: 2,
             },
         ],
-        live: 1,
+        live: Live {
+            rows: 1,
+            first: 2,
+            of_other: true,
+        },
         before: Own {
             from: 0,
             to: 0,
-            rows: 0,
+            live: NONE,
         },
         status: Status::Gone,
         gone: Shown {
@@ -184,12 +216,16 @@ pub(crate) fn wanted(late: bool) -> Played {
         tracked: Own {
             from: 0,
             to: 1,
-            rows: 1,
+            live: Live {
+                rows: 1,
+                first: 1,
+                of_other: false,
+            },
         },
         again: Own {
             from: 1,
             to: 1,
-            rows: 0,
+            live: NONE,
         },
     }
 }
