@@ -110,6 +110,7 @@ pub const SERVE_ENDS: &str =
 A connection is closed with these codes:
   1000  no message came for 60 seconds
   1001  the server stops
+  1002  the client's close frame had a code that RFC 6455 doesn't allow there
   1003  the message was binary
   1008  the message was none of Phoenix Channels
   1009  the message was longer than 65536 bytes
