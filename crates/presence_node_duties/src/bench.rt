@@ -1,8 +1,8 @@
 //! A worker's thread: it serves its connections in turns.
-use crate::leaving::Leavers;
 use crate::server::Server;
 use hook_registry::PresenceHooks;
 use presence_node_hints::{Followed, HintingPort, Noted, Topics, follows};
+use presence_node_leaving::Leavers;
 use presence_node_link_threads::time_behind;
 use presence_node_ports::PoolPort;
 use presence_node_queue::Taker;

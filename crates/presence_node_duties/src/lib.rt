@@ -1,12 +1,11 @@
-//! What each thread of the server does: a worker at its bench, who reads to the end what clients send that were told why
-//! their connection ends, and the one at the door that greets connections; and what they share.
+//! What each thread of the server does: a worker at its bench, and the one at the door that greets connections; and what
+//! they share.
 //!
 //! That a thread goes on, or a hint comes through, no contract says: those of a worker's turn are `presence_node_workers`'.
 #![tactic(auto)]
 
 mod bench;
 mod door;
-mod leaving;
 mod place;
 mod server;
 
