@@ -52,6 +52,11 @@ impl<S: Read + Write + Drop, P: Port> Desk<'_, S, P> {
         }
     }
 
+    // Takes the connections that wait: whether there is a place for no more.
+    pub fn is_full<R: Wait>(&mut self, rt: &R, alloc: Global) -> bool {
+        matches!(self.worker.take_in(rt, alloc, 0), Ok(NoMore::Full))
+    }
+
     // Hands a connection over and takes it: its number.
     pub fn admit<R: Wait>(
         &mut self,

@@ -6,7 +6,7 @@ use crate::failing::serve_beside;
 use crate::pool::over_pool;
 use crate::script::{Turn, play_turns};
 use crate::socket::serve_one;
-use crate::waiting::serve_behind;
+use crate::waiting::{serve_behind, serve_full};
 use presence_base::{NodeName, Replica};
 use session_desk::{LocalPort, Port, Shard};
 use shard_pool::SettleFault;
@@ -24,6 +24,8 @@ pub(crate) enum Run<'a> {
     Beside(usize, usize),
     // A client that comes while 256 wait, and one behind them.
     Behind,
+    // As many clients as there are places for, and one more.
+    Full,
     // A client at this socket.
     Socket(&'a TcpListener),
 }
@@ -46,6 +48,7 @@ pub(crate) fn play<P: Port, R: Wait + Clock>(
         Run::Turns(turns) => play_turns(rt, alloc, port, turns),
         Run::Beside(read, write) => serve_beside(rt, alloc, port, read, write),
         Run::Behind => serve_behind(rt, alloc, port),
+        Run::Full => serve_full(rt, alloc, port),
         Run::Socket(listener) => serve_one(rt, alloc, port, listener),
     }
 }

@@ -1,9 +1,10 @@
-//! Connections that wait for a worker: as many as may, one too many, and one behind them.
+//! Connections that wait for a worker: as many as may, one too many, one behind them, and one that there is no place for.
 
 use crate::desk::{Desk, desk_over};
 use crate::run::{Run, Seen, over_both};
 use crate::script::got;
 use presence_node_queue::{GiveFault, MAX_QUEUED};
+use presence_node_workers::MAX_CONNECTIONS;
 use serving_desk::{Wire, frames, socket_over, wire_of};
 use session_desk::Port;
 use std::alloc::Global;
@@ -77,6 +78,59 @@ pub(crate) fn serve_behind<P: Port, R: Wait>(rt: &R, alloc: Global, port: &mut P
     serve_all(rt, alloc, port, &said, &told)
 }
 
+// Hands over as many connections as there are places for, and one more: whether the worker has no place left.
+fn take_places<'w, P: Port, R: Wait>(
+    rt: &R,
+    alloc: Global,
+    desk: &mut Desk<'_, Wire<'w>, P>,
+    said: &'w [u8],
+) -> Option<bool> {
+    for _ in 1..MAX_CONNECTIONS {
+        desk.admit_wire(rt, alloc, wire_of(alloc, said))?;
+    }
+    for _ in 0..2 {
+        desk.give(rt, socket_over(alloc, wire_of(alloc, said)))
+            .ok()?;
+        if !desk.is_full(rt, alloc) {
+            return Some(false);
+        }
+    }
+    Some(true)
+}
+
+// How many clients that say this get that in one turn where no place is left, if the one that waits is served once all
+// others have ended.
+fn serve_most<P: Port, R: Wait>(
+    rt: &R,
+    alloc: Global,
+    port: &mut P,
+    said: &[u8],
+    told: &[u8],
+) -> Option<usize> {
+    let mut desk = desk_over(alloc, port)?;
+    if !take_places(rt, alloc, &mut desk, said)? {
+        return None;
+    }
+    desk.turn(alloc);
+    let count = answered(&desk, told);
+    if !desk.stop(alloc) || desk.take_in(rt, alloc) != Some(1) {
+        return None;
+    }
+    desk.turn(alloc);
+    if answered(&desk, told) == 1 && desk.stop(alloc) {
+        Some(count)
+    } else {
+        None
+    }
+}
+
+// The same, where each says a heartbeat.
+pub(crate) fn serve_full<P: Port, R: Wait>(rt: &R, alloc: Global, port: &mut P) -> Option<usize> {
+    let said = frames(alloc, true, BEAT).ok()?;
+    let told = frames(alloc, false, BEATEN).ok()?;
+    serve_most(rt, alloc, port, &said, &told)
+}
+
 // A heartbeat takes no step.
 #[test]
 fn behind_those_that_wait(rt: HostRuntime) -> Result<(), Fail> {
@@ -85,5 +139,15 @@ fn behind_those_that_wait(rt: HostRuntime) -> Result<(), Fail> {
         shard: Some(257),
     };
     assert_eq!(rt; over_both(&rt, rt.alloc(), Run::Behind), wanted);
+    Ok(())
+}
+
+#[test]
+fn behind_those_that_have_all_places(rt: HostRuntime) -> Result<(), Fail> {
+    let wanted = Seen {
+        pool: Some((1_024, Ok(0))),
+        shard: Some(1_024),
+    };
+    assert_eq!(rt; over_both(&rt, rt.alloc(), Run::Full), wanted);
     Ok(())
 }
