@@ -13,7 +13,7 @@ use Rattle.channel_session_events.specs.declared.frames.Delivery.{Delivery}
 use Rattle.channel_session_rules.specs.Asks.{Ask, Answer, waits, take}
 use Rattle.channel_session_rules.specs.Delivering.{then_told, then_take, delivers}
 use Rattle.channel_session_rules.specs.InForce.{Joined, InForce}
-use Rattle.channel_session_rules.specs.Outcome.{Follows, Gives, MayWant, spoilt}
+use Rattle.channel_session_rules.specs.Outcome.{Follows, GivesEnd, MayWant, spoilt}
 use Rattle.channel_session_rules.specs.Rules.{End, unsaid}
 use Rattle.channel_session_rules.specs.Said.{Said, told}
 use Rattle.channel_session_rules.specs.declared.stop.Stop.{Stop}
@@ -34,11 +34,11 @@ may_want max s [] before = tt
 may_want max s (j ∷ js) before = tt
 
 module _ {P : Type 0} (step : P → (q : Ask) → Answer q → P → Type 0) (max : ℕ) (s : InForce) (j : Joined) (js all : List Joined) (all_is : all ≡ j ∷ js) (before : List Said) where
-  pub waits_refused : (e : ShardFault) (stop : Stop) (old new : P) → step old (waits j.topic j.sub) (Err e) new → Gives (unsaid e) false (Err stop)
+  pub waits_refused : (e : ShardFault) (stop : Stop) (old new : P) → step old (waits j.topic j.sub) (Err e) new → GivesEnd (unsaid e) false (Err stop)
       → Follows step (delivers max s all before) old new (Err stop)
   waits_refused e stop old new h g = rw all_is (once step (waits j.topic j.sub) (then_take max j before (delivers max s js)) (Err e) (unsaid e) old new (Err stop) h refl refl g)
 
-  pub take_refused : (e : ShardFault) (stop : Stop) (old mid new : P) → step old (waits j.topic j.sub) (Ok true) mid → step mid (take j.topic j.sub max) (Err e) new → Gives (unsaid e) false (Err stop)
+  pub take_refused : (e : ShardFault) (stop : Stop) (old mid new : P) → step old (waits j.topic j.sub) (Ok true) mid → step mid (take j.topic j.sub max) (Err e) new → GivesEnd (unsaid e) false (Err stop)
       → Follows step (delivers max s all before) old new (Err stop)
   take_refused e stop old mid new h h2 g =
       rw all_is

@@ -9,18 +9,18 @@ use crate::session::Session;
 use channel_session_events::{
     heartbeat, join, join_ref_for, leave, leave_nothing, rejoin, topic_event, unmatched,
 };
-use channel_session_rules::{EventKind, Place, Port, Reply, Stop, TopicEvent, is_phoenix, kind_of};
+use channel_session_rules::{EventKind, Join, Port, Reply, Stop, TopicEvent, is_phoenix, kind_of};
 use hook_registry::{PresenceHooks, Routes};
 use phx_message::Message;
 use std::alloc::{AllocError, Global};
 
 // The present join of the message's topic.
-fn place_of(session: &Session, message: &Message) -> Result<Option<Place>, AllocError>
+fn present_join(session: &Session, message: &Message) -> Result<Option<Join>, AllocError>
     ensures { IfOk result (λ o.
         option_map (λ s. joined_of (message.now.topic, s)) o ≡ join_at session.now message.now) }
 {
     match session.topics.find(&message.topic) {
-        Some(place) => Ok(Some(place.clone()?)),
+        Some(join) => Ok(Some(join.clone()?)),
         None => Ok(None),
     }
 }
@@ -52,17 +52,17 @@ fn run_join<P: Port>(
     }
 }
 
-// A join of a topic that is joined. Its place is left, and then the new one is taken.
+// A join of a topic that is joined. The old join is left, and then the new one is made.
 fn run_rejoin<P: Port>(
     alloc: Global,
     session: &mut Session,
     port: &mut P,
     message: &Message,
     kind: u32,
-    place: &Place,
+    join: &Join,
 ) -> Result<Reply, Stop>
     ensures ran { Acts P.step
-        (join_rule kind session.old (Some (joined_of (message.now.topic, place.now))) message.now)
+        (join_rule kind session.old (Some (joined_of (message.now.topic, join.now))) message.now)
         port.old port.new session.new result }
     ensures err { OnErr result (session.new ≡ session.old) }
     ensures failed { session.new.failed ≡ session.old.failed }
@@ -71,7 +71,7 @@ fn run_rejoin<P: Port>(
     let topic = message.topic.clone()?;
     let join_ref = join_ref_for(message).clone()?;
     let others = session.topics.len().saturating_sub(1);
-    match rejoin(alloc, session.pid, others, place, port, message) {
+    match rejoin(alloc, session.pid, others, join, port, message) {
         Ok(reply) => {
             session.topics.leave(&message.topic);
             session.topics.enter(topic, kind, join_ref, reply.join.sub);
@@ -95,8 +95,8 @@ fn run_any_join<P: Port>(
     ensures err { OnErr result (session.new ≡ session.old) }
     ensures failed { session.new.failed ≡ session.old.failed }
 {
-    match place_of(session, message)? {
-        Some(place) => run_rejoin(alloc, session, port, message, kind, &place),
+    match present_join(session, message)? {
+        Some(join) => run_rejoin(alloc, session, port, message, kind, &join),
         None => run_join(alloc, session, port, message, kind),
     }
 }
@@ -107,15 +107,15 @@ fn run_leave<P: Port>(
     session: &mut Session,
     port: &mut P,
     message: &Message,
-    place: &Place,
+    join: &Join,
 ) -> Result<Reply, Stop>
     ensures ran { Acts P.step
-        (leave_rule session.old (Some (joined_of (message.now.topic, place.now))) message.now)
+        (leave_rule session.old (Some (joined_of (message.now.topic, join.now))) message.now)
         port.old port.new session.new result }
     ensures err { OnErr result (session.new ≡ session.old) }
     ensures failed { session.new.failed ≡ session.old.failed }
 {
-    match leave(alloc, session.pid, place, port, message) {
+    match leave(alloc, session.pid, join, port, message) {
         Ok(reply) => {
             session.topics.leave(&message.topic);
             Ok(reply)
@@ -137,8 +137,8 @@ fn run_any_leave<P: Port>(
     ensures err { OnErr result (session.new ≡ session.old) }
     ensures failed { session.new.failed ≡ session.old.failed }
 {
-    match place_of(session, message)? {
-        Some(place) => run_leave(alloc, session, port, message, &place),
+    match present_join(session, message)? {
+        Some(join) => run_leave(alloc, session, port, message, &join),
         None => leave_nothing(alloc, message),
     }
 }
@@ -157,7 +157,7 @@ fn topic_message<P: Port, H: PresenceHooks>(
         (topic_rule session.now message.now event) port.old port.new session.now result }
 {
     match session.topics.find(&message.topic) {
-        Some(place) => topic_event(alloc, hooks, session.pid, place, port, message, event),
+        Some(join) => topic_event(alloc, hooks, session.pid, join, port, message, event),
         None => unmatched(alloc, message),
     }
 }

@@ -30,15 +30,15 @@ fn deliver_from<P: Port, H: PresenceHooks>(
     if index >= topics.len() {
         return Ok(before);
     }
-    let Some((topic, place)) = topics.at(index) else {
+    let Some((topic, join)) = topics.at(index) else {
         return Ok(before);
     };
-    match port.waits(topic, &place.sub) {
+    match port.waits(topic, &join.sub) {
         Err(fault) => Err(stop_of(fault, false)),
         Ok(false) => deliver_from(alloc, hooks, topics, index + 1, port, max, before),
-        Ok(true) => match port.take(alloc, topic, &place.sub, max) {
+        Ok(true) => match port.take(alloc, topic, &join.sub, max) {
             Err(fault) => Err(stop_of(fault, false)),
-            Ok(items) => match spoiling(add_items(alloc, hooks, topic, place, &items, before)) {
+            Ok(items) => match spoiling(add_items(alloc, hooks, topic, join, &items, before)) {
                 Err(stop) => Err(stop),
                 Ok(told) => {
                     let rest = deliver_from(alloc, hooks, topics, index + 1, port, max, told);

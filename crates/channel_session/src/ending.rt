@@ -4,7 +4,7 @@ ghost use Rattle.channel_session_rules.specs.InForce.{joined_in};
 
 use crate::fault::SessionFault;
 use crate::session::Session;
-use channel_session_rules::{Place, Port, ShardFault, Topics};
+use channel_session_rules::{Join, Port, ShardFault, Topics};
 use presence_base::Topic;
 use std::alloc::Global;
 
@@ -13,12 +13,12 @@ fn end_topic<P: Port>(
     alloc: Global,
     pid: u64,
     topic: &Topic,
-    place: &Place,
+    join: &Join,
     port: &mut P,
 ) -> Result<(), ShardFault>
-    ensures { Gone P.step pid topic.now place.now.sub port.old port.new result }
+    ensures { Gone P.step pid topic.now join.now.sub port.old port.new result }
 {
-    match port.unsubscribe(alloc, topic, &place.sub) {
+    match port.unsubscribe(alloc, topic, &join.sub) {
         Ok(()) => port.untrack_all(alloc, pid, topic),
         Err(ShardFault::NoSub) => port.untrack_all(alloc, pid, topic),
         Err(fault) => Err(fault),
@@ -43,10 +43,10 @@ fn end_topics<P: Port>(
     if index >= topics.len() {
         return Ok(());
     }
-    let Some((topic, place)) = topics.at(index) else {
+    let Some((topic, join)) = topics.at(index) else {
         return Ok(());
     };
-    match end_topic(alloc, pid, topic, place, port) {
+    match end_topic(alloc, pid, topic, join, port) {
         Ok(()) => {
             topics.drop_at(index);
             end_topics(alloc, pid, topics, index, port)

@@ -1,6 +1,6 @@
 //! The topics that a session names, handed out without memory.
 
-use channel_session_rules::Place;
+use channel_session_rules::Join;
 use indexmap::map::Keys;
 use presence_base::Topic;
 use std::iter::Iterator;
@@ -9,7 +9,7 @@ use std::marker::Model;
 /// The topics in force, in order of joining, and then the one whose join a fault cut short.
 #[derive(Drop)]
 pub struct JoinedTopics<'a> {
-    pub(crate) topics: Keys<'a, Topic, Place>,
+    pub(crate) topics: Keys<'a, Topic, Join>,
     pub(crate) cut_short: Option<&'a Topic>,
 }
 

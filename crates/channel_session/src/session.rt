@@ -32,7 +32,7 @@ impl Model for Session {
 
     ghost Value = { InForce };
 
-    ghost view = { λ s. record { pid = s.pid; failed = s.failed; joined = map joined_of s.topics.places.entries; cut_short = s.cut_short } };
+    ghost view = { λ s. record { pid = s.pid; failed = s.failed; joined = map joined_of s.topics.joins.entries; cut_short = s.cut_short } };
 
     ghost invariant = { λ s. s.pid ≤ 2 ^ 62 };
 }
@@ -66,7 +66,7 @@ impl Session {
         ensures { result ≡ topics_named self.now }
     {
         JoinedTopics {
-            topics: self.topics.places.keys(),
+            topics: self.topics.joins.keys(),
             cut_short: self.cut_short.as_ref(),
         }
     }

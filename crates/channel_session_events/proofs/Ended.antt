@@ -9,7 +9,7 @@ use Rattle.channel_session_rules.specs.Script.{ask, done}
 use Rattle.channel_session_rules.specs.Rules.{InForce, End, Joined, answers, says, ok, empty, rejoins, join_asked, ended, then_next, unsaid, on_leave, left}
 use Rattle.channel_session_rules.specs.Said.{message}
 use Rattle.channel_session_rules.specs.declared.asked.Asked.{Asked}
-use Rattle.channel_session_rules.specs.Outcome.{Follows, Gives, spoilt}
+use Rattle.channel_session_rules.specs.Outcome.{Follows, GivesEnd, spoilt}
 use Rattle.channel_session_events.specs.Joining.{Leads}
 use Rattle.channel_session_rules.specs.declared.stop.Stop.{Stop}
 use Rattle.channel_session_rules.proofs.Once.{at_once, once, more}
@@ -23,11 +23,11 @@ spoilt_twice (Err s) = refl
 
 module _ {P : Type 0} (step : P → (q : Ask) → Answer q → P → Type 0) (pid : ℕ) (topic : List ℕ) (sub : Sub) where
   pub first_refused : (e : ShardFault) (stop : Stop) (old new : P)
-      → step old (unsubscribe topic sub) (Err e) new → Gives (unsaid e) true (Err stop) → Leads step pid topic sub old new (Err stop)
+      → step old (unsubscribe topic sub) (Err e) new → GivesEnd (unsaid e) true (Err stop) → Leads step pid topic sub old new (Err stop)
   first_refused e stop old new h g = λ next. once step (unsubscribe topic sub) (then_next (ask (untrack_all pid topic) (then_next next))) (Err e) (unsaid e) old new (Err stop) h refl refl g
 
   pub second_refused : (u : Unit {0}) (e : ShardFault) (stop : Stop) (old mid new : P)
-      → step old (unsubscribe topic sub) (Ok u) mid → step mid (untrack_all pid topic) (Err e) new → Gives (unsaid e) true (Err stop) → Leads step pid topic sub old new (Err stop)
+      → step old (unsubscribe topic sub) (Ok u) mid → step mid (untrack_all pid topic) (Err e) new → GivesEnd (unsaid e) true (Err stop) → Leads step pid topic sub old new (Err stop)
   second_refused u e stop old mid new h h2 g = λ next.
       let second : Follows step (ask (untrack_all pid topic) (then_next next)) mid new (Err stop) = once step (untrack_all pid topic) (then_next next) (Err e) (unsaid e) mid new (Err stop) h2 refl refl g in
       subst (λ (r : Result End Stop). Follows step (ended pid topic sub next) old new r) (spoilt_same stop g.1)

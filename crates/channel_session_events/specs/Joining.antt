@@ -7,7 +7,7 @@ use Rattle.channel_session_rules.specs.Asks.{Ask, Answer}
 use Rattle.channel_session_rules.specs.Script.{Script}
 use Rattle.channel_session_rules.specs.Rules.{Joined, InForce, End, answers, ended, joins, ok, empty}
 use Rattle.channel_session_rules.specs.Said.{Said, message}
-use Rattle.channel_session_rules.specs.Outcome.{Follows, Gives, seen, spoilt}
+use Rattle.channel_session_rules.specs.Outcome.{Follows, GivesEnd, seen, spoilt}
 use Rattle.channel_session_rules.specs.declared.stop.Stop.{Stop}
 use Rattle.channel_session_events.specs.declared.joins.JoinReply.{JoinReply}
 use Rattle.channel_session_events.specs.declared.joins.RejoinReply.{RejoinReply}
@@ -40,7 +40,7 @@ JoinRuns step rule m old new result = (before : List Said) (kind : ℕ) (s : InF
 -- where it is at its end
 abbrev pub JoinRepliesWith : (List Said → ℕ → InForce → End) → Bool → Message → Result JoinReply Stop → Type 0
 JoinRepliesWith end spoiled m result = (before : List Said) (kind : ℕ) (s : InForce)
-    → Gives (end before kind s) spoiled (seen (join_end before kind s m) result)
+    → GivesEnd (end before kind s) spoiled (seen (join_end before kind s m) result)
 
 abbrev pub RejoinRuns : {P : Type 0} → (P → (q : Ask) → Answer q → P → Type 0) → (ℕ → InForce → Script End) → Message
     → P → P → Result RejoinReply Stop → Type 0

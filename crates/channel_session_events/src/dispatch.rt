@@ -6,7 +6,7 @@ ghost use Rattle.channel_session_rules.specs.Rules.{says_ok, says_error, on_even
 
 use crate::events::{get, list, ping, shout, track, unknown, untrack, update};
 use channel_session_rules::{
-    Place, Port, Reply, Stop, TopicEvent, empty_object, write_error, write_ok,
+    Join, Port, Reply, Stop, TopicEvent, empty_object, write_error, write_ok,
 };
 use hook_registry::PresenceHooks;
 use phx_message::Message;
@@ -17,7 +17,7 @@ pub fn topic_event<P: Port, H: PresenceHooks>(
     alloc: Global,
     hooks: &H,
     pid: u64,
-    place: &Place,
+    join: &Join,
     port: &mut P,
     message: &Message,
     event: TopicEvent,
@@ -25,17 +25,17 @@ pub fn topic_event<P: Port, H: PresenceHooks>(
     requires limit { pid ≤ 2 ^ 62 }
     requires payload { IsTrue (is_payload message.now.payload) }
     ensures { RunsBy (Worded (H.fetched hooks.now) (H.plain hooks.now)) P.step
-        (λ s. on_event pid place.now.kind s place.now.join_ref message.now event) port.old port.new result }
+        (λ s. on_event pid join.now.kind s join.now.join_ref message.now event) port.old port.new result }
 {
-    let join_ref = &place.join_ref;
+    let join_ref = &join.join_ref;
     match event {
         TopicEvent::Ping => ping(alloc, join_ref, port, message),
         TopicEvent::Shout => shout(alloc, join_ref, port, message),
         TopicEvent::Track => track(alloc, pid, join_ref, port, message),
         TopicEvent::Update => update(alloc, pid, join_ref, port, message),
         TopicEvent::Untrack => untrack(alloc, pid, join_ref, port, message),
-        TopicEvent::List => list(alloc, hooks, place, port, message),
-        TopicEvent::Get => get(alloc, hooks, place, port, message),
+        TopicEvent::List => list(alloc, hooks, join, port, message),
+        TopicEvent::Get => get(alloc, hooks, join, port, message),
         TopicEvent::Unknown => unknown(alloc, join_ref, port, message),
     }
 }

@@ -7,7 +7,7 @@ ghost use Rattle.channel_session_rules.specs.Replies.{Runs, RunsBy, RepliesWith,
 ghost use Rattle.channel_session_rules.specs.Said.{listed, EachBy, Worded};
 
 use channel_session_rules::{
-    Asked, Place, Port, Reply, ShardFault, Stop, Written, empty_object, full_reason, read_asked,
+    Asked, Join, Port, Reply, ShardFault, Stop, Written, empty_object, full_reason, read_asked,
     read_key, ref_response, spoiling, stop_of, track_reason, update_reason, write_error,
     write_listed, write_ok,
 };
@@ -290,33 +290,33 @@ pub(crate) fn untrack<P: Port>(
 fn fetched_rows<H: PresenceHooks>(
     alloc: Global,
     hooks: &H,
-    place: &Place,
+    join: &Join,
     message: &Message,
     rows: &[(Dot, Row)],
 ) -> Result<Written, AllocError>
     ensures { IfOk result (λ w. Worded (H.fetched hooks.now) (H.plain hooks.now)
-        (listed place.now.kind place.now.join_ref message.now rows.now) w.message) }
+        (listed join.now.kind join.now.join_ref message.now rows.now) w.message) }
 {
-    let state = render_state(alloc, hooks, place.kind, &message.topic, rows)?;
-    write_ok(alloc, &place.join_ref, message, Json::new(state))
+    let state = render_state(alloc, hooks, join.kind, &message.topic, rows)?;
+    write_ok(alloc, &join.join_ref, message, Json::new(state))
 }
 
 // The reply that tells rows: their text alone, where nothing is added to them.
 fn rows_reply<H: PresenceHooks>(
     alloc: Global,
     hooks: &H,
-    place: &Place,
+    join: &Join,
     message: &Message,
     rows: SharedRows,
 ) -> Result<Reply, AllocError>
     ensures { IfOk result (λ r. EachBy (Worded (H.fetched hooks.now) (H.plain hooks.now))
-        (listed place.now.kind place.now.join_ref message.now rows ∷ []) (messages_of r)) }
+        (listed join.now.kind join.now.join_ref message.now rows ∷ []) (messages_of r)) }
 {
     if hooks.is_plain() {
-        let reply = write_listed(alloc, &place.join_ref, message, rows)?;
+        let reply = write_listed(alloc, &join.join_ref, message, rows)?;
         return Ok(Reply::Listed(reply));
     }
-    let reply = fetched_rows(alloc, hooks, place, message, rows.as_slice())?;
+    let reply = fetched_rows(alloc, hooks, join, message, rows.as_slice())?;
     Ok(Reply::One(reply))
 }
 
@@ -324,18 +324,18 @@ fn rows_reply<H: PresenceHooks>(
 fn told_rows<H: PresenceHooks>(
     alloc: Global,
     hooks: &H,
-    place: &Place,
+    join: &Join,
     message: &Message,
     answer: Result<SharedRows, ShardFault>,
 ) -> Result<Reply, Stop>
     ensures { RepliesBy (Worded (H.fetched hooks.now) (H.plain hooks.now))
-        (λ s. after_list place.now.kind s place.now.join_ref message.now answer) (is_ok answer) result }
+        (λ s. after_list join.now.kind s join.now.join_ref message.now answer) (is_ok answer) result }
 {
     match answer {
-        Ok(rows) => spoiling(rows_reply(alloc, hooks, place, message, rows)),
+        Ok(rows) => spoiling(rows_reply(alloc, hooks, join, message, rows)),
         Err(fault) => refused(
             alloc,
-            &place.join_ref,
+            &join.join_ref,
             message,
             fault,
             full_reason(true, fault),
@@ -346,49 +346,49 @@ fn told_rows<H: PresenceHooks>(
 pub(crate) fn list<P: Port, H: PresenceHooks>(
     alloc: Global,
     hooks: &H,
-    place: &Place,
+    join: &Join,
     port: &mut P,
     message: &Message,
 ) -> Result<Reply, Stop>
     ensures { RunsBy (Worded (H.fetched hooks.now) (H.plain hooks.now)) P.step
-        (λ s. on_list place.now.kind s place.now.join_ref message.now) port.old port.new result }
+        (λ s. on_list join.now.kind s join.now.join_ref message.now) port.old port.new result }
 {
     let answer = port.list(alloc, &message.topic);
-    told_rows(alloc, hooks, place, message, answer)
+    told_rows(alloc, hooks, join, message, answer)
 }
 
 // The reply to a get.
 fn got_reply<H: PresenceHooks>(
     alloc: Global,
     hooks: &H,
-    place: &Place,
+    join: &Join,
     message: &Message,
     rows: Vec<(Dot, Row)>,
 ) -> Result<Reply, AllocError>
     ensures { IfOk result (λ r. EachBy (Worded (H.fetched hooks.now) (H.plain hooks.now))
-        (listed place.now.kind place.now.join_ref message.now rows.items ∷ []) (messages_of r)) }
+        (listed join.now.kind join.now.join_ref message.now rows.items ∷ []) (messages_of r)) }
 {
     let rows = SharedRows::new(alloc, rows)?;
-    rows_reply(alloc, hooks, place, message, rows)
+    rows_reply(alloc, hooks, join, message, rows)
 }
 
 // What the port's answer to a get leads to.
 fn told_got<H: PresenceHooks>(
     alloc: Global,
     hooks: &H,
-    place: &Place,
+    join: &Join,
     message: &Message,
     answer: Result<Vec<(Dot, Row)>, ShardFault>,
 ) -> Result<Reply, Stop>
     ensures { RepliesBy (Worded (H.fetched hooks.now) (H.plain hooks.now))
-        (λ s. after_list place.now.kind s place.now.join_ref message.now (seen_by (λ v. v.items) answer))
+        (λ s. after_list join.now.kind s join.now.join_ref message.now (seen_by (λ v. v.items) answer))
         (is_ok (seen_by (λ v. v.items) answer)) result }
 {
     match answer {
-        Ok(rows) => spoiling(got_reply(alloc, hooks, place, message, rows)),
+        Ok(rows) => spoiling(got_reply(alloc, hooks, join, message, rows)),
         Err(fault) => refused(
             alloc,
-            &place.join_ref,
+            &join.join_ref,
             message,
             fault,
             full_reason(true, fault),
@@ -399,34 +399,34 @@ fn told_got<H: PresenceHooks>(
 fn get_asked<P: Port, H: PresenceHooks>(
     alloc: Global,
     hooks: &H,
-    place: &Place,
+    join: &Join,
     port: &mut P,
     message: &Message,
     key: Option<Key>,
 ) -> Result<Reply, Stop>
     ensures { RunsBy (Worded (H.fetched hooks.now) (H.plain hooks.now)) P.step
-        (λ s. on_get place.now.kind s place.now.join_ref message.now key) port.old port.new result }
+        (λ s. on_get join.now.kind s join.now.join_ref message.now key) port.old port.new result }
 {
     match key {
         Some(key) => {
             let answer = port.get(alloc, &message.topic, &key);
-            told_got(alloc, hooks, place, message, answer)
+            told_got(alloc, hooks, join, message, answer)
         }
-        None => bad_payload(alloc, &place.join_ref, message),
+        None => bad_payload(alloc, &join.join_ref, message),
     }
 }
 
 pub(crate) fn get<P: Port, H: PresenceHooks>(
     alloc: Global,
     hooks: &H,
-    place: &Place,
+    join: &Join,
     port: &mut P,
     message: &Message,
 ) -> Result<Reply, Stop>
     ensures { RunsBy (Worded (H.fetched hooks.now) (H.plain hooks.now)) P.step
-        (λ s. on_get place.now.kind s place.now.join_ref message.now (key_asked message.now.payload))
+        (λ s. on_get join.now.kind s join.now.join_ref message.now (key_asked message.now.payload))
         port.old port.new result }
 {
     let key = read_key(alloc, message.payload.as_value())?;
-    get_asked(alloc, hooks, place, port, message, key)
+    get_asked(alloc, hooks, join, port, message, key)
 }

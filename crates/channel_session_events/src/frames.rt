@@ -6,7 +6,7 @@ ghost use Rattle.channel_session_rules.specs.InForce.{joined_of};
 ghost use Rattle.channel_session_rules.specs.Said.{told, text_of, Worded, Writes, Noted};
 ghost use Rattle.channel_session_events.specs.Carrying.{AddsTo};
 
-use channel_session_rules::Place;
+use channel_session_rules::Join;
 use hook_registry::{Notice, PresenceHooks, notices, render_diff, render_state};
 use phx_message::laws::pushes_are_written;
 use phx_message::{Message, broadcast, encode, push, push_text};
@@ -28,17 +28,17 @@ fn state_message<H: PresenceHooks>(
     alloc: Global,
     hooks: &H,
     topic: &Topic,
-    place: &Place,
+    join: &Join,
     rows: &SharedRows,
 ) -> Result<Message, AllocError>
     ensures worded { IfOk result (λ m. Worded (H.fetched hooks.now) (H.plain hooks.now)
-        (told (joined_of (topic.now, place.now)) (Item.State rows.now)) m) }
+        (told (joined_of (topic.now, join.now)) (Item.State rows.now)) m) }
     ensures whole { IfOk result (λ m. has_float m.payload ≡ false) }
 {
-    let state = render_state(alloc, hooks, place.kind, topic, rows.as_slice())?;
+    let state = render_state(alloc, hooks, join.kind, topic, rows.as_slice())?;
     push(
         alloc,
-        place.join_ref.clone()?,
+        join.join_ref.clone()?,
         topic.clone()?,
         "presence_state",
         Json::new(state),
@@ -50,14 +50,14 @@ fn diff_message<H: PresenceHooks>(
     alloc: Global,
     hooks: &H,
     topic: &Topic,
-    place: &Place,
+    join: &Join,
     diff: &SharedDiff,
 ) -> Result<Message, AllocError>
     ensures worded { IfOk result (λ m. Worded (H.fetched hooks.now) (H.plain hooks.now)
-        (told (joined_of (topic.now, place.now)) (Item.Diff diff.now)) m) }
+        (told (joined_of (topic.now, join.now)) (Item.Diff diff.now)) m) }
     ensures whole { IfOk result (λ m. has_float m.payload ≡ false) }
 {
-    let value = render_diff(alloc, hooks, place.kind, topic, diff.diff())?;
+    let value = render_diff(alloc, hooks, join.kind, topic, diff.diff())?;
     broadcast(alloc, topic.clone()?, "presence_diff", Json::new(value))
 }
 
@@ -65,20 +65,20 @@ fn diff_message<H: PresenceHooks>(
 fn plain_state_frame(
     alloc: Global,
     topic: &Topic,
-    place: &Place,
+    join: &Join,
     rows: &SharedRows,
 ) -> Result<String, AllocError>
     ensures { IfOk result (λ t. string_bytes t
-        ≡ text_of (push_of place.now.join_ref topic.now (codes "presence_state") (state_of rows.now))) }
+        ≡ text_of (push_of join.now.join_ref topic.now (codes "presence_state") (state_of rows.now))) }
 {
     pushes_are_written();
     if let Some(state) = rows.text() {
-        return push_text(alloc, &place.join_ref, topic, "presence_state", state);
+        return push_text(alloc, &join.join_ref, topic, "presence_state", state);
     }
     let state = rows.write_text(alloc)?;
     push_text(
         alloc,
-        &place.join_ref,
+        &join.join_ref,
         topic,
         "presence_state",
         state.as_str(),
@@ -99,16 +99,16 @@ fn state_frame<H: PresenceHooks>(
     alloc: Global,
     hooks: &H,
     topic: &Topic,
-    place: &Place,
+    join: &Join,
     rows: &SharedRows,
 ) -> Result<String, AllocError>
     ensures { IfOk result (λ t. Writes (Worded (H.fetched hooks.now) (H.plain hooks.now))
-        (told (joined_of (topic.now, place.now)) (Item.State rows.now)) (string_bytes t)) }
+        (told (joined_of (topic.now, join.now)) (Item.State rows.now)) (string_bytes t)) }
 {
     if hooks.is_plain() {
-        return plain_state_frame(alloc, topic, place, rows);
+        return plain_state_frame(alloc, topic, join, rows);
     }
-    let message = state_message(alloc, hooks, topic, place, rows)?;
+    let message = state_message(alloc, hooks, topic, join, rows)?;
     encode(alloc, &message)
 }
 
@@ -117,16 +117,16 @@ fn diff_frame<H: PresenceHooks>(
     alloc: Global,
     hooks: &H,
     topic: &Topic,
-    place: &Place,
+    join: &Join,
     diff: &SharedDiff,
 ) -> Result<String, AllocError>
     ensures { IfOk result (λ t. Writes (Worded (H.fetched hooks.now) (H.plain hooks.now))
-        (told (joined_of (topic.now, place.now)) (Item.Diff diff.now)) (string_bytes t)) }
+        (told (joined_of (topic.now, join.now)) (Item.Diff diff.now)) (string_bytes t)) }
 {
     if hooks.is_plain() {
         return plain_diff_frame(alloc, topic, diff);
     }
-    let message = diff_message(alloc, hooks, topic, place, diff)?;
+    let message = diff_message(alloc, hooks, topic, join, diff)?;
     encode(alloc, &message)
 }
 
@@ -144,15 +144,15 @@ fn item_frame<H: PresenceHooks>(
     alloc: Global,
     hooks: &H,
     topic: &Topic,
-    place: &Place,
+    join: &Join,
     item: &Item,
 ) -> Result<String, AllocError>
     ensures { IfOk result (λ t. Writes (Worded (H.fetched hooks.now) (H.plain hooks.now))
-        (told (joined_of (topic.now, place.now)) item.now) (string_bytes t)) }
+        (told (joined_of (topic.now, join.now)) item.now) (string_bytes t)) }
 {
     match item {
-        Item::State(rows) => state_frame(alloc, hooks, topic, place, rows),
-        Item::Diff(diff) => diff_frame(alloc, hooks, topic, place, diff),
+        Item::State(rows) => state_frame(alloc, hooks, topic, join, rows),
+        Item::Diff(diff) => diff_frame(alloc, hooks, topic, join, diff),
         Item::Shout(shout) => shout_frame(alloc, topic, shout),
     }
 }
@@ -162,14 +162,14 @@ fn item_notices<H: PresenceHooks>(
     alloc: Global,
     hooks: &H,
     topic: &Topic,
-    place: &Place,
+    join: &Join,
     item: &Item,
 ) -> Result<Vec<Notice>, AllocError>
     ensures { IfOk result (λ v. Noted (H.joined hooks.now) (H.left hooks.now) (H.quiet hooks.now)
-        (told (joined_of (topic.now, place.now)) item.now) v.items) }
+        (told (joined_of (topic.now, join.now)) item.now) v.items) }
 {
     match item {
-        Item::Diff(diff) => notices(alloc, hooks, place.kind, topic, diff.diff()),
+        Item::Diff(diff) => notices(alloc, hooks, join.kind, topic, diff.diff()),
         Item::State(_) | Item::Shout(_) => Ok(Vec::new(alloc)),
     }
 }
@@ -179,16 +179,16 @@ fn add_item<H: PresenceHooks>(
     alloc: Global,
     hooks: &H,
     topic: &Topic,
-    place: &Place,
+    join: &Join,
     item: &Item,
     mut delivery: Delivery,
 ) -> Result<Delivery, AllocError>
     ensures { AddsTo (Worded (H.fetched hooks.now) (H.plain hooks.now))
         (Noted (H.joined hooks.now) (H.left hooks.now) (H.quiet hooks.now)) delivery
-        (told (joined_of (topic.now, place.now)) item.now ∷ []) result }
+        (told (joined_of (topic.now, join.now)) item.now ∷ []) result }
 {
-    let frame = item_frame(alloc, hooks, topic, place, item)?;
-    let mut noted = item_notices(alloc, hooks, topic, place, item)?;
+    let frame = item_frame(alloc, hooks, topic, join, item)?;
+    let mut noted = item_notices(alloc, hooks, topic, join, item)?;
     delivery.texts.push(frame)?;
     delivery.notices.append(&mut noted)?;
     Ok(delivery)
@@ -199,17 +199,17 @@ pub fn add_items<H: PresenceHooks>(
     alloc: Global,
     hooks: &H,
     topic: &Topic,
-    place: &Place,
+    join: &Join,
     items: &[Item],
     delivery: Delivery,
 ) -> Result<Delivery, AllocError>
     ensures { AddsTo (Worded (H.fetched hooks.now) (H.plain hooks.now))
         (Noted (H.joined hooks.now) (H.left hooks.now) (H.quiet hooks.now)) delivery
-        (map (told (joined_of (topic.now, place.now))) items.now) result }
+        (map (told (joined_of (topic.now, join.now))) items.now) result }
 {
     let mut delivery = delivery;
     for item in items {
-        delivery = add_item(alloc, hooks, topic, place, item, delivery)?;
+        delivery = add_item(alloc, hooks, topic, join, item, delivery)?;
     }
     Ok(delivery)
 }

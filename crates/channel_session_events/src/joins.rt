@@ -10,7 +10,7 @@ ghost use Rattle.channel_session_rules.specs.Replies.{Acts, RepliesWith, reply_e
 ghost use Rattle.channel_session_rules.specs.Rules.{InForce, said, refuses, after_subscribe, subscribes, tracks, join_asked as join_asked_rule, join_ref_of as join_ref_in, told_ref, empty as empty_of, ok as ok_message, on_leave, rejoins, says_ok, left};
 
 use channel_session_rules::{
-    Asked, MAX_TOPICS, Place, Port, Reply, ShardFault, Stop, Sub, Written, empty_object,
+    Asked, Join, MAX_TOPICS, Port, Reply, ShardFault, Stop, Sub, Written, empty_object,
     full_reason, read_asked, ref_response, spoil, stop_of, track_reason, write_close, write_error,
     write_ok,
 };
@@ -23,12 +23,12 @@ fn end_join<P: Port>(
     alloc: Global,
     pid: u64,
     topic: &Topic,
-    place: &Place,
+    join: &Join,
     port: &mut P,
 ) -> Result<(), Stop>
-    ensures { Leads P.step pid topic.now place.now.sub port.old port.new result }
+    ensures { Leads P.step pid topic.now join.now.sub port.old port.new result }
 {
-    match port.unsubscribe(alloc, topic, &place.sub) {
+    match port.unsubscribe(alloc, topic, &join.sub) {
         Err(fault) => Err(stop_of(fault, true)),
         Ok(()) => match port.untrack_all(alloc, pid, topic) {
             Err(fault) => Err(stop_of(fault, true)),
@@ -257,19 +257,19 @@ pub fn rejoin<P: Port>(
     alloc: Global,
     pid: u64,
     count: usize,
-    place: &Place,
+    join: &Join,
     port: &mut P,
     message: &Message,
 ) -> Result<RejoinReply, Stop>
     requires { pid ≤ 2 ^ 62 }
     ensures { RejoinRuns P.step
-        (λ kind s. rejoins pid count (joined_of (message.now.topic, place.now)) kind s message.now
+        (λ kind s. rejoins pid count (joined_of (message.now.topic, join.now)) kind s message.now
         (asked_of message.now.payload))
         message.now port.old port.new result }
 {
-    let close = write_close(alloc, &place.join_ref, &message.topic)?;
+    let close = write_close(alloc, &join.join_ref, &message.topic)?;
     let asked = read_asked(alloc, message.payload.as_value())?;
-    match end_join(alloc, pid, &message.topic, place, port) {
+    match end_join(alloc, pid, &message.topic, join, port) {
         Ok(()) => {
             let rest = join_behind(alloc, pid, count, port, message, asked, close);
             spoil(rest)
@@ -279,13 +279,13 @@ pub fn rejoin<P: Port>(
 }
 
 // The reply to a leave, and the close behind it.
-fn leave_reply(alloc: Global, place: &Place, message: &Message) -> Result<Reply, AllocError>
+fn leave_reply(alloc: Global, join: &Join, message: &Message) -> Result<Reply, AllocError>
     ensures { IfOk result (λ r. (s : InForce)
-        → reply_end s r ≡ leave_end (joined_of (message.now.topic, place.now)) message.now s) }
+        → reply_end s r ≡ leave_end (joined_of (message.now.topic, join.now)) message.now s) }
 {
     let response = empty_object(alloc);
-    let reply = write_ok(alloc, &place.join_ref, message, response)?;
-    let close = write_close(alloc, &place.join_ref, &message.topic)?;
+    let reply = write_ok(alloc, &join.join_ref, message, response)?;
+    let close = write_close(alloc, &join.join_ref, &message.topic)?;
     Ok(Reply::Two(reply, close))
 }
 
@@ -293,16 +293,16 @@ fn leave_reply(alloc: Global, place: &Place, message: &Message) -> Result<Reply,
 pub fn leave<P: Port>(
     alloc: Global,
     pid: u64,
-    place: &Place,
+    join: &Join,
     port: &mut P,
     message: &Message,
 ) -> Result<Reply, Stop>
     ensures { (s after : InForce) → after ≡ left s message.now.topic → Acts P.step
-        (on_leave pid s (Some (joined_of (message.now.topic, place.now))) message.now)
+        (on_leave pid s (Some (joined_of (message.now.topic, join.now))) message.now)
         port.old port.new after result }
 {
-    let reply = leave_reply(alloc, place, message)?;
-    match end_join(alloc, pid, &message.topic, place, port) {
+    let reply = leave_reply(alloc, join, message)?;
+    match end_join(alloc, pid, &message.topic, join, port) {
         Ok(()) => Ok(reply),
         Err(stop) => Err(stop),
     }

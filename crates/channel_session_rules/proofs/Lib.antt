@@ -1,4 +1,4 @@
+pub mod Joins
 pub mod Objects
 pub mod Once
-pub mod Places
 pub mod Saying

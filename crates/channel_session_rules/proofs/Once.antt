@@ -4,7 +4,7 @@ use Rattle.std.proofs.Math.Bool.{or-false}
 use Rattle.channel_session_rules.specs.Asks.{Ask, Answer, Call, spoils, enters}
 use Rattle.channel_session_rules.specs.Script.{Script, done, ask}
 use Rattle.channel_session_rules.specs.Rules.{End}
-use Rattle.channel_session_rules.specs.Outcome.{Follows, Gives, Stops, Stopped, EndsSo, MayWant, seen, spoilt}
+use Rattle.channel_session_rules.specs.Outcome.{Follows, GivesEnd, Stops, Stopped, EndsSo, MayWant, seen, spoilt}
 use Rattle.channel_session_rules.specs.declared.stop.Stop.{Stop}
 use Rattle.channel_session_rules.specs.declared.stop.StopKind.{StopKind}
 use Rattle.channel_session_rules.specs.declared.stop.StopKind.TheVariants.{OutOfMemory, ShardFull}
@@ -13,13 +13,13 @@ stopped_now : (kind : StopKind) (e : End) → Stops kind e → Stopped kind (don
 stopped_now OutOfMemory e h = (h, refl)
 stopped_now ShardFull e h = h
 
-ends_now : (e : End) (r : Result End Stop) → Gives e false r → EndsSo (done e) [] r
+ends_now : (e : End) (r : Result End Stop) → GivesEnd e false r → EndsSo (done e) [] r
 ends_now e (Ok given) h = h
 ends_now e (Err stop) h = (stopped_now stop.kind e h.0, h.1)
 
 module _ {P : Type 0} (step : P → (q : Ask) → Answer q → P → Type 0) where
   -- a rule that makes no call
-  pub at_once : (e : End) (old : P) (r : Result End Stop) → Gives e false r → Follows step (done e) old old r
+  pub at_once : (e : End) (old : P) (r : Result End Stop) → GivesEnd e false r → Follows step (done e) old old r
   at_once e old r h = record { made = []; calls = refl; ends = ends_now e r h }
 
   -- memory that runs out before any call
@@ -39,7 +39,7 @@ module _ (q : Ask) (next : Answer q → Script End) (a : Answer q) where
   stopped_once OutOfMemory e is h quiet = ((a, refl, rw is h), or-false (enters q a) ∙ quiet)
   stopped_once ShardFull e is h quiet = (a, refl, rw is h)
 
-  ends_once : (e : End) (r : Result End Stop) → next a ≡ done e → Gives e (spoils q a) r → Heeds q a r → EndsSo (ask q next) (record { ask = q; answer = a } ∷ []) r
+  ends_once : (e : End) (r : Result End Stop) → next a ≡ done e → GivesEnd e (spoils q a) r → Heeds q a r → EndsSo (ask q next) (record { ask = q; answer = a } ∷ []) r
   ends_once e (Ok given) is h heeds = (a, refl, rw is h)
   ends_once e (Err stop) is h heeds = (stopped_once stop.kind e is h.0 (heeds stop refl), h.1 ∙ sym (or-false (spoils q a)))
 
@@ -57,11 +57,11 @@ module _ (q : Ask) (next : Answer q → Script End) (a : Answer q) where
 
 module _ {P : Type 0} (step : P → (q : Ask) → Answer q → P → Type 0) (q : Ask) (next : Answer q → Script End) (a : Answer q) where
   -- a rule whose call was its last, and may have made a subscriber
-  pub once_heeding : (e : End) (old new : P) (r : Result End Stop) → step old q a new → next a ≡ done e → Gives e (spoils q a) r → Heeds q a r → Follows step (ask q next) old new r
+  pub once_heeding : (e : End) (old new : P) (r : Result End Stop) → step old q a new → next a ≡ done e → GivesEnd e (spoils q a) r → Heeds q a r → Follows step (ask q next) old new r
   once_heeding e old new r h is g heeds = record { made = record { ask = q; answer = a } ∷ []; calls = (new, h, refl); ends = ends_once q next a e r is g heeds }
 
   -- a rule whose call was its last
-  pub once : (e : End) (old new : P) (r : Result End Stop) → step old q a new → next a ≡ done e → enters q a ≡ false → Gives e (spoils q a) r → Follows step (ask q next) old new r
+  pub once : (e : End) (old new : P) (r : Result End Stop) → step old q a new → next a ≡ done e → enters q a ≡ false → GivesEnd e (spoils q a) r → Follows step (ask q next) old new r
   once e old new r h is quiet g = once_heeding e old new r h is g (λ _ _. quiet)
 
   -- a rule that goes on after a call that leaves something behind

@@ -3,7 +3,7 @@ use Rattle.std.specs.Prelude.{ℕ, List, [], ◌∷◌, ◌++◌, map, Bool, Opt
 use Rattle.presence_base.specs.Order.{same_text}
 use Rattle.phx_message.specs.declared.message.MsgRef.{MsgRef}
 use Rattle.tracker_shard.specs.declared.shard.Sub.{Sub}
-use Rattle.channel_session_rules.specs.declared.topics.Place.{Place}
+use Rattle.channel_session_rules.specs.declared.topics.Join.{Join}
 use Rattle.channel_session_rules.specs.declared.topics.Topics.{Topics}
 
 -- a topic in force, with its kind and its present join's reference and subscriber
@@ -14,11 +14,11 @@ pub record Joined : Type 0 where
   pub sub : Sub
 
 -- a topic with its present join
-abbrev pub joined_of : List ℕ × Place → Joined
+abbrev pub joined_of : List ℕ × Join → Joined
 joined_of e = record { topic = e.0; kind = e.1.kind; join_ref = e.1.join_ref; sub = e.1.sub }
 
 abbrev pub joined_in : Topics → List Joined
-joined_in ts = map joined_of ts.places.entries
+joined_in ts = map joined_of ts.joins.entries
 
 pub record InForce : Type 0 where
   pub pid : ℕ

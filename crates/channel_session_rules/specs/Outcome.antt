@@ -50,9 +50,9 @@ abbrev pub Stops : StopKind → End → Type 0
 Stops OutOfMemory end = CanWant end
 Stops ShardFull end = end ≡ full
 
-abbrev pub Gives : End → Bool → Result End Stop → Type 0
-Gives end spoiled (Ok given) = end ≡ given
-Gives end spoiled (Err stop) = Stops stop.kind end × (stop.spoiled ≡ spoiled)
+abbrev pub GivesEnd : End → Bool → Result End Stop → Type 0
+GivesEnd end spoiled (Ok given) = end ≡ given
+GivesEnd end spoiled (Err stop) = Stops stop.kind end × (stop.spoiled ≡ spoiled)
 
 -- after a call that leaves something behind, a fault does too
 abbrev pub spoilt : Result End Stop → Result End Stop

@@ -4,7 +4,7 @@ use Rattle.phx_message.specs.Making.{ok_reply}
 use Rattle.phx_message.specs.declared.message.Message.{Message}
 use Rattle.presence_metas.specs.Values.{state_of}
 use Rattle.channel_session_rules.specs.Asks.{Ask, Answer}
-use Rattle.channel_session_rules.specs.Outcome.{Follows, Gives, seen}
+use Rattle.channel_session_rules.specs.Outcome.{Follows, GivesEnd, seen}
 use Rattle.channel_session_rules.specs.Said.{Said, message, EachBy}
 use Rattle.channel_session_rules.specs.Script.{Script}
 use Rattle.channel_session_rules.specs.declared.stop.Stop.{Stop}
@@ -34,7 +34,7 @@ Runs step rule old new result = (s : InForce) → Acts step (rule s) old new s r
 
 -- where the rule is at its end, whatever is in force
 abbrev pub RepliesWith : (InForce → End) → Bool → Result Reply Stop → Type 0
-RepliesWith end spoiled result = (s : InForce) → Gives (end s) spoiled (seen (reply_end s) result)
+RepliesWith end spoiled result = (s : InForce) → GivesEnd (end s) spoiled (seen (reply_end s) result)
 
 -- ---- replies that tell what a fetch adds: W ties what is said to its message
 
@@ -62,4 +62,4 @@ pub record RepliesBy (W : Said → Message → Type 0) (end : InForce → End) (
     (result : Result Reply Stop) : Type 0 where
   pub said : List Said
   pub worded : IsWordedBy W said result
-  pub gives : (s : InForce) → Gives (end s) spoiled (seen (said_end said s) result)
+  pub gives : (s : InForce) → GivesEnd (end s) spoiled (seen (said_end said s) result)

@@ -24,5 +24,5 @@ pub use replies::{
     write_ok,
 };
 pub use stop::{Stop, StopKind, spoil, spoiling};
-pub use topics::{MAX_TOPICS, Place, Topics};
+pub use topics::{Join, MAX_TOPICS, Topics};
 pub use tracker_shard::{Shard, ShardFault, Sub};

@@ -1,5 +1,5 @@
 ghost use Rattle.std.specs.Prelude.{◌≡◌, option_map, false};
-ghost use Rattle.channel_session_rules.specs.Outcome.{Stops, Gives};
+ghost use Rattle.channel_session_rules.specs.Outcome.{Stops, GivesEnd};
 ghost use Rattle.channel_session_rules.specs.Rules.{unsaid, full_reason as full_reason_of, track_reason as track_reason_of, update_reason as update_reason_of};
 
 use crate::stop::{Stop, StopKind};
@@ -56,7 +56,7 @@ fn kind_of_refusal(fault: ShardFault) -> StopKind
 
 /// The fault of a refusal for which no reply stands.
 pub fn stop_of(fault: ShardFault, spoiled: bool) -> Stop
-    ensures { Gives (unsaid fault) spoiled (Err result) }
+    ensures { GivesEnd (unsaid fault) spoiled (Err result) }
 {
     let kind = kind_of_refusal(fault);
     Stop { kind, spoiled }

@@ -10,20 +10,20 @@ pub const MAX_TOPICS: usize = 64;
 /// The present join of a topic: the topic's kind, the reference that the join's replies carry, and
 /// its subscriber.
 #[derive(Drop)]
-pub struct Place {
+pub struct Join {
     pub kind: u32,
     pub join_ref: Option<MsgRef>,
     pub sub: Sub,
 }
 
-impl Clone for Place {
+impl Clone for Join {
     ghost use Rattle.std.specs.Prelude.{◌≡◌};
 
     ghost is_clone = { λ s t. t ≡ s };
 
-    fn clone(&self) -> Result<Place, AllocError> {
+    fn clone(&self) -> Result<Join, AllocError> {
         let join_ref = self.join_ref.clone()?;
-        Ok(Place {
+        Ok(Join {
             kind: self.kind,
             join_ref,
             sub: self.sub,
@@ -34,7 +34,7 @@ impl Clone for Place {
 /// The topics in force, in order of joining, found by hash.
 #[derive(Drop)]
 pub struct Topics {
-    pub places: IndexMap<Topic, Place>,
+    pub joins: IndexMap<Topic, Join>,
 }
 
 impl Topics {
@@ -47,77 +47,77 @@ impl Topics {
         ensures { joined_in result ≡ [] }
     {
         Topics {
-            places: IndexMap::new(alloc),
+            joins: IndexMap::new(alloc),
         }
     }
 
     pub fn len(&self) -> usize
         ensures { result ≡ length (joined_in self.now) }
     {
-        self.places.len()
+        self.joins.len()
     }
 
     /// The present join of a topic.
-    pub fn find(&self, topic: &Topic) -> Option<&Place>
+    pub fn find(&self, topic: &Topic) -> Option<&Join>
         ensures { option_map (λ s. joined_of (topic.now, s.now)) result ≡ find topic.now (joined_in self.now) }
     {
-        self.places.get(topic)
+        self.joins.get(topic)
     }
 
     /// The topic of this place in the order of joining, with its present join.
-    pub fn at(&self, index: usize) -> Option<(&Topic, &Place)>
+    pub fn at(&self, index: usize) -> Option<(&Topic, &Join)>
         ensures { option_map (λ e. joined_of (e.0.now, e.1.now)) result ≡ slice_get (joined_in self.now) index }
     {
-        self.places.get_index(index)
+        self.joins.get_index(index)
     }
 
     /// Makes room for one more topic.
     pub fn make_room(&mut self) -> Result<(), AllocError>
         ensures entries { joined_in self.new ≡ joined_in self.old }
-        ensures room { OnOk result (1 ≤ spare self.new.places) }
+        ensures room { OnOk result (1 ≤ spare self.new.joins) }
     {
-        self.places.reserve(1)
+        self.joins.reserve(1)
     }
 
     /// Drops a topic. The others stay in their order.
     pub fn leave(&mut self, topic: &Topic)
         ensures entries { joined_in self.new ≡ without_topic topic.now (joined_in self.old) }
-        ensures room { spare self.old.places ≤ spare self.new.places }
+        ensures room { spare self.old.joins ≤ spare self.new.joins }
         ensures gone { find topic.now (joined_in self.new) ≡ None }
     {
-        let _place = self.places.shift_remove(topic);
+        let _join = self.joins.shift_remove(topic);
     }
 
     /// Drops the topic of this place in the order of joining. The others stay in their order.
     pub fn drop_at(&mut self, index: usize)
         ensures { joined_in self.new ≡ remove (joined_in self.old) index }
     {
-        let _place = self.places.shift_remove_index(index);
+        let _join = self.joins.shift_remove_index(index);
     }
 
     /// Adds a topic behind those that are there.
-    pub fn join(&mut self, topic: Topic, place: Place)
+    pub fn join(&mut self, topic: Topic, join: Join)
         requires absent { find topic (joined_in self.old) ≡ None }
-        requires room { 1 ≤ spare self.old.places }
-        ensures { joined_in self.new ≡ joined_in self.old ++ joined_of (topic, place) ∷ [] }
+        requires room { 1 ≤ spare self.old.joins }
+        ensures { joined_in self.new ≡ joined_in self.old ++ joined_of (topic, join) ∷ [] }
     {
-        let _none = self.places.insert(topic, place);
+        let _none = self.joins.insert(topic, join);
     }
 
     /// Adds a topic where its join was accepted.
     pub fn enter(&mut self, topic: Topic, kind: u32, join_ref: Option<MsgRef>, sub: Option<Sub>)
         requires absent { find topic (joined_in self.old) ≡ None }
-        requires room { 1 ≤ spare self.old.places }
+        requires room { 1 ≤ spare self.old.joins }
         ensures { joined_in self.new ≡ added (joined_in self.old) topic kind join_ref sub }
     {
         match sub {
             Some(sub) => {
-                let place = Place {
+                let join = Join {
                     kind,
                     join_ref,
                     sub,
                 };
-                self.join(topic, place)
+                self.join(topic, join)
             }
             None => (),
         }

@@ -8,7 +8,8 @@ use Rattle.presence_metas.specs.declared.frame.FrameFault.{FrameFault}
 use Rattle.presence_metas.specs.declared.frame.FrameFault.TheVariants.{NotPresence, BadShape, NoRef, OutOfMemory}
 use Rattle.presence_metas.specs.Frames.{frame_in}
 use Rattle.presence_node_lines.specs.Bytes.{FindsEnd, IsPart, IsWhole, TakesLine, BreaksLine, HasRead, AppendsFront}
-use Rattle.presence_node_lines.specs.Lines.{lines_of, first_line, lacks_feed}
+use Rattle.phx_message.specs.Lines.{lacks_feed}
+use Rattle.presence_node_lines.specs.Lines.{lines_of, first_line}
 use Rattle.presence_node_fold.specs.Mirrors.{Mirrors, with_frame, mirrors_text}
 use Rattle.presence_node_lines.specs.Reading.{frame_message, frame_limit}
 use Rattle.presence_node_lines.specs.declared.fault.ReadFault.TheVariants.{Failed, TooManyLines}

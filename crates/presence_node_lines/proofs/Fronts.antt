@@ -4,7 +4,8 @@ use Rattle.std.proofs.lemmas.Grind.{common_steps}
 use Rattle.std.proofs.lemmas.Bool.Decides.{nat_tests}
 use Rattle.std.specs.Io.KnownBytes.{IsAtEnd}
 use Rattle.presence_node_lines.specs.Bytes.{IsWhole, HasRead}
-use Rattle.presence_node_lines.specs.Lines.{lines_of, first_line, lacks_feed}
+use Rattle.phx_message.specs.Lines.{lacks_feed}
+use Rattle.presence_node_lines.specs.Lines.{lines_of, first_line}
 use Rattle.presence_node_lines.proofs.Splits.{plain_first, first_line-append}
 
 none_more : {A : Type 0} (xs : List A) → xs ++ [] ≡ xs

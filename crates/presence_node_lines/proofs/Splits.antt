@@ -6,7 +6,8 @@ use Rattle.std.proofs.lemmas.Grind.{common_steps}
 use Rattle.std.proofs.Common.{Option}
 use Rattle.std.specs.Io.KnownBytes.{Keeps, Consumes}
 use Rattle.presence_node_lines.specs.Bytes.{FindsEnd, TakesLine, BreaksLine}
-use Rattle.presence_node_lines.specs.Lines.{onto, lines_of, first_line, after_line, lacks_feed}
+use Rattle.phx_message.specs.Lines.{lacks_feed}
+use Rattle.presence_node_lines.specs.Lines.{onto, lines_of, first_line, after_line}
 use Rattle.presence_node_lines.proofs.Known.{consumes-then, consumes-keeps}
 
 pub first_line-append : (line ys : List ℕ) → lacks_feed line ≡ true → first_line (line ++ ys) ≡ line ++ first_line ys

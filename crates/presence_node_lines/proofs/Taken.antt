@@ -4,7 +4,8 @@ use Rattle.std.proofs.lemmas.Bool.Decides.{nat_tests}
 use Rattle.std.proofs.lemmas.List.Folds.{list_all-append}
 use Rattle.std.specs.Io.KnownBytes.{Consumes, IsAtEnd}
 use Rattle.presence_node_lines.specs.Bytes.{IsPart, TakesLine, Splits, HasRead}
-use Rattle.presence_node_lines.specs.Lines.{onto, lines_of, first_line, after_line, lacks_feed, is_line}
+use Rattle.phx_message.specs.Lines.{lacks_feed}
+use Rattle.presence_node_lines.specs.Lines.{onto, lines_of, first_line, after_line, is_line}
 use Rattle.presence_node_lines.proofs.Splits.{plain_first}
 
 -- nothing was read yet

@@ -4,7 +4,8 @@ use Rattle.std.specs.List.{list_all}
 use Rattle.std.specs.Io.KnownBytes.{Keeps, Consumes, IsAtEnd, Appends}
 use Rattle.presence_node_lines.specs.declared.lines.Unread.{Unread}
 use Rattle.presence_node_lines.specs.declared.lines.Unread.TheVariants.{Failed, Interrupted}
-use Rattle.presence_node_lines.specs.Lines.{first_line, after_line, lacks_feed, is_line, BeginsWith}
+use Rattle.phx_message.specs.Lines.{lacks_feed}
+use Rattle.presence_node_lines.specs.Lines.{first_line, after_line, is_line, BeginsWith}
 
 -- no byte is left
 abbrev pub FindsEnd : Option (List ℕ) → Option (List ℕ) → Type 0

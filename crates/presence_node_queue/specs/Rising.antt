@@ -42,10 +42,10 @@ abbrev pub WasFull : Type 0 → ℕ → ℕ → Type 0
 WasFull S room next = Held {T = Numbered S} room (RisesBelow next)
 
 -- A connection went in under the next number, or it was dropped for this cause and its number is still the next one.
-abbrev pub Gives : Type 0 → ℕ → ℕ → Result ℕ GiveFault → Type 0
-Gives S old new (Ok number) = (number ≡ old) × (new ≡ old + 1) × (number ≤ LAST_NUMBER)
-Gives S old new (Err Full) = (new ≡ old) × WasFull S MAX_QUEUED old
-Gives S old new (Err Spent) = (new ≡ old) × (LAST_NUMBER < old)
+abbrev pub GivesNumber : Type 0 → ℕ → ℕ → Result ℕ GiveFault → Type 0
+GivesNumber S old new (Ok number) = (number ≡ old) × (new ≡ old + 1) × (number ≤ LAST_NUMBER)
+GivesNumber S old new (Err Full) = (new ≡ old) × WasFull S MAX_QUEUED old
+GivesNumber S old new (Err Spent) = (new ≡ old) × (LAST_NUMBER < old)
 
 -- The oldest connection that waits has a number above all that any end took before, so that none is taken twice.
 abbrev pub TakenOnce : Type 0 → Type 0

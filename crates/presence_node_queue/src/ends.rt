@@ -2,7 +2,7 @@
 ghost use Rattle.std.specs.Prelude.{◌≡◌, ◌<◌, ◌≤◌, ◌+◌, true, IfOk, MatchResult};
 ghost use Rattle.std.specs.Arc.{arc_value};
 ghost use Rattle.crossbeam_queue.specs.Passes.{view, IsPassOf, ruled_capacity};
-ghost use Rattle.presence_node_queue.specs.Rising.{Gives};
+ghost use Rattle.presence_node_queue.specs.Rising.{GivesNumber};
 ghost use Rattle.presence_node_queue.specs.declared.numbered.TheConstants.{LAST_NUMBER};
 ghost use Rattle.presence_node_queue.specs.declared.queue.TheConstants.{MAX_QUEUED};
 
@@ -78,7 +78,7 @@ impl<S: Drop> Giver<S> {
     /// numbers are at their end.
     #[tactic(auto, using(crate::proofs::Risings::full_below))]
     pub fn give<R: Wait>(&mut self, rt: &R, stream: S) -> Result<u64, GiveFault>
-        ensures { Gives S self.old.next self.new.next result }
+        ensures { GivesNumber S self.old.next self.new.next result }
     {
         let number = self.next;
         if number > LAST_NUMBER {

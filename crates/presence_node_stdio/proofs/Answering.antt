@@ -18,7 +18,7 @@ use Rattle.channel_session.specs.Rules.{End, answers, full, memory}
 use Rattle.channel_session.specs.declared.fault.SessionFault.{SessionFault}
 use Rattle.channel_session.specs.declared.fault.SessionFault.TheVariants.{BadMessage, ShardFull, Failed}
 use Rattle.channel_session.proofs.Lent.{Leads, text_leads, full_leads, delivery_leads, full_delivery}
-use Rattle.presence_node_stdio.specs.Session.{State, Speech, silence, and_then, answering, dealing, Answer, answer_to, ruled, delivered, with_delivery, printed, ends, Voice, Says, Tells, Answers, TellsDelivery, Answered, Dealt, Keeps, next_of, answer}
+use Rattle.presence_node_stdio.specs.Session.{State, Speech, silence, and_then, answering, dealing, Answer, answer_to, ruled, delivered, with_delivery, printed, ends, Voice, Says, Tells, AnswersLine, TellsDelivery, Answered, Dealt, Keeps, next_of, answer}
 use Rattle.presence_node_lines.specs.Reading.{line_message}
 use Rattle.presence_node_stdio.specs.declared.local.Output.{Output}
 use Rattle.presence_node_stdio.specs.declared.fault.LineFault.{LineFault}
@@ -101,7 +101,7 @@ module _ (v : Voice) where
   tells_full st after text session shard o a t n g = silent _ (stopped_by ShardFull) after o (full_follows st (decoded the_limits.CLIENT text) session shard a.ended) t n g
 
   -- a session that has failed answers nothing
-  pub tells_failed : (st after : State) (line : List ℕ) (o : Output) → st.session.failed ≡ true → o.text.items ≡ [] → o.notes.items ≡ [] → o.fault ≡ Some (stopped_by Failed) → Answers v st after line o
+  pub tells_failed : (st after : State) (line : List ℕ) (o : Output) → st.session.failed ≡ true → o.text.items ≡ [] → o.notes.items ≡ [] → o.fault ≡ Some (stopped_by Failed) → AnswersLine v st after line o
   tells_failed st after line o e t n g = silent _ (stopped_by Failed) after o (ap (λ b. cond b (ends silence (stopped_by Failed)) (answer_to st (line_message line))) e) t n g
 
   -- and the line of any other is answered as what it is read as
@@ -109,7 +109,7 @@ module _ (v : Voice) where
   read_so st line e = ap (λ b. cond b (ends silence (stopped_by Failed)) (answer_to st (line_message line))) e
 
   pub tells_no_line : (st after : State) (line : List ℕ) (f : MessageFault) (o : Output) → st.session.failed ≡ false → line_message line ≡ Err f → o.text.items ≡ [] → o.notes.items ≡ [] → o.fault ≡ Some (no_message f)
-      → Answers v st after line o
+      → AnswersLine v st after line o
   tells_no_line st after line f o e is t n g = silent _ (no_message f) after o (read_so st line e ∙ bad_follows st (line_message line) f is) t n g
 
   -- the message was answered, and then this was told

@@ -4,7 +4,8 @@ use Rattle.std.specs.Io.KnownBytes.{Keeps, Consumes, Appends, IsAtEnd}
 use Rattle.presence_node_stdio.specs.declared.fault.LineFault.{LineFault}
 use Rattle.presence_node_stdio.specs.declared.fault.LineFault.TheVariants.{Message as no_message, Session as stopped_by}
 use Rattle.presence_node_lines.specs.Bytes.{FindsEnd, IsPart, IsWhole, TakesLine, BreaksLine, HasRead, AppendsFront}
-use Rattle.presence_node_lines.specs.Lines.{lines_of, first_line, lacks_feed}
+use Rattle.phx_message.specs.Lines.{lacks_feed}
+use Rattle.presence_node_lines.specs.Lines.{lines_of, first_line}
 use Rattle.presence_node_lines.specs.Reading.{line_limit}
 use Rattle.presence_node_lines.specs.declared.fault.ReadFault.TheVariants.{Failed, TooManyLines}
 use Rattle.presence_node_stdio.specs.Session.{State, Answer, Speech, silence, and_then, Voice, Says, answer}

@@ -129,8 +129,8 @@ pub record Tells (v : Voice) (a : Answer) (after : State) (o : Output) : Type 0 
   pub says : Says v a.speech o.text.items o.notes.items
   pub next : a.next ≡ next_of o.fault after
 
-abbrev pub Answers : Voice → State → State → List ℕ → Output → Type 0
-Answers v s after line o = Tells v (answer s line) after o
+abbrev pub AnswersLine : Voice → State → State → List ℕ → Output → Type 0
+AnswersLine v s after line o = Tells v (answer s line) after o
 
 -- a line that is no message changes nothing
 abbrev pub Keeps : Option LineFault → State → State → Type 0

@@ -132,7 +132,7 @@ fn deliver_over<H: PresenceHooks>(
 impl LocalSession {
     ghost use Rattle.std.specs.Prelude.{◌≡◌, false, None, IfOk, OnOk};
     ghost use Rattle.phx_message.specs.Reading.{decoded};
-    ghost use Rattle.presence_node_stdio.specs.Session.{start as start_of, printed, answer_to, voice_of, Tells, TellsDelivery, Answers, Keeps};
+    ghost use Rattle.presence_node_stdio.specs.Session.{start as start_of, printed, answer_to, voice_of, Tells, TellsDelivery, AnswersLine, Keeps};
 
     pub fn new(alloc: Global, options: &StdioOptions) -> Result<LocalSession, AllocError>
         ensures { IfOk result (λ s. s ≡ start_of options.now) }
@@ -226,7 +226,8 @@ impl LocalSession {
         hooks: &H,
         line: &[u8],
     ) -> Result<Output, AllocError>
-        ensures answer { IfOk result (λ o. Answers (voice_of H.PresenceHooks hooks.now) self.old self.new line.now o) }
+        ensures answer { IfOk result
+            (λ o. AnswersLine (voice_of H.PresenceHooks hooks.now) self.old self.new line.now o) }
         ensures refused { IfOk result (λ o. Keeps o.fault self.old self.new) }
     {
         if self.session.failed() {

@@ -118,7 +118,7 @@ module _ {S K P : Type 0} (w : Around S P) where
   -- ---- one message
 
   -- The session answers a text, and its texts go out.
-  pub record Answers (routes : List (List ℕ × ℕ)) (text : List ℕ) (old new : Connection S K) (before after : P)
+  pub record AnswersText (routes : List (List ℕ × ℕ)) (text : List ℕ) (old new : Connection S K) (before after : P)
       (result : Result (Unit {0}) Cause) : Type 0 where
     pub answer : Result (Vec (String Global) Global) SessionFault
     pub ran : RanBy w.worded w.step routes old.session (decoded the_limits.CLIENT text) before after new.session answer
@@ -139,7 +139,7 @@ module _ {S K P : Type 0} (w : Around S P) where
   abbrev pub Responds : List (List ℕ × ℕ) → ℕ → Heard → Connection S K → Connection S K → P → P
       → Result (Unit {0}) Cause → Type 0
   Responds routes now (Text words) old new before after result =
-      Answers routes words (heard_at now old) new before after result
+      AnswersText routes words (heard_at now old) new before after result
   Responds routes now Sign old new before after result = Rests (heard_at now old) new before after result (Ok tt)
   Responds routes now Nothing old new before after result = Rests old new before after result (patience old.heard now)
   Responds routes now (Ends cause) old new before after result = Rests old new before after result (Err cause)

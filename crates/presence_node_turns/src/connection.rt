@@ -3,7 +3,7 @@ ghost use Rattle.phx_message.specs.Reading.{decoded};
 ghost use Rattle.tungstenite.specs.Socket.{Flushed};
 ghost use Rattle.presence_node_turns.specs.Causes.{code_of};
 ghost use Rattle.presence_node_turns.specs.Hearing.{is_message};
-ghost use Rattle.presence_node_turns.specs.Turning.{around, Answers, ClosesBy, Continues, Deals, broken_off, EndsSession, GoOut, Responds, Serves, Flushes, StopsServing, TakesTurn, Turns, patience, progress_of as progress_in};
+ghost use Rattle.presence_node_turns.specs.Turning.{around, AnswersText, ClosesBy, Continues, Deals, broken_off, EndsSession, GoOut, Responds, Serves, Flushes, StopsServing, TakesTurn, Turns, patience, progress_of as progress_in};
 
 use crate::cause::{Cause, cause_of, close_code};
 use crate::hearing::{Heard, hear};
@@ -142,7 +142,7 @@ impl<S: Read + Write + Drop, K: MaskKeys + Drop> Connection<S, K> {
         hooks: &H,
         text: &str,
     ) -> Result<(), Cause>
-        ensures { Answers (around S.remaining S.contents P.step H.PresenceHooks hooks.now)
+        ensures { AnswersText (around S.remaining S.contents P.step H.PresenceHooks hooks.now)
             routes.now text.now self.old self.new port.old port.new result }
     {
         match run_text(alloc, &mut self.session, port, routes, hooks, text) {

@@ -9,10 +9,10 @@ returns-in-Ok-clause-ran g c =
     let failed : c.session.inside.failed ≡ c.args.session.now.failed = ap (λ (x : InForce). x.failed) c.session.view_is in
     let cut_short : c.session.inside.cut_short ≡ c.args.session.now.cut_short = ap (λ (x : InForce). x.cut_short) c.session.view_is in
     let held : joined_in c.leave-in-Ok.new.self ≡ without_topic c.args.message.now.topic c.args.session.now.joined = c.leave-in-Ok.ensures.entries ∙ ap (λ (x : InForce). without_topic c.args.message.now.topic x.joined) c.session.view_is in
-    leave_script _ c.args.session.now c.args.message.now _ pid (joined_of (c.args.message.now.topic, c.args.place.now)) _ _ _
+    leave_script _ c.args.session.now c.args.message.now _ pid (joined_of (c.args.message.now.topic, c.args.join.now)) _ _ _
     (c.in-Ok.ensures c.args.session.now _ (left_so c.args.session.now _ c.args.message.now.topic (record { pid = pid; failed = failed; cut_short = cut_short }) held))
 
 pub returns-in-Err-clause-ran : goal.returns-in-Err-clause-ran
 returns-in-Err-clause-ran g c =
     let pid : c.session.inside.pid ≡ c.args.session.now.pid = ap (λ (x : InForce). x.pid) c.session.view_is in
-    leave_script _ c.args.session.now c.args.message.now _ pid (joined_of (c.args.message.now.topic, c.args.place.now)) _ _ _ (c.in-Err.ensures c.args.session.now _ refl)
+    leave_script _ c.args.session.now c.args.message.now _ pid (joined_of (c.args.message.now.topic, c.args.join.now)) _ _ _ (c.in-Err.ensures c.args.session.now _ refl)

@@ -7,51 +7,51 @@ use Rattle.channel_session.proofs.delivering.+deliver_from.Goals as goal
 
 pub returns-in-Err : goal.returns-in-Err
 returns-in-Err g t c = λ said s h.
-    let e = here (joined_in c.args.topics.now) c.args.index (joined_of (c.in-Some.topic.now, c.in-Some.place.now)) c.in-Some.ensures in
+    let e = here (joined_in c.args.topics.now) c.args.index (joined_of (c.in-Some.topic.now, c.in-Some.join.now)) c.in-Some.ensures in
     record {
       said = said;
       carries = tt;
-      deals = waits_refused _ c.args.max s (joined_of (c.in-Some.topic.now, c.in-Some.place.now)) (drop (c.args.index + 1) (joined_in c.args.topics.now)) (drop c.args.index (joined_in c.args.topics.now)) e said _ _ _ _ c.in-Err.ensures c.stop_of.ensures;
+      deals = waits_refused _ c.args.max s (joined_of (c.in-Some.topic.now, c.in-Some.join.now)) (drop (c.args.index + 1) (joined_in c.args.topics.now)) (drop c.args.index (joined_in c.args.topics.now)) e said _ _ _ _ c.in-Err.ensures c.stop_of.ensures;
     }
 
 pub returns-in-Err-take : goal.returns-in-Err-take
 returns-in-Err-take g t c = λ said s h.
-    let e = here (joined_in c.args.topics.now) c.args.index (joined_of (c.in-Some.topic.now, c.in-Some.place.now)) c.in-Some.ensures in
+    let e = here (joined_in c.args.topics.now) c.args.index (joined_of (c.in-Some.topic.now, c.in-Some.join.now)) c.in-Some.ensures in
     record {
       said = said;
       carries = tt;
       deals =
-          take_refused _ c.args.max s (joined_of (c.in-Some.topic.now, c.in-Some.place.now)) (drop (c.args.index + 1) (joined_in c.args.topics.now)) (drop c.args.index (joined_in c.args.topics.now)) e said _ _ _ _ _
+          take_refused _ c.args.max s (joined_of (c.in-Some.topic.now, c.in-Some.join.now)) (drop (c.args.index + 1) (joined_in c.args.topics.now)) (drop c.args.index (joined_in c.args.topics.now)) e said _ _ _ _ _
           (rw c.in-Ok-true.field-0-test at c.in-Ok-true.ensures) c.in-Err-take.ensures c.stop_of-in-Err-take.ensures;
     }
 
 pub returns-in-Err-spoiling : goal.returns-in-Err-spoiling
 returns-in-Err-spoiling g t c = λ said s h.
-    let e = here (joined_in c.args.topics.now) c.args.index (joined_of (c.in-Some.topic.now, c.in-Some.place.now)) c.in-Some.ensures in
+    let e = here (joined_in c.args.topics.now) c.args.index (joined_of (c.in-Some.topic.now, c.in-Some.join.now)) c.in-Some.ensures in
     record {
       said = said;
       carries = tt;
       deals =
-          took_in_vain _ c.args.max s (joined_of (c.in-Some.topic.now, c.in-Some.place.now)) (drop (c.args.index + 1) (joined_in c.args.topics.now)) (drop c.args.index (joined_in c.args.topics.now)) e said _ _ _ _ _
+          took_in_vain _ c.args.max s (joined_of (c.in-Some.topic.now, c.in-Some.join.now)) (drop (c.args.index + 1) (joined_in c.args.topics.now)) (drop c.args.index (joined_in c.args.topics.now)) e said _ _ _ _ _
           (rw c.in-Ok-true.field-0-test at c.in-Ok-true.ensures) c.in-Ok.ensures c.in-Err-spoiling.ensures.err.0 c.in-Err-spoiling.ensures.err.1;
     }
 
 pub returns-in-Ok-false : goal.returns-in-Ok-false
 returns-in-Ok-false g t c = λ said s h.
-    let e = here (joined_in c.args.topics.now) c.args.index (joined_of (c.in-Some.topic.now, c.in-Some.place.now)) c.in-Some.ensures in
+    let e = here (joined_in c.args.topics.now) c.args.index (joined_of (c.in-Some.topic.now, c.in-Some.join.now)) c.in-Some.ensures in
     let rest = c.deliver_from.ensures said s h in
     record {
       said = rest.said;
       carries = rest.carries;
       deals =
-          none_waits _ c.args.max s (joined_of (c.in-Some.topic.now, c.in-Some.place.now)) (drop (c.args.index + 1) (joined_in c.args.topics.now)) (drop c.args.index (joined_in c.args.topics.now)) e said _ _ _ _
+          none_waits _ c.args.max s (joined_of (c.in-Some.topic.now, c.in-Some.join.now)) (drop (c.args.index + 1) (joined_in c.args.topics.now)) (drop c.args.index (joined_in c.args.topics.now)) e said _ _ _ _
           (rw c.in-Ok-false.field-0-test at c.in-Ok-false.ensures) rest.deals;
     }
 
 pub returns : goal.returns
 returns g t c = λ said s h.
-    let j = joined_of (c.in-Some.topic.now, c.in-Some.place.now) in
-    let e = here (joined_in c.args.topics.now) c.args.index (joined_of (c.in-Some.topic.now, c.in-Some.place.now)) c.in-Some.ensures in
+    let j = joined_of (c.in-Some.topic.now, c.in-Some.join.now) in
+    let e = here (joined_in c.args.topics.now) c.args.index (joined_of (c.in-Some.topic.now, c.in-Some.join.now)) c.in-Some.ensures in
     let added : Carries (Worded (g.H.PresenceHooks.fetched c.args.hooks.now) (g.H.PresenceHooks.plain c.args.hooks.now)) (Noted (g.H.PresenceHooks.joined c.args.hooks.now) (g.H.PresenceHooks.left c.args.hooks.now) (g.H.PresenceHooks.quiet c.args.hooks.now)) (said ++ map (told j) c.in-Ok.items.items) c.in-Ok-spoiling.told =
     rw c.deref.ensures.value at (rw c.in-Ok-spoiling.ensures.ok at (c.add_items.ensures said h)) in
     let rest = c.deliver_from-rest.ensures (said ++ map (told j) c.in-Ok.items.items) s added in

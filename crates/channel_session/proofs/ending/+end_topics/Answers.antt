@@ -12,13 +12,13 @@ returns-in_default-clause-played g t c = λ leaving. none_ended _ _ leaving (dro
 
 pub returns-in-Ok-clause-before : goal.returns-in-Ok-clause-before
 returns-in-Ok-clause-before g t c =
-    let j = joined_of (c.in-Some.topic.now, c.in-Some.place.now) in
+    let j = joined_of (c.in-Some.topic.now, c.in-Some.join.now) in
     let js = joined_in c.args.topics.now in
     c.end_topics.ensures.before ∙ (ap (take c.args.index) c.drop_at.ensures ∙ take_removed js c.args.index j (sym c.in-Some.ensures))
 
 pub returns-in-Ok-clause-played : goal.returns-in-Ok-clause-played
 returns-in-Ok-clause-played g t c = λ leaving.
-    let j = joined_of (c.in-Some.topic.now, c.in-Some.place.now) in
+    let j = joined_of (c.in-Some.topic.now, c.in-Some.join.now) in
     let js = joined_in c.args.topics.now in
     let here : slice_get js c.args.index ≡ Some j = sym c.in-Some.ensures in
     ended_gone _ _ leaving (drop c.args.index js) j (drop (suc c.args.index) js) (some_from js c.args.index j here) _ _ _ _ _ c.in-Ok.ensures
@@ -31,7 +31,7 @@ returns-in-Err-clause-before g t c =
 
 pub returns-in-Err-clause-played : goal.returns-in-Err-clause-played
 returns-in-Err-clause-played g t c = λ leaving.
-    let j = joined_of (c.in-Some.topic.now, c.in-Some.place.now) in
+    let j = joined_of (c.in-Some.topic.now, c.in-Some.join.now) in
     let js = joined_in c.args.topics.now in
     let ks = joined_in c.end_topics-later.new.topics in
     let here : slice_get js c.args.index ≡ Some j = sym c.in-Some.ensures in

@@ -10,4 +10,4 @@ abbrev pub invariant-loop-item : goal.invariant-loop-item
 invariant-loop-item g l =
     (before : List Said) → Carries (Worded (g.H.PresenceHooks.fetched l.hooks) (g.H.PresenceHooks.plain l.hooks)) (Noted (g.H.PresenceHooks.joined l.hooks) (g.H.PresenceHooks.left l.hooks) (g.H.PresenceHooks.quiet l.hooks)) before l.fn.delivery
     → Told (Worded (g.H.PresenceHooks.fetched l.hooks) (g.H.PresenceHooks.plain l.hooks)) (Noted (g.H.PresenceHooks.joined l.hooks) (g.H.PresenceHooks.left l.hooks) (g.H.PresenceHooks.quiet l.hooks))
-    (before ++ map (told (joined_of (l.topic, l.place))) l.items) (map (told (joined_of (l.topic, l.place))) (drop l.item-index l.items)) l.delivery
+    (before ++ map (told (joined_of (l.topic, l.join))) l.items) (map (told (joined_of (l.topic, l.join))) (drop l.item-index l.items)) l.delivery

@@ -7,6 +7,6 @@ use Rattle.channel_session_events.proofs.frames.item_frame.Goals as goal
 pub returns-in-Shout : goal.returns-in-Shout
 returns-in-Shout g c =
     IfOk-weaker c.shout_frame.result _ _ (λ t e.
-    shout_plainly (g.H.PresenceHooks.fetched c.args.hooks.now) (g.H.PresenceHooks.plain c.args.hooks.now) (joined_of (c.args.topic.now, c.args.place.now)) c.args.item.now c.in-Shout.shout
+    shout_plainly (g.H.PresenceHooks.fetched c.args.hooks.now) (g.H.PresenceHooks.plain c.args.hooks.now) (joined_of (c.args.topic.now, c.args.join.now)) c.args.item.now c.in-Shout.shout
     c.in-Shout.is (string_bytes t) e)
     c.shout_frame.ensures

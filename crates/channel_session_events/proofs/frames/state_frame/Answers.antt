@@ -7,6 +7,6 @@ use Rattle.channel_session_events.proofs.frames.state_frame.Goals as goal
 pub returns-then-is_plain : goal.returns-then-is_plain
 returns-then-is_plain g c =
     IfOk-weaker c.plain_state_frame.result _ _ (λ t e.
-    state_plainly (g.H.PresenceHooks.fetched c.args.hooks.now) (g.H.PresenceHooks.plain c.args.hooks.now) (joined_of (c.args.topic.now, c.args.place.now)) c.args.rows.now
-    (λ k. g.met.H.PresenceHooks.plain_adds_nothing c.args.hooks.now c.args.place.now.kind c.args.topic.now k (search rules)) (string_bytes t) e)
+    state_plainly (g.H.PresenceHooks.fetched c.args.hooks.now) (g.H.PresenceHooks.plain c.args.hooks.now) (joined_of (c.args.topic.now, c.args.join.now)) c.args.rows.now
+    (λ k. g.met.H.PresenceHooks.plain_adds_nothing c.args.hooks.now c.args.join.now.kind c.args.topic.now k (search rules)) (string_bytes t) e)
     c.plain_state_frame.ensures

@@ -1,6 +1,6 @@
 use Rattle.std.proofs.Common.{◌≡◌, length, true}
 use Rattle.std.specs.Io.KnownBytes.{Consumes}
-use Rattle.presence_node_lines.specs.Lines.{lacks_feed}
+use Rattle.phx_message.specs.Lines.{lacks_feed}
 use Rattle.presence_node_lines.proofs.lines.read_line.Given as goal
 
 -- what was read is the line so far
