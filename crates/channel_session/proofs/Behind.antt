@@ -189,10 +189,10 @@ module _ (leave : OnlyNamedLeave) (h new : History) (legal : IsLegal h) (pid : �
 
 -- ---- subscribers
 
-abbrev Fewer : Step → Type 0
+abbrev pub Fewer : Step → Type 0
 Fewer s = (number n : ℕ) (o : Option (List ℕ)) → is_some o ≡ false → is_some (topic_after s number n o) ≡ false
 
-unsubscribe_fewer : (m : ℕ) → Fewer (steps_are.Unsubscribe m)
+pub unsubscribe_fewer : (m : ℕ) → Fewer (steps_are.Unsubscribe m)
 unsubscribe_fewer m number n o e = go (nat_eq m n)
   where
     go : (b : Bool) → is_some (cond b None o) ≡ false
@@ -208,7 +208,7 @@ found_by true b false e f = refl
 found_by false b c e f = ap (λ d. d && b) (f refl)
 
 module _ (h : History) (s : Step) (fewer : Fewer s) where
-  over_after : (slot n : ℕ) → is_found h slot n ≡ false → is_found (after h s None) slot n ≡ false
+  pub over_after : (slot n : ℕ) → is_found h slot n ≡ false → is_found (after h s None) slot n ≡ false
   unfolding after
   over_after slot n e = go (accepted h s)
     where
@@ -223,7 +223,7 @@ same_number n = eq-eqb n n refl
 
 -- an accepted end of a subscriber leaves it nowhere
 module _ (h new : History) (n : ℕ) (made : Made h new None (steps_are.Unsubscribe n)) where
-  over_now : (slot : ℕ) → is_found new slot n ≡ false
+  pub over_now : (slot : ℕ) → is_found new slot n ≡ false
   unfolding after
   over_now slot = ap (λ g. is_found g slot n) made.journal ∙ gone (accepted h (steps_are.Unsubscribe n)) made.accepted
     where
@@ -238,7 +238,7 @@ module _ (h new : History) (n : ℕ) (made : Made h new None (steps_are.Unsubscr
           ap (λ b. b && nat_eq slot (slot_of n)) (ap is_some (topic_of-then h x n) ∙ nowhere (nat_eq n n) (same_number n))
 
 -- one that is answered as unknown is nowhere
-unknown_is_over : (found : Bool) (h : History) (s : Step) → refusal found h s ≡ Some NoSub → found ≡ false
+pub unknown_is_over : (found : Bool) (h : History) (s : Step) → refusal found h s ≡ Some NoSub → found ≡ false
 unknown_is_over false h s e = refl
 unknown_is_over true h s e = absurd (full (is_full h) (is_some (outcome_of h s)) e)
   where

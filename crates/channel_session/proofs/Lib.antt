@@ -3,6 +3,8 @@ pub mod Acted
 pub mod Behind
 pub mod Calls
 pub mod Named
+pub mod Standing
+pub mod Known
 pub mod Delivered
 pub mod Endings
 pub mod Lent

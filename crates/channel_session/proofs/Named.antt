@@ -59,7 +59,7 @@ or_rest : (a b : Bool) → (a || b) ≡ false → b ≡ false
 or_rest true b e = absurd (cc)
 or_rest false b e = e
 
-or_either : (a b c : Bool) → (a ≡ true → c ≡ true) → (b ≡ true → c ≡ true) → (a || b) ≡ true → c ≡ true
+pub or_either : (a b c : Bool) → (a ≡ true → c ≡ true) → (b ≡ true → c ≡ true) → (a || b) ≡ true → c ≡ true
 or_either true b c f g e = f refl
 or_either false b c f g e = g e
 
@@ -70,7 +70,7 @@ or_truth false = refl
 or_behind : (a b : Bool) → b ≡ true → (a || b) ≡ true
 or_behind a b e = ap (λ c. a || c) e ∙ or_truth a
 
-or_group : (a b c : Bool) → (a || (b || c)) ≡ ((a || b) || c)
+pub or_group : (a b c : Bool) → (a || (b || c)) ≡ ((a || b) || c)
 or_group true b c = refl
 or_group false b c = refl
 
@@ -84,7 +84,7 @@ or_first_of true b e = refl
 or_first_of false b e = absurd (cc)
 
 -- in another order
-or_swap : (a b c : Bool) → (b || (a || c)) ≡ ((a || b) || c)
+pub or_swap : (a b c : Bool) → (b || (a || c)) ≡ ((a || b) || c)
 or_swap true true c = refl
 or_swap true false c = refl
 or_swap false b c = refl
@@ -110,12 +110,12 @@ or_nothing : (a : Bool) → (a || false) ≡ true → (false || a) ≡ true
 or_nothing true e = refl
 or_nothing false e = absurd (cc)
 
-or_without : (a b c : Bool) → b ≡ false → (a || (b || c)) ≡ true → (a || c) ≡ true
+pub or_without : (a b c : Bool) → b ≡ false → (a || (b || c)) ≡ true → (a || c) ≡ true
 or_without true b c f e = refl
 or_without false true c f e = absurd (cc)
 or_without false false c f e = e
 
-and_other : (a b : Bool) → (a && not b) ≡ true → b ≡ false
+pub and_other : (a b : Bool) → (a && not b) ≡ true → b ≡ false
 and_other true true e = absurd (cc)
 and_other true false e = refl
 and_other false b e = absurd (cc)

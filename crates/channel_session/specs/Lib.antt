@@ -3,6 +3,7 @@ pub mod Delivery
 pub mod Ending
 pub mod LeftBehind
 pub mod Naming
+pub mod Subscribed
 pub use Rattle.channel_session_rules.specs.Asks
 pub use Rattle.channel_session_rules.specs.Script
 pub use Rattle.channel_session_rules.specs.InForce

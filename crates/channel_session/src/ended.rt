@@ -2,6 +2,7 @@
 
 ghost use Rattle.channel_session.specs.LeftBehind.{EndLeavesNothing};
 ghost use Rattle.channel_session.specs.Naming.{TextsKeepNames, DeliveriesKeepNames, EndsKeepNames};
+ghost use Rattle.channel_session.specs.Subscribed.{TextsKeepSubs, DeliveriesKeepSubs, EndsKeepSubs};
 
 use presence_journal::laws::nothing_else_changes;
 
@@ -22,3 +23,11 @@ pub fn names_its_topics()
 {
     nothing_else_changes();
 }
+
+/// Behind every text, delivery and end over a lent shard, however it ends, each subscriber that stands
+/// there is one of others or that of a topic in force, as long as it was so before.
+pub fn knows_its_subscribers()
+    ensures texts { TextsKeepSubs }
+    ensures deliveries { DeliveriesKeepSubs }
+    ensures ends { EndsKeepSubs }
+{}

@@ -5,7 +5,8 @@
 //! and the laws over it). What its contracts cite: `specs/Rules` the rules, `specs/Ran` what a text
 //! does, `specs/Delivery` a delivery, `specs/Ending` the end, `specs/Said` what is said and by which
 //! messages; and over a lent shard `specs/Naming`, that a session names each topic on which a row of
-//! its own stands, and `specs/LeftBehind`, that an accepted end leaves nothing of it there.
+//! its own stands, `specs/Subscribed`, that it knows each subscriber that it made, and
+//! `specs/LeftBehind`, that an accepted end leaves nothing of it there.
 #![tactic(auto)]
 
 mod acting;
