@@ -1,4 +1,9 @@
 //! Which topics sessions have joined.
+ghost use Rattle.std.specs.Prelude.{◌≡◌, ◌↔◌, IsTrue};
+ghost use Rattle.presence_node_hints.specs.Following.{HasNone, FollowsNone, FollowsToo, FollowsAll, FollowsBoth};
+ghost use Rattle.presence_node_hints.specs.Following.{has_one_of};
+ghost use Rattle.channel_session.specs.Ending.{topics_named};
+
 use crate::inbox::Topics;
 use channel_session::Session;
 use presence_base::Topic;
@@ -14,7 +19,9 @@ pub struct Followed {
 
 impl Followed {
     /// No topic is joined.
-    pub fn new(alloc: Global) -> Followed {
+    pub fn new(alloc: Global) -> Followed
+        ensures { FollowsNone result }
+    {
         Followed {
             topics: BTreeSet::new(alloc),
             has_all: false,
@@ -22,17 +29,32 @@ impl Followed {
     }
 
     /// Whether none is.
-    pub fn is_empty(&self) -> bool {
+    pub fn is_empty(&self) -> bool
+        ensures none { IsTrue result → FollowsNone self.now }
+        ensures some { IsTrue result ↔ HasNone self.now }
+    {
         self.topics.is_empty() && !self.has_all
     }
 
     /// Whether one of these is.
-    pub fn has_one_of(&self, topics: &Topics) -> bool {
-        self.has_all || topics.iter().any(|topic| self.topics.contains(topic))
+    pub fn has_one_of(&self, topics: &Topics) -> bool
+        ensures { result ≡ has_one_of self.now topics.now }
+    {
+        if self.has_all {
+            return true;
+        }
+        for topic in topics {
+            if self.topics.contains(topic) {
+                return true;
+            }
+        }
+        false
     }
 
     /// This one is joined too.
-    pub fn add(&mut self, topic: &Topic) {
+    pub fn add(&mut self, topic: &Topic)
+        ensures { FollowsToo self.old topic.now self.new }
+    {
         if self.topics.contains(topic) {
             return;
         }
@@ -43,14 +65,18 @@ impl Followed {
     }
 
     /// Those that the session has joined are joined too.
-    pub fn add_joined(&mut self, session: &Session) {
+    pub fn add_joined(&mut self, session: &Session)
+        ensures { FollowsAll self.old (topics_named session.now) self.new }
+    {
         for topic in session.joined() {
             self.add(topic);
         }
     }
 
     /// These are joined too.
-    pub fn add_all(&mut self, others: Followed) {
+    pub fn add_all(&mut self, others: Followed)
+        ensures { FollowsBoth self.old others self.new }
+    {
         let Followed { topics, has_all } = others;
         self.has_all = self.has_all || has_all;
         for topic in topics {
@@ -58,9 +84,12 @@ impl Followed {
         }
     }
 
-    fn put(&mut self, topic: Topic) {
-        if self.topics.insert(topic).is_err() {
-            self.has_all = true;
+    fn put(&mut self, topic: Topic)
+        ensures { FollowsToo self.old topic self.new }
+    {
+        match self.topics.insert(topic) {
+            Ok(_) => {}
+            Err(_) => self.has_all = true,
         }
     }
 }

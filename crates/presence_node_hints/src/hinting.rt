@@ -1,5 +1,6 @@
 //! A port that notes which topics its calls may have changed, and which are followed from then on.
-ghost use Rattle.std.specs.Prelude.{◌≡◌};
+ghost use Rattle.std.specs.Prelude.{◌≡◌, []};
+ghost use Rattle.presence_node_hints.specs.Following.{FollowsNone};
 
 use crate::followed::Followed;
 use crate::inbox::Topics;
@@ -29,7 +30,11 @@ pub struct HintingPort<P> {
 
 impl<P: Port + Drop> HintingPort<P> {
     /// A port that has noted nothing.
-    pub fn new(alloc: Global, port: P) -> HintingPort<P> {
+    pub fn new(alloc: Global, port: P) -> HintingPort<P>
+        ensures port { result.port ≡ port }
+        ensures changed { result.noted.changed.keys ≡ [] }
+        ensures followed { FollowsNone result.noted.followed }
+    {
         HintingPort {
             port,
             noted: Noted {
@@ -47,7 +52,9 @@ impl<P: Port + Drop> HintingPort<P> {
     }
 
     /// What was noted.
-    pub fn into_noted(self) -> Noted {
+    pub fn into_noted(self) -> Noted
+        ensures { result ≡ self.noted }
+    {
         let HintingPort { port: _, noted } = self;
         noted
     }

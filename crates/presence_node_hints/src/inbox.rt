@@ -1,4 +1,8 @@
 //! What the workers tell each other.
+ghost use Rattle.std.specs.Prelude.{◌≡◌};
+ghost use Rattle.channel_session.specs.Ending.{topics_named};
+ghost use Rattle.presence_node_hints.specs.Following.{names_one_of};
+
 use crate::followed::Followed;
 use channel_session::Session;
 use presence_base::Topic;
@@ -75,7 +79,9 @@ impl Inbox {
 }
 
 /// Whether the session has joined one of these topics.
-pub fn follows(session: &Session, topics: &Topics) -> bool {
+pub fn follows(session: &Session, topics: &Topics) -> bool
+    ensures { result ≡ names_one_of (topics_named session.now) topics.now }
+{
     for topic in session.joined() {
         if topics.contains(topic) {
             return true;
