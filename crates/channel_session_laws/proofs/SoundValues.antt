@@ -27,7 +27,7 @@ use Rattle.phx_message.proofs.Orderly.{put_orderly}
 use Rattle.presence_journal_data.specs.declared.rows.Item.{Item}
 use Rattle.presence_journal_data.specs.declared.rows.Item.TheVariants as items_are
 use Rattle.presence_metas.specs.declared.tracked.TrackedMeta.{TrackedMeta}
-use Rattle.presence_metas.specs.Listing.{Listing, at, without, entered}
+use Rattle.presence_metas.specs.Listing.{Listing, at, without_key, entered}
 use Rattle.presence_metas.specs.Rows.{members_in, with_prev, tracked_of, add_row, listing_of}
 use Rattle.presence_metas.specs.Values.{metas_value, with_key, state_of, diff_of}
 use Rattle.channel_session_rules.specs.Frames.{message_of}
@@ -163,7 +163,7 @@ entered_sound ls k [] h i = h
 entered_sound ls k (t ∷ ts) h i = inserted_sound ls k (t ∷ ts) h i
 
 row_sound : (ls : Listing) (x : Dot × Row) → ListingSound ls → IsSound 32 x.1.meta → ListingSound (add_row ls x)
-row_sound ls x h i = entered_sound (without ls x.1.key) x.1.key (at ls x.1.key ++ tracked_of x.0 x.1 ∷ []) (without_sound (is_at (text_cmp x.1.key)) ls h)
+row_sound ls x h i = entered_sound (without_key ls x.1.key) x.1.key (at ls x.1.key ++ tracked_of x.0 x.1 ∷ []) (without_sound (is_at (text_cmp x.1.key)) ls h)
     (metas_more (at ls x.1.key) (tracked_of x.0 x.1) (at_sound (is_at (text_cmp x.1.key)) ls h) (tracked_sound x.0 x.1 i))
 
 rows_sound : (rows : List (Dot × Row)) (ls : Listing) → ListingSound ls → RowsSound rows → ListingSound (fold add_row ls rows)

@@ -14,7 +14,7 @@ use Rattle.presence_base.specs.Order.{replica_cmp, dot_cmp, same_replica}
 use Rattle.dot_context_runs.specs.Runs.{holds, in_run, AreApart, top_count}
 use Rattle.std.specs.BTreeMap.{get}
 use Rattle.std.specs.Cmp.{eq_by_cmp_equiv}
-use Rattle.dot_context.specs.Sets.{DotSet, RunsOf, span, range, in_range, run_dots, set_of, without, listed, runs_at}
+use Rattle.dot_context.specs.Sets.{DotSet, RunsOf, span, range, in_range, run_dots, set_of, others_dots, listed, runs_at}
 
 pub replica_total : IsTotalOrder replica_cmp
 replica_total = then_total (on_total (λ r. r.name) nat_list_cmp_total) (on_total (λ r. r.incarnation) nat_cmp_total)
@@ -98,8 +98,8 @@ in_run_dots q r (x ∷ xs) =
     ∙ ap (λ b. in_range r x.0 x.1 q || b) (in_run_dots q r xs)
     ∙ and_or (same_replica q.replica r) (in_run x q.count) (holds xs q.count)
 
-pub contains-without : (s : DotSet) (r : Replica) (q : Dot) → set.contains (without s r) q ≡ (set.contains s q && not (same_replica q.replica r))
-unfolding without
+pub contains-without : (s : DotSet) (r : Replica) (q : Dot) → set.contains (others_dots s r) q ≡ (set.contains s q && not (same_replica q.replica r))
+unfolding others_dots
 contains-without s r q = set.contains-retain s (λ d. not (same_replica d.replica r)) q (λ x e. ap (λ (d : Dot). not (same_replica d.replica r)) (sym (dot_antisymmetric q x e)))
 
 chosen : (same b : Bool) (o : Bool) → ((same && b) || (o && not same)) ≡ cond same b o
@@ -186,8 +186,8 @@ pub flipped : (r q : Replica) → same_replica r q ≡ same_replica q r
 flipped r q = (eq_by_cmp_equiv replica_total).symm r q
 
 pub forgotten : (m n : RunsOf) (s : DotSet) (r : Replica) → set_of m.entries ≡ s
-    → ((q : Replica) → get replica_cmp n q ≡ cond (same_replica r q) None (get replica_cmp m q)) → set_of n.entries ≡ without s r
-forgotten m n s r e step = set_by n (without s r) (λ q.
+    → ((q : Replica) → get replica_cmp n q ≡ cond (same_replica r q) None (get replica_cmp m q)) → set_of n.entries ≡ others_dots s r
+forgotten m n s r e step = set_by n (others_dots s r) (λ q.
     ap (λ o. held o q.count) (step q.replica)
     ∙ ap (λ b. held (cond b None (get replica_cmp m q.replica)) q.count) (flipped r q.replica)
     ∙ taken (same_replica q.replica r) (get replica_cmp m q.replica) q.count

@@ -28,8 +28,8 @@ abbrev pub in_range : Replica → ℕ → ℕ → Dot → Bool
 in_range r from to d = same_replica d.replica r && (nat_lt from d.count && nat_le d.count to)
 
 -- the other replicas' dots
-unfoldable pub without : DotSet → Replica → DotSet
-without s r = set.retain s (λ d. not (same_replica d.replica r))
+unfoldable pub others_dots : DotSet → Replica → DotSet
+others_dots s r = set.retain s (λ d. not (same_replica d.replica r))
 
 -- the dots that the runs of a replica stand for
 abbrev pub run_dots : Replica → List (ℕ × ℕ) → List Dot

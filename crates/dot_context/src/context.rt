@@ -1,6 +1,6 @@
 ghost use Rattle.std.specs.Prelude.{◌≡◌, ◌≤◌, ◌+◌, false, OnOk, OnErr, IfOk, IfErr};
 ghost use Rattle.std.specs.FinSet as set;
-ghost use Rattle.dot_context.specs.Sets.{DotSet, HasUpTo, range, without};
+ghost use Rattle.dot_context.specs.Sets.{DotSet, HasUpTo, range, others_dots};
 ghost use Rattle.dot_context.specs.Forms.{vector_of, cloud_of, tops_of, HasOneForm, IfFormed};
 
 use crate::plan::ContextPlan;
@@ -116,7 +116,7 @@ impl Context {
 
     /// Takes out the replica's dots. Takes no memory.
     pub fn forget(&mut self, replica: &Replica)
-        ensures { self.new ≡ without self.old replica.now }
+        ensures { self.new ≡ others_dots self.old replica.now }
     {
         take_out(&mut self.replicas, replica);
     }

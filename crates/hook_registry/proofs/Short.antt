@@ -8,7 +8,7 @@ use Rattle.presence_base.specs.Order.{text_cmp}
 use Rattle.presence_base.specs.declared.dots.Dot.{Dot}
 use Rattle.presence_base.specs.declared.row.Row.{Row}
 use Rattle.presence_metas.specs.declared.tracked.TrackedMeta.{TrackedMeta}
-use Rattle.presence_metas.specs.Listing.{Listing, without, put}
+use Rattle.presence_metas.specs.Listing.{Listing, without_key, put}
 use Rattle.presence_metas.specs.Rows.{add_row, listing_of}
 use Rattle.presence_metas.proofs.Lookups.{bool_cases, order_cases}
 use Rattle.hook_registry.proofs.Choosing.{AllShort}
@@ -24,7 +24,7 @@ short_inserted k ts (e ∷ ls) new h =
 
 short_put : (ls : Listing) (k : List ℕ) (ts : List TrackedMeta) → IsTrue (is_short_text k) → AllShort ls → AllShort (put ls k ts)
 short_put ls k [] new h = short_without (is_at (text_cmp k)) ls h
-short_put ls k (t ∷ ts) new h = short_inserted k (t ∷ ts) (without ls k) new (short_without (is_at (text_cmp k)) ls h)
+short_put ls k (t ∷ ts) new h = short_inserted k (t ∷ ts) (without_key ls k) new (short_without (is_at (text_cmp k)) ls h)
 
 rows_short : (ls : Listing) (rows : List (Dot × Row)) → AllByRecursion (λ p. IsTrue (is_short_text p.1.key)) rows → AllShort ls → AllShort (fold add_row ls rows)
 rows_short ls [] h all = all

@@ -11,7 +11,7 @@ use Rattle.presence_base.specs.declared.dots.Dot.{Dot}
 use Rattle.presence_base.specs.declared.dots.Replica.{Replica}
 use Rattle.presence_base.specs.declared.row.Row.{Row}
 use Rattle.presence_base.specs.Order.{dot_cmp, same_dot, same_replica}
-use Rattle.dot_context.specs.Sets.{DotSet, without}
+use Rattle.dot_context.specs.Sets.{DotSet, others_dots}
 use Rattle.dot_context.proofs.SetFacts.{contains-without}
 use Rattle.orswot_core_told.specs.Limits.{is_count, is_dot, is_row, is_range}
 use Rattle.orswot_core_told.specs.Telling.{Range, ToldValue, range_has, covers, live_row}
@@ -226,16 +226,16 @@ is_removed s t m n v ds event e step = same_rows (seen t n) (removed v ds event)
     ∙ ap (cond (list_any (same_dot q) ds) None) (sym (seen_row m q) ∙ ap (λ x. map.get x.live q) e)
     ∙ sym (without_rows_at v.live ds q)))
 
-pub forget_keeps : (s t : DotSet) (m n : Rows) (r : Replica) → IsSound s (rows_of m.entries) → t ≡ without s r → ((q : Dot) → get dot_cmp n q ≡ cond (not (same_replica q.replica r)) (get dot_cmp m q) None) → IsSound t (rows_of n.entries)
+pub forget_keeps : (s t : DotSet) (m n : Rows) (r : Replica) → IsSound s (rows_of m.entries) → t ≡ others_dots s r → ((q : Dot) → get dot_cmp n q ≡ cond (not (same_replica q.replica r)) (get dot_cmp m q) None) → IsSound t (rows_of n.entries)
 forget_keeps s t m n r h e step = sound_by t n (λ q.
     ap (λ x. is_sound q (set.contains x q) (get dot_cmp n q)) e
     ∙ ap (λ b. is_sound q b (get dot_cmp n q)) (contains-without s r q)
     ∙ ap (is_sound q (set.contains s q && not (same_replica q.replica r))) (step q)
     ∙ left_sound q (same_replica q.replica r) (set.contains s q) (get dot_cmp m q) (sound_at s m h q))
 
-pub is_forgotten : (s t : DotSet) (m n : Rows) (v : DotRows) (r : Replica) → seen s m ≡ v → t ≡ without s r → ((q : Dot) → get dot_cmp n q ≡ cond (not (same_replica q.replica r)) (get dot_cmp m q) None) → seen t n ≡ without_replica v r
+pub is_forgotten : (s t : DotSet) (m n : Rows) (v : DotRows) (r : Replica) → seen s m ≡ v → t ≡ others_dots s r → ((q : Dot) → get dot_cmp n q ≡ cond (not (same_replica q.replica r)) (get dot_cmp m q) None) → seen t n ≡ without_replica v r
 is_forgotten s t m n v r e out step = same_rows (seen t n) (without_replica v r)
-    (out ∙ ap (λ x. without x.covered r) e)
+    (out ∙ ap (λ x. others_dots x.covered r) e)
     (map.same_map dot_total dot_antisymmetric (rows_of n.entries) (map.retain_keys v.live (λ d. not (same_replica d.replica r))) (λ q.
     seen_row n q ∙ step q
     ∙ ap (λ o. cond (not (same_replica q.replica r)) o None) (sym (seen_row m q) ∙ ap (λ x. map.get x.live q) e)

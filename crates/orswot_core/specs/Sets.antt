@@ -8,7 +8,7 @@ use Rattle.presence_base.specs.declared.dots.Dot.{Dot}
 use Rattle.presence_base.specs.declared.row.Row.{Row}
 use Rattle.presence_base.specs.declared.dots.Replica.{Replica}
 use Rattle.presence_base.specs.Order.{dot_cmp, same_dot, same_replica}
-use Rattle.dot_context.specs.Sets.{DotSet, without}
+use Rattle.dot_context.specs.Sets.{DotSet, others_dots}
 use Rattle.orswot_core_told.specs.Limits.{is_dot, is_row}
 use Rattle.orswot_core_told.specs.Telling.{Range, range_has}
 
@@ -52,7 +52,7 @@ removed s ds event =
 -- the other replicas' dots and rows
 abbrev pub without_replica : DotRows → Replica → DotRows
 without_replica s r =
-    record { covered = without s.covered r; live = map.retain_keys s.live (λ d. not (same_replica d.replica r)) }
+    record { covered = others_dots s.covered r; live = map.retain_keys s.live (λ d. not (same_replica d.replica r)) }
 
 -- what a join leaves at a dot, where each side may cover it and have a row for it
 abbrev pub joined_row : Option Row → Bool → Option Row → Bool → Option Row

@@ -11,7 +11,7 @@ use Rattle.presence_journal.specs.History.{History, Begin, Then, onto, entry_cou
 use Rattle.presence_journal.specs.Present.{RowMap, of_topic, present, missing_in, in_order, changes}
 use Rattle.presence_journal.specs.Queue.{diff_of}
 use Rattle.presence_journal.specs.Table.{IsLegal}
-use Rattle.presence_journal.specs.Walk.{joined, without, among, rows_after, shown_of, keyed, IsTableOf}
+use Rattle.presence_journal.specs.Walk.{joined, without_dots, among, rows_after, shown_of, keyed, IsTableOf}
 use Rattle.presence_journal.specs.Laws.{is_callers}
 use Rattle.presence_journal.specs.Present.{dots_taken}
 use Rattle.presence_journal.specs.Queue.{diff_at}
@@ -87,7 +87,7 @@ joins_are h e t d l c = go (joined e t d) refl ∙ ap (λ o. cond (is_some (show
     kept b None = sym (none_left b)
     kept b (Some r) = refl
 
-    go : (o : Option Row) → joined e t d ≡ o → o ≡ cond (is_some (shown_of h t d)) None (first_some o (without (dots_taken e.outcome) (shown_of h t) d))
+    go : (o : Option Row) → joined e t d ≡ o → o ≡ cond (is_some (shown_of h t d)) None (first_some o (without_dots (dots_taken e.outcome) (shown_of h t) d))
     go None f = kept (has_dot (dots_taken e.outcome) d) (shown_of h t d)
     go (Some r) f = ap (λ o. cond (is_some o) None (Some r)) (sym (joined_fresh h e t d r l f))
 
@@ -99,7 +99,7 @@ leaves_are h e t d l c = go (joined e t d) refl ∙ ap (λ o. cond (is_some o) N
     kept false None = refl
     kept false (Some r) = refl
 
-    go : (o : Option Row) → joined e t d ≡ o → among (dots_taken e.outcome) (shown_of h t) d ≡ cond (is_some (first_some o (without (dots_taken e.outcome) (shown_of h t) d))) None (shown_of h t d)
+    go : (o : Option Row) → joined e t d ≡ o → among (dots_taken e.outcome) (shown_of h t) d ≡ cond (is_some (first_some o (without_dots (dots_taken e.outcome) (shown_of h t) d))) None (shown_of h t d)
     go None f = kept (has_dot (dots_taken e.outcome) d) (shown_of h t d)
     go (Some r) f = ap (λ o. cond (has_dot (dots_taken e.outcome) d) o None) (joined_fresh h e t d r l f) ∙ none_left (has_dot (dots_taken e.outcome) d)
 

@@ -17,7 +17,7 @@ use Rattle.presence_journal_data.specs.declared.rows.Place.{Place}
 use Rattle.presence_journal.specs.History.{first_some, has_dot}
 use Rattle.presence_journal.specs.Present.{place_cmp, RowMap, place_of, put, put_all, missing_in}
 use Rattle.presence_journal.specs.Queue.{with_rows}
-use Rattle.presence_journal.specs.Walk.{keyed, placed, IsTableOf, row_at, without, among}
+use Rattle.presence_journal.specs.Walk.{keyed, placed, IsTableOf, row_at, without_dots, among}
 use Rattle.presence_journal.proofs.Same.{same_dot-true, same_dot-sym, dot_total, place_total, same_place, place_cmp-IsAntisymmetric}
 
 pub cond_none : (b : Bool) → cond {A = Option Row} b None None ≡ None
@@ -160,7 +160,7 @@ get_put_at f g k r added e h d = h d ∙ (go (same_dot d k) (same_dot-sym k d) �
     go false p = ap (λ c. cond c (Some r) (f d)) p
 
 -- one row moved
-pub without_one : (f g : Dot → Option Row) (x : Dot) → ((d : Dot) → g d ≡ cond (same_dot x d) None (f d)) → (d : Dot) → g d ≡ without (x ∷ []) f d
+pub without_one : (f g : Dot → Option Row) (x : Dot) → ((d : Dot) → g d ≡ cond (same_dot x d) None (f d)) → (d : Dot) → g d ≡ without_dots (x ∷ []) f d
 without_one f g x h d = h d ∙ ap (λ b. cond b None (f d)) (same_dot-sym x d ∙ or_none (same_dot d x))
   where
     or_none : (b : Bool) → b ≡ (b || false)
@@ -175,7 +175,7 @@ moved_one f s t x row added e at h d = h d ∙ (ap (λ o. first_some o (s d)) (a
     go false p = refl
 
 -- rows moved one after another
-pub without_more : (f g : Dot → Option Row) (x : Dot) (xs : List Dot) → ((d : Dot) → g d ≡ without (x ∷ []) f d) → (d : Dot) → without (x ∷ xs) f d ≡ without xs g d
+pub without_more : (f g : Dot → Option Row) (x : Dot) (xs : List Dot) → ((d : Dot) → g d ≡ without_dots (x ∷ []) f d) → (d : Dot) → without_dots (x ∷ xs) f d ≡ without_dots xs g d
 without_more f g x xs h d = shape (same_dot d x) (has_dot xs d) (f d) ∙ ap (λ o. cond (has_dot xs d) None o) (sym (h d))
   where
     shape : (b c : Bool) (o : Option Row) → cond (b || c) None o ≡ cond c None (cond (b || false) None o)
@@ -183,7 +183,7 @@ without_more f g x xs h d = shape (same_dot d x) (has_dot xs d) (f d) ∙ ap (λ
     shape true false o = refl
     shape false c o = refl
 
-pub among_more : (f g s t : Dot → Option Row) (x : Dot) (xs : List Dot) → ((d : Dot) → g d ≡ without (x ∷ []) f d) → ((d : Dot) → t d ≡ first_some (among (x ∷ []) f d) (s d)) → (d : Dot) → first_some (among (x ∷ xs) f d) (s d) ≡ first_some (among xs g d) (t d)
+pub among_more : (f g s t : Dot → Option Row) (x : Dot) (xs : List Dot) → ((d : Dot) → g d ≡ without_dots (x ∷ []) f d) → ((d : Dot) → t d ≡ first_some (among (x ∷ []) f d) (s d)) → (d : Dot) → first_some (among (x ∷ xs) f d) (s d) ≡ first_some (among xs g d) (t d)
 among_more f g s t x xs h m d = shape (same_dot d x) (has_dot xs d) (f d) ∙ (λ i. first_some (cond (has_dot xs d) (sym (h d) i) None) (sym (m d) i))
   where
     shape : (b c : Bool) (o : Option Row) → first_some (cond (b || c) o None) (s d) ≡ first_some (cond c (cond (b || false) None o) None) (first_some (cond (b || false) o None) (s d))

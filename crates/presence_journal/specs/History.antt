@@ -16,6 +16,7 @@ use Rattle.presence_journal_data.specs.declared.step.Step.TheVariants as steps_a
 use Rattle.presence_journal_data.specs.declared.entry.Outcome.TheVariants as outcomes_are
 use Rattle.presence_journal.specs.declared.journal.TheConstants.{MAX_ENTRIES}
 use Rattle.presence_journal.specs.Steps.{Step, Outcome, Entry, Start}
+pub use Rattle.presence_base.specs.Choices.{first_some}
 
 -- A Start, and then entries
 pub data History : Type 0 where
@@ -198,11 +199,6 @@ dot_removed _ next d = false
 unfoldable pub removed : History → Dot → Bool
 removed (Begin s) d = tells_removed s.content d
 removed (Then h e) d = removed h d || (dot_removed e.outcome (next_dot h) d || told_removed h e.step d)
-
--- the first of two that is there
-abbrev pub first_some : {A : Type 0} → Option A → Option A → Option A
-first_some (Some x) o = Some x
-first_some None o = o
 
 -- the row in the first entry that adds the dot, the live rows of a Start among them
 unfoldable pub row : History → Dot → Option Row

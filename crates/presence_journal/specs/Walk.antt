@@ -16,8 +16,8 @@ abbrev pub joined : Entry → List ℕ → Dot → Option Row
 joined e t d = of_topic t (row_added e.step e.outcome d)
 
 -- what stays of the rows that f gives
-abbrev pub without : List Dot → (Dot → Option Row) → Dot → Option Row
-without ds f d = cond (has_dot ds d) None (f d)
+abbrev pub without_dots : List Dot → (Dot → Option Row) → Dot → Option Row
+without_dots ds f d = cond (has_dot ds d) None (f d)
 
 -- what goes of the rows that f gives
 abbrev pub among : List Dot → (Dot → Option Row) → Dot → Option Row
@@ -29,7 +29,7 @@ leaving e f = among (dots_taken e.outcome) f
 
 -- the rows of a topic after an entry, where f gives those before it
 abbrev pub rows_after : Entry → List ℕ → (Dot → Option Row) → Dot → Option Row
-rows_after e t f d = first_some (joined e t d) (without (dots_taken e.outcome) f d)
+rows_after e t f d = first_some (joined e t d) (without_dots (dots_taken e.outcome) f d)
 
 -- the rows of a topic that are shown
 abbrev pub shown_of : History → List ℕ → Dot → Option Row

@@ -16,7 +16,7 @@ use Rattle.presence_journal.specs.History.{History, Begin, Then, own, count, cou
 use Rattle.presence_journal.specs.Present.{dots_taken}
 use Rattle.presence_journal.specs.Queue.{Waiting, Behind, Queued, queue, topic_of}
 use Rattle.presence_journal.specs.Table.{IsLegal, rows_of_key, counting, tracked, updated, untracked, take_outcome, for_present, outcome_of}
-use Rattle.presence_journal.specs.Walk.{without, tells}
+use Rattle.presence_journal.specs.Walk.{without_dots, tells}
 use Rattle.presence_journal.specs.Merges.{is_of_rows}
 use Rattle.presence_journal.proofs.PresentLemmas.{shown-row}
 use Rattle.presence_journal.proofs.Same.{same_replica-refl, same_replica-true, same_dot-true}
@@ -183,7 +183,7 @@ neither true = refl
 neither false = refl
 
 -- an entry that is no cut
-recent_same : (h : History) (e : Entry) (d : Dot) → IsLegal (Then h e) → cut_after e.outcome (last_cut h) ≡ last_cut h → recent (Then h e) d ≡ first_some (row_added e.step e.outcome d) (without (dots_taken e.outcome) (recent h) d)
+recent_same : (h : History) (e : Entry) (d : Dot) → IsLegal (Then h e) → cut_after e.outcome (last_cut h) ≡ last_cut h → recent (Then h e) d ≡ first_some (row_added e.step e.outcome d) (without_dots (dots_taken e.outcome) (recent h) d)
 recent_same h e d l same = by_own (same_replica d.replica (own h)) refl
   where
     knows : KnowsItsDots h
@@ -214,7 +214,7 @@ recent_same h e d l same = by_own (same_replica d.replica (own h)) refl
         (ap (λ (x : Dot). in_range (own h) (last_cut h) (count h + 1) x) new.0
         ∙ ((λ i. same_replica-refl (own h) i && (nat_lt (last_cut h) (count h + 1) && nat_le (count h + 1) (count h + 1))) ∙ new_in_range (last_cut h) (count h) (last_cut-low h l.0)))
 
-    by_own : (b : Bool) → same_replica d.replica (own h) ≡ b → recent (Then h e) d ≡ first_some (row_added e.step e.outcome d) (without (dots_taken e.outcome) (recent h) d)
+    by_own : (b : Bool) → same_replica d.replica (own h) ≡ b → recent (Then h e) d ≡ first_some (row_added e.step e.outcome d) (without_dots (dots_taken e.outcome) (recent h) d)
     by_own true p =
         let w = same_replica-true d.replica (own h) p in
         recent_is (Then h e) d
@@ -228,7 +228,7 @@ recent_same h e d l same = by_own (same_replica d.replica (own h)) refl
 pub recent-then : (h : History) (e : Entry) (d : Dot) → IsLegal (Then h e) → recent (Then h e) d ≡ recent_after e (recent h) d
 recent-then h e d l = go e.outcome refl (cuts_here h e.step e.outcome l.1)
   where
-    go : (o : Outcome) → e.outcome ≡ o → CutsHere h o → recent (Then h e) d ≡ unless_cut o (first_some (row_added e.step e.outcome d) (without (dots_taken e.outcome) (recent h) d))
+    go : (o : Outcome) → e.outcome ≡ o → CutsHere h o → recent (Then h e) d ≡ unless_cut o (first_some (row_added e.step e.outcome d) (without_dots (dots_taken e.outcome) (recent h) d))
     go (outcomes_are.CutAt from to) p c =
         recent_is (Then h e) d
         ∙ ((λ i. cond (in_range (own (Then h e)) ((last_cut-then h e ∙ (ap (λ o. cut_after o (last_cut h)) p ∙ c.1)) i) ((count-then h e ∙ ap (λ o. count h + counts_used o) p) i) d) (shown (Then h e) d) None)

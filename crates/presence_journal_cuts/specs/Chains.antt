@@ -11,7 +11,7 @@ use Rattle.presence_journal_data.specs.declared.entry.Outcome.TheVariants as out
 use Rattle.presence_journal.specs.Steps.{Outcome, Entry, Start}
 use Rattle.presence_journal.specs.History.{first_some, cut_after, row_added}
 use Rattle.presence_journal.specs.Present.{dots_taken}
-use Rattle.presence_journal.specs.Walk.{row_at, without}
+use Rattle.presence_journal.specs.Walk.{row_at, without_dots}
 use Rattle.presence_journal_cuts.specs.Cuts.{goes, older_after}
 
 abbrev pub Chains : Type 0
@@ -77,7 +77,7 @@ unless_cut _ o = o
 -- the rows above the last cut after an entry, where f gives those before it
 abbrev pub recent_after : Entry → (Dot → Option Row) → Dot → Option Row
 recent_after e f d =
-    unless_cut e.outcome (first_some (row_added e.step e.outcome d) (without (dots_taken e.outcome) f d))
+    unless_cut e.outcome (first_some (row_added e.step e.outcome d) (without_dots (dots_taken e.outcome) f d))
 
 -- a dot of a Start's own counts above its last cut
 abbrev pub is_recent : Start → Dot → Bool

@@ -6,7 +6,7 @@ ghost use Rattle.std.specs.Map.{keys_of, lookup};
 ghost use Rattle.presence_base.specs.declared.dots.Dot.{Dot};
 ghost use Rattle.presence_base.specs.Order.{dot_cmp, same_dot};
 ghost use Rattle.presence_journal.specs.History.{row_added};
-ghost use Rattle.presence_journal.specs.Walk.{row_at, without};
+ghost use Rattle.presence_journal.specs.Walk.{row_at, without_dots};
 ghost use Rattle.presence_journal_sets.specs.ByDot.{Alike, over};
 ghost use Rattle.presence_journal_cuts.specs.Chains.{recent_after};
 ghost use Rattle.presence_journal_cuts.specs.Cuts.{recent};
@@ -59,7 +59,7 @@ pub fn added_row(entry: &Entry) -> Result<Option<(Dot, Row)>, AllocError>
 
 /// Takes the rows of these dots out. Takes no memory.
 pub fn drop_dots(rows: &mut BTreeMap<Dot, Row>, dots: &[Dot])
-    ensures { Alike (get dot_cmp rows.new) (without dots.now (get dot_cmp rows.old)) }
+    ensures { Alike (get dot_cmp rows.new) (without_dots dots.now (get dot_cmp rows.old)) }
 {
     for dot in dots {
         drop_dot(rows, dot);

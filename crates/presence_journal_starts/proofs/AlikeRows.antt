@@ -9,7 +9,7 @@ use Rattle.presence_journal.specs.Present.{of_topic, present, listed, in_order}
 use Rattle.presence_journal.specs.Table.{IsLegal}
 use Rattle.presence_journal.proofs.Fold.{same_present}
 use Rattle.presence_journal.proofs.Merges.{removed_is_known, known_is_live_or_removed}
-use Rattle.presence_journal_starts.specs.Checkpoints.{kept}
+use Rattle.presence_journal_starts.specs.Checkpoints.{kept_row}
 use Rattle.presence_journal_starts.specs.Later.{IsLike}
 use Rattle.presence_journal_starts.proofs.Beginnings.{one_truth}
 use Rattle.presence_journal_starts.proofs.Alikes.{status_same, gone_same, known_same}
@@ -26,12 +26,12 @@ up_only status_is.Up o = refl
 up_only status_is.Down o = refl
 up_only status_is.Gone o = refl
 
-pub shown-kept : (h : History) (d : Dot) → cond (is_up (status h d.replica)) (kept h d) None ≡ shown h d
+pub shown-kept : (h : History) (d : Dot) → cond (is_up (status h d.replica)) (kept_row h d) None ≡ shown h d
 unfolding shown
 shown-kept h d = up_only (status h d.replica) (live h d)
 
 -- what is kept of a replica that is not gone is what is live
-pub kept-live : (h : History) (d : Dot) → is_gone (status h d.replica) ≡ false → kept h d ≡ live h d
+pub kept-live : (h : History) (d : Dot) → is_gone (status h d.replica) ≡ false → kept_row h d ≡ live h d
 kept-live h d there = ap (λ b. cond b None (live h d)) there
 
 module _ (g h : History) (a : IsLike g h) where

@@ -23,7 +23,7 @@ use Rattle.presence_journal_cuts.specs.Chains.{Counts}
 use Rattle.presence_journal_cuts.specs.Cuts.{goes, chain, chain_after, older, older_after, IsCut}
 use Rattle.presence_journal_cuts.specs.KeptDeltas.{KeepsAfter, AreKeptOf}
 use Rattle.presence_journal_cuts.proofs.KeptLemmas.{kept-then, then-kept}
-use Rattle.presence_journal_starts.specs.Checkpoints.{kept}
+use Rattle.presence_journal_starts.specs.Checkpoints.{kept_row}
 use Rattle.presence_journal_starts.specs.Later.{IsLike}
 use Rattle.presence_journal_starts.proofs.Alikes.{status_from, hears_same, known_same, and_false}
 use Rattle.presence_journal_starts.proofs.AlikeRows.{live_same}
@@ -160,10 +160,10 @@ module _ (g h : History) (e f : Entry) (a : IsLike g h) (lg : IsLegal (Then g e)
           ∙ ((λ i. cond (hears_same g h a d.replica i) (row_taken_in (live_same g h a d before i) (known_same g h a d before i) (live_row m.told d) (covers m.told d)) (live_same g h a d before i))
           ∙ sym (merge_is_live h f lh m.told (sym p ∙ m.is) d))
 
-  kept_next : (d : Dot) → kept (Then g e) d ≡ kept (Then h f) d
+  kept_next : (d : Dot) → kept_row (Then g e) d ≡ kept_row (Then h f) d
   kept_next d = go (is_gone (status (Then h f) d.replica)) refl
     where
-      go : (b : Bool) → is_gone (status (Then h f) d.replica) ≡ b → kept (Then g e) d ≡ kept (Then h f) d
+      go : (b : Bool) → is_gone (status (Then h f) d.replica) ≡ b → kept_row (Then g e) d ≡ kept_row (Then h f) d
       go true gone =
           ap (λ b. cond b None (live (Then g e) d)) (ap is_gone (status_next d.replica) ∙ gone)
           ∙ sym (ap (λ b. cond b None (live (Then h f) d)) gone)

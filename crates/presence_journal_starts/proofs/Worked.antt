@@ -30,7 +30,7 @@ use Rattle.presence_journal.proofs.WorkedTables.{ran_is}
 use Rattle.presence_journal_cuts.specs.Chains.{Counts}
 use Rattle.presence_journal_cuts.specs.Cuts.{chain_in, goes, chain, older}
 use Rattle.presence_journal_cuts.specs.KeptDeltas.{AreKeptOf}
-use Rattle.presence_journal_starts.specs.Checkpoints.{kept, StandsFor, IsCheckpoint}
+use Rattle.presence_journal_starts.specs.Checkpoints.{kept_row, StandsFor, IsCheckpoint}
 use Rattle.presence_journal_starts.specs.Worked.{node_a, node_b, plain, dot_of_b, told_by_b, track_one, update_one, worked_steps, worked_run, worked_start, StartStands}
 use Rattle.presence_journal_starts.proofs.Alikes.{and_false}
 use Rattle.presence_journal_starts.proofs.AlikeRows.{shown-kept}
@@ -163,29 +163,29 @@ rowless_whole d p q r =
     let four = rowless_then third (entry 4 (steps_are.PermDown node_b) outcomes_are.Noted) d three refl refl in
     rowless_then fourth (entry 5 update_one (outcomes_are.Replaced (dot 2) (dot 1))) d four (λ i. cond (q i) (Some (row_of 1 plain (Some (dot 1)))) None) refl
 
-kept_none : (h : History) (d : Dot) → row h d ≡ None → kept h d ≡ None
+kept_none : (h : History) (d : Dot) → row h d ≡ None → kept_row h d ≡ None
 unfolding live
 kept_none h d e = (λ i. cond (is_gone (status h d.replica)) None (cond (removed h d) None (e i))) ∙ (ap (λ x. cond (is_gone (status h d.replica)) None x) (neither (removed h d)) ∙ neither (is_gone (status h d.replica)))
 
-rows_at : (d x : Dot) → same_dot d x ≡ true → live_row worked_start.content x ≡ kept whole x → live_row worked_start.content d ≡ kept whole d
-rows_at d x e = subst (λ (y : Dot). live_row worked_start.content y ≡ kept whole y) (sym (same_dot-true d x e))
+rows_at : (d x : Dot) → same_dot d x ≡ true → live_row worked_start.content x ≡ kept_row whole x → live_row worked_start.content d ≡ kept_row whole d
+rows_at d x e = subst (λ (y : Dot). live_row worked_start.content y ≡ kept_row whole y) (sym (same_dot-true d x e))
 
-rows_one : live_row worked_start.content (dot 1) ≡ kept whole (dot 1)
+rows_one : live_row worked_start.content (dot 1) ≡ kept_row whole (dot 1)
 unfolding own hears status standing time removed row live
 rows_one = refl
 
-rows_two : live_row worked_start.content (dot 2) ≡ kept whole (dot 2)
+rows_two : live_row worked_start.content (dot 2) ≡ kept_row whole (dot 2)
 unfolding own hears status standing time removed row live
 rows_two = refl
 
-rows_b : live_row worked_start.content dot_of_b ≡ kept whole dot_of_b
+rows_b : live_row worked_start.content dot_of_b ≡ kept_row whole dot_of_b
 unfolding own hears status standing time removed row live
 rows_b = refl
 
-rows_whole : (d : Dot) → live_row worked_start.content d ≡ kept whole d
+rows_whole : (d : Dot) → live_row worked_start.content d ≡ kept_row whole d
 rows_whole d = go (same_dot d (dot 1)) (same_dot d (dot 2)) (same_dot d dot_of_b) refl refl refl
   where
-    go : (a b c : Bool) → same_dot d (dot 1) ≡ a → same_dot d (dot 2) ≡ b → same_dot d dot_of_b ≡ c → live_row worked_start.content d ≡ kept whole d
+    go : (a b c : Bool) → same_dot d (dot 1) ≡ a → same_dot d (dot 2) ≡ b → same_dot d dot_of_b ≡ c → live_row worked_start.content d ≡ kept_row whole d
     go true b c p q r = rows_at d (dot 1) p rows_one
     go false true c p q r = rows_at d (dot 2) q rows_two
     go false false true p q r = rows_at d dot_of_b r rows_b
@@ -236,7 +236,7 @@ under false o r e = absurd (cc)
 
 -- the new row alone is shown
 shown_two : (d : Dot) (r : Row) → shown whole d ≡ Some r → d ≡ dot 2
-shown_two d r s = go (same_dot d (dot 2)) refl (rows_whole d ∙ under (is_up (status whole d.replica)) (kept whole d) r (shown-kept whole d ∙ s))
+shown_two d r s = go (same_dot d (dot 2)) refl (rows_whole d ∙ under (is_up (status whole d.replica)) (kept_row whole d) r (shown-kept whole d ∙ s))
   where
     go : (b : Bool) → same_dot d (dot 2) ≡ b → cond b (Some (row_of 1 plain (Some (dot 1)))) None ≡ Some r → d ≡ dot 2
     go true e f = same_dot-true d (dot 2) e

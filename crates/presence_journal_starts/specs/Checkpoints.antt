@@ -19,8 +19,8 @@ use Rattle.presence_journal_cuts.specs.Cuts.{chain_in, chain, older}
 use Rattle.presence_journal_cuts.specs.KeptDeltas.{AreKeptOf}
 
 -- the live row of a dot, where its replica is not gone
-abbrev pub kept : History → Dot → Option Row
-kept h d = cond (is_gone (status h d.replica)) None (live h d)
+abbrev pub kept_row : History → Dot → Option Row
+kept_row h d = cond (is_gone (status h d.replica)) None (live h d)
 
 -- each own row that is shown has its chain
 abbrev pub ListsChains : History → List (ℕ × List (ℕ × ℕ)) → Type 0
@@ -38,7 +38,7 @@ ListsUnused h xs = (c : ℕ) → count h < c → Counts (chain_in xs c) (chain h
 pub record StandsFor (h : History) (s : Start) : Type 0 where
   pub number : s.number ≡ last_number h + 1
   pub covers : (d : Dot) → covers s.content d ≡ covered h d
-  pub rows : (d : Dot) → live_row s.content d ≡ kept h d
+  pub rows : (d : Dot) → live_row s.content d ≡ kept_row h d
   pub sound : is_heard s.content ≡ true
   pub standings : (r : Replica) → same_replica r (own h) ≡ false → standing_in s.standings r ≡ standing h r
   pub older : Counts (holds s.older) (older h)

@@ -17,13 +17,13 @@ use Rattle.presence_journal_sets.specs.Full.{IsFullOf}
 use Rattle.presence_journal_cuts.specs.Chains.{Counts}
 use Rattle.presence_journal_cuts.specs.Cuts.{chain, older, IsCut}
 use Rattle.presence_journal_cuts.specs.KeptDeltas.{AreKeptOf, IsToldFrom}
-use Rattle.presence_journal_starts.specs.Checkpoints.{kept, IsCheckpoint}
+use Rattle.presence_journal_starts.specs.Checkpoints.{kept_row, IsCheckpoint}
 
 -- They say the same of all that the answers to later steps depend on, but for numbers and subscribers.
 pub record IsLike (g h : History) : Type 0 where
   pub standings : (r : Replica) → same_replica r (own h) ≡ false → standing g r ≡ standing h r
   pub covers : (d : Dot) → covered g d ≡ covered h d
-  pub rows : (d : Dot) → kept g d ≡ kept h d
+  pub rows : (d : Dot) → kept_row g d ≡ kept_row h d
   pub older : Counts (older g) (older h)
   pub chains : (d : Dot) (r : Row) → d.replica ≡ own h → shown h d ≡ Some r → Counts (chain g d.count) (chain h d.count)
   pub unused : (c : ℕ) → count h < c → Counts (chain g c) (chain h c)

@@ -17,7 +17,7 @@ use Rattle.presence_journal_sets.specs.LeftOut.{HoldsCovered}
 use Rattle.presence_journal_cuts.specs.Chains.{Counts}
 use Rattle.presence_journal_cuts.specs.Cuts.{chain, older, recent, IsCut}
 use Rattle.presence_journal_cuts.specs.KeptDeltas.{is_cut, AreKeptOf, IsToldFrom}
-use Rattle.presence_journal_starts.specs.Checkpoints.{kept, IsCheckpoint}
+use Rattle.presence_journal_starts.specs.Checkpoints.{kept_row, IsCheckpoint}
 
 -- a checkpoint is a sound Start: a legal history can begin with it, and a journal can
 abbrev pub IsSound : Type 0
@@ -77,7 +77,7 @@ KeepsRemoved = (h : History) (s : Start) → IsCheckpoint h s → (d : Dot) → 
 
 -- what is live of any dot: nothing, where its replica is gone
 abbrev pub LiveIsKept : Type 0
-LiveIsKept = (h : History) (s : Start) → IsCheckpoint h s → (d : Dot) → live (Begin s) d ≡ kept h d
+LiveIsKept = (h : History) (s : Start) → IsCheckpoint h s → (d : Dot) → live (Begin s) d ≡ kept_row h d
 
 -- who is present on each topic
 abbrev pub KeepsPresent : Type 0
@@ -96,7 +96,7 @@ KeepsFull = (h : History) (s : Start) → IsCheckpoint h s → (t : ToldValue) �
 -- all that is told of a history in full can be the content of its checkpoint
 abbrev pub FullStands : Type 0
 FullStands = (h : History) (t : ToldValue) → IsFullOf h t → ((d : Dot) → covers t d ≡ covered h d)
-    × ((d : Dot) → live_row t d ≡ kept h d)
+    × ((d : Dot) → live_row t d ≡ kept_row h d)
 
 -- what the next cut tells: the older counts that went since the last one, and the own rows above it
 abbrev pub KeepsCut : Type 0

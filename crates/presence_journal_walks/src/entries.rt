@@ -4,7 +4,7 @@ ghost use Rattle.std.specs.BTreeMap.{get};
 ghost use Rattle.presence_base.specs.Order.{dot_cmp};
 ghost use Rattle.presence_journal.specs.History.{row_made};
 ghost use Rattle.presence_journal.specs.Present.{of_topic, dots_taken};
-ghost use Rattle.presence_journal.specs.Walk.{among, joined, leaving, row_at, rows_after, without};
+ghost use Rattle.presence_journal.specs.Walk.{among, joined, leaving, row_at, rows_after, without_dots};
 ghost use Rattle.presence_journal_walks.specs.Rows.{Moved, IsDiffOf};
 ghost use Rattle.presence_journal_sets.specs.ByDot.{Alike};
 
@@ -65,7 +65,7 @@ fn move_row(
     dot: &Dot,
     taken: &mut BTreeMap<Dot, Row>,
 ) -> Result<(), AllocError>
-    ensures rows { OnOk result (Alike (get dot_cmp rows.new) (without (dot.now ∷ []) (get dot_cmp rows.old))) }
+    ensures rows { OnOk result (Alike (get dot_cmp rows.new) (without_dots (dot.now ∷ []) (get dot_cmp rows.old))) }
     ensures taken { OnOk result (Moved dot.now (get dot_cmp rows.old) (get dot_cmp taken.old) (get dot_cmp taken.new)) }
 {
     let row = rows.remove(dot);
@@ -79,7 +79,7 @@ fn take_out(
     rows: &mut BTreeMap<Dot, Row>,
     dots: &[Dot],
 ) -> Result<BTreeMap<Dot, Row>, AllocError>
-    ensures rows { OnOk result (Alike (get dot_cmp rows.new) (without dots.now (get dot_cmp rows.old))) }
+    ensures rows { OnOk result (Alike (get dot_cmp rows.new) (without_dots dots.now (get dot_cmp rows.old))) }
     ensures taken { IfOk result (λ m. Alike (get dot_cmp m) (among dots.now (get dot_cmp rows.old))) }
 {
     let mut taken = BTreeMap::new(alloc);

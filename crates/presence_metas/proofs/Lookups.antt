@@ -15,7 +15,7 @@ use Rattle.std.proofs.lemmas.Map.Text.{is_eq-slice_cmp}
 use Rattle.std.proofs.lemmas.Slice.Eq.{bytes_eq-Decides}
 use Rattle.presence_base.specs.Order.{text_cmp}
 use Rattle.presence_metas.specs.declared.tracked.TrackedMeta.{TrackedMeta}
-use Rattle.presence_metas.specs.Listing.{Listing, at, without, put}
+use Rattle.presence_metas.specs.Listing.{Listing, at, without_key, put}
 
 abbrev pub same : List ℕ → List ℕ → Bool
 same q k = is_at (text_cmp q) k
@@ -134,21 +134,21 @@ none_rises = tt
 
 -- ---- a key's metas after it was put
 
-find_without : (q k : List ℕ) (ls : Listing) → Rises ls → lookup (is_at (text_cmp q)) (without ls k) ≡ cond (same k q) None (lookup (is_at (text_cmp q)) ls)
+find_without : (q k : List ℕ) (ls : Listing) → Rises ls → lookup (is_at (text_cmp q)) (without_key ls k) ≡ cond (same k q) None (lookup (is_at (text_cmp q)) ls)
 find_without q k ls h =
     lookup-remove_entry (eq_by_cmp_equiv order) (is_at (text_cmp k)) (λ x y at_x. ap (λ z. same z y) (same_is k x at_x)) q ls (IsDistinct-from_sorted text_cmp (keys_of ls) h)
 
 pub put_rises : (ls : Listing) (k : List ℕ) (ts : List TrackedMeta) → Rises ls → Rises (put ls k ts)
 put_rises ls k [] h = removed_rises (is_at (text_cmp k)) ls h
-put_rises ls k (t ∷ ts) h = inserted_rises k (t ∷ ts) (without ls k) (removed_rises (is_at (text_cmp k)) ls h)
+put_rises ls k (t ∷ ts) h = inserted_rises k (t ∷ ts) (without_key ls k) (removed_rises (is_at (text_cmp k)) ls h)
 
 pub put_here : (ls : Listing) (k : List ℕ) (ts : List TrackedMeta) → Rises ls → at (put ls k ts) k ≡ ts
 put_here ls k [] h = rw (find_without k k ls h, same_self k) refl
-put_here ls k (t ∷ ts) h = rw (find_inserted k k (t ∷ ts) (without ls k), same_self k) refl
+put_here ls k (t ∷ ts) h = rw (find_inserted k k (t ∷ ts) (without_key ls k), same_self k) refl
 
 same_flip : (q k : List ℕ) → same q k ≡ false → same k q ≡ false
 same_flip q k h = bool_cases (same k q) (λ s. true_false (sym (ap (same q) (same_is k q s) ∙ same_self q) ∙ h)) (λ s. s)
 
 pub put_other : (ls : Listing) (k : List ℕ) (ts : List TrackedMeta) (q : List ℕ) → same q k ≡ false → Rises ls → at (put ls k ts) q ≡ at ls q
 put_other ls k [] q apart h = rw (find_without q k ls h, same_flip q k apart) refl
-put_other ls k (t ∷ ts) q apart h = rw (find_inserted q k (t ∷ ts) (without ls k), apart, find_without q k ls h, same_flip q k apart) refl
+put_other ls k (t ∷ ts) q apart h = rw (find_inserted q k (t ∷ ts) (without_key ls k), apart, find_without q k ls h, same_flip q k apart) refl

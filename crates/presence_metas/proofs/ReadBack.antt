@@ -14,7 +14,7 @@ use Rattle.presence_base.specs.Refs.{ref_of}
 use Rattle.presence_base.specs.declared.dots.Dot.{Dot}
 use Rattle.presence_base.specs.declared.row.Row.{Row}
 use Rattle.presence_metas.specs.declared.tracked.TrackedMeta.{TrackedMeta}
-use Rattle.presence_metas.specs.Listing.{Listing, at, without, put}
+use Rattle.presence_metas.specs.Listing.{Listing, at, without_key, put}
 use Rattle.presence_metas.specs.Rows.{members_in, with_prev, tracked_of, add_row, listing_of}
 use Rattle.presence_metas.specs.Values.{metas_value, listing_value, state_of}
 use Rattle.presence_metas.specs.Frames.{Named, AllNamed, metas_in, all_objects, has_metas, all_have_metas, is_listing, text_ref, tracked_in, metas_into, listing_into, listing_in, frame_in}
@@ -79,7 +79,7 @@ kept_inserted k ts (e ∷ ls) new h =
     order_cases (text_cmp k e.0) (λ o. rw o (new, h)) (λ o. rw o (new, h.1)) (λ o. rw o (h.0, kept_inserted k ts ls new h.1))
 
 kept_put : (ls : Listing) (k : List ℕ) (ts : List TrackedMeta) → Kept (k, ts) → AllKept ls → AllKept (put ls k ts)
-kept_put ls k ts new h = rw (entered_some (without ls k) k ts new.0) (kept_inserted k ts (without ls k) new (kept_without (is_at (text_cmp k)) ls h))
+kept_put ls k ts new h = rw (entered_some (without_key ls k) k ts new.0) (kept_inserted k ts (without_key ls k) new (kept_without (is_at (text_cmp k)) ls h))
 
 at_named : (ls : Listing) (k : List ℕ) → AllKept ls → AllNamed (at ls k)
 at_named [] k h = tt
@@ -175,7 +175,7 @@ value_tells e named = (objects e.1 named, metas_back [] e.1 named)
 abbrev BelowOne : List ℕ → Listing → Type 0
 BelowOne k ls = AllByRecursion (λ a. text_cmp k a.0 ≡ Greater) ls
 
-without_none : (k : List ℕ) (ls : Listing) → BelowOne k ls → without ls k ≡ ls
+without_none : (k : List ℕ) (ls : Listing) → BelowOne k ls → without_key ls k ≡ ls
 without_none k [] h = refl
 without_none k (a ∷ ls) h = rw (h.0) (ap (λ rest. a ∷ rest) (without_none k ls h.1))
 

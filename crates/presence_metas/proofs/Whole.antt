@@ -14,7 +14,7 @@ use Rattle.presence_base.specs.Order.{text_cmp}
 use Rattle.presence_base.specs.declared.dots.Dot.{Dot}
 use Rattle.presence_base.specs.declared.row.Row.{Row}
 use Rattle.presence_metas.specs.declared.tracked.TrackedMeta.{TrackedMeta}
-use Rattle.presence_metas.specs.Listing.{Listing, at, without, put}
+use Rattle.presence_metas.specs.Listing.{Listing, at, without_key, put}
 use Rattle.presence_metas.specs.Rows.{members_in, with_prev, tracked_of, add_row}
 use Rattle.presence_metas.specs.Values.{metas_value, with_key, listing_value, AreWhole, AllWhole}
 use Rattle.presence_metas.proofs.Lookups.{same, bool_cases, order_cases}
@@ -82,7 +82,7 @@ whole_inserted k ts (e ∷ ls) new h =
 
 whole_put : (ls : Listing) (k : List ℕ) (ts : List TrackedMeta) → AreWhole ts → AllWhole ls → AllWhole (put ls k ts)
 whole_put ls k [] new h = whole_without (is_at (text_cmp k)) ls h
-whole_put ls k (t ∷ ts) new h = whole_inserted k (t ∷ ts) (without ls k) new (whole_without (is_at (text_cmp k)) ls h)
+whole_put ls k (t ∷ ts) new h = whole_inserted k (t ∷ ts) (without_key ls k) new (whole_without (is_at (text_cmp k)) ls h)
 
 at_whole : (ls : Listing) (k : List ℕ) → AllWhole ls → AreWhole (at ls k)
 at_whole [] k h = tt

@@ -7,10 +7,7 @@ use Rattle.presence_metas.specs.declared.presences.Diff.{Diff}
 use Rattle.presence_metas.specs.declared.frame.Frame.{Frame}
 use Rattle.presence_metas.specs.declared.frame.Frame.TheVariants as frame_is
 use Rattle.presence_metas.specs.Listing.{Listing, at, is_named, applied}
-
-abbrev pub first_some : {A : Type 0} → Option A → Option A → Option A
-first_some (Some x) o = Some x
-first_some None o = o
+pub use Rattle.presence_base.specs.Choices.{first_some}
 
 -- the meta of a reference: of equal references the last
 abbrev pub last_named : List TrackedMeta → List ℕ → Option Data

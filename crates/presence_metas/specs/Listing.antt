@@ -15,8 +15,8 @@ Listing = List (List ℕ × List TrackedMeta)
 abbrev pub at : Listing → List ℕ → List TrackedMeta
 at ls k = unwrap_or (lookup (is_at (text_cmp k)) ls) []
 
-abbrev pub without : Listing → List ℕ → Listing
-without ls k = remove_entry (is_at (text_cmp k)) ls
+abbrev pub without_key : Listing → List ℕ → Listing
+without_key ls k = remove_entry (is_at (text_cmp k)) ls
 
 -- a key without metas is not kept
 abbrev pub entered : Listing → List ℕ → List TrackedMeta → Listing
@@ -25,7 +25,7 @@ entered ls k (t ∷ ts) = insert_entry text_cmp ls k (t ∷ ts)
 
 -- with these metas at the key
 abbrev pub put : Listing → List ℕ → List TrackedMeta → Listing
-put ls k ts = entered (without ls k) k ts
+put ls k ts = entered (without_key ls k) k ts
 
 -- whether one of the metas has the reference
 abbrev pub is_named : List TrackedMeta → List ℕ → Bool

@@ -3,7 +3,7 @@ ghost use Rattle.std.specs.List.{fold};
 ghost use Rattle.serde_json.specs.View.{view};
 ghost use Rattle.serde_json.specs.Written.{has_float};
 ghost use Rattle.presence_metas.specs.Lists.{AreFilled};
-ghost use Rattle.presence_metas.specs.Listing.{at, without, entered, put, join_key, leave_key, applied};
+ghost use Rattle.presence_metas.specs.Listing.{at, without_key, entered, put, join_key, leave_key, applied};
 ghost use Rattle.std.specs.List.Sorted.{IsStrictlySortedBy};
 ghost use Rattle.std.specs.Map.{keys_of};
 ghost use Rattle.presence_base.specs.Order.{text_cmp};
@@ -118,7 +118,7 @@ impl Presences {
     // Takes out a key's metas.
     fn remove(&mut self, alloc: Global, key: &Text) -> Vec<TrackedMeta>
         ensures metas { result.items ≡ at self.old key.now }
-        ensures rest { self.new ≡ without self.old key.now }
+        ensures rest { self.new ≡ without_key self.old key.now }
     {
         if let Some(metas) = self.lists.remove(key) {
             return metas;

@@ -6,7 +6,7 @@ use Rattle.std.specs.List.{AllByRecursion}
 use Rattle.std.specs.BTreeMap.{insert_entry}
 use Rattle.presence_base.specs.Order.{text_cmp}
 use Rattle.presence_metas.specs.declared.tracked.TrackedMeta.{TrackedMeta}
-use Rattle.presence_metas.specs.Listing.{Listing, at, without, put}
+use Rattle.presence_metas.specs.Listing.{Listing, at, without_key, put}
 use Rattle.presence_metas.proofs.Lookups.{same_self, order}
 use Rattle.presence_metas.proofs.Seen.{entered_some}
 
@@ -22,7 +22,7 @@ at_last : (k : List ℕ) (ls : Listing) (ts : List TrackedMeta) → Below k ls �
 at_last k [] ts h = rw (same_self k) refl
 at_last k (a ∷ ls) ts h = rw (h.0) (at_last k ls ts h.1)
 
-without_last : (k : List ℕ) (ls : Listing) (ts : List TrackedMeta) → Below k ls → without (ls ++ (k, ts) ∷ []) k ≡ ls
+without_last : (k : List ℕ) (ls : Listing) (ts : List TrackedMeta) → Below k ls → without_key (ls ++ (k, ts) ∷ []) k ≡ ls
 without_last k [] ts h = rw (same_self k) refl
 without_last k (a ∷ ls) ts h = rw (h.0) (ap (λ rest. a ∷ rest) (without_last k ls ts h.1))
 
@@ -30,7 +30,7 @@ at_none : (k : List ℕ) (ls : Listing) → Below k ls → at ls k ≡ []
 at_none k [] h = refl
 at_none k (a ∷ ls) h = rw (h.0) (at_none k ls h.1)
 
-without_none : (k : List ℕ) (ls : Listing) → Below k ls → without ls k ≡ ls
+without_none : (k : List ℕ) (ls : Listing) → Below k ls → without_key ls k ≡ ls
 without_none k [] h = refl
 without_none k (a ∷ ls) h = rw (h.0) (ap (λ rest. a ∷ rest) (without_none k ls h.1))
 
@@ -43,7 +43,7 @@ pub put_again : (ls : Listing) (k : List ℕ) (ts : List TrackedMeta) (t : Track
     → put (ls ++ (k, ts) ∷ []) k (at (ls ++ (k, ts) ∷ []) k ++ t ∷ []) ≡ ls ++ (k, ts ++ t ∷ []) ∷ []
 put_again ls k ts t h =
     ap (λ us. put (ls ++ (k, ts) ∷ []) k (us ++ t ∷ [])) (at_last k ls ts h)
-    ∙ entered_some (without (ls ++ (k, ts) ∷ []) k) k (ts ++ t ∷ []) (some_pushed ts t)
+    ∙ entered_some (without_key (ls ++ (k, ts) ∷ []) k) k (ts ++ t ∷ []) (some_pushed ts t)
     ∙ ap (λ rest. insert_entry text_cmp rest k (ts ++ t ∷ [])) (without_last k ls ts h)
     ∙ inserted_last k (ts ++ t ∷ []) ls h
 

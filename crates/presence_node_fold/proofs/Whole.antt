@@ -28,7 +28,7 @@ use Rattle.presence_metas.specs.declared.frame.FrameFault.{FrameFault}
 use Rattle.presence_metas.specs.declared.frame.FrameFault.TheVariants.{NotPresence, BadShape, NoRef, OutOfMemory}
 use Rattle.presence_metas.specs.Fold.{after_frame}
 use Rattle.presence_metas.specs.Frames.{◌>>=◌, with_ref, text_ref, tracked_in, metas_into, items_in, metas_in, listing_into, listing_in, some_listing_in, is_listing, is_diff, state_in, diff_in, frame_in}
-use Rattle.presence_metas.specs.Listing.{Listing, at, without, put, is_named, left_metas, joined_metas, join_key, leave_key, applied}
+use Rattle.presence_metas.specs.Listing.{Listing, at, without_key, put, is_named, left_metas, joined_metas, join_key, leave_key, applied}
 use Rattle.presence_metas.specs.Values.{metas_value, with_key, listing_value}
 use Rattle.presence_node_fold.specs.Folding.{fold_frame, fold_message, fold_line, fold_on, folded}
 use Rattle.presence_node_fold.specs.Mirrors.{Mirrors, held, without_topic, with_frame, with_topic, mirrors_value}
@@ -136,7 +136,7 @@ are_whole ms = list_all (λ (e : List ℕ × Listing). is_whole_listing e.1) ms
 
 put_whole : (ls : Listing) (k : List ℕ) (ts : List TrackedMeta) → is_whole_listing ls ≡ true → are_whole_metas ts ≡ true → is_whole_listing (put ls k ts) ≡ true
 put_whole ls k [] h i = all_removed are_whole_metas (is_at (text_cmp k)) ls h
-put_whole ls k (t ∷ ts) h i = all_inserted are_whole_metas k (t ∷ ts) (without ls k) i (all_removed are_whole_metas (is_at (text_cmp k)) ls h)
+put_whole ls k (t ∷ ts) h i = all_inserted are_whole_metas k (t ∷ ts) (without_key ls k) i (all_removed are_whole_metas (is_at (text_cmp k)) ls h)
 
 at_whole : (ls : Listing) (k : List ℕ) → is_whole_listing ls ≡ true → are_whole_metas (at ls k) ≡ true
 at_whole ls k h = found_passes are_whole_metas k [] ls refl h

@@ -11,7 +11,7 @@ use Rattle.tracker_shard.specs.Steps.{Stepped, Answers, IsDue}
 use Rattle.shard_pool_settled.specs.declared.receipt.Receipt.{Receipt}
 use Rattle.shard_pool_lent.specs.declared.reply.Reply.{Reply}
 use Rattle.shard_pool_lent.specs.Hands.{Hand, receipt, with_call}
-use Rattle.shard_pool_lent.specs.Lent.{is_step, counted, NotedIf, Notes, kept, reply_of, Replies, IsDueOnceNoted}
+use Rattle.shard_pool_lent.specs.Lent.{is_step, counted, NotedIf, Notes, kept_receipts, reply_of, Replies, IsDueOnceNoted}
 
 step_of_reply : {A : Type 0} (old new : History) (seat : Option ℕ) (s : Step) (shard n : ℕ) (r : Result A ShardFault) → Stepped old new seat s r → Stepped old new seat s (reply_of shard n r)
 step_of_reply old new seat s shard n (Ok x) m = m
@@ -84,17 +84,17 @@ hand_is p q r a b c d = λ i. record { seat = a i; shard = b i; receipts = c i; 
 same_hand : (p q : Hand) → q.seat ≡ p.seat → q.shard ≡ p.shard → q.receipts ≡ p.receipts → q.share ≡ p.share → q ≡ p
 same_hand p q a b c d = λ i. record { seat = a i; shard = b i; receipts = c i; share = d i }
 
-not_kept : (rs : List Receipt) (s n : ℕ) (step : Step) (o : Option Outcome) → kept rs s n step o false ≡ rs
+not_kept : (rs : List Receipt) (s n : ℕ) (step : Step) (o : Option Outcome) → kept_receipts rs s n step o false ≡ rs
 not_kept rs s n step (Some o) = refl
 not_kept rs s n step None = refl
 
-noted_by : (h : History) (p q : Hand) (s : Step) (o : Option Outcome) (n : ℕ) (made : Bool) → (made ≡ true → is_some o ≡ true) → o ≡ outcome_of h s → n ≡ last_number h + 1 → q.seat ≡ p.seat → q.shard ≡ p.shard → q.receipts ≡ kept p.receipts p.shard n s o made → q.share ≡ counted p.share made → NotedIf made h p q s
+noted_by : (h : History) (p q : Hand) (s : Step) (o : Option Outcome) (n : ℕ) (made : Bool) → (made ≡ true → is_some o ≡ true) → o ≡ outcome_of h s → n ≡ last_number h + 1 → q.seat ≡ p.seat → q.shard ≡ p.shard → q.receipts ≡ kept_receipts p.receipts p.shard n s o made → q.share ≡ counted p.share made → NotedIf made h p q s
 noted_by h p q s o n false some table number a b c d = same_hand p q a b (c ∙ not_kept p.receipts p.shard n s o) d
 noted_by h p q s None n true some table number a b c d = let e = some refl in absurd (cc)
 noted_by h p q s (Some o) n true some table number a b c d =
     record { outcome = o; table = sym table; hand = hand_is p q (receipt p.shard (last_number h + 1) s o) a b (c ∙ ap (λ k. p.receipts ++ receipt p.shard k s o ∷ []) number) d }
 
-pub noted : {A : Type 0} (h new : History) (p q : Hand) (seat : Option ℕ) (s : Step) (o : Option Outcome) (n shard : ℕ) (r : Result A ShardFault) (x : Result (Reply A) ShardFault) → x ≡ reply_of shard n r → Stepped h new seat s r → o ≡ outcome_of h s → n ≡ last_number h + 1 → q.seat ≡ p.seat → q.shard ≡ p.shard → q.receipts ≡ kept p.receipts p.shard n s o (is_step r) → q.share ≡ counted p.share (is_step r) → Notes h p q s x
+pub noted : {A : Type 0} (h new : History) (p q : Hand) (seat : Option ℕ) (s : Step) (o : Option Outcome) (n shard : ℕ) (r : Result A ShardFault) (x : Result (Reply A) ShardFault) → x ≡ reply_of shard n r → Stepped h new seat s r → o ≡ outcome_of h s → n ≡ last_number h + 1 → q.seat ≡ p.seat → q.shard ≡ p.shard → q.receipts ≡ kept_receipts p.receipts p.shard n s o (is_step r) → q.share ≡ counted p.share (is_step r) → Notes h p q s x
 noted h new p q seat s o n shard r x is m table number a b c d =
     rw (is, step_is_step shard n r) (noted_by h p q s o n (is_step r) (λ e. ap is_some table ∙ made_accepts h new seat s r m e) table number a b c d)
 

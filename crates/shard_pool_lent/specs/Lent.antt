@@ -41,10 +41,10 @@ abbrev pub Notes : {A : Type 0} → History → Hand → Hand → Step → Resul
 Notes h old new step r = NotedIf (is_step r) h old new step
 
 -- the receipts with that of a step that was made
-abbrev pub kept : List Receipt → ℕ → ℕ → Step → Option Outcome → Bool → List Receipt
-kept rs s n step (Some o) true = rs ++ receipt s n step o ∷ []
-kept rs s n step (Some o) false = rs
-kept rs s n step None made = rs
+abbrev pub kept_receipts : List Receipt → ℕ → ℕ → Step → Option Outcome → Bool → List Receipt
+kept_receipts rs s n step (Some o) true = rs ++ receipt s n step o ∷ []
+kept_receipts rs s n step (Some o) false = rs
+kept_receipts rs s n step None made = rs
 
 -- the answer is the shard's, with the shard and the number of the entry
 abbrev pub reply_of : {A : Type 0} → ℕ → ℕ → Result A ShardFault → Result (Reply A) ShardFault

@@ -1,7 +1,7 @@
 // The receipt of a call, made ready before its step, so that nothing can be wanting once the step is made.
 ghost use Rattle.std.specs.Prelude.{◌≡◌, ◌<◌, ◌+◌, true, IfOk, OnOk, vec_len, vec_capacity};
 ghost use Rattle.tracker_shard.specs.Steps.{Stepped};
-ghost use Rattle.shard_pool_lent.specs.Lent.{is_step, counted, kept};
+ghost use Rattle.shard_pool_lent.specs.Lent.{is_step, counted, kept_receipts};
 
 use crate::lane::Lane;
 use presence_journal::{Outcome, Step};
@@ -41,7 +41,7 @@ pub(crate) fn keep_receipt(
     made: bool,
 )
     requires { vec_len receipts.old < vec_capacity receipts.old }
-    ensures { receipts.new.items ≡ kept receipts.old.items shard number step outcome made }
+    ensures { receipts.new.items ≡ kept_receipts receipts.old.items shard number step outcome made }
 {
     if let Some(outcome) = outcome {
         if made {

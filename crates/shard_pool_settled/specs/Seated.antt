@@ -2,14 +2,11 @@
 use Rattle.std.specs.Prelude.{ℕ, ◌+◌, Bool, true, false, cond, nat_eq, List, [], ◌∷◌, Option, Some, None, is_some}
 use Rattle.presence_journal.specs.Steps.{Entry}
 use Rattle.presence_journal.specs.History.{History, Begin, Then}
+pub use Rattle.presence_base.specs.Choices.{one_if}
 
 unfoldable pub entry_at : History → ℕ → Option Entry
 entry_at (Begin s) n = None
 entry_at (Then h e) n = cond (nat_eq e.number n) (Some e) (entry_at h n)
-
-abbrev pub one_if : Bool → ℕ
-one_if true = 1
-one_if false = 0
 
 -- the seated entries above the Start
 unfoldable pub seated : History → ℕ

@@ -11,7 +11,7 @@ use Rattle.presence_journal.specs.Steps.{Outcome, Entry}
 use Rattle.presence_journal.specs.History.{History, Then, count, counts_used, cut_after, first_some, has_dot, row_added}
 use Rattle.presence_journal.specs.Present.{dots_taken}
 use Rattle.presence_journal.specs.Table.{IsLegal}
-use Rattle.presence_journal.specs.Walk.{row_at, without}
+use Rattle.presence_journal.specs.Walk.{row_at, without_dots}
 use Rattle.presence_journal.proofs.Same.{same_dot-sym, same_dot-true}
 use Rattle.presence_journal_sets.specs.ByDot.{Alike, over}
 use Rattle.presence_journal_cuts.specs.Chains.{Chains, AreUpTo, has, unless_cut, recent_after}
@@ -51,12 +51,12 @@ at_added false (Some r) x stays = refl
 at_added true (Some r) x stays = let f : true ≡ false = stays r refl in absurd (cc)
 
 rows_taken : (h : History) (e : Entry) (f g : Dot → Option Row) (o : Option (Dot × Row)) → IsLegal (Then h e) → is_cut e.outcome ≡ false → ((d : Dot) → row_at o d ≡ row_added e.step e.outcome d)
-    → Alike g (without (dots_taken e.outcome) (over (row_at o) f)) → Alike g (recent_after e f)
+    → Alike g (without_dots (dots_taken e.outcome) (over (row_at o) f)) → Alike g (recent_after e f)
 rows_taken h e f g o l uncut is after d =
     after d
     ∙ (ap (λ x. cond (has_dot (dots_taken e.outcome) d) None (first_some x (f d))) (is d)
     ∙ (at_added (has_dot (dots_taken e.outcome) d) (row_added e.step e.outcome d) (f d) (λ r there. added_stays h e d r l there)
-    ∙ no_cut e.outcome (first_some (row_added e.step e.outcome d) (without (dots_taken e.outcome) f d)) uncut))
+    ∙ no_cut e.outcome (first_some (row_added e.step e.outcome d) (without_dots (dots_taken e.outcome) f d)) uncut))
 
 -- without the new row it is as before
 pub back : (o : Option (Dot × Row)) (x : Option Dot) (m n k : DotRows) → x ≡ dot_in o → IsNew o m → Alike (get dot_cmp n) (over (row_at o) (get dot_cmp m)) → IsWithoutDot x n k → Alike (get dot_cmp k) (get dot_cmp m)
@@ -74,7 +74,7 @@ back o x m n k is new there out = go o (subst (λ y. IsWithoutDot y n k) is out)
 
 pub committed : (u v : Untold) (e : Entry) (c : Change) (w : Chains) → is_cut e.outcome ≡ false → IsChange u.last u.unsettled u.chains e c → v.own ≡ u.own → v.count ≡ u.count + counts_used e.outcome → v.last ≡ u.last → v.unsettled ≡ u.unsettled
     → v.older.items ≡ u.older.items ++ c.gone.items → IsLinked c.link u.chains w → LosesChains (dots_taken e.outcome) w v.chains
-    → Alike (get dot_cmp v.rows) (without (dots_taken e.outcome) (over (row_at c.row) (get dot_cmp u.rows))) → v.kept ≡ u.kept → Follows u e v
+    → Alike (get dot_cmp v.rows) (without_dots (dots_taken e.outcome) (over (row_at c.row) (get dot_cmp u.rows))) → v.kept ≡ u.kept → Follows u e v
 committed u v e c w uncut change owns counts last opens older put lost rows deltas h l k =
     let hands : Hands e.outcome (has u.chains) (has v.chains) = hands_on e.outcome u.chains w v.chains c.link change.link put lost in
     taken u v e h l k (record {

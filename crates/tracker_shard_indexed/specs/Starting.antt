@@ -3,10 +3,7 @@ use Rattle.std.specs.Prelude.{◌≡◌, ℕ, ◌+◌, Bool, true, false, List, 
 use Rattle.presence_journal.specs.Steps.{Entry, Start}
 use Rattle.presence_journal.specs.History.{History, Begin, Then}
 use Rattle.presence_journal_starts.specs.Checkpoints.{IsCheckpoint}
-
-abbrev pub one_if : Bool → ℕ
-one_if true = 1
-one_if false = 0
+pub use Rattle.presence_base.specs.Choices.{one_if}
 
 -- how many of these entries were made through seats
 abbrev pub seats_in : List Entry → ℕ

@@ -3,11 +3,11 @@ use Rattle.std.specs.BTreeMap.{get}
 use Rattle.presence_base.specs.declared.dots.Dot.{Dot}
 use Rattle.presence_base.specs.Order.{dot_cmp}
 use Rattle.presence_journal.specs.History.{first_some}
-use Rattle.presence_journal.specs.Walk.{without, among}
+use Rattle.presence_journal.specs.Walk.{without_dots, among}
 use Rattle.presence_journal_walks.proofs.entries.take_out.Given as goal
 
 abbrev pub invariant-loop-dot : goal.invariant-loop-dot
 invariant-loop-dot l = record {
-  rows : (d : Dot) → without l.dots (get dot_cmp l.fn.rows) d ≡ without (drop l.dot-index l.dots) (get dot_cmp l.rows) d;
+  rows : (d : Dot) → without_dots l.dots (get dot_cmp l.fn.rows) d ≡ without_dots (drop l.dot-index l.dots) (get dot_cmp l.rows) d;
   taken : (d : Dot) → among l.dots (get dot_cmp l.fn.rows) d ≡ first_some (among (drop l.dot-index l.dots) (get dot_cmp l.rows) d) (get dot_cmp l.taken d);
 }
