@@ -51,13 +51,6 @@ impl Rows {
     {
         self.items.as_slice()
     }
-
-    pub fn into_vec(self) -> Vec<(Dot, Row)>
-        ensures { result.items ≡ self }
-    {
-        let Rows { items } = self;
-        items
-    }
 }
 
 /// How the present rows of a topic changed, each list in order of key and then dot.

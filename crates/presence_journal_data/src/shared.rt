@@ -1,8 +1,7 @@
 // Differences and shouts with the texts of their payloads, made once for all who are told of them.
-ghost use Rattle.std.specs.Prelude.{◌≡◌, true, IfOk, string_bytes};
+ghost use Rattle.std.specs.Prelude.{◌≡◌, IfOk, string_bytes};
 ghost use Rattle.serde_json.specs.Written.{compact_text};
 ghost use Rattle.presence_metas.specs.Values.{diff_of};
-ghost use Rattle.presence_metas_texts.specs.KeyOrder.{AreInKeyOrder};
 
 use crate::limits::Payload;
 use crate::rows::RowDiff;
@@ -51,21 +50,13 @@ impl Debug for SharedDiff {
     }
 }
 
-// Whether the rows on both sides are in order of their keys.
-fn is_in_key_order(diff: &RowDiff) -> bool
-    ensures joins { result ≡ true → AreInKeyOrder diff.now.joins }
-    ensures leaves { result ≡ true → AreInKeyOrder diff.now.leaves }
-{
-    are_in_key_order(diff.joins.as_slice()) && are_in_key_order(diff.leaves.as_slice())
-}
-
 // The text of the payload that tells a difference.
 fn write_diff(alloc: Global, diff: &RowDiff) -> Result<String, AllocError>
     ensures { IfOk result (λ s. string_bytes s ≡ compact_text (diff_of diff.now.joins diff.now.leaves)) }
 {
     let joins = diff.joins.as_slice();
     let leaves = diff.leaves.as_slice();
-    if is_in_key_order(diff) {
+    if are_in_key_order(joins) && are_in_key_order(leaves) {
         return diff_text(alloc, joins, leaves);
     }
     let value = diff_value(alloc, joins, leaves)?;

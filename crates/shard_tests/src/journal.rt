@@ -117,7 +117,7 @@ fn list(alloc: Global, journal: &Journal) -> Result<String, AllocError> {
 fn given_back(alloc: Global, journal: &Journal) -> Result<String, AllocError> {
     let topic = topic(alloc, ROOM)?;
     let rows = Rows::new(walk_list(alloc, journal, &topic)?);
-    row_references(alloc, &rows.into_vec())
+    row_references(alloc, rows.as_slice())
 }
 
 fn get(alloc: Global, journal: &Journal, name: &str) -> Result<String, AllocError> {
