@@ -1,8 +1,7 @@
 //! Calls at one of two shards, which the other shows nothing of.
 ghost use Rattle.std.specs.Prelude.{◌<◌, IfSome};
 
-use crate::tellings::two_rows;
-use pool_desk::{topic, track};
+use pool_desk::{topic, track, two_rows};
 use presence_base::Replica;
 use replica_status::Status;
 use shard_pool::{Gate, Lane, Pool, PoolFault, Seat};
@@ -86,7 +85,7 @@ fn call_at<G: Gate, A: Lane, B: Lane, C: Lane, D: Lane, R: Wait>(
 {
     pool.heard(rt, alloc, shard, *other, 0).ok()?;
     pool.tick(rt, alloc, shard, 1).ok()?;
-    let rows = two_rows(alloc, other)?;
+    let rows = two_rows(alloc, other, "room:lobby")?;
     pool.merge(rt, alloc, shard, &rows).ok()?;
     let _delta = pool.cut(rt, alloc, shard).ok()?;
     Some(())

@@ -1,7 +1,6 @@
 //! What a subscriber of the pool is told of the rows of another node that is heard, silent, heard again and gone.
 
-use crate::tellings::{first_removed, two_rows};
-use pool_desk::topic;
+use pool_desk::{first_removed, topic, two_rows};
 use presence_base::{Dot, Replica, Row, Topic};
 use presence_journal::Item;
 use shard_pool::{Gate, Lane, Pool, Seat};
@@ -77,7 +76,7 @@ fn act_on<G: Gate, A: Lane, B: Lane, C: Lane, D: Lane, R: Wait>(
         Act::Tick(now) => pool.tick(rt, alloc, 0, now).ok(),
         Act::PermDown => pool.permdown(rt, alloc, 0, *other).ok(),
         Act::Rows => {
-            let told = two_rows(alloc, other)?;
+            let told = two_rows(alloc, other, "room:lobby")?;
             pool.merge(rt, alloc, 0, &told).ok()
         }
         Act::Removal => {

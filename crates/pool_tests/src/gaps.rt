@@ -1,8 +1,7 @@
 //! What another node tells late or in order, through the pool, and what the own node then tells.
 
-use crate::tellings::{first_removed, two_rows};
 use orswot_core_told::Told;
-use pool_desk::{topic, track};
+use pool_desk::{first_removed, topic, track, two_rows};
 use presence_base::{Dot, Replica, Row};
 use replica_status::Status;
 use shard_pool::{Gate, Lane, Pool, Seat};
@@ -126,7 +125,7 @@ fn tell<G: Gate, A: Lane, B: Lane, C: Lane, D: Lane, R: Wait>(
     late: bool,
 ) -> Option<[Shown; 2]> {
     pool.heard(rt, alloc, 0, *other, 0).ok()?;
-    let rows = two_rows(alloc, other)?;
+    let rows = two_rows(alloc, other, "room:lobby")?;
     let removal = first_removed(alloc, other)?;
     if late {
         merge_both(rt, alloc, pool, seat, other, &removal, &rows)

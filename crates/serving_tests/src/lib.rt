@@ -1,15 +1,11 @@
-//! Tests of connections over streams in memory, and of the queue that they come by.
+//! Tests of serving: connections over streams in memory, the queue that they come by, and a worker.
+//!
+//! They have one crate, so that what a program is checked for anew, as how a connection is dropped, is checked once.
 #![tactic(auto)]
 
 #[cfg(test)]
-mod closing;
+mod connections;
 #[cfg(test)]
-mod failing;
+mod served;
 #[cfg(test)]
-mod line;
-#[cfg(test)]
-mod queue;
-#[cfg(test)]
-mod sending;
-#[cfg(test)]
-mod turns;
+mod workers;

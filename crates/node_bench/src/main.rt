@@ -1,0 +1,72 @@
+//! Times parts of a node, for `bench/run`, and plays worked rows, for `tests/refusals`.
+//!
+//! `sets`, `session` and `shard` time a case and print microseconds, or of each of a shard's calls its nanoseconds.
+//! `rows sets`, `rows shard` and `rows`, which plays both, print a line for each call of the rows.
+#![tactic(auto)]
+
+mod session;
+mod set_rows;
+mod sets;
+mod shard;
+mod shard_rows;
+mod words;
+
+use std::env::Env;
+use std::io::{self, ErrorKind};
+use std::process::ExitCode;
+use std::time::Clock;
+use words::words_of;
+
+const USAGE: &str = "usage: node_bench sets adds|reverse|join|delta COUNT, \
+session join|tracks|lists KEYS COUNT, shard ROWS SUBSCRIBERS ENTRIES, or rows [sets|shard]. \
+Numbers are whole ones of 32 bits";
+
+// Plays the rows that the words name, or answers whether they name none.
+fn play<R: Print + AllocGlobal>(rt: &R, words: &[String]) -> io::Result<bool> {
+    let of = match words.get(2) {
+        Some(word) => word.as_str(),
+        None => "",
+    };
+    if of != "" && of != "sets" && of != "shard" {
+        return Ok(false);
+    }
+    if of != "shard" {
+        set_rows::play_rows(rt)?;
+    }
+    if of != "sets" {
+        shard_rows::play_rows(rt)?;
+    }
+    Ok(true)
+}
+
+// Does what the words of the command line ask for, and answers whether they ask for something.
+fn run_words<R: Clock + Print + AllocGlobal>(rt: &R, words: &[String]) -> io::Result<bool> {
+    let Some(what) = words.get(1) else {
+        return Ok(false);
+    };
+    match what.as_str() {
+        "sets" => sets::time(rt, words),
+        "session" => session::time(rt, words),
+        "shard" => shard::time(rt, words),
+        "rows" => play(rt, words),
+        _ => Ok(false),
+    }
+}
+
+// Gives the status to end with.
+fn run<R: Clock + Env + Print + Eprint + AllocGlobal>(rt: &R) -> io::Result<u8> {
+    let words = words_of(rt)?;
+    if run_words(rt, &words)? {
+        return Ok(0);
+    }
+    rt.eprintln(USAGE)?;
+    Ok(1)
+}
+
+fn main(rt: HostRuntime) -> ExitCode {
+    match run(&rt) {
+        Ok(status) => ExitCode::from(status),
+        Err(e) if e.kind() == ErrorKind::OutOfMemory => ExitCode::from(2),
+        Err(_) => ExitCode::from(1),
+    }
+}

@@ -1,0 +1,13 @@
+//! What two pools say to each other over a link, over sockets and where cuts are lost too, a link at a full journal, and
+//! what a mailbox holds.
+
+mod desk;
+mod full;
+mod hearing;
+mod loopback;
+mod lost;
+mod node;
+mod pools;
+mod saying;
+mod waiting;
+mod wire;

@@ -1,0 +1,127 @@
+//! A link over sockets of this machine: a row that the dialling node tracked, and its removal, as the other hears them.
+ghost use Rattle.std.specs.Prelude.{◌≡◌};
+
+use super::node::NOW;
+use super::saying::{comes, goes_unheard, next_beat};
+use node_links::{End, Line, Peer, accept_one, dial};
+use pool_desk::topic;
+use presence_base::Replica;
+use presence_node_link_ports::PoolLinkPort;
+use shard_pool::{Lane, NoGate, Pool, Seat};
+use std::alloc::Global;
+use std::io;
+use std::io::{Read, Write};
+use std::net::{Net, TcpListener, TcpStream};
+use std::sync::Wait;
+use std::time::Duration;
+
+// One period of the first shard, whose beat goes out: whether this node is told that it is gone.
+fn beats_over<R: Wait, A: Lane, B: Lane, C: Lane, D: Lane, S: Read + Write>(
+    rt: &R,
+    alloc: Global,
+    pool: &Pool<NoGate, A, B, C, D>,
+    port: &mut PoolLinkPort<'_, R, NoGate, A, B, C, D>,
+    peer: &mut Peer,
+    stream: &mut S,
+) -> Option<bool>
+    requires { pool.now.shards ≡ 2 }
+{
+    let beat = next_beat(rt, alloc, pool)?;
+    dial(alloc, stream, peer, port, &beat, NOW).ok()
+}
+
+// Whether the dialling node is told that it is gone, at its hello and its two beats.
+pub(crate) type Dialled = [bool; 3];
+
+pub(crate) const DIALLED: Dialled = [false, false, false];
+
+// A hello; a row, and a beat of it; and a beat behind one that was lost, which had the row's removal.
+pub(crate) fn dial_over<R: Wait, A: Lane, B: Lane, C: Lane, D: Lane, S: Read + Write>(
+    rt: &R,
+    alloc: Global,
+    pool: &Pool<NoGate, A, B, C, D>,
+    seat: &mut Seat<A, B, C, D>,
+    own: &Replica,
+    stream: &mut S,
+) -> Option<Dialled>
+    requires { pool.now.shards ≡ 2 }
+{
+    let mut port = PoolLinkPort::new(rt, pool, 2);
+    let mut peer = Peer::new(*own, 2, End::Dialling);
+    let hello = Line::Hello {
+        replica: *own,
+        shards: 2,
+    };
+    let met = dial(alloc, stream, &mut peer, &mut port, &hello, NOW).ok()?;
+    comes(rt, alloc, pool, seat)?;
+    let came = beats_over(rt, alloc, pool, &mut port, &mut peer, stream)?;
+    goes_unheard(rt, alloc, pool, seat)?;
+    let went = beats_over(rt, alloc, pool, &mut port, &mut peer, stream)?;
+    Some([met, came, went])
+}
+
+// How many rows the other node lists, and whether the first is `b.1.1` under `u2`.
+pub(crate) type Listed = (usize, bool);
+
+const EMPTY: Listed = (0, false);
+
+const LISTED: Listed = (1, true);
+
+// Whether a line came, and what is listed behind it.
+pub(crate) type Accepted = [(bool, Listed); 5];
+
+// The hello, the beat of the row, the beat that wants what was lost, what it is told, and an end between lines.
+pub(crate) const ACCEPTED: Accepted = [
+    (true, EMPTY),
+    (true, LISTED),
+    (true, LISTED),
+    (true, EMPTY),
+    (false, EMPTY),
+];
+
+fn listed<R: Wait, A: Lane, B: Lane, C: Lane, D: Lane>(
+    rt: &R,
+    alloc: Global,
+    pool: &Pool<NoGate, A, B, C, D>,
+    seat: &mut Seat<A, B, C, D>,
+) -> Option<Listed> {
+    let topic = topic(alloc, "room:a")?;
+    let rows = pool.list(rt, alloc, seat, &topic).ok()?.value;
+    let is_told = rows.as_slice().first().is_some_and(|(dot, row)| {
+        dot.count == 1 && dot.replica.name.as_str() == "b" && row.key.as_str() == "u2"
+    });
+    Some((rows.as_slice().len(), is_told))
+}
+
+pub(crate) fn accept_over<R: Wait, A: Lane, B: Lane, C: Lane, D: Lane, S: Read + Write>(
+    rt: &R,
+    alloc: Global,
+    pool: &Pool<NoGate, A, B, C, D>,
+    seat: &mut Seat<A, B, C, D>,
+    own: &Replica,
+    stream: &mut S,
+) -> Option<Accepted>
+    requires { pool.now.shards ≡ 2 }
+{
+    let mut port = PoolLinkPort::new(rt, pool, 2);
+    let mut peer = Peer::new(*own, 2, End::Accepting);
+    let mut behind = [(false, EMPTY); 5];
+    for line in &mut behind {
+        let came = accept_one(alloc, stream, &mut peer, &mut port, NOW).ok()?;
+        *line = (came, listed(rt, alloc, pool, seat)?);
+    }
+    Some(behind)
+}
+
+// Both ends of a connection of this machine, the dialling one first. Neither waits for ever.
+pub(crate) fn both_ends<R>(net: &R) -> io::Result<(TcpStream, TcpStream)>
+where
+    R: Net<Listener = TcpListener, Stream = TcpStream>,
+{
+    let listener = TcpListener::bind(net, ("127.0.0.1", 0))?;
+    let dialling = TcpStream::connect(net, ("127.0.0.1", listener.local_addr()?.port()))?;
+    let (accepting, _) = listener.accept()?;
+    dialling.set_read_timeout(Some(Duration::from_secs(20)))?;
+    accepting.set_read_timeout(Some(Duration::from_secs(20)))?;
+    Ok((dialling, accepting))
+}

@@ -1,0 +1,201 @@
+//! A new pool of two shards with one seat, of the node that says or of the one that hears. It settles behind each run.
+ghost use Rattle.std.specs.Prelude.{◌≡◌};
+ghost use Rattle.presence_base.specs.Refs.{IsCount};
+
+use super::full::{Asked, FILLED, Filled, ask_when_full};
+use super::hearing::{HEARING, HEARING_KEPT, HEARING_OUTGROWN, Hearing, hear};
+use super::loopback::{ACCEPTED, Accepted, DIALLED, Dialled, accept_over, both_ends, dial_over};
+use super::lost::{KEPT, Lost, OUTGROWN, SAYING_LOST, SayingLost, say_lost};
+use super::node::Dialogue;
+use super::saying::{FIRST, SAYING, Saying, say};
+use pool_desk::replica;
+use presence_base::Replica;
+use shard_pool::{Lane, NoGate, Pool, Seat};
+use std::alloc::Global;
+use std::marker::Brand;
+use std::net::TcpStream;
+use std::sync::Wait;
+use std::sync::ledger::Blank;
+use std::test::Fail;
+use std::thread;
+
+// What is done over a pool.
+#[derive(Drop)]
+enum Run {
+    Say,
+    SayLost(Lost),
+    Hear(Dialogue),
+    Fill(Asked),
+    // At one end of a connection.
+    Dial(TcpStream),
+    Accept(TcpStream),
+}
+
+// What came of it.
+#[derive(Clone, Copy, Debug, PartialEq)]
+enum Came {
+    Said(Saying),
+    SaidLost(SayingLost),
+    Heard(Hearing),
+    Filled(Filled),
+    Dialled(Dialled),
+    Accepted(Accepted),
+}
+
+fn run_over<A: Lane, B: Lane, C: Lane, D: Lane, R: Wait>(
+    rt: &R,
+    alloc: Global,
+    pool: &Pool<NoGate, A, B, C, D>,
+    seat: &mut Seat<A, B, C, D>,
+    own: &Replica,
+    run: Run,
+) -> Option<Came>
+    requires { pool.now.shards ≡ 2 }
+{
+    match run {
+        Run::Say => Some(Came::Said(say(rt, alloc, pool, seat, own)?)),
+        Run::SayLost(lost) => Some(Came::SaidLost(say_lost(rt, alloc, pool, seat, own, lost)?)),
+        Run::Hear(dialogue) => Some(Came::Heard(hear(rt, alloc, pool, seat, *own, dialogue)?)),
+        Run::Fill(asked) => Some(Came::Filled(ask_when_full(rt, alloc, pool, seat, *own, asked)?)),
+        Run::Dial(mut stream) => Some(Came::Dialled(dial_over(
+            rt,
+            alloc,
+            pool,
+            seat,
+            own,
+            &mut stream,
+        )?)),
+        Run::Accept(mut stream) => Some(Came::Accepted(accept_over(
+            rt,
+            alloc,
+            pool,
+            seat,
+            own,
+            &mut stream,
+        )?)),
+    }
+}
+
+// What comes of a run over a new pool of this node, if the pool settles behind it.
+fn settled_run<A: Lane, B: Lane, C: Lane, D: Lane, R: Wait>(
+    rt: &R,
+    alloc: Global,
+    own: Replica,
+    run: Run,
+    first: Blank,
+    second: Blank,
+    third: Blank,
+    fourth: Blank,
+) -> Option<Came>
+    requires count { IsCount own.incarnation }
+    requires first { (first.name ≡ A.name) × (first.parts ≡ A.parts) × (first.parts ≡ 1) × (own.name ≡ A.node) }
+    requires second { (second.name ≡ B.name) × (second.parts ≡ B.parts) × (second.parts ≡ 1) × (own.name ≡ B.node) }
+    requires third { (third.name ≡ C.name) × (third.parts ≡ C.parts) × (third.parts ≡ 1) × (own.name ≡ C.node) }
+    requires fourth { (fourth.name ≡ D.name) × (fourth.parts ≡ D.parts) × (fourth.parts ≡ 1) × (own.name ≡ D.node) }
+{
+    let started = Pool::<NoGate, A, B, C, D>::start(
+        alloc, own, 2, 1, NoGate, first, second, third, fourth,
+    );
+    let Ok((pool, mut seats)) = started else {
+        return None;
+    };
+    let mut seat = seats.pop()?;
+    let came = run_over(rt, alloc, &pool, &mut seat, &own, run)?;
+    pool.trim(rt, &mut seat);
+    seats.push(seat).ok()?;
+    if pool.settle(rt, alloc, seats).is_err() {
+        return None;
+    }
+    Some(came)
+}
+
+// What comes of a run over a new pool of the node of this name.
+fn came_of<R: Wait>(rt: &R, alloc: Global, name: &str, run: Run) -> Option<Came> {
+    let own = replica(alloc, name)?;
+    settled_run::<Brand, Brand, Brand, Brand, R>(
+        rt,
+        alloc,
+        own,
+        run,
+        Blank::new(1),
+        Blank::new(1),
+        Blank::new(1),
+        Blank::new(1),
+    )
+}
+
+// Node a shows the row that node b tracked, until it asks for what it missed; and node b is gone there once it said so.
+#[test]
+fn two_pools_over_a_link(rt: HostRuntime) -> Result<(), Fail> {
+    let alloc = rt.alloc();
+    assert_eq!(rt;
+        came_of(&rt, alloc, "b", Run::Say),
+        Some(Came::Said(SAYING))
+    );
+    assert_eq!(rt;
+        came_of(&rt, alloc, "a", Run::Hear(FIRST)),
+        Some(Came::Heard(HEARING))
+    );
+    Ok(())
+}
+
+// Whether node b says so where these cuts are lost, and node a hears it so.
+fn is_told_of<R: Wait>(
+    rt: &R,
+    alloc: Global,
+    lost: Lost,
+    dialogue: Dialogue,
+    hearing: Hearing,
+) -> bool {
+    came_of(rt, alloc, "b", Run::SayLost(lost)) == Some(Came::SaidLost(SAYING_LOST))
+        && came_of(rt, alloc, "a", Run::Hear(dialogue)) == Some(Came::Heard(hearing))
+}
+
+// Node a asks for what it missed of two cuts, and gets what is kept of them.
+#[test]
+fn kept_cuts_over_a_link(rt: HostRuntime) {
+    assert!(rt; is_told_of(&rt, rt.alloc(), Lost::Kept, KEPT, HEARING_KEPT));
+}
+
+// The first of them told more than is kept, and node a gets all that node b knows.
+#[test]
+fn outgrown_cuts_over_a_link(rt: HostRuntime) {
+    assert!(rt; is_told_of(&rt, rt.alloc(), Lost::Outgrown, OUTGROWN, HEARING_OUTGROWN));
+}
+
+// Each pool is in a thread of its own. The dialling end hangs up once its run is over.
+#[test]
+fn two_pools_over_sockets(rt: HostRuntime) -> Result<(), Fail> {
+    let alloc = rt.alloc();
+    let (dialling, accepting) = both_ends(&rt)?;
+    let dialled = thread::spawn(&rt, move || came_of(&rt, alloc, "b", Run::Dial(dialling)))?;
+    let accepted = came_of(&rt, alloc, "a", Run::Accept(accepting));
+    assert_eq!(rt; dialled.join(&rt), Some(Came::Dialled(DIALLED)));
+    assert_eq!(rt; accepted, Some(Came::Accepted(ACCEPTED)));
+    Ok(())
+}
+
+// Whether a full journal is begun again where this is asked.
+fn begins_again<R: Wait>(rt: &R, alloc: Global, asked: Asked) -> bool {
+    came_of(rt, alloc, "a", Run::Fill(asked)) == Some(Came::Filled(FILLED))
+}
+
+#[test]
+fn a_link_at_a_full_journal(rt: HostRuntime) {
+    assert!(rt; begins_again(&rt, rt.alloc(), Asked::Heard));
+}
+
+#[test]
+fn a_tick_at_a_full_journal(rt: HostRuntime) {
+    assert!(rt; begins_again(&rt, rt.alloc(), Asked::Tick));
+}
+
+#[test]
+fn a_cut_at_a_full_journal(rt: HostRuntime) {
+    assert!(rt; begins_again(&rt, rt.alloc(), Asked::Cut));
+}
+
+#[test]
+fn a_list_at_a_full_journal(rt: HostRuntime) {
+    assert!(rt; begins_again(&rt, rt.alloc(), Asked::List));
+}

@@ -1,0 +1,114 @@
+//! What node b says over a link that it dialled: a row, nothing of its removal until it is asked, and that it ends.
+ghost use Rattle.std.specs.Prelude.{◌≡◌};
+
+use super::desk::track;
+use super::node::{Dialogue, NOW, Node, node_over};
+use node_links::{End, Line};
+use pool_desk::{key, topic};
+use presence_base::Replica;
+use presence_node_link_ports::{beat_of, cut_off, let_pass};
+use shard_pool::{Lane, NoGate, Pool, Seat};
+use std::alloc::Global;
+use std::sync::Wait;
+
+const SAID: &str = r#"["hello","b",1,2]
+["beat",0,"b",1,1,[[["b",1,0,1]],[],[["b",1,1,"room:a","u2",5,{"x":1},null]]]]
+["beat",0,"b",1,2,null]
+["told",0,[[["b",1,0,2]],[],[]]]
+["permdown","b",1]
+["beat",0,"b",1,2,null]
+"#;
+
+const ANSWERED: &str = r#"["hello","a",1,2]
+["ok"]
+["want",0,"b",1,1]
+["ok"]
+["ok"]
+["gone","b",1]
+"#;
+
+pub(crate) const FIRST: Dialogue = Dialogue {
+    said: SAID,
+    answered: ANSWERED,
+};
+
+// Whether it is told that it is gone, at its hello, its three beats and its end, in the order in which they go out; and whether
+// it says all of the above.
+pub(crate) type Saying = ([bool; 5], bool);
+
+pub(crate) const SAYING: Saying = ([false, false, false, false, true], true);
+
+// The beat of one period of the first shard.
+pub(crate) fn next_beat<R: Wait, A: Lane, B: Lane, C: Lane, D: Lane>(
+    rt: &R,
+    alloc: Global,
+    pool: &Pool<NoGate, A, B, C, D>,
+) -> Option<Line>
+    requires { pool.now.shards ≡ 2 }
+{
+    let_pass(rt, alloc, pool, 0, NOW).ok()?;
+    let cut = cut_off(rt, alloc, pool, 0).ok()?;
+    beat_of(alloc, 0, &cut).ok()
+}
+
+// One period of the first shard, whose beat goes out.
+fn beats<R: Wait, A: Lane, B: Lane, C: Lane, D: Lane>(
+    rt: &R,
+    alloc: Global,
+    pool: &Pool<NoGate, A, B, C, D>,
+    node: &mut Node<'_, R, A, B, C, D>,
+) -> Option<bool>
+    requires { pool.now.shards ≡ 2 }
+{
+    let beat = next_beat(rt, alloc, pool)?;
+    node.dials(alloc, &beat)
+}
+
+pub(crate) fn comes<R: Wait, A: Lane, B: Lane, C: Lane, D: Lane>(
+    rt: &R,
+    alloc: Global,
+    pool: &Pool<NoGate, A, B, C, D>,
+    seat: &mut Seat<A, B, C, D>,
+) -> Option<()> {
+    track(rt, alloc, pool, seat, "u2")
+}
+
+// The row goes, and the beat that would say so is lost.
+pub(crate) fn goes_unheard<R: Wait, A: Lane, B: Lane, C: Lane, D: Lane>(
+    rt: &R,
+    alloc: Global,
+    pool: &Pool<NoGate, A, B, C, D>,
+    seat: &mut Seat<A, B, C, D>,
+) -> Option<()>
+    requires { pool.now.shards ≡ 2 }
+{
+    let topic = topic(alloc, "room:a")?;
+    let key = key(alloc, "u2")?;
+    pool.untrack(rt, alloc, seat, 5, &topic, &key).ok()?;
+    cut_off(rt, alloc, pool, 0).ok()?;
+    Some(())
+}
+
+pub(crate) fn say<'a, R: Wait, A: Lane, B: Lane, C: Lane, D: Lane>(
+    rt: &'a R,
+    alloc: Global,
+    pool: &'a Pool<NoGate, A, B, C, D>,
+    seat: &mut Seat<A, B, C, D>,
+    own: &Replica,
+) -> Option<Saying>
+    requires { pool.now.shards ≡ 2 }
+{
+    let mut node = node_over(rt, alloc, pool, *own, End::Dialling, ANSWERED);
+    let hello = Line::Hello {
+        replica: *own,
+        shards: 2,
+    };
+    let met = node.dials(alloc, &hello)?;
+    comes(rt, alloc, pool, seat)?;
+    let came = beats(rt, alloc, pool, &mut node)?;
+    goes_unheard(rt, alloc, pool, seat)?;
+    let went = beats(rt, alloc, pool, &mut node)?;
+    let ended = node.dials(alloc, &Line::PermDown { replica: *own })?;
+    let gone = beats(rt, alloc, pool, &mut node)?;
+    Some(([met, came, went, ended, gone], node.wrote(SAID)))
+}

@@ -1,0 +1,154 @@
+//! A stream that fails at each read and each write, beside one that doesn't.
+
+use super::desk::{Desk, desk_over};
+use super::pool::over_pool;
+use super::run::Run;
+use super::script::got;
+use crate::served::{TEXTS, Wire, frames, wire_of};
+use session_desk::Port;
+use std::alloc::{AllocError, Global};
+use std::sync::Wait;
+use std::test::Fail;
+use std::time::Clock;
+
+// What the client beside says: it joins the room once the other is gone.
+const SAID: &str = r#"[null,"1","phoenix","heartbeat",{}]
+[null,"2","phoenix","heartbeat",{}]
+[null,"3","phoenix","heartbeat",{}]
+[null,"4","phoenix","heartbeat",{}]
+[null,"5","phoenix","heartbeat",{}]
+[null,"6","phoenix","heartbeat",{}]
+["7","7","room:lobby","phx_join",{}]
+["7","8","room:lobby","list",{}]
+"#;
+
+// What it is told: nothing of the other is left.
+const TOLD: &str = r#"[null,"1","phoenix","phx_reply",{"response":{},"status":"ok"}]
+[null,"2","phoenix","phx_reply",{"response":{},"status":"ok"}]
+[null,"3","phoenix","phx_reply",{"response":{},"status":"ok"}]
+[null,"4","phoenix","phx_reply",{"response":{},"status":"ok"}]
+[null,"5","phoenix","phx_reply",{"response":{},"status":"ok"}]
+[null,"6","phoenix","phx_reply",{"response":{},"status":"ok"}]
+["7","7","room:lobby","phx_reply",{"response":{},"status":"ok"}]
+["7",null,"room:lobby","presence_state",{}]
+["7","8","room:lobby","phx_reply",{"response":{},"status":"ok"}]
+"#;
+
+// A stream that gives 7 bytes a call, and fails at this read and this write.
+fn failing_wire(alloc: Global, bytes: &[u8], read: usize, write: usize) -> Wire<'_> {
+    let mut wire = wire_of(alloc, bytes);
+    wire.step = 7;
+    wire.fails_read = read;
+    wire.fails_write = write;
+    wire
+}
+
+// Whether the first client that is left is the second one, and got this.
+fn second_got<P: Port>(desk: &Desk<'_, Wire<'_>, P>, wanted: &[u8]) -> bool {
+    desk.worker
+        .at(0)
+        .is_some_and(|client| client.number == 2 && got(client) == wanted)
+}
+
+// Nine turns: how many clients are left, where the second one got this if it is the only one.
+fn left_behind_turns<P: Port>(
+    alloc: Global,
+    desk: &mut Desk<'_, Wire<'_>, P>,
+    wanted: &[u8],
+) -> Option<usize> {
+    for _ in 0..9_u32 {
+        desk.turn(alloc);
+    }
+    match desk.worker.len() {
+        1 if second_got(desk, wanted) => Some(1),
+        2 => Some(2),
+        _ => None,
+    }
+}
+
+// The bytes of both clients, and those that the second one is told.
+#[derive(Drop)]
+struct Spoken {
+    first: Vec<u8>,
+    second: Vec<u8>,
+    told: Vec<u8>,
+}
+
+fn bytes_of_both(alloc: Global) -> Result<Spoken, AllocError> {
+    let first = frames(alloc, true, TEXTS)?;
+    let second = frames(alloc, true, SAID)?;
+    let told = frames(alloc, false, TOLD)?;
+    Ok(Spoken {
+        first,
+        second,
+        told,
+    })
+}
+
+// How many clients are left of one whose stream fails, and of one beside it.
+fn serve_both<P: Port, R: Wait>(
+    rt: &R,
+    alloc: Global,
+    port: &mut P,
+    spoken: &Spoken,
+    read: usize,
+    write: usize,
+) -> Option<usize> {
+    let mut desk = desk_over(alloc, port)?;
+    desk.admit_wire(rt, alloc, failing_wire(alloc, &spoken.first, read, write))?;
+    desk.admit_wire(rt, alloc, wire_of(alloc, &spoken.second))?;
+    let left = left_behind_turns(alloc, &mut desk, &spoken.told);
+    if desk.stop(alloc) { left } else { None }
+}
+
+// The same, where the first one says the texts of the first run.
+pub(crate) fn serve_beside<P: Port, R: Wait>(
+    rt: &R,
+    alloc: Global,
+    port: &mut P,
+    read: usize,
+    write: usize,
+) -> Option<usize> {
+    let spoken = bytes_of_both(alloc).ok()?;
+    serve_both(rt, alloc, port, &spoken, read, write)
+}
+
+// Which call of the stream fails.
+#[derive(Clone, Copy)]
+enum Fails {
+    Read,
+    Write,
+}
+
+// How many such calls the first client's stream makes, where each is refused in a run of its own, and in each the second
+// client is served all the same and the pool settles.
+fn faults_borne<R: Wait + Clock>(rt: &R, alloc: Global, fails: Fails) -> Option<usize> {
+    for call in 0..99_usize {
+        let run = match fails {
+            Fails::Read => Run::Beside(call, usize::MAX),
+            Fails::Write => Run::Beside(usize::MAX, call),
+        };
+        match over_pool(rt, alloc, run, false)? {
+            (1, Ok(_)) => {}
+            (2, Ok(_)) => return Some(call),
+            _ => return None,
+        }
+    }
+    None
+}
+
+#[test]
+fn each_read_fails(rt: HostRuntime) -> Result<(), Fail> {
+    let Some(borne) = faults_borne(&rt, rt.alloc(), Fails::Read) else {
+        return Err(Fail::new("a fault was not borne"));
+    };
+    assert!(rt; borne > 20, "{borne}");
+    Ok(())
+}
+
+// Each of the four turns that answer a text writes once.
+#[test]
+fn each_write_fails(rt: HostRuntime) -> Result<(), Fail> {
+    assert_eq!(rt; faults_borne(&rt, rt.alloc(), Fails::Write), Some(4));
+    Ok(())
+}

@@ -1,0 +1,108 @@
+//! A new pool of four shards and two seats, at the first of which a worker serves, and how it settles.
+ghost use Rattle.std.specs.Prelude.{◌≡◌};
+ghost use Rattle.presence_base.specs.Refs.{IsCount};
+
+use super::run::{Run, own_replica, play};
+use presence_base::Replica;
+use presence_node_ports::PoolPort;
+use shard_pool::{Lane, NoGate, Pool, Seat, SettleFault};
+use std::alloc::Global;
+use std::marker::Brand;
+use std::sync::Wait;
+use std::sync::ledger::Blank;
+use std::time::Clock;
+
+// How much comes of a run at the first seat.
+fn run_at_first<A: Lane, B: Lane, C: Lane, D: Lane, R: Wait + Clock>(
+    rt: &R,
+    alloc: Global,
+    pool: &Pool<NoGate, A, B, C, D>,
+    seats: &mut Vec<Seat<A, B, C, D>>,
+    run: Run<'_>,
+) -> Option<usize> {
+    let seat = seats.first_mut()?;
+    play(rt, alloc, &mut PoolPort::new(rt, pool, seat), run)
+}
+
+// How many receipts the seats have.
+fn receipts_of<A: Lane, B: Lane, C: Lane, D: Lane>(
+    alloc: Global,
+    seats: &[Seat<A, B, C, D>],
+) -> Option<u64> {
+    let mut count: u64 = 0;
+    for seat in seats {
+        let receipts = seat.receipts(alloc).ok()?;
+        count = count.saturating_add(receipts.len() as u64);
+    }
+    Some(count)
+}
+
+// How much comes of a run over a new pool, and how the pool settles, where the second seat may be left out.
+fn settled_run<A: Lane, B: Lane, C: Lane, D: Lane, R: Wait + Clock>(
+    rt: &R,
+    alloc: Global,
+    own: Replica,
+    run: Run<'_>,
+    leave_out: bool,
+    first: Blank,
+    second: Blank,
+    third: Blank,
+    fourth: Blank,
+) -> Option<(usize, Result<u64, SettleFault>)>
+    requires count { IsCount own.incarnation }
+    requires first { (first.name ≡ A.name) × (first.parts ≡ A.parts) × (first.parts ≡ 2) × (own.name ≡ A.node) }
+    requires second { (second.name ≡ B.name) × (second.parts ≡ B.parts) × (second.parts ≡ 2) × (own.name ≡ B.node) }
+    requires third { (third.name ≡ C.name) × (third.parts ≡ C.parts) × (third.parts ≡ 2) × (own.name ≡ C.node) }
+    requires fourth { (fourth.name ≡ D.name) × (fourth.parts ≡ D.parts) × (fourth.parts ≡ 2) × (own.name ≡ D.node) }
+{
+    let started = Pool::<NoGate, A, B, C, D>::start(
+        alloc, own, 4, 2, NoGate, first, second, third, fourth,
+    );
+    let Ok((pool, mut seats)) = started else {
+        return None;
+    };
+    let came = run_at_first(rt, alloc, &pool, &mut seats, run);
+    if leave_out {
+        let _second = seats.pop();
+    }
+    let receipts = receipts_of(alloc, seats.as_slice());
+    let fault = match pool.settle(rt, alloc, seats) {
+        Ok(_) => None,
+        Err(fault) => Some(fault),
+    };
+    settled_as(came, receipts, fault)
+}
+
+fn settled_as(
+    came: Option<usize>,
+    receipts: Option<u64>,
+    fault: Option<SettleFault>,
+) -> Option<(usize, Result<u64, SettleFault>)> {
+    let came = came?;
+    let receipts = receipts?;
+    match fault {
+        None => Some((came, Ok(receipts))),
+        Some(fault) => Some((came, Err(fault))),
+    }
+}
+
+// How much comes of a run over a new pool, and how the pool settles: how many receipts stand, or why they don't.
+pub(crate) fn over_pool<R: Wait + Clock>(
+    rt: &R,
+    alloc: Global,
+    run: Run<'_>,
+    leave_out: bool,
+) -> Option<(usize, Result<u64, SettleFault>)> {
+    let own = own_replica(alloc)?;
+    settled_run::<Brand, Brand, Brand, Brand, R>(
+        rt,
+        alloc,
+        own,
+        run,
+        leave_out,
+        Blank::new(2),
+        Blank::new(2),
+        Blank::new(2),
+        Blank::new(2),
+    )
+}
