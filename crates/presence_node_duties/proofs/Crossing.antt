@@ -14,6 +14,7 @@ use Rattle.hook_registry.specs.contracts.routes.Routes as Routes
 use Rattle.presence_node_duties.specs.contracts.bench.Bench as Bench
 use Rattle.presence_node_duties.specs.contracts.place.Workplace as Workplace
 use Rattle.presence_node_duties.specs.contracts.server.Mailbox as Mailbox
+pub use Rattle.presence_node_link_threads.proofs.Crossing.{links_sync, task_row_send}
 
 -- ---- what is shared
 

@@ -1,12 +1,14 @@
 //! The program itself: it reads the words of its command line, runs what they ask for over the
 //! standard streams, and tells how that ended.
 //!
-//! What its contracts cite: `Ending` says which line goes to which stream, and with which status.
+//! What its contracts cite: `Ending` says which line goes to which stream, and with which status; `specs/Ends` how a run
+//! of the server at given options may end, by what `presence_node_ends` says of seats that are settled.
 #![tactic(auto)]
 
 mod ending;
 mod error_stream;
 mod running;
+mod serving;
 mod words;
 
 pub use ending::{

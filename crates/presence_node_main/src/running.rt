@@ -3,13 +3,13 @@ use crate::ending::{
     usage_ending,
 };
 use crate::error_stream::ErrorStream;
+use crate::serving::serve;
 use crate::words::{texts_of, words_of};
 use hook_registry::{NoHooks, PresenceHooks};
 use presence_node_ends::serve_status_of;
 use presence_node_fold::{fold_status_of, run_fold};
 use presence_node_notices::ReferenceNotices;
 use presence_node_options::{FoldOptions, Options, ServeOptions, StdioOptions, options_of};
-use presence_node_serve::serve;
 use presence_node_stdio::{run_stdio, status_of};
 use std::env::Env;
 use std::io;

@@ -1,7 +1,7 @@
 use denote.Param.{param}
 use denote.Param.Send.{IsSend, IsSync, param_send, sendable}
 use Rattle.shard_pool.proofs.Crossing.{seat_row_send, pool_row_sync}
-use Rattle.pool_tests.proofs.Crossing.{called_send}
+use Rattle.pool_tests.proofs.Sending.{called_send}
 use Rattle.pool_tests.proofs.replayed.told_beside.Given as given
 use Rattle.pool_tests.proofs.replayed.told_beside.Lts as types
 use Rattle.pool_tests.proofs.replayed.told_beside.Goals as goal

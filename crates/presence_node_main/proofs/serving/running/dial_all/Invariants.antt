@@ -1,5 +1,5 @@
 use Rattle.std.proofs.Common.{◌≡◌}
-use Rattle.presence_node_serve.proofs.running.dial_all.Given as goal
+use Rattle.presence_node_main.proofs.serving.running.dial_all.Given as goal
 
 abbrev pub invariant-loop-peer : goal.invariant-loop-peer
 invariant-loop-peer l = l.tasks.links.shards ≡ l.fn.tasks.links.shards

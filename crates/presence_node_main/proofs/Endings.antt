@@ -4,7 +4,7 @@ use Rattle.shard_pool.specs.Seats.{Hands}
 use Rattle.presence_node_ends.specs.declared.end.ServeEnd.{ServeEnd}
 use Rattle.presence_node_ends.specs.declared.end.ServeEnd.TheVariants.{Stopped, NotSettled, PortTaken, NoPort, LinkPortTaken, NoLinkPort, NoThreads, Memory}
 use Rattle.presence_node_ends.specs.Ends.{Settles}
-use Rattle.presence_node_serve.specs.Ends.{IsEndOf}
+use Rattle.presence_node_main.specs.Ends.{IsEndOf}
 
 -- what settles seats is an end of a run at any port
 pub settled_ends : (node : List ℕ) (shards workers port link_port : ℕ) (hs : List Hands) (end : ServeEnd)

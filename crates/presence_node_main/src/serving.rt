@@ -1,8 +1,4 @@
 //! A run of the server, from its port to its last line: its threads are given what they work with, and settle at its end.
-//!
-//! What its contracts cite: `specs/Ends` says how a run at given options may end, by what `presence_node_ends` says of
-//! seats that are settled.
-#![tactic(auto)]
 
 mod fault;
 mod pieces;

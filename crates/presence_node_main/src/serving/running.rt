@@ -2,18 +2,17 @@
 ghost use Rattle.std.specs.Prelude.{◌≡◌, List, IfOk, IfErr};
 ghost use Rattle.shard_pool.specs.Seats.{Hands};
 ghost use Rattle.presence_node_ends.specs.Ends.{Settles};
-ghost use Rattle.presence_node_serve.specs.Ends.{IsEndFor};
-ghost use Rattle.presence_node_serve.specs.Ledgers.{HaveParts};
+ghost use Rattle.presence_node_main.specs.Ends.{IsEndFor};
+ghost use Rattle.presence_node_main.specs.Ledgers.{HaveParts};
 
-use crate::fault::BeginFault;
-use crate::pieces::{Stations, stations_for};
-use crate::stopping::StopLine;
+use super::fault::BeginFault;
+use super::pieces::{Stations, stations_for};
+use super::stopping::StopLine;
 use hook_registry::PresenceHooks;
 use presence_base::Replica;
 use presence_node_crew::{Posts, run_crew};
-use presence_node_duties::{Door, Server, Workplace, seats_of};
+use presence_node_duties::{Door, LinkTask, LinkTasks, Server, Workplace, seats_of, tasks_for};
 use presence_node_ends::{ServeEnd, settled};
-use presence_node_link_threads::{LinkTask, LinkTasks, tasks_for};
 use presence_node_options::{PeerOption, ServeOptions};
 use presence_node_sockets::listen;
 use shard_pool::{Lane, NoGate, Pool, Seat};

@@ -1,9 +1,7 @@
 //! What the threads of the server are given.
-use crate::fault::BeginFault;
+use super::fault::BeginFault;
 use presence_node_crew::Posts;
-use presence_node_duties::{Bench, Door, LISTENER, Mailbox, Workplace};
-use presence_node_hints::Inbox;
-use presence_node_link_threads::LinkTask;
+use presence_node_duties::{Bench, Door, Inbox, LISTENER, LinkTask, Mailbox, Workplace};
 use presence_node_queue::Giver;
 use presence_node_sockets::{Bell, Watch};
 use shard_pool::{Lane, Seat};

@@ -1,4 +1,4 @@
-use Rattle.presence_node_serve.proofs.running.serve.Given as goal
+use Rattle.presence_node_main.proofs.serving.running.serve.Given as goal
 
 abbrev pub ghosts-serve_lanes-A-Ledger : goal.ghosts-serve_lanes-A-Ledger
 ghosts-serve_lanes-A-Ledger g a = record { name = a.blanks.first.name; parts = a.blanks.first.parts }

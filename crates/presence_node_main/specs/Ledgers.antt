@@ -1,6 +1,6 @@
 -- The ledgers of a pool that none has opened.
 use Rattle.std.specs.Prelude.{◌≡◌, ℕ}
-use Rattle.presence_node_serve.specs.declared.running.Blanks.{Blanks}
+use Rattle.presence_node_main.specs.declared.serving.running.Blanks.{Blanks}
 
 -- each has so many parts
 abbrev pub HaveParts : Blanks → ℕ → Type 0

@@ -5,9 +5,9 @@ use denote.Param.Send.{IsSync, sendable}
 use Rattle.std.proofs.Crossing as heap
 use Rattle.std.proofs.Crossing.{Vec-sync}
 use Rattle.shard_pool.proofs.Crossing.{pool_sync}
-use Rattle.presence_node_link_threads.proofs.Crossing.{links_sync, task_row_send}
+use Rattle.presence_node_duties.proofs.Crossing.{links_sync, task_row_send}
 use Rattle.presence_node_duties.proofs.Crossing.{mailbox_sync, place_row_send, routes_sync}
-use Rattle.presence_node_serve.proofs.running.run_server.Goals as goal
+use Rattle.presence_node_main.proofs.serving.running.run_server.Goals as goal
 
 pub run_crew-requires-send-T : goal.run_crew-requires-send-T
 run_crew-requires-send-T g c = search (place_row_send, sendable) depth 30
