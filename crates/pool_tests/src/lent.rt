@@ -7,10 +7,9 @@ use pool_desk::{key, meta, replica, topic};
 use presence_base::{Json, Key, Meta, Replica, Topic, has_float, is_within_depth};
 use presence_journal::{Item, Journal, MAX_PAYLOAD_DEPTH, Payload};
 use serde_json::Value;
-use shard_pool::{Lane, SettleFault};
-use shard_pool_lent::{
-    Locked, Part, lent_get, lent_list, lent_shout, lent_start, lent_subscribe, lent_take,
-    lent_track, lent_unsubscribe, lent_untrack, lent_untrack_all, lent_update,
+use shard_pool::{
+    Lane, Locked, Part, SettleFault, lent_get, lent_list, lent_shout, lent_start, lent_subscribe,
+    lent_take, lent_track, lent_unsubscribe, lent_untrack, lent_untrack_all, lent_update,
 };
 use std::alloc::Global;
 use std::marker::Brand;

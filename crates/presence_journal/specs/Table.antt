@@ -9,8 +9,8 @@ use Rattle.presence_base.specs.Refs.{IsCount}
 use Rattle.dot_context_runs.specs.Runs.{AreLong}
 use Rattle.orswot_core_told.specs.Checks.{has_repeat}
 use Rattle.orswot_core_told.specs.Telling.{covers}
-use Rattle.delta_range.specs.Deltas.{DeltaValue, GoesOn}
-use Rattle.delta_range.specs.Keeping.{IsNext}
+use Rattle.presence_journal_data.specs.Deltas.{DeltaValue, GoesOn}
+use Rattle.presence_journal_data.specs.Keeping.{IsNext}
 use Rattle.presence_journal_data.specs.declared.step.Step.TheVariants as steps_are
 use Rattle.presence_journal_data.specs.declared.entry.Outcome.TheVariants as outcomes_are
 use Rattle.presence_journal_data.specs.StepLimits.{is_heard, is_within_limits}

@@ -1,9 +1,10 @@
 ghost use Rattle.std.specs.Prelude.{◌≡◌, ◌++◌, ◌∷◌, [], OnOk, OnErr};
 
-use delta_range::Generations;
 use orswot_core_told::Told;
 use presence_base::{MAX_COUNT, Replica};
-use presence_journal_data::{Chains, Entry, Outcome, Runs, Standings, Start, Step, Subscribers};
+use presence_journal_data::{
+    Chains, Entry, Generations, Outcome, Runs, Standings, Start, Step, Subscribers,
+};
 use std::alloc::{AllocError, Global};
 use std::marker::Model;
 

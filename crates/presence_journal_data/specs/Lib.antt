@@ -3,3 +3,5 @@ pub mod StepLimits
 pub mod HeldDots
 pub mod HeldRows
 pub mod RowDots
+pub use Rattle.delta_range.specs.Deltas
+pub use Rattle.delta_range.specs.Keeping

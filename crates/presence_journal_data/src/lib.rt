@@ -10,6 +10,7 @@ mod shared;
 mod shared_rows;
 mod step;
 
+pub use delta_range::Generations;
 pub use entry::{Dots, Entry, Outcome, Start};
 pub use limits::{MAX_PAYLOAD_DEPTH, MAX_TAKEN, Payload, TakeLimit};
 pub use presence_journal_kept::{Chains, Runs, Standings, Subscribers};

@@ -1,12 +1,11 @@
 // Differences and shouts with the texts of their payloads, made once for all who are told of them.
 ghost use Rattle.std.specs.Prelude.{◌≡◌, IfOk, string_bytes};
 ghost use Rattle.serde_json.specs.Written.{compact_text};
-ghost use Rattle.presence_metas.specs.Values.{diff_of};
+ghost use Rattle.presence_metas_texts.specs.Values.{diff_of};
 
 use crate::limits::Payload;
 use crate::rows::RowDiff;
-use presence_metas::diff_value;
-use presence_metas_texts::{are_in_key_order, diff_text};
+use presence_metas_texts::{are_in_key_order, diff_text, diff_value};
 use std::alloc::{AllocError, Global};
 use std::fmt::{self, Debug, Formatter, Write};
 use std::marker::Model;
@@ -66,7 +65,7 @@ fn write_diff(alloc: Global, diff: &RowDiff) -> Result<String, AllocError>
 impl SharedDiff {
     ghost use Rattle.std.specs.Prelude.{◌≡◌, IfOk};
     ghost use Rattle.serde_json.specs.Written.{compact_text};
-    ghost use Rattle.presence_metas.specs.Values.{diff_of};
+    ghost use Rattle.presence_metas_texts.specs.Values.{diff_of};
 
     /// Writes the text that tells the difference.
     pub fn new(alloc: Global, diff: RowDiff) -> Result<SharedDiff, AllocError>

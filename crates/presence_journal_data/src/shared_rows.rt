@@ -2,13 +2,12 @@
 ghost use Rattle.std.specs.Prelude.{◌≡◌, IfOk, IfSome, string_bytes};
 ghost use Rattle.std.specs.Arc.{arc_value};
 ghost use Rattle.serde_json.specs.Written.{compact_text};
-ghost use Rattle.presence_metas.specs.Values.{state_of};
+ghost use Rattle.presence_metas_texts.specs.Values.{state_of};
 ghost use Rattle.presence_journal_data.specs.RowDots.{dots_in};
 
 use crate::entry::Dots;
 use presence_base::{Dot, Row};
-use presence_metas::state_value;
-use presence_metas_texts::{are_in_key_order, state_text};
+use presence_metas_texts::{are_in_key_order, state_text, state_value};
 use std::alloc::{AllocError, Global};
 use std::fmt::{self, Debug, Formatter, Write};
 use std::marker::Model;
@@ -125,7 +124,7 @@ fn write_rows(
 impl SharedRows {
     ghost use Rattle.std.specs.Prelude.{◌≡◌, IfOk, IfSome, string_bytes};
     ghost use Rattle.serde_json.specs.Written.{compact_text};
-    ghost use Rattle.presence_metas.specs.Values.{state_of};
+    ghost use Rattle.presence_metas_texts.specs.Values.{state_of};
     ghost use Rattle.presence_journal_data.specs.RowDots.{dots_in};
 
     /// The rows, without their text. It copies none of them but their dots.

@@ -12,4 +12,6 @@ mod rows;
 mod states;
 
 pub use order::are_in_key_order;
+// What writes the same by way of values.
+pub use presence_metas::{diff_value, state_value};
 pub use states::{diff_text, push_state, state_text};

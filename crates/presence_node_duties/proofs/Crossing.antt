@@ -7,9 +7,9 @@ use Rattle.std.proofs.MapsCrossing as maps
 use Rattle.std.specs.declared.sync.ledger.Ledger as Ledger
 use Rattle.shard_pool.specs.Lane as Lane
 use Rattle.shard_pool.proofs.Crossing.{seat_send}
-use Rattle.presence_node_workers.proofs.Crossing.{worker_send}
 use Rattle.presence_node_sockets.specs.contracts.watch.Watch as Watch
 use Rattle.presence_node_leaving.specs.contracts.leaving.Leavers as Leavers
+use Rattle.presence_node_leaving.proofs.Crossing.{worker_send}
 use Rattle.hook_registry.specs.contracts.routes.Routes as Routes
 use Rattle.presence_node_duties.specs.contracts.bench.Bench as Bench
 use Rattle.presence_node_duties.specs.contracts.place.Workplace as Workplace

@@ -2,12 +2,11 @@
 use crate::server::Server;
 use hook_registry::PresenceHooks;
 use presence_node_hints::{Followed, HintingPort, Noted, Topics, follows};
-use presence_node_leaving::Leavers;
+use presence_node_leaving::{Client, Leavers, Stage, Worker};
 use presence_node_link_threads::time_behind;
 use presence_node_ports::PoolPort;
 use presence_node_queue::Taker;
 use presence_node_sockets::{Watch, number_of};
-use presence_node_workers::{Client, Stage, Worker};
 use shard_pool::{Lane, Seat};
 use std::alloc::Global;
 use std::net::TcpStream;

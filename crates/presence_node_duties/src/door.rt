@@ -3,10 +3,10 @@ ghost use Rattle.std.specs.Prelude.{◌<◌};
 
 use crate::server::Server;
 use presence_node_handshakes::{Guests, Opened};
+use presence_node_leaving::socket_config;
 use presence_node_link_threads::time_behind;
 use presence_node_queue::Giver;
 use presence_node_sockets::{LAST_TOKEN, Watch, next_stream, number_of};
-use presence_node_workers::socket_config;
 use shard_pool::Lane;
 use std::alloc::Global;
 use std::net::{TcpListener, TcpStream};

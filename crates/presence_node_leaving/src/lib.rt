@@ -6,3 +6,5 @@
 mod leaving;
 
 pub use leaving::Leavers;
+// What it takes the clients from.
+pub use presence_node_workers::{Client, Stage, Worker, socket_config};

@@ -7,11 +7,11 @@ use Rattle.replica_status.specs.declared.status.Status.{Status}
 use Rattle.presence_journal_data.specs.declared.step.Step.{Step}
 use Rattle.presence_journal_data.specs.declared.step.Step.TheVariants as steps_are
 use Rattle.presence_journal.specs.History.{History, IsTop, status as status_in}
-use Rattle.presence_journal_sets.specs.Full.{IsFullOf}
-use Rattle.presence_journal_cuts.specs.KeptDeltas.{IsToldFrom}
-use Rattle.shard_pool_lent.specs.ShardFault.{ShardFault}
-use Rattle.shard_pool_lent.specs.ShardFault.TheVariants as faults
-use Rattle.shard_pool_locks.specs.Unseated.{IsBehind, IsMade, IsCutMade}
+use Rattle.shard_pool.specs.Full.{IsFullOf}
+use Rattle.shard_pool.specs.KeptDeltas.{IsToldFrom}
+use Rattle.shard_pool.specs.ShardFault.{ShardFault}
+use Rattle.shard_pool.specs.ShardFault.TheVariants as faults
+use Rattle.shard_pool.specs.Unseated.{IsBehind, IsMade, IsCutMade}
 use Rattle.node_links_lines.specs.declared.lines.Line.{Line}
 use Rattle.node_links_lines.specs.declared.lines.Line.TheVariants as lines
 use Rattle.node_links_acts.specs.Asks.{Ask, Answer, status, heard, merge, permdown, top, told_from, full}

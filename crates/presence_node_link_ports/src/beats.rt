@@ -1,7 +1,7 @@
 //! What a period of the ticker asks of a shard, and the beat that it makes.
 ghost use Rattle.std.specs.Prelude.{◌≡◌, ◌<◌, IfOk};
 ghost use Rattle.presence_journal_data.specs.declared.step.Step.TheVariants as steps_are;
-ghost use Rattle.shard_pool_locks.specs.Unseated.{IsBehind, IsMade, IsCutMade};
+ghost use Rattle.shard_pool.specs.Unseated.{IsBehind, IsMade, IsCutMade};
 ghost use Rattle.presence_node_link_ports.specs.Asking.{beat_line, news_of};
 
 use crate::fault::is_full;

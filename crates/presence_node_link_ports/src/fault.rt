@@ -1,5 +1,5 @@
 ghost use Rattle.std.specs.Prelude.{◌≡◌, true, false, Err};
-ghost use Rattle.shard_pool_lent.specs.ShardFault.TheVariants.{JournalFull};
+ghost use Rattle.shard_pool.specs.ShardFault.TheVariants.{JournalFull};
 ghost use Rattle.presence_node_link_ports.specs.Asking.{act_fault, told_of};
 
 use node_links_acts::ActFault;

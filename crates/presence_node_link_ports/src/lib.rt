@@ -10,3 +10,4 @@ mod link_port;
 
 pub use beats::{beat_of, cut_off, let_pass};
 pub use link_port::PoolLinkPort;
+pub use shard_pool::{Gate, Lane, Pool};

@@ -1,5 +1,5 @@
 ghost use Rattle.std.specs.Prelude.{◌≡◌, true, Err};
-ghost use Rattle.shard_pool_lent.specs.ShardFault.TheVariants.{JournalFull};
+ghost use Rattle.shard_pool.specs.ShardFault.TheVariants.{JournalFull};
 
 use crate::fault::{is_full, told};
 use node_links_acts::{ActFault, LinkPort};

@@ -3,9 +3,8 @@ ghost use Rattle.std.specs.Prelude.{◌≡◌, ◌<◌};
 
 use crate::links::{Links, Wakes};
 use node_links::Line;
-use presence_node_link_ports::{beat_of, cut_off, let_pass};
+use presence_node_link_ports::{Gate, Lane, Pool, beat_of, cut_off, let_pass};
 use presence_node_link_streams::time_behind;
-use shard_pool::{Gate, Lane, Pool};
 use std::sync::{Arc, Wait};
 use std::time::Clock;
 

@@ -9,5 +9,5 @@ mod client;
 mod worker;
 
 pub use client::Client;
-pub use presence_node_turns::{Cause, Stage, socket_config};
+pub use presence_node_turns::{Cause, Connection, Progress, Stage, close_code, socket_config};
 pub use worker::{MAX_CONNECTIONS, NoMore, Worker};

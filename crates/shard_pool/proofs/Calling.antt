@@ -3,9 +3,9 @@ use Rattle.std.proofs.Common.{◌≡◌, ◌<◌, ◌≤◌, ℕ, zero, suc, Boo
 use Rattle.std.specs.Prelude.{◌%◌, sum, Result}
 use Rattle.presence_journal_data.specs.declared.step.Step.{Step}
 use Rattle.presence_journal.specs.History.{History}
-use Rattle.shard_pool_lent.specs.ShardFault.{ShardFault}
-use Rattle.shard_pool_lent.specs.declared.reply.Reply.{Reply}
-use Rattle.shard_pool_lent.specs.Hands.{Hand}
+use Rattle.shard_pool_locks.specs.ShardFault.{ShardFault}
+use Rattle.shard_pool_locks.specs.Reply.{Reply}
+use Rattle.shard_pool_locks.specs.Hands.{Hand}
 use Rattle.shard_pool_locks.specs.Seated.{Called}
 use Rattle.shard_pool.specs.Seats.{Hands, CalledAt, IsSeated, shard_of}
 

@@ -1,34 +1,13 @@
--- Receipts, shards and so what a pool holds may go to another thread. One search for each gives up, so it goes by the parts.
+-- Seats and pools may go to another thread. One search for each gives up, so it goes by the parts.
 use denote.RattleType.{RattleType}
 use denote.Param.Send.{IsSend, IsSync, sendable}
 use Rattle.std.specs.declared.sync.ledger.Ledger as Ledger
-use Rattle.std.proofs.sync.ledger.Book.TheSendSync as book
-use Rattle.std.proofs.sync.ledger.Share.TheSendSync as share
 use Rattle.std.proofs.Crossing as heap
-use Rattle.shard_pool_lent.proofs.Crossing.{step_send, outcome_send, shard_field}
-use Rattle.shard_pool_settled.specs.contracts.receipt.Receipt as Receipt
-use Rattle.shard_pool_lent.specs.declared.lane.Lane as Lane
-use Rattle.shard_pool_lent.specs.contracts.locked.Locked as Locked
-use Rattle.shard_pool_lent.specs.contracts.part.Part as Part
+use Rattle.shard_pool_locks.specs.Lane as Lane
+use Rattle.shard_pool_locks.proofs.Crossing.{part_send, locked_send}
 use Rattle.shard_pool.specs.contracts.pool.Pool as Pool
 use Rattle.shard_pool.specs.contracts.seat.Seat as Seat
-
--- ---- a receipt
-
-pub receipt_field : IsSend (Receipt.the_field).row
-receipt_field = search (step_send, outcome_send, sendable) depth 60 fits 20000
-
-pub receipt_send : IsSend Receipt.the_row
-receipt_send = search (receipt_field, sendable) depth 60 fits 20000
-
--- ---- a seat and a pool
-
-module _ (L : RattleType) (lane : Lane.Ghosts L.Denot) (ledger : Ledger.Ghosts L.Denot) where
-  pub part_send : IsSend (Part.the_field L lane ledger).row
-  part_send = search (receipt_send, receipt_field, share.the_send, heap.crosses, sendable) depth 60 fits 20000
-
-  pub locked_send : IsSend (Locked.the_field L lane ledger).row
-  locked_send = search (shard_field, book.the_send, heap.crosses, sendable) depth 60 fits 20000
+pub use Rattle.shard_pool_locks.proofs.Crossing.{receipt_send}
 
 module _ (A B C D : RattleType) (lane-a : Lane.Ghosts A.Denot) (lane-b : Lane.Ghosts B.Denot) (lane-c : Lane.Ghosts C.Denot) (lane-d : Lane.Ghosts D.Denot) (a : Ledger.Ghosts A.Denot) (b : Ledger.Ghosts B.Denot) (c : Ledger.Ghosts C.Denot) (d : Ledger.Ghosts D.Denot) where
   pub seat_send : IsSend (Seat.the_field A B C D lane-a a lane-b b lane-c c lane-d d).row

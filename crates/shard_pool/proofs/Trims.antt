@@ -1,6 +1,6 @@
 -- A seat that is trimmed shard by shard.
 use Rattle.std.proofs.Common.{◌≡◌, ℕ, List}
-use Rattle.shard_pool_lent.specs.Hands.{without_receipts}
+use Rattle.shard_pool_locks.specs.Hands.{without_receipts}
 use Rattle.shard_pool.specs.Seats.{Hands, IsStartOf, IsTrimmed}
 
 pub trimmed : (node : List ℕ) (old new : Hands) (a b c d : ℕ) → IsStartOf node a → IsStartOf node b → IsStartOf node c → IsStartOf node d

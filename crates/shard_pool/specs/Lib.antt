@@ -1,10 +1,12 @@
 pub mod Seats
 pub mod Codes
 pub mod Settling
-pub use Rattle.shard_pool_lent.specs.declared.reply.Reply
-pub use Rattle.shard_pool_lent.specs.declared.lane.Lane
+pub use Rattle.shard_pool_locks.specs.Reply
+pub use Rattle.shard_pool_locks.specs.Lane
 pub use Rattle.shard_pool_settled.specs.Settled
 pub use Rattle.shard_pool_settled.specs.declared.fault.SettleFault
-pub use Rattle.shard_pool_lent.specs.ShardFault
+pub use Rattle.shard_pool_locks.specs.ShardFault
 pub use Rattle.shard_pool_locks.specs.Unseated
 pub use Rattle.shard_pool_locks.specs.Seated
+pub use Rattle.shard_pool_locks.specs.Full
+pub use Rattle.shard_pool_locks.specs.KeptDeltas

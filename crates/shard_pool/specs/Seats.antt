@@ -2,9 +2,9 @@
 use Rattle.std.specs.Prelude.{◌≡◌, ◌==◌, ◌%◌, ℕ, zero, suc, Bool, List, [], ◌∷◌, ◌++◌, cond, sum, Result}
 use Rattle.presence_journal_data.specs.declared.step.Step.{Step}
 use Rattle.presence_journal.specs.History.{History, start_of}
-use Rattle.shard_pool_lent.specs.ShardFault.{ShardFault}
-use Rattle.shard_pool_lent.specs.declared.reply.Reply.{Reply}
-use Rattle.shard_pool_lent.specs.Hands.{Hand, new_hand, without_receipts}
+use Rattle.shard_pool_locks.specs.ShardFault.{ShardFault}
+use Rattle.shard_pool_locks.specs.Reply.{Reply}
+use Rattle.shard_pool_locks.specs.Hands.{Hand, new_hand, without_receipts}
 use Rattle.shard_pool_locks.specs.Seated.{Called}
 use Rattle.shard_pool_locks.specs.Unseated.{IsBehind}
 

@@ -1,12 +1,11 @@
 ghost use Rattle.std.specs.Prelude.{◌≡◌, ◌+◌, ◌<◌, ◌≤◌, IfOk, IfErr};
 ghost use Rattle.presence_base.specs.Refs.{IsCount};
-ghost use Rattle.shard_pool_lent.specs.ShardFault.TheVariants.{OutOfMemory};
+ghost use Rattle.shard_pool_locks.specs.ShardFault.TheVariants.{OutOfMemory};
 ghost use Rattle.shard_pool.specs.Seats.{new_seat, new_seats};
 
 use crate::seat::Seat;
 use presence_base::Replica;
-use shard_pool_lent::{Lane, Locked, Part, PoolFault};
-use shard_pool_locks::Gate;
+use shard_pool_locks::{Gate, Lane, Locked, Part, PoolFault};
 use std::alloc::Global;
 use std::sync::Mutex;
 use std::sync::ledger::{Blank, Book, Share};

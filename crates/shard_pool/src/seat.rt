@@ -1,6 +1,6 @@
 ghost use Rattle.std.specs.Prelude.{◌≡◌, IfOk};
 
-use shard_pool_lent::{Lane, Part};
+use shard_pool_locks::{Lane, Part};
 use shard_pool_settled::Receipt;
 use std::alloc::{AllocError, Global};
 use std::marker::Model;
@@ -39,7 +39,7 @@ fn copied(alloc: Global, receipts: &[Receipt]) -> Result<Vec<Receipt>, AllocErro
 
 impl<A: Lane, B: Lane, C: Lane, D: Lane> Seat<A, B, C, D> {
     ghost use Rattle.std.specs.Prelude.{◌≡◌, ◌<◌, IfOk};
-    ghost use Rattle.shard_pool_lent.specs.Hands.{new_hand};
+    ghost use Rattle.shard_pool_locks.specs.Hands.{new_hand};
     ghost use Rattle.shard_pool.specs.Seats.{new_seat, without_receipts_at};
     ghost use Rattle.shard_pool.specs.Settling.{receipts_of};
 

@@ -4,7 +4,7 @@ ghost use Rattle.presence_journal.specs.Limits.{is_payload, is_take_limit};
 ghost use Rattle.presence_journal.specs.Present.{listed, dots_of};
 ghost use Rattle.presence_journal.specs.Queue.{items_given};
 ghost use Rattle.presence_journal.specs.Table.{outcome_of, rows_of_key, rows_of_pid, listed_key};
-ghost use Rattle.shard_pool_lent.specs.Steps.{new_dot, slot_of};
+ghost use Rattle.shard_pool_locks.specs.Steps.{new_dot, slot_of};
 ghost use Rattle.shard_pool_locks.specs.Seated.{always, finds};
 ghost use Rattle.shard_pool.specs.Seats.{CalledAt, shard_of};
 
@@ -12,10 +12,10 @@ use crate::pool::Pool;
 use crate::seat::Seat;
 use presence_base::{Dot, Json, Key, Meta, Row, Topic, shard_of};
 use presence_journal::{Item, SharedRows, Step};
-use shard_pool_lent::{Lane, PoolFault, Reply, Sub};
 use shard_pool_locks::{
-    Gate, locked_get, locked_list, locked_shout, locked_subscribe, locked_take, locked_track,
-    locked_unsubscribe, locked_untrack, locked_untrack_all, locked_update,
+    Gate, Lane, PoolFault, Reply, Sub, locked_get, locked_list, locked_shout, locked_subscribe,
+    locked_take, locked_track, locked_unsubscribe, locked_untrack, locked_untrack_all,
+    locked_update,
 };
 use std::alloc::Global;
 use std::sync::Wait;

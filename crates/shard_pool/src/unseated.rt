@@ -2,9 +2,9 @@
 // contracts name a history behind the answer at most.
 ghost use Rattle.std.specs.Prelude.{◌≡◌, ◌<◌, IfOk, IfErr};
 ghost use Rattle.presence_journal.specs.History.{IsTop, start_of, status};
-ghost use Rattle.presence_journal_sets.specs.Full.{IsFullOf};
-ghost use Rattle.presence_journal_cuts.specs.KeptDeltas.{IsToldFrom};
-ghost use Rattle.shard_pool_lent.specs.ShardFault.TheVariants.{OutOfMemory};
+ghost use Rattle.shard_pool_locks.specs.Full.{IsFullOf};
+ghost use Rattle.shard_pool_locks.specs.KeptDeltas.{IsToldFrom};
+ghost use Rattle.shard_pool_locks.specs.ShardFault.TheVariants.{OutOfMemory};
 ghost use Rattle.shard_pool_locks.specs.Unseated.{IsOf, IsBehind, IsMade, IsCutMade, IsCheckpointed, TellsWaiting};
 ghost use Rattle.shard_pool.specs.Seats.{shard_of, IsTrimmed};
 
@@ -15,11 +15,10 @@ use orswot_core_told::Told;
 use presence_base::{Replica, Topic, shard_of};
 use presence_journal::{Journal, Step};
 use replica_status::Status;
-use shard_pool_lent::{Lane, PoolFault, Sub};
 use shard_pool_locks::{
-    Gate, locked_checkpoint, locked_cut, locked_full, locked_heard, locked_journal, locked_merge,
-    locked_permdown, locked_start_of, locked_status, locked_tick, locked_told_from, locked_top,
-    locked_trim, locked_waits,
+    Gate, Lane, PoolFault, Sub, locked_checkpoint, locked_cut, locked_full, locked_heard,
+    locked_journal, locked_merge, locked_permdown, locked_start_of, locked_status, locked_tick,
+    locked_told_from, locked_top, locked_trim, locked_waits,
 };
 use std::alloc::Global;
 use std::sync::Wait;

@@ -1,3 +1,3 @@
 pub mod Counts
 pub mod Notes
-pub use Rattle.tracker_shard.proofs.Crossing
+pub mod Crossing

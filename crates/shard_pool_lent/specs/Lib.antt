@@ -5,3 +5,6 @@ pub use Rattle.tracker_shard.specs.Steps
 pub use Rattle.tracker_shard.specs.declared.fault.ShardFault
 pub use Rattle.tracker_shard.specs.declared.shard.Sub
 pub use Rattle.tracker_shard.specs.Starting
+pub use Rattle.tracker_shard.specs.Full
+pub use Rattle.tracker_shard.specs.Cuts
+pub use Rattle.tracker_shard.specs.KeptDeltas

@@ -4,9 +4,9 @@ ghost use Rattle.presence_journal.specs.History.{begun, own, last_number, status
 ghost use Rattle.presence_journal.specs.Limits.{is_payload, is_take_limit};
 ghost use Rattle.presence_journal.specs.Queue.{queue, is_waiting};
 ghost use Rattle.presence_journal.specs.Table.{IsLegal, outcome_of};
-ghost use Rattle.presence_journal_sets.specs.Full.{IsFullOf};
-ghost use Rattle.presence_journal_cuts.specs.Cuts.{IsCut};
-ghost use Rattle.presence_journal_cuts.specs.KeptDeltas.{IsToldFrom};
+ghost use Rattle.tracker_shard.specs.Full.{IsFullOf};
+ghost use Rattle.tracker_shard.specs.Cuts.{IsCut};
+ghost use Rattle.tracker_shard.specs.KeptDeltas.{IsToldFrom};
 ghost use Rattle.tracker_shard.specs.Steps.{Stepped, Answers, AnswersDot, IsDue, refusal, refusal_at, is_found};
 ghost use Rattle.tracker_shard.specs.Steps.{AnswersRowsOfKey, AnswersRowsOfPid, AnswersListed, AnswersListedKey};
 ghost use Rattle.tracker_shard.specs.Steps.{AnswersItems, AnswersSub, checkpoint_refusal};

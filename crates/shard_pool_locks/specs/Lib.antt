@@ -1,2 +1,10 @@
 pub mod Seated
 pub mod Unseated
+pub use Rattle.shard_pool_lent.specs.declared.reply.Reply
+pub use Rattle.shard_pool_lent.specs.declared.lane.Lane
+pub use Rattle.shard_pool_lent.specs.Hands
+pub use Rattle.shard_pool_lent.specs.Codes
+pub use Rattle.shard_pool_lent.specs.Steps
+pub use Rattle.shard_pool_lent.specs.ShardFault
+pub use Rattle.shard_pool_lent.specs.Full
+pub use Rattle.shard_pool_lent.specs.KeptDeltas

@@ -6,7 +6,7 @@ use Rattle.presence_journal_data.specs.declared.step.Step.TheVariants as steps_a
 use Rattle.presence_journal.specs.History.{History, own}
 use Rattle.presence_journal.specs.Queue.{queue, is_waiting}
 use Rattle.presence_journal.specs.Table.{IsLegal, outcome_of}
-use Rattle.presence_journal_cuts.specs.Cuts.{IsCut}
+use Rattle.shard_pool_lent.specs.Cuts.{IsCut}
 use Rattle.shard_pool_lent.specs.Sub.{Sub}
 use Rattle.shard_pool_lent.specs.ShardFault.{ShardFault}
 use Rattle.shard_pool_lent.specs.ShardFault.TheVariants.{NoSub}

@@ -14,6 +14,11 @@ pub use seated::{
     locked_get, locked_list, locked_shout, locked_subscribe, locked_take, locked_track,
     locked_unsubscribe, locked_untrack, locked_untrack_all, locked_update,
 };
+pub use shard_pool_lent::{
+    Lane, Locked, Part, PoolFault, Reply, Sub, lent_get, lent_list, lent_shout, lent_start,
+    lent_subscribe, lent_take, lent_track, lent_unsubscribe, lent_untrack, lent_untrack_all,
+    lent_update,
+};
 pub use unseated::{
     locked_checkpoint, locked_cut, locked_full, locked_heard, locked_journal, locked_merge,
     locked_permdown, locked_start_of, locked_status, locked_tick, locked_told_from, locked_top,

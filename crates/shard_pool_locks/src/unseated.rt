@@ -2,8 +2,8 @@
 // and of the node.
 ghost use Rattle.std.specs.Prelude.{◌≡◌, IfOk, IfErr};
 ghost use Rattle.presence_journal.specs.History.{IsTop, start_of, status};
-ghost use Rattle.presence_journal_sets.specs.Full.{IsFullOf};
-ghost use Rattle.presence_journal_cuts.specs.KeptDeltas.{IsToldFrom};
+ghost use Rattle.shard_pool_lent.specs.Full.{IsFullOf};
+ghost use Rattle.shard_pool_lent.specs.KeptDeltas.{IsToldFrom};
 ghost use Rattle.shard_pool_lent.specs.Hands.{without_receipts};
 ghost use Rattle.shard_pool_lent.specs.ShardFault.TheVariants.{OutOfMemory};
 ghost use Rattle.shard_pool_locks.specs.Unseated.{IsOf, IsBehind, IsMade, IsCutMade, IsCheckpointed, TellsWaiting};

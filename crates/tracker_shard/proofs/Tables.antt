@@ -11,7 +11,7 @@ use Rattle.presence_journal_data.specs.declared.step.Step.TheVariants as steps_a
 use Rattle.presence_journal_data.specs.declared.entry.Outcome.{Outcome}
 use Rattle.presence_journal_data.specs.declared.entry.Outcome.TheVariants as outcomes_are
 use Rattle.delta_range.specs.Deltas.{DeltaValue}
-use Rattle.presence_journal_cuts.specs.Cuts.{IsCut}
+use Rattle.tracker_shard_indexed.specs.Cuts.{IsCut}
 use Rattle.presence_journal.specs.History.{History, count, is_full, next_dot, last_number}
 use Rattle.presence_journal.specs.Present.{listed, dots_of}
 use Rattle.presence_journal.specs.Queue.{queue, topic_of, is_waiting}

@@ -51,9 +51,9 @@ impl Shard {
     ghost use Rattle.presence_journal.specs.Limits.{is_payload, is_take_limit};
     ghost use Rattle.presence_journal.specs.Queue.{queue, is_waiting};
     ghost use Rattle.presence_journal.specs.Table.{IsLegal, AreWithinLimits, outcome_of};
-    ghost use Rattle.presence_journal_cuts.specs.Cuts.{IsCut};
-    ghost use Rattle.presence_journal_cuts.specs.KeptDeltas.{IsToldFrom};
-    ghost use Rattle.presence_journal_sets.specs.Full.{IsFullOf};
+    ghost use Rattle.tracker_shard_indexed.specs.Cuts.{IsCut};
+    ghost use Rattle.tracker_shard_indexed.specs.KeptDeltas.{IsToldFrom};
+    ghost use Rattle.tracker_shard_indexed.specs.Full.{IsFullOf};
     ghost use Rattle.tracker_shard.specs.Steps.{Stepped, Answers, IsDue, refusal, refusal_at, is_found};
     ghost use Rattle.tracker_shard.specs.Steps.{AnswersDot, AnswersRowsOfKey, AnswersRowsOfPid, AnswersListed};
     ghost use Rattle.tracker_shard.specs.Steps.{AnswersListedKey, AnswersItems, AnswersSub};

@@ -3,3 +3,6 @@ mod ChainLemmas
 mod UntoldLemmas
 mod ChangeLemmas
 mod ListingLemmas
+pub mod Crossing
+pub use Rattle.presence_journal_starts.proofs.Sound
+pub use Rattle.presence_journal_starts.proofs.Told

@@ -12,4 +12,6 @@ mod putting;
 mod start;
 mod untold;
 
+// The walk that tells the same.
+pub use presence_journal_cuts::walk_cut;
 pub use untold::Untold;

@@ -8,15 +8,12 @@ use Rattle.presence_base.specs.contracts.meta.Meta as Meta
 use Rattle.presence_base.specs.contracts.row.Row as Row
 use Rattle.presence_base.specs.contracts.names.Topic as Topic
 use Rattle.presence_base.specs.contracts.names.Key as Key
-use Rattle.presence_base.specs.contracts.dots.Replica as Replica
 use Rattle.presence_base.specs.contracts.dots.Dot as Dot
 use Rattle.dot_context_runs.specs.contracts.runs.Runs as Runs
 use Rattle.dot_context.specs.contracts.context.Context as Context
 use Rattle.orswot_core.specs.contracts.set.Orswot as Orswot
 use Rattle.delta_range.specs.contracts.delta.Delta as Delta
 use Rattle.delta_range.specs.contracts.generations.Generations as Generations
-use Rattle.presence_journal_cuts.specs.contracts.chain.Chain as Chain
-use Rattle.tracker_shard_known_others.specs.contracts.others.Others as Others
 use Rattle.tracker_shard_known.specs.contracts.known.Known as Known
 use Rattle.tracker_shard_cuts.specs.contracts.untold.Untold as Untold
 use Rattle.orswot_core_told.specs.contracts.told.Told as Told
@@ -30,6 +27,8 @@ use Rattle.presence_journal_kept.specs.contracts.kept.Chains as Chains
 use Rattle.presence_journal_kept.specs.contracts.kept.Subscribers as Subscribers
 use Rattle.presence_journal_kept.specs.contracts.standings.Standings as Standings
 use Rattle.presence_journal.specs.contracts.journal.Journal as Journal
+use Rattle.tracker_shard_known.proofs.Crossing.{replica_send, others_send}
+use Rattle.tracker_shard_cuts.proofs.Crossing.{chain_send}
 use Rattle.tracker_shard_shown.proofs.Crossing.{shown_send}
 use Rattle.tracker_shard_feeds.proofs.Crossing.{feeds_send}
 use Rattle.tracker_shard_indexed.specs.contracts.parts.Parts as Parts
@@ -53,9 +52,6 @@ key_send = search (heap.crosses, sendable) depth 60 fits 20000
 dot_send : IsSend (Dot.the_field).row
 dot_send = search sendable depth 60 fits 20000
 
-replica_send : IsSend (Replica.the_field).row
-replica_send = search sendable depth 60 fits 20000
-
 row_send : IsSend (Row.the_field).row
 row_send = search (meta_send, topic_send, key_send, dot_send, sendable) depth 60 fits 20000
 
@@ -68,9 +64,6 @@ context_send = search (runs_send, replica_send, maps.crosses, heap.crosses, send
 set_send : IsSend (Orswot.the_field).row
 set_send = search (context_send, dot_send, row_send, maps.crosses, heap.crosses, sendable) depth 60 fits 20000
 
-others_send : IsSend (Others.the_field).row
-others_send = search (replica_send, maps.crosses, heap.crosses, sendable) depth 60 fits 20000
-
 known_send : IsSend (Known.the_field).row
 known_send = search (set_send, others_send, sendable) depth 60 fits 20000
 
@@ -79,9 +72,6 @@ delta_send = search (replica_send, dot_send, row_send, heap.crosses, sendable) d
 
 generations_send : IsSend (Generations.the_field).row
 generations_send = search (replica_send, delta_send, heap.crosses, sendable) depth 60 fits 20000
-
-chain_send : IsSend (Chain.the_field).row
-chain_send = search (heap.crosses, sendable) depth 60 fits 20000
 
 untold_send : IsSend (Untold.the_field).row
 untold_send = search (replica_send, chain_send, dot_send, row_send, generations_send, maps.crosses, heap.crosses, sendable) depth 60 fits 20000

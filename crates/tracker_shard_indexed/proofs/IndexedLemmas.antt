@@ -16,10 +16,10 @@ use Rattle.presence_journal.specs.Table.{IsLegal, AreWithinLimits, IsKept, outco
 use Rattle.presence_journal.proofs.HistoryLemmas.{after-accepted, within_step}
 use Rattle.delta_range.specs.Deltas.{DeltaValue, telling}
 use Rattle.delta_range.specs.Keeping.{from_count}
-use Rattle.presence_journal_cuts.specs.Cuts.{IsCut}
-use Rattle.presence_journal_cuts.specs.KeptDeltas.{TellsOrAll, IsToldFrom}
-use Rattle.presence_journal_sets.specs.LeftOut.{HoldsCovered}
-use Rattle.presence_journal_sets.specs.Full.{IsFullOf}
+use Rattle.tracker_shard_cuts.specs.Cuts.{IsCut}
+use Rattle.tracker_shard_cuts.specs.KeptDeltas.{TellsOrAll, IsToldFrom}
+use Rattle.tracker_shard_cuts.specs.LeftOut.{HoldsCovered}
+use Rattle.tracker_shard_cuts.specs.Full.{IsFullOf}
 use Rattle.tracker_shard_known.specs.Known.{IsKnownOf}
 use Rattle.tracker_shard_shown.specs.declared.shown.Shown.{Shown}
 use Rattle.tracker_shard_shown.specs.Kept.{IsShownOf, IsNothing}

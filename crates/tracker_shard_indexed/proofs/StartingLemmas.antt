@@ -6,10 +6,10 @@ use Rattle.presence_journal_data.specs.StepLimits.{is_heard}
 use Rattle.presence_journal.specs.Steps.{Entry, Start}
 use Rattle.presence_journal.specs.History.{History, Begin, Then, onto, own, count, last_number, time, last_cut}
 use Rattle.presence_journal.specs.Table.{IsStart, IsLegal}
-use Rattle.presence_journal_sets.specs.Full.{IsFullOf}
-use Rattle.presence_journal_cuts.specs.KeptDeltas.{AreKeptOf}
-use Rattle.presence_journal_starts.proofs.Sound.{is_sound, begins_kept}
-use Rattle.presence_journal_starts.proofs.Told.{full_stands}
+use Rattle.tracker_shard_cuts.specs.Full.{IsFullOf}
+use Rattle.tracker_shard_cuts.specs.KeptDeltas.{AreKeptOf}
+use Rattle.tracker_shard_cuts.proofs.Sound.{is_sound, begins_kept}
+use Rattle.tracker_shard_cuts.proofs.Told.{full_stands}
 use Rattle.tracker_shard_known.specs.Starts.{ListsStandings}
 use Rattle.tracker_shard_cuts.specs.Listed.{AreOlder, AreListed as AreListedChains}
 use Rattle.tracker_shard_feeds.specs.Fed.{Fed, IsFedBy}

@@ -11,12 +11,13 @@ use delta_range::Delta;
 use orswot_core::Told;
 use presence_base::{Dot, Key, Replica, Row, Topic};
 use presence_journal::Journal;
-use presence_journal_cuts::walk_cut;
 use presence_journal_data::{Item, Outcome, SharedRows, Step};
-use presence_journal_walks::{walk_set, walk_status, walk_top, walk_topic, walk_waits};
+use presence_journal_waits::{walk_topic, walk_waits};
 use replica_status::Status;
 use std::alloc::{AllocError, Global};
 use std::marker::Model;
+use tracker_shard_cuts::walk_cut;
+use tracker_shard_known::{walk_set, walk_status, walk_top};
 
 /// A journal, and what is kept of it in place of walking it.
 ///
@@ -71,9 +72,9 @@ impl Indexed {
     ghost use Rattle.presence_journal.specs.Present.{listed};
     ghost use Rattle.presence_journal.specs.Queue.{topic_of, queue, items_given, is_waiting};
     ghost use Rattle.presence_journal.specs.Table.{IsLegal, AreWithinLimits, outcome_of, after, listed_key, rows_of_key, rows_of_pid};
-    ghost use Rattle.presence_journal_cuts.specs.Cuts.{IsCut};
-    ghost use Rattle.presence_journal_cuts.specs.KeptDeltas.{IsToldFrom};
-    ghost use Rattle.presence_journal_sets.specs.Full.{IsFullOf};
+    ghost use Rattle.tracker_shard_cuts.specs.Cuts.{IsCut};
+    ghost use Rattle.tracker_shard_cuts.specs.KeptDeltas.{IsToldFrom};
+    ghost use Rattle.tracker_shard_cuts.specs.Full.{IsFullOf};
     ghost use Rattle.tracker_shard_indexed.specs.Starting.{IsBegunAgain};
     ghost use Rattle.tracker_shard_known.specs.Known.{next_left};
 

@@ -4,3 +4,4 @@ pub mod KnownLemmas
 pub mod TurnLemmas
 pub mod KnownTurns
 pub mod StartLemmas
+pub mod Crossing

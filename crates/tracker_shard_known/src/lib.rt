@@ -13,3 +13,5 @@ mod own;
 mod starting;
 
 pub use known::Known;
+// The walks that answer the same.
+pub use presence_journal_sets::{walk_set, walk_status, walk_top};

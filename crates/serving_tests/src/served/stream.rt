@@ -1,6 +1,6 @@
 //! A client's stream in memory, and the frames that it gives and takes.
 
-use presence_node_turns::socket_config;
+use presence_node_workers::socket_config;
 use std::alloc::{AllocError, Global};
 use std::io;
 use std::io::{ErrorKind, Read, Write};

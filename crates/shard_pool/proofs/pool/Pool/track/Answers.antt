@@ -2,7 +2,7 @@ use Rattle.std.proofs.Common.{◌≡◌, Some, subst}
 use Rattle.presence_base.specs.declared.dots.Dot.{Dot}
 use Rattle.presence_journal_data.specs.declared.step.Step.TheVariants as steps_are
 use Rattle.presence_journal.specs.Table.{outcome_of}
-use Rattle.shard_pool_lent.specs.Steps.{new_dot}
+use Rattle.shard_pool_locks.specs.Steps.{new_dot}
 use Rattle.shard_pool_locks.specs.Seated.{always}
 use Rattle.shard_pool.specs.Seats.{Hands, CalledAt, shard_of}
 use Rattle.shard_pool.proofs.Calling.{called_fourth}

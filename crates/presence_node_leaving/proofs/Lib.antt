@@ -1,0 +1,1 @@
+pub use Rattle.presence_node_workers.proofs.Crossing
