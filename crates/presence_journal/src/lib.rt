@@ -1,6 +1,6 @@
 //! The journal of a shard: what was asked and told, with the answers, and what these say of who is present.
 //!
-//! Its public contracts cite these definitions, and no others:
+//! Its public contracts cite these definitions, which stand on one another, and presence_base's `Refs`:
 //! - `specs/History`: a history, and what it says of each dot and replica; `specs/Codes`: how the logic stores it
 //! - `specs/Limits`: what a step may hold
 //! - `specs/Table`: the sequential presence table, and the histories that keep to it

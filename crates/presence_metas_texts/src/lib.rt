@@ -12,6 +12,6 @@ mod rows;
 mod states;
 
 pub use order::are_in_key_order;
-// What writes the same by way of values.
+// The objects whose texts these are.
 pub use presence_metas::{diff_value, state_value};
 pub use states::{diff_text, push_state, state_text};

@@ -6,5 +6,5 @@
 mod leaving;
 
 pub use leaving::Leavers;
-// What it takes the clients from.
+// What it takes the clients from, and what else is named of a worker above.
 pub use presence_node_workers::{Client, Stage, Worker, socket_config};

@@ -2,7 +2,8 @@
 //!
 //! Its public contracts cite `specs/Seated`: what a seated call leaves, and `specs/Unseated`: what stands
 //! behind the answer of a call without a seat. Both name a history behind the answer at most, since the lock
-//! is let go.
+//! is let go. They stand on shard_pool_lent's `Hands`, and on `Steps`, `Cuts`, `KeptDeltas` and `Full`, which it
+//! gives out.
 #![tactic(auto)]
 
 mod gate;

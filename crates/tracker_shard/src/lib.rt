@@ -1,7 +1,9 @@
-//! A shard: one table of presences, whose every call is one step of its journal.
+//! A shard: one table of presences. Each of its calls is one step of its journal, but for those that only ask what
+//! is told of it, and for the one that begins the journal again.
 //!
-//! Its public contracts cite `specs/Steps`: what a call answers and leaves, and when it refuses. That
-//! stands on presence_journal's `History`, `Table`, `Present`, `Queue` and `Limits`.
+//! Its public contracts cite `specs/Steps`: what a call answers and leaves, and when it refuses; presence_journal's
+//! `History`, `Table`, `Present`, `Queue` and `Limits`; and what tracker_shard_indexed gives out: `Cuts`, `KeptDeltas`,
+//! `Full` and `Starting`.
 #![tactic(auto)]
 
 mod answers;

@@ -1,9 +1,10 @@
 //! A journal with what is kept of it in place of walked: what is known, what is shown, what waits for subscribers, and
 //! what is not told yet.
 //!
-//! Its public contracts cite `specs/Seen`, on presence_journal's `History`, `Present`, `Queue` and `Table`. `specs/Parts`
-//! says how each part is tied to the history, and `specs/Starting` what a journal is that begins again, on
-//! presence_journal_starts' `Checkpoints`; what is told from a count on is presence_journal_cuts' `KeptDeltas`.
+//! Its public contracts cite `specs/Seen`, and `specs/Starting`: what a journal is that begins again;
+//! presence_journal's `History`, `Present`, `Queue`, `Table` and `Limits`; tracker_shard_known's `Known`; and what
+//! tracker_shard_cuts gives out: `Cuts`, `KeptDeltas` (what is told from a count on), `Full` and, for
+//! `specs/Starting`, `Checkpoints`. `specs/Parts` says how each part is tied to the history.
 #![tactic(auto)]
 
 mod indexed;
