@@ -21,11 +21,19 @@ pub(super) fn replica(alloc: Global, name: &str, incarnation: u64) -> Option<Rep
     }
 }
 
-#[derive(Drop)]
 pub(super) struct Desk<'a> {
     pub peer: Peer,
     pub port: TestPort,
     pub wire: Wire<'a>,
+}
+
+impl Drop for Desk<'_> {
+    fn drop(self) {
+        let Desk { peer, port, wire } = self;
+        drop(peer);
+        drop(port);
+        drop(wire);
+    }
 }
 
 // The node that is this replica, with two shards, at this end of a link that gives these bytes.

@@ -19,7 +19,6 @@ pub(super) enum Call {
 
 // Each replica has this status and this top, and what is told is the range of both counts of b.1, or what is too long
 // for a line. The call of number `refused`, from 0, is refused.
-#[derive(Drop)]
 pub(super) struct TestPort {
     pub shards: u32,
     pub status: Status,
@@ -28,6 +27,21 @@ pub(super) struct TestPort {
     pub calls: Vec<Call>,
     pub refused: usize,
     pub fault: ActFault,
+}
+
+impl Drop for TestPort {
+    fn drop(self) {
+        let TestPort {
+            shards: _,
+            status: _,
+            top: _,
+            is_long: _,
+            calls,
+            refused: _,
+            fault: _,
+        } = self;
+        drop(calls);
+    }
 }
 
 impl TestPort {

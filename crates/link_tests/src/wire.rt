@@ -3,12 +3,23 @@ use std::io;
 use std::io::ErrorKind;
 
 // Gives the rest a byte a call, and takes at most eight bytes a call. The call of number `fails`, and no other, fails.
-#[derive(Drop)]
 pub(super) struct Wire<'a> {
     pub rest: &'a [u8],
     pub taken: Vec<u8>,
     pub calls: usize,
     pub fails: usize,
+}
+
+impl Drop for Wire<'_> {
+    fn drop(self) {
+        let Wire {
+            rest: _,
+            taken,
+            calls: _,
+            fails: _,
+        } = self;
+        drop(taken);
+    }
 }
 
 impl Wire<'_> {

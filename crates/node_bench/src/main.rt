@@ -4,11 +4,13 @@
 //! `rows sets`, `rows shard` and `rows`, which plays both, print a line for each call of the rows.
 #![tactic(auto)]
 
+mod making;
 mod session;
 mod set_rows;
 mod sets;
 mod shard;
 mod shard_rows;
+mod texts;
 mod words;
 
 use std::env::Env;

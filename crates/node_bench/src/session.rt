@@ -15,9 +15,7 @@ fn broken() -> io::Error {
 // A room of so many keys, in a journal with so many entries more, and the routes to it.
 fn filled<R: AllocGlobal>(rt: &R, keys: u32, lists: u32) -> io::Result<(Room, Routes)> {
     let alloc = rt.alloc();
-    let Some(mut room) = new_room(alloc)? else {
-        return Err(broken());
-    };
+    let mut room = new_room(alloc)?;
     if fill(alloc, &mut room, keys, lists).is_err() {
         return Err(broken());
     }

@@ -9,7 +9,6 @@ mod generations;
 mod making;
 mod playing;
 mod sets;
-mod texts;
 
 use contexts::ContextCall;
 use deltas::{DeltaCall, Joined};
@@ -17,20 +16,33 @@ use dot_context::Context;
 use generations::Pushed;
 use making::{DeltaOf, Tells};
 use orswot_core::Orswot;
-use playing::play;
+use playing::play_all;
 use sets::SetCall;
 use std::io;
 
 /// Plays all rows.
 pub fn play_rows<R: Print + AllocGlobal>(rt: &R) -> io::Result<()> {
+    play_contexts(rt)?;
+    play_sets(rt)?;
+    play_deltas(rt)
+}
+
+fn play_contexts<R: Print + AllocGlobal>(rt: &R) -> io::Result<()> {
     fill_a_gap(rt)?;
-    join_contexts(rt)?;
+    join_contexts(rt)
+}
+
+fn play_sets<R: Print + AllocGlobal>(rt: &R) -> io::Result<()> {
     fill_a_late_gap(rt)?;
     join_in_order(rt)?;
-    join_sets(rt)?;
+    join_all_of_one(rt)?;
+    join_all_of_another(rt)?;
     repeat_a_delta(rt)?;
     add_and_remove(rt)?;
-    refuse_told_values(rt)?;
+    refuse_told_values(rt)
+}
+
+fn play_deltas<R: Print + AllocGlobal>(rt: &R) -> io::Result<()> {
     join_deltas(rt)?;
     refuse_deltas(rt)?;
     pass_a_cap(rt)?;
@@ -39,22 +51,21 @@ pub fn play_rows<R: Print + AllocGlobal>(rt: &R) -> io::Result<()> {
 
 fn fill_a_gap<R: Print + AllocGlobal>(rt: &R) -> io::Result<()> {
     rt.println("a gap is filled")?;
-    let mut context = Context::new(rt.alloc());
-    play(rt, &mut context, "add 3", &ContextCall::Add(3))?;
-    play(
-        rt,
-        &mut context,
-        "add_range (0,2]",
-        &ContextCall::AddRange(0, 2),
-    )?;
-    play(rt, &mut context, "forget", &ContextCall::Forget)
+    let calls = [
+        ("add 3", ContextCall::Add(3)),
+        ("add_range (0,2]", ContextCall::AddRange(0, 2)),
+        ("forget", ContextCall::Forget),
+    ];
+    play_all(rt, &mut Context::new(rt.alloc()), &calls)
 }
 
 fn join_contexts<R: Print + AllocGlobal>(rt: &R) -> io::Result<()> {
     rt.println("contexts are joined")?;
-    let mut context = Context::new(rt.alloc());
-    play(rt, &mut context, "add 1", &ContextCall::Add(1))?;
-    play(rt, &mut context, "join {2, 4}", &ContextCall::Join(&[2, 4]))
+    let calls = [
+        ("add 1", ContextCall::Add(1)),
+        ("join {2, 4}", ContextCall::Join(&[2, 4])),
+    ];
+    play_all(rt, &mut Context::new(rt.alloc()), &calls)
 }
 
 // What a node tells of its rows 1 and 2.
@@ -84,71 +95,66 @@ fn after_both() -> Tells {
     }
 }
 
+// Plays the calls on an empty set.
+fn play_set<R: Print + AllocGlobal>(rt: &R, calls: &[(&str, SetCall)]) -> io::Result<()> {
+    play_all(rt, &mut Orswot::new(rt.alloc()), calls)
+}
+
 fn fill_a_late_gap<R: Print + AllocGlobal>(rt: &R) -> io::Result<()> {
     rt.println("a gap is filled late")?;
-    let mut set = Orswot::new(rt.alloc());
-    play(rt, &mut set, "join the removal", &SetCall::Join(removal()))?;
-    play(rt, &mut set, "join the rows", &SetCall::Join(first_two()))?;
-    play(rt, &mut set, "forget", &SetCall::Forget)
+    let calls = [
+        ("join the removal", SetCall::Join(removal())),
+        ("join the rows", SetCall::Join(first_two())),
+        ("forget", SetCall::Forget),
+    ];
+    play_set(rt, &calls)
 }
 
 fn join_in_order<R: Print + AllocGlobal>(rt: &R) -> io::Result<()> {
     rt.println("deltas come in order")?;
-    let mut set = Orswot::new(rt.alloc());
-    play(rt, &mut set, "join the rows", &SetCall::Join(first_two()))?;
-    play(rt, &mut set, "join the removal", &SetCall::Join(removal()))
+    let calls = [
+        ("join the rows", SetCall::Join(first_two())),
+        ("join the removal", SetCall::Join(removal())),
+    ];
+    play_set(rt, &calls)
 }
 
-fn join_sets<R: Print + AllocGlobal>(rt: &R) -> io::Result<()> {
+fn join_all_of_one<R: Print + AllocGlobal>(rt: &R) -> io::Result<()> {
     rt.println("sets are joined, either way")?;
-    let mut set = Orswot::new(rt.alloc());
-    play(rt, &mut set, "join all", &SetCall::Join(after_both()))?;
-    play(
-        rt,
-        &mut set,
-        "join_all with the removal",
-        &SetCall::JoinAll(removal()),
-    )?;
-    let mut other = Orswot::new(rt.alloc());
-    play(
-        rt,
-        &mut other,
-        "join the removal",
-        &SetCall::Join(removal()),
-    )?;
-    play(
-        rt,
-        &mut other,
-        "join_all with all",
-        &SetCall::JoinAll(after_both()),
-    )
+    let calls = [
+        ("join all", SetCall::Join(after_both())),
+        ("join_all with the removal", SetCall::JoinAll(removal())),
+    ];
+    play_set(rt, &calls)
+}
+
+fn join_all_of_another<R: Print + AllocGlobal>(rt: &R) -> io::Result<()> {
+    let calls = [
+        ("join the removal", SetCall::Join(removal())),
+        ("join_all with all", SetCall::JoinAll(after_both())),
+    ];
+    play_set(rt, &calls)
 }
 
 fn repeat_a_delta<R: Print + AllocGlobal>(rt: &R) -> io::Result<()> {
     rt.println("a delta is repeated")?;
-    let row = Tells {
-        ranges: &[(0, 1)],
-        extras: &[],
-        live: &[(0, 1)],
-    };
-    let row = SetCall::Join(row);
-    let removal = Tells {
-        ranges: &[(1, 2)],
-        extras: &[1],
-        live: &[],
-    };
-    let mut set = Orswot::new(rt.alloc());
-    play(rt, &mut set, "join the removal", &SetCall::Join(removal))?;
-    play(rt, &mut set, "join the row", &row)?;
-    play(rt, &mut set, "join the row", &row)
+    let row = told(&[(0, 1)], &[], &[(0, 1)]);
+    let calls = [
+        ("join the removal", told(&[(1, 2)], &[1], &[])),
+        ("join the row", row),
+        ("join the row", row),
+    ];
+    play_set(rt, &calls)
 }
 
 fn add_and_remove<R: Print + AllocGlobal>(rt: &R) -> io::Result<()> {
     rt.println("a row is added and removed")?;
-    let mut set = Orswot::new(rt.alloc());
-    play(rt, &mut set, "add 1", &SetCall::Add(1))?;
-    play(rt, &mut set, "remove 1 by 2", &SetCall::Remove(1, 2))?;
-    play(rt, &mut set, "add 3", &SetCall::Add(3))
+    let calls = [
+        ("add 1", SetCall::Add(1)),
+        ("remove 1 by 2", SetCall::Remove(1, 2)),
+        ("add 3", SetCall::Add(3)),
+    ];
+    play_set(rt, &calls)
 }
 
 fn told(
@@ -165,30 +171,28 @@ fn told(
 
 fn refuse_told_values<R: Print + AllocGlobal>(rt: &R) -> io::Result<()> {
     rt.println("told values are refused")?;
-    let mut set = Orswot::new(rt.alloc());
-    play(rt, &mut set, "join", &told(&[(0, 1), (1, 2)], &[], &[]))?;
-    play(rt, &mut set, "join", &told(&[(2, 1)], &[], &[]))?;
-    play(rt, &mut set, "join", &told(&[(0, 1)], &[0], &[]))?;
-    play(rt, &mut set, "join", &told(&[(0, 1)], &[], &[(0, 2)]))?;
-    play(
-        rt,
-        &mut set,
-        "join",
-        &told(&[(0, 1)], &[], &[(0, 1), (0, 1)]),
-    )
+    let calls = [
+        ("join", told(&[(0, 1), (1, 2)], &[], &[])),
+        ("join", told(&[(2, 1)], &[], &[])),
+        ("join", told(&[(0, 1)], &[0], &[])),
+        ("join", told(&[(0, 1)], &[], &[(0, 2)])),
+        ("join", told(&[(0, 1)], &[], &[(0, 1), (0, 1)])),
+    ];
+    play_set(rt, &calls)
 }
 
-// A track of `b`, and its untrack by the count 2.
-fn track() -> DeltaOf {
+// A delta of a node without extras.
+fn plain(node: &'static str, from: u64, to: u64, live: &'static [(u64, u64)]) -> DeltaOf {
     DeltaOf {
-        node: "b",
-        from: 0,
-        to: 1,
+        node,
+        from,
+        to,
         extras: &[],
-        live: &[(0, 1)],
+        live,
     }
 }
 
+// The untrack of row 1 of `b`, by the count 2.
 fn untrack() -> DeltaOf {
     DeltaOf {
         node: "b",
@@ -201,82 +205,38 @@ fn untrack() -> DeltaOf {
 
 fn join_deltas<R: Print + AllocGlobal>(rt: &R) -> io::Result<()> {
     rt.println("deltas are joined")?;
-    let mut joined = Joined::new();
-    play(rt, &mut joined, "new", &DeltaCall::New(track()))?;
-    play(
-        rt,
-        &mut joined,
-        "join_next",
-        &DeltaCall::JoinNext(untrack()),
-    )
-}
-
-// A delta without extras and rows.
-fn bare(node: &'static str, from: u64, to: u64) -> DeltaOf {
-    DeltaOf {
-        node,
-        from,
-        to,
-        extras: &[],
-        live: &[],
-    }
+    let calls = [
+        ("new", DeltaCall::New(plain("b", 0, 1, &[(0, 1)]))),
+        ("join_next", DeltaCall::JoinNext(untrack())),
+    ];
+    play_all(rt, &mut Joined::new(), &calls)
 }
 
 fn refuse_deltas<R: Print + AllocGlobal>(rt: &R) -> io::Result<()> {
     rt.println("deltas are refused")?;
-    let mut joined = Joined::new();
-    play(rt, &mut joined, "new", &DeltaCall::New(bare("b", 0, 5)))?;
-    play(
-        rt,
-        &mut joined,
-        "join_next",
-        &DeltaCall::JoinNext(bare("b", 6, 8)),
-    )?;
-    play(
-        rt,
-        &mut joined,
-        "join_next",
-        &DeltaCall::JoinNext(bare("a", 6, 8)),
-    )?;
-    play(
-        rt,
-        &mut joined,
-        "join_next",
-        &DeltaCall::JoinNext(bare("b", 5, 8)),
-    )
-}
-
-// A delta of a live row for each of its counts.
-fn full(from: u64, to: u64, live: &'static [(u64, u64)]) -> DeltaOf {
-    DeltaOf {
-        node: "b",
-        from,
-        to,
-        extras: &[],
-        live,
-    }
+    let calls = [
+        ("new", DeltaCall::New(plain("b", 0, 5, &[]))),
+        ("join_next", DeltaCall::JoinNext(plain("b", 6, 8, &[]))),
+        ("join_next", DeltaCall::JoinNext(plain("a", 6, 8, &[]))),
+        ("join_next", DeltaCall::JoinNext(plain("b", 5, 8, &[]))),
+    ];
+    play_all(rt, &mut Joined::new(), &calls)
 }
 
 fn pass_a_cap<R: Print + AllocGlobal>(rt: &R) -> io::Result<()> {
     rt.println("a delta passes a cap")?;
-    let mut pushed = Pushed::new();
-    play(rt, &mut pushed, "push (0,101]", &full(0, 101, &[(0, 101)]))?;
-    play(
-        rt,
-        &mut pushed,
-        "push (101,102]",
-        &full(101, 102, &[(101, 102)]),
-    )
+    let calls = [
+        ("push (0,101]", plain("b", 0, 101, &[(0, 101)])),
+        ("push (101,102]", plain("b", 101, 102, &[(101, 102)])),
+    ];
+    play_all(rt, &mut Pushed::new(), &calls)
 }
 
 fn begin_anew<R: Print + AllocGlobal>(rt: &R) -> io::Result<()> {
     rt.println("a generation begins anew")?;
-    let mut pushed = Pushed::new();
-    play(rt, &mut pushed, "push (0,60]", &full(0, 60, &[(0, 60)]))?;
-    play(
-        rt,
-        &mut pushed,
-        "push (60,120]",
-        &full(60, 120, &[(60, 120)]),
-    )
+    let calls = [
+        ("push (0,60]", plain("b", 0, 60, &[(0, 60)])),
+        ("push (60,120]", plain("b", 60, 120, &[(60, 120)])),
+    ];
+    play_all(rt, &mut Pushed::new(), &calls)
 }

@@ -8,8 +8,9 @@ mod making;
 mod playing;
 mod texts;
 
+use crate::making::{ROOM, replica};
 use calls::Call;
-use making::{ROOM, Tells, own_replica};
+use making::Tells;
 use playing::{play, play_told_from};
 use std::io;
 use tracker_shard::Shard;
@@ -99,15 +100,16 @@ fn begin_again<R: Print + AllocGlobal>(rt: &R, shard: &mut Shard) -> io::Result<
     play(rt, shard, "untrack u6", &Call::Untrack("u6"))
 }
 
+fn play_in_turn<R: Print + AllocGlobal>(rt: &R, shard: &mut Shard) -> io::Result<()> {
+    follow(rt, shard)?;
+    hear(rt, shard)?;
+    go_down(rt, shard)?;
+    go_out(rt, shard)?;
+    begin_again(rt, shard)
+}
+
 /// Plays all rows.
 pub fn play_rows<R: Print + AllocGlobal>(rt: &R) -> io::Result<()> {
-    let Some(own) = own_replica(rt.alloc())? else {
-        return Err(io::Error::from(io::ErrorKind::InvalidData));
-    };
-    let mut shard = Shard::new(rt.alloc(), own);
-    follow(rt, &mut shard)?;
-    hear(rt, &mut shard)?;
-    go_down(rt, &mut shard)?;
-    go_out(rt, &mut shard)?;
-    begin_again(rt, &mut shard)
+    let own = replica(rt.alloc(), "a")?;
+    play_in_turn(rt, &mut Shard::new(rt.alloc(), own))
 }

@@ -9,8 +9,15 @@ pub struct Answered {
 }
 
 /// What a thread was answered, and the receipts of its seat.
-#[derive(Drop)]
 pub struct Called {
     pub answers: Vec<Answered>,
     pub receipts: Vec<Receipt>,
+}
+
+impl Drop for Called {
+    fn drop(self) {
+        let Called { answers, receipts } = self;
+        drop(answers);
+        drop(receipts);
+    }
 }

@@ -14,7 +14,6 @@ use std::sync::Wait;
 use tracker_shard::Sub;
 
 // What all calls are made with.
-#[derive(Drop)]
 pub(crate) struct Asking {
     pid: u32,
     topic: Topic,
@@ -22,6 +21,22 @@ pub(crate) struct Asking {
     meta: Meta,
     payload: Json,
     ghost sent: { IsTrue (is_payload payload) },
+}
+
+impl Drop for Asking {
+    fn drop(self) {
+        let Asking {
+            pid: _,
+            topic,
+            key,
+            meta,
+            payload,
+        } = self;
+        drop(topic);
+        drop(key);
+        drop(meta);
+        drop(payload);
+    }
 }
 
 fn payload(alloc: Global) -> Option<Json>

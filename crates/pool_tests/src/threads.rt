@@ -110,11 +110,23 @@ pub(crate) fn checked(
 }
 
 // A copy of the journal and of the receipts of both seats, before the pool settles.
-#[derive(Drop)]
 struct Copies {
     journals: Vec<Journal>,
     first: Vec<Receipt>,
     second: Vec<Receipt>,
+}
+
+impl Drop for Copies {
+    fn drop(self) {
+        let Copies {
+            journals,
+            first,
+            second,
+        } = self;
+        drop(journals);
+        drop(first);
+        drop(second);
+    }
 }
 
 fn copies_of<G: Gate, A: Lane, B: Lane, C: Lane, D: Lane, R: Wait>(

@@ -144,11 +144,19 @@ impl PresenceHooks for Ann {
 }
 
 // What a run came to: its end, its texts and its notices.
-#[derive(Drop)]
 struct Ran {
     end: Result<u64, StdioFault>,
     texts: Vec<u8>,
     notes: Vec<u8>,
+}
+
+impl Drop for Ran {
+    fn drop(self) {
+        let Ran { end, texts, notes } = self;
+        drop(end);
+        drop(texts);
+        drop(notes);
+    }
 }
 
 // The run of these words over the lines, with the hooks that refuse this call.

@@ -1,4 +1,5 @@
-//! Tests of serving: connections over streams in memory, the queue that they come by, and a worker.
+//! Tests of serving: handshakes, sockets and threads, connections over streams in memory, the queue that they come by, and
+//! a worker.
 //!
 //! They have one crate, so that what a program is checked for anew, as how a connection is dropped, is checked once.
 #![tactic(auto)]
@@ -7,5 +8,7 @@
 mod connections;
 #[cfg(test)]
 mod served;
+#[cfg(test)]
+mod system;
 #[cfg(test)]
 mod workers;

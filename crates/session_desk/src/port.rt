@@ -7,12 +7,23 @@ use presence_journal_walks::walk_topic;
 use std::alloc::Global;
 
 // A shard whose call of number `refused`, from 0, is refused.
-#[derive(Drop)]
 pub struct TestPort {
     pub shard: Shard,
     pub calls: u32,
     pub refused: u32,
     pub fault: ShardFault,
+}
+
+impl Drop for TestPort {
+    fn drop(self) {
+        let TestPort {
+            shard,
+            calls: _,
+            refused: _,
+            fault: _,
+        } = self;
+        drop(shard);
+    }
 }
 
 // Whether nobody subscribes to a topic of the shard.

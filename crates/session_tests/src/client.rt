@@ -21,12 +21,26 @@ pub(crate) struct Step {
 }
 
 // A client over a shard of its own.
-#[derive(Drop)]
 pub(crate) struct Client<H> {
     shard: Shard,
     routes: Routes,
     session: Session,
     hooks: H,
+}
+
+impl<H: Drop> Drop for Client<H> {
+    fn drop(self) {
+        let Client {
+            shard,
+            routes,
+            session,
+            hooks,
+        } = self;
+        drop(shard);
+        drop(routes);
+        drop(session);
+        drop(hooks);
+    }
 }
 
 fn shard_of(alloc: Global) -> Option<Shard> {

@@ -45,13 +45,28 @@ struct Seen {
 }
 
 // What the calls are made with.
-#[derive(Drop)]
 struct Place {
     topic: Topic,
     key: Key,
     meta: Meta,
     payload: Payload,
     sub: Sub,
+}
+
+impl Drop for Place {
+    fn drop(self) {
+        let Place {
+            topic,
+            key,
+            meta,
+            payload,
+            sub: _,
+        } = self;
+        drop(topic);
+        drop(key);
+        drop(meta);
+        drop(payload);
+    }
 }
 
 fn topic_of(alloc: Global, text: &str) -> Option<Topic> {

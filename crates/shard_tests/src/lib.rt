@@ -1,5 +1,5 @@
-//! Tests of a shard and its journal by their public calls, of a shard that hears what other nodes tell, and
-//! of a link between nodes with shards.
+//! Tests of a shard and its journal by their public calls, of a shard that hears what other nodes tell, of a link between
+//! nodes with shards, and of both bodies of a shard beside each other.
 #![tactic(auto)]
 
 #[cfg(test)]
@@ -30,3 +30,5 @@ mod merge_telling;
 mod merging;
 #[cfg(test)]
 mod statuses;
+#[cfg(test)]
+mod two_ways;

@@ -12,10 +12,17 @@ use tracker_shard::{Shard, ShardFault};
 // The time of each line.
 pub(super) const NOW: u64 = 1_000;
 
-#[derive(Drop)]
 pub(super) struct Shards {
     pub first: Shard,
     pub second: Shard,
+}
+
+impl Drop for Shards {
+    fn drop(self) {
+        let Shards { first, second } = self;
+        drop(first);
+        drop(second);
+    }
 }
 
 impl Shards {
@@ -116,11 +123,19 @@ pub(super) fn shards_of(alloc: Global, name: &str) -> Option<Shards> {
 }
 
 // A node that was dialled, with its shards and the lines that come.
-#[derive(Drop)]
 pub(super) struct Node<'a> {
     pub peer: Peer,
     pub shards: Shards,
     pub wire: Wire<'a>,
+}
+
+impl Drop for Node<'_> {
+    fn drop(self) {
+        let Node { peer, shards, wire } = self;
+        drop(peer);
+        drop(shards);
+        drop(wire);
+    }
 }
 
 // The node `a`, dialled by one that sends these lines.

@@ -7,10 +7,25 @@ use node_links::{Line, encode_line};
 use std::alloc::Global;
 
 // Node `b`, and the lines that it sent.
-#[derive(Drop)]
 struct Teller {
     shards: Shards,
     lines: String,
+}
+
+impl Drop for Teller {
+    fn drop(self) {
+        let Teller { shards, lines } = self;
+        drop(shards);
+        drop(lines);
+    }
+}
+
+impl Teller {
+    fn into_lines(self) -> String {
+        let Teller { shards, lines } = self;
+        drop(shards);
+        lines
+    }
 }
 
 // Session 5 is tracked in the room.
@@ -111,7 +126,7 @@ fn teller_of(alloc: Global) -> Option<Teller> {
 fn lines_of_b(alloc: Global) -> Option<String> {
     let mut teller = teller_of(alloc)?;
     tells(alloc, &mut teller)?;
-    Some(teller.lines)
+    Some(teller.into_lines())
 }
 
 const ANSWERS: &str = r#"["hello","a",1,2]

@@ -25,10 +25,17 @@ enum Deed {
 }
 
 // Where a row of session 7 stands.
-#[derive(Drop)]
 struct Place {
     topic: Topic,
     key: Key,
+}
+
+impl Drop for Place {
+    fn drop(self) {
+        let Place { topic, key } = self;
+        drop(topic);
+        drop(key);
+    }
 }
 
 fn place_of(alloc: Global, name: &str) -> Result<Place, AllocError> {
@@ -139,10 +146,17 @@ fn hearer(alloc: Global) -> Result<Shard, AllocError> {
 }
 
 // Node `b`, and all that it tells.
-#[derive(Drop)]
 struct Teller {
     shard: Shard,
     told: Vec<Told>,
+}
+
+impl Drop for Teller {
+    fn drop(self) {
+        let Teller { shard, told } = self;
+        drop(shard);
+        drop(told);
+    }
 }
 
 fn told_teller(alloc: Global) -> Result<Teller, AllocError> {

@@ -1,7 +1,7 @@
+use crate::making::{ROOM, meta, numbered, replica, topic};
 use channel_session::{LocalPort, Session, SessionFault, deliver, run_text};
 use hook_registry::{NoHooks, RouteFault, Routes};
-use presence_base::{Key, Meta, NodeName, Replica, Topic};
-use serde_json::{Map, Value};
+use presence_base::Topic;
 use std::alloc::{AllocError, Global};
 use tracker_shard::{Shard, ShardFault};
 
@@ -9,45 +9,33 @@ use tracker_shard::{Shard, ShardFault};
 const OTHER: u64 = 2;
 
 /// What a case needs, where it can be made.
-#[derive(Drop)]
 pub struct Room {
     shard: Shard,
     topic: Topic,
 }
 
-fn empty_meta(alloc: Global) -> Result<Option<Meta>, AllocError> {
-    Meta::new(alloc, Value::Object(Map::new(alloc)))
-}
-
-fn new_shard(alloc: Global) -> Result<Option<Shard>, AllocError> {
-    match NodeName::new(alloc, "a")? {
-        Some(name) => Ok(Some(Shard::new(
-            alloc,
-            Replica {
-                name,
-                incarnation: 1,
-            },
-        ))),
-        None => Ok(None),
+// Written, since each function that drops a value whose type derives it proves anew how its parts are dropped.
+impl Drop for Room {
+    fn drop(self) {
+        let Room { shard, topic } = self;
+        drop(shard);
+        drop(topic);
     }
 }
 
 /// An empty room.
-pub fn new_room(alloc: Global) -> Result<Option<Room>, AllocError> {
-    let Some(topic) = Topic::new(alloc, "room:a")? else {
-        return Ok(None);
-    };
-    match new_shard(alloc)? {
-        Some(shard) => Ok(Some(Room { shard, topic })),
-        None => Ok(None),
-    }
+pub fn new_room(alloc: Global) -> Result<Room, AllocError> {
+    let own = replica(alloc, "a")?;
+    let topic = topic(alloc, ROOM)?;
+    Ok(Room {
+        shard: Shard::new(alloc, own),
+        topic,
+    })
 }
 
 fn track(alloc: Global, room: &mut Room, n: u32) -> Result<(), ShardFault> {
-    let key = format!(in alloc; "u{n}")?;
-    let (Some(key), Some(meta)) = (Key::new(alloc, key.as_str())?, empty_meta(alloc)?) else {
-        return Ok(());
-    };
+    let key = numbered(alloc, "u", u64::from(n))?;
+    let meta = meta(alloc)?;
     room.shard
         .track(alloc, None, OTHER, &room.topic, &key, &meta)?;
     Ok(())
@@ -59,9 +47,7 @@ pub fn fill(alloc: Global, room: &mut Room, keys: u32, lists: u32) -> Result<(),
     for n in 0..keys {
         track(alloc, room, n)?;
     }
-    let Some(empty) = Topic::new(alloc, "room:b")? else {
-        return Ok(());
-    };
+    let empty = topic(alloc, "room:b")?;
     for _ in 0..lists {
         room.shard.list(alloc, None, &empty)?;
     }

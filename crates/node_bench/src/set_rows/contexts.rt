@@ -1,7 +1,8 @@
 // Rows of contexts.
-use super::making::{dot, replica};
+use super::making::dot;
 use super::playing::{Fault, Played};
-use super::texts::push_span;
+use crate::making::replica;
+use crate::texts::push_span;
 use dot_context::Context;
 use std::alloc::{AllocError, Global};
 

@@ -1,7 +1,7 @@
 // Rows of joined deltas.
 use super::making::{DeltaOf, delta_of};
 use super::playing::{Fault, Played};
-use super::texts::push_told;
+use crate::texts::push_told;
 use delta_range::Delta;
 use std::alloc::Global;
 

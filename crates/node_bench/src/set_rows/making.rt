@@ -3,10 +3,10 @@ ghost use Rattle.std.specs.Prelude.{◌≡◌, true, IfOk, ◌∷◌, []};
 ghost use Rattle.orswot_core.specs.Limits.{is_dot, is_row};
 
 use super::playing::Fault;
+use crate::making::{ROOM, key, meta, raw_row, replica, topic};
 use delta_range::Delta;
 use orswot_core::{RawRow, RawTold, Told};
-use presence_base::{Dot, Key, MAX_COUNT, Meta, NodeName, Replica, Row, Topic};
-use serde_json::{Map, Value};
+use presence_base::{Dot, MAX_COUNT, Replica, Row};
 use std::alloc::{AllocError, Global};
 
 /// What `b` tells: ranges above one count, up to another, extras, and the live rows of such ranges.
@@ -25,18 +25,6 @@ pub struct DeltaOf {
     pub to: u64,
     pub extras: &'static [u64],
     pub live: &'static [(u64, u64)],
-}
-
-pub fn replica(alloc: Global, node: &str) -> Result<Replica, Fault>
-    ensures { IfOk result (λ r. r ≡ record { name = node.now; incarnation = 1 }) }
-{
-    match NodeName::new(alloc, node)? {
-        Some(name) => Ok(Replica {
-            name,
-            incarnation: 1,
-        }),
-        None => Err(Fault::Limits),
-    }
 }
 
 pub fn dot(alloc: Global, node: &str, count: u64) -> Result<Dot, Fault>
@@ -62,45 +50,17 @@ fn key_text(alloc: Global, count: u64) -> Result<String, AllocError> {
     format!(in alloc; "u{number}")
 }
 
-fn meta(alloc: Global) -> Result<Value, AllocError> {
-    let mut members = Map::new(alloc);
-    let name = String::from_str(alloc, "x")?;
-    members.insert(name, Value::from(1u32))?;
-    Ok(Value::Object(members))
-}
-
-fn raw_row(alloc: Global, count: u64) -> Result<RawRow, AllocError> {
-    let topic = String::from_str(alloc, "room:a")?;
-    let key = key_text(alloc, count)?;
-    let meta = meta(alloc)?;
-    Ok(RawRow {
-        topic,
-        key,
-        pid: 5,
-        meta,
-        prev: None,
-    })
-}
-
 /// The row of a count, as its owner adds it.
 pub fn row(alloc: Global, count: u64) -> Result<Row, Fault>
     ensures { IfOk result (λ r. is_row r ≡ true) }
 {
-    let Some(topic) = Topic::new(alloc, "room:a")? else {
-        return Err(Fault::Limits);
-    };
-    let key = key_text(alloc, count)?;
-    let Some(key) = Key::new(alloc, key.as_str())? else {
-        return Err(Fault::Limits);
-    };
-    let Some(meta) = Meta::new(alloc, meta(alloc)?)? else {
-        return Err(Fault::Limits);
-    };
+    let text = key_text(alloc, count)?;
+    let key = key(alloc, text.as_str())?;
     Ok(Row {
-        topic,
+        topic: topic(alloc, ROOM)?,
         key,
         pid: 5,
-        meta,
+        meta: meta(alloc)?,
         prev: None,
     })
 }
@@ -145,7 +105,8 @@ fn push_rows(
     for below in from..to {
         let count = below.saturating_add(1);
         let dot = dot(alloc, node, count)?;
-        rows.push((dot, raw_row(alloc, count)?))?;
+        let key = key_text(alloc, count)?;
+        rows.push((dot, raw_row(alloc, ROOM, key.as_str())?))?;
     }
     Ok(())
 }

@@ -91,8 +91,8 @@ fn tell_refusal<P: Played, R: Print + AllocGlobal>(
     }
 }
 
-/// Makes the call, once more where it was refused memory, and tells what the value then is.
-pub fn play<P: Played, R: Print + AllocGlobal>(
+// Makes the call, once more where it was refused memory, and tells what the value then is.
+fn play<P: Played, R: Print + AllocGlobal>(
     rt: &R,
     value: &mut P,
     what: &str,
@@ -111,4 +111,16 @@ pub fn play<P: Played, R: Print + AllocGlobal>(
         Err(Fault::OutOfMemory) => Err(io_error(Fault::OutOfMemory)),
         Err(fault) => println!(rt; "  {what}: {fault}; {now}"),
     }
+}
+
+/// Plays the calls in turn.
+pub fn play_all<P: Played, R: Print + AllocGlobal>(
+    rt: &R,
+    value: &mut P,
+    calls: &[(&str, P::Call)],
+) -> io::Result<()> {
+    for (what, call) in calls {
+        play(rt, value, what, call)?;
+    }
+    Ok(())
 }

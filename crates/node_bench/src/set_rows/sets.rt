@@ -1,7 +1,8 @@
 // Rows of sets.
-use super::making::{Tells, replica, row, set_dot, told_of};
+use super::making::{Tells, row, set_dot, told_of};
 use super::playing::{Fault, Played};
-use super::texts::push_told;
+use crate::making::replica;
+use crate::texts::push_told;
 use orswot_core::Orswot;
 use std::alloc::Global;
 

@@ -1,70 +1,72 @@
+use crate::making::{ROOM, raw_row, replica};
 use dot_context::Context;
 use orswot_core::{Orswot, RawRow, RawTold, Told, ToldFault};
-use presence_base::{Dot, NodeName, Replica};
-use serde_json::{Map, Value};
+use presence_base::{Dot, Replica};
 use std::alloc::{AllocError, Global};
 
 /// How many rows one told value brings.
 const ROWS_AT_ONCE: u64 = 50_000;
 
-fn node_b(alloc: Global) -> Result<Option<Replica>, AllocError> {
-    match NodeName::new(alloc, "b")? {
-        Some(name) => Ok(Some(Replica {
-            name,
-            incarnation: 1,
-        })),
-        None => Ok(None),
+fn add_runs(
+    context: &mut Context,
+    alloc: Global,
+    node: &Replica,
+    count: u64,
+) -> Result<(), AllocError> {
+    for n in 0..count {
+        context.add_range(alloc, *node, n, n.saturating_add(1))?;
     }
+    Ok(())
 }
 
 /// Adds the dots of the counts 1 to `count`, in order.
 pub fn add_in_order(alloc: Global, count: u64) -> Result<Context, AllocError> {
+    let node = replica(alloc, "b")?;
     let mut context = Context::new(alloc);
-    let node = node_b(alloc)?;
-    if let Some(replica) = &node {
-        for n in 0..count {
-            context.add_range(alloc, *replica, n, n.saturating_add(1))?;
-        }
-    }
+    add_runs(&mut context, alloc, &node, count)?;
     Ok(context)
+}
+
+fn add_gapped_runs(
+    context: &mut Context,
+    alloc: Global,
+    node: &Replica,
+    count: u64,
+    low: u64,
+) -> Result<(), AllocError> {
+    for n in 0..count {
+        let from = low.saturating_add((count - n).saturating_mul(4));
+        context.add_range(alloc, *node, from, from.saturating_add(1))?;
+    }
+    Ok(())
 }
 
 /// Adds `count` runs of one dot each, none touching the next, in falling order, above `low`.
 pub fn add_in_reverse(alloc: Global, count: u64, low: u64) -> Result<Context, AllocError> {
+    let node = replica(alloc, "b")?;
     let mut context = Context::new(alloc);
-    let node = node_b(alloc)?;
-    if let Some(replica) = &node {
-        for n in 0..count {
-            let from = low.saturating_add((count - n).saturating_mul(4));
-            context.add_range(alloc, *replica, from, from.saturating_add(1))?;
-        }
-    }
+    add_gapped_runs(&mut context, alloc, &node, count, low)?;
     Ok(context)
 }
 
 fn row_of(alloc: Global, count: u64) -> Result<RawRow, AllocError> {
-    let topic = String::from_str(alloc, "room:a")?;
     let key = format!(in alloc; "u{count}")?;
-    Ok(RawRow {
-        topic,
-        key,
-        pid: 1,
-        meta: Value::Object(Map::new(alloc)),
-        prev: None,
-    })
+    raw_row(alloc, ROOM, key.as_str())
 }
 
 // What tells a row for each count above `from`, up to `to`, before it is checked.
 fn raw_rows(alloc: Global, from: u64, to: u64) -> Result<RawTold, AllocError> {
+    let node = replica(alloc, "b")?;
     let mut ranges = Vec::new(alloc);
+    ranges.push((node, from, to))?;
     let mut live = Vec::new(alloc);
-    if let Some(replica) = node_b(alloc)? {
-        for n in from..to {
-            let count = n.saturating_add(1);
-            let dot = Dot { replica, count };
-            live.push((dot, row_of(alloc, count)?))?;
-        }
-        ranges.push((replica, from, to))?;
+    for n in from..to {
+        let count = n.saturating_add(1);
+        let dot = Dot {
+            replica: node,
+            count,
+        };
+        live.push((dot, row_of(alloc, count)?))?;
     }
     Ok(RawTold {
         ranges,

@@ -1,6 +1,7 @@
 // The calls that are timed.
-use super::making::{key, told};
+use super::making::told;
 use super::room::{PID, Room, take, track, update_told};
+use crate::making::numbered;
 use orswot_core::Told;
 use presence_base::Key;
 use std::alloc::Global;
@@ -74,12 +75,24 @@ pub fn name_of(call: Call) -> &'static str {
 }
 
 /// What a call is given.
-#[derive(Drop)]
 pub struct Given {
     key: Key,
     told: Told,
     sub: Sub,
     now: u64,
+}
+
+impl Drop for Given {
+    fn drop(self) {
+        let Given {
+            key,
+            told,
+            sub: _,
+            now: _,
+        } = self;
+        drop(key);
+        drop(told);
+    }
 }
 
 // What has to be there before the call, whose subscriber is the answer.
@@ -107,7 +120,7 @@ fn lead_up(alloc: Global, room: &mut Room, call: Call, n: u64) -> Result<Sub, Sh
 pub fn ready(alloc: Global, room: &mut Room, call: Call, n: u64) -> Result<Given, ShardFault> {
     let sub = lead_up(alloc, room, call, n)?;
     Ok(Given {
-        key: key(alloc, name_of(call), n)?,
+        key: numbered(alloc, name_of(call), n)?,
         told: told(alloc, &room.other, n)?,
         sub,
         now: n,

@@ -1,5 +1,5 @@
 // The room whose calls are timed.
-use super::making::{key, meta, replica, topic};
+use crate::making::{ROOM, meta, numbered, replica, topic};
 use presence_base::{Meta, Replica, Topic};
 use std::alloc::Global;
 use tracker_shard::{Shard, ShardFault, Sub};
@@ -16,7 +16,6 @@ pub struct Size {
 }
 
 /// A shard with a room, one of its subscribers, and another node.
-#[derive(Drop)]
 pub struct Room {
     pub shard: Shard,
     pub topic: Topic,
@@ -25,11 +24,27 @@ pub struct Room {
     pub sub: Sub,
 }
 
+// Written, since each function that drops a value whose type derives it proves anew how its parts are dropped.
+impl Drop for Room {
+    fn drop(self) {
+        let Room {
+            shard,
+            topic,
+            meta,
+            other: _,
+            sub: _,
+        } = self;
+        drop(shard);
+        drop(topic);
+        drop(meta);
+    }
+}
+
 // A shard whose room has one subscriber.
 fn new_room(alloc: Global) -> Result<Room, ShardFault> {
     let own = replica(alloc, "a")?;
     let other = replica(alloc, "b")?;
-    let topic = topic(alloc, "room:a")?;
+    let topic = topic(alloc, ROOM)?;
     let meta = meta(alloc)?;
     let mut shard = Shard::new(alloc, own);
     let sub = shard.subscribe(alloc, None, &topic)?;
@@ -44,7 +59,7 @@ fn new_room(alloc: Global) -> Result<Room, ShardFault> {
 
 /// Tracks a key of this word and number.
 pub fn track(alloc: Global, room: &mut Room, word: &str, n: u64) -> Result<(), ShardFault> {
-    let key = key(alloc, word, n)?;
+    let key = numbered(alloc, word, n)?;
     room.shard
         .track(alloc, None, PID, &room.topic, &key, &room.meta)?;
     Ok(())
@@ -52,7 +67,7 @@ pub fn track(alloc: Global, room: &mut Room, word: &str, n: u64) -> Result<(), S
 
 /// Updates a row with which the room was filled, whose count an earlier cut has told.
 pub fn update_told(alloc: Global, room: &mut Room, n: u64) -> Result<(), ShardFault> {
-    let key = key(alloc, "u", n)?;
+    let key = numbered(alloc, "u", n)?;
     room.shard
         .update(alloc, None, PID, &room.topic, &key, &room.meta)?;
     Ok(())

@@ -1,5 +1,6 @@
 // The calls of a shard, made.
-use super::making::{ROOM, Tells, key, meta, other_replica, told, topic};
+use super::making::{Tells, other_replica, told};
+use crate::making::{ROOM, key, meta, topic};
 use std::alloc::Global;
 use tracker_shard::{Shard, ShardFault, Sub};
 

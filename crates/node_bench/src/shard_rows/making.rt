@@ -1,13 +1,8 @@
-// What the calls are given. All of it is of the first incarnation of a node.
-ghost use Rattle.std.specs.Prelude.{◌≡◌, IfOk, IfSome};
-
+// What another node tells the shard.
+use crate::making::{checked, raw_row, replica};
 use orswot_core::{RawRow, RawTold, Told};
-use presence_base::{Dot, Key, Meta, NodeName, Replica, Topic};
-use serde_json::{Map, Value};
+use presence_base::{Dot, Replica};
 use std::alloc::{AllocError, Global};
-
-/// The topic of the own rows.
-pub const ROOM: &str = "room:a";
 
 /// A row that is told: its count, topic and key.
 pub type Live = (u64, &'static str, &'static str);
@@ -21,51 +16,9 @@ pub struct Tells {
     pub live: &'static [Live],
 }
 
-/// The replica of the shard, `a.1`.
-pub fn own_replica(alloc: Global) -> Result<Option<Replica>, AllocError>
-    ensures { IfOk result (λ o. IfSome o (λ r. r.incarnation ≡ 1)) }
-{
-    match NodeName::new(alloc, "a")? {
-        Some(name) => Ok(Some(Replica {
-            name,
-            incarnation: 1,
-        })),
-        None => Ok(None),
-    }
-}
-
 /// The other node, `b.1`.
 pub fn other_replica(alloc: Global) -> Result<Replica, AllocError> {
-    let name = NodeName::new(alloc, "b")?.ok_or(AllocError)?;
-    Ok(Replica {
-        name,
-        incarnation: 1,
-    })
-}
-
-pub fn topic(alloc: Global, room: &str) -> Result<Topic, AllocError> {
-    Topic::new(alloc, room)?.ok_or(AllocError)
-}
-
-pub fn key(alloc: Global, text: &str) -> Result<Key, AllocError> {
-    Key::new(alloc, text)?.ok_or(AllocError)
-}
-
-pub fn meta(alloc: Global) -> Result<Meta, AllocError> {
-    let value = Value::Object(Map::new(alloc));
-    Meta::new(alloc, value)?.ok_or(AllocError)
-}
-
-fn raw_row(alloc: Global, live: &Live) -> Result<RawRow, AllocError> {
-    let topic = String::from_str(alloc, live.1)?;
-    let key = String::from_str(alloc, live.2)?;
-    Ok(RawRow {
-        topic,
-        key,
-        pid: 5,
-        meta: Value::Object(Map::new(alloc)),
-        prev: None,
-    })
+    replica(alloc, "b")
 }
 
 fn dots_of(alloc: Global, replica: &Replica, counts: &[u64]) -> Result<Vec<Dot>, AllocError> {
@@ -90,7 +43,7 @@ fn rows_of(
             replica: *replica,
             count: row.0,
         };
-        rows.push((dot, raw_row(alloc, row)?))?;
+        rows.push((dot, raw_row(alloc, row.1, row.2)?))?;
     }
     Ok(rows)
 }
@@ -112,13 +65,12 @@ pub fn told(alloc: Global, tells: &Tells) -> Result<Told, AllocError> {
     let ranges = ranges_of(alloc, &replica, tells.from, tells.to)?;
     let extras = dots_of(alloc, &replica, tells.extras)?;
     let live = rows_of(alloc, &replica, tells.live)?;
-    let raw = RawTold {
-        ranges,
-        extras,
-        live,
-    };
-    match Told::check(alloc, raw, 0, 1) {
-        Ok(told) => Ok(told),
-        Err(_) => Err(AllocError),
-    }
+    checked(
+        alloc,
+        RawTold {
+            ranges,
+            extras,
+            live,
+        },
+    )
 }

@@ -1,56 +1,12 @@
 // What a shard is, as text.
 use super::calls::subscriber;
-use super::making::{ROOM, other_replica, topic};
-use orswot_core::Told;
-use presence_base::{Dot, Replica, Row};
+use super::making::other_replica;
+use crate::making::{ROOM, topic};
+use crate::texts::{push_dot, push_dots, push_rows, push_told};
 use presence_journal::Outcome;
 use presence_journal_walks::walk_list;
 use std::alloc::{AllocError, Global};
 use tracker_shard::Shard;
-
-fn push_dot(text: &mut String, dot: &Dot) -> Result<(), AllocError> {
-    let name = dot.replica.name.as_str();
-    let incarnation = dot.replica.incarnation;
-    let count = dot.count;
-    write!(text, " {name}.{incarnation}.{count}")
-}
-
-fn push_dots(text: &mut String, dots: &[Dot]) -> Result<(), AllocError> {
-    for dot in dots {
-        push_dot(text, dot)?;
-    }
-    Ok(())
-}
-
-fn push_rows(text: &mut String, rows: &[(Dot, Row)]) -> Result<(), AllocError> {
-    for row in rows {
-        push_dot(text, &row.0)?;
-        let key = row.1.key.as_str();
-        write!(text, " {key}")?;
-    }
-    Ok(())
-}
-
-fn push_ranges(text: &mut String, ranges: &[(Replica, u64, u64)]) -> Result<(), AllocError> {
-    for range in ranges {
-        let name = range.0.name.as_str();
-        let incarnation = range.0.incarnation;
-        let from = range.1;
-        let to = range.2;
-        write!(text, " {name}.{incarnation} ({from},{to}]")?;
-    }
-    Ok(())
-}
-
-fn push_told(text: &mut String, told: &Told) -> Result<(), AllocError> {
-    text.push_str("ranges {")?;
-    push_ranges(text, told.ranges())?;
-    text.push_str(" }, extras {")?;
-    push_dots(text, told.extras())?;
-    text.push_str(" }, live {")?;
-    push_rows(text, told.live())?;
-    text.push_str(" }")
-}
 
 // What an entry came to. Dots are written by their references.
 fn push_outcome(text: &mut String, outcome: &Outcome) -> Result<(), AllocError> {

@@ -19,11 +19,19 @@ pub(crate) struct Dialogue {
     pub answered: &'static str,
 }
 
-#[derive(Drop)]
 pub(crate) struct Node<'a, R: Wait, A: Lane, B: Lane, C: Lane, D: Lane> {
     pub port: PoolLinkPort<'a, R, NoGate, A, B, C, D>,
     pub peer: Peer,
     pub wire: Wire<'a>,
+}
+
+impl<R: Wait, A: Lane, B: Lane, C: Lane, D: Lane> Drop for Node<'_, R, A, B, C, D> {
+    fn drop(self) {
+        let Node { port, peer, wire } = self;
+        drop(port);
+        drop(peer);
+        drop(wire);
+    }
 }
 
 // The end of a link of this node, which is told these lines.

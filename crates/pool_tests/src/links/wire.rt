@@ -3,10 +3,16 @@ use std::io;
 use std::io::ErrorKind;
 
 // Gives the rest, and keeps what it takes.
-#[derive(Drop)]
 pub(crate) struct Wire<'a> {
     pub rest: &'a [u8],
     pub taken: Vec<u8>,
+}
+
+impl Drop for Wire<'_> {
+    fn drop(self) {
+        let Wire { rest: _, taken } = self;
+        drop(taken);
+    }
 }
 
 impl io::Read for Wire<'_> {

@@ -7,12 +7,25 @@ use std::alloc::Global;
 use tungstenite::NoMask;
 
 // A connection of number 1 to a shard of `a.1`, with the route `room:*`.
-#[derive(Drop)]
 pub(super) struct Line<'a> {
     pub connection: Connection<Wire<'a>, NoMask>,
     pub port: TestPort,
     pub routes: Routes,
     pub now: u64,
+}
+
+impl Drop for Line<'_> {
+    fn drop(self) {
+        let Line {
+            connection,
+            port,
+            routes,
+            now: _,
+        } = self;
+        drop(connection);
+        drop(port);
+        drop(routes);
+    }
 }
 
 pub(super) fn line_over<'a>(alloc: Global, wire: Wire<'a>) -> Option<Line<'a>> {

@@ -9,7 +9,6 @@ use tungstenite::{NoMask, Role, WebSocket};
 // Gives the rest, at most `step` bytes a call, and then has nothing; takes all that is written. The
 // read of number `fails_read` fails, and the write of number `fails_write`; so do all behind it,
 // unless the stream would only block.
-#[derive(Drop)]
 pub struct Wire<'a> {
     pub rest: &'a [u8],
     pub step: usize,
@@ -19,6 +18,22 @@ pub struct Wire<'a> {
     pub writes: usize,
     pub fails_write: usize,
     pub so: ErrorKind,
+}
+
+impl Drop for Wire<'_> {
+    fn drop(self) {
+        let Wire {
+            rest: _,
+            step: _,
+            reads: _,
+            fails_read: _,
+            taken,
+            writes: _,
+            fails_write: _,
+            so: _,
+        } = self;
+        drop(taken);
+    }
 }
 
 fn fails(call: usize, at: usize, so: ErrorKind) -> bool {

@@ -11,12 +11,25 @@ use std::sync::Wait;
 use tungstenite::{NoMask, WebSocket};
 
 // A worker with both ends of its queue, and the port that it is lent. It serves `room:*`.
-#[derive(Drop)]
 pub(crate) struct Desk<'a, S: Read + Write + Drop, P> {
     giver: Giver<WebSocket<S, NoMask>>,
     pub worker: Worker<S>,
     port: &'a mut P,
     routes: Routes,
+}
+
+impl<'a, S: Read + Write + Drop, P> Drop for Desk<'a, S, P> {
+    fn drop(self) {
+        let Desk {
+            giver,
+            worker,
+            port: _,
+            routes,
+        } = self;
+        drop(giver);
+        drop(worker);
+        drop(routes);
+    }
 }
 
 pub(crate) fn desk_over<'a, S: Read + Write + Drop, P: Port>(

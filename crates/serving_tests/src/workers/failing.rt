@@ -67,11 +67,23 @@ fn left_behind_turns<P: Port>(
 }
 
 // The bytes of both clients, and those that the second one is told.
-#[derive(Drop)]
 struct Spoken {
     first: Vec<u8>,
     second: Vec<u8>,
     told: Vec<u8>,
+}
+
+impl Drop for Spoken {
+    fn drop(self) {
+        let Spoken {
+            first,
+            second,
+            told,
+        } = self;
+        drop(first);
+        drop(second);
+        drop(told);
+    }
 }
 
 fn bytes_of_both(alloc: Global) -> Result<Spoken, AllocError> {

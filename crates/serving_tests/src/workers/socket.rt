@@ -66,10 +66,17 @@ fn sent(alloc: Global) -> Result<Vec<u8>, AllocError> {
 }
 
 // What the client got: the head of the response, and what came behind it.
-#[derive(Drop)]
 struct Got {
     head: Vec<u8>,
     rest: Vec<u8>,
+}
+
+impl Drop for Got {
+    fn drop(self) {
+        let Got { head, rest } = self;
+        drop(head);
+        drop(rest);
+    }
 }
 
 // Asks for a WebSocket, sends all, and reads to the end.

@@ -1,6 +1,6 @@
-use crate::fetching::user_member;
-use crate::noting::note;
-use crate::rows::{lobby, rows_of};
+use super::fetching::user_member;
+use super::noting::note;
+use super::rows::{lobby, rows_of};
 use hook_registry::{Extra, Notice, PresenceHooks, notices, render_diff, render_state};
 use presence_base::{Dot, Key, Topic};
 use presence_journal::{RowDiff, Rows};

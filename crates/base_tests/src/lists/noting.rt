@@ -1,4 +1,4 @@
-use crate::rows::{lobby, update};
+use super::rows::{lobby, update};
 use hook_registry::{Extra, Fetch, Hooks, NoHooks, Notice, PresenceHooks, Tell, notices};
 use presence_base::{Dot, Key, Topic, ref_text};
 use std::alloc::{AllocError, Global};

@@ -1,5 +1,5 @@
-use crate::folding::{folds, holds};
-use crate::rows::{lobby, rows_of, tracked, update};
+use super::folding::{folds, holds};
+use super::rows::{lobby, rows_of, tracked, update};
 use hook_registry::{
     Extra, Fetch, Hooks, NoHooks, Notice, PresenceHooks, Tell, render_diff, render_state,
 };
@@ -114,16 +114,29 @@ fn a_mirror_is_the_same_with_the_fetched_member(rt: HostRuntime) -> Result<(), F
     Ok(())
 }
 
-#[derive(Drop)]
 struct User {
     key: Text,
     name: Text,
 }
 
+impl Drop for User {
+    fn drop(self) {
+        let User { key, name } = self;
+        drop(key);
+        drop(name);
+    }
+}
+
 // The names of the users, by their keys.
-#[derive(Drop)]
 struct Users {
     users: Vec<User>,
+}
+
+impl Drop for Users {
+    fn drop(self) {
+        let Users { users } = self;
+        drop(users);
+    }
 }
 
 impl Users {

@@ -3,7 +3,7 @@ ghost use Rattle.std.specs.Prelude.{◌≡◌, ◌≤◌, ◌^◌, IsTrue, IfSom
 ghost use Rattle.presence_base.specs.Refs.{IsCount};
 ghost use Rattle.presence_journal.specs.Limits.{is_payload};
 
-use crate::asks::{Claim, Live, Telling};
+use super::asks::{Claim, Live, Telling};
 use orswot_core::{RawRow, RawTold, Told};
 use presence_base::{Dot, Json, Key, Meta, NodeName, Replica, Topic, has_float, is_within_depth};
 use presence_journal::MAX_PAYLOAD_DEPTH;
@@ -11,7 +11,6 @@ use serde_json::{Map, Value};
 use std::alloc::Global;
 
 // What the calls that name a topic are made with.
-#[derive(Drop)]
 pub(crate) struct Asking {
     pub(crate) pid: u32,
     pub(crate) topic: Topic,
@@ -19,6 +18,22 @@ pub(crate) struct Asking {
     pub(crate) meta: Meta,
     pub(crate) payload: Json,
     ghost sent: { IsTrue (is_payload payload) },
+}
+
+impl Drop for Asking {
+    fn drop(self) {
+        let Asking {
+            pid: _,
+            topic,
+            key,
+            meta,
+            payload,
+        } = self;
+        drop(topic);
+        drop(key);
+        drop(meta);
+        drop(payload);
+    }
 }
 
 pub(crate) fn replica(alloc: Global, node: &str) -> Option<Replica>

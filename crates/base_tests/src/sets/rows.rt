@@ -8,17 +8,21 @@ use std::alloc::{AllocError, Global};
 use std::collections::btree_map::Range;
 use std::test::Fail;
 
-// The replica `b`, incarnation 1.
-pub(crate) fn replica(alloc: Global) -> Result<Replica, AllocError>
-    ensures { IfOk result (λ r. r.incarnation ≡ 1) }
+// This incarnation of a node.
+pub(super) fn named(alloc: Global, name: &str, incarnation: u64) -> Result<Replica, AllocError>
+    ensures { IfOk result (λ r. r ≡ record { name = name.now; incarnation = incarnation }) }
 {
-    match NodeName::new(alloc, "b")? {
-        Some(name) => Ok(Replica {
-            name,
-            incarnation: 1,
-        }),
+    match NodeName::new(alloc, name)? {
+        Some(name) => Ok(Replica { name, incarnation }),
         None => Err(AllocError),
     }
+}
+
+// The replica `b`, incarnation 1.
+pub(super) fn replica(alloc: Global) -> Result<Replica, AllocError>
+    ensures { IfOk result (λ r. r.incarnation ≡ 1) }
+{
+    named(alloc, "b", 1)
 }
 
 fn dot(alloc: Global, count: u64) -> Result<Dot, AllocError>
@@ -31,9 +35,8 @@ fn dot(alloc: Global, count: u64) -> Result<Dot, AllocError>
     })
 }
 
-pub(crate) fn raw_row(alloc: Global, count: u64, key: &str) -> Result<(Dot, RawRow), AllocError>
-    requires { (1 ≤ count) × (count ≤ 2 ^ 62) }
-{
+pub(super) fn raw_row(alloc: Global, count: u64, key: &str) -> Result<(Dot, RawRow), AllocError> {
+    let replica = replica(alloc)?;
     let raw = RawRow {
         topic: String::from_str(alloc, "room:a")?,
         key: String::from_str(alloc, key)?,
@@ -41,7 +44,7 @@ pub(crate) fn raw_row(alloc: Global, count: u64, key: &str) -> Result<(Dot, RawR
         meta: Value::Object(Map::new(alloc)),
         prev: None,
     };
-    Ok((dot(alloc, count)?, raw))
+    Ok((Dot { replica, count }, raw))
 }
 
 fn row(alloc: Global, key: &str) -> Result<Row, AllocError>
@@ -65,7 +68,7 @@ fn row(alloc: Global, key: &str) -> Result<Row, AllocError>
     })
 }
 
-pub(crate) fn empty(alloc: Global) -> RawTold {
+pub(super) fn empty(alloc: Global) -> RawTold {
     RawTold {
         ranges: Vec::new(alloc),
         extras: Vec::new(alloc),
@@ -80,31 +83,73 @@ fn told(alloc: Global, raw: RawTold) -> Result<Told, AllocError> {
     }
 }
 
+fn ranges_of(
+    alloc: Global,
+    replica: &Replica,
+    ends: &[(u64, u64)],
+) -> Result<Vec<(Replica, u64, u64)>, AllocError> {
+    let mut ranges = Vec::new(alloc);
+    for (from, to) in ends {
+        ranges.push((*replica, *from, *to))?;
+    }
+    Ok(ranges)
+}
+
+fn extras_of(alloc: Global, replica: &Replica, counts: &[u64]) -> Result<Vec<Dot>, AllocError> {
+    let mut extras = Vec::new(alloc);
+    for count in counts {
+        extras.push(Dot {
+            replica: *replica,
+            count: *count,
+        })?;
+    }
+    Ok(extras)
+}
+
+fn rows_of(alloc: Global, live: &[(u64, &str)]) -> Result<Vec<(Dot, RawRow)>, AllocError> {
+    let mut rows = Vec::new(alloc);
+    for (count, key) in live {
+        rows.push(raw_row(alloc, *count, key)?)?;
+    }
+    Ok(rows)
+}
+
+// What `b.1` tells: ranges, the counts of extras, and the counts and keys of live rows.
+fn told_of(
+    alloc: Global,
+    ranges: &[(u64, u64)],
+    extras: &[u64],
+    live: &[(u64, &str)],
+) -> Result<Told, AllocError> {
+    let b = replica(alloc)?;
+    let ranges = ranges_of(alloc, &b, ranges)?;
+    let extras = extras_of(alloc, &b, extras)?;
+    let live = rows_of(alloc, live)?;
+    told(
+        alloc,
+        RawTold {
+            ranges,
+            extras,
+            live,
+        },
+    )
+}
+
 // The range up to 2 with the rows `b.1.1` and `b.1.2`.
 fn first_two(alloc: Global) -> Result<Told, AllocError> {
-    let mut raw = empty(alloc);
-    raw.ranges.push((replica(alloc)?, 0, 2))?;
-    raw.live.push(raw_row(alloc, 1, "u2")?)?;
-    raw.live.push(raw_row(alloc, 2, "u3")?)?;
-    told(alloc, raw)
+    told_of(alloc, &[(0, 2)], &[], &[(1, "u2"), (2, "u3")])
 }
 
 // The range up to one count, in which `b.1.1` is live.
 fn first_one(alloc: Global) -> Result<Told, AllocError> {
-    let mut raw = empty(alloc);
-    raw.ranges.push((replica(alloc)?, 0, 1))?;
-    raw.live.push(raw_row(alloc, 1, "u2")?)?;
-    told(alloc, raw)
+    told_of(alloc, &[(0, 1)], &[], &[(1, "u2")])
 }
 
 // A range of one count that removed `b.1.1`.
 fn removing(alloc: Global, count: u64) -> Result<Told, AllocError>
     requires { (1 ≤ count) × (count ≤ 2 ^ 62) }
 {
-    let mut raw = empty(alloc);
-    raw.ranges.push((replica(alloc)?, count - 1, count))?;
-    raw.extras.push(dot(alloc, 1)?)?;
-    told(alloc, raw)
+    told_of(alloc, &[(count - 1, count)], &[1], &[])
 }
 
 // Whether these ranges, extras and live rows of `b.1` are told, in this order, and nothing else.
@@ -228,10 +273,7 @@ fn a_set_told_whole_is_the_set(rt: HostRuntime) -> Result<(), Fail> {
 
 // The extras `b.1.4` and `b.1.3`.
 fn cloud_alone(alloc: Global) -> Result<Told, AllocError> {
-    let mut raw = empty(alloc);
-    raw.extras.push(dot(alloc, 4)?)?;
-    raw.extras.push(dot(alloc, 3)?)?;
-    told(alloc, raw)
+    told_of(alloc, &[], &[4, 3], &[])
 }
 
 #[test]
@@ -368,19 +410,9 @@ impl ReplicaTest for OtherThan {
     }
 }
 
-fn named(alloc: Global, name: &str) -> Result<Replica, AllocError> {
-    match NodeName::new(alloc, name)? {
-        Some(name) => Ok(Replica {
-            name,
-            incarnation: 1,
-        }),
-        None => Err(AllocError),
-    }
-}
-
 // The top of `b`, and whether it has a row, in a set that took in a told value, one replica's part left out.
 fn without(alloc: Global, told: &Told, name: &str) -> Result<(u64, bool), AllocError> {
-    let own = named(alloc, name)?;
+    let own = named(alloc, name, 1)?;
     let mut set = Orswot::new(alloc);
     set.join_some(alloc, told, &OtherThan { own })?;
     let b = replica(alloc)?;
@@ -398,13 +430,8 @@ fn what_is_told_of_a_replica_is_left_out(rt: HostRuntime) -> Result<(), Fail> {
 
 // The range up to 4 with a row at each count.
 fn first_four(alloc: Global) -> Result<Told, AllocError> {
-    let mut raw = empty(alloc);
-    raw.ranges.push((replica(alloc)?, 0, 4))?;
-    raw.live.push(raw_row(alloc, 1, "u1")?)?;
-    raw.live.push(raw_row(alloc, 2, "u2")?)?;
-    raw.live.push(raw_row(alloc, 3, "u3")?)?;
-    raw.live.push(raw_row(alloc, 4, "u4")?)?;
-    told(alloc, raw)
+    let live = [(1, "u1"), (2, "u2"), (3, "u3"), (4, "u4")];
+    told_of(alloc, &[(0, 4)], &[], &live)
 }
 
 fn next_count(rows: &mut Range<'_, Dot, Row>) -> Option<u64> {

@@ -1,7 +1,7 @@
 // The check of told values: each refusal at its limit and one past it, and their order.
-use crate::sets::{empty, raw_row, replica};
+use super::rows::{empty, named, raw_row, replica};
 use orswot_core::{MAX_ROWS, RawRow, RawTold, Told, ToldFault};
-use presence_base::{Dot, MAX_COUNT, NodeName, Replica};
+use presence_base::{Dot, MAX_COUNT, Replica};
 use serde_json::Value;
 use std::alloc::{AllocError, Global};
 use std::test::Fail;
@@ -11,13 +11,6 @@ fn fault_of(alloc: Global, raw: RawTold) -> Option<ToldFault> {
     match Told::check(alloc, raw, 0, 2) {
         Ok(_) => None,
         Err(fault) => Some(fault),
-    }
-}
-
-fn named(alloc: Global, name: &str, incarnation: u64) -> Result<Replica, AllocError> {
-    match NodeName::new(alloc, name)? {
-        Some(name) => Ok(Replica { name, incarnation }),
-        None => Err(AllocError),
     }
 }
 

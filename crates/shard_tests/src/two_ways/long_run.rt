@@ -1,7 +1,7 @@
 // A fixed list of 2,000 calls, over four pids, three topics and two other nodes. They are made in parts, each on new
 // shards: the time of the walking body's calls rises with the square of the journal and more.
-use crate::asks::{Ask, Claim, Deed, Telling};
-use crate::bodies::agreed;
+use super::asks::{Ask, Claim, Deed, Telling};
+use super::bodies::agreed;
 use std::alloc::Global;
 use std::test::Fail;
 

@@ -1,8 +1,8 @@
 // Both bodies, and each call made on both.
 ghost use Rattle.presence_base.specs.Refs.{IsCount};
 
-use crate::asks::{Ask, Claim, Deed, Telling};
-use crate::making::{Asking, asked_with, replica, told, topic};
+use super::asks::{Ask, Claim, Deed, Telling};
+use super::making::{Asking, asked_with, replica, told, topic};
 use delta_range::Delta;
 use orswot_core::Told;
 use plain_shard::PlainShard;
@@ -13,11 +13,22 @@ use std::fmt::Debug;
 use tracker_shard::{Shard, ShardFault, Sub};
 
 // A shard of `a` with either body, on which the same calls were made, and the subscribers that are kept.
-#[derive(Drop)]
 struct Bodies {
     indexed: Shard,
     walking: PlainShard,
     kept: [Sub; 4],
+}
+
+impl Drop for Bodies {
+    fn drop(self) {
+        let Bodies {
+            indexed,
+            walking,
+            kept: _,
+        } = self;
+        drop(indexed);
+        drop(walking);
+    }
 }
 
 fn text_of<T: Debug>(alloc: Global, value: &T) -> Option<String> {

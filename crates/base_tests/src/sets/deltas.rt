@@ -1,23 +1,11 @@
 ghost use Rattle.std.specs.Prelude.{◌≡◌, codes, IfSome, IfOk, ◌∷◌, []};
 
+use super::rows::{named, replica};
 use delta_range::{Delta, DeltaFault, Generations};
 use orswot_core::{Orswot, RawRow, RawTold, Told};
-use presence_base::{Dot, NodeName, Replica};
+use presence_base::{Dot, Replica};
 use serde_json::{Map, Value};
 use std::alloc::{AllocError, Global};
-
-// The first incarnation of a node.
-fn replica(alloc: Global, name: &str) -> Option<Replica>
-    ensures { IfSome result (λ r. r ≡ record { name = name.now; incarnation = 1 }) }
-{
-    match NodeName::new(alloc, name) {
-        Ok(Some(name)) => Some(Replica {
-            name,
-            incarnation: 1,
-        }),
-        _ => None,
-    }
-}
 
 fn raw_row(alloc: Global) -> Result<RawRow, AllocError> {
     Ok(RawRow {
@@ -116,7 +104,9 @@ fn delta_of(
     ensures from { IfSome result (λ d. d.from ≡ range.0) }
     ensures to { IfSome result (λ d. d.to ≡ range.1) }
 {
-    let owner = replica(alloc, name)?;
+    let Ok(owner) = named(alloc, name, 1) else {
+        return None;
+    };
     let told = told_range(alloc, owner, range, extras, rows)?;
     match Delta::of_told(alloc, &told) {
         Ok(delta) => delta,
@@ -331,9 +321,9 @@ fn a_delta_past_all_caps_empties_all(rt: HostRuntime) {
 
 // Whether what `b` tells of its range from 2 up to 4, with extras of a node's, is a delta.
 fn is_taken(alloc: Global, others: &str, extras: &[u64], rows: (u64, u64)) -> Option<bool> {
-    let owner = replica(alloc, "b")?;
+    let owner = replica(alloc).ok()?;
     let ranges = one_range(alloc, owner, 2, 4).ok()?;
-    let extras = dots_at(alloc, &replica(alloc, others)?, extras).ok()?;
+    let extras = dots_at(alloc, &named(alloc, others, 1).ok()?, extras).ok()?;
     let live = rows_at(alloc, &owner, rows.0, rows.1).ok()?;
     let told = told(alloc, ranges, extras, live)?;
     Some(Delta::of_told(alloc, &told).ok()?.is_some())
@@ -352,7 +342,7 @@ fn has_row(set: &Orswot, replica: Replica, count: u64) -> bool {
 }
 
 fn tells_a_set(alloc: Global) -> Option<bool> {
-    let b = replica(alloc, "b")?;
+    let b = replica(alloc).ok()?;
     let both = with_extras(alloc)?.told(alloc).ok()?;
     let mut set = Orswot::new(alloc);
     set.join(alloc, &both).ok()?;

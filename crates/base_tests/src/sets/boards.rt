@@ -1,12 +1,10 @@
-use presence_base::{NodeName, Replica};
+use super::rows::named;
+use presence_base::Replica;
 use replica_status::{Board, Change, Status};
 use std::alloc::Global;
 
 fn life(alloc: Global, name: &str, incarnation: u64) -> Option<Replica> {
-    match NodeName::new(alloc, name) {
-        Ok(Some(name)) => Some(Replica { name, incarnation }),
-        _ => None,
-    }
+    named(alloc, name, incarnation).ok()
 }
 
 fn replica(alloc: Global, name: &str) -> Option<Replica> {

@@ -15,11 +15,18 @@ pub fn push_span(
     write!(text, " {name}.{incarnation} ({from},{to}]")
 }
 
-fn push_dot(text: &mut String, dot: &Dot) -> Result<(), AllocError> {
+pub fn push_dot(text: &mut String, dot: &Dot) -> Result<(), AllocError> {
     let name = dot.replica.name.as_str();
     let incarnation = dot.replica.incarnation;
     let count = dot.count;
     write!(text, " {name}.{incarnation}.{count}")
+}
+
+pub fn push_dots(text: &mut String, dots: &[Dot]) -> Result<(), AllocError> {
+    for dot in dots {
+        push_dot(text, dot)?;
+    }
+    Ok(())
 }
 
 fn push_row(text: &mut String, row: &(Dot, Row)) -> Result<(), AllocError> {
@@ -28,23 +35,16 @@ fn push_row(text: &mut String, row: &(Dot, Row)) -> Result<(), AllocError> {
     write!(text, " {key}")
 }
 
+pub fn push_rows(text: &mut String, rows: &[(Dot, Row)]) -> Result<(), AllocError> {
+    for row in rows {
+        push_row(text, row)?;
+    }
+    Ok(())
+}
+
 fn push_ranges(text: &mut String, ranges: &[(Replica, u64, u64)]) -> Result<(), AllocError> {
     for range in ranges {
         push_span(text, &range.0, range.1, range.2)?;
-    }
-    Ok(())
-}
-
-fn push_dots(text: &mut String, dots: &[Dot]) -> Result<(), AllocError> {
-    for dot in dots {
-        push_dot(text, dot)?;
-    }
-    Ok(())
-}
-
-fn push_rows(text: &mut String, rows: &[(Dot, Row)]) -> Result<(), AllocError> {
-    for row in rows {
-        push_row(text, row)?;
     }
     Ok(())
 }

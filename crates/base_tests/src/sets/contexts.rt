@@ -1,19 +1,10 @@
 ghost use Rattle.std.specs.Prelude.{◌≡◌};
 
+use super::rows::replica;
 use dot_context::Context;
-use presence_base::{Dot, NodeName, Replica};
+use presence_base::{Dot, Replica};
 use std::alloc::{AllocError, Global};
 use std::test::Fail;
-
-fn replica(alloc: Global, name: &str) -> Result<Option<Replica>, AllocError> {
-    match NodeName::new(alloc, name)? {
-        Some(name) => Ok(Some(Replica {
-            name,
-            incarnation: 1,
-        })),
-        None => Ok(None),
-    }
-}
 
 fn dot(replica: Replica, count: u64) -> Dot
     ensures { result.count ≡ count }
@@ -50,9 +41,7 @@ fn is_seen(
 #[test]
 fn fills_the_gap(rt: HostRuntime) -> Result<(), Fail> {
     let alloc = rt.alloc();
-    let Some(b) = replica(alloc, "b")? else {
-        return Ok(());
-    };
+    let b = replica(alloc)?;
     let mut context = Context::new(alloc);
     context.add(alloc, dot(b, 3))?;
     assert_eq!(rt; context.top(&b), 0);
@@ -70,9 +59,7 @@ fn fills_the_gap(rt: HostRuntime) -> Result<(), Fail> {
 #[test]
 fn takes_runs_in_falling_order(rt: HostRuntime) -> Result<(), Fail> {
     let alloc = rt.alloc();
-    let Some(b) = replica(alloc, "b")? else {
-        return Ok(());
-    };
+    let b = replica(alloc)?;
     let mut context = Context::new(alloc);
     for k in 0..20_000 {
         let count = 100_000 - 2 * k;
@@ -89,9 +76,7 @@ fn takes_runs_in_falling_order(rt: HostRuntime) -> Result<(), Fail> {
 #[test]
 fn joins_two_contexts(rt: HostRuntime) -> Result<(), Fail> {
     let alloc = rt.alloc();
-    let Some(b) = replica(alloc, "b")? else {
-        return Ok(());
-    };
+    let b = replica(alloc)?;
     let mut first = Context::new(alloc);
     first.add(alloc, dot(b, 1))?;
     let mut second = Context::new(alloc);

@@ -1,6 +1,6 @@
 // The worked rows, each as it stands and with a cut after each call.
-use crate::asks::{Ask, Claim, Deed, Live, Telling};
-use crate::bodies::agreed;
+use super::asks::{Ask, Claim, Deed, Live, Telling};
+use super::bodies::agreed;
 use std::alloc::Global;
 use std::test::Fail;
 

@@ -1,4 +1,4 @@
-use crate::rows::{rows_of, tracked, updated};
+use super::rows::{rows_of, tracked, updated};
 use phx_message::{Limits, decode};
 use presence_base::{Dot, Row, Text};
 use presence_metas::{

@@ -9,12 +9,23 @@ use tungstenite::WebSocketConfig;
 
 // Gives its bytes, one piece a call, where `pieces` says how many of them come, and then has nothing. It takes all
 // that is written.
-#[derive(Drop)]
 struct Wire {
     rest: &'static [u8],
     piece: usize,
     open: bool,
     taken: Vec<u8>,
+}
+
+impl Drop for Wire {
+    fn drop(self) {
+        let Wire {
+            rest: _,
+            piece: _,
+            open: _,
+            taken,
+        } = self;
+        drop(taken);
+    }
 }
 
 impl Read for Wire {

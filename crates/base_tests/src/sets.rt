@@ -1,0 +1,7 @@
+//! Contexts, sets, told values, deltas and the board of replicas.
+
+mod boards;
+mod checks;
+mod contexts;
+mod deltas;
+mod rows;

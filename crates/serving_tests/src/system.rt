@@ -1,0 +1,5 @@
+//! Handshakes, sockets and which of them are ready, and the threads of a server.
+
+mod crew;
+mod handshakes;
+mod sockets;
