@@ -4,7 +4,8 @@
 use presence_node_ends::{ServeEnd, end_of};
 use presence_node_fold::{FoldFault, fold_status_of, fold_told_line, fold_words};
 use presence_node_lines::ReadFault;
-use presence_node_stdio::{SessionFault, StdioFault, status_of, told_line, told_words};
+use presence_node_main::{SessionFault, StdioFault, status_of, told_line};
+use presence_node_stdio::told_words;
 use shard_pool::SettleFault;
 use std::alloc::{AllocError, Global};
 

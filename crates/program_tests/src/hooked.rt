@@ -4,9 +4,9 @@
 use crate::support::{Sink, lines_in, options_for, plain_options};
 use hook_registry::{Extra, NoHooks, Notice, PresenceHooks};
 use presence_base::{Dot, Key, Topic};
+use presence_node_main::{StdioFault, run_stdio};
 use presence_node_notices::ReferenceNotices;
 use presence_node_options::StdioOptions;
-use presence_node_stdio::{StdioFault, run_stdio};
 use serde_json::json;
 use std::alloc::{AllocError, Global};
 use std::cell::Cell;

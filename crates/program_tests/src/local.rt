@@ -2,7 +2,7 @@
 
 use crate::support::{INPUT, go_plainly, plain_options};
 use presence_journal::{Entry, Outcome};
-use presence_node_stdio::{LocalSession, SessionFault, StdioFault};
+use presence_node_main::{LocalSession, SessionFault, StdioFault};
 use std::alloc::Global;
 use tracker_shard::Sub;
 

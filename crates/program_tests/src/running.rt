@@ -4,8 +4,8 @@ use crate::support::{
     INPUT, OUT, REPLIES, Sink, Source, go_plainly, lines_in, plain_options, run_plainly,
 };
 use presence_node_lines::ReadFault;
+use presence_node_main::{LocalSession, StdioFault};
 use presence_node_options::StdioOptions;
-use presence_node_stdio::{LocalSession, StdioFault};
 use std::alloc::Global;
 use std::io::ErrorKind;
 

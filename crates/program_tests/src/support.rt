@@ -1,8 +1,8 @@
 //! The first run, readers and writers that fail, and runs without hooks.
 
 use hook_registry::NoHooks;
+use presence_node_main::{LocalSession, StdioFault, run_lines, run_stdio};
 use presence_node_options::{Options, StdioOptions, options_of};
-use presence_node_stdio::{LocalSession, StdioFault, run_lines, run_stdio};
 use std::alloc::Global;
 use std::io;
 use std::io::{ErrorKind, Read, Write};

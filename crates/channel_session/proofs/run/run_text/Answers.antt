@@ -5,3 +5,6 @@ pub returns-in-Err-OutOfMemory-clause-ran : goal.returns-in-Err-OutOfMemory-clau
 returns-in-Err-OutOfMemory-clause-ran g c =
     let lives : c.args.session.now.failed ≡ false = search rules in
     record { said = []; writes = tt; ended = (lives, inl (record { port = refl; session = refl })) }
+
+pub returns-clause-ran : goal.returns-clause-ran
+returns-clause-ran g c = search rules

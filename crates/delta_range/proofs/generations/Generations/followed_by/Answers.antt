@@ -1,4 +1,4 @@
-use Rattle.std.proofs.Common.{sym, ◌∙◌, subst}
+use Rattle.std.proofs.Common.{sym, ◌∙◌, subst, rules}
 use Rattle.delta_range.specs.Keeping.{IsNext}
 use Rattle.delta_range.proofs.KeepFacts.{kept_after}
 use Rattle.delta_range.proofs.generations.Generations.followed_by.Goals as goal
@@ -9,3 +9,6 @@ invariant_of-result c =
     c.args.delta.now c.owner.result c.to.result c.commit.result c.commit-2.result c.commit-3.result c.self.invariant
     (subst (λ k. IsNext k.last c.args.delta.now) (sym c.self.view_is) c.requires)
     c.owner.ensures c.to.ensures (c.commit.ensures ∙ c.in-Ok.ensures.after) (c.commit-2.ensures ∙ c.in-Ok-plan_next.ensures.after) (c.commit-3.ensures ∙ c.in-Ok-plan_next-2.ensures.after)
+
+pub returns-clause-ok : goal.returns-clause-ok
+returns-clause-ok c = search rules

@@ -1,4 +1,4 @@
-use Rattle.std.proofs.Common.{arith, sym, ◌∙◌}
+use Rattle.std.proofs.Common.{arith, sym, ◌∙◌, rules}
 use Rattle.tracker_shard.proofs.Tables.{tables, none_is, track_answers}
 use Rattle.tracker_shard.proofs.shard.Shard.track.Goals as goal
 
@@ -7,3 +7,6 @@ returns-clause-answer c = track_answers c.ready.new.self.history c.args.self.now
 
 pub write-requires-clause-table : goal.write-requires-clause-table
 write-requires-clause-table c = grind (arith, tables)
+
+pub returns-then-is_some-clause-step : goal.returns-then-is_some-clause-step
+returns-then-is_some-clause-step c = search rules
