@@ -9,7 +9,7 @@ ghost use Rattle.tracker_shard.specs.Cuts.{IsCut};
 ghost use Rattle.tracker_shard.specs.KeptDeltas.{IsToldFrom};
 ghost use Rattle.tracker_shard.specs.Steps.{Stepped, Answers, AnswersDot, IsDue, refusal, refusal_at, is_found};
 ghost use Rattle.tracker_shard.specs.Steps.{AnswersRowsOfKey, AnswersRowsOfPid, AnswersListed, AnswersListedKey};
-ghost use Rattle.tracker_shard.specs.Steps.{AnswersItems, AnswersSub, checkpoint_refusal};
+ghost use Rattle.tracker_shard.specs.Steps.{AnswersItems, AnswersSub, RefusesForRoom, checkpoint_refusal};
 ghost use Rattle.tracker_shard.specs.Starting.{seats, IsBegunAgain};
 ghost use Rattle.shard_pool_lent.specs.Lent.{is_step, counted};
 
@@ -341,6 +341,7 @@ impl<L: Lane> Locked<L> {
         ensures step { Stepped self.old.shard self.new.shard None (Step.Heard replica now) result }
         ensures answer { Answers (λ _. Unit {0}) (outcome_of self.old.shard (Step.Heard replica now)) result }
         ensures due { IsDue result (refusal true self.old.shard (Step.Heard replica now)) }
+        ensures room { RefusesForRoom result }
         ensures total { self.new.calls.total ≡ self.old.calls.total }
     {
         self.shard.heard(alloc, replica, now)
@@ -352,6 +353,7 @@ impl<L: Lane> Locked<L> {
         ensures step { Stepped self.old.shard self.new.shard None (Step.Tick now) result }
         ensures answer { Answers (λ _. Unit {0}) (outcome_of self.old.shard (Step.Tick now)) result }
         ensures due { IsDue result (refusal true self.old.shard (Step.Tick now)) }
+        ensures room { RefusesForRoom result }
         ensures total { self.new.calls.total ≡ self.old.calls.total }
     {
         self.shard.tick(alloc, now)
@@ -363,6 +365,7 @@ impl<L: Lane> Locked<L> {
         ensures step { Stepped self.old.shard self.new.shard None (Step.PermDown replica) result }
         ensures answer { Answers (λ _. Unit {0}) (outcome_of self.old.shard (Step.PermDown replica)) result }
         ensures due { IsDue result (refusal true self.old.shard (Step.PermDown replica)) }
+        ensures room { RefusesForRoom result }
         ensures total { self.new.calls.total ≡ self.old.calls.total }
     {
         self.shard.permdown(alloc, replica)
@@ -374,6 +377,7 @@ impl<L: Lane> Locked<L> {
         ensures step { Stepped self.old.shard self.new.shard None Step.Cut result }
         ensures answer { Answers (IsCut self.old.shard) (outcome_of self.old.shard Step.Cut) result }
         ensures due { IsDue result (refusal true self.old.shard Step.Cut) }
+        ensures room { RefusesForRoom result }
         ensures total { self.new.calls.total ≡ self.old.calls.total }
     {
         self.shard.cut(alloc)
@@ -385,6 +389,7 @@ impl<L: Lane> Locked<L> {
         ensures step { Stepped self.old.shard self.new.shard None (Step.Merge told.now) result }
         ensures answer { Answers (λ _. Unit {0}) (outcome_of self.old.shard (Step.Merge told.now)) result }
         ensures due { IsDue result (refusal true self.old.shard (Step.Merge told.now)) }
+        ensures room { RefusesForRoom result }
         ensures total { self.new.calls.total ≡ self.old.calls.total }
     {
         self.shard.merge(alloc, told)
@@ -396,6 +401,7 @@ impl<L: Lane> Locked<L> {
         ensures ok { OnOk result (IsBegunAgain self.old.shard self.new.shard) }
         ensures err { OnErr result (self.new.shard ≡ self.old.shard) }
         ensures due { IsDue result (checkpoint_refusal self.old.shard) }
+        ensures room { RefusesForRoom result }
         ensures total { self.new.calls.total ≡ self.old.calls.total }
     {
         self.shard.checkpoint(alloc)

@@ -6,7 +6,7 @@ use Rattle.presence_journal.specs.History.{History, own}
 use Rattle.presence_journal.specs.Table.{IsLegal, outcome_of}
 use Rattle.shard_pool_lent.specs.ShardFault.{ShardFault}
 use Rattle.shard_pool_lent.specs.Starting.{IsBegunAgain}
-use Rattle.shard_pool_lent.specs.Steps.{Stepped, Answers, IsDue, refusal, checkpoint_refusal}
+use Rattle.shard_pool_lent.specs.Steps.{Stepped, Answers, IsDue, RefusesForRoom, refusal, checkpoint_refusal}
 use Rattle.shard_pool_lent.specs.declared.reply.Reply.{Reply}
 use Rattle.shard_pool_lent.specs.Hands.{Hand}
 use Rattle.shard_pool_lent.specs.Lent.{Notes, Replies, IsDueOnceNoted}
@@ -20,10 +20,10 @@ called h left node there old new step Gives r legal of_node made notes answer du
 pub is_behind : (h : History) (node : List ℕ) (Is : History → Type 0) → IsLegal h → (own h).name ≡ node → Is h → IsBehind node Is
 is_behind h node Is legal of_node is = record { history = h; legal = legal; of_node = of_node; is = is }
 
-pub is_made : {A : Type 0} (Gives : A → Type 0) (h left : History) (step : Step) (r : Result A ShardFault) → Stepped h left None step r → Answers Gives (outcome_of h step) r → IsDue r (refusal true h step) → IsMadeWith Gives h step r
-is_made Gives h left step r made answer due = record { left = left; step = made; answer = answer; due = due }
+pub is_made : {A : Type 0} (Gives : A → Type 0) (h left : History) (step : Step) (r : Result A ShardFault) → Stepped h left None step r → Answers Gives (outcome_of h step) r → IsDue r (refusal true h step) → RefusesForRoom r → IsMadeWith Gives h step r
+is_made Gives h left step r made answer due room = record { left = left; step = made; answer = answer; due = due; room = room }
 
-pub is_checkpointed : (h left : History) (r : Result Unit ShardFault) → OnOk r (IsBegunAgain h left) → OnErr r (left ≡ h) → IsDue r (checkpoint_refusal h) → IsCheckpointed h r
-is_checkpointed h left r again same due = record { left = left; again = again; same = same; due = due }
+pub is_checkpointed : (h left : History) (r : Result Unit ShardFault) → OnOk r (IsBegunAgain h left) → OnErr r (left ≡ h) → IsDue r (checkpoint_refusal h) → RefusesForRoom r → IsCheckpointed h r
+is_checkpointed h left r again same due room = record { left = left; again = again; same = same; due = due; room = room }
 
 pub ruleset unseated = (is_behind, is_made, is_checkpointed)

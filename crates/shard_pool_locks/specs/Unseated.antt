@@ -11,7 +11,7 @@ use Rattle.shard_pool_lent.specs.Sub.{Sub}
 use Rattle.shard_pool_lent.specs.ShardFault.{ShardFault}
 use Rattle.shard_pool_lent.specs.ShardFault.TheVariants.{NoSub}
 use Rattle.shard_pool_lent.specs.Starting.{IsBegunAgain}
-use Rattle.shard_pool_lent.specs.Steps.{Stepped, Answers, IsDue, refusal, is_found, checkpoint_refusal}
+use Rattle.shard_pool_lent.specs.Steps.{Stepped, Answers, IsDue, RefusesForRoom, refusal, is_found, checkpoint_refusal}
 
 -- a legal journal of the node
 abbrev pub IsOf : List ℕ → History → Type 0
@@ -24,13 +24,15 @@ pub record IsBehind (node : List ℕ) (Is : History → Type 0) : Type 0 where
   pub of_node : (own history).name ≡ node
   pub is : Is history
 
--- the answer is that of the step without a seat at the history's end, and what it gives is such
+-- The answer is that of the step without a seat at the history's end, and what it gives is such. It is refused at most
+-- for want of room.
 pub record IsMadeWith {A : Type 0} (Gives : A → Type 0) (h : History) (s : Step)
     (r : Result A ShardFault) : Type 0 where
   pub left : History
   pub step : Stepped h left None s r
   pub answer : Answers Gives (outcome_of h s) r
   pub due : IsDue r (refusal true h s)
+  pub room : RefusesForRoom r
 
 -- a step that gives nothing but that it was made
 abbrev pub IsMade : {A : Type 0} → History → Step → Result A ShardFault → Type 0
@@ -45,9 +47,11 @@ abbrev pub TellsWaiting : History → Sub → Result Bool ShardFault → Type 0
 TellsWaiting h sub (Ok w) = (is_found h sub.slot sub.number ≡ true) × (w ≡ is_waiting (queue h sub.number))
 TellsWaiting h sub (Err e) = (is_found h sub.slot sub.number ≡ false) × (e ≡ NoSub)
 
--- A Start that stands for the journal is put in its place, or it stays as it is where that is refused.
+-- A Start that stands for the journal is put in its place, or it stays as it is where that is refused, at most for want
+-- of room.
 pub record IsCheckpointed (h : History) (r : Result Unit ShardFault) : Type 0 where
   pub left : History
   pub again : OnOk r (IsBegunAgain h left)
   pub same : OnErr r (left ≡ h)
   pub due : IsDue r (checkpoint_refusal h)
+  pub room : RefusesForRoom r

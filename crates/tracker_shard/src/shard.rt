@@ -54,7 +54,7 @@ impl Shard {
     ghost use Rattle.tracker_shard_indexed.specs.Cuts.{IsCut};
     ghost use Rattle.tracker_shard_indexed.specs.KeptDeltas.{IsToldFrom};
     ghost use Rattle.tracker_shard_indexed.specs.Full.{IsFullOf};
-    ghost use Rattle.tracker_shard.specs.Steps.{Stepped, Answers, IsDue, refusal, refusal_at, is_found};
+    ghost use Rattle.tracker_shard.specs.Steps.{Stepped, Answers, IsDue, RefusesForRoom, refusal, refusal_at, is_found};
     ghost use Rattle.tracker_shard.specs.Steps.{AnswersDot, AnswersRowsOfKey, AnswersRowsOfPid, AnswersListed};
     ghost use Rattle.tracker_shard.specs.Steps.{AnswersListedKey, AnswersItems, AnswersSub};
     ghost use Rattle.tracker_shard.specs.Steps.{found_topic, checkpoint_refusal};
@@ -420,6 +420,7 @@ impl Shard {
         ensures step { Stepped self.old self.new None (Step.Heard replica now) result }
         ensures answer { Answers (λ _. Unit {0}) (outcome_of self.old (Step.Heard replica now)) result }
         ensures due { IsDue result (refusal true self.old (Step.Heard replica now)) }
+        ensures room { RefusesForRoom result }
     {
         note(&mut self.table, alloc, Step::heard(replica, now))
     }
@@ -432,6 +433,7 @@ impl Shard {
         ensures step { Stepped self.old self.new None (Step.Tick now) result }
         ensures answer { Answers (λ _. Unit {0}) (outcome_of self.old (Step.Tick now)) result }
         ensures due { IsDue result (refusal true self.old (Step.Tick now)) }
+        ensures room { RefusesForRoom result }
     {
         note(&mut self.table, alloc, Step::Tick { now })
     }
@@ -444,6 +446,7 @@ impl Shard {
         ensures step { Stepped self.old self.new None (Step.PermDown replica) result }
         ensures answer { Answers (λ _. Unit {0}) (outcome_of self.old (Step.PermDown replica)) result }
         ensures due { IsDue result (refusal true self.old (Step.PermDown replica)) }
+        ensures room { RefusesForRoom result }
     {
         note(&mut self.table, alloc, Step::permdown(replica))
     }
@@ -458,6 +461,7 @@ impl Shard {
         ensures step { Stepped self.old self.new None Step.Cut result }
         ensures answer { Answers (IsCut self.old) (outcome_of self.old Step.Cut) result }
         ensures due { IsDue result (refusal true self.old Step.Cut) }
+        ensures room { RefusesForRoom result }
     {
         if self.table.journal().is_full() {
             return Err(ShardFault::JournalFull);
@@ -478,6 +482,7 @@ impl Shard {
         ensures step { Stepped self.old self.new None (Step.Merge told.now) result }
         ensures answer { Answers (λ _. Unit {0}) (outcome_of self.old (Step.Merge told.now)) result }
         ensures due { IsDue result (refusal true self.old (Step.Merge told.now)) }
+        ensures room { RefusesForRoom result }
     {
         if self.table.journal().is_full() {
             return Err(ShardFault::JournalFull);
@@ -496,6 +501,7 @@ impl Shard {
         ensures ok { OnOk result (IsBegunAgain self.old self.new) }
         ensures err { OnErr result (self.new ≡ self.old) }
         ensures due { IsDue result (checkpoint_refusal self.old) }
+        ensures room { RefusesForRoom result }
     {
         if self.table.journal().last_number() >= MAX_COUNT {
             return Err(ShardFault::JournalFull);
