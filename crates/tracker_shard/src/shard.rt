@@ -54,6 +54,7 @@ impl Shard {
     ghost use Rattle.tracker_shard_indexed.specs.Cuts.{IsCut};
     ghost use Rattle.tracker_shard_indexed.specs.KeptDeltas.{IsToldFrom};
     ghost use Rattle.tracker_shard_indexed.specs.Full.{IsFullOf};
+    ghost use Rattle.tracker_shard_indexed.specs.Quiet.{TellsQuiet};
     ghost use Rattle.tracker_shard.specs.Steps.{Stepped, Answers, IsDue, RefusesForRoom, refusal, refusal_at, is_found};
     ghost use Rattle.tracker_shard.specs.Steps.{AnswersDot, AnswersRowsOfKey, AnswersRowsOfPid, AnswersListed};
     ghost use Rattle.tracker_shard.specs.Steps.{AnswersListedKey, AnswersItems, AnswersSub};
@@ -541,6 +542,16 @@ impl Shard {
         ensures { result ≡ status self.now replica.now }
     {
         self.table.status(replica)
+    }
+
+    /// Whether no item waits for a present subscriber: each is behind, or has nothing waiting. It is no step, and costs a look
+    /// at each of them.
+    pub fn is_quiet(&mut self, alloc: Global) -> Result<bool, AllocError>
+        ensures same { self.new ≡ self.old }
+        ensures quiet { IfOk result (TellsQuiet self.old) }
+    {
+        self.table.ready(alloc)?;
+        Ok(self.table.is_quiet())
     }
 
     /// Whether a subscriber is behind or has something waiting. It is no step.
