@@ -1,10 +1,11 @@
 ghost use Rattle.std.specs.Prelude.{◌≡◌, ◌+◌, ◌≤◌, ◌^◌, true, false, Some, None, IfOk, IfErr, OnOk, OnErr, IsTrue};
 ghost use Rattle.presence_base.specs.Refs.{IsCount};
-ghost use Rattle.presence_journal.specs.History.{begun, own, last_number, status, IsTop};
+ghost use Rattle.presence_journal.specs.History.{begun, own, entry_count, last_number, status, IsTop};
 ghost use Rattle.presence_journal.specs.Limits.{is_payload, is_take_limit};
 ghost use Rattle.presence_journal.specs.Queue.{queue, is_waiting};
 ghost use Rattle.presence_journal.specs.Table.{IsLegal, outcome_of};
 ghost use Rattle.tracker_shard.specs.Full.{IsFullOf};
+ghost use Rattle.tracker_shard.specs.Quiet.{TellsQuiet};
 ghost use Rattle.tracker_shard.specs.Cuts.{IsCut};
 ghost use Rattle.tracker_shard.specs.KeptDeltas.{IsToldFrom};
 ghost use Rattle.tracker_shard.specs.Steps.{Stepped, Answers, AnswersDot, IsDue, refusal, refusal_at, is_found};
@@ -63,6 +64,13 @@ impl<L: Lane> Locked<L> {
         ensures node { (own self.now.shard).name ≡ L.node }
     {
         self.shard.journal()
+    }
+
+    /// How many entries the journal has, its Start counted.
+    pub fn entry_count(&self) -> u64
+        ensures { result ≡ entry_count self.now.shard }
+    {
+        self.shard.journal().entries().len() as u64 + 1
     }
 
     // What a step would come to, without making it.
@@ -436,6 +444,16 @@ impl<L: Lane> Locked<L> {
         ensures { result ≡ status self.now.shard replica.now }
     {
         self.shard.status(replica)
+    }
+
+    /// Whether no item waits for a present subscriber, as `Shard::is_quiet` tells it. It is no step.
+    #[tactic(auto, using(crate::proofs::Counts::counts))]
+    pub fn is_quiet(&mut self, alloc: Global) -> Result<bool, AllocError>
+        ensures quiet { IfOk result (TellsQuiet self.old.shard) }
+        ensures same { self.new.shard ≡ self.old.shard }
+        ensures total { self.new.calls.total ≡ self.old.calls.total }
+    {
+        self.shard.is_quiet(alloc)
     }
 
     /// Whether a subscriber is behind or has something waiting. It is no step.

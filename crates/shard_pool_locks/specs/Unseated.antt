@@ -1,15 +1,16 @@
 -- What stands behind the answer of a call without a seat, which has let the lock go.
-use Rattle.std.specs.Prelude.{◌≡◌, true, false, ℕ, Bool, List, None, Result, Ok, Err, OnOk, OnErr}
+use Rattle.std.specs.Prelude.{◌≡◌, ◌≤◌, ◌<◌, ◌⊎◌, true, false, ℕ, Bool, List, Some, None, Result, Ok, Err, IfOk, OnOk, OnErr}
 use Rattle.delta_range.specs.Deltas.{DeltaValue}
 use Rattle.presence_journal_data.specs.declared.step.Step.{Step}
 use Rattle.presence_journal_data.specs.declared.step.Step.TheVariants as steps_are
-use Rattle.presence_journal.specs.History.{History, own}
+use Rattle.presence_journal.specs.History.{History, own, entry_count, is_full}
 use Rattle.presence_journal.specs.Queue.{queue, is_waiting}
 use Rattle.presence_journal.specs.Table.{IsLegal, outcome_of}
 use Rattle.shard_pool_lent.specs.Cuts.{IsCut}
+use Rattle.shard_pool_lent.specs.Quiet.{IsQuiet, IsBusy}
 use Rattle.shard_pool_lent.specs.Sub.{Sub}
 use Rattle.shard_pool_lent.specs.ShardFault.{ShardFault}
-use Rattle.shard_pool_lent.specs.ShardFault.TheVariants.{NoSub}
+use Rattle.shard_pool_lent.specs.ShardFault.TheVariants.{JournalFull, NoSub}
 use Rattle.shard_pool_lent.specs.Starting.{IsBegunAgain}
 use Rattle.shard_pool_lent.specs.Steps.{Stepped, Answers, IsDue, RefusesForRoom, refusal, is_found, checkpoint_refusal}
 
@@ -54,4 +55,34 @@ pub record IsCheckpointed (h : History) (r : Result Unit ShardFault) : Type 0 wh
   pub again : OnOk r (IsBegunAgain h left)
   pub same : OnErr r (left ≡ h)
   pub due : IsDue r (checkpoint_refusal h)
+  pub room : RefusesForRoom r
+
+-- what is left where a checkpoint was made, where none was, and where it was refused
+abbrev pub Leaves : History → History → Result Bool ShardFault → Type 0
+Leaves h left (Ok true) = IsBegunAgain h left
+Leaves h left (Ok false) = left ≡ h
+Leaves h left (Err e) = left ≡ h
+
+-- A checkpoint is made where the journal is full, and only there. It is refused as a checkpoint is.
+pub record IsMadeWhereFull (h : History) (r : Result Bool ShardFault) : Type 0 where
+  pub left : History
+  pub leaves : Leaves h left r
+  pub told : IfOk r (λ made. made ≡ is_full h)
+  pub asked : OnErr r (is_full h ≡ true)
+  pub due : (f : ShardFault) → r ≡ Err f → IsDue r (checkpoint_refusal h)
+  pub room : RefusesForRoom r
+
+-- the journal has so many entries, its Start counted, and no item waits for anybody; or it isn't so
+abbrev pub TellsDue : ℕ → History → Bool → Type 0
+TellsDue entries h true = (entries ≤ entry_count h) × IsQuiet h
+TellsDue entries h false = (entry_count h < entries) ⊎ IsBusy h
+
+-- A checkpoint is made where the journal has so many entries and no item waits for anybody, and only there. Memory may be
+-- wanting for that look too.
+pub record IsMadeWhereQuiet (entries : ℕ) (h : History) (r : Result Bool ShardFault) : Type 0 where
+  pub left : History
+  pub leaves : Leaves h left r
+  pub told : IfOk r (TellsDue entries h)
+  pub asked : OnErr r (entries ≤ entry_count h)
+  pub due : r ≡ Err JournalFull → checkpoint_refusal h ≡ Some JournalFull
   pub room : RefusesForRoom r
