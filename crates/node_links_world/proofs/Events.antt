@@ -11,7 +11,7 @@ use Rattle.presence_journal.specs.Steps.{Step, Outcome}
 use Rattle.presence_journal.specs.History.{History, Begin, last_number}
 use Rattle.presence_journal.specs.Table.{accepted, is_step}
 use Rattle.node_links_world_laws.specs.World.{LifeValue, Lives, WorldValue, with_replica, life_of, life_at, stepped, acted, acts, is_client, may_ask, added, with_row, CutsHere, Cuts, BeginsHere, Begins, Tells}
-use Rattle.node_links_world.specs.Living.{CutsIf, BeginsIf}
+use Rattle.node_links_world_lives.specs.Living.{CutsIf, BeginsIf}
 use Rattle.node_links_world.specs.Lives.{TurnsIf, Turns, Steps, Begun, CutIf, Cut, ToldIf}
 use Rattle.node_links_world.specs.Worlds.{world, ActsTo, AsksTo, CutsTo, TellsTo, BeginsTo}
 use Rattle.node_links_world.proofs.LifeFacts.{insert_same}

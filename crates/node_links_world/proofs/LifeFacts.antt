@@ -6,14 +6,11 @@ use Rattle.std.specs.BTreeMap.{get, Updates, WritesThrough}
 use Rattle.std.specs.Map.{lookup}
 use Rattle.std.specs.Cmp.{eq_by_cmp_equiv}
 use Rattle.presence_base.specs.declared.dots.Replica.{Replica}
-use Rattle.presence_base.specs.declared.dots.Dot.{Dot}
-use Rattle.presence_base.specs.declared.row.Row.{Row}
 use Rattle.presence_base.specs.Order.{replica_cmp, same_replica}
 use Rattle.orswot_core_told.specs.Telling.{ToldValue}
-use Rattle.presence_journal.specs.History.{History}
 use Rattle.presence_journal.proofs.Same.{replica_total, same_replica-true}
 use Rattle.node_links_world_laws.specs.World.{LifeValue, Lives, TellsWhole}
-use Rattle.node_links_world.specs.Living.{Cuts}
+use Rattle.node_links_world_lives.specs.Living.{Cuts}
 use Rattle.node_links_world.specs.Lives.{LifeMap, seen, TurnsIf, Turns, CutIf, Cut, ToldIf}
 
 pub replica_antisymmetric : map.IsAntisymmetric replica_cmp
@@ -54,9 +51,6 @@ cut_some m n r old new (Ok o) was w t k = subst (λ x. CutIf x (seen m) r (seen 
 pub cut_none : (m n : LifeMap) (r : Replica) → get replica_cmp m r ≡ None → m ≡ n → Cut (seen m) r (seen n) None
 cut_none m n r was same = subst (λ x. CutIf x (seen m) r (seen n) None) (sym (seen_life m r ∙ was)) (ap seen (sym same), refl)
 
-abbrev pub the_life : History → List (Dot × Row) → LifeValue
-the_life h xs = record { history = h; made = xs }
-
 -- a life that is left as it was
 same_cond : (b : Bool) (o : Option LifeValue) (l : LifeValue) → (b ≡ true → o ≡ Some l) → cond b (Some l) o ≡ o
 same_cond true o l f = sym (f refl)
@@ -88,14 +82,3 @@ on_both P Q (Ok x) p k = (p, k)
 pub stays_some : {A E : Type 0} (m n : LifeMap) (r : Replica) (old new : LifeValue) (q : Result A E) → get replica_cmp m r ≡ Some old → WritesThrough replica_cmp (replica_cmp r) m new n → OnErr q (new ≡ old) → OnErr q (seen n ≡ seen m)
 stays_some m n r old new (Err e) was w same = same_seen m n r old new was w same
 stays_some m n r old new (Ok x) was w same = tt
-
--- a life whose parts stay
-pub life_same : {A E : Type 0} (q : Result A E) (g h : History) (xs ys : List (Dot × Row)) → OnErr q (g ≡ h) → OnErr q (xs ≡ ys) → OnErr q (the_life g xs ≡ the_life h ys)
-life_same (Err e) g h xs ys p k = λ i. the_life (p i) (k i)
-life_same (Ok x) g h xs ys p k = tt
-
-pub history_same : {A E : Type 0} (q : Result A E) (g h : History) (xs : List (Dot × Row)) → OnErr q (g ≡ h) → OnErr q (the_life g xs ≡ the_life h xs)
-history_same (Err e) g h xs p = λ i. the_life (p i) xs
-history_same (Ok x) g h xs p = tt
-
-pub ruleset parts_same = (life_same, history_same)

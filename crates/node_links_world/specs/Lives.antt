@@ -3,14 +3,18 @@ use Rattle.std.specs.Prelude.{◌≡◌, ℕ, List, [], ◌∷◌, ◌++◌, Opt
 use Rattle.std.specs.BTreeMap.{BTreeMap}
 use Rattle.std.specs.FinMap as map
 use Rattle.presence_base.specs.declared.dots.Replica.{Replica}
+use Rattle.presence_base.specs.Order.{replica_cmp}
 use Rattle.orswot_core_told.specs.Telling.{ToldValue}
 use Rattle.presence_journal.specs.Steps.{Step}
 use Rattle.node_links_world_laws.specs.World.{LifeValue, Lives, WorldValue, first_life, newborn, stepped, TellsWhole}
-use Rattle.node_links_world.specs.Taking.{lives_in}
-use Rattle.node_links_world.specs.Living.{Cuts, BeginsAgain}
+use Rattle.node_links_world_lives.specs.Living.{Cuts, BeginsAgain}
 
 abbrev pub LifeMap : Type 0
 LifeMap = BTreeMap Replica LifeValue
+
+-- the lives that a list of entries has
+abbrev pub lives_in : List (Replica × LifeValue) → Lives
+lives_in es = map.from_entries {R = replica_cmp} es
 
 abbrev pub seen : LifeMap → Lives
 seen m = lives_in m.entries

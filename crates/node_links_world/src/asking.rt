@@ -5,7 +5,7 @@ ghost use Rattle.node_links_world.specs.Lives.{seen};
 ghost use Rattle.node_links_world.specs.Asked.{life_in, listed_of, CaughtUpBy};
 ghost use Rattle.node_links_world_laws.specs.Claims.{IsCaughtUp};
 
-use crate::life::Life;
+use node_links_world_lives::Life;
 use presence_base::{Dot, Replica, Row, Topic};
 use presence_journal_walks::walk_list;
 use replica_status::Status;

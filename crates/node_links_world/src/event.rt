@@ -6,11 +6,9 @@ ghost use Rattle.node_links_world.specs.Worlds.{world, ActsTo, AsksTo, CutsTo, T
 ghost use Rattle.node_links_world.specs.Worlds.{DeliversTo, BeginsTo, RestartsTo};
 ghost use Rattle.node_links_world_laws.specs.World.{Happens};
 
-use crate::life::Life;
 use crate::lives;
-use crate::steps::{is_callers, is_limited};
-use crate::telling::Telling;
 use node_links_world_laws::Event;
+use node_links_world_lives::{Life, Telling, is_callers, is_limited};
 use presence_base::{MAX_COUNT, Replica};
 use presence_journal::Step;
 use std::alloc::{AllocError, Global};

@@ -8,17 +8,10 @@
 #![tactic(auto)]
 
 mod asking;
-mod client;
 mod event;
-mod life;
 mod lives;
 mod names;
-mod refused;
-mod row;
 mod running;
-mod steps;
-mod taking;
-mod telling;
 mod world;
 
 pub use names::has_name_twice;

@@ -6,8 +6,7 @@ ghost use Rattle.presence_journal.specs.Table.{is_step};
 ghost use Rattle.node_links_world.specs.Lives.{seen, Turns, Steps, Begun, Cut, ToldIf};
 ghost use Rattle.node_links_world_laws.specs.World.{newborn};
 
-use crate::life::Life;
-use crate::telling::Telling;
+use node_links_world_lives::{Life, Telling};
 use presence_base::Replica;
 use presence_journal::Step;
 use std::alloc::{AllocError, Global};

@@ -8,10 +8,9 @@ ghost use Rattle.node_links_world_laws.specs.World.{first_life, start, Happens};
 
 use crate::asking::{is_caught_up, life_of, list_of, present_of};
 use crate::event::happen;
-use crate::life::Life;
 use crate::lives;
-use crate::telling::Telling;
 use node_links_world_laws::Event;
+use node_links_world_lives::{Life, Telling};
 use presence_base::{Dot, NodeName, Replica, Row, Topic};
 use std::alloc::{AllocError, Global};
 use std::collections::BTreeMap;
@@ -40,7 +39,7 @@ impl Drop for World {
 impl Model for World {
     ghost use Rattle.node_links_world_laws.specs.World.{WorldValue};
     ghost use Rattle.node_links_world.specs.Codes.{world_code};
-    ghost use Rattle.node_links_world.specs.Taking.{lives_in};
+    ghost use Rattle.node_links_world.specs.Lives.{lives_in};
 
     ghost Value = { WorldValue };
 

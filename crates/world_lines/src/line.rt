@@ -6,13 +6,7 @@ use presence_base::{NodeName, Replica, Topic};
 pub(crate) enum Line {
     Names(Vec<NodeName>),
     Happens(Event),
-    List {
-        node: usize,
-        topic: Topic,
-    },
+    List { node: usize, topic: Topic },
     Told,
-    CaughtUp {
-        node: usize,
-        replica: Replica,
-    },
+    CaughtUp { node: usize, replica: Replica },
 }

@@ -26,12 +26,7 @@ fn world_of(alloc: Global, names: &[NodeName]) -> Result<World, LineFault> {
     Ok(world)
 }
 
-fn listed(
-    world: &World,
-    alloc: Global,
-    node: usize,
-    topic: &Topic,
-) -> Result<String, AllocError> {
+fn listed(world: &World, alloc: Global, node: usize, topic: &Topic) -> Result<String, AllocError> {
     let rows = world.list(alloc, node, topic)?;
     rows_text(alloc, rows.as_slice())
 }

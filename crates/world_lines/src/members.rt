@@ -37,10 +37,7 @@ pub(crate) fn position_at(members: &[Value], place: usize) -> Result<usize, Line
 }
 
 /// A number, or null.
-pub(crate) fn number_or_null_at(
-    members: &[Value],
-    place: usize,
-) -> Result<Option<u64>, LineFault> {
+pub(crate) fn number_or_null_at(members: &[Value], place: usize) -> Result<Option<u64>, LineFault> {
     match members.get(place) {
         Some(Value::Null) => Ok(None),
         _ => {

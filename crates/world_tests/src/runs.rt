@@ -1,12 +1,12 @@
 //! Runs of random events of two or three nodes, with restarts, checkpoints, replicas that go down and values that come late,
 //! again or never. What is wanted was computed by a second implementation, from the definitions.
 
-mod one;
-mod two;
-mod three;
-mod four;
 mod five;
+mod four;
+mod one;
 mod six;
+mod three;
+mod two;
 
 use crate::script::are_answered;
 

@@ -144,7 +144,13 @@ true
 fn a_cut_tells_the_same_behind_a_checkpoint(rt: HostRuntime) {
     let alloc = rt.alloc();
     assert!(rt; are_answered(alloc, SECOND_ALONE, SECOND_ALONE_ANSWERS));
-    assert!(rt; are_answered(alloc, SECOND_ALONE_BEHIND_A_CHECKPOINT, SECOND_ALONE_ANSWERS));
+    assert!(rt;
+        are_answered(
+            alloc,
+            SECOND_ALONE_BEHIND_A_CHECKPOINT,
+            SECOND_ALONE_ANSWERS
+        )
+    );
 }
 
 // The second of three cuts is lost. The third tells that the first row went, which the second replaced.

@@ -439,7 +439,8 @@ pub(crate) const SECOND: &str = r#"["names",["a","b","c"]]
 ["caught_up",2,["c",1]]
 "#;
 
-pub(crate) const SECOND_ANSWERS: &str = r#"[["c.1.5","u2",2,{"n":23},null],["c.1.8","u3",1,{"n":21},null]]
+pub(crate) const SECOND_ANSWERS: &str =
+    r#"[["c.1.5","u2",2,{"n":23},null],["c.1.8","u3",1,{"n":21},null]]
 24
 [["c.1.6","u1",2,{"n":47},null],["c.1.4","u2",1,{"n":40},"c.1.3"],["c.1.2","u3",1,{"n":46},"c.1.1"],["c.1.7","u3",2,{"n":36},null]]
 [["a.2.6","u2",2,{"n":6},"a.2.5"],["c.1.5","u2",2,{"n":23},null],["c.1.9","u2",1,{"n":31},null],["c.1.10","u3",1,{"n":0},"c.1.8"],["c.1.11","u3",2,{"n":16},null]]

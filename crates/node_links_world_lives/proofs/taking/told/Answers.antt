@@ -1,5 +1,5 @@
-use Rattle.node_links_world.proofs.Wholes.{whole_all}
-use Rattle.node_links_world.proofs.taking.told.Goals as goal
+use Rattle.node_links_world_lives.proofs.Wholes.{whole_all}
+use Rattle.node_links_world_lives.proofs.taking.told.Goals as goal
 
 pub returns-in_ok-told-in-None-clause-told : goal.returns-in_ok-told-in-None-clause-told
 returns-in_ok-told-in-None-clause-told c =

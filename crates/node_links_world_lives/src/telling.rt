@@ -20,7 +20,7 @@ enum Form {
 
 /// What a node told once, seen by contracts as the told value. A cut stays the delta that it is, so that keeping it takes no
 /// memory.
-pub(crate) struct Telling {
+pub struct Telling {
     form: Form,
 }
 
@@ -36,7 +36,7 @@ impl Model for Telling {
     ghost use Rattle.orswot_core_told.specs.Telling.{ToldValue};
     ghost use Rattle.orswot_core_told.specs.Codes.{told_code};
     ghost use Rattle.presence_journal_data.specs.StepLimits.{is_heard};
-    ghost use Rattle.node_links_world.specs.Tellings.{told_by};
+    ghost use Rattle.node_links_world_lives.specs.Tellings.{told_by};
 
     ghost Value = { ToldValue };
 
@@ -86,7 +86,7 @@ fn read_told(told: &Told)
 
 impl Telling {
     /// What a cut tells. Takes no memory.
-    pub(crate) fn of_cut(delta: Delta) -> Telling
+    pub fn of_cut(delta: Delta) -> Telling
         ensures tells { result ≡ telling delta }
         ensures delta { IsDelta delta }
         ensures limits { is_heard result ≡ true }
@@ -98,7 +98,7 @@ impl Telling {
     }
 
     /// What is told in whole. Takes no memory.
-    pub(crate) fn of_told(told: Told) -> Telling
+    pub fn of_told(told: Told) -> Telling
         ensures tells { result ≡ told }
         ensures limits { is_heard result ≡ true }
     {
@@ -118,7 +118,7 @@ impl Telling {
     }
 
     /// The step that takes it in.
-    pub(crate) fn step(&self, alloc: Global) -> Result<Step, AllocError>
+    pub fn step(&self, alloc: Global) -> Result<Step, AllocError>
         ensures step { IfOk result (λ s. s ≡ Step.Merge self.now) }
         ensures limits { IfOk result (λ s. is_step s ≡ true) }
     {

@@ -1,6 +1,6 @@
 use Rattle.std.proofs.Common.{◌≡◌, sym}
-use Rattle.node_links_world.proofs.Rows.{row_taken}
-use Rattle.node_links_world.proofs.taking.take.Goals as goal
+use Rattle.node_links_world_lives.proofs.Rows.{row_taken}
+use Rattle.node_links_world_lives.proofs.taking.take.Goals as goal
 
 pub returns-then-is_taken-clause-made : goal.returns-then-is_taken-clause-made
 returns-then-is_taken-clause-made c =

@@ -4,7 +4,7 @@ use Rattle.std.specs.List.{list_all}
 use Rattle.orswot_core_told.specs.Limits.{are_texts}
 use Rattle.presence_journal_data.specs.StepLimits.{is_named}
 use Rattle.orswot_core_told.proofs.LoopFacts.{next_rest, first_true}
-use Rattle.node_links_world.proofs.telling.read_rows.Goals as goal
+use Rattle.node_links_world_lives.proofs.telling.read_rows.Goals as goal
 
 pub loop-row-preserved : goal.loop-row-preserved
 loop-row-preserved c =

@@ -13,7 +13,7 @@ use Rattle.presence_journal_cuts.specs.KeptDeltas.{IsToldFrom}
 use Rattle.tracker_shard.specs.declared.fault.ShardFault.{ShardFault}
 use Rattle.tracker_shard.specs.declared.fault.ShardFault.TheVariants.{AlreadyTracked, NoPresence, ClockFull, JournalFull, NoSub, OutOfMemory}
 use Rattle.tracker_shard.specs.Steps.{Stepped, Answers, cause, refusal, checkpoint_refusal}
-use Rattle.node_links_world.specs.Living.{CutsIf, Cuts, BeginsIf, BeginsAgain}
+use Rattle.node_links_world_lives.specs.Living.{CutsIf, Cuts, BeginsIf, BeginsAgain}
 use Rattle.node_links_world_laws.specs.World.{TellsWhole}
 
 pub whole_all : (h : History) (from : Option ℕ) (t u : ToldValue) → from ≡ None → IsFullOf h t → u ≡ t → is_heard u ≡ true → TellsWhole h from u

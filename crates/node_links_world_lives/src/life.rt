@@ -2,7 +2,7 @@ ghost use Rattle.std.specs.Prelude.{◌≡◌, true, IfOk, OnOk, OnErr};
 ghost use Rattle.presence_base.specs.Refs.{IsCount};
 ghost use Rattle.presence_journal.specs.Table.{is_step, IsLegal};
 ghost use Rattle.presence_journal.specs.History.{IsTop, count, status};
-ghost use Rattle.node_links_world.specs.Living.{Cuts, BeginsAgain};
+ghost use Rattle.node_links_world_lives.specs.Living.{Cuts, BeginsAgain};
 ghost use Rattle.node_links_world_laws.specs.World.{newborn, stepped, TellsWhole};
 
 use crate::taking;
@@ -15,7 +15,7 @@ use std::marker::Model;
 use tracker_shard::Shard;
 
 /// One life of a node: its shard, and each row that its own steps ever added, with its dot.
-pub(crate) struct Life {
+pub struct Life {
     shard: Shard,
     made: Vec<(Dot, Row)>,
 }
@@ -30,7 +30,7 @@ impl Drop for Life {
 
 impl Model for Life {
     ghost use Rattle.node_links_world_laws.specs.World.{LifeValue};
-    ghost use Rattle.node_links_world.specs.Codes.{life_code};
+    ghost use Rattle.node_links_world_lives.specs.Codes.{life_code};
 
     ghost Value = { LifeValue };
 
@@ -41,7 +41,7 @@ impl Model for Life {
 
 impl Life {
     /// A new life, with nothing.
-    pub(crate) fn new(alloc: Global, own: Replica) -> Life
+    pub fn new(alloc: Global, own: Replica) -> Life
         requires { IsCount own.incarnation }
         ensures { result ≡ newborn own }
     {
@@ -51,7 +51,7 @@ impl Life {
         }
     }
 
-    pub(crate) fn journal(&self) -> &Journal
+    pub fn journal(&self) -> &Journal
         ensures journal { result.now ≡ self.now.history }
         ensures legal { IsLegal self.now.history }
     {
@@ -59,21 +59,21 @@ impl Life {
     }
 
     /// How many counts it used.
-    #[tactic(auto, using(crate::proofs::Asked::counted))]
-    pub(crate) fn count(&self) -> u64
+    #[tactic(auto, using(crate::proofs::LifeFacts::counted))]
+    pub fn count(&self) -> u64
         ensures { result ≡ count self.now.history }
     {
         self.shard.top(self.shard.journal().own())
     }
 
     /// The count up to which all of a replica's dots are covered.
-    pub(crate) fn top(&self, replica: &Replica) -> u64
+    pub fn top(&self, replica: &Replica) -> u64
         ensures { IsTop self.now.history replica.now result }
     {
         self.shard.top(replica)
     }
 
-    pub(crate) fn status(&self, replica: &Replica) -> Status
+    pub fn status(&self, replica: &Replica) -> Status
         ensures { result ≡ status self.now.history replica.now }
     {
         self.shard.status(replica)
@@ -81,7 +81,7 @@ impl Life {
 
     /// A step.
     #[tactic(auto, using(crate::proofs::LifeFacts::parts_same))]
-    pub(crate) fn step(&mut self, alloc: Global, step: &Step) -> Result<(), AllocError>
+    pub fn step(&mut self, alloc: Global, step: &Step) -> Result<(), AllocError>
         requires { is_step step.now ≡ true }
         ensures stepped { OnOk result (self.new ≡ stepped step.now self.old) }
         ensures same { OnErr result (self.new ≡ self.old) }
@@ -91,7 +91,7 @@ impl Life {
 
     /// What it did since its last cut, where there is room for the entry.
     #[tactic(auto, using(crate::proofs::LifeFacts::parts_same))]
-    pub(crate) fn cut(&mut self, alloc: Global) -> Result<Option<Telling>, AllocError>
+    pub fn cut(&mut self, alloc: Global) -> Result<Option<Telling>, AllocError>
         ensures history { IfOk result (Cuts self.old.history self.new.history) }
         ensures made { self.new.made ≡ self.old.made }
         ensures same { OnErr result (self.new ≡ self.old) }
@@ -100,11 +100,7 @@ impl Life {
     }
 
     /// All that it knows, or what a node missed that knows its dots up to a count.
-    pub(crate) fn told(
-        &mut self,
-        alloc: Global,
-        from: Option<u64>,
-    ) -> Result<Telling, AllocError>
+    pub fn told(&mut self, alloc: Global, from: Option<u64>) -> Result<Telling, AllocError>
         ensures same { self.new ≡ self.old }
         ensures told { IfOk result (TellsWhole self.old.history from) }
     {
@@ -113,7 +109,7 @@ impl Life {
 
     /// Puts a Start in the place of its journal, where a number is left.
     #[tactic(auto, using(crate::proofs::LifeFacts::parts_same))]
-    pub(crate) fn checkpoint(&mut self, alloc: Global) -> Result<(), AllocError>
+    pub fn checkpoint(&mut self, alloc: Global) -> Result<(), AllocError>
         ensures history { OnOk result (BeginsAgain self.old.history self.new.history) }
         ensures made { self.new.made ≡ self.old.made }
         ensures same { OnErr result (self.new ≡ self.old) }

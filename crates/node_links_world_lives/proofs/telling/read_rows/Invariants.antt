@@ -2,7 +2,7 @@ use Rattle.std.proofs.Common.{◌≡◌, drop}
 use Rattle.std.specs.List.{list_all}
 use Rattle.orswot_core_told.specs.Limits.{are_texts}
 use Rattle.presence_journal_data.specs.StepLimits.{is_named}
-use Rattle.node_links_world.proofs.telling.read_rows.Given as goal
+use Rattle.node_links_world_lives.proofs.telling.read_rows.Given as goal
 
 abbrev pub invariant-loop-row : goal.invariant-loop-row
 invariant-loop-row l = record {

@@ -2,7 +2,7 @@
 ghost use Rattle.std.specs.Prelude.{◌≡◌, ◌≤◌, ◌^◌, IfOk, OnErr, IsTrue};
 ghost use Rattle.presence_journal.specs.Limits.{is_payload, is_take_limit};
 ghost use Rattle.presence_journal_data.specs.declared.step.Step.TheVariants as steps_are;
-ghost use Rattle.node_links_world.specs.Taking.{Took};
+ghost use Rattle.node_links_world_lives.specs.Taking.{Took};
 
 use crate::refused::refused;
 use presence_base::{Json, Key, Meta, Topic};

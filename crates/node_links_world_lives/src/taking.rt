@@ -1,8 +1,8 @@
 // What a shard does at an event. Where memory runs out it is as it was.
 ghost use Rattle.std.specs.Prelude.{◌≡◌, ◌<◌, true, None, IfOk, OnOk, OnErr, vec_len, vec_capacity};
 ghost use Rattle.presence_journal.specs.Table.{outcome_of, after, is_step};
-ghost use Rattle.node_links_world.specs.Living.{Cuts, BeginsAgain};
-ghost use Rattle.node_links_world.specs.Taking.{AddsRow};
+ghost use Rattle.node_links_world_lives.specs.Living.{Cuts, BeginsAgain};
+ghost use Rattle.node_links_world_lives.specs.Taking.{AddsRow};
 ghost use Rattle.node_links_world_laws.specs.World.{added, with_row, TellsWhole};
 
 use crate::row::added_row;

@@ -5,7 +5,7 @@ use Rattle.presence_base.specs.declared.row.Row.{Row}
 use Rattle.presence_journal.specs.Steps.{Step, Outcome}
 use Rattle.presence_journal.specs.History.{History, is_full}
 use Rattle.presence_journal.specs.Table.{outcome_of, accepted, after}
-use Rattle.node_links_world.specs.Taking.{Took, AddsRow}
+use Rattle.node_links_world_lives.specs.Taking.{Took, AddsRow}
 use Rattle.node_links_world_laws.specs.World.{added, with_row}
 
 accepted_here : (h : History) (s : Step) → is_some (accepted h s) ≡ true → outcome_of h s ≡ accepted h s

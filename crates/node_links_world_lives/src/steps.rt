@@ -1,6 +1,6 @@
 ghost use Rattle.std.specs.Prelude.{◌≡◌, true, IfOk, OnErr};
 ghost use Rattle.presence_journal.specs.Table.{is_step};
-ghost use Rattle.node_links_world.specs.Taking.{Took};
+ghost use Rattle.node_links_world_lives.specs.Taking.{Took};
 ghost use Rattle.node_links_world_laws.specs.World.{is_client};
 
 use crate::client;
@@ -12,7 +12,7 @@ use std::alloc::{AllocError, Global};
 use tracker_shard::Shard;
 
 /// Whether a step is one that callers may ask.
-pub(crate) fn is_callers(step: &Step) -> bool
+pub fn is_callers(step: &Step) -> bool
     ensures { result ≡ is_client step.now }
 {
     match step {
@@ -26,7 +26,7 @@ pub(crate) fn is_callers(step: &Step) -> bool
 }
 
 /// Whether a step is within the limits that its type doesn't keep: a pid that a row keeps, and what is told.
-pub(crate) fn is_limited(step: &Step) -> bool
+pub fn is_limited(step: &Step) -> bool
     requires { is_client step.now ≡ true }
     ensures { result ≡ is_step step.now }
 {

@@ -1,16 +1,13 @@
 -- Whether a shard took a step, and what it left.
-use Rattle.std.specs.Prelude.{◌≡◌, Bool, true, false, is_some, List, Option, Some, None, Result, Ok, Err}
-use Rattle.presence_base.specs.declared.dots.Replica.{Replica}
+use Rattle.std.specs.Prelude.{◌≡◌, Bool, true, false, is_some, List, Option, Some, None}
 use Rattle.presence_base.specs.declared.dots.Dot.{Dot}
 use Rattle.presence_base.specs.declared.row.Row.{Row}
-use Rattle.presence_base.specs.Order.{replica_cmp}
-use Rattle.std.specs.FinMap as map
 use Rattle.presence_journal.specs.Steps.{Step}
 use Rattle.presence_journal.specs.History.{History}
 use Rattle.presence_journal.specs.Table.{accepted, after}
 use Rattle.tracker_shard.specs.declared.fault.ShardFault.{ShardFault}
 use Rattle.tracker_shard.specs.declared.fault.ShardFault.TheVariants.{AlreadyTracked, NoPresence, ClockFull, JournalFull, NoSub, OutOfMemory}
-use Rattle.node_links_world_laws.specs.World.{LifeValue, Lives, added, with_row}
+use Rattle.node_links_world_laws.specs.World.{added, with_row}
 
 -- the step was taken, or refused and nothing changed
 pub record Took (old new : History) (s : Step) (b : Bool) : Type 0 where
@@ -29,7 +26,3 @@ taken OutOfMemory = None
 -- the rows behind a step: the one that it adds, if it is accepted, behind the others
 abbrev pub AddsRow : History → Step → List (Dot × Row) → List (Dot × Row) → Type 0
 AddsRow h s old new = new ≡ with_row old (added s (accepted h s))
-
--- the lives that a list of entries has
-abbrev pub lives_in : List (Replica × LifeValue) → Lives
-lives_in es = map.from_entries {R = replica_cmp} es

@@ -1,0 +1,4 @@
+pub mod Tellings
+pub mod Taking
+pub mod Living
+pub mod Codes
