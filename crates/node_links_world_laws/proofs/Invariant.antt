@@ -1,16 +1,10 @@
 -- A life in the place of another keeps what is true of a world.
-use Rattle.std.proofs.Common.{◌≡◌, ℕ, ◌<◌, Bool, true, false, cond, List, Some, None, refl, sym, ◌∙◌, ap, subst, slice_get, IsTrue}
+use Rattle.std.proofs.Common.{◌≡◌, ℕ, ◌<◌, Bool, true, false, cond, List, Some, None, refl, sym, ◌∙◌, ap, subst, slice_get}
 use Rattle.std.specs.List.{AllByRecursion}
-use Rattle.std.specs.Map.{lookup}
 use Rattle.std.specs.FinMap as map
 use Rattle.std.proofs.lemmas.Option.{same_Some}
 use Rattle.presence_base.specs.declared.dots.Replica.{Replica}
-use Rattle.presence_base.specs.Names.{is_node_name}
-use Rattle.presence_base.specs.Order.{same_replica, same_dot}
-use Rattle.orswot_core_told.specs.Telling.{ToldValue}
-use Rattle.orswot_core.specs.Full.{dot_of}
-use Rattle.presence_journal_data.specs.StepLimits.{is_heard}
-use Rattle.presence_journal.specs.History.{own}
+use Rattle.presence_base.specs.Order.{same_replica}
 use Rattle.presence_journal.proofs.Same.{same_replica-true}
 use Rattle.presence_journal_deeds.specs.Deeds.{AllDeeds, no_deeds}
 use Rattle.presence_journal_deeds.specs.Truth.{AreDeeds, DoMore}
