@@ -98,6 +98,7 @@ impl World {
     }
 
     /// A node of each of these names, in its first life with nothing. No two names are equal.
+    #[tactic(auto, using(crate::proofs::Begun::starting))]
     pub fn new(alloc: Global, names: &[NodeName]) -> Result<World, AllocError>
         requires { has_repeat same_text names.now ≡ false }
         ensures { IfOk result (λ w. w ≡ start names.now) }

@@ -1,5 +1,5 @@
 pub mod Tellings
-pub mod Taking
+pub mod Taken
 pub mod Rows
 pub mod Wholes
 pub mod LifeFacts

@@ -1,11 +1,11 @@
 -- The row that a step adds, by what was foreseen and whether it was taken.
-use Rattle.std.proofs.Common.{◌≡◌, Bool, true, false, cond, is_some, List, Option, Some, None, refl, sym, ◌∙◌, ap, Result, Ok, Err, OnOk}
+use Rattle.std.proofs.Common.{◌≡◌, Bool, true, false, cond, is_some, List, Option, Some, None, refl, sym, ◌∙◌, ap}
 use Rattle.presence_base.specs.declared.dots.Dot.{Dot}
 use Rattle.presence_base.specs.declared.row.Row.{Row}
 use Rattle.presence_journal.specs.Steps.{Step, Outcome}
 use Rattle.presence_journal.specs.History.{History, is_full}
-use Rattle.presence_journal.specs.Table.{outcome_of, accepted, after}
-use Rattle.node_links_world_lives.specs.Taking.{Took, AddsRow}
+use Rattle.presence_journal.specs.Table.{outcome_of, accepted}
+use Rattle.node_links_world_lives.specs.Taken.{Took, AddsRow}
 use Rattle.node_links_world_laws.specs.World.{added, with_row}
 
 accepted_here : (h : History) (s : Step) → is_some (accepted h s) ≡ true → outcome_of h s ≡ accepted h s

@@ -1,5 +1,5 @@
 -- What is told is within the limits of what is heard, where the names and texts of its rows are.
-use Rattle.std.proofs.Common.{◌≡◌, true, false, not, ◌&&◌, sym}
+use Rattle.std.proofs.Common.{◌≡◌, true, not, ◌&&◌}
 use Rattle.std.specs.List.{list_all}
 use Rattle.orswot_core_told.specs.Telling.{ToldValue}
 use Rattle.orswot_core_told.specs.Checks.{IsTold}

@@ -1,13 +1,12 @@
 -- What a shard tells, and what is left where it refused.
-use Rattle.std.proofs.Common.{◌≡◌, ℕ, ◌^◌, Bool, true, false, cond, is_some, nat_lt, nat_le, Option, Some, None, Result, Ok, Err, IfOk, refl, sym, ◌∙◌, ap, subst}
+use Rattle.std.proofs.Common.{◌≡◌, ℕ, ◌^◌, Bool, true, false, cond, is_some, nat_lt, nat_le, Option, Some, None, Err, refl, sym, subst}
 use Rattle.std.proofs.lemmas.Bool.Decides.{nat_tests}
 use Rattle.std.proofs.Common.{arith}
 use Rattle.orswot_core_told.specs.Telling.{ToldValue}
 use Rattle.presence_journal_data.specs.StepLimits.{is_heard}
 use Rattle.presence_journal_data.specs.declared.step.Step.TheVariants as steps_are
-use Rattle.presence_journal.specs.Steps.{Outcome}
 use Rattle.presence_journal.specs.History.{History, is_full, last_number}
-use Rattle.presence_journal.specs.Table.{outcome_of, accepted, after}
+use Rattle.presence_journal.specs.Table.{outcome_of, accepted}
 use Rattle.presence_journal_sets.specs.Full.{IsFullOf}
 use Rattle.presence_journal_cuts.specs.KeptDeltas.{IsToldFrom}
 use Rattle.tracker_shard.specs.declared.fault.ShardFault.{ShardFault}

@@ -1,4 +1,4 @@
 pub mod Tellings
-pub mod Taking
+pub mod Taken
 pub mod Living
 pub mod Codes

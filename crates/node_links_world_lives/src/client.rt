@@ -2,14 +2,14 @@
 ghost use Rattle.std.specs.Prelude.{◌≡◌, ◌≤◌, ◌^◌, IfOk, OnErr, IsTrue};
 ghost use Rattle.presence_journal.specs.Limits.{is_payload, is_take_limit};
 ghost use Rattle.presence_journal_data.specs.declared.step.Step.TheVariants as steps_are;
-ghost use Rattle.node_links_world_lives.specs.Taking.{Took};
+ghost use Rattle.node_links_world_lives.specs.Taken.{Took};
 
 use crate::refused::refused;
 use presence_base::{Json, Key, Meta, Topic};
 use std::alloc::{AllocError, Global};
 use tracker_shard::{Shard, Sub};
 
-#[tactic(auto, using(crate::proofs::Taking::taking))]
+#[tactic(auto, using(crate::proofs::Taken::taking))]
 pub(crate) fn track(
     shard: &mut Shard,
     alloc: Global,
@@ -28,7 +28,7 @@ pub(crate) fn track(
     }
 }
 
-#[tactic(auto, using(crate::proofs::Taking::taking))]
+#[tactic(auto, using(crate::proofs::Taken::taking))]
 pub(crate) fn update(
     shard: &mut Shard,
     alloc: Global,
@@ -47,7 +47,7 @@ pub(crate) fn update(
     }
 }
 
-#[tactic(auto, using(crate::proofs::Taking::taking))]
+#[tactic(auto, using(crate::proofs::Taken::taking))]
 pub(crate) fn untrack(
     shard: &mut Shard,
     alloc: Global,
@@ -64,7 +64,7 @@ pub(crate) fn untrack(
     }
 }
 
-#[tactic(auto, using(crate::proofs::Taking::taking))]
+#[tactic(auto, using(crate::proofs::Taken::taking))]
 pub(crate) fn untrack_all(
     shard: &mut Shard,
     alloc: Global,
@@ -80,7 +80,7 @@ pub(crate) fn untrack_all(
     }
 }
 
-#[tactic(auto, using(crate::proofs::Taking::taking))]
+#[tactic(auto, using(crate::proofs::Taken::taking))]
 pub(crate) fn list(shard: &mut Shard, alloc: Global, topic: &Topic) -> Result<bool, AllocError>
     ensures took { IfOk result (Took shard.old shard.new (steps_are.List topic.now)) }
     ensures same { OnErr result (shard.new ≡ shard.old) }
@@ -91,7 +91,7 @@ pub(crate) fn list(shard: &mut Shard, alloc: Global, topic: &Topic) -> Result<bo
     }
 }
 
-#[tactic(auto, using(crate::proofs::Taking::taking))]
+#[tactic(auto, using(crate::proofs::Taken::taking))]
 pub(crate) fn get(
     shard: &mut Shard,
     alloc: Global,
@@ -107,7 +107,7 @@ pub(crate) fn get(
     }
 }
 
-#[tactic(auto, using(crate::proofs::Taking::taking))]
+#[tactic(auto, using(crate::proofs::Taken::taking))]
 pub(crate) fn subscribe(shard: &mut Shard, alloc: Global, topic: &Topic) -> Result<bool, AllocError>
     ensures took { IfOk result (Took shard.old shard.new (steps_are.Subscribe topic.now)) }
     ensures same { OnErr result (shard.new ≡ shard.old) }
@@ -118,7 +118,7 @@ pub(crate) fn subscribe(shard: &mut Shard, alloc: Global, topic: &Topic) -> Resu
     }
 }
 
-#[tactic(auto, using(crate::proofs::Taking::taking))]
+#[tactic(auto, using(crate::proofs::Taken::taking))]
 pub(crate) fn shout(
     shard: &mut Shard,
     alloc: Global,
@@ -135,7 +135,7 @@ pub(crate) fn shout(
     }
 }
 
-#[tactic(auto, using(crate::proofs::Taking::taking))]
+#[tactic(auto, using(crate::proofs::Taken::taking))]
 pub(crate) fn take(
     shard: &mut Shard,
     alloc: Global,
@@ -153,7 +153,7 @@ pub(crate) fn take(
     }
 }
 
-#[tactic(auto, using(crate::proofs::Taking::taking))]
+#[tactic(auto, using(crate::proofs::Taken::taking))]
 pub(crate) fn unsubscribe(shard: &mut Shard, alloc: Global, number: u64) -> Result<bool, AllocError>
     ensures took { IfOk result (Took shard.old shard.new (steps_are.Unsubscribe number)) }
     ensures same { OnErr result (shard.new ≡ shard.old) }

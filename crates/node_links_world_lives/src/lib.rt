@@ -6,7 +6,7 @@
 //! - `specs/Codes`: how the logic stores a life
 //! - `specs/Tellings`: what was told, by the form in which it is kept
 //!
-//! `specs/Taking` is of the shard's calls.
+//! `specs/Taken` is of the shard's calls.
 #![tactic(auto)]
 
 mod client;

@@ -1,5 +1,5 @@
 ghost use Rattle.std.specs.Prelude.{◌≡◌, Some, None, IfOk, OnErr};
-ghost use Rattle.node_links_world_lives.specs.Taking.{taken};
+ghost use Rattle.node_links_world_lives.specs.Taken.{taken};
 
 use std::alloc::AllocError;
 use tracker_shard::ShardFault;

@@ -1,6 +1,6 @@
 ghost use Rattle.std.specs.Prelude.{◌≡◌, true, IfOk, OnErr};
 ghost use Rattle.presence_journal.specs.Table.{is_step};
-ghost use Rattle.node_links_world_lives.specs.Taking.{Took};
+ghost use Rattle.node_links_world_lives.specs.Taken.{Took};
 ghost use Rattle.node_links_world_laws.specs.World.{is_client};
 
 use crate::client;
@@ -72,7 +72,7 @@ pub(crate) fn take(shard: &mut Shard, alloc: Global, step: &Step) -> Result<bool
 }
 
 // Cuts; what it tells is dropped.
-#[tactic(auto, using(crate::proofs::Taking::taking))]
+#[tactic(auto, using(crate::proofs::Taken::taking))]
 fn cut(shard: &mut Shard, alloc: Global) -> Result<bool, AllocError>
     ensures took { IfOk result (Took shard.old shard.new Step.Cut) }
     ensures same { OnErr result (shard.new ≡ shard.old) }
@@ -84,7 +84,7 @@ fn cut(shard: &mut Shard, alloc: Global) -> Result<bool, AllocError>
 }
 
 // Takes in what was told.
-#[tactic(auto, using(crate::proofs::Taking::taking))]
+#[tactic(auto, using(crate::proofs::Taken::taking))]
 fn merge(shard: &mut Shard, alloc: Global, told: &Told) -> Result<bool, AllocError>
     ensures took { IfOk result (Took shard.old shard.new (Step.Merge told.now)) }
     ensures same { OnErr result (shard.new ≡ shard.old) }
@@ -96,7 +96,7 @@ fn merge(shard: &mut Shard, alloc: Global, told: &Told) -> Result<bool, AllocErr
 }
 
 // Notes that a replica was heard.
-#[tactic(auto, using(crate::proofs::Taking::taking))]
+#[tactic(auto, using(crate::proofs::Taken::taking))]
 fn heard(shard: &mut Shard, alloc: Global, replica: Replica, now: u64) -> Result<bool, AllocError>
     ensures took { IfOk result (Took shard.old shard.new (Step.Heard replica now)) }
     ensures same { OnErr result (shard.new ≡ shard.old) }
@@ -108,7 +108,7 @@ fn heard(shard: &mut Shard, alloc: Global, replica: Replica, now: u64) -> Result
 }
 
 // Lets time pass.
-#[tactic(auto, using(crate::proofs::Taking::taking))]
+#[tactic(auto, using(crate::proofs::Taken::taking))]
 fn tick(shard: &mut Shard, alloc: Global, now: u64) -> Result<bool, AllocError>
     ensures took { IfOk result (Took shard.old shard.new (Step.Tick now)) }
     ensures same { OnErr result (shard.new ≡ shard.old) }
@@ -120,7 +120,7 @@ fn tick(shard: &mut Shard, alloc: Global, now: u64) -> Result<bool, AllocError>
 }
 
 // Notes that a replica is gone for good.
-#[tactic(auto, using(crate::proofs::Taking::taking))]
+#[tactic(auto, using(crate::proofs::Taken::taking))]
 fn permdown(shard: &mut Shard, alloc: Global, replica: Replica) -> Result<bool, AllocError>
     ensures took { IfOk result (Took shard.old shard.new (Step.PermDown replica)) }
     ensures same { OnErr result (shard.new ≡ shard.old) }

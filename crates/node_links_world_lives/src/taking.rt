@@ -2,7 +2,7 @@
 ghost use Rattle.std.specs.Prelude.{◌≡◌, ◌<◌, true, None, IfOk, OnOk, OnErr, vec_len, vec_capacity};
 ghost use Rattle.presence_journal.specs.Table.{outcome_of, after, is_step};
 ghost use Rattle.node_links_world_lives.specs.Living.{Cuts, BeginsAgain};
-ghost use Rattle.node_links_world_lives.specs.Taking.{AddsRow};
+ghost use Rattle.node_links_world_lives.specs.Taken.{AddsRow};
 ghost use Rattle.node_links_world_laws.specs.World.{added, with_row, TellsWhole};
 
 use crate::row::added_row;
@@ -52,7 +52,8 @@ pub(crate) fn take(
 {
     let added = foreseen_row(shard, alloc, step)?;
     made.reserve(1)?;
-    if steps::take(shard, alloc, step)? {
+    let is_taken = steps::take(shard, alloc, step)?;
+    if is_taken {
         keep_row(made, added);
     }
     Ok(())

@@ -122,6 +122,8 @@ impl Telling {
         ensures step { IfOk result (λ s. s ≡ Step.Merge self.now) }
         ensures limits { IfOk result (λ s. is_step s ≡ true) }
     {
+        // Read for the proof alone: what was told is within its limits.
+        let _form = &self.form;
         let told = self.told(alloc)?;
         Ok(Step::Merge { told })
     }

@@ -5,12 +5,12 @@ use Rattle.presence_journal_data.specs.declared.step.Step.TheVariants as steps_a
 use Rattle.presence_journal.specs.Steps.{Step, Outcome}
 use Rattle.presence_journal.specs.History.{History, is_full}
 use Rattle.presence_journal.specs.Queue.{topic_of}
-use Rattle.presence_journal.specs.Table.{outcome_of, accepted, after, for_present}
+use Rattle.presence_journal.specs.Table.{outcome_of, accepted, for_present}
 use Rattle.presence_journal.proofs.FoldOthers.{refused_stays}
 use Rattle.tracker_shard.specs.declared.fault.ShardFault.{ShardFault}
 use Rattle.tracker_shard.specs.declared.fault.ShardFault.TheVariants.{AlreadyTracked, NoPresence, ClockFull, JournalFull, NoSub, OutOfMemory}
 use Rattle.tracker_shard.specs.Steps.{Made, Stepped, IsDue, cause, refusal, refusal_at, is_found, slot_of}
-use Rattle.node_links_world_lives.specs.Taking.{Took, taken}
+use Rattle.node_links_world_lives.specs.Taken.{Took, taken}
 
 made_took : (old new : History) (s : Step) → Made old new None s → Took old new s true
 made_took old new s m = record { is = sym m.accepted; journal = m.journal }
