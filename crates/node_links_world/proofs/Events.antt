@@ -1,5 +1,5 @@
 -- What an event makes of a world, by what it makes of the lives.
-use Rattle.std.proofs.Common.{◌≡◌, ℕ, ◌^◌, ◌<◌, ◌≤◌, Bool, true, false, cond, ◌&&◌, nat_lt, nat_le, is_some, List, [], ◌∷◌, ◌++◌, set, slice_get, Option, Some, None, Result, Ok, Err, IfOk, OnOk, OnErr, refl, sym, ◌∙◌, ap, subst}
+use Rattle.std.proofs.Common.{◌≡◌, ℕ, ◌^◌, Bool, true, false, cond, ◌&&◌, nat_lt, is_some, List, [], ◌∷◌, ◌++◌, slice_get, Option, Some, None, Result, Ok, Err, OnOk, OnErr, refl, sym, ◌∙◌, ap, subst}
 use Rattle.std.specs.FinMap as map
 use Rattle.presence_base.specs.declared.dots.Replica.{Replica}
 use Rattle.presence_base.specs.declared.dots.Dot.{Dot}
@@ -8,12 +8,12 @@ use Rattle.presence_journal_data.specs.declared.entry.Outcome.TheVariants as out
 use Rattle.orswot_core_told.specs.Telling.{ToldValue}
 use Rattle.presence_journal_data.specs.declared.step.Step.TheVariants as steps_are
 use Rattle.presence_journal.specs.Steps.{Step, Outcome}
-use Rattle.presence_journal.specs.History.{History, Begin, last_number}
+use Rattle.presence_journal.specs.History.{last_number}
 use Rattle.presence_journal.specs.Table.{accepted, is_step}
 use Rattle.node_links_world_laws.specs.World.{LifeValue, Lives, WorldValue, with_replica, life_of, life_at, stepped, acted, acts, is_client, may_ask, added, with_row, CutsHere, Cuts, BeginsHere, Begins, Tells}
 use Rattle.node_links_world_lives.specs.Living.{CutsIf, BeginsIf}
 use Rattle.node_links_world.specs.Lives.{TurnsIf, Turns, Steps, Begun, CutIf, Cut, ToldIf}
-use Rattle.node_links_world.specs.Worlds.{world, ActsTo, AsksTo, CutsTo, TellsTo, BeginsTo}
+use Rattle.node_links_world.specs.Worlds.{world, ActsTo, CutsTo, TellsTo}
 use Rattle.node_links_world.proofs.LifeFacts.{insert_same}
 
 -- ---- steps

@@ -2,7 +2,7 @@
 use Rattle.std.proofs.Common.{◌≡◌, ℕ, Bool, true, false, cond, is_some, List, [], ◌∷◌, Option, Some, None, Result, Ok, Err, IfOk, OnOk, OnErr, IsOk, IsSome, refl, sym, ◌∙◌, ap, subst}
 use Rattle.std.specs.Ordering.{eq_by_cmp, is_eq}
 use Rattle.std.specs.FinMap as map
-use Rattle.std.specs.BTreeMap.{get, Updates, WritesThrough}
+use Rattle.std.specs.BTreeMap.{get, WritesThrough}
 use Rattle.std.specs.Map.{lookup}
 use Rattle.std.specs.Cmp.{eq_by_cmp_equiv}
 use Rattle.presence_base.specs.declared.dots.Replica.{Replica}

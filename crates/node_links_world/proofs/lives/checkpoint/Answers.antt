@@ -1,6 +1,6 @@
 use Rattle.std.proofs.Common.{◌≡◌, sym}
 use Rattle.node_links_world_lives.specs.Living.{BeginsAgain}
-use Rattle.node_links_world.specs.Lives.{Steps, Begun}
+use Rattle.node_links_world.specs.Lives.{Begun}
 use Rattle.node_links_world.proofs.LifeFacts.{turns_some, turns_none, stays_some, on_both}
 use Rattle.node_links_world.proofs.lives.checkpoint.Goals as goal
 

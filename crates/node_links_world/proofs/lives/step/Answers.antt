@@ -1,6 +1,6 @@
 use Rattle.std.proofs.Common.{sym}
-use Rattle.node_links_world.specs.Lives.{Steps, Begun}
-use Rattle.node_links_world.proofs.LifeFacts.{turns_some, turns_none, stays_some, on_both}
+use Rattle.node_links_world.specs.Lives.{Steps}
+use Rattle.node_links_world.proofs.LifeFacts.{turns_some, turns_none, stays_some}
 use Rattle.node_links_world.proofs.lives.step.Goals as goal
 
 pub returns-in-Some-clause-turns : goal.returns-in-Some-clause-turns
