@@ -1,7 +1,10 @@
-//! Times parts of a node, for `bench/run`, and plays worked rows, for `tests/refusals`.
+//! Times parts of a node, for `bench/run`, plays worked rows, for `tests/refusals`, and runs the world of nodes.
 //!
 //! `sets`, `session` and `shard` time a case and print microseconds, or of each of a shard's calls its nanoseconds.
 //! `rows sets`, `rows shard` and `rows`, which plays both, print a line for each call of the rows.
+//!
+//! `world` reads events and questions as lines of JSON from standard input, which `world_lines` tells, and prints an answer
+//! for each question. A line that is none of these ends it with status 1, and `line N` on standard error.
 #![tactic(auto)]
 
 mod making;
@@ -12,6 +15,7 @@ mod shard;
 mod shard_rows;
 mod texts;
 mod words;
+mod world;
 
 use std::env::Env;
 use std::io::{self, ErrorKind};
@@ -20,7 +24,7 @@ use std::time::Clock;
 use words::words_of;
 
 const USAGE: &str = "usage: node_bench sets adds|reverse|join|delta COUNT, \
-session join|tracks|lists KEYS COUNT, shard ROWS SUBSCRIBERS ENTRIES, or rows [sets|shard]. \
+session join|tracks|lists KEYS COUNT, shard ROWS SUBSCRIBERS ENTRIES, rows [sets|shard], or world. \
 Numbers are whole ones of 32 bits";
 
 // Plays the rows that the words name, or answers whether they name none.
@@ -55,9 +59,20 @@ fn run_words<R: Clock + Print + AllocGlobal>(rt: &R, words: &[String]) -> io::Re
     }
 }
 
+// Whether the words ask for the world of nodes.
+fn asks_for_world(words: &[String]) -> bool {
+    match words.get(1) {
+        Some(word) => word.as_str() == "world" && words.len() == 2,
+        None => false,
+    }
+}
+
 // Gives the status to end with.
-fn run<R: Clock + Env + Print + Eprint + AllocGlobal>(rt: &R) -> io::Result<u8> {
+fn run<R: Clock + Env + Input + Print + Eprint + AllocGlobal>(rt: &R) -> io::Result<u8> {
     let words = words_of(rt)?;
+    if asks_for_world(&words) {
+        return world::play(rt);
+    }
     if run_words(rt, &words)? {
         return Ok(0);
     }

@@ -1,0 +1,4 @@
+pub mod LifeFacts
+pub mod Events
+pub mod Begun
+pub mod Asked

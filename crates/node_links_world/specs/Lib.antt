@@ -1,0 +1,4 @@
+pub mod Lives
+pub mod Worlds
+pub mod Asked
+pub mod Codes

@@ -1,0 +1,65 @@
+-- The lives of a world, as they are kept by replica.
+use Rattle.std.specs.Prelude.{◌≡◌, ℕ, List, [], ◌∷◌, ◌++◌, Option, Some, None}
+use Rattle.std.specs.BTreeMap.{BTreeMap}
+use Rattle.std.specs.FinMap as map
+use Rattle.presence_base.specs.declared.dots.Replica.{Replica}
+use Rattle.presence_base.specs.Order.{replica_cmp}
+use Rattle.orswot_core_told.specs.Telling.{ToldValue}
+use Rattle.presence_journal.specs.Steps.{Step}
+use Rattle.node_links_world_laws.specs.World.{LifeValue, Lives, WorldValue, first_life, newborn, stepped, TellsWhole}
+use Rattle.node_links_world_lives.specs.Living.{Cuts, BeginsAgain}
+
+abbrev pub LifeMap : Type 0
+LifeMap = BTreeMap Replica LifeValue
+
+-- the lives that a list of entries has
+abbrev pub lives_in : List (Replica × LifeValue) → Lives
+lives_in es = map.from_entries {R = replica_cmp} es
+
+abbrev pub seen : LifeMap → Lives
+seen m = lives_in m.entries
+
+-- the life of a replica, if there is one, becomes another
+abbrev pub TurnsIf : Option LifeValue → (LifeValue → LifeValue → Type 0) → Lives → Replica → Lives → Type 0
+TurnsIf None Turn old r new = new ≡ old
+TurnsIf (Some l) Turn old r new = (m : LifeValue) × Turn l m × (new ≡ map.insert old r m)
+
+abbrev pub Turns : (LifeValue → LifeValue → Type 0) → Lives → Replica → Lives → Type 0
+Turns Turn old r new = TurnsIf (map.get old r) Turn old r new
+
+abbrev pub Steps : Step → LifeValue → LifeValue → Type 0
+Steps s l m = m ≡ stepped s l
+
+abbrev pub Begun : LifeValue → LifeValue → Type 0
+Begun l m = BeginsAgain l.history m.history × (m.made ≡ l.made)
+
+-- what a cut of a life tells, if there is one
+abbrev pub CutIf : Option LifeValue → Lives → Replica → Lives → Option ToldValue → Type 0
+CutIf None old r new o = (new ≡ old) × (o ≡ None)
+CutIf (Some l) old r new o =
+    (m : LifeValue) × (Cuts l.history m.history o) × (m.made ≡ l.made) × (new ≡ map.insert old r m)
+
+abbrev pub Cut : Lives → Replica → Lives → Option ToldValue → Type 0
+Cut old r new o = CutIf (map.get old r) old r new o
+
+-- what a life tells, if there is one
+abbrev pub ToldIf : Option LifeValue → Option ℕ → Option ToldValue → Type 0
+ToldIf None from o = o ≡ None
+ToldIf (Some l) from None = ⊥
+ToldIf (Some l) from (Some t) = TellsWhole l.history from t
+
+-- ---- at first
+
+abbrev pub no_world : WorldValue
+no_world = record { lives = map.empty; present = []; told = [] }
+
+abbrev pub with_node : WorldValue → List ℕ → WorldValue
+with_node w n = record {
+  lives = map.insert w.lives (first_life n) (newborn (first_life n));
+  present = w.present ++ first_life n ∷ [];
+  told = w.told;
+}
+
+abbrev pub with_nodes : WorldValue → List (List ℕ) → WorldValue
+with_nodes w [] = w
+with_nodes w (n ∷ ns) = with_nodes (with_node w n) ns

@@ -1,0 +1,35 @@
+-- A world by its parts, and what the parts are behind an event.
+use Rattle.std.specs.Prelude.{◌≡◌, ℕ, cond, List, slice_get, Option}
+use Rattle.presence_base.specs.declared.dots.Replica.{Replica}
+use Rattle.orswot_core_told.specs.Telling.{ToldValue}
+use Rattle.presence_journal.specs.Steps.{Step}
+use Rattle.node_links_world_laws.specs.World.{Lives, WorldValue, acts, life_at, may_ask, Cuts, Tells, delivered, Begins, restarted}
+
+abbrev pub world : Lives → List Replica → List ToldValue → WorldValue
+world l p t = record { lives = l; present = p; told = t }
+
+-- the lives after a node's step, whatever was told
+abbrev pub ActsTo : List Replica → Lives → ℕ → Step → Lives → Type 0
+ActsTo p old n s new = (t : List ToldValue) → world new p t ≡ acts (world old p t) n s
+
+-- after a step that a caller asked for
+abbrev pub AsksTo : List Replica → Lives → ℕ → Step → Lives → Type 0
+AsksTo p old n s new = (t : List ToldValue)
+    → world new p t ≡ cond (may_ask s) (acts (world old p t) n s) (world old p t)
+
+-- the lives and what was told after a cut, after a full value, and the lives after a delivery
+abbrev pub CutsTo : List Replica → Lives → List ToldValue → ℕ → Lives → List ToldValue → Type 0
+CutsTo p old t n new u = Cuts (world old p t) (life_at (world old p t) n) (world new p u)
+
+abbrev pub TellsTo : List Replica → Lives → List ToldValue → ℕ → Option ℕ → Lives → List ToldValue → Type 0
+TellsTo p old t n from new u = Tells (world old p t) from (life_at (world old p t) n) (world new p u)
+
+abbrev pub DeliversTo : List Replica → List ToldValue → Lives → ℕ → ℕ → Lives → Type 0
+DeliversTo p t old n k new = world new p t ≡ delivered (world old p t) n (slice_get t k)
+
+-- the lives after a checkpoint, and the lives and who is present after a restart, whatever was told
+abbrev pub BeginsTo : List Replica → Lives → ℕ → Lives → Type 0
+BeginsTo p old n new = (t : List ToldValue) → Begins (world old p t) (life_at (world old p t) n) (world new p t)
+
+abbrev pub RestartsTo : List Replica → Lives → ℕ → ℕ → List Replica → Lives → Type 0
+RestartsTo p old n i q new = (t : List ToldValue) → world new q t ≡ restarted (world old p t) n i (slice_get p n)

@@ -1,0 +1,5 @@
+pub mod World
+pub mod Claims
+pub mod TrueWorlds
+pub mod Facts
+pub mod Needs

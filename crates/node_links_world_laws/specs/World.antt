@@ -1,0 +1,196 @@
+-- The world of nodes: the lives of each node, and all that was ever told, which may come to any node once, again, late or
+-- never; and what an event makes of it.
+use Rattle.std.specs.Prelude.{◌≡◌, ℕ, ◌^◌, Bool, true, false, cond, ◌&&◌, nat_lt, nat_le, is_some, List, [], ◌∷◌, ◌++◌, map as each, set, slice_get, Option, Some, None}
+use Rattle.std.specs.FinMap as map
+use Rattle.presence_base.specs.declared.dots.Replica.{Replica}
+use Rattle.presence_base.specs.declared.dots.Dot.{Dot}
+use Rattle.presence_base.specs.declared.row.Row.{Row}
+use Rattle.presence_base.specs.Order.{replica_cmp}
+use Rattle.orswot_core_told.specs.Telling.{ToldValue}
+use Rattle.delta_range.specs.Deltas.{DeltaValue, telling, IsDelta}
+use Rattle.presence_journal_data.specs.StepLimits.{is_heard}
+use Rattle.presence_journal_data.specs.declared.step.Step.TheVariants as steps_are
+use Rattle.presence_journal_data.specs.declared.entry.Outcome.TheVariants as outcomes_are
+use Rattle.presence_journal.specs.Steps.{Step, Outcome, Start}
+use Rattle.presence_journal.specs.History.{History, Begin, begun, last_number, row_made}
+use Rattle.presence_journal.specs.Table.{accepted, after, is_step}
+use Rattle.presence_journal_sets.specs.Full.{IsFullOf}
+use Rattle.presence_journal_cuts.specs.Cuts.{IsCut}
+use Rattle.presence_journal_cuts.specs.KeptDeltas.{IsToldFrom}
+use Rattle.presence_journal_starts.specs.Checkpoints.{IsCheckpoint}
+use Rattle.node_links_world_laws.specs.declared.event.Event.{Event}
+use Rattle.node_links_world_laws.specs.declared.event.Event.TheVariants as events_are
+
+-- one life of a node: its history, from its last Start on, and each row that its own entries ever added, with its dot
+pub record LifeValue : Type 0 where
+  pub history : History
+  pub made : List (Dot × Row)
+
+abbrev pub Lives : Type 0
+Lives = map.FinMap replica_cmp LifeValue
+
+-- all lives by replica, those that ended too; the replica that each node is now; what was told, the oldest first
+pub record WorldValue : Type 0 where
+  pub lives : Lives
+  pub present : List Replica
+  pub told : List ToldValue
+
+-- ---- at first
+
+abbrev pub first_life : List ℕ → Replica
+first_life name = record { name = name; incarnation = 1 }
+
+abbrev pub newborn : Replica → LifeValue
+newborn r = record { history = begun r; made = [] }
+
+-- with the first life of each of these nodes
+abbrev pub with_lives : Lives → List (List ℕ) → Lives
+with_lives m [] = m
+with_lives m (n ∷ ns) = with_lives (map.insert m (first_life n) (newborn (first_life n))) ns
+
+-- each node in its first life, with nothing
+abbrev pub start : List (List ℕ) → WorldValue
+start names = record { lives = with_lives map.empty names; present = each first_life names; told = [] }
+
+-- ---- a step of a node
+
+abbrev pub with_replica : Replica → Option LifeValue → Option (Replica × LifeValue)
+with_replica r None = None
+with_replica r (Some l) = Some (r, l)
+
+abbrev pub life_of : WorldValue → Option Replica → Option (Replica × LifeValue)
+life_of w None = None
+life_of w (Some r) = with_replica r (map.get w.lives r)
+
+-- the present life of a node, if there is such a node
+abbrev pub life_at : WorldValue → ℕ → Option (Replica × LifeValue)
+life_at w n = life_of w (slice_get w.present n)
+
+abbrev pub under : Dot → Option Row → Option (Dot × Row)
+under d None = None
+under d (Some r) = Some (d, r)
+
+-- the row that a step adds, under its dot
+abbrev pub added : Step → Option Outcome → Option (Dot × Row)
+added s (Some (outcomes_are.Added d)) = under d (row_made s None)
+added s (Some (outcomes_are.Replaced d old)) = under d (row_made s (Some old))
+added s _ = None
+
+abbrev pub with_row : List (Dot × Row) → Option (Dot × Row) → List (Dot × Row)
+with_row xs None = xs
+with_row xs (Some x) = xs ++ x ∷ []
+
+abbrev pub stepped : Step → LifeValue → LifeValue
+stepped s l = record { history = after l.history s None; made = with_row l.made (added s (accepted l.history s)) }
+
+abbrev pub with_life : WorldValue → Replica → LifeValue → WorldValue
+with_life w r l = record w { lives = map.insert w.lives r l }
+
+abbrev pub acted : WorldValue → Step → Option (Replica × LifeValue) → WorldValue
+acted w s None = w
+acted w s (Some x) = with_life w x.0 (stepped s x.1)
+
+-- the step of a node's present life
+abbrev pub acts : WorldValue → ℕ → Step → WorldValue
+acts w n s = acted w s (life_at w n)
+
+-- ---- what is told
+
+abbrev pub with_told : WorldValue → ToldValue → WorldValue
+with_told w t = record w { told = w.told ++ t ∷ [] }
+
+-- what a cut of a history tells
+pub record TellsCut (h : History) (t : ToldValue) : Type 0 where
+  pub delta : DeltaValue
+  pub cut : IsCut h delta
+  pub sound : IsDelta delta
+  pub tells : t ≡ telling delta
+  pub limits : is_heard t ≡ true
+
+-- what is told from a count on, or in full
+abbrev pub TellsFrom : History → Option ℕ → ToldValue → Type 0
+TellsFrom h None t = IsFullOf h t
+TellsFrom h (Some n) t = IsToldFrom h n t
+
+pub record TellsWhole (h : History) (from : Option ℕ) (t : ToldValue) : Type 0 where
+  pub tells : TellsFrom h from t
+  pub limits : is_heard t ≡ true
+
+-- ---- events
+
+-- the step is one that callers ask for
+abbrev pub is_client : Step → Bool
+is_client (steps_are.Heard replica now) = false
+is_client (steps_are.Tick now) = false
+is_client (steps_are.PermDown replica) = false
+is_client steps_are.Cut = false
+is_client (steps_are.Merge told) = false
+is_client _ = true
+
+-- and within its limits
+abbrev pub may_ask : Step → Bool
+may_ask s = is_client s && is_step s
+
+-- where the cut is accepted, what it tells is kept
+abbrev pub CutsHere : Bool → WorldValue → Replica × LifeValue → WorldValue → Type 0
+CutsHere true w x v =
+    (t : ToldValue) × TellsCut x.1.history t × (v ≡ with_told (with_life w x.0 (stepped steps_are.Cut x.1)) t)
+CutsHere false w x v = v ≡ w
+
+abbrev pub Cuts : WorldValue → Option (Replica × LifeValue) → WorldValue → Type 0
+Cuts w None v = v ≡ w
+Cuts w (Some x) v = CutsHere (is_some (accepted x.1.history steps_are.Cut)) w x v
+
+abbrev pub Tells : WorldValue → Option ℕ → Option (Replica × LifeValue) → WorldValue → Type 0
+Tells w from None v = v ≡ w
+Tells w from (Some x) v = (t : ToldValue) × TellsWhole x.1.history from t × (v ≡ with_told w t)
+
+abbrev pub delivered : WorldValue → ℕ → Option ToldValue → WorldValue
+delivered w n None = w
+delivered w n (Some t) = acts w n (steps_are.Merge t)
+
+-- the life with this Start in its history's place
+abbrev pub begun_again : Start → LifeValue → LifeValue
+begun_again s l = record { history = Begin s; made = l.made }
+
+-- where a number is left, the history becomes a Start that stands for it
+abbrev pub BeginsHere : Bool → WorldValue → Replica × LifeValue → WorldValue → Type 0
+BeginsHere true w x v =
+    (s : Start) × IsCheckpoint x.1.history s × (v ≡ with_life w x.0 (begun_again s x.1))
+BeginsHere false w x v = v ≡ w
+
+abbrev pub Begins : WorldValue → Option (Replica × LifeValue) → WorldValue → Type 0
+Begins w None v = v ≡ w
+Begins w (Some x) v = BeginsHere (nat_lt (last_number x.1.history) (2 ^ 62)) w x v
+
+-- a higher incarnation, up to 2^62
+abbrev pub is_later : Replica → ℕ → Bool
+is_later r i = nat_lt r.incarnation i && nat_le i (2 ^ 62)
+
+abbrev pub next_life : Replica → ℕ → Replica
+next_life r i = record { name = r.name; incarnation = i }
+
+abbrev pub reborn : WorldValue → ℕ → Replica → WorldValue
+reborn w n r = record { lives = map.insert w.lives r (newborn r); present = set w.present n r; told = w.told }
+
+abbrev pub restarted : WorldValue → ℕ → ℕ → Option Replica → WorldValue
+restarted w n i None = w
+restarted w n i (Some r) = cond (is_later r i) (reborn w n (next_life r i)) w
+
+-- What an event makes of a world, one line for each. A cut, a full value and a checkpoint leave open which value is told,
+-- or which Start is made, of those that are right; all that is said of worlds holds for each.
+abbrev pub Happens : WorldValue → Event → WorldValue → Type 0
+Happens w (events_are.Client n s) v = v ≡ cond (may_ask s) (acts w n s) w
+Happens w (events_are.Cut n) v = Cuts w (life_at w n) v
+Happens w (events_are.Full n from) v = Tells w from (life_at w n) v
+Happens w (events_are.Deliver n k) v = v ≡ delivered w n (slice_get w.told k)
+Happens w (events_are.Heard n r now) v = v ≡ acts w n (steps_are.Heard r now)
+Happens w (events_are.Tick n now) v = v ≡ acts w n (steps_are.Tick now)
+Happens w (events_are.PermDown n r) v = v ≡ acts w n (steps_are.PermDown r)
+Happens w (events_are.Checkpoint n) v = Begins w (life_at w n) v
+Happens w (events_are.Restart n i) v = v ≡ restarted w n i (slice_get w.present n)
+
+-- events make this of a world, one after another
+abbrev pub Runs : WorldValue → List Event → WorldValue → Type 0
+Runs w [] v = v ≡ w
+Runs w (e ∷ es) v = (u : WorldValue) × Happens w e u × Runs u es v

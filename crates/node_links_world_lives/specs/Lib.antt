@@ -1,0 +1,4 @@
+pub mod Tellings
+pub mod Taken
+pub mod Living
+pub mod Codes

@@ -1,0 +1,119 @@
+ghost use Rattle.std.specs.Prelude.{◌≡◌, true, IfOk, OnOk, OnErr};
+ghost use Rattle.presence_base.specs.Refs.{IsCount};
+ghost use Rattle.presence_journal.specs.Table.{is_step, IsLegal};
+ghost use Rattle.presence_journal.specs.History.{IsTop, count, status};
+ghost use Rattle.node_links_world_lives.specs.Living.{Cuts, BeginsAgain};
+ghost use Rattle.node_links_world_laws.specs.World.{newborn, stepped, TellsWhole};
+
+use crate::taking;
+use crate::telling::Telling;
+use presence_base::{Dot, Replica, Row};
+use presence_journal::{Journal, Step};
+use replica_status::Status;
+use std::alloc::{AllocError, Global};
+use std::marker::Model;
+use tracker_shard::Shard;
+
+/// One life of a node: its shard, and each row that its own steps ever added, with its dot.
+pub struct Life {
+    shard: Shard,
+    made: Vec<(Dot, Row)>,
+}
+
+impl Drop for Life {
+    fn drop(self) {
+        let Life { shard, made } = self;
+        drop(shard);
+        drop(made);
+    }
+}
+
+impl Model for Life {
+    ghost use Rattle.node_links_world_laws.specs.World.{LifeValue};
+    ghost use Rattle.node_links_world_lives.specs.Codes.{life_code};
+
+    ghost Value = { LifeValue };
+
+    ghost coded = { life_code };
+
+    ghost view = { λ l. record { history = l.shard; made = l.made.items } };
+}
+
+impl Life {
+    /// A new life, with nothing.
+    pub fn new(alloc: Global, own: Replica) -> Life
+        requires { IsCount own.incarnation }
+        ensures { result ≡ newborn own }
+    {
+        Life {
+            shard: Shard::new(alloc, own),
+            made: Vec::new(alloc),
+        }
+    }
+
+    pub fn journal(&self) -> &Journal
+        ensures journal { result.now ≡ self.now.history }
+        ensures legal { IsLegal self.now.history }
+    {
+        self.shard.journal()
+    }
+
+    /// How many counts it used.
+    #[tactic(auto, using(crate::proofs::LifeFacts::counted))]
+    pub fn count(&self) -> u64
+        ensures { result ≡ count self.now.history }
+    {
+        self.shard.top(self.shard.journal().own())
+    }
+
+    /// The count up to which all of a replica's dots are covered.
+    pub fn top(&self, replica: &Replica) -> u64
+        ensures { IsTop self.now.history replica.now result }
+    {
+        self.shard.top(replica)
+    }
+
+    pub fn status(&self, replica: &Replica) -> Status
+        ensures { result ≡ status self.now.history replica.now }
+    {
+        self.shard.status(replica)
+    }
+
+    /// A step.
+    #[tactic(auto, using(crate::proofs::LifeFacts::parts_same))]
+    pub fn step(&mut self, alloc: Global, step: &Step) -> Result<(), AllocError>
+        requires { is_step step.now ≡ true }
+        ensures stepped { OnOk result (self.new ≡ stepped step.now self.old) }
+        ensures same { OnErr result (self.new ≡ self.old) }
+    {
+        taking::take(&mut self.shard, &mut self.made, alloc, step)
+    }
+
+    /// What it did since its last cut, where there is room for the entry.
+    #[tactic(auto, using(crate::proofs::LifeFacts::parts_same))]
+    pub fn cut(&mut self, alloc: Global) -> Result<Option<Telling>, AllocError>
+        ensures history { IfOk result (Cuts self.old.history self.new.history) }
+        ensures made { self.new.made ≡ self.old.made }
+        ensures same { OnErr result (self.new ≡ self.old) }
+    {
+        taking::cut(&mut self.shard, alloc)
+    }
+
+    /// All that it knows, or what a node missed that knows its dots up to a count.
+    pub fn told(&mut self, alloc: Global, from: Option<u64>) -> Result<Telling, AllocError>
+        ensures same { self.new ≡ self.old }
+        ensures told { IfOk result (TellsWhole self.old.history from) }
+    {
+        taking::told(&mut self.shard, alloc, from)
+    }
+
+    /// Puts a Start in the place of its journal, where a number is left.
+    #[tactic(auto, using(crate::proofs::LifeFacts::parts_same))]
+    pub fn checkpoint(&mut self, alloc: Global) -> Result<(), AllocError>
+        ensures history { OnOk result (BeginsAgain self.old.history self.new.history) }
+        ensures made { self.new.made ≡ self.old.made }
+        ensures same { OnErr result (self.new ≡ self.old) }
+    {
+        taking::checkpoint(&mut self.shard, alloc)
+    }
+}

@@ -1,0 +1,130 @@
+ghost use Rattle.std.specs.Prelude.{◌≡◌, true, IfOk};
+ghost use Rattle.std.specs.List.{list_all};
+ghost use Rattle.orswot_core_told.specs.Limits.{are_texts};
+ghost use Rattle.delta_range.specs.Deltas.{telling, IsDelta};
+ghost use Rattle.presence_journal_data.specs.StepLimits.{is_heard, is_named};
+ghost use Rattle.presence_journal.specs.Table.{is_step};
+
+use delta_range::Delta;
+use orswot_core_told::Told;
+use presence_base::{Dot, Row};
+use presence_journal::Step;
+use std::alloc::{AllocError, Global};
+use std::marker::Model;
+
+#[derive(Drop)]
+enum Form {
+    Cut(Delta),
+    Whole(Told),
+}
+
+/// What a node told once, seen by contracts as the told value. A cut stays the delta that it is, so that keeping it takes no
+/// memory.
+pub struct Telling {
+    form: Form,
+}
+
+impl Drop for Telling {
+    fn drop(self) {
+        let Telling { form } = self;
+        drop(form);
+    }
+}
+
+impl Model for Telling {
+    ghost use Rattle.std.specs.Prelude.{◌≡◌, true};
+    ghost use Rattle.orswot_core_told.specs.Telling.{ToldValue};
+    ghost use Rattle.orswot_core_told.specs.Codes.{told_code};
+    ghost use Rattle.presence_journal_data.specs.StepLimits.{is_heard};
+    ghost use Rattle.node_links_world_lives.specs.Tellings.{told_by};
+
+    ghost Value = { ToldValue };
+
+    ghost coded = { told_code };
+
+    ghost view = { λ t. told_by t.form };
+
+    ghost invariant = { λ t. is_heard (told_by t.form) ≡ true };
+}
+
+fn read_row(row: &(Dot, Row))
+    ensures names { is_named row.now ≡ true }
+    ensures texts { are_texts row.now.1 ≡ true }
+{
+    let _name = row.0.replica.name.as_str();
+    let (_topic, _key, _meta) = (
+        row.1.topic.as_str(),
+        row.1.key.as_str(),
+        row.1.meta.as_value(),
+    );
+}
+
+// Reads the names and texts of rows, whose types keep their limits.
+fn read_rows(live: &[(Dot, Row)])
+    ensures names { list_all is_named live.now ≡ true }
+    ensures texts { list_all (λ x. are_texts x.1) live.now ≡ true }
+{
+    for row in live {
+        read_row(row);
+    }
+}
+
+// What a delta tells is within the limits of what is heard.
+#[tactic(auto, using(crate::proofs::Tellings::heard))]
+fn read_delta(delta: &Delta)
+    ensures { is_heard (telling delta.now) ≡ true }
+{
+    read_rows(delta.live());
+}
+
+#[tactic(auto, using(crate::proofs::Tellings::heard))]
+fn read_told(told: &Told)
+    ensures { is_heard told.now ≡ true }
+{
+    read_rows(told.live());
+}
+
+impl Telling {
+    /// What a cut tells. Takes no memory.
+    pub fn of_cut(delta: Delta) -> Telling
+        ensures tells { result ≡ telling delta }
+        ensures delta { IsDelta delta }
+        ensures limits { is_heard result ≡ true }
+    {
+        read_delta(&delta);
+        Telling {
+            form: Form::Cut(delta),
+        }
+    }
+
+    /// What is told in whole. Takes no memory.
+    pub fn of_told(told: Told) -> Telling
+        ensures tells { result ≡ told }
+        ensures limits { is_heard result ≡ true }
+    {
+        read_told(&told);
+        Telling {
+            form: Form::Whole(told),
+        }
+    }
+
+    fn told(&self, alloc: Global) -> Result<Told, AllocError>
+        ensures { IfOk result (λ t. t ≡ self.now) }
+    {
+        match &self.form {
+            Form::Cut(delta) => delta.told(alloc),
+            Form::Whole(told) => told.clone(),
+        }
+    }
+
+    /// The step that takes it in.
+    pub fn step(&self, alloc: Global) -> Result<Step, AllocError>
+        ensures step { IfOk result (λ s. s ≡ Step.Merge self.now) }
+        ensures limits { IfOk result (λ s. is_step s ≡ true) }
+    {
+        // Read for the proof alone: what was told is within its limits.
+        let _form = &self.form;
+        let told = self.told(alloc)?;
+        Ok(Step::Merge { told })
+    }
+}

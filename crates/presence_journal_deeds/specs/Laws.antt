@@ -1,0 +1,72 @@
+-- One law for each kind of event: what is true of histories and of told values stays true.
+use Rattle.std.specs.Prelude.{◌≡◌, IsTrue, ℕ}
+use Rattle.presence_base.specs.declared.dots.Replica.{Replica}
+use Rattle.presence_base.specs.Names.{is_node_name}
+use Rattle.presence_base.specs.Refs.{IsCount}
+use Rattle.orswot_core_told.specs.Telling.{ToldValue}
+use Rattle.delta_range.specs.Deltas.{DeltaValue, telling, IsDelta, GoesOn}
+use Rattle.delta_range.specs.Joining.{joined}
+use Rattle.presence_journal_data.specs.declared.step.Step.TheVariants as steps_are
+use Rattle.presence_journal.specs.Steps.{Entry, Start}
+use Rattle.presence_journal.specs.History.{History, Begin, Then, begun, own}
+use Rattle.presence_journal.specs.Table.{IsLegal}
+use Rattle.presence_journal_sets.specs.Full.{IsFullOf}
+use Rattle.presence_journal_cuts.specs.Cuts.{IsCut}
+use Rattle.presence_journal_cuts.specs.KeptDeltas.{IsToldFrom}
+use Rattle.presence_journal_starts.specs.Checkpoints.{IsCheckpoint}
+use Rattle.presence_journal_deeds.specs.Deeds.{AllDeeds, no_deeds, with_entry, put}
+use Rattle.presence_journal_deeds.specs.Truth.{AreDeeds, TellsTrue, IsTrueOf, DoMore}
+
+-- what each replica did, once this entry was made
+abbrev pub then_did : AllDeeds → History → Entry → AllDeeds
+then_did deeds h e = put (own h) (with_entry (deeds (own h)) h e) deeds
+
+-- what an entry takes in is true
+abbrev pub HearsTrue : AllDeeds → Entry → Type 0
+HearsTrue deeds e = (t : ToldValue) → e.step ≡ steps_are.Merge t → TellsTrue deeds t
+
+-- an entry: a client's step, a cut, a merge of what is true, a replica that is heard or put down, time that passes
+abbrev pub EntriesStayTrue : Type 0
+EntriesStayTrue = (deeds : AllDeeds) (h : History) (e : Entry) → ((r : Replica) → AreDeeds (deeds r)) → IsTrueOf deeds h
+    → IsLegal (Then h e) → HearsTrue deeds e → IsTrueOf (then_did deeds h e) (Then h e)
+
+abbrev pub EntriesAreDeeds : Type 0
+EntriesAreDeeds = (deeds : AllDeeds) (h : History) (e : Entry) → ((r : Replica) → AreDeeds (deeds r)) → IsTrueOf deeds h
+    → IsLegal (Then h e) → (r : Replica) → AreDeeds (then_did deeds h e r)
+
+abbrev pub EntriesGoOn : Type 0
+EntriesGoOn = (deeds : AllDeeds) (h : History) (e : Entry) → IsTrueOf deeds h → DoMore deeds (then_did deeds h e)
+
+-- another replica's history, and what was told before, while its owner did nothing more
+abbrev pub OthersStayTrue : Type 0
+OthersStayTrue = (old new : AllDeeds) (h : History) → DoMore old new → new (own h) ≡ old (own h) → IsTrueOf old h
+    → IsTrueOf new h
+
+abbrev pub ToldStaysTrue : Type 0
+ToldStaysTrue = (old new : AllDeeds) (t : ToldValue) → DoMore old new → TellsTrue old t → TellsTrue new t
+
+-- what is told
+abbrev pub CutsTellTrue : Type 0
+CutsTellTrue = (deeds : AllDeeds) (h : History) (c : DeltaValue) → ((r : Replica) → AreDeeds (deeds r))
+    → IsTrueOf deeds h → IsCut h c → IsDelta c → TellsTrue deeds (telling c)
+
+abbrev pub FullsTellTrue : Type 0
+FullsTellTrue = (deeds : AllDeeds) (h : History) (t : ToldValue) → IsTrueOf deeds h → IsFullOf h t → TellsTrue deeds t
+
+abbrev pub JoinedTellTrue : Type 0
+JoinedTellTrue = (deeds : AllDeeds) (a b : DeltaValue) → IsDelta a → IsDelta b → GoesOn a.owner a.to b
+    → TellsTrue deeds (telling a) → TellsTrue deeds (telling b) → TellsTrue deeds (telling (joined a b))
+
+abbrev pub KeptTellTrue : Type 0
+KeptTellTrue = (deeds : AllDeeds) (h : History) (n : ℕ) (t : ToldValue) → IsTrueOf deeds h → IsToldFrom h n t
+    → TellsTrue deeds t
+
+-- a checkpoint
+abbrev pub CheckpointsStayTrue : Type 0
+CheckpointsStayTrue = (deeds : AllDeeds) (h : History) (s : Start) → ((r : Replica) → AreDeeds (deeds r))
+    → IsTrueOf deeds h → IsCheckpoint h s → IsTrueOf deeds (Begin s)
+
+-- a new life
+abbrev pub LivesBeginTrue : Type 0
+LivesBeginTrue = (deeds : AllDeeds) (r : Replica) → IsTrue (is_node_name r.name) → IsCount r.incarnation
+    → deeds r ≡ no_deeds → IsTrueOf deeds (begun r)
