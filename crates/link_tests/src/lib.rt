@@ -7,6 +7,8 @@ mod accepting;
 #[cfg(test)]
 mod actions;
 #[cfg(test)]
+mod counted;
+#[cfg(test)]
 mod desk;
 #[cfg(test)]
 mod dialling;
@@ -14,6 +16,8 @@ mod dialling;
 mod faulty;
 #[cfg(test)]
 mod junk;
+#[cfg(test)]
+mod limits;
 #[cfg(test)]
 mod port;
 #[cfg(test)]

@@ -1,5 +1,6 @@
 ghost use Rattle.std.specs.Prelude.{◌≡◌};
-ghost use Rattle.node_links.specs.Talking.{bare as bare_of, told_line as told_line_of, WritesBare, WritesGiven, Tells, TellsWanted, Dials, lent};
+ghost use Rattle.node_links.specs.Talking.{bare as bare_of, sent as sent_of, told_in, WritesBare, WritesGiven};
+ghost use Rattle.node_links.specs.Talking.{AsksForAll, WritesTold, Tells, TellsWanted, Dials, lent};
 
 use crate::fault::DialFault;
 use crate::hearing::take_one;
@@ -7,6 +8,7 @@ use node_links_acts::{Act, LinkPort};
 use node_links_lines::{Line, LinkFault};
 use node_links_peer::Peer;
 use node_links_streams::write_line;
+use orswot_core::Told;
 use std::alloc::Global;
 use std::io::{Read, Write};
 
@@ -49,39 +51,81 @@ fn write_given<W: Write>(alloc: Global, writer: &mut W, line: &Line) -> Result<(
     }
 }
 
-// The line, where it is a told one.
-fn told_line(answer: Option<Line>) -> Option<Line>
-    ensures { result ≡ told_line_of answer }
+// What is told of which shard, where something is.
+fn told_of(answer: Option<Line>) -> Option<(u32, Told)>
+    ensures { result ≡ told_in answer }
 {
     match answer {
-        Some(Line::Told { shard, told }) => Some(Line::Told { shard, told }),
+        Some(Line::Told { shard, told }) => Some((shard, told)),
         _ => None,
     }
 }
 
-// A told line goes out, and one line more is read and heard.
-fn tell<S: Read + Write, P: LinkPort>(
-    alloc: Global,
-    stream: &mut S,
-    peer: &mut Peer,
-    port: &mut P,
-    told: &Line,
-    now: u64,
-) -> Result<bool, DialFault>
-    ensures { Tells S.remaining S.contents P.step P.shard_count now told.now
-        (lent stream.old peer.old port.old) (lent stream.new peer.new port.new) result }
+// Whether the line went out: one that is too long didn't.
+fn sent(written: Result<(), LinkFault>) -> Result<bool, DialFault>
+    ensures { result ≡ sent_of written }
 {
-    match write_line(alloc, stream, told) {
-        Ok(()) => match take_one(alloc, stream, peer, port, now)? {
-            Some(act) => Ok(act.given_up),
-            None => Ok(false),
-        },
+    match written {
+        Ok(()) => Ok(true),
         Err(LinkFault::LineTooLong) => Ok(false),
         Err(fault) => Err(DialFault::Link(fault)),
     }
 }
 
-// Of what would be answered a told line alone goes out.
+// All that is known of the shard goes out, where it fits a line: whether it did.
+fn write_all_of<W: Write, P: LinkPort>(
+    alloc: Global,
+    writer: &mut W,
+    port: &mut P,
+    shard: u32,
+) -> Result<bool, DialFault>
+    ensures { AsksForAll W.contents P.step shard writer.old writer.new port.old port.new result }
+{
+    match port.full(alloc, shard) {
+        Ok(told) => sent(write_line(alloc, writer, &Line::Told { shard, told })),
+        Err(fault) => Err(DialFault::Act(fault)),
+    }
+}
+
+// What is told of the shard goes out, or where that is too long all that is known of it: whether something did.
+fn write_told<W: Write, P: LinkPort>(
+    alloc: Global,
+    writer: &mut W,
+    port: &mut P,
+    shard: u32,
+    told: Told,
+) -> Result<bool, DialFault>
+    ensures { WritesTold W.contents P.step shard told writer.old writer.new port.old port.new result }
+{
+    match write_line(alloc, writer, &Line::Told { shard, told }) {
+        Err(LinkFault::LineTooLong) => write_all_of(alloc, writer, port, shard),
+        written => sent(written),
+    }
+}
+
+// What is told goes out, and behind it one line more is read and heard.
+fn tell<S: Read + Write, P: LinkPort>(
+    alloc: Global,
+    stream: &mut S,
+    peer: &mut Peer,
+    port: &mut P,
+    told: (u32, Told),
+    now: u64,
+) -> Result<bool, DialFault>
+    ensures { Tells S.remaining S.contents P.step P.shard_count now told
+        (lent stream.old peer.old port.old) (lent stream.new peer.new port.new) result }
+{
+    let (shard, told) = told;
+    if !write_told(alloc, stream, port, shard, told)? {
+        return Ok(false);
+    }
+    match take_one(alloc, stream, peer, port, now)? {
+        Some(act) => Ok(act.given_up),
+        None => Ok(false),
+    }
+}
+
+// Of what would be answered a told value alone goes out.
 fn follow<S: Read + Write, P: LinkPort>(
     alloc: Global,
     stream: &mut S,
@@ -90,11 +134,11 @@ fn follow<S: Read + Write, P: LinkPort>(
     act: Act,
     now: u64,
 ) -> Result<bool, DialFault>
-    ensures { TellsWanted S.remaining S.contents P.step P.shard_count now act.given_up (told_line_of act.answer)
+    ensures { TellsWanted S.remaining S.contents P.step P.shard_count now act.given_up (told_in act.answer)
         (lent stream.old peer.old port.old) (lent stream.new peer.new port.new) result }
 {
-    match told_line(act.answer) {
-        Some(told) => tell(alloc, stream, peer, port, &told, now),
+    match told_of(act.answer) {
+        Some(told) => tell(alloc, stream, peer, port, told, now),
         None => Ok(act.given_up),
     }
 }
@@ -105,8 +149,9 @@ fn follow<S: Read + Write, P: LinkPort>(
 /// the other end.
 ///
 /// An end between lines, where a line was to be read, ends the call with false. A beat whose line is too
-/// long goes out without its delta. A told line that is too long isn't written, and ends the call with
-/// false; any other line that is too long is refused.
+/// long, in bytes or in rows and extras, goes out without its delta. In place of a told line that is too
+/// long all that is known of the shard goes out; where that is too long as well nothing does, and the
+/// call ends with false. Any other line that is too long is refused.
 ///
 /// After a fault the link is to be closed; the calls of the port that were made stand, and what went out
 /// is whole lines, and behind a failed write a part of the last one.
