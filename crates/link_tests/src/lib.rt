@@ -23,6 +23,8 @@ mod port;
 #[cfg(test)]
 mod streams;
 #[cfg(test)]
+mod ticking;
+#[cfg(test)]
 mod wire;
 #[cfg(test)]
 mod worked;
