@@ -1,5 +1,5 @@
 //! A node at one end of a link: its peer, its port, and a stream that gives it these bytes.
-use crate::port::{Call, TestPort};
+use crate::port::{Call, Much, TestPort};
 use crate::wire::Wire;
 use node_links::{
     ActFault, DialFault, End, Line, LinkAction, LinkFault, Peer, accept_one, decode_line, dial,
@@ -44,7 +44,8 @@ fn seated(alloc: Global, own: Replica, end: End, bytes: &[u8]) -> Desk<'_> {
             shards: 2,
             status: Status::Up,
             top: 1,
-            is_long: false,
+            from: Much::Little,
+            all: Much::Little,
             calls: Vec::new(alloc),
             refused: NEVER,
             fault: ActFault::ShardFull,

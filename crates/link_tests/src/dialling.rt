@@ -1,6 +1,6 @@
 //! The end that dialled: node `b`, with two shards, which dialled node `a`.
 use crate::desk::{Desk, at_b, replica};
-use crate::port::{Call, long_told};
+use crate::port::{Call, Much, long_told};
 use node_links::{ActFault, DialFault, Line, LinkFault};
 use std::alloc::Global;
 
@@ -182,9 +182,11 @@ fn a_told_line_that_is_too_long_is_not_written(rt: HostRuntime) {
         assert!(rt; false);
         return;
     };
-    desk.port.is_long = true;
+    desk.port.from = Much::Long;
+    desk.port.all = Much::Long;
     assert!(rt; desk.dials_text(alloc, BEAT) == Some(Ok(false)));
     assert!(rt; desk.wrote(SENT));
+    assert!(rt; desk.asked(&[Call::ToldFrom(0, 1), Call::Full(0)]));
     assert!(rt; desk.rest() == 7);
 }
 

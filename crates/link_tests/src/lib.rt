@@ -7,6 +7,8 @@ mod accepting;
 #[cfg(test)]
 mod actions;
 #[cfg(test)]
+mod counted;
+#[cfg(test)]
 mod desk;
 #[cfg(test)]
 mod dialling;
@@ -15,9 +17,13 @@ mod faulty;
 #[cfg(test)]
 mod junk;
 #[cfg(test)]
+mod limits;
+#[cfg(test)]
 mod port;
 #[cfg(test)]
 mod streams;
+#[cfg(test)]
+mod ticking;
 #[cfg(test)]
 mod wire;
 #[cfg(test)]

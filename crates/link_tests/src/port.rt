@@ -1,4 +1,5 @@
 //! A port that notes what it was asked, and refuses one of its calls.
+use crate::counted::counted_told;
 use node_links::{ActFault, Line, LinkPort, decode_line};
 use orswot_core::{RawRow, RawTold, Told};
 use presence_base::{Dot, NodeName, Replica};
@@ -17,13 +18,22 @@ pub(super) enum Call {
     Full(u32),
 }
 
-// Each replica has this status and this top, and what is told is the range of both counts of b.1, or what is too long
-// for a line. The call of number `refused`, from 0, is refused.
+// What is told: the range of both counts of b.1, what is too long for a line, or so many rows and extras.
+#[derive(Clone, Copy, PartialEq, Eq, Debug)]
+pub(super) enum Much {
+    Little,
+    Long,
+    Counted(u64),
+}
+
+// Each replica has this status and this top, and so much is told from a count and in all. The call of number `refused`,
+// from 0, is refused.
 pub(super) struct TestPort {
     pub shards: u32,
     pub status: Status,
     pub top: u64,
-    pub is_long: bool,
+    pub from: Much,
+    pub all: Much,
     pub calls: Vec<Call>,
     pub refused: usize,
     pub fault: ActFault,
@@ -35,7 +45,8 @@ impl Drop for TestPort {
             shards: _,
             status: _,
             top: _,
-            is_long: _,
+            from: _,
+            all: _,
             calls,
             refused: _,
             fault: _,
@@ -148,10 +159,18 @@ pub(super) fn long_told(alloc: Global) -> Result<Told, ActFault> {
     }
 }
 
-fn told(alloc: Global, shards: u32, is_long: bool) -> Result<Told, ActFault> {
-    if is_long {
-        return long_told(alloc);
+fn told(alloc: Global, shards: u32, much: Much) -> Result<Told, ActFault> {
+    match much {
+        Much::Little => little_told(alloc, shards),
+        Much::Long => long_told(alloc),
+        Much::Counted(things) => match counted_told(alloc, things) {
+            Ok(told) => Ok(told),
+            Err(_) => Err(ActFault::OutOfMemory),
+        },
     }
+}
+
+fn little_told(alloc: Global, shards: u32) -> Result<Told, ActFault> {
     if shards == 0 {
         return Err(ActFault::ShardFull);
     }
@@ -200,11 +219,11 @@ impl LinkPort for TestPort {
 
     fn told_from(&mut self, alloc: Global, shard: u32, from: u64) -> Result<Told, ActFault> {
         self.note(Call::ToldFrom(shard, from))?;
-        told(alloc, self.shards, self.is_long)
+        told(alloc, self.shards, self.from)
     }
 
     fn full(&mut self, alloc: Global, shard: u32) -> Result<Told, ActFault> {
         self.note(Call::Full(shard))?;
-        told(alloc, self.shards, self.is_long)
+        told(alloc, self.shards, self.all)
     }
 }

@@ -1,5 +1,6 @@
 -- What a call for one exchange does to the stream, the peer and the port, at either end of a link.
-use Rattle.std.specs.Prelude.{◌≡◌, ℕ, Bool, true, false, Option, Some, None, Result, Ok, Err}
+use Rattle.std.specs.Prelude.{◌≡◌, ℕ, Bool, true, false, length, Option, Some, None, Result, Ok, Err}
+use Rattle.orswot_core.specs.Telling.{ToldValue}
 use Rattle.node_links_lines.specs.declared.lines.Line.{Line}
 use Rattle.node_links_lines.specs.declared.lines.Line.TheVariants as lines_are
 use Rattle.node_links_members.specs.declared.fault.LinkFault.{LinkFault}
@@ -10,7 +11,11 @@ use Rattle.node_links_streams.specs.Streams.{ReadsLine, WritesLine}
 use Rattle.node_links_peer.specs.Exchanges.{PeerValue, Actions, actions_of, after}
 use Rattle.node_links_acts.specs.declared.outcome.Act.{Act}
 use Rattle.node_links_acts.specs.declared.port.ActFault.{ActFault}
+use Rattle.node_links_acts.specs.Asks.{Answer, full}
 use Rattle.node_links_acts.specs.Acting.{Steps, Acts}
+use Rattle.node_links.specs.declared.outcome.Outcome.{Outcome}
+use Rattle.node_links.specs.declared.outcome.Outcome.TheVariants.{Done, GivenUp, Untold}
+use Rattle.node_links.specs.declared.outcome.Untold.{Untold as UntoldValue}
 use Rattle.node_links.specs.declared.fault.DialFault.{DialFault}
 use Rattle.node_links.specs.declared.fault.DialFault.TheVariants as faults_are
 
@@ -86,6 +91,19 @@ abbrev pub Accepts : {S P : Type 0} → (left out : S → Known) → Steps P →
 Accepts {S} {P} left out step shards now old new r = (mid : Lent S P) × (taken : Result (Option Act) DialFault)
     × Takes left step shards now old mid taken × AnswersTaken out taken mid new r
 
+abbrev pub AnswersHeard : {S P : Type 0} → (S → Known) → Result Act DialFault → Lent S P → Lent S P
+    → Result Unit DialFault → Type 0
+AnswersHeard out (Ok act) old new r = (w : Result Unit LinkFault)
+    × WritesAnswer out act.answer old.stream new.stream w
+    × (new ≡ at new.stream old) × (r ≡ linked tt w)
+AnswersHeard out (Err f) old new r = (new ≡ old) × (r ≡ Err f)
+
+-- The same of a line that was read before: it is acted upon, and its answer goes out.
+abbrev pub AnswersLine : {S P : Type 0} → (S → Known) → Steps P → (P → ℕ) → ℕ → Line → Lent S P → Lent S P
+    → Result Unit DialFault → Type 0
+AnswersLine {S} {P} out step shards now line old new r = (p : PeerValue) × (q : P) × (act : Result Act DialFault)
+    × Hears step shards now line old.peer p old.port q act × AnswersHeard out act (lent old.stream p q) new r
+
 -- a beat without its delta
 abbrev pub bare : Line → Option Line
 bare (lines_are.Beat k r c t) = Some (lines_are.Beat k r c None)
@@ -105,56 +123,111 @@ abbrev pub WritesGiven : {S : Type 0} → (S → Known) → Line → S → S →
 WritesGiven {S} out line s s' r = (mid : S) × (w : Result Unit LinkFault) × WritesLine line (out s) (out mid) w
     × WritesAgain out line w mid s' r
 
-abbrev pub ends_with : Result (Option Act) DialFault → Result Bool DialFault
-ends_with (Ok None) = Ok false
-ends_with (Ok (Some act)) = Ok act.given_up
+-- whether the own incarnation is gone at the other end
+abbrev pub outcome_of : Bool → Outcome
+outcome_of true = GivenUp
+outcome_of false = Done
+
+abbrev pub ends_with : Result (Option Act) DialFault → Result Outcome DialFault
+ends_with (Ok None) = Ok Done
+ends_with (Ok (Some act)) = Ok (outcome_of act.given_up)
 ends_with (Err f) = Err f
 
--- behind a told line that went out one line more is read and heard; one that is too long ends the call
-abbrev pub TakesMore : {S P : Type 0} → (S → Known) → Steps P → (P → ℕ) → ℕ → Result Unit LinkFault → Lent S P
-    → Lent S P → Result Bool DialFault → Type 0
-TakesMore left step shards now (Ok done) old new r = (taken : Result (Option Act) DialFault)
+-- what fits no line
+abbrev pub untold : ℕ → ToldValue → UntoldValue
+untold k t = record { shard = k; rows = length t.live; extras = length t.extras }
+
+-- nothing stays untold where the line went out
+abbrev pub sent : UntoldValue → Result Unit LinkFault → Result (Option UntoldValue) DialFault
+sent u (Ok done) = Ok None
+sent u (Err LineTooLong) = Ok (Some u)
+sent u (Err e) = Err (faults_are.Link e)
+
+-- all that a shard tells goes out, unless it is too long
+abbrev pub WritesAll : {S : Type 0} → (S → Known) → ℕ → Result ToldValue ActFault → S → S
+    → Result (Option UntoldValue) DialFault → Type 0
+WritesAll out k (Ok t) s s' r = (w : Result Unit LinkFault) × WritesLine (lines_are.Told k t) (out s) (out s') w
+    × (r ≡ sent (untold k t) w)
+WritesAll out k (Err e) s s' r = (s' ≡ s) × (r ≡ Err (faults_are.Act e))
+
+-- the shard is asked for all of it
+abbrev pub AsksForAll : {S P : Type 0} → (S → Known) → Steps P → ℕ → S → S → P → P
+    → Result (Option UntoldValue) DialFault → Type 0
+AsksForAll out step k s s' q q' r = (a : Answer (full k)) × step q (full k) a q' × WritesAll out k a s s' r
+
+-- in the place of a told value that is too long all of the shard goes out, unless that is too long as well
+abbrev pub WritesElse : {S P : Type 0} → (S → Known) → Steps P → ℕ → Result Unit LinkFault → S → S → P → P
+    → Result (Option UntoldValue) DialFault → Type 0
+WritesElse out step k (Ok done) s s' q q' r = (s' ≡ s) × (q' ≡ q) × (r ≡ Ok None)
+WritesElse out step k (Err LineTooLong) s s' q q' r = AsksForAll out step k s s' q q' r
+WritesElse out step k (Err e) s s' q q' r = (s' ≡ s) × (q' ≡ q) × (r ≡ Err (faults_are.Link e))
+
+abbrev pub WritesTold : {S P : Type 0} → (S → Known) → Steps P → ℕ → ToldValue → S → S → P → P
+    → Result (Option UntoldValue) DialFault → Type 0
+WritesTold {S} out step k t s s' q q' r = (mid : S) × (w : Result Unit LinkFault)
+    × WritesLine (lines_are.Told k t) (out s) (out mid) w × WritesElse out step k w mid s' q q' r
+
+-- behind a told line that went out one line more is read and heard
+abbrev pub TakesMore : {S P : Type 0} → (S → Known) → Steps P → (P → ℕ) → ℕ → Result (Option UntoldValue) DialFault
+    → Lent S P → Lent S P → Result Outcome DialFault → Type 0
+TakesMore left step shards now (Ok None) old new r = (taken : Result (Option Act) DialFault)
     × Takes left step shards now old new taken × (r ≡ ends_with taken)
-TakesMore left step shards now (Err LineTooLong) old new r = (new ≡ old) × (r ≡ Ok false)
-TakesMore left step shards now (Err e) old new r = (new ≡ old) × (r ≡ Err (faults_are.Link e))
+TakesMore left step shards now (Ok (Some u)) old new r = (new ≡ old) × (r ≡ Ok (Untold u))
+TakesMore left step shards now (Err f) old new r = (new ≡ old) × (r ≡ Err f)
 
--- this told line goes out
-abbrev pub Tells : {S P : Type 0} → (left out : S → Known) → Steps P → (P → ℕ) → ℕ → Line → Lent S P → Lent S P
-    → Result Bool DialFault → Type 0
-Tells {S} left out step shards now line old new r = (s : S) × (w : Result Unit LinkFault)
-    × WritesLine line (out old.stream) (out s) w × TakesMore left step shards now w (at s old) new r
+-- this told value goes out, or what stands in its place
+abbrev pub Tells : {S P : Type 0} → (left out : S → Known) → Steps P → (P → ℕ) → ℕ → ℕ × ToldValue → Lent S P
+    → Lent S P → Result Outcome DialFault → Type 0
+Tells {S} {P} left out step shards now told old new r = (s : S) × (q : P) × (w : Result (Option UntoldValue) DialFault)
+    × WritesTold out step told.0 told.1 old.stream s old.port q w
+    × TakesMore left step shards now w (lent s old.peer q) new r
 
--- of what would be answered a told line alone goes out
-abbrev pub if_told : Line → Option Line
-if_told (lines_are.Told k t) = Some (lines_are.Told k t)
+-- of what would be answered a told value alone goes out, with its shard
+abbrev pub if_told : Line → Option (ℕ × ToldValue)
+if_told (lines_are.Told k t) = Some (k, t)
 if_told _ = None
 
-abbrev pub told_line : Option Line → Option Line
-told_line None = None
-told_line (Some line) = if_told line
+abbrev pub told_in : Option Line → Option (ℕ × ToldValue)
+told_in None = None
+told_in (Some line) = if_told line
 
-abbrev pub TellsWanted : {S P : Type 0} → (left out : S → Known) → Steps P → (P → ℕ) → ℕ → Bool → Option Line
-    → Lent S P → Lent S P → Result Bool DialFault → Type 0
-TellsWanted left out step shards now given_up None old new r = (new ≡ old) × (r ≡ Ok given_up)
-TellsWanted left out step shards now given_up (Some line) old new r = Tells left out step shards now line old new r
+abbrev pub TellsWanted : {S P : Type 0} → (left out : S → Known) → Steps P → (P → ℕ) → ℕ → Bool
+    → Option (ℕ × ToldValue) → Lent S P → Lent S P → Result Outcome DialFault → Type 0
+TellsWanted left out step shards now given_up None old new r = (new ≡ old) × (r ≡ Ok (outcome_of given_up))
+TellsWanted left out step shards now given_up (Some told) old new r = Tells left out step shards now told old new r
 
 abbrev pub TellsTaken : {S P : Type 0} → (left out : S → Known) → Steps P → (P → ℕ) → ℕ → Result (Option Act) DialFault
-    → Lent S P → Lent S P → Result Bool DialFault → Type 0
-TellsTaken left out step shards now (Ok None) old new r = (new ≡ old) × (r ≡ Ok false)
+    → Lent S P → Lent S P → Result Outcome DialFault → Type 0
+TellsTaken left out step shards now (Ok None) old new r = (new ≡ old) × (r ≡ Ok Done)
 TellsTaken left out step shards now (Ok (Some act)) old new r =
-    TellsWanted left out step shards now act.given_up (told_line act.answer) old new r
+    TellsWanted left out step shards now act.given_up (told_in act.answer) old new r
 TellsTaken left out step shards now (Err f) old new r = (new ≡ old) × (r ≡ Err f)
 
-abbrev pub DialsOn : {S P : Type 0} → (left out : S → Known) → Steps P → (P → ℕ) → ℕ → Result Unit LinkFault → Lent S P
-    → Lent S P → Result Bool DialFault → Type 0
-DialsOn {S} {P} left out step shards now (Ok done) old new r = (mid : Lent S P)
+abbrev pub GoesOn : {S P : Type 0} → (left out : S → Known) → Steps P → (P → ℕ) → ℕ → Result Unit LinkFault → Lent S P
+    → Lent S P → Result Outcome DialFault → Type 0
+GoesOn {S} {P} left out step shards now (Ok done) old new r = (mid : Lent S P)
     × (taken : Result (Option Act) DialFault)
     × Takes left step shards now old mid taken × TellsTaken left out step shards now taken mid new r
-DialsOn left out step shards now (Err e) old new r = (new ≡ old) × (r ≡ Err (faults_are.Link e))
+GoesOn left out step shards now (Err e) old new r = (new ≡ old) × (r ≡ Err (faults_are.Link e))
 
--- At the dialling end: the given line goes out, one line is read and acted upon, and where a told line is wanted that
--- goes out and one line more is read and acted upon.
+-- At the dialling end: the given line goes out, one line is read and acted upon, and where a told value is wanted that
+-- goes out, or all of the shard where that alone fits a line, and one line more is read and acted upon.
+abbrev pub Exchanges : {S P : Type 0} → (left out : S → Known) → Steps P → (P → ℕ) → ℕ → Line → Lent S P → Lent S P
+    → Result Outcome DialFault → Type 0
+Exchanges {S} left out step shards now line old new r = (s : S) × (w : Result Unit LinkFault)
+    × WritesGiven out line old.stream s w × GoesOn left out step shards now w (at s old) new r
+
+-- whether an exchange came to the own incarnation being gone at the other end
+abbrev pub gives_up : Outcome → Bool
+gives_up GivenUp = true
+gives_up _ = false
+
+abbrev pub gave_up : Result Outcome DialFault → Result Bool DialFault
+gave_up (Ok o) = Ok (gives_up o)
+gave_up (Err f) = Err f
+
+-- the same, of which only that is told
 abbrev pub Dials : {S P : Type 0} → (left out : S → Known) → Steps P → (P → ℕ) → ℕ → Line → Lent S P → Lent S P
     → Result Bool DialFault → Type 0
-Dials {S} left out step shards now line old new r = (s : S) × (w : Result Unit LinkFault)
-    × WritesGiven out line old.stream s w × DialsOn left out step shards now w (at s old) new r
+Dials left out step shards now line old new r = (o : Result Outcome DialFault)
+    × Exchanges left out step shards now line old new o × (r ≡ gave_up o)

@@ -1,7 +1,7 @@
-ghost use Rattle.node_links.specs.Talking.{WritesAnswer, Accepts, lent};
+ghost use Rattle.node_links.specs.Talking.{WritesAnswer, Accepts, AnswersLine, lent};
 
 use crate::fault::DialFault;
-use crate::hearing::take_one;
+use crate::hearing::{hear, take_one};
 use node_links_acts::LinkPort;
 use node_links_lines::{Line, LinkFault};
 use node_links_peer::Peer;
@@ -42,4 +42,22 @@ pub fn accept_one<S: Read + Write, P: LinkPort>(
         },
         None => Ok(false),
     }
+}
+
+/// The end of such an exchange, where its line was read before: does what the line asks for, and writes what
+/// is answered. After a fault the link is to be closed, as behind `accept_one`.
+pub fn answer_line<W: Write, P: LinkPort>(
+    alloc: Global,
+    writer: &mut W,
+    peer: &mut Peer,
+    port: &mut P,
+    line: Line,
+    now: u64,
+) -> Result<(), DialFault>
+    ensures { AnswersLine W.contents P.step P.shard_count now line
+        (lent writer.old peer.old port.old) (lent writer.new peer.new port.new) result }
+{
+    let act = hear(alloc, peer, port, line, now)?;
+    answer(alloc, writer, act.answer)?;
+    Ok(())
 }

@@ -1,12 +1,16 @@
 ghost use Rattle.std.specs.Prelude.{◌≡◌};
-ghost use Rattle.node_links.specs.Talking.{bare as bare_of, told_line as told_line_of, WritesBare, WritesGiven, Tells, TellsWanted, Dials, lent};
+ghost use Rattle.node_links.specs.Talking.{bare as bare_of, outcome_of as outcome, untold, sent as sent_of, told_in};
+ghost use Rattle.node_links.specs.Talking.{WritesBare, WritesGiven, AsksForAll, WritesTold, Tells, TellsWanted};
+ghost use Rattle.node_links.specs.Talking.{Exchanges, Dials, lent};
 
 use crate::fault::DialFault;
 use crate::hearing::take_one;
+use crate::outcome::{Outcome, Untold};
 use node_links_acts::{Act, LinkPort};
 use node_links_lines::{Line, LinkFault};
 use node_links_peer::Peer;
 use node_links_streams::write_line;
+use orswot_core::Told;
 use std::alloc::Global;
 use std::io::{Read, Write};
 
@@ -49,39 +53,108 @@ fn write_given<W: Write>(alloc: Global, writer: &mut W, line: &Line) -> Result<(
     }
 }
 
-// The line, where it is a told one.
-fn told_line(answer: Option<Line>) -> Option<Line>
-    ensures { result ≡ told_line_of answer }
+// What is told of which shard, where something is.
+fn told_of(answer: Option<Line>) -> Option<(u32, Told)>
+    ensures { result ≡ told_in answer }
 {
     match answer {
-        Some(Line::Told { shard, told }) => Some(Line::Told { shard, told }),
+        Some(Line::Told { shard, told }) => Some((shard, told)),
         _ => None,
     }
 }
 
-// A told line goes out, and one line more is read and heard.
+fn outcome_of(given_up: bool) -> Outcome
+    ensures { result ≡ outcome given_up }
+{
+    if given_up {
+        Outcome::GivenUp
+    } else {
+        Outcome::Done
+    }
+}
+
+fn untold_of(shard: u32, told: &Told) -> Untold
+    ensures { result ≡ untold shard told.now }
+{
+    Untold {
+        shard,
+        rows: told.live().len(),
+        extras: told.extras().len(),
+    }
+}
+
+// What stays untold where a line was written so: of one that went out, nothing.
+fn sent(untold: Untold, written: Result<(), LinkFault>) -> Result<Option<Untold>, DialFault>
+    ensures { result ≡ sent_of untold written }
+{
+    match written {
+        Ok(()) => Ok(None),
+        Err(LinkFault::LineTooLong) => Ok(Some(untold)),
+        Err(fault) => Err(DialFault::Link(fault)),
+    }
+}
+
+// All that is known of the shard goes out, where it fits a line; else it is what stays untold.
+fn write_all<W: Write, P: LinkPort>(
+    alloc: Global,
+    writer: &mut W,
+    port: &mut P,
+    shard: u32,
+) -> Result<Option<Untold>, DialFault>
+    ensures { AsksForAll W.contents P.step shard writer.old writer.new port.old port.new result }
+{
+    match port.full(alloc, shard) {
+        Ok(told) => {
+            let untold = untold_of(shard, &told);
+            sent(
+                untold,
+                write_line(alloc, writer, &Line::Told { shard, told }),
+            )
+        },
+        Err(fault) => Err(DialFault::Act(fault)),
+    }
+}
+
+// What is told of the shard goes out, or where that is too long all that is known of it; else that is what stays untold.
+fn write_told<W: Write, P: LinkPort>(
+    alloc: Global,
+    writer: &mut W,
+    port: &mut P,
+    shard: u32,
+    told: Told,
+) -> Result<Option<Untold>, DialFault>
+    ensures { WritesTold W.contents P.step shard told writer.old writer.new port.old port.new result }
+{
+    match write_line(alloc, writer, &Line::Told { shard, told }) {
+        Ok(()) => Ok(None),
+        Err(LinkFault::LineTooLong) => write_all(alloc, writer, port, shard),
+        Err(fault) => Err(DialFault::Link(fault)),
+    }
+}
+
+// What is told goes out, and behind it one line more is read and heard.
 fn tell<S: Read + Write, P: LinkPort>(
     alloc: Global,
     stream: &mut S,
     peer: &mut Peer,
     port: &mut P,
-    told: &Line,
+    told: (u32, Told),
     now: u64,
-) -> Result<bool, DialFault>
-    ensures { Tells S.remaining S.contents P.step P.shard_count now told.now
+) -> Result<Outcome, DialFault>
+    ensures { Tells S.remaining S.contents P.step P.shard_count now told
         (lent stream.old peer.old port.old) (lent stream.new peer.new port.new) result }
 {
-    match write_line(alloc, stream, told) {
-        Ok(()) => match take_one(alloc, stream, peer, port, now)? {
-            Some(act) => Ok(act.given_up),
-            None => Ok(false),
-        },
-        Err(LinkFault::LineTooLong) => Ok(false),
-        Err(fault) => Err(DialFault::Link(fault)),
+    let (shard, told) = told;
+    if let Some(untold) = write_told(alloc, stream, port, shard, told)? {
+        return Ok(Outcome::Untold(untold));
+    }
+    match take_one(alloc, stream, peer, port, now)? {
+        Some(act) => Ok(outcome_of(act.given_up)),
+        None => Ok(Outcome::Done),
     }
 }
 
-// Of what would be answered a told line alone goes out.
+// Of what would be answered a told value alone goes out.
 fn follow<S: Read + Write, P: LinkPort>(
     alloc: Global,
     stream: &mut S,
@@ -89,27 +162,48 @@ fn follow<S: Read + Write, P: LinkPort>(
     port: &mut P,
     act: Act,
     now: u64,
-) -> Result<bool, DialFault>
-    ensures { TellsWanted S.remaining S.contents P.step P.shard_count now act.given_up (told_line_of act.answer)
+) -> Result<Outcome, DialFault>
+    ensures { TellsWanted S.remaining S.contents P.step P.shard_count now act.given_up (told_in act.answer)
         (lent stream.old peer.old port.old) (lent stream.new peer.new port.new) result }
 {
-    match told_line(act.answer) {
-        Some(told) => tell(alloc, stream, peer, port, &told, now),
-        None => Ok(act.given_up),
+    let given_up = act.given_up;
+    match told_of(act.answer) {
+        Some(told) => tell(alloc, stream, peer, port, told, now),
+        None => Ok(outcome_of(given_up)),
     }
 }
 
 /// One exchange at the end that dialled, at a time in milliseconds: writes the line, reads one and does
 /// what it asks for. Where that asks to be told something the told line is written, and one line more is
-/// read and acted upon. No other answer is written. True where this node's own incarnation is gone at
-/// the other end.
+/// read and acted upon. No other answer is written.
 ///
-/// An end between lines, where a line was to be read, ends the call with false. A beat whose line is too
-/// long goes out without its delta. A told line that is too long isn't written, and ends the call with
-/// false; any other line that is too long is refused.
+/// An end between lines, where a line was to be read, ends the exchange well. A beat whose line is too
+/// long, in bytes or in rows and extras, goes out without its delta. In place of a told line that is too
+/// long all that is known of the shard goes out; where that is too long as well nothing does, and it is
+/// told so. Any other line that is too long is refused.
 ///
 /// After a fault the link is to be closed; the calls of the port that were made stand, and what went out
 /// is whole lines, and behind a failed write a part of the last one.
+pub fn exchange<S: Read + Write, P: LinkPort>(
+    alloc: Global,
+    stream: &mut S,
+    peer: &mut Peer,
+    port: &mut P,
+    line: &Line,
+    now: u64,
+) -> Result<Outcome, DialFault>
+    ensures { Exchanges S.remaining S.contents P.step P.shard_count now line.now
+        (lent stream.old peer.old port.old) (lent stream.new peer.new port.new) result }
+{
+    write_given(alloc, stream, line)?;
+    match take_one(alloc, stream, peer, port, now)? {
+        Some(act) => follow(alloc, stream, peer, port, act, now),
+        None => Ok(Outcome::Done),
+    }
+}
+
+/// The same exchange, of which it is told only whether this node's own incarnation is gone at the other
+/// end.
 pub fn dial<S: Read + Write, P: LinkPort>(
     alloc: Global,
     stream: &mut S,
@@ -121,9 +215,8 @@ pub fn dial<S: Read + Write, P: LinkPort>(
     ensures { Dials S.remaining S.contents P.step P.shard_count now line.now
         (lent stream.old peer.old port.old) (lent stream.new peer.new port.new) result }
 {
-    write_given(alloc, stream, line)?;
-    match take_one(alloc, stream, peer, port, now)? {
-        Some(act) => follow(alloc, stream, peer, port, act, now),
-        None => Ok(false),
+    match exchange(alloc, stream, peer, port, line, now) {
+        Ok(outcome) => Ok(matches!(outcome, Outcome::GivenUp)),
+        Err(fault) => Err(fault),
     }
 }

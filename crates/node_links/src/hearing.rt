@@ -9,7 +9,8 @@ use node_links_streams::read_line;
 use std::alloc::Global;
 use std::io::Read;
 
-fn hear<P: LinkPort>(
+// A line is heard, and what it asks for done.
+pub(crate) fn hear<P: LinkPort>(
     alloc: Global,
     peer: &mut Peer,
     port: &mut P,

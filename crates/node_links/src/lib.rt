@@ -7,11 +7,13 @@ mod accepting;
 mod dialling;
 mod fault;
 mod hearing;
+mod outcome;
 
-pub use accepting::accept_one;
-pub use dialling::dial;
+pub use accepting::{accept_one, answer_line};
+pub use dialling::{dial, exchange};
 pub use fault::DialFault;
 pub use node_links_acts::{Act, ActFault, LinkPort, act};
 pub use node_links_lines::{Line, LinkFault, MAX_LINE_BYTES, MAX_SHARDS, decode_line, encode_line};
 pub use node_links_peer::{End, LinkAction, Peer};
 pub use node_links_streams::{read_line, write_line};
+pub use outcome::{Outcome, Untold};

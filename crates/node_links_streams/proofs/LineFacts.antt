@@ -11,7 +11,7 @@ use Rattle.node_links_lines.specs.Reading.{decoded, IsTextFault}
 use Rattle.node_links_lines.specs.Results.{Answers}
 use Rattle.node_links_lines.specs.Writing.{text_of}
 use Rattle.node_links_streams.specs.Bytes.{Known, TakesWhole, AppendsFront, WritesAll}
-use Rattle.node_links_streams.specs.Streams.{line_in_bytes, ReadsLine, fed, WritesLine}
+use Rattle.node_links_streams.specs.Streams.{line_in_bytes, ReadsLine, fed, WritesText}
 use Rattle.node_links_streams.proofs.Known.{little_here}
 
 -- bytes that are UTF-8 are what their text is
@@ -39,7 +39,7 @@ read_fault n a b text OutOfMemory whole is of_text = little_here a b text whole
 read_fault n a b text CutLine whole is of_text = absurd of_text
 
 -- what was written of these bytes was written of the line
-pub written : (line : Line) (a b : Known) (bytes : List ℕ) (r : Result Unit LinkFault) → bytes ≡ fed line → length (text_of line) ≤ MAX_LINE_BYTES → WritesAll a b bytes r → WritesLine line a b r
+pub written : (line : Line) (a b : Known) (bytes : List ℕ) (r : Result Unit LinkFault) → bytes ≡ fed line → length (text_of line) ≤ MAX_LINE_BYTES → WritesAll a b bytes r → WritesText line a b r
 written line a b bytes (Ok done) is short h = (subst (Appends a b) is h, short)
 written line a b bytes (Err WriteFailed) is short h = subst (AppendsFront a b) is h
 written line a b bytes (Err LineTooLong) is short h = absurd h

@@ -1,8 +1,11 @@
 -- What reading and writing a line does to a stream.
-use Rattle.std.specs.Prelude.{◌≡◌, ◌≤◌, ◌<◌, ◌+◌, ℕ, List, [], ◌∷◌, ◌++◌, length, if◌then◌else◌, Option, Some, None, Result, Ok, Err}
+use Rattle.std.specs.Prelude.{◌≡◌, ◌≤◌, ◌<◌, ◌+◌, ℕ, Bool, true, false, List, [], ◌∷◌, ◌++◌, length, if◌then◌else◌, Option, Some, None, Result, Ok, Err}
 use Rattle.std.specs.Io.KnownBytes.{Keeps, Consumes, Appends}
 use Rattle.std.specs.Str.{is_utf8}
+use Rattle.orswot_core.specs.Telling.{ToldValue}
+use Rattle.orswot_core.specs.Checks.{is_too_many}
 use Rattle.node_links_lines.specs.declared.lines.Line.{Line}
+use Rattle.node_links_lines.specs.declared.lines.Line.TheVariants as lines_are
 use Rattle.node_links_members.specs.declared.fault.LinkFault.{LinkFault}
 use Rattle.node_links_members.specs.declared.fault.LinkFault.TheVariants.{LineTooLong, NotJson, ReadFailed, WriteFailed, OutOfMemory, CutLine}
 use Rattle.node_links_lines.specs.declared.lines.TheConstants.{MAX_LINE_BYTES}
@@ -40,13 +43,32 @@ ReadsLine n old new (Err e) = ReadsAs n old new (Err e)
 abbrev pub fed : Line → List ℕ
 fed line = text_of line ++ 10 ∷ []
 
--- Ok: all of it went out, and nothing else. A line that is too long, or for which memory is wanting, leaves nothing.
+-- what a line tells has more rows and extras than a node takes in
+abbrev pub news_are_too_many : Option ToldValue → Bool
+news_are_too_many None = false
+news_are_too_many (Some t) = is_too_many t
+
+abbrev pub tells_too_many : Line → Bool
+tells_too_many (lines_are.Beat k r c t) = news_are_too_many t
+tells_too_many (lines_are.Told k t) = is_too_many t
+tells_too_many _ = false
+
+-- Ok: all of it went out, and nothing else. A text that is too long, or for which memory is wanting, leaves nothing.
+abbrev pub WritesText : Line → Known → Known → Result Unit LinkFault → Type 0
+WritesText line old new (Ok done) = Appends old new (fed line) × (length (text_of line) ≤ MAX_LINE_BYTES)
+WritesText line old new (Err LineTooLong) = Keeps old new × (MAX_LINE_BYTES < length (text_of line))
+WritesText line old new (Err OutOfMemory) = Keeps old new
+WritesText line old new (Err WriteFailed) = AppendsFront old new (fed line)
+WritesText line old new (Err e) = ⊥
+
+-- a line that tells too many rows and extras is too long, whatever memory there is
+abbrev pub WritesCounted : Bool → Line → Known → Known → Result Unit LinkFault → Type 0
+WritesCounted true line old new r = Keeps old new × (r ≡ Err LineTooLong)
+WritesCounted false line old new r = WritesText line old new r
+
+-- the line goes out, whole, unless what it tells or its text is too long
 abbrev pub WritesLine : Line → Known → Known → Result Unit LinkFault → Type 0
-WritesLine line old new (Ok done) = Appends old new (fed line) × (length (text_of line) ≤ MAX_LINE_BYTES)
-WritesLine line old new (Err LineTooLong) = Keeps old new × (MAX_LINE_BYTES < length (text_of line))
-WritesLine line old new (Err OutOfMemory) = Keeps old new
-WritesLine line old new (Err WriteFailed) = AppendsFront old new (fed line)
-WritesLine line old new (Err e) = ⊥
+WritesLine line old new r = WritesCounted (tells_too_many line) line old new r
 
 -- the text that goes out for a line, or why none does
 abbrev pub GivesFed : {V : Type 0} → (V → List ℕ) → Line → Result V LinkFault → Type 0

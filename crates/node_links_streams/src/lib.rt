@@ -4,6 +4,7 @@
 #![tactic(auto)]
 
 mod bytes;
+mod counts;
 mod lines;
 
 pub use lines::{read_line, write_line};

@@ -1,9 +1,10 @@
 ghost use Rattle.std.specs.Prelude.{◌≡◌, ◌≤◌, IfErr, string_bytes};
 ghost use Rattle.node_links_lines.specs.Reading.{IsTextFault};
 ghost use Rattle.node_links_lines.specs.Results.{Answers};
-ghost use Rattle.node_links_streams.specs.Streams.{line_in_bytes, ReadsLine, WritesLine, GivesFed};
+ghost use Rattle.node_links_streams.specs.Streams.{line_in_bytes, ReadsLine, WritesText, WritesLine, GivesFed};
 
 use crate::bytes::{read_text, write_bytes};
+use crate::counts::tells_too_many;
 use node_links_lines::{Line, LinkFault, decode_line, encode_line};
 use std::alloc::Global;
 use std::io::{Read, Write};
@@ -53,12 +54,22 @@ fn fed_text(alloc: Global, line: &Line) -> Result<String, LinkFault>
     }
 }
 
-/// Writes a line and its line feed. The whole text is made before the first byte goes out, and the
-/// stream isn't flushed.
 #[tactic(auto, using(crate::proofs::LineFacts::written))]
-pub fn write_line<W: Write>(alloc: Global, writer: &mut W, line: &Line) -> Result<(), LinkFault>
-    ensures { WritesLine line.now (W.contents writer.old) (W.contents writer.new) result }
+fn write_text<W: Write>(alloc: Global, writer: &mut W, line: &Line) -> Result<(), LinkFault>
+    ensures { WritesText line.now (W.contents writer.old) (W.contents writer.new) result }
 {
     let text = fed_text(alloc, line)?;
     write_bytes(writer, text.as_str().as_bytes())
+}
+
+/// Writes a line and its line feed. The whole text is made before the first byte goes out, and the
+/// stream isn't flushed. What is told is counted before that: a told value of more rows and extras
+/// than a node takes in is refused as too long, without memory.
+pub fn write_line<W: Write>(alloc: Global, writer: &mut W, line: &Line) -> Result<(), LinkFault>
+    ensures { WritesLine line.now (W.contents writer.old) (W.contents writer.new) result }
+{
+    if tells_too_many(line) {
+        return Err(LinkFault::LineTooLong);
+    }
+    write_text(alloc, writer, line)
 }

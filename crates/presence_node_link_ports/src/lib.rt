@@ -1,13 +1,15 @@
 //! What a link asks of a server's shards: a pool of shards, without a seat.
 //!
 //! What its contracts cite: `specs/Asking` has the pool's call for each question of a link, and what a period of the
-//! ticker asks of a shard.
+//! ticker asks of a shard; `specs/Fitting` what a beat tells that fits a line.
 #![tactic(auto)]
 
 mod beats;
 mod fault;
+mod fitting;
 mod link_port;
 
 pub use beats::{beat_of, cut_off, let_pass};
+pub use fitting::{bare_beat, fitting_beat};
 pub use link_port::PoolLinkPort;
 pub use shard_pool::{Gate, Lane, Pool};

@@ -1,11 +1,14 @@
 //! The streams of links between nodes: sockets that are given up after a silence, or once the links are to end; and the
 //! times by which their threads go.
 //!
-//! Of sockets, clocks and waits no contract speaks.
+//! Of sockets, clocks and waits no contract speaks. What its contracts cite: `specs/Ticker` has by how much the time that
+//! is handed in goes on.
 #![tactic(auto)]
 
 mod stopping;
 mod stream;
+mod ticker;
 
 pub use stopping::{Stopping, time_behind};
 pub use stream::LinkStream;
+pub use ticker::Ticker;

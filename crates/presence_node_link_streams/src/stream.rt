@@ -12,11 +12,14 @@ const LOOK_MILLISECONDS: u64 = 200;
 /// After so many looks that find nothing a link is given up: 30,000 milliseconds.
 const MAX_LOOKS: u32 = 150;
 
-/// A socket whose reads and writes last for `MAX_LOOKS` looks at most, and end with a look once the links are to end.
+/// A socket whose reads and writes last for `MAX_LOOKS` looks at most, and once the links are to end for so many in all as
+/// are left.
 #[derive(Drop)]
 struct Patient<'a> {
     socket: TcpStream,
     stopping: &'a Stopping,
+    /// How many looks that find nothing it may still have once the links are to end.
+    last_looks: u32,
     /// Whether a read has met the end of the stream.
     is_ended: bool,
 }
@@ -25,12 +28,26 @@ fn is_silence(kind: ErrorKind) -> bool {
     matches!(kind, ErrorKind::WouldBlock | ErrorKind::TimedOut)
 }
 
+impl Patient<'_> {
+    // Whether a look that found nothing was the last one, since the links are to end.
+    fn gives_up(&mut self) -> bool {
+        if !self.stopping.is_stopped() {
+            return false;
+        }
+        if self.last_looks == 0 {
+            return true;
+        }
+        self.last_looks -= 1;
+        false
+    }
+}
+
 impl Read for Patient<'_> {
     fn read(&mut self, buf: &mut [u8]) -> io::Result<usize> {
         for _ in 0..MAX_LOOKS {
             match self.socket.read(buf) {
                 Err(e) if is_silence(e.kind()) => {
-                    if self.stopping.is_stopped() {
+                    if self.gives_up() {
                         break;
                     }
                 }
@@ -50,7 +67,7 @@ impl Write for Patient<'_> {
         for _ in 0..MAX_LOOKS {
             match self.socket.write(buf) {
                 Err(e) if is_silence(e.kind()) => {
-                    if self.stopping.is_stopped() {
+                    if self.gives_up() {
                         break;
                     }
                 }
@@ -72,11 +89,13 @@ pub struct LinkStream<'a> {
 }
 
 impl<'a> LinkStream<'a> {
-    /// The stream over this socket, which may be one that never blocks.
+    /// The stream over this socket, which may be one that never blocks. Once the links are to end it looks so many times
+    /// more for what was begun, each for 200 milliseconds.
     pub fn new(
         alloc: Global,
         socket: TcpStream,
         stopping: &'a Stopping,
+        last_looks: u32,
     ) -> io::Result<LinkStream<'a>> {
         let look = Duration::from_millis(LOOK_MILLISECONDS);
         socket.set_nonblocking(false)?;
@@ -86,6 +105,7 @@ impl<'a> LinkStream<'a> {
         let patient = Patient {
             socket,
             stopping,
+            last_looks,
             is_ended: false,
         };
         let reader = BufReader::new(alloc, patient)?;

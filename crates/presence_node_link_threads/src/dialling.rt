@@ -1,13 +1,13 @@
 //! The threads that dial other nodes, one each.
 ghost use Rattle.std.specs.Prelude.{◌≡◌};
 
-use crate::links::{Beats, Links, Wakes};
-use crate::serving::end_of;
-use node_links::{DialFault, End, Line, LinkFault, Peer, dial};
+use crate::links::{Beats, Links, Place, Wakes};
+use crate::serving::{coming_from, end_of};
+use node_links::{DialFault, End, Line, LinkFault, Outcome, Peer, Untold, exchange};
 use presence_base::{NodeName, Replica};
 use presence_node_link_ports::{Gate, Lane, Pool, PoolLinkPort};
 use presence_node_link_streams::{LinkStream, time_behind};
-use presence_node_link_words::{LinkEnd, greeted};
+use presence_node_link_words::{LinkEnd, LinkWarning, greeted};
 use std::net::{Net, SocketAddr, TcpListener, TcpStream, ToSocketAddrs};
 use std::sync::{Arc, Wait};
 use std::time::{Clock, Duration};
@@ -17,6 +17,12 @@ const IDLE_MILLISECONDS: u64 = 1_000;
 
 /// How long the other node may take to answer a call, in milliseconds.
 const CONNECT_MILLISECONDS: u64 = 1_000;
+
+/// How often the other node's answers are still looked for once the links are to end: for a second in all.
+const LAST_LOOKS: u32 = 5;
+
+/// How long a link has to stand until it is said that it came back, in milliseconds.
+pub(crate) const STANDING_MILLISECONDS: u64 = 30_000;
 
 /// What the thread that dials a node has of its own.
 pub struct Dialler {
@@ -43,11 +49,23 @@ impl Drop for Dialler {
     }
 }
 
+impl Dialler {
+    // What is said of its links, and where it is kept.
+    fn place(&self) -> Place<'_> {
+        Place {
+            words: self.place.as_str(),
+            page: self.place.as_str(),
+        }
+    }
+}
+
 // A link that was dialled.
 struct Dialled<'a> {
     stream: LinkStream<'a>,
     peer: Peer,
-    now: u64,
+    // When it came up.
+    since: u64,
+    has_stood: bool,
 }
 
 impl Drop for Dialled<'_> {
@@ -55,7 +73,8 @@ impl Drop for Dialled<'_> {
         let Dialled {
             stream,
             peer,
-            now: _,
+            since: _,
+            has_stood: _,
         } = self;
         drop(stream);
         drop(peer);
@@ -88,15 +107,15 @@ where
     None
 }
 
-// One exchange: the line goes out, and what comes is done.
-fn exchange<R, G, A, B, C, D, W>(
+// One exchange: the line goes out, and what comes is done. What the other node stays without is given.
+fn say<R, G, A, B, C, D, W>(
     rt: &R,
     links: &Links,
     pool: &Pool<G, A, B, C, D>,
     wakes: &W,
     link: &mut Dialled<'_>,
     line: &Line,
-) -> Result<(), LinkEnd>
+) -> Result<Option<Untold>, LinkEnd>
 where
     R: Wait + Clock,
     G: Gate,
@@ -107,23 +126,23 @@ where
     W: Wakes,
     requires { links.now.shards ≡ pool.now.shards }
 {
-    link.now = time_behind(rt, link.now);
     let mut port = PoolLinkPort::new(rt, pool, links.shards);
-    let done = dial(
+    let done = exchange(
         links.alloc,
         &mut link.stream,
         &mut link.peer,
         &mut port,
         line,
-        link.now,
+        links.time(),
     );
     if port.has_changed() {
         wakes.look();
     }
     match done {
-        Ok(false) if link.stream.is_ended() => Err(LinkEnd::Closed),
-        Ok(false) => Ok(()),
-        Ok(true) => Err(LinkEnd::GivenUp),
+        Ok(Outcome::Untold(untold)) => Ok(Some(untold)),
+        Ok(Outcome::GivenUp) => Err(LinkEnd::GivenUp),
+        Ok(Outcome::Done) if link.stream.is_ended() => Err(LinkEnd::Closed),
+        Ok(Outcome::Done) => Ok(None),
         Err(fault) => Err(end_of(links, fault)),
     }
 }
@@ -149,19 +168,20 @@ where
     let Some(socket) = reach(rt, dialler) else {
         return Err(LinkEnd::NotReached);
     };
-    let Ok(stream) = LinkStream::new(links.alloc, socket, &links.stopping) else {
+    let Ok(stream) = LinkStream::new(links.alloc, socket, &links.stopping, LAST_LOOKS) else {
         return Err(LinkEnd::Fault(DialFault::Link(LinkFault::ReadFailed)));
     };
     let mut link = Dialled {
         stream,
         peer: links.peer(End::Dialling),
-        now: time_behind(rt, 0),
+        since: time_behind(rt, 0),
+        has_stood: false,
     };
     let hello = Line::Hello {
         replica: links.own,
         shards: links.shards,
     };
-    exchange(rt, links, pool, wakes, &mut link, &hello)?;
+    say(rt, links, pool, wakes, &mut link, &hello)?;
     let Some(other) = link.peer.other() else {
         return Err(LinkEnd::Closed);
     };
@@ -169,17 +189,25 @@ where
     Ok((link, other))
 }
 
-// Sends the beats, up to the first that ends the link.
+// Why a link is to end, and the last shard whose beat didn't get through.
+#[derive(Clone, Copy)]
+struct Broken {
+    end: LinkEnd,
+    shard: u32,
+}
+
+// Sends the beats: each goes out whatever came of the one before, as far as the stream stands.
 fn send_all<R, G, A, B, C, D, W>(
     rt: &R,
     links: &Links,
     pool: &Pool<G, A, B, C, D>,
     wakes: &W,
     link: &mut Dialled<'_>,
+    place: Place<'_>,
     beats: &[(u32, Arc<Line>)],
-) -> Result<(), LinkEnd>
+) -> Result<(), Broken>
 where
-    R: Wait + Clock,
+    R: Wait + Clock + Eprint,
     G: Gate,
     A: Lane,
     B: Lane,
@@ -188,34 +216,81 @@ where
     W: Wakes,
     requires { links.now.shards ≡ pool.now.shards }
 {
-    for (_, beat) in beats {
-        exchange(rt, links, pool, wakes, link, &**beat)?;
+    let mut broken = None;
+    for (shard, beat) in beats {
+        match say(rt, links, pool, wakes, link, &**beat) {
+            Ok(None) => {}
+            Ok(Some(untold)) => links.tell_odd(rt, place, LinkWarning::Untold(untold)),
+            Err(end) => {
+                broken = Some(behind(broken, end, *shard));
+                if !end.leaves_stream() {
+                    break;
+                }
+            }
+        }
     }
-    Ok(())
+    match broken {
+        Some(broken) => Err(broken),
+        None => Ok(()),
+    }
 }
 
-// A link that may be up, and the reason that was told last where it is not.
+// The reason that came first, and the shard that came last.
+fn behind(broken: Option<Broken>, end: LinkEnd, shard: u32) -> Broken {
+    match broken {
+        Some(first) => Broken {
+            end: first.end,
+            shard,
+        },
+        None => Broken { end, shard },
+    }
+}
+
+// A link that may be up.
 struct State<'a> {
     link: Option<Dialled<'a>>,
-    told: Option<LinkEnd>,
+    // The shard whose beat goes first: the one behind the last that didn't get through.
+    first: u32,
+    // Whether the link was cut because this node stops.
+    was_cut: bool,
 }
 
 impl Drop for State<'_> {
     fn drop(self) {
-        let State { link, told: _ } = self;
+        let State {
+            link,
+            first: _,
+            was_cut: _,
+        } = self;
         drop(link);
     }
 }
 
 impl<'a> State<'a> {
-    // The link went, or can't be had. The reason is told unless it is the one that was told last.
-    fn goes<R: Eprint>(&mut self, rt: &R, links: &Links, dialler: &Dialler, end: LinkEnd) {
+    // The link went, or can't be had.
+    fn goes<R: Wait + Eprint>(&mut self, rt: &R, links: &Links, dialler: &Dialler, end: LinkEnd) {
         self.link = None;
-        if self.told == Some(end) {
+        self.was_cut = end == LinkEnd::Stopped;
+        links.tell_down(rt, dialler.place(), end);
+    }
+
+    // Says that the link has stood for a while, once, and that the other node doesn't dial this one, where it doesn't.
+    fn stands<R: Wait + Clock + Eprint>(&mut self, rt: &R, links: &Links, dialler: &Dialler) {
+        let Some(link) = &mut self.link else {
+            return;
+        };
+        let stood = time_behind(rt, link.since).saturating_sub(link.since);
+        if link.has_stood || stood < STANDING_MILLISECONDS {
             return;
         }
-        self.told = Some(end);
-        links.tell_down(rt, dialler.place.as_str(), end);
+        link.has_stood = true;
+        let Some(other) = link.peer.other() else {
+            return;
+        };
+        links.tell_up(rt, dialler.place(), &other, true);
+        if !coming_from(rt, links, &other) {
+            links.tell_odd(rt, dialler.place(), LinkWarning::NotDialling);
+        }
     }
 
     // The link comes up, if it is not.
@@ -243,8 +318,7 @@ impl<'a> State<'a> {
         match link_to(rt, links, pool, wakes, dialler) {
             Ok((link, other)) => {
                 self.link = Some(link);
-                self.told = None;
-                links.tell_up(rt, dialler.place.as_str(), &other);
+                links.tell_up(rt, dialler.place(), &other, false);
             }
             Err(end) => self.goes(rt, links, dialler, end),
         }
@@ -273,22 +347,24 @@ impl<'a> State<'a> {
         let Some(link) = &mut self.link else {
             return;
         };
-        if let Err(end) = send_all(rt, links, pool, wakes, link, beats) {
-            self.goes(rt, links, dialler, end);
+        if let Err(broken) = send_all(rt, links, pool, wakes, link, dialler.place(), beats) {
+            self.first = broken.shard.saturating_add(1);
+            self.goes(rt, links, dialler, broken.end);
         }
     }
 
-    // This node says that it has ended, if the link is up.
-    fn leaves<R, G, A, B, C, D, W>(
+    // The beats of a period go out, first those of the shards that come behind the one that didn't get through last.
+    fn beats<R, G, A, B, C, D, W>(
         &mut self,
         rt: &R,
-        links: &Links,
+        links: &'a Links,
         pool: &Pool<G, A, B, C, D>,
         wakes: &W,
         dialler: &Dialler,
+        beats: &[(u32, Arc<Line>)],
     )
     where
-        R: Wait + Clock + Eprint,
+        R: Net<Listener = TcpListener, Stream = TcpStream> + Wait + Clock + Eprint,
         G: Gate,
         A: Lane,
         B: Lane,
@@ -297,11 +373,42 @@ impl<'a> State<'a> {
         W: Wakes,
         requires { links.now.shards ≡ pool.now.shards }
     {
+        let first = self.first;
+        let at = beats.iter().position(|beat| beat.0 >= first).unwrap_or(0);
+        let (later, sooner) = beats.split_at(at);
+        self.comes(rt, links, pool, wakes, dialler);
+        self.sends(rt, links, pool, wakes, dialler, sooner);
+        self.sends(rt, links, pool, wakes, dialler, later);
+        self.stands(rt, links, dialler);
+    }
+
+    // This node says that it has ended, if the link is up. One that was cut since it stops is dialled once more for that.
+    fn leaves<R, G, A, B, C, D, W>(
+        &mut self,
+        rt: &R,
+        links: &'a Links,
+        pool: &Pool<G, A, B, C, D>,
+        wakes: &W,
+        dialler: &Dialler,
+    )
+    where
+        R: Net<Listener = TcpListener, Stream = TcpStream> + Wait + Clock + Eprint,
+        G: Gate,
+        A: Lane,
+        B: Lane,
+        C: Lane,
+        D: Lane,
+        W: Wakes,
+        requires { links.now.shards ≡ pool.now.shards }
+    {
+        if self.was_cut {
+            self.comes(rt, links, pool, wakes, dialler);
+        }
         let Some(link) = &mut self.link else {
             return;
         };
         let line = Line::PermDown { replica: links.own };
-        let _told = exchange(rt, links, pool, wakes, link, &line);
+        let _told = say(rt, links, pool, wakes, link, &line);
         self.goes(rt, links, dialler, LinkEnd::Stopped);
     }
 }
@@ -327,7 +434,8 @@ where
 {
     let mut state = State {
         link: None,
-        told: None,
+        first: 0,
+        was_cut: false,
     };
     for _ in rt.forever() {
         let beats = mailbox.take(rt, links.alloc, IDLE_MILLISECONDS);
@@ -335,8 +443,7 @@ where
             break;
         }
         if !beats.is_empty() {
-            state.comes(rt, links, pool, wakes, dialler);
-            state.sends(rt, links, pool, wakes, dialler, beats.as_slice());
+            state.beats(rt, links, pool, wakes, dialler, beats.as_slice());
         }
     }
     state.leaves(rt, links, pool, wakes, dialler);

@@ -1,5 +1,5 @@
 //! The sockets of links that came in, and the thread where they do.
-use crate::links::Links;
+use crate::links::{Links, Place};
 use presence_node_link_words::LinkEnd;
 use presence_node_sockets::{Watch, next_stream};
 use std::alloc::Global;
@@ -14,6 +14,9 @@ const IDLE_MILLISECONDS: u64 = 1_000;
 /// How long one wait lasts where the system gives none.
 const RETRY_MILLISECONDS: u64 = 50;
 
+/// How a link is called whose other end can't be told.
+pub(crate) const ANYBODY: &str = "from another node";
+
 /// The number of the listening socket.
 pub(crate) const LISTENER: u64 = 0;
 
@@ -23,8 +26,8 @@ const MAX_ACCEPTED: usize = 64;
 // The sockets that no thread has taken yet.
 struct Sockets {
     sockets: Vec<TcpStream>,
-    /// How many threads wait for one.
-    idle: usize,
+    /// How many threads have no link and no socket that waits for them, those that aren't begun yet among them.
+    free: usize,
     has_ended: bool,
 }
 
@@ -32,14 +35,14 @@ impl Drop for Sockets {
     fn drop(self) {
         let Sockets {
             sockets,
-            idle: _,
+            free: _,
             has_ended: _,
         } = self;
         drop(sockets);
     }
 }
 
-/// Sockets of links that wait for a thread: never more than there are threads that wait for one.
+/// Sockets of links that wait for a thread: never more than there are threads without a link.
 pub(crate) struct Waiting {
     sockets: Mutex<Sockets>,
     bell: Condvar,
@@ -54,10 +57,11 @@ impl Drop for Waiting {
 }
 
 impl Waiting {
-    pub(crate) fn new(alloc: Global) -> Waiting {
+    /// No socket waits, and so many threads serve links, or will.
+    pub(crate) fn new(alloc: Global, threads: usize) -> Waiting {
         let sockets = Sockets {
             sockets: Vec::new(alloc),
-            idle: 0,
+            free: threads,
             has_ended: false,
         };
         Waiting {
@@ -66,30 +70,35 @@ impl Waiting {
         }
     }
 
-    // Hands a socket to a thread that waits for one: whether there is one.
+    // Hands a socket to a thread without a link: whether there is one.
     fn give<R: Wait>(&self, rt: &R, socket: TcpStream) -> bool {
         let mut guard = self.sockets.lock(rt);
         let waiting = &mut *guard;
-        if waiting.sockets.len() >= waiting.idle || waiting.sockets.push(socket).is_err() {
+        if waiting.free == 0 || waiting.sockets.push(socket).is_err() {
             return false;
         }
+        waiting.free -= 1;
         self.bell.notify_one();
         true
     }
 
-    /// The next socket, or none once the links are to end.
+    /// The next socket, or none once the links are to end. Who takes one tells when its link has gone.
     pub(crate) fn take<R: Wait>(&self, rt: &R) -> Option<TcpStream> {
-        let mut first = self.sockets.lock(rt);
-        first.idle = first.idle.saturating_add(1);
+        let first = self.sockets.lock(rt);
         let mut guard = self.bell.wait_while(rt, first, |waiting| {
             !waiting.has_ended && waiting.sockets.is_empty()
         });
         let waiting = &mut *guard;
-        waiting.idle = waiting.idle.saturating_sub(1);
         if waiting.has_ended {
             return None;
         }
         waiting.sockets.pop()
+    }
+
+    /// The link of a socket that was taken has gone.
+    pub(crate) fn give_back<R: Wait>(&self, rt: &R) {
+        let mut guard = self.sockets.lock(rt);
+        guard.free = guard.free.saturating_add(1);
     }
 
     /// Lets the threads that wait end.
@@ -127,7 +136,11 @@ impl LinkDoor {
             return false;
         };
         if !links.waiting.give(rt, socket) {
-            links.tell_down(rt, "from another node", LinkEnd::TooMany);
+            let place = Place {
+                words: ANYBODY,
+                page: ANYBODY,
+            };
+            links.tell_down(rt, place, LinkEnd::TooMany);
         }
         true
     }

@@ -8,6 +8,7 @@
 //! - `specs/Tasks`: what the threads of links do, and what a node that is dialled adds to it
 #![tactic(auto)]
 
+mod book;
 mod dialling;
 mod incoming;
 mod links;

@@ -1,16 +1,17 @@
 //! What the threads of links share.
 ghost use Rattle.std.specs.Prelude.{◌≤◌};
 
+use crate::book::Book;
 use crate::incoming::Waiting;
 use node_links::{End, Line, Peer};
-use presence_base::Replica;
+use presence_base::{NodeName, Replica};
 use presence_node_link_streams::Stopping;
-use presence_node_link_words::{LinkEnd, down_line, up_line};
+use presence_node_link_words::{LinkEnd, LinkWarning, down_line, up_line, warning_line};
 use presence_node_mailboxes::Mailbox;
 use presence_node_sockets::Bell;
 use std::alloc::Global;
-use std::sync::atomic::{AtomicBool, Ordering};
-use std::sync::{Arc, Wait};
+use std::sync::atomic::{AtomicBool, AtomicU64, Ordering};
+use std::sync::{Arc, Mutex, Wait};
 
 /// The beats for one node that is dialled.
 pub(crate) type Beats = Mailbox<Arc<Line>>;
@@ -21,6 +22,13 @@ pub trait Wakes {
     fn look(&self);
 }
 
+/// How a link is called, and under which place is kept what was said of it.
+#[derive(Clone, Copy)]
+pub(crate) struct Place<'a> {
+    pub(crate) words: &'a str,
+    pub(crate) page: &'a str,
+}
+
 /// What the threads of links share.
 pub struct Links {
     pub(crate) alloc: Global,
@@ -28,7 +36,12 @@ pub struct Links {
     pub(crate) shards: u32,
     /// One of each node that is dialled, in their order.
     pub(crate) mailboxes: Vec<Beats>,
+    /// The names of the nodes that are dialled.
+    pub(crate) dialled: Vec<NodeName>,
     pub(crate) waiting: Waiting,
+    pub(crate) book: Mutex<Book>,
+    /// The time that was handed in last, in milliseconds.
+    pub(crate) time: AtomicU64,
     pub(crate) bell: Bell,
     pub(crate) stopping: Stopping,
     /// Whether another node has said hello.
@@ -43,13 +56,19 @@ impl Drop for Links {
             own: _,
             shards: _,
             mailboxes,
+            dialled,
             waiting,
+            book,
+            time,
             bell,
             stopping,
             has_met,
         } = self;
         drop(mailboxes);
+        drop(dialled);
         drop(waiting);
+        drop(book);
+        drop(time);
         drop(bell);
         drop(stopping);
         drop(has_met);
@@ -98,17 +117,58 @@ impl Links {
         }
     }
 
-    // Says that a link has come up.
-    pub(crate) fn tell_up<R: Eprint>(&self, rt: &R, place: &str, other: &Replica) {
+    /// The time at which what comes now is heard, in milliseconds.
+    pub(crate) fn time(&self) -> u64 {
+        self.time.load(Ordering::SeqCst)
+    }
+
+    pub(crate) fn set_time(&self, time: u64) {
+        self.time.store(time, Ordering::SeqCst);
+    }
+
+    /// Whether this node dials one of that name.
+    pub(crate) fn dials(&self, name: NodeName) -> bool {
+        self.dialled.iter().any(|dialled| *dialled == name)
+    }
+
+    // Says that a link is up, or has stood for a while, unless that was said of this place.
+    pub(crate) fn tell_up<R: Wait + Eprint>(
+        &self,
+        rt: &R,
+        place: Place<'_>,
+        other: &Replica,
+        has_stood: bool,
+    ) {
         self.has_met.store(true, Ordering::SeqCst);
-        if let Ok(line) = up_line(self.alloc, place, other) {
+        if !self.book.lock(rt).comes(place.page, other, has_stood) {
+            return;
+        }
+        if let Ok(line) = up_line(self.alloc, place.words, other) {
             let _told = rt.eprint(line.as_str());
         }
     }
 
-    // Says that a link went, or can't be had.
-    pub(crate) fn tell_down<R: Eprint>(&self, rt: &R, place: &str, end: LinkEnd) {
-        if let Ok(line) = down_line(self.alloc, place, end) {
+    // Says that a link went, or can't be had, unless that was said of this place.
+    pub(crate) fn tell_down<R: Wait + Eprint>(&self, rt: &R, place: Place<'_>, end: LinkEnd) {
+        if !self.book.lock(rt).goes(place.page, end) {
+            return;
+        }
+        if let Ok(line) = down_line(self.alloc, place.words, end) {
+            let _told = rt.eprint(line.as_str());
+        }
+    }
+
+    // Says what is odd about a link, unless that was said of this place.
+    pub(crate) fn tell_odd<R: Wait + Eprint>(
+        &self,
+        rt: &R,
+        place: Place<'_>,
+        warning: LinkWarning,
+    ) {
+        if !self.book.lock(rt).warns(place.page, warning) {
+            return;
+        }
+        if let Ok(line) = warning_line(self.alloc, place.words, warning) {
             let _told = rt.eprint(line.as_str());
         }
     }

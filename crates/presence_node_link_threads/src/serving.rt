@@ -1,30 +1,80 @@
 //! The threads that serve the links that came in, one at a time each.
 ghost use Rattle.std.specs.Prelude.{◌≡◌};
 
-use crate::links::{Links, Wakes};
-use node_links::{DialFault, End, LinkFault, Peer, accept_one};
+use crate::dialling::STANDING_MILLISECONDS;
+use crate::incoming::ANYBODY;
+use crate::links::{Links, Place, Wakes};
+use node_links::{DialFault, End, Line, LinkFault, LinkPort, Peer, answer_line, read_line};
 use presence_base::Replica;
 use presence_node_link_ports::{Gate, Lane, Pool, PoolLinkPort};
 use presence_node_link_streams::{LinkStream, time_behind};
-use presence_node_link_words::{LinkEnd, greeted};
+use presence_node_link_words::{LinkEnd, LinkWarning, greeted};
 use std::alloc::{AllocError, Global};
 use std::net::TcpStream;
 use std::sync::Wait;
 use std::time::Clock;
 
-// Where a link comes from, as it is told.
-fn place_of(alloc: Global, socket: &TcpStream) -> Result<String, AllocError> {
-    match socket.peer_addr() {
-        Ok(address) => format!(in alloc; "from {address}"),
-        Err(_) => String::from_str(alloc, "from another node"),
+/// How many lines have to come over a link behind the hello of a newer one of that name until two nodes are told of: one
+/// may have been under way.
+const MANY_LATE: u32 = 2;
+
+// Where a link comes from, as it is told, and as what was said of it is kept.
+struct Origin {
+    words: String,
+    page: String,
+}
+
+impl Drop for Origin {
+    fn drop(self) {
+        let Origin { words, page } = self;
+        drop(words);
+        drop(page);
     }
 }
 
-// The same with the node that is there, once it said which it is.
-fn place_with(alloc: Global, place: &str, other: &Replica) -> Result<String, AllocError> {
+impl Origin {
+    fn of(alloc: Global, socket: &TcpStream) -> Result<Origin, AllocError> {
+        let Ok(address) = socket.peer_addr() else {
+            let words = String::from_str(alloc, ANYBODY)?;
+            let page = String::from_str(alloc, ANYBODY)?;
+            return Ok(Origin { words, page });
+        };
+        let words = format!(in alloc; "from {address}")?;
+        let host = address.ip();
+        let page = format!(in alloc; "from {host}")?;
+        Ok(Origin { words, page })
+    }
+
+    // The same with the node that is there, once it said which it is.
+    fn with(&self, alloc: Global, other: &Replica) -> Result<Origin, AllocError> {
+        let place = self.words.as_str();
+        let name = other.name.as_str();
+        let incarnation = other.incarnation;
+        let words = format!(in alloc; "{place}, {name}.{incarnation}")?;
+        let page = page_of(alloc, other)?;
+        Ok(Origin { words, page })
+    }
+
+    fn place(&self) -> Place<'_> {
+        Place {
+            words: self.words.as_str(),
+            page: self.page.as_str(),
+        }
+    }
+}
+
+// Under which place is kept what was said of links that came from a node.
+fn page_of(alloc: Global, other: &Replica) -> Result<String, AllocError> {
     let name = other.name.as_str();
-    let incarnation = other.incarnation;
-    format!(in alloc; "{place}, {name}.{incarnation}")
+    format!(in alloc; "from {name}")
+}
+
+/// Whether any link came in from a node of that name. Where there is no memory to look, it is taken to.
+pub(crate) fn coming_from<R: Wait>(rt: &R, links: &Links, other: &Replica) -> bool {
+    match page_of(links.alloc, other) {
+        Ok(page) => links.book.lock(rt).has_met(page.as_str()),
+        Err(_) => true,
+    }
 }
 
 // Why a link that broke off is told to have ended.
@@ -39,9 +89,16 @@ pub(crate) fn end_of(links: &Links, fault: DialFault) -> LinkEnd {
 struct Incoming<'a> {
     stream: LinkStream<'a>,
     peer: Peer,
-    now: u64,
-    place: String,
+    origin: Origin,
     is_up: bool,
+    // When it came up, and its number among those that did.
+    since: u64,
+    number: u64,
+    has_stood: bool,
+    // How many lines came behind the hello of a newer link of that name.
+    late: u32,
+    // The shards of which a beat has come.
+    shards: Vec<u32>,
 }
 
 impl Drop for Incoming<'_> {
@@ -49,32 +106,105 @@ impl Drop for Incoming<'_> {
         let Incoming {
             stream,
             peer,
-            now: _,
-            place,
+            origin,
             is_up: _,
+            since: _,
+            number: _,
+            has_stood: _,
+            late: _,
+            shards,
         } = self;
         drop(stream);
         drop(peer);
-        drop(place);
+        drop(origin);
+        drop(shards);
     }
 }
 
 impl Incoming<'_> {
     // The link has come up once the other end has said hello, unless it may not be there.
-    fn meet<R: Eprint>(&mut self, rt: &R, links: &Links) -> Result<(), LinkEnd> {
-        if self.is_up {
-            return Ok(());
+    fn meet<R: Wait + Clock + Eprint>(
+        &mut self,
+        rt: &R,
+        links: &Links,
+        other: &Replica,
+    ) -> Result<(), LinkEnd> {
+        greeted(&links.own, None, other)?;
+        self.is_up = true;
+        self.since = time_behind(rt, 0);
+        self.number = links.book.lock(rt).begins(other.name);
+        let words = self.origin.words.as_str();
+        let page = page_of(links.alloc, other);
+        let place = Place {
+            words,
+            page: page.as_ref().map_or(words, |page| page.as_str()),
+        };
+        links.tell_up(rt, place, other, false);
+        if !links.dials(other.name) {
+            links.tell_odd(rt, place, LinkWarning::NotDialled);
         }
-        if let Some(other) = self.peer.other() {
-            greeted(&links.own, None, &other)?;
-            self.is_up = true;
-            links.tell_up(rt, self.place.as_str(), &other);
-            // Where memory is wanting its end is told with the address alone.
-            if let Ok(place) = place_with(links.alloc, self.place.as_str(), &other) {
-                self.place = place;
-            }
+        // Where memory is wanting its end is told with the address alone.
+        if let Ok(origin) = self.origin.with(links.alloc, other) {
+            self.origin = origin;
         }
         Ok(())
+    }
+
+    // What is said of a link that is up, behind a line that came over it.
+    fn stays<R: Wait + Clock + Eprint>(&mut self, rt: &R, links: &Links, other: &Replica) {
+        let stood = time_behind(rt, self.since).saturating_sub(self.since);
+        if !self.has_stood && stood >= STANDING_MILLISECONDS {
+            self.has_stood = true;
+            links.tell_up(rt, self.origin.place(), other, true);
+        }
+        if links.book.lock(rt).has_newer(other.name, self.number) {
+            self.late = self.late.saturating_add(1);
+            if self.late == MANY_LATE {
+                links.tell_odd(rt, self.origin.place(), LinkWarning::TwoNodes);
+            }
+        }
+    }
+
+    // Behind a line: the link comes up, or stays so.
+    fn goes_on<R: Wait + Clock + Eprint>(&mut self, rt: &R, links: &Links) -> Result<(), LinkEnd> {
+        let Some(other) = self.peer.other() else {
+            return Ok(());
+        };
+        if !self.is_up {
+            return self.meet(rt, links, &other);
+        }
+        self.stays(rt, links, &other);
+        Ok(())
+    }
+
+    // Whether the line is the first beat of the other end's shard, and counts below what is known of that.
+    fn counts_below<P: LinkPort>(&mut self, alloc: Global, port: &mut P, line: &Line) -> bool {
+        let Line::Beat {
+            shard,
+            replica,
+            count,
+            ..
+        } = line
+        else {
+            return false;
+        };
+        if self.peer.other() != Some(*replica) || self.shards.contains(shard) {
+            return false;
+        }
+        let _lost = self.shards.push(*shard);
+        match port.top(alloc, *shard, replica) {
+            Ok(top) => *count < top,
+            Err(_) => false,
+        }
+    }
+
+    // The next line, or why there is none.
+    fn next_line(&mut self, links: &Links) -> Result<Line, LinkEnd> {
+        match read_line(links.alloc, &mut self.stream, links.shards) {
+            Ok(Some(line)) => Ok(line),
+            Ok(None) => Err(LinkEnd::Closed),
+            Err(fault) => Err(end_of(links, DialFault::Link(fault))),
+        }
     }
 
     // One exchange.
@@ -95,46 +225,53 @@ impl Incoming<'_> {
         W: Wakes,
         requires { links.now.shards ≡ pool.now.shards }
     {
-        self.now = time_behind(rt, self.now);
+        let line = self.next_line(links)?;
         let mut port = PoolLinkPort::new(rt, pool, links.shards);
-        let done = accept_one(
+        if self.counts_below(links.alloc, &mut port, &line) {
+            links.tell_odd(rt, self.origin.place(), LinkWarning::CountsBelow);
+        }
+        let done = answer_line(
             links.alloc,
             &mut self.stream,
             &mut self.peer,
             &mut port,
-            self.now,
+            line,
+            links.time(),
         );
         if port.has_changed() {
             wakes.look();
         }
         match done {
-            Ok(true) => self.meet(rt, links),
-            Ok(false) => Err(LinkEnd::Closed),
+            Ok(()) => self.goes_on(rt, links),
             Err(fault) => Err(end_of(links, fault)),
         }
     }
 }
 
 // The link of this socket, unless there is no memory or the system refuses it.
-fn incoming_of<'a, R: Clock + Eprint>(
+fn incoming_of<'a, R: Wait + Clock + Eprint>(
     rt: &R,
     links: &'a Links,
     socket: TcpStream,
 ) -> Option<Incoming<'a>> {
-    let Ok(place) = place_of(links.alloc, &socket) else {
+    let Ok(origin) = Origin::of(links.alloc, &socket) else {
         return None;
     };
-    let Ok(stream) = LinkStream::new(links.alloc, socket, &links.stopping) else {
+    let Ok(stream) = LinkStream::new(links.alloc, socket, &links.stopping, 0) else {
         let fault = DialFault::Link(LinkFault::ReadFailed);
-        links.tell_down(rt, place.as_str(), LinkEnd::Fault(fault));
+        links.tell_down(rt, origin.place(), LinkEnd::Fault(fault));
         return None;
     };
     Some(Incoming {
         stream,
         peer: links.peer(End::Accepting),
-        now: time_behind(rt, 0),
-        place,
+        origin,
         is_up: false,
+        since: 0,
+        number: 0,
+        has_stood: false,
+        late: 0,
+        shards: Vec::new(links.alloc),
     })
 }
 
@@ -188,10 +325,10 @@ where
         let Some(socket) = links.waiting.take(rt) else {
             break;
         };
-        let Some(mut incoming) = incoming_of(rt, links, socket) else {
-            continue;
-        };
-        let end = serve_one(rt, links, pool, wakes, &mut incoming);
-        links.tell_down(rt, incoming.place.as_str(), end);
+        if let Some(mut incoming) = incoming_of(rt, links, socket) {
+            let end = serve_one(rt, links, pool, wakes, &mut incoming);
+            links.tell_down(rt, incoming.origin.place(), end);
+        }
+        links.waiting.give_back(rt);
     }
 }

@@ -3,6 +3,7 @@ ghost use Rattle.std.specs.Prelude.{◌≡◌, ◌≤◌, [], vec_len, string_by
 ghost use Rattle.presence_node_link_threads.specs.Tasks.{AreFirst, Dials};
 ghost use Rattle.presence_node_link_words.specs.declared.words.TheConstants.{MAX_LINKS};
 
+use crate::book::Book;
 use crate::dialling::{Dialler, dial_one};
 use crate::incoming::{LISTENER, LinkDoor, Waiting};
 use crate::links::{Links, Wakes};
@@ -17,8 +18,8 @@ use presence_node_sockets::{Bell, Watch};
 use std::alloc::{AllocError, Global};
 use std::io;
 use std::net::{Net, TcpListener, TcpStream};
-use std::sync::Wait;
-use std::sync::atomic::AtomicBool;
+use std::sync::atomic::{AtomicBool, AtomicU64};
+use std::sync::{Mutex, Wait};
 use std::time::Clock;
 
 /// What one thread of links does until they are to end.
@@ -130,6 +131,7 @@ impl LinkTasks {
         ensures dials { OnOk result (Dials name host.now port self.old self.new) }
     {
         let dialler = dialler_of(alloc, self.links.mailboxes.len(), name, host, port)?;
+        self.links.dialled.push(name)?;
         self.tasks.push(LinkTask::Dial(dialler))?;
         self.links.mailboxes.push(Mailbox::new(alloc))?;
         Ok(())
@@ -179,7 +181,10 @@ pub fn tasks_for<R: Net>(
         own,
         shards,
         mailboxes: Vec::new(alloc),
-        waiting: Waiting::new(alloc),
+        dialled: Vec::new(alloc),
+        waiting: Waiting::new(alloc, MAX_LINKS),
+        book: Mutex::new(Book::new(alloc)),
+        time: AtomicU64::new(0),
         bell,
         stopping: Stopping::new(),
         has_met: AtomicBool::new(false),

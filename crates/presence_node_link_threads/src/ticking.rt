@@ -3,8 +3,8 @@ ghost use Rattle.std.specs.Prelude.{◌≡◌, ◌<◌};
 
 use crate::links::{Links, Wakes};
 use node_links::Line;
-use presence_node_link_ports::{Gate, Lane, Pool, beat_of, cut_off, let_pass};
-use presence_node_link_streams::time_behind;
+use presence_node_link_ports::{Gate, Lane, Pool, bare_beat, cut_off, fitting_beat, let_pass};
+use presence_node_link_streams::Ticker;
 use std::sync::{Arc, Wait};
 use std::time::Clock;
 
@@ -32,8 +32,10 @@ where
     let Ok(cut) = cut_off(rt, links.alloc, pool, shard) else {
         return None;
     };
-    let Ok(line) = beat_of(links.alloc, shard, &cut) else {
-        return None;
+    // Where memory is wanting for what is told, the beat goes out without it.
+    let line = match fitting_beat(links.alloc, shard, &cut) {
+        Ok(line) => line,
+        Err(_) => bare_beat(shard, &cut),
     };
     Arc::new(links.alloc, line).ok()
 }
@@ -80,12 +82,13 @@ where
     W: Wakes,
     requires { links.now.shards ≡ pool.now.shards }
 {
-    let mut now = 0;
+    let mut ticker = Ticker::new(rt, PERIOD_MILLISECONDS);
     for _ in rt.forever() {
         if links.is_stopped() {
             break;
         }
-        now = time_behind(rt, now);
+        let now = ticker.next(rt);
+        links.set_time(now);
         let beats = beats(rt, links, pool, now);
         links.post(rt, beats.as_slice());
         if links.has_met() {

@@ -1,5 +1,5 @@
 -- Who may be at the other end of a link, and what is said of a link.
-use Rattle.std.specs.Prelude.{ℕ, List, ◌++◌, Option, Some, None, Result, Ok, Err, cond, codes, decimal}
+use Rattle.std.specs.Prelude.{ℕ, List, ◌++◌, Bool, true, false, Option, Some, None, Result, Ok, Err, cond, codes, decimal}
 use Rattle.presence_base.specs.Order.{same_text}
 use Rattle.presence_base.specs.declared.dots.Replica.{Replica}
 use Rattle.node_links_acts.specs.declared.port.ActFault.TheVariants as acts
@@ -87,3 +87,19 @@ up_text place other = codes "link "
 -- the line of a link that went
 abbrev pub down_text : List ℕ → LinkEnd → List ℕ
 down_text place end = codes "link " ++ (place ++ (codes ": down: " ++ (reason end ++ codes "\n")))
+
+-- behind which faults a stream may still stand between two lines: one that was read whole, or want of memory
+abbrev pub leaves_between : LinkFault → Bool
+leaves_between faults.NotJson = true
+leaves_between faults.BadLine = true
+leaves_between (faults.BadTold fault) = true
+leaves_between faults.OtherShards = true
+leaves_between faults.OutOfMemory = true
+leaves_between _ = false
+
+-- behind which ends another line may still go out: a shard's trouble is none of the stream's
+abbrev pub leaves_stream : LinkEnd → Bool
+leaves_stream (Fault (dials.Act fault)) = true
+leaves_stream (Fault (dials.Link fault)) = leaves_between fault
+leaves_stream GivenUp = true
+leaves_stream _ = false

@@ -1,4 +1,7 @@
-use node_links::DialFault;
+ghost use Rattle.std.specs.Prelude.{◌≡◌};
+ghost use Rattle.presence_node_link_words.specs.Words.{leaves_stream as leaves};
+
+use node_links::{DialFault, LinkFault};
 
 /// Why a link went, or can't be had.
 #[derive(Clone, Copy, PartialEq, Eq, Debug)]
@@ -19,4 +22,24 @@ pub enum LinkEnd {
     TooMany,
     /// This node stops.
     Stopped,
+}
+
+impl LinkEnd {
+    /// Whether another line may go out over the link all the same: the stream stands between two lines, as far as is known.
+    pub fn leaves_stream(self) -> bool
+        ensures { result ≡ leaves self }
+    {
+        match self {
+            LinkEnd::Fault(DialFault::Act(_)) | LinkEnd::GivenUp => true,
+            LinkEnd::Fault(DialFault::Link(fault)) => matches!(
+                fault,
+                LinkFault::NotJson
+                    | LinkFault::BadLine
+                    | LinkFault::BadTold(_)
+                    | LinkFault::OtherShards
+                    | LinkFault::OutOfMemory
+            ),
+            _ => false,
+        }
+    }
 }

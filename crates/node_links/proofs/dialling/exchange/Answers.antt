@@ -1,7 +1,7 @@
 use Rattle.std.proofs.Common.{Ok, Err, Some, None, refl}
 use Rattle.std.proofs.lemmas.Result.{err_from_is_err_and}
 use Rattle.node_links.specs.Talking.{lent}
-use Rattle.node_links.proofs.dialling.dial.Goals as goal
+use Rattle.node_links.proofs.dialling.exchange.Goals as goal
 
 pub returns-in_err-act : goal.returns-in_err-act
 returns-in_err-act g c =

@@ -1,7 +1,7 @@
 use Rattle.std.proofs.Common.{◌≡◌}
 use Rattle.node_links_streams.specs.Streams.{fed}
 use Rattle.node_links_streams.proofs.LineFacts.{written}
-use Rattle.node_links_streams.proofs.lines.write_line.Goals as goal
+use Rattle.node_links_streams.proofs.lines.write_text.Goals as goal
 
 pub returns : goal.returns
 returns g c =

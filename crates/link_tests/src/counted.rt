@@ -1,0 +1,47 @@
+//! Told values of so many rows and extras.
+use node_links::{Line, decode_line};
+use orswot_core::{Orswot, Told};
+use std::alloc::{AllocError, Global};
+
+// The most that a told value may bring, and one more.
+pub(super) const MOST: u64 = 65_536;
+
+pub(super) const TOO_MANY: u64 = 65_537;
+
+// A row of b.1.2.
+const ROW: &str = r#"["b",1,2,"room:a","u2",5,{},null]"#;
+
+// A told line with the dots of b.1 from one count up to another, and this list of rows.
+fn part_text(alloc: Global, first: u64, last: u64, rows: &str) -> Result<String, AllocError> {
+    let mut text = String::from_str(alloc, "[\"told\",0,[[],[")?;
+    for count in first..last {
+        let dot = format!(in alloc; "[\"b\",1,{count}],")?;
+        text.push_str(dot.as_str())?;
+    }
+    let end = format!(in alloc; "[\"b\",1,{last}]],[{rows}]]]")?;
+    text.push_str(end.as_str())?;
+    Ok(text)
+}
+
+// Takes in the dots of b.1 from one count up to another, and this list of rows.
+fn join_part(
+    alloc: Global,
+    set: &mut Orswot,
+    first: u64,
+    last: u64,
+    rows: &str,
+) -> Result<(), AllocError> {
+    let text = part_text(alloc, first, last, rows)?;
+    match decode_line(alloc, text.as_str(), 2) {
+        Ok(Line::Told { told, .. }) => set.join(alloc, &told),
+        _ => Err(AllocError),
+    }
+}
+
+// So many rows and extras: b.1.2 with its row, and the counts behind it, each an extra since b.1.1 is missing.
+pub(super) fn counted_told(alloc: Global, things: u64) -> Result<Told, AllocError> {
+    let mut set = Orswot::new(alloc);
+    join_part(alloc, &mut set, 2, 40_000, ROW)?;
+    join_part(alloc, &mut set, 40_001, things, "")?;
+    set.told(alloc)
+}

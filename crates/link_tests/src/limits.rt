@@ -1,0 +1,186 @@
+//! Told values at their limit of rows and extras, and one above it: in a beat, in what is told from a count, and in all
+//! that is told.
+use crate::counted::{MOST, TOO_MANY, counted_told};
+use crate::desk::{Desk, at_b, replica};
+use crate::faulty::Sink;
+use crate::port::{Call, Much};
+use node_links::{DialFault, Line, LinkFault, decode_line, write_line};
+use std::alloc::Global;
+
+// The bytes of lines with 65,536 rows and extras of b.1, line feeds aside: 65,535 extras of 8 bytes and 316,573 digits in
+// all, the commas between, the row, and what stands around them.
+const TOLD_BYTES: usize = 906_452;
+
+const BEAT_BYTES: usize = 906_460;
+
+const BEAT: &str = r#"["beat",0,"b",1,2,null]"#;
+
+const SENT: &str = "[\"beat\",0,\"b\",1,2,null]\n";
+
+// A want of what the beat tells, and an ok.
+const WANT: &[u8] = b"[\"want\",0,\"b\",1,1]\n[\"ok\"]\n";
+
+const LITTLE: &str = "[\"beat\",0,\"b\",1,2,null]\n[\"told\",0,[[[\"b\",1,0,2]],[],[]]]\n";
+
+fn told_line(alloc: Global, things: u64) -> Option<Line> {
+    match counted_told(alloc, things) {
+        Ok(told) => Some(Line::Told { shard: 0, told }),
+        Err(_) => None,
+    }
+}
+
+fn beat_line(alloc: Global, things: u64) -> Option<Line> {
+    let replica = replica(alloc, "b", 1)?;
+    match counted_told(alloc, things) {
+        Ok(told) => Some(Line::Beat {
+            shard: 0,
+            replica,
+            count: 2,
+            delta: Some(told),
+        }),
+        Err(_) => None,
+    }
+}
+
+// How writing the line ends, and what goes out.
+fn written(alloc: Global, line: Option<Line>) -> Option<(Result<(), LinkFault>, Vec<u8>)> {
+    let line = line?;
+    let mut sink = Sink {
+        taken: Vec::new(alloc),
+        step: 65_536,
+        calls: 0,
+        fails: usize::MAX,
+        so: None,
+    };
+    let end = write_line(alloc, &mut sink, &line);
+    Some((end, sink.taken))
+}
+
+// How writing the line ends, and how many bytes go out.
+fn bytes_of(alloc: Global, line: Option<Line>) -> Option<(Result<(), LinkFault>, usize)> {
+    let (end, taken) = written(alloc, line)?;
+    Some((end, taken.len()))
+}
+
+#[test]
+fn lines_at_the_limit_are_written_and_above_it_are_not(rt: HostRuntime) {
+    let alloc = rt.alloc();
+    let refused = Some((Err(LinkFault::LineTooLong), 0));
+    assert!(rt; bytes_of(alloc, told_line(alloc, MOST)) == Some((Ok(()), TOLD_BYTES + 1)));
+    assert!(rt; bytes_of(alloc, told_line(alloc, TOO_MANY)) == refused);
+    assert!(rt; bytes_of(alloc, beat_line(alloc, MOST)) == Some((Ok(()), BEAT_BYTES + 1)));
+    assert!(rt; bytes_of(alloc, beat_line(alloc, TOO_MANY)) == refused);
+}
+
+// Whether what goes out for the line is read as a line of so many extras and a row.
+fn is_read(alloc: Global, things: u64) -> bool {
+    let Some((Ok(()), taken)) = written(alloc, told_line(alloc, things)) else {
+        return false;
+    };
+    let Ok(text) = std::str::from_utf8(&taken) else {
+        return false;
+    };
+    match decode_line(alloc, text, 2) {
+        Ok(Line::Told { told, .. }) => {
+            told.live().len() == 1 && told.extras().len() as u64 == things.saturating_sub(1)
+        }
+        _ => false,
+    }
+}
+
+#[test]
+fn a_line_at_the_limit_is_read(rt: HostRuntime) {
+    assert!(rt; is_read(rt.alloc(), MOST));
+}
+
+// Node `b` behind the hellos, with a want and an ok to come, of which so much is told.
+fn wanted(alloc: Global, from: Much, all: Much) -> Option<Desk<'static>> {
+    let mut desk = at_b(alloc, WANT)?;
+    desk.port.from = from;
+    desk.port.all = all;
+    if desk.takes(alloc, r#"["hello","a",1,2]"#) {
+        Some(desk)
+    } else {
+        None
+    }
+}
+
+// How many bytes go out behind a beat of which so much is wanted, where the exchange ends well.
+fn goes_out(alloc: Global, from: Much, all: Much, calls: &[Call]) -> Option<usize> {
+    let mut desk = wanted(alloc, from, all)?;
+    if desk.dials_text(alloc, BEAT) != Some(Ok(false)) || !desk.asked(calls) {
+        return None;
+    }
+    desk.wire.taken.len().checked_sub(SENT.len())
+}
+
+const FROM: [Call; 1] = [Call::ToldFrom(0, 1)];
+
+const BOTH: [Call; 2] = [Call::ToldFrom(0, 1), Call::Full(0)];
+
+// How many bytes the range of both counts takes, where that is told.
+fn little() -> usize {
+    LITTLE.len().saturating_sub(SENT.len())
+}
+
+#[test]
+fn what_is_wanted_is_told_where_it_fits(rt: HostRuntime) {
+    let alloc = rt.alloc();
+    let most = Much::Counted(MOST);
+    assert!(rt; goes_out(alloc, most, Much::Little, &FROM) == Some(TOLD_BYTES + 1));
+}
+
+#[test]
+fn all_is_told_in_its_place(rt: HostRuntime) {
+    let alloc = rt.alloc();
+    let many = Much::Counted(TOO_MANY);
+    assert!(rt; goes_out(alloc, many, Much::Little, &BOTH) == Some(little()));
+    assert!(rt; goes_out(alloc, Much::Long, Much::Little, &BOTH) == Some(little()));
+}
+
+#[test]
+fn nothing_is_told_where_neither_fits(rt: HostRuntime) {
+    let alloc = rt.alloc();
+    let many = Much::Counted(TOO_MANY);
+    assert!(rt; goes_out(alloc, Much::Long, many, &BOTH) == Some(0));
+    assert!(rt; goes_out(alloc, many, Much::Long, &BOTH) == Some(0));
+}
+
+// Another replica is wanted: all is told, or nothing.
+fn goes_out_of_all(alloc: Global, all: Much) -> Option<(usize, usize)> {
+    let mut desk = at_b(alloc, b"[\"want\",0,\"c\",1,1]\n[\"ok\"]\n")?;
+    desk.port.all = all;
+    if !desk.takes(alloc, r#"["hello","a",1,2]"#) {
+        return None;
+    }
+    if desk.dials_text(alloc, BEAT) != Some(Ok(false)) {
+        return None;
+    }
+    let bytes = desk.wire.taken.len().checked_sub(SENT.len())?;
+    Some((bytes, desk.rest()))
+}
+
+#[test]
+fn all_is_told_where_it_fits(rt: HostRuntime) {
+    let alloc = rt.alloc();
+    assert!(rt; goes_out_of_all(alloc, Much::Counted(MOST)) == Some((TOLD_BYTES + 1, 0)));
+    assert!(rt; goes_out_of_all(alloc, Much::Counted(TOO_MANY)) == Some((0, 7)));
+}
+
+// What goes out for a beat of so many rows and extras, with an ok to come.
+fn beat_goes_out(alloc: Global, things: u64) -> Option<(Result<bool, DialFault>, usize)> {
+    let mut desk = at_b(alloc, b"[\"ok\"]\n")?;
+    if !desk.takes(alloc, r#"["hello","a",1,2]"#) {
+        return None;
+    }
+    let beat = beat_line(alloc, things)?;
+    let end = desk.dials(alloc, &beat);
+    Some((end, desk.wire.taken.len()))
+}
+
+#[test]
+fn a_beat_above_the_limit_goes_out_bare(rt: HostRuntime) {
+    let alloc = rt.alloc();
+    assert!(rt; beat_goes_out(alloc, MOST) == Some((Ok(false), BEAT_BYTES + 1)));
+    assert!(rt; beat_goes_out(alloc, TOO_MANY) == Some((Ok(false), SENT.len())));
+}
