@@ -16,6 +16,7 @@ pub trait Tells {
 }
 
 /// What requests are answered from.
+#[derive(Drop)]
 pub struct Front<'a, T> {
     /// Pages of these origins may open a WebSocket, or those of any where none is named.
     pub origins: &'a [String],

@@ -1,5 +1,6 @@
 -- What the options of a command line keep.
-use Rattle.std.specs.Prelude.{◌≡◌, ◌≤◌, ◌+◌, ℕ, List, [], ◌∷◌, length, map, ForSome, IsTrue}
+use Rattle.std.specs.Prelude.{◌≡◌, ◌≤◌, ◌+◌, ℕ, List, [], ◌∷◌, length, map, IsTrue}
+use Rattle.std.specs.Option.{ForSome}
 use Rattle.std.specs.List.{AllByRecursion}
 use Rattle.presence_base.specs.Names.{is_node_name}
 use Rattle.presence_base.specs.Refs.{IsCount}

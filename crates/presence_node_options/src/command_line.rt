@@ -1,4 +1,6 @@
 ghost use Rattle.std.specs.Prelude.{◌≡◌, ◌<◌, ◌≤◌, false, IfOk, IfErr, OnOk, codes, length, map, option_map, string_bytes, unwrap_or, vec_len};
+ghost use Rattle.std.specs.Option.{ForSome};
+ghost use Rattle.presence_base.specs.Refs.{IsCount};
 ghost use Rattle.clap.specs.Words.{app_of, first_of, found_of, kind_of, rows_of, rule_of, subcommand_rows_of};
 ghost use Rattle.presence_node_options.specs.CommandLine.{flag_rule, option_rule, stdio_app, fold_app, serve_app, served_app, program};
 ghost use Rattle.presence_node_options.specs.Given.{AskFor, Chooses, ChoosesNone, HasCause, Refused, IsHelpFor, IsNoHelp, IsGiven, IsServed, IsServedWrong, IsFor, IsLife, IsWrong, AreFewPatterns, AllArePeers, ArePeers, flag_given, life_given, number_in, origins_given, patterns_given, peers_given};
@@ -378,6 +380,7 @@ fn given_origins(alloc: Global, matches: &ArgMatches<'_>) -> Result<Vec<String>,
 #[tactic(auto, using(crate::proofs::Rows::first_read))]
 fn given_life(alloc: Global, matches: &ArgMatches<'_>) -> Result<Option<u64>, UsageFault>
     ensures number { IfOk result (λ n. n ≡ option_map number_in (life_given (rows_of (found_of matches.now)))) }
+    ensures limits { IfOk result (λ n. ForSome n IsCount) }
     ensures life { OnOk result (IsLife (life_given (rows_of (found_of matches.now)))) }
     ensures cause { IfErr result (IsFor UsageCause.Incarnation
         (IsLife (life_given (rows_of (found_of matches.now))) → ⊥)) }
