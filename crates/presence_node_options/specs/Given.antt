@@ -194,6 +194,10 @@ pub record AreFewPatterns (patterns : List Text) : Type 0 where
   pub each : AllByRecursion (λ p. IsTrue (is_pattern p)) patterns
   pub few : length patterns ≤ MAX_ROUTES
 
+-- there are no more origins than are allowed
+abbrev pub AreFewOrigins : List Text → Type 0
+AreFewOrigins origins = length origins ≤ MAX_ORIGINS
+
 abbrev pub HasCause : UsageCause → UsageFault → Type 0
 HasCause cause (Usage c text) = c ≡ cause
 HasCause cause Memory = Unit {0}
@@ -244,7 +248,7 @@ abbrev pub AreWorkers : List Row → Type 0
 AreWorkers rows = IsNumberWithin 1 MAX_WORKERS (workers_given rows)
 
 -- why the options of `serve` are refused: the name is looked at first, then the incarnation, the port, that of links, the
--- shards, the workers, the peers, the routes and the origins
+-- shards, the workers, the peers, the origins and the routes
 abbrev pub ServeRefuses : List Row → UsageCause → Type 0
 ServeRefuses rows Incarnation = IsTrue (is_node_name (name_given rows)) × (IsLife (life_given rows) → ⊥)
 ServeRefuses rows Port = IsNamed rows × (IsPort rows → ⊥)
@@ -253,12 +257,11 @@ ServeRefuses rows Shards = IsNamed rows × ArePorts rows × (AreShards rows → 
 ServeRefuses rows Workers = IsNamed rows × ArePorts rows × AreShards rows × (AreWorkers rows → ⊥)
 ServeRefuses rows Peer = IsNamed rows × ArePorts rows × AreShards rows × AreWorkers rows
     × (AllArePeers (peers_given rows) → ⊥)
+ServeRefuses rows Origin = IsNamed rows × ArePorts rows × AreShards rows × AreWorkers rows
+    × AllArePeers (peers_given rows) × (AreFewOrigins (origins_given rows) → ⊥)
 ServeRefuses rows Route =
     IsNamed rows × ArePorts rows × AreShards rows × AreWorkers rows × AllArePeers (peers_given rows)
-    × (AreFewPatterns (patterns_given rows) → ⊥)
-ServeRefuses rows Origin =
-    IsNamed rows × ArePorts rows × AreShards rows × AreWorkers rows × AllArePeers (peers_given rows)
-    × AreFewPatterns (patterns_given rows) × (MAX_ORIGINS < length (origins_given rows))
+    × AreFewOrigins (origins_given rows) × (AreFewPatterns (patterns_given rows) → ⊥)
 ServeRefuses rows cause = Refuses rows cause
 
 abbrev pub IsWrong : List Row → UsageFault → Type 0

@@ -1,9 +1,9 @@
-ghost use Rattle.std.specs.Prelude.{◌≡◌, ◌<◌, ◌≤◌, false, IfOk, IfErr, OnOk, codes, length, map, option_map, string_bytes, unwrap_or, vec_len};
+ghost use Rattle.std.specs.Prelude.{◌≡◌, ◌≤◌, false, IfOk, IfErr, OnOk, codes, map, option_map, string_bytes, unwrap_or, vec_len};
 ghost use Rattle.std.specs.Option.{ForSome};
 ghost use Rattle.presence_base.specs.Refs.{IsCount};
 ghost use Rattle.clap.specs.Words.{app_of, first_of, found_of, kind_of, rows_of, rule_of, subcommand_rows_of};
 ghost use Rattle.presence_node_options.specs.CommandLine.{flag_rule, option_rule, stdio_app, fold_app, serve_app, served_app, program};
-ghost use Rattle.presence_node_options.specs.Given.{AskFor, Chooses, ChoosesNone, HasCause, Refused, IsHelpFor, IsNoHelp, IsGiven, IsServed, IsServedWrong, IsFor, IsLife, IsWrong, AreFewPatterns, AllArePeers, ArePeers, flag_given, life_given, number_in, origins_given, patterns_given, peers_given};
+ghost use Rattle.presence_node_options.specs.Given.{AskFor, Chooses, ChoosesNone, HasCause, Refused, IsHelpFor, IsNoHelp, IsGiven, IsServed, IsServedWrong, IsFor, IsLife, IsWrong, AreFewOrigins, AreFewPatterns, AllArePeers, ArePeers, flag_given, life_given, number_in, origins_given, patterns_given, peers_given};
 ghost use Rattle.presence_node_options.specs.declared.options.TheConstants.{MAX_ORIGINS};
 ghost use Rattle.presence_node_options.specs.Limits.{AreRoutes, IsWithin, IsServedWithin, AreWithin, numbered};
 
@@ -16,8 +16,8 @@ use crate::help::{
 };
 use crate::options::{FoldOptions, Options, PeerOption, ServeOptions, StdioOptions};
 use crate::values::{
-    address_of, incarnation_of, link_port_of, name_of, origins_of, peers_of, port_of, routes_of, shards_of,
-    usage_of, workers_of,
+    address_of, incarnation_of, link_port_of, name_of, origins_of, peers_of, port_of, routes_of,
+    shards_of, usage_of, workers_of,
 };
 use clap::error::ErrorKind;
 use clap::{Arg, ArgAction, ArgMatches, Command, Error};
@@ -198,9 +198,7 @@ fn fold_command<'a>(alloc: Global) -> Result<Command<'a>, AllocError>
     ensures { IfOk result (λ c. app_of c ≡ fold_app) }
 {
     Command::new(alloc, "fold")
-        .about(
-            "Folds presence frames, one a line, and prints an object from topic to map",
-        )
+        .about("Folds presence frames, one a line, and prints an object from topic to map")
         .override_usage(FOLD_USAGE)
         .after_help(FOLD_REFUSALS)
         .arg(explain_flag(alloc))
@@ -367,8 +365,9 @@ fn given_origins(alloc: Global, matches: &ArgMatches<'_>) -> Result<Vec<String>,
     ensures origins { IfOk result
         (λ origins. map string_bytes origins.items ≡ origins_given (rows_of (found_of matches.now))) }
     ensures few { IfOk result (λ origins. vec_len origins ≤ MAX_ORIGINS) }
+    ensures given { OnOk result (AreFewOrigins (origins_given (rows_of (found_of matches.now)))) }
     ensures cause { IfErr result (IsFor UsageCause.Origin
-        (MAX_ORIGINS < length (origins_given (rows_of (found_of matches.now))))) }
+        (AreFewOrigins (origins_given (rows_of (found_of matches.now))) → ⊥)) }
 {
     match matches.get_strs("origin") {
         Some(texts) => origins_of(alloc, texts),
@@ -436,10 +435,10 @@ fn serve_options(alloc: Global, matches: &ArgMatches<'_>) -> Result<ServeOptions
     let shards = shards_of(alloc, text_given(matches, "shards", "4"))?;
     let workers = workers_of(alloc, text_given(matches, "workers", "4"))?;
     let peers = given_peers(alloc, matches)?;
+    let origins = given_origins(alloc, matches)?;
     let routes = given_routes(alloc, matches)?;
     let listen = address_of(alloc, text_given(matches, "listen", "127.0.0.1"))?;
     let link_listen = address_of(alloc, text_given(matches, "link-listen", "127.0.0.1"))?;
-    let origins = given_origins(alloc, matches)?;
     Ok(ServeOptions {
         name,
         incarnation,

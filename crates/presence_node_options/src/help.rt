@@ -38,7 +38,8 @@ A line each; nothing is said of a state";
 /// What `serve` is told by each further option.
 pub(crate) const PORT_HELP: &str = "The port of clients, 1 to 65535 [default: 4000]";
 
-pub(crate) const LINK_PORT_HELP: &str = "The port of other nodes' links, 1 to 65535 [default: 4001]";
+pub(crate) const LINK_PORT_HELP: &str =
+    "The port of other nodes' links, 1 to 65535 [default: 4001]";
 
 pub(crate) const PEER_HELP: &str = "Another node to link to, as b=10.0.0.2:4001
 Its name, its host and its link port; as often as one likes";
@@ -91,7 +92,8 @@ pub const TO_TRY: &str = "To try it:
     [\"2\",\"2\",\"room:lobby\",\"phx_join\",{\"key\":\"ann\",\"meta\":{\"x\":1}}]";
 
 /// What `stdio` says of a line that ends it.
-pub const STDIO_REFUSALS: &str = "A line that is refused ends the run with status 1, and standard error has its number and that of
+pub const STDIO_REFUSALS: &str =
+    "A line that is refused ends the run with status 1, and standard error has its number and that of
 the refusal, as line 3: M2. Want of memory ends it with status 2.
   M1  the text is too long: 65536 bytes are allowed from a client, 16777216 in a frame
   M2  the text is not JSON: one value that nests at most 127 deep is allowed
@@ -105,7 +107,8 @@ the refusal, as line 3: M2. Want of memory ends it with status 2.
   C4  the session has failed";
 
 /// What `fold` says of a line that ends it.
-pub const FOLD_REFUSALS: &str = "A line that is refused ends the fold with status 1, and standard error has its number and that of
+pub const FOLD_REFUSALS: &str =
+    "A line that is refused ends the fold with status 1, and standard error has its number and that of
 the refusal, as line 3: F2. Want of memory ends it with status 2.
   M1  the text is too long: 65536 bytes are allowed from a client, 16777216 in a frame
   M2  the text is not JSON: one value that nests at most 127 deep is allowed
@@ -120,7 +123,8 @@ the refusal, as line 3: F2. Want of memory ends it with status 2.
   F3  a meta has no text as its `phx_ref`";
 
 /// How a run of `serve` goes and ends.
-pub const SERVE_ENDS: &str = "It prints ready once clients may connect: those of Phoenix Channels by WebSocket to
+pub const SERVE_ENDS: &str =
+    "It prints ready once clients may connect: those of Phoenix Channels by WebSocket to
 ws://ADDRESS:PORT/socket/websocket?vsn=2.0.0. A browser gets a room to try at http://ADDRESS:PORT/;
 /health there says ok, and /metrics what was counted. Pages may connect from anywhere, unless
 --origin says from where.
@@ -158,7 +162,8 @@ A link is closed for these reasons:
   N9  the end came within a line";
 
 /// What each command takes.
-pub(crate) const ALLOWED: &str = "stdio takes --name NAME, 1 to 32 characters of a-z, 0-9, --incarnation NUMBER, 1 to
+pub(crate) const ALLOWED: &str =
+    "stdio takes --name NAME, 1 to 32 characters of a-z, 0-9, --incarnation NUMBER, 1 to
 4611686018427387904, up to 64 times --route PATTERN, a topic or the front of topics with one *
 behind it, of 1 to 255 bytes, --notices and --explain;
 fold takes --explain;

@@ -1,7 +1,7 @@
 ghost use Rattle.std.specs.Prelude.{◌≡◌, ◌≤◌, ◌<◌, ◌++◌, [], ◌∷◌, false, option_map, IfOk, IfErr, OnOk, IsTrue, length, map, Some, string_bytes, vec_len};
 ghost use Rattle.presence_base.specs.Names.{is_node_name};
 ghost use Rattle.presence_base.specs.Refs.{IsCount};
-ghost use Rattle.presence_node_options.specs.Given.{number_in, AllArePeers, ArePeers, IsAddressIn, IsPeerIn, IsPeerText, IsIncarnation, IsIncarnationIn, IsNumberIn, IsNumberWithin, HasCause, IsFor, MayFollow, AreFewPatterns};
+ghost use Rattle.presence_node_options.specs.Given.{number_in, AllArePeers, ArePeers, IsAddressIn, IsPeerIn, IsPeerText, IsIncarnation, IsIncarnationIn, IsNumberIn, IsNumberWithin, HasCause, IsFor, MayFollow, AreFewOrigins, AreFewPatterns};
 ghost use Rattle.presence_node_options.specs.Limits.{ArePatterns, AreRoutes, numbered};
 ghost use Rattle.presence_base.specs.declared.names.TheConstants.{MAX_SHARDS};
 ghost use Rattle.presence_node_options.specs.declared.options.TheConstants.{MAX_ORIGINS, MAX_WORKERS};
@@ -294,10 +294,12 @@ fn copies_of(alloc: Global, texts: &[&str]) -> Result<Vec<String>, AllocError>
 }
 
 /// The origins that these texts are, in their order.
+#[tactic(auto, using(crate::proofs::Origins::few_origins, crate::proofs::Origins::many_origins))]
 pub(crate) fn origins_of(alloc: Global, texts: &[&str]) -> Result<Vec<String>, UsageFault>
     ensures origins { IfOk result (λ origins. map string_bytes origins.items ≡ map (λ t. t.now) texts.now) }
     ensures few { IfOk result (λ origins. vec_len origins ≤ MAX_ORIGINS) }
-    ensures cause { IfErr result (IsFor UsageCause.Origin (MAX_ORIGINS < length texts.now)) }
+    ensures given { OnOk result (AreFewOrigins (map (λ t. t.now) texts.now)) }
+    ensures cause { IfErr result (IsFor UsageCause.Origin (AreFewOrigins (map (λ t. t.now) texts.now) → ⊥)) }
 {
     if texts.len() > MAX_ORIGINS {
         return Err(usage_of(
