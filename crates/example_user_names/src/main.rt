@@ -1,5 +1,6 @@
-//! An example: a server that tells each user's name beside the user's metas, and says on standard
-//! error which rows came and went. It keeps three closures of its own, of which one captures a table.
+//! An example: a server that tells each user's name beside the user's metas, and over the standard streams says on
+//! standard error which rows came and went. It keeps three closures of its own, of which one captures a table, and takes
+//! the words of the command line that `presence_node` takes.
 #![tactic(auto)]
 
 mod names;
@@ -7,8 +8,7 @@ mod names;
 use hook_registry::{Fetch, Hooks, Notice, Tell};
 use names::UserNames;
 use presence_base::{Dot, Key, Topic, ref_text};
-use presence_node_main::run_with;
-use presence_node_options::{Options, options_of};
+use presence_node_main::run_program_with;
 use std::alloc::{AllocError, Global};
 use std::process::ExitCode;
 
@@ -30,9 +30,8 @@ fn note(alloc: Global, word: &str, dot: &Dot) -> Result<Notice, AllocError> {
     }
 }
 
-// Serves one session over the standard streams, and gives the status to end with.
-fn serve<R: Input + Print + Eprint + AllocGlobal>(rt: &R) -> Result<u8, AllocError> {
-    let alloc = rt.alloc();
+// The closures of this example.
+fn hooks_of(alloc: Global) -> Result<Hooks, AllocError> {
     let names = known_users(alloc)?;
     let fetch: Fetch = Box::new(
         alloc,
@@ -46,16 +45,12 @@ fn serve<R: Input + Print + Eprint + AllocGlobal>(rt: &R) -> Result<u8, AllocErr
         alloc,
         move |_: u32, _: &Topic, _: &Key, dot: &Dot| note(alloc, "went", dot),
     )?;
-    let hooks = Hooks::new(fetch, on_join, on_leave);
-    match options_of(alloc, &["example_user_names", "stdio"]) {
-        Ok(Options::Stdio(options)) => Ok(run_with(rt, &hooks, &options)),
-        _ => Err(AllocError),
-    }
+    Ok(Hooks::new(fetch, on_join, on_leave))
 }
 
 fn main(rt: HostRuntime) -> ExitCode {
-    match serve(&rt) {
-        Ok(status) => ExitCode::from(status),
+    match hooks_of(rt.alloc()) {
+        Ok(hooks) => ExitCode::from(run_program_with(&rt, &hooks)),
         Err(_) => ExitCode::from(2),
     }
 }

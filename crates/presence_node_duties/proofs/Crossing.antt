@@ -11,6 +11,7 @@ use Rattle.presence_node_sockets.specs.contracts.watch.Watch as Watch
 use Rattle.presence_node_leaving.specs.contracts.leaving.Leavers as Leavers
 use Rattle.presence_node_leaving.proofs.Crossing.{worker_send}
 use Rattle.hook_registry.specs.contracts.routes.Routes as Routes
+use Rattle.presence_node_counts.specs.contracts.counts.Counts as Counts
 use Rattle.presence_node_duties.specs.contracts.bench.Bench as Bench
 use Rattle.presence_node_duties.specs.contracts.place.Workplace as Workplace
 use Rattle.presence_node_duties.specs.contracts.server.Mailbox as Mailbox
@@ -23,6 +24,9 @@ mailbox_sync = search (maps.crosses, heap.crosses, sendable) depth 60 fits 20000
 
 pub routes_sync : IsSync (Routes.the_field).row
 routes_sync = search (maps.crosses, heap.crosses, sendable) depth 60 fits 20000
+
+pub counts_sync : IsSync (Counts.the_field).row
+counts_sync = search (maps.crosses, heap.crosses, sendable) depth 60 fits 20000
 
 -- ---- what is given
 

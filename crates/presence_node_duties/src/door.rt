@@ -2,7 +2,8 @@
 ghost use Rattle.std.specs.Prelude.{◌<◌};
 
 use crate::server::Server;
-use presence_node_handshakes::{Guests, Opened};
+use presence_node_counts::{Counts, Dropped};
+use presence_node_handshakes::{Front, Guests};
 use presence_node_leaving::socket_config;
 use presence_node_link_threads::time_behind;
 use presence_node_queue::Giver;
@@ -102,29 +103,39 @@ impl Door {
         }
     }
 
+    // Watches a connection that was taken, and begins its handshake: why it is dropped, if it is.
+    fn admit(&mut self, alloc: Global, stream: TcpStream) -> Result<(), Dropped> {
+        if self.guests.len() >= MAX_GUESTS || self.number >= LAST_TOKEN {
+            return Err(Dropped::Handshakes);
+        }
+        self.number += 1;
+        if self.watch.add(&stream, self.number).is_err() {
+            return Err(Dropped::Watch);
+        }
+        let admitted = self
+            .guests
+            .admit(alloc, self.number, stream, socket_config());
+        admitted.or(Err(Dropped::Handshakes))
+    }
+
     // Takes one connection, if one waits: whether there may be another. One that can't be watched, or for which
     // there is no room, is dropped.
-    fn take_one(&mut self, alloc: Global) -> bool {
+    fn take_one(&mut self, alloc: Global, counts: &Counts) -> bool {
         let Some(stream) = next_stream(&self.listener) else {
             return false;
         };
-        if self.guests.len() >= MAX_GUESTS || self.number >= LAST_TOKEN {
-            return true;
-        }
-        self.number += 1;
-        if self.watch.add(&stream, self.number).is_ok() {
-            let _lost = self
-                .guests
-                .admit(alloc, self.number, stream, socket_config());
+        counts.took();
+        if let Err(why) = self.admit(alloc, stream) {
+            counts.dropped(why);
         }
         true
     }
 
     // Takes the connections that wait, as many as a turn may.
-    fn take_in(&mut self, alloc: Global) {
+    fn take_in(&mut self, alloc: Global, counts: &Counts) {
         self.more = true;
         for _ in 0..MAX_ACCEPTED {
-            if !self.take_one(alloc) {
+            if !self.take_one(alloc, counts) {
                 self.more = false;
                 break;
             }
@@ -139,21 +150,31 @@ impl Door {
         socket: WebSocket<TcpStream, NoMask>,
     ) {
         if self.watch.remove(socket.get_ref()).is_err() {
+            server.counts.dropped(Dropped::Watch);
             return;
         }
-        if self.giver.give(rt, socket).is_ok() {
-            server.wake(self.next);
-            self.next = next_of(self.next, server.mailboxes.len());
+        if self.giver.give(rt, socket).is_err() {
+            server.counts.dropped(Dropped::Queue);
+            return;
         }
+        server.counts.handed_on();
+        server.wake(self.next);
+        self.next = next_of(self.next, server.mailboxes.len());
     }
 
-    // Goes on with the handshakes, and hands the connections on whose handshakes are done.
+    // Goes on with the handshakes, answers what else is asked for, and hands the connections on whose handshakes are
+    // done.
     fn greet<R: Wait, H, A: Lane, B: Lane, C: Lane, D: Lane>(
         &mut self,
         rt: &R,
         server: &Server<'_, H, A, B, C, D>,
     ) {
-        let Ok(opened) = self.guests.turn(server.alloc) else {
+        let front = Front {
+            origins: server.origins,
+            tells: &server.counts,
+        };
+        server.counts.has_under_way(self.guests.len());
+        let Ok(opened) = self.guests.turn(server.alloc, &front) else {
             return;
         };
         for (_, socket) in opened {
@@ -192,7 +213,7 @@ impl Door {
             if server.is_stopped() {
                 break;
             }
-            self.take_in(server.alloc);
+            self.take_in(server.alloc, &server.counts);
             self.greet(rt, server);
             self.pause(rt);
         }

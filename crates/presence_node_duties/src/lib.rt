@@ -13,6 +13,7 @@ pub use bench::Bench;
 pub use door::{Door, LISTENER};
 pub use place::{Workplace, seats_of};
 // What threads are begun with, beside their duties.
+pub use presence_node_counts::Counts;
 pub use presence_node_hints::Inbox;
 pub use presence_node_link_threads::{LinkTask, LinkTasks, tasks_for};
 pub use server::{Mailbox, Server};

@@ -4,6 +4,7 @@ ghost use Rattle.std.specs.Prelude.{◌≡◌};
 use crate::door::Door;
 use crate::place::Workplace;
 use hook_registry::{PresenceHooks, Routes};
+use presence_node_counts::Counts;
 use presence_node_crew::Crew;
 use presence_node_hints::{Followed, Inbox, Topics};
 use presence_node_link_threads::{LinkTask, Links, Wakes};
@@ -56,6 +57,9 @@ pub struct Server<'a, H, A: Lane, B: Lane, C: Lane, D: Lane> {
     pub pool: Pool<NoGate, A, B, C, D>,
     pub routes: &'a Routes,
     pub hooks: &'a H,
+    /// Pages of these origins may open a WebSocket, or those of any where none is named.
+    pub origins: &'a [String],
+    pub counts: Counts,
     /// One of each worker, in their order.
     pub mailboxes: Vec<Mailbox>,
     pub door_bell: Bell,
@@ -71,12 +75,15 @@ impl<'a, H, A: Lane, B: Lane, C: Lane, D: Lane> Drop for Server<'a, H, A, B, C, 
             pool,
             routes: _,
             hooks: _,
+            origins: _,
+            counts,
             mailboxes,
             door_bell,
             links,
             stopped,
         } = self;
         drop(pool);
+        drop(counts);
         drop(mailboxes);
         drop(door_bell);
         drop(links);
@@ -130,11 +137,14 @@ impl<'a, H, A: Lane, B: Lane, C: Lane, D: Lane> Server<'a, H, A, B, C, D> {
             pool,
             routes: _,
             hooks: _,
+            origins: _,
+            counts,
             mailboxes,
             door_bell,
             links,
             stopped,
         } = self;
+        drop(counts);
         drop(mailboxes);
         drop(door_bell);
         drop(links);

@@ -1,29 +1,49 @@
 //! One client's handshake.
-ghost use Rattle.std.specs.Prelude.{◌<◌};
+ghost use Rattle.std.specs.Prelude.{◌≡◌, ◌<◌};
 ghost use Rattle.presence_node_handshakes.specs.declared.greeting.TheConstants.{MAX_EMPTY_READS};
+ghost use Rattle.presence_node_requests.specs.Heads.{HasRequest};
 
-use std::alloc::Global;
-use std::io::{Read, Write};
+use crate::front::{Front, Tells};
+use presence_node_requests::{Answer, Parsed, Reply, Request, answer_of, read_request, reply_of};
+use std::alloc::{AllocError, Global};
+use std::io::{ErrorKind, Read, Write};
 use thiserror::Error;
-use tungstenite::handshake::server::{ServerHandshake, start};
-use tungstenite::{HandshakeError, MidHandshake, NoCallback, NoMask, WebSocket, WebSocketConfig};
+use tungstenite::{NoMask, Role, WebSocket, WebSocketConfig};
 
 /// After so many looks that end with nothing more to read a handshake is given up.
 pub const MAX_EMPTY_READS: u32 = 200;
 
-/// Why a handshake was given up.
+/// How many bytes a request's head has at most.
+pub const MAX_HEAD_BYTES: usize = 8_192;
+
+// How many bytes one read asks for.
+const PIECE_BYTES: usize = 2_048;
+
+/// Why a connection ends without a WebSocket.
 #[derive(Clone, Copy, PartialEq, Eq, Debug, Error)]
 pub enum GivenUp {
-    #[error("the client sent no request for a WebSocket")]
+    #[error("the client asked for no WebSocket, and was answered")]
+    Answered,
+    #[error("the client sent no request, or went away")]
     Failed,
     #[error("the client's request did not come in time")]
     Silent,
 }
 
+// What is done of a handshake.
+#[derive(Drop)]
+enum Stage {
+    /// The request's bytes so far.
+    Reads(Vec<u8>),
+    /// What is sent for it.
+    Writes(Reply),
+}
+
 /// A handshake that has begun and is not over.
 pub struct Greeting<S: Read + Write + Drop> {
-    handshake: MidHandshake<ServerHandshake<S, NoCallback>>,
+    stream: S,
     config: WebSocketConfig,
+    stage: Stage,
     empty_reads: u32,
     ghost patient: { empty_reads < MAX_EMPTY_READS },
 }
@@ -31,12 +51,14 @@ pub struct Greeting<S: Read + Write + Drop> {
 impl<S: Read + Write + Drop> Drop for Greeting<S> {
     fn drop(self) {
         let Greeting {
-            handshake,
+            stream,
             config,
+            stage,
             empty_reads: _,
         } = self;
-        drop(handshake);
+        drop(stream);
         drop(config);
+        drop(stage);
     }
 }
 
@@ -50,9 +72,105 @@ pub enum Greeted<S: Read + Write + Drop> {
     GivenUp(GivenUp),
 }
 
+// What came of reading.
+#[derive(Drop)]
+enum Heard {
+    /// The stream has nothing more, and the request isn't whole.
+    Waits,
+    /// It is whole, and this is sent for it.
+    Whole(Reply),
+    Ends,
+}
+
+// What came of writing.
+enum Written {
+    /// The stream takes no more for now.
+    Waits,
+    All,
+    Ends,
+}
+
+// What is sent for a request, if anything is.
+fn reply_for<T: Tells>(
+    alloc: Global,
+    head: &[u8],
+    request: &Request<'_>,
+    front: &Front<'_, T>,
+) -> Result<Option<Reply>, AllocError>
+    requires { HasRequest head.now request.now }
+{
+    let answer = answer_of(request, front.origins);
+    front.tells.answered(answer);
+    if answer == Answer::Metrics {
+        let metrics = front.tells.metrics(alloc)?;
+        return reply_of(alloc, head, request, answer, metrics.as_str());
+    }
+    reply_of(alloc, head, request, answer, "")
+}
+
+// What these bytes of a client are answered by. Bytes that may become a request wait for more.
+fn look_at<T: Tells>(alloc: Global, head: &[u8], front: &Front<'_, T>) -> Heard {
+    match read_request(head) {
+        Parsed::Partial => Heard::Waits,
+        Parsed::Junk => Heard::Ends,
+        Parsed::Whole(request) => match reply_for(alloc, head, &request, front) {
+            Ok(Some(reply)) => Heard::Whole(reply),
+            Ok(None) | Err(_) => Heard::Ends,
+        },
+    }
+}
+
+// Reads on until the request is whole or the stream has nothing more.
+fn read_on<S: Read, T: Tells>(
+    alloc: Global,
+    stream: &mut S,
+    head: &mut Vec<u8>,
+    front: &Front<'_, T>,
+) -> Heard {
+    let mut piece = [0; PIECE_BYTES];
+    for _ in 0..MAX_HEAD_BYTES {
+        let count = match stream.read(&mut piece) {
+            Ok(0) => return Heard::Ends,
+            Ok(count) => count,
+            Err(e) if e.kind() == ErrorKind::WouldBlock => return Heard::Waits,
+            Err(_) => return Heard::Ends,
+        };
+        if head.len() + count > MAX_HEAD_BYTES || head.extend_from_slice(&piece[..count]).is_err() {
+            return Heard::Ends;
+        }
+        match look_at(alloc, head.as_slice(), front) {
+            Heard::Waits => {}
+            ended => return ended,
+        }
+    }
+    Heard::Ends
+}
+
+// Sends what is left of a reply, until the stream takes no more.
+fn write_on<S: Write>(stream: &mut S, reply: &mut Reply) -> Written
+    ensures { reply.new.1 ≡ reply.old.1 }
+{
+    for _ in 0..u64::MAX {
+        if reply.rest().is_empty() {
+            break;
+        }
+        match stream.write(reply.rest()) {
+            Ok(0) => return Written::Ends,
+            Ok(count) => reply.pass(count),
+            Err(e) if e.kind() == ErrorKind::WouldBlock => return Written::Waits,
+            Err(_) => return Written::Ends,
+        }
+    }
+    match stream.flush() {
+        Ok(()) => Written::All,
+        Err(e) if e.kind() == ErrorKind::WouldBlock => Written::Waits,
+        Err(_) => Written::Ends,
+    }
+}
+
 impl<S: Read + Write + Drop> Greeting<S> {
-    ghost use Rattle.std.specs.Prelude.{◌≡◌, ◌+◌};
-    ghost use Rattle.presence_node_handshakes.specs.Greeting.{GoesOn};
+    ghost use Rattle.std.specs.Prelude.{◌≡◌, ◌<◌};
+    ghost use Rattle.presence_node_handshakes.specs.Greeting.{Follows, GoesOn};
 
     /// A handshake on this stream, which gives a socket of this configuration.
     pub fn new(alloc: Global, stream: S, config: WebSocketConfig) -> Greeting<S>
@@ -60,40 +178,83 @@ impl<S: Read + Write + Drop> Greeting<S> {
         ensures config { result.config ≡ config }
     {
         Greeting {
-            handshake: start(alloc, stream, NoCallback, Some(config)),
+            stream,
             config,
+            stage: Stage::Reads(Vec::new(alloc)),
             empty_reads: 0,
         }
     }
 
-    /// Goes on with the handshake until it is done or the stream has nothing more. When a look fails, and so
-    /// gives it up at once, is only tested.
-    pub fn go_on(self) -> Greeted<S>
+    // A handshake that has this left to do once the stream is ready again. After too many such looks it is given up.
+    fn waiting(stream: S, config: WebSocketConfig, stage: Stage, empty_reads: u32) -> Greeted<S>
+        requires { empty_reads < MAX_EMPTY_READS }
+        ensures { Follows config empty_reads result }
+    {
+        let empty_reads = empty_reads + 1;
+        if empty_reads >= MAX_EMPTY_READS {
+            return Greeted::GivenUp(GivenUp::Silent);
+        }
+        Greeted::Waits(Greeting {
+            stream,
+            config,
+            stage,
+            empty_reads,
+        })
+    }
+
+    // Sends a reply, or what is left of it. Behind one that opens a WebSocket it is open.
+    fn sending(
+        alloc: Global,
+        stream: S,
+        config: WebSocketConfig,
+        reply: Reply,
+        empty_reads: u32,
+    ) -> Greeted<S>
+        requires { empty_reads < MAX_EMPTY_READS }
+        ensures { Follows config empty_reads result }
+    {
+        let mut stream = stream;
+        let mut reply = reply;
+        match write_on(&mut stream, &mut reply) {
+            Written::Waits => Greeting::waiting(stream, config, Stage::Writes(reply), empty_reads),
+            Written::Ends => Greeted::GivenUp(GivenUp::Failed),
+            Written::All if reply.opens() => Greeted::Open(WebSocket::from_raw_socket(
+                alloc,
+                stream,
+                NoMask,
+                Role::Server,
+                Some(config),
+            )),
+            Written::All => Greeted::GivenUp(GivenUp::Answered),
+        }
+    }
+
+    /// Goes on with the handshake until it is done, the request is answered otherwise, or the stream has nothing more.
+    /// When a look fails, and so gives it up at once, is only tested.
+    pub fn go_on<T: Tells>(self, alloc: Global, front: &Front<'_, T>) -> Greeted<S>
         ensures { GoesOn self result }
     {
         let Greeting {
-            handshake,
+            stream,
             config,
+            stage,
             empty_reads,
         } = self;
-        match handshake.handshake() {
-            Ok(socket) => {
-                let mut socket = socket;
-                socket.set_config(config);
-                Greeted::Open(socket)
-            }
-            Err(HandshakeError::Interrupted(handshake)) => {
-                let empty_reads = empty_reads + 1;
-                if empty_reads >= MAX_EMPTY_READS {
-                    return Greeted::GivenUp(GivenUp::Silent);
-                }
-                Greeted::Waits(Greeting {
-                    handshake,
-                    config,
-                    empty_reads,
-                })
-            }
-            Err(HandshakeError::Failure(_)) => Greeted::GivenUp(GivenUp::Failed),
+        let mut stream = stream;
+        let mut head = match stage {
+            Stage::Reads(head) => head,
+            Stage::Writes(reply) => return Greeting::sending(
+                alloc,
+                stream,
+                config,
+                reply,
+                empty_reads,
+            ),
+        };
+        match read_on(alloc, &mut stream, &mut head, front) {
+            Heard::Waits => Greeting::waiting(stream, config, Stage::Reads(head), empty_reads),
+            Heard::Whole(reply) => Greeting::sending(alloc, stream, config, reply, empty_reads),
+            Heard::Ends => Greeted::GivenUp(GivenUp::Failed),
         }
     }
 }

@@ -2,6 +2,7 @@
 ghost use Rattle.std.specs.Prelude.{◌≡◌, ◌≤◌, ◌+◌, ◌==◌, [], map, filter, vec_len, vec_capacity, OnOk, OnErr, IfOk};
 ghost use Rattle.presence_node_handshakes.specs.Guests.{Admits, Looks, LooksAll, LooksInto, Turns, is_under_way, marked, readied};
 
+use crate::front::{Front, Tells};
 use crate::greeting::{Greeted, Greeting};
 use std::alloc::{AllocError, Global};
 use std::io::{Read, Write};
@@ -51,32 +52,44 @@ impl<S: Read + Write + Drop> Guest<S> {
     }
 
     // Goes on with the handshake, if the client is ready: the socket, if it is done.
-    fn look(&mut self) -> Option<WebSocket<S, NoMask>>
+    fn look<T: Tells>(
+        &mut self,
+        alloc: Global,
+        front: &Front<'_, T>,
+    ) -> Option<WebSocket<S, NoMask>>
         ensures { Looks self.old self.new result }
     {
         if !self.ready {
             return None;
         }
         self.ready = false;
-        match self.greeting.take()?.go_on() {
+        match self.greeting.take()?.go_on(alloc, front) {
             Greeted::Open(socket) => Some(socket),
             Greeted::Waits(greeting) => {
                 self.greeting = Some(greeting);
                 None
             }
-            Greeted::GivenUp(_) => None,
+            Greeted::GivenUp(cause) => {
+                front.tells.gave_up(cause);
+                None
+            }
         }
     }
 
     // Goes on with the handshake, and puts its socket behind the others, if it is done.
-    fn look_into(&mut self, opened: &mut Vec<Opened<S>>) -> Result<(), AllocError>
+    fn look_into<T: Tells>(
+        &mut self,
+        alloc: Global,
+        front: &Front<'_, T>,
+        opened: &mut Vec<Opened<S>>,
+    ) -> Result<(), AllocError>
         ensures looked { OnOk result (LooksInto self.old self.new opened.old.items opened.new.items) }
         ensures one { vec_len opened.new ≤ vec_len opened.old + 1 }
         ensures capacity { vec_capacity opened.old ≤ vec_capacity opened.new }
         ensures full { OnErr result (vec_capacity opened.old ≤ vec_len opened.old) }
     {
         let number = self.number;
-        if let Some(socket) = self.look() {
+        if let Some(socket) = self.look(alloc, front) {
             opened.push((number, socket))?;
         }
         Ok(())
@@ -145,13 +158,17 @@ impl<S: Read + Write + Drop> Guests<S> {
     }
 
     // Goes on with each handshake that is ready: the sockets of those that are done.
-    fn look_at_all(&mut self, alloc: Global) -> Result<Vec<Opened<S>>, AllocError>
+    fn look_at_all<T: Tells>(
+        &mut self,
+        alloc: Global,
+        front: &Front<'_, T>,
+    ) -> Result<Vec<Opened<S>>, AllocError>
         ensures looked { IfOk result (λ opened. LooksAll self.old.guests.items self.new.guests.items opened.items) }
         ensures no_room { OnErr result (self.new ≡ self.old) }
     {
         let mut opened = Vec::with_capacity(alloc, self.guests.len())?;
         for guest in self.guests.iter_mut() {
-            guest.look_into(&mut opened)?;
+            guest.look_into(alloc, front, &mut opened)?;
         }
         Ok(opened)
     }
@@ -164,12 +181,16 @@ impl<S: Read + Write + Drop> Guests<S> {
     }
 
     /// Goes on with each handshake that is ready: the sockets of those that are done, in the order of their clients.
-    /// Clients whose handshakes are over go. Where memory for all that may be done is wanting, nothing is done.
-    pub fn turn(&mut self, alloc: Global) -> Result<Vec<Opened<S>>, AllocError>
+    /// Clients whose handshakes are over go, and so do those whose requests were answered otherwise, from `front`. Where memory for all that may be done is wanting, nothing is done.
+    pub fn turn<T: Tells>(
+        &mut self,
+        alloc: Global,
+        front: &Front<'_, T>,
+    ) -> Result<Vec<Opened<S>>, AllocError>
         ensures turned { IfOk result (λ opened. Turns self.old.guests.items self.new.guests.items opened.items) }
         ensures no_room { OnErr result (self.new.guests.items ≡ self.old.guests.items) }
     {
-        let opened = self.look_at_all(alloc)?;
+        let opened = self.look_at_all(alloc, front)?;
         self.give_up();
         Ok(opened)
     }

@@ -1,11 +1,15 @@
-//! WebSocket handshakes over streams that may have nothing yet.
+//! WebSocket handshakes over streams that may have nothing yet, and answers to other requests of HTTP there.
 //!
 //! What its contracts cite: `specs/Greeting` says what one look at a handshake gives, `specs/Guests` what marks,
 //! newcomers and turns do to the clients whose handshakes are not over.
 #![tactic(auto)]
 
+mod front;
 mod greeting;
 mod guests;
 
-pub use greeting::{GivenUp, Greeted, Greeting, MAX_EMPTY_READS};
+pub use front::{Front, Tells};
+pub use greeting::{GivenUp, Greeted, Greeting, MAX_EMPTY_READS, MAX_HEAD_BYTES};
 pub use guests::{Guests, Opened};
+// What is told of requests.
+pub use presence_node_requests::Answer;

@@ -19,4 +19,4 @@ pub use ending::{
 pub use presence_node_stdio::{
     LocalSession, SessionFault, StdioFault, run_lines, run_stdio, status_of, told_line,
 };
-pub use running::{run_program, run_with};
+pub use running::{run_program, run_program_with, run_with, serve_with};

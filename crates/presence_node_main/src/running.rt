@@ -9,7 +9,9 @@ use hook_registry::{NoHooks, PresenceHooks};
 use presence_node_ends::serve_status_of;
 use presence_node_fold::{fold_status_of, run_fold};
 use presence_node_notices::ReferenceNotices;
-use presence_node_options::{FoldOptions, Options, ServeOptions, StdioOptions, options_of};
+use presence_node_options::{
+    FoldOptions, Options, ServeOptions, StdioOptions, UsageFault, options_of,
+};
 use presence_node_stdio::{run_stdio, status_of};
 use std::env::Env;
 use std::io;
@@ -34,18 +36,6 @@ fn serve_stdio<R: Input + Print + Eprint + AllocGlobal, H: PresenceHooks>(
     match stdio_ending(alloc, &end, options.explain) {
         Ok(ending) => Ok(ending),
         Err(_) => Ok(silent(end.err().map_or(2, |fault| status_of(&fault)))),
-    }
-}
-
-// The same with the program's own notices, where they are asked for.
-fn serve_plainly<R: Input + Print + Eprint + AllocGlobal>(
-    rt: &R,
-    options: &StdioOptions,
-) -> io::Result<Ending> {
-    if options.notices {
-        serve_stdio(rt, &ReferenceNotices, options)
-    } else {
-        serve_stdio(rt, &NoHooks, options)
     }
 }
 
@@ -83,8 +73,17 @@ where
     }
 }
 
-// Does what the words of the command line ask for.
-fn run<R>(rt: &R) -> io::Result<Ending>
+// What the words of the command line ask for, or what is wrong with them.
+fn asked<R: Env + AllocGlobal>(rt: &R) -> io::Result<Result<Options, UsageFault>> {
+    let alloc = rt.alloc();
+    let words = words_of(rt)?;
+    let texts = texts_of(alloc, words.as_slice())?;
+    Ok(options_of(alloc, texts.as_slice()))
+}
+
+// Does what the words of the command line ask for, with these hooks. Where it has notices of its own, `stdio` is run
+// with those if they are asked for.
+fn run<R, H>(rt: &R, hooks: &H, has_notices: bool) -> io::Result<Ending>
 where
     R: Net<Listener = TcpListener, Stream = TcpStream>
         + Threads
@@ -96,15 +95,21 @@ where
         + Eprint
         + AllocGlobal
         + Sync,
+    H: PresenceHooks + Sync,
 {
-    let alloc = rt.alloc();
-    let words = words_of(rt)?;
-    let texts = texts_of(alloc, words.as_slice())?;
-    match options_of(alloc, texts.as_slice()) {
+    match asked(rt)? {
         Ok(Options::Help(text)) => Ok(help_ending(text)),
-        Ok(Options::Stdio(options)) => serve_plainly(rt, &options),
+        Ok(Options::Version(text)) => Ok(help_ending(text)),
+        Ok(Options::Bare(text)) => Ok(help_ending(text)),
+        Ok(Options::Stdio(options)) => {
+            if has_notices && options.notices {
+                serve_stdio(rt, &ReferenceNotices, &options)
+            } else {
+                serve_stdio(rt, hooks, &options)
+            }
+        }
         Ok(Options::Fold(options)) => fold_stdin(rt, options),
-        Ok(Options::Serve(options)) => serve_clients(rt, &NoHooks, &options),
+        Ok(Options::Serve(options)) => serve_clients(rt, hooks, &options),
         Err(fault) => Ok(usage_ending(fault)),
     }
 }
@@ -159,7 +164,26 @@ where
         + AllocGlobal
         + Sync,
 {
-    finish(rt, run(rt))
+    finish(rt, run(rt, &NoHooks, true))
+}
+
+/// Runs the program over its words and the standard streams, with what these hooks add, and gives the status to end
+/// with. `stdio` and `serve` run as by `run_with` and `serve_with`.
+pub fn run_program_with<R, H>(rt: &R, hooks: &H) -> u8
+where
+    R: Net<Listener = TcpListener, Stream = TcpStream>
+        + Threads
+        + Wait
+        + Clock
+        + Env
+        + Input
+        + Print
+        + Eprint
+        + AllocGlobal
+        + Sync,
+    H: PresenceHooks + Sync,
+{
+    finish(rt, run(rt, hooks, false))
 }
 
 /// Runs `stdio` with these options over the standard streams, with what these hooks add and with
@@ -171,4 +195,23 @@ pub fn run_with<R: Input + Print + Eprint + AllocGlobal, H: PresenceHooks>(
     options: &StdioOptions,
 ) -> u8 {
     finish(rt, serve_stdio(rt, hooks, options))
+}
+
+/// Serves clients with these options, with what these hooks add, until a line `stop` comes on standard input, and gives
+/// the status to end with. The hooks are asked for notices of each delivery, by several threads; these are written
+/// nowhere, since each client that is told of a row has one of its own.
+pub fn serve_with<R, H>(rt: &R, hooks: &H, options: &ServeOptions) -> u8
+where
+    R: Net<Listener = TcpListener, Stream = TcpStream>
+        + Threads
+        + Wait
+        + Clock
+        + Input
+        + Print
+        + Eprint
+        + AllocGlobal
+        + Sync,
+    H: PresenceHooks + Sync,
+{
+    finish(rt, serve_clients(rt, hooks, options))
 }

@@ -4,17 +4,17 @@ use Rattle.clap.specs.Words.{HasMatchesOf, IsAmong, Kinds, HasKind, Row, Text, a
 use Rattle.clap.specs.declared.builder.command.Command.{Command}
 use Rattle.clap.specs.declared.error.Error.{Error}
 use Rattle.clap.specs.declared.error.kind.ErrorKind.{ErrorKind}
-use Rattle.clap.specs.declared.error.kind.ErrorKind.TheVariants.{DisplayHelp, OutOfMemory}
+use Rattle.clap.specs.declared.error.kind.ErrorKind.TheVariants.{DisplayHelp, DisplayVersion, MissingSubcommand, OutOfMemory}
 use Rattle.clap.specs.declared.parser.matches.ArgMatches.{ArgMatches}
 use Rattle.clap.proofs.OnLiterals.{clap_on_literals}
 use Rattle.presence_node_options.specs.CommandLine.{program}
-use Rattle.presence_node_options.specs.Given.{AskFor, Calls, Chooses, ChoosesNone, HasCause, IsFor, IsHelpFor, Refused, RefusedFor, Refuses, ServeRefuses}
+use Rattle.presence_node_options.specs.Given.{AskFor, Calls, Chooses, ChoosesNone, HasCause, IsFor, IsHelpFor, IsNoHelp, Refused, RefusedFor, Refuses, ServeRefuses}
 use Rattle.presence_node_options.specs.declared.fault.UsageCause.{UsageCause}
-use Rattle.presence_node_options.specs.declared.fault.UsageCause.TheVariants.{Words, Name, Incarnation, Route, Port, LinkPort, Shards, Workers, Peer}
+use Rattle.presence_node_options.specs.declared.fault.UsageCause.TheVariants.{Words, Name, Incarnation, Route, Port, LinkPort, Shards, Workers, Peer, Origin}
 use Rattle.presence_node_options.specs.declared.fault.UsageFault.{UsageFault}
 use Rattle.presence_node_options.specs.declared.fault.UsageFault.TheVariants.{Usage, Memory}
 use Rattle.presence_node_options.specs.declared.options.Options.{Options}
-use Rattle.presence_node_options.specs.declared.options.Options.TheVariants.{Help, Stdio, Fold, Serve}
+use Rattle.presence_node_options.specs.declared.options.Options.TheVariants.{Help, Version, Bare, Stdio, Fold, Serve}
 
 program_is_simple : is_simple_and_free program ≡ true
 unfolding clap_on_literals
@@ -39,23 +39,31 @@ among kinds e k is other (inr h) = subst (λ v. IsAmong v kinds) is h
 help_is_other : DisplayHelp ≡ OutOfMemory → ⊥
 help_is_other h = cc
 
+version_is_other : DisplayVersion ≡ OutOfMemory → ⊥
+version_is_other h = cc
+
+bare_is_other : MissingSubcommand ≡ OutOfMemory → ⊥
+bare_is_other h = cc
+
 -- a question for help, and what is wrong with words
 pub help_asked : (c : Command) (words : List Text) (e : Error) (r : Result Options UsageFault) → app_of c ≡ program → (is_simple_and_free (app_of c) ≡ true → HasKind (fault_of (app_of c) words) e)
     → IfOk r (IsHelpFor (kind_of e)) → IfOk r (AskFor words)
 help_asked c words e (Ok (Help text)) is h told = among (fault_of program words) e DisplayHelp told help_is_other (error_kind c words e is h)
+help_asked c words e (Ok (Version text)) is h told = among (fault_of program words) e DisplayVersion told version_is_other (error_kind c words e is h)
+help_asked c words e (Ok (Bare text)) is h told = among (fault_of program words) e MissingSubcommand told bare_is_other (error_kind c words e is h)
 help_asked c words e (Ok (Stdio o)) is h told = absurd told
 help_asked c words e (Ok (Fold o)) is h told = absurd told
 help_asked c words e (Ok (Serve o)) is h told = absurd told
 help_asked c words e (Err f) is h told = tt
 
 pub words_refused : (c : Command) (words : List Text) (e : Error) (r : Result Options UsageFault) → app_of c ≡ program → (is_simple_and_free (app_of c) ≡ true → HasKind (fault_of (app_of c) words) e)
-    → IfErr r (IsFor Words ((kind_of e ≡ DisplayHelp → ⊥) × (kind_of e ≡ OutOfMemory → ⊥))) → IfErr r (Refused words)
+    → IfErr r (IsFor Words (IsNoHelp (kind_of e))) → IfErr r (Refused words)
 words_refused c words e (Ok o) is h told = tt
 words_refused c words e (Err Memory) is h told = tt
 words_refused c words e (Err (Usage cause text)) is h told = subst (RefusedFor words) (sym told.0) (inl (record {
   kind = kind_of e;
-  among = among (fault_of program words) e (kind_of e) refl told.1.1 (error_kind c words e is h);
-  other = told.1.0;
+  among = among (fault_of program words) e (kind_of e) refl told.1.memory (error_kind c words e is h);
+  other = told.1;
 }))
 
 -- the words name a command
@@ -67,6 +75,8 @@ pub chosen_asked : (c : Command) (words : List Text) (m : ArgMatches) (name : Te
     → IfOk r (Chooses name rows) → IfOk r (AskFor words)
 chosen_asked c words m name rows (Err f) is h met chosen = tt
 chosen_asked c words m name rows (Ok (Help text)) is h met chosen = absurd chosen
+chosen_asked c words m name rows (Ok (Version text)) is h met chosen = absurd chosen
+chosen_asked c words m name rows (Ok (Bare text)) is h met chosen = absurd chosen
 chosen_asked c words m name rows (Ok (Stdio o)) is h met chosen = (rows, calls c words m name (codes "stdio") rows is h met chosen.0, chosen.1)
 chosen_asked c words m name rows (Ok (Fold o)) is h met chosen = (rows, calls c words m name (codes "fold") rows is h met chosen.0, chosen.1)
 chosen_asked c words m name rows (Ok (Serve o)) is h met chosen = (rows, calls c words m name (codes "serve") rows is h met chosen.0, chosen.1)
@@ -108,6 +118,7 @@ chosen_refused c words m name rows (Err (Usage LinkPort text)) is h met none = w
 chosen_refused c words m name rows (Err (Usage Shards text)) is h met none = why_refused c words m name rows Shards is h met none
 chosen_refused c words m name rows (Err (Usage Workers text)) is h met none = why_refused c words m name rows Workers is h met none
 chosen_refused c words m name rows (Err (Usage Peer text)) is h met none = why_refused c words m name rows Peer is h met none
+chosen_refused c words m name rows (Err (Usage Origin text)) is h met none = why_refused c words m name rows Origin is h met none
 
 -- no command is named
 pub none_named : (c : Command) (words : List Text) (m : ArgMatches) (f : UsageFault) → app_of c ≡ program → HasMatchesOf (app_of c) words m → None ≡ subcommand_rows_of m → HasCause Words f → Refused words f

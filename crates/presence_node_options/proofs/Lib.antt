@@ -3,3 +3,4 @@ pub mod Patterns
 pub mod Plain
 pub mod Asking
 pub mod Peers
+pub mod Origins

@@ -39,15 +39,16 @@ served_app =
 -- and those of its topics and of links
 abbrev pub serve_app : App
 serve_app =
-    with_rule (with_rule (with_rule (with_rule served_app
+    with_rule (with_rule (with_rule (with_rule (with_rule served_app
     (option_rule (codes "route") Append))
     (option_rule (codes "peer") Append))
     (option_rule (codes "listen") Set))
-    (option_rule (codes "link-listen") Set)
+    (option_rule (codes "link-listen") Set))
+    (option_rule (codes "origin") Append)
 
--- the program itself, which is nothing without a command
+-- the program itself, which is nothing without a command, and has a version
 abbrev pub top_app : App
-top_app = on_top (λ s. record s { subcommand_required = true }) (new_app (codes "presence_node"))
+top_app = on_top (λ s. record s { subcommand_required = true; has_version = true }) (new_app (codes "presence_node"))
 
 abbrev pub program : App
 program = with_subcommand (with_subcommand (with_subcommand top_app stdio_app.top) fold_app.top) serve_app.top

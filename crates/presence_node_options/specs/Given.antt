@@ -1,11 +1,11 @@
 -- Which options the words of a command line give, and which words are refused.
-use Rattle.std.specs.Prelude.{◌≡◌, ◌⊎◌, ◌≤◌, ◌<◌, ℕ, List, [], ◌∷◌, ◌++◌, Bool, false, IsTrue, length, codes, string_bytes, unwrap_or, Option, Some, None}
+use Rattle.std.specs.Prelude.{◌≡◌, ◌⊎◌, ◌≤◌, ◌<◌, ℕ, List, [], ◌∷◌, ◌++◌, Bool, false, IsTrue, length, codes, string_bytes, unwrap_or, map, option_map, Option, Some, None}
 use Rattle.std.specs.List.{AllByRecursion}
 use Rattle.std.specs.Str.{bytes_eq}
 use Rattle.std.specs.Str.Parse.{IsNumeral, digits_value, without_leading_plus}
 use Rattle.clap.specs.Words.{Row, Text, IsAmong, all_of, fault_of, first_of, subcommand_of}
 use Rattle.clap.specs.declared.error.kind.ErrorKind.{ErrorKind}
-use Rattle.clap.specs.declared.error.kind.ErrorKind.TheVariants.{DisplayHelp, OutOfMemory}
+use Rattle.clap.specs.declared.error.kind.ErrorKind.TheVariants.{DisplayHelp, DisplayVersion, MissingSubcommand, OutOfMemory}
 use Rattle.hook_registry.specs.Patterns.{is_pattern}
 use Rattle.hook_registry.specs.declared.routes.TheConstants.{MAX_ROUTES}
 use Rattle.presence_base.specs.Names.{is_node_name}
@@ -13,16 +13,16 @@ use Rattle.presence_base.specs.Refs.{IsCount}
 use Rattle.presence_node_options.specs.CommandLine.{program}
 use Rattle.presence_node_options.specs.Limits.{numbered}
 use Rattle.presence_node_options.specs.declared.fault.UsageCause.{UsageCause}
-use Rattle.presence_node_options.specs.declared.fault.UsageCause.TheVariants.{Words, Name, Incarnation, Route, Port, LinkPort, Shards, Workers, Peer}
+use Rattle.presence_node_options.specs.declared.fault.UsageCause.TheVariants.{Words, Name, Incarnation, Route, Port, LinkPort, Shards, Workers, Peer, Origin}
 use Rattle.presence_node_options.specs.declared.fault.UsageFault.{UsageFault}
 use Rattle.presence_node_options.specs.declared.fault.UsageFault.TheVariants.{Usage, Memory}
 use Rattle.presence_node_options.specs.declared.options.Options.{Options}
-use Rattle.presence_node_options.specs.declared.options.Options.TheVariants.{Help, Stdio, Fold, Serve}
+use Rattle.presence_node_options.specs.declared.options.Options.TheVariants.{Help, Version, Bare, Stdio, Fold, Serve}
 use Rattle.presence_node_options.specs.declared.options.PeerOption.{PeerOption}
 use Rattle.presence_node_options.specs.declared.options.ServeOptions.{ServeOptions}
 use Rattle.presence_node_options.specs.declared.options.StdioOptions.{StdioOptions}
 use Rattle.presence_base.specs.declared.names.TheConstants.{MAX_SHARDS}
-use Rattle.presence_node_options.specs.declared.options.TheConstants.{MAX_WORKERS}
+use Rattle.presence_node_options.specs.declared.options.TheConstants.{MAX_ORIGINS, MAX_WORKERS}
 
 -- the number that a text's digits write
 abbrev pub number_in : Text → ℕ
@@ -35,6 +35,10 @@ name_given rows = unwrap_or (first_of (codes "name") rows) (codes "a")
 -- the text of the incarnation that is given, or 1
 abbrev pub incarnation_given : List Row → Text
 incarnation_given rows = unwrap_or (first_of (codes "incarnation") rows) (codes "1")
+
+-- the text of the incarnation that a server is given, if one is
+abbrev pub life_given : List Row → Option Text
+life_given rows = first_of (codes "incarnation") rows
 
 -- the patterns that are given, in their order, or `room:*` alone
 abbrev pub patterns_given : List Row → List Text
@@ -63,6 +67,10 @@ listen_given rows = unwrap_or (first_of (codes "listen") rows) (codes "127.0.0.1
 
 abbrev pub link_listen_given : List Row → Text
 link_listen_given rows = unwrap_or (first_of (codes "link-listen") rows) (codes "127.0.0.1")
+
+-- the origins that are given, in their order
+abbrev pub origins_given : List Row → List Text
+origins_given rows = unwrap_or (all_of (codes "origin") rows) []
 
 abbrev pub is_yes : Option Text → Bool
 is_yes None = false
@@ -137,7 +145,7 @@ pub record IsGiven (rows : List Row) (o : StdioOptions) : Type 0 where
 -- the same for a server
 pub record IsServed (rows : List Row) (o : ServeOptions) : Type 0 where
   pub name : o.name ≡ name_given rows
-  pub incarnation : o.incarnation ≡ number_in (incarnation_given rows)
+  pub incarnation : o.incarnation ≡ option_map number_in (life_given rows)
   pub routes : o.routes ≡ numbered 0 (patterns_given rows)
   pub port : o.port ≡ number_in (port_given rows)
   pub link_port : o.link_port ≡ number_in (link_port_given rows)
@@ -146,6 +154,7 @@ pub record IsServed (rows : List Row) (o : ServeOptions) : Type 0 where
   pub peers : ArePeers (peers_given rows) o.peers.items
   pub listen : string_bytes o.listen ≡ listen_given rows
   pub link_listen : string_bytes o.link_listen ≡ link_listen_given rows
+  pub origins : map string_bytes o.origins.items ≡ origins_given rows
 
 -- the words name this command, with these options
 abbrev pub Calls : List Text → Text → List Row → Type 0
@@ -154,6 +163,8 @@ Calls words command rows = subcommand_of program words ≡ Some (command, rows)
 -- what the words ask for
 abbrev pub AskFor : List Text → Options → Type 0
 AskFor words (Help text) = IsAmong DisplayHelp (fault_of program words)
+AskFor words (Version text) = IsAmong DisplayVersion (fault_of program words)
+AskFor words (Bare text) = IsAmong MissingSubcommand (fault_of program words)
 AskFor words (Stdio o) = (rows : List Row) × Calls words (codes "stdio") rows × IsGiven rows o
 AskFor words (Fold o) = (rows : List Row) × Calls words (codes "fold") rows × (o.explain ≡ explain_given rows)
 AskFor words (Serve o) = (rows : List Row) × Calls words (codes "serve") rows × IsServed rows o
@@ -183,6 +194,10 @@ pub record AreFewPatterns (patterns : List Text) : Type 0 where
   pub each : AllByRecursion (λ p. IsTrue (is_pattern p)) patterns
   pub few : length patterns ≤ MAX_ROUTES
 
+-- there are no more origins than are allowed
+abbrev pub AreFewOrigins : List Text → Type 0
+AreFewOrigins origins = length origins ≤ MAX_ORIGINS
+
 abbrev pub HasCause : UsageCause → UsageFault → Type 0
 HasCause cause (Usage c text) = c ≡ cause
 HasCause cause Memory = Unit {0}
@@ -205,10 +220,16 @@ Refuses rows LinkPort = ⊥
 Refuses rows Shards = ⊥
 Refuses rows Workers = ⊥
 Refuses rows Peer = ⊥
+Refuses rows Origin = ⊥
 
--- the name and the incarnation are within their limits
+-- an incarnation, if one is given
+abbrev pub IsLife : Option Text → Type 0
+IsLife None = Unit {0}
+IsLife (Some text) = IsIncarnation text
+
+-- the name and the incarnation of a server are within their limits
 abbrev pub IsNamed : List Row → Type 0
-IsNamed rows = IsTrue (is_node_name (name_given rows)) × IsIncarnation (incarnation_given rows)
+IsNamed rows = IsTrue (is_node_name (name_given rows)) × IsLife (life_given rows)
 
 -- and the ports, the shards and the workers too
 abbrev pub IsPort : List Row → Type 0
@@ -227,17 +248,20 @@ abbrev pub AreWorkers : List Row → Type 0
 AreWorkers rows = IsNumberWithin 1 MAX_WORKERS (workers_given rows)
 
 -- why the options of `serve` are refused: the name is looked at first, then the incarnation, the port, that of links, the
--- shards, the workers, the peers and the routes
+-- shards, the workers, the peers, the origins and the routes
 abbrev pub ServeRefuses : List Row → UsageCause → Type 0
+ServeRefuses rows Incarnation = IsTrue (is_node_name (name_given rows)) × (IsLife (life_given rows) → ⊥)
 ServeRefuses rows Port = IsNamed rows × (IsPort rows → ⊥)
 ServeRefuses rows LinkPort = IsNamed rows × IsPort rows × (IsLinkPort rows → ⊥)
 ServeRefuses rows Shards = IsNamed rows × ArePorts rows × (AreShards rows → ⊥)
 ServeRefuses rows Workers = IsNamed rows × ArePorts rows × AreShards rows × (AreWorkers rows → ⊥)
 ServeRefuses rows Peer = IsNamed rows × ArePorts rows × AreShards rows × AreWorkers rows
     × (AllArePeers (peers_given rows) → ⊥)
+ServeRefuses rows Origin = IsNamed rows × ArePorts rows × AreShards rows × AreWorkers rows
+    × AllArePeers (peers_given rows) × (AreFewOrigins (origins_given rows) → ⊥)
 ServeRefuses rows Route =
     IsNamed rows × ArePorts rows × AreShards rows × AreWorkers rows × AllArePeers (peers_given rows)
-    × (AreFewPatterns (patterns_given rows) → ⊥)
+    × AreFewOrigins (origins_given rows) × (AreFewPatterns (patterns_given rows) → ⊥)
 ServeRefuses rows cause = Refuses rows cause
 
 abbrev pub IsWrong : List Row → UsageFault → Type 0
@@ -248,11 +272,18 @@ abbrev pub IsServedWrong : List Row → UsageFault → Type 0
 IsServedWrong rows (Usage cause text) = ServeRefuses rows cause
 IsServedWrong rows Memory = Unit {0}
 
--- another refusal than the answer to a question for help
+-- an error that is answered by no text that was asked for, and is no want of memory
+pub record IsNoHelp (kind : ErrorKind) : Type 0 where
+  pub help : kind ≡ DisplayHelp → ⊥
+  pub version : kind ≡ DisplayVersion → ⊥
+  pub bare : kind ≡ MissingSubcommand → ⊥
+  pub memory : kind ≡ OutOfMemory → ⊥
+
+-- another refusal than the answer to a question for help or for the version, or to no words at all
 pub record IsRefusal (words : List Text) : Type 0 where
   pub kind : ErrorKind
   pub among : IsAmong kind (fault_of program words)
-  pub other : kind ≡ DisplayHelp → ⊥
+  pub other : IsNoHelp kind
 
 -- no command is named
 pub record NamesNone (words : List Text) : Type 0 where
@@ -271,20 +302,20 @@ abbrev pub Refused : List Text → UsageFault → Type 0
 Refused words (Usage cause text) = RefusedFor words cause
 Refused words Memory = Unit {0}
 
--- what the parser's answer to a question for help becomes
+-- what the parser's answer becomes to a question for help or for the version, and where no command is named
 abbrev pub IsHelpFor : ErrorKind → Options → Type 0
 IsHelpFor kind (Help text) = kind ≡ DisplayHelp
+IsHelpFor kind (Version text) = kind ≡ DisplayVersion
+IsHelpFor kind (Bare text) = kind ≡ MissingSubcommand
 IsHelpFor kind (Stdio o) = ⊥
 IsHelpFor kind (Fold o) = ⊥
 IsHelpFor kind (Serve o) = ⊥
 
--- an error that is neither that nor want of memory
-abbrev pub IsNoHelp : ErrorKind → Type 0
-IsNoHelp kind = (kind ≡ DisplayHelp → ⊥) × (kind ≡ OutOfMemory → ⊥)
-
 -- what a command of this name gives, by its rows
 abbrev pub Chooses : Text → List Row → Options → Type 0
 Chooses name rows (Help text) = ⊥
+Chooses name rows (Version text) = ⊥
+Chooses name rows (Bare text) = ⊥
 Chooses name rows (Stdio o) = (name ≡ codes "stdio") × IsGiven rows o
 Chooses name rows (Fold o) = (name ≡ codes "fold") × (o.explain ≡ explain_given rows)
 Chooses name rows (Serve o) = (name ≡ codes "serve") × IsServed rows o

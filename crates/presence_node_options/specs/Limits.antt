@@ -1,5 +1,6 @@
 -- What the options of a command line keep.
 use Rattle.std.specs.Prelude.{◌≡◌, ◌≤◌, ◌+◌, ℕ, List, [], ◌∷◌, length, map, IsTrue}
+use Rattle.std.specs.Option.{ForSome}
 use Rattle.std.specs.List.{AllByRecursion}
 use Rattle.presence_base.specs.Names.{is_node_name}
 use Rattle.presence_base.specs.Refs.{IsCount}
@@ -8,9 +9,9 @@ use Rattle.hook_registry.specs.declared.routes.TheConstants.{MAX_ROUTES}
 use Rattle.presence_node_options.specs.declared.options.StdioOptions.{StdioOptions}
 use Rattle.presence_node_options.specs.declared.options.ServeOptions.{ServeOptions}
 use Rattle.presence_base.specs.declared.names.TheConstants.{MAX_SHARDS}
-use Rattle.presence_node_options.specs.declared.options.TheConstants.{MAX_WORKERS}
+use Rattle.presence_node_options.specs.declared.options.TheConstants.{MAX_ORIGINS, MAX_WORKERS}
 use Rattle.presence_node_options.specs.declared.options.Options.{Options}
-use Rattle.presence_node_options.specs.declared.options.Options.TheVariants.{Help, Stdio, Fold, Serve}
+use Rattle.presence_node_options.specs.declared.options.Options.TheVariants.{Help, Version, Bare, Stdio, Fold, Serve}
 
 -- patterns with their positions, from this one on
 abbrev pub numbered : ℕ → List (List ℕ) → List (List ℕ × ℕ)
@@ -32,18 +33,22 @@ pub record IsWithin (o : StdioOptions) : Type 0 where
   pub incarnation : IsCount o.incarnation
   pub routes : AreRoutes o.routes
 
--- the same for a server, with ports from 1 to 65535, and shards and workers as many as there may be
+-- the same for a server, with ports from 1 to 65535, and shards, workers and origins as many as there may be; its
+-- incarnation may be left to the clock
 pub record IsServedWithin (o : ServeOptions) : Type 0 where
   pub name : IsTrue (is_node_name o.name)
-  pub incarnation : IsCount o.incarnation
+  pub incarnation : ForSome o.incarnation IsCount
   pub routes : AreRoutes o.routes
   pub port : (1 ≤ o.port) × (o.port ≤ 65535)
   pub link_port : (1 ≤ o.link_port) × (o.link_port ≤ 65535)
   pub shards : (1 ≤ o.shards) × (o.shards ≤ MAX_SHARDS)
   pub workers : (1 ≤ o.workers) × (o.workers ≤ MAX_WORKERS)
+  pub origins : length o.origins.items ≤ MAX_ORIGINS
 
 abbrev pub AreWithin : Options → Type 0
 AreWithin (Help text) = Unit {0}
+AreWithin (Version text) = Unit {0}
+AreWithin (Bare text) = Unit {0}
 AreWithin (Stdio o) = IsWithin o
 AreWithin (Fold o) = Unit {0}
 AreWithin (Serve o) = IsServedWithin o

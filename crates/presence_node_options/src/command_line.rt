@@ -1,20 +1,23 @@
-ghost use Rattle.std.specs.Prelude.{◌≡◌, false, IfOk, IfErr, OnOk, codes, map, option_map, unwrap_or};
+ghost use Rattle.std.specs.Prelude.{◌≡◌, ◌≤◌, false, IfOk, IfErr, OnOk, codes, map, option_map, string_bytes, unwrap_or, vec_len};
+ghost use Rattle.std.specs.Option.{ForSome};
+ghost use Rattle.presence_base.specs.Refs.{IsCount};
 ghost use Rattle.clap.specs.Words.{app_of, first_of, found_of, kind_of, rows_of, rule_of, subcommand_rows_of};
 ghost use Rattle.presence_node_options.specs.CommandLine.{flag_rule, option_rule, stdio_app, fold_app, serve_app, served_app, program};
-ghost use Rattle.presence_node_options.specs.Given.{AskFor, Chooses, ChoosesNone, HasCause, Refused, IsHelpFor, IsNoHelp, IsGiven, IsServed, IsServedWrong, IsFor, IsWrong, AreFewPatterns, AllArePeers, ArePeers, flag_given, patterns_given, peers_given};
+ghost use Rattle.presence_node_options.specs.Given.{AskFor, Chooses, ChoosesNone, HasCause, Refused, IsHelpFor, IsNoHelp, IsGiven, IsServed, IsServedWrong, IsFor, IsLife, IsWrong, AreFewOrigins, AreFewPatterns, AllArePeers, ArePeers, flag_given, life_given, number_in, origins_given, patterns_given, peers_given};
+ghost use Rattle.presence_node_options.specs.declared.options.TheConstants.{MAX_ORIGINS};
 ghost use Rattle.presence_node_options.specs.Limits.{AreRoutes, IsWithin, IsServedWithin, AreWithin, numbered};
 
 use crate::fault::{UsageCause, UsageFault};
 use crate::help::{
     ALL_OPTIONS, ALLOWED, EXPLAIN_HELP, FOLD_REFUSALS, FOLD_USAGE, INCARNATION_HELP,
-    LINK_LISTEN_HELP, LINK_PORT_HELP, LISTEN_HELP, NAME_HELP, NOTICES_HELP, PEER_HELP, PORT_HELP,
-    ROUTE_HELP, SERVE_ENDS, SERVE_USAGE, SHARDS_HELP, STDIO_REFUSALS, STDIO_USAGE, USAGES,
-    WORKERS_HELP,
+    LINK_LISTEN_HELP, LINK_PORT_HELP, LISTEN_HELP, NAME_HELP, NOTICES_HELP, ORIGIN_HELP, PEER_HELP,
+    PORT_HELP, ROUTE_HELP, SERVE_ENDS, SERVE_USAGE, SERVED_INCARNATION_HELP, SHARDS_HELP,
+    STDIO_REFUSALS, STDIO_USAGE, TO_TRY, USAGES, VERSION, WORKERS_HELP,
 };
 use crate::options::{FoldOptions, Options, PeerOption, ServeOptions, StdioOptions};
 use crate::values::{
-    address_of, incarnation_of, link_port_of, name_of, peers_of, port_of, routes_of, shards_of,
-    usage_of, workers_of,
+    address_of, incarnation_of, link_port_of, name_of, origins_of, peers_of, port_of, routes_of,
+    shards_of, usage_of, workers_of,
 };
 use clap::error::ErrorKind;
 use clap::{Arg, ArgAction, ArgMatches, Command, Error};
@@ -55,8 +58,8 @@ fn name_option<'a>(alloc: Global) -> Arg<'a>
         .help(NAME_HELP)
 }
 
-// `--incarnation NUMBER`.
-fn incarnation_option<'a>(alloc: Global) -> Arg<'a>
+// `--incarnation NUMBER`, with this help.
+fn incarnation_option<'a>(alloc: Global, help: &'a str) -> Arg<'a>
     ensures rule { rule_of result ≡ option_rule (codes "incarnation") ArgAction.Set }
     ensures local { result.global ≡ false }
 {
@@ -64,7 +67,7 @@ fn incarnation_option<'a>(alloc: Global) -> Arg<'a>
         .long("incarnation")
         .value_name("NUMBER")
         .action(ArgAction::Set)
-        .help(INCARNATION_HELP)
+        .help(help)
 }
 
 // `--route PATTERN`, as often as one likes.
@@ -163,6 +166,18 @@ fn link_listen_option<'a>(alloc: Global) -> Arg<'a>
         .help(LINK_LISTEN_HELP)
 }
 
+// `--origin ORIGIN`, as often as one likes.
+fn origin_option<'a>(alloc: Global) -> Arg<'a>
+    ensures rule { rule_of result ≡ option_rule (codes "origin") ArgAction.Append }
+    ensures local { result.global ≡ false }
+{
+    Arg::new(alloc, "origin")
+        .long("origin")
+        .value_name("ORIGIN")
+        .action(ArgAction::Append)
+        .help(ORIGIN_HELP)
+}
+
 // The command `stdio` with its options.
 fn stdio_command<'a>(alloc: Global) -> Result<Command<'a>, AllocError>
     ensures { IfOk result (λ c. app_of c ≡ stdio_app) }
@@ -172,7 +187,7 @@ fn stdio_command<'a>(alloc: Global) -> Result<Command<'a>, AllocError>
         .override_usage(STDIO_USAGE)
         .after_help(STDIO_REFUSALS)
         .arg(name_option(alloc))?
-        .arg(incarnation_option(alloc))?
+        .arg(incarnation_option(alloc, INCARNATION_HELP))?
         .arg(route_option(alloc))?
         .arg(notices_flag(alloc))?
         .arg(explain_flag(alloc))
@@ -183,9 +198,7 @@ fn fold_command<'a>(alloc: Global) -> Result<Command<'a>, AllocError>
     ensures { IfOk result (λ c. app_of c ≡ fold_app) }
 {
     Command::new(alloc, "fold")
-        .about(
-            "Folds the presence frames on standard input, one a line, and prints one object from topic to map",
-        )
+        .about("Folds presence frames, one a line, and prints an object from topic to map")
         .override_usage(FOLD_USAGE)
         .after_help(FOLD_REFUSALS)
         .arg(explain_flag(alloc))
@@ -200,7 +213,7 @@ fn served_command<'a>(alloc: Global) -> Result<Command<'a>, AllocError>
         .override_usage(SERVE_USAGE)
         .after_help(SERVE_ENDS)
         .arg(name_option(alloc))?
-        .arg(incarnation_option(alloc))?
+        .arg(incarnation_option(alloc, SERVED_INCARNATION_HELP))?
         .arg(port_option(alloc))?
         .arg(link_port_option(alloc))?
         .arg(shards_option(alloc))?
@@ -215,7 +228,8 @@ fn serve_command<'a>(alloc: Global) -> Result<Command<'a>, AllocError>
         .arg(route_option(alloc))?
         .arg(peer_option(alloc))?
         .arg(listen_option(alloc))?
-        .arg(link_listen_option(alloc))
+        .arg(link_listen_option(alloc))?
+        .arg(origin_option(alloc))
 }
 
 // The whole command line.
@@ -227,6 +241,7 @@ fn command_of<'a>(alloc: Global) -> Result<Command<'a>, AllocError>
     let serve = serve_command(alloc)?;
     Command::new(alloc, "presence_node")
         .about("A server of Phoenix Channels with Presence")
+        .version(VERSION)
         .override_usage(USAGES)
         .after_help(ALL_OPTIONS)
         .subcommand_required(true)
@@ -250,17 +265,60 @@ fn wrong_words(alloc: Global, e: &Error) -> Result<String, AllocError> {
     }
 }
 
-// The help that was asked for, or what is wrong with the words.
+// How to call the program, and what to try.
+fn bare_text(alloc: Global) -> Result<String, AllocError> {
+    let mut command = command_of(alloc)?;
+    let help = command.render_long_help()?;
+    let help = help.as_str().trim_end();
+    format!(in alloc; "{help}\n\n{TO_TRY}")
+}
+
+// The help that was asked for.
+fn help_of(alloc: Global, e: &Error) -> Result<Options, UsageFault>
+    requires { kind_of e.now ≡ ErrorKind.DisplayHelp }
+    ensures help { IfOk result (IsHelpFor (kind_of e.now)) }
+    ensures memory { IfErr result (λ fault. fault ≡ UsageFault.Memory) }
+{
+    match text_of(alloc, e) {
+        Ok(text) => Ok(Options::Help(text)),
+        Err(_) => Err(UsageFault::Memory),
+    }
+}
+
+// The version that was asked for.
+fn version_of(alloc: Global, e: &Error) -> Result<Options, UsageFault>
+    requires { kind_of e.now ≡ ErrorKind.DisplayVersion }
+    ensures version { IfOk result (IsHelpFor (kind_of e.now)) }
+    ensures memory { IfErr result (λ fault. fault ≡ UsageFault.Memory) }
+{
+    match text_of(alloc, e) {
+        Ok(text) => Ok(Options::Version(text)),
+        Err(_) => Err(UsageFault::Memory),
+    }
+}
+
+// What is told where no command is named.
+fn bare_of(alloc: Global, e: &Error) -> Result<Options, UsageFault>
+    requires { kind_of e.now ≡ ErrorKind.MissingSubcommand }
+    ensures bare { IfOk result (IsHelpFor (kind_of e.now)) }
+    ensures memory { IfErr result (λ fault. fault ≡ UsageFault.Memory) }
+{
+    match bare_text(alloc) {
+        Ok(text) => Ok(Options::Bare(text)),
+        Err(_) => Err(UsageFault::Memory),
+    }
+}
+
+// The text that was asked for, or what is wrong with the words.
 fn refusal_of(alloc: Global, e: Error) -> Result<Options, UsageFault>
     ensures help { IfOk result (IsHelpFor (kind_of e)) }
     ensures refusal { IfErr result (IsFor UsageCause.Words (IsNoHelp (kind_of e))) }
 {
     match e.kind() {
         ErrorKind::OutOfMemory => Err(UsageFault::Memory),
-        ErrorKind::DisplayHelp => match text_of(alloc, &e) {
-            Ok(text) => Ok(Options::Help(text)),
-            Err(_) => Err(UsageFault::Memory),
-        },
+        ErrorKind::DisplayHelp => help_of(alloc, &e),
+        ErrorKind::DisplayVersion => version_of(alloc, &e),
+        ErrorKind::MissingSubcommand => bare_of(alloc, &e),
         _ => Err(usage_of(UsageCause::Words, wrong_words(alloc, &e))),
     }
 }
@@ -301,6 +359,40 @@ fn given_peers(alloc: Global, matches: &ArgMatches<'_>) -> Result<Vec<PeerOption
     }
 }
 
+// The origins that are given.
+#[tactic(auto, using(crate::proofs::Rows::all_read))]
+fn given_origins(alloc: Global, matches: &ArgMatches<'_>) -> Result<Vec<String>, UsageFault>
+    ensures origins { IfOk result
+        (λ origins. map string_bytes origins.items ≡ origins_given (rows_of (found_of matches.now))) }
+    ensures few { IfOk result (λ origins. vec_len origins ≤ MAX_ORIGINS) }
+    ensures given { OnOk result (AreFewOrigins (origins_given (rows_of (found_of matches.now)))) }
+    ensures cause { IfErr result (IsFor UsageCause.Origin
+        (AreFewOrigins (origins_given (rows_of (found_of matches.now))) → ⊥)) }
+{
+    match matches.get_strs("origin") {
+        Some(texts) => origins_of(alloc, texts),
+        None => origins_of(alloc, &[]),
+    }
+}
+
+// The incarnation that is given, if one is.
+#[tactic(auto, using(crate::proofs::Rows::first_read))]
+fn given_life(alloc: Global, matches: &ArgMatches<'_>) -> Result<Option<u64>, UsageFault>
+    ensures number { IfOk result (λ n. n ≡ option_map number_in (life_given (rows_of (found_of matches.now)))) }
+    ensures limits { IfOk result (λ n. ForSome n IsCount) }
+    ensures life { OnOk result (IsLife (life_given (rows_of (found_of matches.now)))) }
+    ensures cause { IfErr result (IsFor UsageCause.Incarnation
+        (IsLife (life_given (rows_of (found_of matches.now))) → ⊥)) }
+{
+    let Some(text) = matches.get_str("incarnation") else {
+        return Ok(None);
+    };
+    match incarnation_of(alloc, text) {
+        Ok(incarnation) => Ok(Some(incarnation)),
+        Err(fault) => Err(fault),
+    }
+}
+
 // Whether the flag is given.
 #[tactic(auto, using(crate::proofs::Rows::first_read))]
 fn is_flagged(matches: &ArgMatches<'_>, id: &str) -> bool
@@ -337,12 +429,13 @@ fn serve_options(alloc: Global, matches: &ArgMatches<'_>) -> Result<ServeOptions
     ensures cause { IfErr result (IsServedWrong (rows_of (found_of matches.now))) }
 {
     let name = name_of(alloc, text_given(matches, "name", "a"))?;
-    let incarnation = incarnation_of(alloc, text_given(matches, "incarnation", "1"))?;
+    let incarnation = given_life(alloc, matches)?;
     let port = port_of(alloc, text_given(matches, "port", "4000"))?;
     let link_port = link_port_of(alloc, text_given(matches, "link-port", "4001"))?;
     let shards = shards_of(alloc, text_given(matches, "shards", "4"))?;
     let workers = workers_of(alloc, text_given(matches, "workers", "4"))?;
     let peers = given_peers(alloc, matches)?;
+    let origins = given_origins(alloc, matches)?;
     let routes = given_routes(alloc, matches)?;
     let listen = address_of(alloc, text_given(matches, "listen", "127.0.0.1"))?;
     let link_listen = address_of(alloc, text_given(matches, "link-listen", "127.0.0.1"))?;
@@ -357,6 +450,7 @@ fn serve_options(alloc: Global, matches: &ArgMatches<'_>) -> Result<ServeOptions
         peers,
         listen,
         link_listen,
+        origins,
     })
 }
 

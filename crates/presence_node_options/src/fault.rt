@@ -22,6 +22,8 @@ pub enum UsageCause {
     Workers,
     /// A peer is no name, host and port.
     Peer,
+    /// There are too many origins.
+    Origin,
 }
 
 /// Why a command line was not taken: a cause with a text for the user, or want of memory.

@@ -1,80 +1,100 @@
-//! Texts for the user that stand in the help and behind what is wrong with the words.
+//! Texts for the user that stand in the help and behind what is wrong with the words. No line is longer than 100
+//! characters; an option's help has its default at the end of its first line.
+
+/// The version of the program.
+pub const VERSION: &str = "0.1.0";
 
 /// How the program is called.
-pub(crate) const USAGES: &str =
-    "presence_node stdio [--name NAME] [--incarnation NUMBER] [--route PATTERN].. [--notices] [--explain]\n       presence_node fold [--explain]\n       presence_node serve [--name NAME] [--incarnation NUMBER] [--port PORT] [--link-port PORT] [--shards NUMBER] [--workers NUMBER] [--route PATTERN].. [--peer NAME=HOST:PORT].. [--listen ADDRESS] [--link-listen ADDRESS]";
+pub(crate) const USAGES: &str = "presence_node serve [OPTIONS]
+       presence_node stdio [OPTIONS]
+       presence_node fold [--explain]";
 
 /// How `stdio` is called.
-pub(crate) const STDIO_USAGE: &str =
-    "presence_node stdio [--name NAME] [--incarnation NUMBER] [--route PATTERN].. [--notices] [--explain]";
+pub(crate) const STDIO_USAGE: &str = "presence_node stdio [OPTIONS]";
 
 /// How `fold` is called.
 pub(crate) const FOLD_USAGE: &str = "presence_node fold [--explain]";
 
 /// How `serve` is called.
-pub(crate) const SERVE_USAGE: &str =
-    "presence_node serve [--name NAME] [--incarnation NUMBER] [--port PORT] [--link-port PORT] [--shards NUMBER] [--workers NUMBER] [--route PATTERN].. [--peer NAME=HOST:PORT].. [--listen ADDRESS] [--link-listen ADDRESS]";
+pub(crate) const SERVE_USAGE: &str = "presence_node serve [OPTIONS]";
 
-/// What `stdio` is told by each of its options, and `serve` by the first three.
+/// What `stdio` and `serve` are told by each option that both have.
 pub(crate) const NAME_HELP: &str = "The node's name: 1 to 32 characters of a-z, 0-9 [default: a]";
 
-pub(crate) const INCARNATION_HELP: &str =
-    "Which life of the node this is, 1 to 4611686018427387904; never use one twice. A + before it and zeros in front are taken: +5 is 5, and 007 is 7 [default: 1]";
+pub(crate) const ROUTE_HELP: &str = "A topic that may be joined; up to 64 times [default: room:*]
+A * at its end stands for whatever follows; it has 1 to 255 bytes";
 
-pub(crate) const ROUTE_HELP: &str =
-    "A topic that may be joined, or the front of such topics with one * behind it, of 1 to 255 bytes in all; up to 64 times [default: room:*]";
+/// Which life a node begins.
+pub(crate) const INCARNATION_HELP: &str = "Which life of the node this is [default: 1]
+1 to 4611686018427387904, also as +5 or 007; never use one twice";
 
-pub(crate) const NOTICES_HELP: &str =
-    "Say on standard error who joins and leaves, a line each, as join a.1.2; nothing is said of a state";
+pub(crate) const SERVED_INCARNATION_HELP: &str =
+    "Which life of the node this is [default: milliseconds of the clock]
+1 to 4611686018427387904, also as +5 or 007; never use one twice";
+
+pub(crate) const NOTICES_HELP: &str = "Say on standard error who joins and leaves, as join a.1.2
+A line each; nothing is said of a state";
 
 /// What `serve` is told by each further option.
-pub(crate) const PORT_HELP: &str =
-    "The port on which clients are served, 1 to 65535 [default: 4000]";
+pub(crate) const PORT_HELP: &str = "The port of clients, 1 to 65535 [default: 4000]";
 
 pub(crate) const LINK_PORT_HELP: &str =
-    "The port on which the links of other nodes come in, 1 to 65535 [default: 4001]";
+    "The port of other nodes' links, 1 to 65535 [default: 4001]";
 
-pub(crate) const PEER_HELP: &str =
-    "Another node to link to, by its name, its host and its link port, as b=10.0.0.2:4001; as often as one likes";
+pub(crate) const PEER_HELP: &str = "Another node to link to, as b=10.0.0.2:4001
+Its name, its host and its link port; as often as one likes";
 
-pub(crate) const LISTEN_HELP: &str = "The address on which clients are served [default: 127.0.0.1]";
+pub(crate) const LISTEN_HELP: &str = "The address of the port of clients [default: 127.0.0.1]";
 
-pub(crate) const LINK_LISTEN_HELP: &str = "The address on which links come in [default: 127.0.0.1]";
+pub(crate) const LINK_LISTEN_HELP: &str = "The address of the port of links [default: 127.0.0.1]";
+
+pub(crate) const ORIGIN_HELP: &str = "Where pages may connect from; up to 64 times [default: any]
+As https://example.com; pages of other origins are refused";
 
 pub(crate) const SHARDS_HELP: &str = "How many shards the topics are dealt to, 1 to 4 [default: 4]";
 
-pub(crate) const WORKERS_HELP: &str =
-    "How many threads answer clients, 1 to 64, each at most 1024 of them [default: 4]";
+pub(crate) const WORKERS_HELP: &str = "How many threads answer clients, 1 to 64 [default: 4]
+Each answers at most 1024 of them";
 
 /// What `stdio` and `fold` are told by `--explain`.
 pub(crate) const EXPLAIN_HELP: &str = "Say in words, on a second line, why a line was refused";
 
 /// The options of all commands, which stand behind the program's help.
-pub const ALL_OPTIONS: &str = "Options of stdio:
-      --name <NAME>           The node's name: 1 to 32 characters of a-z, 0-9 [default: a]
-      --incarnation <NUMBER>  Which life of the node this is, 1 to 4611686018427387904 [default: 1]
-      --route <PATTERN>       A topic that may be joined, or the front of such topics with one * behind it; up to 64 times [default: room:*]
-      --notices               Say on standard error who joins and leaves, a line each, as join a.1.2; nothing is said of a state
-      --explain               Say in words, on a second line, why a line was refused
-
-Options of fold:
-      --explain               Say in words, on a second line, why a line was refused
+pub const ALL_OPTIONS: &str = "Options of serve and stdio:
+      --name <NAME>            The node's name: 1 to 32 characters of a-z, 0-9 [default: a]
+      --incarnation <NUMBER>   Which life of the node this is [default: of serve milliseconds of the
+                               clock, of stdio 1]
+      --route <PATTERN>        A topic that may be joined; up to 64 times [default: room:*]
 
 Options of serve:
-      --name <NAME>           The node's name: 1 to 32 characters of a-z, 0-9 [default: a]
-      --incarnation <NUMBER>  Which life of the node this is, 1 to 4611686018427387904 [default: 1]
-      --port <PORT>           The port on which clients are served, 1 to 65535 [default: 4000]
-      --link-port <PORT>      The port on which the links of other nodes come in, 1 to 65535 [default: 4001]
-      --shards <NUMBER>       How many shards the topics are dealt to, 1 to 4 [default: 4]
-      --workers <NUMBER>      How many threads answer clients, 1 to 64, each at most 1024 of them [default: 4]
-      --route <PATTERN>       A topic that may be joined, or the front of such topics with one * behind it; up to 64 times [default: room:*]
-      --peer <NAME=HOST:PORT> Another node to link to, by its name, its host and its link port, as b=10.0.0.2:4001; as often as one likes
-      --listen <ADDRESS>      The address on which clients are served [default: 127.0.0.1]
-      --link-listen <ADDRESS> The address on which links come in [default: 127.0.0.1]";
+      --port <PORT>            The port of clients, 1 to 65535 [default: 4000]
+      --listen <ADDRESS>       The address of the port of clients [default: 127.0.0.1]
+      --origin <ORIGIN>        Where pages may connect from; up to 64 times [default: any]
+      --shards <NUMBER>        How many shards the topics are dealt to, 1 to 4 [default: 4]
+      --workers <NUMBER>       How many threads answer clients, 1 to 64 [default: 4]
+      --peer <NAME=HOST:PORT>  Another node to link to, as b=10.0.0.2:4001
+      --link-port <PORT>       The port of other nodes' links, 1 to 65535 [default: 4001]
+      --link-listen <ADDRESS>  The address of the port of links [default: 127.0.0.1]
+
+Options of stdio:
+      --notices                Say on standard error who joins and leaves, as join a.1.2
+
+Options of stdio and fold:
+      --explain                Say in words, on a second line, why a line was refused
+
+presence_node COMMAND --help says more of each.";
+
+/// What to try, which stands behind the help where the program is called by itself.
+pub const TO_TRY: &str = "To try it:
+  presence_node serve        then open http://127.0.0.1:4000/ in two tabs of a browser
+  presence_node stdio        then write, a line each:
+    [null,\"1\",\"phoenix\",\"heartbeat\",{}]
+    [\"2\",\"2\",\"room:lobby\",\"phx_join\",{\"key\":\"ann\",\"meta\":{\"x\":1}}]";
 
 /// What `stdio` says of a line that ends it.
 pub const STDIO_REFUSALS: &str =
-    "A line that is refused ends the run with status 1, and standard error has its number and that of the refusal, as line 3: M2. Want of memory ends it with status 2.
+    "A line that is refused ends the run with status 1, and standard error has its number and that of
+the refusal, as line 3: M2. Want of memory ends it with status 2.
   M1  the text is too long: 65536 bytes are allowed from a client, 16777216 in a frame
   M2  the text is not JSON: one value that nests at most 127 deep is allowed
   M3  the text is not an array of five members: join reference, reference, topic, event, payload
@@ -88,7 +108,8 @@ pub const STDIO_REFUSALS: &str =
 
 /// What `fold` says of a line that ends it.
 pub const FOLD_REFUSALS: &str =
-    "A line that is refused ends the fold with status 1, and standard error has its number and that of the refusal, as line 3: F2. Want of memory ends it with status 2.
+    "A line that is refused ends the fold with status 1, and standard error has its number and that of
+the refusal, as line 3: F2. Want of memory ends it with status 2.
   M1  the text is too long: 65536 bytes are allowed from a client, 16777216 in a frame
   M2  the text is not JSON: one value that nests at most 127 deep is allowed
   M3  the text is not an array of five members: join reference, reference, topic, event, payload
@@ -97,12 +118,23 @@ pub const FOLD_REFUSALS: &str =
   M6  the event is not a text of 1 to 64 bytes
   M7  the payload is too deep: 64 levels are allowed from a client, 96 in a frame
   M8  a number in the payload is not a whole number of 64 bits
-  F2  the payload is not an object from keys to objects with a list of objects as `metas`, nor `joins` and `leaves` of two such
+  F2  the payload is not an object from keys to objects with a list of objects as `metas`,
+      nor `joins` and `leaves` of two such
   F3  a meta has no text as its `phx_ref`";
 
 /// How a run of `serve` goes and ends.
 pub const SERVE_ENDS: &str =
-    "Clients of Phoenix Channels connect by WebSocket to ws://ADDRESS:PORT/socket/websocket?vsn=2.0.0. It prints ready once they may, and a line stop on standard input ends it: it prints settled and how many calls of the workers it found in the journals, with status 0. Where calls and journals don't agree, standard error has the number of the refusal, as not settled: P2, with status 4. A port in use ends it with status 1, want of memory with status 2. Standard error has a line for each link that comes up, and one with the reason for each that goes or can't be had; it is dialled again after 1.5 seconds.
+    "It prints ready once clients may connect: those of Phoenix Channels by WebSocket to
+ws://ADDRESS:PORT/socket/websocket?vsn=2.0.0. A browser gets a room to try at http://ADDRESS:PORT/;
+/health there says ok, and /metrics what was counted. Pages may connect from anywhere, unless
+--origin says from where.
+
+A line stop on standard input ends it: it prints settled and how many calls of the workers it found
+in the journals, with status 0. Where calls and journals don't agree, standard error has the number
+of the refusal, as not settled: P2, with status 4. A port in use ends it with status 1, want of
+memory with status 2. The end of standard input doesn't end it. Standard error has a line for each
+link that comes up, and one with the reason for each that goes or can't be had; it is dialled again
+after 1.5 seconds.
   P1  a worker's seat is missing
   P2  a call of a worker is in no journal
   P3  a journal has more calls, or fewer
@@ -131,4 +163,10 @@ A link is closed for these reasons:
 
 /// What each command takes.
 pub(crate) const ALLOWED: &str =
-    "stdio takes --name NAME, 1 to 32 characters of a-z, 0-9, --incarnation NUMBER, 1 to 4611686018427387904, up to 64 times --route PATTERN, a topic or the front of topics with one * behind it, of 1 to 255 bytes, --notices and --explain; fold takes --explain; serve takes --name, --incarnation and --route as stdio, --port PORT and --link-port PORT, 1 to 65535, --shards NUMBER, 1 to 4, --workers NUMBER, 1 to 64, --peer NAME=HOST:PORT, as often as one likes, --listen ADDRESS and --link-listen ADDRESS";
+    "stdio takes --name NAME, 1 to 32 characters of a-z, 0-9, --incarnation NUMBER, 1 to
+4611686018427387904, up to 64 times --route PATTERN, a topic or the front of topics with one *
+behind it, of 1 to 255 bytes, --notices and --explain;
+fold takes --explain;
+serve takes --name, --incarnation and --route as stdio, --port PORT and --link-port PORT, 1 to
+65535, --shards NUMBER, 1 to 4, --workers NUMBER, 1 to 64, --peer NAME=HOST:PORT, as often as one
+likes, --listen ADDRESS, --link-listen ADDRESS and up to 64 times --origin ORIGIN";

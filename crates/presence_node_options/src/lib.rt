@@ -12,5 +12,7 @@ mod values;
 
 pub use command_line::options_of;
 pub use fault::{UsageCause, UsageFault};
-pub use help::{ALL_OPTIONS, FOLD_REFUSALS, SERVE_ENDS, STDIO_REFUSALS};
-pub use options::{FoldOptions, MAX_WORKERS, Options, PeerOption, ServeOptions, StdioOptions};
+pub use help::{ALL_OPTIONS, FOLD_REFUSALS, SERVE_ENDS, STDIO_REFUSALS, TO_TRY, VERSION};
+pub use options::{
+    FoldOptions, MAX_ORIGINS, MAX_WORKERS, Options, PeerOption, ServeOptions, StdioOptions,
+};

@@ -1,7 +1,8 @@
-ghost use Rattle.std.specs.Prelude.{◌<◌, ◌≤◌};
+ghost use Rattle.std.specs.Prelude.{◌<◌, ◌≤◌, vec_len};
+ghost use Rattle.std.specs.Option.{ForSome};
 ghost use Rattle.presence_base.specs.Refs.{IsCount};
 ghost use Rattle.presence_base.specs.declared.names.TheConstants.{MAX_SHARDS};
-ghost use Rattle.presence_node_options.specs.declared.options.TheConstants.{MAX_WORKERS};
+ghost use Rattle.presence_node_options.specs.declared.options.TheConstants.{MAX_ORIGINS, MAX_WORKERS};
 
 use hook_registry::Routes;
 use presence_base::NodeName;
@@ -28,6 +29,9 @@ pub struct FoldOptions {
 /// The most workers that a server has.
 pub const MAX_WORKERS: u32 = 64;
 
+/// The most origins that a server is told.
+pub const MAX_ORIGINS: usize = 64;
+
 /// Another node that is linked to: its name, and the host and the port where its links come in.
 #[derive(Debug)]
 pub struct PeerOption {
@@ -48,12 +52,13 @@ impl Drop for PeerOption {
 }
 
 /// What `serve` runs as: the node and its routes as those of `stdio`, the ports of its clients and of
-/// links, from 1 on, how many shards and workers there are, the nodes that are linked to, and the addresses of both
-/// ports.
+/// links, from 1 on, how many shards and workers there are, the nodes that are linked to, the addresses of both
+/// ports, and the origins whose pages may connect, or none where those of any may. Without an incarnation the node takes
+/// that of the clock.
 #[derive(Debug, Drop)]
 pub struct ServeOptions {
     pub name: NodeName,
-    pub incarnation: u64,
+    pub incarnation: Option<u64>,
     pub routes: Routes,
     pub port: u16,
     pub link_port: u16,
@@ -62,7 +67,9 @@ pub struct ServeOptions {
     pub peers: Vec<PeerOption>,
     pub listen: String,
     pub link_listen: String,
-    ghost is_count: { IsCount incarnation },
+    pub origins: Vec<String>,
+    ghost is_count: { ForSome incarnation IsCount },
+    ghost few_origins: { vec_len origins ≤ MAX_ORIGINS },
     ghost some_shards: { (0 < shards) × (shards ≤ MAX_SHARDS) },
     ghost some_workers: { (0 < workers) × (workers ≤ MAX_WORKERS) },
 }
@@ -72,6 +79,10 @@ pub struct ServeOptions {
 pub enum Options {
     /// The text that tells how to call the program.
     Help(String),
+    /// Which program this is.
+    Version(String),
+    /// No command is named: how to call the program, and what to try.
+    Bare(String),
     Stdio(StdioOptions),
     Fold(FoldOptions),
     Serve(ServeOptions),

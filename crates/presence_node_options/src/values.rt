@@ -1,13 +1,13 @@
-ghost use Rattle.std.specs.Prelude.{◌≡◌, ◌≤◌, ◌<◌, ◌++◌, [], ◌∷◌, false, option_map, IfOk, IfErr, OnOk, IsTrue, length, map, Some, string_bytes};
+ghost use Rattle.std.specs.Prelude.{◌≡◌, ◌≤◌, ◌<◌, ◌++◌, [], ◌∷◌, false, option_map, IfOk, IfErr, OnOk, IsTrue, length, map, Some, string_bytes, vec_len};
 ghost use Rattle.presence_base.specs.Names.{is_node_name};
 ghost use Rattle.presence_base.specs.Refs.{IsCount};
-ghost use Rattle.presence_node_options.specs.Given.{number_in, AllArePeers, ArePeers, IsAddressIn, IsPeerIn, IsPeerText, IsIncarnation, IsIncarnationIn, IsNumberIn, IsNumberWithin, HasCause, IsFor, MayFollow, AreFewPatterns};
+ghost use Rattle.presence_node_options.specs.Given.{number_in, AllArePeers, ArePeers, IsAddressIn, IsPeerIn, IsPeerText, IsIncarnation, IsIncarnationIn, IsNumberIn, IsNumberWithin, HasCause, IsFor, MayFollow, AreFewOrigins, AreFewPatterns};
 ghost use Rattle.presence_node_options.specs.Limits.{ArePatterns, AreRoutes, numbered};
 ghost use Rattle.presence_base.specs.declared.names.TheConstants.{MAX_SHARDS};
-ghost use Rattle.presence_node_options.specs.declared.options.TheConstants.{MAX_WORKERS};
+ghost use Rattle.presence_node_options.specs.declared.options.TheConstants.{MAX_ORIGINS, MAX_WORKERS};
 
 use crate::fault::{UsageCause, UsageFault};
-use crate::options::{MAX_WORKERS, PeerOption};
+use crate::options::{MAX_ORIGINS, MAX_WORKERS, PeerOption};
 use hook_registry::{MAX_PATTERN_BYTES, MAX_ROUTES, RouteFault, Routes};
 use presence_base::{MAX_COUNT, MAX_SHARDS, NodeName};
 use std::alloc::{AllocError, Global};
@@ -277,6 +277,38 @@ pub(crate) fn address_of(alloc: Global, text: &str) -> Result<String, UsageFault
 {
     match String::from_str(alloc, text) {
         Ok(address) => Ok(address),
+        Err(_) => Err(UsageFault::Memory),
+    }
+}
+
+// Copies of these texts.
+fn copies_of(alloc: Global, texts: &[&str]) -> Result<Vec<String>, AllocError>
+    ensures texts { IfOk result (λ copies. map string_bytes copies.items ≡ map (λ t. t.now) texts.now) }
+    ensures len { IfOk result (λ copies. vec_len copies ≡ length texts.now) }
+{
+    let mut copies = Vec::with_capacity(alloc, texts.len())?;
+    for text in texts {
+        copies.push(String::from_str(alloc, text)?)?;
+    }
+    Ok(copies)
+}
+
+/// The origins that these texts are, in their order.
+#[tactic(auto, using(crate::proofs::Origins::few_origins, crate::proofs::Origins::many_origins))]
+pub(crate) fn origins_of(alloc: Global, texts: &[&str]) -> Result<Vec<String>, UsageFault>
+    ensures origins { IfOk result (λ origins. map string_bytes origins.items ≡ map (λ t. t.now) texts.now) }
+    ensures few { IfOk result (λ origins. vec_len origins ≤ MAX_ORIGINS) }
+    ensures given { OnOk result (AreFewOrigins (map (λ t. t.now) texts.now)) }
+    ensures cause { IfErr result (IsFor UsageCause.Origin (AreFewOrigins (map (λ t. t.now) texts.now) → ⊥)) }
+{
+    if texts.len() > MAX_ORIGINS {
+        return Err(usage_of(
+            UsageCause::Origin,
+            format!(in alloc; "--origin: up to {MAX_ORIGINS} origins may be given"),
+        ));
+    }
+    match copies_of(alloc, texts) {
+        Ok(origins) => Ok(origins),
         Err(_) => Err(UsageFault::Memory),
     }
 }

@@ -6,13 +6,14 @@ use std::alloc::Global;
 use std::test::Fail;
 
 // A command, an option with a value, and why these words are wrong.
-const WRONG: [(&str, &str, &str, UsageCause); 18] = [
+const WRONG: [(&str, &str, &str, UsageCause); 19] = [
     ("stdio", "--name", "A!", UsageCause::Name),
     ("stdio", "--incarnation", "0", UsageCause::Incarnation),
     ("stdio", "--route", "a*b", UsageCause::Route),
     ("stdio", "--port", "1", UsageCause::Words),
     ("stdio", "--incarnation", "-1", UsageCause::Words),
     ("serve", "--name", "A!", UsageCause::Name),
+    ("serve", "--incarnation", "0", UsageCause::Incarnation),
     ("serve", "--port", "0", UsageCause::Port),
     ("serve", "--port", "65536", UsageCause::Port),
     ("serve", "--link-port", "4001x", UsageCause::LinkPort),
@@ -64,6 +65,28 @@ fn a_server_without_options(rt: HostRuntime) -> Result<(), Fail> {
     assert!(rt; plain.peers.is_empty());
     assert_eq!(rt; plain.listen.as_str(), "127.0.0.1");
     assert_eq!(rt; plain.link_listen.as_str(), "127.0.0.1");
+    assert!(rt; plain.incarnation.is_none() && plain.origins.is_empty());
+    Ok(())
+}
+
+#[test]
+fn a_server_with_a_life_and_origins(rt: HostRuntime) -> Result<(), Fail> {
+    let words = [
+        "p",
+        "serve",
+        "--incarnation",
+        "007",
+        "--origin",
+        "https://a",
+        "--origin",
+        "null",
+    ];
+    let Some(options) = served(rt.alloc(), words.as_slice()) else {
+        panic!(rt; "no options");
+    };
+    assert!(rt; options.incarnation == Some(7));
+    assert_eq!(rt; options.origins.len(), 2);
+    assert_eq!(rt; options.origins[1].as_str(), "null");
     Ok(())
 }
 

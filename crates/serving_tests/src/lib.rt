@@ -7,6 +7,8 @@
 #[cfg(test)]
 mod connections;
 #[cfg(test)]
+mod front;
+#[cfg(test)]
 mod served;
 #[cfg(test)]
 mod system;

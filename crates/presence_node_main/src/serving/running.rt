@@ -1,5 +1,6 @@
 //! A run of the server, from its port to its last line.
-ghost use Rattle.std.specs.Prelude.{◌≡◌, List, IfOk, IfErr};
+ghost use Rattle.std.specs.Prelude.{◌≡◌, List, IfOk, IfErr, IfSome};
+ghost use Rattle.presence_base.specs.Refs.{IsCount};
 ghost use Rattle.shard_pool.specs.Seats.{Hands};
 ghost use Rattle.presence_node_ends.specs.Ends.{Settles};
 ghost use Rattle.presence_node_main.specs.Ends.{IsEndFor};
@@ -9,9 +10,9 @@ use super::fault::BeginFault;
 use super::pieces::{Stations, stations_for};
 use super::stopping::StopLine;
 use hook_registry::PresenceHooks;
-use presence_base::Replica;
+use presence_base::{MAX_COUNT, Replica};
 use presence_node_crew::{Posts, run_crew};
-use presence_node_duties::{Door, LinkTask, LinkTasks, Server, Workplace, seats_of, tasks_for};
+use presence_node_duties::{Counts, Door, LinkTask, LinkTasks, Server, Workplace, seats_of, tasks_for};
 use presence_node_ends::{ServeEnd, settled};
 use presence_node_options::{PeerOption, ServeOptions};
 use presence_node_sockets::listen;
@@ -26,12 +27,42 @@ use std::sync::ledger::Blank;
 use std::thread::Threads;
 use std::time::Clock;
 
-/// What a run of the server is given.
+/// What a run of the server is given, and which life of the node it is.
 #[derive(Drop)]
 struct Setting<'a, H> {
     alloc: Global,
     hooks: &'a H,
     options: &'a ServeOptions,
+    incarnation: u64,
+    ghost is_count: { IsCount incarnation },
+}
+
+// A time in milliseconds as an incarnation.
+fn life_at(milliseconds: u128) -> u64
+    ensures count { IsCount result }
+    ensures time { IsCount milliseconds → result ≡ milliseconds }
+{
+    if milliseconds < 1 {
+        1
+    } else if milliseconds > u128::from(MAX_COUNT) {
+        MAX_COUNT
+    } else {
+        milliseconds as u64
+    }
+}
+
+// The incarnation that is given, or that of the clock: its milliseconds since 1970. Where it can't be read that is 1.
+fn incarnation_for<R: Clock>(rt: &R, options: &ServeOptions) -> u64
+    ensures count { IsCount result }
+    ensures given { IfSome options.now.incarnation (λ given. result ≡ given) }
+{
+    match options.incarnation {
+        Some(incarnation) => incarnation,
+        None => match rt.since_1970() {
+            Ok(time) => life_at(time.as_millis()),
+            Err(_) => life_at(1),
+        },
+    }
 }
 
 /// A ledger for each shard of a pool, which none has opened.
@@ -127,17 +158,18 @@ fn dial_all(alloc: Global, peers: &[PeerOption], tasks: &mut LinkTasks) -> Resul
 }
 
 // What the threads of links share and do: links come in at this listening socket, and the peers are dialled.
-fn links_for<R: Net>(
+fn links_for<R: Net, H>(
     rt: &R,
-    alloc: Global,
-    options: &ServeOptions,
+    setting: &Setting<'_, H>,
     listener: TcpListener,
 ) -> Result<LinkTasks, BeginFault>
-    ensures { IfOk result (λ tasks. tasks.links.shards ≡ options.now.shards) }
+    ensures { IfOk result (λ tasks. tasks.links.shards ≡ setting.now.options.now.shards) }
 {
+    let alloc = setting.alloc;
+    let options = setting.options;
     let own = Replica {
         name: options.name,
-        incarnation: options.incarnation,
+        incarnation: setting.incarnation,
     };
     let mut tasks = tasks_for(rt, alloc, own, options.shards, listener)?;
     dial_all(alloc, options.peers.as_slice(), &mut tasks)?;
@@ -214,7 +246,7 @@ where
     let alloc = setting.alloc;
     let options = setting.options;
     let (clients, links) = listeners.into_parts();
-    let (links, tasks) = links_for(rt, alloc, options, links)?.into_parts();
+    let (links, tasks) = links_for(rt, setting, links)?.into_parts();
     let Stations {
         posts,
         mailboxes,
@@ -225,6 +257,8 @@ where
         pool,
         routes: &options.routes,
         hooks: setting.hooks,
+        origins: options.origins.as_slice(),
+        counts: Counts::new(),
         mailboxes,
         door_bell,
         links,
@@ -267,7 +301,7 @@ where
     let options = setting.options;
     let own = Replica {
         name: options.name,
-        incarnation: options.incarnation,
+        incarnation: setting.incarnation,
     };
     let Blanks {
         first,
@@ -323,6 +357,7 @@ where
         alloc,
         hooks,
         options,
+        incarnation: incarnation_for(rt, options),
     };
     serve_lanes::<R, H, Brand, Brand, Brand, Brand>(rt, &setting, listeners, blanks)
 }

@@ -1,5 +1,6 @@
 //! Handshakes over streams that give their bytes in pieces, and have nothing in between.
 
+use crate::front::look;
 use presence_node_handshakes::Guests;
 use std::alloc::Global;
 use std::io;
@@ -87,7 +88,7 @@ fn guests(alloc: Global, rest: &'static [u8], piece: usize) -> Result<Guests<Wir
 fn turns(alloc: Global, guests: &mut Guests<Wire>) -> Result<(u32, bool), Fail> {
     for turn in 1..1_000 {
         guests.mark_all();
-        let opened = guests.turn(alloc)?;
+        let opened = look(alloc, guests)?;
         if !opened.is_empty() || guests.is_empty() {
             return Ok((turn, !opened.is_empty()));
         }
@@ -128,12 +129,12 @@ fn another_request_is_given_up_at_once(rt: HostRuntime) -> Result<(), Fail> {
 fn one_that_is_not_marked_waits(rt: HostRuntime) -> Result<(), Fail> {
     let alloc = rt.alloc();
     let mut guests = guests(alloc, REQUEST, 100)?;
-    assert!(rt; guests.turn(alloc)?.is_empty());
-    assert!(rt; guests.turn(alloc)?.is_empty());
+    assert!(rt; look(alloc, &mut guests)?.is_empty());
+    assert!(rt; look(alloc, &mut guests)?.is_empty());
     guests.mark(6);
-    assert!(rt; guests.turn(alloc)?.is_empty());
+    assert!(rt; look(alloc, &mut guests)?.is_empty());
     guests.mark(7);
-    assert_eq!(rt; guests.turn(alloc)?.len(), 1);
+    assert_eq!(rt; look(alloc, &mut guests)?.len(), 1);
     Ok(())
 }
 
@@ -146,13 +147,13 @@ fn each_is_opened_once_under_its_number(rt: HostRuntime) -> Result<(), Fail> {
     admit(alloc, &mut guests, 8, REQUEST, 4_096)?;
     assert_eq!(rt; guests.len(), 3);
     let mut numbers = Vec::new(alloc);
-    for (number, _) in guests.turn(alloc)? {
+    for (number, _) in look(alloc, &mut guests)? {
         numbers.push(number)?;
     }
     assert_eq!(rt; numbers.as_slice(), [9, 8].as_slice());
     assert_eq!(rt; guests.len(), 1);
     guests.mark_all();
-    assert!(rt; guests.turn(alloc)?.is_empty());
+    assert!(rt; look(alloc, &mut guests)?.is_empty());
     assert_eq!(rt; guests.len(), 1);
     Ok(())
 }

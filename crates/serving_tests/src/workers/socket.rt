@@ -3,6 +3,7 @@
 use super::desk::{Desk, desk_over};
 use super::pool::over_pool;
 use super::run::Run;
+use crate::front::look;
 use crate::served::{REPLIES, TEXTS, add_frame, close_frame, frames};
 use presence_node_handshakes::Guests;
 use presence_node_sockets::{listen, next_stream};
@@ -115,7 +116,7 @@ fn greet<R: Clock>(
             guests.admit(alloc, 1, stream, socket_config()).ok()?;
         }
         guests.mark_all();
-        if let Some((_, socket)) = guests.turn(alloc).ok()?.pop() {
+        if let Some((_, socket)) = look(alloc, &mut guests).ok()?.pop() {
             return Some(socket);
         }
         pause(rt);

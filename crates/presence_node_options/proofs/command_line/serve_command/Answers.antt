@@ -8,4 +8,5 @@ returns c =
     let one = c.in_ok-arg.ensures.shape c.route_option.ensures.local ∙ ap₂ with_rule c.in_ok-served_command.ensures c.route_option.ensures.rule in
     let two = c.in_ok-arg-2.ensures.shape c.peer_option.ensures.local ∙ ap₂ with_rule one c.peer_option.ensures.rule in
     let three = c.in_ok-arg-3.ensures.shape c.listen_option.ensures.local ∙ ap₂ with_rule two c.listen_option.ensures.rule in
-    IfOk-weaker c.arg-4.result _ _ (λ r a. a.shape c.link_listen_option.ensures.local ∙ ap₂ with_rule three c.link_listen_option.ensures.rule) c.arg-4.ensures
+    let four = c.in_ok-arg-4.ensures.shape c.link_listen_option.ensures.local ∙ ap₂ with_rule three c.link_listen_option.ensures.rule in
+    IfOk-weaker c.arg-5.result _ _ (λ r a. a.shape c.origin_option.ensures.local ∙ ap₂ with_rule four c.origin_option.ensures.rule) c.arg-5.ensures
