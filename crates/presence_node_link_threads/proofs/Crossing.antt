@@ -8,12 +8,17 @@ use Rattle.presence_base.specs.contracts.meta.Meta as Meta
 use Rattle.presence_base.specs.contracts.row.Row as Row
 use Rattle.presence_base.specs.contracts.names.Topic as Topic
 use Rattle.presence_base.specs.contracts.names.Key as Key
+use Rattle.presence_base.specs.contracts.names.NodeName as NodeName
 use Rattle.presence_base.specs.contracts.dots.Replica as Replica
 use Rattle.presence_base.specs.contracts.dots.Dot as Dot
 use Rattle.orswot_core_told.specs.contracts.told.Told as Told
 use Rattle.node_links_lines.specs.contracts.lines.Line as Line
 use Rattle.presence_node_sockets.specs.contracts.watch.Bell as Bell
 use Rattle.presence_node_sockets.specs.contracts.watch.Watch as Watch
+use Rattle.presence_node_link_words.specs.contracts.end.LinkEnd as LinkEnd
+use Rattle.presence_node_link_words.specs.contracts.warning.LinkWarning as LinkWarning
+use Rattle.presence_node_link_words.specs.contracts.saying.Saying as Saying
+use Rattle.presence_node_link_threads.specs.contracts.book.Book as Book
 use Rattle.presence_node_link_threads.specs.contracts.dialling.Dialler as Dialler
 use Rattle.presence_node_link_threads.specs.contracts.incoming.LinkDoor as LinkDoor
 use Rattle.presence_node_link_threads.specs.contracts.incoming.Waiting as Waiting
@@ -88,8 +93,26 @@ stopping_sync = search (heap.crosses, sendable) depth 60 fits 20000
 bell_sync : IsSync (Bell.the_field).row
 bell_sync = search (heap.crosses, sendable) depth 60 fits 20000
 
+name_send : IsSend (NodeName.the_field).row
+name_send = search sendable depth 60 fits 20000
+
+name_sync : IsSync (NodeName.the_field).row
+name_sync = search sendable depth 60 fits 20000
+
+end_send : IsSend (LinkEnd.the_field).row
+end_send = search sendable depth 60 fits 20000
+
+warning_send : IsSend (LinkWarning.the_field).row
+warning_send = search sendable depth 60 fits 20000
+
+saying_send : IsSend (Saying.the_field).row
+saying_send = search (replica_send, end_send, warning_send, heap.crosses, sendable) depth 60 fits 20000
+
+book_send : IsSend (Book.the_field).row
+book_send = search (saying_send, name_send, heap.crosses, sendable) depth 60 fits 20000
+
 pub links_sync : IsSync (Links.the_field).row
-links_sync = search (line_send, line_sync, waiting_sync, stopping_sync, bell_sync, replica_sync, heap.crosses, sendable) depth 60 fits 20000
+links_sync = search (line_send, line_sync, waiting_sync, book_send, name_sync, stopping_sync, bell_sync, replica_sync, heap.crosses, sendable) depth 60 fits 20000
 
 -- ---- what is given
 

@@ -131,6 +131,24 @@ impl Links {
         self.dialled.iter().any(|dialled| *dialled == name)
     }
 
+    /// A link of this node came in: its number.
+    pub(crate) fn begins<R: Wait>(&self, rt: &R, name: NodeName) -> u64 {
+        let mut book = self.book.lock(rt);
+        book.begins(name)
+    }
+
+    /// Whether a link of this node came in behind the one of this number.
+    pub(crate) fn has_newer<R: Wait>(&self, rt: &R, name: NodeName, number: u64) -> bool {
+        let book = self.book.lock(rt);
+        book.has_newer(name, number)
+    }
+
+    /// Whether any node was met at this place.
+    pub(crate) fn has_met_at<R: Wait>(&self, rt: &R, page: &str) -> bool {
+        let book = self.book.lock(rt);
+        book.has_met(page)
+    }
+
     // Says that a link is up, or has stood for a while, unless that was said of this place.
     pub(crate) fn tell_up<R: Wait + Eprint>(
         &self,
@@ -140,7 +158,10 @@ impl Links {
         has_stood: bool,
     ) {
         self.has_met.store(true, Ordering::SeqCst);
-        if !self.book.lock(rt).comes(place.page, other, has_stood) {
+        let mut book = self.book.lock(rt);
+        let is_news = book.comes(place.page, other, has_stood);
+        drop(book);
+        if !is_news {
             return;
         }
         if let Ok(line) = up_line(self.alloc, place.words, other) {
@@ -150,7 +171,10 @@ impl Links {
 
     // Says that a link went, or can't be had, unless that was said of this place.
     pub(crate) fn tell_down<R: Wait + Eprint>(&self, rt: &R, place: Place<'_>, end: LinkEnd) {
-        if !self.book.lock(rt).goes(place.page, end) {
+        let mut book = self.book.lock(rt);
+        let is_news = book.goes(place.page, end);
+        drop(book);
+        if !is_news {
             return;
         }
         if let Ok(line) = down_line(self.alloc, place.words, end) {
@@ -165,7 +189,10 @@ impl Links {
         place: Place<'_>,
         warning: LinkWarning,
     ) {
-        if !self.book.lock(rt).warns(place.page, warning) {
+        let mut book = self.book.lock(rt);
+        let is_news = book.warns(place.page, warning);
+        drop(book);
+        if !is_news {
             return;
         }
         if let Ok(line) = warning_line(self.alloc, place.words, warning) {

@@ -72,7 +72,7 @@ fn page_of(alloc: Global, other: &Replica) -> Result<String, AllocError> {
 /// Whether any link came in from a node of that name. Where there is no memory to look, it is taken to.
 pub(crate) fn coming_from<R: Wait>(rt: &R, links: &Links, other: &Replica) -> bool {
     match page_of(links.alloc, other) {
-        Ok(page) => links.book.lock(rt).has_met(page.as_str()),
+        Ok(page) => links.has_met_at(rt, page.as_str()),
         Err(_) => true,
     }
 }
@@ -132,22 +132,31 @@ impl Incoming<'_> {
         greeted(&links.own, None, other)?;
         self.is_up = true;
         self.since = time_behind(rt, 0);
-        self.number = links.book.lock(rt).begins(other.name);
-        let words = self.origin.words.as_str();
-        let page = page_of(links.alloc, other);
-        let place = Place {
-            words,
-            page: page.as_ref().map_or(words, |page| page.as_str()),
-        };
-        links.tell_up(rt, place, other, false);
-        if !links.dials(other.name) {
-            links.tell_odd(rt, place, LinkWarning::NotDialled);
-        }
+        self.number = links.begins(rt, other.name);
+        self.says_up(rt, links, other);
         // Where memory is wanting its end is told with the address alone.
         if let Ok(origin) = self.origin.with(links.alloc, other) {
             self.origin = origin;
         }
+        if !links.dials(other.name) {
+            links.tell_odd(rt, self.origin.place(), LinkWarning::NotDialled);
+        }
         Ok(())
+    }
+
+    // Says where the link came from, and who is there.
+    fn says_up<R: Wait + Eprint>(&self, rt: &R, links: &Links, other: &Replica) {
+        let words = self.origin.words.as_str();
+        match page_of(links.alloc, other) {
+            Ok(page) => {
+                let place = Place {
+                    words,
+                    page: page.as_str(),
+                };
+                links.tell_up(rt, place, other, false);
+            }
+            Err(_) => links.tell_up(rt, self.origin.place(), other, false),
+        }
     }
 
     // What is said of a link that is up, behind a line that came over it.
@@ -157,7 +166,7 @@ impl Incoming<'_> {
             self.has_stood = true;
             links.tell_up(rt, self.origin.place(), other, true);
         }
-        if links.book.lock(rt).has_newer(other.name, self.number) {
+        if links.has_newer(rt, other.name, self.number) {
             self.late = self.late.saturating_add(1);
             if self.late == MANY_LATE {
                 links.tell_odd(rt, self.origin.place(), LinkWarning::TwoNodes);

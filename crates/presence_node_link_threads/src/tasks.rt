@@ -131,9 +131,9 @@ impl LinkTasks {
         ensures dials { OnOk result (Dials name host.now port self.old self.new) }
     {
         let dialler = dialler_of(alloc, self.links.mailboxes.len(), name, host, port)?;
-        self.links.dialled.push(name)?;
         self.tasks.push(LinkTask::Dial(dialler))?;
         self.links.mailboxes.push(Mailbox::new(alloc))?;
+        self.links.dialled.push(name)?;
         Ok(())
     }
 }
