@@ -188,6 +188,27 @@ module _ {S K P : Type 0} (w : Around S P) where
     pub serves : Serves routes now old served before between outcome
     pub goes_on : GoesOn served new between after outcome result
 
+  -- ---- a turn that reads nothing
+
+  -- no message came
+  abbrev pub unread : Result (Unit {0}) Cause → Result Bool Cause
+  unread (Ok u) = Ok false
+  unread (Err cause) = Err cause
+
+  -- What waits is delivered, once, and nothing is read.
+  pub record TakesDelivery (old new : Connection S K) (before after : P) (result : Progress) : Type 0 where
+    pub served : Connection S K
+    pub between : P
+    pub outcome : Result (Unit {0}) Cause
+    pub deals : Deals old served before between outcome
+    pub goes_on : GoesOn served new between after (unread outcome) result
+
+  -- What a turn does that reads nothing, by how far the connection has come.
+  abbrev pub Delivers : Stage → Connection S K → Connection S K → P → P → Progress → Type 0
+  Delivers Open old new before after result = TakesDelivery old new before after result
+  Delivers (Ending cause) old new before after result = EndsSession w.step cause old new before after result
+  Delivers (Over cause) old new before after result = (new ≡ old) × (after ≡ before) × (result ≡ progress.Over)
+
   -- What a turn does, by how far the connection has come.
   abbrev pub Turns : Stage → List (List ℕ × ℕ) → ℕ → Connection S K → Connection S K → P → P → Progress → Type 0
   Turns Open routes now old new before after result = TakesTurn routes now old new before after result

@@ -3,7 +3,7 @@ ghost use Rattle.phx_message.specs.Reading.{decoded};
 ghost use Rattle.tungstenite.specs.Socket.{Flushed};
 ghost use Rattle.presence_node_turns.specs.Causes.{code_of};
 ghost use Rattle.presence_node_turns.specs.Hearing.{is_message};
-ghost use Rattle.presence_node_turns.specs.Turning.{around, AnswersText, ClosesBy, Continues, Deals, broken_off, EndsSession, GoOut, Responds, Serves, Flushes, StopsServing, TakesTurn, Turns, patience, progress_of as progress_in};
+ghost use Rattle.presence_node_turns.specs.Turning.{around, AnswersText, ClosesBy, Continues, Deals, Delivers, broken_off, EndsSession, GoOut, Responds, Serves, Flushes, StopsServing, TakesDelivery, TakesTurn, Turns, patience, progress_of as progress_in};
 
 use crate::cause::{Cause, cause_of, close_code};
 use crate::hearing::{Heard, hear};
@@ -316,6 +316,43 @@ impl<S: Read + Write + Drop, K: MaskKeys + Drop> Connection<S, K> {
     {
         match self.stage {
             Stage::Open => self.turn_open(alloc, port, routes, hooks, now),
+            Stage::Ending(cause) => self.end_session(alloc, port, cause),
+            Stage::Over(_) => Progress::Over,
+        }
+    }
+
+    // A turn of an open connection that reads nothing.
+    fn deliver_open<P: Port, H: PresenceHooks>(
+        &mut self,
+        alloc: Global,
+        port: &mut P,
+        hooks: &H,
+    ) -> Progress
+        ensures { TakesDelivery (around S.remaining S.contents P.step H.PresenceHooks hooks.now)
+            self.old self.new port.old port.new result }
+    {
+        match self.deal(alloc, port, hooks) {
+            Ok(()) => progress_of(false),
+            Err(cause) => {
+                self.close(cause);
+                self.end_session(alloc, port, cause)
+            }
+        }
+    }
+
+    /// A turn in which nothing is read: what waits for the session is delivered, and texts wait in the
+    /// socket until it is flushed. The session's end is asked for as in any other turn.
+    pub fn deliver<P: Port, H: PresenceHooks>(
+        &mut self,
+        alloc: Global,
+        port: &mut P,
+        hooks: &H,
+    ) -> Progress
+        ensures { Delivers (around S.remaining S.contents P.step H.PresenceHooks hooks.now)
+            self.old.stage self.old self.new port.old port.new result }
+    {
+        match self.stage {
+            Stage::Open => self.deliver_open(alloc, port, hooks),
             Stage::Ending(cause) => self.end_session(alloc, port, cause),
             Stage::Over(_) => Progress::Over,
         }
