@@ -1,8 +1,9 @@
 //! A client's stream.
-ghost use Rattle.std.specs.Prelude.{◌≡◌, ◌≤◌, true, false};
+ghost use Rattle.std.specs.Prelude.{◌≡◌, ◌≤◌, true, false, None};
 ghost use Rattle.presence_node_client_streams.specs.Budget.{Spends};
 ghost use Rattle.presence_node_client_streams.specs.declared.stream.TheConstants.{TURN_BYTES};
 
+use std::cell::Cell;
 use std::io;
 use std::io::{ErrorKind, Read, Write};
 use std::net::TcpStream;
@@ -21,6 +22,8 @@ pub struct ClientStream<S> {
     put_off: bool,
     /// Whether the last write found no room.
     blocked: bool,
+    /// Since when writes have found none, in milliseconds, if that was noted.
+    stalled: Cell<Option<u64>>,
     ghost bounded: { left ≤ TURN_BYTES },
 }
 
@@ -34,6 +37,7 @@ impl<S: Drop> Drop for ClientStream<S> {
             left: _,
             put_off: _,
             blocked: _,
+            stalled: _,
         } = self;
         drop(stream);
     }
@@ -57,6 +61,7 @@ impl<S> ClientStream<S> {
             left: TURN_BYTES,
             put_off: false,
             blocked: false,
+            stalled: Cell::new(None),
         }
     }
 
@@ -79,6 +84,26 @@ impl<S> ClientStream<S> {
         ensures { result ≡ self.now.blocked }
     {
         self.blocked
+    }
+
+    /// Since when writes have found no room, as far as it was asked, which it is at this time. It is none where the last
+    /// one found room.
+    pub fn stalled_since(&self, now: u64) -> Option<u64>
+        ensures { self.now.blocked ≡ false → result ≡ None }
+    {
+        if !self.blocked {
+            return None;
+        }
+        let since = self.stalled.get().unwrap_or(now);
+        self.stalled.set(Some(since));
+        Some(since)
+    }
+
+    /// Whether writes find room again, since it was told that they found none. It says so once.
+    pub fn has_recovered(&self) -> bool
+        ensures { self.now.blocked ≡ true → result ≡ false }
+    {
+        !self.blocked && self.stalled.replace(None).is_some()
     }
 }
 

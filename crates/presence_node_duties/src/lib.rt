@@ -6,6 +6,7 @@
 
 mod bench;
 mod door;
+mod draining;
 mod place;
 mod server;
 
@@ -14,5 +15,6 @@ pub use door::{Door, LISTENER};
 pub use place::{Workplace, seats_of};
 // What threads are begun with, beside their duties.
 pub use presence_node_hints::Inbox;
+pub use presence_node_leaving::ClientSocket;
 pub use presence_node_link_threads::{LinkTask, LinkTasks, tasks_for};
 pub use server::{Mailbox, Server};
