@@ -1,5 +1,5 @@
 -- The steps of a turn, put together.
-use Rattle.std.proofs.Common.{◌≡◌, ℕ, List, Bool, false, Option, Result, Ok, Err, refl, ap, subst}
+use Rattle.std.proofs.Common.{◌≡◌, ℕ, List, Bool, Option, Result, Ok, Err, refl, ap, subst}
 use Rattle.tungstenite.specs.Socket.{Socket}
 use Rattle.presence_node_turns.specs.Causes.{code_of}
 use Rattle.presence_node_turns.specs.Hearing.{Hears, is_message}
@@ -46,9 +46,9 @@ module _ {S K P : Type 0} (w : Around S P) (routes : List (List ℕ × ℕ)) (no
 
 -- a turn that reads nothing goes on, or ends
 module _ {S K P : Type 0} (w : Around S P) where
-  pub delivered : (old new : Connection S K) (before after : P) → Deals w old new before after (Ok tt) → TakesDelivery w old new before after (progress_of false)
-  delivered old new before after h =
-      record { served = new; between = after; outcome = Ok tt; deals = h; goes_on = (refl, refl, refl) }
+  pub delivered : (old new : Connection S K) (before after : P) (more : Bool) → Deals w old new before after (Ok more) → TakesDelivery w old new before after (progress_of more)
+  delivered old new before after more h =
+      record { served = new; between = after; outcome = Ok more; deals = h; goes_on = (refl, refl, refl) }
 
   pub undelivered : (old served closed new : Connection S K) (before between after : P) (cause : Cause) (result : Progress) → Deals w old served before between (Err cause)
       → ClosesBy w.contents (code_of cause) served.socket closed.socket → closed ≡ record served { socket = closed.socket } → EndsSession w.step cause closed new between after result

@@ -8,7 +8,7 @@ pub returns-in-Ok : goal.returns-in-Ok
 returns-in-Ok g c =
     let w = around g.S.Read.remaining g.S.Write.contents g.P.Port.step g.H.PresenceHooks c.args.hooks.now in
     subst (λ (p : Progress). TakesDelivery w c.args.self.now c.deal.new.self c.args.port.now c.deal.new.port p) (sym c.progress_of.ensures)
-    (delivered w c.args.self.now c.deal.new.self c.args.port.now c.deal.new.port c.in-Ok.ensures)
+    (delivered w c.args.self.now c.deal.new.self c.args.port.now c.deal.new.port c.in-Ok.more c.in-Ok.ensures)
 
 pub returns-in-Err : goal.returns-in-Err
 returns-in-Err g c =
