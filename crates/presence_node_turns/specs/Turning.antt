@@ -1,5 +1,5 @@
 -- One turn of a connection: what was read, what its session said to that, and what went out.
-use Rattle.std.specs.Prelude.{◌≡◌, ◌⊎◌, ◌+◌, ℕ, Bool, true, false, ◌||◌, if◌then◌else◌, leb, List, [], length, IfOk, Option, Some, None, Result, Ok, Err, String, Vec}
+use Rattle.std.specs.Prelude.{◌≡◌, ◌⊎◌, ◌+◌, ℕ, Bool, true, false, ◌||◌, if◌then◌else◌, leb, List, [], vec_len, IfOk, Option, Some, None, Result, Ok, Err, String, Vec}
 use Rattle.std.specs.Global.{Global}
 use Rattle.channel_session.specs.Delivery.{DeliveredBy}
 use Rattle.channel_session.specs.Ending.{EndedBy}
@@ -146,8 +146,8 @@ module _ {S K P : Type 0} (w : Around S P) where
   -- ---- one delivery
 
   -- whether more may wait than was taken
-  abbrev pub may_have_more : Result (List (List ℕ)) SessionFault → Bool
-  may_have_more (Ok texts) = leb MAX_DEALT (length texts)
+  abbrev pub may_have_more : Result Delivery SessionFault → Bool
+  may_have_more (Ok delivery) = leb MAX_DEALT (vec_len delivery.texts)
   may_have_more (Err fault) = false
 
   abbrev pub dealt : Result Bool Cause → Result (Unit {0}) Cause
@@ -160,7 +160,7 @@ module _ {S K P : Type 0} (w : Around S P) where
     pub delivered : old.session.failed ≡ false
         → DeliveredBy w.worded w.noted w.step MAX_DEALT old.session before after new.session delivery
     pub sent : GoOut w.contents old.socket new.socket (dealt_texts delivery) (dealt result)
-    pub more : IfOk result (λ told. told ≡ may_have_more (dealt_texts delivery))
+    pub more : IfOk result (λ told. told ≡ may_have_more delivery)
     pub kept : new ≡ record old { socket = new.socket; session = new.session }
 
   -- Behind the message comes one delivery, unless the connection ends; and whether a message came, or more may wait, is told.
