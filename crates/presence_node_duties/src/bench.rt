@@ -383,8 +383,10 @@ impl<A: Lane, B: Lane, C: Lane, D: Lane> Bench<A, B, C, D> {
         let Some(mailbox) = server.mailboxes.get(own) else {
             return false;
         };
-        if !mailbox.inbox.is_draining() || self.drain.is_lost(self.now) {
+        if self.drain.is_lost(self.now) {
             mailbox.inbox.set_draining(false);
+        }
+        if !mailbox.inbox.is_draining() {
             self.drain.end(self.now, Due::Made);
             return false;
         }
