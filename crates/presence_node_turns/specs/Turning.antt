@@ -113,6 +113,17 @@ abbrev pub progress_of : Bool → Progress
 progress_of true = progress.Busy
 progress_of false = progress.Idle
 
+-- ---- what a delivery tells
+
+-- whether more may wait than was taken
+abbrev pub may_have_more : Result Delivery SessionFault → Bool
+may_have_more (Ok delivery) = leb MAX_DEALT (vec_len delivery.texts)
+may_have_more (Err fault) = false
+
+abbrev pub dealt : Result Bool Cause → Result (Unit {0}) Cause
+dealt (Ok more) = Ok tt
+dealt (Err cause) = Err cause
+
 module _ {S K P : Type 0} (w : Around S P) where
   -- ---- one message
 
@@ -144,15 +155,6 @@ module _ {S K P : Type 0} (w : Around S P) where
   Responds routes now (Ends cause) old new before after result = Rests old new before after result (Err cause)
 
   -- ---- one delivery
-
-  -- whether more may wait than was taken
-  abbrev pub may_have_more : Result Delivery SessionFault → Bool
-  may_have_more (Ok delivery) = leb MAX_DEALT (vec_len delivery.texts)
-  may_have_more (Err fault) = false
-
-  abbrev pub dealt : Result Bool Cause → Result (Unit {0}) Cause
-  dealt (Ok more) = Ok tt
-  dealt (Err cause) = Err cause
 
   pub record Deals (old new : Connection S K) (before after : P) (result : Result Bool Cause) : Type 0 where
     pub delivery : Result Delivery SessionFault
