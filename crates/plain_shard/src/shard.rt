@@ -52,7 +52,7 @@ impl PlainShard {
     ghost use Rattle.presence_journal.specs.Table.{IsLegal, AreWithinLimits, outcome_of, rows_of_key, untracked};
     ghost use Rattle.presence_journal_cuts.specs.Cuts.{IsCut};
     ghost use Rattle.presence_journal_sets.specs.Full.{IsFullOf};
-    ghost use Rattle.tracker_shard.specs.Steps.{Made, Stepped, Answers, IsDue, refusal, refusal_at, is_found};
+    ghost use Rattle.tracker_shard.specs.Steps.{Made, Stepped, Answers, IsDue, RefusesForRoom, refusal, refusal_at, is_found};
     ghost use Rattle.tracker_shard.specs.Steps.{AnswersDot, AnswersRowsOfKey, AnswersRowsOfPid, AnswersListed};
     ghost use Rattle.tracker_shard.specs.Steps.{AnswersListedKey, AnswersItems, AnswersSub};
     ghost use Rattle.tracker_shard.specs.Steps.{first_dot, next_counted, found_topic};
@@ -462,6 +462,7 @@ impl PlainShard {
         ensures step { Stepped self.old self.new None step result }
         ensures answer { Answers (λ _. Unit {0}) (outcome_of self.old step) result }
         ensures due { IsDue result (refusal true self.old step) }
+        ensures room { RefusesForRoom result }
     {
         if self.journal.is_full() {
             return Err(ShardFault::JournalFull);
@@ -478,6 +479,7 @@ impl PlainShard {
         ensures step { Stepped self.old self.new None (Step.Heard replica now) result }
         ensures answer { Answers (λ _. Unit {0}) (outcome_of self.old (Step.Heard replica now)) result }
         ensures due { IsDue result (refusal true self.old (Step.Heard replica now)) }
+        ensures room { RefusesForRoom result }
     {
         self.note(Step::heard(replica, now))
     }
@@ -490,6 +492,7 @@ impl PlainShard {
         ensures step { Stepped self.old self.new None (Step.Tick now) result }
         ensures answer { Answers (λ _. Unit {0}) (outcome_of self.old (Step.Tick now)) result }
         ensures due { IsDue result (refusal true self.old (Step.Tick now)) }
+        ensures room { RefusesForRoom result }
     {
         self.note(Step::Tick { now })
     }
@@ -502,6 +505,7 @@ impl PlainShard {
         ensures step { Stepped self.old self.new None (Step.PermDown replica) result }
         ensures answer { Answers (λ _. Unit {0}) (outcome_of self.old (Step.PermDown replica)) result }
         ensures due { IsDue result (refusal true self.old (Step.PermDown replica)) }
+        ensures room { RefusesForRoom result }
     {
         self.note(Step::permdown(replica))
     }
@@ -515,6 +519,7 @@ impl PlainShard {
         ensures step { Stepped self.old self.new None Step.Cut result }
         ensures answer { Answers (IsCut self.old) (outcome_of self.old Step.Cut) result }
         ensures due { IsDue result (refusal true self.old Step.Cut) }
+        ensures room { RefusesForRoom result }
     {
         if self.journal.is_full() {
             return Err(ShardFault::JournalFull);
@@ -534,6 +539,7 @@ impl PlainShard {
         ensures step { Stepped self.old self.new None (Step.Merge told.now) result }
         ensures answer { Answers (λ _. Unit {0}) (outcome_of self.old (Step.Merge told.now)) result }
         ensures due { IsDue result (refusal true self.old (Step.Merge told.now)) }
+        ensures room { RefusesForRoom result }
     {
         if self.journal.is_full() {
             return Err(ShardFault::JournalFull);

@@ -9,12 +9,14 @@ use std::alloc::Global;
 use std::sync::Wait;
 use tracker_shard::Sub;
 
-// What a shard shows of another node and of a subscriber, the number of its Start, and how many entries it has.
+// What a shard shows of another node and of a subscriber, the number of its Start, and how many entries it has. What it
+// tells from count 0 on is all that it knows.
 #[derive(Clone, Copy, Debug, PartialEq)]
 struct Side {
     status: Status,
     top: u64,
     live: usize,
+    told: usize,
     waits: Result<bool, PoolFault>,
     start: u64,
     entries: usize,
@@ -62,11 +64,13 @@ fn side_of<G: Gate, A: Lane, B: Lane, C: Lane, D: Lane, R: Wait>(
     requires { shard < pool.now.shards }
 {
     let live = pool.full(rt, alloc, shard).ok()?.live().len();
+    let told = pool.told_from(rt, alloc, shard, 0).ok()?.live().len();
     let entries = pool.journal(rt, alloc, shard).ok()?.entries().len();
     Some(Side {
         status: pool.status(rt, shard, other),
         top: pool.top(rt, shard, other),
         live,
+        told,
         waits: pool.waits(rt, shard, sub),
         start: pool.start_of(rt, shard),
         entries,
@@ -129,6 +133,7 @@ const SILENT: Side = Side {
     status: Status::Unheard,
     top: 0,
     live: 1,
+    told: 1,
     waits: Err(PoolFault::NoSub),
     start: 0,
     entries: 1,
@@ -143,6 +148,7 @@ pub(crate) const WANTED: Sides = Sides {
             status: Status::Up,
             top: 2,
             live: 2,
+            told: 2,
             waits: Ok(true),
             start: 0,
             entries: 5,
@@ -154,6 +160,7 @@ pub(crate) const WANTED: Sides = Sides {
             status: Status::Gone,
             top: 0,
             live: 0,
+            told: 0,
             waits: Ok(true),
             start: 6,
             entries: 1,

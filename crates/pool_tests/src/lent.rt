@@ -8,13 +8,15 @@ use presence_base::{Json, Key, Meta, Replica, Topic, has_float, is_within_depth}
 use presence_journal::{Item, Journal, MAX_PAYLOAD_DEPTH, Payload};
 use serde_json::Value;
 use shard_pool::{
-    Lane, Locked, Part, SettleFault, lent_get, lent_list, lent_shout, lent_start, lent_subscribe,
-    lent_take, lent_track, lent_unsubscribe, lent_untrack, lent_untrack_all, lent_update,
+    Lane, Locked, Part, PoolFault, SettleFault, lent_get, lent_list, lent_shout, lent_start,
+    lent_subscribe, lent_take, lent_track, lent_unsubscribe, lent_untrack, lent_untrack_all,
+    lent_update,
 };
 use std::alloc::Global;
 use std::marker::Brand;
 use std::sync::ledger::Blank;
 use std::test::Fail;
+use tracker_shard::Sub;
 
 // What is done with two seats at one shard: both track and list, or the first makes each call once.
 #[derive(Clone, Copy)]
@@ -127,6 +129,18 @@ fn rows_of_state(items: &[Item]) -> Option<u64> {
     }
 }
 
+// Whether a take and an unsubscribe are told that there is no such subscriber. Memory is there.
+fn is_unknown<L: Lane>(
+    alloc: Global,
+    locked: &mut Locked<L>,
+    part: &mut Part<L>,
+    sub: &Sub,
+) -> bool {
+    let taken = lent_take(alloc, locked, part, sub, 256);
+    let ended = lent_unsubscribe(alloc, locked, part, sub);
+    matches!(&taken, Err(PoolFault::NoSub)) && matches!(&ended, Err(PoolFault::NoSub))
+}
+
 // Subscribes, takes, unsubscribes, untracks the key, and all keys.
 fn last_five<L: Lane>(
     alloc: Global,
@@ -142,6 +156,9 @@ fn last_five<L: Lane>(
     let sub = subscribed.value;
     let taken = lent_take(alloc, locked, part, &sub, 256).ok()?;
     let ended = lent_unsubscribe(alloc, locked, part, &sub).ok()?;
+    if !is_unknown(alloc, locked, part, &sub) {
+        return None;
+    }
     let untracked = lent_untrack(alloc, locked, part, 1, &topic, &key).ok()?;
     let rest = lent_untrack_all(alloc, locked, part, 1, &topic).ok()?;
     Some(Replies {

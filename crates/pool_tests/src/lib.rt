@@ -17,6 +17,8 @@ mod crossing;
 #[cfg(test)]
 mod diffs;
 #[cfg(test)]
+mod full;
+#[cfg(test)]
 mod gaps;
 #[cfg(test)]
 mod kept_deltas;
@@ -26,6 +28,8 @@ mod lent;
 mod links;
 #[cfg(test)]
 mod one_seat;
+#[cfg(test)]
+mod quiet;
 #[cfg(test)]
 mod replayed;
 #[cfg(test)]

@@ -1,8 +1,6 @@
-//! What two pools say to each other over a link, over sockets and where cuts are lost too, a link at a full journal, and
-//! what a mailbox holds.
+//! What two pools say to each other over a link, over sockets and where cuts are lost too, and what a mailbox holds.
 
 mod desk;
-mod full;
 mod hearing;
 mod loopback;
 mod lost;

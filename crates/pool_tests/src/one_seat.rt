@@ -6,8 +6,10 @@ ghost use Rattle.presence_base.specs.Refs.{IsCount};
 use crate::apart::{Sides, WANTED as WANTED_SIDES, called_apart};
 use crate::checkpoints::{Behind, WANTED as WANTED_BEHIND, checkpointed};
 use crate::diffs::{GONE_WHILE_DOWN, GONE_WHILE_UP, SILENT, Told, told};
+use crate::full::{Asked, Filled, ask_when_full, filled};
 use crate::gaps::{Played, wanted, watch};
 use crate::kept_deltas::{Tells, WANTED as WANTED_KEPT, kept};
+use crate::quiet::{Due, WANTED as WANTED_DUE, asked_in_turn};
 use crate::statuses::{WANTED as WANTED_STATUSES, statuses};
 use pool_desk::{replica, track};
 use presence_base::Replica;
@@ -33,6 +35,9 @@ enum Run {
     Kept,
     // A track in the first room, and calls at the shard of the second.
     Apart(&'static str, &'static str),
+    // A full journal at the shard of the room, and what is asked of it then.
+    Fill(&'static str, Asked),
+    Due,
 }
 
 // What came of it: the shard of the track.
@@ -46,6 +51,8 @@ enum Came {
     Checkpoint(Behind),
     Kept([Tells; 4]),
     Apart(Sides),
+    Filled(Filled),
+    Due([Due; 6]),
 }
 
 fn run_over<A: Lane, B: Lane, C: Lane, D: Lane, R: Wait>(
@@ -54,9 +61,11 @@ fn run_over<A: Lane, B: Lane, C: Lane, D: Lane, R: Wait>(
     pool: &Pool<NoGate, A, B, C, D>,
     seat: &mut Seat<A, B, C, D>,
     other: &Replica,
+    shards: u32,
     run: Run,
 ) -> Option<Came>
-    requires { 0 < pool.now.shards }
+    requires some { 0 < shards }
+    requires all { shards ≡ pool.now.shards }
 {
     match run {
         Run::Track(room) => {
@@ -71,6 +80,15 @@ fn run_over<A: Lane, B: Lane, C: Lane, D: Lane, R: Wait>(
         Run::Apart(tracked, called) => Some(Came::Apart(called_apart(
             rt, alloc, pool, seat, other, tracked, called,
         )?)),
+        Run::Fill(room, asked) if shards == 4 => Some(Came::Filled(ask_when_full(
+            rt,
+            alloc,
+            pool,
+            seat,
+            (room, asked),
+        )?)),
+        Run::Fill(..) => None,
+        Run::Due => Some(Came::Due(asked_in_turn(rt, alloc, pool, seat)?)),
     }
 }
 
@@ -101,7 +119,7 @@ fn settled_run<A: Lane, B: Lane, C: Lane, D: Lane, R: Wait>(
         return None;
     };
     let mut seat = seats.pop()?;
-    let came = run_over(rt, alloc, &pool, &mut seat, &other, run)?;
+    let came = run_over(rt, alloc, &pool, &mut seat, &other, shards, run)?;
     seats.push(seat).ok()?;
     if pool.settle(rt, alloc, seats).is_err() {
         return None;
@@ -154,6 +172,7 @@ fn runs_over_one_shard(rt: HostRuntime) -> Result<(), Fail> {
         (Run::Tellings(false), Came::Tellings(wanted(false))),
         (Run::Checkpoint, Came::Checkpoint(WANTED_BEHIND)),
         (Run::Kept, Came::Kept(WANTED_KEPT)),
+        (Run::Due, Came::Due(WANTED_DUE)),
     ] {
         assert_eq!(rt; outcome_of(&rt, rt.alloc(), 1, run), Some(want));
     }
@@ -172,4 +191,35 @@ fn calls_stay_at_their_shards(rt: HostRuntime) -> Result<(), Fail> {
         assert_eq!(rt; seen, Some(Came::Apart(WANTED_SIDES)));
     }
     Ok(())
+}
+
+// Whether of four full journals, one after another, each is begun again where this is asked, and no other.
+fn begin_again<R: Wait>(rt: &R, alloc: Global, asked: Asked) -> bool {
+    for (shard, room) in ["room:a", "room:b", "room:c", "room:d"].iter().enumerate() {
+        let came = outcome_of(rt, alloc, 4, Run::Fill(room, asked));
+        if came != Some(Came::Filled(filled(shard))) {
+            return false;
+        }
+    }
+    true
+}
+
+#[test]
+fn a_link_at_full_journals(rt: HostRuntime) {
+    assert!(rt; begin_again(&rt, rt.alloc(), Asked::Heard));
+}
+
+#[test]
+fn a_tick_at_full_journals(rt: HostRuntime) {
+    assert!(rt; begin_again(&rt, rt.alloc(), Asked::Tick));
+}
+
+#[test]
+fn a_cut_at_full_journals(rt: HostRuntime) {
+    assert!(rt; begin_again(&rt, rt.alloc(), Asked::Cut));
+}
+
+#[test]
+fn a_list_at_full_journals(rt: HostRuntime) {
+    assert!(rt; begin_again(&rt, rt.alloc(), Asked::List));
 }

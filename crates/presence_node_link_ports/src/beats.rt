@@ -13,7 +13,7 @@ use std::alloc::{AllocError, Global};
 use std::sync::Wait;
 
 /// Lets time pass at a shard, up to a time in milliseconds. Where the shard's journal is full room is made by a
-/// checkpoint, and it is tried once more.
+/// checkpoint, unless somebody else made it, and it is tried once more.
 pub fn let_pass<R: Wait, G: Gate, A: Lane, B: Lane, C: Lane, D: Lane>(
     rt: &R,
     alloc: Global,
@@ -25,14 +25,14 @@ pub fn let_pass<R: Wait, G: Gate, A: Lane, B: Lane, C: Lane, D: Lane>(
     ensures { IsBehind pool.now.own.name (λ h. IsMade h (steps_are.Tick now) result) }
 {
     let reply = pool.tick(rt, alloc, shard, now);
-    if !is_full(&reply) || pool.checkpoint(rt, alloc, shard).is_err() {
+    if !is_full(&reply) || pool.checkpoint_where_full(rt, alloc, shard).is_err() {
         return reply;
     }
     pool.tick(rt, alloc, shard, now)
 }
 
 /// What the own replica did at a shard since the last cut there. Where the shard's journal is full room is made by a
-/// checkpoint, and it is tried once more.
+/// checkpoint, unless somebody else made it, and it is tried once more.
 pub fn cut_off<R: Wait, G: Gate, A: Lane, B: Lane, C: Lane, D: Lane>(
     rt: &R,
     alloc: Global,
@@ -43,7 +43,7 @@ pub fn cut_off<R: Wait, G: Gate, A: Lane, B: Lane, C: Lane, D: Lane>(
     ensures { IsBehind pool.now.own.name (λ h. IsCutMade h result) }
 {
     let reply = pool.cut(rt, alloc, shard);
-    if !is_full(&reply) || pool.checkpoint(rt, alloc, shard).is_err() {
+    if !is_full(&reply) || pool.checkpoint_where_full(rt, alloc, shard).is_err() {
         return reply;
     }
     pool.cut(rt, alloc, shard)

@@ -74,9 +74,9 @@ impl<'a, R: Wait, G: Gate, A: Lane, B: Lane, C: Lane, D: Lane> PoolLinkPort<'a, 
         if !is_full(reply) {
             return false;
         }
-        let is_made = self.pool.checkpoint(self.rt, alloc, shard).is_ok();
-        self.has_changed = self.has_changed || is_made;
-        is_made
+        let room = self.pool.checkpoint_where_full(self.rt, alloc, shard);
+        self.has_changed = self.has_changed || matches!(&room, Ok(true));
+        room.is_ok()
     }
 }
 

@@ -10,3 +10,4 @@ pub use Rattle.shard_pool_locks.specs.Unseated
 pub use Rattle.shard_pool_locks.specs.Seated
 pub use Rattle.shard_pool_locks.specs.Full
 pub use Rattle.shard_pool_locks.specs.KeptDeltas
+pub use Rattle.shard_pool_locks.specs.Quiet

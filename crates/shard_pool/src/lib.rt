@@ -2,8 +2,8 @@
 //!
 //! Its public contracts cite `specs/Seats`: a seat at all shards, and what a call does to it, and
 //! `specs/Settling`: the seats by number and the journals handed back. Those stand on `Seated` and `Unseated`
-//! of shard_pool_locks: what stands behind a call's answer; on `Hands`, `Steps`, `KeptDeltas` and `Full`, which it
-//! gives out; and on `Settled` of shard_pool_settled.
+//! of shard_pool_locks: what stands behind a call's answer; on `Hands`, `Steps`, `KeptDeltas`, `Full` and `Quiet`, which
+//! it gives out; and on `Settled` of shard_pool_settled.
 //!
 //! What no contract says of a pool call: that the history behind its answer is that of the lock which it
 //! took, and that a call without a seat makes its step. That is for tests with threads to say.

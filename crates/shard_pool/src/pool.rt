@@ -1,5 +1,6 @@
 ghost use Rattle.std.specs.Prelude.{◌≡◌, ◌+◌, ◌<◌, ◌≤◌, IfOk, IfErr};
 ghost use Rattle.presence_base.specs.Refs.{IsCount};
+ghost use Rattle.presence_journal.specs.History.{begun};
 ghost use Rattle.shard_pool_locks.specs.ShardFault.TheVariants.{OutOfMemory};
 ghost use Rattle.shard_pool.specs.Seats.{new_seat, new_seats};
 
@@ -32,6 +33,7 @@ fn new_locked<L: Lane>(alloc: Global, own: &Replica, calls: Book<L>) -> Locked<L
     requires count { IsCount own.now.incarnation }
     requires book { calls.total ≡ 0 }
     requires node { own.now.name ≡ L.node }
+    ensures { result.shard ≡ begun own.now }
 {
     Locked::new(alloc, *own, calls)
 }
@@ -85,7 +87,7 @@ fn all_seats<A: Lane, B: Lane, C: Lane, D: Lane>(
     Ok(all)
 }
 
-// A pool over these shards.
+// A pool over these shards, each of which begins with nothing.
 fn new_pool<G: Gate, A: Lane, B: Lane, C: Lane, D: Lane>(
     own: Replica,
     shards: u32,
@@ -99,6 +101,8 @@ fn new_pool<G: Gate, A: Lane, B: Lane, C: Lane, D: Lane>(
     requires shards { (0 < shards) × (shards ≤ 4) }
     requires seats { seats ≤ 64 }
     requires node { (own.name ≡ A.node) × (own.name ≡ B.node) × (own.name ≡ C.node) × (own.name ≡ D.node) }
+    requires begun { (first.shard ≡ begun own) × (second.shard ≡ begun own) × (third.shard ≡ begun own)
+        × (fourth.shard ≡ begun own) }
     ensures { (result.own ≡ own) × (result.shards ≡ shards) × (result.seats ≡ seats) }
 {
     Pool {

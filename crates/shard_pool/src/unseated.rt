@@ -1,11 +1,12 @@
 // The calls without a seat, each at a shard that is named by its number. Since they let the lock go, their
 // contracts name a history behind the answer at most.
 ghost use Rattle.std.specs.Prelude.{◌≡◌, ◌<◌, IfOk, IfErr};
-ghost use Rattle.presence_journal.specs.History.{IsTop, start_of, status};
+ghost use Rattle.presence_journal.specs.History.{IsTop, entry_count, start_of, status};
 ghost use Rattle.shard_pool_locks.specs.Full.{IsFullOf};
 ghost use Rattle.shard_pool_locks.specs.KeptDeltas.{IsToldFrom};
 ghost use Rattle.shard_pool_locks.specs.ShardFault.TheVariants.{OutOfMemory};
 ghost use Rattle.shard_pool_locks.specs.Unseated.{IsOf, IsBehind, IsMade, IsCutMade, IsCheckpointed, TellsWaiting};
+ghost use Rattle.shard_pool_locks.specs.Unseated.{IsMadeWhereFull, IsMadeWhereQuiet};
 ghost use Rattle.shard_pool.specs.Seats.{shard_of, IsTrimmed};
 
 use crate::pool::Pool;
@@ -16,7 +17,8 @@ use presence_base::{Replica, Topic, shard_of};
 use presence_journal::{Journal, Step};
 use replica_status::Status;
 use shard_pool_locks::{
-    Gate, Lane, PoolFault, Sub, locked_checkpoint, locked_cut, locked_full, locked_heard,
+    Gate, Lane, PoolFault, Sub, locked_checkpoint, locked_checkpoint_where_full,
+    locked_checkpoint_where_quiet, locked_cut, locked_entry_count, locked_full, locked_heard,
     locked_journal, locked_merge, locked_permdown, locked_start_of, locked_status, locked_tick,
     locked_told_from, locked_top, locked_trim, locked_waits,
 };
@@ -224,6 +226,59 @@ impl<G: Gate, A: Lane, B: Lane, C: Lane, D: Lane> Pool<G, A, B, C, D> {
             1 => locked_checkpoint(rt, alloc, &self.second),
             2 => locked_checkpoint(rt, alloc, &self.third),
             _ => locked_checkpoint(rt, alloc, &self.fourth),
+        }
+    }
+
+    /// Makes a checkpoint of a shard where its journal is full once its lock is had, so that of two who found it full one
+    /// makes it. `Ok(false)` means that there was room, and that nothing changed.
+    pub fn checkpoint_where_full<R: Wait>(
+        &self,
+        rt: &R,
+        alloc: Global,
+        shard: u32,
+    ) -> Result<bool, PoolFault>
+        requires { shard < self.now.shards }
+        ensures { IsBehind self.now.own.name (λ h. IsMadeWhereFull h result) }
+    {
+        match shard {
+            0 => locked_checkpoint_where_full(rt, alloc, &self.first),
+            1 => locked_checkpoint_where_full(rt, alloc, &self.second),
+            2 => locked_checkpoint_where_full(rt, alloc, &self.third),
+            _ => locked_checkpoint_where_full(rt, alloc, &self.fourth),
+        }
+    }
+
+    /// Makes a checkpoint of a shard where its journal has so many entries, its Start counted, and no item waits for a
+    /// subscriber that isn't behind, so that none loses one. `Ok(false)` means that it isn't so, and that nothing changed;
+    /// that costs a look at each subscriber, under the shard's lock.
+    pub fn checkpoint_where_quiet<R: Wait>(
+        &self,
+        rt: &R,
+        alloc: Global,
+        shard: u32,
+        entries: u64,
+    ) -> Result<bool, PoolFault>
+        requires { shard < self.now.shards }
+        ensures { IsBehind self.now.own.name (λ h. IsMadeWhereQuiet entries h result) }
+    {
+        match shard {
+            0 => locked_checkpoint_where_quiet(rt, alloc, &self.first, entries),
+            1 => locked_checkpoint_where_quiet(rt, alloc, &self.second, entries),
+            2 => locked_checkpoint_where_quiet(rt, alloc, &self.third, entries),
+            _ => locked_checkpoint_where_quiet(rt, alloc, &self.fourth, entries),
+        }
+    }
+
+    /// How many entries a shard's journal has, its Start counted. It is no step, and takes a moment under the lock.
+    pub fn entry_count<R: Wait>(&self, rt: &R, shard: u32) -> u64
+        requires { shard < self.now.shards }
+        ensures { IsBehind self.now.own.name (λ h. result ≡ entry_count h) }
+    {
+        match shard {
+            0 => locked_entry_count(rt, &self.first),
+            1 => locked_entry_count(rt, &self.second),
+            2 => locked_entry_count(rt, &self.third),
+            _ => locked_entry_count(rt, &self.fourth),
         }
     }
 

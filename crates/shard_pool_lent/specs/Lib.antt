@@ -8,3 +8,4 @@ pub use Rattle.tracker_shard.specs.Starting
 pub use Rattle.tracker_shard.specs.Full
 pub use Rattle.tracker_shard.specs.Cuts
 pub use Rattle.tracker_shard.specs.KeptDeltas
+pub use Rattle.tracker_shard.specs.Quiet

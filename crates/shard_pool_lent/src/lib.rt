@@ -2,7 +2,7 @@
 //!
 //! Its public contracts cite `specs/Hands`: a seat at one shard, and `specs/Lent`: what a call does to it and
 //! to the shard. Those stand on tracker_shard's `Steps` and on the receipts of shard_pool_settled. Steps without a seat
-//! cite `Cuts`, `KeptDeltas`, `Full` and `Starting` too, which tracker_shard gives out.
+//! cite `Cuts`, `KeptDeltas`, `Full`, `Starting` and `Quiet` too, which tracker_shard gives out.
 #![tactic(auto)]
 
 mod lane;

@@ -1,15 +1,16 @@
 ghost use Rattle.std.specs.Prelude.{◌≡◌, ◌+◌, ◌≤◌, ◌^◌, true, false, Some, None, IfOk, IfErr, OnOk, OnErr, IsTrue};
 ghost use Rattle.presence_base.specs.Refs.{IsCount};
-ghost use Rattle.presence_journal.specs.History.{begun, own, last_number, status, IsTop};
+ghost use Rattle.presence_journal.specs.History.{begun, own, entry_count, last_number, status, IsTop};
 ghost use Rattle.presence_journal.specs.Limits.{is_payload, is_take_limit};
 ghost use Rattle.presence_journal.specs.Queue.{queue, is_waiting};
 ghost use Rattle.presence_journal.specs.Table.{IsLegal, outcome_of};
 ghost use Rattle.tracker_shard.specs.Full.{IsFullOf};
+ghost use Rattle.tracker_shard.specs.Quiet.{TellsQuiet};
 ghost use Rattle.tracker_shard.specs.Cuts.{IsCut};
 ghost use Rattle.tracker_shard.specs.KeptDeltas.{IsToldFrom};
 ghost use Rattle.tracker_shard.specs.Steps.{Stepped, Answers, AnswersDot, IsDue, refusal, refusal_at, is_found};
 ghost use Rattle.tracker_shard.specs.Steps.{AnswersRowsOfKey, AnswersRowsOfPid, AnswersListed, AnswersListedKey};
-ghost use Rattle.tracker_shard.specs.Steps.{AnswersItems, AnswersSub, checkpoint_refusal};
+ghost use Rattle.tracker_shard.specs.Steps.{AnswersItems, AnswersSub, RefusesForRoom, checkpoint_refusal};
 ghost use Rattle.tracker_shard.specs.Starting.{seats, IsBegunAgain};
 ghost use Rattle.shard_pool_lent.specs.Lent.{is_step, counted};
 
@@ -63,6 +64,13 @@ impl<L: Lane> Locked<L> {
         ensures node { (own self.now.shard).name ≡ L.node }
     {
         self.shard.journal()
+    }
+
+    /// How many entries the journal has, its Start counted.
+    pub fn entry_count(&self) -> u64
+        ensures { result ≡ entry_count self.now.shard }
+    {
+        self.shard.journal().entries().len() as u64 + 1
     }
 
     // What a step would come to, without making it.
@@ -341,6 +349,7 @@ impl<L: Lane> Locked<L> {
         ensures step { Stepped self.old.shard self.new.shard None (Step.Heard replica now) result }
         ensures answer { Answers (λ _. Unit {0}) (outcome_of self.old.shard (Step.Heard replica now)) result }
         ensures due { IsDue result (refusal true self.old.shard (Step.Heard replica now)) }
+        ensures room { RefusesForRoom result }
         ensures total { self.new.calls.total ≡ self.old.calls.total }
     {
         self.shard.heard(alloc, replica, now)
@@ -352,6 +361,7 @@ impl<L: Lane> Locked<L> {
         ensures step { Stepped self.old.shard self.new.shard None (Step.Tick now) result }
         ensures answer { Answers (λ _. Unit {0}) (outcome_of self.old.shard (Step.Tick now)) result }
         ensures due { IsDue result (refusal true self.old.shard (Step.Tick now)) }
+        ensures room { RefusesForRoom result }
         ensures total { self.new.calls.total ≡ self.old.calls.total }
     {
         self.shard.tick(alloc, now)
@@ -363,6 +373,7 @@ impl<L: Lane> Locked<L> {
         ensures step { Stepped self.old.shard self.new.shard None (Step.PermDown replica) result }
         ensures answer { Answers (λ _. Unit {0}) (outcome_of self.old.shard (Step.PermDown replica)) result }
         ensures due { IsDue result (refusal true self.old.shard (Step.PermDown replica)) }
+        ensures room { RefusesForRoom result }
         ensures total { self.new.calls.total ≡ self.old.calls.total }
     {
         self.shard.permdown(alloc, replica)
@@ -374,6 +385,7 @@ impl<L: Lane> Locked<L> {
         ensures step { Stepped self.old.shard self.new.shard None Step.Cut result }
         ensures answer { Answers (IsCut self.old.shard) (outcome_of self.old.shard Step.Cut) result }
         ensures due { IsDue result (refusal true self.old.shard Step.Cut) }
+        ensures room { RefusesForRoom result }
         ensures total { self.new.calls.total ≡ self.old.calls.total }
     {
         self.shard.cut(alloc)
@@ -385,6 +397,7 @@ impl<L: Lane> Locked<L> {
         ensures step { Stepped self.old.shard self.new.shard None (Step.Merge told.now) result }
         ensures answer { Answers (λ _. Unit {0}) (outcome_of self.old.shard (Step.Merge told.now)) result }
         ensures due { IsDue result (refusal true self.old.shard (Step.Merge told.now)) }
+        ensures room { RefusesForRoom result }
         ensures total { self.new.calls.total ≡ self.old.calls.total }
     {
         self.shard.merge(alloc, told)
@@ -396,6 +409,7 @@ impl<L: Lane> Locked<L> {
         ensures ok { OnOk result (IsBegunAgain self.old.shard self.new.shard) }
         ensures err { OnErr result (self.new.shard ≡ self.old.shard) }
         ensures due { IsDue result (checkpoint_refusal self.old.shard) }
+        ensures room { RefusesForRoom result }
         ensures total { self.new.calls.total ≡ self.old.calls.total }
     {
         self.shard.checkpoint(alloc)
@@ -430,6 +444,16 @@ impl<L: Lane> Locked<L> {
         ensures { result ≡ status self.now.shard replica.now }
     {
         self.shard.status(replica)
+    }
+
+    /// Whether no item waits for a present subscriber, as `Shard::is_quiet` tells it. It is no step.
+    #[tactic(auto, using(crate::proofs::Counts::counts))]
+    pub fn is_quiet(&mut self, alloc: Global) -> Result<bool, AllocError>
+        ensures quiet { IfOk result (TellsQuiet self.old.shard) }
+        ensures same { self.new.shard ≡ self.old.shard }
+        ensures total { self.new.calls.total ≡ self.old.calls.total }
+    {
+        self.shard.is_quiet(alloc)
     }
 
     /// Whether a subscriber is behind or has something waiting. It is no step.

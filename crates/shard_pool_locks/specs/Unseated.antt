@@ -1,17 +1,18 @@
 -- What stands behind the answer of a call without a seat, which has let the lock go.
-use Rattle.std.specs.Prelude.{◌≡◌, true, false, ℕ, Bool, List, None, Result, Ok, Err, OnOk, OnErr}
+use Rattle.std.specs.Prelude.{◌≡◌, ◌≤◌, ◌<◌, ◌⊎◌, true, false, ℕ, Bool, List, Some, None, Result, Ok, Err, IfOk, OnOk, OnErr}
 use Rattle.delta_range.specs.Deltas.{DeltaValue}
 use Rattle.presence_journal_data.specs.declared.step.Step.{Step}
 use Rattle.presence_journal_data.specs.declared.step.Step.TheVariants as steps_are
-use Rattle.presence_journal.specs.History.{History, own}
+use Rattle.presence_journal.specs.History.{History, own, entry_count, is_full}
 use Rattle.presence_journal.specs.Queue.{queue, is_waiting}
 use Rattle.presence_journal.specs.Table.{IsLegal, outcome_of}
 use Rattle.shard_pool_lent.specs.Cuts.{IsCut}
+use Rattle.shard_pool_lent.specs.Quiet.{IsQuiet, IsBusy}
 use Rattle.shard_pool_lent.specs.Sub.{Sub}
 use Rattle.shard_pool_lent.specs.ShardFault.{ShardFault}
-use Rattle.shard_pool_lent.specs.ShardFault.TheVariants.{NoSub}
+use Rattle.shard_pool_lent.specs.ShardFault.TheVariants.{JournalFull, NoSub}
 use Rattle.shard_pool_lent.specs.Starting.{IsBegunAgain}
-use Rattle.shard_pool_lent.specs.Steps.{Stepped, Answers, IsDue, refusal, is_found, checkpoint_refusal}
+use Rattle.shard_pool_lent.specs.Steps.{Stepped, Answers, IsDue, RefusesForRoom, refusal, is_found, checkpoint_refusal}
 
 -- a legal journal of the node
 abbrev pub IsOf : List ℕ → History → Type 0
@@ -24,13 +25,15 @@ pub record IsBehind (node : List ℕ) (Is : History → Type 0) : Type 0 where
   pub of_node : (own history).name ≡ node
   pub is : Is history
 
--- the answer is that of the step without a seat at the history's end, and what it gives is such
+-- The answer is that of the step without a seat at the history's end, and what it gives is such. It is refused at most
+-- for want of room.
 pub record IsMadeWith {A : Type 0} (Gives : A → Type 0) (h : History) (s : Step)
     (r : Result A ShardFault) : Type 0 where
   pub left : History
   pub step : Stepped h left None s r
   pub answer : Answers Gives (outcome_of h s) r
   pub due : IsDue r (refusal true h s)
+  pub room : RefusesForRoom r
 
 -- a step that gives nothing but that it was made
 abbrev pub IsMade : {A : Type 0} → History → Step → Result A ShardFault → Type 0
@@ -45,9 +48,41 @@ abbrev pub TellsWaiting : History → Sub → Result Bool ShardFault → Type 0
 TellsWaiting h sub (Ok w) = (is_found h sub.slot sub.number ≡ true) × (w ≡ is_waiting (queue h sub.number))
 TellsWaiting h sub (Err e) = (is_found h sub.slot sub.number ≡ false) × (e ≡ NoSub)
 
--- A Start that stands for the journal is put in its place, or it stays as it is where that is refused.
+-- A Start that stands for the journal is put in its place, or it stays as it is where that is refused, at most for want
+-- of room.
 pub record IsCheckpointed (h : History) (r : Result Unit ShardFault) : Type 0 where
   pub left : History
   pub again : OnOk r (IsBegunAgain h left)
   pub same : OnErr r (left ≡ h)
   pub due : IsDue r (checkpoint_refusal h)
+  pub room : RefusesForRoom r
+
+-- what is left where a checkpoint was made, where none was, and where it was refused
+abbrev pub Leaves : History → History → Result Bool ShardFault → Type 0
+Leaves h left (Ok true) = IsBegunAgain h left
+Leaves h left (Ok false) = left ≡ h
+Leaves h left (Err e) = left ≡ h
+
+-- A checkpoint is made where the journal is full, and only there. It is refused as a checkpoint is.
+pub record IsMadeWhereFull (h : History) (r : Result Bool ShardFault) : Type 0 where
+  pub left : History
+  pub leaves : Leaves h left r
+  pub told : IfOk r (λ made. made ≡ is_full h)
+  pub asked : OnErr r (is_full h ≡ true)
+  pub due : (f : ShardFault) → r ≡ Err f → IsDue r (checkpoint_refusal h)
+  pub room : RefusesForRoom r
+
+-- the journal has so many entries, its Start counted, and no item waits for anybody; or it isn't so
+abbrev pub TellsDue : ℕ → History → Bool → Type 0
+TellsDue entries h true = (entries ≤ entry_count h) × IsQuiet h
+TellsDue entries h false = (entry_count h < entries) ⊎ IsBusy h
+
+-- A checkpoint is made where the journal has so many entries and no item waits for anybody, and only there. Memory may be
+-- wanting for that look too.
+pub record IsMadeWhereQuiet (entries : ℕ) (h : History) (r : Result Bool ShardFault) : Type 0 where
+  pub left : History
+  pub leaves : Leaves h left r
+  pub told : IfOk r (TellsDue entries h)
+  pub asked : OnErr r (entries ≤ entry_count h)
+  pub due : r ≡ Err JournalFull → checkpoint_refusal h ≡ Some JournalFull
+  pub room : RefusesForRoom r

@@ -2,8 +2,8 @@
 //!
 //! Its public contracts cite `specs/Seated`: what a seated call leaves, and `specs/Unseated`: what stands
 //! behind the answer of a call without a seat. Both name a history behind the answer at most, since the lock
-//! is let go. They stand on shard_pool_lent's `Hands`, and on `Steps`, `Cuts`, `KeptDeltas` and `Full`, which it
-//! gives out.
+//! is let go. They stand on shard_pool_lent's `Hands`, and on `Steps`, `Cuts`, `KeptDeltas`, `Full` and `Quiet`,
+//! which it gives out.
 #![tactic(auto)]
 
 mod gate;
@@ -21,7 +21,8 @@ pub use shard_pool_lent::{
     lent_update,
 };
 pub use unseated::{
-    locked_checkpoint, locked_cut, locked_full, locked_heard, locked_journal, locked_merge,
-    locked_permdown, locked_start_of, locked_status, locked_tick, locked_told_from, locked_top,
-    locked_trim, locked_waits,
+    locked_checkpoint, locked_checkpoint_where_full, locked_checkpoint_where_quiet, locked_cut,
+    locked_entry_count, locked_full, locked_heard, locked_journal, locked_merge, locked_permdown,
+    locked_start_of, locked_status, locked_tick, locked_told_from, locked_top, locked_trim,
+    locked_waits,
 };

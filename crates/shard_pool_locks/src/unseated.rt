@@ -1,12 +1,13 @@
 // The calls without a seat, each behind the lock of one shard. The journal is read to show that it is legal
 // and of the node.
 ghost use Rattle.std.specs.Prelude.{◌≡◌, IfOk, IfErr};
-ghost use Rattle.presence_journal.specs.History.{IsTop, start_of, status};
+ghost use Rattle.presence_journal.specs.History.{IsTop, entry_count, start_of, status};
 ghost use Rattle.shard_pool_lent.specs.Full.{IsFullOf};
 ghost use Rattle.shard_pool_lent.specs.KeptDeltas.{IsToldFrom};
 ghost use Rattle.shard_pool_lent.specs.Hands.{without_receipts};
 ghost use Rattle.shard_pool_lent.specs.ShardFault.TheVariants.{OutOfMemory};
 ghost use Rattle.shard_pool_locks.specs.Unseated.{IsOf, IsBehind, IsMade, IsCutMade, IsCheckpointed, TellsWaiting};
+ghost use Rattle.shard_pool_locks.specs.Unseated.{IsMadeWhereFull, IsMadeWhereQuiet};
 
 use delta_range::Delta;
 use orswot_core_told::Told;
@@ -194,6 +195,58 @@ pub fn locked_checkpoint<L: Lane, R: Wait>(
     let mut guard = shard.lock(rt);
     let _journal = guard.journal();
     guard.checkpoint(alloc)
+}
+
+/// Puts a Start that stands for the journal in its place where the journal is full once the lock is had. `Ok(false)` means
+/// that it wasn't, and that nothing changed.
+#[tactic(auto, using(crate::proofs::Calls::where_full))]
+pub fn locked_checkpoint_where_full<L: Lane, R: Wait>(
+    rt: &R,
+    alloc: Global,
+    shard: &Mutex<Locked<L>>,
+) -> Result<bool, PoolFault>
+    ensures { IsBehind L.node (λ h. IsMadeWhereFull h result) }
+{
+    let mut guard = shard.lock(rt);
+    if !guard.journal().is_full() {
+        return Ok(false);
+    }
+    guard.checkpoint(alloc)?;
+    Ok(true)
+}
+
+/// Puts a Start that stands for the journal in its place where the journal has so many entries once the lock is had, its
+/// Start counted, and no item waits for a subscriber that isn't behind. `Ok(false)` means that it isn't so, and that
+/// nothing changed.
+#[tactic(auto, using(crate::proofs::Calls::where_quiet))]
+pub fn locked_checkpoint_where_quiet<L: Lane, R: Wait>(
+    rt: &R,
+    alloc: Global,
+    shard: &Mutex<Locked<L>>,
+    entries: u64,
+) -> Result<bool, PoolFault>
+    ensures { IsBehind L.node (λ h. IsMadeWhereQuiet entries h result) }
+{
+    let mut guard = shard.lock(rt);
+    let _journal = guard.journal();
+    if guard.entry_count() < entries {
+        return Ok(false);
+    }
+    if !guard.is_quiet(alloc)? {
+        return Ok(false);
+    }
+    guard.checkpoint(alloc)?;
+    Ok(true)
+}
+
+/// How many entries the journal has, its Start counted.
+#[tactic(auto, using(crate::proofs::Calls::unseated))]
+pub fn locked_entry_count<L: Lane, R: Wait>(rt: &R, shard: &Mutex<Locked<L>>) -> u64
+    ensures { IsBehind L.node (λ h. result ≡ entry_count h) }
+{
+    let guard = shard.lock(rt);
+    let _journal = guard.journal();
+    guard.entry_count()
 }
 
 /// The number of the journal's Start.

@@ -66,6 +66,16 @@ IsDue (Err JournalFull) r = r ≡ Some JournalFull
 IsDue (Err NoSub) r = r ≡ Some NoSub
 IsDue (Err OutOfMemory) r = MayRunOut r
 
+-- refused at most for want of room: the journal is full, or memory is wanting
+abbrev pub RefusesForRoom : {A : Type 0} → Result A ShardFault → Type 0
+RefusesForRoom (Ok x) = Unit {0}
+RefusesForRoom (Err AlreadyTracked) = ⊥
+RefusesForRoom (Err NoPresence) = ⊥
+RefusesForRoom (Err ClockFull) = ⊥
+RefusesForRoom (Err JournalFull) = Unit {0}
+RefusesForRoom (Err NoSub) = ⊥
+RefusesForRoom (Err OutOfMemory) = Unit {0}
+
 -- What each call answers where it is accepted.
 
 -- a subscriber is found at this slot

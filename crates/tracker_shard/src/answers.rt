@@ -4,7 +4,7 @@ ghost use Rattle.presence_journal.specs.History.{is_full};
 ghost use Rattle.presence_journal.specs.Limits.{is_within_limits};
 ghost use Rattle.presence_journal.specs.Present.{dots_of};
 ghost use Rattle.presence_journal.specs.Table.{outcome_of, rows_of_key, untracked};
-ghost use Rattle.tracker_shard.specs.Steps.{Made, Stepped, Answers, IsDue, refusal, first_dot};
+ghost use Rattle.tracker_shard.specs.Steps.{Made, Stepped, Answers, IsDue, RefusesForRoom, refusal, first_dot};
 
 use crate::fault::ShardFault;
 use delta_range::Delta;
@@ -96,6 +96,7 @@ pub(crate) fn note(table: &mut Indexed, alloc: Global, step: Step) -> Result<(),
     ensures step { Stepped table.old.history table.new.history None step result }
     ensures answer { Answers (λ _. Unit {0}) (outcome_of table.old.history step) result }
     ensures due { IsDue result (refusal true table.old.history step) }
+    ensures room { RefusesForRoom result }
 {
     if table.journal().is_full() {
         return Err(ShardFault::JournalFull);

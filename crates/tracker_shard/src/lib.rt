@@ -3,7 +3,7 @@
 //!
 //! Its public contracts cite `specs/Steps`: what a call answers and leaves, and when it refuses; presence_journal's
 //! `History`, `Table`, `Present`, `Queue` and `Limits`; and what tracker_shard_indexed gives out: `Cuts`, `KeptDeltas`,
-//! `Full` and `Starting`.
+//! `Full`, `Starting` and `Quiet`.
 #![tactic(auto)]
 
 mod answers;

@@ -54,7 +54,8 @@ impl Shard {
     ghost use Rattle.tracker_shard_indexed.specs.Cuts.{IsCut};
     ghost use Rattle.tracker_shard_indexed.specs.KeptDeltas.{IsToldFrom};
     ghost use Rattle.tracker_shard_indexed.specs.Full.{IsFullOf};
-    ghost use Rattle.tracker_shard.specs.Steps.{Stepped, Answers, IsDue, refusal, refusal_at, is_found};
+    ghost use Rattle.tracker_shard_indexed.specs.Quiet.{TellsQuiet};
+    ghost use Rattle.tracker_shard.specs.Steps.{Stepped, Answers, IsDue, RefusesForRoom, refusal, refusal_at, is_found};
     ghost use Rattle.tracker_shard.specs.Steps.{AnswersDot, AnswersRowsOfKey, AnswersRowsOfPid, AnswersListed};
     ghost use Rattle.tracker_shard.specs.Steps.{AnswersListedKey, AnswersItems, AnswersSub};
     ghost use Rattle.tracker_shard.specs.Steps.{found_topic, checkpoint_refusal};
@@ -420,6 +421,7 @@ impl Shard {
         ensures step { Stepped self.old self.new None (Step.Heard replica now) result }
         ensures answer { Answers (λ _. Unit {0}) (outcome_of self.old (Step.Heard replica now)) result }
         ensures due { IsDue result (refusal true self.old (Step.Heard replica now)) }
+        ensures room { RefusesForRoom result }
     {
         note(&mut self.table, alloc, Step::heard(replica, now))
     }
@@ -432,6 +434,7 @@ impl Shard {
         ensures step { Stepped self.old self.new None (Step.Tick now) result }
         ensures answer { Answers (λ _. Unit {0}) (outcome_of self.old (Step.Tick now)) result }
         ensures due { IsDue result (refusal true self.old (Step.Tick now)) }
+        ensures room { RefusesForRoom result }
     {
         note(&mut self.table, alloc, Step::Tick { now })
     }
@@ -444,6 +447,7 @@ impl Shard {
         ensures step { Stepped self.old self.new None (Step.PermDown replica) result }
         ensures answer { Answers (λ _. Unit {0}) (outcome_of self.old (Step.PermDown replica)) result }
         ensures due { IsDue result (refusal true self.old (Step.PermDown replica)) }
+        ensures room { RefusesForRoom result }
     {
         note(&mut self.table, alloc, Step::permdown(replica))
     }
@@ -458,6 +462,7 @@ impl Shard {
         ensures step { Stepped self.old self.new None Step.Cut result }
         ensures answer { Answers (IsCut self.old) (outcome_of self.old Step.Cut) result }
         ensures due { IsDue result (refusal true self.old Step.Cut) }
+        ensures room { RefusesForRoom result }
     {
         if self.table.journal().is_full() {
             return Err(ShardFault::JournalFull);
@@ -478,6 +483,7 @@ impl Shard {
         ensures step { Stepped self.old self.new None (Step.Merge told.now) result }
         ensures answer { Answers (λ _. Unit {0}) (outcome_of self.old (Step.Merge told.now)) result }
         ensures due { IsDue result (refusal true self.old (Step.Merge told.now)) }
+        ensures room { RefusesForRoom result }
     {
         if self.table.journal().is_full() {
             return Err(ShardFault::JournalFull);
@@ -496,6 +502,7 @@ impl Shard {
         ensures ok { OnOk result (IsBegunAgain self.old self.new) }
         ensures err { OnErr result (self.new ≡ self.old) }
         ensures due { IsDue result (checkpoint_refusal self.old) }
+        ensures room { RefusesForRoom result }
     {
         if self.table.journal().last_number() >= MAX_COUNT {
             return Err(ShardFault::JournalFull);
@@ -535,6 +542,16 @@ impl Shard {
         ensures { result ≡ status self.now replica.now }
     {
         self.table.status(replica)
+    }
+
+    /// Whether no item waits for a present subscriber: each is behind, or has nothing waiting. It is no step, and costs a look
+    /// at each of them.
+    pub fn is_quiet(&mut self, alloc: Global) -> Result<bool, AllocError>
+        ensures same { self.new ≡ self.old }
+        ensures quiet { IfOk result (TellsQuiet self.old) }
+    {
+        self.table.ready(alloc)?;
+        Ok(self.table.is_quiet())
     }
 
     /// Whether a subscriber is behind or has something waiting. It is no step.

@@ -1,10 +1,11 @@
 -- What waits for a subscriber, by its topic's ring and how far it has come.
-use Rattle.std.proofs.Common.{◌≡◌, ◌≤◌, ◌<◌, ℕ, suc, ◌+◌, ◌-◌, ◌^◌, Bool, true, false, cond, nat_lt, nat_le, min, List, [], ◌∷◌, ◌++◌, length, drop, take, Option, Some, None, option_to_list, refl, sym, ◌∙◌, ap, subst, arith, length-append, length-drop}
+use Rattle.std.proofs.Common.{◌≡◌, ◌≤◌, ◌<◌, ℕ, zero, suc, ◌+◌, ◌-◌, ◌^◌, Bool, true, false, cond, nat_lt, nat_le, min, List, [], ◌∷◌, ◌++◌, length, drop, take, Option, Some, None, option_to_list, refl, sym, ◌∙◌, ap, subst, arith, length-append, length-drop}
 use Rattle.std.proofs.lemmas.Bool.{ltb-true, ltb-false, leb-true, leb-false, lt-leb, cond-true, cond-false, lt-ltb, le-ltb}
 use Rattle.std.proofs.lemmas.List.{drop_all, drop-drop, drop-append-le, append-nil, take_min}
 use Rattle.presence_journal_data.specs.declared.rows.Item.{Item}
 use Rattle.presence_journal.specs.Queue.{Behind, Queued, most_waiting, queued, push_items, left_by, is_waiting}
 use Rattle.tracker_shard_feeds.specs.Fed.{items_at_most}
+use Rattle.tracker_shard_feeds.specs.Quiet.{is_idle}
 use Rattle.tracker_shard_feeds.specs.Rings.{Seen, waiting, newest, pushed, joined, parted, with_followers, followers_in, HoldsNewest, AreHeld, IsReached, IsAhead, HasSome, IsBelow}
 
 short_queue : (q : List Item) → length q ≤ most_waiting → queued q ≡ Queued q
@@ -72,6 +73,37 @@ followers_pushed (Some s) (Some x) = refl
 pub newest_held : (o : Option Seen) (k : ℕ) → AreHeld o k → HoldsNewest o
 newest_held None k h = tt
 newest_held (Some s) k h = h.items
+
+-- whether no item waits for one who has come to n
+
+none_left : (is : List Item) → length is ≡ 0 → is_idle (Queued is) ≡ true
+none_left [] e = refl
+none_left (i ∷ is) e = absurd (omega (arith, e))
+
+some_left : (is : List Item) → 0 < length is → is_idle (Queued is) ≡ false
+some_left [] l = absurd (omega (arith, l))
+some_left (i ∷ is) l = refl
+
+pub idle_level : (s : Seen) (n : ℕ) → s.made - n ≡ 0 → is_idle (waiting (Some s) (Some n)) ≡ true
+idle_level s n none = ap (λ b. is_idle (cond b Behind (Queued (left_of s.made n s.items)))) (le-ltb 256 (s.made - n) (omega (arith, none))) ∙ none_left (left_of s.made n s.items) (omega (arith, length-drop (length s.items - (s.made - n)) s.items, none))
+
+pub idle_behind : (s : Seen) (n : ℕ) → 256 < s.made - n → is_idle (waiting (Some s) (Some n)) ≡ true
+idle_behind s n far = ap (λ b. is_idle (cond b Behind (Queued (left_of s.made n s.items)))) (lt-ltb 256 (s.made - n) far)
+
+pub busy_between : (s : Seen) (n : ℕ) → length s.items ≡ min s.made 256 → 0 < s.made - n → s.made - n ≤ 256 → is_idle (waiting (Some s) (Some n)) ≡ false
+busy_between s n held some most = ap (λ b. is_idle (cond b Behind (Queued (left_of s.made n s.items)))) (le-ltb 256 (s.made - n) most) ∙ some_left (left_of s.made n s.items) (omega (arith, length-drop (length s.items - (s.made - n)) s.items, held, some, most))
+
+some_ahead : (a : ℕ) → (a ≡ 0 → ⊥) → 0 < a
+some_ahead zero e = absurd (e refl)
+some_ahead (suc a) e = omega arith
+
+-- where some are ahead, none waits only for one who is too far behind
+pub idle_far : (s : Seen) (n a : ℕ) (o : Option ℕ) → HoldsNewest (Some s) → o ≡ Some n → a ≡ s.made - n → (a ≡ 0 → ⊥) → nat_lt 256 a ≡ is_idle (waiting (Some s) o)
+idle_far s n a o held is e some = go (nat_lt 256 a) refl
+  where
+    go : (b : Bool) → nat_lt 256 a ≡ b → nat_lt 256 a ≡ is_idle (waiting (Some s) o)
+    go true p = p ∙ sym (ap (λ x. is_idle (waiting (Some s) x)) is ∙ idle_behind s n (omega (arith, ltb-true 256 a p, e)))
+    go false p = p ∙ sym (ap (λ x. is_idle (waiting (Some s) x)) is ∙ busy_between s n held (omega (arith, some_ahead a some, e)) (omega (arith, ltb-false 256 a p, e)))
 
 -- a subscriber more, or one fewer, changes nothing for the others
 

@@ -9,3 +9,4 @@ pub mod FeedsLemmas
 pub mod BegunLemmas
 pub mod Crossing
 pub mod ListingLemmas
+pub mod IdleLemmas

@@ -44,7 +44,7 @@ short_more list new n t put short all =
 
 -- no number stands twice
 
-none_at : (k : ℕ) (ks : List ℕ) → AllByRecursion (λ y. nat_cmp k y ≡ Less) ks → list_any (nat_eq k) ks ≡ false
+pub none_at : (k : ℕ) (ks : List ℕ) → AllByRecursion (λ y. nat_cmp k y ≡ Less) ks → list_any (nat_eq k) ks ≡ false
 none_at k [] above = refl
 none_at k (y ∷ ks) above = ap (λ b. b || list_any (nat_eq k) ks) (sym (unsigned_tied k y) ∙ ap is_eq above.0) ∙ none_at k ks above.1
 

@@ -3,3 +3,4 @@ pub mod Codes
 pub mod Laws
 pub mod Rings
 pub mod Listed
+pub mod Quiet

@@ -4,10 +4,11 @@ ghost use Rattle.tracker_shard_feeds.specs.Fed.{SameFed, IsChanged, IsDelivered}
 ghost use Rattle.orswot_core_told.specs.Checks.{has_repeat};
 ghost use Rattle.tracker_shard_feeds.specs.Laws.{IsBegun};
 ghost use Rattle.tracker_shard_feeds.specs.Listed.{AreListed};
+ghost use Rattle.tracker_shard_feeds.specs.Quiet.{TellsIdle};
 ghost use Rattle.tracker_shard_feeds.specs.Rings.{shared};
 
 use crate::followers::{
-    Follower, add_follower, drop_follower, is_awaited, items_waiting, move_follower,
+    Follower, add_follower, are_idle, drop_follower, is_awaited, items_waiting, move_follower,
 };
 use crate::listing::listed_topics;
 use crate::rings::{Ring, push_all, reserve_all};
@@ -111,6 +112,14 @@ impl Feeds {
             Some(follower) => Some(is_awaited(&self.rings, follower)),
             None => None,
         }
+    }
+
+    /// Whether no item waits for any subscriber: each is owed the state of its topic, or has nothing waiting. It costs a
+    /// look at each of them.
+    pub fn is_quiet(&self) -> bool
+        ensures { TellsIdle self.now result }
+    {
+        are_idle(&self.rings, &self.followers)
     }
 
     /// Up to `max` of the items that wait for a subscriber, the oldest first. `None` where it is owed the

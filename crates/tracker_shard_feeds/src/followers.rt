@@ -2,8 +2,11 @@
 ghost use Rattle.std.specs.Prelude.{◌≡◌, ◌<◌, ◌^◌, ℕ, List, Some, None, IfOk, OnOk, OnErr};
 ghost use Rattle.std.specs.Ordering.{nat_cmp};
 ghost use Rattle.std.specs.BTreeMap.{get};
+ghost use Rattle.std.specs.List.Sorted.{IsStrictlySortedBy};
+ghost use Rattle.std.specs.Map.{keys_of};
 ghost use Rattle.presence_journal.specs.Queue.{is_waiting};
 ghost use Rattle.tracker_shard_feeds.specs.Fed.{items_at_most};
+ghost use Rattle.tracker_shard_feeds.specs.Quiet.{idle_at, all_idle};
 ghost use Rattle.tracker_shard_feeds.specs.Rings.{shared, seen_at, waiting, followers_in, HoldsNewest, IsReached, HasSome};
 ghost use Rattle.tracker_shard_feeds.specs.Rings.{joined, IsRingChanged, SameRings, IsPut, IsDropped, IsMoved, CanTake, IsTaken, newcomer_on};
 ghost use Rattle.tracker_shard_feeds.specs.declared.followers.Follower.{Follower as FollowerValue};
@@ -33,6 +36,31 @@ pub(crate) fn is_awaited(rings: &BTreeMap<Topic, Ring>, follower: &Follower) -> 
         Some(ring) => ring.is_awaited(follower.next),
         None => true,
     }
+}
+
+// Whether no item waits for a subscriber.
+fn is_idle(rings: &BTreeMap<Topic, Ring>, follower: &Follower) -> bool
+    requires { HoldsNewest (seen_at rings.now follower.now.topic) }
+    ensures { result ≡ idle_at (seen_at rings.now) follower.now }
+{
+    match rings.get(&follower.topic) {
+        Some(ring) => ring.is_idle(follower.next),
+        None => true,
+    }
+}
+
+/// Whether no item waits for any subscriber.
+pub(crate) fn are_idle(rings: &BTreeMap<Topic, Ring>, followers: &BTreeMap<u64, Follower>) -> bool
+    requires { (t : List ℕ) → HoldsNewest (seen_at rings.now t) }
+    ensures idle { result ≡ all_idle (seen_at rings.now) followers.now.entries }
+    ensures ordered { IsStrictlySortedBy nat_cmp (keys_of followers.now.entries) }
+{
+    for (_number, follower) in followers.iter() {
+        if !is_idle(rings, follower) {
+            return false;
+        }
+    }
+    true
 }
 
 /// Up to `max` of the items that wait for a subscriber, or `None` where it is behind.

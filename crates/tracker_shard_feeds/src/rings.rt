@@ -5,6 +5,7 @@ ghost use Rattle.std.specs.VecDeque.{deque_len, deque_capacity};
 ghost use Rattle.presence_base.specs.Order.{text_cmp, same_text};
 ghost use Rattle.presence_journal.specs.Queue.{most_waiting, left_by, is_waiting};
 ghost use Rattle.tracker_shard_feeds.specs.Fed.{items_for, items_at_most};
+ghost use Rattle.tracker_shard_feeds.specs.Quiet.{is_idle};
 ghost use Rattle.tracker_shard_feeds.specs.Rings.{values, shared, seen, seen_at, waiting, with_followers, first};
 ghost use Rattle.tracker_shard_feeds.specs.Rings.{followers_in, HoldsNewest, IsReached, IsAhead};
 ghost use Rattle.tracker_shard_feeds.specs.Rings.{joined, parted, pushed, IsRingChanged, IsParted, IsPushed, SameRings};
@@ -128,6 +129,18 @@ impl Ring {
             Some(ahead) => ahead > 0,
             None => true,
         }
+    }
+
+    /// Whether no item waits for one who has come so far.
+    pub(crate) fn is_idle(&self, next: Option<u64>) -> bool
+        requires { HoldsNewest (Some (seen self.now)) }
+        ensures { result ≡ is_idle (waiting (Some (seen self.now)) next) }
+    {
+        let Some(next) = next else {
+            return true;
+        };
+        let ahead = self.made.saturating_sub(next);
+        ahead == 0 || ahead > MAX_WAITING as u64
     }
 
     // Up to `max` of the last `ahead` items.

@@ -1,5 +1,5 @@
 -- How the feeds follow an entry.
-use Rattle.std.proofs.Common.{◌≡◌, ℕ, ◌<◌, ◌^◌, true, false, List, Option, Some, None, refl, sym, ◌∙◌, ap, subst}
+use Rattle.std.proofs.Common.{◌≡◌, ℕ, ◌<◌, ◌^◌, Bool, true, false, List, Option, Some, None, refl, sym, ◌∙◌, ap, subst}
 use Rattle.std.specs.Prelude.{option_map, is_some, length}
 use Rattle.presence_journal_data.specs.declared.rows.Item.{Item}
 use Rattle.presence_journal_data.specs.declared.step.Step.TheVariants as steps_are
@@ -10,6 +10,7 @@ use Rattle.presence_journal.specs.Queue.{queue, topic_of, is_waiting}
 use Rattle.presence_journal.specs.Table.{outcome_of}
 use Rattle.tracker_shard_turns.specs.declared.turn.Turn.{Turn}
 use Rattle.tracker_shard_feeds.specs.Fed.{Fed, Subscriber, found, topic_at, waits_at, as_waiting, items_of, items_for, newcomer, left_with, IsFedBy, IsChanged, IsDelivered}
+use Rattle.tracker_shard_feeds.specs.Quiet.{is_idle, IsBusy, TellsIdle, TellsQuiet}
 use Rattle.tracker_shard_feeds.specs.Laws.{is_of_subscriber, IsTakeOf}
 use Rattle.tracker_shard_feeds.proofs.LawLemmas as laws
 use Rattle.tracker_shard_items.specs.Making.{Made, MakesItems}
@@ -49,6 +50,14 @@ waits_are h f n fed = ap (option_map (λ (s : Subscriber). is_waiting s.waiting)
     go : (o : Option (List ℕ)) → option_map (λ (s : Subscriber). is_waiting s.waiting) (option_map (as_waiting h n) o) ≡ option_map (λ _. is_waiting (queue h n)) o
     go None = refl
     go (Some t) = refl
+
+pub tells_quiet : (h : History) (f : Fed) (b : Bool) → IsFedBy h f → TellsIdle f b → TellsQuiet h b
+tells_quiet h f true fed idle = λ n t there. idle n (as_waiting h n t) (fed.subscribers n ∙ ap (option_map (as_waiting h n)) there)
+tells_quiet h f false fed busy = go (topic_of h busy.0) refl (sym (fed.subscribers busy.0) ∙ busy.2)
+  where
+    go : (o : Option (List ℕ)) → topic_of h busy.0 ≡ o → option_map (as_waiting h busy.0) o ≡ Some busy.1 → IsBusy h
+    go None p q = absurd (cc)
+    go (Some t) p q = let same : as_waiting h busy.0 t ≡ busy.1 = cc in (busy.0, t, p, ap (λ (s : Subscriber). is_idle s.waiting) same ∙ busy.3)
 
 pub takes : (h : History) (f : Fed) (n max : ℕ) (t : List ℕ) (o : Option (List Item)) → IsFedBy h f → topic_of h n ≡ Some t → o ≡ items_of max (found f n) → IsTakeOf h n max t o
 takes h f n max t o fed topic is = subst (IsTakeOf h n max t) (sym is) (laws.items_are_those h f n max t fed topic)

@@ -5,3 +5,4 @@ pub mod Starting
 pub use Rattle.tracker_shard_cuts.specs.Full
 pub use Rattle.tracker_shard_cuts.specs.Cuts
 pub use Rattle.tracker_shard_cuts.specs.KeptDeltas
+pub use Rattle.tracker_shard_feeds.specs.Quiet

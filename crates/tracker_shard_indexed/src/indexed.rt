@@ -76,6 +76,7 @@ impl Indexed {
     ghost use Rattle.tracker_shard_cuts.specs.KeptDeltas.{IsToldFrom};
     ghost use Rattle.tracker_shard_cuts.specs.Full.{IsFullOf};
     ghost use Rattle.tracker_shard_indexed.specs.Starting.{IsBegunAgain};
+    ghost use Rattle.tracker_shard_feeds.specs.Quiet.{TellsQuiet};
     ghost use Rattle.tracker_shard_known.specs.Known.{next_left};
 
     /// An empty journal of the replica.
@@ -275,6 +276,15 @@ impl Indexed {
             Stage::Begun => walk_waits(&self.journal, number),
             _ => self.parts.feeds.waits(number),
         }
+    }
+
+    /// Whether no item waits for a present subscriber: each is behind, or has nothing waiting. It costs a look at each of
+    /// them.
+    pub fn is_quiet(&self) -> bool
+        requires { self.now.is_ready ≡ true }
+        ensures { TellsQuiet self.now.history result }
+    {
+        self.parts.feeds.is_quiet()
     }
 
     /// The count up to which all of a replica's dots are covered. Takes no memory.

@@ -4,7 +4,7 @@
 //! Its public contracts cite `specs/Seen`, and `specs/Starting`: what a journal is that begins again;
 //! presence_journal's `History`, `Present`, `Queue`, `Table` and `Limits`; tracker_shard_known's `Known`; and what
 //! tracker_shard_cuts gives out: `Cuts`, `KeptDeltas` (what is told from a count on), `Full` and, for
-//! `specs/Starting`, `Checkpoints`. `specs/Parts` says how each part is tied to the history.
+//! `specs/Starting`, `Checkpoints`; and `Quiet` of tracker_shard_feeds, which it gives out too. `specs/Parts` says how each part is tied to the history.
 #![tactic(auto)]
 
 mod indexed;

@@ -2,7 +2,6 @@
 ghost use Rattle.std.specs.Prelude.{◌≡◌};
 ghost use Rattle.presence_base.specs.Refs.{IsCount};
 
-use super::full::{Asked, FILLED, Filled, ask_when_full};
 use super::hearing::{HEARING, HEARING_KEPT, HEARING_OUTGROWN, Hearing, hear};
 use super::loopback::{ACCEPTED, Accepted, DIALLED, Dialled, accept_over, both_ends, dial_over};
 use super::lost::{KEPT, Lost, OUTGROWN, SAYING_LOST, SayingLost, say_lost};
@@ -25,7 +24,6 @@ enum Run {
     Say,
     SayLost(Lost),
     Hear(Dialogue),
-    Fill(Asked),
     // At one end of a connection.
     Dial(TcpStream),
     Accept(TcpStream),
@@ -37,7 +35,6 @@ enum Came {
     Said(Saying),
     SaidLost(SayingLost),
     Heard(Hearing),
-    Filled(Filled),
     Dialled(Dialled),
     Accepted(Accepted),
 }
@@ -56,7 +53,6 @@ fn run_over<A: Lane, B: Lane, C: Lane, D: Lane, R: Wait>(
         Run::Say => Some(Came::Said(say(rt, alloc, pool, seat, own)?)),
         Run::SayLost(lost) => Some(Came::SaidLost(say_lost(rt, alloc, pool, seat, own, lost)?)),
         Run::Hear(dialogue) => Some(Came::Heard(hear(rt, alloc, pool, seat, *own, dialogue)?)),
-        Run::Fill(asked) => Some(Came::Filled(ask_when_full(rt, alloc, pool, seat, *own, asked)?)),
         Run::Dial(mut stream) => Some(Came::Dialled(dial_over(
             rt,
             alloc,
@@ -173,29 +169,4 @@ fn two_pools_over_sockets(rt: HostRuntime) -> Result<(), Fail> {
     assert_eq!(rt; dialled.join(&rt), Some(Came::Dialled(DIALLED)));
     assert_eq!(rt; accepted, Some(Came::Accepted(ACCEPTED)));
     Ok(())
-}
-
-// Whether a full journal is begun again where this is asked.
-fn begins_again<R: Wait>(rt: &R, alloc: Global, asked: Asked) -> bool {
-    came_of(rt, alloc, "a", Run::Fill(asked)) == Some(Came::Filled(FILLED))
-}
-
-#[test]
-fn a_link_at_a_full_journal(rt: HostRuntime) {
-    assert!(rt; begins_again(&rt, rt.alloc(), Asked::Heard));
-}
-
-#[test]
-fn a_tick_at_a_full_journal(rt: HostRuntime) {
-    assert!(rt; begins_again(&rt, rt.alloc(), Asked::Tick));
-}
-
-#[test]
-fn a_cut_at_a_full_journal(rt: HostRuntime) {
-    assert!(rt; begins_again(&rt, rt.alloc(), Asked::Cut));
-}
-
-#[test]
-fn a_list_at_a_full_journal(rt: HostRuntime) {
-    assert!(rt; begins_again(&rt, rt.alloc(), Asked::List));
 }
