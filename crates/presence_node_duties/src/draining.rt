@@ -109,7 +109,7 @@ pub(crate) fn is_due<R: Wait, H, A: Lane, B: Lane, C: Lane, D: Lane>(
     rt: &R,
     server: &Server<'_, H, A, B, C, D>,
 ) -> bool {
-    for shard in 0..server.pool.shards() {
+    for shard in 0..server.links.shards() {
         if server.pool.entry_count(rt, shard) >= DUE_ENTRIES {
             return true;
         }
@@ -156,7 +156,7 @@ pub(crate) fn make_due<R: Wait, H, A: Lane, B: Lane, C: Lane, D: Lane>(
     is_over: bool,
 ) -> Due {
     let mut due = Due::Made;
-    for shard in 0..server.pool.shards() {
+    for shard in 0..server.links.shards() {
         match make_at(rt, server, shard, is_over) {
             Ok(true) => {}
             Ok(false) => due = Due::Waits,
