@@ -10,6 +10,7 @@ use Rattle.shard_pool.proofs.Crossing.{seat_send}
 use Rattle.presence_node_sockets.specs.contracts.watch.Watch as Watch
 use Rattle.presence_node_leaving.specs.contracts.leaving.Leavers as Leavers
 use Rattle.presence_node_leaving.proofs.Crossing.{worker_send}
+use Rattle.presence_node_client_streams.proofs.Crossing.{client_stream_send, client_stream_row_send}
 use Rattle.hook_registry.specs.contracts.routes.Routes as Routes
 use Rattle.presence_node_counts.specs.contracts.counts.Counts as Counts
 use Rattle.presence_node_duties.specs.contracts.bench.Bench as Bench
@@ -39,7 +40,7 @@ leavers_send = search (heap.crosses, sendable) depth 60 fits 20000
 module _ (A B C D : RattleType) (lane-a : Lane.Ghosts A.Denot) (lane-b : Lane.Ghosts B.Denot) (lane-c : Lane.Ghosts C.Denot) (lane-d : Lane.Ghosts D.Denot)
     (a : Ledger.Ghosts A.Denot) (b : Ledger.Ghosts B.Denot) (c : Ledger.Ghosts C.Denot) (d : Ledger.Ghosts D.Denot) where
   bench_send : IsSend (Bench.the_field A B C D lane-a a lane-b b lane-c c lane-d d).row
-  bench_send = search (seat_send, worker_send, watch_send, leavers_send, maps.crosses, heap.crosses, sendable) depth 60 fits 20000
+  bench_send = search (seat_send, worker_send, client_stream_row_send, client_stream_send, watch_send, leavers_send, maps.crosses, heap.crosses, sendable) depth 60 fits 20000
 
   pub place_send : IsSend (Workplace.the_field A B C D lane-a a lane-b b lane-c c lane-d d).row
   place_send = search (bench_send, sendable) depth 60 fits 20000

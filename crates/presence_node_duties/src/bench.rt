@@ -1,15 +1,17 @@
 //! A worker's thread: it serves its connections in turns.
+use crate::draining::{Drain, Due, is_due, make_due, set_draining};
 use crate::server::Server;
 use hook_registry::PresenceHooks;
 use presence_node_hints::{Followed, HintingPort, Noted, Topics, follows};
-use presence_node_leaving::{Client, Leavers, Stage, Worker};
-use presence_node_link_threads::time_behind;
+use presence_node_leaving::{
+    Client, ClientSocket, Leavers, Stage, Worker, hold_stalled, mark_put_off, resume_recovered,
+};
+use presence_node_link_threads::{Wakes, time_behind};
 use presence_node_ports::PoolPort;
 use presence_node_queue::Taker;
 use presence_node_sockets::{Watch, number_of};
 use shard_pool::{Lane, Seat};
 use std::alloc::Global;
-use std::net::TcpStream;
 use std::sync::{Arc, Wait};
 use std::thread;
 use std::time::{Clock, Duration};
@@ -24,8 +26,12 @@ const IDLE_MILLISECONDS: u64 = 1_000;
 /// How long one wait lasts where only an end is to be asked for again, or clients that leave are read.
 const RETRY_MILLISECONDS: u64 = 20;
 
-/// What topics have new is looked at once in so long, so that what comes meanwhile is delivered in one.
-const GATHER_MILLISECONDS: u64 = 3;
+/// What topics have new is looked at once in so long where much is under way, so that what comes meanwhile is delivered in
+/// one.
+const GATHER_MILLISECONDS: u64 = 2;
+
+/// How long one wait lasts while the worker reads nothing, in milliseconds.
+const DRAIN_MILLISECONDS: u64 = 1;
 
 /// After so long each connection is looked at, so that silence is noticed and no hint that was lost matters.
 const SWEEP_MILLISECONDS: u64 = 2_000;
@@ -37,7 +43,7 @@ const TRIM_TURNS: u64 = 1_024;
 const MAX_LAST_TURNS: u32 = 500;
 
 // The token of the connection at a place, if it has joined one of the topics and doesn't take the next turn anyway.
-fn follower(worker: &Worker<TcpStream>, place: usize, topics: &Topics) -> Option<usize> {
+fn follower(worker: &Worker<ClientSocket>, place: usize, topics: &Topics) -> Option<usize> {
     let client = worker.at(place)?;
     if !client.ready && follows(&client.connection.session, topics) {
         Some(client.token)
@@ -68,7 +74,7 @@ fn joined_topics(alloc: Global, told: &[Arc<Topics>]) -> Topics {
 }
 
 // The connections that were ready at the last wait take the next turn.
-fn mark_ready(watch: &Watch, worker: &mut Worker<TcpStream>) {
+fn mark_ready(watch: &Watch, worker: &mut Worker<ClientSocket>) {
     for event in watch.events() {
         if let Some(token) = number_of(event) {
             worker.mark(token as usize);
@@ -78,7 +84,7 @@ fn mark_ready(watch: &Watch, worker: &mut Worker<TcpStream>) {
 
 // Watches the connections from this place on, each by its token. One that can't be watched is looked at from time to
 // time.
-fn watch_from(watch: &Watch, worker: &Worker<TcpStream>, place: usize) {
+fn watch_from(watch: &Watch, worker: &Worker<ClientSocket>, place: usize) {
     for place in place..worker.len() {
         if let Some(client) = worker.at(place) {
             let _lost = watch.add(client.connection.socket.get_ref(), client.token as u64);
@@ -87,12 +93,12 @@ fn watch_from(watch: &Watch, worker: &Worker<TcpStream>, place: usize) {
 }
 
 // Whether a connection may have a further message or delivery.
-fn is_busy(client: &Client<TcpStream>) -> bool {
+fn is_busy(client: &Client<ClientSocket>) -> bool {
     client.ready && client.connection.stage == Stage::Open
 }
 
 // The topics that the sessions of a worker have joined.
-fn followed_by(alloc: Global, worker: &Worker<TcpStream>) -> Followed {
+fn followed_by(alloc: Global, worker: &Worker<ClientSocket>) -> Followed {
     let mut followed = Followed::new(alloc);
     for place in 0..worker.len() {
         if let Some(client) = worker.at(place) {
@@ -114,7 +120,7 @@ fn serve_ready<R: Wait, H: PresenceHooks, A: Lane, B: Lane, C: Lane, D: Lane>(
     rt: &R,
     server: &Server<'_, H, A, B, C, D>,
     seat: &mut Seat<A, B, C, D>,
-    worker: &mut Worker<TcpStream>,
+    worker: &mut Worker<ClientSocket>,
     now: u64,
 ) -> Served {
     let inner = PoolPort::new(rt, &server.pool, seat);
@@ -127,10 +133,27 @@ fn serve_ready<R: Wait, H: PresenceHooks, A: Lane, B: Lane, C: Lane, D: Lane>(
     }
 }
 
+// The same, where nothing is read.
+fn deliver_ready<R: Wait, H: PresenceHooks, A: Lane, B: Lane, C: Lane, D: Lane>(
+    rt: &R,
+    server: &Server<'_, H, A, B, C, D>,
+    seat: &mut Seat<A, B, C, D>,
+    worker: &mut Worker<ClientSocket>,
+) -> Served {
+    let inner = PoolPort::new(rt, &server.pool, seat);
+    let mut port = HintingPort::new(server.alloc, inner);
+    worker.deliver(server.alloc, &mut port, server.hooks);
+    let has_made_room = port.port().has_made_room();
+    Served {
+        noted: port.into_noted(),
+        has_made_room,
+    }
+}
+
 /// What a worker has of its own.
 pub struct Bench<A: Lane, B: Lane, C: Lane, D: Lane> {
     seat: Seat<A, B, C, D>,
-    worker: Worker<TcpStream>,
+    worker: Worker<ClientSocket>,
     watch: Watch,
     leavers: Leavers,
     /// How many turns have passed since what waited was sent.
@@ -141,8 +164,11 @@ pub struct Bench<A: Lane, B: Lane, C: Lane, D: Lane> {
     swept: u64,
     /// When those were that follow a topic which had something new.
     dealt: u64,
+    /// Whether what was looked at then was told by several turns.
+    crowded: bool,
     /// How many turns there were.
     turns: u64,
+    drain: Drain,
 }
 
 impl<A: Lane, B: Lane, C: Lane, D: Lane> Drop for Bench<A, B, C, D> {
@@ -156,7 +182,9 @@ impl<A: Lane, B: Lane, C: Lane, D: Lane> Drop for Bench<A, B, C, D> {
             now: _,
             swept: _,
             dealt: _,
+            crowded: _,
             turns: _,
+            drain: _,
         } = self;
         drop(seat);
         drop(worker);
@@ -172,7 +200,7 @@ impl<A: Lane, B: Lane, C: Lane, D: Lane> Bench<A, B, C, D> {
     pub fn new(
         alloc: Global,
         seat: Seat<A, B, C, D>,
-        taker: Taker<WebSocket<TcpStream, NoMask>>,
+        taker: Taker<WebSocket<ClientSocket, NoMask>>,
         watch: Watch,
     ) -> Bench<A, B, C, D>
         ensures { result.seat ≡ seat }
@@ -186,7 +214,9 @@ impl<A: Lane, B: Lane, C: Lane, D: Lane> Bench<A, B, C, D> {
             now: 0,
             swept: 0,
             dealt: 0,
+            crowded: false,
             turns: 0,
+            drain: Drain::new(),
         }
     }
 
@@ -203,7 +233,9 @@ impl<A: Lane, B: Lane, C: Lane, D: Lane> Bench<A, B, C, D> {
             now: _,
             swept: _,
             dealt: _,
+            crowded: _,
             turns: _,
+            drain: _,
         } = self;
         drop(worker);
         drop(watch);
@@ -227,7 +259,8 @@ impl<A: Lane, B: Lane, C: Lane, D: Lane> Bench<A, B, C, D> {
         }
     }
 
-    // Looks at what the workers and the links told, all of it at once.
+    // Looks at what the workers and the links told, all of it at once. What clients were told in this turn goes out before
+    // the others that follow their topics have theirs.
     fn hear<R: Wait, H>(&mut self, rt: &R, server: &Server<'_, H, A, B, C, D>, own: usize) {
         let Some(mailbox) = server.mailboxes.get(own) else {
             return;
@@ -241,43 +274,79 @@ impl<A: Lane, B: Lane, C: Lane, D: Lane> Bench<A, B, C, D> {
             return;
         }
         self.dealt = self.now;
+        self.crowded = told.len() > 1;
+        self.send(false);
         let topics = joined_topics(server.alloc, told.as_slice());
         self.mark_followers(&topics);
     }
 
-    // For how many milliseconds more what the workers tell is gathered.
-    fn gathers_for(&self) -> u64 {
+    // For how many milliseconds more what the workers tell is gathered: for none where one client at a time says something,
+    // so that each waits for it.
+    fn gathers_for(&self, busy: bool) -> u64 {
+        if !busy && !self.crowded {
+            return 0;
+        }
         GATHER_MILLISECONDS.saturating_sub(self.now.saturating_sub(self.dealt))
     }
 
-    // Serves each connection that is ready: what was noted. Where a journal was replaced, each connection takes the next
-    // turn, since each may be owed a state.
+    // What was noted in a turn. Where a journal was replaced, each connection of each worker takes the next turn, since each
+    // may be owed a state.
+    fn noted_in<R: Wait, H>(
+        &mut self,
+        rt: &R,
+        server: &Server<'_, H, A, B, C, D>,
+        served: Served,
+    ) -> Noted {
+        let Served {
+            noted,
+            has_made_room,
+        } = served;
+        self.turns = self.turns.wrapping_add(1);
+        if has_made_room {
+            self.worker.mark_all();
+            server.look();
+        }
+        if has_made_room || self.turns % TRIM_TURNS == 0 {
+            server.pool.trim(rt, &mut self.seat);
+        }
+        noted
+    }
+
+    // Serves each connection that is ready, but for those whose clients take nothing: what was noted.
     fn serve<R: Wait, H: PresenceHooks>(
         &mut self,
         rt: &R,
         server: &Server<'_, H, A, B, C, D>,
     ) -> Noted {
+        hold_stalled(&mut self.worker, self.now);
         let served = serve_ready(rt, server, &mut self.seat, &mut self.worker, self.now);
-        self.turns = self.turns.wrapping_add(1);
-        if served.has_made_room {
-            self.worker.mark_all();
-        }
-        if served.has_made_room || self.turns % TRIM_TURNS == 0 {
-            server.pool.trim(rt, &mut self.seat);
-        }
-        served.noted
+        mark_put_off(&mut self.worker);
+        self.noted_in(rt, server, served)
     }
 
-    // Serves each connection that is ready, and lets the workers that follow them know which topics may have something
-    // new, this one too. Of topics that it follows from now on it is told from now on: what came before is found in the
-    // next turn, which a connection that has joined a topic takes.
-    fn turn<R: Wait, H: PresenceHooks>(
+    // Delivers what waits for each connection, but for those whose clients take nothing, and reads nothing: what was noted.
+    fn deliver<R: Wait, H: PresenceHooks>(
         &mut self,
         rt: &R,
         server: &Server<'_, H, A, B, C, D>,
+    ) -> Noted {
+        self.worker.mark_all();
+        hold_stalled(&mut self.worker, self.now);
+        let served = deliver_ready(rt, server, &mut self.seat, &mut self.worker);
+        self.noted_in(rt, server, served)
+    }
+
+    // Lets the workers that follow them know which topics may have something new, this one too. Of topics that it follows
+    // from now on it is told from now on: what came before is found in the next turn, which a connection that has joined a
+    // topic takes.
+    fn tell<R: Wait, H>(
+        &self,
+        rt: &R,
+        server: &Server<'_, H, A, B, C, D>,
         own: usize,
+        noted: Noted,
     ) {
-        let Noted { changed, followed } = self.serve(rt, server);
+        let Noted { changed, followed } = noted;
         if !followed.is_empty() {
             server.follow(rt, own, followed);
         }
@@ -287,6 +356,71 @@ impl<A: Lane, B: Lane, C: Lane, D: Lane> Bench<A, B, C, D> {
         if let Ok(shared) = Arc::new(server.alloc, changed) {
             server.tell(rt, own, &shared);
         }
+    }
+
+    // Serves each connection that is ready, and tells what may have changed.
+    fn turn<R: Wait, H: PresenceHooks>(
+        &mut self,
+        rt: &R,
+        server: &Server<'_, H, A, B, C, D>,
+        own: usize,
+    ) {
+        let noted = self.serve(rt, server);
+        self.tell(rt, server, own, noted);
+    }
+
+    // From time to time: where a journal is nearly full, all workers are to read nothing until this one has made a
+    // checkpoint.
+    fn look_at_journals<R: Wait, H>(&mut self, rt: &R, server: &Server<'_, H, A, B, C, D>) {
+        if self.drain.looks_at(self.now) && is_due(rt, server) {
+            self.drain.lead();
+            set_draining(server, true);
+        }
+    }
+
+    // Whether this worker reads nothing.
+    fn is_draining<H>(&mut self, server: &Server<'_, H, A, B, C, D>, own: usize) -> bool {
+        let Some(mailbox) = server.mailboxes.get(own) else {
+            return false;
+        };
+        if self.drain.is_lost(self.now) {
+            mailbox.inbox.set_draining(false);
+        }
+        if !mailbox.inbox.is_draining() {
+            self.drain.end(self.now, Due::Made);
+            return false;
+        }
+        self.drain.begin(self.now);
+        true
+    }
+
+    // Makes the checkpoints that are due, if this worker is the one that makes them and nothing waits, or that was waited for
+    // long enough. Then all workers read again, and look at all connections.
+    fn make_checkpoints<R: Wait, H>(&mut self, rt: &R, server: &Server<'_, H, A, B, C, D>) {
+        if !self.drain.leads() {
+            return;
+        }
+        let due = make_due(rt, server, self.drain.is_over(self.now));
+        if due == Due::Waits {
+            return;
+        }
+        self.drain.end(self.now, due);
+        set_draining(server, false);
+        server.look();
+        server.pool.trim(rt, &mut self.seat);
+    }
+
+    // Delivers and sends what waits, and reads nothing.
+    fn drain<R: Wait, H: PresenceHooks>(
+        &mut self,
+        rt: &R,
+        server: &Server<'_, H, A, B, C, D>,
+        own: usize,
+    ) {
+        let noted = self.deliver(rt, server);
+        self.tell(rt, server, own, noted);
+        self.send(false);
+        self.make_checkpoints(rt, server);
     }
 
     // Whether one of the connections may.
@@ -309,19 +443,27 @@ impl<A: Lane, B: Lane, C: Lane, D: Lane> Bench<A, B, C, D> {
         let first = self.leavers.admit(&self.worker, &self.watch, self.now);
         self.worker.flush();
         self.leavers.hang_up(first);
+        resume_recovered(&mut self.worker);
     }
 
-    // Waits until there is something to do, and marks the connections that take the next turn.
-    fn pause<R: Clock>(&mut self, rt: &R, busy: bool) {
-        let wait = if busy {
+    // How long the next wait lasts, if nothing comes.
+    fn wait_for(&self) -> u64 {
+        if self.drain.is_on() {
+            DRAIN_MILLISECONDS
+        } else if self.is_busy() {
             0
-        } else if self.gathers_for() > 0 {
-            self.gathers_for()
+        } else if self.gathers_for(false) > 0 {
+            self.gathers_for(false)
         } else if self.is_ready() || !self.leavers.is_empty() {
             RETRY_MILLISECONDS
         } else {
             IDLE_MILLISECONDS
-        };
+        }
+    }
+
+    // Waits until there is something to do, and marks the connections that take the next turn.
+    fn pause<R: Clock>(&mut self, rt: &R) {
+        let wait = self.wait_for();
         if self.watch.wait(wait).is_err() {
             thread::sleep(rt, Duration::from_millis(RETRY_MILLISECONDS));
         }
@@ -358,6 +500,22 @@ impl<A: Lane, B: Lane, C: Lane, D: Lane> Bench<A, B, C, D> {
         }
     }
 
+    // Serves what is ready, looks at what the workers told, and sends what waits.
+    fn go_on<R: Wait, H: PresenceHooks>(
+        &mut self,
+        rt: &R,
+        server: &Server<'_, H, A, B, C, D>,
+        own: usize,
+    ) {
+        self.turn(rt, server, own);
+        let busy = self.is_busy();
+        if self.gathers_for(busy) == 0 {
+            self.hear(rt, server, own);
+        }
+        let busy = self.is_busy();
+        self.send(busy);
+    }
+
     // Takes in what waits, serves what is ready and waits for more.
     fn round<R: Wait + Clock, H: PresenceHooks>(
         &mut self,
@@ -366,14 +524,14 @@ impl<A: Lane, B: Lane, C: Lane, D: Lane> Bench<A, B, C, D> {
         own: usize,
     ) {
         self.take_in(rt, server.alloc);
-        self.turn(rt, server, own);
-        if self.gathers_for() == 0 {
-            self.hear(rt, server, own);
+        if self.is_draining(server, own) {
+            self.drain(rt, server, own);
+        } else {
+            self.look_at_journals(rt, server);
+            self.go_on(rt, server, own);
         }
-        let busy = self.is_busy();
-        self.send(busy);
         self.leavers.turn(self.now);
-        self.pause(rt, busy);
+        self.pause(rt);
         self.sweep(rt, server, own);
     }
 

@@ -4,7 +4,7 @@ ghost use Rattle.std.specs.Prelude.{◌<◌};
 use crate::server::Server;
 use presence_node_counts::{Counts, Dropped};
 use presence_node_handshakes::{Front, Guests};
-use presence_node_leaving::socket_config;
+use presence_node_leaving::{ClientSocket, ClientStream, socket_config};
 use presence_node_link_threads::time_behind;
 use presence_node_queue::Giver;
 use presence_node_sockets::{LAST_TOKEN, Watch, next_stream, number_of};
@@ -34,9 +34,9 @@ pub const LISTENER: u64 = 0;
 /// What the thread at the door has of its own.
 pub struct Door {
     listener: TcpListener,
-    giver: Giver<WebSocket<TcpStream, NoMask>>,
+    giver: Giver<WebSocket<ClientSocket, NoMask>>,
     watch: Watch,
-    guests: Guests<TcpStream>,
+    guests: Guests<ClientSocket>,
     /// The number of the client that came last.
     number: u64,
     /// The worker that is woken next.
@@ -67,7 +67,7 @@ impl Drop for Door {
 }
 
 // The handshakes that were ready at the last wait go on.
-fn mark_ready(watch: &Watch, guests: &mut Guests<TcpStream>) {
+fn mark_ready(watch: &Watch, guests: &mut Guests<ClientSocket>) {
     for event in watch.events() {
         if let Some(number) = number_of(event) {
             guests.mark(number);
@@ -88,7 +88,7 @@ impl Door {
     pub fn new(
         alloc: Global,
         listener: TcpListener,
-        giver: Giver<WebSocket<TcpStream, NoMask>>,
+        giver: Giver<WebSocket<ClientSocket, NoMask>>,
         watch: Watch,
     ) -> Door {
         Door {
@@ -112,9 +112,12 @@ impl Door {
         if self.watch.add(&stream, self.number).is_err() {
             return Err(Dropped::Watch);
         }
-        let admitted = self
-            .guests
-            .admit(alloc, self.number, stream, socket_config());
+        let admitted = self.guests.admit(
+            alloc,
+            self.number,
+            ClientStream::new(stream),
+            socket_config(),
+        );
         admitted.or(Err(Dropped::Handshakes))
     }
 
@@ -147,7 +150,7 @@ impl Door {
         &mut self,
         rt: &R,
         server: &Server<'_, H, A, B, C, D>,
-        socket: WebSocket<TcpStream, NoMask>,
+        socket: WebSocket<ClientSocket, NoMask>,
     ) {
         if self.watch.remove(socket.get_ref()).is_err() {
             server.counts.dropped(Dropped::Watch);

@@ -6,6 +6,7 @@
 
 mod bench;
 mod door;
+mod draining;
 mod place;
 mod server;
 
@@ -15,5 +16,6 @@ pub use place::{Workplace, seats_of};
 // What threads are begun with, beside their duties.
 pub use presence_node_counts::Counts;
 pub use presence_node_hints::Inbox;
+pub use presence_node_leaving::ClientSocket;
 pub use presence_node_link_threads::{LinkTask, LinkTasks, tasks_for};
 pub use server::{Mailbox, Server};

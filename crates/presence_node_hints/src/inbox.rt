@@ -9,6 +9,7 @@ use presence_base::Topic;
 use std::alloc::{AllocError, Global};
 use std::collections::BTreeSet;
 use std::mem;
+use std::sync::atomic::{AtomicBool, Ordering};
 use std::sync::{Arc, Mutex, Wait};
 
 /// Topics that have something new.
@@ -24,12 +25,15 @@ struct Kept {
 /// What other workers told a worker, and it hasn't looked at yet. It is told of the topics that its sessions follow alone.
 pub struct Inbox {
     kept: Mutex<Kept>,
+    /// Whether its worker is to read nothing.
+    drains: AtomicBool,
 }
 
 impl Drop for Inbox {
     fn drop(self) {
-        let Inbox { kept } = self;
+        let Inbox { kept, drains } = self;
         drop(kept);
+        drop(drains);
     }
 }
 
@@ -41,7 +45,18 @@ impl Inbox {
                 waiting: Vec::new(alloc),
                 followed: Followed::new(alloc),
             }),
+            drains: AtomicBool::new(false),
         }
+    }
+
+    /// Its worker is to read nothing from now on, and only to deliver what waits; or it may read again.
+    pub fn set_draining(&self, drains: bool) {
+        self.drains.store(drains, Ordering::SeqCst);
+    }
+
+    /// Whether its worker is to read nothing.
+    pub fn is_draining(&self) -> bool {
+        self.drains.load(Ordering::SeqCst)
     }
 
     /// Its worker's sessions follow these topics too.

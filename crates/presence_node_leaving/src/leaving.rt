@@ -2,6 +2,7 @@
 //!
 //! Where a socket is closed while bytes of its client wait, the system resets the connection, and a reset may overtake
 //! the close frame. So the server ends its own side and waits for the client's end (RFC 6455, 7.1.1).
+use presence_node_client_streams::ClientSocket;
 use presence_node_sockets::Watch;
 use presence_node_workers::{Cause, Client, Stage, Worker};
 use std::alloc::Global;
@@ -21,7 +22,7 @@ const READ_BYTES: usize = 4_096;
 const MAX_READS: usize = 16;
 
 // Whether a client whose connection is over was told why.
-fn was_told(client: &Client<TcpStream>) -> bool {
+fn was_told(client: &Client<ClientSocket>) -> bool {
     matches!(
         client.connection.stage,
         Stage::Over(Cause::Silent | Cause::Binary | Cause::Fault(_))
@@ -105,12 +106,12 @@ impl Leavers {
 
     /// Waits for the clients that were told why their connection ends, which the worker gives up with its next flush:
     /// the place of the first of them.
-    pub fn admit(&mut self, worker: &Worker<TcpStream>, watch: &Watch, now: u64) -> usize {
+    pub fn admit(&mut self, worker: &Worker<ClientSocket>, watch: &Watch, now: u64) -> usize {
         let first = self.leavers.len();
         for place in 0..worker.len() {
             if let Some(client) = worker.at(place) {
                 if was_told(client) {
-                    self.wait_for(watch, client.connection.socket.get_ref(), now);
+                    self.wait_for(watch, client.connection.socket.get_ref().stream(), now);
                 }
             }
         }

@@ -78,6 +78,13 @@ impl Drop for Links {
 impl Links {
     ghost use Rattle.std.specs.Prelude.{◌≡◌, None};
 
+    /// How many shards the node has.
+    pub fn shards(&self) -> u32
+        ensures { result ≡ self.now.shards }
+    {
+        self.shards
+    }
+
     pub(crate) fn is_stopped(&self) -> bool {
         self.stopping.is_stopped()
     }

@@ -12,7 +12,7 @@ use std::sync::Wait;
 
 /// A port over a pool: each of its calls is that call of the pool, through the seat that it is lent.
 /// A call waits for the lock of its topic's shard. One that finds the shard's journal full makes room there by a
-/// checkpoint and is tried once more.
+/// checkpoint, if another one hasn't yet, and is tried once more.
 #[derive(Drop)]
 pub struct PoolPort<'a, R: Wait, G: Gate, A: Lane, B: Lane, C: Lane, D: Lane> {
     rt: &'a R,
@@ -93,7 +93,7 @@ impl<'a, R: Wait, G: Gate, A: Lane, B: Lane, C: Lane, D: Lane> PoolPort<'a, R, G
         }
     }
 
-    /// Whether a call made room in a shard's journal, so that receipts from before have no entry any more.
+    /// Whether a call found a shard's journal full, where there is room now, so that receipts from before have no entry any more.
     pub fn has_made_room(&self) -> bool
         ensures { result ≡ self.now.has_made_room }
     {
@@ -116,9 +116,12 @@ impl<'a, R: Wait, G: Gate, A: Lane, B: Lane, C: Lane, D: Lane> PoolPort<'a, R, G
             return false;
         }
         let shard = self.pool.shard_of(topic);
-        let is_made = self.pool.checkpoint(self.rt, alloc, shard).is_ok();
-        self.has_made_room = self.has_made_room || is_made;
-        is_made
+        let has_room = self
+            .pool
+            .checkpoint_where_full(self.rt, alloc, shard)
+            .is_ok();
+        self.has_made_room = self.has_made_room || has_room;
+        has_room
     }
 }
 

@@ -3,7 +3,7 @@ use Rattle.std.proofs.Common.{◌≡◌, ℕ, List, Bool, Option, Result, Ok, Er
 use Rattle.tungstenite.specs.Socket.{Socket}
 use Rattle.presence_node_turns.specs.Causes.{code_of}
 use Rattle.presence_node_turns.specs.Hearing.{Hears, is_message}
-use Rattle.presence_node_turns.specs.Turning.{Around, ClosesBy, Continues, EndsSession, Responds, Serves, StopsServing, TakesTurn, progress_of}
+use Rattle.presence_node_turns.specs.Turning.{Around, ClosesBy, Continues, Deals, EndsSession, Responds, Serves, StopsServing, TakesDelivery, TakesTurn, progress_of}
 use Rattle.presence_node_turns.specs.declared.cause.Cause.{Cause}
 use Rattle.presence_node_turns.specs.declared.cause.Cause.TheVariants.{Stopping}
 use Rattle.presence_node_turns.specs.declared.connection.Connection.{Connection}
@@ -41,6 +41,24 @@ module _ {S K P : Type 0} (w : Around S P) (routes : List (List ℕ × ℕ)) (no
         between = between;
         outcome = Err cause;
         serves = h;
+        goes_on = (closed.socket, closes, subst (λ (c : Connection S K). EndsSession w.step cause c new between after result) kept e);
+      }
+
+-- a turn that reads nothing goes on, or ends
+module _ {S K P : Type 0} (w : Around S P) where
+  pub delivered : (old new : Connection S K) (before after : P) (more : Bool) → Deals w old new before after (Ok more) → TakesDelivery w old new before after (progress_of more)
+  delivered old new before after more h =
+      record { served = new; between = after; outcome = Ok more; deals = h; goes_on = (refl, refl, refl) }
+
+  pub undelivered : (old served closed new : Connection S K) (before between after : P) (cause : Cause) (result : Progress) → Deals w old served before between (Err cause)
+      → ClosesBy w.contents (code_of cause) served.socket closed.socket → closed ≡ record served { socket = closed.socket } → EndsSession w.step cause closed new between after result
+      → TakesDelivery w old new before after result
+  undelivered old served closed new before between after cause result h closes kept e =
+      record {
+        served = served;
+        between = between;
+        outcome = Err cause;
+        deals = h;
         goes_on = (closed.socket, closes, subst (λ (c : Connection S K). EndsSession w.step cause c new between after result) kept e);
       }
 

@@ -1,5 +1,5 @@
 -- One turn of a connection: what was read, what its session said to that, and what went out.
-use Rattle.std.specs.Prelude.{◌≡◌, ◌⊎◌, ◌+◌, ℕ, Bool, true, false, if◌then◌else◌, leb, List, [], Option, Some, None, Result, Ok, Err, String, Vec}
+use Rattle.std.specs.Prelude.{◌≡◌, ◌⊎◌, ◌+◌, ℕ, Bool, true, false, ◌||◌, if◌then◌else◌, leb, List, [], vec_len, IfOk, Option, Some, None, Result, Ok, Err, String, Vec}
 use Rattle.std.specs.Global.{Global}
 use Rattle.channel_session.specs.Delivery.{DeliveredBy}
 use Rattle.channel_session.specs.Ending.{EndedBy}
@@ -30,8 +30,7 @@ use Rattle.presence_node_turns.specs.declared.connection.Progress.{Progress}
 use Rattle.presence_node_turns.specs.declared.connection.Progress.TheVariants as progress
 use Rattle.presence_node_turns.specs.declared.connection.Stage.{Stage}
 use Rattle.presence_node_turns.specs.declared.connection.Stage.TheVariants.{Open, Ending, Over}
-use Rattle.presence_journal_data.specs.declared.limits.TheConstants.{MAX_TAKEN}
-use Rattle.presence_node_turns.specs.declared.connection.TheConstants.{MAX_SILENCE}
+use Rattle.presence_node_turns.specs.declared.connection.TheConstants.{MAX_DEALT, MAX_SILENCE}
 use Rattle.presence_node_turns.specs.declared.hearing.Heard.{Heard}
 use Rattle.presence_node_turns.specs.declared.hearing.Heard.TheVariants.{Text, Sign, Nothing, Ends}
 
@@ -114,6 +113,17 @@ abbrev pub progress_of : Bool → Progress
 progress_of true = progress.Busy
 progress_of false = progress.Idle
 
+-- ---- what a delivery tells
+
+-- whether more may wait than was taken
+abbrev pub may_have_more : Result Delivery SessionFault → Bool
+may_have_more (Ok delivery) = leb MAX_DEALT (vec_len delivery.texts)
+may_have_more (Err fault) = false
+
+abbrev pub dealt : Result Bool Cause → Result (Unit {0}) Cause
+dealt (Ok more) = Ok tt
+dealt (Err cause) = Err cause
+
 module _ {S K P : Type 0} (w : Around S P) where
   -- ---- one message
 
@@ -146,19 +156,21 @@ module _ {S K P : Type 0} (w : Around S P) where
 
   -- ---- one delivery
 
-  pub record Deals (old new : Connection S K) (before after : P) (result : Result (Unit {0}) Cause) : Type 0 where
+  pub record Deals (old new : Connection S K) (before after : P) (result : Result Bool Cause) : Type 0 where
     pub delivery : Result Delivery SessionFault
     pub failed : old.session.failed ≡ true → (delivery ≡ Err Failed) × (new.session ≡ old.session) × (after ≡ before)
     pub delivered : old.session.failed ≡ false
-        → DeliveredBy w.worded w.noted w.step MAX_TAKEN old.session before after new.session delivery
-    pub sent : GoOut w.contents old.socket new.socket (dealt_texts delivery) result
+        → DeliveredBy w.worded w.noted w.step MAX_DEALT old.session before after new.session delivery
+    pub sent : GoOut w.contents old.socket new.socket (dealt_texts delivery) (dealt result)
+    pub more : IfOk result (λ told. told ≡ may_have_more delivery)
     pub kept : new ≡ record old { socket = new.socket; session = new.session }
 
-  -- Behind the message comes one delivery, unless the connection ends; and whether a message came is told.
+  -- Behind the message comes one delivery, unless the connection ends; and whether a message came, or more may wait, is told.
   abbrev pub Continues : Bool → Result (Unit {0}) Cause → Connection S K → Connection S K → P → P → Result Bool Cause
       → Type 0
   Continues came (Err cause) mid new between after result = (new ≡ mid) × (after ≡ between) × (result ≡ Err cause)
-  Continues came (Ok u) mid new between after (Ok told) = (told ≡ came) × Deals mid new between after (Ok tt)
+  Continues came (Ok u) mid new between after (Ok told) =
+      (more : Bool) × (told ≡ (came || more)) × Deals mid new between after (Ok more)
   Continues came (Ok u) mid new between after (Err cause) = Deals mid new between after (Err cause)
 
   -- At most one message is read and answered, and what waits is delivered.
@@ -187,6 +199,22 @@ module _ {S K P : Type 0} (w : Around S P) where
     pub outcome : Result Bool Cause
     pub serves : Serves routes now old served before between outcome
     pub goes_on : GoesOn served new between after outcome result
+
+  -- ---- a turn that reads nothing
+
+  -- What waits is delivered, once, and nothing is read.
+  pub record TakesDelivery (old new : Connection S K) (before after : P) (result : Progress) : Type 0 where
+    pub served : Connection S K
+    pub between : P
+    pub outcome : Result Bool Cause
+    pub deals : Deals old served before between outcome
+    pub goes_on : GoesOn served new between after outcome result
+
+  -- What a turn does that reads nothing, by how far the connection has come.
+  abbrev pub Delivers : Stage → Connection S K → Connection S K → P → P → Progress → Type 0
+  Delivers Open old new before after result = TakesDelivery old new before after result
+  Delivers (Ending cause) old new before after result = EndsSession w.step cause old new before after result
+  Delivers (Over cause) old new before after result = (new ≡ old) × (after ≡ before) × (result ≡ progress.Over)
 
   -- What a turn does, by how far the connection has come.
   abbrev pub Turns : Stage → List (List ℕ × ℕ) → ℕ → Connection S K → Connection S K → P → P → Progress → Type 0

@@ -3,14 +3,13 @@ ghost use Rattle.phx_message.specs.Reading.{decoded};
 ghost use Rattle.tungstenite.specs.Socket.{Flushed};
 ghost use Rattle.presence_node_turns.specs.Causes.{code_of};
 ghost use Rattle.presence_node_turns.specs.Hearing.{is_message};
-ghost use Rattle.presence_node_turns.specs.Turning.{around, AnswersText, ClosesBy, Continues, Deals, broken_off, EndsSession, GoOut, Responds, Serves, Flushes, StopsServing, TakesTurn, Turns, patience, progress_of as progress_in};
+ghost use Rattle.presence_node_turns.specs.Turning.{around, AnswersText, ClosesBy, Continues, Deals, Delivers, broken_off, EndsSession, GoOut, Responds, Serves, Flushes, StopsServing, TakesDelivery, TakesTurn, Turns, patience, progress_of as progress_in};
 
 use crate::cause::{Cause, cause_of, close_code};
 use crate::hearing::{Heard, hear};
 use channel_session::{Delivery, Port, Session, SessionFault, deliver, end, run_text};
 use hook_registry::{PresenceHooks, Routes};
 use phx_message::Limits;
-use presence_journal::MAX_TAKEN;
 use presence_node_sending::queue_all;
 use std::alloc::Global;
 use std::io::{ErrorKind, Read, Write};
@@ -18,6 +17,10 @@ use tungstenite::{CloseFrame, Error, MaskKeys, Utf8Bytes, WebSocket, WebSocketCo
 
 /// How long a connection may be without a message, in milliseconds.
 pub const MAX_SILENCE: u64 = 60_000;
+
+/// How many items of each topic one turn takes: at most 1 MiB of what clients shout. (presence_journal's `MAX_TAKEN` is the
+/// most that a take may give.)
+pub const MAX_DEALT: u32 = 16;
 
 /// How many bytes one read of a stream asks for. Each connection keeps twice as many.
 const READ_BYTES: usize = 1_024;
@@ -41,9 +44,9 @@ pub enum Stage {
 /// What a turn did.
 #[derive(Clone, Copy, PartialEq, Eq, Debug)]
 pub enum Progress {
-    /// A message came, and there may be another.
+    /// A message came and there may be another, or more may wait for the session.
     Busy,
-    /// No message came.
+    /// No message came, and all that waited was taken.
     Idle,
     /// The session's end was refused, and is asked for again in the next turn.
     Ending,
@@ -88,7 +91,7 @@ pub fn socket_config() -> WebSocketConfig
         .max_frame_size(Some(Limits::CLIENT.bytes))
 }
 
-// What a turn did in which no connection ended.
+// What a turn did in which no connection ended, if the next one may find something.
 fn progress_of(came: bool) -> Progress
     ensures { result ≡ progress_in came }
 {
@@ -189,20 +192,24 @@ impl<S: Read + Write + Drop, K: MaskKeys + Drop> Connection<S, K> {
         }
     }
 
-    // Delivers what waits, once.
+    // Delivers what waits, once: whether more may wait.
     fn deal<P: Port, H: PresenceHooks>(
         &mut self,
         alloc: Global,
         port: &mut P,
         hooks: &H,
-    ) -> Result<(), Cause>
+    ) -> Result<bool, Cause>
         ensures { Deals (around S.remaining S.contents P.step H.PresenceHooks hooks.now)
             self.old self.new port.old port.new result }
     {
-        match deliver(alloc, &mut self.session, port, hooks, MAX_TAKEN) {
+        match deliver(alloc, &mut self.session, port, hooks, MAX_DEALT) {
             Ok(Delivery { texts, notices }) => {
                 drop(notices);
-                self.send(texts)
+                let more = texts.len() >= MAX_DEALT as usize;
+                match self.send(texts) {
+                    Ok(()) => Ok(more),
+                    Err(cause) => Err(cause),
+                }
             }
             Err(fault) => Err(Cause::Fault(fault)),
         }
@@ -223,13 +230,13 @@ impl<S: Read + Write + Drop, K: MaskKeys + Drop> Connection<S, K> {
         match first {
             Err(cause) => Err(cause),
             Ok(()) => match self.deal(alloc, port, hooks) {
-                Ok(()) => Ok(came),
+                Ok(more) => Ok(came || more),
                 Err(cause) => Err(cause),
             },
         }
     }
 
-    // Reads at most one message, answers it and delivers what waits: whether a message came.
+    // Reads at most one message, answers it and delivers what waits: whether a message came, or more may wait.
     fn serve<P: Port, H: PresenceHooks>(
         &mut self,
         alloc: Global,
@@ -290,7 +297,7 @@ impl<S: Read + Write + Drop, K: MaskKeys + Drop> Connection<S, K> {
             routes.now now self.old self.new port.old port.new result }
     {
         match self.serve(alloc, port, routes, hooks, now) {
-            Ok(came) => progress_of(came),
+            Ok(more) => progress_of(more),
             Err(cause) => {
                 self.close(cause);
                 self.end_session(alloc, port, cause)
@@ -299,7 +306,7 @@ impl<S: Read + Write + Drop, K: MaskKeys + Drop> Connection<S, K> {
     }
 
     /// One turn, at this time: at most one message is read and answered, and what waits for the
-    /// session is delivered. Texts wait in the socket until it is flushed.
+    /// session is delivered, `MAX_DEALT` items of each topic at most. Texts wait in the socket until it is flushed.
     ///
     /// A connection that ends is told its close code and reads no more. Its session's end is asked
     /// for in that turn and in each later one, until it is accepted.
@@ -316,6 +323,43 @@ impl<S: Read + Write + Drop, K: MaskKeys + Drop> Connection<S, K> {
     {
         match self.stage {
             Stage::Open => self.turn_open(alloc, port, routes, hooks, now),
+            Stage::Ending(cause) => self.end_session(alloc, port, cause),
+            Stage::Over(_) => Progress::Over,
+        }
+    }
+
+    // A turn of an open connection that reads nothing.
+    fn deliver_open<P: Port, H: PresenceHooks>(
+        &mut self,
+        alloc: Global,
+        port: &mut P,
+        hooks: &H,
+    ) -> Progress
+        ensures { TakesDelivery (around S.remaining S.contents P.step H.PresenceHooks hooks.now)
+            self.old self.new port.old port.new result }
+    {
+        match self.deal(alloc, port, hooks) {
+            Ok(more) => progress_of(more),
+            Err(cause) => {
+                self.close(cause);
+                self.end_session(alloc, port, cause)
+            }
+        }
+    }
+
+    /// A turn in which nothing is read: what waits for the session is delivered, and texts wait in the
+    /// socket until it is flushed. The session's end is asked for as in any other turn.
+    pub fn deliver<P: Port, H: PresenceHooks>(
+        &mut self,
+        alloc: Global,
+        port: &mut P,
+        hooks: &H,
+    ) -> Progress
+        ensures { Delivers (around S.remaining S.contents P.step H.PresenceHooks hooks.now)
+            self.old.stage self.old self.new port.old port.new result }
+    {
+        match self.stage {
+            Stage::Open => self.deliver_open(alloc, port, hooks),
             Stage::Ending(cause) => self.end_session(alloc, port, cause),
             Stage::Over(_) => Progress::Over,
         }

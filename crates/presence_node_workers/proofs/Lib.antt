@@ -4,4 +4,5 @@ pub mod Takings
 pub mod Places
 pub mod Leaving
 pub mod Marking
+pub mod Holding
 pub mod Crossing

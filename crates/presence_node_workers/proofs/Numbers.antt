@@ -3,7 +3,7 @@ use Rattle.std.proofs.Common.{◌≡◌, ℕ, ◌<◌, ◌≤◌, Bool, true, fa
 use Rattle.std.specs.Prelude.{Option, filter, cond}
 use Rattle.presence_node_turns.specs.Turning.{Around}
 use Rattle.presence_node_workers.specs.declared.client.Client.{Client}
-use Rattle.presence_node_workers.specs.Working.{Pairwise, RisesBetween, ServesIf, ServesAll, SendsIf, StopsOne, goes_on, marked, readied}
+use Rattle.presence_node_workers.specs.Working.{Pairwise, RisesBetween, ServesIf, ServesAll, DeliversIf, DeliversAll, SendsIf, StopsOne, goes_on, held, marked, readied}
 
 -- a turn keeps the number
 serves_number : {S P : Type 0} (w : Around S P) (routes : List (List ℕ × ℕ)) (now : ℕ) (ready : Bool) (c d : Client S) (before after : P) → ServesIf w routes now ready c d before after → d.number ≡ c.number
@@ -21,6 +21,23 @@ serves_rising w routes now floor top (c ∷ cs) [] before after h r = absurd h
 serves_rising {S} w routes now floor top (c ∷ cs) (d ∷ ds) before after h r =
     let e : d.number ≡ c.number = serves_number w routes now c.ready c d before h.0 h.1 in
     (rw e r.0, rw e (serves_rising w routes now c.number top cs ds h.0 after h.2 r.1))
+
+-- a turn that reads nothing keeps the number and the token
+delivers_number : {S P : Type 0} (w : Around S P) (ready : Bool) (c d : Client S) (before after : P) → DeliversIf w ready c d before after → d.number ≡ c.number
+delivers_number w true c d before after h = ap (λ x. x.number) h.client
+delivers_number w false c d before after h = ap (λ x. x.number) h.0
+
+pub delivers_token : {S P : Type 0} (w : Around S P) (ready : Bool) (c d : Client S) (before after : P) → DeliversIf w ready c d before after → d.token ≡ c.token
+delivers_token w true c d before after h = ap (λ x. x.token) h.client
+delivers_token w false c d before after h = ap (λ x. x.token) h.0
+
+pub delivers_rising : {S P : Type 0} (w : Around S P) (floor top : ℕ) (cs ds : List (Client S)) (before after : P) → DeliversAll w cs ds before after → RisesBetween floor top cs → RisesBetween floor top ds
+delivers_rising w floor top [] [] before after h r = r
+delivers_rising w floor top [] (d ∷ ds) before after h r = absurd h
+delivers_rising w floor top (c ∷ cs) [] before after h r = absurd h
+delivers_rising {S} w floor top (c ∷ cs) (d ∷ ds) before after h r =
+    let e : d.number ≡ c.number = delivers_number w c.ready c d before h.0 h.1 in
+    (rw e r.0, rw e (delivers_rising w c.number top cs ds h.0 after h.2 r.1))
 
 -- what keeps each number keeps the numbers rising
 pub pairwise_rising : {S : Type 0} (R : Client S → Client S → Type 0) → ((c d : Client S) → R c d → d.number ≡ c.number) → (floor top : ℕ) (cs ds : List (Client S)) → Pairwise R cs ds → RisesBetween floor top cs → RisesBetween floor top ds
@@ -77,3 +94,8 @@ higher floor top other (c ∷ cs) le r = (r.0, higher c.number top other cs le r
 pub marked_rising : {S : Type 0} (token floor top : ℕ) (cs : List (Client S)) → RisesBetween floor top cs → RisesBetween floor top (map (marked token) cs)
 marked_rising token floor top [] r = r
 marked_rising token floor top (c ∷ cs) r = (r.0, marked_rising token c.number top cs r.1)
+
+-- and so do those that are held
+pub held_rising : {S : Type 0} (token floor top : ℕ) (cs : List (Client S)) → RisesBetween floor top cs → RisesBetween floor top (map (held token) cs)
+held_rising token floor top [] r = r
+held_rising token floor top (c ∷ cs) r = (r.0, held_rising token c.number top cs r.1)

@@ -1,11 +1,11 @@
 -- What a worker's turn, a flush and a look at the queue do to its connections.
-use Rattle.std.specs.Prelude.{◌≡◌, ◌<◌, ◌≤◌, ◌+◌, ℕ, Bool, true, false, not, ◌==◌, ◌||◌, List, [], ◌∷◌, ◌++◌, length, filter, Option, Some, None, Result, Ok, Err}
+use Rattle.std.specs.Prelude.{◌≡◌, ◌<◌, ◌≤◌, ◌+◌, ℕ, Bool, true, false, not, ◌==◌, ◌||◌, ◌&&◌, List, [], ◌∷◌, ◌++◌, length, filter, Option, Some, None, Result, Ok, Err}
 use Rattle.std.specs.declared.alloc.AllocError.{AllocError}
 use Rattle.std.specs.List.{AllByRecursion}
 use mathlib.Core.HLevel.{×_prop}
 use denote.Struct.Props as logic
 use Rattle.tungstenite.specs.Socket.{Socket}
-use Rattle.presence_node_turns.specs.Turning.{Around, Turns, Flushes, StopsServing}
+use Rattle.presence_node_turns.specs.Turning.{Around, Turns, Delivers as DeliversAt, Flushes, StopsServing}
 use Rattle.presence_node_turns.specs.declared.connection.Progress.{Progress}
 use Rattle.presence_node_turns.specs.declared.connection.Progress.TheVariants as progress
 use Rattle.presence_node_turns.specs.declared.connection.Stage.{Stage}
@@ -90,6 +90,27 @@ module _ {S P : Type 0} (w : Around S P) (routes : List (List ℕ × ℕ)) (now 
   abbrev pub ServesAll : List (Client S) → List (Client S) → P → P → Type 0
   ServesAll olds news before after = Chained Serves olds news before after
 
+-- ---- a turn that reads nothing
+
+module _ {S P : Type 0} (w : Around S P) where
+  -- What waits for a connection is delivered. It stays ready, since it may have more to be read.
+  pub record IsDealt (old new : Client S) (before after : P) : Type 0 where
+    pub progress : Progress
+    pub delivers : DeliversAt w old.connection.stage old.connection new.connection before after progress
+    pub client : new ≡ record old { unsent = true; connection = new.connection }
+
+  -- It is, where it is ready.
+  abbrev pub DeliversIf : Bool → Client S → Client S → P → P → Type 0
+  DeliversIf true old new before after = IsDealt old new before after
+  DeliversIf false old new before after = (new ≡ old) × (after ≡ before)
+
+  abbrev pub Delivers : Client S → Client S → P → P → Type 0
+  Delivers old new before after = DeliversIf old.ready old new before after
+
+  -- Each ready connection has what waits delivered, in their order.
+  abbrev pub DeliversAll : List (Client S) → List (Client S) → P → P → Type 0
+  DeliversAll olds news before after = Chained Delivers olds news before after
+
 -- ---- a flush
 
 module _ {S : Type 0} (contents : S → Option (List ℕ)) where
@@ -126,6 +147,14 @@ marked token c = record c { ready = c.ready || (c.token == token) }
 -- it takes the next turn, whatever its token
 abbrev pub readied : {S : Type 0} → Client S → Client S
 readied c = record c { ready = true }
+
+-- the connection of this token takes no turn until it is marked
+abbrev pub held : {S : Type 0} → ℕ → Client S → Client S
+held token c = record c { ready = c.ready && not (c.token == token) }
+
+-- it takes none, whatever its token
+abbrev pub unreadied : {S : Type 0} → Client S → Client S
+unreadied c = record c { ready = false }
 
 -- ---- the stop
 

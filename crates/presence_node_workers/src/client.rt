@@ -1,7 +1,7 @@
 //! A connection at its worker.
 ghost use Rattle.std.specs.Prelude.{◌≡◌};
 ghost use Rattle.presence_node_turns.specs.Turning.{around};
-ghost use Rattle.presence_node_workers.specs.Working.{SendsIf, Serves, StopsOne, has_ended, is_ending, is_over, readied, stays_ready as stays_ready_in};
+ghost use Rattle.presence_node_workers.specs.Working.{Delivers, SendsIf, Serves, StopsOne, has_ended, is_ending, is_over, readied, stays_ready as stays_ready_in, unreadied};
 
 use hook_registry::{PresenceHooks, Routes};
 use presence_node_turns::{Connection, Port, Progress, Stage};
@@ -77,6 +77,17 @@ impl<S: Read + Write + Drop> Client<S> {
         }
     }
 
+    /// A turn that reads nothing, if the connection is ready, which it stays.
+    pub fn deliver<P: Port, H: PresenceHooks>(&mut self, alloc: Global, port: &mut P, hooks: &H)
+        ensures { Delivers (around S.remaining S.contents P.step H.PresenceHooks hooks.now)
+            self.old self.new port.old port.new }
+    {
+        if self.ready {
+            let _progress = self.connection.deliver(alloc, port, hooks);
+            self.unsent = true;
+        }
+    }
+
     /// Hands the bytes that wait to the stream, if some may. A connection whose stream fails is
     /// ready for a turn, in which its session's end is asked for.
     pub fn flush(&mut self)
@@ -101,6 +112,13 @@ impl<S: Read + Write + Drop> Client<S> {
         ensures { self.new ≡ readied self.old }
     {
         self.ready = true;
+    }
+
+    // Lets it take no turn until it is ready again.
+    pub(crate) fn hold(&mut self)
+        ensures { self.new ≡ unreadied self.old }
+    {
+        self.ready = false;
     }
 
     /// Ends it since the server stops: its client is told at the next flush, and its session's end is

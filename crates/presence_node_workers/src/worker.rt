@@ -5,7 +5,7 @@ ghost use Rattle.slab.specs.Slab.{get};
 ghost use Rattle.presence_node_turns.specs.Turning.{around};
 ghost use Rattle.presence_node_workers.specs.declared.worker.TheConstants.{MAX_CONNECTIONS};
 ghost use Rattle.presence_node_workers.specs.Places.{AreKept, AreLeft, kept_prop, served};
-ghost use Rattle.presence_node_workers.specs.Working.{EndsAt, NoneLost, Pairwise, RisesBetween, Sends, SendsAll, Serves, ServesAll, StopsAll, TakesIn, TakesOne, ended_at, marked, readied, rises_prop};
+ghost use Rattle.presence_node_workers.specs.Working.{DeliversAll, EndsAt, NoneLost, Pairwise, RisesBetween, Sends, SendsAll, Serves, ServesAll, StopsAll, TakesIn, TakesOne, ended_at, held, marked, readied, rises_prop};
 
 use crate::client::Client;
 use hook_registry::{PresenceHooks, Routes};
@@ -71,6 +71,26 @@ fn serve_all<S: Read + Write + Drop, P: Port, H: PresenceHooks>(
     for key in order {
         if let Some(client) = clients.get_mut(*key) {
             client.turn(alloc, port, routes, hooks, now);
+        }
+    }
+}
+
+// What waits for the connection at each key is delivered, one behind the other over the same port.
+fn deliver_all<S: Read + Write + Drop, P: Port, H: PresenceHooks>(
+    alloc: Global,
+    clients: &mut Slab<Client<S>>,
+    order: &[usize],
+    port: &mut P,
+    hooks: &H,
+)
+    requires { AreKept clients.old order.now }
+    ensures kept { AreKept clients.new order.now }
+    ensures delivers { DeliversAll (around S.remaining S.contents P.step H.PresenceHooks hooks.now)
+        (served clients.old order.now) (served clients.new order.now) port.old port.new }
+{
+    for key in order {
+        if let Some(client) = clients.get_mut(*key) {
+            client.deliver(alloc, port, hooks);
         }
     }
 }
@@ -173,6 +193,17 @@ impl<S: Read + Write + Drop> Worker<S> {
         }
     }
 
+    /// The connection of this token takes no turn until it is marked, if one of this worker's has it: nothing is read of
+    /// it, and nothing taken for it.
+    pub fn hold(&mut self, token: usize)
+        ensures { served self.new.clients self.new.order.items
+            ≡ map (held token) (served self.old.clients self.old.order.items) }
+    {
+        if let Some(client) = self.clients.get_mut(token) {
+            client.hold();
+        }
+    }
+
     /// Each connection takes the next turn.
     pub fn mark_all(&mut self)
         ensures { served self.new.clients self.new.order.items
@@ -213,6 +244,16 @@ impl<S: Read + Write + Drop> Worker<S> {
             hooks,
             now,
         );
+    }
+
+    /// A turn in which nothing is read: each connection that is ready, in order of its number, has what waits for its
+    /// session delivered, and stays ready.
+    pub fn deliver<P: Port, H: PresenceHooks>(&mut self, alloc: Global, port: &mut P, hooks: &H)
+        ensures { DeliversAll (around S.remaining S.contents P.step H.PresenceHooks hooks.now)
+            (served self.old.clients self.old.order.items) (served self.new.clients self.new.order.items)
+            port.old port.new }
+    {
+        deliver_all(alloc, &mut self.clients, self.order.as_slice(), port, hooks);
     }
 
     /// Hands what waits to be sent to the streams, and gives up the connections that have ended.

@@ -1,5 +1,6 @@
 //! Tests of connections over streams in memory, and of the queue that they come by.
 
+mod bounds;
 mod closing;
 mod failing;
 mod line;

@@ -1,18 +1,20 @@
 //! What the threads of the server are given.
 use super::fault::BeginFault;
 use presence_node_crew::Posts;
-use presence_node_duties::{Bench, Door, Inbox, LISTENER, LinkTask, Mailbox, Workplace};
+use presence_node_duties::{
+    Bench, ClientSocket, Door, Inbox, LISTENER, LinkTask, Mailbox, Workplace,
+};
 use presence_node_queue::Giver;
 use presence_node_sockets::{Bell, Watch};
 use shard_pool::{Lane, Seat};
 use std::alloc::Global;
 use std::io;
-use std::net::{Net, TcpListener, TcpStream};
+use std::net::{Net, TcpListener};
 use std::sync::atomic::AtomicBool;
 use tungstenite::{NoMask, WebSocket};
 
 /// The end of the queue that the door gives connections to.
-type Waiting = Giver<WebSocket<TcpStream, NoMask>>;
+type Waiting = Giver<WebSocket<ClientSocket, NoMask>>;
 
 /// What the threads are given, and what wakes each of them.
 pub(crate) struct Stations<A: Lane, B: Lane, C: Lane, D: Lane> {

@@ -8,7 +8,7 @@ pub returns-in-Ok : goal.returns-in-Ok
 returns-in-Ok g c =
     let w = around g.S.Read.remaining g.S.Write.contents g.P.Port.step g.H.PresenceHooks c.args.hooks.now in
     subst (λ (p : Progress). TakesTurn w c.args.routes.now c.args.now c.args.self.now c.serve.new.self c.args.port.now c.serve.new.port p) (sym c.progress_of.ensures)
-    (goes_on w c.args.routes.now c.args.now c.args.self.now c.serve.new.self c.args.port.now c.serve.new.port c.in-Ok.came c.in-Ok.ensures)
+    (goes_on w c.args.routes.now c.args.now c.args.self.now c.serve.new.self c.args.port.now c.serve.new.port c.in-Ok.more c.in-Ok.ensures)
 
 pub returns-in-Err : goal.returns-in-Err
 returns-in-Err g c =

@@ -1,0 +1,177 @@
+//! A client's stream.
+ghost use Rattle.std.specs.Prelude.{◌≡◌, ◌≤◌, true, false, None};
+ghost use Rattle.presence_node_client_streams.specs.Budget.{Spends};
+ghost use Rattle.presence_node_client_streams.specs.declared.stream.TheConstants.{TURN_BYTES};
+
+use std::cell::Cell;
+use std::io;
+use std::io::{ErrorKind, Read, Write};
+use std::net::TcpStream;
+use std::os::fd::{AsRawFd, RawFd};
+
+/// How many bytes of a client are read before the others of its worker have their turns.
+pub const TURN_BYTES: usize = 65_536;
+
+/// A client's stream. It gives `TURN_BYTES` at most, and then, once, it answers that it would block, so that the turn that
+/// reads it ends; and it remembers whether the last write found no room.
+pub struct ClientStream<S> {
+    stream: S,
+    /// How many bytes the turn that reads may still have.
+    left: usize,
+    /// Whether the last read was put off, though the stream may have more.
+    put_off: bool,
+    /// Whether the last write found no room.
+    blocked: bool,
+    /// Since when writes have found none, in milliseconds, if that was noted.
+    stalled: Cell<Option<u64>>,
+    ghost bounded: { left ≤ TURN_BYTES },
+}
+
+/// The stream of a client at a socket.
+pub type ClientSocket = ClientStream<TcpStream>;
+
+impl<S: Drop> Drop for ClientStream<S> {
+    fn drop(self) {
+        let ClientStream {
+            stream,
+            left: _,
+            put_off: _,
+            blocked: _,
+            stalled: _,
+        } = self;
+        drop(stream);
+    }
+}
+
+// Whether a stream has nothing, or no room, for now.
+fn would_block(error: &io::Error) -> bool {
+    matches!(error.kind(), ErrorKind::WouldBlock)
+}
+
+impl<S> ClientStream<S> {
+    /// A stream of which nothing was read or written yet.
+    pub fn new(stream: S) -> ClientStream<S>
+        ensures stream { result.stream ≡ stream }
+        ensures left { result.left ≡ TURN_BYTES }
+        ensures waits { result.put_off ≡ false }
+        ensures room { result.blocked ≡ false }
+    {
+        ClientStream {
+            stream,
+            left: TURN_BYTES,
+            put_off: false,
+            blocked: false,
+            stalled: Cell::new(None),
+        }
+    }
+
+    /// The stream inside.
+    pub fn stream(&self) -> &S
+        ensures { result.now ≡ self.now.stream }
+    {
+        &self.stream
+    }
+
+    /// Whether the last read was put off until the others had their turns, though the stream may have more.
+    pub fn is_put_off(&self) -> bool
+        ensures { result ≡ self.now.put_off }
+    {
+        self.put_off
+    }
+
+    /// Whether the last write found no room, so that some of what was sent waits.
+    pub fn is_blocked(&self) -> bool
+        ensures { result ≡ self.now.blocked }
+    {
+        self.blocked
+    }
+
+    /// Since when writes have found no room, as far as it was asked, which it is at this time. It is none where the last
+    /// one found room.
+    pub fn stalled_since(&self, now: u64) -> Option<u64>
+        ensures { self.now.blocked ≡ false → result ≡ None }
+    {
+        if !self.blocked {
+            return None;
+        }
+        let since = self.stalled.get().unwrap_or(now);
+        self.stalled.set(Some(since));
+        Some(since)
+    }
+
+    /// Whether writes find room again, since it was told that they found none. It says so once.
+    pub fn has_recovered(&self) -> bool
+        ensures { self.now.blocked ≡ true → result ≡ false }
+    {
+        !self.blocked && self.stalled.replace(None).is_some()
+    }
+}
+
+impl<S: Read> ClientStream<S> {
+    // Ends the turn: the next one may have as much again.
+    fn put_off(&mut self) -> io::Error
+        ensures left { self.new.left ≡ TURN_BYTES }
+        ensures put_off { self.new.put_off ≡ true }
+        ensures stream { self.new.stream ≡ self.old.stream }
+    {
+        self.left = TURN_BYTES;
+        self.put_off = true;
+        io::Error::from(ErrorKind::WouldBlock)
+    }
+}
+
+impl<S: Read> Read for ClientStream<S> {
+    ghost use Rattle.std.specs.Io.{ReadsAtMost};
+    ghost use Rattle.std.specs.Io.KnownBytes.{ReadConsumes};
+
+    ghost remaining = { λ s. S.remaining s.stream };
+
+    fn read(&mut self, buf: &mut [u8]) -> io::Result<usize>
+        ensures bound { ReadsAtMost result buf.new }
+        ensures bytes { ReadConsumes (S.remaining self.old.stream) (S.remaining self.new.stream) result buf.new }
+        ensures spends { Spends self.old.left self.new.left result }
+    {
+        if self.left == 0 {
+            return Err(self.put_off());
+        }
+        self.put_off = false;
+        let most = buf.len().min(self.left);
+        match self.stream.read(&mut buf[..most]) {
+            Ok(count) => {
+                self.left -= count;
+                Ok(count)
+            }
+            Err(error) => {
+                if would_block(&error) {
+                    self.left = TURN_BYTES;
+                }
+                Err(error)
+            }
+        }
+    }
+}
+
+impl<S: Write> Write for ClientStream<S> {
+    ghost contents = { λ s. S.contents s.stream };
+
+    fn write(&mut self, buf: &[u8]) -> io::Result<usize> {
+        let written = self.stream.write(buf);
+        self.blocked = match &written {
+            Ok(_) => false,
+            Err(error) => would_block(error),
+        };
+        written
+    }
+
+    fn flush(&mut self) -> io::Result<()> {
+        self.stream.flush()
+    }
+}
+
+impl<S: AsRawFd> AsRawFd for ClientStream<S> {
+    ghost raw_fd = { λ s. S.raw_fd s.stream };
+
+    fn as_raw_fd(&self) -> RawFd {
+        self.stream.as_raw_fd()
+    }
+}

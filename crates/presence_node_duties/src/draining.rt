@@ -1,0 +1,167 @@
+//! Checkpoints at quiet moments: where a journal is nearly full the workers read nothing for a while and deliver what waits,
+//! so that the checkpoint leaves nothing out.
+use crate::server::Server;
+use shard_pool::{Lane, PoolFault};
+use std::sync::Wait;
+
+/// A journal with so many entries is due for a checkpoint: three quarters of those that it may have.
+const DUE_ENTRIES: u64 = 196_608;
+
+/// The journals are looked at once in so long, in milliseconds.
+const LOOK_MILLISECONDS: u64 = 5;
+
+/// So long nothing is read at most before a checkpoint is made though something waits, in milliseconds.
+const MAX_DRAIN_MILLISECONDS: u64 = 100;
+
+/// Where memory was refused to a checkpoint the next one is tried so much later, in milliseconds.
+const REST_MILLISECONDS: u64 = 1_000;
+
+/// What a worker knows of the next checkpoint.
+#[derive(Clone, Copy)]
+pub(crate) struct Drain {
+    /// When the journals are looked at next.
+    looks: u64,
+    /// Since when this worker has read nothing, if it reads nothing.
+    since: Option<u64>,
+    /// Whether it makes the checkpoint.
+    leads: bool,
+}
+
+/// What came of a try at the checkpoints that are due.
+#[derive(Clone, Copy, PartialEq, Eq)]
+pub(crate) enum Due {
+    /// None is due any more.
+    Made,
+    /// Something waits.
+    Waits,
+    /// Memory was refused.
+    Refused,
+}
+
+impl Drain {
+    /// Nothing is due.
+    pub fn new() -> Drain {
+        Drain {
+            looks: 0,
+            since: None,
+            leads: false,
+        }
+    }
+
+    /// Whether this worker reads nothing.
+    pub fn is_on(&self) -> bool {
+        self.since.is_some()
+    }
+
+    /// Whether it makes the checkpoint.
+    pub fn leads(&self) -> bool {
+        self.leads
+    }
+
+    /// Whether the journals are to be looked at, which they are once in a while.
+    pub fn looks_at(&mut self, now: u64) -> bool {
+        if now < self.looks {
+            return false;
+        }
+        self.looks = now.saturating_add(LOOK_MILLISECONDS);
+        true
+    }
+
+    /// It makes the checkpoint that is due.
+    pub fn lead(&mut self) {
+        self.leads = true;
+    }
+
+    /// It reads nothing from this time on, if it didn't already.
+    pub fn begin(&mut self, now: u64) {
+        if self.since.is_none() {
+            self.since = Some(now);
+        }
+    }
+
+    /// It reads again. Where memory was refused it lets the journals be for a while.
+    pub fn end(&mut self, now: u64, due: Due) {
+        self.since = None;
+        self.leads = false;
+        if due == Due::Refused {
+            self.looks = now.saturating_add(REST_MILLISECONDS);
+        }
+    }
+
+    // For how long it has read nothing.
+    fn lasts(&self, now: u64) -> u64 {
+        now.saturating_sub(self.since.unwrap_or(now))
+    }
+
+    /// Whether what waits is waited for no longer.
+    pub fn is_over(&self, now: u64) -> bool {
+        self.lasts(now) >= MAX_DRAIN_MILLISECONDS
+    }
+
+    /// Whether the one that makes the checkpoint is waited for no longer.
+    pub fn is_lost(&self, now: u64) -> bool {
+        self.lasts(now) >= 20 * MAX_DRAIN_MILLISECONDS
+    }
+}
+
+/// Whether a journal is due for a checkpoint.
+pub(crate) fn is_due<R: Wait, H, A: Lane, B: Lane, C: Lane, D: Lane>(
+    rt: &R,
+    server: &Server<'_, H, A, B, C, D>,
+) -> bool {
+    for shard in 0..server.links.shards() {
+        if server.pool.entry_count(rt, shard) >= DUE_ENTRIES {
+            return true;
+        }
+    }
+    false
+}
+
+/// Lets all workers read nothing until a checkpoint was made, or read again, and wakes them.
+pub(crate) fn set_draining<H, A: Lane, B: Lane, C: Lane, D: Lane>(
+    server: &Server<'_, H, A, B, C, D>,
+    drains: bool,
+) {
+    for mailbox in server.mailboxes.iter() {
+        mailbox.inbox.set_draining(drains);
+        mailbox.bell.ring();
+    }
+}
+
+// Tries the checkpoint of a shard, if it is due: where something waits only if that is waited for no longer.
+fn make_at<R: Wait, H, A: Lane, B: Lane, C: Lane, D: Lane>(
+    rt: &R,
+    server: &Server<'_, H, A, B, C, D>,
+    shard: u32,
+    is_over: bool,
+) -> Result<bool, PoolFault>
+    requires { shard < server.now.pool.shards }
+{
+    if server.pool.entry_count(rt, shard) < DUE_ENTRIES {
+        return Ok(true);
+    }
+    if is_over {
+        server.pool.checkpoint(rt, server.alloc, shard)?;
+        return Ok(true);
+    }
+    server
+        .pool
+        .checkpoint_where_quiet(rt, server.alloc, shard, DUE_ENTRIES)
+}
+
+/// Tries each checkpoint that is due.
+pub(crate) fn make_due<R: Wait, H, A: Lane, B: Lane, C: Lane, D: Lane>(
+    rt: &R,
+    server: &Server<'_, H, A, B, C, D>,
+    is_over: bool,
+) -> Due {
+    let mut due = Due::Made;
+    for shard in 0..server.links.shards() {
+        match make_at(rt, server, shard, is_over) {
+            Ok(true) => {}
+            Ok(false) => due = Due::Waits,
+            Err(_) => return Due::Refused,
+        }
+    }
+    due
+}

@@ -1,0 +1,71 @@
+//! A client's stream: how much a turn reads of it, and what it remembers of its writes.
+
+use crate::served::{Connection, Progress, add_frame, rooms, socket_config, wire_of};
+use hook_registry::NoHooks;
+use presence_node_client_streams::ClientStream;
+use session_desk::TestPort;
+use std::alloc::{AllocError, Global};
+use std::io::{ErrorKind, Write};
+use std::test::Fail;
+use tungstenite::{NoMask, Role, WebSocket};
+
+// The first 30,000 frames of a message that doesn't end, of 6 bytes each.
+fn without_end(alloc: Global) -> Result<Vec<u8>, AllocError> {
+    let mut bytes = Vec::new(alloc);
+    add_frame(&mut bytes, 0x01, true, b"")?;
+    for _ in 1..30_000_u32 {
+        add_frame(&mut bytes, 0x00, true, b"")?;
+    }
+    Ok(bytes)
+}
+
+// Each turn reads 65,536 of the 180,000 bytes, and the last one the rest.
+#[test]
+fn a_turn_reads_so_much(rt: HostRuntime) -> Result<(), Fail> {
+    let alloc = rt.alloc();
+    let sent = without_end(alloc)?;
+    let (Some(mut port), Some(routes)) = (TestPort::new(alloc), rooms(alloc)) else {
+        return Err(Fail::new("none was given"));
+    };
+    let stream = ClientStream::new(wire_of(alloc, &sent));
+    let socket = WebSocket::from_raw_socket(
+        alloc,
+        stream,
+        NoMask,
+        Role::Server,
+        Some(socket_config()),
+    );
+    let mut connection = Connection::new(alloc, socket, 1, 0);
+    for (left, put_off) in [(114_464, true), (48_928, true), (0, false)] {
+        let progress = connection.turn(alloc, &mut port, &routes, &NoHooks, 0);
+        assert_eq!(rt; progress, Progress::Idle);
+        let stream = connection.socket.get_ref();
+        assert_eq!(rt; stream.stream().rest.len(), left);
+        assert_eq!(rt; stream.is_put_off(), put_off);
+    }
+    Ok(())
+}
+
+// The time of the first look at a stream that found no room is kept until it finds some.
+#[test]
+fn a_stream_tells_since_when_it_finds_no_room(rt: HostRuntime) -> Result<(), Fail> {
+    let mut wire = wire_of(rt.alloc(), b"");
+    wire.fails_write = 1;
+    wire.so = ErrorKind::WouldBlock;
+    let mut stream = ClientStream::new(wire);
+    assert!(rt; stream.write(b"a").is_ok());
+    assert_eq!(rt; stream.stalled_since(3), None);
+    assert!(rt; !stream.has_recovered());
+    assert!(rt; stream.write(b"b").is_err());
+    assert!(rt; stream.is_blocked());
+    assert_eq!(rt; stream.stalled_since(5), Some(5));
+    assert_eq!(rt; stream.stalled_since(9), Some(5));
+    assert!(rt; !stream.has_recovered());
+    assert!(rt; stream.write(b"b").is_ok());
+    assert!(rt; !stream.is_blocked());
+    assert_eq!(rt; stream.stalled_since(11), None);
+    assert!(rt; stream.has_recovered());
+    assert!(rt; !stream.has_recovered());
+    assert_eq!(rt; stream.stream().taken.as_slice(), b"ab".as_slice());
+    Ok(())
+}
