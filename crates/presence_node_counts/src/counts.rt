@@ -178,8 +178,8 @@ impl Counts {
         )
     }
 
-    // The requests, by what became of them.
-    fn requests_text(&self, alloc: Global, text: &mut String) -> Result<(), AllocError> {
+    // The requests that have no answer, or none yet.
+    fn waiting_text(&self, alloc: Global, text: &mut String) -> Result<(), AllocError> {
         family_text(
             alloc,
             text,
@@ -191,6 +191,21 @@ impl Counts {
             },
             &[("", self.under_way.get())],
         )?;
+        family_text(
+            alloc,
+            text,
+            &Family {
+                name: "presence_node_requests_given_up_total",
+                help: "Connections that ended before they were answered.",
+                kind: "counter",
+                label: "reason",
+            },
+            &[("failed", self.failed.get()), ("silent", self.silent.get())],
+        )
+    }
+
+    // The requests, by their answers.
+    fn requests_text(&self, alloc: Global, text: &mut String) -> Result<(), AllocError> {
         family_text(
             alloc,
             text,
@@ -210,17 +225,6 @@ impl Counts {
                 ("not_found", self.answers.not_found.get()),
                 ("not_allowed", self.answers.not_allowed.get()),
             ],
-        )?;
-        family_text(
-            alloc,
-            text,
-            &Family {
-                name: "presence_node_requests_given_up_total",
-                help: "Connections that ended before they were answered.",
-                kind: "counter",
-                label: "reason",
-            },
-            &[("failed", self.failed.get()), ("silent", self.silent.get())],
         )
     }
 }
@@ -229,6 +233,7 @@ impl Tells for Counts {
     fn metrics(&self, alloc: Global) -> Result<String, AllocError> {
         let mut text = String::new(alloc);
         self.connections_text(alloc, &mut text)?;
+        self.waiting_text(alloc, &mut text)?;
         self.requests_text(alloc, &mut text)?;
         Ok(text)
     }

@@ -12,7 +12,9 @@ use super::stopping::StopLine;
 use hook_registry::PresenceHooks;
 use presence_base::{MAX_COUNT, Replica};
 use presence_node_crew::{Posts, run_crew};
-use presence_node_duties::{Counts, Door, LinkTask, LinkTasks, Server, Workplace, seats_of, tasks_for};
+use presence_node_duties::{
+    Counts, Door, LinkTask, LinkTasks, Server, Workplace, seats_of, tasks_for,
+};
 use presence_node_ends::{ServeEnd, settled};
 use presence_node_options::{PeerOption, ServeOptions};
 use presence_node_sockets::listen;
