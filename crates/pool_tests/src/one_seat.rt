@@ -9,7 +9,7 @@ use crate::diffs::{GONE_WHILE_DOWN, GONE_WHILE_UP, SILENT, Told, told};
 use crate::full::{Asked, Filled, ask_when_full, filled};
 use crate::gaps::{Played, wanted, watch};
 use crate::kept_deltas::{Tells, WANTED as WANTED_KEPT, kept};
-use crate::quiet::{Due, WANTED as WANTED_DUE, asked_in_turn};
+use crate::quiet::{Due, asked_in_turn, wanted as wanted_due};
 use crate::statuses::{WANTED as WANTED_STATUSES, statuses};
 use pool_desk::{replica, track};
 use presence_base::Replica;
@@ -172,7 +172,7 @@ fn runs_over_one_shard(rt: HostRuntime) -> Result<(), Fail> {
         (Run::Tellings(false), Came::Tellings(wanted(false))),
         (Run::Checkpoint, Came::Checkpoint(WANTED_BEHIND)),
         (Run::Kept, Came::Kept(WANTED_KEPT)),
-        (Run::Due, Came::Due(WANTED_DUE)),
+        (Run::Due, Came::Due(wanted_due())),
     ] {
         assert_eq!(rt; outcome_of(&rt, rt.alloc(), 1, run), Some(want));
     }

@@ -57,7 +57,7 @@ pub(crate) fn asked_in_turn<A: Lane, B: Lane, C: Lane, D: Lane, R: Wait>(
     Some([too_few, behind, waiting, not_full, taken, begun])
 }
 
-const fn due(made: bool, entries: u64) -> Due {
+fn due(made: bool, entries: u64) -> Due {
     Due {
         made: Ok(made),
         entries,
@@ -65,11 +65,13 @@ const fn due(made: bool, entries: u64) -> Due {
 }
 
 // One who is behind holds nothing up. The diff of the track does, until it is taken.
-pub(crate) const WANTED: [Due; 6] = [
-    due(false, 2),
-    due(true, 1),
-    due(false, 3),
-    due(false, 3),
-    due(true, 1),
-    due(false, 1),
-];
+pub(crate) fn wanted() -> [Due; 6] {
+    [
+        due(false, 2),
+        due(true, 1),
+        due(false, 3),
+        due(false, 3),
+        due(true, 1),
+        due(false, 1),
+    ]
+}
