@@ -8,6 +8,7 @@ use std::io::ErrorKind;
 use std::time::{Clock, Duration};
 
 // A clock that shows so many milliseconds, or can't be read.
+#[derive(Drop)]
 struct Shown {
     time: Option<u64>,
 }
@@ -66,6 +67,9 @@ fn status_behind(alloc: Global, pause: u64) -> Option<Status> {
 #[test]
 fn nobody_is_put_down_for_a_pause_of_the_hearer(rt: HostRuntime) {
     for pause in [0, 31_000, 3_600_000] {
-        assert!(rt; status_behind(rt.alloc(), pause) == Some(Status::Up), "{pause}");
+        assert!(rt;
+            status_behind(rt.alloc(), pause) == Some(Status::Up),
+            "{pause}"
+        );
     }
 }
