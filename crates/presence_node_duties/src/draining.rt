@@ -1,5 +1,7 @@
 //! Checkpoints at quiet moments: where a journal is nearly full the workers read nothing for a while and deliver what waits,
 //! so that the checkpoint leaves nothing out.
+ghost use Rattle.std.specs.Prelude.{◌<◌};
+
 use crate::server::Server;
 use shard_pool::{Lane, PoolFault};
 use std::sync::Wait;
