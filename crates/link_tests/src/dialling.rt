@@ -182,8 +182,7 @@ fn a_told_line_that_is_too_long_is_not_written(rt: HostRuntime) {
         assert!(rt; false);
         return;
     };
-    desk.port.from = Much::Long;
-    desk.port.all = Much::Long;
+    desk.port.tells(Much::Long, Much::Long);
     assert!(rt; desk.dials_text(alloc, BEAT) == Some(Ok(false)));
     assert!(rt; desk.wrote(SENT));
     assert!(rt; desk.asked(&[Call::ToldFrom(0, 1), Call::Full(0)]));

@@ -96,8 +96,7 @@ fn a_line_at_the_limit_is_read(rt: HostRuntime) {
 // Node `b` behind the hellos, with a want and an ok to come, of which so much is told.
 fn wanted(alloc: Global, from: Much, all: Much) -> Option<Desk<'static>> {
     let mut desk = at_b(alloc, WANT)?;
-    desk.port.from = from;
-    desk.port.all = all;
+    desk.port.tells(from, all);
     if desk.takes(alloc, r#"["hello","a",1,2]"#) {
         Some(desk)
     } else {
@@ -149,7 +148,7 @@ fn nothing_is_told_where_neither_fits(rt: HostRuntime) {
 // Another replica is wanted: all is told, or nothing.
 fn goes_out_of_all(alloc: Global, all: Much) -> Option<(usize, usize)> {
     let mut desk = at_b(alloc, b"[\"want\",0,\"c\",1,1]\n[\"ok\"]\n")?;
-    desk.port.all = all;
+    desk.port.tells(Much::Little, all);
     if !desk.takes(alloc, r#"["hello","a",1,2]"#) {
         return None;
     }

@@ -67,6 +67,12 @@ impl TestPort {
         self.status = status;
     }
 
+    // So much is told from a count and in all.
+    pub fn tells(&mut self, from: Much, all: Much) {
+        self.from = from;
+        self.all = all;
+    }
+
     // Notes the call, unless it is the one that is refused.
     fn note(&mut self, call: Call) -> Result<(), ActFault> {
         if self.calls.len() == self.refused {

@@ -9,11 +9,11 @@ use std::time::{Clock, Duration};
 
 // A clock that shows so many milliseconds, or can't be read.
 #[derive(Drop)]
-struct Shown {
+struct Hand {
     time: Option<u64>,
 }
 
-impl Clock for Shown {
+impl Clock for Hand {
     fn monotonic(&self) -> io::Result<Duration> {
         match self.time {
             Some(time) => Ok(Duration::from_millis(time)),
@@ -26,8 +26,8 @@ impl Clock for Shown {
     }
 }
 
-fn shown(time: u64) -> Shown {
-    Shown { time: Some(time) }
+fn clock_at(time: u64) -> Hand {
+    Hand { time: Some(time) }
 }
 
 // What the clock shows, and what is handed in: a minute's pause behind the second period, a clock that goes back, and one
@@ -45,9 +45,9 @@ const TIMES: [(Option<u64>, u64); 8] = [
 
 #[test]
 fn a_pause_is_handed_in_bit_by_bit(rt: HostRuntime) {
-    let mut ticker = Ticker::new(&shown(10_000), 1_500);
+    let mut ticker = Ticker::new(&clock_at(10_000), 1_500);
     for (time, handed) in TIMES {
-        assert!(rt; ticker.next(&Shown { time }) == handed, "{handed}");
+        assert!(rt; ticker.next(&Hand { time }) == handed, "{handed}");
     }
 }
 
@@ -56,10 +56,10 @@ fn status_behind(alloc: Global, pause: u64) -> Option<Status> {
     let own = replica(alloc, "a", 1)?;
     let other = replica(alloc, "b", 1)?;
     let mut board = Board::new(alloc, own);
-    let mut ticker = Ticker::new(&shown(0), 1_500);
-    let time = ticker.next(&shown(1_500));
+    let mut ticker = Ticker::new(&clock_at(0), 1_500);
+    let time = ticker.next(&clock_at(1_500));
     board.heard(alloc, other, time).ok()?;
-    let later = ticker.next(&shown(pause.saturating_add(3_000)));
+    let later = ticker.next(&clock_at(pause.saturating_add(3_000)));
     board.tick(alloc, later).ok()?;
     Some(board.status(&other))
 }
