@@ -36,7 +36,7 @@ pub(crate) struct Filled {
 }
 
 // A journal holds 262,144 entries, its Start among them. The other shards keep theirs.
-pub(crate) const fn filled(shard: usize) -> Filled {
+pub(crate) const fn wanted_behind(shard: usize) -> Filled {
     Filled {
         entries: 262_143,
         starts: match shard {

@@ -6,7 +6,7 @@ ghost use Rattle.presence_base.specs.Refs.{IsCount};
 use crate::apart::{Sides, WANTED as WANTED_SIDES, called_apart};
 use crate::checkpoints::{Behind, WANTED as WANTED_BEHIND, checkpointed};
 use crate::diffs::{GONE_WHILE_DOWN, GONE_WHILE_UP, SILENT, Told, told};
-use crate::full::{Asked, Filled, ask_when_full, filled};
+use crate::full::{Asked, Filled, ask_when_full, wanted_behind};
 use crate::gaps::{Played, wanted, watch};
 use crate::kept_deltas::{Tells, WANTED as WANTED_KEPT, kept};
 use crate::quiet::{Due, asked_in_turn, wanted as wanted_due};
@@ -197,7 +197,7 @@ fn calls_stay_at_their_shards(rt: HostRuntime) -> Result<(), Fail> {
 fn begin_again<R: Wait>(rt: &R, alloc: Global, asked: Asked) -> bool {
     for (shard, room) in ["room:a", "room:b", "room:c", "room:d"].iter().enumerate() {
         let came = outcome_of(rt, alloc, 4, Run::Fill(room, asked));
-        if came != Some(Came::Filled(filled(shard))) {
+        if came != Some(Came::Filled(wanted_behind(shard))) {
             return false;
         }
     }

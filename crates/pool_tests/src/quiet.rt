@@ -57,7 +57,7 @@ pub(crate) fn asked_in_turn<A: Lane, B: Lane, C: Lane, D: Lane, R: Wait>(
     Some([too_few, behind, waiting, not_full, taken, begun])
 }
 
-fn due(made: bool, entries: u64) -> Due {
+fn answered(made: bool, entries: u64) -> Due {
     Due {
         made: Ok(made),
         entries,
@@ -67,11 +67,11 @@ fn due(made: bool, entries: u64) -> Due {
 // One who is behind holds nothing up. The diff of the track does, until it is taken.
 pub(crate) fn wanted() -> [Due; 6] {
     [
-        due(false, 2),
-        due(true, 1),
-        due(false, 3),
-        due(false, 3),
-        due(true, 1),
-        due(false, 1),
+        answered(false, 2),
+        answered(true, 1),
+        answered(false, 3),
+        answered(false, 3),
+        answered(true, 1),
+        answered(false, 1),
     ]
 }

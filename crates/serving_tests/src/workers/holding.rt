@@ -81,11 +81,13 @@ fn both_say(alloc: Global, shouts: usize) -> Option<[Vec<u8>; 2]> {
 
 // One that is held is told nothing, and nothing is read of it. Once it is marked, a turn that reads nothing tells it of the
 // shout, and the next one answers it.
-fn holds<R: Wait>(rt: &R, alloc: Global) -> Option<[bool; 4]> {
-    let said = both_say(alloc, 1)?;
-    let mut shard = Shard::new(alloc, own_replica(alloc)?);
-    let mut port = LocalPort::new(&mut shard);
-    let mut desk = held_over(rt, alloc, &mut port, &said, 1)?;
+fn hold_over<P: Port, R: Wait>(
+    rt: &R,
+    alloc: Global,
+    port: &mut P,
+    said: &[Vec<u8>; 2],
+) -> Option<[bool; 4]> {
+    let mut desk = held_over(rt, alloc, port, said, 1)?;
     let first = has(alloc, &desk, 0, 1, "")?;
     let held = has(alloc, &desk, 1, 0, "")?;
     desk.worker.mark(1);
@@ -95,6 +97,13 @@ fn holds<R: Wait>(rt: &R, alloc: Global) -> Option<[bool; 4]> {
     Some([first, held, told, has(alloc, &desk, 1, 1, BEATEN)?])
 }
 
+fn holds<R: Wait>(rt: &R, alloc: Global) -> Option<[bool; 4]> {
+    let said = both_say(alloc, 1)?;
+    let mut shard = Shard::new(alloc, own_replica(alloc)?);
+    let mut port = LocalPort::new(&mut shard);
+    hold_over(rt, alloc, &mut port, &said)
+}
+
 #[test]
 fn one_that_is_held_has_no_turn(rt: HostRuntime) -> Result<(), Fail> {
     assert_eq!(rt; holds(&rt, rt.alloc()), Some([true, true, true, true]));
@@ -102,17 +111,26 @@ fn one_that_is_held_has_no_turn(rt: HostRuntime) -> Result<(), Fail> {
 }
 
 // Of 20 shouts that wait one turn tells 16, and the next one, which nobody has to mark, the rest.
-fn rests<R: Wait>(rt: &R, alloc: Global) -> Option<[bool; 3]> {
-    let said = both_say(alloc, 20)?;
-    let mut shard = Shard::new(alloc, own_replica(alloc)?);
-    let mut port = LocalPort::new(&mut shard);
-    let mut desk = held_over(rt, alloc, &mut port, &said, 20)?;
+fn rest_over<P: Port, R: Wait>(
+    rt: &R,
+    alloc: Global,
+    port: &mut P,
+    said: &[Vec<u8>; 2],
+) -> Option<[bool; 3]> {
+    let mut desk = held_over(rt, alloc, port, said, 20)?;
     let held = has(alloc, &desk, 1, 0, "")?;
     desk.worker.mark(1);
     desk.deliver(alloc);
     let some = has(alloc, &desk, 1, 16, "")?;
     desk.deliver(alloc);
     Some([held, some, has(alloc, &desk, 1, 20, "")?])
+}
+
+fn rests<R: Wait>(rt: &R, alloc: Global) -> Option<[bool; 3]> {
+    let said = both_say(alloc, 20)?;
+    let mut shard = Shard::new(alloc, own_replica(alloc)?);
+    let mut port = LocalPort::new(&mut shard);
+    rest_over(rt, alloc, &mut port, &said)
 }
 
 #[test]
