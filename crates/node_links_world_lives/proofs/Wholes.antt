@@ -67,16 +67,16 @@ short_of JournalFull k n = absurd (n refl)
 short_of NoSub k n = absurd k
 short_of OutOfMemory k n = refl
 
-room_of : {A B : Type 0} (f : ShardFault) → RefusesForRoom {A = A} (Err f) → RefusesForRoom {A = B} (Err f)
-room_of AlreadyTracked k = k
-room_of NoPresence k = k
-room_of ClockFull k = k
-room_of JournalFull k = k
-room_of NoSub k = k
-room_of OutOfMemory k = k
+room_of : (A B : Type 0) (f : ShardFault) → RefusesForRoom {A = A} (Err f) → RefusesForRoom {A = B} (Err f)
+room_of A B AlreadyTracked k = k
+room_of A B NoPresence k = k
+room_of A B ClockFull k = k
+room_of A B JournalFull k = k
+room_of A B NoSub k = k
+room_of A B OutOfMemory k = k
 
 pub room_at : {A : Type 0} (r : Result A ShardFault) (f : ShardFault) → r ≡ Err f → RefusesForRoom r → RefusesForRoom {A = Unit {0}} (Err f)
-room_at {A} r f e k = room_of {A = A} {B = Unit {0}} f (subst (λ (y : Result A ShardFault). RefusesForRoom y) e k)
+room_at {A} r f e k = room_of A (Unit {0}) f (subst (λ (y : Result A ShardFault). RefusesForRoom y) e k)
 
 pub cut_full : (h g : History) (f : ShardFault) → f ≡ JournalFull → g ≡ h → IsDue {A = DeltaValue} (Err f) (refusal true h steps_are.Cut) → Cuts h g None
 cut_full h g f e same d = cut_refused h g same (subst (λ (x : ShardFault). IsDue {A = DeltaValue} (Err x) (refusal true h steps_are.Cut)) e d)
