@@ -1,8 +1,9 @@
 -- What a shard tells, and what is left where it refused.
-use Rattle.std.proofs.Common.{◌≡◌, ℕ, ◌^◌, Bool, true, false, cond, is_some, nat_lt, nat_le, Option, Some, None, Err, refl, sym, subst}
+use Rattle.std.proofs.Common.{◌≡◌, ℕ, ◌^◌, Bool, true, false, cond, is_some, nat_lt, nat_le, Option, Some, None, Result, Ok, Err, OnOk, refl, sym, subst}
 use Rattle.std.proofs.lemmas.Bool.Decides.{nat_tests}
 use Rattle.std.proofs.Common.{arith}
 use Rattle.orswot_core_told.specs.Telling.{ToldValue}
+use Rattle.delta_range.specs.Deltas.{DeltaValue}
 use Rattle.presence_journal_data.specs.StepLimits.{is_heard}
 use Rattle.presence_journal_data.specs.declared.step.Step.TheVariants as steps_are
 use Rattle.presence_journal.specs.History.{History, is_full, last_number}
@@ -11,7 +12,7 @@ use Rattle.presence_journal_sets.specs.Full.{IsFullOf}
 use Rattle.presence_journal_cuts.specs.KeptDeltas.{IsToldFrom}
 use Rattle.tracker_shard.specs.declared.fault.ShardFault.{ShardFault}
 use Rattle.tracker_shard.specs.declared.fault.ShardFault.TheVariants.{AlreadyTracked, NoPresence, ClockFull, JournalFull, NoSub, OutOfMemory}
-use Rattle.tracker_shard.specs.Steps.{Stepped, Answers, cause, refusal, checkpoint_refusal}
+use Rattle.tracker_shard.specs.Steps.{Stepped, Answers, IsDue, RefusesForRoom, cause, refusal, checkpoint_refusal}
 use Rattle.node_links_world_lives.specs.Living.{CutsIf, Cuts, BeginsIf, BeginsAgain}
 use Rattle.node_links_world_laws.specs.World.{TellsWhole}
 
@@ -54,3 +55,34 @@ cut_short Gives h g NoSub k a = k
 cut_short Gives h g OutOfMemory k a = k
 
 pub ruleset wholes = (whole_all, whole_from, cut_refused, cut_short, begin_refused)
+
+-- ---- refused for want of room
+
+-- any other refusal than that of a full journal is want of memory
+pub short_of : (f : ShardFault) → RefusesForRoom {A = Unit {0}} (Err f) → (f ≡ JournalFull → ⊥) → f ≡ OutOfMemory
+short_of AlreadyTracked k n = absurd k
+short_of NoPresence k n = absurd k
+short_of ClockFull k n = absurd k
+short_of JournalFull k n = absurd (n refl)
+short_of NoSub k n = absurd k
+short_of OutOfMemory k n = refl
+
+room_of : (A B : Type 0) (f : ShardFault) → RefusesForRoom {A = A} (Err f) → RefusesForRoom {A = B} (Err f)
+room_of A B AlreadyTracked k = k
+room_of A B NoPresence k = k
+room_of A B ClockFull k = k
+room_of A B JournalFull k = k
+room_of A B NoSub k = k
+room_of A B OutOfMemory k = k
+
+pub room_at : {A : Type 0} (r : Result A ShardFault) (f : ShardFault) → r ≡ Err f → RefusesForRoom r → RefusesForRoom {A = Unit {0}} (Err f)
+room_at {A} r f e k = room_of A (Unit {0}) f (subst (λ (y : Result A ShardFault). RefusesForRoom y) e k)
+
+pub cut_full : (h g : History) (f : ShardFault) → f ≡ JournalFull → g ≡ h → IsDue {A = DeltaValue} (Err f) (refusal true h steps_are.Cut) → Cuts h g None
+cut_full h g f e same d = cut_refused h g same (subst (λ (x : ShardFault). IsDue {A = DeltaValue} (Err x) (refusal true h steps_are.Cut)) e d)
+
+pub begin_full : {E : Type 0} (h g : History) (f : ShardFault) (q : Result (Unit {0}) E) → g ≡ h → IsDue {A = Unit {0}} (Err f) (checkpoint_refusal h) → OnOk q (f ≡ JournalFull) → OnOk q (BeginsAgain h g)
+begin_full h g f (Err e) same d k = tt
+begin_full h g f (Ok x) same d k = begin_refused h g same (subst (λ (x : ShardFault). IsDue {A = Unit {0}} (Err x) (checkpoint_refusal h)) k d)
+
+pub ruleset rooms = (short_of, room_at, cut_full, begin_full)

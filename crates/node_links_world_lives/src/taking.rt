@@ -1,6 +1,7 @@
 // What a shard does at an event. Where memory runs out it is as it was.
-ghost use Rattle.std.specs.Prelude.{◌≡◌, ◌<◌, true, None, IfOk, OnOk, OnErr, vec_len, vec_capacity};
+ghost use Rattle.std.specs.Prelude.{◌≡◌, ◌<◌, true, None, Err, IfOk, OnOk, OnErr, vec_len, vec_capacity};
 ghost use Rattle.presence_journal.specs.Table.{outcome_of, after, is_step};
+ghost use Rattle.tracker_shard.specs.Steps.{RefusesForRoom};
 ghost use Rattle.node_links_world_lives.specs.Living.{Cuts, BeginsAgain};
 ghost use Rattle.node_links_world_lives.specs.Taken.{AddsRow};
 ghost use Rattle.node_links_world_laws.specs.World.{added, with_row, TellsWhole};
@@ -59,16 +60,31 @@ pub(crate) fn take(
     Ok(())
 }
 
+// What a shard wanted that refused for want of room: Ok where its journal is full, and else memory ran out.
+#[tactic(auto, using(crate::proofs::Wholes::rooms))]
+fn full_journal(fault: ShardFault) -> Result<(), AllocError>
+    requires { RefusesForRoom {A = Unit {0}} (Err fault) }
+    ensures full { OnOk result (fault ≡ ShardFault.JournalFull) }
+    ensures memory { OnErr result (fault ≡ ShardFault.OutOfMemory) }
+{
+    match fault {
+        ShardFault::JournalFull => Ok(()),
+        _ => Err(AllocError),
+    }
+}
+
 /// What a shard did since its last cut, where there is room for the entry.
-#[tactic(auto, using(crate::proofs::Wholes::wholes))]
+#[tactic(auto, using(crate::proofs::Wholes::wholes, crate::proofs::Wholes::rooms))]
 pub(crate) fn cut(shard: &mut Shard, alloc: Global) -> Result<Option<Telling>, AllocError>
     ensures cut { IfOk result (Cuts shard.old shard.new) }
     ensures same { OnErr result (shard.new ≡ shard.old) }
 {
     match shard.cut(alloc) {
         Ok(delta) => Ok(Some(Telling::of_cut(delta))),
-        Err(ShardFault::JournalFull) => Ok(None),
-        Err(_) => Err(AllocError),
+        Err(fault) => {
+            full_journal(fault)?;
+            Ok(None)
+        }
     }
 }
 
@@ -95,14 +111,13 @@ pub(crate) fn told(
 }
 
 /// Puts a Start in the place of a shard's journal, where a number is left.
-#[tactic(auto, using(crate::proofs::Wholes::wholes))]
+#[tactic(auto, using(crate::proofs::Wholes::wholes, crate::proofs::Wholes::rooms))]
 pub(crate) fn checkpoint(shard: &mut Shard, alloc: Global) -> Result<(), AllocError>
     ensures begins { OnOk result (BeginsAgain shard.old shard.new) }
     ensures same { OnErr result (shard.new ≡ shard.old) }
 {
     match shard.checkpoint(alloc) {
         Ok(()) => Ok(()),
-        Err(ShardFault::JournalFull) => Ok(()),
-        Err(_) => Err(AllocError),
+        Err(fault) => full_journal(fault),
     }
 }
