@@ -5,7 +5,6 @@ mod crossing;
 mod desk;
 mod ending;
 mod failing;
-mod holding;
 mod pool;
 mod rows;
 mod run;
