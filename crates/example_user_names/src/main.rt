@@ -30,8 +30,9 @@ fn note(alloc: Global, word: &str, dot: &Dot) -> Result<Notice, AllocError> {
     }
 }
 
-// The closures of this example.
-fn hooks_of(alloc: Global) -> Result<Hooks, AllocError> {
+// Runs the program with the closures of this example, and gives the status to end with.
+fn run(rt: &HostRuntime) -> Result<u8, AllocError> {
+    let alloc = rt.alloc();
     let names = known_users(alloc)?;
     let fetch: Fetch = Box::new(
         alloc,
@@ -45,12 +46,13 @@ fn hooks_of(alloc: Global) -> Result<Hooks, AllocError> {
         alloc,
         move |_: u32, _: &Topic, _: &Key, dot: &Dot| note(alloc, "went", dot),
     )?;
-    Ok(Hooks::new(fetch, on_join, on_leave))
+    let hooks = Hooks::new(fetch, on_join, on_leave);
+    Ok(run_program_with(rt, &hooks))
 }
 
 fn main(rt: HostRuntime) -> ExitCode {
-    match hooks_of(rt.alloc()) {
-        Ok(hooks) => ExitCode::from(run_program_with(&rt, &hooks)),
+    match run(&rt) {
+        Ok(status) => ExitCode::from(status),
         Err(_) => ExitCode::from(2),
     }
 }

@@ -10,7 +10,7 @@ use std::sync::Wait;
 use tracker_shard::Sub;
 
 // What a shard shows of another node and of a subscriber, the number of its Start, and how many entries it has. What it
-// tells from count 0 on is all that it knows.
+// tells from count 0 on is all that it knows, and behind a cut of its own counts alone.
 #[derive(Clone, Copy, Debug, PartialEq)]
 struct Side {
     status: Status,
@@ -148,7 +148,7 @@ pub(crate) const WANTED: Sides = Sides {
             status: Status::Up,
             top: 2,
             live: 2,
-            told: 2,
+            told: 0,
             waits: Ok(true),
             start: 0,
             entries: 5,
