@@ -1,5 +1,5 @@
 //! A worker's thread: it serves its connections in turns.
-use crate::draining::{Drain, Due, is_due, make_due, set_draining};
+use crate::draining::{Drain, Due, count_anew, have_all_delivered, is_due, make_due, set_draining};
 use crate::server::Server;
 use hook_registry::PresenceHooks;
 use presence_node_hints::{Followed, HintingPort, Noted, Topics, follows};
@@ -374,6 +374,7 @@ impl<A: Lane, B: Lane, C: Lane, D: Lane> Bench<A, B, C, D> {
     fn look_at_journals<R: Wait, H>(&mut self, rt: &R, server: &Server<'_, H, A, B, C, D>) {
         if self.drain.looks_at(self.now) && is_due(rt, server) {
             self.drain.lead();
+            count_anew(server);
             set_draining(server, true);
         }
     }
@@ -394,19 +395,26 @@ impl<A: Lane, B: Lane, C: Lane, D: Lane> Bench<A, B, C, D> {
         true
     }
 
-    // Makes the checkpoints that are due, if this worker is the one that makes them and nothing waits, or that was waited for
-    // long enough. Then all workers read again, and look at all connections.
+    // The checkpoints that are due, if this worker is the one that makes them: once no worker reads, what waited was
+    // delivered, and nothing waits. Behind them all workers read again once each has delivered the fresh states, since a
+    // subscriber that is owed one is told of nothing that comes before it. Neither is waited for without end.
     fn make_checkpoints<R: Wait, H>(&mut self, rt: &R, server: &Server<'_, H, A, B, C, D>) {
-        if !self.drain.leads() {
+        let is_over = self.drain.is_over(self.now);
+        if !self.drain.leads() || !have_all_delivered(server) && !is_over {
             return;
         }
-        let due = make_due(rt, server, self.drain.is_over(self.now));
+        if let Some(due) = self.drain.made() {
+            self.drain.end(self.now, due);
+            set_draining(server, false);
+            server.look();
+            return;
+        }
+        let due = make_due(rt, server, is_over);
         if due == Due::Waits {
             return;
         }
-        self.drain.end(self.now, due);
-        set_draining(server, false);
-        server.look();
+        self.drain.make(due);
+        count_anew(server);
         server.pool.trim(rt, &mut self.seat);
     }
 
@@ -420,6 +428,9 @@ impl<A: Lane, B: Lane, C: Lane, D: Lane> Bench<A, B, C, D> {
         let noted = self.deliver(rt, server);
         self.tell(rt, server, own, noted);
         self.send(false);
+        if let Some(mailbox) = server.mailboxes.get(own) {
+            mailbox.has_drained();
+        }
         self.make_checkpoints(rt, server);
     }
 

@@ -5,6 +5,7 @@ ghost use Rattle.std.specs.Prelude.{◌<◌};
 use crate::server::Server;
 use shard_pool::{Lane, PoolFault};
 use std::sync::Wait;
+use std::sync::atomic::Ordering;
 
 /// A journal with so many entries is due for a checkpoint: three quarters of those that it may have.
 const DUE_ENTRIES: u64 = 196_608;
@@ -12,8 +13,12 @@ const DUE_ENTRIES: u64 = 196_608;
 /// The journals are looked at once in so long, in milliseconds.
 const LOOK_MILLISECONDS: u64 = 5;
 
-/// So long nothing is read at most before a checkpoint is made though something waits, in milliseconds.
+/// So long nothing is read at most before a checkpoint is made though something waits, in milliseconds, and so long at most
+/// behind it, until the fresh states were delivered.
 const MAX_DRAIN_MILLISECONDS: u64 = 100;
+
+/// When a worker has ended so many turns that read nothing, one of them was begun since they are counted.
+const WHOLE_TURNS: u64 = 2;
 
 /// Where memory was refused to a checkpoint the next one is tried so much later, in milliseconds.
 const REST_MILLISECONDS: u64 = 1_000;
@@ -27,6 +32,8 @@ pub(crate) struct Drain {
     since: Option<u64>,
     /// Whether it makes the checkpoint.
     leads: bool,
+    /// What came of the checkpoints that it made, while their fresh states are delivered.
+    made: Option<Due>,
 }
 
 /// What came of a try at the checkpoints that are due.
@@ -47,6 +54,7 @@ impl Drain {
             looks: 0,
             since: None,
             leads: false,
+            made: None,
         }
     }
 
@@ -85,6 +93,7 @@ impl Drain {
     pub fn end(&mut self, now: u64, due: Due) {
         self.since = None;
         self.leads = false;
+        self.made = None;
         if due == Due::Refused {
             self.looks = now.saturating_add(REST_MILLISECONDS);
         }
@@ -95,9 +104,20 @@ impl Drain {
         now.saturating_sub(self.since.unwrap_or(now))
     }
 
-    /// Whether what waits is waited for no longer.
+    /// It made the checkpoints that were due, of which this came.
+    pub fn make(&mut self, due: Due) {
+        self.made = Some(due);
+    }
+
+    /// What came of the checkpoints, where it made them.
+    pub fn made(&self) -> Option<Due> {
+        self.made
+    }
+
+    /// Whether what waits is waited for no longer: the items before the checkpoint, and the states behind it.
     pub fn is_over(&self, now: u64) -> bool {
-        self.lasts(now) >= MAX_DRAIN_MILLISECONDS
+        let parts = if self.made.is_some() { 2 } else { 1 };
+        self.lasts(now) >= parts * MAX_DRAIN_MILLISECONDS
     }
 
     /// Whether the one that makes the checkpoint is waited for no longer.
@@ -128,6 +148,28 @@ pub(crate) fn set_draining<H, A: Lane, B: Lane, C: Lane, D: Lane>(
         mailbox.inbox.set_draining(drains);
         mailbox.bell.ring();
     }
+}
+
+/// From here on the turns that read nothing are counted anew, at each worker.
+pub(crate) fn count_anew<H, A: Lane, B: Lane, C: Lane, D: Lane>(
+    server: &Server<'_, H, A, B, C, D>,
+) {
+    for mailbox in server.mailboxes.iter() {
+        mailbox.drained.store(0, Ordering::SeqCst);
+    }
+}
+
+/// Whether each worker has begun and ended a turn that read nothing since they are counted: what was to be delivered when
+/// the count began was.
+pub(crate) fn have_all_delivered<H, A: Lane, B: Lane, C: Lane, D: Lane>(
+    server: &Server<'_, H, A, B, C, D>,
+) -> bool {
+    for mailbox in server.mailboxes.iter() {
+        if mailbox.drained.load(Ordering::SeqCst) < WHOLE_TURNS {
+            return false;
+        }
+    }
+    true
 }
 
 // Tries the checkpoint of a shard, if it is due: where something waits only if that is waited for no longer.

@@ -12,7 +12,7 @@ use presence_node_sockets::Bell;
 use shard_pool::{Lane, NoGate, Pool};
 use std::alloc::Global;
 use std::net::{Net, TcpListener, TcpStream};
-use std::sync::atomic::{AtomicBool, Ordering};
+use std::sync::atomic::{AtomicBool, AtomicU64, Ordering};
 use std::sync::{Arc, Wait};
 use std::time::Clock;
 
@@ -21,14 +21,22 @@ pub struct Mailbox {
     pub inbox: Inbox,
     /// Whether each connection is to be looked at: a link may have changed any topic.
     pub looks: AtomicBool,
+    /// How many turns that read nothing the worker has ended since they are counted.
+    pub drained: AtomicU64,
     pub bell: Bell,
 }
 
 impl Drop for Mailbox {
     fn drop(self) {
-        let Mailbox { inbox, looks, bell } = self;
+        let Mailbox {
+            inbox,
+            looks,
+            drained,
+            bell,
+        } = self;
         drop(inbox);
         drop(looks);
+        drop(drained);
         drop(bell);
     }
 }
@@ -43,6 +51,11 @@ impl Mailbox {
     /// Whether each connection was to be looked at.
     pub(crate) fn looked(&self) -> bool {
         self.looks.swap(false, Ordering::SeqCst)
+    }
+
+    /// The worker has ended a turn that read nothing.
+    pub(crate) fn has_drained(&self) {
+        let _before = self.drained.fetch_add(1, Ordering::SeqCst);
     }
 
     // Tells its worker of these topics: whether it is to be woken. One that can't be told looks by itself, later.

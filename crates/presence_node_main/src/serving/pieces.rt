@@ -10,7 +10,7 @@ use shard_pool::{Lane, Seat};
 use std::alloc::Global;
 use std::io;
 use std::net::{Net, TcpListener};
-use std::sync::atomic::AtomicBool;
+use std::sync::atomic::{AtomicBool, AtomicU64};
 use tungstenite::{NoMask, WebSocket};
 
 /// The end of the queue that the door gives connections to.
@@ -55,6 +55,7 @@ fn mailbox_of(alloc: Global, watch: &Watch) -> io::Result<Mailbox> {
     Ok(Mailbox {
         inbox: Inbox::new(alloc),
         looks: AtomicBool::new(false),
+        drained: AtomicU64::new(0),
         bell,
     })
 }
