@@ -10,7 +10,12 @@ use names::UserNames;
 use presence_base::{Dot, Key, Topic, ref_text};
 use presence_node_main::run_program_with;
 use std::alloc::{AllocError, Global};
+use std::env::Env;
+use std::net::{Net, TcpListener, TcpStream};
 use std::process::ExitCode;
+use std::sync::Wait;
+use std::thread::Threads;
+use std::time::Clock;
 
 // The users of this example, by the keys that they are tracked under.
 fn known_users(alloc: Global) -> Result<UserNames, AllocError> {
@@ -31,7 +36,19 @@ fn note(alloc: Global, word: &str, dot: &Dot) -> Result<Notice, AllocError> {
 }
 
 // Runs the program with the closures of this example, and gives the status to end with.
-fn run(rt: &HostRuntime) -> Result<u8, AllocError> {
+fn run<R>(rt: &R) -> Result<u8, AllocError>
+where
+    R: Net<Listener = TcpListener, Stream = TcpStream>
+        + Threads
+        + Wait
+        + Clock
+        + Env
+        + Input
+        + Print
+        + Eprint
+        + AllocGlobal
+        + Sync,
+{
     let alloc = rt.alloc();
     let names = known_users(alloc)?;
     let fetch: Fetch = Box::new(
