@@ -1,9 +1,12 @@
 //! The streams of clients: each turn reads a bounded number of bytes, and a stream remembers whether its client takes what
-//! is sent.
+//! is sent, and who is counted while it lasts.
 //!
 //! What its contracts cite: `specs/Budget` says how much a turn may still read behind a read.
 #![tactic(auto)]
 
+pub mod laws;
 mod stream;
+mod tally;
 
 pub use stream::{ClientSocket, ClientStream, TURN_BYTES};
+pub use tally::{Tally, Ticket};

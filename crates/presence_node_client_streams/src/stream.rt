@@ -3,6 +3,7 @@ ghost use Rattle.std.specs.Prelude.{◌≡◌, ◌≤◌, true, false, None};
 ghost use Rattle.presence_node_client_streams.specs.Budget.{Spends};
 ghost use Rattle.presence_node_client_streams.specs.declared.stream.TheConstants.{TURN_BYTES};
 
+use crate::tally::Ticket;
 use std::cell::Cell;
 use std::io;
 use std::io::{ErrorKind, Read, Write};
@@ -24,6 +25,12 @@ pub struct ClientStream<S> {
     blocked: bool,
     /// Since when writes have found none, in milliseconds, if that was noted.
     stalled: Cell<Option<u64>>,
+    /// Among the clients of its address.
+    neighbour: Option<Ticket>,
+    /// Among those that have a place.
+    place: Option<Ticket>,
+    /// Among those that wait for a worker, until one reads it.
+    waiting: Option<Ticket>,
     ghost bounded: { left ≤ TURN_BYTES },
 }
 
@@ -38,8 +45,14 @@ impl<S: Drop> Drop for ClientStream<S> {
             put_off: _,
             blocked: _,
             stalled: _,
+            neighbour,
+            place,
+            waiting,
         } = self;
         drop(stream);
+        drop(neighbour);
+        drop(place);
+        drop(waiting);
     }
 }
 
@@ -62,7 +75,34 @@ impl<S> ClientStream<S> {
             put_off: false,
             blocked: false,
             stalled: Cell::new(None),
+            neighbour: None,
+            place: None,
+            waiting: None,
         }
+    }
+
+    /// It is counted among the clients of its address as long as it lasts.
+    pub fn be_neighbour(&mut self, ticket: Ticket)
+        ensures stream { self.new.stream ≡ self.old.stream }
+        ensures left { self.new.left ≡ self.old.left }
+    {
+        self.neighbour = Some(ticket);
+    }
+
+    /// It is counted among the clients that have a place as long as it lasts.
+    pub fn take_place(&mut self, ticket: Ticket)
+        ensures stream { self.new.stream ≡ self.old.stream }
+        ensures left { self.new.left ≡ self.old.left }
+    {
+        self.place = Some(ticket);
+    }
+
+    /// It is counted among those that wait for a worker until the next read.
+    pub fn wait_for_reader(&mut self, ticket: Ticket)
+        ensures stream { self.new.stream ≡ self.old.stream }
+        ensures left { self.new.left ≡ self.old.left }
+    {
+        self.waiting = Some(ticket);
     }
 
     /// The stream inside.
@@ -131,6 +171,7 @@ impl<S: Read> Read for ClientStream<S> {
         ensures bytes { ReadConsumes (S.remaining self.old.stream) (S.remaining self.new.stream) result buf.new }
         ensures spends { Spends self.old.left self.new.left result }
     {
+        self.waiting = None;
         if self.left == 0 {
             return Err(self.put_off());
         }

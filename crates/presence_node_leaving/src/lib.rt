@@ -6,6 +6,7 @@
 //! `presence_node_workers`'.
 #![tactic(auto)]
 
+pub mod laws;
 mod leaving;
 mod stalling;
 

@@ -1,10 +1,27 @@
-ghost use Rattle.std.specs.Prelude.{◌≡◌, ◌<◌, [], ◌∷◌, length, map, string_bytes, OnOk, IfErr};
+ghost use Rattle.std.specs.Prelude.{◌≡◌, ◌<◌, [], ◌∷◌, false, length, map, string_bytes, OnOk, IfErr};
+ghost use Rattle.presence_node_sending.specs.Passing.{passes as passes_in, is_passing as passing_in};
 ghost use Rattle.presence_node_sending.specs.Sending.{SentAll, Stops};
 
 use std::io::{ErrorKind, Read, Write};
 use tungstenite::{Error, MaskKeys, Message, Utf8Bytes, WebSocket};
 
-// Puts a text in what waits to be sent, without a copy of its own. A stream that would block leaves it there.
+fn passes(kind: ErrorKind) -> bool
+    ensures { result ≡ passes_in kind }
+{
+    matches!(kind, ErrorKind::WouldBlock | ErrorKind::Interrupted)
+}
+
+/// Whether the stream has nothing, or no room, for now, or the call was interrupted: it only has to be made once more.
+pub fn is_passing(error: &Error) -> bool
+    ensures { result ≡ passing_in error.now }
+{
+    match error {
+        Error::Io(cause) => passes(cause.kind()),
+        _ => false,
+    }
+}
+
+// Puts a text in what waits to be sent, without a copy of its own. A stream that takes none for now leaves it there.
 #[tactic(auto, using(crate::proofs::Sendings::wrote, crate::proofs::Stopping::stops_at, crate::proofs::Stopping::stops_for_memory))]
 fn queue_text<S: Read + Write + Drop, K: MaskKeys + Drop>(
     socket: &mut WebSocket<S, K>,
@@ -12,25 +29,27 @@ fn queue_text<S: Read + Write + Drop, K: MaskKeys + Drop>(
 ) -> Result<(), Error>
     ensures sent { OnOk result (SentAll S.contents socket.old socket.new (string_bytes text ∷ [])) }
     ensures stops { IfErr result (Stops S.contents socket.old socket.new (string_bytes text ∷ [])) }
+    ensures lasts { IfErr result (λ e. passing_in e ≡ false) }
 {
     let Ok(words) = Utf8Bytes::from_string(text) else {
         return Err(Error::OutOfMemory);
     };
     match socket.write(Message::Text(words)) {
         Ok(()) => Ok(()),
-        Err(Error::Io(cause)) if cause.kind() == ErrorKind::WouldBlock => Ok(()),
+        Err(error) if is_passing(&error) => Ok(()),
         Err(error) => Err(error),
     }
 }
 
 /// Puts texts in what waits to be sent, in their order. Some of what waits goes out where it has
-/// grown to the socket's `write_buffer_size`; a stream that would block is no error.
+/// grown to the socket's `write_buffer_size`; a stream that takes none for now is no error.
 pub fn queue_all<S: Read + Write + Drop, K: MaskKeys + Drop>(
     socket: &mut WebSocket<S, K>,
     texts: Vec<String>,
 ) -> Result<(), Error>
     ensures sent { OnOk result (SentAll S.contents socket.old socket.new (map string_bytes texts.items)) }
     ensures stops { IfErr result (Stops S.contents socket.old socket.new (map string_bytes texts.items)) }
+    ensures lasts { IfErr result (λ e. passing_in e ≡ false) }
 {
     for text in texts {
         match queue_text(socket, text) {

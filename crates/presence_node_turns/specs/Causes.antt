@@ -7,7 +7,7 @@ use Rattle.phx_message.specs.declared.message.MessageFault.TheVariants as refusa
 use Rattle.tungstenite.specs.declared.error.Error.{Error}
 use Rattle.tungstenite.specs.declared.error.Error.TheVariants as errors
 use Rattle.presence_node_turns.specs.declared.cause.Cause.{Cause}
-use Rattle.presence_node_turns.specs.declared.cause.Cause.TheVariants.{Closed, Silent, Binary, Fault, Stream, Stopping}
+use Rattle.presence_node_turns.specs.declared.cause.Cause.TheVariants.{Closed, Silent, Binary, Fault, Full, Stream, Stopping}
 
 -- a text that is too long, and one that is no message
 abbrev pub refusal_code : MessageFault → ℕ
@@ -33,6 +33,7 @@ code_of Closed = None
 code_of Silent = Some 1000
 code_of Binary = Some 1003
 code_of (Fault fault) = Some (fault_code fault)
+code_of Full = Some 1011
 code_of Stream = None
 code_of Stopping = Some 1001
 
@@ -41,4 +42,5 @@ abbrev pub cause_of : Error → Cause
 cause_of (errors.Capacity over) = Fault (faults.BadMessage refusals.TooLong)
 cause_of errors.Utf8 = Fault (faults.BadMessage refusals.NotJson)
 cause_of errors.OutOfMemory = Fault faults.OutOfMemory
+cause_of errors.WriteBufferFull = Full
 cause_of _ = Stream

@@ -1,6 +1,6 @@
 -- What one read of a connection gave.
-use Rattle.std.specs.Prelude.{◌≡◌, ℕ, List, Bool, true, false, Option, Result, Ok, Err}
-use Rattle.tungstenite.specs.Failure.{IsIo}
+use Rattle.std.specs.Prelude.{◌≡◌, ℕ, List, Bool, true, false, if◌then◌else◌, Option, Result, Ok, Err}
+use Rattle.presence_node_sending.specs.Passing.{is_passing}
 use Rattle.tungstenite.specs.Socket.{Socket, Reads, content_of}
 use Rattle.tungstenite.specs.declared.error.Error.{Error}
 use Rattle.tungstenite.specs.declared.message.Message.{Message}
@@ -17,22 +17,19 @@ heard_in (ping bytes) = Sign
 heard_in (pong bytes) = Sign
 heard_in (close frame) = Ends Closed
 
--- A stream that fails may only have nothing, and any other error ends the connection for its cause.
-abbrev pub FailsAs : Error → Heard → Type 0
-FailsAs e (Text words) = ⊥
-FailsAs e Sign = ⊥
-FailsAs e Nothing = IsIo e
-FailsAs e (Ends cause) = cause ≡ cause_of e
+-- A read that would block or was interrupted has found nothing, and any other error ends the connection for its cause.
+abbrev pub heard_of_error : Error → Heard
+heard_of_error e = if is_passing e then Nothing else Ends (cause_of e)
 
-abbrev pub Tells : Result Message Error → Heard → Type 0
-Tells (Ok message) heard = heard ≡ heard_in (content_of message)
-Tells (Err e) heard = FailsAs e heard
+abbrev pub heard_of : Result Message Error → Heard
+heard_of (Ok message) = heard_in (content_of message)
+heard_of (Err e) = heard_of_error e
 
 -- A read of the socket gave this.
 pub record Hears {S : Type 0} (remaining : S → Option (List ℕ)) (old new : Socket S) (heard : Heard) : Type 0 where
   pub read : Result Message Error
   pub reads : Reads remaining old new read
-  pub tells : Tells read heard
+  pub tells : heard ≡ heard_of read
 
 -- whether it is a message that the connection lives by
 abbrev pub is_message : Heard → Bool

@@ -1,5 +1,5 @@
 -- One turn of a connection: what was read, what its session said to that, and what went out.
-use Rattle.std.specs.Prelude.{◌≡◌, ◌⊎◌, ◌+◌, ℕ, Bool, true, false, ◌||◌, if◌then◌else◌, leb, List, [], vec_len, IfOk, Option, Some, None, Result, Ok, Err, String, Vec}
+use Rattle.std.specs.Prelude.{◌≡◌, ◌⊎◌, ◌+◌, ℕ, Bool, true, false, ◌||◌, if◌then◌else◌, leb, List, [], vec_len, IfOk, IfErr, is_ok, Option, Some, None, Result, Ok, Err, String, Vec}
 use Rattle.std.specs.Global.{Global}
 use Rattle.channel_session.specs.Delivery.{DeliveredBy}
 use Rattle.channel_session.specs.Ending.{EndedBy}
@@ -13,6 +13,7 @@ use Rattle.hook_registry.specs.declared.hooks.PresenceHooks.{Ghosts}
 use Rattle.phx_message.specs.Reading.{decoded}
 use Rattle.phx_message.specs.declared.message.Message.{Message}
 use Rattle.phx_message.specs.declared.message.TheConstants.Limits as the_limits
+use Rattle.presence_node_sending.specs.Passing.{is_passing}
 use Rattle.presence_node_sending.specs.Sending.{SentAll, Stops}
 use Rattle.tungstenite.specs.Failure.{IsIo, WriteFails}
 use Rattle.tungstenite.specs.Socket.{Socket, Flushed, Writes}
@@ -68,7 +69,8 @@ module _ {S : Type 0} (contents : S → Option (List ℕ)) where
   -- The frames of the texts go out, in their order, and nothing else; or the connection ends since one could not be written, or since the session has a fault.
   abbrev pub GoOut : Socket S → Socket S → Result (List (List ℕ)) SessionFault → Result (Unit {0}) Cause → Type 0
   GoOut old new (Ok texts) (Ok u) = SentAll contents old new texts
-  GoOut old new (Ok texts) (Err cause) = (e : Error) × (cause ≡ cause_of e) × Stops contents old new texts e
+  GoOut old new (Ok texts) (Err cause) =
+      (e : Error) × (cause ≡ cause_of e) × (is_passing e ≡ false) × Stops contents old new texts e
   GoOut old new (Err fault) (Ok u) = ⊥
   GoOut old new (Err fault) (Err cause) = (cause ≡ Fault fault) × (new ≡ old)
 
@@ -229,13 +231,21 @@ broken_off Open = Ending Stream
 broken_off (Ending cause) = Ending cause
 broken_off (Over cause) = Over cause
 
+-- What a flush leaves of a stage. A stream that takes nothing for now is no reason to end.
+abbrev pub behind_flush : Stage → Result (Unit {0}) Error → Stage
+behind_flush stage (Ok u) = stage
+behind_flush stage (Err e) = if is_passing e then stage else broken_off stage
+
 module _ {S K : Type 0} (contents : S → Option (List ℕ)) where
-  -- Some of what waits goes to the stream, and all of it where that is told. An open connection may end since the stream failed, and then not all went.
+  -- Some of what waits goes to the stream, and all of it where that is told. An open connection ends where the stream has failed.
   pub record Flushes (old new : Connection S K) (all : Bool) : Type 0 where
+    pub answer : Result (Unit {0}) Error
+    pub fails : IfErr answer IsIo
     pub flushed : Flushed contents old.socket new.socket
+    pub told : all ≡ is_ok answer
     pub nothing_waits : all ≡ true → new.socket.output ≡ []
     pub others : new ≡ record old { socket = new.socket; stage = new.stage }
-    pub stage : (new.stage ≡ old.stage) ⊎ ((all ≡ false) × (new.stage ≡ broken_off old.stage))
+    pub stage : new.stage ≡ behind_flush old.stage answer
 
 -- ---- stopping
 

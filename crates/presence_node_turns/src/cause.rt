@@ -19,8 +19,11 @@ pub enum Cause {
     /// The session answered nothing.
     #[error("{0}")]
     Fault(SessionFault),
-    /// The stream failed or broke the protocol, or more would have waited to be sent than may.
-    #[error("the stream failed, or its client reads too slowly")]
+    /// More would have waited to be sent than may: a text was longer, or the client reads too slowly.
+    #[error("more would have waited to be sent than may")]
+    Full,
+    /// The stream failed or broke the protocol.
+    #[error("the stream failed")]
     Stream,
     #[error("the server stops")]
     Stopping,
@@ -64,6 +67,7 @@ pub fn close_code(cause: Cause) -> Option<CloseCode>
         Cause::Silent => Some(CloseCode::Normal),
         Cause::Binary => Some(CloseCode::Unsupported),
         Cause::Fault(fault) => Some(fault_close(fault)),
+        Cause::Full => Some(CloseCode::Error),
         Cause::Stopping => Some(CloseCode::Away),
     }
 }
@@ -78,6 +82,7 @@ pub(crate) fn cause_of(error: &tungstenite::Error) -> Cause
         }
         tungstenite::Error::Utf8 => Cause::Fault(SessionFault::BadMessage(MessageFault::NotJson)),
         tungstenite::Error::OutOfMemory => Cause::Fault(SessionFault::OutOfMemory),
+        tungstenite::Error::WriteBufferFull => Cause::Full,
         _ => Cause::Stream,
     }
 }

@@ -1,18 +1,18 @@
-ghost use Rattle.std.specs.Prelude.{Some, ◌≡◌, ◌+◌, ◌≤◌, ◌^◌, [], leb, false, map, string_bytes, None, IfOk};
+ghost use Rattle.std.specs.Prelude.{is_ok, Some, ◌≡◌, ◌+◌, ◌≤◌, ◌^◌, [], leb, false, map, string_bytes, None, IfOk};
 ghost use Rattle.phx_message.specs.Reading.{decoded};
 ghost use Rattle.tungstenite.specs.Socket.{Flushed};
 ghost use Rattle.presence_node_turns.specs.Causes.{code_of};
 ghost use Rattle.presence_node_turns.specs.Hearing.{is_message};
-ghost use Rattle.presence_node_turns.specs.Turning.{around, AnswersText, ClosesBy, Continues, Deals, Delivers, broken_off, EndsSession, GoOut, Responds, Serves, Flushes, StopsServing, TakesDelivery, TakesTurn, Turns, patience, progress_of as progress_in};
+ghost use Rattle.presence_node_turns.specs.Turning.{around, AnswersText, ClosesBy, Continues, Deals, Delivers, behind_flush, broken_off, EndsSession, GoOut, Responds, Serves, Flushes, StopsServing, TakesDelivery, TakesTurn, Turns, patience, progress_of as progress_in};
 
 use crate::cause::{Cause, cause_of, close_code};
 use crate::hearing::{Heard, hear};
 use channel_session::{Delivery, Port, Session, SessionFault, deliver, end, run_text};
 use hook_registry::{PresenceHooks, Routes};
 use phx_message::Limits;
-use presence_node_sending::queue_all;
+use presence_node_sending::{is_passing, queue_all};
 use std::alloc::Global;
-use std::io::{ErrorKind, Read, Write};
+use std::io::{Read, Write};
 use tungstenite::{CloseFrame, Error, MaskKeys, Utf8Bytes, WebSocket, WebSocketConfig};
 
 /// How long a connection may be without a message, in milliseconds.
@@ -96,14 +96,6 @@ fn progress_of(came: bool) -> Progress
     ensures { result ≡ progress_in came }
 {
     if came { Progress::Busy } else { Progress::Idle }
-}
-
-// Whether a flush only has to be tried again.
-fn is_passing(error: &Error) -> bool {
-    match error {
-        Error::Io(cause) => matches!(cause.kind(), ErrorKind::WouldBlock | ErrorKind::Interrupted),
-        _ => false,
-    }
 }
 
 impl<S: Read + Write + Drop, K: MaskKeys + Drop> Connection<S, K> {
@@ -374,6 +366,22 @@ impl<S: Read + Write + Drop, K: MaskKeys + Drop> Connection<S, K> {
         }
     }
 
+    // Does what a flush asks for: whether all went.
+    fn flushed(&mut self, answer: &Result<(), Error>) -> bool
+        ensures told { result ≡ is_ok answer.now }
+        ensures stage { self.new ≡ record self.old { stage = behind_flush self.old.stage answer.now } }
+    {
+        match answer {
+            Ok(()) => true,
+            Err(error) => {
+                if !is_passing(error) {
+                    self.break_off();
+                }
+                false
+            }
+        }
+    }
+
     /// Hands what waits to be sent to the stream: whether all of it went.
     ///
     /// What a stream that would block leaves goes with a later flush. Where the stream fails, an
@@ -381,15 +389,10 @@ impl<S: Read + Write + Drop, K: MaskKeys + Drop> Connection<S, K> {
     pub fn flush(&mut self) -> bool
         ensures { Flushes S.contents self.old self.new result }
     {
-        match self.socket.flush() {
-            Ok(()) => true,
-            Err(error) if is_passing(&error) => false,
-            Err(_) => {
-                self.break_off();
-                false
-            }
-        }
+        let answer = self.socket.flush();
+        self.flushed(&answer)
     }
+
     /// Ends an open connection since the server stops: its client is told by a close frame, which
     /// waits to be flushed, and its session's end is asked for from its next turn on.
     pub fn stop(&mut self)

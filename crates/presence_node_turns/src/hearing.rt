@@ -1,8 +1,9 @@
-ghost use Rattle.presence_node_turns.specs.Hearing.{FailsAs, Hears, is_message};
+ghost use Rattle.presence_node_turns.specs.Hearing.{Hears, heard_of_error as heard_in_error, is_message};
 ghost use Rattle.std.specs.Prelude.{◌≡◌};
 
 use crate::cause::{Cause, cause_of};
-use std::io::{ErrorKind, Read, Write};
+use presence_node_sending::is_passing;
+use std::io::{Read, Write};
 use tungstenite::{Error, MaskKeys, Message, Utf8Bytes, WebSocket};
 
 /// What one read of a connection gave.
@@ -26,16 +27,14 @@ impl Heard {
     }
 }
 
-// A stream that would block or was interrupted has nothing, and any other error is a cause.
+// What a read gave that failed.
 fn heard_of_error(error: &Error) -> Heard
-    ensures { FailsAs error.now result }
+    ensures { result ≡ heard_in_error error.now }
 {
-    match error {
-        Error::Io(cause) => match cause.kind() {
-            ErrorKind::WouldBlock | ErrorKind::Interrupted => Heard::Nothing,
-            _ => Heard::Ends(Cause::Stream),
-        },
-        _ => Heard::Ends(cause_of(error)),
+    if is_passing(error) {
+        Heard::Nothing
+    } else {
+        Heard::Ends(cause_of(error))
     }
 }
 

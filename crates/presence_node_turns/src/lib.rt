@@ -7,6 +7,7 @@
 mod cause;
 mod connection;
 mod hearing;
+pub mod laws;
 
 pub use cause::{Cause, close_code};
 pub use channel_session::Port;

@@ -6,6 +6,7 @@
 #![tactic(auto)]
 
 mod client;
+pub mod laws;
 mod worker;
 
 pub use client::Client;
