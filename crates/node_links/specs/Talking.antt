@@ -72,67 +72,6 @@ Takes left step shards now old new r = (read : Result (Option Line) LinkFault)
     × ReadsLine old.peer.shards (left old.stream) (left new.stream) read
     × HearsRead step shards now read old.peer new.peer old.port new.port r
 
--- the line that is answered, where one is, goes out
-abbrev pub WritesAnswer : {S : Type 0} → (S → Known) → Option Line → S → S → Result Unit LinkFault → Type 0
-WritesAnswer out None s s' r = (s' ≡ s) × (r ≡ Ok tt)
-WritesAnswer out (Some line) s s' r = WritesLine line (out s) (out s') r
-
-abbrev pub AnswersTaken : {S P : Type 0} → (S → Known) → Result (Option Act) DialFault → Lent S P → Lent S P
-    → Result Bool DialFault → Type 0
-AnswersTaken out (Ok None) old new r = (new ≡ old) × (r ≡ Ok false)
-AnswersTaken out (Ok (Some act)) old new r = (w : Result Unit LinkFault)
-    × WritesAnswer out act.answer old.stream new.stream w
-    × (new ≡ at new.stream old) × (r ≡ linked true w)
-AnswersTaken out (Err f) old new r = (new ≡ old) × (r ≡ Err f)
-
--- At the accepting end: one line is read and acted upon, and its answer goes out.
-abbrev pub Accepts : {S P : Type 0} → (left out : S → Known) → Steps P → (P → ℕ) → ℕ → Lent S P → Lent S P
-    → Result Bool DialFault → Type 0
-Accepts {S} {P} left out step shards now old new r = (mid : Lent S P) × (taken : Result (Option Act) DialFault)
-    × Takes left step shards now old mid taken × AnswersTaken out taken mid new r
-
-abbrev pub AnswersHeard : {S P : Type 0} → (S → Known) → Result Act DialFault → Lent S P → Lent S P
-    → Result Unit DialFault → Type 0
-AnswersHeard out (Ok act) old new r = (w : Result Unit LinkFault)
-    × WritesAnswer out act.answer old.stream new.stream w
-    × (new ≡ at new.stream old) × (r ≡ linked tt w)
-AnswersHeard out (Err f) old new r = (new ≡ old) × (r ≡ Err f)
-
--- The same of a line that was read before: it is acted upon, and its answer goes out.
-abbrev pub AnswersLine : {S P : Type 0} → (S → Known) → Steps P → (P → ℕ) → ℕ → Line → Lent S P → Lent S P
-    → Result Unit DialFault → Type 0
-AnswersLine {S} {P} out step shards now line old new r = (p : PeerValue) × (q : P) × (act : Result Act DialFault)
-    × Hears step shards now line old.peer p old.port q act × AnswersHeard out act (lent old.stream p q) new r
-
--- a beat without its delta
-abbrev pub bare : Line → Option Line
-bare (lines_are.Beat k r c t) = Some (lines_are.Beat k r c None)
-bare _ = None
-
-abbrev pub WritesBare : {S : Type 0} → (S → Known) → Option Line → S → S → Result Unit LinkFault → Type 0
-WritesBare out None s s' r = (s' ≡ s) × (r ≡ Err LineTooLong)
-WritesBare out (Some line) s s' r = WritesLine line (out s) (out s') r
-
-abbrev pub WritesAgain : {S : Type 0} → (S → Known) → Line → Result Unit LinkFault → S → S → Result Unit LinkFault
-    → Type 0
-WritesAgain out line (Err LineTooLong) s s' r = WritesBare out (bare line) s s' r
-WritesAgain out line w s s' r = (s' ≡ s) × (r ≡ w)
-
--- the line goes out; of a beat that is too long, the beat without its delta
-abbrev pub WritesGiven : {S : Type 0} → (S → Known) → Line → S → S → Result Unit LinkFault → Type 0
-WritesGiven {S} out line s s' r = (mid : S) × (w : Result Unit LinkFault) × WritesLine line (out s) (out mid) w
-    × WritesAgain out line w mid s' r
-
--- whether the own incarnation is gone at the other end
-abbrev pub outcome_of : Bool → Outcome
-outcome_of true = GivenUp
-outcome_of false = Done
-
-abbrev pub ends_with : Result (Option Act) DialFault → Result Outcome DialFault
-ends_with (Ok None) = Ok Done
-ends_with (Ok (Some act)) = Ok (outcome_of act.given_up)
-ends_with (Err f) = Err f
-
 -- what fits no line
 abbrev pub untold : ℕ → ToldValue → UntoldValue
 untold k t = record { shard = k; rows = length t.live; extras = length t.extras }
@@ -166,6 +105,76 @@ abbrev pub WritesTold : {S P : Type 0} → (S → Known) → Steps P → ℕ →
     → Result (Option UntoldValue) DialFault → Type 0
 WritesTold {S} out step k t s s' q q' r = (mid : S) × (w : Result Unit LinkFault)
     × WritesLine (lines_are.Told k t) (out s) (out mid) w × WritesElse out step k w mid s' q q' r
+
+-- once it was written, whatever stays untold
+abbrev pub done : {A B : Type 0} → B → Result A DialFault → Result B DialFault
+done x (Ok written) = Ok x
+done x (Err f) = Err f
+
+-- The line that is answered, where one is, goes out. In the place of a told value that is too long all of the shard does,
+-- and where that is too long as well nothing does: the link goes on.
+abbrev pub WritesAnswer : {S P : Type 0} → (S → Known) → Steps P → Option Line → S → S → P → P → Result Unit DialFault
+    → Type 0
+WritesAnswer out step None s s' q q' r = (s' ≡ s) × (q' ≡ q) × (r ≡ Ok tt)
+WritesAnswer out step (Some (lines_are.Told k t)) s s' q q' r = (w : Result (Option UntoldValue) DialFault)
+    × WritesTold out step k t s s' q q' w × (r ≡ done tt w)
+WritesAnswer out step (Some line) s s' q q' r = (w : Result Unit LinkFault) × WritesLine line (out s) (out s') w
+    × (q' ≡ q) × (r ≡ linked tt w)
+
+abbrev pub AnswersTaken : {S P : Type 0} → (S → Known) → Steps P → Result (Option Act) DialFault → Lent S P → Lent S P
+    → Result Bool DialFault → Type 0
+AnswersTaken out step (Ok None) old new r = (new ≡ old) × (r ≡ Ok false)
+AnswersTaken {S} {P} out step (Ok (Some act)) old new r = (w : Result Unit DialFault)
+    × WritesAnswer out step act.answer old.stream new.stream old.port new.port w
+    × (new.peer ≡ old.peer) × (r ≡ done true w)
+AnswersTaken out step (Err f) old new r = (new ≡ old) × (r ≡ Err f)
+
+-- At the accepting end: one line is read and acted upon, and its answer goes out.
+abbrev pub Accepts : {S P : Type 0} → (left out : S → Known) → Steps P → (P → ℕ) → ℕ → Lent S P → Lent S P
+    → Result Bool DialFault → Type 0
+Accepts {S} {P} left out step shards now old new r = (mid : Lent S P) × (taken : Result (Option Act) DialFault)
+    × Takes left step shards now old mid taken × AnswersTaken out step taken mid new r
+
+abbrev pub AnswersHeard : {S P : Type 0} → (S → Known) → Steps P → Result Act DialFault → Lent S P → Lent S P
+    → Result Unit DialFault → Type 0
+AnswersHeard out step (Ok act) old new r =
+    WritesAnswer out step act.answer old.stream new.stream old.port new.port r × (new.peer ≡ old.peer)
+AnswersHeard out step (Err f) old new r = (new ≡ old) × (r ≡ Err f)
+
+-- The same of a line that was read before: it is acted upon, and its answer goes out.
+abbrev pub AnswersLine : {S P : Type 0} → (S → Known) → Steps P → (P → ℕ) → ℕ → Line → Lent S P → Lent S P
+    → Result Unit DialFault → Type 0
+AnswersLine {S} {P} out step shards now line old new r = (p : PeerValue) × (q : P) × (act : Result Act DialFault)
+    × Hears step shards now line old.peer p old.port q act × AnswersHeard out step act (lent old.stream p q) new r
+
+-- a beat without its delta
+abbrev pub bare : Line → Option Line
+bare (lines_are.Beat k r c t) = Some (lines_are.Beat k r c None)
+bare _ = None
+
+abbrev pub WritesBare : {S : Type 0} → (S → Known) → Option Line → S → S → Result Unit LinkFault → Type 0
+WritesBare out None s s' r = (s' ≡ s) × (r ≡ Err LineTooLong)
+WritesBare out (Some line) s s' r = WritesLine line (out s) (out s') r
+
+abbrev pub WritesAgain : {S : Type 0} → (S → Known) → Line → Result Unit LinkFault → S → S → Result Unit LinkFault
+    → Type 0
+WritesAgain out line (Err LineTooLong) s s' r = WritesBare out (bare line) s s' r
+WritesAgain out line w s s' r = (s' ≡ s) × (r ≡ w)
+
+-- the line goes out; of a beat that is too long, the beat without its delta
+abbrev pub WritesGiven : {S : Type 0} → (S → Known) → Line → S → S → Result Unit LinkFault → Type 0
+WritesGiven {S} out line s s' r = (mid : S) × (w : Result Unit LinkFault) × WritesLine line (out s) (out mid) w
+    × WritesAgain out line w mid s' r
+
+-- whether the own incarnation is gone at the other end
+abbrev pub outcome_of : Bool → Outcome
+outcome_of true = GivenUp
+outcome_of false = Done
+
+abbrev pub ends_with : Result (Option Act) DialFault → Result Outcome DialFault
+ends_with (Ok None) = Ok Done
+ends_with (Ok (Some act)) = Ok (outcome_of act.given_up)
+ends_with (Err f) = Err f
 
 -- behind a told line that went out one line more is read and heard
 abbrev pub TakesMore : {S P : Type 0} → (S → Known) → Steps P → (P → ℕ) → ℕ → Result (Option UntoldValue) DialFault

@@ -1,26 +1,39 @@
 ghost use Rattle.node_links.specs.Talking.{WritesAnswer, Accepts, AnswersLine, lent};
 
+use crate::dialling::write_told;
 use crate::fault::DialFault;
 use crate::hearing::{hear, take_one};
 use node_links_acts::LinkPort;
-use node_links_lines::{Line, LinkFault};
+use node_links_lines::Line;
 use node_links_peer::Peer;
 use node_links_streams::write_line;
 use std::alloc::Global;
 use std::io::{Read, Write};
 
-// The line that is answered, where one is.
-fn answer<W: Write>(alloc: Global, writer: &mut W, line: Option<Line>) -> Result<(), LinkFault>
-    ensures { WritesAnswer W.contents line writer.old writer.new result }
+// The line that is answered, where one is. A told value that is too long closes no link.
+fn answer<W: Write, P: LinkPort>(
+    alloc: Global,
+    writer: &mut W,
+    port: &mut P,
+    line: Option<Line>,
+) -> Result<(), DialFault>
+    ensures { WritesAnswer W.contents P.step line writer.old writer.new port.old port.new result }
 {
     match line {
-        Some(line) => write_line(alloc, writer, &line),
+        Some(Line::Told { shard, told }) => {
+            let _untold = write_told(alloc, writer, port, shard, told)?;
+            Ok(())
+        }
+        Some(line) => Ok(write_line(alloc, writer, &line)?),
         None => Ok(()),
     }
 }
 
 /// One exchange at the end that was dialled: reads one line, does what it asks for at this time (in
 /// milliseconds), and writes what is answered. False at an end between lines.
+///
+/// In place of a told line that is too long all that is known of the shard goes out; where that is too long
+/// as well nothing does.
 ///
 /// After a fault the link is to be closed. Where it came of reading, or the line was refused, peer and
 /// port are as they were; where the port refused, its calls so far stand, and nothing is written; where
@@ -37,7 +50,7 @@ pub fn accept_one<S: Read + Write, P: LinkPort>(
 {
     match take_one(alloc, stream, peer, port, now)? {
         Some(act) => {
-            answer(alloc, stream, act.answer)?;
+            answer(alloc, stream, port, act.answer)?;
             Ok(true)
         },
         None => Ok(false),
@@ -58,6 +71,5 @@ pub fn answer_line<W: Write, P: LinkPort>(
         (lent writer.old peer.old port.old) (lent writer.new peer.new port.new) result }
 {
     let act = hear(alloc, peer, port, line, now)?;
-    answer(alloc, writer, act.answer)?;
-    Ok(())
+    answer(alloc, writer, port, act.answer)
 }

@@ -116,7 +116,7 @@ fn write_all<W: Write, P: LinkPort>(
 }
 
 // What is told of the shard goes out, or where that is too long all that is known of it; else that is what stays untold.
-fn write_told<W: Write, P: LinkPort>(
+pub(crate) fn write_told<W: Write, P: LinkPort>(
     alloc: Global,
     writer: &mut W,
     port: &mut P,

@@ -1,6 +1,9 @@
 -- A port over a pool: the call of the pool that each question of a link is, and what a period asks of a shard.
-use Rattle.std.specs.Prelude.{◌≡◌, ◌⊎◌, ◌<◌, ◌==◌, ℕ, List, Option, Some, None, cond, Result, Ok, Err, IfErr}
+use Rattle.std.specs.Prelude.{◌≡◌, ◌⊎◌, ◌<◌, ◌==◌, ◌&&◌, ◌||◌, Bool, nat_lt, ℕ, List, Option, Some, None, cond, Result, Ok, Err, IfErr}
+use Rattle.std.specs.List.{list_any}
+use Rattle.presence_base.specs.declared.dots.Dot.{Dot}
 use Rattle.presence_base.specs.declared.dots.Replica.{Replica}
+use Rattle.presence_base.specs.Order.{same_replica}
 use Rattle.orswot_core_told.specs.Telling.{ToldValue}
 use Rattle.delta_range.specs.Deltas.{DeltaValue, telling}
 use Rattle.replica_status.specs.declared.status.Status.{Status}
@@ -76,6 +79,23 @@ shard_in (full s) = s
 -- this was asked of the pool and this answered
 abbrev pub LinkStep : List ℕ → ℕ → (q : Ask) → Answer q → Type 0
 LinkStep node shards q a = HasNoShard shards (shard_in q) a ⊎ Asked node q a
+
+-- a range, or a dot, of this replica that goes above a count
+abbrev pub range_above : Replica → ℕ → Replica × ℕ × ℕ → Bool
+range_above r n g = same_replica g.0 r && nat_lt n g.2
+
+abbrev pub dot_above : Replica → ℕ → Dot → Bool
+dot_above r n d = same_replica d.replica r && nat_lt n d.count
+
+abbrev pub ranges_above : Replica → ℕ → List (Replica × ℕ × ℕ) → Bool
+ranges_above r n gs = list_any (range_above r n) gs
+
+abbrev pub dots_above : Replica → ℕ → List Dot → Bool
+dots_above r n ds = list_any (dot_above r n) ds
+
+-- counts of this replica above a count are told
+abbrev pub tells_above : Replica → ℕ → ToldValue → Bool
+tells_above r n t = ranges_above r n t.ranges || dots_above r n t.extras
 
 -- ---- a period
 

@@ -4,6 +4,7 @@
 //! ticker asks of a shard; `specs/Fitting` what a beat tells that fits a line.
 #![tactic(auto)]
 
+mod above;
 mod beats;
 mod fault;
 mod fitting;

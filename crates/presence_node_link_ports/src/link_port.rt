@@ -1,6 +1,7 @@
 ghost use Rattle.std.specs.Prelude.{◌≡◌, true, Err};
 ghost use Rattle.shard_pool.specs.ShardFault.TheVariants.{JournalFull};
 
+use crate::above::tells_above;
 use crate::fault::{is_full, told};
 use node_links_acts::{ActFault, LinkPort};
 use orswot_core_told::Told;
@@ -20,6 +21,12 @@ pub struct PoolLinkPort<'a, R: Wait, G: Gate, A: Lane, B: Lane, C: Lane, D: Lane
     /// Whether the replica of the last status was shown.
     is_up: bool,
     has_changed: bool,
+    /// Whether the other node was told something, or was to be.
+    has_told: bool,
+    /// The node's own replica, where it is looked for in what is told.
+    own: Option<Replica>,
+    /// Whether something was told of the own replica that it never did.
+    has_own_counts: bool,
     ghost all: { shards ≡ pool.now.shards },
 }
 
@@ -57,12 +64,43 @@ impl<'a, R: Wait, G: Gate, A: Lane, B: Lane, C: Lane, D: Lane> PoolLinkPort<'a, 
             shards,
             is_up: false,
             has_changed: false,
+            has_told: false,
+            own: None,
+            has_own_counts: false,
         }
     }
 
     /// Whether a call may have changed what clients are shown. It is a hint.
     pub fn has_changed(&self) -> bool {
         self.has_changed
+    }
+
+    /// Whether the other node asked to be told something.
+    pub fn has_told(&self) -> bool {
+        self.has_told
+    }
+
+    /// From now on what is told of this replica, the node's own, is looked at.
+    pub fn looks_for(&mut self, own: Replica)
+        ensures pool { self.new.pool ≡ self.old.pool }
+    {
+        self.own = Some(own);
+    }
+
+    // Whether counts of the node's own replica are told that the shard doesn't have.
+    fn tells_own(&self, shard: u32, told: &Told) -> bool {
+        if shard >= self.shards {
+            return false;
+        }
+        match &self.own {
+            Some(own) => tells_above(own, self.pool.top(self.rt, shard, own), told),
+            None => false,
+        }
+    }
+
+    /// Whether the other node told of counts of this node's own incarnation that it never made.
+    pub fn has_own_counts(&self) -> bool {
+        self.has_own_counts
     }
 
     // Whether the call found the shard's journal full and there is room now, so that it is worth another try.
@@ -126,6 +164,7 @@ impl<'a, R: Wait, G: Gate, A: Lane, B: Lane, C: Lane, D: Lane> LinkPort
 
     fn merge(&mut self, alloc: Global, shard: u32, told: &Told) -> Result<(), ActFault> {
         self.has_changed = true;
+        self.has_own_counts = self.has_own_counts || self.tells_own(shard, told);
         let news = told;
         tried!(
             self,
@@ -154,6 +193,7 @@ impl<'a, R: Wait, G: Gate, A: Lane, B: Lane, C: Lane, D: Lane> LinkPort
     }
 
     fn told_from(&mut self, alloc: Global, shard: u32, from: u64) -> Result<Told, ActFault> {
+        self.has_told = true;
         if shard >= self.shards {
             return Err(ActFault::ShardFull);
         }
@@ -161,6 +201,7 @@ impl<'a, R: Wait, G: Gate, A: Lane, B: Lane, C: Lane, D: Lane> LinkPort
     }
 
     fn full(&mut self, alloc: Global, shard: u32) -> Result<Told, ActFault> {
+        self.has_told = true;
         if shard >= self.shards {
             return Err(ActFault::ShardFull);
         }

@@ -1,4 +1,5 @@
-//! The streams of links between nodes: sockets that are given up after a silence, or once the links are to end; and the
+//! The streams of links between nodes: sockets that are given up after a silence, where a line
+//! takes too long, or once they are to end; and the
 //! times by which their threads go.
 //!
 //! Of sockets, clocks and waits no contract speaks. What its contracts cite: `specs/Ticker` has by how much the time that
@@ -10,5 +11,5 @@ mod stream;
 mod ticker;
 
 pub use stopping::{Stopping, time_behind};
-pub use stream::LinkStream;
+pub use stream::{HELLO_MILLISECONDS, LINE_MILLISECONDS, LinkStream, MAX_HELLO_BYTES};
 pub use ticker::Ticker;

@@ -19,11 +19,13 @@ use Rattle.presence_node_link_words.specs.contracts.end.LinkEnd as LinkEnd
 use Rattle.presence_node_link_words.specs.contracts.warning.LinkWarning as LinkWarning
 use Rattle.presence_node_link_words.specs.contracts.saying.Saying as Saying
 use Rattle.presence_node_link_threads.specs.contracts.book.Book as Book
+use Rattle.presence_node_link_threads.specs.contracts.book.Newest as Newest
 use Rattle.presence_node_link_threads.specs.contracts.dialling.Dialler as Dialler
 use Rattle.presence_node_link_threads.specs.contracts.incoming.LinkDoor as LinkDoor
 use Rattle.presence_node_link_threads.specs.contracts.incoming.Waiting as Waiting
 use Rattle.presence_node_link_threads.specs.contracts.links.Links as Links
 use Rattle.presence_node_link_streams.specs.contracts.stopping.Stopping as Stopping
+use Rattle.presence_node_link_threads.specs.contracts.tallies.Tallies as Tallies
 use Rattle.presence_node_link_threads.specs.contracts.tasks.LinkTask as LinkTask
 
 -- ---- a line
@@ -108,11 +110,17 @@ warning_send = search sendable depth 60 fits 20000
 saying_send : IsSend (Saying.the_field).row
 saying_send = search (replica_send, end_send, warning_send, heap.crosses, sendable) depth 60 fits 20000
 
+newest_send : IsSend (Newest.the_field).row
+newest_send = search (name_send, sendable) depth 60 fits 20000
+
 book_send : IsSend (Book.the_field).row
-book_send = search (saying_send, name_send, heap.crosses, sendable) depth 60 fits 20000
+book_send = search (saying_send, newest_send, heap.crosses, sendable) depth 60 fits 20000
+
+tallies_sync : IsSync (Tallies.the_field).row
+tallies_sync = search (heap.crosses, sendable) depth 60 fits 20000
 
 pub links_sync : IsSync (Links.the_field).row
-links_sync = search (line_send, line_sync, waiting_sync, book_send, name_sync, stopping_sync, bell_sync, replica_sync, heap.crosses, sendable) depth 60 fits 20000
+links_sync = search (line_send, line_sync, waiting_sync, book_send, name_sync, stopping_sync, bell_sync, tallies_sync, replica_sync, heap.crosses, sendable) depth 60 fits 20000
 
 -- ---- what is given
 

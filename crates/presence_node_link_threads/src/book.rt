@@ -6,12 +6,47 @@ use std::alloc::Global;
 /// How many places and names are kept; the oldest ones go.
 const MAX_PAGES: usize = 256;
 
+/// A link that is replaced within this time of its coming, in milliseconds, while it stands, was replaced soon.
+const SOON_MILLISECONDS: u64 = 10_000;
+
+/// After so many links in a row that were replaced soon two nodes are told of: one that comes back closed its link first.
+const MANY_SOON: u32 = 2;
+
+/// The link that came last from a node.
+#[derive(Drop)]
+struct Newest {
+    name: NodeName,
+    number: u64,
+    since: u64,
+    has_ended: bool,
+    /// How many links in a row were replaced soon.
+    soon: u32,
+}
+
+impl Newest {
+    // How many links in a row were replaced soon, once the next one has come at this time.
+    fn soon_at(&self, now: u64) -> u32 {
+        if self.has_ended || now.saturating_sub(self.since) >= SOON_MILLISECONDS {
+            return 0;
+        }
+        self.soon.saturating_add(1)
+    }
+}
+
+/// What is known of a link that has come up.
+#[derive(Clone, Copy)]
+pub(crate) struct Begun {
+    pub(crate) number: u64,
+    /// Whether two nodes seem to have this name.
+    pub(crate) are_two: bool,
+}
+
 /// What was said of each place, and which link of each node came last.
 pub(crate) struct Book {
     alloc: Global,
     pages: Vec<(String, Saying)>,
-    /// The number of the link that came last from each node.
-    newest: Vec<(NodeName, u64)>,
+    /// The link that came last from each node.
+    newest: Vec<Newest>,
     links: u64,
 }
 
@@ -103,21 +138,49 @@ impl Book {
         }
     }
 
-    /// A link of this node came in: its number.
-    pub(crate) fn begins(&mut self, name: NodeName) -> u64 {
+    // How many links in a row of this node were replaced soon.
+    fn soon_at(&self, name: NodeName, now: u64) -> u32 {
+        match self.newest.iter().find(|newest| newest.name == name) {
+            Some(newest) => newest.soon_at(now),
+            None => 0,
+        }
+    }
+
+    /// A link of this node came in at this time.
+    pub(crate) fn begins(&mut self, name: NodeName, now: u64) -> Begun {
         self.links = self.links.saturating_add(1);
-        self.newest.retain(|newest| newest.0 != name);
+        let number = self.links;
+        let soon = self.soon_at(name, now);
+        self.newest.retain(|newest| newest.name != name);
         if self.newest.len() >= MAX_PAGES {
             let _oldest = self.newest.remove(0);
         }
-        let _lost = self.newest.push((name, self.links));
-        self.links
+        let _lost = self.newest.push(Newest {
+            name,
+            number,
+            since: now,
+            has_ended: false,
+            soon,
+        });
+        Begun {
+            number,
+            are_two: soon >= MANY_SOON,
+        }
+    }
+
+    /// The link of this number has ended.
+    pub(crate) fn ends(&mut self, number: u64) {
+        for newest in self.newest.iter_mut() {
+            if newest.number == number {
+                newest.has_ended = true;
+            }
+        }
     }
 
     /// Whether a link of this node came in behind the one of this number.
     pub(crate) fn has_newer(&self, name: NodeName, number: u64) -> bool {
         self.newest
             .iter()
-            .any(|newest| newest.0 == name && newest.1 > number)
+            .any(|newest| newest.name == name && newest.number > number)
     }
 }

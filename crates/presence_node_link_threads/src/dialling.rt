@@ -8,6 +8,8 @@ use presence_base::{NodeName, Replica};
 use presence_node_link_ports::{Gate, Lane, Pool, PoolLinkPort};
 use presence_node_link_streams::{LinkStream, time_behind};
 use presence_node_link_words::{LinkEnd, LinkWarning, greeted};
+use presence_node_sockets::is_no_file;
+use std::io;
 use std::net::{Net, SocketAddr, TcpListener, TcpStream, ToSocketAddrs};
 use std::sync::{Arc, Wait};
 use std::time::{Clock, Duration};
@@ -60,15 +62,15 @@ impl Dialler {
 }
 
 // A link that was dialled.
-struct Dialled<'a> {
-    stream: LinkStream<'a>,
+struct Dialled<'a, R: Clock> {
+    stream: LinkStream<'a, R>,
     peer: Peer,
     // When it came up.
     since: u64,
     has_stood: bool,
 }
 
-impl Drop for Dialled<'_> {
+impl<R: Clock> Drop for Dialled<'_, R> {
     fn drop(self) {
         let Dialled {
             stream,
@@ -81,30 +83,42 @@ impl Drop for Dialled<'_> {
     }
 }
 
+// Why no socket could be had.
+fn unreached(error: &io::Error) -> LinkEnd {
+    if is_no_file(error) {
+        LinkEnd::NoFile
+    } else {
+        LinkEnd::NotReached
+    }
+}
+
 // A socket at this address, if somebody answers there.
-fn call<R>(rt: &R, address: SocketAddr) -> Option<TcpStream>
+fn call<R>(rt: &R, address: SocketAddr) -> io::Result<TcpStream>
 where
     R: Net<Listener = TcpListener, Stream = TcpStream>,
 {
     let time = Duration::from_millis(CONNECT_MILLISECONDS);
-    TcpStream::connect_timeout(rt, &address, time).ok()
+    TcpStream::connect_timeout(rt, &address, time)
 }
 
 // A socket at the first of the host's addresses where somebody answers.
-fn reach<R>(rt: &R, dialler: &Dialler) -> Option<TcpStream>
+fn reach<R>(rt: &R, dialler: &Dialler) -> Result<TcpStream, LinkEnd>
 where
     R: Net<Listener = TcpListener, Stream = TcpStream>,
 {
     let place = (dialler.host.as_str(), dialler.port);
-    let Ok(addresses) = place.to_socket_addrs(rt) else {
-        return None;
+    let addresses = match place.to_socket_addrs(rt) {
+        Ok(addresses) => addresses,
+        Err(error) => return Err(unreached(&error)),
     };
+    let mut why = LinkEnd::NotReached;
     for address in addresses {
-        if let Some(socket) = call(rt, address) {
-            return Some(socket);
+        match call(rt, address) {
+            Ok(socket) => return Ok(socket),
+            Err(error) => why = unreached(&error),
         }
     }
-    None
+    Err(why)
 }
 
 // One exchange: the line goes out, and what comes is done. What the other node stays without is given.
@@ -113,11 +127,12 @@ fn say<R, G, A, B, C, D, W>(
     links: &Links,
     pool: &Pool<G, A, B, C, D>,
     wakes: &W,
-    link: &mut Dialled<'_>,
+    link: &mut Dialled<'_, R>,
+    place: Place<'_>,
     line: &Line,
 ) -> Result<Option<Untold>, LinkEnd>
 where
-    R: Wait + Clock,
+    R: Wait + Clock + Eprint,
     G: Gate,
     A: Lane,
     B: Lane,
@@ -127,6 +142,7 @@ where
     requires { links.now.shards ≡ pool.now.shards }
 {
     let mut port = PoolLinkPort::new(rt, pool, links.shards);
+    port.looks_for(links.own);
     let done = exchange(
         links.alloc,
         &mut link.stream,
@@ -137,6 +153,12 @@ where
     );
     if port.has_changed() {
         wakes.look();
+    }
+    if port.has_told() {
+        links.tallies.count_want();
+    }
+    if port.has_own_counts() {
+        links.tell_odd(rt, place, LinkWarning::OwnCounts);
     }
     match done {
         Ok(Outcome::Untold(untold)) => Ok(Some(untold)),
@@ -149,14 +171,14 @@ where
 
 // A link to the node that is dialled, behind its hello, and who is there.
 fn link_to<'a, R, G, A, B, C, D, W>(
-    rt: &R,
+    rt: &'a R,
     links: &'a Links,
     pool: &Pool<G, A, B, C, D>,
     wakes: &W,
     dialler: &Dialler,
-) -> Result<(Dialled<'a>, Replica), LinkEnd>
+) -> Result<(Dialled<'a, R>, Replica), LinkEnd>
 where
-    R: Net<Listener = TcpListener, Stream = TcpStream> + Wait + Clock,
+    R: Net<Listener = TcpListener, Stream = TcpStream> + Wait + Clock + Eprint,
     G: Gate,
     A: Lane,
     B: Lane,
@@ -165,10 +187,8 @@ where
     W: Wakes,
     requires { links.now.shards ≡ pool.now.shards }
 {
-    let Some(socket) = reach(rt, dialler) else {
-        return Err(LinkEnd::NotReached);
-    };
-    let Ok(stream) = LinkStream::new(links.alloc, socket, &links.stopping, LAST_LOOKS) else {
+    let socket = reach(rt, dialler)?;
+    let Ok(stream) = LinkStream::new(rt, links.alloc, socket, &links.stopping, LAST_LOOKS) else {
         return Err(LinkEnd::Fault(DialFault::Link(LinkFault::ReadFailed)));
     };
     let mut link = Dialled {
@@ -181,7 +201,7 @@ where
         replica: links.own,
         shards: links.shards,
     };
-    say(rt, links, pool, wakes, &mut link, &hello)?;
+    say(rt, links, pool, wakes, &mut link, dialler.place(), &hello)?;
     let Some(other) = link.peer.other() else {
         return Err(LinkEnd::Closed);
     };
@@ -202,7 +222,7 @@ fn send_all<R, G, A, B, C, D, W>(
     links: &Links,
     pool: &Pool<G, A, B, C, D>,
     wakes: &W,
-    link: &mut Dialled<'_>,
+    link: &mut Dialled<'_, R>,
     place: Place<'_>,
     beats: &[(u32, Arc<Line>)],
 ) -> Result<(), Broken>
@@ -218,9 +238,12 @@ where
 {
     let mut broken = None;
     for (shard, beat) in beats {
-        match say(rt, links, pool, wakes, link, &**beat) {
-            Ok(None) => {}
-            Ok(Some(untold)) => links.tell_odd(rt, place, LinkWarning::Untold(untold)),
+        match say(rt, links, pool, wakes, link, place, &**beat) {
+            Ok(None) => links.tallies.count_beat(),
+            Ok(Some(untold)) => {
+                links.tallies.count_beat();
+                links.tell_odd(rt, place, LinkWarning::Untold(untold));
+            }
             Err(end) => {
                 broken = Some(behind(broken, end, *shard));
                 if !end.leaves_stream() {
@@ -247,15 +270,15 @@ fn behind(broken: Option<Broken>, end: LinkEnd, shard: u32) -> Broken {
 }
 
 // A link that may be up.
-struct State<'a> {
-    link: Option<Dialled<'a>>,
+struct State<'a, R: Clock> {
+    link: Option<Dialled<'a, R>>,
     // The shard whose beat goes first: the one behind the last that didn't get through.
     first: u32,
     // Whether the link was cut because this node stops.
     was_cut: bool,
 }
 
-impl Drop for State<'_> {
+impl<R: Clock> Drop for State<'_, R> {
     fn drop(self) {
         let State {
             link,
@@ -266,16 +289,25 @@ impl Drop for State<'_> {
     }
 }
 
-impl<'a> State<'a> {
+impl<'a, R: Clock> State<'a, R> {
     // The link went, or can't be had.
-    fn goes<R: Wait + Eprint>(&mut self, rt: &R, links: &Links, dialler: &Dialler, end: LinkEnd) {
+    fn goes(&mut self, rt: &R, links: &Links, dialler: &Dialler, end: LinkEnd)
+    where
+        R: Wait + Eprint,
+    {
+        if self.link.is_some() {
+            links.tallies.count_down();
+        }
         self.link = None;
         self.was_cut = end == LinkEnd::Stopped;
         links.tell_down(rt, dialler.place(), end);
     }
 
     // Says that the link has stood for a while, once, and that the other node doesn't dial this one, where it doesn't.
-    fn stands<R: Wait + Clock + Eprint>(&mut self, rt: &R, links: &Links, dialler: &Dialler) {
+    fn stands(&mut self, rt: &R, links: &Links, dialler: &Dialler)
+    where
+        R: Wait + Eprint,
+    {
         let Some(link) = &mut self.link else {
             return;
         };
@@ -294,9 +326,9 @@ impl<'a> State<'a> {
     }
 
     // The link comes up, if it is not.
-    fn comes<R, G, A, B, C, D, W>(
+    fn comes<G, A, B, C, D, W>(
         &mut self,
-        rt: &R,
+        rt: &'a R,
         links: &'a Links,
         pool: &Pool<G, A, B, C, D>,
         wakes: &W,
@@ -318,6 +350,7 @@ impl<'a> State<'a> {
         match link_to(rt, links, pool, wakes, dialler) {
             Ok((link, other)) => {
                 self.link = Some(link);
+                links.tallies.count_up();
                 links.tell_up(rt, dialler.place(), &other, false);
             }
             Err(end) => self.goes(rt, links, dialler, end),
@@ -325,7 +358,7 @@ impl<'a> State<'a> {
     }
 
     // The lines go out, if the link is up.
-    fn sends<R, G, A, B, C, D, W>(
+    fn sends<G, A, B, C, D, W>(
         &mut self,
         rt: &R,
         links: &Links,
@@ -354,9 +387,9 @@ impl<'a> State<'a> {
     }
 
     // The beats of a period go out, first those of the shards that come behind the one that didn't get through last.
-    fn beats<R, G, A, B, C, D, W>(
+    fn beats<G, A, B, C, D, W>(
         &mut self,
-        rt: &R,
+        rt: &'a R,
         links: &'a Links,
         pool: &Pool<G, A, B, C, D>,
         wakes: &W,
@@ -383,9 +416,9 @@ impl<'a> State<'a> {
     }
 
     // This node says that it has ended, if the link is up. One that was cut since it stops is dialled once more for that.
-    fn leaves<R, G, A, B, C, D, W>(
+    fn leaves<G, A, B, C, D, W>(
         &mut self,
-        rt: &R,
+        rt: &'a R,
         links: &'a Links,
         pool: &Pool<G, A, B, C, D>,
         wakes: &W,
@@ -408,15 +441,15 @@ impl<'a> State<'a> {
             return;
         };
         let line = Line::PermDown { replica: links.own };
-        let _told = say(rt, links, pool, wakes, link, &line);
+        let _told = say(rt, links, pool, wakes, link, dialler.place(), &line);
         self.goes(rt, links, dialler, LinkEnd::Stopped);
     }
 }
 
 // Sends the beats that are posted for the node that is dialled. The link is dialled where it is not up.
-fn send_posted<R, G, A, B, C, D, W>(
-    rt: &R,
-    links: &Links,
+fn send_posted<'a, R, G, A, B, C, D, W>(
+    rt: &'a R,
+    links: &'a Links,
     pool: &Pool<G, A, B, C, D>,
     wakes: &W,
     dialler: &Dialler,

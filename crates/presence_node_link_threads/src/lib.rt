@@ -13,9 +13,11 @@ mod dialling;
 mod incoming;
 mod links;
 mod serving;
+mod tallies;
 mod tasks;
 mod ticking;
 
 pub use links::{Links, Wakes};
 pub use presence_node_link_streams::time_behind;
+pub use tallies::LinkTallies;
 pub use tasks::{LinkTask, LinkTasks, tasks_for};

@@ -1,8 +1,9 @@
 //! What the threads of links share.
 ghost use Rattle.std.specs.Prelude.{◌≤◌};
 
-use crate::book::Book;
+use crate::book::{Begun, Book};
 use crate::incoming::Waiting;
+use crate::tallies::{LinkTallies, Tallies};
 use node_links::{End, Line, Peer};
 use presence_base::{NodeName, Replica};
 use presence_node_link_streams::Stopping;
@@ -38,6 +39,8 @@ pub struct Links {
     pub(crate) mailboxes: Vec<Beats>,
     /// The names of the nodes that are dialled.
     pub(crate) dialled: Vec<NodeName>,
+    /// The number of the link that came in last from each of these.
+    pub(crate) newest: Vec<AtomicU64>,
     pub(crate) waiting: Waiting,
     pub(crate) book: Mutex<Book>,
     /// The time that was handed in last, in milliseconds.
@@ -46,6 +49,7 @@ pub struct Links {
     pub(crate) stopping: Stopping,
     /// Whether another node has said hello.
     pub(crate) has_met: AtomicBool,
+    pub(crate) tallies: Tallies,
     ghost some: { 1 ≤ shards },
 }
 
@@ -57,21 +61,25 @@ impl Drop for Links {
             shards: _,
             mailboxes,
             dialled,
+            newest,
             waiting,
             book,
             time,
             bell,
             stopping,
             has_met,
+            tallies,
         } = self;
         drop(mailboxes);
         drop(dialled);
+        drop(newest);
         drop(waiting);
         drop(book);
         drop(time);
         drop(bell);
         drop(stopping);
         drop(has_met);
+        drop(tallies);
     }
 }
 
@@ -83,6 +91,11 @@ impl Links {
         ensures { result ≡ self.now.shards }
     {
         self.shards
+    }
+
+    /// How often the links came and went so far, and what went over them.
+    pub fn tallies(&self) -> LinkTallies {
+        self.tallies.read()
     }
 
     pub(crate) fn is_stopped(&self) -> bool {
@@ -133,15 +146,28 @@ impl Links {
         self.time.store(time, Ordering::SeqCst);
     }
 
-    /// Whether this node dials one of that name.
-    pub(crate) fn dials(&self, name: NodeName) -> bool {
-        self.dialled.iter().any(|dialled| *dialled == name)
+    /// Where the number of the newest link from a node stands that this one dials.
+    pub(crate) fn newest_of(&self, name: NodeName) -> Option<&AtomicU64> {
+        match self.dialled.iter().position(|dialled| *dialled == name) {
+            Some(at) => self.newest.get(at),
+            None => None,
+        }
     }
 
-    /// A link of this node came in: its number.
-    pub(crate) fn begins<R: Wait>(&self, rt: &R, name: NodeName) -> u64 {
+    /// A link of this node came in at this time.
+    pub(crate) fn begins<R: Wait>(&self, rt: &R, name: NodeName, now: u64) -> Begun {
         let mut book = self.book.lock(rt);
-        book.begins(name)
+        let begun = book.begins(name, now);
+        if let Some(newest) = self.newest_of(name) {
+            newest.store(begun.number, Ordering::SeqCst);
+        }
+        begun
+    }
+
+    /// The link of this number has ended.
+    pub(crate) fn ends<R: Wait>(&self, rt: &R, number: u64) {
+        let mut book = self.book.lock(rt);
+        book.ends(number);
     }
 
     /// Whether a link of this node came in behind the one of this number.

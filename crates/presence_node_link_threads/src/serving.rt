@@ -8,15 +8,11 @@ use node_links::{DialFault, End, Line, LinkFault, LinkPort, Peer, answer_line, r
 use presence_base::Replica;
 use presence_node_link_ports::{Gate, Lane, Pool, PoolLinkPort};
 use presence_node_link_streams::{LinkStream, time_behind};
-use presence_node_link_words::{LinkEnd, LinkWarning, greeted};
+use presence_node_link_words::{LinkEnd, LinkWarning, greeted, is_welcome};
 use std::alloc::{AllocError, Global};
 use std::net::TcpStream;
 use std::sync::Wait;
 use std::time::Clock;
-
-/// How many lines have to come over a link behind the hello of a newer one of that name until two nodes are told of: one
-/// may have been under way.
-const MANY_LATE: u32 = 2;
 
 // Where a link comes from, as it is told, and as what was said of it is kept.
 struct Origin {
@@ -45,14 +41,12 @@ impl Origin {
         Ok(Origin { words, page })
     }
 
-    // The same with the node that is there, once it said which it is.
-    fn with(&self, alloc: Global, other: &Replica) -> Result<Origin, AllocError> {
+    // How it is told with the node that is there, once that said which it is.
+    fn words_with(&self, alloc: Global, other: &Replica) -> Result<String, AllocError> {
         let place = self.words.as_str();
         let name = other.name.as_str();
         let incarnation = other.incarnation;
-        let words = format!(in alloc; "{place}, {name}.{incarnation}")?;
-        let page = page_of(alloc, other)?;
-        Ok(Origin { words, page })
+        format!(in alloc; "{place}, {name}.{incarnation}")
     }
 
     fn place(&self) -> Place<'_> {
@@ -86,22 +80,22 @@ pub(crate) fn end_of(links: &Links, fault: DialFault) -> LinkEnd {
 }
 
 // A link that came in.
-struct Incoming<'a> {
-    stream: LinkStream<'a>,
+struct Incoming<'a, R: Clock> {
+    stream: LinkStream<'a, R>,
     peer: Peer,
     origin: Origin,
     is_up: bool,
     // When it came up, and its number among those that did.
     since: u64,
     number: u64,
+    // Whether two nodes seem to have its node's name.
+    are_two: bool,
     has_stood: bool,
-    // How many lines came behind the hello of a newer link of that name.
-    late: u32,
     // The shards of which a beat has come.
     shards: Vec<u32>,
 }
 
-impl Drop for Incoming<'_> {
+impl<R: Clock> Drop for Incoming<'_, R> {
     fn drop(self) {
         let Incoming {
             stream,
@@ -110,8 +104,8 @@ impl Drop for Incoming<'_> {
             is_up: _,
             since: _,
             number: _,
+            are_two: _,
             has_stood: _,
-            late: _,
             shards,
         } = self;
         drop(stream);
@@ -121,31 +115,60 @@ impl Drop for Incoming<'_> {
     }
 }
 
-impl Incoming<'_> {
+impl<'a, R: Clock> Incoming<'a, R> {
     // The link has come up once the other end has said hello, unless it may not be there.
-    fn meet<R: Wait + Clock + Eprint>(
-        &mut self,
-        rt: &R,
-        links: &Links,
-        other: &Replica,
-    ) -> Result<(), LinkEnd> {
+    fn meet(&mut self, rt: &R, links: &'a Links, other: &Replica) -> Result<(), LinkEnd>
+    where
+        R: Wait + Eprint,
+    {
         greeted(&links.own, None, other)?;
-        self.is_up = true;
-        self.since = time_behind(rt, 0);
-        self.number = links.begins(rt, other.name);
-        self.says_up(rt, links, other);
-        // Where memory is wanting its end is told with the address alone.
-        if let Ok(origin) = self.origin.with(links.alloc, other) {
-            self.origin = origin;
+        if !is_welcome(links.dialled.as_slice(), &other.name) {
+            self.names(links, other);
+            return Err(LinkEnd::NotAPeer);
         }
-        if !links.dials(other.name) {
+        self.begins(rt, links, other);
+        self.says_up(rt, links, other);
+        self.names(links, other);
+        if let Ok(page) = page_of(links.alloc, other) {
+            self.origin.page = page;
+        }
+        if links.dialled.is_empty() {
             links.tell_odd(rt, self.origin.place(), LinkWarning::NotDialled);
+        }
+        if self.are_two {
+            links.tell_odd(rt, self.origin.place(), LinkWarning::TwoNodes);
         }
         Ok(())
     }
 
+    // The link is called by its node too, as long as there is memory for that.
+    fn names(&mut self, links: &Links, other: &Replica) {
+        if let Ok(words) = self.origin.words_with(links.alloc, other) {
+            self.origin.words = words;
+        }
+    }
+
+    // The link is the newest of its node from now on.
+    fn begins(&mut self, rt: &R, links: &'a Links, other: &Replica)
+    where
+        R: Wait,
+    {
+        self.is_up = true;
+        links.tallies.count_up();
+        self.since = time_behind(rt, 0);
+        let begun = links.begins(rt, other.name, self.since);
+        self.number = begun.number;
+        self.are_two = begun.are_two;
+        if let Some(newest) = links.newest_of(other.name) {
+            self.stream.ends_behind(newest, begun.number);
+        }
+    }
+
     // Says where the link came from, and who is there.
-    fn says_up<R: Wait + Eprint>(&self, rt: &R, links: &Links, other: &Replica) {
+    fn says_up(&self, rt: &R, links: &Links, other: &Replica)
+    where
+        R: Wait + Eprint,
+    {
         let words = self.origin.words.as_str();
         match page_of(links.alloc, other) {
             Ok(page) => {
@@ -159,31 +182,48 @@ impl Incoming<'_> {
         }
     }
 
-    // What is said of a link that is up, behind a line that came over it.
-    fn stays<R: Wait + Clock + Eprint>(&mut self, rt: &R, links: &Links, other: &Replica) {
+    // Behind a line over a link that is up: it has stood for a while, or ends since a newer one came in.
+    fn stays(&mut self, rt: &R, links: &Links, other: &Replica) -> Result<(), LinkEnd>
+    where
+        R: Wait + Eprint,
+    {
         let stood = time_behind(rt, self.since).saturating_sub(self.since);
         if !self.has_stood && stood >= STANDING_MILLISECONDS {
             self.has_stood = true;
             links.tell_up(rt, self.origin.place(), other, true);
         }
         if links.has_newer(rt, other.name, self.number) {
-            self.late = self.late.saturating_add(1);
-            if self.late == MANY_LATE {
-                links.tell_odd(rt, self.origin.place(), LinkWarning::TwoNodes);
-            }
+            return Err(LinkEnd::Replaced);
         }
+        Ok(())
     }
 
     // Behind a line: the link comes up, or stays so.
-    fn goes_on<R: Wait + Clock + Eprint>(&mut self, rt: &R, links: &Links) -> Result<(), LinkEnd> {
+    fn goes_on(&mut self, rt: &R, links: &'a Links) -> Result<(), LinkEnd>
+    where
+        R: Wait + Eprint,
+    {
         let Some(other) = self.peer.other() else {
             return Ok(());
         };
-        if !self.is_up {
-            return self.meet(rt, links, &other);
+        if self.is_up {
+            self.stays(rt, links, &other)
+        } else {
+            self.meet(rt, links, &other)
         }
-        self.stays(rt, links, &other);
-        Ok(())
+    }
+
+    // Why a line didn't come: the link was cut since a newer one came in, or this fault.
+    fn unread(&self, rt: &R, links: &Links, fault: LinkFault) -> LinkEnd
+    where
+        R: Wait,
+    {
+        match self.peer.other() {
+            Some(other) if self.is_up && links.has_newer(rt, other.name, self.number) => {
+                LinkEnd::Replaced
+            }
+            _ => end_of(links, DialFault::Link(fault)),
+        }
     }
 
     // Whether the line is the first beat of the other end's shard, and counts below what is known of that.
@@ -208,24 +248,32 @@ impl Incoming<'_> {
     }
 
     // The next line, or why there is none.
-    fn next_line(&mut self, links: &Links) -> Result<Line, LinkEnd> {
+    fn next_line(&mut self, rt: &R, links: &Links) -> Result<Line, LinkEnd>
+    where
+        R: Wait,
+    {
+        if self.is_up {
+            self.stream.awaits_line();
+        } else {
+            self.stream.awaits_hello();
+        }
         match read_line(links.alloc, &mut self.stream, links.shards) {
             Ok(Some(line)) => Ok(line),
             Ok(None) => Err(LinkEnd::Closed),
-            Err(fault) => Err(end_of(links, DialFault::Link(fault))),
+            Err(fault) => Err(self.unread(rt, links, fault)),
         }
     }
 
     // One exchange.
-    fn exchange<R, G, A, B, C, D, W>(
+    fn exchange<G, A, B, C, D, W>(
         &mut self,
         rt: &R,
-        links: &Links,
+        links: &'a Links,
         pool: &Pool<G, A, B, C, D>,
         wakes: &W,
     ) -> Result<(), LinkEnd>
     where
-        R: Wait + Clock + Eprint,
+        R: Wait + Eprint,
         G: Gate,
         A: Lane,
         B: Lane,
@@ -234,8 +282,9 @@ impl Incoming<'_> {
         W: Wakes,
         requires { links.now.shards ≡ pool.now.shards }
     {
-        let line = self.next_line(links)?;
+        let line = self.next_line(rt, links)?;
         let mut port = PoolLinkPort::new(rt, pool, links.shards);
+        port.looks_for(links.own);
         if self.counts_below(links.alloc, &mut port, &line) {
             links.tell_odd(rt, self.origin.place(), LinkWarning::CountsBelow);
         }
@@ -250,6 +299,12 @@ impl Incoming<'_> {
         if port.has_changed() {
             wakes.look();
         }
+        if port.has_told() {
+            links.tallies.count_want();
+        }
+        if port.has_own_counts() {
+            links.tell_odd(rt, self.origin.place(), LinkWarning::OwnCounts);
+        }
         match done {
             Ok(()) => self.goes_on(rt, links),
             Err(fault) => Err(end_of(links, fault)),
@@ -257,16 +312,29 @@ impl Incoming<'_> {
     }
 }
 
+impl<R: Wait + Clock + Eprint> Incoming<'_, R> {
+    // The link has ended: it is said why, unless it goes on as a newer one.
+    fn ends(&self, rt: &R, links: &Links, end: LinkEnd) {
+        if self.is_up {
+            links.tallies.count_down();
+            links.ends(rt, self.number);
+        }
+        if end != LinkEnd::Replaced {
+            links.tell_down(rt, self.origin.place(), end);
+        }
+    }
+}
+
 // The link of this socket, unless there is no memory or the system refuses it.
 fn incoming_of<'a, R: Wait + Clock + Eprint>(
-    rt: &R,
+    rt: &'a R,
     links: &'a Links,
     socket: TcpStream,
-) -> Option<Incoming<'a>> {
+) -> Option<Incoming<'a, R>> {
     let Ok(origin) = Origin::of(links.alloc, &socket) else {
         return None;
     };
-    let Ok(stream) = LinkStream::new(links.alloc, socket, &links.stopping, 0) else {
+    let Ok(stream) = LinkStream::new(rt, links.alloc, socket, &links.stopping, 0) else {
         let fault = DialFault::Link(LinkFault::ReadFailed);
         links.tell_down(rt, origin.place(), LinkEnd::Fault(fault));
         return None;
@@ -278,19 +346,19 @@ fn incoming_of<'a, R: Wait + Clock + Eprint>(
         is_up: false,
         since: 0,
         number: 0,
+        are_two: false,
         has_stood: false,
-        late: 0,
         shards: Vec::new(links.alloc),
     })
 }
 
 // Serves one link until it ends: why it did.
-fn serve_one<R, G, A, B, C, D, W>(
+fn serve_one<'a, R, G, A, B, C, D, W>(
     rt: &R,
-    links: &Links,
+    links: &'a Links,
     pool: &Pool<G, A, B, C, D>,
     wakes: &W,
-    incoming: &mut Incoming<'_>,
+    incoming: &mut Incoming<'a, R>,
 ) -> LinkEnd
 where
     R: Wait + Clock + Eprint,
@@ -336,7 +404,7 @@ where
         };
         if let Some(mut incoming) = incoming_of(rt, links, socket) {
             let end = serve_one(rt, links, pool, wakes, &mut incoming);
-            links.tell_down(rt, incoming.origin.place(), end);
+            incoming.ends(rt, links, end);
         }
         links.waiting.give_back(rt);
     }

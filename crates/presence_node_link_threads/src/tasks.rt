@@ -8,6 +8,7 @@ use crate::dialling::{Dialler, dial_one};
 use crate::incoming::{LISTENER, LinkDoor, Waiting};
 use crate::links::{Links, Wakes};
 use crate::serving::serve_links;
+use crate::tallies::Tallies;
 use crate::ticking::tick;
 use presence_base::{NodeName, Replica};
 use presence_node_link_ports::{Gate, Lane, Pool};
@@ -133,6 +134,7 @@ impl LinkTasks {
         let dialler = dialler_of(alloc, self.links.mailboxes.len(), name, host, port)?;
         self.tasks.push(LinkTask::Dial(dialler))?;
         self.links.mailboxes.push(Mailbox::new(alloc))?;
+        self.links.newest.push(AtomicU64::new(0))?;
         self.links.dialled.push(name)?;
         Ok(())
     }
@@ -182,12 +184,14 @@ pub fn tasks_for<R: Net>(
         shards,
         mailboxes: Vec::new(alloc),
         dialled: Vec::new(alloc),
+        newest: Vec::new(alloc),
         waiting: Waiting::new(alloc, MAX_LINKS),
         book: Mutex::new(Book::new(alloc)),
         time: AtomicU64::new(0),
         bell,
         stopping: Stopping::new(),
         has_met: AtomicBool::new(false),
+        tallies: Tallies::new(),
     };
     Ok(LinkTasks { links, tasks })
 }

@@ -3,7 +3,7 @@ use Rattle.std.specs.Prelude.{ℕ, ◌+◌, List, [], ◌++◌, Bool, nat_lt, co
 use Rattle.orswot_core_told.specs.declared.told.TheConstants.{MAX_ROWS}
 use Rattle.node_links.specs.declared.outcome.Untold.{Untold as UntoldValue}
 use Rattle.presence_node_link_words.specs.declared.warning.LinkWarning.{LinkWarning}
-use Rattle.presence_node_link_words.specs.declared.warning.LinkWarning.TheVariants.{Untold, NotDialled, NotDialling, TwoNodes, CountsBelow}
+use Rattle.presence_node_link_words.specs.declared.warning.LinkWarning.TheVariants.{Untold, NotDialled, NotDialling, TwoNodes, CountsBelow, OwnCounts}
 
 -- its rows and extras are too many for a line
 abbrev pub is_counted : UntoldValue → Bool
@@ -24,6 +24,7 @@ warning_words NotDialled = codes "no --peer of this node has its name, so it isn
 warning_words NotDialling = codes "it doesn't dial this node, so rows there aren't told here: does it lack a --peer?"
 warning_words TwoNodes = codes "a node of the same name speaks over another link: are there two?"
 warning_words CountsBelow = codes "it counts below what is known of it: was it started again with the same --incarnation?"
+warning_words OwnCounts = codes "it tells of what this node never did: was this one started again with the same --incarnation, or are there two?"
 
 abbrev pub what_is_odd : LinkWarning → List ℕ
 what_is_odd (Untold u) = untold_text u

@@ -1,6 +1,7 @@
 -- Who may be at the other end of a link, and what is said of a link.
-use Rattle.std.specs.Prelude.{ℕ, List, ◌++◌, Bool, true, false, Option, Some, None, Result, Ok, Err, cond, codes, decimal}
-use Rattle.presence_base.specs.Order.{same_text}
+use Rattle.std.specs.Prelude.{ℕ, List, length, ◌==◌, ◌||◌, ◌++◌, Bool, true, false, Option, Some, None, Result, Ok, Err, cond, codes, decimal}
+use Rattle.std.specs.List.{list_any}
+use Rattle.presence_base.specs.Order.{same_text, same_replica}
 use Rattle.presence_base.specs.declared.dots.Replica.{Replica}
 use Rattle.node_links_acts.specs.declared.port.ActFault.TheVariants as acts
 use Rattle.node_links.specs.declared.fault.DialFault.TheVariants as dials
@@ -9,13 +10,24 @@ use Rattle.node_links_members.specs.declared.fault.LinkFault.TheVariants as faul
 use Rattle.orswot_core_told.specs.declared.told.ToldFault.{ToldFault}
 use Rattle.orswot_core_told.specs.declared.told.ToldFault.TheVariants as tolds
 use Rattle.presence_node_link_words.specs.declared.end.LinkEnd.{LinkEnd}
-use Rattle.presence_node_link_words.specs.declared.end.LinkEnd.TheVariants.{Fault, Closed, GivenUp, OwnName, OtherName, NotReached, TooMany, Stopped}
+use Rattle.presence_node_link_words.specs.declared.end.LinkEnd.TheVariants.{Fault, Closed, GivenUp, OwnReplica, OwnName, OtherName, NotAPeer, Replaced, NotReached, NoFile, TooMany, Stopped}
 
--- the own name is refused first, then another than the one that is wanted
-abbrev pub met : List ℕ → Option (List ℕ) → List ℕ → Result (Unit {0}) LinkEnd
-met own None other = cond (same_text other own) (Err OwnName) (Ok tt)
-met own (Some name) other =
-    cond (same_text other own) (Err OwnName) (cond (same_text other name) (Ok tt) (Err OtherName))
+-- another name than the one that is wanted is refused, where one is
+abbrev pub met_name : Option (List ℕ) → List ℕ → Result (Unit {0}) LinkEnd
+met_name None other = Ok tt
+met_name (Some name) other = cond (same_text other name) (Ok tt) (Err OtherName)
+
+-- the node itself is refused first, then its own name, then another than the one that is wanted
+abbrev pub met : Replica → Option (List ℕ) → Replica → Result (Unit {0}) LinkEnd
+met own wanted other = cond (same_replica other own) (Err OwnReplica)
+    (cond (same_text other.name own.name) (Err OwnName) (met_name wanted other.name))
+
+abbrev pub is_among : List (List ℕ) → List ℕ → Bool
+is_among names name = list_any (λ one. same_text one name) names
+
+-- where no node is named anybody may link to this one, and else who is named
+abbrev pub is_welcome : List (List ℕ) → List ℕ → Bool
+is_welcome names name = length names == 0 || is_among names name
 
 -- the number of a refused told value
 abbrev pub told_label : ToldFault → List ℕ
@@ -56,7 +68,7 @@ fault_words faults.NotJson = codes "a line is not JSON"
 fault_words faults.BadLine = codes "a line is none that is allowed here, or a member of it is outside its limits"
 fault_words (faults.BadTold fault) = told_words fault
 fault_words faults.OtherShards = codes "the other node has another number of shards"
-fault_words faults.ReadFailed = codes "reading failed, or nothing came for 30 seconds"
+fault_words faults.ReadFailed = codes "reading failed, or a line was late"
 fault_words faults.WriteFailed = codes "writing failed"
 fault_words faults.OutOfMemory = codes "out of memory"
 fault_words faults.CutLine = codes "the end came within a line"
@@ -68,9 +80,13 @@ end_words (Fault (dials.Act acts.ShardFull)) = codes "a shard takes nothing more
 end_words (Fault (dials.Act acts.OutOfMemory)) = codes "out of memory"
 end_words Closed = codes "the other node closed it"
 end_words GivenUp = codes "this incarnation is gone at the other node: start this one with a higher --incarnation"
+end_words OwnReplica = codes "the other node has this node's own name and incarnation: was it started twice, or does a --peer lead back here?"
 end_words OwnName = codes "the other node has this node's own name"
 end_words OtherName = codes "the other node has another name than --peer says"
+end_words NotAPeer = codes "no --peer of this node has its name"
+end_words Replaced = codes "a newer link of that node came in"
 end_words NotReached = codes "nobody answers there"
+end_words NoFile = codes "as many files are open as may be: raise with ulimit -n"
 end_words TooMany = codes "there are 32 links that came in, and no more are taken"
 end_words Stopped = codes "this node stops"
 

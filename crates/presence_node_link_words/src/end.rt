@@ -12,12 +12,20 @@ pub enum LinkEnd {
     Closed,
     /// This node's own incarnation is gone at the other end.
     GivenUp,
+    /// The other end has this node's own name and incarnation.
+    OwnReplica,
     /// The other end has this node's own name.
     OwnName,
     /// The other end has another name than the command line says.
     OtherName,
+    /// It came from a node that no `--peer` names.
+    NotAPeer,
+    /// A newer link of the same node came in.
+    Replaced,
     /// Nobody answers there.
     NotReached,
+    /// No further file can be opened, and so no socket.
+    NoFile,
     /// There are as many links as a node takes.
     TooMany,
     /// This node stops.

@@ -14,7 +14,7 @@ mod warnings;
 mod words;
 
 pub use end::LinkEnd;
-pub use meeting::greeted;
+pub use meeting::{greeted, is_welcome};
 pub use saying::Saying;
 pub use warning::LinkWarning;
 pub use warnings::warning_line;

@@ -13,4 +13,6 @@ pub enum LinkWarning {
     TwoNodes,
     /// The other node counts below what is known of it.
     CountsBelow,
+    /// The other node tells of counts of this one's own incarnation that it never made.
+    OwnCounts,
 }

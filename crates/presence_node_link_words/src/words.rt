@@ -71,7 +71,7 @@ fn fault_words(fault: LinkFault) -> &'static str
         }
         LinkFault::BadTold(fault) => told_words(fault),
         LinkFault::OtherShards => "the other node has another number of shards",
-        LinkFault::ReadFailed => "reading failed, or nothing came for 30 seconds",
+        LinkFault::ReadFailed => "reading failed, or a line was late",
         LinkFault::WriteFailed => "writing failed",
         LinkFault::OutOfMemory => "out of memory",
         LinkFault::CutLine => "the end came within a line",
@@ -100,9 +100,15 @@ fn end_words(end: LinkEnd) -> &'static str
         LinkEnd::GivenUp => {
             "this incarnation is gone at the other node: start this one with a higher --incarnation"
         }
+        LinkEnd::OwnReplica => {
+            "the other node has this node's own name and incarnation: was it started twice, or does a --peer lead back here?"
+        }
         LinkEnd::OwnName => "the other node has this node's own name",
         LinkEnd::OtherName => "the other node has another name than --peer says",
+        LinkEnd::NotAPeer => "no --peer of this node has its name",
+        LinkEnd::Replaced => "a newer link of that node came in",
         LinkEnd::NotReached => "nobody answers there",
+        LinkEnd::NoFile => "as many files are open as may be: raise with ulimit -n",
         LinkEnd::TooMany => "there are 32 links that came in, and no more are taken",
         LinkEnd::Stopped => "this node stops",
     }

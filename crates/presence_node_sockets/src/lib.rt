@@ -6,8 +6,10 @@
 //! - `specs/Watching`: what a watch reports
 #![tactic(auto)]
 
+mod files;
 mod listening;
 mod watch;
 
+pub use files::is_no_file;
 pub use listening::{listen, next_stream};
 pub use watch::{Bell, LAST_TOKEN, Watch, number_of};

@@ -1,0 +1,85 @@
+//! How often the links came and went, and what went over them.
+use std::sync::atomic::{AtomicU64, Ordering};
+
+/// How often the links of a node came and went since it started, and what went over them.
+#[derive(Clone, Copy)]
+pub struct LinkTallies {
+    /// How many links are up now: those that were dialled and those that came in, each behind its hello.
+    pub up: u64,
+    /// How many links came up.
+    pub came_up: u64,
+    /// How many of these went down.
+    pub went_down: u64,
+    /// How many beats went out over links that were dialled, one for each shard, period and node.
+    pub beats: u64,
+    /// How often another node asked to be told what it lacks, at either end. Each such exchange counts once, whether the
+    /// answer went out or not.
+    pub wants: u64,
+}
+
+/// What is counted of the links.
+pub(crate) struct Tallies {
+    came_up: AtomicU64,
+    went_down: AtomicU64,
+    beats: AtomicU64,
+    wants: AtomicU64,
+}
+
+impl Drop for Tallies {
+    fn drop(self) {
+        let Tallies {
+            came_up,
+            went_down,
+            beats,
+            wants,
+        } = self;
+        drop(came_up);
+        drop(went_down);
+        drop(beats);
+        drop(wants);
+    }
+}
+
+fn count(tally: &AtomicU64) {
+    let _before = tally.fetch_add(1, Ordering::SeqCst);
+}
+
+impl Tallies {
+    pub(crate) fn new() -> Tallies {
+        Tallies {
+            came_up: AtomicU64::new(0),
+            went_down: AtomicU64::new(0),
+            beats: AtomicU64::new(0),
+            wants: AtomicU64::new(0),
+        }
+    }
+
+    pub(crate) fn count_up(&self) {
+        count(&self.came_up);
+    }
+
+    pub(crate) fn count_down(&self) {
+        count(&self.went_down);
+    }
+
+    pub(crate) fn count_beat(&self) {
+        count(&self.beats);
+    }
+
+    pub(crate) fn count_want(&self) {
+        count(&self.wants);
+    }
+
+    /// What was counted so far. What went down is read first, so that no link is missed among those that are up.
+    pub(crate) fn read(&self) -> LinkTallies {
+        let went_down = self.went_down.load(Ordering::SeqCst);
+        let came_up = self.came_up.load(Ordering::SeqCst);
+        LinkTallies {
+            up: came_up.saturating_sub(went_down),
+            came_up,
+            went_down,
+            beats: self.beats.load(Ordering::SeqCst),
+            wants: self.wants.load(Ordering::SeqCst),
+        }
+    }
+}
