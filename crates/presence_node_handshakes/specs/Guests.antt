@@ -1,5 +1,5 @@
 -- What marks, newcomers and turns do to the clients whose handshakes are not over.
-use Rattle.std.specs.Prelude.{◌≡◌, ℕ, Bool, true, false, ◌||◌, ◌==◌, List, [], ◌∷◌, ◌++◌, filter, Option, None, Some, is_some}
+use Rattle.std.specs.Prelude.{◌≡◌, ◌≤◌, ◌<◌, ℕ, Bool, true, false, ◌||◌, ◌==◌, List, drop, length, [], ◌∷◌, ◌++◌, filter, Option, None, Some, is_some}
 use Rattle.std.specs.declared.io.traits.Read.{Ghosts as ReadGhosts}
 use Rattle.std.specs.declared.io.traits.Write.{Ghosts as WriteGhosts}
 use Rattle.tungstenite.specs.Socket.{Socket}
@@ -8,6 +8,7 @@ use Rattle.presence_node_handshakes.specs.Greeting.{GoesOn, socket_of, rest_of}
 use Rattle.presence_node_handshakes.specs.declared.greeting.Greeting.{Greeting}
 use Rattle.presence_node_handshakes.specs.declared.greeting.Greeted.{Greeted}
 use Rattle.presence_node_handshakes.specs.declared.guests.Guest.{Guest}
+use Rattle.presence_node_handshakes.specs.declared.guests.TheConstants.{MAX_HANDSHAKES}
 
 -- a socket, if there is one, under the number of its client
 abbrev pub numbered : {S : Type 0} → ℕ → Option (Socket S) → List (ℕ × Socket S)
@@ -30,9 +31,15 @@ module _ {S : Type 0} {reads : ReadGhosts S} {writes : WriteGhosts S} where
     pub config_is : greeting.config ≡ config
     pub no_looks : greeting.empty_reads ≡ 0
 
-  -- It stands behind the others.
-  abbrev pub Admits : ℕ → WebSocketConfig → List (Guest S reads writes) → List (Guest S reads writes) → Type 0
-  Admits number config old new = (g : Guest S reads writes) × IsNew number config g × (new ≡ old ++ g ∷ [])
+  -- The oldest gives way to one too many, and nobody else goes.
+  abbrev pub Fits : List (Guest S reads writes) → Bool → List (Guest S reads writes) → Type 0
+  Fits all false new = (new ≡ all) × (length all ≤ MAX_HANDSHAKES)
+  Fits all true new = (new ≡ drop 1 all) × (MAX_HANDSHAKES < length all)
+
+  -- It stands behind the others, of which the oldest may give way.
+  abbrev pub Admits : ℕ → WebSocketConfig → List (Guest S reads writes) → Bool → List (Guest S reads writes) → Type 0
+  Admits number config old gave_way new =
+      (g : Guest S reads writes) × IsNew number config g × Fits (old ++ g ∷ []) gave_way new
 
   -- One look at the handshake, if it is not over.
   abbrev pub LooksAt : Option (Greeting S reads writes) → Guest S reads writes → Guest S reads writes

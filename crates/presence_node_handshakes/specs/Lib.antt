@@ -1,2 +1,3 @@
 pub mod Greeting
 pub mod Guests
+pub mod Seating

@@ -4,6 +4,7 @@ ghost use Rattle.presence_node_handshakes.specs.declared.greeting.TheConstants.{
 ghost use Rattle.presence_node_requests.specs.Heads.{HasRequest};
 
 use crate::front::{Front, Tells};
+use crate::seating::{Standing, seated};
 use presence_node_requests::{Answer, Parsed, Reply, Request, answer_of, read_request, reply_of};
 use std::alloc::{AllocError, Global};
 use std::io::{ErrorKind, Read, Write};
@@ -33,8 +34,8 @@ pub enum GivenUp {
 // What is done of a handshake.
 #[derive(Drop)]
 enum Stage {
-    /// The request's bytes so far.
-    Reads(Vec<u8>),
+    /// The request's bytes so far, and how the client stands.
+    Reads(Vec<u8>, Standing),
     /// What is sent for it.
     Writes(Reply),
 }
@@ -90,16 +91,28 @@ enum Written {
     Ends,
 }
 
+// What a request for a WebSocket is answered by: how its client stands, and the places that are left.
+#[derive(Drop)]
+struct Seats<'p> {
+    standing: Standing,
+    places: &'p mut u64,
+}
+
 // What is sent for a request, if anything is.
 fn reply_for<T: Tells>(
     alloc: Global,
     head: &[u8],
     request: &Request<'_>,
+    seats: &mut Seats<'_>,
     front: &Front<'_, T>,
 ) -> Result<Option<Reply>, AllocError>
     requires { HasRequest head.now request.now }
 {
-    let answer = answer_of(request, front.origins);
+    let answer = seated(
+        answer_of(request, front.origins),
+        seats.standing,
+        seats.places,
+    );
     front.tells.answered(answer);
     if answer == Answer::Metrics {
         let metrics = front.tells.metrics(alloc)?;
@@ -109,11 +122,16 @@ fn reply_for<T: Tells>(
 }
 
 // What these bytes of a client are answered by. Bytes that may become a request wait for more.
-fn look_at<T: Tells>(alloc: Global, head: &[u8], front: &Front<'_, T>) -> Heard {
+fn look_at<T: Tells>(
+    alloc: Global,
+    head: &[u8],
+    seats: &mut Seats<'_>,
+    front: &Front<'_, T>,
+) -> Heard {
     match read_request(head) {
         Parsed::Partial => Heard::Waits,
         Parsed::Junk => Heard::Ends,
-        Parsed::Whole(request) => match reply_for(alloc, head, &request, front) {
+        Parsed::Whole(request) => match reply_for(alloc, head, &request, seats, front) {
             Ok(Some(reply)) => Heard::Whole(reply),
             Ok(None) | Err(_) => Heard::Ends,
         },
@@ -125,6 +143,7 @@ fn read_on<S: Read, T: Tells>(
     alloc: Global,
     stream: &mut S,
     head: &mut Vec<u8>,
+    seats: &mut Seats<'_>,
     front: &Front<'_, T>,
 ) -> Heard {
     let mut piece = [0; PIECE_BYTES];
@@ -138,7 +157,7 @@ fn read_on<S: Read, T: Tells>(
         if head.len() + count > MAX_HEAD_BYTES || head.extend_from_slice(&piece[..count]).is_err() {
             return Heard::Ends;
         }
-        match look_at(alloc, head.as_slice(), front) {
+        match look_at(alloc, head.as_slice(), seats, front) {
             Heard::Waits => {}
             ended => return ended,
         }
@@ -172,15 +191,15 @@ impl<S: Read + Write + Drop> Greeting<S> {
     ghost use Rattle.std.specs.Prelude.{◌≡◌, ◌<◌};
     ghost use Rattle.presence_node_handshakes.specs.Greeting.{Follows, GoesOn};
 
-    /// A handshake on this stream, which gives a socket of this configuration.
-    pub fn new(alloc: Global, stream: S, config: WebSocketConfig) -> Greeting<S>
+    /// A handshake on this stream, which gives a socket of this configuration, if the client may have one.
+    pub fn new(alloc: Global, stream: S, config: WebSocketConfig, standing: Standing) -> Greeting<S>
         ensures reads { result.empty_reads ≡ 0 }
         ensures config { result.config ≡ config }
     {
         Greeting {
             stream,
             config,
-            stage: Stage::Reads(Vec::new(alloc)),
+            stage: Stage::Reads(Vec::new(alloc), standing),
             empty_reads: 0,
         }
     }
@@ -229,9 +248,20 @@ impl<S: Read + Write + Drop> Greeting<S> {
         }
     }
 
+    /// Whether the client is being told that a WebSocket follows.
+    pub fn is_promised(&self) -> bool {
+        matches!(&self.stage, Stage::Writes(reply) if reply.opens())
+    }
+
     /// Goes on with the handshake until it is done, the request is answered otherwise, or the stream has nothing more.
+    /// One that is answered by a WebSocket takes one of the places.
     /// When a look fails, and so gives it up at once, is only tested.
-    pub fn go_on<T: Tells>(self, alloc: Global, front: &Front<'_, T>) -> Greeted<S>
+    pub fn go_on<T: Tells>(
+        self,
+        alloc: Global,
+        front: &Front<'_, T>,
+        places: &mut u64,
+    ) -> Greeted<S>
         ensures { GoesOn self result }
     {
         let Greeting {
@@ -241,8 +271,8 @@ impl<S: Read + Write + Drop> Greeting<S> {
             empty_reads,
         } = self;
         let mut stream = stream;
-        let mut head = match stage {
-            Stage::Reads(head) => head,
+        let (mut head, standing) = match stage {
+            Stage::Reads(head, standing) => (head, standing),
             Stage::Writes(reply) => return Greeting::sending(
                 alloc,
                 stream,
@@ -251,8 +281,14 @@ impl<S: Read + Write + Drop> Greeting<S> {
                 empty_reads,
             ),
         };
-        match read_on(alloc, &mut stream, &mut head, front) {
-            Heard::Waits => Greeting::waiting(stream, config, Stage::Reads(head), empty_reads),
+        let mut seats = Seats { standing, places };
+        match read_on(alloc, &mut stream, &mut head, &mut seats, front) {
+            Heard::Waits => Greeting::waiting(
+                stream,
+                config,
+                Stage::Reads(head, standing),
+                empty_reads,
+            ),
             Heard::Whole(reply) => Greeting::sending(alloc, stream, config, reply, empty_reads),
             Heard::Ends => Greeted::GivenUp(GivenUp::Failed),
         }

@@ -1,12 +1,17 @@
 //! The clients whose handshakes are not over.
 ghost use Rattle.std.specs.Prelude.{◌≡◌, ◌≤◌, ◌+◌, ◌==◌, [], map, filter, vec_len, vec_capacity, OnOk, OnErr, IfOk};
-ghost use Rattle.presence_node_handshakes.specs.Guests.{Admits, Looks, LooksAll, LooksInto, Turns, is_under_way, marked, readied};
+ghost use Rattle.presence_node_handshakes.specs.declared.guests.TheConstants.{MAX_HANDSHAKES};
+ghost use Rattle.presence_node_handshakes.specs.Guests.{Admits, Fits, Looks, LooksAll, LooksInto, Turns, is_under_way, marked, readied};
 
 use crate::front::{Front, Tells};
 use crate::greeting::{Greeted, Greeting};
+use crate::seating::Standing;
 use std::alloc::{AllocError, Global};
 use std::io::{Read, Write};
 use tungstenite::{NoMask, WebSocket, WebSocketConfig};
+
+/// How many handshakes may be under way.
+pub const MAX_HANDSHAKES: usize = 1_024;
 
 /// A client under a number, by which its stream is known where it is ready.
 pub struct Guest<S: Read + Write + Drop> {
@@ -28,6 +33,40 @@ impl<S: Read + Write + Drop> Drop for Guest<S> {
     }
 }
 
+/// A client that has come: its number, its stream, and how it stands.
+pub struct Newcomer<S: Drop> {
+    pub number: u64,
+    pub stream: S,
+    pub standing: Standing,
+}
+
+impl<S: Drop> Drop for Newcomer<S> {
+    fn drop(self) {
+        let Newcomer {
+            number: _,
+            stream,
+            standing: _,
+        } = self;
+        drop(stream);
+    }
+}
+
+impl<S: Read + Write + Drop> Newcomer<S> {
+    // Its number, and its handshake, which begins.
+    fn greeted(self, alloc: Global, config: WebSocketConfig) -> (u64, Greeting<S>)
+        ensures number { result.0 ≡ self.number }
+        ensures reads { result.1.empty_reads ≡ 0 }
+        ensures config { result.1.config ≡ config }
+    {
+        let Newcomer {
+            number,
+            stream,
+            standing,
+        } = self;
+        (number, Greeting::new(alloc, stream, config, standing))
+    }
+}
+
 /// A socket whose handshake is done, under the number of its client.
 pub type Opened<S> = (u64, WebSocket<S, NoMask>);
 
@@ -44,6 +83,14 @@ impl<S: Read + Write + Drop> Drop for Guests<S> {
 }
 
 impl<S: Read + Write + Drop> Guest<S> {
+    // Whether it is being told that a WebSocket follows.
+    fn is_promised(&self) -> bool {
+        match &self.greeting {
+            Some(greeting) => greeting.is_promised(),
+            None => false,
+        }
+    }
+
     // Lets it be looked at in the next turn, if this is its number.
     fn mark(&mut self, number: u64)
         ensures { self.new ≡ marked number self.old }
@@ -56,6 +103,7 @@ impl<S: Read + Write + Drop> Guest<S> {
         &mut self,
         alloc: Global,
         front: &Front<'_, T>,
+        places: &mut u64,
     ) -> Option<WebSocket<S, NoMask>>
         ensures { Looks self.old self.new result }
     {
@@ -63,7 +111,7 @@ impl<S: Read + Write + Drop> Guest<S> {
             return None;
         }
         self.ready = false;
-        match self.greeting.take()?.go_on(alloc, front) {
+        match self.greeting.take()?.go_on(alloc, front, places) {
             Greeted::Open(socket) => Some(socket),
             Greeted::Waits(greeting) => {
                 self.greeting = Some(greeting);
@@ -81,6 +129,7 @@ impl<S: Read + Write + Drop> Guest<S> {
         &mut self,
         alloc: Global,
         front: &Front<'_, T>,
+        places: &mut u64,
         opened: &mut Vec<Opened<S>>,
     ) -> Result<(), AllocError>
         ensures looked { OnOk result (LooksInto self.old self.new opened.old.items opened.new.items) }
@@ -89,7 +138,7 @@ impl<S: Read + Write + Drop> Guest<S> {
         ensures full { OnErr result (vec_capacity opened.old ≤ vec_len opened.old) }
     {
         let number = self.number;
-        if let Some(socket) = self.look(alloc, front) {
+        if let Some(socket) = self.look(alloc, front, places) {
             opened.push((number, socket))?;
         }
         Ok(())
@@ -120,23 +169,46 @@ impl<S: Read + Write + Drop> Guests<S> {
         self.guests.is_empty()
     }
 
-    /// Begins a handshake, which the next turn looks at. Each client has a number of its own.
+    // The client that came first gives way to one too many: whether it does.
+    fn fit(&mut self) -> bool
+        ensures { Fits self.old.guests.items result self.new.guests.items }
+    {
+        if self.guests.len() <= MAX_HANDSHAKES {
+            return false;
+        }
+        let oldest = self.guests.remove(0);
+        drop(oldest);
+        true
+    }
+
+    /// Begins a handshake, which the next turn looks at. Each client has a number of its own. Where as many handshakes as
+    /// may be are under way the oldest gives way: whether it did.
     pub fn admit(
         &mut self,
         alloc: Global,
-        number: u64,
-        stream: S,
+        newcomer: Newcomer<S>,
         config: WebSocketConfig,
-    ) -> Result<(), AllocError>
-        ensures admitted { OnOk result (Admits number config self.old.guests.items self.new.guests.items) }
+    ) -> Result<bool, AllocError>
+        ensures admitted { IfOk result (λ gave_way.
+            Admits newcomer.number config self.old.guests.items gave_way self.new.guests.items) }
         ensures no_room { OnErr result (self.new.guests.items ≡ self.old.guests.items) }
     {
+        let (number, greeting) = newcomer.greeted(alloc, config);
         self.guests.push(Guest {
             number,
             ready: true,
-            greeting: Some(Greeting::new(alloc, stream, config)),
+            greeting: Some(greeting),
         })?;
-        Ok(())
+        Ok(self.fit())
+    }
+
+    /// How many clients are being told that a WebSocket follows.
+    pub fn promised(&self) -> u64 {
+        let mut promised = 0u64;
+        for guest in self.guests.iter() {
+            promised = promised.saturating_add(u64::from(guest.is_promised()));
+        }
+        promised
     }
 
     /// Bytes may have come for the client of this number: it is looked at in the next turn.
@@ -162,13 +234,14 @@ impl<S: Read + Write + Drop> Guests<S> {
         &mut self,
         alloc: Global,
         front: &Front<'_, T>,
+        places: &mut u64,
     ) -> Result<Vec<Opened<S>>, AllocError>
         ensures looked { IfOk result (λ opened. LooksAll self.old.guests.items self.new.guests.items opened.items) }
         ensures no_room { OnErr result (self.new ≡ self.old) }
     {
         let mut opened = Vec::with_capacity(alloc, self.guests.len())?;
         for guest in self.guests.iter_mut() {
-            guest.look_into(alloc, front, &mut opened)?;
+            guest.look_into(alloc, front, places, &mut opened)?;
         }
         Ok(opened)
     }
@@ -181,16 +254,18 @@ impl<S: Read + Write + Drop> Guests<S> {
     }
 
     /// Goes on with each handshake that is ready: the sockets of those that are done, in the order of their clients.
-    /// Clients whose handshakes are over go, and so do those whose requests were answered otherwise, from `front`. Where memory for all that may be done is wanting, nothing is done.
+    /// Clients whose handshakes are over go, and so do those whose requests were answered otherwise, from `front`, as all are who ask for a WebSocket where so many were promised one as there are places. Where memory for all that may be done is wanting, nothing is done.
     pub fn turn<T: Tells>(
         &mut self,
         alloc: Global,
         front: &Front<'_, T>,
+        places: u64,
     ) -> Result<Vec<Opened<S>>, AllocError>
         ensures turned { IfOk result (λ opened. Turns self.old.guests.items self.new.guests.items opened.items) }
         ensures no_room { OnErr result (self.new.guests.items ≡ self.old.guests.items) }
     {
-        let opened = self.look_at_all(alloc, front)?;
+        let mut places = places;
+        let opened = self.look_at_all(alloc, front, &mut places)?;
         self.give_up();
         Ok(opened)
     }

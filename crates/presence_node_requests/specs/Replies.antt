@@ -2,7 +2,7 @@
 use Rattle.std.specs.Prelude.{◌≡◌, ℕ, Bool, false, List, codes, Some}
 use Rattle.presence_node_requests.specs.Heads.{Opens, plain_bytes}
 use Rattle.presence_node_requests.specs.declared.answer.Answer.{Answer}
-use Rattle.presence_node_requests.specs.declared.answer.Answer.TheVariants.{Socket, Page, Health, Metrics, BadRequest, Forbidden, NotFound, NotAllowed}
+use Rattle.presence_node_requests.specs.declared.answer.Answer.TheVariants.{Socket, Page, Health, Metrics, BadRequest, Forbidden, NotFound, NotAllowed, Full, Crowded, Hasty}
 use Rattle.presence_node_requests.specs.declared.head.Request.{Request}
 use Rattle.presence_node_requests.specs.declared.page.TheConstants.{PAGE}
 
@@ -16,6 +16,9 @@ status_in BadRequest = codes "400 Bad Request"
 status_in Forbidden = codes "403 Forbidden"
 status_in NotFound = codes "404 Not Found"
 status_in NotAllowed = codes "405 Method Not Allowed\r\nallow: GET"
+status_in Full = codes "503 Service Unavailable\r\nretry-after: 5"
+status_in Crowded = codes "503 Service Unavailable\r\nretry-after: 5"
+status_in Hasty = codes "429 Too Many Requests\r\nretry-after: 5"
 
 -- what stands in the text of an answer
 abbrev pub Says : List ℕ → Answer → List ℕ → Type 0

@@ -22,6 +22,12 @@ pub enum Answer {
     NotFound,
     /// It has another method than `GET`.
     NotAllowed,
+    /// It asks for a WebSocket, and there is no place for one.
+    Full,
+    /// The same, and as many clients of its address are here as may be.
+    Crowded,
+    /// The same, and clients of its address come too fast.
+    Hasty,
 }
 
 /// The subprotocol that is told to clients which ask for it.

@@ -21,6 +21,8 @@ fn status_of(answer: Answer) -> &'static str
         Answer::Forbidden => "403 Forbidden",
         Answer::NotFound => "404 Not Found",
         Answer::NotAllowed => "405 Method Not Allowed\r\nallow: GET",
+        Answer::Full | Answer::Crowded => "503 Service Unavailable\r\nretry-after: 5",
+        Answer::Hasty => "429 Too Many Requests\r\nretry-after: 5",
     }
 }
 
@@ -44,6 +46,9 @@ fn body_of(answer: Answer, metrics: &str) -> &str
         Answer::BadRequest => "this is no request for a WebSocket of version 13\n",
         Answer::Forbidden => "pages of this origin are not let in\n",
         Answer::NotAllowed => "GET alone is answered\n",
+        Answer::Full => "no place is free\n",
+        Answer::Crowded => "no further client of this address is taken\n",
+        Answer::Hasty => "clients of this address come too fast\n",
         _ => "here are /, /health and /metrics\n",
     }
 }

@@ -1,7 +1,7 @@
 use Rattle.std.proofs.Common.{◌≡◌, ℕ, Bool, List, refl}
 use Rattle.presence_node_requests.specs.Replies.{IsPlainReply, IsReplyTo}
 use Rattle.presence_node_requests.specs.declared.answer.Answer.{Answer}
-use Rattle.presence_node_requests.specs.declared.answer.Answer.TheVariants.{Socket, Page, Health, Metrics, BadRequest, Forbidden, NotFound, NotAllowed}
+use Rattle.presence_node_requests.specs.declared.answer.Answer.TheVariants.{Socket, Page, Health, Metrics, BadRequest, Forbidden, NotFound, NotAllowed, Full, Crowded, Hasty}
 use Rattle.presence_node_requests.specs.declared.head.Request.{Request}
 use Rattle.presence_node_requests.proofs.replying.reply_of.Goals as goal
 
@@ -16,6 +16,9 @@ plain_is request metrics BadRequest reply other h = h
 plain_is request metrics Forbidden reply other h = h
 plain_is request metrics NotFound reply other h = h
 plain_is request metrics NotAllowed reply other h = h
+plain_is request metrics Full reply other h = h
+plain_is request metrics Crowded reply other h = h
+plain_is request metrics Hasty reply other h = h
 
 pub returns-in_default : goal.returns-in_default
 returns-in_default c =
