@@ -1,8 +1,10 @@
 //! The counts.
-use crate::text::{Family, family_text};
-use presence_node_handshakes::{Answer, GivenUp, Tells};
-use std::alloc::{AllocError, Global};
-use std::sync::atomic::{AtomicU64, Ordering};
+use crate::count::Count;
+use crate::ended::Ended;
+use crate::kinds::{Answers, Calls, Ends};
+use crate::told::{EndsTold, Told};
+use presence_node_handshakes::{Answer, GivenUp};
+use presence_node_tallies::Tally;
 
 /// Why a connection was dropped that had been taken.
 #[derive(Clone, Copy, PartialEq, Eq, Debug)]
@@ -15,72 +17,32 @@ pub enum Dropped {
     Queue,
 }
 
-// One count.
-#[derive(Drop)]
-struct Count {
-    value: AtomicU64,
+/// Why a checkpoint was made.
+#[derive(Clone, Copy, PartialEq, Eq, Debug)]
+pub enum Checkpoint {
+    /// The journal was nearly full.
+    Due,
+    /// A call found it full.
+    Full,
 }
 
-impl Count {
-    fn new() -> Count {
-        Count {
-            value: AtomicU64::new(0),
-        }
+// How many ended.
+fn all_ends(ends: &EndsTold) -> u64 {
+    let closed = [
+        ends.normal,
+        ends.away,
+        ends.unsupported,
+        ends.policy,
+        ends.size,
+        ends.error,
+        ends.client,
+        ends.stream,
+    ];
+    let mut all: u64 = 0;
+    for count in closed {
+        all = all.saturating_add(count);
     }
-
-    fn add(&self) {
-        let _before = self.value.fetch_add(1, Ordering::SeqCst);
-    }
-
-    fn set(&self, value: u64) {
-        self.value.store(value, Ordering::SeqCst);
-    }
-
-    fn get(&self) -> u64 {
-        self.value.load(Ordering::SeqCst)
-    }
-}
-
-// How many requests got each answer.
-#[derive(Drop)]
-struct Answers {
-    sockets: Count,
-    pages: Count,
-    health: Count,
-    metrics: Count,
-    bad_requests: Count,
-    forbidden: Count,
-    not_found: Count,
-    not_allowed: Count,
-}
-
-impl Answers {
-    fn new() -> Answers {
-        Answers {
-            sockets: Count::new(),
-            pages: Count::new(),
-            health: Count::new(),
-            metrics: Count::new(),
-            bad_requests: Count::new(),
-            forbidden: Count::new(),
-            not_found: Count::new(),
-            not_allowed: Count::new(),
-        }
-    }
-
-    // Where this answer is counted.
-    fn of(&self, answer: Answer) -> &Count {
-        match answer {
-            Answer::Socket(_) => &self.sockets,
-            Answer::Page => &self.pages,
-            Answer::Health => &self.health,
-            Answer::Metrics => &self.metrics,
-            Answer::BadRequest => &self.bad_requests,
-            Answer::Forbidden => &self.forbidden,
-            Answer::NotFound => &self.not_found,
-            Answer::NotAllowed => &self.not_allowed,
-        }
-    }
+    all
 }
 
 /// What the server has counted since it began.
@@ -95,6 +57,11 @@ pub struct Counts {
     failed: Count,
     silent: Count,
     answers: Answers,
+    begun: Count,
+    due_checkpoints: Count,
+    full_checkpoints: Count,
+    ends: Ends,
+    calls: Calls,
 }
 
 impl Counts {
@@ -110,12 +77,17 @@ impl Counts {
             failed: Count::new(),
             silent: Count::new(),
             answers: Answers::new(),
+            begun: Count::new(),
+            due_checkpoints: Count::new(),
+            full_checkpoints: Count::new(),
+            ends: Ends::new(),
+            calls: Calls::new(),
         }
     }
 
     /// A connection was taken.
     pub fn took(&self) {
-        self.connections.add();
+        self.connections.add_one();
     }
 
     /// So many requests are being waited for or answered.
@@ -125,128 +97,77 @@ impl Counts {
 
     /// A connection was handed to the workers.
     pub fn handed_on(&self) {
-        self.handed_on.add();
+        self.handed_on.add_one();
     }
 
     /// One was dropped.
     pub fn dropped(&self, why: Dropped) {
         match why {
-            Dropped::Handshakes => self.no_room.add(),
-            Dropped::Watch => self.unwatched.add(),
-            Dropped::Queue => self.queue_full.add(),
+            Dropped::Handshakes => self.no_room.add_one(),
+            Dropped::Watch => self.unwatched.add_one(),
+            Dropped::Queue => self.queue_full.add_one(),
         }
     }
 
-    // The connections, and what became of them.
-    fn connections_text(&self, alloc: Global, text: &mut String) -> Result<(), AllocError> {
-        family_text(
-            alloc,
-            text,
-            &Family {
-                name: "presence_node_connections_total",
-                help: "Connections that were taken.",
-                kind: "counter",
-                label: "",
-            },
-            &[("", self.connections.get())],
-        )?;
-        family_text(
-            alloc,
-            text,
-            &Family {
-                name: "presence_node_sockets_total",
-                help: "WebSockets that were handed to the workers.",
-                kind: "counter",
-                label: "",
-            },
-            &[("", self.handed_on.get())],
-        )?;
-        family_text(
-            alloc,
-            text,
-            &Family {
-                name: "presence_node_connections_dropped_total",
-                help: "Connections that were taken and dropped.",
-                kind: "counter",
-                label: "reason",
-            },
-            &[
-                ("handshakes", self.no_room.get()),
-                ("watch", self.unwatched.get()),
-                ("queue", self.queue_full.get()),
-            ],
-        )
+    /// A request got this answer.
+    pub fn answered(&self, answer: Answer) {
+        self.answers.of(answer).add_one();
     }
 
-    // The requests that have no answer, or none yet.
-    fn waiting_text(&self, alloc: Global, text: &mut String) -> Result<(), AllocError> {
-        family_text(
-            alloc,
-            text,
-            &Family {
-                name: "presence_node_requests_under_way",
-                help: "Connections whose request is waited for or being answered.",
-                kind: "gauge",
-                label: "",
-            },
-            &[("", self.under_way.get())],
-        )?;
-        family_text(
-            alloc,
-            text,
-            &Family {
-                name: "presence_node_requests_given_up_total",
-                help: "Connections that ended before they were answered.",
-                kind: "counter",
-                label: "reason",
-            },
-            &[("failed", self.failed.get()), ("silent", self.silent.get())],
-        )
-    }
-
-    // The requests, by their answers.
-    fn requests_text(&self, alloc: Global, text: &mut String) -> Result<(), AllocError> {
-        family_text(
-            alloc,
-            text,
-            &Family {
-                name: "presence_node_requests_total",
-                help: "Requests at the port of clients, by their answer.",
-                kind: "counter",
-                label: "answer",
-            },
-            &[
-                ("socket", self.answers.sockets.get()),
-                ("page", self.answers.pages.get()),
-                ("health", self.answers.health.get()),
-                ("metrics", self.answers.metrics.get()),
-                ("bad_request", self.answers.bad_requests.get()),
-                ("forbidden", self.answers.forbidden.get()),
-                ("not_found", self.answers.not_found.get()),
-                ("not_allowed", self.answers.not_allowed.get()),
-            ],
-        )
-    }
-}
-
-impl Tells for Counts {
-    fn metrics(&self, alloc: Global) -> Result<String, AllocError> {
-        let mut text = String::new(alloc);
-        self.connections_text(alloc, &mut text)?;
-        self.waiting_text(alloc, &mut text)?;
-        self.requests_text(alloc, &mut text)?;
-        Ok(text)
-    }
-
-    fn answered(&self, answer: Answer) {
-        self.answers.of(answer).add();
-    }
-
-    fn gave_up(&self, cause: GivenUp) {
+    /// A client got none.
+    pub fn gave_up(&self, cause: GivenUp) {
         match cause {
             GivenUp::Answered => {}
-            GivenUp::Failed => self.failed.add(),
-            GivenUp::Silent => self.silent.add(),
+            GivenUp::Failed => self.failed.add_one(),
+            GivenUp::Silent => self.silent.add_one(),
+        }
+    }
+
+    /// So many sessions began.
+    pub fn began(&self, sessions: usize) {
+        self.begun.add(sessions as u64);
+    }
+
+    /// A session ended.
+    pub fn ended(&self, end: Ended) {
+        self.ends.of(end).add_one();
+    }
+
+    /// Sessions made these calls.
+    pub fn called(&self, calls: &Tally) {
+        self.calls.add(calls);
+    }
+
+    /// A checkpoint was made.
+    pub fn made(&self, checkpoint: Checkpoint) {
+        match checkpoint {
+            Checkpoint::Due => self.due_checkpoints.add_one(),
+            Checkpoint::Full => self.full_checkpoints.add_one(),
+        }
+    }
+
+    /// What was counted. Ends are looked at before what began, so that there are never more of them.
+    pub fn told(&self) -> Told {
+        let ends = self.ends.told();
+        let begun = self.begun.get();
+        let calls = self.calls.told();
+        Told {
+            connections: self.connections.get(),
+            under_way: self.under_way.get(),
+            handed_on: self.handed_on.get(),
+            no_room: self.no_room.get(),
+            unwatched: self.unwatched.get(),
+            queue_full: self.queue_full.get(),
+            failed: self.failed.get(),
+            silent: self.silent.get(),
+            answers: self.answers.told(),
+            begun,
+            sessions: begun.saturating_sub(all_ends(&ends)),
+            ends,
+            calls,
+            places: calls.joins.saturating_sub(calls.leaves),
+            due_checkpoints: self.due_checkpoints.get(),
+            full_checkpoints: self.full_checkpoints.get(),
         }
     }
 }

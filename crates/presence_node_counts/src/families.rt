@@ -1,0 +1,142 @@
+//! The families of counts that `/metrics` tells.
+use crate::text::Family;
+
+pub(crate) const CONNECTIONS: Family = Family {
+    name: "presence_node_connections_total",
+    help: "Connections that were taken.",
+    kind: "counter",
+    label: "",
+};
+
+pub(crate) const DROPPED: Family = Family {
+    name: "presence_node_connections_dropped_total",
+    help: "Connections that were taken and dropped.",
+    kind: "counter",
+    label: "reason",
+};
+
+pub(crate) const UNDER_WAY: Family = Family {
+    name: "presence_node_requests_under_way",
+    help: "Connections whose request is waited for or being answered.",
+    kind: "gauge",
+    label: "",
+};
+
+pub(crate) const GIVEN_UP: Family = Family {
+    name: "presence_node_requests_given_up_total",
+    help: "Connections that ended before they were answered.",
+    kind: "counter",
+    label: "reason",
+};
+
+pub(crate) const REQUESTS: Family = Family {
+    name: "presence_node_requests_total",
+    help: "Requests at the port of clients, by their answer.",
+    kind: "counter",
+    label: "answer",
+};
+
+pub(crate) const SOCKETS: Family = Family {
+    name: "presence_node_sockets_total",
+    help: "WebSockets that were handed to the workers.",
+    kind: "counter",
+    label: "",
+};
+
+pub(crate) const SESSIONS: Family = Family {
+    name: "presence_node_sessions",
+    help: "Sessions that are open.",
+    kind: "gauge",
+    label: "",
+};
+
+pub(crate) const BEGUN: Family = Family {
+    name: "presence_node_sessions_begun_total",
+    help: "Sessions that began.",
+    kind: "counter",
+    label: "",
+};
+
+pub(crate) const ENDED: Family = Family {
+    name: "presence_node_sessions_ended_total",
+    help: "Sessions that ended, by the code that the server closed them with, or by what ended them without one.",
+    kind: "counter",
+    label: "close",
+};
+
+pub(crate) const PLACES: Family = Family {
+    name: "presence_node_places",
+    help: "Places of sessions on topics.",
+    kind: "gauge",
+    label: "",
+};
+
+pub(crate) const CALLS: Family = Family {
+    name: "presence_node_calls_total",
+    help: "Accepted calls of sessions, by kind; a session that ends leaves each topic.",
+    kind: "counter",
+    label: "call",
+};
+
+pub(crate) const REFUSED: Family = Family {
+    name: "presence_node_calls_refused_total",
+    help: "Calls of sessions that were refused.",
+    kind: "counter",
+    label: "",
+};
+
+pub(crate) const DELIVERIES: Family = Family {
+    name: "presence_node_deliveries_total",
+    help: "What sessions were delivered of their topics, by kind.",
+    kind: "counter",
+    label: "kind",
+};
+
+pub(crate) const ENTRIES: Family = Family {
+    name: "presence_node_journal_entries",
+    help: "Entries of the journal since its last checkpoint.",
+    kind: "gauge",
+    label: "shard",
+};
+
+pub(crate) const CHECKPOINTS: Family = Family {
+    name: "presence_node_checkpoints_total",
+    help: "Checkpoints, by why they were made.",
+    kind: "counter",
+    label: "reason",
+};
+
+pub(crate) const LINKS: Family = Family {
+    name: "presence_node_links",
+    help: "Links to other nodes that are up.",
+    kind: "gauge",
+    label: "",
+};
+
+pub(crate) const CAME_UP: Family = Family {
+    name: "presence_node_links_up_total",
+    help: "Links that came up.",
+    kind: "counter",
+    label: "",
+};
+
+pub(crate) const WENT_DOWN: Family = Family {
+    name: "presence_node_links_down_total",
+    help: "Links that went down.",
+    kind: "counter",
+    label: "",
+};
+
+pub(crate) const BEATS: Family = Family {
+    name: "presence_node_link_beats_total",
+    help: "Beats that went out over links.",
+    kind: "counter",
+    label: "",
+};
+
+pub(crate) const WANTS: Family = Family {
+    name: "presence_node_link_wants_total",
+    help: "Times that another node asked for what it lacks.",
+    kind: "counter",
+    label: "",
+};
