@@ -1,7 +1,9 @@
 //! A worker's thread: it serves its connections in turns.
 use crate::draining::{Drain, Due, count_anew, have_all_delivered, is_due, make_due, set_draining};
+use crate::ends::count_ends;
 use crate::server::Server;
 use hook_registry::PresenceHooks;
+use presence_node_counts::{Checkpoint, Counts};
 use presence_node_hints::{Followed, HintingPort, Noted, Topics, follows};
 use presence_node_leaving::{
     Client, ClientSocket, Leavers, Stage, Worker, hold_stalled, mark_put_off, resume_recovered,
@@ -9,8 +11,10 @@ use presence_node_leaving::{
 use presence_node_link_threads::{Wakes, time_behind};
 use presence_node_ports::PoolPort;
 use presence_node_queue::Taker;
+use presence_node_rations::{RationedPort, Rations};
 use presence_node_sockets::{Watch, number_of};
-use shard_pool::{Lane, Seat};
+use presence_node_tallies::CountingPort;
+use shard_pool::{Lane, NoGate, Seat};
 use std::alloc::Global;
 use std::sync::{Arc, Wait};
 use std::thread;
@@ -115,22 +119,48 @@ struct Served {
     has_made_room: bool,
 }
 
-// Serves each connection that is ready, through the seat.
-fn serve_ready<R: Wait, H: PresenceHooks, A: Lane, B: Lane, C: Lane, D: Lane>(
-    rt: &R,
-    server: &Server<'_, H, A, B, C, D>,
-    seat: &mut Seat<A, B, C, D>,
-    worker: &mut Worker<ClientSocket>,
-    now: u64,
+// The port of a worker's turn: it keeps each connection within its rations, counts the calls, and notes what they may
+// have changed.
+type TurnPort<'a, R, A, B, C, D> = HintingPort<
+    CountingPort<RationedPort<'a, PoolPort<'a, R, NoGate, A, B, C, D>>>,
+>;
+
+// A port over the server's pool, through the seat.
+fn port_at<'a, R: Wait, H, A: Lane, B: Lane, C: Lane, D: Lane>(
+    rt: &'a R,
+    server: &'a Server<'_, H, A, B, C, D>,
+    seat: &'a mut Seat<A, B, C, D>,
+    rations: &'a mut Rations,
+) -> TurnPort<'a, R, A, B, C, D> {
+    let rationed = RationedPort::new(PoolPort::new(rt, &server.pool, seat), rations);
+    HintingPort::new(server.alloc, CountingPort::new(rationed))
+}
+
+// Counts what went through a turn's port: what came of the turn.
+fn served_by<R: Wait, A: Lane, B: Lane, C: Lane, D: Lane>(
+    counts: &Counts,
+    port: TurnPort<'_, R, A, B, C, D>,
 ) -> Served {
-    let inner = PoolPort::new(rt, &server.pool, seat);
-    let mut port = HintingPort::new(server.alloc, inner);
-    worker.turn(server.alloc, &mut port, server.routes, server.hooks, now);
-    let has_made_room = port.port().has_made_room();
+    counts.called(&port.port().tally());
+    let has_made_room = port.port().port().port().has_made_room();
     Served {
         noted: port.into_noted(),
         has_made_room,
     }
+}
+
+// Serves each connection that is ready, through the seat, within its rations.
+fn serve_ready<R: Wait, H: PresenceHooks, A: Lane, B: Lane, C: Lane, D: Lane>(
+    rt: &R,
+    server: &Server<'_, H, A, B, C, D>,
+    seat: &mut Seat<A, B, C, D>,
+    rations: &mut Rations,
+    worker: &mut Worker<ClientSocket>,
+    now: u64,
+) -> Served {
+    let mut port = port_at(rt, server, seat, rations);
+    worker.turn(server.alloc, &mut port, server.routes, server.hooks, now);
+    served_by(&server.counts, port)
 }
 
 // The same, where nothing is read.
@@ -138,21 +168,19 @@ fn deliver_ready<R: Wait, H: PresenceHooks, A: Lane, B: Lane, C: Lane, D: Lane>(
     rt: &R,
     server: &Server<'_, H, A, B, C, D>,
     seat: &mut Seat<A, B, C, D>,
+    rations: &mut Rations,
     worker: &mut Worker<ClientSocket>,
 ) -> Served {
-    let inner = PoolPort::new(rt, &server.pool, seat);
-    let mut port = HintingPort::new(server.alloc, inner);
+    let mut port = port_at(rt, server, seat, rations);
     worker.deliver(server.alloc, &mut port, server.hooks);
-    let has_made_room = port.port().has_made_room();
-    Served {
-        noted: port.into_noted(),
-        has_made_room,
-    }
+    served_by(&server.counts, port)
 }
 
 /// What a worker has of its own.
 pub struct Bench<A: Lane, B: Lane, C: Lane, D: Lane> {
     seat: Seat<A, B, C, D>,
+    /// What its connections have of the rows that each may have.
+    rations: Rations,
     worker: Worker<ClientSocket>,
     watch: Watch,
     leavers: Leavers,
@@ -175,6 +203,7 @@ impl<A: Lane, B: Lane, C: Lane, D: Lane> Drop for Bench<A, B, C, D> {
     fn drop(self) {
         let Bench {
             seat,
+            rations,
             worker,
             watch,
             leavers,
@@ -187,6 +216,7 @@ impl<A: Lane, B: Lane, C: Lane, D: Lane> Drop for Bench<A, B, C, D> {
             drain: _,
         } = self;
         drop(seat);
+        drop(rations);
         drop(worker);
         drop(watch);
         drop(leavers);
@@ -207,6 +237,7 @@ impl<A: Lane, B: Lane, C: Lane, D: Lane> Bench<A, B, C, D> {
     {
         Bench {
             seat,
+            rations: Rations::new(alloc),
             worker: Worker::new(alloc, taker),
             watch,
             leavers: Leavers::new(alloc),
@@ -226,6 +257,7 @@ impl<A: Lane, B: Lane, C: Lane, D: Lane> Bench<A, B, C, D> {
     {
         let Bench {
             seat,
+            rations,
             worker,
             watch,
             leavers,
@@ -237,6 +269,7 @@ impl<A: Lane, B: Lane, C: Lane, D: Lane> Bench<A, B, C, D> {
             turns: _,
             drain: _,
         } = self;
+        drop(rations);
         drop(worker);
         drop(watch);
         drop(leavers);
@@ -244,9 +277,12 @@ impl<A: Lane, B: Lane, C: Lane, D: Lane> Bench<A, B, C, D> {
     }
 
     // Takes the connections that wait.
-    fn take_in<R: Wait>(&mut self, rt: &R, alloc: Global) {
+    fn take_in<R: Wait, H>(&mut self, rt: &R, server: &Server<'_, H, A, B, C, D>) {
         let served = self.worker.len();
-        let _later = self.worker.take_in(rt, alloc, self.now);
+        let _later = self.worker.take_in(rt, server.alloc, self.now);
+        server
+            .counts
+            .began(self.worker.len().saturating_sub(served));
         watch_from(&self.watch, &self.worker, served);
     }
 
@@ -275,7 +311,7 @@ impl<A: Lane, B: Lane, C: Lane, D: Lane> Bench<A, B, C, D> {
         }
         self.dealt = self.now;
         self.crowded = told.len() > 1;
-        self.send(false);
+        self.send(&server.counts, false);
         let topics = joined_topics(server.alloc, told.as_slice());
         self.mark_followers(&topics);
     }
@@ -303,6 +339,7 @@ impl<A: Lane, B: Lane, C: Lane, D: Lane> Bench<A, B, C, D> {
         } = served;
         self.turns = self.turns.wrapping_add(1);
         if has_made_room {
+            server.counts.made(Checkpoint::Full);
             self.worker.mark_all();
             server.look();
         }
@@ -319,7 +356,14 @@ impl<A: Lane, B: Lane, C: Lane, D: Lane> Bench<A, B, C, D> {
         server: &Server<'_, H, A, B, C, D>,
     ) -> Noted {
         hold_stalled(&mut self.worker, self.now);
-        let served = serve_ready(rt, server, &mut self.seat, &mut self.worker, self.now);
+        let served = serve_ready(
+            rt,
+            server,
+            &mut self.seat,
+            &mut self.rations,
+            &mut self.worker,
+            self.now,
+        );
         mark_put_off(&mut self.worker);
         self.noted_in(rt, server, served)
     }
@@ -332,7 +376,13 @@ impl<A: Lane, B: Lane, C: Lane, D: Lane> Bench<A, B, C, D> {
     ) -> Noted {
         self.worker.mark_all();
         hold_stalled(&mut self.worker, self.now);
-        let served = deliver_ready(rt, server, &mut self.seat, &mut self.worker);
+        let served = deliver_ready(
+            rt,
+            server,
+            &mut self.seat,
+            &mut self.rations,
+            &mut self.worker,
+        );
         self.noted_in(rt, server, served)
     }
 
@@ -427,7 +477,7 @@ impl<A: Lane, B: Lane, C: Lane, D: Lane> Bench<A, B, C, D> {
     ) {
         let noted = self.deliver(rt, server);
         self.tell(rt, server, own, noted);
-        self.send(false);
+        self.send(&server.counts, false);
         if let Some(mailbox) = server.mailboxes.get(own) {
             mailbox.has_drained();
         }
@@ -445,13 +495,14 @@ impl<A: Lane, B: Lane, C: Lane, D: Lane> Bench<A, B, C, D> {
     }
 
     // Sends what waits. It gathers for some turns while messages come. A client that is given up here leaves.
-    fn send(&mut self, busy: bool) {
+    fn send(&mut self, counts: &Counts, busy: bool) {
         if busy && self.held < MAX_HELD {
             self.held += 1;
             return;
         }
         self.held = 0;
         let first = self.leavers.admit(&self.worker, &self.watch, self.now);
+        count_ends(counts, &self.worker);
         self.worker.flush();
         self.leavers.hang_up(first);
         resume_recovered(&mut self.worker);
@@ -500,9 +551,10 @@ impl<A: Lane, B: Lane, C: Lane, D: Lane> Bench<A, B, C, D> {
         server: &Server<'_, H, A, B, C, D>,
     ) {
         for _ in 0..MAX_LAST_TURNS {
-            self.take_in(rt, server.alloc);
+            self.take_in(rt, server);
             self.worker.stop_all();
             let _told = self.serve(rt, server);
+            count_ends(&server.counts, &self.worker);
             self.worker.flush();
             if self.worker.len() == 0 {
                 break;
@@ -524,7 +576,7 @@ impl<A: Lane, B: Lane, C: Lane, D: Lane> Bench<A, B, C, D> {
             self.hear(rt, server, own);
         }
         let busy = self.is_busy();
-        self.send(busy);
+        self.send(&server.counts, busy);
     }
 
     // Takes in what waits, serves what is ready and waits for more.
@@ -534,7 +586,7 @@ impl<A: Lane, B: Lane, C: Lane, D: Lane> Bench<A, B, C, D> {
         server: &Server<'_, H, A, B, C, D>,
         own: usize,
     ) {
-        self.take_in(rt, server.alloc);
+        self.take_in(rt, server);
         if self.is_draining(server, own) {
             self.drain(rt, server, own);
         } else {

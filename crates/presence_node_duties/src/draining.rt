@@ -3,6 +3,7 @@
 ghost use Rattle.std.specs.Prelude.{◌<◌};
 
 use crate::server::Server;
+use presence_node_counts::Checkpoint;
 use shard_pool::{Lane, PoolFault};
 use std::sync::Wait;
 use std::sync::atomic::Ordering;
@@ -184,13 +185,18 @@ fn make_at<R: Wait, H, A: Lane, B: Lane, C: Lane, D: Lane>(
     if server.pool.entry_count(rt, shard) < DUE_ENTRIES {
         return Ok(true);
     }
-    if is_over {
+    let is_made = if is_over {
         server.pool.checkpoint(rt, server.alloc, shard)?;
-        return Ok(true);
+        true
+    } else {
+        server
+            .pool
+            .checkpoint_where_quiet(rt, server.alloc, shard, DUE_ENTRIES)?
+    };
+    if is_made {
+        server.counts.made(Checkpoint::Due);
     }
-    server
-        .pool
-        .checkpoint_where_quiet(rt, server.alloc, shard, DUE_ENTRIES)
+    Ok(is_made)
 }
 
 /// Tries each checkpoint that is due.

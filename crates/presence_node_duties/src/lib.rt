@@ -5,13 +5,18 @@
 #![tactic(auto)]
 
 mod bench;
+mod caller;
 mod door;
 mod draining;
+mod ends;
+mod neighbours;
 mod place;
+mod pulse;
 mod server;
 
 pub use bench::Bench;
-pub use door::{Door, LISTENER};
+pub use door::{Door, LISTENER, Limits};
+pub use neighbours::AddressLimits;
 pub use place::{Workplace, seats_of};
 // What threads are begun with, beside their duties.
 pub use presence_node_counts::Counts;

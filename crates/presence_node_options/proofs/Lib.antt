@@ -4,3 +4,4 @@ pub mod Plain
 pub mod Asking
 pub mod Peers
 pub mod Origins
+pub mod Serving

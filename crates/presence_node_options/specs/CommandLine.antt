@@ -36,15 +36,17 @@ served_app =
     (option_rule (codes "shards") Set))
     (option_rule (codes "workers") Set)
 
--- and those of its topics and of links
+-- and those of its topics, of links and of addresses
 abbrev pub serve_app : App
 serve_app =
-    with_rule (with_rule (with_rule (with_rule (with_rule served_app
+    with_rule (with_rule (with_rule (with_rule (with_rule (with_rule (with_rule served_app
     (option_rule (codes "route") Append))
     (option_rule (codes "peer") Append))
     (option_rule (codes "listen") Set))
     (option_rule (codes "link-listen") Set))
-    (option_rule (codes "origin") Append)
+    (option_rule (codes "origin") Append))
+    (option_rule (codes "per-address") Set))
+    (option_rule (codes "handshakes") Set)
 
 -- the program itself, which is nothing without a command, and has a version
 abbrev pub top_app : App

@@ -13,7 +13,7 @@ use Rattle.presence_base.specs.Refs.{IsCount}
 use Rattle.presence_node_options.specs.CommandLine.{program}
 use Rattle.presence_node_options.specs.Limits.{numbered}
 use Rattle.presence_node_options.specs.declared.fault.UsageCause.{UsageCause}
-use Rattle.presence_node_options.specs.declared.fault.UsageCause.TheVariants.{Words, Name, Incarnation, Route, Port, LinkPort, Shards, Workers, Peer, Origin}
+use Rattle.presence_node_options.specs.declared.fault.UsageCause.TheVariants.{Words, Name, Incarnation, Route, Port, LinkPort, Shards, Workers, Peer, Origin, PerAddress, HandshakesPerSecond}
 use Rattle.presence_node_options.specs.declared.fault.UsageFault.{UsageFault}
 use Rattle.presence_node_options.specs.declared.fault.UsageFault.TheVariants.{Usage, Memory}
 use Rattle.presence_node_options.specs.declared.options.Options.{Options}
@@ -22,7 +22,7 @@ use Rattle.presence_node_options.specs.declared.options.PeerOption.{PeerOption}
 use Rattle.presence_node_options.specs.declared.options.ServeOptions.{ServeOptions}
 use Rattle.presence_node_options.specs.declared.options.StdioOptions.{StdioOptions}
 use Rattle.presence_base.specs.declared.names.TheConstants.{MAX_SHARDS}
-use Rattle.presence_node_options.specs.declared.options.TheConstants.{MAX_ORIGINS, MAX_WORKERS}
+use Rattle.presence_node_options.specs.declared.options.TheConstants.{MAX_HANDSHAKES_PER_SECOND, MAX_ORIGINS, MAX_PER_ADDRESS, MAX_WORKERS}
 
 -- the number that a text's digits write
 abbrev pub number_in : Text → ℕ
@@ -71,6 +71,13 @@ link_listen_given rows = unwrap_or (first_of (codes "link-listen") rows) (codes 
 -- the origins that are given, in their order
 abbrev pub origins_given : List Row → List Text
 origins_given rows = unwrap_or (all_of (codes "origin") rows) []
+
+-- the texts of how many clients one address may have, and how many handshakes a second, if they are given
+abbrev pub per_address_given : List Row → Option Text
+per_address_given rows = first_of (codes "per-address") rows
+
+abbrev pub handshakes_given : List Row → Option Text
+handshakes_given rows = first_of (codes "handshakes") rows
 
 abbrev pub is_yes : Option Text → Bool
 is_yes None = false
@@ -155,6 +162,8 @@ pub record IsServed (rows : List Row) (o : ServeOptions) : Type 0 where
   pub listen : string_bytes o.listen ≡ listen_given rows
   pub link_listen : string_bytes o.link_listen ≡ link_listen_given rows
   pub origins : map string_bytes o.origins.items ≡ origins_given rows
+  pub per_address : o.per_address ≡ option_map number_in (per_address_given rows)
+  pub handshakes_per_second : o.handshakes_per_second ≡ option_map number_in (handshakes_given rows)
 
 -- the words name this command, with these options
 abbrev pub Calls : List Text → Text → List Row → Type 0
@@ -221,6 +230,8 @@ Refuses rows Shards = ⊥
 Refuses rows Workers = ⊥
 Refuses rows Peer = ⊥
 Refuses rows Origin = ⊥
+Refuses rows PerAddress = ⊥
+Refuses rows HandshakesPerSecond = ⊥
 
 -- an incarnation, if one is given
 abbrev pub IsLife : Option Text → Type 0
@@ -247,8 +258,19 @@ AreShards rows = IsNumberWithin 1 MAX_SHARDS (shards_given rows)
 abbrev pub AreWorkers : List Row → Type 0
 AreWorkers rows = IsNumberWithin 1 MAX_WORKERS (workers_given rows)
 
+-- a number from 1 to this one, if one is given
+abbrev pub IsUpTo : ℕ → Option Text → Type 0
+IsUpTo high None = Unit {0}
+IsUpTo high (Some text) = IsNumberWithin 1 high text
+
+abbrev pub IsPerAddress : List Row → Type 0
+IsPerAddress rows = IsUpTo MAX_PER_ADDRESS (per_address_given rows)
+
+abbrev pub AreHandshakes : List Row → Type 0
+AreHandshakes rows = IsUpTo MAX_HANDSHAKES_PER_SECOND (handshakes_given rows)
+
 -- why the options of `serve` are refused: the name is looked at first, then the incarnation, the port, that of links, the
--- shards, the workers, the peers, the origins and the routes
+-- shards, the workers, the peers, the origins, how many clients and handshakes one address may have, and the routes
 abbrev pub ServeRefuses : List Row → UsageCause → Type 0
 ServeRefuses rows Incarnation = IsTrue (is_node_name (name_given rows)) × (IsLife (life_given rows) → ⊥)
 ServeRefuses rows Port = IsNamed rows × (IsPort rows → ⊥)
@@ -261,7 +283,12 @@ ServeRefuses rows Origin = IsNamed rows × ArePorts rows × AreShards rows × Ar
     × AllArePeers (peers_given rows) × (AreFewOrigins (origins_given rows) → ⊥)
 ServeRefuses rows Route =
     IsNamed rows × ArePorts rows × AreShards rows × AreWorkers rows × AllArePeers (peers_given rows)
-    × AreFewOrigins (origins_given rows) × (AreFewPatterns (patterns_given rows) → ⊥)
+    × AreFewOrigins (origins_given rows) × IsPerAddress rows × AreHandshakes rows
+    × (AreFewPatterns (patterns_given rows) → ⊥)
+ServeRefuses rows PerAddress = IsNamed rows × ArePorts rows × AreShards rows × AreWorkers rows
+    × AllArePeers (peers_given rows) × AreFewOrigins (origins_given rows) × (IsPerAddress rows → ⊥)
+ServeRefuses rows HandshakesPerSecond = IsNamed rows × ArePorts rows × AreShards rows × AreWorkers rows
+    × AllArePeers (peers_given rows) × AreFewOrigins (origins_given rows) × IsPerAddress rows × (AreHandshakes rows → ⊥)
 ServeRefuses rows cause = Refuses rows cause
 
 abbrev pub IsWrong : List Row → UsageFault → Type 0

@@ -3,21 +3,22 @@ ghost use Rattle.std.specs.Option.{ForSome};
 ghost use Rattle.presence_base.specs.Refs.{IsCount};
 ghost use Rattle.clap.specs.Words.{app_of, first_of, found_of, kind_of, rows_of, rule_of, subcommand_rows_of};
 ghost use Rattle.presence_node_options.specs.CommandLine.{flag_rule, option_rule, stdio_app, fold_app, serve_app, served_app, program};
-ghost use Rattle.presence_node_options.specs.Given.{AskFor, Chooses, ChoosesNone, HasCause, Refused, IsHelpFor, IsNoHelp, IsGiven, IsServed, IsServedWrong, IsFor, IsLife, IsWrong, AreFewOrigins, AreFewPatterns, AllArePeers, ArePeers, flag_given, life_given, number_in, origins_given, patterns_given, peers_given};
-ghost use Rattle.presence_node_options.specs.declared.options.TheConstants.{MAX_ORIGINS};
-ghost use Rattle.presence_node_options.specs.Limits.{AreRoutes, IsWithin, IsServedWithin, AreWithin, numbered};
+ghost use Rattle.presence_node_options.specs.Given.{AskFor, Chooses, ChoosesNone, HasCause, Refused, IsHelpFor, IsNoHelp, IsGiven, IsServed, IsServedWrong, IsFor, IsLife, IsWrong, AreFewOrigins, AreFewPatterns, AreHandshakes, AllArePeers, ArePeers, IsPerAddress, flag_given, handshakes_given, life_given, number_in, per_address_given, origins_given, patterns_given, peers_given};
+ghost use Rattle.presence_node_options.specs.declared.options.TheConstants.{MAX_HANDSHAKES_PER_SECOND, MAX_ORIGINS, MAX_PER_ADDRESS};
+ghost use Rattle.presence_node_options.specs.Limits.{AreRoutes, IsFrom1To, IsWithin, IsServedWithin, AreWithin, numbered};
 
 use crate::fault::{UsageCause, UsageFault};
 use crate::help::{
-    ALL_OPTIONS, ALLOWED, EXPLAIN_HELP, FOLD_REFUSALS, FOLD_USAGE, INCARNATION_HELP,
-    LINK_LISTEN_HELP, LINK_PORT_HELP, LISTEN_HELP, NAME_HELP, NOTICES_HELP, ORIGIN_HELP, PEER_HELP,
-    PORT_HELP, ROUTE_HELP, SERVE_ENDS, SERVE_USAGE, SERVED_INCARNATION_HELP, SHARDS_HELP,
-    STDIO_REFUSALS, STDIO_USAGE, TO_TRY, USAGES, VERSION, WORKERS_HELP,
+    ALL_OPTIONS, ALLOWED, EXPLAIN_HELP, FOLD_REFUSALS, FOLD_USAGE, HANDSHAKES_HELP,
+    INCARNATION_HELP, LINK_LISTEN_HELP, LINK_PORT_HELP, LISTEN_HELP, NAME_HELP, NOTICES_HELP,
+    ORIGIN_HELP, PEER_HELP, PER_ADDRESS_HELP, PORT_HELP, ROUTE_HELP, SERVE_ENDS, SERVE_USAGE,
+    SERVED_INCARNATION_HELP, SHARDS_HELP, STDIO_REFUSALS, STDIO_USAGE, TO_TRY, USAGES, VERSION,
+    WORKERS_HELP,
 };
 use crate::options::{FoldOptions, Options, PeerOption, ServeOptions, StdioOptions};
 use crate::values::{
-    address_of, incarnation_of, link_port_of, name_of, origins_of, peers_of, port_of, routes_of,
-    shards_of, usage_of, workers_of,
+    address_of, handshakes_of, incarnation_of, link_port_of, name_of, origins_of, peers_of,
+    per_address_of, port_of, routes_of, shards_of, usage_of, workers_of,
 };
 use clap::error::ErrorKind;
 use clap::{Arg, ArgAction, ArgMatches, Command, Error};
@@ -178,6 +179,30 @@ fn origin_option<'a>(alloc: Global) -> Arg<'a>
         .help(ORIGIN_HELP)
 }
 
+// `--per-address NUMBER`.
+fn per_address_option<'a>(alloc: Global) -> Arg<'a>
+    ensures rule { rule_of result ≡ option_rule (codes "per-address") ArgAction.Set }
+    ensures local { result.global ≡ false }
+{
+    Arg::new(alloc, "per-address")
+        .long("per-address")
+        .value_name("NUMBER")
+        .action(ArgAction::Set)
+        .help(PER_ADDRESS_HELP)
+}
+
+// `--handshakes NUMBER`.
+fn handshakes_option<'a>(alloc: Global) -> Arg<'a>
+    ensures rule { rule_of result ≡ option_rule (codes "handshakes") ArgAction.Set }
+    ensures local { result.global ≡ false }
+{
+    Arg::new(alloc, "handshakes")
+        .long("handshakes")
+        .value_name("NUMBER")
+        .action(ArgAction::Set)
+        .help(HANDSHAKES_HELP)
+}
+
 // The command `stdio` with its options.
 fn stdio_command<'a>(alloc: Global) -> Result<Command<'a>, AllocError>
     ensures { IfOk result (λ c. app_of c ≡ stdio_app) }
@@ -229,7 +254,9 @@ fn serve_command<'a>(alloc: Global) -> Result<Command<'a>, AllocError>
         .arg(peer_option(alloc))?
         .arg(listen_option(alloc))?
         .arg(link_listen_option(alloc))?
-        .arg(origin_option(alloc))
+        .arg(origin_option(alloc))?
+        .arg(per_address_option(alloc))?
+        .arg(handshakes_option(alloc))
 }
 
 // The whole command line.
@@ -393,6 +420,43 @@ fn given_life(alloc: Global, matches: &ArgMatches<'_>) -> Result<Option<u64>, Us
     }
 }
 
+// How many clients one address may have, if that is given.
+#[tactic(auto, using(crate::proofs::Rows::first_read))]
+fn given_per_address(alloc: Global, matches: &ArgMatches<'_>) -> Result<Option<u64>, UsageFault>
+    ensures number { IfOk result
+        (λ n. n ≡ option_map number_in (per_address_given (rows_of (found_of matches.now)))) }
+    ensures limits { IfOk result (λ n. ForSome n (IsFrom1To MAX_PER_ADDRESS)) }
+    ensures given { OnOk result (IsPerAddress (rows_of (found_of matches.now))) }
+    ensures cause { IfErr result (IsFor UsageCause.PerAddress (IsPerAddress (rows_of (found_of matches.now)) → ⊥)) }
+{
+    let Some(text) = matches.get_str("per-address") else {
+        return Ok(None);
+    };
+    match per_address_of(alloc, text) {
+        Ok(clients) => Ok(Some(clients)),
+        Err(fault) => Err(fault),
+    }
+}
+
+// How many handshakes a second one address may have, if that is given.
+#[tactic(auto, using(crate::proofs::Rows::first_read))]
+fn given_handshakes(alloc: Global, matches: &ArgMatches<'_>) -> Result<Option<u64>, UsageFault>
+    ensures number { IfOk result
+        (λ n. n ≡ option_map number_in (handshakes_given (rows_of (found_of matches.now)))) }
+    ensures limits { IfOk result (λ n. ForSome n (IsFrom1To MAX_HANDSHAKES_PER_SECOND)) }
+    ensures given { OnOk result (AreHandshakes (rows_of (found_of matches.now))) }
+    ensures cause { IfErr result
+        (IsFor UsageCause.HandshakesPerSecond (AreHandshakes (rows_of (found_of matches.now)) → ⊥)) }
+{
+    let Some(text) = matches.get_str("handshakes") else {
+        return Ok(None);
+    };
+    match handshakes_of(alloc, text) {
+        Ok(handshakes) => Ok(Some(handshakes)),
+        Err(fault) => Err(fault),
+    }
+}
+
 // Whether the flag is given.
 #[tactic(auto, using(crate::proofs::Rows::first_read))]
 fn is_flagged(matches: &ArgMatches<'_>, id: &str) -> bool
@@ -423,6 +487,7 @@ fn stdio_options(alloc: Global, matches: &ArgMatches<'_>) -> Result<StdioOptions
 }
 
 // The options of the words behind `serve`.
+#[tactic(auto, using(crate::proofs::Serving::too_hasty))]
 fn serve_options(alloc: Global, matches: &ArgMatches<'_>) -> Result<ServeOptions, UsageFault>
     ensures given { IfOk result (IsServed (rows_of (found_of matches.now))) }
     ensures limits { IfOk result IsServedWithin }
@@ -436,6 +501,8 @@ fn serve_options(alloc: Global, matches: &ArgMatches<'_>) -> Result<ServeOptions
     let workers = workers_of(alloc, text_given(matches, "workers", "4"))?;
     let peers = given_peers(alloc, matches)?;
     let origins = given_origins(alloc, matches)?;
+    let per_address = given_per_address(alloc, matches)?;
+    let handshakes_per_second = given_handshakes(alloc, matches)?;
     let routes = given_routes(alloc, matches)?;
     let listen = address_of(alloc, text_given(matches, "listen", "127.0.0.1"))?;
     let link_listen = address_of(alloc, text_given(matches, "link-listen", "127.0.0.1"))?;
@@ -451,6 +518,8 @@ fn serve_options(alloc: Global, matches: &ArgMatches<'_>) -> Result<ServeOptions
         listen,
         link_listen,
         origins,
+        per_address,
+        handshakes_per_second,
     })
 }
 

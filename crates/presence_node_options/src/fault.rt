@@ -24,6 +24,10 @@ pub enum UsageCause {
     Peer,
     /// There are too many origins.
     Origin,
+    /// The number of clients of one address is none from 1 to `MAX_PER_ADDRESS`.
+    PerAddress,
+    /// The number of handshakes is none from 1 to `MAX_HANDSHAKES_PER_SECOND`.
+    HandshakesPerSecond,
 }
 
 /// Why a command line was not taken: a cause with a text for the user, or want of memory.

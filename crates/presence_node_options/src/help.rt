@@ -51,6 +51,14 @@ pub(crate) const LINK_LISTEN_HELP: &str = "The address of the port of links [def
 pub(crate) const ORIGIN_HELP: &str = "Where pages may connect from; up to 64 times [default: any]
 As https://example.com; pages of other origins are refused";
 
+pub(crate) const PER_ADDRESS_HELP: &str =
+    "Clients that one address may have, 1 to 65536 [default: half of all]
+Not given, this machine and private networks may have any number";
+
+pub(crate) const HANDSHAKES_HELP: &str =
+    "Handshakes a second of one address, 1 to 1000 [default: 20]
+Not given, this machine and private networks may make any number";
+
 pub(crate) const SHARDS_HELP: &str = "How many shards the topics are dealt to, 1 to 4 [default: 4]";
 
 pub(crate) const WORKERS_HELP: &str = "How many threads answer clients, 1 to 64 [default: 4]
@@ -70,6 +78,8 @@ Options of serve:
       --port <PORT>            The port of clients, 1 to 65535 [default: 4000]
       --listen <ADDRESS>       The address of the port of clients [default: 127.0.0.1]
       --origin <ORIGIN>        Where pages may connect from; up to 64 times [default: any]
+      --per-address <NUMBER>   Clients that one address may have, 1 to 65536 [default: half of all]
+      --handshakes <NUMBER>    Handshakes a second of one address, 1 to 1000 [default: 20]
       --shards <NUMBER>        How many shards the topics are dealt to, 1 to 4 [default: 4]
       --workers <NUMBER>       How many threads answer clients, 1 to 64 [default: 4]
       --peer <NAME=HOST:PORT>  Another node to link to, as b=10.0.0.2:4001
@@ -156,7 +166,7 @@ A link is closed for these reasons:
       covers, a row twice, more than 65536 rows and extras, or a row outside its limits
       or of a topic of another shard
   N5  the other node has another number of shards
-  N6  reading failed, or nothing came for 30 seconds
+  N6  reading failed, or a line was late
   N7  writing failed
   N8  out of memory
   N9  the end came within a line";
@@ -169,4 +179,5 @@ behind it, of 1 to 255 bytes, --notices and --explain;
 fold takes --explain;
 serve takes --name, --incarnation and --route as stdio, --port PORT and --link-port PORT, 1 to
 65535, --shards NUMBER, 1 to 4, --workers NUMBER, 1 to 64, --peer NAME=HOST:PORT, as often as one
-likes, --listen ADDRESS, --link-listen ADDRESS and up to 64 times --origin ORIGIN";
+likes, --listen ADDRESS, --link-listen ADDRESS, up to 64 times --origin ORIGIN, --per-address
+NUMBER, 1 to 65536, and --handshakes NUMBER, 1 to 1000";

@@ -32,6 +32,12 @@ pub const MAX_WORKERS: u32 = 64;
 /// The most origins that a server is told.
 pub const MAX_ORIGINS: usize = 64;
 
+/// The most clients that one address can be given: as many as all workers have places.
+pub const MAX_PER_ADDRESS: u64 = 65_536;
+
+/// The most handshakes a second that one address can be given.
+pub const MAX_HANDSHAKES_PER_SECOND: u64 = 1_000;
+
 /// Another node that is linked to: its name, and the host and the port where its links come in.
 #[derive(Debug)]
 pub struct PeerOption {
@@ -54,7 +60,8 @@ impl Drop for PeerOption {
 /// What `serve` runs as: the node and its routes as those of `stdio`, the ports of its clients and of
 /// links, from 1 on, how many shards and workers there are, the nodes that are linked to, the addresses of both
 /// ports, and the origins whose pages may connect, or none where those of any may. Without an incarnation the node takes
-/// that of the clock.
+/// that of the clock. How many clients one address may have at once, and how many handshakes a second, are left to the
+/// server where they are none.
 #[derive(Debug, Drop)]
 pub struct ServeOptions {
     pub name: NodeName,
@@ -68,6 +75,8 @@ pub struct ServeOptions {
     pub listen: String,
     pub link_listen: String,
     pub origins: Vec<String>,
+    pub per_address: Option<u64>,
+    pub handshakes_per_second: Option<u64>,
     ghost is_count: { ForSome incarnation IsCount },
     ghost few_origins: { vec_len origins ≤ MAX_ORIGINS },
     ghost some_shards: { (0 < shards) × (shards ≤ MAX_SHARDS) },

@@ -4,10 +4,12 @@ ghost use Rattle.presence_base.specs.Refs.{IsCount};
 ghost use Rattle.presence_node_options.specs.Given.{number_in, AllArePeers, ArePeers, IsAddressIn, IsPeerIn, IsPeerText, IsIncarnation, IsIncarnationIn, IsNumberIn, IsNumberWithin, HasCause, IsFor, MayFollow, AreFewOrigins, AreFewPatterns};
 ghost use Rattle.presence_node_options.specs.Limits.{ArePatterns, AreRoutes, numbered};
 ghost use Rattle.presence_base.specs.declared.names.TheConstants.{MAX_SHARDS};
-ghost use Rattle.presence_node_options.specs.declared.options.TheConstants.{MAX_ORIGINS, MAX_WORKERS};
+ghost use Rattle.presence_node_options.specs.declared.options.TheConstants.{MAX_HANDSHAKES_PER_SECOND, MAX_ORIGINS, MAX_PER_ADDRESS, MAX_WORKERS};
 
 use crate::fault::{UsageCause, UsageFault};
-use crate::options::{MAX_ORIGINS, MAX_WORKERS, PeerOption};
+use crate::options::{
+    MAX_HANDSHAKES_PER_SECOND, MAX_ORIGINS, MAX_PER_ADDRESS, MAX_WORKERS, PeerOption,
+};
 use hook_registry::{MAX_PATTERN_BYTES, MAX_ROUTES, RouteFault, Routes};
 use presence_base::{MAX_COUNT, MAX_SHARDS, NodeName};
 use std::alloc::{AllocError, Global};
@@ -139,6 +141,41 @@ pub(crate) fn workers_of(alloc: Global, text: &str) -> Result<u32, UsageFault>
         None => Err(usage_of(
             UsageCause::Workers,
             format!(in alloc; "--workers '{text}': there are 1 to {MAX_WORKERS} workers"),
+        )),
+    }
+}
+
+/// How many clients one address may have, by this text.
+pub(crate) fn per_address_of(alloc: Global, text: &str) -> Result<u64, UsageFault>
+    ensures number { IfOk result (λ n. n ≡ number_in text.now) }
+    ensures limits { IfOk result (λ n. IsNumberWithin 1 MAX_PER_ADDRESS text.now) }
+    ensures cause { IfErr result (IsFor UsageCause.PerAddress (IsNumberWithin 1 MAX_PER_ADDRESS text.now → ⊥)) }
+{
+    match number_within(text, 1, MAX_PER_ADDRESS) {
+        Some(clients) => Ok(clients),
+        None => Err(usage_of(
+            UsageCause::PerAddress,
+            format!(in alloc;
+                "--per-address '{text}': one address may have 1 to {MAX_PER_ADDRESS} clients"
+            ),
+        )),
+    }
+}
+
+/// How many handshakes a second one address may have, by this text.
+pub(crate) fn handshakes_of(alloc: Global, text: &str) -> Result<u64, UsageFault>
+    ensures number { IfOk result (λ n. n ≡ number_in text.now) }
+    ensures limits { IfOk result (λ n. IsNumberWithin 1 MAX_HANDSHAKES_PER_SECOND text.now) }
+    ensures cause { IfErr result
+        (IsFor UsageCause.HandshakesPerSecond (IsNumberWithin 1 MAX_HANDSHAKES_PER_SECOND text.now → ⊥)) }
+{
+    match number_within(text, 1, MAX_HANDSHAKES_PER_SECOND) {
+        Some(handshakes) => Ok(handshakes),
+        None => Err(usage_of(
+            UsageCause::HandshakesPerSecond,
+            format!(in alloc;
+                "--handshakes '{text}': one address may make 1 to {MAX_HANDSHAKES_PER_SECOND} a second"
+            ),
         )),
     }
 }

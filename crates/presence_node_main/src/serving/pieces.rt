@@ -2,8 +2,9 @@
 use super::fault::BeginFault;
 use presence_node_crew::Posts;
 use presence_node_duties::{
-    Bench, ClientSocket, Door, Inbox, LISTENER, LinkTask, Mailbox, Workplace,
+    AddressLimits, Bench, ClientSocket, Door, Inbox, LISTENER, Limits, LinkTask, Mailbox, Workplace,
 };
+use presence_node_options::ServeOptions;
 use presence_node_queue::Giver;
 use presence_node_sockets::{Bell, Watch};
 use shard_pool::{Lane, Seat};
@@ -15,6 +16,22 @@ use tungstenite::{NoMask, WebSocket};
 
 /// The end of the queue that the door gives connections to.
 type Waiting = Giver<WebSocket<ClientSocket, NoMask>>;
+
+/// Where clients come in, and how many are let in.
+#[derive(Drop)]
+pub(crate) struct Entrance {
+    pub listener: TcpListener,
+    pub limits: Limits,
+}
+
+/// How many clients are let in by these options.
+pub(crate) fn limits_of(options: &ServeOptions) -> Limits {
+    let addresses = AddressLimits {
+        at_once: options.per_address,
+        per_second: options.handshakes_per_second,
+    };
+    Limits::of_workers(options.workers as usize, addresses)
+}
 
 /// What the threads are given, and what wakes each of them.
 pub(crate) struct Stations<A: Lane, B: Lane, C: Lane, D: Lane> {
@@ -77,30 +94,31 @@ fn places_for<R: Net, A: Lane, B: Lane, C: Lane, D: Lane>(
     Ok(all)
 }
 
-// The door at this listening socket, and what wakes it.
+// The door at this entrance, and what wakes it.
 fn door_at<R: Net>(
     net: &R,
     alloc: Global,
-    listener: TcpListener,
+    entrance: Entrance,
     waiting: Waiting,
 ) -> io::Result<(Door, Bell)> {
+    let Entrance { listener, limits } = entrance;
     let watch = Watch::new(net, alloc)?;
     watch.add(&listener, LISTENER)?;
     let bell = watch.bell()?;
-    Ok((Door::new(alloc, listener, waiting, watch), bell))
+    Ok((Door::new(alloc, listener, waiting, watch, limits)?, bell))
 }
 
-/// A place for each seat, in their order, the door at this listening socket, and the tasks of links.
+/// A place for each seat, in their order, the door at this entrance, and the tasks of links.
 pub(crate) fn stations_for<R: Net, A: Lane, B: Lane, C: Lane, D: Lane>(
     net: &R,
     alloc: Global,
-    listener: TcpListener,
+    entrance: Entrance,
     seats: Vec<Seat<A, B, C, D>>,
     tasks: Vec<LinkTask>,
 ) -> Result<Stations<A, B, C, D>, BeginFault> {
     let mut waiting = Giver::new(alloc)?;
     let Places { places, mailboxes } = places_for(net, alloc, &mut waiting, seats)?;
-    let (door, door_bell) = door_at(net, alloc, listener, waiting)?;
+    let (door, door_bell) = door_at(net, alloc, entrance, waiting)?;
     let posts = Posts {
         tools: places,
         door,

@@ -7,7 +7,7 @@ ghost use Rattle.presence_node_main.specs.Ends.{IsEndFor};
 ghost use Rattle.presence_node_main.specs.Ledgers.{HaveParts};
 
 use super::fault::BeginFault;
-use super::pieces::{Stations, stations_for};
+use super::pieces::{Entrance, Stations, limits_of, stations_for};
 use super::stopping::StopLine;
 use hook_registry::PresenceHooks;
 use presence_base::{MAX_COUNT, Replica};
@@ -248,12 +248,16 @@ where
     let alloc = setting.alloc;
     let options = setting.options;
     let (clients, links) = listeners.into_parts();
+    let entrance = Entrance {
+        listener: clients,
+        limits: limits_of(options),
+    };
     let (links, tasks) = links_for(rt, setting, links)?.into_parts();
     let Stations {
         posts,
         mailboxes,
         door_bell,
-    } = stations_for(rt, alloc, clients, seats, tasks)?;
+    } = stations_for(rt, alloc, entrance, seats, tasks)?;
     let server = Server {
         alloc,
         pool,

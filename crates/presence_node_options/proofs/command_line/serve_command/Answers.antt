@@ -9,4 +9,6 @@ returns c =
     let two = c.in_ok-arg-2.ensures.shape c.peer_option.ensures.local ∙ ap₂ with_rule one c.peer_option.ensures.rule in
     let three = c.in_ok-arg-3.ensures.shape c.listen_option.ensures.local ∙ ap₂ with_rule two c.listen_option.ensures.rule in
     let four = c.in_ok-arg-4.ensures.shape c.link_listen_option.ensures.local ∙ ap₂ with_rule three c.link_listen_option.ensures.rule in
-    IfOk-weaker c.arg-5.result _ _ (λ r a. a.shape c.origin_option.ensures.local ∙ ap₂ with_rule four c.origin_option.ensures.rule) c.arg-5.ensures
+    let five = c.in_ok-arg-5.ensures.shape c.origin_option.ensures.local ∙ ap₂ with_rule four c.origin_option.ensures.rule in
+    let six = c.in_ok-arg-6.ensures.shape c.per_address_option.ensures.local ∙ ap₂ with_rule five c.per_address_option.ensures.rule in
+    IfOk-weaker c.arg-7.result _ _ (λ r a. a.shape c.handshakes_option.ensures.local ∙ ap₂ with_rule six c.handshakes_option.ensures.rule) c.arg-7.ensures

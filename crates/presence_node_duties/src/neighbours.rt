@@ -1,0 +1,138 @@
+//! The clients of each address: how many there are, and how often they come.
+use presence_node_client_streams::{Tally, Ticket};
+use presence_node_handshakes::{Pace, Standing};
+use std::alloc::{AllocError, Global};
+use std::net::IpAddr;
+
+/// How many handshakes a second clients of one address have beyond a burst, where nothing else is asked for.
+const HANDSHAKES_PER_SECOND: u64 = 20;
+
+/// One address may have this part of the places, where nothing else is asked for.
+const SHARE: u64 = 2;
+
+/// How many clients of one address are let in.
+#[derive(Clone, Copy, PartialEq, Eq, Debug)]
+pub struct AddressLimits {
+    /// How many at once: what was asked for, if anything was.
+    pub at_once: Option<u64>,
+    /// How many a second, beyond a burst: what was asked for, if anything was.
+    pub per_second: Option<u64>,
+}
+
+// The clients of an address.
+#[derive(Drop)]
+struct Neighbourhood {
+    address: IpAddr,
+    here: Tally,
+    pace: Pace,
+}
+
+/// The addresses that have clients.
+#[derive(Drop)]
+pub(crate) struct Neighbours {
+    all: Vec<Neighbourhood>,
+    limits: AddressLimits,
+    /// How many places there are for all clients.
+    places: u64,
+}
+
+// Whether an address is of this machine or of a private network, so that a proxy may stand there for many clients.
+fn may_be_proxy(address: &IpAddr) -> bool {
+    match address {
+        IpAddr::V4(address) => address.is_loopback() || address.is_private(),
+        IpAddr::V6(address) => address.is_loopback() || address.is_unique_local(),
+    }
+}
+
+impl Neighbourhood {
+    // How a further client stands, where so many may be here.
+    fn standing(&mut self, most: u64, now: u64) -> Standing {
+        if self.here.count() >= most {
+            return Standing::OneTooMany;
+        }
+        if self.pace.comes(now) {
+            Standing::Welcome
+        } else {
+            Standing::TooSoon
+        }
+    }
+}
+
+impl Neighbours {
+    /// There is none.
+    pub(crate) fn new(alloc: Global, limits: AddressLimits, places: u64) -> Neighbours {
+        Neighbours {
+            all: Vec::new(alloc),
+            limits,
+            places,
+        }
+    }
+
+    // How many clients of an address may be here.
+    fn most_at(&self, address: &IpAddr) -> u64 {
+        match self.limits.at_once {
+            Some(most) => most,
+            None if may_be_proxy(address) => u64::MAX,
+            None => self.places / SHARE,
+        }
+    }
+
+    // How many milliseconds lie between two handshakes of an address.
+    fn between_at(&self, address: &IpAddr) -> u64 {
+        match self.limits.per_second {
+            Some(per_second) => 1_000 / per_second.max(1),
+            None if may_be_proxy(address) => 0,
+            None => 1_000 / HANDSHAKES_PER_SECOND,
+        }
+    }
+
+    // The place of an address among them, if it is there.
+    fn found(&self, address: &IpAddr) -> Option<usize> {
+        for (place, neighbourhood) in self.all.iter().enumerate() {
+            if neighbourhood.address == *address {
+                return Some(place);
+            }
+        }
+        None
+    }
+
+    // The place of an address among them.
+    fn place_of(&mut self, alloc: Global, address: IpAddr) -> Result<usize, AllocError> {
+        if let Some(place) = self.found(&address) {
+            return Ok(place);
+        }
+        let place = self.all.len();
+        let pace = Pace::new(self.between_at(&address));
+        let here = Tally::new(alloc)?;
+        self.all.push(Neighbourhood {
+            address,
+            here,
+            pace,
+        })?;
+        Ok(place)
+    }
+
+    /// A client of this address comes at this time, in milliseconds: how it stands, and what it is counted by.
+    pub(crate) fn comes(
+        &mut self,
+        alloc: Global,
+        address: IpAddr,
+        now: u64,
+    ) -> Result<(Standing, Ticket), AllocError> {
+        let most = self.most_at(&address);
+        let place = self.place_of(alloc, address)?;
+        match self.all.get_mut(place) {
+            Some(neighbourhood) => {
+                let standing = neighbourhood.standing(most, now);
+                Ok((standing, neighbourhood.here.ticket()?))
+            }
+            None => Err(AllocError),
+        }
+    }
+
+    /// Addresses are forgotten that have no client, and had none for a while.
+    pub(crate) fn forget(&mut self, now: u64) {
+        self.all
+            .retain(|one| one.here.count() > 0 || !one.pace.is_at_rest(now));
+    }
+}
