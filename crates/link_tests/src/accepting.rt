@@ -1,6 +1,7 @@
 //! The run of a link at node `a`, with two shards, which was dialled by node `b`.
+use crate::counted::TOO_MANY;
 use crate::desk::{Desk, NEVER, NOW, at_a, replica};
-use crate::port::Call;
+use crate::port::{Call, Much};
 use node_links::{ActFault, DialFault, LinkFault};
 use orswot_core::ToldFault;
 use replica_status::Status;
@@ -267,4 +268,38 @@ fn a_stream_that_fails_at_each_call(rt: HostRuntime) {
     }
     assert!(rt; is_failing(rt.alloc(), BEAT_READ + 1, Ok(true), 4));
     assert!(rt; is_failing(rt.alloc(), NEVER, Ok(true), 4));
+}
+
+// A want, and behind it a line that is answered whatever came of it.
+const WANTING: &[u8] =
+    b"[\"hello\",\"b\",1,2]\n[\"want\",0,\"a\",1,3]\n[\"beat\",0,\"a\",1,9,null]\n";
+
+// Whether the three lines are taken where so much is told from a count and in all, with this between the other answers.
+fn answers_want(alloc: Global, from: Much, all: Much, told: &str) -> bool {
+    let Some(mut desk) = at_a(alloc, WANTING) else {
+        return false;
+    };
+    desk.port.tells(from, all);
+    let Ok(wanted) = format!(in alloc; "[\"hello\",\"a\",1,2]\n{told}[\"ok\"]\n") else {
+        return false;
+    };
+    desk.accepts_all(alloc, 3)
+        && desk.wrote(wanted.as_str())
+        && desk.asked(&[Call::ToldFrom(0, 3), Call::Full(0)])
+}
+
+#[test]
+fn a_want_whose_answer_is_too_long_ends_no_link(rt: HostRuntime) {
+    assert!(rt; answers_want(rt.alloc(), Much::Long, Much::Long, ""));
+}
+
+#[test]
+fn a_want_is_answered_by_all_where_that_is_shorter(rt: HostRuntime) {
+    let all = "[\"told\",0,[[[\"b\",1,0,2]],[],[]]]\n";
+    assert!(rt; answers_want(rt.alloc(), Much::Long, Much::Little, all));
+}
+
+#[test]
+fn a_want_whose_answer_has_too_many_extras_ends_no_link(rt: HostRuntime) {
+    assert!(rt; answers_want(rt.alloc(), Much::Counted(TOO_MANY), Much::Long, ""));
 }

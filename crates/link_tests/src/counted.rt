@@ -45,3 +45,33 @@ pub(super) fn counted_told(alloc: Global, things: u64) -> Result<Told, AllocErro
     join_part(alloc, &mut set, 40_001, things, "")?;
     set.told(alloc)
 }
+
+// A told line with the rows of b.1 from one count up to another, which are all that it tells.
+fn rows_text(alloc: Global, first: u64, last: u64) -> Result<String, AllocError> {
+    let from = first.saturating_sub(1);
+    let mut text = format!(in alloc; "[\"told\",0,[[[\"b\",1,{from},{last}]],[],[")?;
+    for count in first..last {
+        let row = format!(in alloc; "[\"b\",1,{count},\"room:a\",\"u2\",5,{{}},null],")?;
+        text.push_str(row.as_str())?;
+    }
+    let end = format!(in alloc; "[\"b\",1,{last},\"room:a\",\"u2\",5,{{}},null]]]]")?;
+    text.push_str(end.as_str())?;
+    Ok(text)
+}
+
+// Takes in the rows of b.1 from one count up to another.
+fn join_rows(alloc: Global, set: &mut Orswot, first: u64, last: u64) -> Result<(), AllocError> {
+    let text = rows_text(alloc, first, last)?;
+    match decode_line(alloc, text.as_str(), 2) {
+        Ok(Line::Told { told, .. }) => set.join(alloc, &told),
+        _ => Err(AllocError),
+    }
+}
+
+// So many rows of b.1, from the first count on.
+pub(super) fn rows_told(alloc: Global, rows: u64) -> Result<Told, AllocError> {
+    let mut set = Orswot::new(alloc);
+    join_rows(alloc, &mut set, 1, 40_000)?;
+    join_rows(alloc, &mut set, 40_001, rows)?;
+    set.told(alloc)
+}

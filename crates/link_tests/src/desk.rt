@@ -59,7 +59,12 @@ fn seated(alloc: Global, own: Replica, end: End, bytes: &[u8]) -> Desk<'_> {
     }
 }
 
-impl Desk<'_> {
+impl<'a> Desk<'a> {
+    // Lets these bytes come from here on.
+    pub fn give(&mut self, bytes: &'a [u8]) {
+        self.wire.give(bytes);
+    }
+
     pub fn accepts(&mut self, alloc: Global) -> Result<bool, DialFault> {
         accept_one(alloc, &mut self.wire, &mut self.peer, &mut self.port, NOW)
     }

@@ -13,6 +13,8 @@ mod desk;
 #[cfg(test)]
 mod dialling;
 #[cfg(test)]
+mod exchange;
+#[cfg(test)]
 mod faulty;
 #[cfg(test)]
 mod junk;

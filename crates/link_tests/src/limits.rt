@@ -1,17 +1,23 @@
 //! Told values at their limit of rows and extras, and one above it: in a beat, in what is told from a count, and in all
 //! that is told.
-use crate::counted::{MOST, TOO_MANY, counted_told};
+use crate::counted::{MOST, TOO_MANY, counted_told, rows_told};
 use crate::desk::{Desk, at_b, replica};
 use crate::faulty::Sink;
 use crate::port::{Call, Much};
 use node_links::{DialFault, Line, LinkFault, decode_line, write_line};
-use std::alloc::Global;
+use orswot_core::Told;
+use std::alloc::{AllocError, Global};
 
 // The bytes of lines with 65,536 rows and extras of b.1, line feeds aside: 65,535 extras of 8 bytes and 316,573 digits in
 // all, the commas between, the row, and what stands around them.
 const TOLD_BYTES: usize = 906_452;
 
 const BEAT_BYTES: usize = 906_460;
+
+// The same of 65,536 rows: each has 32 bytes and the digits of its count, which are 316,574 in all.
+const TOLD_ROWS_BYTES: usize = 2_479_297;
+
+const BEAT_ROWS_BYTES: usize = 2_479_309;
 
 const BEAT: &str = r#"["beat",0,"b",1,2,null]"#;
 
@@ -22,20 +28,20 @@ const WANT: &[u8] = b"[\"want\",0,\"b\",1,1]\n[\"ok\"]\n";
 
 const LITTLE: &str = "[\"beat\",0,\"b\",1,2,null]\n[\"told\",0,[[[\"b\",1,0,2]],[],[]]]\n";
 
-fn told_line(alloc: Global, things: u64) -> Option<Line> {
-    match counted_told(alloc, things) {
+fn told_line(told: Result<Told, AllocError>) -> Option<Line> {
+    match told {
         Ok(told) => Some(Line::Told { shard: 0, told }),
         Err(_) => None,
     }
 }
 
-fn beat_line(alloc: Global, things: u64) -> Option<Line> {
+fn beat_line(alloc: Global, count: u64, told: Result<Told, AllocError>) -> Option<Line> {
     let replica = replica(alloc, "b", 1)?;
-    match counted_told(alloc, things) {
+    match told {
         Ok(told) => Some(Line::Beat {
             shard: 0,
             replica,
-            count: 2,
+            count,
             delta: Some(told),
         }),
         Err(_) => None,
@@ -56,25 +62,59 @@ fn written(alloc: Global, line: Option<Line>) -> Option<(Result<(), LinkFault>, 
     Some((end, sink.taken))
 }
 
-// How writing the line ends, and how many bytes go out.
-fn bytes_of(alloc: Global, line: Option<Line>) -> Option<(Result<(), LinkFault>, usize)> {
+// How writing a line ends, and how many bytes go out.
+type Ending = Option<(Result<(), LinkFault>, usize)>;
+
+fn bytes_of(alloc: Global, line: Option<Line>) -> Ending {
     let (end, taken) = written(alloc, line)?;
     Some((end, taken.len()))
+}
+
+// How writing a told line and a beat ends that tell a row and extras, so many in all, and how many bytes go out.
+fn counted_lines(alloc: Global, things: u64) -> [Ending; 2] {
+    let told = told_line(counted_told(alloc, things));
+    let beat = beat_line(alloc, 2, counted_told(alloc, things));
+    [bytes_of(alloc, told), bytes_of(alloc, beat)]
+}
+
+// The same of lines that tell so many rows.
+fn lines_of_rows(alloc: Global, rows: u64) -> [Ending; 2] {
+    let told = told_line(rows_told(alloc, rows));
+    let beat = beat_line(alloc, rows, rows_told(alloc, rows));
+    [bytes_of(alloc, told), bytes_of(alloc, beat)]
+}
+
+// They are refused, and nothing goes out.
+const REFUSED: [Ending; 2] = [
+    Some((Err(LinkFault::LineTooLong), 0)),
+    Some((Err(LinkFault::LineTooLong), 0)),
+];
+
+// They go out, with these many bytes and a line feed each.
+const fn sent(told: usize, beat: usize) -> [Ending; 2] {
+    [
+        Some((Ok(()), told.saturating_add(1))),
+        Some((Ok(()), beat.saturating_add(1))),
+    ]
 }
 
 #[test]
 fn lines_at_the_limit_are_written_and_above_it_are_not(rt: HostRuntime) {
     let alloc = rt.alloc();
-    let refused = Some((Err(LinkFault::LineTooLong), 0));
-    assert!(rt; bytes_of(alloc, told_line(alloc, MOST)) == Some((Ok(()), TOLD_BYTES + 1)));
-    assert!(rt; bytes_of(alloc, told_line(alloc, TOO_MANY)) == refused);
-    assert!(rt; bytes_of(alloc, beat_line(alloc, MOST)) == Some((Ok(()), BEAT_BYTES + 1)));
-    assert!(rt; bytes_of(alloc, beat_line(alloc, TOO_MANY)) == refused);
+    assert!(rt; counted_lines(alloc, MOST) == sent(TOLD_BYTES, BEAT_BYTES));
+    assert!(rt; counted_lines(alloc, TOO_MANY) == REFUSED);
+}
+
+#[test]
+fn lines_of_rows_at_the_limit_are_written_and_above_it_are_not(rt: HostRuntime) {
+    let alloc = rt.alloc();
+    assert!(rt; lines_of_rows(alloc, MOST) == sent(TOLD_ROWS_BYTES, BEAT_ROWS_BYTES));
+    assert!(rt; lines_of_rows(alloc, TOO_MANY) == REFUSED);
 }
 
 // Whether what goes out for the line is read as a line of so many extras and a row.
 fn is_read(alloc: Global, things: u64) -> bool {
-    let Some((Ok(()), taken)) = written(alloc, told_line(alloc, things)) else {
+    let Some((Ok(()), taken)) = written(alloc, told_line(counted_told(alloc, things))) else {
         return false;
     };
     let Ok(text) = std::str::from_utf8(&taken) else {
@@ -127,6 +167,8 @@ fn what_is_wanted_is_told_where_it_fits(rt: HostRuntime) {
     let alloc = rt.alloc();
     let most = Much::Counted(MOST);
     assert!(rt; goes_out(alloc, most, Much::Little, &FROM) == Some(TOLD_BYTES + 1));
+    let rows = Much::Rows(MOST);
+    assert!(rt; goes_out(alloc, rows, Much::Little, &FROM) == Some(TOLD_ROWS_BYTES + 1));
 }
 
 #[test]
@@ -134,6 +176,7 @@ fn all_is_told_in_its_place(rt: HostRuntime) {
     let alloc = rt.alloc();
     let many = Much::Counted(TOO_MANY);
     assert!(rt; goes_out(alloc, many, Much::Little, &BOTH) == Some(little()));
+    assert!(rt; goes_out(alloc, Much::Rows(TOO_MANY), Much::Little, &BOTH) == Some(little()));
     assert!(rt; goes_out(alloc, Much::Long, Much::Little, &BOTH) == Some(little()));
 }
 
@@ -164,6 +207,8 @@ fn all_is_told_where_it_fits(rt: HostRuntime) {
     let alloc = rt.alloc();
     assert!(rt; goes_out_of_all(alloc, Much::Counted(MOST)) == Some((TOLD_BYTES + 1, 0)));
     assert!(rt; goes_out_of_all(alloc, Much::Counted(TOO_MANY)) == Some((0, 7)));
+    assert!(rt; goes_out_of_all(alloc, Much::Rows(MOST)) == Some((TOLD_ROWS_BYTES + 1, 0)));
+    assert!(rt; goes_out_of_all(alloc, Much::Rows(TOO_MANY)) == Some((0, 7)));
 }
 
 // What goes out for a beat of so many rows and extras, with an ok to come.
@@ -172,7 +217,7 @@ fn beat_goes_out(alloc: Global, things: u64) -> Option<(Result<bool, DialFault>,
     if !desk.takes(alloc, r#"["hello","a",1,2]"#) {
         return None;
     }
-    let beat = beat_line(alloc, things)?;
+    let beat = beat_line(alloc, 2, counted_told(alloc, things))?;
     let end = desk.dials(alloc, &beat);
     Some((end, desk.wire.taken.len()))
 }

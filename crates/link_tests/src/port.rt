@@ -1,5 +1,5 @@
 //! A port that notes what it was asked, and refuses one of its calls.
-use crate::counted::counted_told;
+use crate::counted::{counted_told, rows_told};
 use node_links::{ActFault, Line, LinkPort, decode_line};
 use orswot_core::{RawRow, RawTold, Told};
 use presence_base::{Dot, NodeName, Replica};
@@ -18,12 +18,14 @@ pub(super) enum Call {
     Full(u32),
 }
 
-// What is told: the range of both counts of b.1, what is too long for a line, or so many rows and extras.
+// What is told: the range of both counts of b.1, what is too long for a line, a row and extras, so many in
+// all, or so many rows.
 #[derive(Clone, Copy, PartialEq, Eq, Debug)]
 pub(super) enum Much {
     Little,
     Long,
     Counted(u64),
+    Rows(u64),
 }
 
 // Each replica has this status and this top, and so much is told from a count and in all. The call of number `refused`,
@@ -165,14 +167,19 @@ pub(super) fn long_told(alloc: Global) -> Result<Told, ActFault> {
     }
 }
 
+fn made(told: Result<Told, AllocError>) -> Result<Told, ActFault> {
+    match told {
+        Ok(told) => Ok(told),
+        Err(_) => Err(ActFault::OutOfMemory),
+    }
+}
+
 fn told(alloc: Global, shards: u32, much: Much) -> Result<Told, ActFault> {
     match much {
         Much::Little => little_told(alloc, shards),
         Much::Long => long_told(alloc),
-        Much::Counted(things) => match counted_told(alloc, things) {
-            Ok(told) => Ok(told),
-            Err(_) => Err(ActFault::OutOfMemory),
-        },
+        Much::Counted(things) => made(counted_told(alloc, things)),
+        Much::Rows(rows) => made(rows_told(alloc, rows)),
     }
 }
 

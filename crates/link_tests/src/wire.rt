@@ -22,7 +22,12 @@ impl Drop for Wire<'_> {
     }
 }
 
-impl Wire<'_> {
+impl<'a> Wire<'a> {
+    // Gives these bytes from here on.
+    pub fn give(&mut self, rest: &'a [u8]) {
+        self.rest = rest;
+    }
+
     fn is_failing(&mut self) -> bool {
         let call = self.calls;
         self.calls = call.saturating_add(1);

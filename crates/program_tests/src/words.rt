@@ -6,7 +6,7 @@ use std::alloc::Global;
 use std::test::Fail;
 
 // A command, an option with a value, and why these words are wrong.
-const WRONG: [(&str, &str, &str, UsageCause); 19] = [
+const WRONG: [(&str, &str, &str, UsageCause); 23] = [
     ("stdio", "--name", "A!", UsageCause::Name),
     ("stdio", "--incarnation", "0", UsageCause::Incarnation),
     ("stdio", "--route", "a*b", UsageCause::Route),
@@ -26,6 +26,20 @@ const WRONG: [(&str, &str, &str, UsageCause); 19] = [
     ("serve", "--peer", "b=host:0", UsageCause::Peer),
     ("serve", "--peer", "b=host", UsageCause::Peer),
     ("serve", "--notices", "1", UsageCause::Words),
+    ("serve", "--per-address", "0", UsageCause::PerAddress),
+    ("serve", "--per-address", "65537", UsageCause::PerAddress),
+    (
+        "serve",
+        "--handshakes",
+        "0",
+        UsageCause::HandshakesPerSecond,
+    ),
+    (
+        "serve",
+        "--handshakes",
+        "1001",
+        UsageCause::HandshakesPerSecond,
+    ),
 ];
 
 // Why these words are wrong.
@@ -66,6 +80,7 @@ fn a_server_without_options(rt: HostRuntime) -> Result<(), Fail> {
     assert_eq!(rt; plain.listen.as_str(), "127.0.0.1");
     assert_eq!(rt; plain.link_listen.as_str(), "127.0.0.1");
     assert!(rt; plain.incarnation.is_none() && plain.origins.is_empty());
+    assert!(rt; plain.per_address.is_none() && plain.handshakes_per_second.is_none());
     Ok(())
 }
 
@@ -87,6 +102,24 @@ fn a_server_with_a_life_and_origins(rt: HostRuntime) -> Result<(), Fail> {
     assert!(rt; options.incarnation == Some(7));
     assert_eq!(rt; options.origins.len(), 2);
     assert_eq!(rt; options.origins[1].as_str(), "null");
+    Ok(())
+}
+
+#[test]
+fn a_server_that_limits_addresses(rt: HostRuntime) -> Result<(), Fail> {
+    let words = [
+        "p",
+        "serve",
+        "--per-address",
+        "65536",
+        "--handshakes",
+        "1000",
+    ];
+    let Some(options) = served(rt.alloc(), words.as_slice()) else {
+        panic!(rt; "no options");
+    };
+    assert!(rt; options.per_address == Some(65_536));
+    assert!(rt; options.handshakes_per_second == Some(1_000));
     Ok(())
 }
 

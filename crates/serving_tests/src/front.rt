@@ -17,6 +17,9 @@ impl Tells for Quiet {
     fn gave_up(&self, _cause: GivenUp) {}
 }
 
+// How many clients may be given a WebSocket.
+const PLACES: u64 = 1_024;
+
 /// Goes on with the handshakes that are ready: the sockets of those that are done.
 pub(crate) fn look<S: Read + Write + Drop>(
     alloc: Global,
@@ -27,5 +30,5 @@ pub(crate) fn look<S: Read + Write + Drop>(
         origins: &[],
         tells: &quiet,
     };
-    guests.turn(alloc, &front)
+    guests.turn(alloc, &front, PLACES)
 }

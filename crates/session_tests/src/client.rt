@@ -3,7 +3,8 @@
 use hook_registry::{Notice, PresenceHooks, Routes};
 use presence_base::{NodeName, Replica};
 use session_desk::{
-    Delivery, LocalPort, Session, SessionFault, Shard, are_texts, deliver, end, run_text,
+    Delivery, LocalPort, Session, SessionFault, Shard, ShardFault, TestPort, are_texts, deliver,
+    end, run_text,
 };
 use std::alloc::Global;
 
@@ -18,6 +19,13 @@ pub(crate) struct Step {
     pub answer: &'static [&'static str],
     pub told: &'static [&'static str],
     pub notices: &'static [&'static str],
+}
+
+// How many entries the shard's journal has, and how many topics the session names.
+#[derive(Clone, Copy, PartialEq, Eq)]
+pub(crate) struct Standing {
+    pub entries: usize,
+    pub joined: usize,
 }
 
 // A client over a shard of its own.
@@ -117,6 +125,27 @@ fn are_notices(given: &[Notice], wanted: &[&str]) -> bool {
     true
 }
 
+impl<H: Drop> Client<H> {
+    // A port over the shard that refuses nothing.
+    pub fn into_port(self) -> TestPort {
+        let Client {
+            shard,
+            routes,
+            session,
+            hooks,
+        } = self;
+        drop(routes);
+        drop(session);
+        drop(hooks);
+        TestPort {
+            shard,
+            calls: 0,
+            refused: u32::MAX,
+            fault: ShardFault::JournalFull,
+        }
+    }
+}
+
 impl<H: PresenceHooks> Client<H> {
     fn run(&mut self, alloc: Global, text: &str) -> Result<Vec<String>, SessionFault> {
         ask(
@@ -179,6 +208,31 @@ impl<H: PresenceHooks> Client<H> {
             }
         }
         true
+    }
+
+    // Whether the text, or without one what waits, is answered by these.
+    pub fn is_answered(
+        &mut self,
+        alloc: Global,
+        text: Option<&str>,
+        wanted: &[&str],
+    ) -> Result<bool, SessionFault> {
+        let texts = match text {
+            Some(text) => self.run(alloc, text)?,
+            None => self.take(alloc)?.texts,
+        };
+        Ok(are_texts(texts.as_slice(), wanted))
+    }
+
+    pub fn standing(&self) -> Standing {
+        Standing {
+            entries: self.shard.journal().entries().len(),
+            joined: self.session.joined().count(),
+        }
+    }
+
+    pub fn failed(&self) -> bool {
+        self.session.failed()
     }
 
     // Whether the session has failed, and still names one topic.

@@ -5,7 +5,7 @@ use hook_registry::NoHooks;
 use session_desk::{JOIN, JOINED, STATE, UPDATE, UPDATED};
 use std::alloc::Global;
 
-const DIFF: &str =
+pub(crate) const DIFF: &str =
     r#"[null,null,"room:lobby","presence_diff",{"joins":{"u1":{"metas":[{"phx_ref":"a.1.2","phx_ref_prev":"a.1.1","x":2}]}},"leaves":{"u1":{"metas":[{"phx_ref":"a.1.1","x":1}]}}}]"#;
 
 const STATED: Step = Step {

@@ -30,6 +30,10 @@ mod refused_deliveries;
 #[cfg(test)]
 mod refused_events;
 #[cfg(test)]
+mod refused_growths;
+#[cfg(test)]
 mod script;
+#[cfg(test)]
+mod stored;
 #[cfg(test)]
 mod words;

@@ -236,7 +236,7 @@ fn letter(item: &Item) -> char {
     }
 }
 
-fn items_text(alloc: Global, items: &[Item]) -> Result<String, AllocError> {
+pub(crate) fn items_text(alloc: Global, items: &[Item]) -> Result<String, AllocError> {
     let mut text = String::new(alloc);
     for item in items {
         let item = item_text(alloc, item)?;

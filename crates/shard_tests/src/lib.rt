@@ -9,9 +9,13 @@ mod cuts;
 #[cfg(test)]
 mod desk;
 #[cfg(test)]
+mod full_journal;
+#[cfg(test)]
 mod journal;
 #[cfg(test)]
 mod kept_deltas;
+#[cfg(test)]
+mod link_lies;
 #[cfg(test)]
 mod link_node;
 #[cfg(test)]
@@ -28,6 +32,8 @@ mod merge_desk;
 mod merge_telling;
 #[cfg(test)]
 mod merging;
+#[cfg(test)]
+mod refused_growths;
 #[cfg(test)]
 mod statuses;
 #[cfg(test)]

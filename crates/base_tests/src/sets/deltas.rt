@@ -353,3 +353,76 @@ fn tells_a_set(alloc: Global) -> Option<bool> {
 fn a_joined_delta_tells_what_both_tell(rt: HostRuntime) {
     assert_eq!(rt; tells_a_set(rt.alloc()), Some(true));
 }
+
+// A count that takes more than 32 bits, and the last one there may be.
+const WIDE: u64 = 4_294_967_296;
+
+const LAST: u64 = 4_611_686_018_427_387_904;
+
+// A delta of three counts, the last of which is this one, with the older count below them, and another behind the first
+// two, which removes the second row.
+fn joins_up_to(alloc: Global, last: u64) -> Option<Delta> {
+    let from = last.checked_sub(3)?;
+    let mid = last.checked_sub(1)?;
+    let first = delta(alloc, (from, mid), &[from], (mid, last))?;
+    let next = delta(alloc, (mid, last), &[mid], (last, last.checked_add(1)?))?;
+    first.join_next(alloc, &next).ok()
+}
+
+fn is_joined_up_to(alloc: Global, last: u64) -> Option<bool> {
+    let both = joins_up_to(alloc, last)?;
+    let from = last.checked_sub(3)?;
+    let below = from.checked_sub(1)?;
+    is_delta(alloc, &both, (from, last), &[(below, from)], &[last])
+}
+
+#[test]
+fn counts_of_more_than_32_bits_are_joined(rt: HostRuntime) {
+    let alloc = rt.alloc();
+    assert_eq!(rt; is_joined_up_to(alloc, WIDE), Some(true));
+    assert_eq!(rt; is_joined_up_to(alloc, WIDE + 1), Some(true));
+    assert_eq!(rt; is_joined_up_to(alloc, WIDE + 3), Some(true));
+    assert_eq!(rt; is_joined_up_to(alloc, LAST), Some(true));
+}
+
+// Whether what such deltas tell is known and shown of a set, and no count of the same low bits.
+fn tells_up_to(alloc: Global, last: u64) -> Option<bool> {
+    let b = replica(alloc).ok()?;
+    let both = joins_up_to(alloc, last)?.told(alloc).ok()?;
+    let mut set = Orswot::new(alloc);
+    set.join(alloc, &both).ok()?;
+    let low = last.checked_sub(WIDE)?;
+    Some(
+        has_row(&set, b, last)
+            && !has_row(&set, b, last.checked_sub(1)?)
+            && !has_row(&set, b, low)
+            && both.extras().len() == 1,
+    )
+}
+
+#[test]
+fn counts_of_more_than_32_bits_are_told(rt: HostRuntime) {
+    let alloc = rt.alloc();
+    assert_eq!(rt; tells_up_to(alloc, WIDE + 1), Some(true));
+    assert_eq!(rt; tells_up_to(alloc, LAST), Some(true));
+}
+
+// Kept deltas are picked by all bits of the count.
+fn picks_from(alloc: Global, from: u64) -> Option<bool> {
+    let mid = from.checked_add(60)?;
+    let to = mid.checked_add(60)?;
+    let kept = pushed(alloc, from, mid, to, &[])?;
+    Some(
+        picked(&kept, mid) == Some((mid, to))
+            && picked(&kept, from) == Some((from, to))
+            && picked(&kept, from.checked_sub(1)?).is_none(),
+    )
+}
+
+#[test]
+fn counts_of_more_than_32_bits_are_picked(rt: HostRuntime) {
+    let alloc = rt.alloc();
+    assert_eq!(rt; picks_from(alloc, WIDE), Some(true));
+    assert_eq!(rt; picks_from(alloc, WIDE - 60), Some(true));
+    assert_eq!(rt; picks_from(alloc, LAST - 120), Some(true));
+}

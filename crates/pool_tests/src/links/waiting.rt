@@ -42,4 +42,7 @@ fn a_link_in_words(rt: HostRuntime) {
     assert!(rt; is_told(alloc, replica(alloc, "b"), up));
     let down = down_line(alloc, "to b at host:1", LinkEnd::NotReached);
     assert!(rt; is_line(down, "link to b at host:1: down: nobody answers there\n"));
+    let files =
+        "link to b at host:1: down: as many files are open as may be: raise with ulimit -n\n";
+    assert!(rt; is_line(down_line(alloc, "to b at host:1", LinkEnd::NoFile), files));
 }

@@ -1,7 +1,7 @@
 //! Handshakes over streams that give their bytes in pieces, and have nothing in between.
 
 use crate::front::look;
-use presence_node_handshakes::Guests;
+use presence_node_handshakes::{Guests, Newcomer, Standing};
 use std::alloc::Global;
 use std::io;
 use std::io::{ErrorKind, Read, Write};
@@ -68,13 +68,18 @@ fn admit(
     rest: &'static [u8],
     piece: usize,
 ) -> Result<(), Fail> {
-    let wire = Wire {
+    let stream = Wire {
         rest,
         piece,
         open: true,
         taken: Vec::new(alloc),
     };
-    guests.admit(alloc, number, wire, WebSocketConfig::default())?;
+    let newcomer = Newcomer {
+        number,
+        stream,
+        standing: Standing::Welcome,
+    };
+    let _gave_way = guests.admit(alloc, newcomer, WebSocketConfig::default())?;
     Ok(())
 }
 

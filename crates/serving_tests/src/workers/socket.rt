@@ -5,7 +5,7 @@ use super::pool::over_pool;
 use super::run::Run;
 use crate::front::look;
 use crate::served::{REPLIES, TEXTS, add_frame, close_frame, frames};
-use presence_node_handshakes::Guests;
+use presence_node_handshakes::{Guests, Newcomer, Standing};
 use presence_node_sockets::{listen, next_stream};
 use presence_node_workers::socket_config;
 use session_desk::Port;
@@ -113,7 +113,12 @@ fn greet<R: Clock>(
     let mut guests = Guests::new(alloc);
     for _ in 0..1_000_u32 {
         if let Some(stream) = next_stream(listener) {
-            guests.admit(alloc, 1, stream, socket_config()).ok()?;
+            let newcomer = Newcomer {
+                number: 1,
+                stream,
+                standing: Standing::Welcome,
+            };
+            guests.admit(alloc, newcomer, socket_config()).ok()?;
         }
         guests.mark_all();
         if let Some((_, socket)) = look(alloc, &mut guests).ok()?.pop() {
