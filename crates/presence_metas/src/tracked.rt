@@ -51,7 +51,7 @@ pub fn tracked_meta(alloc: Global, dot: &Dot, row: &Row) -> Result<TrackedMeta, 
     ensures meta { IfOk result (λ t. t ≡ tracked_of dot.now row.now) }
     ensures limits { IsTrue (is_meta row.now.meta) }
 {
-    let value = row.meta.as_value().clone()?;
+    let value = row.meta.to_value(alloc)?;
     let mut members = members_of(alloc, value);
     let text = ref_text(alloc, dot)?;
     let reference = Text::new(alloc, text.as_str())?;

@@ -12,12 +12,13 @@ use Rattle.serde_json.specs.View.{view, members_view}
 use Rattle.serde_json.specs.declared.value.Value.{Value}
 use Rattle.serde_json.specs.Written.{compact_text, members_text, comma_if, has_float, members_have_float}
 use Rattle.presence_base.specs.Order.{text_cmp}
+use Rattle.presence_base.specs.RefPlaces.{AllBelow, AreBefore, BeginBehind}
 use Rattle.presence_base.specs.Refs.{ref_of}
 use Rattle.presence_base.specs.declared.dots.Dot.{Dot}
 use Rattle.presence_base.specs.declared.row.Row.{Row}
 use Rattle.presence_metas.specs.Rows.{members_in, with_prev}
 use Rattle.presence_metas.proofs.Lookups.{order, order_cases, bool_cases, true_false}
-use Rattle.presence_metas_texts.specs.Places.{AllBelow, AreBefore, BeginBehind, IsBefore, IsBehind, is_apart, all_apart, with_refs, member_text, prev_text, refs_text, refs_first, refs_last, due_text, remaining}
+use Rattle.presence_metas_texts.specs.Places.{IsBefore, IsBehind, is_apart, all_apart, with_refs, member_text, prev_text, refs_text, refs_first, refs_last, due_text, remaining}
 use Rattle.presence_metas_texts.specs.Texts.{row_text}
 
 -- ---- what was found
@@ -25,21 +26,6 @@ use Rattle.presence_metas_texts.specs.Texts.{row_text}
 pub some_of : {X : Type 0} (N : Type 0) (Q : X → Type 0) (r : Option X) → MatchOption r N Q → IfSome r Q
 some_of N Q None h = tt
 some_of N Q (Some x) h = h
-
-pub before_from : (es : List (String Global × Value)) (is_empty : Bool) → is_empty ≡ false → IsTrue is_empty ↔ (length es ≡ 0) → AllBelow (codes "phx_ref") (members_view es) → AreBefore (members_view es)
-before_from [] is_empty f e h = true_false (sym (e.1 refl) ∙ f)
-before_from (m ∷ es) is_empty f e h = h
-
-pub behind_from : (es : List (String Global × Value)) (n : String Global) (v : Value) → slice_get es 0 ≡ Some (n, v) → text_cmp (codes "phx_ref_prev") (string_bytes n) ≡ Less → BeginBehind (members_view es)
-behind_from [] n v f l = tt
-behind_from (e ∷ es) n v f l = subst (λ z. text_cmp (codes "phx_ref_prev") (string_bytes z.0) ≡ Less) (sym (some_is f)) l
-  where
-    some_is : Some e ≡ Some (n, v) → e ≡ (n, v)
-    some_is g = cc
-
-pub none_behind : (es : List (String Global × Value)) → ¬ (0 < length es) → BeginBehind (members_view es)
-none_behind [] l = tt
-none_behind (e ∷ es) l = absurd (l (omega arith))
 
 -- the object of a meta's members with the references
 abbrev whole : Dot → Option Dot → Members → List ℕ

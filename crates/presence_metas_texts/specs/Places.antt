@@ -7,34 +7,12 @@ use Rattle.json.specs.Print.{quoted}
 use Rattle.serde_json.specs.Data.{Data, string, object, Members, no_members, member, put}
 use Rattle.serde_json.specs.Written.{compact_text, members_text, comma_if}
 use Rattle.presence_base.specs.Order.{text_cmp}
+use Rattle.presence_base.specs.RefPlaces.{StandBefore, StandBehind}
 use Rattle.presence_base.specs.Refs.{ref_of}
 use Rattle.presence_base.specs.declared.dots.Dot.{Dot}
 use Rattle.presence_metas.specs.Rows.{with_prev}
 
 -- ---- the places
-
--- all names are below k
-abbrev pub AllBelow : List ℕ → Members → Type 0
-AllBelow k no_members = Unit {0}
-AllBelow k (member l d ms) = (text_cmp k l ≡ Greater) × AllBelow k ms
-
--- there are members, all before the references
-abbrev pub AreBefore : Members → Type 0
-AreBefore no_members = ⊥
-AreBefore (member l d ms) = AllBelow (codes "phx_ref") (member l d ms)
-
--- the first member, where there is one, is behind the references
-abbrev pub BeginBehind : Members → Type 0
-BeginBehind no_members = Unit {0}
-BeginBehind (member l d ms) = text_cmp (codes "phx_ref_prev") l ≡ Less
-
-abbrev pub StandBefore : Data → Type 0
-StandBefore (object ms) = AreBefore ms
-StandBefore _ = ⊥
-
-abbrev pub StandBehind : Data → Type 0
-StandBehind (object ms) = BeginBehind ms
-StandBehind _ = ⊥
 
 -- the meta's text up to its closing bracket, where the references follow there
 abbrev pub IsBefore : Data → List ℕ → Type 0

@@ -1,67 +1,15 @@
-ghost use Rattle.std.specs.Prelude.{◌≡◌, ◌++◌, ◌∷◌, [], true, codes, IfSome, OnOk, string_bytes};
-ghost use Rattle.serde_json.specs.View.{view, members_view};
-ghost use Rattle.presence_metas_texts.specs.Places.{AllBelow, AreBefore, BeginBehind, StandBefore, StandBehind, IsBefore, IsBehind, refs_first, refs_last};
+ghost use Rattle.std.specs.Prelude.{◌≡◌, ◌++◌, ◌∷◌, [], IfSome, IsTrue, OnOk, string_bytes};
+ghost use Rattle.serde_json.specs.View.{view};
+ghost use Rattle.presence_base.specs.Metas.{is_meta};
+ghost use Rattle.presence_metas_texts.specs.Places.{IsBefore, IsBehind, refs_first, refs_last};
 ghost use Rattle.presence_metas_texts.specs.Texts.{row_text};
 
 use crate::mixed::{all_apart, push_members};
 use crate::refs::push_refs;
 use presence_base::{Dot, Meta, Row};
 use presence_metas::tracked_meta;
-use serde_json::{Map, Value};
+use serde_json::Value;
 use std::alloc::{AllocError, Global};
-use std::cmp::Ordering;
-
-// Whether the first member, where there is one, stands behind the references of a row.
-#[tactic(auto, using(crate::proofs::WithRefs::behind_from, crate::proofs::WithRefs::none_behind))]
-fn begin_behind(members: &Map<String, Value>) -> bool
-    ensures { result ≡ true → BeginBehind (members_view members.now.entries) }
-{
-    match members.first_key_value() {
-        Some((name, _member)) => "phx_ref_prev".cmp(name.as_str()) == Ordering::Less,
-        None => true,
-    }
-}
-
-// Whether no name is above `phx_ref`.
-fn all_below(members: &Map<String, Value>) -> bool
-    ensures { result ≡ true → AllBelow (codes "phx_ref") (members_view members.now.entries) }
-{
-    for (name, _member) in members.iter() {
-        if "phx_ref".cmp(name.as_str()) != Ordering::Greater {
-            return false;
-        }
-    }
-    true
-}
-
-// Whether there are members, and all stand before the references of a row.
-#[tactic(auto, using(crate::proofs::WithRefs::before_from))]
-fn are_before(members: &Map<String, Value>) -> bool
-    ensures { result ≡ true → AreBefore (members_view members.now.entries) }
-{
-    if members.is_empty() {
-        return false;
-    }
-    all_below(members)
-}
-
-fn stand_behind(value: &Value) -> bool
-    ensures { result ≡ true → StandBehind (view value.now) }
-{
-    match value {
-        Value::Object(members) => begin_behind(members),
-        _ => false,
-    }
-}
-
-fn stand_before(value: &Value) -> bool
-    ensures { result ≡ true → StandBefore (view value.now) }
-{
-    match value {
-        Value::Object(members) => are_before(members),
-        _ => false,
-    }
-}
 
 // What follows a first bracket.
 fn opened(text: &str) -> Option<&str>
@@ -81,7 +29,7 @@ fn unclosed(text: &str) -> Option<&str>
 fn behind_refs(meta: &Meta) -> Option<&str>
     ensures { IfSome result (λ s. IsBehind meta.now s.now) }
 {
-    if stand_behind(meta.as_value()) {
+    if meta.takes_refs_first() {
         opened(meta.text())
     } else {
         None
@@ -92,7 +40,7 @@ fn behind_refs(meta: &Meta) -> Option<&str>
 fn before_refs(meta: &Meta) -> Option<&str>
     ensures { IfSome result (λ s. IsBefore meta.now s.now) }
 {
-    if stand_before(meta.as_value()) {
+    if meta.takes_refs_last() {
         unclosed(meta.text())
     } else {
         None
@@ -146,18 +94,35 @@ fn push_tracked(alloc: Global, text: &mut String, dot: &Dot, row: &Row) -> Resul
     text.push_str(meta.as_str())
 }
 
-// Writes a meta with the references between its members.
-fn push_between(alloc: Global, text: &mut String, dot: &Dot, row: &Row) -> Result<(), AllocError>
+// Writes a meta of this value with the references between its members.
+fn push_value(
+    alloc: Global,
+    text: &mut String,
+    value: &Value,
+    dot: &Dot,
+    row: &Row,
+) -> Result<(), AllocError>
+    requires value { view value.now ≡ row.now.meta }
+    requires limits { IsTrue (is_meta row.now.meta) }
     ensures { OnOk result (string_bytes text.new
         ≡ string_bytes text.old ++ row_text (dot.now, row.now)) }
 {
-    match row.meta.as_value() {
+    match value {
         Value::Object(members) if all_apart(members) => {
             text.push_str("{")?;
             push_members(alloc, text, members, dot, &row.prev)
         }
         _ => push_tracked(alloc, text, dot, row),
     }
+}
+
+// Writes a meta with the references between its members, which are read from its text.
+fn push_between(alloc: Global, text: &mut String, dot: &Dot, row: &Row) -> Result<(), AllocError>
+    ensures { OnOk result (string_bytes text.new
+        ≡ string_bytes text.old ++ row_text (dot.now, row.now)) }
+{
+    let value = row.meta.to_value(alloc)?;
+    push_value(alloc, text, &value, dot, row)
 }
 
 // Writes a row's meta with its references.

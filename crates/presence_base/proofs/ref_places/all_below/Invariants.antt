@@ -1,7 +1,7 @@
 use Rattle.std.proofs.Common.{codes}
 use Rattle.serde_json.specs.View.{members_view}
-use Rattle.presence_metas_texts.specs.Places.{AllBelow}
-use Rattle.presence_metas_texts.proofs.metas.all_below.Given as goal
+use Rattle.presence_base.specs.RefPlaces.{AllBelow}
+use Rattle.presence_base.proofs.ref_places.all_below.Given as goal
 
 -- what is left decides
 abbrev pub invariant-loop-name : goal.invariant-loop-name
