@@ -1,6 +1,7 @@
 pub mod BoolFacts
 pub mod RunFacts
 pub mod DeltaFacts
+pub mod CountFacts
 pub mod LoopFacts
 pub mod JoinFacts
 pub mod ViewFacts

@@ -4,6 +4,7 @@ use Rattle.presence_base.specs.declared.dots.Replica.{Replica}
 use Rattle.presence_base.specs.Names.{guarded}
 use Rattle.delta_range.specs.declared.generations.TheConstants.{SHORT_CAP, MIDDLE_CAP, LONG_CAP}
 use Rattle.delta_range.specs.Deltas.{DeltaValue, IsDelta, GoesOn}
+use Rattle.delta_range.specs.Fitting.{fits_line}
 use Rattle.delta_range.specs.Joining.{joined}
 
 -- where the last delta that was pushed ended, and what each generation keeps
@@ -53,16 +54,16 @@ pub record AreKept (k : Kept) : Type 0 where
   pub middle : EndsWithin k.last MIDDLE_CAP k.middle
   pub long : EndsWithin k.last LONG_CAP k.long
 
--- what a generation keeps, where it begins at or below a count
+-- what a generation keeps, where it begins at or below a count and is not too much for a line
 abbrev pub begun : ℕ → Option DeltaValue → Option DeltaValue
 begun n None = None
-begun n (Some d) = guarded (nat_le d.from n) d
+begun n (Some d) = guarded (nat_le d.from n && fits_line d) d
 
 abbrev pub first_of_both : Option DeltaValue → Option DeltaValue → Option DeltaValue
 first_of_both (Some d) other = Some d
 first_of_both None other = other
 
--- of those that begin at or below a count, the one with the smallest cap
+-- of those that begin at or below a count and fit a line, the one with the smallest cap
 abbrev pub from_count : Kept → ℕ → Option DeltaValue
 from_count k n = first_of_both (begun n k.short) (first_of_both (begun n k.middle) (begun n k.long))
 

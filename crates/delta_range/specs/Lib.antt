@@ -1,6 +1,7 @@
 pub mod Caps
 pub mod Longest
 pub mod Deltas
+pub mod Fitting
 pub mod Joining
 pub mod Growing
 pub mod Keeping

@@ -1,17 +1,19 @@
-ghost use Rattle.std.specs.Prelude.{◌≡◌, false, IfOk, IfErr, Ok, None};
+ghost use Rattle.std.specs.Prelude.{◌≡◌, false, nat_le, IfOk, IfErr, Ok, None};
 ghost use Rattle.std.specs.List.{list_all};
 ghost use Rattle.presence_base.specs.Names.{guarded};
 ghost use Rattle.presence_base.specs.Order.{same_replica};
 ghost use Rattle.orswot_core.specs.Telling.{range_has};
 ghost use Rattle.delta_range.specs.Deltas.{DeltaValue, telling, delta_of, is_older, is_delta, IsDelta, GoesOn};
+ghost use Rattle.delta_range.specs.Fitting.{counts_in, fits_line};
 ghost use Rattle.delta_range.specs.Growing.{IsRemoval};
 ghost use Rattle.delta_range.specs.Joining.{joined, Joined, IsJoinAnswer};
 
 use crate::fault::DeltaFault;
+use crate::fitting::have_at_most;
 use crate::growth::{Growth, Removal, removal_of};
 use crate::joining::{one_range, rows_of};
 use crate::runs::{dots_of, longest, runs_of};
-use orswot_core::Told;
+use orswot_core::{MAX_ROWS, Told};
 use presence_base::{Dot, Replica, Row};
 use std::alloc::{AllocError, Global};
 use std::marker::Model;
@@ -129,6 +131,23 @@ impl Delta {
         ensures delta { IsDelta self.now }
     {
         &self.live
+    }
+
+    /// Whether it tells so many older counts at most. They are counted by the ends of its runs: it costs a look at each run,
+    /// however long. Takes no memory.
+    pub fn tells_at_most(&self, counts: u64) -> bool
+        ensures { result ≡ nat_le (counts_in self.now.older) counts }
+    {
+        have_at_most(self.older(), counts)
+    }
+
+    /// Whether it tells no more rows and older counts than a node takes in. The counts are those of the ends of its runs: it
+    /// costs a look at each run, however long, and makes no dot. Takes no memory.
+    pub fn fits_line(&self) -> bool
+        ensures { result ≡ fits_line self.now }
+    {
+        let rows = self.live().len();
+        rows <= MAX_ROWS && have_at_most(self.older(), (MAX_ROWS - rows) as u64)
     }
 
     /// The two as one, where the next begins at the count where this one ends. What the next removed

@@ -161,8 +161,8 @@ impl Generations {
         keeps_something(&self.long)
     }
 
-    /// Of the generations that begin at or below `count`, the one with the smallest cap. Takes no
-    /// memory.
+    /// Of the generations that begin at or below `count` and tell no more rows and older counts than a node takes in, the one
+    /// with the smallest cap. It costs a look at each older run that is kept, and no dot is made of one. Takes no memory.
     pub fn from_count(&self, count: u64) -> Option<&Delta>
         ensures { option_copied result ≡ from_count self.now count }
     {
@@ -204,7 +204,7 @@ fn begun_by(kept: &Option<Delta>, count: u64) -> Option<&Delta>
     ensures { option_copied result ≡ begun count kept.now }
 {
     match kept {
-        Some(delta) if delta.from() <= count => Some(delta),
+        Some(delta) if delta.from() <= count && delta.fits_line() => Some(delta),
         _ => None,
     }
 }

@@ -3,6 +3,7 @@
 //! Its contracts cite these definitions:
 //! - `specs/Caps`: how many rows and older runs each kept delta may have: the generations cite them by these names
 //! - `specs/Deltas`: deltas: what an owner tells of one range of its counts, with the older ones that it removed
+//! - `specs/Fitting`: fitting: what a delta tells, counted by the ends of its older runs, before a dot is made of them
 //! - `specs/Growing`: growing: a delta that takes in the next one in place, and all that it needs for that
 //! - `specs/Joining`: joined: two deltas of one owner, the second of which goes on from the first, as one
 //! - `specs/Keeping`: generations: three joined deltas, of which a shorter one begins later
@@ -14,6 +15,7 @@
 
 mod delta;
 mod fault;
+mod fitting;
 mod generations;
 mod growth;
 mod joining;

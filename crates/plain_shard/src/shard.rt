@@ -351,7 +351,7 @@ impl PlainShard {
         if self.journal.is_full() {
             return Err(ShardFault::JournalFull);
         }
-        let step = Step::shout(topic, payload)?;
+        let step = Step::shout(alloc, topic, payload)?;
         self.write(seat, step, Outcome::Sent)
     }
 

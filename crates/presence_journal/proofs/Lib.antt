@@ -1,4 +1,5 @@
 pub mod Same
+pub mod TextBytes
 pub mod ToldLemmas
 pub mod Lookups
 pub mod PresentLemmas

@@ -1,5 +1,4 @@
-ghost use Rattle.std.specs.Prelude.{◌≡◌, ◌++◌, ◌∷◌, [], OnOk, OnErr};
-
+use crate::entries::Entries;
 use orswot_core_told::Told;
 use presence_base::{MAX_COUNT, Replica};
 use presence_journal_data::{
@@ -14,7 +13,7 @@ pub const MAX_ENTRIES: usize = 262_144;
 /// What was asked of a shard, in order, each with the outcome of the sequential presence table.
 pub struct Journal {
     start: Start,
-    entries: Vec<Entry>,
+    entries: Entries,
 }
 
 impl Drop for Journal {
@@ -36,9 +35,9 @@ impl Model for Journal {
     ghost use Rattle.presence_journal.specs.History.{Begin, onto};
     ghost use Rattle.presence_journal.specs.Table.{IsKept};
 
-    ghost view = { λ j. onto (Begin j.start) j.entries.items };
+    ghost view = { λ j. onto (Begin j.start) j.entries };
 
-    ghost invariant = { λ j. IsKept (onto (Begin j.start) j.entries.items) };
+    ghost invariant = { λ j. IsKept (onto (Begin j.start) j.entries) };
 }
 
 impl Clone for Journal {
@@ -53,19 +52,11 @@ impl Clone for Journal {
     }
 }
 
-// Puts an entry at the end.
-fn push_entry(entries: &mut Vec<Entry>, entry: Entry) -> Result<(), AllocError>
-    ensures ok { OnOk result (entries.new.items ≡ entries.old.items ++ entry ∷ []) }
-    ensures err { OnErr result (entries.new.items ≡ entries.old.items) }
-{
-    entries.push(entry)?;
-    Ok(())
-}
-
 impl Journal {
-    ghost use Rattle.std.specs.Prelude.{◌≡◌, ◌≤◌, ◌^◌, ◌+◌, length, true, false, Some, OnOk, OnErr};
+    ghost use Rattle.std.specs.Prelude.{◌≡◌, ◌≤◌, ◌^◌, ◌+◌, ◌-◌, min, length, true, false, Some, OnOk, OnErr};
     ghost use Rattle.presence_base.specs.Refs.{IsCount};
     ghost use Rattle.presence_journal.specs.History.{Begin, begun, onto, start_of, own, last_number, entry_count, is_full};
+    ghost use Rattle.presence_journal.specs.TextBytes.{text_bytes};
     ghost use Rattle.presence_journal.specs.Limits.{is_within_limits};
     ghost use Rattle.presence_journal.specs.Table.{IsStart, IsLegal, AreWithinLimits, outcome_of, after};
 
@@ -90,7 +81,7 @@ impl Journal {
                 subscribers: Subscribers::new(Vec::new(alloc)),
                 seated: 0,
             },
-            entries: Vec::new(alloc),
+            entries: Entries::new(alloc),
         }
     }
 
@@ -101,7 +92,7 @@ impl Journal {
     {
         Journal {
             start,
-            entries: Vec::new(alloc),
+            entries: Entries::new(alloc),
         }
     }
 
@@ -122,6 +113,14 @@ impl Journal {
         self.entries.as_slice()
     }
 
+    /// The bytes of the texts of the entries, or the most that a count of 64 bits tells: of metas, of what was shouted, and
+    /// of what was told. Those of the Start are not counted.
+    pub fn text_bytes(&self) -> u64
+        ensures { result ≡ min (text_bytes self.now) (2 ^ 64 - 1) }
+    {
+        self.entries.text_bytes()
+    }
+
     /// The replica that counts here.
     pub fn own(&self) -> &Replica
         ensures { result.now ≡ own self.now }
@@ -134,7 +133,7 @@ impl Journal {
         ensures number { result ≡ last_number self.now }
         ensures limit { result ≤ 2 ^ 62 }
     {
-        match self.entries.last() {
+        match self.entries.as_slice().last() {
             Some(entry) => entry.number,
             None => self.start.number,
         }
@@ -167,6 +166,6 @@ impl Journal {
             step,
             outcome,
         };
-        push_entry(&mut self.entries, entry)
+        self.entries.push(entry)
     }
 }

@@ -2,6 +2,7 @@
 //!
 //! Its public contracts cite these definitions, which stand on one another, and presence_base's `Refs`:
 //! - `specs/History`: a history, and what it says of each dot and replica; `specs/Codes`: how the logic stores it
+//! - `specs/TextBytes`: how many bytes the texts of its entries have
 //! - `specs/Limits`: what a step may hold
 //! - `specs/Table`: the sequential presence table, and the histories that keep to it
 //! - `specs/Present`: the rows of a topic, and how two such tables differ
@@ -12,6 +13,7 @@
 //! `specs/Walk` is of tables as lemmas see them.
 #![tactic(auto)]
 
+mod entries;
 mod journal;
 pub mod laws;
 mod waiting;

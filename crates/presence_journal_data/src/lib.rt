@@ -1,6 +1,7 @@
 //! What a shard's journal is made of: steps, what they came to, entries, and rows as lists.
 //!
-//! Its contracts cite `specs/Limits` and `specs/StepLimits`: what a step may hold; and `specs/RowDots`: the dots of rows.
+//! Its contracts cite `specs/Limits` and `specs/StepLimits`: what a step may hold; `specs/RowDots`: the dots of rows;
+//! and `specs/TextBytes`: the bytes of a step's texts.
 #![tactic(auto)]
 
 mod entry;
@@ -9,6 +10,7 @@ mod rows;
 mod shared;
 mod shared_rows;
 mod step;
+mod text_bytes;
 
 pub use delta_range::Generations;
 pub use entry::{Dots, Entry, Outcome, Start};
@@ -18,3 +20,4 @@ pub use rows::{Item, Place, RowDiff, Rows};
 pub use shared::{SharedDiff, SharedShout};
 pub use shared_rows::{SharedRows, dots_of_rows};
 pub use step::Step;
+pub use text_bytes::count_text_bytes;

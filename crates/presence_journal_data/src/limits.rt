@@ -1,5 +1,5 @@
-use presence_base::Json;
-use std::alloc::AllocError;
+use presence_base::{Json, JsonText};
+use std::alloc::{AllocError, Global};
 use std::marker::Model;
 
 /// How deep the payload of a shout may be.
@@ -8,16 +8,17 @@ pub const MAX_PAYLOAD_DEPTH: u32 = 64;
 /// How many items one take gives at most.
 pub const MAX_TAKEN: u32 = 256;
 
-/// What a shout sends: a value at most 64 deep whose numbers are whole ones of 64 bits.
+/// What a shout sends: a value at most 64 deep whose numbers are whole ones of 64 bits, kept as
+/// its compact text, which clones share.
 #[derive(Debug)]
 pub struct Payload {
-    json: Json,
+    text: JsonText,
 }
 
 impl Drop for Payload {
     fn drop(self) {
-        let Payload { json } = self;
-        drop(json);
+        let Payload { text } = self;
+        drop(text);
     }
 }
 
@@ -31,9 +32,9 @@ impl Model for Payload {
 
     ghost coded = { data_code };
 
-    ghost view = { λ p. p.json };
+    ghost view = { λ p. p.text };
 
-    ghost invariant = { λ p. IsTrue (is_payload p.json) };
+    ghost invariant = { λ p. IsTrue (is_payload p.text) };
 }
 
 impl Clone for Payload {
@@ -42,28 +43,40 @@ impl Clone for Payload {
     ghost is_clone = { λ p q. q ≡ p };
 
     fn clone(&self) -> Result<Payload, AllocError> {
-        let json = self.json.clone()?;
-        Ok(Payload { json })
+        let text = self.text.clone()?;
+        Ok(Payload { text })
     }
 }
 
 impl Payload {
-    ghost use Rattle.std.specs.Prelude.{◌≡◌, IsTrue};
+    ghost use Rattle.std.specs.Prelude.{◌≡◌, IfOk, IsTrue};
     ghost use Rattle.serde_json.specs.View.{view};
+    ghost use Rattle.serde_json.specs.Written.{compact_text};
     ghost use Rattle.presence_journal_data.specs.Limits.{is_payload};
 
-    pub fn new(json: Json) -> Payload
-        requires { IsTrue (is_payload json) }
-        ensures { result ≡ json }
+    pub fn new(alloc: Global, json: &Json) -> Result<Payload, AllocError>
+        requires { IsTrue (is_payload json.now) }
+        ensures { IfOk result (λ p. p ≡ json.now) }
     {
-        Payload { json }
+        let text = JsonText::new(alloc, json.as_value())?;
+        Ok(Payload { text })
     }
 
-    pub fn as_json(&self) -> &Json
-        ensures value { result.now ≡ self.now }
+    /// The compact text of the value, written when the payload was made.
+    pub fn text(&self) -> &str
+        ensures text { result.now ≡ compact_text self.now }
         ensures limits { IsTrue (is_payload self.now) }
     {
-        &self.json
+        self.text.as_str()
+    }
+
+    /// The value, read from its text.
+    pub fn to_json(&self, alloc: Global) -> Result<Json, AllocError>
+        ensures value { IfOk result (λ j. j ≡ self.now) }
+        ensures limits { IsTrue (is_payload self.now) }
+    {
+        let value = self.text.to_value(alloc)?;
+        Ok(Json::new(value))
     }
 }
 

@@ -98,28 +98,19 @@ impl SharedDiff {
     }
 }
 
-// What a shout sends, with its text.
-#[derive(Drop)]
-struct WrittenShout {
-    sent: Payload,
-    text: String,
-    ghost exact: { string_bytes text ≡ compact_text sent },
-}
-
 /// What a shout sends, with its text. Those who share it share the text.
 pub struct SharedShout {
-    written: Arc<WrittenShout, Global>,
+    sent: Payload,
 }
 
 impl Drop for SharedShout {
     fn drop(self) {
-        let SharedShout { written } = self;
-        drop(written);
+        let SharedShout { sent } = self;
+        drop(sent);
     }
 }
 
 impl Model for SharedShout {
-    ghost use Rattle.std.specs.Arc.{arc_value};
     ghost use Rattle.serde_json.specs.Data.{Data};
     ghost use Rattle.presence_base.specs.JsonCode.{data_code};
 
@@ -127,7 +118,7 @@ impl Model for SharedShout {
 
     ghost coded = { data_code };
 
-    ghost view = { λ s. (arc_value s.written).sent };
+    ghost view = { λ s. s.sent };
 }
 
 impl Debug for SharedShout {
@@ -136,44 +127,34 @@ impl Debug for SharedShout {
     }
 }
 
-// The text of what a shout sends.
-fn write_shout(alloc: Global, sent: &Payload) -> Result<String, AllocError>
-    ensures { IfOk result (λ s. string_bytes s ≡ compact_text sent.now) }
-{
-    sent.as_json().as_value().to_string(alloc)
-}
-
 impl SharedShout {
     ghost use Rattle.std.specs.Prelude.{◌≡◌, IfOk};
     ghost use Rattle.serde_json.specs.Written.{compact_text};
 
-    /// Writes the text of what is sent.
-    pub fn new(alloc: Global, sent: Payload) -> Result<SharedShout, AllocError>
-        ensures { IfOk result (λ s. s ≡ sent) }
+    pub fn new(sent: Payload) -> SharedShout
+        ensures { result ≡ sent }
     {
-        let text = write_shout(alloc, &sent)?;
-        let written = Arc::new(alloc, WrittenShout { sent, text })?;
-        Ok(SharedShout { written })
+        SharedShout { sent }
     }
 
     /// The same for one more. It costs no copy.
     pub fn share(&self) -> Result<SharedShout, AllocError>
         ensures { IfOk result (λ s. s ≡ self.now) }
     {
-        let written = Arc::try_clone(&self.written)?;
-        Ok(SharedShout { written })
+        let sent = self.sent.clone()?;
+        Ok(SharedShout { sent })
     }
 
     pub fn sent(&self) -> &Payload
         ensures { result.now ≡ self.now }
     {
-        &self.written.sent
+        &self.sent
     }
 
     /// The text of the payload that is sent.
     pub fn payload(&self) -> &str
         ensures { result.now ≡ compact_text self.now }
     {
-        self.written.text.as_str()
+        self.sent.text()
     }
 }

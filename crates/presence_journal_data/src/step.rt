@@ -6,7 +6,7 @@ ghost use Rattle.presence_journal_data.specs.StepLimits.{is_named};
 use crate::limits::{Payload, TakeLimit};
 use orswot_core_told::Told;
 use presence_base::{Dot, Json, Key, Meta, Replica, Row, Topic};
-use std::alloc::AllocError;
+use std::alloc::{AllocError, Global};
 
 /// What is asked of a shard. A `pid` names the session that asks; a subscriber is named by the
 /// number of the entry that made it. A time is in milliseconds.
@@ -86,7 +86,7 @@ impl Step {
         ensures step { IfOk result (λ s. s ≡ Step.Track pid topic.now key.now meta.now) }
         ensures limits { IfOk result (λ s. is_within_limits s ≡ nat_le pid (2 ^ 62)) }
     {
-        let (_topic, _key, _meta) = (topic.as_str(), key.as_str(), meta.as_value());
+        let (_topic, _key, _meta) = (topic.as_str(), key.as_str(), meta.text());
         let topic = topic.clone()?;
         let key = key.clone()?;
         let meta = meta.clone()?;
@@ -103,7 +103,7 @@ impl Step {
         ensures step { IfOk result (λ s. s ≡ Step.Update pid topic.now key.now meta.now) }
         ensures limits { IfOk result (λ s. is_within_limits s ≡ nat_le pid (2 ^ 62)) }
     {
-        let (_topic, _key, _meta) = (topic.as_str(), key.as_str(), meta.as_value());
+        let (_topic, _key, _meta) = (topic.as_str(), key.as_str(), meta.text());
         let topic = topic.clone()?;
         let key = key.clone()?;
         let meta = meta.clone()?;
@@ -180,14 +180,25 @@ impl Step {
     }
 
     /// A shout to a topic's subscribers.
-    pub fn shout(topic: &Topic, payload: &Json) -> Result<Step, AllocError>
+    pub fn shout(alloc: Global, topic: &Topic, payload: &Json) -> Result<Step, AllocError>
         requires { IsTrue (is_payload payload.now) }
         ensures step { IfOk result (λ s. s ≡ Step.Shout topic.now payload.now) }
         ensures limits { IfOk result (λ s. is_within_limits s ≡ true) }
     {
         let _topic = topic.as_str();
         let topic = topic.clone()?;
-        let payload = Payload::new(payload.clone()?);
+        let payload = Payload::new(alloc, payload)?;
+        Ok(Step::Shout { topic, payload })
+    }
+
+    /// A shout whose payload was made before. It shares the payload's text.
+    pub fn shout_shared(topic: &Topic, payload: &Payload) -> Result<Step, AllocError>
+        ensures step { IfOk result (λ s. s ≡ Step.Shout topic.now payload.now) }
+        ensures limits { IfOk result (λ s. is_within_limits s ≡ true) }
+    {
+        let (_topic, _payload) = (topic.as_str(), payload.text());
+        let topic = topic.clone()?;
+        let payload = payload.clone()?;
         Ok(Step::Shout { topic, payload })
     }
 
@@ -235,11 +246,7 @@ fn read_row(row: &(Dot, Row))
     ensures texts { are_texts row.now.1 ≡ true }
 {
     let _name = row.0.replica.name.as_str();
-    let (_topic, _key, _meta) = (
-        row.1.topic.as_str(),
-        row.1.key.as_str(),
-        row.1.meta.as_value(),
-    );
+    let (_topic, _key, _meta) = (row.1.topic.as_str(), row.1.key.as_str(), row.1.meta.text());
 }
 
 impl Clone for Step {
@@ -270,7 +277,7 @@ impl Clone for Step {
             Step::Unsubscribe { subscriber } => Ok(Step::Unsubscribe {
                 subscriber: *subscriber,
             }),
-            Step::Shout { topic, payload } => Step::shout(topic, payload.as_json()),
+            Step::Shout { topic, payload } => Step::shout_shared(topic, payload),
             Step::Heard { replica, now } => Ok(Step::Heard {
                 replica: *replica,
                 now: *now,

@@ -1,8 +1,8 @@
 -- What is known of a dot, entry by entry, and how far a replica's dots are covered.
-use Rattle.std.proofs.Common.{◌≡◌, ℕ, ◌+◌, ◌<◌, ◌≤◌, Bool, true, false, not, nat_eq, nat_lt, nat_le, ◌&&◌, ◌||◌, List, [], ◌∷◌, length, get_or, take, refl, sym, ◌∙◌, ap, subst, arith, inl, inr}
+use Rattle.std.proofs.Common.{◌≡◌, ℕ, ◌+◌, ◌<◌, ◌≤◌, Bool, true, false, not, nat_lt, nat_le, ◌&&◌, ◌||◌, List, [], ◌∷◌, length, get_or, take, refl, sym, ◌∙◌, ap, subst, arith, inl, inr}
 use Rattle.std.specs.Prelude.{◌⊎◌}
 use Rattle.std.specs.List.{list_all, list_any}
-use Rattle.std.proofs.lemmas.Bool.{and_parts, or_cases, leb-true, eqb-true, eqb-false}
+use Rattle.std.proofs.lemmas.Bool.{and_parts, or_cases, leb-true}
 use Rattle.presence_base.specs.declared.dots.Dot.{Dot}
 use Rattle.presence_base.specs.declared.dots.Replica.{Replica}
 use Rattle.presence_base.specs.declared.dots.TheConstants.{MAX_COUNT}
@@ -36,7 +36,7 @@ pub record KnownTo (s : Start) (es : List Entry) (i : ℕ) (d : Dot) (b : Bool) 
   pub known : b ≡ known (onto (Begin s) (take i es)) d
   pub counted : IsCounted used (onto (Begin s) (take i es))
 
-known-begin : (s : Start) (d : Dot) → covers s.content d ≡ known (Begin s) d
+pub known-begin : (s : Start) (d : Dot) → covers s.content d ≡ known (Begin s) d
 unfolding known
 known-begin s d = refl
 
@@ -110,16 +110,6 @@ known_limit (Then h e) d legal has = go (known_cases h e d has) (known_limit h d
 -- all counts of the replica up to this one are covered
 abbrev pub CoversUpTo : History → Replica → ℕ → Type 0
 CoversUpTo h r n = (m : ℕ) → 1 ≤ m → m ≤ n → covered h (record { replica = r; count = m }) ≡ true
-
-pub up_to_none : (h : History) (r : Replica) → CoversUpTo h r 0
-up_to_none h r m low high = absurd (omega (arith, low, high))
-
-pub up_to_more : (h : History) (r : Replica) (n : ℕ) → CoversUpTo h r n → covered h (record { replica = r; count = n + 1 }) ≡ true → CoversUpTo h r (n + 1)
-up_to_more h r n below here m low high = go (nat_eq m (n + 1)) refl
-  where
-    go : (b : Bool) → nat_eq m (n + 1) ≡ b → covered h (record { replica = r; count = m }) ≡ true
-    go true e = ap (λ (k : ℕ). covered h (record { replica = r; count = k })) (eqb-true m (n + 1) e) ∙ here
-    go false e = below m low (omega (arith, high, eqb-false m (n + 1) e))
 
 -- no dot above the limit is covered
 none_above : (h : History) (r : Replica) → IsLegal h → covered h (record { replica = r; count = MAX_COUNT + 1 }) ≡ false

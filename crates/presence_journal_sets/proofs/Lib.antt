@@ -4,3 +4,4 @@ pub mod OwnLemmas
 pub mod FrontLemmas
 pub mod LeftLemmas
 pub mod KnownLemmas
+pub mod ReachLemmas

@@ -1,12 +1,14 @@
 //! What a shard's journal covers, which rows of it are live, and what it says of other replicas, by walks
 //! over its entries.
 //!
-//! Its public contracts cite presence_journal's `History`, and `specs/Walked` and `specs/LeftOut` here.
+//! Its public contracts cite presence_journal's `History`, and `specs/Walked` and `specs/LeftOut` here. `specs/Reaching` is
+//! of how far counts go on without a gap.
 #![tactic(auto)]
 
 mod counts;
 mod known;
 mod leaving;
+mod reaching;
 mod sets;
 mod statuses;
 mod walked;

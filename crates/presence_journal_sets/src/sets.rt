@@ -3,6 +3,7 @@ ghost use Rattle.presence_journal.specs.History.{Begin, onto, covered, IsTop};
 ghost use Rattle.presence_journal.specs.Table.{IsLegal};
 
 use crate::known::is_known_after;
+use crate::reaching::reach_after;
 use crate::statuses::{is_gone, status_after};
 use presence_base::{Dot, MAX_COUNT, Replica};
 use presence_journal::{Entry, Journal, Start};
@@ -21,14 +22,17 @@ fn top_after(start: &Start, entries: &[Entry], replica: &Replica) -> u64
     requires { IsLegal (onto (Begin start.now) entries.now) }
     ensures { IsTop (onto (Begin start.now) entries.now) replica.now result }
 {
-    for top in 0..MAX_COUNT {
-        let next = Dot {
-            replica: *replica,
-            count: top + 1,
-        };
-        if !covers_after(start, entries, &next) {
+    let status = status_after(start, entries, replica);
+    if is_gone(status) {
+        return 0;
+    }
+    let mut top = 0;
+    while top < MAX_COUNT {
+        let reach = reach_after(start, entries, replica, top);
+        if reach == top {
             return top;
         }
+        top = reach;
     }
     MAX_COUNT
 }
@@ -41,6 +45,10 @@ pub fn walk_covers(journal: &Journal, dot: &Dot) -> bool
 }
 
 /// The count up to which all of a replica's dots are covered. Takes no memory.
+///
+/// It goes from range to range: a walk over the entries takes every range and every dot that goes on from what the ones
+/// before it reached, however long they are. One walk and a last one are enough where what was told grew in order; at
+/// worst each told range or dot takes a walk of its own.
 pub fn walk_top(journal: &Journal, replica: &Replica) -> u64
     ensures { IsTop journal.now replica.now result }
 {

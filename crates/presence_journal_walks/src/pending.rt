@@ -86,12 +86,7 @@ fn diff_items(alloc: Global, diff: RowDiff) -> Result<Vec<Item>, AllocError>
 }
 
 // Puts the item of a shout on the topic.
-fn push_shout(
-    alloc: Global,
-    items: &mut Vec<Item>,
-    step: &Step,
-    topic: &Topic,
-) -> Result<(), AllocError>
+fn push_shout(items: &mut Vec<Item>, step: &Step, topic: &Topic) -> Result<(), AllocError>
     ensures { OnOk result (items.new.items ≡ items.old.items ++ shout_item step.now topic.now) }
 {
     if let Step::Shout {
@@ -100,7 +95,7 @@ fn push_shout(
     } = step
     {
         if shouted_on.cmp(topic).is_eq() {
-            let shout = SharedShout::new(alloc, payload.clone()?)?;
+            let shout = SharedShout::new(payload.clone()?);
             items.push(Item::Shout(shout))?;
         }
     }
@@ -117,7 +112,7 @@ fn items_of(
     ensures { IfOk result (λ v. v.items ≡ diff_item diff ++ shout_item step.now topic.now) }
 {
     let mut items = diff_items(alloc, diff)?;
-    push_shout(alloc, &mut items, step, topic)?;
+    push_shout(&mut items, step, topic)?;
     Ok(items)
 }
 

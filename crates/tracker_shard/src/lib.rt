@@ -3,7 +3,7 @@
 //!
 //! Its public contracts cite `specs/Steps`: what a call answers and leaves, and when it refuses; presence_journal's
 //! `History`, `Table`, `Present`, `Queue` and `Limits`; and what tracker_shard_indexed gives out: `Cuts`, `KeptDeltas`,
-//! `Full`, `Starting` and `Quiet`.
+//! `Full`, `Starting`, `Resuming` and `Quiet`.
 #![tactic(auto)]
 
 mod answers;
@@ -13,3 +13,4 @@ mod shard;
 
 pub use fault::ShardFault;
 pub use shard::{Shard, Sub};
+pub use tracker_shard_indexed::RowCounts;

@@ -4,11 +4,11 @@ use crate::foreseen::foreseen;
 use delta_range::Delta;
 use orswot_core::Told;
 use presence_base::{Dot, Json, Key, MAX_COUNT, Meta, Replica, Row, Topic};
-use presence_journal::{Dots, Item, Journal, Outcome, SharedRows, Step, dots_of_rows};
+use presence_journal::{Dots, Item, Journal, Outcome, Payload, SharedRows, Step, dots_of_rows};
 use replica_status::Status;
 use std::alloc::{AllocError, Global};
 use std::marker::Model;
-use tracker_shard_indexed::Indexed;
+use tracker_shard_indexed::{Indexed, RowCounts};
 
 /// A subscriber: the number of the entry that made it, which names it, and the slot where it is found.
 #[derive(Clone, Copy, Debug, PartialEq, Eq)]
@@ -60,6 +60,7 @@ impl Shard {
     ghost use Rattle.tracker_shard.specs.Steps.{AnswersListedKey, AnswersItems, AnswersSub};
     ghost use Rattle.tracker_shard.specs.Steps.{found_topic, checkpoint_refusal};
     ghost use Rattle.tracker_shard_indexed.specs.Starting.{IsBegunAgain};
+    ghost use Rattle.tracker_shard_indexed.specs.Resuming.{resumed};
 
     /// A shard of the replica with an empty journal.
     pub fn new(alloc: Global, own: Replica) -> Shard
@@ -69,6 +70,16 @@ impl Shard {
         Shard {
             table: Indexed::new(alloc, own),
         }
+    }
+
+    /// A shard whose replica has used its counts up to this one, all told and none of a row: the next row has the next count.
+    pub fn resume(alloc: Global, own: Replica, count: u64) -> Result<Shard, AllocError>
+        requires incarnation { IsCount own.incarnation }
+        requires count { count ≤ 2 ^ 62 }
+        ensures { IfOk result (λ s. s ≡ resumed own count) }
+    {
+        let table = Indexed::resume(alloc, own, count)?;
+        Ok(Shard { table })
     }
 
     /// The journal, in which each entry has the outcome of the sequential presence table.
@@ -317,8 +328,28 @@ impl Shard {
         if self.table.journal().is_full() {
             return Err(ShardFault::JournalFull);
         }
+        let payload = Payload::new(alloc, payload)?;
+        self.shout_shared(alloc, seat, topic, &payload)
+    }
+
+    /// Shouts as `shout` does what was made a payload before, whose text the entry and the items share.
+    #[tactic(auto, using(crate::proofs::Tables::tables))]
+    pub fn shout_shared(
+        &mut self,
+        alloc: Global,
+        seat: Option<u32>,
+        topic: &Topic,
+        payload: &Payload,
+    ) -> Result<(), ShardFault>
+        ensures step { Stepped self.old self.new seat (Step.Shout topic.now payload.now) result }
+        ensures answer { Answers (λ _. Unit {0}) (outcome_of self.old (Step.Shout topic.now payload.now)) result }
+        ensures due { IsDue result (refusal true self.old (Step.Shout topic.now payload.now)) }
+    {
+        if self.table.journal().is_full() {
+            return Err(ShardFault::JournalFull);
+        }
         self.table.ready(alloc)?;
-        let step = Step::shout(topic, payload)?;
+        let step = Step::shout_shared(topic, payload)?;
         write(&mut self.table, alloc, seat, step, Outcome::Sent)
     }
 
@@ -542,6 +573,13 @@ impl Shard {
         ensures { result ≡ status self.now replica.now }
     {
         self.table.status(replica)
+    }
+
+    /// How many rows the shard shows, its own ones and those of others, and how many topics have a subscriber: a look at three
+    /// lengths, for people. Behind an entry that memory ran out behind they may be those before it. No contract speaks of it.
+    /// It is no step, and takes no memory.
+    pub fn row_counts(&self) -> RowCounts {
+        self.table.row_counts()
     }
 
     /// Whether no item waits for a present subscriber: each is behind, or has nothing waiting. It is no step, and costs a look

@@ -1,8 +1,7 @@
 use denote.Param.Send.{IsSend, IsSync, sendable}
 use Rattle.std.proofs.Crossing as heap
 use Rattle.std.proofs.MapsCrossing as maps
-use Rattle.serde_json.proofs.value.Value.TheLaws.TheKnot as value
-use Rattle.presence_base.specs.contracts.json.Json as Json
+use Rattle.presence_base.specs.contracts.json_text.JsonText as JsonText
 use Rattle.presence_base.specs.contracts.meta.Meta as Meta
 use Rattle.presence_base.specs.contracts.row.Row as Row
 use Rattle.presence_base.specs.contracts.names.Topic as Topic
@@ -20,14 +19,14 @@ use Rattle.tracker_shard_feeds.specs.contracts.followers.Follower as Follower
 use Rattle.tracker_shard_feeds.specs.contracts.rings.Ring as Ring
 use Rattle.tracker_shard_feeds.specs.contracts.feeds.Feeds as Feeds
 
-json_send : IsSend (Json.the_field).row
-json_send = search (maps.crosses, heap.crosses, value.crosses, sendable) depth 60 fits 20000
+json_text_send : IsSend (JsonText.the_field).row
+json_text_send = search (heap.crosses, sendable) depth 60 fits 20000
 
-json_sync : IsSync (Json.the_field).row
-json_sync = search (maps.crosses, heap.crosses, value.crosses, sendable) depth 60 fits 20000
+json_text_sync : IsSync (JsonText.the_field).row
+json_text_sync = search (heap.crosses, sendable) depth 60 fits 20000
 
 meta_send : IsSend (Meta.the_field).row
-meta_send = search (json_send, json_sync, heap.crosses, sendable) depth 60 fits 20000
+meta_send = search (json_text_send, json_text_sync, heap.crosses, sendable) depth 60 fits 20000
 
 topic_send : IsSend (Topic.the_field).row
 topic_send = search (heap.crosses, sendable) depth 60 fits 20000
@@ -45,7 +44,7 @@ row_send : IsSend (Row.the_field).row
 row_send = search (meta_send, topic_send, key_send, dot_send, sendable) depth 60 fits 20000
 
 meta_sync : IsSync (Meta.the_field).row
-meta_sync = search (json_send, json_sync, heap.crosses, sendable) depth 60 fits 20000
+meta_sync = search (json_text_send, json_text_sync, heap.crosses, sendable) depth 60 fits 20000
 
 topic_sync : IsSync (Topic.the_field).row
 topic_sync = search (heap.crosses, sendable) depth 60 fits 20000
@@ -63,7 +62,7 @@ row_sync : IsSync (Row.the_field).row
 row_sync = search (meta_sync, topic_sync, key_sync, dot_sync, sendable) depth 60 fits 20000
 
 payload_send : IsSend (Payload.the_field).row
-payload_send = search (json_send, sendable) depth 60 fits 20000
+payload_send = search (json_text_send, sendable) depth 60 fits 20000
 
 rows_send : IsSend (Rows.the_field).row
 rows_send = search (row_send, dot_send, heap.crosses, sendable) depth 60 fits 20000
@@ -72,7 +71,7 @@ diff_send : IsSend (RowDiff.the_field).row
 diff_send = search (rows_send, sendable) depth 60 fits 20000
 
 payload_sync : IsSync (Payload.the_field).row
-payload_sync = search (json_sync, sendable) depth 60 fits 20000
+payload_sync = search (json_text_sync, sendable) depth 60 fits 20000
 
 rows_sync : IsSync (Rows.the_field).row
 rows_sync = search (row_sync, dot_sync, heap.crosses, sendable) depth 60 fits 20000

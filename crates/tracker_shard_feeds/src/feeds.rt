@@ -67,6 +67,11 @@ impl Feeds {
         }
     }
 
+    /// How many topics have a subscriber. No contract speaks of it. Takes no memory.
+    pub fn topics(&self) -> u64 {
+        self.rings.len() as u64
+    }
+
     /// The subscribers of a journal's Start, each owed the state of its topic.
     pub fn start(alloc: Global, subscribers: &[(u64, Topic)]) -> Result<Feeds, AllocError>
         requires { has_repeat nat_eq (each (λ s. s.0) subscribers.now) ≡ false }

@@ -2,8 +2,7 @@
 use denote.Param.Send.{IsSend, IsSync, sendable}
 use Rattle.std.proofs.Crossing as heap
 use Rattle.std.proofs.MapsCrossing as maps
-use Rattle.serde_json.proofs.value.Value.TheLaws.TheKnot as value
-use Rattle.presence_base.specs.contracts.json.Json as Json
+use Rattle.presence_base.specs.contracts.json_text.JsonText as JsonText
 use Rattle.presence_base.specs.contracts.meta.Meta as Meta
 use Rattle.presence_base.specs.contracts.row.Row as Row
 use Rattle.presence_base.specs.contracts.names.Topic as Topic
@@ -26,6 +25,7 @@ use Rattle.presence_journal_data.specs.contracts.entry.Start as Start
 use Rattle.presence_journal_kept.specs.contracts.kept.Chains as Chains
 use Rattle.presence_journal_kept.specs.contracts.kept.Subscribers as Subscribers
 use Rattle.presence_journal_kept.specs.contracts.standings.Standings as Standings
+use Rattle.presence_journal.specs.contracts.entries.Entries as Entries
 use Rattle.presence_journal.specs.contracts.journal.Journal as Journal
 use Rattle.tracker_shard_known.proofs.Crossing.{replica_send, others_send}
 use Rattle.tracker_shard_cuts.proofs.Crossing.{chain_send}
@@ -34,14 +34,14 @@ use Rattle.tracker_shard_feeds.proofs.Crossing.{feeds_send}
 use Rattle.tracker_shard_indexed.specs.contracts.parts.Parts as Parts
 use Rattle.tracker_shard_indexed.specs.contracts.indexed.Indexed as Indexed
 
-json_send : IsSend (Json.the_field).row
-json_send = search (maps.crosses, heap.crosses, value.crosses, sendable) depth 60 fits 20000
+json_text_send : IsSend (JsonText.the_field).row
+json_text_send = search (heap.crosses, sendable) depth 60 fits 20000
 
-json_sync : IsSync (Json.the_field).row
-json_sync = search (maps.crosses, heap.crosses, value.crosses, sendable) depth 60 fits 20000
+json_text_sync : IsSync (JsonText.the_field).row
+json_text_sync = search (heap.crosses, sendable) depth 60 fits 20000
 
 meta_send : IsSend (Meta.the_field).row
-meta_send = search (json_send, json_sync, heap.crosses, sendable) depth 60 fits 20000
+meta_send = search (json_text_send, json_text_sync, heap.crosses, sendable) depth 60 fits 20000
 
 pub topic_send : IsSend (Topic.the_field).row
 topic_send = search (heap.crosses, sendable) depth 60 fits 20000
@@ -80,7 +80,7 @@ told_send : IsSend (Told.the_field).row
 told_send = search (row_send, dot_send, replica_send, maps.crosses, heap.crosses, sendable) depth 60 fits 20000
 
 payload_send : IsSend (Payload.the_field).row
-payload_send = search (json_send, sendable) depth 60 fits 20000
+payload_send = search (json_text_send, sendable) depth 60 fits 20000
 
 pub step_send : IsSend (Step.the_field).row
 step_send = search (meta_send, topic_send, key_send, replica_send, payload_send, told_send, sendable) depth 60 fits 20000
@@ -112,8 +112,11 @@ entry_send = search (step_send, outcome_send, sendable) depth 60 fits 20000
 entry_row_send : IsSend Entry.the_row
 entry_row_send = search (entry_send, sendable) depth 60 fits 20000
 
+entries_send : IsSend (Entries.the_field).row
+entries_send = search (entry_row_send, heap.crosses, sendable) depth 60 fits 20000
+
 journal_send : IsSend (Journal.the_field).row
-journal_send = search (start_send, entry_row_send, heap.crosses, sendable) depth 60 fits 20000
+journal_send = search (start_send, entries_send, sendable) depth 60 fits 20000
 
 parts_send : IsSend (Parts.the_field).row
 parts_send = search (known_send, shown_send, feeds_send, untold_send, sendable) depth 60 fits 20000

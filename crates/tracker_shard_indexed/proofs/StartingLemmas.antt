@@ -96,5 +96,8 @@ listed_once s xs is start = ap (λ (ys : List (ℕ × List ℕ)). has_repeat nat
 pub sound_start : (h : History) (s : Start) → IsStartOf h s → IsStart s
 sound_start h s of = is_sound h s of.stands
 
+pub sound_begun : (g : History) (s : Start) (p : Parts) → g ≡ Begin s → IsStart s → IsAt p.stage (Begin s) p → IsSound g p
+sound_begun g s p is stands at = subst (λ (x : History). IsSound x p) (sym is) (record { kept = record { legal = stands; limits = tt }; parts = at })
+
 pub sound_again : (h g : History) (s : Start) (p : Parts) → IsStartOf h s → g ≡ Begin s → IsAt p.stage (Begin s) p → IsSound g p
 sound_again h g s p of is at = subst (λ (x : History). IsSound x p) (sym is) (record { kept = begins_kept h s of.stands; parts = at })

@@ -5,6 +5,7 @@ ghost use Rattle.tracker_shard_indexed.specs.Parts.{IsKeptOf};
 ghost use Rattle.tracker_shard_indexed.specs.Starting.{IsBegunAgain as BeginsAgain};
 
 use crate::parts::{Parts, Stage};
+use crate::resuming::start_of_count;
 use crate::starting::{kept_of, start_of};
 use crate::taking::{copy_items, state_item, taken, taken_shared};
 use delta_range::Delta;
@@ -18,6 +19,17 @@ use std::alloc::{AllocError, Global};
 use std::marker::Model;
 use tracker_shard_cuts::walk_cut;
 use tracker_shard_known::{walk_set, walk_status, walk_top};
+
+/// How many rows a shard shows, and on how many topics somebody looks at them.
+#[derive(Clone, Copy, Debug, PartialEq, Eq)]
+pub struct RowCounts {
+    /// The own rows.
+    pub own: u64,
+    /// The rows of other replicas.
+    pub others: u64,
+    /// The topics that have a subscriber.
+    pub topics: u64,
+}
 
 /// A journal, and what is kept of it in place of walking it.
 ///
@@ -65,7 +77,7 @@ fn begun_again(alloc: Global, journal: &Journal, parts: &Parts) -> Result<Indexe
 }
 
 impl Indexed {
-    ghost use Rattle.std.specs.Prelude.{◌≡◌, ◌<◌, ◌^◌, true, false, Some, option_copied, option_map, IfOk, OnOk, OnErr};
+    ghost use Rattle.std.specs.Prelude.{◌≡◌, ◌<◌, ◌≤◌, ◌^◌, true, false, Some, option_copied, option_map, IfOk, OnOk, OnErr};
     ghost use Rattle.presence_base.specs.Refs.{IsCount};
     ghost use Rattle.presence_journal.specs.History.{begun, is_full, last_number, status, IsTop};
     ghost use Rattle.presence_journal.specs.Limits.{is_within_limits};
@@ -75,6 +87,7 @@ impl Indexed {
     ghost use Rattle.tracker_shard_cuts.specs.Cuts.{IsCut};
     ghost use Rattle.tracker_shard_cuts.specs.KeptDeltas.{IsToldFrom};
     ghost use Rattle.tracker_shard_cuts.specs.Full.{IsFullOf};
+    ghost use Rattle.tracker_shard_indexed.specs.Resuming.{resumed};
     ghost use Rattle.tracker_shard_indexed.specs.Starting.{IsBegunAgain};
     ghost use Rattle.tracker_shard_feeds.specs.Quiet.{TellsQuiet};
     ghost use Rattle.tracker_shard_known.specs.Known.{next_left};
@@ -91,6 +104,18 @@ impl Indexed {
         Indexed { journal, parts }
     }
 
+    /// A journal that goes on behind a count of the replica's, without a row of those before.
+    pub fn resume(alloc: Global, own: Replica, count: u64) -> Result<Indexed, AllocError>
+        requires incarnation { IsCount own.incarnation }
+        requires count { count ≤ 2 ^ 62 }
+        ensures { IfOk result (λ x. x ≡ record { history = resumed own count; is_ready = true }) }
+    {
+        let start = start_of_count(alloc, own, count)?;
+        let parts = kept_of(alloc, &start)?;
+        let journal = Journal::of_start(alloc, start);
+        Ok(Indexed { journal, parts })
+    }
+
     pub fn journal(&self) -> &Journal
         ensures journal { result.now ≡ self.now.history }
         ensures legal { IsLegal self.now.history }
@@ -105,6 +130,16 @@ impl Indexed {
         let Indexed { journal, parts } = self;
         drop(parts);
         journal
+    }
+
+    /// How many rows are shown, as far as what is kept has come up, and the topics that have a subscriber: a look at three
+    /// lengths. No contract speaks of it.
+    pub fn row_counts(&self) -> RowCounts {
+        RowCounts {
+            own: self.parts.shown.own_rows(),
+            others: self.parts.shown.others_rows(),
+            topics: self.parts.feeds.topics(),
+        }
     }
 
     /// Brings all that is kept up to the last entry.

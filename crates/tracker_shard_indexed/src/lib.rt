@@ -1,7 +1,8 @@
 //! A journal with what is kept of it in place of walked: what is known, what is shown, what waits for subscribers, and
 //! what is not told yet.
 //!
-//! Its public contracts cite `specs/Seen`, and `specs/Starting`: what a journal is that begins again;
+//! Its public contracts cite `specs/Seen`, `specs/Starting`: what a journal is that begins again, and `specs/Resuming`:
+//! what one is that goes on behind a count;
 //! presence_journal's `History`, `Present`, `Queue`, `Table` and `Limits`; tracker_shard_known's `Known`; and what
 //! tracker_shard_cuts gives out: `Cuts`, `KeptDeltas` (what is told from a count on), `Full` and, for
 //! `specs/Starting`, `Checkpoints`; and `Quiet` of tracker_shard_feeds, which it gives out too. `specs/Parts` says how each part is tied to the history.
@@ -9,7 +10,8 @@
 
 mod indexed;
 mod parts;
+mod resuming;
 mod starting;
 mod taking;
 
-pub use indexed::Indexed;
+pub use indexed::{Indexed, RowCounts};

@@ -44,7 +44,7 @@ fn shout_of(
     if !feeds.is_followed(topic) {
         return Ok(made);
     }
-    let shout = SharedShout::new(alloc, payload.clone()?)?;
+    let shout = SharedShout::new(payload.clone()?);
     put_item(alloc, &mut made, topic, Item::Shout(shout))?;
     Ok(made)
 }

@@ -1,8 +1,7 @@
 use denote.Param.Send.{IsSend, IsSync, sendable}
 use Rattle.std.proofs.Crossing as heap
 use Rattle.std.proofs.MapsCrossing as maps
-use Rattle.serde_json.proofs.value.Value.TheLaws.TheKnot as value
-use Rattle.presence_base.specs.contracts.json.Json as Json
+use Rattle.presence_base.specs.contracts.json_text.JsonText as JsonText
 use Rattle.presence_base.specs.contracts.meta.Meta as Meta
 use Rattle.presence_base.specs.contracts.row.Row as Row
 use Rattle.presence_base.specs.contracts.names.Topic as Topic
@@ -20,14 +19,14 @@ use Rattle.tracker_shard_shown.specs.contracts.table.Table as Table
 use Rattle.tracker_shard_shown.specs.contracts.states.States as States
 use Rattle.tracker_shard_shown.specs.contracts.shown.Shown as Shown
 
-json_send : IsSend (Json.the_field).row
-json_send = search (maps.crosses, heap.crosses, value.crosses, sendable) depth 60 fits 20000
+json_text_send : IsSend (JsonText.the_field).row
+json_text_send = search (heap.crosses, sendable) depth 60 fits 20000
 
-json_sync : IsSync (Json.the_field).row
-json_sync = search (maps.crosses, heap.crosses, value.crosses, sendable) depth 60 fits 20000
+json_text_sync : IsSync (JsonText.the_field).row
+json_text_sync = search (heap.crosses, sendable) depth 60 fits 20000
 
 meta_send : IsSend (Meta.the_field).row
-meta_send = search (json_send, json_sync, heap.crosses, sendable) depth 60 fits 20000
+meta_send = search (json_text_send, json_text_sync, heap.crosses, sendable) depth 60 fits 20000
 
 topic_send : IsSend (Topic.the_field).row
 topic_send = search (heap.crosses, sendable) depth 60 fits 20000
@@ -48,7 +47,7 @@ stand_send : IsSend (Stand.the_field).row
 stand_send = search (topic_send, key_send, dot_send, sendable) depth 60 fits 20000
 
 meta_sync : IsSync (Meta.the_field).row
-meta_sync = search (json_send, json_sync, heap.crosses, sendable) depth 60 fits 20000
+meta_sync = search (json_text_send, json_text_sync, heap.crosses, sendable) depth 60 fits 20000
 
 topic_sync : IsSync (Topic.the_field).row
 topic_sync = search (heap.crosses, sendable) depth 60 fits 20000

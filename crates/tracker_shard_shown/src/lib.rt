@@ -11,6 +11,7 @@
 #![tactic(auto)]
 
 mod bringing;
+mod counting;
 mod kept;
 mod listing;
 mod opening;

@@ -1,7 +1,8 @@
 ghost use Rattle.std.specs.Prelude.{◌≡◌};
 
 use crate::bringing::{put_all, take_all};
-use crate::kept::{put_row, row_at, take_row};
+use crate::counting::{is_of_own, others_after, others_among};
+use crate::kept::{is_own, put_row, row_at, take_row};
 use crate::listing::{list_key, list_topic};
 use crate::opening::put_up;
 use crate::stand::Holder;
@@ -18,11 +19,17 @@ use tracker_shard_turns::Turn;
 pub struct Shown {
     table: Table,
     states: States,
+    // How many rows of others there are: each has one place, and an own row has two.
+    others: usize,
 }
 
 impl Drop for Shown {
     fn drop(self) {
-        let Shown { table, states } = self;
+        let Shown {
+            table,
+            states,
+            others: _,
+        } = self;
         drop(table);
         drop(states);
     }
@@ -44,12 +51,13 @@ impl Model for Shown {
 }
 
 // The rows of a table, before any state was asked for.
-fn shown_of(alloc: Global, table: Table) -> Shown
+fn shown_of(alloc: Global, table: Table, others: usize) -> Shown
     ensures { result ≡ table }
 {
     Shown {
         table,
         states: States::new(alloc),
+        others,
     }
 }
 
@@ -66,7 +74,7 @@ impl Shown {
         ensures own { result.own ≡ own }
         ensures rows { IsNothing result.rows }
     {
-        shown_of(alloc, Table::new(alloc, own))
+        shown_of(alloc, Table::new(alloc, own), 0)
     }
 
     /// Where these rows are shown.
@@ -75,7 +83,8 @@ impl Shown {
     {
         let mut table = Table::new(alloc, own);
         put_all(&mut table.rows, &table.own, rows)?;
-        Ok(shown_of(alloc, table))
+        let others = others_among(&table, rows);
+        Ok(shown_of(alloc, table, others))
     }
 
     /// Where the rows that a journal begins with are shown. It costs the logarithm of the rows for each, and for one of
@@ -85,7 +94,19 @@ impl Shown {
     {
         let mut table = Table::new(alloc, start.own);
         put_up(&mut table.rows, start, start.content.live())?;
-        Ok(shown_of(alloc, table))
+        let others = others_among(&table, start.content.live());
+        Ok(shown_of(alloc, table, others))
+    }
+
+    /// How many own rows are shown: a look at two lengths. No contract speaks of it.
+    pub fn own_rows(&self) -> u64 {
+        let places = self.table.rows.len().saturating_sub(self.others);
+        places as u64 / 2
+    }
+
+    /// How many rows of other replicas are shown. No contract speaks of it.
+    pub fn others_rows(&self) -> u64 {
+        self.others as u64
     }
 
     /// Shows a row. Where memory runs out it may be shown to all that see its topic and not yet to its session.
@@ -95,7 +116,11 @@ impl Shown {
         ensures own { self.new.own ≡ self.old.own }
     {
         self.states.forget(&row.topic);
-        put_row(&mut self.table.rows, &self.table.own, dot, row)
+        let is_own = is_own(&self.table.own, dot);
+        let before = self.table.rows.len();
+        let put = put_row(&mut self.table.rows, &self.table.own, dot, row);
+        self.others = others_after(is_own, self.others, before, self.table.rows.len());
+        put
     }
 
     /// Shows a row no longer.
@@ -105,12 +130,15 @@ impl Shown {
         ensures own { self.new.own ≡ self.old.own }
     {
         self.states.forget(&row.topic);
-        take_row(&mut self.table.rows, &self.table.own, dot, row)
+        let is_own = is_own(&self.table.own, dot);
+        let before = self.table.rows.len();
+        let taken = take_row(&mut self.table.rows, &self.table.own, dot, row);
+        self.others = others_after(is_own, self.others, before, self.table.rows.len());
+        taken
     }
 
-    /// Shows what is shown after an entry. Where memory runs out each place is as before the entry or as after it, and
-    /// the same call goes on from there.
-    pub fn bring_up(&mut self, turn: &Turn) -> Result<(), AllocError>
+    // Brings the places up to an entry's turn.
+    fn bring(&mut self, turn: &Turn) -> Result<(), AllocError>
         ensures ok { OnOk result (BringsUp turn.now self.old self.new) }
         ensures err { OnErr result (StaysBetween turn.now self.old self.new) }
     {
@@ -120,6 +148,26 @@ impl Shown {
         self.states.forget_all(joins);
         take_all(&mut self.table.rows, &self.table.own, leaves)?;
         put_all(&mut self.table.rows, &self.table.own, joins)
+    }
+
+    // Counts the rows of others anew, behind a change of own rows or of theirs.
+    fn count(&mut self, is_own: bool, before: usize)
+        ensures { self.new ≡ self.old }
+    {
+        self.others = others_after(is_own, self.others, before, self.table.rows.len());
+    }
+
+    /// Shows what is shown after an entry. Where memory runs out each place is as before the entry or as after it, and
+    /// the same call goes on from there.
+    pub fn bring_up(&mut self, turn: &Turn) -> Result<(), AllocError>
+        ensures ok { OnOk result (BringsUp turn.now self.old self.new) }
+        ensures err { OnErr result (StaysBetween turn.now self.old self.new) }
+    {
+        let is_own = is_of_own(&self.table.own, turn);
+        let before = self.table.rows.len();
+        let brought = self.bring(turn);
+        self.count(is_own, before);
+        brought
     }
 
     /// The row that is present at a place of a topic.

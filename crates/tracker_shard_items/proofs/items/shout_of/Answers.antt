@@ -9,5 +9,5 @@ returns-then-not-is_followed c =
 
 pub returns : goal.returns
 returns c =
-    shout_told c.args.feeds.now c.args.topic.now c.args.payload.now c.in_ok-shout.shout c.new-made.result c.put_item.new.made (c.in_ok-shout.ensures ∙ c.in_ok-clone.ensures.cases)
+    shout_told c.args.feeds.now c.args.topic.now c.args.payload.now c.new-shout.result c.new-made.result c.put_item.new.made (c.new-shout.ensures ∙ c.in_ok-clone.ensures.cases)
     (no_items c.new-made.result c.new-made.ensures.empty) c.in_ok-put_item.ensures

@@ -22,10 +22,10 @@ pub invariant_of-self : goal.invariant_of-self
 invariant_of-self c =
     let j = c.self.inside in
     let e : Entry = record { number = c.last_number-number.result + 1; seat = c.args.seat; step = c.args.step; outcome = c.args.outcome } in
-    keeps c.push_entry.result j.start j.entries.items c.push_entry.new.entries.items e c.args.self.now c.self.view_is (subst IsKept c.self.view_is c.self.invariant) c.requires.legal (omega (arith, c.last_number-number.ensures.number)) c.requires.room c.requires.step c.push_entry.ensures.ok c.push_entry.ensures.err
+    keeps c.push.result j.start j.entries c.push.new.self e c.args.self.now c.self.view_is (subst IsKept c.self.view_is c.self.invariant) c.requires.legal (omega (arith, c.last_number-number.ensures.number)) c.requires.room c.requires.step c.push.ensures.ok c.push.ensures.err
 
 pub returns-clause-ok : goal.returns-clause-ok
 returns-clause-ok c =
     let j = c.self.inside in
     let e : Entry = record { number = c.last_number-number.result + 1; seat = c.args.seat; step = c.args.step; outcome = c.args.outcome } in
-    goes_on c.push_entry.result j.start j.entries.items c.push_entry.new.entries.items e c.args.self.now c.self.view_is c.requires.legal (omega (arith, c.last_number-number.ensures.number)) c.requires.room c.push_entry.ensures.ok
+    goes_on c.push.result j.start j.entries c.push.new.self e c.args.self.now c.self.view_is c.requires.legal (omega (arith, c.last_number-number.ensures.number)) c.requires.room c.push.ensures.ok

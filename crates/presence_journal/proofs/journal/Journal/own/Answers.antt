@@ -7,4 +7,4 @@ use Rattle.presence_journal.proofs.journal.Journal.own.Goals as goal
 pub returns : goal.returns
 returns c =
     let j = c.self.inside in
-    ap (λ (s : Start). s.own) (sym (start_of-onto (Begin j.start) j.entries.items) ∙ ap start_of c.self.view_is) ∙ sym (own-start_of c.args.self.now)
+    ap (λ (s : Start). s.own) (sym (start_of-onto (Begin j.start) j.entries) ∙ ap start_of c.self.view_is) ∙ sym (own-start_of c.args.self.now)

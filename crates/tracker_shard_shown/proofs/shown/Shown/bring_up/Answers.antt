@@ -1,34 +1,12 @@
-use Rattle.std.proofs.Common.{refl, subst}
-use Rattle.std.proofs.lemmas.Result.{on_ok_weaker}
+use Rattle.std.proofs.Common.{OnOk, OnErr, sym, subst}
 use Rattle.tracker_shard_shown.specs.declared.shown.Shown.{Shown}
 use Rattle.tracker_shard_shown.specs.Turns.{BringsUp, StaysBetween}
-use Rattle.tracker_shard_shown.proofs.TurnLemmas.{to_the_end, half_way, further, on_err_too}
 use Rattle.tracker_shard_shown.proofs.shown.Shown.bring_up.Goals as goal
-
-pub returns-in_err-take_all-clause-err : goal.returns-in_err-take_all-clause-err
-returns-in_err-take_all-clause-err c =
-    let x = c.self.inside.table in
-    let y : Shown = record { own = x.own; rows = c.take_all.new.rows } in
-    on_err_too c.from_residual.result
-    (subst (λ (s : Shown). StaysBetween c.args.turn.now s y) c.self.view_is
-    (half_way c.args.turn.now x y c.as_slice-leaves.result.now c.as_slice-leaves.ensures.value refl c.take_all.ensures.between))
 
 pub returns-clause-ok : goal.returns-clause-ok
 returns-clause-ok c =
-    let x = c.self.inside.table in
-    let y : Shown = record { own = x.own; rows = c.put_all.new.rows } in
-    on_ok_weaker c.put_all.result
-    (λ puts.
-    subst (λ (s : Shown). BringsUp c.args.turn.now s y) c.self.view_is
-    (to_the_end c.args.turn.now x y c.take_all.new.rows
-    c.as_slice-leaves.result.now c.as_slice-joins.result.now c.as_slice-leaves.ensures.value c.as_slice-joins.ensures.value refl c.in_ok-take_all.ensures.ok puts))
-    c.put_all.ensures.ok
+    subst (λ (s : Shown). OnOk c.bring-brought.result (BringsUp c.args.turn.now c.args.self.now s)) (sym c.count.ensures) c.bring-brought.ensures.ok
 
 pub returns-clause-err : goal.returns-clause-err
 returns-clause-err c =
-    let x = c.self.inside.table in
-    let y : Shown = record { own = x.own; rows = c.put_all.new.rows } in
-    on_err_too c.put_all.result
-    (subst (λ (s : Shown). StaysBetween c.args.turn.now s y) c.self.view_is
-    (further c.args.turn.now x y c.take_all.new.rows
-    c.as_slice-leaves.result.now c.as_slice-joins.result.now c.as_slice-leaves.ensures.value c.as_slice-joins.ensures.value refl c.take_all.ensures.between c.put_all.ensures.between))
+    subst (λ (s : Shown). OnErr c.bring-brought.result (StaysBetween c.args.turn.now c.args.self.now s)) (sym c.count.ensures) c.bring-brought.ensures.err
