@@ -1,9 +1,12 @@
 -- The journals of a pool put together.
-use Rattle.std.proofs.Common.{◌≡◌, ℕ, zero, suc, ◌<◌, ◌≤◌, true, cond, nat_lt, List, [], ◌∷◌, ◌++◌, take, append-nil, refl, sym, ap, ◌∙◌, arith}
+use Rattle.std.proofs.Common.{◌≡◌, ℕ, zero, suc, ◌<◌, ◌≤◌, true, cond, nat_lt, List, [], ◌∷◌, ◌++◌, take, append-nil, refl, sym, ap, subst, ◌∙◌, arith}
 use Rattle.std.specs.Prelude.{All}
 use Rattle.std.proofs.lemmas.List.Elements.{All-push}
-use Rattle.presence_journal.specs.History.{History}
+use Rattle.presence_journal.specs.History.{History, own}
+use Rattle.shard_pool_locks.specs.Lines.{IsOfLane}
 use Rattle.shard_pool_locks.specs.Unseated.{IsOf}
+use Rattle.shard_pool.specs.Seats.{IsOfShardAt}
+use Rattle.shard_pool.specs.Settling.{ArePlaced}
 
 pub put_behind : (node : List ℕ) (js : List History) (j : History) → All (IsOf node) js → IsOf node j → All (IsOf node) (js ++ j ∷ [])
 put_behind node js j before one = All-push (IsOf node) js j before one
@@ -31,3 +34,25 @@ in_order n a b c d one two three all some most first second third fourth =
     let upto_two = second ∙ ap (λ l. l ++ cond (nat_lt 1 n) (b ∷ []) []) first in
     let upto_three = third ∙ ap (λ l. l ++ cond (nat_lt 2 n) (c ∷ []) []) upto_two in
     fourth ∙ ap (λ l. l ++ cond (nat_lt 3 n) (d ∷ []) []) upto_three ∙ placed n a b c d some most
+
+in_their_places : (here : ℕ → History → Type 0) (n : ℕ) (a b c d : History) → n ≤ 4 → here 0 a → here 1 b → here 2 c → here 3 d
+    → ArePlaced here 0 (take n (a ∷ b ∷ c ∷ d ∷ []))
+in_their_places here zero a b c d most p q r s = tt {0}
+in_their_places here (suc zero) a b c d most p q r s = (p, tt {0})
+in_their_places here (suc (suc zero)) a b c d most p q r s = (p, (q, tt {0}))
+in_their_places here (suc (suc (suc zero))) a b c d most p q r s = (p, (q, (r, tt {0})))
+in_their_places here (suc (suc (suc (suc zero)))) a b c d most p q r s = (p, (q, (r, (s, tt {0}))))
+in_their_places here (suc (suc (suc (suc (suc n))))) a b c d most p q r s = absurd (omega (arith, most))
+
+-- the journals of four lanes in their order, those that are used
+pub are_placed : (node : List ℕ) (A B C D : History → Type 0) (n : ℕ) (a b c d : History) (all : List History) → n ≤ 4
+    → all ≡ take n (a ∷ b ∷ c ∷ d ∷ [])
+    → (own a).name ≡ node → (own b).name ≡ node → (own c).name ≡ node → (own d).name ≡ node
+    → IsOfLane A a → IsOfLane B b → IsOfLane C c → IsOfLane D d → ArePlaced (IsOfShardAt node A B C D) 0 all
+are_placed node A B C D n a b c d all most order first second third fourth one two three four =
+    subst (λ (js : List History). ArePlaced (IsOfShardAt node A B C D) 0 js) (sym order)
+    (in_their_places (IsOfShardAt node A B C D) n a b c d most
+    (record { of_node = first; of_lane = one }) (record { of_node = second; of_lane = two })
+    (record { of_node = third; of_lane = three }) (record { of_node = fourth; of_lane = four }))
+
+pub ruleset in_places = (are_placed)

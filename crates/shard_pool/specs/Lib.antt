@@ -7,6 +7,7 @@ pub use Rattle.shard_pool_settled.specs.Settled
 pub use Rattle.shard_pool_settled.specs.declared.fault.SettleFault
 pub use Rattle.shard_pool_locks.specs.ShardFault
 pub use Rattle.shard_pool_locks.specs.Unseated
+pub use Rattle.shard_pool_locks.specs.Lines
 pub use Rattle.shard_pool_locks.specs.Seated
 pub use Rattle.shard_pool_locks.specs.Full
 pub use Rattle.shard_pool_locks.specs.KeptDeltas

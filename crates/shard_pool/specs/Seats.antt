@@ -4,9 +4,10 @@ use Rattle.presence_journal_data.specs.declared.step.Step.{Step}
 use Rattle.presence_journal.specs.History.{History, start_of}
 use Rattle.shard_pool_locks.specs.ShardFault.{ShardFault}
 use Rattle.shard_pool_locks.specs.Reply.{Reply}
+use Rattle.shard_pool_locks.specs.Lines.{IsOfShard}
 use Rattle.shard_pool_locks.specs.Hands.{Hand, new_hand, without_receipts}
 use Rattle.shard_pool_locks.specs.Seated.{Called}
-use Rattle.shard_pool_locks.specs.Unseated.{IsBehind}
+use Rattle.shard_pool_locks.specs.Unseated.{IsBehindOf}
 
 -- a seat at each shard
 pub record Hands : Type 0 where
@@ -50,17 +51,34 @@ with_hand h s x =
 abbrev pub without_receipts_at : Hands → ℕ → ℕ → Hands
 without_receipts_at h s n = with_hand h s (without_receipts (hand_at h s) n)
 
--- the number of the Start of some legal history of the node
-abbrev pub IsStartOf : List ℕ → ℕ → Type 0
-IsStartOf node n = IsBehind node (λ h. n ≡ (start_of h).number)
+-- what the shard of a number begins with
+abbrev pub begins_at : (First Second Third Fourth : History → Type 0) → ℕ → History → Type 0
+begins_at First Second Third Fourth zero = First
+begins_at First Second Third Fourth (suc zero) = Second
+begins_at First Second Third Fourth (suc (suc zero)) = Third
+begins_at First Second Third Fourth (suc (suc (suc n))) = Fourth
+
+-- the histories of the shard of a number
+abbrev pub IsOfShardAt : List ℕ → (First Second Third Fourth : History → Type 0) → ℕ → History → Type 0
+IsOfShardAt node First Second Third Fourth shard = IsOfShard node (begins_at First Second Third Fourth shard)
+
+-- some legal history of the shard of a number is such
+abbrev pub IsBehindAt : (First Second Third Fourth : History → Type 0) → ℕ → List ℕ → (History → Type 0) → Type 0
+IsBehindAt First Second Third Fourth shard node Is =
+    IsBehindOf (IsOfShardAt node First Second Third Fourth shard) Is
+
+-- the number of the Start of some legal history of the shard
+abbrev pub IsStartOf : List ℕ → (History → Type 0) → ℕ → Type 0
+IsStartOf node Begins n = IsBehindOf (IsOfShard node Begins) (λ h. n ≡ (start_of h).number)
 
 -- the seat that forgets its receipts up to the Start of each shard
-pub record IsTrimmed (node : List ℕ) (old new : Hands) : Type 0 where
+pub record IsTrimmed (node : List ℕ) (First Second Third Fourth : History → Type 0) (old new : Hands) : Type 0 where
   pub first : ℕ
   pub second : ℕ
   pub third : ℕ
   pub fourth : ℕ
-  pub starts : IsStartOf node first × IsStartOf node second × IsStartOf node third × IsStartOf node fourth
+  pub starts : IsStartOf node First first × IsStartOf node Second second × IsStartOf node Third third
+      × IsStartOf node Fourth fourth
   pub forgets : new ≡ record {
     number = old.number;
     first = without_receipts old.first first;
@@ -69,9 +87,9 @@ pub record IsTrimmed (node : List ℕ) (old new : Hands) : Type 0 where
     fourth = without_receipts old.fourth fourth;
   }
 
--- the seat after a call at a shard: no other part is changed
-pub record CalledAt {A : Type 0} (node : List ℕ) (there : History → Bool) (old new : Hands) (s : ℕ) (step : Step)
+-- the seat after a call at a shard: no other part is changed. `Here` tells which histories are those of a shard's number
+pub record CalledAt {A : Type 0} (Here : ℕ → History → Type 0) (there : History → Bool) (old new : Hands) (s : ℕ) (step : Step)
     (Gives : History → A → Type 0) (r : Result (Reply A) ShardFault) : Type 0 where
   pub others : new ≡ with_hand old s (hand_at new s)
   pub shard : (hand_at old s).shard ≡ s
-  pub call : Called node there (hand_at old s) (hand_at new s) step Gives r
+  pub call : Called (Here s) there (hand_at old s) (hand_at new s) step Gives r

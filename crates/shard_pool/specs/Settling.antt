@@ -35,3 +35,8 @@ IsMissing hs count = (k : ℕ) × (k < count) × (has_seat hs k ≡ false)
 pub record AreOf (node : List ℕ) (count : ℕ) (js : List History) : Type 0 where
   pub legal : All (IsOf node) js
   pub shards : length js ≡ count
+
+-- each is a history of the shard of its place, counted from this number; `here` tells which are those of a shard's number
+abbrev pub ArePlaced : (ℕ → History → Type 0) → ℕ → List History → Type 0
+ArePlaced here n [] = Unit {0}
+ArePlaced here n (j ∷ js) = here n j × ArePlaced here (suc n) js

@@ -5,8 +5,8 @@
 //! of shard_pool_locks: what stands behind a call's answer; on `Hands`, `Steps`, `KeptDeltas`, `Full` and `Quiet`, which
 //! it gives out; and on `Settled` of shard_pool_settled.
 //!
-//! What no contract says of a pool call: that the history behind its answer is that of the lock which it
-//! took, and that a call without a seat makes its step. That is for tests with threads to say.
+//! What no contract says of a pool call: that the history behind its answer, one of that shard, is the one that its
+//! lock held, and that a call without a seat makes its step. That is for tests with threads to say.
 #![tactic(auto)]
 
 mod pool;
@@ -19,8 +19,8 @@ pub use pool::Pool;
 pub use seat::Seat;
 pub use settling::check_seats;
 pub use shard_pool_locks::{
-    Gate, Lane, Locked, NoGate, Part, PoolFault, Reply, lent_get, lent_list, lent_shout,
-    lent_start, lent_subscribe, lent_take, lent_track, lent_unsubscribe, lent_untrack,
+    DueFrom, Gate, Lane, Locked, NoGate, Part, PoolFault, Reply, RowCounts, lent_get, lent_list,
+    lent_shout, lent_start, lent_subscribe, lent_take, lent_track, lent_unsubscribe, lent_untrack,
     lent_untrack_all, lent_update,
 };
 pub use shard_pool_settled::{Receipt, SettleFault, check_receipts};

@@ -33,6 +33,7 @@ fn new_locked<L: Lane>(alloc: Global, own: &Replica, calls: Book<L>) -> Locked<L
     requires count { IsCount own.now.incarnation }
     requires book { calls.total ≡ 0 }
     requires node { own.now.name ≡ L.node }
+    requires begins { L.begins (begun own.now) }
     ensures { result.shard ≡ begun own.now }
 {
     Locked::new(alloc, *own, calls)
@@ -118,7 +119,7 @@ fn new_pool<G: Gate, A: Lane, B: Lane, C: Lane, D: Lane>(
 }
 
 impl<G: Gate + Drop, A: Lane, B: Lane, C: Lane, D: Lane> Pool<G, A, B, C, D> {
-    /// So many new shards of the replica, and a seat for each number from 0.
+    /// So many new shards of the replica, each of which begins with nothing, and a seat for each number from 0.
     ///
     /// Each blank has as many parts as there are seats. It refuses with `OutOfMemory` alone.
     pub fn start(
@@ -143,6 +144,8 @@ impl<G: Gate + Drop, A: Lane, B: Lane, C: Lane, D: Lane> Pool<G, A, B, C, D> {
             × (own.name ≡ C.node) }
         requires fourth { (fourth.name ≡ D.name) × (fourth.parts ≡ D.parts) × (fourth.parts ≡ seats)
             × (own.name ≡ D.node) }
+        requires begins { (A.begins (begun own)) × (B.begins (begun own)) × (C.begins (begun own))
+            × (D.begins (begun own)) }
         ensures pool { IfOk result (λ r. (r.0.own ≡ own) × (r.0.shards ≡ shards) × (r.0.seats ≡ seats)) }
         ensures seats { IfOk result (λ r. r.1.items ≡ new_seats seats) }
         ensures err { IfErr result (λ e. e ≡ OutOfMemory) }

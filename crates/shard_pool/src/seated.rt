@@ -6,7 +6,7 @@ ghost use Rattle.presence_journal.specs.Queue.{items_given};
 ghost use Rattle.presence_journal.specs.Table.{outcome_of, rows_of_key, rows_of_pid, listed_key};
 ghost use Rattle.shard_pool_locks.specs.Steps.{new_dot, slot_of};
 ghost use Rattle.shard_pool_locks.specs.Seated.{always, finds};
-ghost use Rattle.shard_pool.specs.Seats.{CalledAt, shard_of};
+ghost use Rattle.shard_pool.specs.Seats.{CalledAt, IsOfShardAt, shard_of};
 
 use crate::pool::Pool;
 use crate::seat::Seat;
@@ -35,7 +35,8 @@ impl<G: Gate, A: Lane, B: Lane, C: Lane, D: Lane> Pool<G, A, B, C, D> {
         meta: &Meta,
     ) -> Result<Reply<Dot>, PoolFault>
         requires pid { pid ≤ 2 ^ 62 }
-        ensures { CalledAt self.now.own.name always seat.old seat.new (shard_of topic.now self.now.shards)
+        ensures { CalledAt (IsOfShardAt self.now.own.name A.begins B.begins C.begins D.begins) always
+            seat.old seat.new (shard_of topic.now self.now.shards)
             (Step.Track pid topic.now key.now meta.now)
             (λ h d. new_dot (outcome_of h (Step.Track pid topic.now key.now meta.now)) ≡ Some d) result }
     {
@@ -112,7 +113,8 @@ impl<G: Gate, A: Lane, B: Lane, C: Lane, D: Lane> Pool<G, A, B, C, D> {
         meta: &Meta,
     ) -> Result<Reply<Dot>, PoolFault>
         requires pid { pid ≤ 2 ^ 62 }
-        ensures { CalledAt self.now.own.name always seat.old seat.new (shard_of topic.now self.now.shards)
+        ensures { CalledAt (IsOfShardAt self.now.own.name A.begins B.begins C.begins D.begins) always
+            seat.old seat.new (shard_of topic.now self.now.shards)
             (Step.Update pid topic.now key.now meta.now)
             (λ h d. new_dot (outcome_of h (Step.Update pid topic.now key.now meta.now)) ≡ Some d) result }
     {
@@ -187,7 +189,8 @@ impl<G: Gate, A: Lane, B: Lane, C: Lane, D: Lane> Pool<G, A, B, C, D> {
         topic: &Topic,
         key: &Key,
     ) -> Result<Reply<Vec<Dot>>, PoolFault>
-        ensures { CalledAt self.now.own.name always seat.old seat.new (shard_of topic.now self.now.shards)
+        ensures { CalledAt (IsOfShardAt self.now.own.name A.begins B.begins C.begins D.begins) always
+            seat.old seat.new (shard_of topic.now self.now.shards)
             (Step.Untrack pid topic.now key.now)
             (λ h dots. dots.items ≡ dots_of (rows_of_key h pid topic.now key.now)) result }
     {
@@ -221,7 +224,8 @@ impl<G: Gate, A: Lane, B: Lane, C: Lane, D: Lane> Pool<G, A, B, C, D> {
         pid: u64,
         topic: &Topic,
     ) -> Result<Reply<Vec<Dot>>, PoolFault>
-        ensures { CalledAt self.now.own.name always seat.old seat.new (shard_of topic.now self.now.shards)
+        ensures { CalledAt (IsOfShardAt self.now.own.name A.begins B.begins C.begins D.begins) always
+            seat.old seat.new (shard_of topic.now self.now.shards)
             (Step.UntrackAll pid topic.now)
             (λ h dots. dots.items ≡ dots_of (rows_of_pid h pid topic.now)) result }
     {
@@ -254,7 +258,8 @@ impl<G: Gate, A: Lane, B: Lane, C: Lane, D: Lane> Pool<G, A, B, C, D> {
         seat: &mut Seat<A, B, C, D>,
         topic: &Topic,
     ) -> Result<Reply<SharedRows>, PoolFault>
-        ensures { CalledAt self.now.own.name always seat.old seat.new (shard_of topic.now self.now.shards)
+        ensures { CalledAt (IsOfShardAt self.now.own.name A.begins B.begins C.begins D.begins) always
+            seat.old seat.new (shard_of topic.now self.now.shards)
             (Step.List topic.now)
             (λ h rows. rows ≡ listed h topic.now) result }
     {
@@ -288,7 +293,8 @@ impl<G: Gate, A: Lane, B: Lane, C: Lane, D: Lane> Pool<G, A, B, C, D> {
         topic: &Topic,
         key: &Key,
     ) -> Result<Reply<Vec<(Dot, Row)>>, PoolFault>
-        ensures { CalledAt self.now.own.name always seat.old seat.new (shard_of topic.now self.now.shards)
+        ensures { CalledAt (IsOfShardAt self.now.own.name A.begins B.begins C.begins D.begins) always
+            seat.old seat.new (shard_of topic.now self.now.shards)
             (Step.Get topic.now key.now)
             (λ h rows. rows.items ≡ listed_key h topic.now key.now) result }
     {
@@ -321,7 +327,8 @@ impl<G: Gate, A: Lane, B: Lane, C: Lane, D: Lane> Pool<G, A, B, C, D> {
         seat: &mut Seat<A, B, C, D>,
         topic: &Topic,
     ) -> Result<Reply<Sub>, PoolFault>
-        ensures { CalledAt self.now.own.name always seat.old seat.new (shard_of topic.now self.now.shards)
+        ensures { CalledAt (IsOfShardAt self.now.own.name A.begins B.begins C.begins D.begins) always
+            seat.old seat.new (shard_of topic.now self.now.shards)
             (Step.Subscribe topic.now)
             (λ h sub. (sub.number ≡ last_number h + 1) × (sub.slot ≡ slot_of sub.number)) result }
     {
@@ -357,7 +364,8 @@ impl<G: Gate, A: Lane, B: Lane, C: Lane, D: Lane> Pool<G, A, B, C, D> {
         max: u32,
     ) -> Result<Reply<Vec<Item>>, PoolFault>
         requires limit { IsTrue (is_take_limit max) }
-        ensures { CalledAt self.now.own.name (finds sub.now) seat.old seat.new (shard_of topic.now self.now.shards)
+        ensures { CalledAt (IsOfShardAt self.now.own.name A.begins B.begins C.begins D.begins) (finds sub.now)
+            seat.old seat.new (shard_of topic.now self.now.shards)
             (Step.Take sub.now.number max)
             (λ h items. items.items ≡ items_given h sub.now.number max) result }
     {
@@ -391,7 +399,8 @@ impl<G: Gate, A: Lane, B: Lane, C: Lane, D: Lane> Pool<G, A, B, C, D> {
         topic: &Topic,
         sub: &Sub,
     ) -> Result<Reply<()>, PoolFault>
-        ensures { CalledAt self.now.own.name (finds sub.now) seat.old seat.new (shard_of topic.now self.now.shards)
+        ensures { CalledAt (IsOfShardAt self.now.own.name A.begins B.begins C.begins D.begins) (finds sub.now)
+            seat.old seat.new (shard_of topic.now self.now.shards)
             (Step.Unsubscribe sub.now.number)
             (λ h _. Unit {0}) result }
     {
@@ -426,7 +435,8 @@ impl<G: Gate, A: Lane, B: Lane, C: Lane, D: Lane> Pool<G, A, B, C, D> {
         payload: &Json,
     ) -> Result<Reply<()>, PoolFault>
         requires payload { IsTrue (is_payload payload.now) }
-        ensures { CalledAt self.now.own.name always seat.old seat.new (shard_of topic.now self.now.shards)
+        ensures { CalledAt (IsOfShardAt self.now.own.name A.begins B.begins C.begins D.begins) always
+            seat.old seat.new (shard_of topic.now self.now.shards)
             (Step.Shout topic.now payload.now)
             (λ h _. Unit {0}) result }
     {

@@ -2,8 +2,10 @@ ghost use Rattle.std.specs.Prelude.{◌≡◌, All, List, [], ◌∷◌, ◌++�
 ghost use Rattle.presence_journal.specs.History.{History};
 ghost use Rattle.shard_pool_settled.specs.Seated.{one_if};
 ghost use Rattle.shard_pool_settled.specs.Settled.{Agree, CountsDiffer, are_told};
+ghost use Rattle.shard_pool_locks.specs.Lines.{IsOfLane};
 ghost use Rattle.shard_pool_locks.specs.Unseated.{IsOf};
-ghost use Rattle.shard_pool.specs.Settling.{has_seat, found, by_number, has_seats, IsMissing, AreOf};
+ghost use Rattle.shard_pool.specs.Seats.{IsOfShardAt};
+ghost use Rattle.shard_pool.specs.Settling.{has_seat, found, by_number, has_seats, IsMissing, AreOf, ArePlaced};
 
 use crate::pool::Pool;
 use crate::seat::Seat;
@@ -80,7 +82,8 @@ pub fn check_seats<A: Lane, B: Lane, C: Lane, D: Lane>(
 
 // A journal out of its lock.
 fn taken_out<L: Lane>(shard: Mutex<Locked<L>>) -> Journal
-    ensures { IsOf L.node result }
+    ensures journal { IsOf L.node result }
+    ensures lane { IsOfLane L.begins result }
 {
     let locked = shard.into_inner();
     let _journal = locked.journal();
@@ -141,6 +144,7 @@ impl<G: Gate + Drop, A: Lane, B: Lane, C: Lane, D: Lane> Pool<G, A, B, C, D> {
     ///
     /// It refuses as `check_seats` does, and then hands nothing back: of the journals that it found no
     /// more can be said than that they were legal.
+    #[tactic(auto, using(crate::proofs::Settled::in_places))]
     pub fn settle<R: Wait>(
         self,
         _rt: &R,
@@ -148,6 +152,8 @@ impl<G: Gate + Drop, A: Lane, B: Lane, C: Lane, D: Lane> Pool<G, A, B, C, D> {
         seats: Vec<Seat<A, B, C, D>>,
     ) -> Result<Vec<Journal>, SettleFault>
         ensures journals { IfOk result (λ js. AreOf self.own.name self.shards js.items) }
+        ensures places { IfOk result (λ js. ArePlaced
+            (IsOfShardAt self.own.name A.begins B.begins C.begins D.begins) 0 js.items) }
         ensures there { OnOk result (has_seats seats.items self.seats ≡ true) }
         ensures agree { IfOk result (λ js. Agree js.items (by_number seats.items self.seats)) }
         ensures missing { result ≡ Err SettleFault.MissingSeat → IsMissing seats.items self.seats }

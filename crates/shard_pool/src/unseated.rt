@@ -1,13 +1,15 @@
 // The calls without a seat, each at a shard that is named by its number. Since they let the lock go, their
 // contracts name a history behind the answer at most.
-ghost use Rattle.std.specs.Prelude.{◌≡◌, ◌<◌, IfOk, IfErr};
+ghost use Rattle.std.specs.Prelude.{◌≡◌, ◌<◌, ◌-◌, ◌^◌, min, IfOk, IfErr};
 ghost use Rattle.presence_journal.specs.History.{IsTop, entry_count, start_of, status};
+ghost use Rattle.presence_journal.specs.TextBytes.{text_bytes};
 ghost use Rattle.shard_pool_locks.specs.Full.{IsFullOf};
 ghost use Rattle.shard_pool_locks.specs.KeptDeltas.{IsToldFrom};
 ghost use Rattle.shard_pool_locks.specs.ShardFault.TheVariants.{OutOfMemory};
 ghost use Rattle.shard_pool_locks.specs.Unseated.{IsOf, IsBehind, IsMade, IsCutMade, IsCheckpointed, TellsWaiting};
 ghost use Rattle.shard_pool_locks.specs.Unseated.{IsMadeWhereFull, IsMadeWhereQuiet};
-ghost use Rattle.shard_pool.specs.Seats.{shard_of, IsTrimmed};
+ghost use Rattle.shard_pool.specs.Seats.{shard_of, begins_at, IsBehindAt, IsTrimmed};
+ghost use Rattle.shard_pool_locks.specs.Lines.{IsOfLane};
 
 use crate::pool::Pool;
 use crate::seat::Seat;
@@ -17,10 +19,11 @@ use presence_base::{Replica, Topic, shard_of};
 use presence_journal::{Journal, Step};
 use replica_status::Status;
 use shard_pool_locks::{
-    Gate, Lane, PoolFault, Sub, locked_checkpoint, locked_checkpoint_where_full,
-    locked_checkpoint_where_quiet, locked_cut, locked_entry_count, locked_full, locked_heard,
-    locked_journal, locked_merge, locked_permdown, locked_start_of, locked_status, locked_tick,
-    locked_told_from, locked_top, locked_trim, locked_waits,
+    DueFrom, Gate, Lane, PoolFault, RowCounts, Sub, locked_checkpoint,
+    locked_checkpoint_where_full, locked_checkpoint_where_quiet, locked_cut, locked_entry_count,
+    locked_full, locked_heard, locked_journal, locked_merge, locked_permdown, locked_row_counts,
+    locked_start_of, locked_status, locked_text_bytes, locked_tick, locked_told_from, locked_top,
+    locked_trim, locked_waits,
 };
 use std::alloc::Global;
 use std::sync::Wait;
@@ -35,9 +38,11 @@ impl<G: Gate, A: Lane, B: Lane, C: Lane, D: Lane> Pool<G, A, B, C, D> {
     }
 
     /// A copy of a shard's journal. It refuses with `OutOfMemory` alone.
+    #[tactic(auto, using(crate::proofs::Lanes::lanes))]
     pub fn journal<R: Wait>(&self, rt: &R, _alloc: Global, shard: u32) -> Result<Journal, PoolFault>
         requires { shard < self.now.shards }
         ensures journal { IfOk result (λ j. IsOf self.now.own.name j) }
+        ensures lane { IfOk result (IsOfLane (begins_at A.begins B.begins C.begins D.begins shard)) }
         ensures err { IfErr result (λ e. e ≡ OutOfMemory) }
     {
         match shard {
@@ -49,6 +54,7 @@ impl<G: Gate, A: Lane, B: Lane, C: Lane, D: Lane> Pool<G, A, B, C, D> {
     }
 
     /// Notes at a shard that a replica was heard.
+    #[tactic(auto, using(crate::proofs::Lanes::lanes))]
     pub fn heard<R: Wait>(
         &self,
         rt: &R,
@@ -58,7 +64,9 @@ impl<G: Gate, A: Lane, B: Lane, C: Lane, D: Lane> Pool<G, A, B, C, D> {
         now: u64,
     ) -> Result<(), PoolFault>
         requires { shard < self.now.shards }
-        ensures { IsBehind self.now.own.name (λ h. IsMade h (Step.Heard replica now) result) }
+        ensures some { IsBehind self.now.own.name (λ h. IsMade h (Step.Heard replica now) result) }
+        ensures lane { IsBehindAt A.begins B.begins C.begins D.begins shard self.now.own.name
+            (λ h. IsMade h (Step.Heard replica now) result) }
     {
         match shard {
             0 => locked_heard(rt, alloc, &self.first, replica, now),
@@ -69,6 +77,7 @@ impl<G: Gate, A: Lane, B: Lane, C: Lane, D: Lane> Pool<G, A, B, C, D> {
     }
 
     /// Lets time pass at a shard.
+    #[tactic(auto, using(crate::proofs::Lanes::lanes))]
     pub fn tick<R: Wait>(
         &self,
         rt: &R,
@@ -77,7 +86,9 @@ impl<G: Gate, A: Lane, B: Lane, C: Lane, D: Lane> Pool<G, A, B, C, D> {
         now: u64,
     ) -> Result<(), PoolFault>
         requires { shard < self.now.shards }
-        ensures { IsBehind self.now.own.name (λ h. IsMade h (Step.Tick now) result) }
+        ensures some { IsBehind self.now.own.name (λ h. IsMade h (Step.Tick now) result) }
+        ensures lane { IsBehindAt A.begins B.begins C.begins D.begins shard self.now.own.name
+            (λ h. IsMade h (Step.Tick now) result) }
     {
         match shard {
             0 => locked_tick(rt, alloc, &self.first, now),
@@ -88,6 +99,7 @@ impl<G: Gate, A: Lane, B: Lane, C: Lane, D: Lane> Pool<G, A, B, C, D> {
     }
 
     /// Notes at a shard that a replica is gone for good.
+    #[tactic(auto, using(crate::proofs::Lanes::lanes))]
     pub fn permdown<R: Wait>(
         &self,
         rt: &R,
@@ -96,7 +108,9 @@ impl<G: Gate, A: Lane, B: Lane, C: Lane, D: Lane> Pool<G, A, B, C, D> {
         replica: Replica,
     ) -> Result<(), PoolFault>
         requires { shard < self.now.shards }
-        ensures { IsBehind self.now.own.name (λ h. IsMade h (Step.PermDown replica) result) }
+        ensures some { IsBehind self.now.own.name (λ h. IsMade h (Step.PermDown replica) result) }
+        ensures lane { IsBehindAt A.begins B.begins C.begins D.begins shard self.now.own.name
+            (λ h. IsMade h (Step.PermDown replica) result) }
     {
         match shard {
             0 => locked_permdown(rt, alloc, &self.first, replica),
@@ -107,9 +121,12 @@ impl<G: Gate, A: Lane, B: Lane, C: Lane, D: Lane> Pool<G, A, B, C, D> {
     }
 
     /// What the own replica did at a shard since the last cut there.
+    #[tactic(auto, using(crate::proofs::Lanes::lanes))]
     pub fn cut<R: Wait>(&self, rt: &R, alloc: Global, shard: u32) -> Result<Delta, PoolFault>
         requires { shard < self.now.shards }
-        ensures { IsBehind self.now.own.name (λ h. IsCutMade h result) }
+        ensures some { IsBehind self.now.own.name (λ h. IsCutMade h result) }
+        ensures lane { IsBehindAt A.begins B.begins C.begins D.begins shard self.now.own.name
+            (λ h. IsCutMade h result) }
     {
         match shard {
             0 => locked_cut(rt, alloc, &self.first),
@@ -120,6 +137,7 @@ impl<G: Gate, A: Lane, B: Lane, C: Lane, D: Lane> Pool<G, A, B, C, D> {
     }
 
     /// Takes in at a shard what another node told.
+    #[tactic(auto, using(crate::proofs::Lanes::lanes))]
     pub fn merge<R: Wait>(
         &self,
         rt: &R,
@@ -128,7 +146,9 @@ impl<G: Gate, A: Lane, B: Lane, C: Lane, D: Lane> Pool<G, A, B, C, D> {
         told: &Told,
     ) -> Result<(), PoolFault>
         requires { shard < self.now.shards }
-        ensures { IsBehind self.now.own.name (λ h. IsMade h (Step.Merge told.now) result) }
+        ensures some { IsBehind self.now.own.name (λ h. IsMade h (Step.Merge told.now) result) }
+        ensures lane { IsBehindAt A.begins B.begins C.begins D.begins shard self.now.own.name
+            (λ h. IsMade h (Step.Merge told.now) result) }
     {
         match shard {
             0 => locked_merge(rt, alloc, &self.first, told),
@@ -139,9 +159,12 @@ impl<G: Gate, A: Lane, B: Lane, C: Lane, D: Lane> Pool<G, A, B, C, D> {
     }
 
     /// All that a shard knows. It is no step, and refuses with `OutOfMemory` alone.
+    #[tactic(auto, using(crate::proofs::Lanes::lanes))]
     pub fn full<R: Wait>(&self, rt: &R, alloc: Global, shard: u32) -> Result<Told, PoolFault>
         requires { shard < self.now.shards }
         ensures full { IfOk result (λ t. IsBehind self.now.own.name (λ h. IsFullOf h t)) }
+        ensures lane { IfOk result (λ t. IsBehindAt A.begins B.begins C.begins D.begins shard self.now.own.name
+            (λ h. IsFullOf h t)) }
         ensures err { IfErr result (λ e. e ≡ OutOfMemory) }
     {
         match shard {
@@ -154,6 +177,7 @@ impl<G: Gate, A: Lane, B: Lane, C: Lane, D: Lane> Pool<G, A, B, C, D> {
 
     /// What a node is told that knows the shard's own dots up to a count: of the kept deltas that begin at or below it the
     /// shortest, else all that the shard knows. It is no step, and refuses with `OutOfMemory` alone.
+    #[tactic(auto, using(crate::proofs::Lanes::lanes))]
     pub fn told_from<R: Wait>(
         &self,
         rt: &R,
@@ -163,6 +187,8 @@ impl<G: Gate, A: Lane, B: Lane, C: Lane, D: Lane> Pool<G, A, B, C, D> {
     ) -> Result<Told, PoolFault>
         requires { shard < self.now.shards }
         ensures told { IfOk result (λ t. IsBehind self.now.own.name (λ h. IsToldFrom h count t)) }
+        ensures lane { IfOk result (λ t. IsBehindAt A.begins B.begins C.begins D.begins shard self.now.own.name
+            (λ h. IsToldFrom h count t)) }
         ensures err { IfErr result (λ e. e ≡ OutOfMemory) }
     {
         match shard {
@@ -174,9 +200,12 @@ impl<G: Gate, A: Lane, B: Lane, C: Lane, D: Lane> Pool<G, A, B, C, D> {
     }
 
     /// The count up to which a shard covers all of a replica's dots. It is no step.
+    #[tactic(auto, using(crate::proofs::Lanes::lanes))]
     pub fn top<R: Wait>(&self, rt: &R, shard: u32, replica: &Replica) -> u64
         requires { shard < self.now.shards }
-        ensures { IsBehind self.now.own.name (λ h. IsTop h replica.now result) }
+        ensures some { IsBehind self.now.own.name (λ h. IsTop h replica.now result) }
+        ensures lane { IsBehindAt A.begins B.begins C.begins D.begins shard self.now.own.name
+            (λ h. IsTop h replica.now result) }
     {
         match shard {
             0 => locked_top(rt, &self.first, replica),
@@ -187,9 +216,12 @@ impl<G: Gate, A: Lane, B: Lane, C: Lane, D: Lane> Pool<G, A, B, C, D> {
     }
 
     /// The status of a replica at a shard. It is no step.
+    #[tactic(auto, using(crate::proofs::Lanes::lanes))]
     pub fn status<R: Wait>(&self, rt: &R, shard: u32, replica: &Replica) -> Status
         requires { shard < self.now.shards }
-        ensures { IsBehind self.now.own.name (λ h. result ≡ status h replica.now) }
+        ensures some { IsBehind self.now.own.name (λ h. result ≡ status h replica.now) }
+        ensures lane { IsBehindAt A.begins B.begins C.begins D.begins shard self.now.own.name
+            (λ h. result ≡ status h replica.now) }
     {
         match shard {
             0 => locked_status(rt, &self.first, replica),
@@ -200,9 +232,12 @@ impl<G: Gate, A: Lane, B: Lane, C: Lane, D: Lane> Pool<G, A, B, C, D> {
     }
 
     /// Whether a subscriber of a shard is behind or has something waiting. It is no step.
+    #[tactic(auto, using(crate::proofs::Lanes::lanes))]
     pub fn waits<R: Wait>(&self, rt: &R, shard: u32, sub: &Sub) -> Result<bool, PoolFault>
         requires { shard < self.now.shards }
-        ensures { IsBehind self.now.own.name (λ h. TellsWaiting h sub.now result) }
+        ensures some { IsBehind self.now.own.name (λ h. TellsWaiting h sub.now result) }
+        ensures lane { IsBehindAt A.begins B.begins C.begins D.begins shard self.now.own.name
+            (λ h. TellsWaiting h sub.now result) }
     {
         match shard {
             0 => locked_waits(rt, &self.first, sub),
@@ -217,9 +252,12 @@ impl<G: Gate, A: Lane, B: Lane, C: Lane, D: Lane> Pool<G, A, B, C, D> {
     /// lasts nobody else is served by the shard; it costs a walk over the entries and a copy of all that the shard keeps.
     ///
     /// A seat's receipts from before have no entry any more: see `trim`.
+    #[tactic(auto, using(crate::proofs::Lanes::lanes))]
     pub fn checkpoint<R: Wait>(&self, rt: &R, alloc: Global, shard: u32) -> Result<(), PoolFault>
         requires { shard < self.now.shards }
-        ensures { IsBehind self.now.own.name (λ h. IsCheckpointed h result) }
+        ensures some { IsBehind self.now.own.name (λ h. IsCheckpointed h result) }
+        ensures lane { IsBehindAt A.begins B.begins C.begins D.begins shard self.now.own.name
+            (λ h. IsCheckpointed h result) }
     {
         match shard {
             0 => locked_checkpoint(rt, alloc, &self.first),
@@ -231,6 +269,7 @@ impl<G: Gate, A: Lane, B: Lane, C: Lane, D: Lane> Pool<G, A, B, C, D> {
 
     /// Makes a checkpoint of a shard where its journal is full once its lock is had, so that of two who found it full one
     /// makes it. `Ok(false)` means that there was room, and that nothing changed.
+    #[tactic(auto, using(crate::proofs::Lanes::lanes))]
     pub fn checkpoint_where_full<R: Wait>(
         &self,
         rt: &R,
@@ -238,7 +277,9 @@ impl<G: Gate, A: Lane, B: Lane, C: Lane, D: Lane> Pool<G, A, B, C, D> {
         shard: u32,
     ) -> Result<bool, PoolFault>
         requires { shard < self.now.shards }
-        ensures { IsBehind self.now.own.name (λ h. IsMadeWhereFull h result) }
+        ensures some { IsBehind self.now.own.name (λ h. IsMadeWhereFull h result) }
+        ensures lane { IsBehindAt A.begins B.begins C.begins D.begins shard self.now.own.name
+            (λ h. IsMadeWhereFull h result) }
     {
         match shard {
             0 => locked_checkpoint_where_full(rt, alloc, &self.first),
@@ -248,31 +289,37 @@ impl<G: Gate, A: Lane, B: Lane, C: Lane, D: Lane> Pool<G, A, B, C, D> {
         }
     }
 
-    /// Makes a checkpoint of a shard where its journal has so many entries, its Start counted, and no item waits for a
-    /// subscriber that isn't behind, so that none loses one. `Ok(false)` means that it isn't so, and that nothing changed;
+    /// Makes a checkpoint of a shard where its journal is due once its lock is had, and no item waits for a subscriber that
+    /// isn't behind, so that none loses one. `Ok(false)` means that it isn't so, and that nothing changed;
     /// that costs a look at each subscriber, under the shard's lock.
+    #[tactic(auto, using(crate::proofs::Lanes::lanes))]
     pub fn checkpoint_where_quiet<R: Wait>(
         &self,
         rt: &R,
         alloc: Global,
         shard: u32,
-        entries: u64,
+        due: DueFrom,
     ) -> Result<bool, PoolFault>
         requires { shard < self.now.shards }
-        ensures { IsBehind self.now.own.name (λ h. IsMadeWhereQuiet entries h result) }
+        ensures some { IsBehind self.now.own.name (λ h. IsMadeWhereQuiet due h result) }
+        ensures lane { IsBehindAt A.begins B.begins C.begins D.begins shard self.now.own.name
+            (λ h. IsMadeWhereQuiet due h result) }
     {
         match shard {
-            0 => locked_checkpoint_where_quiet(rt, alloc, &self.first, entries),
-            1 => locked_checkpoint_where_quiet(rt, alloc, &self.second, entries),
-            2 => locked_checkpoint_where_quiet(rt, alloc, &self.third, entries),
-            _ => locked_checkpoint_where_quiet(rt, alloc, &self.fourth, entries),
+            0 => locked_checkpoint_where_quiet(rt, alloc, &self.first, due),
+            1 => locked_checkpoint_where_quiet(rt, alloc, &self.second, due),
+            2 => locked_checkpoint_where_quiet(rt, alloc, &self.third, due),
+            _ => locked_checkpoint_where_quiet(rt, alloc, &self.fourth, due),
         }
     }
 
     /// How many entries a shard's journal has, its Start counted. It is no step, and takes a moment under the lock.
+    #[tactic(auto, using(crate::proofs::Lanes::lanes))]
     pub fn entry_count<R: Wait>(&self, rt: &R, shard: u32) -> u64
         requires { shard < self.now.shards }
-        ensures { IsBehind self.now.own.name (λ h. result ≡ entry_count h) }
+        ensures some { IsBehind self.now.own.name (λ h. result ≡ entry_count h) }
+        ensures lane { IsBehindAt A.begins B.begins C.begins D.begins shard self.now.own.name
+            (λ h. result ≡ entry_count h) }
     {
         match shard {
             0 => locked_entry_count(rt, &self.first),
@@ -282,10 +329,43 @@ impl<G: Gate, A: Lane, B: Lane, C: Lane, D: Lane> Pool<G, A, B, C, D> {
         }
     }
 
+    /// The bytes of the texts of a shard's entries, or the most that a count of 64 bits tells: what a checkpoint may give
+    /// back. It is no step, and takes a moment under the lock.
+    #[tactic(auto, using(crate::proofs::Lanes::lanes))]
+    pub fn text_bytes<R: Wait>(&self, rt: &R, shard: u32) -> u64
+        requires { shard < self.now.shards }
+        ensures some { IsBehind self.now.own.name (λ h. result ≡ min (text_bytes h) (2 ^ 64 - 1)) }
+        ensures lane { IsBehindAt A.begins B.begins C.begins D.begins shard self.now.own.name
+            (λ h. result ≡ min (text_bytes h) (2 ^ 64 - 1)) }
+    {
+        match shard {
+            0 => locked_text_bytes(rt, &self.first),
+            1 => locked_text_bytes(rt, &self.second),
+            2 => locked_text_bytes(rt, &self.third),
+            _ => locked_text_bytes(rt, &self.fourth),
+        }
+    }
+
+    /// How many rows a shard shows, its own ones and those of others, and how many of its topics have a subscriber, as
+    /// `Shard::row_counts` tells them. No contract speaks of it. It is no step, and takes a moment under the lock.
+    pub fn row_counts<R: Wait>(&self, rt: &R, shard: u32) -> RowCounts
+        requires { shard < self.now.shards }
+    {
+        match shard {
+            0 => locked_row_counts(rt, &self.first),
+            1 => locked_row_counts(rt, &self.second),
+            2 => locked_row_counts(rt, &self.third),
+            _ => locked_row_counts(rt, &self.fourth),
+        }
+    }
+
     /// The number of the Start of a shard's journal. It is no step.
+    #[tactic(auto, using(crate::proofs::Lanes::lanes))]
     pub fn start_of<R: Wait>(&self, rt: &R, shard: u32) -> u64
         requires { shard < self.now.shards }
-        ensures { IsBehind self.now.own.name (λ h. result ≡ (start_of h).number) }
+        ensures some { IsBehind self.now.own.name (λ h. result ≡ (start_of h).number) }
+        ensures lane { IsBehindAt A.begins B.begins C.begins D.begins shard self.now.own.name
+            (λ h. result ≡ (start_of h).number) }
     {
         match shard {
             0 => locked_start_of(rt, &self.first),
@@ -297,7 +377,7 @@ impl<G: Gate, A: Lane, B: Lane, C: Lane, D: Lane> Pool<G, A, B, C, D> {
 
     /// Drops a seat's receipts up to the Start of each shard: those that have no entry any more.
     pub fn trim<R: Wait>(&self, rt: &R, seat: &mut Seat<A, B, C, D>)
-        ensures { IsTrimmed self.now.own.name seat.old seat.new }
+        ensures { IsTrimmed self.now.own.name A.begins B.begins C.begins D.begins seat.old seat.new }
     {
         let _start = locked_trim(rt, &self.first, &mut seat.first);
         let _start = locked_trim(rt, &self.second, &mut seat.second);

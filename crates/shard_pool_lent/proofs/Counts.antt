@@ -11,6 +11,7 @@ use Rattle.tracker_shard.specs.declared.fault.ShardFault.TheVariants.{AlreadyTra
 use Rattle.tracker_shard.specs.Steps.{Made, Stepped}
 use Rattle.tracker_shard.specs.Starting.{seats, one_if, IsBegunAgain}
 use Rattle.shard_pool_lent.specs.Lent.{is_step, counted}
+use Rattle.shard_pool_lent.proofs.Lines.{line_begins, line_stays, line_after, line_same}
 
 seats-with : (h : History) (s : Step) (seat : Option ℕ) (o : Option Outcome) → is_some o ≡ true → seats (with_outcome h s seat o) ≡ seats h + one_if (is_some seat)
 unfolding seats
@@ -98,4 +99,4 @@ pub node_after : {A : Type 0} (old new : History) (r : Result A ShardFault) (nod
 node_after old new (Ok x) node again same is = ap (λ x. x.name) (again_own old new again) ∙ is
 node_after old new (Err e) node again same is = ap (λ h. (own h).name) same ∙ is
 
-pub ruleset counts = (node_stays, count_stays, unseated_same, begun_seated, begun_own, count_after, node_after)
+pub ruleset counts = (line_begins, line_stays, line_after, line_same, node_stays, count_stays, unseated_same, begun_seated, begun_own, count_after, node_after)

@@ -7,11 +7,11 @@ use Rattle.presence_journal.specs.History.{History, last_number, is_full}
 use Rattle.presence_journal.specs.Table.{accepted, outcome_of}
 use Rattle.tracker_shard.specs.declared.fault.ShardFault.{ShardFault}
 use Rattle.tracker_shard.specs.declared.fault.ShardFault.TheVariants.{AlreadyTracked, NoPresence, ClockFull, JournalFull, NoSub, OutOfMemory}
-use Rattle.tracker_shard.specs.Steps.{Stepped, Answers, IsDue}
+use Rattle.tracker_shard.specs.Steps.{Stepped, Answers, IsDue, MayRunOut, refusal}
 use Rattle.shard_pool_settled.specs.declared.receipt.Receipt.{Receipt}
 use Rattle.shard_pool_lent.specs.declared.reply.Reply.{Reply}
 use Rattle.shard_pool_lent.specs.Hands.{Hand, receipt, with_call}
-use Rattle.shard_pool_lent.specs.Lent.{is_step, counted, NotedIf, Notes, kept_receipts, reply_of, Replies, IsDueOnceNoted}
+use Rattle.shard_pool_lent.specs.Lent.{is_step, counted, NotedIf, Notes, kept_receipts, reply_of, Replies}
 
 step_of_reply : {A : Type 0} (old new : History) (seat : Option ℕ) (s : Step) (shard n : ℕ) (r : Result A ShardFault) → Stepped old new seat s r → Stepped old new seat s (reply_of shard n r)
 step_of_reply old new seat s shard n (Ok x) m = m
@@ -37,17 +37,39 @@ answer_of_reply h s Gives shard n (Err OutOfMemory) is a = a
 pub replied_answer : {A : Type 0} (h : History) (s : Step) (Gives : A → Type 0) (shard n : ℕ) (r : Result A ShardFault) (x : Result (Reply A) ShardFault) → x ≡ reply_of shard n r → n ≡ last_number h + 1 → Answers Gives (outcome_of h s) r → Replies shard h s Gives x
 replied_answer h s Gives shard n r x is number a = rw is (answer_of_reply h s Gives shard n r number a)
 
-due_of_reply : {A : Type 0} (stands : Option ShardFault) (shard n : ℕ) (r : Result A ShardFault) → IsDue r stands → IsDueOnceNoted (reply_of shard n r) stands
+due_of_reply : {A : Type 0} (stands : Option ShardFault) (shard n : ℕ) (r : Result A ShardFault) → IsDue r stands → IsDue (reply_of shard n r) stands
 due_of_reply stands shard n (Ok x) d = d
 due_of_reply stands shard n (Err AlreadyTracked) d = d
 due_of_reply stands shard n (Err NoPresence) d = d
 due_of_reply stands shard n (Err ClockFull) d = d
 due_of_reply stands shard n (Err JournalFull) d = d
 due_of_reply stands shard n (Err NoSub) d = d
-due_of_reply stands shard n (Err OutOfMemory) d = tt
+due_of_reply stands shard n (Err OutOfMemory) d = d
 
-pub replied_due : {A : Type 0} (stands : Option ShardFault) (shard n : ℕ) (r : Result A ShardFault) (x : Result (Reply A) ShardFault) → x ≡ reply_of shard n r → IsDue r stands → IsDueOnceNoted x stands
+pub replied_due : {A : Type 0} (stands : Option ShardFault) (shard n : ℕ) (r : Result A ShardFault) (x : Result (Reply A) ShardFault) → x ≡ reply_of shard n r → IsDue r stands → IsDue x stands
 replied_due stands shard n r x is d = rw is (due_of_reply stands shard n r d)
+
+-- what stands against a step is known before memory is asked for
+
+pub no_sub_stands : (found : Bool) (h : History) (s : Step) → found ≡ false → refusal found h s ≡ Some NoSub
+no_sub_stands found h s missing = rw missing refl
+
+full_stands_by : (found full : Bool) (o : Option ShardFault) → found ≡ true → full ≡ true
+    → cond found (cond full (Some JournalFull) o) (Some NoSub) ≡ Some JournalFull
+full_stands_by found full o there is = rw (there, is) refl
+
+pub full_stands : (found : Bool) (h : History) (s : Step) → found ≡ true → is_full h ≡ true → refusal found h s ≡ Some JournalFull
+full_stands found h s there full = full_stands_by found (is_full h) _ there full
+
+memory_may_by : (found full some : Bool) → found ≡ true → full ≡ false
+    → MayRunOut (cond found (cond full (Some JournalFull) (cond some None (Some ClockFull))) (Some NoSub))
+memory_may_by true false true there room = tt
+memory_may_by true false false there room = tt
+memory_may_by true true some there room = absurd (cc)
+memory_may_by false full some there room = absurd (cc)
+
+pub memory_may : (found : Bool) (h : History) (s : Step) → found ≡ true → is_full h ≡ false → MayRunOut (refusal found h s)
+memory_may found h s there room = memory_may_by found (is_full h) (is_some (outcome_of h s)) there room
 
 step_is_step : {A : Type 0} (shard n : ℕ) (r : Result A ShardFault) → is_step (reply_of shard n r) ≡ is_step r
 step_is_step shard n (Ok x) = refl
@@ -98,4 +120,4 @@ pub noted : {A : Type 0} (h new : History) (p q : Hand) (seat : Option ℕ) (s :
 noted h new p q seat s o n shard r x is m table number a b c d =
     rw (is, step_is_step shard n r) (noted_by h p q s o n (is_step r) (λ e. ap is_some table ∙ made_accepts h new seat s r m e) table number a b c d)
 
-pub ruleset notes = (replied_step, replied_answer, replied_due, replied_counts, noted)
+pub ruleset notes = (no_sub_stands, full_stands, memory_may, replied_step, replied_answer, replied_due, replied_counts, noted)

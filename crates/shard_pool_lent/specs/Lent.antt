@@ -55,13 +55,3 @@ reply_of s n (Err f) = Err f
 abbrev pub Replies : {A : Type 0} → ℕ → History → Step → (A → Type 0) → Result (Reply A) ShardFault → Type 0
 Replies s h step Gives r =
     Answers (λ x. (x.shard ≡ s) × (x.number ≡ last_number h + 1) × Gives x.value) (outcome_of h step) r
-
--- Each refusal is given where it is the one that stands. Want of memory for the receipt goes before all others.
-abbrev pub IsDueOnceNoted : {A : Type 0} → Result A ShardFault → Option ShardFault → Type 0
-IsDueOnceNoted (Ok x) r = r ≡ None
-IsDueOnceNoted (Err AlreadyTracked) r = r ≡ None
-IsDueOnceNoted (Err NoPresence) r = r ≡ None
-IsDueOnceNoted (Err ClockFull) r = r ≡ Some ClockFull
-IsDueOnceNoted (Err JournalFull) r = r ≡ Some JournalFull
-IsDueOnceNoted (Err NoSub) r = r ≡ Some NoSub
-IsDueOnceNoted (Err OutOfMemory) r = Unit {0}

@@ -4,8 +4,8 @@ ghost use Rattle.presence_journal.specs.Limits.{is_payload, is_take_limit};
 ghost use Rattle.presence_journal.specs.Present.{listed, dots_of};
 ghost use Rattle.presence_journal.specs.Queue.{items_given};
 ghost use Rattle.presence_journal.specs.Table.{outcome_of, rows_of_key, rows_of_pid, listed_key};
-ghost use Rattle.tracker_shard.specs.Steps.{Stepped, refusal, refusal_at, new_dot, slot_of};
-ghost use Rattle.shard_pool_lent.specs.Lent.{is_step, counted, Notes, Replies, IsDueOnceNoted};
+ghost use Rattle.tracker_shard.specs.Steps.{IsDue, Stepped, refusal, refusal_at, new_dot, slot_of};
+ghost use Rattle.shard_pool_lent.specs.Lent.{is_step, counted, Notes, Replies};
 
 use crate::lane::Lane;
 use crate::locked::Locked;
@@ -13,7 +13,7 @@ use crate::noting::{is_made, keep_receipt};
 use crate::part::Part;
 use crate::reply::{PoolFault, Reply, reply_to};
 use presence_base::{Dot, Json, Key, Meta, Row, Topic};
-use presence_journal::{Item, SharedRows, Step};
+use presence_journal::{Item, Payload, SharedRows, Step};
 use std::alloc::Global;
 use tracker_shard::Sub;
 
@@ -34,7 +34,7 @@ pub fn lent_track<L: Lane>(
     ensures answer { Replies part.old.shard locked.old.shard
         (Step.Track pid topic.now key.now meta.now)
         (λ d. new_dot (outcome_of locked.old.shard (Step.Track pid topic.now key.now meta.now)) ≡ Some d) result }
-    ensures due { IsDueOnceNoted result (refusal true locked.old.shard (Step.Track pid topic.now key.now meta.now)) }
+    ensures due { IsDue result (refusal true locked.old.shard (Step.Track pid topic.now key.now meta.now)) }
     ensures notes { Notes locked.old.shard part.old part.new (Step.Track pid topic.now key.now meta.now) result }
     ensures total { locked.new.calls.total ≡ counted locked.old.calls.total (is_step result) }
 {
@@ -44,6 +44,9 @@ pub fn lent_track<L: Lane>(
         receipts,
         share,
     } = part;
+    if locked.is_full() {
+        return Err(PoolFault::JournalFull);
+    }
     if receipts.reserve(1).is_err() {
         return Err(PoolFault::OutOfMemory);
     }
@@ -72,7 +75,7 @@ pub fn lent_update<L: Lane>(
     ensures answer { Replies part.old.shard locked.old.shard
         (Step.Update pid topic.now key.now meta.now)
         (λ d. new_dot (outcome_of locked.old.shard (Step.Update pid topic.now key.now meta.now)) ≡ Some d) result }
-    ensures due { IsDueOnceNoted result (refusal true locked.old.shard (Step.Update pid topic.now key.now meta.now)) }
+    ensures due { IsDue result (refusal true locked.old.shard (Step.Update pid topic.now key.now meta.now)) }
     ensures notes { Notes locked.old.shard part.old part.new (Step.Update pid topic.now key.now meta.now) result }
     ensures total { locked.new.calls.total ≡ counted locked.old.calls.total (is_step result) }
 {
@@ -82,6 +85,9 @@ pub fn lent_update<L: Lane>(
         receipts,
         share,
     } = part;
+    if locked.is_full() {
+        return Err(PoolFault::JournalFull);
+    }
     if receipts.reserve(1).is_err() {
         return Err(PoolFault::OutOfMemory);
     }
@@ -108,7 +114,7 @@ pub fn lent_untrack<L: Lane>(
     ensures answer { Replies part.old.shard locked.old.shard
         (Step.Untrack pid topic.now key.now)
         (λ dots. dots.items ≡ dots_of (rows_of_key locked.old.shard pid topic.now key.now)) result }
-    ensures due { IsDueOnceNoted result (refusal true locked.old.shard (Step.Untrack pid topic.now key.now)) }
+    ensures due { IsDue result (refusal true locked.old.shard (Step.Untrack pid topic.now key.now)) }
     ensures notes { Notes locked.old.shard part.old part.new (Step.Untrack pid topic.now key.now) result }
     ensures total { locked.new.calls.total ≡ counted locked.old.calls.total (is_step result) }
 {
@@ -118,6 +124,9 @@ pub fn lent_untrack<L: Lane>(
         receipts,
         share,
     } = part;
+    if locked.is_full() {
+        return Err(PoolFault::JournalFull);
+    }
     if receipts.reserve(1).is_err() {
         return Err(PoolFault::OutOfMemory);
     }
@@ -143,7 +152,7 @@ pub fn lent_untrack_all<L: Lane>(
     ensures answer { Replies part.old.shard locked.old.shard
         (Step.UntrackAll pid topic.now)
         (λ dots. dots.items ≡ dots_of (rows_of_pid locked.old.shard pid topic.now)) result }
-    ensures due { IsDueOnceNoted result (refusal true locked.old.shard (Step.UntrackAll pid topic.now)) }
+    ensures due { IsDue result (refusal true locked.old.shard (Step.UntrackAll pid topic.now)) }
     ensures notes { Notes locked.old.shard part.old part.new (Step.UntrackAll pid topic.now) result }
     ensures total { locked.new.calls.total ≡ counted locked.old.calls.total (is_step result) }
 {
@@ -153,6 +162,9 @@ pub fn lent_untrack_all<L: Lane>(
         receipts,
         share,
     } = part;
+    if locked.is_full() {
+        return Err(PoolFault::JournalFull);
+    }
     if receipts.reserve(1).is_err() {
         return Err(PoolFault::OutOfMemory);
     }
@@ -176,7 +188,7 @@ pub fn lent_list<L: Lane>(
     ensures answer { Replies part.old.shard locked.old.shard
         (Step.List topic.now)
         (λ rows. rows ≡ listed locked.old.shard topic.now) result }
-    ensures due { IsDueOnceNoted result (refusal true locked.old.shard (Step.List topic.now)) }
+    ensures due { IsDue result (refusal true locked.old.shard (Step.List topic.now)) }
     ensures notes { Notes locked.old.shard part.old part.new (Step.List topic.now) result }
     ensures total { locked.new.calls.total ≡ counted locked.old.calls.total (is_step result) }
 {
@@ -186,6 +198,9 @@ pub fn lent_list<L: Lane>(
         receipts,
         share,
     } = part;
+    if locked.is_full() {
+        return Err(PoolFault::JournalFull);
+    }
     if receipts.reserve(1).is_err() {
         return Err(PoolFault::OutOfMemory);
     }
@@ -210,7 +225,7 @@ pub fn lent_get<L: Lane>(
     ensures answer { Replies part.old.shard locked.old.shard
         (Step.Get topic.now key.now)
         (λ rows. rows.items ≡ listed_key locked.old.shard topic.now key.now) result }
-    ensures due { IsDueOnceNoted result (refusal true locked.old.shard (Step.Get topic.now key.now)) }
+    ensures due { IsDue result (refusal true locked.old.shard (Step.Get topic.now key.now)) }
     ensures notes { Notes locked.old.shard part.old part.new (Step.Get topic.now key.now) result }
     ensures total { locked.new.calls.total ≡ counted locked.old.calls.total (is_step result) }
 {
@@ -220,6 +235,9 @@ pub fn lent_get<L: Lane>(
         receipts,
         share,
     } = part;
+    if locked.is_full() {
+        return Err(PoolFault::JournalFull);
+    }
     if receipts.reserve(1).is_err() {
         return Err(PoolFault::OutOfMemory);
     }
@@ -243,7 +261,7 @@ pub fn lent_subscribe<L: Lane>(
     ensures answer { Replies part.old.shard locked.old.shard
         (Step.Subscribe topic.now)
         (λ sub. (sub.number ≡ last_number locked.old.shard + 1) × (sub.slot ≡ slot_of sub.number)) result }
-    ensures due { IsDueOnceNoted result (refusal true locked.old.shard (Step.Subscribe topic.now)) }
+    ensures due { IsDue result (refusal true locked.old.shard (Step.Subscribe topic.now)) }
     ensures notes { Notes locked.old.shard part.old part.new (Step.Subscribe topic.now) result }
     ensures total { locked.new.calls.total ≡ counted locked.old.calls.total (is_step result) }
 {
@@ -253,6 +271,9 @@ pub fn lent_subscribe<L: Lane>(
         receipts,
         share,
     } = part;
+    if locked.is_full() {
+        return Err(PoolFault::JournalFull);
+    }
     if receipts.reserve(1).is_err() {
         return Err(PoolFault::OutOfMemory);
     }
@@ -279,7 +300,7 @@ pub fn lent_take<L: Lane>(
     ensures answer { Replies part.old.shard locked.old.shard
         (Step.Take sub.now.number max)
         (λ items. items.items ≡ items_given locked.old.shard sub.now.number max) result }
-    ensures due { IsDueOnceNoted result (refusal_at sub.now.slot sub.now.number locked.old.shard
+    ensures due { IsDue result (refusal_at sub.now.slot sub.now.number locked.old.shard
         (Step.Take sub.now.number max)) }
     ensures notes { Notes locked.old.shard part.old part.new (Step.Take sub.now.number max) result }
     ensures total { locked.new.calls.total ≡ counted locked.old.calls.total (is_step result) }
@@ -290,6 +311,12 @@ pub fn lent_take<L: Lane>(
         receipts,
         share,
     } = part;
+    if !locked.has(sub) {
+        return Err(PoolFault::NoSub);
+    }
+    if locked.is_full() {
+        return Err(PoolFault::JournalFull);
+    }
     if receipts.reserve(1).is_err() {
         return Err(PoolFault::OutOfMemory);
     }
@@ -312,7 +339,7 @@ pub fn lent_unsubscribe<L: Lane>(
     ensures step { Stepped locked.old.shard locked.new.shard (Some part.old.seat)
         (Step.Unsubscribe sub.now.number) result }
     ensures answer { Replies part.old.shard locked.old.shard (Step.Unsubscribe sub.now.number) (λ _. Unit {0}) result }
-    ensures due { IsDueOnceNoted result (refusal_at sub.now.slot sub.now.number locked.old.shard
+    ensures due { IsDue result (refusal_at sub.now.slot sub.now.number locked.old.shard
         (Step.Unsubscribe sub.now.number)) }
     ensures notes { Notes locked.old.shard part.old part.new (Step.Unsubscribe sub.now.number) result }
     ensures total { locked.new.calls.total ≡ counted locked.old.calls.total (is_step result) }
@@ -323,6 +350,12 @@ pub fn lent_unsubscribe<L: Lane>(
         receipts,
         share,
     } = part;
+    if !locked.has(sub) {
+        return Err(PoolFault::NoSub);
+    }
+    if locked.is_full() {
+        return Err(PoolFault::JournalFull);
+    }
     if receipts.reserve(1).is_err() {
         return Err(PoolFault::OutOfMemory);
     }
@@ -349,7 +382,7 @@ pub fn lent_shout<L: Lane>(
     ensures step { Stepped locked.old.shard locked.new.shard (Some part.old.seat)
         (Step.Shout topic.now payload.now) result }
     ensures answer { Replies part.old.shard locked.old.shard (Step.Shout topic.now payload.now) (λ _. Unit {0}) result }
-    ensures due { IsDueOnceNoted result (refusal true locked.old.shard (Step.Shout topic.now payload.now)) }
+    ensures due { IsDue result (refusal true locked.old.shard (Step.Shout topic.now payload.now)) }
     ensures notes { Notes locked.old.shard part.old part.new (Step.Shout topic.now payload.now) result }
     ensures total { locked.new.calls.total ≡ counted locked.old.calls.total (is_step result) }
 {
@@ -359,13 +392,17 @@ pub fn lent_shout<L: Lane>(
         receipts,
         share,
     } = part;
+    if locked.is_full() {
+        return Err(PoolFault::JournalFull);
+    }
     if receipts.reserve(1).is_err() {
         return Err(PoolFault::OutOfMemory);
     }
     let number = locked.next_number();
-    let step = Step::shout(topic, payload)?;
+    let payload = Payload::new(alloc, payload)?;
+    let step = Step::shout_shared(topic, &payload)?;
     let outcome = locked.foresee(alloc, &step)?;
-    let answer = locked.shout(alloc, share, *seat, topic, payload);
+    let answer = locked.shout(alloc, share, *seat, topic, &payload);
     keep_receipt(receipts, *shard, number, step, outcome, is_made(&answer));
     reply_to(*shard, number, answer)
 }

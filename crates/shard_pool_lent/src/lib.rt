@@ -22,4 +22,4 @@ pub use locked::Locked;
 pub use part::Part;
 pub use reply::{PoolFault, Reply};
 pub use start::lent_start;
-pub use tracker_shard::{ShardFault, Sub};
+pub use tracker_shard::{RowCounts, ShardFault, Sub};

@@ -1,7 +1,8 @@
-ghost use Rattle.std.specs.Prelude.{◌≡◌, ◌+◌, ◌≤◌, ◌^◌, true, false, Some, None, IfOk, IfErr, OnOk, OnErr, IsTrue};
+ghost use Rattle.std.specs.Prelude.{◌≡◌, ◌+◌, ◌-◌, ◌≤◌, ◌^◌, min, true, false, Some, None, IfOk, IfErr, OnOk, OnErr, IsTrue};
 ghost use Rattle.presence_base.specs.Refs.{IsCount};
-ghost use Rattle.presence_journal.specs.History.{begun, own, entry_count, last_number, status, IsTop};
-ghost use Rattle.presence_journal.specs.Limits.{is_payload, is_take_limit};
+ghost use Rattle.presence_journal.specs.History.{begun, own, entry_count, is_full, last_number, status, IsTop};
+ghost use Rattle.presence_journal.specs.TextBytes.{text_bytes};
+ghost use Rattle.presence_journal.specs.Limits.{is_take_limit};
 ghost use Rattle.presence_journal.specs.Queue.{queue, is_waiting};
 ghost use Rattle.presence_journal.specs.Table.{IsLegal, outcome_of};
 ghost use Rattle.tracker_shard.specs.Full.{IsFullOf};
@@ -13,17 +14,18 @@ ghost use Rattle.tracker_shard.specs.Steps.{AnswersRowsOfKey, AnswersRowsOfPid, 
 ghost use Rattle.tracker_shard.specs.Steps.{AnswersItems, AnswersSub, RefusesForRoom, checkpoint_refusal};
 ghost use Rattle.tracker_shard.specs.Starting.{seats, IsBegunAgain};
 ghost use Rattle.shard_pool_lent.specs.Lent.{is_step, counted};
+ghost use Rattle.shard_pool_lent.specs.Lines.{IsOfLane};
 
 use crate::lane::Lane;
 use crate::noting::{count_call, is_made};
 use delta_range::Delta;
 use orswot_core_told::Told;
-use presence_base::{Dot, Json, Key, Meta, Replica, Row, Topic};
-use presence_journal::{Item, Journal, Outcome, SharedRows, Step};
+use presence_base::{Dot, Key, Meta, Replica, Row, Topic};
+use presence_journal::{Item, Journal, Outcome, Payload, SharedRows, Step};
 use replica_status::Status;
 use std::alloc::{AllocError, Global};
 use std::sync::ledger::{Book, Share};
-use tracker_shard::{Shard, ShardFault, Sub};
+use tracker_shard::{RowCounts, Shard, ShardFault, Sub};
 
 /// A shard with the count of its seated calls: what stands behind a lock of the pool.
 pub struct Locked<L: Lane> {
@@ -31,6 +33,7 @@ pub struct Locked<L: Lane> {
     calls: Book<L>,
     ghost counted: { calls.total ≡ seats shard },
     ghost of_node: { (own shard).name ≡ L.node },
+    ghost of_lane: { IsOfLane L.begins shard },
 }
 
 // Written, as the shard's is.
@@ -49,6 +52,7 @@ impl<L: Lane> Locked<L> {
         requires count { IsCount own.incarnation }
         requires book { calls.total ≡ 0 }
         requires node { own.name ≡ L.node }
+        requires begins { L.begins (begun own) }
         ensures { (result.shard ≡ begun own) × (result.calls.total ≡ 0) }
     {
         Locked {
@@ -57,11 +61,12 @@ impl<L: Lane> Locked<L> {
         }
     }
 
-    /// The shard's journal, which is legal and of the ledger's node.
+    /// The shard's journal, which is legal, of the ledger's node, and comes of what the shard began with.
     pub fn journal(&self) -> &Journal
         ensures journal { result.now ≡ self.now.shard }
         ensures legal { IsLegal self.now.shard }
         ensures node { (own self.now.shard).name ≡ L.node }
+        ensures lane { IsOfLane L.begins self.now.shard }
     {
         self.shard.journal()
     }
@@ -71,6 +76,18 @@ impl<L: Lane> Locked<L> {
         ensures { result ≡ entry_count self.now.shard }
     {
         self.shard.journal().entries().len() as u64 + 1
+    }
+
+    /// The bytes of the texts of the journal's entries, or the most that a count of 64 bits tells.
+    pub fn text_bytes(&self) -> u64
+        ensures { result ≡ min (text_bytes self.now.shard) (2 ^ 64 - 1) }
+    {
+        self.shard.journal().text_bytes()
+    }
+
+    /// How many rows the shard shows, as `Shard::row_counts` tells it.
+    pub fn row_counts(&self) -> RowCounts {
+        self.shard.row_counts()
     }
 
     // What a step would come to, without making it.
@@ -84,6 +101,20 @@ impl<L: Lane> Locked<L> {
         ensures outcome { IfOk result (λ o. o ≡ outcome_of self.old.shard step.now) }
     {
         self.shard.foresee(alloc, step)
+    }
+
+    // Whether no entry can follow.
+    pub(crate) fn is_full(&self) -> bool
+        ensures { result ≡ is_full self.now.shard }
+    {
+        self.shard.journal().is_full()
+    }
+
+    // Whether there is this subscriber.
+    pub(crate) fn has(&self, sub: &Sub) -> bool
+        ensures { result ≡ is_found self.now.shard sub.now.slot sub.now.number }
+    {
+        self.shard.waits(sub).is_ok()
     }
 
     // The number that the next entry gets.
@@ -326,9 +357,8 @@ impl<L: Lane> Locked<L> {
         share: &mut Share<L>,
         seat: u32,
         topic: &Topic,
-        payload: &Json,
+        payload: &Payload,
     ) -> Result<(), ShardFault>
-        requires payload { IsTrue (is_payload payload.now) }
         requires share { share.old.parts ≡ 1 }
         ensures step { Stepped self.old.shard self.new.shard (Some seat) (Step.Shout topic.now payload.now) result }
         ensures answer { Answers (λ _. Unit {0}) (outcome_of self.old.shard (Step.Shout topic.now payload.now)) result }
@@ -338,7 +368,7 @@ impl<L: Lane> Locked<L> {
         ensures parts { share.new.parts ≡ share.old.parts }
     {
         let Locked { shard, calls } = self;
-        let answer = shard.shout(alloc, Some(seat), topic, payload);
+        let answer = shard.shout_shared(alloc, Some(seat), topic, payload);
         count_call(calls, share, is_made(&answer));
         answer
     }

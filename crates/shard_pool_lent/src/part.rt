@@ -1,5 +1,6 @@
 use crate::lane::Lane;
 use shard_pool_settled::Receipt;
+use std::alloc::AllocError;
 use std::marker::Model;
 use std::sync::ledger::Share;
 
@@ -63,6 +64,13 @@ impl<L: Lane> Part<L> {
         ensures { result ≡ self.now.shard }
     {
         self.shard
+    }
+
+    /// Makes room for one more receipt.
+    pub fn make_room(&mut self) -> Result<(), AllocError>
+        ensures { self.new ≡ self.old }
+    {
+        self.receipts.reserve(1)
     }
 
     /// Drops the receipts that are numbered at most `upto`. The calls stay counted.

@@ -14,7 +14,7 @@ use std::sync::ledger::Blank;
 
 /// A new shard of the replica, and for each seat from 0 its part there.
 ///
-/// The blank has as many parts as there are seats. It refuses with `OutOfMemory` alone.
+/// The shard begins with nothing. The blank has as many parts as there are seats. It refuses with `OutOfMemory` alone.
 pub fn lent_start<L: Lane>(
     alloc: Global,
     own: Replica,
@@ -25,6 +25,7 @@ pub fn lent_start<L: Lane>(
     requires count { IsCount own.incarnation }
     requires name { (blank.name ≡ L.name) × (blank.parts ≡ L.parts) }
     requires node { own.name ≡ L.node }
+    requires begins { L.begins (begun own) }
     requires seats { blank.parts ≡ seats }
     ensures shard { IfOk result (λ r. (r.0.shard ≡ begun own) × (r.0.calls.total ≡ 0)) }
     ensures parts { IfOk result (λ r. r.1.items ≡ new_hands shard seats) }

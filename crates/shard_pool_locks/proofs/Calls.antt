@@ -1,6 +1,6 @@
 -- A call behind a lock, as it is seen once the lock is let go.
-use Rattle.std.proofs.Common.{◌≡◌, ◌≤◌, ◌<◌, inl, inr, ℕ, Bool, List, Some, None, Option, true, false, refl, sym, ap, subst}
-use Rattle.std.specs.Prelude.{Result, Ok, Err, OnOk, OnErr}
+use Rattle.std.proofs.Common.{arith, ◌≡◌, ◌≤◌, ◌<◌, ◌-◌, ◌^◌, inl, inr, ℕ, Bool, List, Some, None, Option, true, false, refl, sym, ap, subst}
+use Rattle.std.specs.Prelude.{min, Result, Ok, Err, OnOk, OnErr}
 use Rattle.presence_journal_data.specs.declared.step.Step.{Step}
 use Rattle.presence_journal.specs.History.{History, own, entry_count, is_full}
 use Rattle.presence_journal.specs.Table.{IsLegal, outcome_of}
@@ -11,16 +11,41 @@ use Rattle.shard_pool_lent.specs.Starting.{IsBegunAgain}
 use Rattle.shard_pool_lent.specs.Steps.{Stepped, Answers, IsDue, RefusesForRoom, refusal, checkpoint_refusal}
 use Rattle.shard_pool_lent.specs.declared.reply.Reply.{Reply}
 use Rattle.shard_pool_lent.specs.Hands.{Hand}
-use Rattle.shard_pool_lent.specs.Lent.{Notes, Replies, IsDueOnceNoted}
-use Rattle.shard_pool_locks.specs.Seated.{Called}
-use Rattle.shard_pool_locks.specs.Unseated.{IsBehind, IsMadeWith, IsCheckpointed, IsMadeWhereFull, IsMadeWhereQuiet}
+use Rattle.shard_pool_lent.specs.Lines.{IsOfLane, IsOfShard}
+use Rattle.shard_pool_lent.specs.Lent.{Notes, Replies}
+use Rattle.presence_journal.specs.TextBytes.{text_bytes}
+use Rattle.shard_pool_locks.specs.declared.due.DueFrom.{DueFrom}
+use Rattle.shard_pool_locks.specs.Due.{HasMany, TellsMany}
+use Rattle.shard_pool_locks.specs.Seated.{Called, IsDueOnceNoted}
+use Rattle.shard_pool_locks.specs.Unseated.{IsBehindOf, IsMadeWith, IsCheckpointed, IsMadeWhereFull, IsMadeWhereQuiet}
 
-pub called : {A : Type 0} (h left : History) (node : List ℕ) (there : History → Bool) (old new : Hand) (step : Step) (Gives : History → A → Type 0) (r : Result (Reply A) ShardFault)
-    → IsLegal h → (own h).name ≡ node → Stepped h left (Some old.seat) step r → Notes h old new step r → Replies old.shard h step (Gives h) r → IsDueOnceNoted r (refusal (there h) h step) → Called node there old new step Gives r
-called h left node there old new step Gives r legal of_node made notes answer due = record { history = h; left = left; legal = legal; of_node = of_node; made = made; notes = notes; answer = answer; due = due }
+once_noted : {A : Type 0} (r : Result A ShardFault) (stands : Option ShardFault) → IsDue r stands → IsDueOnceNoted r stands
+once_noted (Ok x) stands d = d
+once_noted (Err AlreadyTracked) stands d = d
+once_noted (Err NoPresence) stands d = d
+once_noted (Err ClockFull) stands d = d
+once_noted (Err JournalFull) stands d = d
+once_noted (Err NoSub) stands d = d
+once_noted (Err OutOfMemory) stands d = tt
 
-pub is_behind : (h : History) (node : List ℕ) (Is : History → Type 0) → IsLegal h → (own h).name ≡ node → Is h → IsBehind node Is
-is_behind h node Is legal of_node is = record { history = h; legal = legal; of_node = of_node; is = is }
+pub called_in : {A : Type 0} (h left : History) (node : List ℕ) (Begins : History → Type 0) (there : History → Bool) (old new : Hand) (step : Step) (Gives : History → A → Type 0) (r : Result (Reply A) ShardFault)
+    → IsLegal h → (own h).name ≡ node → IsOfLane Begins h → Stepped h left (Some old.seat) step r → Notes h old new step r → Replies old.shard h step (Gives h) r → IsDue r (refusal (there h) h step)
+    → Called (IsOfShard node Begins) there old new step Gives r
+called_in h left node Begins there old new step Gives r legal of_node of_lane made notes answer due =
+    record { history = h; left = left; legal = legal; here = record { of_node = of_node; of_lane = of_lane }; made = made; notes = notes; answer = answer; due = once_noted r (refusal (there h) h step) due }
+
+pub called_without_room : {A : Type 0} (h : History) (node : List ℕ) (Begins : History → Type 0) (there : History → Bool) (old new : Hand) (step : Step) (Gives : History → A → Type 0)
+    → IsLegal h → (own h).name ≡ node → IsOfLane Begins h → new ≡ old
+    → Called {A = A} (IsOfShard node Begins) there old new step Gives (Err OutOfMemory)
+called_without_room h node Begins there old new step Gives legal of_node of_lane same =
+    record { history = h; left = h; legal = legal; here = record { of_node = of_node; of_lane = of_lane }; made = refl; notes = same; answer = tt; due = tt }
+
+pub ruleset called = (called_in, called_without_room)
+
+pub is_behind_lane : (h : History) (node : List ℕ) (Begins : History → Type 0) (Is : History → Type 0) → IsLegal h
+    → (own h).name ≡ node → IsOfLane Begins h → Is h → IsBehindOf (IsOfShard node Begins) Is
+is_behind_lane h node Begins Is legal of_node of_lane is =
+    record { history = h; legal = legal; here = record { of_node = of_node; of_lane = of_lane }; is = is }
 
 pub is_made : {A : Type 0} (Gives : A → Type 0) (h left : History) (step : Step) (r : Result A ShardFault) → Stepped h left None step r → Answers Gives (outcome_of h step) r → IsDue r (refusal true h step) → RefusesForRoom r → IsMadeWith Gives h step r
 is_made Gives h left step r made answer due room = record { left = left; step = made; answer = answer; due = due; room = room }
@@ -28,7 +53,7 @@ is_made Gives h left step r made answer due room = record { left = left; step = 
 pub is_checkpointed : (h left : History) (r : Result Unit ShardFault) → OnOk r (IsBegunAgain h left) → OnErr r (left ≡ h) → IsDue r (checkpoint_refusal h) → RefusesForRoom r → IsCheckpointed h r
 is_checkpointed h left r again same due room = record { left = left; again = again; same = same; due = due; room = room }
 
-pub ruleset unseated = (is_behind, is_made, is_checkpointed)
+pub ruleset unseated = (is_behind_lane, is_made, is_checkpointed)
 
 -- a checkpoint that is made only where it is due
 
@@ -63,19 +88,19 @@ refused_full h left (Err g) f full e same due room =
     let is : g ≡ f = cc in
     subst (λ k. IsMadeWhereFull h (Err k)) is (record { left = left; leaves = same; told = tt; asked = full; due = λ k p. due_of g (checkpoint_refusal h) due; room = room_of g room })
 
-pub ruleset where_full = (is_behind, not_full, made_full, refused_full)
+pub ruleset where_full = (is_behind_lane, not_full, made_full, refused_full)
 
-pub too_few : (h : History) (entries : ℕ) → entry_count h < entries → IsMadeWhereQuiet entries h (Ok false)
-too_few h entries few = record { left = h; leaves = refl; told = inl few; asked = tt; due = λ e. absurd (cc); room = tt }
+pub too_few : (h : History) (due : DueFrom) → TellsMany due h false → IsMadeWhereQuiet due h (Ok false)
+too_few h due few = record { left = h; leaves = refl; told = inl few; asked = tt; full = λ e. absurd (cc); room = tt }
 
-pub not_quiet : (h : History) (entries : ℕ) → TellsQuiet h false → IsMadeWhereQuiet entries h (Ok false)
-not_quiet h entries busy = record { left = h; leaves = refl; told = inr busy; asked = tt; due = λ e. absurd (cc); room = tt }
+pub not_quiet : (h : History) (due : DueFrom) → TellsQuiet h false → IsMadeWhereQuiet due h (Ok false)
+not_quiet h due busy = record { left = h; leaves = refl; told = inr busy; asked = tt; full = λ e. absurd (cc); room = tt }
 
-pub no_look : (h : History) (entries : ℕ) → entries ≤ entry_count h → IsMadeWhereQuiet entries h (Err OutOfMemory)
-no_look h entries enough = record { left = h; leaves = refl; told = tt; asked = enough; due = λ e. absurd (cc); room = tt }
+pub no_look : (h : History) (due : DueFrom) → HasMany due h → IsMadeWhereQuiet due h (Err OutOfMemory)
+no_look h due many = record { left = h; leaves = refl; told = tt; asked = many; full = λ e. absurd (cc); room = tt }
 
-pub made_quiet : (h left : History) (entries : ℕ) → entries ≤ entry_count h → TellsQuiet h true → IsBegunAgain h left → IsMadeWhereQuiet entries h (Ok true)
-made_quiet h left entries enough quiet again = record { left = left; leaves = again; told = (enough, quiet); asked = tt; due = λ e. absurd (cc); room = tt }
+pub made_quiet : (h left : History) (due : DueFrom) → HasMany due h → TellsQuiet h true → IsBegunAgain h left → IsMadeWhereQuiet due h (Ok true)
+made_quiet h left due many quiet again = record { left = left; leaves = again; told = (many, quiet); asked = tt; full = λ e. absurd (cc); room = tt }
 
 full_due : (r : Result Unit ShardFault) (stands : Option ShardFault) → IsDue r stands → r ≡ Err JournalFull → stands ≡ Some JournalFull
 full_due (Ok x) stands d e = absurd (cc)
@@ -86,10 +111,23 @@ full_due (Err JournalFull) stands d e = d
 full_due (Err NoSub) stands d e = absurd (cc)
 full_due (Err OutOfMemory) stands d e = absurd (cc)
 
-pub refused_quiet : (h left : History) (entries : ℕ) (r : Result Unit ShardFault) (f : ShardFault) → entries ≤ entry_count h → r ≡ Err f → OnErr r (left ≡ h) → IsDue r (checkpoint_refusal h) → RefusesForRoom r → IsMadeWhereQuiet entries h (Err f)
-refused_quiet h left entries (Ok x) f enough e same due room = absurd (cc)
-refused_quiet h left entries (Err g) f enough e same due room =
+pub refused_quiet : (h left : History) (due : DueFrom) (r : Result Unit ShardFault) (f : ShardFault) → HasMany due h → r ≡ Err f → OnErr r (left ≡ h) → IsDue r (checkpoint_refusal h) → RefusesForRoom r → IsMadeWhereQuiet due h (Err f)
+refused_quiet h left due (Ok x) f many e same d room = absurd (cc)
+refused_quiet h left due (Err g) f many e same d room =
     let is : g ≡ f = cc in
-    subst (λ k. IsMadeWhereQuiet entries h (Err k)) is (record { left = left; leaves = same; told = tt; asked = enough; due = λ p. full_due (Err g) (checkpoint_refusal h) due (let q : g ≡ JournalFull = cc in ap Err q); room = room_of g room })
+    subst (λ k. IsMadeWhereQuiet due h (Err k)) is (record { left = left; leaves = same; told = tt; asked = many; full = λ p. full_due (Err g) (checkpoint_refusal h) d (let q : g ≡ JournalFull = cc in ap Err q); room = room_of g room })
 
-pub ruleset where_quiet = (is_behind, too_few, not_quiet, no_look, made_quiet, refused_quiet)
+pub ruleset where_quiet = (is_behind_lane, too_few, not_quiet, no_look, made_quiet, refused_quiet)
+
+-- whether a journal is due
+
+pub many_entries : (due : DueFrom) (h : History) → due.entries ≤ entry_count h → TellsMany due h true
+many_entries due h many = record { many = inl many }
+
+pub many_bytes : (due : DueFrom) (h : History) → due.text_bytes ≤ min (text_bytes h) (2 ^ 64 - 1) → TellsMany due h true
+many_bytes due h many = record { many = inr (omega arith) }
+
+pub few_of_both : (due : DueFrom) (h : History) → entry_count h < due.entries → min (text_bytes h) (2 ^ 64 - 1) < due.text_bytes → due.text_bytes ≤ 2 ^ 64 - 1 → TellsMany due h false
+few_of_both due h entries bytes fits = (entries, omega arith)
+
+pub ruleset many = (many_entries, many_bytes, few_of_both)

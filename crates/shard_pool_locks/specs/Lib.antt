@@ -1,9 +1,11 @@
+pub mod Due
 pub mod Seated
 pub mod Unseated
 pub use Rattle.shard_pool_lent.specs.declared.reply.Reply
 pub use Rattle.shard_pool_lent.specs.declared.lane.Lane
 pub use Rattle.shard_pool_lent.specs.Hands
 pub use Rattle.shard_pool_lent.specs.Codes
+pub use Rattle.shard_pool_lent.specs.Lines
 pub use Rattle.shard_pool_lent.specs.Steps
 pub use Rattle.shard_pool_lent.specs.ShardFault
 pub use Rattle.shard_pool_lent.specs.Full

@@ -1,14 +1,16 @@
 -- What stands behind the answer of a call without a seat, which has let the lock go.
-use Rattle.std.specs.Prelude.{◌≡◌, ◌≤◌, ◌<◌, ◌⊎◌, true, false, ℕ, Bool, List, Some, None, Result, Ok, Err, IfOk, OnOk, OnErr}
+use Rattle.std.specs.Prelude.{◌≡◌, ◌⊎◌, true, false, ℕ, Bool, List, Some, None, Result, Ok, Err, IfOk, OnOk, OnErr}
 use Rattle.delta_range.specs.Deltas.{DeltaValue}
 use Rattle.presence_journal_data.specs.declared.step.Step.{Step}
 use Rattle.presence_journal_data.specs.declared.step.Step.TheVariants as steps_are
-use Rattle.presence_journal.specs.History.{History, own, entry_count, is_full}
+use Rattle.presence_journal.specs.History.{History, own, is_full}
 use Rattle.presence_journal.specs.Queue.{queue, is_waiting}
 use Rattle.presence_journal.specs.Table.{IsLegal, outcome_of}
 use Rattle.shard_pool_lent.specs.Cuts.{IsCut}
 use Rattle.shard_pool_lent.specs.Quiet.{IsQuiet, IsBusy}
 use Rattle.shard_pool_lent.specs.Sub.{Sub}
+use Rattle.shard_pool_locks.specs.declared.due.DueFrom.{DueFrom}
+use Rattle.shard_pool_locks.specs.Due.{HasMany, TellsMany}
 use Rattle.shard_pool_lent.specs.ShardFault.{ShardFault}
 use Rattle.shard_pool_lent.specs.ShardFault.TheVariants.{JournalFull, NoSub}
 use Rattle.shard_pool_lent.specs.Starting.{IsBegunAgain}
@@ -23,6 +25,13 @@ pub record IsBehind (node : List ℕ) (Is : History → Type 0) : Type 0 where
   pub history : History
   pub legal : IsLegal history
   pub of_node : (own history).name ≡ node
+  pub is : Is history
+
+-- some legal history of those that `Here` tells is such
+pub record IsBehindOf (Here : History → Type 0) (Is : History → Type 0) : Type 0 where
+  pub history : History
+  pub legal : IsLegal history
+  pub here : Here history
   pub is : Is history
 
 -- The answer is that of the step without a seat at the history's end, and what it gives is such. It is refused at most
@@ -72,17 +81,17 @@ pub record IsMadeWhereFull (h : History) (r : Result Bool ShardFault) : Type 0 w
   pub due : (f : ShardFault) → r ≡ Err f → IsDue r (checkpoint_refusal h)
   pub room : RefusesForRoom r
 
--- the journal has so many entries, its Start counted, and no item waits for anybody; or it isn't so
-abbrev pub TellsDue : ℕ → History → Bool → Type 0
-TellsDue entries h true = (entries ≤ entry_count h) × IsQuiet h
-TellsDue entries h false = (entry_count h < entries) ⊎ IsBusy h
+-- the journal is due and no item waits for anybody; or it isn't so
+abbrev pub TellsDue : DueFrom → History → Bool → Type 0
+TellsDue due h true = HasMany due h × IsQuiet h
+TellsDue due h false = TellsMany due h false ⊎ IsBusy h
 
--- A checkpoint is made where the journal has so many entries and no item waits for anybody, and only there. Memory may be
--- wanting for that look too.
-pub record IsMadeWhereQuiet (entries : ℕ) (h : History) (r : Result Bool ShardFault) : Type 0 where
+-- A checkpoint is made where the journal is due and no item waits for anybody, and only there. Memory may be wanting for
+-- that look too.
+pub record IsMadeWhereQuiet (due : DueFrom) (h : History) (r : Result Bool ShardFault) : Type 0 where
   pub left : History
   pub leaves : Leaves h left r
-  pub told : IfOk r (TellsDue entries h)
-  pub asked : OnErr r (entries ≤ entry_count h)
-  pub due : r ≡ Err JournalFull → checkpoint_refusal h ≡ Some JournalFull
+  pub told : IfOk r (TellsDue due h)
+  pub asked : OnErr r (HasMany due h)
+  pub full : r ≡ Err JournalFull → checkpoint_refusal h ≡ Some JournalFull
   pub room : RefusesForRoom r

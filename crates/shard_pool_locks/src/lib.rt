@@ -1,28 +1,30 @@
 //! What a call of the pool does behind the lock of one shard, with the gate around each seated call.
 //!
-//! Its public contracts cite `specs/Seated`: what a seated call leaves, and `specs/Unseated`: what stands
-//! behind the answer of a call without a seat. Both name a history behind the answer at most, since the lock
+//! Its public contracts cite `specs/Seated`: what a seated call leaves, `specs/Unseated`: what stands
+//! behind the answer of a call without a seat, and `specs/Due`: whether a journal is due for a checkpoint. The first two name a history behind the answer at most, since the lock
 //! is let go. They stand on shard_pool_lent's `Hands`, and on `Steps`, `Cuts`, `KeptDeltas`, `Full` and `Quiet`,
 //! which it gives out.
 #![tactic(auto)]
 
+mod due;
 mod gate;
 mod seated;
 mod unseated;
 
+pub use due::DueFrom;
 pub use gate::{Gate, NoGate};
 pub use seated::{
     locked_get, locked_list, locked_shout, locked_subscribe, locked_take, locked_track,
     locked_unsubscribe, locked_untrack, locked_untrack_all, locked_update,
 };
 pub use shard_pool_lent::{
-    Lane, Locked, Part, PoolFault, Reply, Sub, lent_get, lent_list, lent_shout, lent_start,
-    lent_subscribe, lent_take, lent_track, lent_unsubscribe, lent_untrack, lent_untrack_all,
-    lent_update,
+    Lane, Locked, Part, PoolFault, Reply, RowCounts, Sub, lent_get, lent_list, lent_shout,
+    lent_start, lent_subscribe, lent_take, lent_track, lent_unsubscribe, lent_untrack,
+    lent_untrack_all, lent_update,
 };
 pub use unseated::{
     locked_checkpoint, locked_checkpoint_where_full, locked_checkpoint_where_quiet, locked_cut,
     locked_entry_count, locked_full, locked_heard, locked_journal, locked_merge, locked_permdown,
-    locked_start_of, locked_status, locked_tick, locked_told_from, locked_top, locked_trim,
-    locked_waits,
+    locked_row_counts, locked_start_of, locked_status, locked_text_bytes, locked_tick,
+    locked_told_from, locked_top, locked_trim, locked_waits,
 };

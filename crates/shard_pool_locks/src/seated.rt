@@ -5,6 +5,7 @@ ghost use Rattle.presence_journal.specs.Present.{listed, dots_of};
 ghost use Rattle.presence_journal.specs.Queue.{items_given};
 ghost use Rattle.presence_journal.specs.Table.{outcome_of, rows_of_key, rows_of_pid, listed_key};
 ghost use Rattle.shard_pool_lent.specs.Steps.{new_dot, slot_of};
+ghost use Rattle.shard_pool_lent.specs.Lines.{IsOfShard};
 ghost use Rattle.shard_pool_locks.specs.Seated.{Called, always, finds};
 
 use crate::gate::Gate;
@@ -17,8 +18,9 @@ use shard_pool_lent::{
 use std::alloc::Global;
 use std::sync::{Mutex, Wait};
 
-// Each of these makes a lent step behind one lock, with the gate around it. The journal is read to show
-// that it is legal and of the node.
+// Each of these makes a lent step behind one lock, with the gate around it. The room for its receipt is taken before the
+// lock, and want of memory for that goes before all other refusals. The journal is read to show that it is legal and of the
+// shard.
 
 /// A track behind its shard's lock.
 #[tactic(auto, using(crate::proofs::Calls::called))]
@@ -34,15 +36,19 @@ pub fn locked_track<G: Gate, L: Lane, R: Wait>(
     meta: &Meta,
 ) -> Result<Reply<Dot>, PoolFault>
     requires pid { pid ≤ 2 ^ 62 }
-    ensures { Called L.node always part.old part.new
+    ensures { Called (IsOfShard L.node L.begins) always part.old part.new
         (Step.Track pid topic.now key.now meta.now)
         (λ h d. new_dot (outcome_of h (Step.Track pid topic.now key.now meta.now)) ≡ Some d) result }
 {
     gate.before(part.seat(), part.shard());
+    let room = part.make_room();
     let mut guard = shard.lock(rt);
     gate.inside(part.seat(), part.shard());
     let _journal = guard.journal();
-    let answer = lent_track(alloc, &mut *guard, part, pid, topic, key, meta);
+    let answer = match room {
+        Ok(()) => lent_track(alloc, &mut *guard, part, pid, topic, key, meta),
+        Err(_) => Err(PoolFault::OutOfMemory),
+    };
     drop(guard);
     gate.after(part.seat(), part.shard());
     answer
@@ -62,15 +68,19 @@ pub fn locked_update<G: Gate, L: Lane, R: Wait>(
     meta: &Meta,
 ) -> Result<Reply<Dot>, PoolFault>
     requires pid { pid ≤ 2 ^ 62 }
-    ensures { Called L.node always part.old part.new
+    ensures { Called (IsOfShard L.node L.begins) always part.old part.new
         (Step.Update pid topic.now key.now meta.now)
         (λ h d. new_dot (outcome_of h (Step.Update pid topic.now key.now meta.now)) ≡ Some d) result }
 {
     gate.before(part.seat(), part.shard());
+    let room = part.make_room();
     let mut guard = shard.lock(rt);
     gate.inside(part.seat(), part.shard());
     let _journal = guard.journal();
-    let answer = lent_update(alloc, &mut *guard, part, pid, topic, key, meta);
+    let answer = match room {
+        Ok(()) => lent_update(alloc, &mut *guard, part, pid, topic, key, meta),
+        Err(_) => Err(PoolFault::OutOfMemory),
+    };
     drop(guard);
     gate.after(part.seat(), part.shard());
     answer
@@ -88,15 +98,19 @@ pub fn locked_untrack<G: Gate, L: Lane, R: Wait>(
     topic: &Topic,
     key: &Key,
 ) -> Result<Reply<Vec<Dot>>, PoolFault>
-    ensures { Called L.node always part.old part.new
+    ensures { Called (IsOfShard L.node L.begins) always part.old part.new
         (Step.Untrack pid topic.now key.now)
         (λ h dots. dots.items ≡ dots_of (rows_of_key h pid topic.now key.now)) result }
 {
     gate.before(part.seat(), part.shard());
+    let room = part.make_room();
     let mut guard = shard.lock(rt);
     gate.inside(part.seat(), part.shard());
     let _journal = guard.journal();
-    let answer = lent_untrack(alloc, &mut *guard, part, pid, topic, key);
+    let answer = match room {
+        Ok(()) => lent_untrack(alloc, &mut *guard, part, pid, topic, key),
+        Err(_) => Err(PoolFault::OutOfMemory),
+    };
     drop(guard);
     gate.after(part.seat(), part.shard());
     answer
@@ -113,15 +127,19 @@ pub fn locked_untrack_all<G: Gate, L: Lane, R: Wait>(
     pid: u64,
     topic: &Topic,
 ) -> Result<Reply<Vec<Dot>>, PoolFault>
-    ensures { Called L.node always part.old part.new
+    ensures { Called (IsOfShard L.node L.begins) always part.old part.new
         (Step.UntrackAll pid topic.now)
         (λ h dots. dots.items ≡ dots_of (rows_of_pid h pid topic.now)) result }
 {
     gate.before(part.seat(), part.shard());
+    let room = part.make_room();
     let mut guard = shard.lock(rt);
     gate.inside(part.seat(), part.shard());
     let _journal = guard.journal();
-    let answer = lent_untrack_all(alloc, &mut *guard, part, pid, topic);
+    let answer = match room {
+        Ok(()) => lent_untrack_all(alloc, &mut *guard, part, pid, topic),
+        Err(_) => Err(PoolFault::OutOfMemory),
+    };
     drop(guard);
     gate.after(part.seat(), part.shard());
     answer
@@ -137,15 +155,19 @@ pub fn locked_list<G: Gate, L: Lane, R: Wait>(
     part: &mut Part<L>,
     topic: &Topic,
 ) -> Result<Reply<SharedRows>, PoolFault>
-    ensures { Called L.node always part.old part.new
+    ensures { Called (IsOfShard L.node L.begins) always part.old part.new
         (Step.List topic.now)
         (λ h rows. rows ≡ listed h topic.now) result }
 {
     gate.before(part.seat(), part.shard());
+    let room = part.make_room();
     let mut guard = shard.lock(rt);
     gate.inside(part.seat(), part.shard());
     let _journal = guard.journal();
-    let answer = lent_list(alloc, &mut *guard, part, topic);
+    let answer = match room {
+        Ok(()) => lent_list(alloc, &mut *guard, part, topic),
+        Err(_) => Err(PoolFault::OutOfMemory),
+    };
     drop(guard);
     gate.after(part.seat(), part.shard());
     answer
@@ -162,15 +184,19 @@ pub fn locked_get<G: Gate, L: Lane, R: Wait>(
     topic: &Topic,
     key: &Key,
 ) -> Result<Reply<Vec<(Dot, Row)>>, PoolFault>
-    ensures { Called L.node always part.old part.new
+    ensures { Called (IsOfShard L.node L.begins) always part.old part.new
         (Step.Get topic.now key.now)
         (λ h rows. rows.items ≡ listed_key h topic.now key.now) result }
 {
     gate.before(part.seat(), part.shard());
+    let room = part.make_room();
     let mut guard = shard.lock(rt);
     gate.inside(part.seat(), part.shard());
     let _journal = guard.journal();
-    let answer = lent_get(alloc, &mut *guard, part, topic, key);
+    let answer = match room {
+        Ok(()) => lent_get(alloc, &mut *guard, part, topic, key),
+        Err(_) => Err(PoolFault::OutOfMemory),
+    };
     drop(guard);
     gate.after(part.seat(), part.shard());
     answer
@@ -186,15 +212,19 @@ pub fn locked_subscribe<G: Gate, L: Lane, R: Wait>(
     part: &mut Part<L>,
     topic: &Topic,
 ) -> Result<Reply<Sub>, PoolFault>
-    ensures { Called L.node always part.old part.new
+    ensures { Called (IsOfShard L.node L.begins) always part.old part.new
         (Step.Subscribe topic.now)
         (λ h sub. (sub.number ≡ last_number h + 1) × (sub.slot ≡ slot_of sub.number)) result }
 {
     gate.before(part.seat(), part.shard());
+    let room = part.make_room();
     let mut guard = shard.lock(rt);
     gate.inside(part.seat(), part.shard());
     let _journal = guard.journal();
-    let answer = lent_subscribe(alloc, &mut *guard, part, topic);
+    let answer = match room {
+        Ok(()) => lent_subscribe(alloc, &mut *guard, part, topic),
+        Err(_) => Err(PoolFault::OutOfMemory),
+    };
     drop(guard);
     gate.after(part.seat(), part.shard());
     answer
@@ -212,15 +242,19 @@ pub fn locked_take<G: Gate, L: Lane, R: Wait>(
     max: u32,
 ) -> Result<Reply<Vec<Item>>, PoolFault>
     requires limit { IsTrue (is_take_limit max) }
-    ensures { Called L.node (finds sub.now) part.old part.new
+    ensures { Called (IsOfShard L.node L.begins) (finds sub.now) part.old part.new
         (Step.Take sub.now.number max)
         (λ h items. items.items ≡ items_given h sub.now.number max) result }
 {
     gate.before(part.seat(), part.shard());
+    let room = part.make_room();
     let mut guard = shard.lock(rt);
     gate.inside(part.seat(), part.shard());
     let _journal = guard.journal();
-    let answer = lent_take(alloc, &mut *guard, part, sub, max);
+    let answer = match room {
+        Ok(()) => lent_take(alloc, &mut *guard, part, sub, max),
+        Err(_) => Err(PoolFault::OutOfMemory),
+    };
     drop(guard);
     gate.after(part.seat(), part.shard());
     answer
@@ -236,15 +270,19 @@ pub fn locked_unsubscribe<G: Gate, L: Lane, R: Wait>(
     part: &mut Part<L>,
     sub: &Sub,
 ) -> Result<Reply<()>, PoolFault>
-    ensures { Called L.node (finds sub.now) part.old part.new
+    ensures { Called (IsOfShard L.node L.begins) (finds sub.now) part.old part.new
         (Step.Unsubscribe sub.now.number)
         (λ h _. Unit {0}) result }
 {
     gate.before(part.seat(), part.shard());
+    let room = part.make_room();
     let mut guard = shard.lock(rt);
     gate.inside(part.seat(), part.shard());
     let _journal = guard.journal();
-    let answer = lent_unsubscribe(alloc, &mut *guard, part, sub);
+    let answer = match room {
+        Ok(()) => lent_unsubscribe(alloc, &mut *guard, part, sub),
+        Err(_) => Err(PoolFault::OutOfMemory),
+    };
     drop(guard);
     gate.after(part.seat(), part.shard());
     answer
@@ -262,13 +300,17 @@ pub fn locked_shout<G: Gate, L: Lane, R: Wait>(
     payload: &Json,
 ) -> Result<Reply<()>, PoolFault>
     requires payload { IsTrue (is_payload payload.now) }
-    ensures { Called L.node always part.old part.new (Step.Shout topic.now payload.now) (λ h _. Unit {0}) result }
+    ensures { Called (IsOfShard L.node L.begins) always part.old part.new (Step.Shout topic.now payload.now) (λ h _. Unit {0}) result }
 {
     gate.before(part.seat(), part.shard());
+    let room = part.make_room();
     let mut guard = shard.lock(rt);
     gate.inside(part.seat(), part.shard());
     let _journal = guard.journal();
-    let answer = lent_shout(alloc, &mut *guard, part, topic, payload);
+    let answer = match room {
+        Ok(()) => lent_shout(alloc, &mut *guard, part, topic, payload),
+        Err(_) => Err(PoolFault::OutOfMemory),
+    };
     drop(guard);
     gate.after(part.seat(), part.shard());
     answer

@@ -1,20 +1,23 @@
 // The calls without a seat, each behind the lock of one shard. The journal is read to show that it is legal
 // and of the node.
-ghost use Rattle.std.specs.Prelude.{◌≡◌, IfOk, IfErr};
+ghost use Rattle.std.specs.Prelude.{◌≡◌, ◌-◌, ◌^◌, min, IfOk, IfErr};
 ghost use Rattle.presence_journal.specs.History.{IsTop, entry_count, start_of, status};
+ghost use Rattle.presence_journal.specs.TextBytes.{text_bytes};
 ghost use Rattle.shard_pool_lent.specs.Full.{IsFullOf};
 ghost use Rattle.shard_pool_lent.specs.KeptDeltas.{IsToldFrom};
 ghost use Rattle.shard_pool_lent.specs.Hands.{without_receipts};
+ghost use Rattle.shard_pool_lent.specs.Lines.{IsOfLane, IsOfShard};
 ghost use Rattle.shard_pool_lent.specs.ShardFault.TheVariants.{OutOfMemory};
-ghost use Rattle.shard_pool_locks.specs.Unseated.{IsOf, IsBehind, IsMade, IsCutMade, IsCheckpointed, TellsWaiting};
+ghost use Rattle.shard_pool_locks.specs.Unseated.{IsOf, IsBehindOf, IsMade, IsCutMade, IsCheckpointed, TellsWaiting};
 ghost use Rattle.shard_pool_locks.specs.Unseated.{IsMadeWhereFull, IsMadeWhereQuiet};
 
+use crate::due::{DueFrom, is_due};
 use delta_range::Delta;
 use orswot_core_told::Told;
 use presence_base::Replica;
 use presence_journal::{Journal, Step};
 use replica_status::Status;
-use shard_pool_lent::{Lane, Locked, Part, PoolFault, Sub};
+use shard_pool_lent::{Lane, Locked, Part, PoolFault, RowCounts, Sub};
 use std::alloc::Global;
 use std::sync::{Mutex, Wait};
 
@@ -23,7 +26,7 @@ pub fn locked_journal<L: Lane, R: Wait>(
     rt: &R,
     shard: &Mutex<Locked<L>>,
 ) -> Result<Journal, PoolFault>
-    ensures journal { IfOk result (λ j. IsOf L.node j) }
+    ensures journal { IfOk result (λ j. IsOf L.node j × IsOfLane L.begins j) }
     ensures err { IfErr result (λ e. e ≡ OutOfMemory) }
 {
     let guard = shard.lock(rt);
@@ -42,7 +45,7 @@ pub fn locked_heard<L: Lane, R: Wait>(
     replica: Replica,
     now: u64,
 ) -> Result<(), PoolFault>
-    ensures { IsBehind L.node (λ h. IsMade h (Step.Heard replica now) result) }
+    ensures { IsBehindOf (IsOfShard L.node L.begins) (λ h. IsMade h (Step.Heard replica now) result) }
 {
     let mut guard = shard.lock(rt);
     let _journal = guard.journal();
@@ -57,7 +60,7 @@ pub fn locked_tick<L: Lane, R: Wait>(
     shard: &Mutex<Locked<L>>,
     now: u64,
 ) -> Result<(), PoolFault>
-    ensures { IsBehind L.node (λ h. IsMade h (Step.Tick now) result) }
+    ensures { IsBehindOf (IsOfShard L.node L.begins) (λ h. IsMade h (Step.Tick now) result) }
 {
     let mut guard = shard.lock(rt);
     let _journal = guard.journal();
@@ -72,7 +75,7 @@ pub fn locked_permdown<L: Lane, R: Wait>(
     shard: &Mutex<Locked<L>>,
     replica: Replica,
 ) -> Result<(), PoolFault>
-    ensures { IsBehind L.node (λ h. IsMade h (Step.PermDown replica) result) }
+    ensures { IsBehindOf (IsOfShard L.node L.begins) (λ h. IsMade h (Step.PermDown replica) result) }
 {
     let mut guard = shard.lock(rt);
     let _journal = guard.journal();
@@ -86,7 +89,7 @@ pub fn locked_cut<L: Lane, R: Wait>(
     alloc: Global,
     shard: &Mutex<Locked<L>>,
 ) -> Result<Delta, PoolFault>
-    ensures { IsBehind L.node (λ h. IsCutMade h result) }
+    ensures { IsBehindOf (IsOfShard L.node L.begins) (λ h. IsCutMade h result) }
 {
     let mut guard = shard.lock(rt);
     let _journal = guard.journal();
@@ -101,7 +104,7 @@ pub fn locked_merge<L: Lane, R: Wait>(
     shard: &Mutex<Locked<L>>,
     told: &Told,
 ) -> Result<(), PoolFault>
-    ensures { IsBehind L.node (λ h. IsMade h (Step.Merge told.now) result) }
+    ensures { IsBehindOf (IsOfShard L.node L.begins) (λ h. IsMade h (Step.Merge told.now) result) }
 {
     let mut guard = shard.lock(rt);
     let _journal = guard.journal();
@@ -115,7 +118,7 @@ pub fn locked_full<L: Lane, R: Wait>(
     alloc: Global,
     shard: &Mutex<Locked<L>>,
 ) -> Result<Told, PoolFault>
-    ensures full { IfOk result (λ t. IsBehind L.node (λ h. IsFullOf h t)) }
+    ensures full { IfOk result (λ t. IsBehindOf (IsOfShard L.node L.begins) (λ h. IsFullOf h t)) }
     ensures err { IfErr result (λ e. e ≡ OutOfMemory) }
 {
     let guard = shard.lock(rt);
@@ -134,7 +137,7 @@ pub fn locked_told_from<L: Lane, R: Wait>(
     shard: &Mutex<Locked<L>>,
     count: u64,
 ) -> Result<Told, PoolFault>
-    ensures told { IfOk result (λ t. IsBehind L.node (λ h. IsToldFrom h count t)) }
+    ensures told { IfOk result (λ t. IsBehindOf (IsOfShard L.node L.begins) (λ h. IsToldFrom h count t)) }
     ensures err { IfErr result (λ e. e ≡ OutOfMemory) }
 {
     let mut guard = shard.lock(rt);
@@ -148,7 +151,7 @@ pub fn locked_told_from<L: Lane, R: Wait>(
 /// The count up to which the shard covers all of a replica's dots. It is no step.
 #[tactic(auto, using(crate::proofs::Calls::unseated))]
 pub fn locked_top<L: Lane, R: Wait>(rt: &R, shard: &Mutex<Locked<L>>, replica: &Replica) -> u64
-    ensures { IsBehind L.node (λ h. IsTop h replica.now result) }
+    ensures { IsBehindOf (IsOfShard L.node L.begins) (λ h. IsTop h replica.now result) }
 {
     let guard = shard.lock(rt);
     let _journal = guard.journal();
@@ -162,7 +165,7 @@ pub fn locked_status<L: Lane, R: Wait>(
     shard: &Mutex<Locked<L>>,
     replica: &Replica,
 ) -> Status
-    ensures { IsBehind L.node (λ h. result ≡ status h replica.now) }
+    ensures { IsBehindOf (IsOfShard L.node L.begins) (λ h. result ≡ status h replica.now) }
 {
     let guard = shard.lock(rt);
     let _journal = guard.journal();
@@ -176,7 +179,7 @@ pub fn locked_waits<L: Lane, R: Wait>(
     shard: &Mutex<Locked<L>>,
     sub: &Sub,
 ) -> Result<bool, PoolFault>
-    ensures { IsBehind L.node (λ h. TellsWaiting h sub.now result) }
+    ensures { IsBehindOf (IsOfShard L.node L.begins) (λ h. TellsWaiting h sub.now result) }
 {
     let guard = shard.lock(rt);
     let _journal = guard.journal();
@@ -190,7 +193,7 @@ pub fn locked_checkpoint<L: Lane, R: Wait>(
     alloc: Global,
     shard: &Mutex<Locked<L>>,
 ) -> Result<(), PoolFault>
-    ensures { IsBehind L.node (λ h. IsCheckpointed h result) }
+    ensures { IsBehindOf (IsOfShard L.node L.begins) (λ h. IsCheckpointed h result) }
 {
     let mut guard = shard.lock(rt);
     let _journal = guard.journal();
@@ -205,7 +208,7 @@ pub fn locked_checkpoint_where_full<L: Lane, R: Wait>(
     alloc: Global,
     shard: &Mutex<Locked<L>>,
 ) -> Result<bool, PoolFault>
-    ensures { IsBehind L.node (λ h. IsMadeWhereFull h result) }
+    ensures { IsBehindOf (IsOfShard L.node L.begins) (λ h. IsMadeWhereFull h result) }
 {
     let mut guard = shard.lock(rt);
     if !guard.journal().is_full() {
@@ -215,21 +218,20 @@ pub fn locked_checkpoint_where_full<L: Lane, R: Wait>(
     Ok(true)
 }
 
-/// Puts a Start that stands for the journal in its place where the journal has so many entries once the lock is had, its
-/// Start counted, and no item waits for a subscriber that isn't behind. `Ok(false)` means that it isn't so, and that
-/// nothing changed.
+/// Puts a Start that stands for the journal in its place where the journal is due once the lock is had, and no item waits
+/// for a subscriber that isn't behind. `Ok(false)` means that it isn't so, and that nothing changed.
 #[tactic(auto, using(crate::proofs::Calls::where_quiet))]
 pub fn locked_checkpoint_where_quiet<L: Lane, R: Wait>(
     rt: &R,
     alloc: Global,
     shard: &Mutex<Locked<L>>,
-    entries: u64,
+    due: DueFrom,
 ) -> Result<bool, PoolFault>
-    ensures { IsBehind L.node (λ h. IsMadeWhereQuiet entries h result) }
+    ensures { IsBehindOf (IsOfShard L.node L.begins) (λ h. IsMadeWhereQuiet due h result) }
 {
     let mut guard = shard.lock(rt);
     let _journal = guard.journal();
-    if guard.entry_count() < entries {
+    if !is_due(&guard, due) {
         return Ok(false);
     }
     if !guard.is_quiet(alloc)? {
@@ -242,17 +244,33 @@ pub fn locked_checkpoint_where_quiet<L: Lane, R: Wait>(
 /// How many entries the journal has, its Start counted.
 #[tactic(auto, using(crate::proofs::Calls::unseated))]
 pub fn locked_entry_count<L: Lane, R: Wait>(rt: &R, shard: &Mutex<Locked<L>>) -> u64
-    ensures { IsBehind L.node (λ h. result ≡ entry_count h) }
+    ensures { IsBehindOf (IsOfShard L.node L.begins) (λ h. result ≡ entry_count h) }
 {
     let guard = shard.lock(rt);
     let _journal = guard.journal();
     guard.entry_count()
 }
 
+/// The bytes of the texts of the journal's entries, or the most that a count of 64 bits tells.
+#[tactic(auto, using(crate::proofs::Calls::unseated))]
+pub fn locked_text_bytes<L: Lane, R: Wait>(rt: &R, shard: &Mutex<Locked<L>>) -> u64
+    ensures { IsBehindOf (IsOfShard L.node L.begins) (λ h. result ≡ min (text_bytes h) (2 ^ 64 - 1)) }
+{
+    let guard = shard.lock(rt);
+    let _journal = guard.journal();
+    guard.text_bytes()
+}
+
+/// How many rows the shard shows, and how many topics have a subscriber. No contract speaks of it.
+pub fn locked_row_counts<L: Lane, R: Wait>(rt: &R, shard: &Mutex<Locked<L>>) -> RowCounts {
+    let guard = shard.lock(rt);
+    guard.row_counts()
+}
+
 /// The number of the journal's Start.
 #[tactic(auto, using(crate::proofs::Calls::unseated))]
 pub fn locked_start_of<L: Lane, R: Wait>(rt: &R, shard: &Mutex<Locked<L>>) -> u64
-    ensures { IsBehind L.node (λ h. result ≡ (start_of h).number) }
+    ensures { IsBehindOf (IsOfShard L.node L.begins) (λ h. result ≡ (start_of h).number) }
 {
     let guard = shard.lock(rt);
     let journal = guard.journal();
@@ -262,7 +280,7 @@ pub fn locked_start_of<L: Lane, R: Wait>(rt: &R, shard: &Mutex<Locked<L>>) -> u6
 /// Drops the receipts of a seat's part up to the Start of its shard's journal, those that have no entry any more, and gives
 /// the number of that Start.
 pub fn locked_trim<L: Lane, R: Wait>(rt: &R, shard: &Mutex<Locked<L>>, part: &mut Part<L>) -> u64
-    ensures start { IsBehind L.node (λ h. result ≡ (start_of h).number) }
+    ensures start { IsBehindOf (IsOfShard L.node L.begins) (λ h. result ≡ (start_of h).number) }
     ensures forgets { part.new ≡ without_receipts part.old result }
 {
     let start = locked_start_of(rt, shard);

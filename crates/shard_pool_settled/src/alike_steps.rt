@@ -1,7 +1,5 @@
-// Whether two steps are alike. Metas and payloads are compared by their compact text, which takes memory.
-ghost use Rattle.std.specs.Prelude.{◌≡◌, false, IfOk};
-ghost use Rattle.serde_json.specs.View.{view};
-ghost use Rattle.serde_json.specs.Written.{has_float};
+// Whether two steps are alike. Metas and payloads are compared by their compact text.
+ghost use Rattle.std.specs.Prelude.{◌≡◌};
 ghost use Rattle.presence_base.specs.Order.{same_text};
 ghost use Rattle.shard_pool_settled.specs.Alike.{same_value, same_step, is_track, is_update, is_untrack, is_untrack_all};
 ghost use Rattle.shard_pool_settled.specs.Alike.{is_list, is_get, is_subscribe, is_take, is_unsubscribe, is_shout};
@@ -9,30 +7,24 @@ ghost use Rattle.shard_pool_settled.specs.Alike.{is_heard, is_tick, is_permdown,
 
 use presence_base::{Key, Meta, Replica, Topic};
 use presence_journal::{Payload, Step, TakeLimit};
-use serde_json::Value;
-use std::alloc::{AllocError, Global};
 
-// Whether two values without fractions have the same text.
-fn are_values_alike(alloc: Global, a: &Value, b: &Value) -> Result<bool, AllocError>
-    requires first { has_float (view a.now) ≡ false }
-    requires second { has_float (view b.now) ≡ false }
-    ensures { IfOk result (λ r. r ≡ same_value (view a.now) (view b.now)) }
+fn are_texts_alike(a: &str, b: &str) -> bool
+    ensures { result ≡ same_text a.now b.now }
 {
-    let a = a.to_string(alloc)?;
-    let b = b.to_string(alloc)?;
-    Ok(a.as_bytes().cmp(b.as_bytes()).is_eq())
+    a.as_bytes().cmp(b.as_bytes()).is_eq()
 }
 
-fn are_metas_alike(alloc: Global, a: &Meta, b: &Meta) -> Result<bool, AllocError>
-    ensures { IfOk result (λ r. r ≡ same_value a.now b.now) }
+fn are_metas_alike(a: &Meta, b: &Meta) -> bool
+    ensures { result ≡ same_value a.now b.now }
 {
-    are_values_alike(alloc, a.as_value(), b.as_value())
+    let (a, b) = (a.text(), b.text());
+    are_texts_alike(a, b)
 }
 
-fn are_payloads_alike(alloc: Global, a: &Payload, b: &Payload) -> Result<bool, AllocError>
-    ensures { IfOk result (λ r. r ≡ same_value a.now b.now) }
+fn are_payloads_alike(a: &Payload, b: &Payload) -> bool
+    ensures { result ≡ same_value a.now b.now }
 {
-    are_values_alike(alloc, a.as_json().as_value(), b.as_json().as_value())
+    are_texts_alike(a.text(), b.text())
 }
 
 fn are_topics_alike(a: &Topic, b: &Topic) -> bool
@@ -47,15 +39,8 @@ fn are_keys_alike(a: &Key, b: &Key) -> bool
     a.cmp(b).is_eq()
 }
 
-fn is_that_track(
-    alloc: Global,
-    pid: u64,
-    topic: &Topic,
-    key: &Key,
-    meta: &Meta,
-    step: &Step,
-) -> Result<bool, AllocError>
-    ensures { IfOk result (λ r. r ≡ is_track pid topic.now key.now meta.now step.now) }
+fn is_that_track(pid: u64, topic: &Topic, key: &Key, meta: &Meta, step: &Step) -> bool
+    ensures { result ≡ is_track pid topic.now key.now meta.now step.now }
 {
     let Step::Track {
         pid: p,
@@ -64,25 +49,13 @@ fn is_that_track(
         meta: m,
     } = step
     else {
-        return Ok(false);
+        return false;
     };
-    Ok(
-        *p == pid
-            && are_topics_alike(t, topic)
-            && are_keys_alike(k, key)
-            && are_metas_alike(alloc, m, meta)?,
-    )
+    *p == pid && are_topics_alike(t, topic) && are_keys_alike(k, key) && are_metas_alike(m, meta)
 }
 
-fn is_that_update(
-    alloc: Global,
-    pid: u64,
-    topic: &Topic,
-    key: &Key,
-    meta: &Meta,
-    step: &Step,
-) -> Result<bool, AllocError>
-    ensures { IfOk result (λ r. r ≡ is_update pid topic.now key.now meta.now step.now) }
+fn is_that_update(pid: u64, topic: &Topic, key: &Key, meta: &Meta, step: &Step) -> bool
+    ensures { result ≡ is_update pid topic.now key.now meta.now step.now }
 {
     let Step::Update {
         pid: p,
@@ -91,14 +64,9 @@ fn is_that_update(
         meta: m,
     } = step
     else {
-        return Ok(false);
+        return false;
     };
-    Ok(
-        *p == pid
-            && are_topics_alike(t, topic)
-            && are_keys_alike(k, key)
-            && are_metas_alike(alloc, m, meta)?,
-    )
+    *p == pid && are_topics_alike(t, topic) && are_keys_alike(k, key) && are_metas_alike(m, meta)
 }
 
 fn is_that_untrack(pid: u64, topic: &Topic, key: &Key, step: &Step) -> bool
@@ -171,22 +139,17 @@ fn is_that_unsubscribe(subscriber: u64, step: &Step) -> bool
     }
 }
 
-fn is_that_shout(
-    alloc: Global,
-    topic: &Topic,
-    payload: &Payload,
-    step: &Step,
-) -> Result<bool, AllocError>
-    ensures { IfOk result (λ r. r ≡ is_shout topic.now payload.now step.now) }
+fn is_that_shout(topic: &Topic, payload: &Payload, step: &Step) -> bool
+    ensures { result ≡ is_shout topic.now payload.now step.now }
 {
     let Step::Shout {
         topic: t,
         payload: p,
     } = step
     else {
-        return Ok(false);
+        return false;
     };
-    Ok(are_topics_alike(t, topic) && are_payloads_alike(alloc, p, payload)?)
+    are_topics_alike(t, topic) && are_payloads_alike(p, payload)
 }
 
 fn is_that_heard(replica: &Replica, now: u64, step: &Step) -> bool
@@ -227,8 +190,8 @@ fn is_a_cut(step: &Step) -> bool
 
 // Whether the steps are of one kind, for the same caller, texts, numbers and values. A merge, which has no
 // seat, is like no step.
-pub(crate) fn are_steps_alike(alloc: Global, a: &Step, b: &Step) -> Result<bool, AllocError>
-    ensures { IfOk result (λ r. r ≡ same_step a.now b.now) }
+pub(crate) fn are_steps_alike(a: &Step, b: &Step) -> bool
+    ensures { result ≡ same_step a.now b.now }
 {
     match a {
         Step::Track {
@@ -236,25 +199,25 @@ pub(crate) fn are_steps_alike(alloc: Global, a: &Step, b: &Step) -> Result<bool,
             topic,
             key,
             meta,
-        } => is_that_track(alloc, *pid, topic, key, meta, b),
+        } => is_that_track(*pid, topic, key, meta, b),
         Step::Update {
             pid,
             topic,
             key,
             meta,
-        } => is_that_update(alloc, *pid, topic, key, meta, b),
-        Step::Untrack { pid, topic, key } => Ok(is_that_untrack(*pid, topic, key, b)),
-        Step::UntrackAll { pid, topic } => Ok(is_that_untrack_all(*pid, topic, b)),
-        Step::List { topic } => Ok(is_that_list(topic, b)),
-        Step::Get { topic, key } => Ok(is_that_get(topic, key, b)),
-        Step::Subscribe { topic } => Ok(is_that_subscribe(topic, b)),
-        Step::Take { subscriber, max } => Ok(is_that_take(*subscriber, max, b)),
-        Step::Unsubscribe { subscriber } => Ok(is_that_unsubscribe(*subscriber, b)),
-        Step::Shout { topic, payload } => is_that_shout(alloc, topic, payload, b),
-        Step::Heard { replica, now } => Ok(is_that_heard(replica, *now, b)),
-        Step::Tick { now } => Ok(is_that_tick(*now, b)),
-        Step::PermDown { replica } => Ok(is_that_permdown(replica, b)),
-        Step::Cut => Ok(is_a_cut(b)),
-        Step::Merge { told: _ } => Ok(false),
+        } => is_that_update(*pid, topic, key, meta, b),
+        Step::Untrack { pid, topic, key } => is_that_untrack(*pid, topic, key, b),
+        Step::UntrackAll { pid, topic } => is_that_untrack_all(*pid, topic, b),
+        Step::List { topic } => is_that_list(topic, b),
+        Step::Get { topic, key } => is_that_get(topic, key, b),
+        Step::Subscribe { topic } => is_that_subscribe(topic, b),
+        Step::Take { subscriber, max } => is_that_take(*subscriber, max, b),
+        Step::Unsubscribe { subscriber } => is_that_unsubscribe(*subscriber, b),
+        Step::Shout { topic, payload } => is_that_shout(topic, payload, b),
+        Step::Heard { replica, now } => is_that_heard(replica, *now, b),
+        Step::Tick { now } => is_that_tick(*now, b),
+        Step::PermDown { replica } => is_that_permdown(replica, b),
+        Step::Cut => is_a_cut(b),
+        Step::Merge { told: _ } => false,
     }
 }

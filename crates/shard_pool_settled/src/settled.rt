@@ -8,76 +8,55 @@ use crate::fault::SettleFault;
 use crate::receipt::Receipt;
 use crate::seated::{numbered_entry, seated_entries};
 use presence_journal::{Entry, Journal};
-use std::alloc::{AllocError, Global};
+use std::alloc::Global;
 
 // Whether the entry has the seat, and the step and outcome of its receipt.
-fn is_its_entry(
-    alloc: Global,
-    seat: u64,
-    receipt: &Receipt,
-    entry: &Entry,
-) -> Result<bool, AllocError>
-    ensures { IfOk result (λ r. r ≡ is_entry seat receipt.now (Some entry.now)) }
+fn is_its_entry(seat: u64, receipt: &Receipt, entry: &Entry) -> bool
+    ensures { result ≡ is_entry seat receipt.now (Some entry.now) }
 {
     let Some(by) = entry.seat else {
-        return Ok(false);
+        return false;
     };
-    Ok(
-        u64::from(by) == seat
-            && are_steps_alike(alloc, &receipt.step, &entry.step)?
-            && are_outcomes_alike(&receipt.outcome, &entry.outcome),
-    )
+    u64::from(by) == seat
+        && are_steps_alike(&receipt.step, &entry.step)
+        && are_outcomes_alike(&receipt.outcome, &entry.outcome)
 }
 
 // Whether the receipt has its entry.
-fn has_entry(
-    alloc: Global,
-    journals: &[Journal],
-    seat: u64,
-    receipt: &Receipt,
-) -> Result<bool, AllocError>
-    ensures { IfOk result (λ r. r ≡ is_told journals.now seat receipt.now) }
+fn has_entry(journals: &[Journal], seat: u64, receipt: &Receipt) -> bool
+    ensures { result ≡ is_told journals.now seat receipt.now }
 {
     let Some(journal) = journals.get(receipt.shard as usize) else {
-        return Ok(false);
+        return false;
     };
     let Some(entry) = numbered_entry(journal, receipt.number) else {
-        return Ok(false);
+        return false;
     };
-    is_its_entry(alloc, seat, receipt, entry)
+    is_its_entry(seat, receipt, entry)
 }
 
 // Whether each receipt of a seat has its entry.
-fn have_entries(
-    alloc: Global,
-    journals: &[Journal],
-    seat: u64,
-    receipts: &[Receipt],
-) -> Result<bool, AllocError>
-    ensures { IfOk result (λ r. r ≡ all_told journals.now seat receipts.now) }
+fn have_entries(journals: &[Journal], seat: u64, receipts: &[Receipt]) -> bool
+    ensures { result ≡ all_told journals.now seat receipts.now }
 {
     for receipt in receipts {
-        if !has_entry(alloc, journals, seat, receipt)? {
-            return Ok(false);
+        if !has_entry(journals, seat, receipt) {
+            return false;
         }
     }
-    Ok(true)
+    true
 }
 
 // Whether each receipt of each seat has its entry.
-fn all_have_entries(
-    alloc: Global,
-    journals: &[Journal],
-    receipts: &[Vec<Receipt>],
-) -> Result<bool, AllocError>
-    ensures { IfOk result (λ r. r ≡ seats_told journals.now 0 (map (λ v. v.items) receipts.now)) }
+fn all_have_entries(journals: &[Journal], receipts: &[Vec<Receipt>]) -> bool
+    ensures { result ≡ seats_told journals.now 0 (map (λ v. v.items) receipts.now) }
 {
     for (seat, of_seat) in receipts.iter().enumerate() {
-        if !have_entries(alloc, journals, seat as u64, of_seat.as_slice())? {
-            return Ok(false);
+        if !have_entries(journals, seat as u64, of_seat.as_slice()) {
+            return false;
         }
     }
-    Ok(true)
+    true
 }
 
 // Whether the numbers at a shard rise.
@@ -160,10 +139,10 @@ fn all_are_counted(journals: &[Journal], receipts: &[Vec<Receipt>]) -> bool
 /// each receipt has its entry, the numbers of each seat rise at each shard, and each shard has as many
 /// seated entries above its Start as there are receipts of it.
 ///
-/// It refuses in this order: `NoSuchEntry`, `CountDiffers`; `OutOfMemory` at any point, since texts are
-/// compared. It looks at the lists alone: it is another's to know that no seat is missing.
+/// It refuses in this order: `NoSuchEntry`, `CountDiffers`; it
+/// takes no memory. It looks at the lists alone: it is another's to know that no seat is missing.
 pub fn check_receipts(
-    alloc: Global,
+    _alloc: Global,
     journals: &[Journal],
     receipts: &[Vec<Receipt>],
 ) -> Result<(), SettleFault>
@@ -173,8 +152,9 @@ pub fn check_receipts(
     ensures differs { result ≡ Err SettleFault.CountDiffers
         → CountsDiffer journals.now (map (λ v. v.items) receipts.now) }
     ensures missing { result ≢ Err SettleFault.MissingSeat }
+    ensures memory { result ≢ Err SettleFault.OutOfMemory }
 {
-    if !all_have_entries(alloc, journals, receipts)? {
+    if !all_have_entries(journals, receipts) {
         return Err(SettleFault::NoSuchEntry);
     }
     if !all_rise(journals.len(), receipts) {

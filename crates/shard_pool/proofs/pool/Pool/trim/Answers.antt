@@ -9,6 +9,6 @@ returns g c =
     let b = c.locked_trim-start-2 in
     let d = c.locked_trim-start-3 in
     let e = c.locked_trim-start-4 in
-    trimmed c.args.self.now.own.name c.args.seat.now
+    trimmed c.args.self.now.own.name g.A.Lane.begins g.B.Lane.begins g.C.Lane.begins g.D.Lane.begins c.args.seat.now
     (record { number = c.seat.inside.number; first = a.new.part; second = b.new.part; third = d.new.part; fourth = e.new.part })
     a.result b.result d.result e.result (search rules) (search rules) (search rules) (search rules) (search rules)
