@@ -50,7 +50,7 @@ fn value_of_row(alloc: Global, dot: &Dot, row: &Row) -> Result<Value, AllocError
     let topic = row.topic.as_str();
     let key = row.key.as_str();
     let pid = row.pid;
-    let meta = row.meta.as_value();
+    let meta = row.meta.to_value(alloc)?;
     let prev = value_of_prev(alloc, &row.prev)?;
     json!(in alloc; [name, incarnation, count, topic, key, pid, meta, prev])
 }

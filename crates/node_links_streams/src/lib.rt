@@ -5,6 +5,7 @@
 
 mod bytes;
 mod counts;
+pub mod laws;
 mod lines;
 
 pub use lines::{read_line, write_line};

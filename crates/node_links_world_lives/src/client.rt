@@ -1,11 +1,12 @@
 // One call of a shard for each step of a caller, which tells whether the step was taken.
 ghost use Rattle.std.specs.Prelude.{◌≡◌, ◌≤◌, ◌^◌, IfOk, OnErr, IsTrue};
-ghost use Rattle.presence_journal.specs.Limits.{is_payload, is_take_limit};
+ghost use Rattle.presence_journal.specs.Limits.{is_take_limit};
 ghost use Rattle.presence_journal_data.specs.declared.step.Step.TheVariants as steps_are;
 ghost use Rattle.node_links_world_lives.specs.Taken.{Took};
 
 use crate::refused::refused;
-use presence_base::{Json, Key, Meta, Topic};
+use presence_base::{Key, Meta, Topic};
+use presence_journal::Payload;
 use std::alloc::{AllocError, Global};
 use tracker_shard::{Shard, Sub};
 
@@ -123,13 +124,12 @@ pub(crate) fn shout(
     shard: &mut Shard,
     alloc: Global,
     topic: &Topic,
-    payload: &Json,
+    payload: &Payload,
 ) -> Result<bool, AllocError>
-    requires { IsTrue (is_payload payload.now) }
     ensures took { IfOk result (Took shard.old shard.new (steps_are.Shout topic.now payload.now)) }
     ensures same { OnErr result (shard.new ≡ shard.old) }
 {
-    match shard.shout(alloc, None, topic, payload) {
+    match shard.shout_shared(alloc, None, topic, payload) {
         Ok(_) => Ok(true),
         Err(fault) => refused(fault),
     }

@@ -62,7 +62,7 @@ pub(crate) fn take(shard: &mut Shard, alloc: Global, step: &Step) -> Result<bool
         Step::Subscribe { topic } => client::subscribe(shard, alloc, topic),
         Step::Take { subscriber, max } => client::take(shard, alloc, *subscriber, max.get()),
         Step::Unsubscribe { subscriber } => client::unsubscribe(shard, alloc, *subscriber),
-        Step::Shout { topic, payload } => client::shout(shard, alloc, topic, payload.as_json()),
+        Step::Shout { topic, payload } => client::shout(shard, alloc, topic, payload),
         Step::Merge { told } => merge(shard, alloc, told),
         Step::Heard { replica, now } => heard(shard, alloc, *replica, *now),
         Step::Tick { now } => tick(shard, alloc, *now),

@@ -52,11 +52,7 @@ fn read_row(row: &(Dot, Row))
     ensures texts { are_texts row.now.1 ≡ true }
 {
     let _name = row.0.replica.name.as_str();
-    let (_topic, _key, _meta) = (
-        row.1.topic.as_str(),
-        row.1.key.as_str(),
-        row.1.meta.as_value(),
-    );
+    let (_topic, _key, _meta) = (row.1.topic.as_str(), row.1.key.as_str(), row.1.meta.text());
 }
 
 // Reads the names and texts of rows, whose types keep their limits.

@@ -120,6 +120,38 @@ ENTRIES = record {
   label = codes "shard";
 }
 
+abbrev pub BYTES : Naming
+BYTES = record {
+  name = codes "presence_node_journal_bytes";
+  help = codes "Bytes of the texts of the journal's entries since its last checkpoint.";
+  kind = codes "gauge";
+  label = codes "shard";
+}
+
+abbrev pub OWN_ROWS : Naming
+OWN_ROWS = record {
+  name = codes "presence_node_own_rows";
+  help = codes "Rows that are shown of sessions of this node.";
+  kind = codes "gauge";
+  label = codes "shard";
+}
+
+abbrev pub OTHER_ROWS : Naming
+OTHER_ROWS = record {
+  name = codes "presence_node_other_rows";
+  help = codes "Rows that are shown of sessions of other nodes.";
+  kind = codes "gauge";
+  label = codes "shard";
+}
+
+abbrev pub TOPICS : Naming
+TOPICS = record {
+  name = codes "presence_node_topics";
+  help = codes "Topics that a session of this node has joined.";
+  kind = codes "gauge";
+  label = codes "shard";
+}
+
 abbrev pub CHECKPOINTS : Naming
 CHECKPOINTS = record {
   name = codes "presence_node_checkpoints_total";
@@ -230,8 +262,32 @@ server_behind text t = checkpoints_behind (clients_behind text t) t
 abbrev pub entries_behind : List ℕ → ShardsTold → List ℕ
 entries_behind text s = with_numbered text ENTRIES s.entries.items
 
+abbrev pub bytes_behind : List ℕ → ShardsTold → List ℕ
+bytes_behind text s = with_numbered text BYTES s.text_bytes.items
+
+abbrev pub own_rows_behind : List ℕ → ShardsTold → List ℕ
+own_rows_behind text s = with_numbered text OWN_ROWS s.own_rows.items
+
+abbrev pub other_rows_behind : List ℕ → ShardsTold → List ℕ
+other_rows_behind text s = with_numbered text OTHER_ROWS s.other_rows.items
+
+abbrev pub topics_behind : List ℕ → ShardsTold → List ℕ
+topics_behind text s = with_numbered text TOPICS s.topics.items
+
+abbrev pub rows_behind : List ℕ → ShardsTold → List ℕ
+rows_behind text s = other_rows_behind (own_rows_behind text s) s
+
+abbrev pub shown_behind : List ℕ → ShardsTold → List ℕ
+shown_behind text s = topics_behind (rows_behind text s) s
+
+abbrev pub journals_behind : List ℕ → ShardsTold → List ℕ
+journals_behind text s = bytes_behind (entries_behind text s) s
+
+abbrev pub shards_behind : List ℕ → ShardsTold → List ℕ
+shards_behind text s = shown_behind (journals_behind text s) s
+
 abbrev pub nodes_behind : List ℕ → ShardsTold → LinksTold → List ℕ
-nodes_behind text s l = links_behind (entries_behind text s) l
+nodes_behind text s l = links_behind (shards_behind text s) l
 
 -- all that is told
 abbrev pub metrics_lines : Told → ShardsTold → LinksTold → List ℕ

@@ -99,6 +99,34 @@ pub(crate) const ENTRIES: Family = Family {
     label: "shard",
 };
 
+pub(crate) const BYTES: Family = Family {
+    name: "presence_node_journal_bytes",
+    help: "Bytes of the texts of the journal's entries since its last checkpoint.",
+    kind: "gauge",
+    label: "shard",
+};
+
+pub(crate) const OWN_ROWS: Family = Family {
+    name: "presence_node_own_rows",
+    help: "Rows that are shown of sessions of this node.",
+    kind: "gauge",
+    label: "shard",
+};
+
+pub(crate) const OTHER_ROWS: Family = Family {
+    name: "presence_node_other_rows",
+    help: "Rows that are shown of sessions of other nodes.",
+    kind: "gauge",
+    label: "shard",
+};
+
+pub(crate) const TOPICS: Family = Family {
+    name: "presence_node_topics",
+    help: "Topics that a session of this node has joined.",
+    kind: "gauge",
+    label: "shard",
+};
+
 pub(crate) const CHECKPOINTS: Family = Family {
     name: "presence_node_checkpoints_total",
     help: "Checkpoints, by why they were made.",

@@ -1,7 +1,7 @@
 //! All counts as a text.
 ghost use Rattle.std.specs.Prelude.{◌≡◌, IfOk, string_bytes};
 ghost use Rattle.presence_node_counts.specs.Lines.{Leaves};
-ghost use Rattle.presence_node_counts.specs.Metrics.{accepted_behind, calls_behind, checkpoints_behind, clients_behind, connections_behind, ends_behind, entries_behind, links_behind, links_up_behind, metrics_lines, nodes_behind, open_behind, requests_behind, server_behind, sessions_behind, taken_behind, waiting_behind};
+ghost use Rattle.presence_node_counts.specs.Metrics.{accepted_behind, bytes_behind, calls_behind, checkpoints_behind, clients_behind, connections_behind, ends_behind, entries_behind, journals_behind, links_behind, links_up_behind, metrics_lines, nodes_behind, open_behind, other_rows_behind, own_rows_behind, requests_behind, rows_behind, server_behind, sessions_behind, shards_behind, shown_behind, taken_behind, topics_behind, waiting_behind};
 
 use crate::families::*;
 use crate::text::{count_text, named_text, numbered_text};
@@ -207,6 +207,66 @@ fn entries_text(alloc: Global, text: &mut String, shards: &ShardsTold) -> Result
     numbered_text(alloc, text, &ENTRIES, shards.entries.as_slice())
 }
 
+// The bytes of their texts.
+fn bytes_text(alloc: Global, text: &mut String, shards: &ShardsTold) -> Result<(), AllocError>
+    ensures { Leaves (string_bytes text.new) (bytes_behind (string_bytes text.old) shards.now) result }
+{
+    numbered_text(alloc, text, &BYTES, shards.text_bytes.as_slice())
+}
+
+// The rows that each shard shows of this node's sessions.
+fn own_rows_text(alloc: Global, text: &mut String, shards: &ShardsTold) -> Result<(), AllocError>
+    ensures { Leaves (string_bytes text.new) (own_rows_behind (string_bytes text.old) shards.now) result }
+{
+    numbered_text(alloc, text, &OWN_ROWS, shards.own_rows.as_slice())
+}
+
+// Those of other nodes.
+fn other_rows_text(alloc: Global, text: &mut String, shards: &ShardsTold) -> Result<(), AllocError>
+    ensures { Leaves (string_bytes text.new) (other_rows_behind (string_bytes text.old) shards.now) result }
+{
+    numbered_text(alloc, text, &OTHER_ROWS, shards.other_rows.as_slice())
+}
+
+// The joined topics of each shard.
+fn topics_text(alloc: Global, text: &mut String, shards: &ShardsTold) -> Result<(), AllocError>
+    ensures { Leaves (string_bytes text.new) (topics_behind (string_bytes text.old) shards.now) result }
+{
+    numbered_text(alloc, text, &TOPICS, shards.topics.as_slice())
+}
+
+// The rows that each shard shows.
+fn rows_text(alloc: Global, text: &mut String, shards: &ShardsTold) -> Result<(), AllocError>
+    ensures { Leaves (string_bytes text.new) (rows_behind (string_bytes text.old) shards.now) result }
+{
+    own_rows_text(alloc, text, shards)?;
+    other_rows_text(alloc, text, shards)
+}
+
+// The rows that each shard shows, and its topics.
+fn shown_text(alloc: Global, text: &mut String, shards: &ShardsTold) -> Result<(), AllocError>
+    ensures { Leaves (string_bytes text.new) (shown_behind (string_bytes text.old) shards.now) result }
+{
+    rows_text(alloc, text, shards)?;
+    topics_text(alloc, text, shards)
+}
+
+// Each shard's journal.
+fn journals_text(alloc: Global, text: &mut String, shards: &ShardsTold) -> Result<(), AllocError>
+    ensures { Leaves (string_bytes text.new) (journals_behind (string_bytes text.old) shards.now) result }
+{
+    entries_text(alloc, text, shards)?;
+    bytes_text(alloc, text, shards)
+}
+
+// What there is at each shard.
+fn shards_text(alloc: Global, text: &mut String, shards: &ShardsTold) -> Result<(), AllocError>
+    ensures { Leaves (string_bytes text.new) (shards_behind (string_bytes text.old) shards.now) result }
+{
+    journals_text(alloc, text, shards)?;
+    shown_text(alloc, text, shards)
+}
+
 // What there is at each shard, and the links.
 fn nodes_text(
     alloc: Global,
@@ -216,7 +276,7 @@ fn nodes_text(
 ) -> Result<(), AllocError>
     ensures { Leaves (string_bytes text.new) (nodes_behind (string_bytes text.old) shards.now links.now) result }
 {
-    entries_text(alloc, text, shards)?;
+    shards_text(alloc, text, shards)?;
     links_text(alloc, text, links)
 }
 

@@ -69,4 +69,12 @@ pub struct LinksTold {
 pub struct ShardsTold {
     /// The entries of its journal.
     pub entries: Vec<u64>,
+    /// The bytes of the texts of these.
+    pub text_bytes: Vec<u64>,
+    /// The rows that it shows of this node's sessions.
+    pub own_rows: Vec<u64>,
+    /// The rows that it shows of other nodes.
+    pub other_rows: Vec<u64>,
+    /// Its topics that a session of this node has joined.
+    pub topics: Vec<u64>,
 }

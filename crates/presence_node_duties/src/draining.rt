@@ -4,12 +4,15 @@ ghost use Rattle.std.specs.Prelude.{◌<◌};
 
 use crate::server::Server;
 use presence_node_counts::Checkpoint;
-use shard_pool::{Lane, PoolFault};
+use shard_pool::{DueFrom, Lane, PoolFault};
 use std::sync::Wait;
 use std::sync::atomic::Ordering;
 
 /// A journal with so many entries is due for a checkpoint: three quarters of those that it may have.
 const DUE_ENTRIES: u64 = 196_608;
+
+/// A journal whose entries keep so many bytes of texts is due too: three quarters of 64 MiB.
+const DUE_TEXT_BYTES: u64 = 50_331_648;
 
 /// The journals are looked at once in so long, in milliseconds.
 const LOOK_MILLISECONDS: u64 = 5;
@@ -127,13 +130,25 @@ impl Drain {
     }
 }
 
+// Whether a shard's journal is due for a checkpoint.
+fn is_due_at<R: Wait, H, A: Lane, B: Lane, C: Lane, D: Lane>(
+    rt: &R,
+    server: &Server<'_, H, A, B, C, D>,
+    shard: u32,
+) -> bool
+    requires { shard < server.now.pool.shards }
+{
+    server.pool.entry_count(rt, shard) >= DUE_ENTRIES
+        || server.pool.text_bytes(rt, shard) >= DUE_TEXT_BYTES
+}
+
 /// Whether a journal is due for a checkpoint.
 pub(crate) fn is_due<R: Wait, H, A: Lane, B: Lane, C: Lane, D: Lane>(
     rt: &R,
     server: &Server<'_, H, A, B, C, D>,
 ) -> bool {
     for shard in 0..server.links.shards() {
-        if server.pool.entry_count(rt, shard) >= DUE_ENTRIES {
+        if is_due_at(rt, server, shard) {
             return true;
         }
     }
@@ -182,16 +197,20 @@ fn make_at<R: Wait, H, A: Lane, B: Lane, C: Lane, D: Lane>(
 ) -> Result<bool, PoolFault>
     requires { shard < server.now.pool.shards }
 {
-    if server.pool.entry_count(rt, shard) < DUE_ENTRIES {
+    if !is_due_at(rt, server, shard) {
         return Ok(true);
     }
     let is_made = if is_over {
         server.pool.checkpoint(rt, server.alloc, shard)?;
         true
     } else {
+        let due = DueFrom {
+            entries: DUE_ENTRIES,
+            text_bytes: DUE_TEXT_BYTES,
+        };
         server
             .pool
-            .checkpoint_where_quiet(rt, server.alloc, shard, DUE_ENTRIES)?
+            .checkpoint_where_quiet(rt, server.alloc, shard, due)?
     };
     if is_made {
         server.counts.made(Checkpoint::Due);

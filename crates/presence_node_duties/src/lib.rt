@@ -9,6 +9,7 @@ mod caller;
 mod door;
 mod draining;
 mod ends;
+pub mod laws;
 mod neighbours;
 mod place;
 mod pulse;

@@ -17,17 +17,32 @@ pub(crate) struct Pulse<'a, 'b, R, H, A: Lane, B: Lane, C: Lane, D: Lane> {
     pub server: &'a Server<'b, H, A, B, C, D>,
 }
 
-// What there is at each shard: its lock is taken once.
+// What there is at each shard: its lock is taken three times, for a moment each.
 fn shards_of<R: Wait, H, A: Lane, B: Lane, C: Lane, D: Lane>(
     alloc: Global,
     rt: &R,
     server: &Server<'_, H, A, B, C, D>,
 ) -> Result<ShardsTold, AllocError> {
     let mut entries = Vec::new(alloc);
+    let mut text_bytes = Vec::new(alloc);
+    let mut own_rows = Vec::new(alloc);
+    let mut other_rows = Vec::new(alloc);
+    let mut topics = Vec::new(alloc);
     for shard in 0..server.links.shards() {
         entries.push(server.pool.entry_count(rt, shard))?;
+        text_bytes.push(server.pool.text_bytes(rt, shard))?;
+        let rows = server.pool.row_counts(rt, shard);
+        own_rows.push(rows.own)?;
+        other_rows.push(rows.others)?;
+        topics.push(rows.topics)?;
     }
-    Ok(ShardsTold { entries })
+    Ok(ShardsTold {
+        entries,
+        text_bytes,
+        own_rows,
+        other_rows,
+        topics,
+    })
 }
 
 // What the links have counted.

@@ -7,6 +7,7 @@
 mod front;
 mod greeting;
 mod guests;
+pub mod laws;
 mod pace;
 mod seating;
 

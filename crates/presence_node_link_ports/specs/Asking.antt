@@ -1,12 +1,11 @@
 -- A port over a pool: the call of the pool that each question of a link is, and what a period asks of a shard.
-use Rattle.std.specs.Prelude.{◌≡◌, ◌⊎◌, ◌<◌, ◌==◌, ◌&&◌, ◌||◌, Bool, nat_lt, ℕ, List, Option, Some, None, cond, Result, Ok, Err, IfErr}
+use Rattle.std.specs.Prelude.{◌≡◌, ◌⊎◌, ◌<◌, ◌==◌, ◌&&◌, ◌||◌, Bool, nat_lt, ℕ, List, Option, Some, None, cond, Result, Ok, Err}
 use Rattle.std.specs.List.{list_any}
 use Rattle.presence_base.specs.declared.dots.Dot.{Dot}
 use Rattle.presence_base.specs.declared.dots.Replica.{Replica}
 use Rattle.presence_base.specs.Order.{same_replica}
 use Rattle.orswot_core_told.specs.Telling.{ToldValue}
 use Rattle.delta_range.specs.Deltas.{DeltaValue, telling}
-use Rattle.replica_status.specs.declared.status.Status.{Status}
 use Rattle.presence_journal_data.specs.declared.step.Step.{Step}
 use Rattle.presence_journal_data.specs.declared.step.Step.TheVariants as steps_are
 use Rattle.presence_journal.specs.History.{History, IsTop, status as status_in}
@@ -14,7 +13,7 @@ use Rattle.shard_pool.specs.Full.{IsFullOf}
 use Rattle.shard_pool.specs.KeptDeltas.{IsToldFrom}
 use Rattle.shard_pool.specs.ShardFault.{ShardFault}
 use Rattle.shard_pool.specs.ShardFault.TheVariants as faults
-use Rattle.shard_pool.specs.Unseated.{IsBehind, IsMade, IsCutMade}
+use Rattle.shard_pool.specs.Unseated.{IsBehindOf, IsMade, IsMadeWhereFull}
 use Rattle.node_links_lines.specs.declared.lines.Line.{Line}
 use Rattle.node_links_lines.specs.declared.lines.Line.TheVariants as lines
 use Rattle.node_links_acts.specs.Asks.{Ask, Answer, status, heard, merge, permdown, top, told_from, full}
@@ -36,36 +35,41 @@ pub record HasNoShard {A : Type 0} (shards shard : ℕ) (answer : Result A ActFa
   pub none : shard < shards → ⊥
   pub refused : answer ≡ Err acts.ShardFull
 
--- The pool made its call of this step: some legal history of its node stands behind the reply, of which the answer tells.
-pub record Made (node : List ℕ) (step : Step) (answer : Result (Unit {0}) ActFault) : Type 0 where
+-- The pool made its call of this step at a shard: some legal history of it stands behind the reply, of which the answer
+-- tells. `Here` tells which histories are those of the shard.
+pub record Made (Here : History → Type 0) (step : Step) (answer : Result (Unit {0}) ActFault) : Type 0 where
   pub reply : Result (Unit {0}) ShardFault
-  pub behind : IsBehind node (λ h. IsMade h step reply)
+  pub behind : IsBehindOf Here (λ h. IsMade h step reply)
   pub told : answer ≡ told_of reply
 
--- what is read without a step, of some legal history of the node
-abbrev pub Reads : {A : Type 0} → List ℕ → (History → A → Type 0) → Result A ActFault → Type 0
-Reads node Is (Ok value) = IsBehind node (λ h. Is h value)
-Reads node Is (Err fault) = ⊥
+-- there is room at a shard: a checkpoint was made of its full journal, or it isn't full any more
+abbrev pub HasRoom : (History → Type 0) → Type 0
+HasRoom Here = (made : Bool) × IsBehindOf Here (λ h. IsMadeWhereFull h (Ok made))
 
--- all that is known, unless there is no memory
-abbrev pub TellsAll : List ℕ → Result ToldValue ActFault → Type 0
-TellsAll node (Ok told) = IsBehind node (λ h. IsFullOf h told)
-TellsAll node (Err fault) = fault ≡ acts.OutOfMemory
+-- what is read without a step, of some legal history of the shard
+abbrev pub Reads : {A : Type 0} → (History → Type 0) → (History → A → Type 0) → Result A ActFault → Type 0
+Reads Here Is (Ok value) = IsBehindOf Here (λ h. Is h value)
+Reads Here Is (Err fault) = ⊥
 
--- what is told from a count on, unless there is no memory
-abbrev pub TellsFrom : List ℕ → ℕ → Result ToldValue ActFault → Type 0
-TellsFrom node from (Ok told) = IsBehind node (λ h. IsToldFrom h from told)
-TellsFrom node from (Err fault) = fault ≡ acts.OutOfMemory
+-- all that the shard knows, unless there is no memory
+abbrev pub TellsAll : (History → Type 0) → Result ToldValue ActFault → Type 0
+TellsAll Here (Ok told) = IsBehindOf Here (λ h. IsFullOf h told)
+TellsAll Here (Err fault) = fault ≡ acts.OutOfMemory
 
--- what is answered at a shard that is there
-abbrev pub Asked : List ℕ → (q : Ask) → Answer q → Type 0
-Asked node (status s r) a = Reads node (λ h x. x ≡ status_in h r) a
-Asked node (heard s r now) a = Made node (steps_are.Heard r now) a
-Asked node (merge s t) a = Made node (steps_are.Merge t) a
-Asked node (permdown s r) a = Made node (steps_are.PermDown r) a
-Asked node (top s r) a = Reads node (λ h n. IsTop h r n) a
-Asked node (told_from s from) a = TellsFrom node from a
-Asked node (full s) a = TellsAll node a
+-- what the shard tells from a count on, unless there is no memory
+abbrev pub TellsFrom : (History → Type 0) → ℕ → Result ToldValue ActFault → Type 0
+TellsFrom Here from (Ok told) = IsBehindOf Here (λ h. IsToldFrom h from told)
+TellsFrom Here from (Err fault) = fault ≡ acts.OutOfMemory
+
+-- what is answered at a shard that is there; `here` tells which histories are those of a shard's number
+abbrev pub Asked : (ℕ → History → Type 0) → (q : Ask) → Answer q → Type 0
+Asked here (status s r) a = Reads (here s) (λ h x. x ≡ status_in h r) a
+Asked here (heard s r now) a = Made (here s) (steps_are.Heard r now) a
+Asked here (merge s t) a = Made (here s) (steps_are.Merge t) a
+Asked here (permdown s r) a = Made (here s) (steps_are.PermDown r) a
+Asked here (top s r) a = Reads (here s) (λ h n. IsTop h r n) a
+Asked here (told_from s from) a = TellsFrom (here s) from a
+Asked here (full s) a = TellsAll (here s) a
 
 abbrev pub shard_in : Ask → ℕ
 shard_in (status s r) = s
@@ -77,8 +81,8 @@ shard_in (told_from s from) = s
 shard_in (full s) = s
 
 -- this was asked of the pool and this answered
-abbrev pub LinkStep : List ℕ → ℕ → (q : Ask) → Answer q → Type 0
-LinkStep node shards q a = HasNoShard shards (shard_in q) a ⊎ Asked node q a
+abbrev pub LinkStep : (ℕ → History → Type 0) → ℕ → (q : Ask) → Answer q → Type 0
+LinkStep here shards q a = HasNoShard shards (shard_in q) a ⊎ Asked here q a
 
 -- a range, or a dot, of this replica that goes above a count
 abbrev pub range_above : Replica → ℕ → Replica × ℕ × ℕ → Bool

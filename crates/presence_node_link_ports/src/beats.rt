@@ -1,10 +1,11 @@
 //! What a period of the ticker asks of a shard, and the beat that it makes.
 ghost use Rattle.std.specs.Prelude.{◌≡◌, ◌<◌, IfOk};
 ghost use Rattle.presence_journal_data.specs.declared.step.Step.TheVariants as steps_are;
-ghost use Rattle.shard_pool.specs.Unseated.{IsBehind, IsMade, IsCutMade};
+ghost use Rattle.shard_pool.specs.Seats.{IsBehindAt};
+ghost use Rattle.shard_pool.specs.Unseated.{IsMade, IsCutMade};
 ghost use Rattle.presence_node_link_ports.specs.Asking.{beat_line, news_of};
 
-use crate::fault::is_full;
+use crate::room::room_made;
 use delta_range::Delta;
 use node_links_lines::Line;
 use orswot_core_told::Told;
@@ -22,10 +23,11 @@ pub fn let_pass<R: Wait, G: Gate, A: Lane, B: Lane, C: Lane, D: Lane>(
     now: u64,
 ) -> Result<(), PoolFault>
     requires { shard < pool.now.shards }
-    ensures { IsBehind pool.now.own.name (λ h. IsMade h (steps_are.Tick now) result) }
+    ensures { IsBehindAt A.begins B.begins C.begins D.begins shard pool.now.own.name
+        (λ h. IsMade h (steps_are.Tick now) result) }
 {
     let reply = pool.tick(rt, alloc, shard, now);
-    if !is_full(&reply) || pool.checkpoint_where_full(rt, alloc, shard).is_err() {
+    if room_made(rt, alloc, pool, shard, &reply).is_none() {
         return reply;
     }
     pool.tick(rt, alloc, shard, now)
@@ -40,10 +42,10 @@ pub fn cut_off<R: Wait, G: Gate, A: Lane, B: Lane, C: Lane, D: Lane>(
     shard: u32,
 ) -> Result<Delta, PoolFault>
     requires { shard < pool.now.shards }
-    ensures { IsBehind pool.now.own.name (λ h. IsCutMade h result) }
+    ensures { IsBehindAt A.begins B.begins C.begins D.begins shard pool.now.own.name (λ h. IsCutMade h result) }
 {
     let reply = pool.cut(rt, alloc, shard);
-    if !is_full(&reply) || pool.checkpoint_where_full(rt, alloc, shard).is_err() {
+    if room_made(rt, alloc, pool, shard, &reply).is_none() {
         return reply;
     }
     pool.cut(rt, alloc, shard)

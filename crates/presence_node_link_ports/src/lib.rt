@@ -1,7 +1,7 @@
 //! What a link asks of a server's shards: a pool of shards, without a seat.
 //!
 //! What its contracts cite: `specs/Asking` has the pool's call for each question of a link, and what a period of the
-//! ticker asks of a shard; `specs/Fitting` what a beat tells that fits a line.
+//! ticker asks of a shard; `specs/Fitting` what goes along with a beat.
 #![tactic(auto)]
 
 mod above;
@@ -9,6 +9,7 @@ mod beats;
 mod fault;
 mod fitting;
 mod link_port;
+mod room;
 
 pub use beats::{beat_of, cut_off, let_pass};
 pub use fitting::{bare_beat, fitting_beat};

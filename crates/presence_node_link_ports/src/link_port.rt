@@ -2,7 +2,8 @@ ghost use Rattle.std.specs.Prelude.{◌≡◌, true, Err};
 ghost use Rattle.shard_pool.specs.ShardFault.TheVariants.{JournalFull};
 
 use crate::above::tells_above;
-use crate::fault::{is_full, told};
+use crate::fault::told;
+use crate::room::room_made;
 use node_links_acts::{ActFault, LinkPort};
 use orswot_core_told::Told;
 use presence_base::Replica;
@@ -48,6 +49,8 @@ macro_rules! tried {
 
 impl<'a, R: Wait, G: Gate, A: Lane, B: Lane, C: Lane, D: Lane> PoolLinkPort<'a, R, G, A, B, C, D> {
     ghost use Rattle.std.specs.Prelude.{◌≡◌, ◌<◌};
+    ghost use Rattle.shard_pool.specs.Seats.{IsOfShardAt};
+    ghost use Rattle.presence_node_link_ports.specs.Asking.{HasRoom};
 
     /// The port of this pool, which has so many shards.
     pub fn new(
@@ -108,22 +111,26 @@ impl<'a, R: Wait, G: Gate, A: Lane, B: Lane, C: Lane, D: Lane> PoolLinkPort<'a, 
         requires { shard < self.old.shards }
         ensures pool { self.new.pool ≡ self.old.pool }
         ensures full { result ≡ true → reply.now ≡ Err JournalFull }
+        ensures room { result ≡ true → HasRoom (IsOfShardAt self.old.pool.now.own.name
+            A.begins B.begins C.begins D.begins shard) }
     {
-        if !is_full(reply) {
-            return false;
+        match room_made(self.rt, alloc, self.pool, shard, reply) {
+            Some(made) => {
+                self.has_changed = self.has_changed || made;
+                true
+            }
+            None => false,
         }
-        let room = self.pool.checkpoint_where_full(self.rt, alloc, shard);
-        self.has_changed = self.has_changed || matches!(&room, Ok(true));
-        room.is_ok()
     }
 }
 
 impl<'a, R: Wait, G: Gate, A: Lane, B: Lane, C: Lane, D: Lane> LinkPort
     for PoolLinkPort<'a, R, G, A, B, C, D> {
     ghost use Rattle.std.specs.Prelude.{◌≡◌};
+    ghost use Rattle.shard_pool.specs.Seats.{IsOfShardAt};
     ghost use Rattle.presence_node_link_ports.specs.Asking.{LinkStep};
 
-    ghost step = { λ old q a new. (new.pool ≡ old.pool) × LinkStep old.pool.now.own.name old.pool.now.shards q a };
+    ghost step = { λ old q a new. (new.pool ≡ old.pool) × LinkStep (IsOfShardAt old.pool.now.own.name A.begins B.begins C.begins D.begins) old.pool.now.shards q a };
 
     ghost shard_count = { λ p. p.pool.now.shards };
 

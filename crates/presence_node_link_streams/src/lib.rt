@@ -6,6 +6,7 @@
 //! is handed in goes on.
 #![tactic(auto)]
 
+pub mod laws;
 mod stopping;
 mod stream;
 mod ticker;

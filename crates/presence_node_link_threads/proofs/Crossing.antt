@@ -1,9 +1,7 @@
 -- What the threads of links share and are given may cross to them. One search for each gives up, so it goes by the parts.
 use denote.Param.Send.{IsSend, IsSync, sendable}
 use Rattle.std.proofs.Crossing as heap
-use Rattle.std.proofs.MapsCrossing as maps
-use Rattle.serde_json.proofs.value.Value.TheLaws.TheKnot as value
-use Rattle.presence_base.specs.contracts.json.Json as Json
+use Rattle.presence_base.specs.contracts.json_text.JsonText as JsonText
 use Rattle.presence_base.specs.contracts.meta.Meta as Meta
 use Rattle.presence_base.specs.contracts.row.Row as Row
 use Rattle.presence_base.specs.contracts.names.Topic as Topic
@@ -30,17 +28,17 @@ use Rattle.presence_node_link_threads.specs.contracts.tasks.LinkTask as LinkTask
 
 -- ---- a line
 
-json_send : IsSend (Json.the_field).row
-json_send = search (maps.crosses, heap.crosses, value.crosses, sendable) depth 60 fits 20000
+json_text_send : IsSend (JsonText.the_field).row
+json_text_send = search (heap.crosses, sendable) depth 60 fits 20000
 
-json_sync : IsSync (Json.the_field).row
-json_sync = search (maps.crosses, heap.crosses, value.crosses, sendable) depth 60 fits 20000
+json_text_sync : IsSync (JsonText.the_field).row
+json_text_sync = search (heap.crosses, sendable) depth 60 fits 20000
 
 meta_send : IsSend (Meta.the_field).row
-meta_send = search (json_send, json_sync, heap.crosses, sendable) depth 60 fits 20000
+meta_send = search (json_text_send, json_text_sync, heap.crosses, sendable) depth 60 fits 20000
 
 meta_sync : IsSync (Meta.the_field).row
-meta_sync = search (json_send, json_sync, heap.crosses, sendable) depth 60 fits 20000
+meta_sync = search (json_text_send, json_text_sync, heap.crosses, sendable) depth 60 fits 20000
 
 topic_send : IsSend (Topic.the_field).row
 topic_send = search (heap.crosses, sendable) depth 60 fits 20000

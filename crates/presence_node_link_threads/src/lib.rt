@@ -11,6 +11,7 @@
 mod book;
 mod dialling;
 mod incoming;
+pub mod laws;
 mod links;
 mod serving;
 mod tallies;

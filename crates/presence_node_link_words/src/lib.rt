@@ -7,6 +7,7 @@
 #![tactic(auto)]
 
 mod end;
+pub mod laws;
 mod meeting;
 mod saying;
 mod warning;

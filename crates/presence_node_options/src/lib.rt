@@ -7,6 +7,7 @@
 mod command_line;
 mod fault;
 mod help;
+pub mod laws;
 mod options;
 mod values;
 

@@ -127,9 +127,10 @@ impl<'a, R: Wait, G: Gate, A: Lane, B: Lane, C: Lane, D: Lane> PoolPort<'a, R, G
 
 impl<'a, R: Wait, G: Gate, A: Lane, B: Lane, C: Lane, D: Lane> Port
     for PoolPort<'a, R, G, A, B, C, D> {
+    ghost use Rattle.shard_pool.specs.Seats.{IsOfShardAt};
     ghost use Rattle.presence_node_ports.specs.Asking.{PoolStep, Keeps};
 
-    ghost step = { λ old q a new. Keeps old.pool new.pool old.seat.ghost_name new.seat.ghost_name × PoolStep old.pool.now.own.name old.pool.now.shards old.seat.now q a new.seat.now };
+    ghost step = { λ old q a new. Keeps old.pool new.pool old.seat.ghost_name new.seat.ghost_name × PoolStep (IsOfShardAt old.pool.now.own.name A.begins B.begins C.begins D.begins) old.pool.now.shards old.seat.now q a new.seat.now };
 
     fn track(
         &mut self,

@@ -3,6 +3,7 @@
 //! Its contracts cite `specs/Rationing`: which rows count, what has room beside them, and which calls are refused.
 #![tactic(auto)]
 
+pub mod laws;
 mod ration;
 mod rationing;
 

@@ -6,6 +6,7 @@
 
 mod answer;
 mod head;
+pub mod laws;
 mod page;
 mod reply;
 mod replying;

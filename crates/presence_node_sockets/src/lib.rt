@@ -7,6 +7,7 @@
 #![tactic(auto)]
 
 mod files;
+pub mod laws;
 mod listening;
 mod watch;
 

@@ -17,7 +17,7 @@ fn row_value(alloc: Global, dot: &Dot, row: &Row) -> Result<Value, AllocError> {
     let reference = ref_text(alloc, dot)?;
     let key = row.key.as_str();
     let pid = row.pid;
-    let meta = row.meta.as_value();
+    let meta = row.meta.to_value(alloc)?;
     let prev = prev_value(alloc, &row.prev)?;
     json!(in alloc; [reference, key, pid, meta, prev])
 }

@@ -3,6 +3,7 @@ use Rattle.presence_journal_data.specs.declared.step.Step.TheVariants as steps_a
 use Rattle.presence_journal.specs.History.{History}
 use Rattle.presence_journal.specs.Queue.{items_given}
 use Rattle.shard_pool.specs.Seated.{finds}
+use Rattle.shard_pool.specs.Seats.{IsOfShardAt}
 use Rattle.presence_node_ports.proofs.Asking.{first_items, again_items}
 use Rattle.presence_node_ports.proofs.pool_port.PoolPortPort.take.Goals as goal
 
@@ -11,7 +12,7 @@ returns-then-not-makes_room g c =
     let old = c.args.self.now in
     let room = c.makes_room.ensures in (
       (room.pool, ap (λ s. s.ghost_name) room.seat),
-      first_items old.pool.now.own.name (finds c.args.sub.now) old.pool.now.shards old.seat.now c.args.topic.now (steps_are.Take c.args.sub.now.number c.args.max) (λ (h : History). items_given h c.args.sub.now.number c.args.max) c.take-reply.new.seat c.makes_room.new.self.seat.now c.take-reply.result c.value.result (ap (λ s. s.now) room.seat) c.value.ensures c.take-reply.ensures,
+      first_items (IsOfShardAt old.pool.now.own.name g.A.Lane.begins g.B.Lane.begins g.C.Lane.begins g.D.Lane.begins) (finds c.args.sub.now) old.pool.now.shards old.seat.now c.args.topic.now (steps_are.Take c.args.sub.now.number c.args.max) (λ (h : History). items_given h c.args.sub.now.number c.args.max) c.take-reply.new.seat c.makes_room.new.self.seat.now c.take-reply.result c.value.result (ap (λ s. s.now) room.seat) c.value.ensures c.take-reply.ensures,
     )
 
 pub returns : goal.returns
@@ -20,5 +21,5 @@ returns g c =
     let left = c.makes_room.new.self in
     let room = c.makes_room.ensures in (
       (room.pool, ap (λ s. s.ghost_name) room.seat),
-      again_items old.pool.now.own.name (finds c.args.sub.now) old.pool.now.shards old.seat.now c.args.topic.now (steps_are.Take c.args.sub.now.number c.args.max) (λ (h : History). items_given h c.args.sub.now.number c.args.max) c.take-reply.new.seat left.seat.now c.take-again.new.seat left.pool.now.own.name left.pool.now.shards c.take-reply.result c.take-again.result c.value-2.result (ap (λ s. s.now) room.seat) (ap (λ p. p.now.own.name) room.pool) (ap (λ p. p.now.shards) room.pool) (room.full c.if-not-makes_room.false) c.value-2.ensures c.take-reply.ensures c.take-again.ensures,
+      again_items (IsOfShardAt old.pool.now.own.name g.A.Lane.begins g.B.Lane.begins g.C.Lane.begins g.D.Lane.begins) (finds c.args.sub.now) old.pool.now.shards old.seat.now c.args.topic.now (steps_are.Take c.args.sub.now.number c.args.max) (λ (h : History). items_given h c.args.sub.now.number c.args.max) c.take-reply.new.seat left.seat.now c.take-again.new.seat (IsOfShardAt left.pool.now.own.name g.A.Lane.begins g.B.Lane.begins g.C.Lane.begins g.D.Lane.begins) left.pool.now.shards c.take-reply.result c.take-again.result c.value-2.result (ap (λ s. s.now) room.seat) (ap (λ p. IsOfShardAt p.now.own.name g.A.Lane.begins g.B.Lane.begins g.C.Lane.begins g.D.Lane.begins) room.pool) (ap (λ p. p.now.shards) room.pool) (room.full c.if-not-makes_room.false) c.value-2.ensures c.take-reply.ensures c.take-again.ensures,
     )

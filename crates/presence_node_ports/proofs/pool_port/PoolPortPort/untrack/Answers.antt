@@ -5,6 +5,7 @@ use Rattle.presence_journal.specs.History.{History}
 use Rattle.presence_journal.specs.Present.{dots_of}
 use Rattle.presence_journal.specs.Table.{rows_of_key}
 use Rattle.shard_pool.specs.Seated.{always}
+use Rattle.shard_pool.specs.Seats.{IsOfShardAt}
 use Rattle.presence_node_ports.proofs.Asking.{first_done, again_done}
 use Rattle.presence_node_ports.proofs.pool_port.PoolPortPort.untrack.Goals as goal
 
@@ -13,7 +14,7 @@ returns-then-not-makes_room g c =
     let old = c.args.self.now in
     let room = c.makes_room.ensures in (
       (room.pool, ap (λ s. s.ghost_name) room.seat),
-      first_done old.pool.now.own.name always old.pool.now.shards old.seat.now c.args.topic.now (steps_are.Untrack c.args.pid c.args.topic.now c.args.key.now) (λ (h : History) (dots : Vec Dot Global). dots.items ≡ dots_of (rows_of_key h c.args.pid c.args.topic.now c.args.key.now)) c.untrack-reply.new.seat c.makes_room.new.self.seat.now c.untrack-reply.result c.accepted.result (ap (λ s. s.now) room.seat) c.accepted.ensures c.untrack-reply.ensures,
+      first_done (IsOfShardAt old.pool.now.own.name g.A.Lane.begins g.B.Lane.begins g.C.Lane.begins g.D.Lane.begins) always old.pool.now.shards old.seat.now c.args.topic.now (steps_are.Untrack c.args.pid c.args.topic.now c.args.key.now) (λ (h : History) (dots : Vec Dot Global). dots.items ≡ dots_of (rows_of_key h c.args.pid c.args.topic.now c.args.key.now)) c.untrack-reply.new.seat c.makes_room.new.self.seat.now c.untrack-reply.result c.accepted.result (ap (λ s. s.now) room.seat) c.accepted.ensures c.untrack-reply.ensures,
     )
 
 pub returns : goal.returns
@@ -22,5 +23,5 @@ returns g c =
     let left = c.makes_room.new.self in
     let room = c.makes_room.ensures in (
       (room.pool, ap (λ s. s.ghost_name) room.seat),
-      again_done old.pool.now.own.name always old.pool.now.shards old.seat.now c.args.topic.now (steps_are.Untrack c.args.pid c.args.topic.now c.args.key.now) (λ (h : History) (dots : Vec Dot Global). dots.items ≡ dots_of (rows_of_key h c.args.pid c.args.topic.now c.args.key.now)) c.untrack-reply.new.seat left.seat.now c.untrack-again.new.seat left.pool.now.own.name left.pool.now.shards c.untrack-reply.result c.untrack-again.result c.accepted-2.result (ap (λ s. s.now) room.seat) (ap (λ p. p.now.own.name) room.pool) (ap (λ p. p.now.shards) room.pool) (room.full c.if-not-makes_room.false) c.accepted-2.ensures c.untrack-reply.ensures c.untrack-again.ensures,
+      again_done (IsOfShardAt old.pool.now.own.name g.A.Lane.begins g.B.Lane.begins g.C.Lane.begins g.D.Lane.begins) always old.pool.now.shards old.seat.now c.args.topic.now (steps_are.Untrack c.args.pid c.args.topic.now c.args.key.now) (λ (h : History) (dots : Vec Dot Global). dots.items ≡ dots_of (rows_of_key h c.args.pid c.args.topic.now c.args.key.now)) c.untrack-reply.new.seat left.seat.now c.untrack-again.new.seat (IsOfShardAt left.pool.now.own.name g.A.Lane.begins g.B.Lane.begins g.C.Lane.begins g.D.Lane.begins) left.pool.now.shards c.untrack-reply.result c.untrack-again.result c.accepted-2.result (ap (λ s. s.now) room.seat) (ap (λ p. IsOfShardAt p.now.own.name g.A.Lane.begins g.B.Lane.begins g.C.Lane.begins g.D.Lane.begins) room.pool) (ap (λ p. p.now.shards) room.pool) (room.full c.if-not-makes_room.false) c.accepted-2.ensures c.untrack-reply.ensures c.untrack-again.ensures,
     )
