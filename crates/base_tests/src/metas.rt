@@ -2,7 +2,7 @@
 
 use crate::dots::dot;
 use crate::texts::{letters, nested};
-use presence_base::{Dot, Json, Key, Meta, Row, Topic, has_float, is_within_depth};
+use presence_base::{Dot, Json, JsonText, Key, Meta, Row, Topic, has_float, is_within_depth};
 use serde_json::Value;
 use std::alloc::{AllocError, Global};
 use std::test::Fail;
@@ -18,7 +18,7 @@ fn is_meta(alloc: Global, text: &str) -> Result<bool, Fail> {
 
 fn meta_written(alloc: Global, text: &str) -> Result<Option<String>, Fail> {
     match meta_of(alloc, text)? {
-        Some(meta) => Ok(Some(meta.as_value().to_string(alloc)?)),
+        Some(meta) => Ok(Some(meta.to_value(alloc)?.to_string(alloc)?)),
         None => Ok(None),
     }
 }
@@ -38,6 +38,62 @@ fn metas_are_plain_objects(rt: HostRuntime) -> Result<(), Fail> {
     ] {
         assert!(rt; !is_meta(alloc, bad)?);
     }
+    Ok(())
+}
+
+fn is_read_back(alloc: Global, text: &str, written: &str) -> Result<bool, Fail> {
+    let Some(meta) = meta_of(alloc, text)? else {
+        return Ok(false);
+    };
+    let read = meta.clone()?.to_value(alloc)?.to_string(alloc)?;
+    Ok(meta.text() == written && read.as_str() == written)
+}
+
+#[test]
+fn metas_are_read_from_their_texts(rt: HostRuntime) -> Result<(), Fail> {
+    let alloc = rt.alloc();
+    assert!(rt; is_read_back(alloc, "{ }", "{}")?);
+    assert!(rt;
+        is_read_back(
+            alloc,
+            "{\"b\": [1, \"x\"], \"a\": {}}",
+            "{\"a\":{},\"b\":[1,\"x\"]}"
+        )?
+    );
+    assert!(rt; is_read_back(alloc, "{\"\\u0061\":-9}", "{\"a\":-9}")?);
+    Ok(())
+}
+
+// Whether references go first in the meta's text, and whether they go last.
+fn refs_places(alloc: Global, text: &str) -> Result<Option<(bool, bool)>, Fail> {
+    match meta_of(alloc, text)? {
+        Some(meta) => Ok(Some((meta.takes_refs_first(), meta.takes_refs_last()))),
+        None => Ok(None),
+    }
+}
+
+#[test]
+fn places_of_references_in_metas(rt: HostRuntime) -> Result<(), Fail> {
+    let alloc = rt.alloc();
+    assert!(rt; refs_places(alloc, "{}")? == Some((true, false)));
+    assert!(rt; refs_places(alloc, "{\"q\":1}")? == Some((true, false)));
+    assert!(rt; refs_places(alloc, "{\"a\":1,\"b\":2}")? == Some((false, true)));
+    assert!(rt; refs_places(alloc, "{\"a\":1,\"q\":2}")? == Some((false, false)));
+    assert!(rt; refs_places(alloc, "{\"phx_ref_a\":1}")? == Some((false, false)));
+    Ok(())
+}
+
+#[test]
+fn values_that_are_kept_as_texts(rt: HostRuntime) -> Result<(), Fail> {
+    let alloc = rt.alloc();
+    let value = Value::from_str(alloc, "[null, {\"b\": \"y\"}]")?;
+    assert!(rt; is_within_depth(&value, 3) && !has_float(&value));
+    if !is_within_depth(&value, 3) || has_float(&value) {
+        return Ok(());
+    }
+    let kept = JsonText::new(alloc, &value)?;
+    assert!(rt; kept.clone()?.as_str() == "[null,{\"b\":\"y\"}]");
+    assert!(rt; kept.to_value(alloc)?.is_array());
     Ok(())
 }
 

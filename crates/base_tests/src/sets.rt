@@ -4,4 +4,5 @@ mod boards;
 mod checks;
 mod contexts;
 mod deltas;
+mod fitting;
 mod rows;

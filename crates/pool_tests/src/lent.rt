@@ -1,4 +1,5 @@
 //! The calls of seats by their lent forms, one after the other, and how their receipts and the journal agree.
+ghost use Rattle.presence_journal.specs.History.{begun};
 ghost use Rattle.std.specs.Prelude.{◌≡◌};
 ghost use Rattle.presence_base.specs.Refs.{IsCount};
 
@@ -71,7 +72,7 @@ fn payload_of(alloc: Global) -> Option<Payload> {
     if !is_within_depth(&value, MAX_PAYLOAD_DEPTH) || has_float(&value) {
         return None;
     }
-    Some(Payload::new(Json::new(value)))
+    Payload::new(alloc, &Json::new(value)).ok()
 }
 
 // Tracks a key and lists.
@@ -97,12 +98,12 @@ fn first_five<L: Lane>(
     part: &mut Part<L>,
 ) -> Option<Replies<5>> {
     let Words { topic, key, meta } = words_of(alloc, "u1")?;
-    let payload = payload_of(alloc)?;
+    let payload = payload_of(alloc)?.to_json(alloc).ok()?;
     let tracked = lent_track(alloc, locked, part, 1, &topic, &key, &meta).ok()?;
     let updated = lent_update(alloc, locked, part, 1, &topic, &key, &meta).ok()?;
     let got = lent_get(alloc, locked, part, &topic, &key).ok()?;
     let listed = lent_list(alloc, locked, part, &topic).ok()?;
-    let shouted = lent_shout(alloc, locked, part, &topic, payload.as_json()).ok()?;
+    let shouted = lent_shout(alloc, locked, part, &topic, &payload).ok()?;
     Some(Replies {
         numbers: [
             tracked.number,
@@ -223,6 +224,7 @@ fn seen_of<L: Lane>(
 fn two_parts<L: Lane>(alloc: Global, own: Replica, run: Run, blank: Blank) -> Option<Seen>
     requires count { IsCount own.incarnation }
     requires blank { (blank.name ≡ L.name) × (blank.parts ≡ L.parts) × (blank.parts ≡ 2) × (own.name ≡ L.node) }
+    requires begins { L.begins (begun own) }
 {
     let Ok((mut locked, mut parts)) = lent_start::<L>(alloc, own, 0, 2, blank) else {
         return None;

@@ -27,6 +27,8 @@ mod lent;
 #[cfg(test)]
 mod links;
 #[cfg(test)]
+mod many_seats;
+#[cfg(test)]
 mod one_seat;
 #[cfg(test)]
 mod quiet;

@@ -1,5 +1,6 @@
 //! A new pool with one seat: which shard a topic goes to, what it holds of another node that is silent or tells late, what
 //! a checkpoint leaves, with the kept deltas, and that calls stay at their shard. The pool settles behind each run.
+ghost use Rattle.presence_journal.specs.History.{begun};
 ghost use Rattle.std.specs.Prelude.{◌≡◌, ◌<◌, ◌≤◌};
 ghost use Rattle.presence_base.specs.Refs.{IsCount};
 
@@ -111,6 +112,8 @@ fn settled_run<A: Lane, B: Lane, C: Lane, D: Lane, R: Wait>(
     requires second { (second.name ≡ B.name) × (second.parts ≡ B.parts) × (second.parts ≡ 1) × (own.name ≡ B.node) }
     requires third { (third.name ≡ C.name) × (third.parts ≡ C.parts) × (third.parts ≡ 1) × (own.name ≡ C.node) }
     requires fourth { (fourth.name ≡ D.name) × (fourth.parts ≡ D.parts) × (fourth.parts ≡ 1) × (own.name ≡ D.node) }
+    requires begins { (A.begins (begun own)) × (B.begins (begun own)) × (C.begins (begun own))
+        × (D.begins (begun own)) }
 {
     let started = Pool::<NoGate, A, B, C, D>::start(
         alloc, own, shards, 1, NoGate, first, second, third, fourth,
@@ -193,11 +196,12 @@ fn calls_stay_at_their_shards(rt: HostRuntime) -> Result<(), Fail> {
     Ok(())
 }
 
-// Whether of four full journals, one after another, each is begun again where this is asked, and no other.
+// Whether of four full journals, one after another, each is begun again where this is asked and makes an entry, and no
+// other.
 fn begin_again<R: Wait>(rt: &R, alloc: Global, asked: Asked) -> bool {
     for (shard, room) in ["room:a", "room:b", "room:c", "room:d"].iter().enumerate() {
         let came = outcome_of(rt, alloc, 4, Run::Fill(room, asked));
-        if came != Some(Came::Filled(wanted_behind(shard))) {
+        if came != Some(Came::Filled(wanted_behind(shard, asked))) {
             return false;
         }
     }
@@ -207,6 +211,21 @@ fn begin_again<R: Wait>(rt: &R, alloc: Global, asked: Asked) -> bool {
 #[test]
 fn a_link_at_full_journals(rt: HostRuntime) {
     assert!(rt; begin_again(&rt, rt.alloc(), Asked::Heard));
+}
+
+#[test]
+fn a_merge_at_full_journals(rt: HostRuntime) {
+    assert!(rt; begin_again(&rt, rt.alloc(), Asked::Merge));
+}
+
+#[test]
+fn a_permdown_at_full_journals(rt: HostRuntime) {
+    assert!(rt; begin_again(&rt, rt.alloc(), Asked::PermDown));
+}
+
+#[test]
+fn what_full_journals_tell(rt: HostRuntime) {
+    assert!(rt; begin_again(&rt, rt.alloc(), Asked::Tell));
 }
 
 #[test]
@@ -222,4 +241,14 @@ fn a_cut_at_full_journals(rt: HostRuntime) {
 #[test]
 fn a_list_at_full_journals(rt: HostRuntime) {
     assert!(rt; begin_again(&rt, rt.alloc(), Asked::List));
+}
+
+#[test]
+fn a_track_at_full_journals(rt: HostRuntime) {
+    assert!(rt; begin_again(&rt, rt.alloc(), Asked::Track));
+}
+
+#[test]
+fn a_subscriber_at_full_journals(rt: HostRuntime) {
+    assert!(rt; begin_again(&rt, rt.alloc(), Asked::Subscribe));
 }

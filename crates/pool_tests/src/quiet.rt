@@ -3,15 +3,16 @@
 ghost use Rattle.std.specs.Prelude.{◌<◌};
 
 use pool_desk::{topic, track};
-use shard_pool::{Lane, NoGate, Pool, PoolFault, Seat};
+use shard_pool::{DueFrom, Lane, NoGate, Pool, PoolFault, Seat};
 use std::alloc::Global;
 use std::sync::Wait;
 
-// What was answered, and how many entries the journal had behind it.
+// What was answered, and how many entries the journal had behind it, and bytes of their texts.
 #[derive(Clone, Copy, Debug, PartialEq)]
 pub(crate) struct Due {
     made: Result<bool, PoolFault>,
     entries: u64,
+    bytes: u64,
 }
 
 // What is asked for: a checkpoint where so many entries are there, or where the journal is full.
@@ -24,12 +25,21 @@ fn ask<A: Lane, B: Lane, C: Lane, D: Lane, R: Wait>(
     requires { 0 < pool.now.shards }
 {
     let made = match entries {
-        Some(entries) => pool.checkpoint_where_quiet(rt, alloc, 0, entries),
+        Some(entries) => pool.checkpoint_where_quiet(
+            rt,
+            alloc,
+            0,
+            DueFrom {
+                entries,
+                text_bytes: u64::MAX,
+            },
+        ),
         None => pool.checkpoint_where_full(rt, alloc, 0),
     };
     Due {
         made,
         entries: pool.entry_count(rt, 0),
+        bytes: pool.text_bytes(rt, 0),
     }
 }
 
@@ -57,21 +67,22 @@ pub(crate) fn asked_in_turn<A: Lane, B: Lane, C: Lane, D: Lane, R: Wait>(
     Some([too_few, behind, waiting, not_full, taken, begun])
 }
 
-fn answered(made: bool, entries: u64) -> Due {
+fn answered(made: bool, entries: u64, bytes: u64) -> Due {
     Due {
         made: Ok(made),
         entries,
+        bytes,
     }
 }
 
-// One who is behind holds nothing up. The diff of the track does, until it is taken.
+// One who is behind holds nothing up. The diff of the track does, until it is taken. A track's meta has seven bytes.
 pub(crate) fn wanted() -> [Due; 6] {
     [
-        answered(false, 2),
-        answered(true, 1),
-        answered(false, 3),
-        answered(false, 3),
-        answered(true, 1),
-        answered(false, 1),
+        answered(false, 2, 0),
+        answered(true, 1, 0),
+        answered(false, 3, 7),
+        answered(false, 3, 7),
+        answered(true, 1, 0),
+        answered(false, 1, 0),
     ]
 }

@@ -1,4 +1,5 @@
 //! Three threads with a seat each over one shard, and beside them what another node tells.
+ghost use Rattle.presence_journal.specs.History.{begun};
 ghost use Rattle.std.specs.Prelude.{◌≡◌};
 ghost use Rattle.presence_base.specs.Refs.{IsCount};
 
@@ -178,6 +179,8 @@ fn three_threads<
     requires second { (second.name ≡ B.name) × (second.parts ≡ B.parts) × (second.parts ≡ 3) × (own.name ≡ B.node) }
     requires third { (third.name ≡ C.name) × (third.parts ≡ C.parts) × (third.parts ≡ 3) × (own.name ≡ C.node) }
     requires fourth { (fourth.name ≡ D.name) × (fourth.parts ≡ D.parts) × (fourth.parts ≡ 3) × (own.name ≡ D.node) }
+    requires begins { (A.begins (begun own)) × (B.begins (begun own)) × (C.begins (begun own))
+        × (D.begins (begun own)) }
 {
     let again = own;
     let started = Pool::<NoGate, A, B, C, D>::start(

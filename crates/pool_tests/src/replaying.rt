@@ -52,7 +52,8 @@ fn subscriber_again(
             said(alloc, shard.unsubscribe(alloc, seat, &sub))
         }
         Step::Shout { topic, payload } => {
-            said(alloc, shard.shout(alloc, seat, topic, payload.as_json()))
+            let payload = payload.to_json(alloc).ok()?;
+            said(alloc, shard.shout(alloc, seat, topic, &payload))
         }
         other => unseated_again(alloc, shard, other),
     }

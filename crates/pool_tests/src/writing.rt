@@ -2,8 +2,7 @@
 //! or not, which what is written here does not show.
 use orswot_core_told::Told;
 use presence_base::{Dot, Key, Meta, Row, Topic};
-use presence_journal::{Entry, Item, Outcome, SharedRows, Step};
-use serde_json::Value;
+use presence_journal::{Entry, Item, Outcome, Payload, SharedRows, Step};
 use std::alloc::{AllocError, Global};
 use std::fmt::Debug;
 use tracker_shard::Sub;
@@ -92,7 +91,7 @@ fn item_text(alloc: Global, item: &Item) -> Result<String, AllocError> {
             format!(in alloc; "joins {joins}leaves {leaves}")
         }
         Item::Shout(shout) => {
-            let payload = shout.sent().as_json().as_value().to_string(alloc)?;
+            let payload = shout.payload();
             format!(in alloc; "shout {payload}; ")
         }
     }
@@ -142,9 +141,9 @@ fn place_text(
     format!(in alloc; "{word} {pid:?} {topic:?} {key:?}")
 }
 
-fn shout_text(alloc: Global, topic: &Topic, payload: &Value) -> Result<String, AllocError> {
+fn shout_text(alloc: Global, topic: &Topic, payload: &Payload) -> Result<String, AllocError> {
     let topic = topic.as_str();
-    let payload = payload.to_string(alloc)?;
+    let payload = payload.text();
     format!(in alloc; "shout {topic:?} {payload}")
 }
 
@@ -178,7 +177,7 @@ fn step_text(alloc: Global, step: &Step) -> Result<String, AllocError> {
             key,
             meta,
         } => claim_text(alloc, "update", *pid, topic, key, meta),
-        Step::Shout { topic, payload } => shout_text(alloc, topic, payload.as_json().as_value()),
+        Step::Shout { topic, payload } => shout_text(alloc, topic, payload),
         Step::Merge { told } => told_text(alloc, told),
         other => plain_step_text(alloc, other),
     }

@@ -9,6 +9,8 @@ mod connections;
 #[cfg(test)]
 mod front;
 #[cfg(test)]
+mod rations;
+#[cfg(test)]
 mod served;
 #[cfg(test)]
 mod system;

@@ -5,6 +5,7 @@ mod crossing;
 mod desk;
 mod ending;
 mod failing;
+mod holding;
 mod pool;
 mod rows;
 mod run;

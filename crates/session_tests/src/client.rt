@@ -73,6 +73,11 @@ fn routes_of(alloc: Global) -> Option<Routes> {
 
 pub(crate) fn client_of<H: Drop>(alloc: Global, hooks: H) -> Option<Client<H>> {
     let shard = shard_of(alloc)?;
+    client_over(alloc, shard, hooks)
+}
+
+// A client over this shard.
+pub(crate) fn client_over<H: Drop>(alloc: Global, shard: Shard, hooks: H) -> Option<Client<H>> {
     let routes = routes_of(alloc)?;
     Some(Client {
         shard,

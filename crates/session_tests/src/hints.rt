@@ -87,7 +87,7 @@ fn payload_of(alloc: Global) -> Option<Payload> {
     if !is_within_depth(&value, MAX_PAYLOAD_DEPTH) || has_float(&value) {
         return None;
     }
-    Some(Payload::new(Json::new(value)))
+    Payload::new(alloc, &Json::new(value)).ok()
 }
 
 // The key that a call names, or one that it has no use for.
@@ -140,7 +140,8 @@ fn change<P: Port>(
             Ok(Answer::Done)
         }
         _ => {
-            port.shout(alloc, topic, payload.as_json())?;
+            let payload = payload.to_json(alloc)?;
+            port.shout(alloc, topic, &payload)?;
             Ok(Answer::Done)
         }
     }

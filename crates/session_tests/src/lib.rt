@@ -18,6 +18,8 @@ mod inbox;
 #[cfg(test)]
 mod joins;
 #[cfg(test)]
+mod last_count;
+#[cfg(test)]
 mod lent;
 #[cfg(test)]
 mod limits;

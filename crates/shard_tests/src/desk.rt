@@ -4,7 +4,7 @@ use crate::merge_desk::{Telling, replica, told};
 use orswot_core::Told;
 use presence_base::{Dot, Json, Key, Meta, Row, Topic, has_float, is_within_depth, ref_text};
 use presence_journal::{Item, MAX_PAYLOAD_DEPTH};
-use presence_journal_walks::walk_status;
+use presence_journal_walks::{walk_status, walk_top};
 use serde_json::Value;
 use std::alloc::{AllocError, Global};
 use tracker_shard::{Shard, ShardFault, Sub};
@@ -48,6 +48,8 @@ pub(crate) enum Ask {
     // The same as the journal is walked.
     WalkedStatus(&'static str),
     Top(&'static str),
+    // The same as the journal is walked.
+    WalkedTop(&'static str),
     // How many rows of all nodes there are, shown or not.
     LiveCount,
     LastNumber,
@@ -350,6 +352,16 @@ fn status(alloc: Global, shard: &Shard, name: &str, walked: bool) -> Result<Stri
     format!(in alloc; "{status:?}")
 }
 
+fn top(alloc: Global, shard: &Shard, name: &str, walked: bool) -> Result<String, AllocError> {
+    let replica = replica(alloc, name)?;
+    let top = if walked {
+        walk_top(shard.journal(), &replica)
+    } else {
+        shard.top(&replica)
+    };
+    format!(in alloc; "{top}")
+}
+
 // A call that no session makes.
 fn note(alloc: Global, shard: &mut Shard, ask: Ask) -> Result<String, AllocError> {
     match ask {
@@ -369,11 +381,8 @@ fn note(alloc: Global, shard: &mut Shard, ask: Ask) -> Result<String, AllocError
         }
         Ask::Status(name) => status(alloc, shard, name, false),
         Ask::WalkedStatus(name) => status(alloc, shard, name, true),
-        Ask::Top(name) => {
-            let replica = replica(alloc, name)?;
-            let top = shard.top(&replica);
-            format!(in alloc; "{top}")
-        }
+        Ask::Top(name) => top(alloc, shard, name, false),
+        Ask::WalkedTop(name) => top(alloc, shard, name, true),
         Ask::LiveCount => {
             let full = shard.full(alloc)?;
             format!(in alloc; "{}", full.live().len())

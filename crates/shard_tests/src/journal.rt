@@ -384,11 +384,11 @@ fn an_entry_is_cloned(rt: HostRuntime) -> Result<(), Fail> {
 }
 
 // The value as a payload, where it is one.
-fn payload_of(value: Value) -> Option<Payload> {
+fn payload_of(alloc: Global, value: Value) -> Option<Payload> {
     if !is_within_depth(&value, MAX_PAYLOAD_DEPTH) || has_float(&value) {
         return None;
     }
-    Some(Payload::new(Json::new(value)))
+    Payload::new(alloc, &Json::new(value)).ok()
 }
 
 // Arrays one within the other, so deep.
@@ -409,9 +409,9 @@ fn nested(alloc: Global, depth: u32) -> Result<Value, AllocError> {
 #[test]
 fn the_deepest_payload(rt: HostRuntime) -> Result<(), Fail> {
     let deepest = nested(rt.alloc(), MAX_PAYLOAD_DEPTH)?;
-    assert!(rt; payload_of(deepest).is_some());
+    assert!(rt; payload_of(rt.alloc(), deepest).is_some());
     let deeper = nested(rt.alloc(), MAX_PAYLOAD_DEPTH + 1)?;
-    assert!(rt; payload_of(deeper).is_none());
+    assert!(rt; payload_of(rt.alloc(), deeper).is_none());
     Ok(())
 }
 

@@ -35,6 +35,10 @@ mod merging;
 #[cfg(test)]
 mod refused_growths;
 #[cfg(test)]
+mod resuming;
+#[cfg(test)]
 mod statuses;
+#[cfg(test)]
+mod tops;
 #[cfg(test)]
 mod two_ways;

@@ -179,8 +179,7 @@ fn add_reference(alloc: Global, text: &mut String, dot: &Dot) -> Result<(), Allo
 }
 
 fn add_meta(alloc: Global, text: &mut String, meta: &Meta) -> Result<(), AllocError> {
-    let meta = meta.as_value().to_string(alloc)?;
-    text.push_str(meta.as_str())
+    text.push_str(meta.text())
 }
 
 // The row that one replaced.

@@ -28,6 +28,15 @@ const REMOVAL: Telling = Telling {
     live: &[],
 };
 
+// All counts that there are, and no row.
+const ALL_COUNTS: Telling = Telling {
+    node: "b",
+    from: 0,
+    to: 4_611_686_018_427_387_904,
+    extras: &[],
+    live: &[],
+};
+
 // The other node is heard, and a subscriber has taken its state.
 const HEARD: &[Ask] = &[Ask::Heard("b", 0), Ask::Subscribe(ROOM), Ask::Take(2)];
 
@@ -148,7 +157,9 @@ fn is_told(alloc: Global, shard: &mut Shard, number: u64, want: &str) -> Result<
     Ok(text.as_str() == want)
 }
 
-// The removal comes first, and shows nothing; then both rows, of which the first one stays hidden.
+// The removal comes first, and shows nothing; then both rows, of which the first one stays hidden. Behind all counts, which
+// hide the other one, how far the node is known and all that is told cost a look, also where memory was refused behind the
+// merge.
 #[test]
 fn merge_refusals(rt: HostRuntime) -> Result<(), Fail> {
     let alloc = rt.alloc();
@@ -160,6 +171,17 @@ fn merge_refusals(rt: HostRuntime) -> Result<(), Fail> {
     assert!(rt; is_answered(alloc, &mut shard, Ask::Top("b"), "3;")?);
     assert!(rt; is_answered(alloc, &mut shard, Ask::List, "b.1.2 ;")?);
     assert!(rt; is_told(alloc, &mut shard, 2, "+ b.1.2 - ")?);
+    assert!(rt; is_merged(alloc, &mut shard, &ALL_COUNTS)?);
+    assert!(rt; is_answered(alloc, &mut shard, Ask::Top("b"), "4611686018427387904;")?);
+    assert!(rt;
+        is_answered(
+            alloc,
+            &mut shard,
+            Ask::ToldFrom(0),
+            "0-4611686018427387904: : ;"
+        )?
+    );
+    assert!(rt; is_told(alloc, &mut shard, 2, "+ - b.1.2 ")?);
     Ok(())
 }
 

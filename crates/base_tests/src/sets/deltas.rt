@@ -114,7 +114,12 @@ fn delta_of(
     }
 }
 
-fn delta(alloc: Global, range: (u64, u64), extras: &[u64], rows: (u64, u64)) -> Option<Delta>
+pub(super) fn delta(
+    alloc: Global,
+    range: (u64, u64),
+    extras: &[u64],
+    rows: (u64, u64),
+) -> Option<Delta>
     ensures owner { IfSome result (λ d. d.owner ≡ record { name = codes "b"; incarnation = 1 }) }
     ensures from { IfSome result (λ d. d.from ≡ range.0) }
     ensures to { IfSome result (λ d. d.to ≡ range.1) }
@@ -236,7 +241,7 @@ fn another_owner_goes_before_a_gap(rt: HostRuntime) {
 }
 
 // Where the generation that is picked for a count begins and ends.
-fn picked(kept: &Generations, count: u64) -> Option<(u64, u64)> {
+pub(super) fn picked(kept: &Generations, count: u64) -> Option<(u64, u64)> {
     kept.from_count(count)
         .map(|delta| (delta.from(), delta.to()))
 }

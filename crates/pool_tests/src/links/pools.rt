@@ -1,7 +1,12 @@
 //! A new pool of two shards with one seat, of the node that says or of the one that hears. It settles behind each run.
+ghost use Rattle.presence_journal.specs.History.{begun};
 ghost use Rattle.std.specs.Prelude.{◌≡◌};
 ghost use Rattle.presence_base.specs.Refs.{IsCount};
 
+use super::crowds::{
+    HEARING_MOST, HearingCrowd, MOST, SAYING_MOST, SAYING_TOO_MANY, SayingCrowd, TOO_MANY,
+    hear_crowd, say_crowd,
+};
 use super::hearing::{HEARING, HEARING_KEPT, HEARING_OUTGROWN, Hearing, hear};
 use super::loopback::{ACCEPTED, Accepted, DIALLED, Dialled, accept_over, both_ends, dial_over};
 use super::lost::{KEPT, Lost, OUTGROWN, SAYING_LOST, SayingLost, say_lost};
@@ -24,6 +29,9 @@ enum Run {
     Say,
     SayLost(Lost),
     Hear(Dialogue),
+    // So many rows.
+    SayCrowd(u32),
+    HearCrowd(u32),
     // At one end of a connection.
     Dial(TcpStream),
     Accept(TcpStream),
@@ -35,6 +43,8 @@ enum Came {
     Said(Saying),
     SaidLost(SayingLost),
     Heard(Hearing),
+    SaidCrowd(SayingCrowd),
+    HeardCrowd(HearingCrowd),
     Dialled(Dialled),
     Accepted(Accepted),
 }
@@ -53,6 +63,8 @@ fn run_over<A: Lane, B: Lane, C: Lane, D: Lane, R: Wait>(
         Run::Say => Some(Came::Said(say(rt, alloc, pool, seat, own)?)),
         Run::SayLost(lost) => Some(Came::SaidLost(say_lost(rt, alloc, pool, seat, own, lost)?)),
         Run::Hear(dialogue) => Some(Came::Heard(hear(rt, alloc, pool, seat, *own, dialogue)?)),
+        Run::SayCrowd(rows) => Some(Came::SaidCrowd(say_crowd(rt, alloc, pool, seat, rows)?)),
+        Run::HearCrowd(rows) => Some(Came::HeardCrowd(hear_crowd(rt, alloc, pool, rows)?)),
         Run::Dial(mut stream) => Some(Came::Dialled(dial_over(
             rt,
             alloc,
@@ -88,6 +100,8 @@ fn settled_run<A: Lane, B: Lane, C: Lane, D: Lane, R: Wait>(
     requires second { (second.name ≡ B.name) × (second.parts ≡ B.parts) × (second.parts ≡ 1) × (own.name ≡ B.node) }
     requires third { (third.name ≡ C.name) × (third.parts ≡ C.parts) × (third.parts ≡ 1) × (own.name ≡ C.node) }
     requires fourth { (fourth.name ≡ D.name) × (fourth.parts ≡ D.parts) × (fourth.parts ≡ 1) × (own.name ≡ D.node) }
+    requires begins { (A.begins (begun own)) × (B.begins (begun own)) × (C.begins (begun own))
+        × (D.begins (begun own)) }
 {
     let started = Pool::<NoGate, A, B, C, D>::start(
         alloc, own, 2, 1, NoGate, first, second, third, fourth,
@@ -157,6 +171,22 @@ fn kept_cuts_over_a_link(rt: HostRuntime) {
 #[test]
 fn outgrown_cuts_over_a_link(rt: HostRuntime) {
     assert!(rt; is_told_of(&rt, rt.alloc(), Lost::Outgrown, OUTGROWN, HEARING_OUTGROWN));
+}
+
+// A beat tells as many rows as another node takes in, and goes out bare where there are more.
+#[test]
+fn a_beat_of_65_536_rows(rt: HostRuntime) {
+    let alloc = rt.alloc();
+    let most = came_of(&rt, alloc, "b", Run::SayCrowd(MOST));
+    assert!(rt; most == Some(Came::SaidCrowd(SAYING_MOST)));
+    let more = came_of(&rt, alloc, "b", Run::SayCrowd(TOO_MANY));
+    assert!(rt; more == Some(Came::SaidCrowd(SAYING_TOO_MANY)));
+}
+
+#[test]
+fn a_merge_of_65_536_rows(rt: HostRuntime) {
+    let heard = came_of(&rt, rt.alloc(), "a", Run::HearCrowd(MOST));
+    assert!(rt; heard == Some(Came::HeardCrowd(HEARING_MOST)));
 }
 
 // Each pool is in a thread of its own. The dialling end hangs up once its run is over.

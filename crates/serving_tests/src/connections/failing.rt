@@ -1,7 +1,7 @@
-//! Streams that fail: at each read and each write, and full ones.
+//! Streams that fail at each read and each write, and ones without room for a text.
 
-use super::line::{Line, line_over};
-use crate::served::{Cause, Progress, REPLIES, Stage, TEXTS, frames, wire_of};
+use super::line::{Line, line_over, line_within};
+use crate::served::{Cause, Progress, REPLIES, Stage, TEXTS, close_frame, frames, wire_of};
 use std::alloc::Global;
 use std::io::ErrorKind;
 use std::test::Fail;
@@ -24,27 +24,64 @@ fn run<'a>(
     Some(line)
 }
 
-// A failed read ends the connection with no close frame behind what was sent, and its session is ended.
+// Errors that don't pass.
+const LASTING: [ErrorKind; 5] = [
+    ErrorKind::ConnectionReset,
+    ErrorKind::BrokenPipe,
+    ErrorKind::TimedOut,
+    ErrorKind::UnexpectedEof,
+    ErrorKind::Other,
+];
+
+// Whether a connection ended since its stream failed, with no close frame behind what was sent, and its session is ended.
+fn was_broken_off(alloc: Global, line: &mut Line<'_>, wanted: &[u8]) -> bool {
+    wanted.starts_with(line.got())
+        && line.connection.stage == Stage::Over(Cause::Stream)
+        && line.connection.session.joined().count() == 0
+        && line.turn(alloc) == Progress::Over
+}
+
+// How many reads of the first run failed so, in a run of its own each, if each ended the connection.
+fn reads_that_end_it(alloc: Global, sent: &[u8], wanted: &[u8], so: ErrorKind) -> Option<u32> {
+    let mut failed: u32 = 0;
+    for read in 0..40_usize {
+        let mut line = run(alloc, sent, read, usize::MAX, so)?;
+        if line.connection.socket.get_ref().reads > read {
+            failed = failed.saturating_add(1);
+            if !was_broken_off(alloc, &mut line, wanted) {
+                return None;
+            }
+        }
+    }
+    Some(failed)
+}
+
+// A failed read ends the connection.
 #[test]
 fn each_read_fails(rt: HostRuntime) -> Result<(), Fail> {
     let alloc = rt.alloc();
     let sent = frames(alloc, true, TEXTS)?;
     let wanted = frames(alloc, false, REPLIES)?;
-    let mut failed: u32 = 0;
-    for read in 0..40_usize {
-        let Some(mut line) = run(alloc, &sent, read, usize::MAX, ErrorKind::ConnectionReset) else {
-            return Err(Fail::new("none was given"));
+    for so in LASTING {
+        let Some(failed) = reads_that_end_it(alloc, &sent, &wanted, so) else {
+            return Err(Fail::new("a failed read did not end the connection"));
         };
-        assert!(rt; wanted.as_slice().starts_with(line.got()));
-        if line.connection.socket.get_ref().reads > read {
-            failed = failed.saturating_add(1);
-            assert_eq!(rt; line.connection.stage, Stage::Over(Cause::Stream));
-            assert_eq!(rt; line.connection.session.joined().count(), 0);
-            assert_eq!(rt; line.turn(alloc), Progress::Over);
+        assert!(rt; failed > 20);
+    }
+    Ok(())
+}
+
+// Whether each of the four writes of the first run ends the connection where it fails so.
+fn writes_end_it(alloc: Global, sent: &[u8], wanted: &[u8], so: ErrorKind) -> bool {
+    for write in 0..4_usize {
+        let Some(mut line) = run(alloc, sent, usize::MAX, write, so) else {
+            return false;
+        };
+        if line.got().len() >= wanted.len() || !was_broken_off(alloc, &mut line, wanted) {
+            return false;
         }
     }
-    assert!(rt; failed > 20);
-    Ok(())
+    true
 }
 
 // So does a failed write.
@@ -53,32 +90,49 @@ fn each_write_fails(rt: HostRuntime) -> Result<(), Fail> {
     let alloc = rt.alloc();
     let sent = frames(alloc, true, TEXTS)?;
     let wanted = frames(alloc, false, REPLIES)?;
-    for write in 0..4_usize {
-        let Some(line) = run(alloc, &sent, usize::MAX, write, ErrorKind::BrokenPipe) else {
-            return Err(Fail::new("none was given"));
-        };
-        assert!(rt; wanted.as_slice().starts_with(line.got()));
-        assert!(rt; line.got().len() < wanted.len());
-        assert_eq!(rt; line.connection.stage, Stage::Over(Cause::Stream));
-        assert_eq!(rt; line.connection.session.joined().count(), 0);
+    for so in LASTING {
+        assert!(rt; writes_end_it(alloc, &sent, &wanted, so));
     }
     Ok(())
 }
 
-// A read or write that would block loses nothing: what waited goes out later.
-#[test]
-fn blocked_streams_lose_nothing(rt: HostRuntime) -> Result<(), Fail> {
-    let alloc = rt.alloc();
-    let sent = frames(alloc, true, TEXTS)?;
-    let wanted = frames(alloc, false, REPLIES)?;
+// Whether nothing is lost where one read or write after the other fails so, once in a run.
+fn loses_nothing(alloc: Global, sent: &[u8], wanted: &[u8], so: ErrorKind) -> bool {
     for call in 0..20_usize {
-        let Some(mut line) = run(alloc, &sent, call, call, ErrorKind::WouldBlock) else {
-            return Err(Fail::new("none was given"));
+        let Some(mut line) = run(alloc, sent, call, call, so) else {
+            return false;
         };
         let _rest = line.turns(alloc, 99);
         let _more = line.turns(alloc, 99);
-        assert_eq!(rt; line.connection.stage, Stage::Open);
-        assert_eq!(rt; line.got(), wanted.as_slice());
+        if line.connection.stage != Stage::Open || line.got() != wanted {
+            return false;
+        }
     }
+    true
+}
+
+// A read or write that would block or was interrupted loses nothing: what waited goes out later.
+#[test]
+fn passing_failures_lose_nothing(rt: HostRuntime) -> Result<(), Fail> {
+    let alloc = rt.alloc();
+    let sent = frames(alloc, true, TEXTS)?;
+    let wanted = frames(alloc, false, REPLIES)?;
+    for so in [ErrorKind::WouldBlock, ErrorKind::Interrupted] {
+        assert!(rt; loses_nothing(alloc, &sent, &wanted, so));
+    }
+    Ok(())
+}
+
+// A text that is longer than what may wait isn't sent, and its client is told so by the close code.
+#[test]
+fn a_text_without_room_is_told(rt: HostRuntime) -> Result<(), Fail> {
+    let alloc = rt.alloc();
+    let sent = frames(alloc, true, TEXTS)?;
+    let Some(mut line) = line_within(alloc, wire_of(alloc, &sent), 40) else {
+        return Err(Fail::new("none was given"));
+    };
+    assert_eq!(rt; line.turns(alloc, 9), Progress::Over);
+    assert_eq!(rt; line.connection.stage, Stage::Over(Cause::Full));
+    assert_eq!(rt; line.got(), close_frame(1011).as_slice());
     Ok(())
 }

@@ -1,10 +1,10 @@
 //! A connection over a stream in memory, and its turns.
 
-use crate::served::{Connection, Progress, Wire, rooms, socket_over};
+use crate::served::{Connection, Progress, Wire, rooms, socket_config, socket_over};
 use hook_registry::{NoHooks, Routes};
 use session_desk::TestPort;
 use std::alloc::Global;
-use tungstenite::NoMask;
+use tungstenite::{NoMask, Role, WebSocket};
 
 // A connection of number 1 to a shard of `a.1`, with the route `room:*`.
 pub(super) struct Line<'a> {
@@ -28,15 +28,26 @@ impl Drop for Line<'_> {
     }
 }
 
-pub(super) fn line_over<'a>(alloc: Global, wire: Wire<'a>) -> Option<Line<'a>> {
+fn line_at<'a>(alloc: Global, socket: WebSocket<Wire<'a>, NoMask>) -> Option<Line<'a>> {
     let port = TestPort::new(alloc)?;
     let routes = rooms(alloc)?;
     Some(Line {
-        connection: Connection::new(alloc, socket_over(alloc, wire), 1, 0),
+        connection: Connection::new(alloc, socket, 1, 0),
         port,
         routes,
         now: 0,
     })
+}
+
+pub(super) fn line_over<'a>(alloc: Global, wire: Wire<'a>) -> Option<Line<'a>> {
+    line_at(alloc, socket_over(alloc, wire))
+}
+
+// The same, where so many bytes may wait to be sent.
+pub(super) fn line_within<'a>(alloc: Global, wire: Wire<'a>, most: usize) -> Option<Line<'a>> {
+    let config = socket_config().max_write_buffer_size(most);
+    let socket = WebSocket::from_raw_socket(alloc, wire, NoMask, Role::Server, Some(config));
+    line_at(alloc, socket)
 }
 
 impl Line<'_> {

@@ -8,7 +8,7 @@ use tungstenite::{NoMask, Role, WebSocket};
 
 // Gives the rest, at most `step` bytes a call, and then has nothing; takes all that is written. The
 // read of number `fails_read` fails, and the write of number `fails_write`; so do all behind it,
-// unless the stream would only block.
+// unless that one passes.
 pub struct Wire<'a> {
     pub rest: &'a [u8],
     pub step: usize,
@@ -36,8 +36,13 @@ impl Drop for Wire<'_> {
     }
 }
 
+// Whether a stream that fails so goes on behind it.
+fn passes(so: ErrorKind) -> bool {
+    matches!(so, ErrorKind::WouldBlock | ErrorKind::Interrupted)
+}
+
 fn fails(call: usize, at: usize, so: ErrorKind) -> bool {
-    call == at || (call > at && so != ErrorKind::WouldBlock)
+    call == at || (call > at && !passes(so))
 }
 
 impl Read for Wire<'_> {

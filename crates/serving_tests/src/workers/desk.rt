@@ -89,6 +89,12 @@ impl<S: Read + Write + Drop, P: Port> Desk<'_, S, P> {
         self.worker.flush();
     }
 
+    // A turn that reads nothing, and a flush behind it.
+    pub fn deliver(&mut self, alloc: Global) {
+        self.worker.deliver(alloc, &mut *self.port, &NoHooks);
+        self.worker.flush();
+    }
+
     // Ends all connections, in one turn: whether none is left.
     pub fn stop(&mut self, alloc: Global) -> bool {
         self.worker.stop_all();

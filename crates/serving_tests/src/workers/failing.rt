@@ -34,12 +34,49 @@ const TOLD: &str = r#"[null,"1","phoenix","phx_reply",{"response":{},"status":"o
 ["7","8","room:lobby","phx_reply",{"response":{},"status":"ok"}]
 "#;
 
+// What a client of another shard's topic says meanwhile: it joins the room once the other is gone.
+const SAID_APART: &str = r#"["7","1","room:hall","phx_join",{}]
+["7","2","room:hall","track",{"key":"u9","meta":{"y":2}}]
+[null,"3","phoenix","heartbeat",{}]
+[null,"4","phoenix","heartbeat",{}]
+["7","5","room:hall","shout",{"b":2}]
+[null,"6","phoenix","heartbeat",{}]
+[null,"7","phoenix","heartbeat",{}]
+["8","8","room:lobby","phx_join",{}]
+["8","9","room:lobby","list",{}]
+"#;
+
+// What it is told: all of its own topic, and nothing of the other.
+const TOLD_APART: &str = r#"["7","1","room:hall","phx_reply",{"response":{},"status":"ok"}]
+["7",null,"room:hall","presence_state",{}]
+["7","2","room:hall","phx_reply",{"response":{"phx_ref":"a.1.1"},"status":"ok"}]
+[null,null,"room:hall","presence_diff",{"joins":{"u9":{"metas":[{"phx_ref":"a.1.1","y":2}]}},"leaves":{}}]
+[null,"3","phoenix","phx_reply",{"response":{},"status":"ok"}]
+[null,"4","phoenix","phx_reply",{"response":{},"status":"ok"}]
+[null,null,"room:hall","shout",{"b":2}]
+[null,"6","phoenix","phx_reply",{"response":{},"status":"ok"}]
+[null,"7","phoenix","phx_reply",{"response":{},"status":"ok"}]
+["8","8","room:lobby","phx_reply",{"response":{},"status":"ok"}]
+["8",null,"room:lobby","presence_state",{}]
+["8","9","room:lobby","phx_reply",{"response":{},"status":"ok"}]
+"#;
+
+// A client beside another one, whose stream fails at this read and this write.
+#[derive(Clone, Copy)]
+pub(crate) struct Beside {
+    read: usize,
+    write: usize,
+    // What it says, and what it is told.
+    said: &'static str,
+    told: &'static str,
+}
+
 // A stream that gives 7 bytes a call, and fails at this read and this write.
-fn failing_wire(alloc: Global, bytes: &[u8], read: usize, write: usize) -> Wire<'_> {
+fn failing_wire<'b>(alloc: Global, bytes: &'b [u8], beside: &Beside) -> Wire<'b> {
     let mut wire = wire_of(alloc, bytes);
     wire.step = 7;
-    wire.fails_read = read;
-    wire.fails_write = write;
+    wire.fails_read = beside.read;
+    wire.fails_write = beside.write;
     wire
 }
 
@@ -86,10 +123,10 @@ impl Drop for Spoken {
     }
 }
 
-fn bytes_of_both(alloc: Global) -> Result<Spoken, AllocError> {
+fn bytes_of_both(alloc: Global, beside: &Beside) -> Result<Spoken, AllocError> {
     let first = frames(alloc, true, TEXTS)?;
-    let second = frames(alloc, true, SAID)?;
-    let told = frames(alloc, false, TOLD)?;
+    let second = frames(alloc, true, beside.said)?;
+    let told = frames(alloc, false, beside.told)?;
     Ok(Spoken {
         first,
         second,
@@ -97,32 +134,29 @@ fn bytes_of_both(alloc: Global) -> Result<Spoken, AllocError> {
     })
 }
 
-// How many clients are left of one whose stream fails, and of one beside it.
 fn serve_both<P: Port, R: Wait>(
     rt: &R,
     alloc: Global,
     port: &mut P,
     spoken: &Spoken,
-    read: usize,
-    write: usize,
+    beside: &Beside,
 ) -> Option<usize> {
     let mut desk = desk_over(alloc, port)?;
-    desk.admit_wire(rt, alloc, failing_wire(alloc, &spoken.first, read, write))?;
+    desk.admit_wire(rt, alloc, failing_wire(alloc, &spoken.first, beside))?;
     desk.admit_wire(rt, alloc, wire_of(alloc, &spoken.second))?;
     let left = left_behind_turns(alloc, &mut desk, &spoken.told);
     if desk.stop(alloc) { left } else { None }
 }
 
-// The same, where the first one says the texts of the first run.
+// How many clients are left of one that says the texts of the first run and whose stream fails, and of one beside it.
 pub(crate) fn serve_beside<P: Port, R: Wait>(
     rt: &R,
     alloc: Global,
     port: &mut P,
-    read: usize,
-    write: usize,
+    beside: &Beside,
 ) -> Option<usize> {
-    let spoken = bytes_of_both(alloc).ok()?;
-    serve_both(rt, alloc, port, &spoken, read, write)
+    let spoken = bytes_of_both(alloc, beside).ok()?;
+    serve_both(rt, alloc, port, &spoken, beside)
 }
 
 // Which call of the stream fails.
@@ -132,15 +166,32 @@ enum Fails {
     Write,
 }
 
+// A client that says this and is told that, beside one whose stream fails at this call.
+fn failing_at(fails: Fails, call: usize, said: &'static str, told: &'static str) -> Beside {
+    let (read, write) = match fails {
+        Fails::Read => (call, usize::MAX),
+        Fails::Write => (usize::MAX, call),
+    };
+    Beside {
+        read,
+        write,
+        said,
+        told,
+    }
+}
+
 // How many such calls the first client's stream makes, where each is refused in a run of its own, and in each the second
-// client is served all the same and the pool settles.
-fn faults_borne<R: Wait + Clock>(rt: &R, alloc: Global, fails: Fails) -> Option<usize> {
+// client, which says this, is told that all the same and the pool settles.
+fn faults_borne<R: Wait + Clock>(
+    rt: &R,
+    alloc: Global,
+    fails: Fails,
+    said: &'static str,
+    told: &'static str,
+) -> Option<usize> {
     for call in 0..99_usize {
-        let run = match fails {
-            Fails::Read => Run::Beside(call, usize::MAX),
-            Fails::Write => Run::Beside(usize::MAX, call),
-        };
-        match over_pool(rt, alloc, run, false)? {
+        let run = failing_at(fails, call, said, told);
+        match over_pool(rt, alloc, Run::Beside(&run), false)? {
             (1, Ok(_)) => {}
             (2, Ok(_)) => return Some(call),
             _ => return None,
@@ -151,7 +202,7 @@ fn faults_borne<R: Wait + Clock>(rt: &R, alloc: Global, fails: Fails) -> Option<
 
 #[test]
 fn each_read_fails(rt: HostRuntime) -> Result<(), Fail> {
-    let Some(borne) = faults_borne(&rt, rt.alloc(), Fails::Read) else {
+    let Some(borne) = faults_borne(&rt, rt.alloc(), Fails::Read, SAID, TOLD) else {
         return Err(Fail::new("a fault was not borne"));
     };
     assert!(rt; borne > 20, "{borne}");
@@ -161,6 +212,22 @@ fn each_read_fails(rt: HostRuntime) -> Result<(), Fail> {
 // Each of the four turns that answer a text writes once.
 #[test]
 fn each_write_fails(rt: HostRuntime) -> Result<(), Fail> {
-    assert_eq!(rt; faults_borne(&rt, rt.alloc(), Fails::Write), Some(4));
+    assert_eq!(rt;
+        faults_borne(&rt, rt.alloc(), Fails::Write, SAID, TOLD),
+        Some(4)
+    );
+    Ok(())
+}
+
+// The topic of the one is of another shard than the other's, and both have joined when the stream fails.
+#[test]
+fn each_call_fails_beside_another_shard(rt: HostRuntime) -> Result<(), Fail> {
+    let alloc = rt.alloc();
+    let Some(borne) = faults_borne(&rt, alloc, Fails::Read, SAID_APART, TOLD_APART) else {
+        return Err(Fail::new("a fault was not borne"));
+    };
+    assert!(rt; borne > 20, "{borne}");
+    let writes = faults_borne(&rt, alloc, Fails::Write, SAID_APART, TOLD_APART);
+    assert_eq!(rt; writes, Some(4));
     Ok(())
 }

@@ -1,4 +1,5 @@
 //! A new pool of four shards and two seats, at the first of which a worker serves, and how it settles.
+ghost use Rattle.presence_journal.specs.History.{begun};
 ghost use Rattle.std.specs.Prelude.{◌≡◌};
 ghost use Rattle.presence_base.specs.Refs.{IsCount};
 
@@ -54,6 +55,8 @@ fn settled_run<A: Lane, B: Lane, C: Lane, D: Lane, R: Wait + Clock>(
     requires second { (second.name ≡ B.name) × (second.parts ≡ B.parts) × (second.parts ≡ 2) × (own.name ≡ B.node) }
     requires third { (third.name ≡ C.name) × (third.parts ≡ C.parts) × (third.parts ≡ 2) × (own.name ≡ C.node) }
     requires fourth { (fourth.name ≡ D.name) × (fourth.parts ≡ D.parts) × (fourth.parts ≡ 2) × (own.name ≡ D.node) }
+    requires begins { (A.begins (begun own)) × (B.begins (begun own)) × (C.begins (begun own))
+        × (D.begins (begun own)) }
 {
     let started = Pool::<NoGate, A, B, C, D>::start(
         alloc, own, 4, 2, NoGate, first, second, third, fourth,

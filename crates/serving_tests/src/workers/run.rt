@@ -2,7 +2,8 @@
 ghost use Rattle.std.specs.Prelude.{IfSome};
 ghost use Rattle.presence_base.specs.Refs.{IsCount};
 
-use super::failing::serve_beside;
+use super::failing::{Beside, serve_beside};
+use super::holding::serve_held;
 use super::pool::over_pool;
 use super::script::{Turn, play_turns};
 use super::socket::serve_one;
@@ -20,8 +21,10 @@ use std::time::Clock;
 pub(crate) enum Run<'a> {
     // These turns, in which clients are told so.
     Turns(&'a [Turn]),
-    // One client beside another, whose stream fails at this read and this write.
-    Beside(usize, usize),
+    // One client beside another, whose stream fails.
+    Beside(&'a Beside),
+    // Two clients, of which one is held.
+    Held,
     // A client that comes while 256 wait, and one behind them.
     Behind,
     // As many clients as there are places for, and one more.
@@ -46,7 +49,8 @@ pub(crate) fn play<P: Port, R: Wait + Clock>(
 ) -> Option<usize> {
     match run {
         Run::Turns(turns) => play_turns(rt, alloc, port, turns),
-        Run::Beside(read, write) => serve_beside(rt, alloc, port, read, write),
+        Run::Beside(beside) => serve_beside(rt, alloc, port, beside),
+        Run::Held => serve_held(rt, alloc, port),
         Run::Behind => serve_behind(rt, alloc, port),
         Run::Full => serve_full(rt, alloc, port),
         Run::Socket(listener) => serve_one(rt, alloc, port, listener),

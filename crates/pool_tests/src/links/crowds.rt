@@ -1,0 +1,123 @@
+//! As many rows as a told value may bring, and one more: what a beat tells of them, and what a merge makes known.
+ghost use Rattle.std.specs.Prelude.{◌≡◌};
+
+use super::desk::track;
+use super::node::NOW;
+use node_links::{Line, LinkPort};
+use orswot_core_told::{RawRow, RawTold, Told};
+use pool_desk::replica;
+use presence_base::{Dot, Replica};
+use presence_node_link_ports::{PoolLinkPort, cut_off, fitting_beat};
+use serde_json::{Map, Value};
+use shard_pool::{Lane, NoGate, Pool, Seat};
+use std::alloc::Global;
+use std::sync::Wait;
+
+// How many rows a beat tells, or none where it goes out bare; and how many the shard tells in full.
+pub(crate) type SayingCrowd = (Option<usize>, usize);
+
+pub(crate) const MOST: u32 = 65_536;
+
+pub(crate) const SAYING_MOST: SayingCrowd = (Some(65_536), 65_536);
+
+pub(crate) const TOO_MANY: u32 = 65_537;
+
+pub(crate) const SAYING_TOO_MANY: SayingCrowd = (None, 65_537);
+
+// Tracks so many rows of the first shard's room.
+fn track_many<R: Wait, A: Lane, B: Lane, C: Lane, D: Lane>(
+    rt: &R,
+    alloc: Global,
+    pool: &Pool<NoGate, A, B, C, D>,
+    seat: &mut Seat<A, B, C, D>,
+    rows: u32,
+) -> Option<()> {
+    for number in 0..rows {
+        let name = format!(in alloc; "k{number}").ok()?;
+        track(rt, alloc, pool, seat, name.as_str())?;
+    }
+    Some(())
+}
+
+// How many rows go along with a beat.
+fn rows_along(beat: Line) -> Option<usize> {
+    match &beat {
+        Line::Beat {
+            delta: Some(told),
+            ..
+        } => Some(told.live().len()),
+        _ => None,
+    }
+}
+
+pub(crate) fn say_crowd<R: Wait, A: Lane, B: Lane, C: Lane, D: Lane>(
+    rt: &R,
+    alloc: Global,
+    pool: &Pool<NoGate, A, B, C, D>,
+    seat: &mut Seat<A, B, C, D>,
+    rows: u32,
+) -> Option<SayingCrowd>
+    requires { pool.now.shards ≡ 2 }
+{
+    track_many(rt, alloc, pool, seat, rows)?;
+    let cut = cut_off(rt, alloc, pool, 0).ok()?;
+    let beat = fitting_beat(alloc, 0, &cut).ok()?;
+    let told = rows_along(beat);
+    let full = pool.full(rt, alloc, 0).ok()?.live().len();
+    Some((told, full))
+}
+
+// How far the other node is known behind its rows, and how many rows the shard tells in full.
+pub(crate) type HearingCrowd = (u64, usize);
+
+pub(crate) const HEARING_MOST: HearingCrowd = (65_536, 65_536);
+
+// A row of the first shard's room.
+fn raw_row(alloc: Global, number: u32) -> Option<RawRow> {
+    let topic = String::from_str(alloc, "room:a").ok()?;
+    let key = format!(in alloc; "k{number}").ok()?;
+    Some(RawRow {
+        topic,
+        key,
+        pid: 5,
+        meta: Value::Object(Map::new(alloc)),
+        prev: None,
+    })
+}
+
+fn crowd_of(alloc: Global, replica: &Replica, rows: u32) -> Option<Told> {
+    let mut live = Vec::new(alloc);
+    for number in 0..rows {
+        let dot = Dot {
+            replica: *replica,
+            count: u64::from(number).saturating_add(1),
+        };
+        live.push((dot, raw_row(alloc, number)?)).ok()?;
+    }
+    let mut ranges = Vec::new(alloc);
+    ranges.push((*replica, 0, u64::from(rows))).ok()?;
+    let raw = RawTold {
+        ranges,
+        extras: Vec::new(alloc),
+        live,
+    };
+    Told::check(alloc, raw, 0, 2).ok()
+}
+
+pub(crate) fn hear_crowd<R: Wait, A: Lane, B: Lane, C: Lane, D: Lane>(
+    rt: &R,
+    alloc: Global,
+    pool: &Pool<NoGate, A, B, C, D>,
+    rows: u32,
+) -> Option<HearingCrowd>
+    requires { pool.now.shards ≡ 2 }
+{
+    let other = replica(alloc, "c")?;
+    let told = crowd_of(alloc, &other, rows)?;
+    let mut port = PoolLinkPort::new(rt, pool, 2);
+    port.heard(alloc, 0, other, NOW).ok()?;
+    port.merge(alloc, 0, &told).ok()?;
+    let top = port.top(alloc, 0, &other).ok()?;
+    let full = port.full(alloc, 0).ok()?.live().len();
+    Some((top, full))
+}

@@ -1,0 +1,87 @@
+//! Pools of many seats, which settle where each has made a call.
+ghost use Rattle.std.specs.Prelude.{◌≡◌, ◌<◌, ◌≤◌};
+ghost use Rattle.presence_base.specs.Refs.{IsCount};
+ghost use Rattle.presence_journal.specs.History.{begun};
+
+use pool_desk::{replica, topic};
+use presence_base::{Replica, Topic};
+use shard_pool::{Lane, NoGate, Pool, Seat};
+use std::alloc::Global;
+use std::marker::Brand;
+use std::sync::Wait;
+use std::sync::ledger::Blank;
+use std::test::Fail;
+
+// A list by each seat.
+fn list_all<R: Wait, A: Lane, B: Lane, C: Lane, D: Lane>(
+    rt: &R,
+    alloc: Global,
+    pool: &Pool<NoGate, A, B, C, D>,
+    seats: &mut [Seat<A, B, C, D>],
+    topic: &Topic,
+) -> Option<()> {
+    for seat in seats.iter_mut() {
+        pool.list(rt, alloc, seat, topic).ok()?;
+    }
+    Some(())
+}
+
+// How many entries the one journal has behind a list by each of so many seats, where the pool settles.
+fn listed_by<A: Lane, B: Lane, C: Lane, D: Lane, R: Wait>(
+    rt: &R,
+    alloc: Global,
+    own: Replica,
+    seats: u32,
+    first: Blank,
+    second: Blank,
+    third: Blank,
+    fourth: Blank,
+) -> Option<usize>
+    requires seats { seats ≤ 64 }
+    requires count { IsCount own.incarnation }
+    requires first { (first.name ≡ A.name) × (first.parts ≡ A.parts) × (first.parts ≡ seats) × (own.name ≡ A.node) }
+    requires second { (second.name ≡ B.name) × (second.parts ≡ B.parts) × (second.parts ≡ seats) × (own.name ≡ B.node) }
+    requires third { (third.name ≡ C.name) × (third.parts ≡ C.parts) × (third.parts ≡ seats) × (own.name ≡ C.node) }
+    requires fourth { (fourth.name ≡ D.name) × (fourth.parts ≡ D.parts) × (fourth.parts ≡ seats) × (own.name ≡ D.node) }
+    requires begins { (A.begins (begun own)) × (B.begins (begun own)) × (C.begins (begun own))
+        × (D.begins (begun own)) }
+{
+    let started = Pool::<NoGate, A, B, C, D>::start(
+        alloc, own, 1, seats, NoGate, first, second, third, fourth,
+    );
+    let Ok((pool, mut seats)) = started else {
+        return None;
+    };
+    let topic = topic(alloc, "room:a")?;
+    list_all(rt, alloc, &pool, seats.as_mut_slice(), &topic)?;
+    let Ok(journals) = pool.settle(rt, alloc, seats) else {
+        return None;
+    };
+    let journal = journals.as_slice().first()?;
+    Some(journal.entries().len())
+}
+
+fn entries_of<R: Wait>(rt: &R, alloc: Global, seats: u32) -> Option<usize>
+    requires { seats ≤ 64 }
+{
+    let own = replica(alloc, "a")?;
+    let parts = u64::from(seats);
+    listed_by::<Brand, Brand, Brand, Brand, R>(
+        rt,
+        alloc,
+        own,
+        seats,
+        Blank::new(parts),
+        Blank::new(parts),
+        Blank::new(parts),
+        Blank::new(parts),
+    )
+}
+
+#[test]
+fn many_seats_settle(rt: HostRuntime) -> Result<(), Fail> {
+    for (seats, entries) in [(33, 33), (64, 64)] {
+        assert_eq!(rt; entries_of(&rt, rt.alloc(), seats), Some(entries));
+    }
+    Ok(())
+}
