@@ -39,7 +39,7 @@ impl Drop for Asking {
     }
 }
 
-fn payload(alloc: Global) -> Option<Json>
+pub(crate) fn payload(alloc: Global) -> Option<Json>
     ensures { IfSome result (λ j. IsTrue (is_payload j)) }
 {
     let value = Value::from_str(alloc, "{\"b\":2}").ok()?;

@@ -3,11 +3,11 @@ ghost use Rattle.presence_journal.specs.History.{begun};
 ghost use Rattle.std.specs.Prelude.{◌≡◌};
 ghost use Rattle.presence_base.specs.Refs.{IsCount};
 
+use crate::calls::payload;
 use crate::threads::checked;
 use pool_desk::{key, meta, replica, topic};
-use presence_base::{Json, Key, Meta, Replica, Topic, has_float, is_within_depth};
-use presence_journal::{Item, Journal, MAX_PAYLOAD_DEPTH, Payload};
-use serde_json::Value;
+use presence_base::{Key, Meta, Replica, Topic};
+use presence_journal::{Item, Journal};
 use shard_pool::{
     Lane, Locked, Part, PoolFault, SettleFault, lent_get, lent_list, lent_shout, lent_start,
     lent_subscribe, lent_take, lent_track, lent_unsubscribe, lent_untrack, lent_untrack_all,
@@ -67,14 +67,6 @@ fn words_of(alloc: Global, name: &str) -> Option<Words> {
     })
 }
 
-fn payload_of(alloc: Global) -> Option<Payload> {
-    let value = Value::from_str(alloc, r#"{"b":2}"#).ok()?;
-    if !is_within_depth(&value, MAX_PAYLOAD_DEPTH) || has_float(&value) {
-        return None;
-    }
-    Payload::new(alloc, &Json::new(value)).ok()
-}
-
 // Tracks a key and lists.
 fn track_and_list<L: Lane>(
     alloc: Global,
@@ -98,7 +90,7 @@ fn first_five<L: Lane>(
     part: &mut Part<L>,
 ) -> Option<Replies<5>> {
     let Words { topic, key, meta } = words_of(alloc, "u1")?;
-    let payload = payload_of(alloc)?.to_json(alloc).ok()?;
+    let payload = payload(alloc)?;
     let tracked = lent_track(alloc, locked, part, 1, &topic, &key, &meta).ok()?;
     let updated = lent_update(alloc, locked, part, 1, &topic, &key, &meta).ok()?;
     let got = lent_get(alloc, locked, part, &topic, &key).ok()?;
