@@ -1,26 +1,12 @@
 -- How many dots runs stand for.
-use Rattle.std.proofs.Common.{◌≡◌, ◌≤◌, ◌<◌, ◌+◌, ◌-◌, ℕ, zero, suc, Bool, not, nat_le, nat_lt, List, [], ◌∷◌, ◌++◌, length, refl, ◌∙◌, ap, arith}
+use Rattle.std.proofs.Common.{◌≡◌, ◌≤◌, ◌<◌, ◌+◌, ◌-◌, ℕ, suc, Bool, not, nat_le, nat_lt, List, [], ◌∷◌, ◌++◌, length, refl, ◌∙◌, ap, arith}
 use Rattle.std.proofs.lemmas.Bool.Decides.{nat_tests}
-use Rattle.std.proofs.lemmas.Grind.{common_steps}
 use Rattle.presence_base.specs.declared.dots.Replica.{Replica}
-use Rattle.presence_base.specs.declared.dots.Dot.{Dot}
-use Rattle.dot_context.specs.Sets.{span, run_dots}
+use Rattle.orswot_core_told.specs.declared.form.Form.TheVariants.{One, Two}
+use Rattle.orswot_core.specs.Telling.{Range, run_ranges}
+use Rattle.orswot_core.proofs.FittingFacts.{length_run_dots}
 use Rattle.delta_range.specs.Deltas.{DeltaValue}
 use Rattle.delta_range.specs.Fitting.{counts_in, fits_line}
-
-length_span : (r : Replica) (from n : ℕ) → length (span r from n) ≡ n
-length_span r from zero = refl
-length_span r from (suc k) = ap suc (length_span r (suc from) k)
-
-length_both : (xs ys : List Dot) → length (xs ++ ys) ≡ length xs + length ys
-length_both xs ys = grind (arith, common_steps)
-
-pub length_run_dots : (r : Replica) (rs : List (ℕ × ℕ)) → length (run_dots r rs) ≡ counts_in rs
-length_run_dots r [] = refl
-length_run_dots r (x ∷ xs) =
-    length_both (span r x.0 (x.1 - x.0)) (run_dots r xs)
-    ∙ (ap (λ n. n + length (run_dots r xs)) (length_span r x.0 (x.1 - x.0))
-    ∙ ap (λ n. (x.1 - x.0) + n) (length_run_dots r xs))
 
 fits_rest : (a k m : ℕ) → k ≤ m → nat_le a (m - k) ≡ not (nat_lt m (a + k))
 fits_rest a k m h = grind (arith, nat_tests)
@@ -29,10 +15,27 @@ fits_none : (a k m : ℕ) → m < k → nat_le k m ≡ not (nat_lt m (a + k))
 fits_none a k m h = grind (arith, nat_tests)
 
 -- as many counts as the rows leave room for
-pub fits_then : (d : DeltaValue) (b : Bool) → length d.live ≤ 65536 → b ≡ nat_le (counts_in d.older) (65536 - length d.live) → b ≡ fits_line d
+pub fits_then : (d : DeltaValue) (b : Bool) → length d.live ≤ 65536 → b ≡ nat_le (counts_in d.older) (65536 - length d.live) → b ≡ fits_line One d
 fits_then d b few e =
     rw (length_run_dots d.owner d.older) (e ∙ fits_rest (counts_in d.older) (length d.live) 65536 few)
 
 -- too many rows
-pub fits_else : (d : DeltaValue) → 65536 < length d.live → nat_le (length d.live) 65536 ≡ fits_line d
+pub fits_else : (d : DeltaValue) → 65536 < length d.live → nat_le (length d.live) 65536 ≡ fits_line One d
 fits_else d many = rw (length_run_dots d.owner d.older) (fits_none (counts_in d.older) (length d.live) 65536 many)
+
+-- the older runs and the delta's range leave room for the rows
+length_ranges : (r : Replica) (rs : List (ℕ × ℕ)) (g : Range) → length (run_ranges r rs ++ g ∷ []) ≡ suc (length rs)
+length_ranges r [] g = refl
+length_ranges r (x ∷ xs) g = ap suc (length_ranges r xs g)
+
+room_then : (rows runs : ℕ) → rows < 65536 → nat_lt runs (65536 - rows) ≡ not (nat_lt 65536 (suc runs + (0 + rows)))
+room_then rows runs h = grind (arith, nat_tests)
+
+room_else : (rows runs : ℕ) → 65536 ≤ rows → nat_lt rows 65536 ≡ not (nat_lt 65536 (suc runs + (0 + rows)))
+room_else rows runs h = grind (arith, nat_tests)
+
+pub runs_fit_then : (d : DeltaValue) → length d.live < 65536 → nat_lt (length d.older) (65536 - length d.live) ≡ fits_line Two d
+runs_fit_then d few = rw (length_ranges d.owner d.older (d.owner, d.from, d.to)) (room_then (length d.live) (length d.older) few)
+
+pub runs_fit_else : (d : DeltaValue) → 65536 ≤ length d.live → nat_lt (length d.live) 65536 ≡ fits_line Two d
+runs_fit_else d many = rw (length_ranges d.owner d.older (d.owner, d.from, d.to)) (room_else (length d.live) (length d.older) many)

@@ -1,10 +1,11 @@
 -- What a delta keeps, as a told value and as a value.
-use Rattle.std.proofs.Common.{◌≡◌, ℕ, ◌^◌, ◌-◌, ◌<◌, ◌≤◌, Bool, true, false, ◌&&◌, ◌||◌, nat_eq, nat_le, nat_lt, List, [], ◌∷◌, length, map, slice_index_or, refl, sym, ◌∙◌, ap, subst, arith}
+use Rattle.std.proofs.Common.{◌≡◌, ℕ, ◌^◌, ◌-◌, ◌<◌, ◌≤◌, Bool, true, false, ◌&&◌, ◌||◌, nat_le, nat_lt, nat_eq, suc, List, [], ◌∷◌, ◌++◌, length, map, refl, sym, ◌∙◌, ap, subst, arith, Some}
 use Rattle.std.proofs.lemmas.Bool.Decides.{nat_tests}
 use Rattle.std.specs.List.{list_all, list_any}
 use Rattle.presence_base.specs.declared.dots.Replica.{Replica}
 use Rattle.presence_base.specs.declared.dots.Dot.{Dot}
 use Rattle.presence_base.specs.declared.row.Row.{Row}
+use Rattle.presence_base.specs.Names.{guarded}
 use Rattle.presence_base.specs.Order.{same_replica, same_dot}
 use Rattle.dot_context_runs.specs.Runs.{in_run, holds, AreLong}
 use Rattle.dot_context.specs.Sets.{run_dots}
@@ -13,10 +14,10 @@ use Rattle.orswot_core.specs.Limits.{is_count, is_dot, is_range}
 use Rattle.orswot_core.specs.Telling.{Range, ToldValue, range_has, covers}
 use Rattle.orswot_core.specs.Checks.{IsTold, is_forward}
 use Rattle.orswot_core.proofs.OrderFacts.{dots_equal, replicas_equal, same_itself}
-use Rattle.delta_range.specs.Deltas.{DeltaValue, telling, own_dots, older_dots, own_range, run_of, delta_of, is_older, is_delta, IsDelta}
+use Rattle.delta_range.specs.Deltas.{DeltaValue, telling, own_dots, older_dots, own_range, older_ranges, ends_of, older_told, run_of, delta_of, is_older, is_older_range, is_delta, IsDelta}
 use Rattle.delta_range.specs.Longest.{longest}
 use Rattle.delta_range.proofs.BoolFacts.{both, and_both}
-use Rattle.delta_range.proofs.RunFacts.{longest_runs, ends_longest}
+use Rattle.delta_range.proofs.RunFacts.{longest_runs, ends_longest, long_append}
 
 -- ---- lists of dots
 
@@ -96,7 +97,6 @@ older_are_dots d h = all_found is_dot (older_dots d) (λ q e.
 -- what a delta tells is sound
 pub delta_told : (d : DeltaValue) → IsDelta d → IsTold (telling d)
 delta_told d h = record {
-  one_range = refl;
   forward = and_both (nat_le d.from d.to) true (le_test d.from d.to h.forward) refl;
   ranges = and_both (is_range (own_dots d)) true h.range refl;
   extras = older_are_dots d h;
@@ -110,13 +110,84 @@ delta_told d h = record {
 
 -- ---- of a told value
 
-pub one_range : (gs : List Range) → nat_eq (length gs) 1 ≡ true → own_range gs ∷ [] ≡ gs
-one_range [] e = absurd (cc)
-one_range (g ∷ []) e = refl
-one_range (g ∷ h ∷ gs) e = absurd (more (length gs) e)
+-- the last range stands behind those before it
+pub range_behind : (gs : List Range) → nat_lt 0 (length gs) ≡ true → older_ranges gs ++ own_range gs ∷ [] ≡ gs
+range_behind [] e = absurd (cc)
+range_behind (g ∷ []) e = refl
+range_behind (g ∷ h ∷ gs) e = ap (λ l. g ∷ l) (range_behind (h ∷ gs) (some (length gs)))
   where
-    more : (n : ℕ) → nat_eq (length (g ∷ h ∷ gs)) 1 ≡ true → ⊥
-    more n e = grind (arith, nat_tests)
+    some : (n : ℕ) → nat_lt 0 (suc n) ≡ true
+    some n = grind (arith, nat_tests)
+
+own_behind : (gs : List Range) (g : Range) → own_range (gs ++ g ∷ []) ≡ g
+own_behind [] g = refl
+own_behind (x ∷ []) g = refl
+own_behind (x ∷ y ∷ gs) g = own_behind (y ∷ gs) g
+
+older_before : (gs : List Range) (g : Range) → older_ranges (gs ++ g ∷ []) ≡ gs
+older_before [] g = refl
+older_before (x ∷ []) g = refl
+older_before (x ∷ y ∷ gs) g = ap (λ l. x ∷ l) (older_before (y ∷ gs) g)
+
+pub own_is : (all before : List Range) (g : Range) → all ≡ before ++ g ∷ [] → own_range all ≡ g
+own_is all before g e = ap own_range e ∙ own_behind before g
+
+pub older_is : (all before : List Range) (g : Range) → all ≡ before ++ g ∷ [] → older_ranges all ≡ before
+older_is all before g e = ap older_ranges e ∙ older_before before g
+
+pub some_ranges : (all before : List Range) (g : Range) → all ≡ before ++ g ∷ [] → nat_lt 0 (length all) ≡ true
+some_ranges all before g e = ap (λ l. nat_lt 0 (length l)) e ∙ some before
+  where
+    some : (gs : List Range) → nat_lt 0 (length (gs ++ g ∷ [])) ≡ true
+    some [] = refl
+    some (x ∷ gs) = positive (length (gs ++ g ∷ []))
+      where
+        positive : (n : ℕ) → nat_lt 0 (suc n) ≡ true
+        positive n = grind (arith, nat_tests)
+
+last_holds : {A : Type 0} (p : A → Bool) (xs : List A) (x : A) → list_all p (xs ++ x ∷ []) ≡ true → p x ≡ true
+last_holds p [] x h = (both (p x) true h).0
+last_holds p (y ∷ ys) x h = last_holds p ys x ((both (p y) (list_all p (ys ++ x ∷ [])) h).1)
+
+pub all_both : {A : Type 0} (p : A → Bool) (xs ys : List A) → list_all p xs ≡ true → list_all p ys ≡ true → list_all p (xs ++ ys) ≡ true
+all_both p [] ys h k = k
+all_both p (x ∷ xs) ys h k =
+    let parts = both (p x) (list_all p xs) h in
+    and_both (p x) (list_all p (xs ++ ys)) parts.0 (all_both p xs ys parts.1 k)
+
+-- the ends of older ranges are runs below the start
+pub range_runs_long : (owner : Replica) (from : ℕ) (gs : List Range) → list_all (is_older_range owner from) gs ≡ true → AreLong (map ends_of gs)
+range_runs_long owner from [] h = tt
+range_runs_long owner from (g ∷ gs) h =
+    let parts = both (is_older_range owner from g) (list_all (is_older_range owner from) gs) h in
+    let ends = both (nat_lt g.1 g.2) (nat_le g.2 from) ((both (same_replica g.0 owner) (nat_lt g.1 g.2 && nat_le g.2 from) parts.0).1) in
+    (up g.1 g.2 ends.0, range_runs_long owner from gs parts.1)
+  where
+    up : (m n : ℕ) → nat_lt m n ≡ true → m < n
+    up m n k = grind (arith, nat_tests)
+
+range_runs_below : (owner : Replica) (from : ℕ) (gs : List Range) → list_all (is_older_range owner from) gs ≡ true → list_all (λ r. nat_le r.1 from) (map ends_of gs) ≡ true
+range_runs_below owner from [] h = refl
+range_runs_below owner from (g ∷ gs) h =
+    let parts = both (is_older_range owner from g) (list_all (is_older_range owner from) gs) h in
+    let ends = both (nat_lt g.1 g.2) (nat_le g.2 from) ((both (same_replica g.0 owner) (nat_lt g.1 g.2 && nat_le g.2 from) parts.0).1) in
+    and_both (nat_le g.2 from) (list_all (λ r. nat_le r.1 from) (map ends_of gs)) ends.1 (range_runs_below owner from gs parts.1)
+
+-- what a told value that is a delta keeps
+pub record HasDeltaForm (t : ToldValue) : Type 0 where
+  pub some : nat_lt 0 (length t.ranges) ≡ true
+  pub ranges : list_all (is_older_range (own_range t.ranges).0 (own_range t.ranges).1) (older_ranges t.ranges) ≡ true
+  pub extras : list_all (is_older (own_range t.ranges).0 (own_range t.ranges).1) t.extras ≡ true
+  pub rows : list_all (λ x. range_has x.0 (own_range t.ranges)) t.live ≡ true
+
+pub delta_form : (t : ToldValue) → is_delta t ≡ true → HasDeltaForm t
+delta_form t h =
+    let a = both (nat_lt 0 (length t.ranges)) (list_all (is_older_range (own_range t.ranges).0 (own_range t.ranges).1) (older_ranges t.ranges)
+    && (list_all (is_older (own_range t.ranges).0 (own_range t.ranges).1) t.extras && list_all (λ x. range_has x.0 (own_range t.ranges)) t.live)) h in
+    let b = both (list_all (is_older_range (own_range t.ranges).0 (own_range t.ranges).1) (older_ranges t.ranges))
+    (list_all (is_older (own_range t.ranges).0 (own_range t.ranges).1) t.extras && list_all (λ x. range_has x.0 (own_range t.ranges)) t.live) a.1 in
+    let e = both (list_all (is_older (own_range t.ranges).0 (own_range t.ranges).1) t.extras) (list_all (λ x. range_has x.0 (own_range t.ranges)) t.live) b.1 in
+    record { some = a.0; ranges = b.0; extras = e.0; rows = e.1 }
 
 -- the run of a dot has its count alone
 pub run_has : (n m : ℕ) → nat_le 1 m ≡ true → (nat_lt (m - 1) n && nat_le n m) ≡ nat_eq n m
@@ -138,18 +209,50 @@ dot_runs_below owner from (d ∷ ds) h =
     let parts = both (is_older owner from d) (list_all (is_older owner from) ds) h in
     and_both (nat_le d.count from) (list_all (λ r. nat_le r.1 from) (map run_of ds)) ((both (same_replica d.replica owner) (nat_le d.count from) parts.0).1) (dot_runs_below owner from ds parts.1)
 
+-- it has that form where the last of its ranges and those before it say so
+abbrev pub form_by : ToldValue → Range → List Range → Bool
+form_by t g gs = list_all (is_older_range g.0 g.1) gs && (list_all (is_older g.0 g.1) t.extras && list_all (λ x. range_has x.0 g) t.live)
+
+pub form_behind : (t : ToldValue) (before : List Range) (g : Range) → t.ranges ≡ before ++ g ∷ [] → is_delta t ≡ form_by t g before
+form_behind t before g e =
+    ap (λ b. b && form_by t (own_range t.ranges) (older_ranges t.ranges)) (some_ranges t.ranges before g e)
+    ∙ ap (λ o. form_by t o (older_ranges t.ranges)) (own_is t.ranges before g e)
+    ∙ ap (λ gs. form_by t g gs) (older_is t.ranges before g e)
+
+-- as far as each part of that form was looked at
+module _ (t : ToldValue) (before : List Range) (g : Range) (e : t.ranges ≡ before ++ g ∷ []) (ranges : list_all (is_older_range g.0 g.1) before ≡ true) where
+  pub form_rest : (extras : List Dot) → extras ≡ t.extras → (b : Bool) → b ≡ list_all (is_older g.0 g.1) extras → b ≡ false → b ≡ is_delta t
+  form_rest extras same b is none =
+      none ∙ ap (λ x. x && list_all (λ y. range_has y.0 g) t.live) (sym none ∙ is ∙ ap (list_all (is_older g.0 g.1)) same)
+      ∙ ap (λ x. x && (list_all (is_older g.0 g.1) t.extras && list_all (λ y. range_has y.0 g) t.live)) (sym ranges) ∙ sym (form_behind t before g e)
+
+  pub form_whole : (extras : List Dot) (live : List (Dot × Row)) → extras ≡ t.extras → live ≡ t.live → list_all (is_older g.0 g.1) extras ≡ true
+      → (b : Bool) → b ≡ list_all (λ x. range_has x.0 g) live → b ≡ is_delta t
+  form_whole extras live same same_rows all b is =
+      is ∙ ap (list_all (λ x. range_has x.0 g)) same_rows
+      ∙ ap (λ x. x && list_all (λ y. range_has y.0 g) t.live) (sym all ∙ ap (list_all (is_older g.0 g.1)) same)
+      ∙ ap (λ x. x && (list_all (is_older g.0 g.1) t.extras && list_all (λ y. range_has y.0 g) t.live)) (sym ranges) ∙ sym (form_behind t before g e)
+
+pub form_none : (t : ToldValue) (before : List Range) (g : Range) → t.ranges ≡ before ++ g ∷ [] → (b : Bool) → b ≡ list_all (is_older_range g.0 g.1) before → b ≡ false → b ≡ is_delta t
+form_none t before g e b is none =
+    none ∙ ap (λ x. x && (list_all (is_older g.0 g.1) t.extras && list_all (λ y. range_has y.0 g) t.live)) (sym none ∙ is) ∙ sym (form_behind t before g e)
+
+pub older_long : (t : ToldValue) → is_delta t ≡ true → IsTold t → AreLong (older_told t)
+older_long t h told = long_append (map run_of t.extras) (map ends_of (older_ranges t.ranges)) (dot_runs_long t.extras told.extras)
+    (range_runs_long (own_range t.ranges).0 (own_range t.ranges).1 (older_ranges t.ranges) (delta_form t h).ranges)
+
 pub delta_keeps : (t : ToldValue) → is_delta t ≡ true → IsTold t → IsDelta (delta_of t)
 delta_keeps t h told =
-    let parts = both (nat_eq (length t.ranges) 1) (list_all (is_older (own_range t.ranges).0 (own_range t.ranges).1) t.extras && list_all (λ x. range_has x.0 (own_range t.ranges)) t.live) h in
-    let lists = both (list_all (is_older (own_range t.ranges).0 (own_range t.ranges).1) t.extras) (list_all (λ x. range_has x.0 (own_range t.ranges)) t.live) parts.1 in
-    let one : own_range t.ranges ∷ [] ≡ t.ranges = one_range t.ranges parts.0 in
+    let form = delta_form t h in
+    let behind = range_behind t.ranges form.some in
     record {
-      range = (both (is_range (own_range t.ranges)) true (ap (list_all is_range) one ∙ told.ranges)).0;
-      forward = le_of (own_range t.ranges).1 (own_range t.ranges).2 ((both (is_forward (own_range t.ranges)) true (ap (list_all is_forward) one ∙ told.forward)).0);
-      runs = longest_runs (map run_of t.extras) (dot_runs_long t.extras told.extras);
-      below = ends_longest (own_range t.ranges).1 (map run_of t.extras) (dot_runs_below (own_range t.ranges).0 (own_range t.ranges).1 t.extras lists.0);
+      range = last_holds is_range (older_ranges t.ranges) (own_range t.ranges) (ap (list_all is_range) behind ∙ told.ranges);
+      forward = le_of (own_range t.ranges).1 (own_range t.ranges).2 (last_holds is_forward (older_ranges t.ranges) (own_range t.ranges) (ap (list_all is_forward) behind ∙ told.forward));
+      runs = longest_runs (older_told t) (older_long t h told);
+      below = ends_longest (own_range t.ranges).1 (older_told t) (all_both (λ r. nat_le r.1 (own_range t.ranges).1) (map run_of t.extras) (map ends_of (older_ranges t.ranges))
+          (dot_runs_below (own_range t.ranges).0 (own_range t.ranges).1 t.extras form.extras) (range_runs_below (own_range t.ranges).0 (own_range t.ranges).1 (older_ranges t.ranges) form.ranges));
       rows = told.rows;
-      within = lists.1;
+      within = form.rows;
       once = told.once;
     }
   where
@@ -165,19 +268,22 @@ parts_told d h ranges extras live owner from to older rows is_ranges is_extras i
     (λ i. record { ranges = is_ranges i; extras = is_extras i; live = is_live i }) ∙ (λ i. record { ranges = (e-owner i, e-from i, e-to i) ∷ []; extras = run_dots (e-owner i) (e-older i); live = e-rows i }) in
     subst IsTold (sym together) (delta_told d h)
 
-first_range : (gs : List Range) (g : Range) → nat_eq (length gs) 1 ≡ true → slice_index_or gs 0 g ≡ own_range gs
-first_range [] g e = absurd (cc)
-first_range (x ∷ gs) g e = refl
+-- the runs of a told value that is a delta
+pub runs_made : (t : ToldValue) → (g : Range) (before : List Range) (extras : List Dot) (dots runs : List (ℕ × ℕ)) → t.ranges ≡ before ++ g ∷ []
+    → extras ≡ t.extras → dots ≡ map run_of extras → runs ≡ dots ++ map ends_of before → runs ≡ older_told t
+runs_made t g before extras dots runs e-ranges same is_dots is_runs =
+    is_runs ∙ ap (λ rs. rs ++ map ends_of before) (is_dots ∙ ap (map run_of) same)
+    ∙ ap (λ gs. map run_of t.extras ++ map ends_of gs) (sym (older_is t.ranges before g e-ranges))
 
--- the parts that are made of a told value are a delta
-pub parts_kept : (t : ToldValue) → is_delta t ≡ true → IsTold t → (g : Range) (ranges : List Range) (older : List (ℕ × ℕ)) (live rows : List (Dot × Row)) (extras : List Dot) (runs : List (ℕ × ℕ))
-    → g ≡ slice_index_or ranges 0 g → ranges ≡ t.ranges → older ≡ longest runs → runs ≡ map run_of extras → extras ≡ t.extras → live ≡ rows → rows ≡ t.live
-    → IsDelta (record { owner = g.0; from = g.1; to = g.2; older = older; live = live })
-parts_kept t h told g ranges older live rows extras runs is_first e-ranges e-older is_runs e-extras is_live e-rows =
-    let one : g ≡ own_range t.ranges = is_first ∙ ap (λ gs. slice_index_or gs 0 g) e-ranges
-    ∙ first_range t.ranges g ((both (nat_eq (length t.ranges) 1) (list_all (is_older (own_range t.ranges).0 (own_range t.ranges).1) t.extras && list_all (λ x. range_has x.0 (own_range t.ranges)) t.live) h).0) in
-    let made : older ≡ longest (map run_of t.extras) = e-older ∙ ap longest (is_runs ∙ ap (map run_of) e-extras) in
+-- the parts that are made of it
+pub parts_made : (t : ToldValue) → (g : Range) (before : List Range) (older : List (ℕ × ℕ)) (live rows : List (Dot × Row)) (runs : List (ℕ × ℕ))
+    → t.ranges ≡ before ++ g ∷ [] → older ≡ longest runs → runs ≡ older_told t → live ≡ rows → rows ≡ t.live
+    → ◌≡◌ {A = DeltaValue} (record { owner = g.0; from = g.1; to = g.2; older = older; live = live }) (delta_of t)
+parts_made t g before older live rows runs e-ranges e-older is_runs is_live e-rows =
+    let one : g ≡ own_range t.ranges = sym (own_is t.ranges before g e-ranges) in
+    let made : older ≡ longest (older_told t) = e-older ∙ ap longest is_runs in
     let rows_made : live ≡ t.live = is_live ∙ e-rows in
-    let together : ◌≡◌ {A = DeltaValue} (record { owner = g.0; from = g.1; to = g.2; older = older; live = live }) (delta_of t) =
-    λ i. record { owner = (one i).0; from = (one i).1; to = (one i).2; older = made i; live = rows_made i } in
-    subst IsDelta (sym together) (delta_keeps t h told)
+    λ i. record { owner = (one i).0; from = (one i).1; to = (one i).2; older = made i; live = rows_made i }
+
+pub delta_given : (t : ToldValue) → is_delta t ≡ true → (d : DeltaValue) → d ≡ delta_of t → Some d ≡ guarded (is_delta t) (delta_of t)
+delta_given t h d e = ap (λ (x : DeltaValue). Some x) e ∙ ap (λ b. guarded b (delta_of t)) (sym h)

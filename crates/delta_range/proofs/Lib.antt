@@ -9,3 +9,4 @@ pub mod OrderKept
 pub mod KeepFacts
 pub mod NothingFacts
 pub mod GrowthFacts
+pub mod FormFacts

@@ -15,19 +15,20 @@ use Rattle.presence_base.specs.declared.row.Row.{Row}
 use Rattle.presence_base.specs.Order.{replica_cmp, same_replica, same_dot}
 use Rattle.dot_context_runs.specs.Runs.{in_run, holds}
 use Rattle.orswot_core.specs.Limits.{is_count, is_dot}
-use Rattle.orswot_core.specs.Telling.{range_has, covers, live_row}
+use Rattle.orswot_core.specs.Telling.{Range, range_has, covers, live_row}
 use Rattle.orswot_core.specs.Sets.{first_row, joined_row}
 use Rattle.orswot_core.proofs.OrderFacts.{dots_equal, replicas_equal}
+use Rattle.orswot_core.proofs.RunFacts.{any_either_list}
 use Rattle.orswot_core.proofs.RowFacts.{first_done}
 use Rattle.orswot_core.proofs.SoundFacts.{told_sound, only_covered, none_uncovered}
 use Rattle.orswot_core.proofs.LawFacts.{same_at}
-use Rattle.delta_range.specs.Deltas.{DeltaValue, telling, older_dots, own_range, run_of, delta_of, is_older, IsDelta, GoesOn}
+use Rattle.delta_range.specs.Deltas.{DeltaValue, telling, older_dots, own_range, older_ranges, ends_of, older_told, run_of, delta_of, is_older, is_older_range, IsDelta, GoesOn}
 use Rattle.delta_range.specs.Longest.{up_to, longest}
 use Rattle.delta_range.specs.Joining.{not_covered, joined, Joined}
 use Rattle.delta_range.specs.Laws.{TellsInTurn, IsNoLarger, CoversTheSame}
 use Rattle.delta_range.proofs.BoolFacts.{both, and_both}
 use Rattle.delta_range.proofs.RunFacts.{length_longest, length_up_to, holds_longest}
-use Rattle.delta_range.proofs.DeltaFacts.{older_has, older_if, delta_told, run_has, dot_runs_long, one_range}
+use Rattle.delta_range.proofs.DeltaFacts.{older_has, older_if, delta_told, run_has, range_behind, delta_form, older_long}
 use Rattle.delta_range.proofs.JoinFacts.{has, two_ranges, between, apart, older_of}
 
 either_range : (s x y z : Bool) → x ≡ (y || z) → (s && x) ≡ ((s && y) || (s && z))
@@ -216,12 +217,51 @@ named_above q owner from (d ∷ ds) h k =
     spread true x y = refl
     spread false x y = refl
 
+-- the ranges of one owner have the dots of their ends' counts
+named_within : (q : Dot) (owner : Replica) (from : ℕ) (gs : List Range) → list_all (is_older_range owner from) gs ≡ true
+    → (same_replica q.replica owner && holds (each ends_of gs) q.count) ≡ list_any (range_has q) gs
+named_within q owner from [] h = none (same_replica q.replica owner)
+  where
+    none : (s : Bool) → (s && false) ≡ false
+    none true = refl
+    none false = refl
+named_within q owner from (g ∷ gs) h =
+    let parts = both (is_older_range owner from g) (list_all (is_older_range owner from) gs) h in
+    let owned : g.0 ≡ owner = replicas_equal g.0 owner ((both (same_replica g.0 owner) (nat_lt g.1 g.2 && nat_le g.2 from) parts.0).0) in
+    spread (same_replica q.replica owner) (in_run (ends_of g) q.count) (holds (each ends_of gs) q.count)
+    ∙ ap (λ x. (same_replica q.replica owner && in_run (ends_of g) q.count) || x) (named_within q owner from gs parts.1)
+    ∙ ap (λ r. (same_replica q.replica r && in_run (ends_of g) q.count) || list_any (range_has q) gs) (sym owned)
+  where
+    spread : (s x y : Bool) → (s && (x || y)) ≡ ((s && x) || (s && y))
+    spread true x y = refl
+    spread false x y = refl
+
+holds_both : (rs ss : List (ℕ × ℕ)) (n : ℕ) → holds (rs ++ ss) n ≡ (holds rs n || holds ss n)
+holds_both rs ss n = any_either_list (λ r. in_run r n) rs ss
+
 pub covers_the_same : CoversTheSame
 covers_the_same t q told h =
-    let parts = both (nat_eq (length t.ranges) 1) (list_all (is_older (own_range t.ranges).0 (own_range t.ranges).1) t.extras && list_all (λ x. range_has x.0 (own_range t.ranges)) t.live) h in
-    let older = (both (list_all (is_older (own_range t.ranges).0 (own_range t.ranges).1) t.extras) (list_all (λ x. range_has x.0 (own_range t.ranges)) t.live) parts.1).0 in
+    let form = delta_form t h in
+    let owner = (own_range t.ranges).0 in
     ap (λ x. (range_has q (own_range t.ranges) || false) || x)
     (older_has (delta_of t) q
-    ∙ ap (λ x. same_replica q.replica (own_range t.ranges).0 && x) (holds_longest (each run_of t.extras) q.count (dot_runs_long t.extras told.extras))
-    ∙ named_above q (own_range t.ranges).0 (own_range t.ranges).1 t.extras told.extras older)
-    ∙ ap (λ gs. list_any (range_has q) gs || list_any (same_dot q) t.extras) (one_range t.ranges parts.0)
+    ∙ ap (λ x. same_replica q.replica owner && x) (holds_longest (older_told t) q.count (older_long t h told) ∙ holds_both (each run_of t.extras) (each ends_of (older_ranges t.ranges)) q.count)
+    ∙ spread (same_replica q.replica owner) (holds (each run_of t.extras) q.count) (holds (each ends_of (older_ranges t.ranges)) q.count)
+    ∙ ap (λ x. x || (same_replica q.replica owner && holds (each ends_of (older_ranges t.ranges)) q.count)) (named_above q owner (own_range t.ranges).1 t.extras told.extras form.extras)
+    ∙ ap (λ x. list_any (same_dot q) t.extras || x) (named_within q owner (own_range t.ranges).1 (older_ranges t.ranges) form.ranges))
+    ∙ turned (range_has q (own_range t.ranges)) (list_any (same_dot q) t.extras) (list_any (range_has q) (older_ranges t.ranges))
+    ∙ ap (λ x. x || list_any (same_dot q) t.extras) (sym (any_either_list (range_has q) (older_ranges t.ranges) (own_range t.ranges ∷ [])) ∙ ap (list_any (range_has q)) (range_behind t.ranges form.some))
+  where
+    spread : (s x y : Bool) → (s && (x || y)) ≡ ((s && x) || (s && y))
+    spread true x y = refl
+    spread false x y = refl
+
+    turned : (own extras older : Bool) → ((own || false) || (extras || older)) ≡ ((older || (own || false)) || extras)
+    turned true true true = refl
+    turned true true false = refl
+    turned true false true = refl
+    turned true false false = refl
+    turned false true true = refl
+    turned false true false = refl
+    turned false false true = refl
+    turned false false false = refl

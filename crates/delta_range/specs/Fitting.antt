@@ -1,13 +1,16 @@
--- Fitting: what a delta tells, counted by the ends of its older runs, before a dot is made of them.
-use Rattle.std.specs.Prelude.{ℕ, zero, ◌+◌, ◌-◌, Bool, not, List, [], ◌∷◌}
-use Rattle.orswot_core.specs.Checks.{is_too_many}
-use Rattle.delta_range.specs.Deltas.{DeltaValue, telling}
+-- Fitting: what a delta tells, counted before a dot or a range is made of its older runs.
+use Rattle.std.specs.Prelude.{ℕ, Bool, not, length}
+use Rattle.orswot_core_told.specs.declared.form.Form.{Form}
+use Rattle.orswot_core_told.specs.declared.form.Form.TheVariants.{One, Two}
+use Rattle.orswot_core.specs.Checks.{is_too_many_in}
+pub use Rattle.orswot_core.specs.Full.{counts_in}
+use Rattle.delta_range.specs.Deltas.{DeltaValue, telling_in}
 
--- how many counts the runs have
-abbrev pub counts_in : List (ℕ × ℕ) → ℕ
-counts_in [] = zero
-counts_in (r ∷ rs) = (r.1 - r.0) + counts_in rs
+-- how much the form has for the older runs: an extra for each count, or a range for each run
+abbrev pub older_in : Form → DeltaValue → ℕ
+older_in One d = counts_in d.older
+older_in Two d = length d.older
 
--- it tells no more rows and older counts than a node takes in
-abbrev pub fits_line : DeltaValue → Bool
-fits_line d = not (is_too_many (telling d))
+-- it tells no more in the form than a node takes in
+abbrev pub fits_line : Form → DeltaValue → Bool
+fits_line form d = not (is_too_many_in form (telling_in form d))

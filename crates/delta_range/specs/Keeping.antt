@@ -2,6 +2,7 @@
 use Rattle.std.specs.Prelude.{◌≡◌, ℕ, ◌+◌, ◌≤◌, Bool, cond, ◌&&◌, nat_le, nat_eq, length, Option, Some, None}
 use Rattle.presence_base.specs.declared.dots.Replica.{Replica}
 use Rattle.presence_base.specs.Names.{guarded}
+use Rattle.orswot_core_told.specs.declared.form.Form.{Form}
 use Rattle.delta_range.specs.declared.generations.TheConstants.{SHORT_CAP, MIDDLE_CAP, LONG_CAP}
 use Rattle.delta_range.specs.Deltas.{DeltaValue, IsDelta, GoesOn}
 use Rattle.delta_range.specs.Fitting.{fits_line}
@@ -54,18 +55,18 @@ pub record AreKept (k : Kept) : Type 0 where
   pub middle : EndsWithin k.last MIDDLE_CAP k.middle
   pub long : EndsWithin k.last LONG_CAP k.long
 
--- what a generation keeps, where it begins at or below a count and is not too much for a line
-abbrev pub begun : ℕ → Option DeltaValue → Option DeltaValue
-begun n None = None
-begun n (Some d) = guarded (nat_le d.from n && fits_line d) d
+-- what a generation keeps, where it begins at or below a count and is not too much for a line of the form
+abbrev pub begun : Form → ℕ → Option DeltaValue → Option DeltaValue
+begun form n None = None
+begun form n (Some d) = guarded (nat_le d.from n && fits_line form d) d
 
 abbrev pub first_of_both : Option DeltaValue → Option DeltaValue → Option DeltaValue
 first_of_both (Some d) other = Some d
 first_of_both None other = other
 
--- of those that begin at or below a count and fit a line, the one with the smallest cap
-abbrev pub from_count : Kept → ℕ → Option DeltaValue
-from_count k n = first_of_both (begun n k.short) (first_of_both (begun n k.middle) (begun n k.long))
+-- of those that begin at or below a count and fit a line of the form, the one with the smallest cap
+abbrev pub from_count : Form → Kept → ℕ → Option DeltaValue
+from_count form k n = first_of_both (begun form n k.short) (first_of_both (begun form n k.middle) (begun form n k.long))
 
 -- the delta goes on from what a generation keeps
 abbrev pub GoesOnFrom : Option DeltaValue → DeltaValue → Type 0

@@ -1,13 +1,14 @@
 -- What a joined delta tells, beside its two parts.
-use Rattle.std.specs.Prelude.{◌≡◌, ◌+◌, ◌≤◌, true}
+use Rattle.std.specs.Prelude.{◌≡◌, ◌+◌, ◌≤◌, true, false}
 use Rattle.std.specs.List.Sorted.{IsStrictlySortedBy}
 use Rattle.presence_base.specs.declared.dots.Dot.{Dot}
 use Rattle.presence_base.specs.Order.{dot_cmp}
-use Rattle.orswot_core.specs.Telling.{ToldValue, covers}
-use Rattle.orswot_core.specs.Checks.{IsTold, dots_of}
+use Rattle.orswot_core_told.specs.declared.form.Form.{Form}
+use Rattle.orswot_core.specs.Telling.{ToldValue, covers, live_row}
+use Rattle.orswot_core.specs.Checks.{IsTold, dots_of, has_range_astray}
 use Rattle.orswot_core.specs.Sets.{DotRows}
 use Rattle.orswot_core.specs.Laws.{TakesIn}
-use Rattle.delta_range.specs.Deltas.{DeltaValue, telling, older_dots, IsDelta, GoesOn, delta_of, is_delta}
+use Rattle.delta_range.specs.Deltas.{DeltaValue, telling, telling_in, older_dots, IsDelta, GoesOn, delta_of, is_delta}
 use Rattle.delta_range.specs.Joining.{joined}
 use Rattle.delta_range.specs.Keeping.{size}
 
@@ -33,6 +34,15 @@ OlderInOrder = (d : DeltaValue) → IsDelta d → IsStrictlySortedBy dot_cmp (ol
 abbrev pub IsNoLarger : Type 0
 IsNoLarger = (a b : DeltaValue) → size (joined a b) ≤ size a + size b
 
+-- in whatever forms a delta is told, the same dots are covered, and the same rows are live
+abbrev pub FormsTellTheSame : Type 0
+FormsTellTheSame = (form other : Form) (d : DeltaValue) (q : Dot)
+    → (covers (telling_in form d) q ≡ covers (telling_in other d) q) × (live_row (telling_in form d) q ≡ live_row (telling_in other d) q)
+
 -- the delta of a told value covers what it covers
 abbrev pub CoversTheSame : Type 0
 CoversTheSame = (t : ToldValue) (d : Dot) → IsTold t → is_delta t ≡ true → covers (telling (delta_of t)) d ≡ covers t d
+
+-- what a delta tells has its ranges as the form wants them: it can be heard as far as these go
+abbrev pub DeltasAreInOrder : Type 0
+DeltasAreInOrder = (form : Form) (d : DeltaValue) → IsDelta d → has_range_astray form (telling_in form d).ranges ≡ false

@@ -1,19 +1,20 @@
-ghost use Rattle.std.specs.Prelude.{◌≡◌, false, nat_le, IfOk, IfErr, Ok, None};
+ghost use Rattle.std.specs.Prelude.{◌≡◌, ◌++◌, ◌∷◌, [], false, nat_le, IfOk, IfErr, Ok, None};
 ghost use Rattle.std.specs.List.{list_all};
 ghost use Rattle.presence_base.specs.Names.{guarded};
 ghost use Rattle.presence_base.specs.Order.{same_replica};
 ghost use Rattle.orswot_core.specs.Telling.{range_has};
-ghost use Rattle.delta_range.specs.Deltas.{DeltaValue, telling, delta_of, is_older, is_delta, IsDelta, GoesOn};
-ghost use Rattle.delta_range.specs.Fitting.{counts_in, fits_line};
+ghost use Rattle.orswot_core_told.specs.declared.form.Form.TheVariants.{One, Two};
+ghost use Rattle.delta_range.specs.Deltas.{DeltaValue, telling, telling_in, delta_of, is_older, is_older_range, is_delta, IsDelta, GoesOn};
+ghost use Rattle.delta_range.specs.Fitting.{older_in, fits_line};
 ghost use Rattle.delta_range.specs.Growing.{IsRemoval};
 ghost use Rattle.delta_range.specs.Joining.{joined, Joined, IsJoinAnswer};
 
 use crate::fault::DeltaFault;
 use crate::fitting::have_at_most;
 use crate::growth::{Growth, Removal, removal_of};
-use crate::joining::{one_range, rows_of};
-use crate::runs::{dots_of, longest, runs_of};
-use orswot_core::{MAX_ROWS, Told};
+use crate::joining::{one_range, ranges_before, rows_of};
+use crate::runs::{dots_of, longest, push_ends, runs_of};
+use orswot_core::{Form, MAX_ROWS, Told};
 use presence_base::{Dot, Replica, Row};
 use std::alloc::{AllocError, Global};
 use std::marker::Model;
@@ -79,17 +80,20 @@ impl Delta {
         }
     }
 
-    /// The told value as a delta, where it has one range, all its rows lie in that range, and all its
-    /// extras are dots of the same owner at or below the range. None needs no memory.
+    /// The told value as a delta, where all its rows lie in its last range, and its other ranges, of which none is empty, and all
+    /// its extras are of the same owner, at or below where that one begins. None needs no memory.
     pub fn of_told(alloc: Global, told: &Told) -> Result<Option<Delta>, AllocError>
         ensures delta { IfOk result (λ o. o ≡ guarded (is_delta told.now) (delta_of told.now)) }
         ensures none { is_delta told.now ≡ false → result ≡ Ok None }
     {
-        if !has_delta_form(told) {
+        let Some((range, before)) = told.ranges().split_last() else {
+            return Ok(None);
+        };
+        if !has_delta_form(told, range, before) {
             return Ok(None);
         }
-        let range = told.ranges()[0];
-        let runs = runs_of(alloc, told.extras())?;
+        let mut runs = runs_of(alloc, told.extras())?;
+        push_ends(&mut runs, before)?;
         let older = longest(alloc, runs)?;
         let live = rows_of(alloc, told.live())?;
         Ok(Some(Delta::new(range.0, range.1, range.2, older, live)))
@@ -133,21 +137,28 @@ impl Delta {
         &self.live
     }
 
-    /// Whether it tells so many older counts at most. They are counted by the ends of its runs: it costs a look at each run,
-    /// however long. Takes no memory.
-    pub fn tells_at_most(&self, counts: u64) -> bool
-        ensures { result ≡ nat_le (counts_in self.now.older) counts }
+    /// Whether the form has so much at most for its older runs: in the first an extra for each count, in the second a range for
+    /// each run. Counts are those of the ends of the runs: it costs a look at each run, however long. Takes no memory.
+    pub fn tells_at_most(&self, most: u64, form: Form) -> bool
+        ensures { result ≡ nat_le (older_in form self.now) most }
     {
-        have_at_most(self.older(), counts)
+        let older = self.older();
+        match form {
+            Form::One => have_at_most(older, most),
+            Form::Two => older.len() as u64 <= most,
+        }
     }
 
-    /// Whether it tells no more rows and older counts than a node takes in. The counts are those of the ends of its runs: it
-    /// costs a look at each run, however long, and makes no dot. Takes no memory.
-    pub fn fits_line(&self) -> bool
-        ensures { result ≡ fits_line self.now }
+    /// Whether it tells no more in the form than a node takes in: rows and older counts in the first, rows, older runs and its
+    /// own range in the second. Counts are those of the ends of the runs: it costs a look at each run, however long, and makes
+    /// no dot. Takes no memory.
+    pub fn fits_line(&self, form: Form) -> bool
+        ensures { result ≡ fits_line form self.now }
     {
-        let rows = self.live().len();
-        rows <= MAX_ROWS && have_at_most(self.older(), (MAX_ROWS - rows) as u64)
+        match form {
+            Form::One => fits_in_dots(self),
+            Form::Two => fits_in_runs(self),
+        }
     }
 
     /// The two as one, where the next begins at the count where this one ends. What the next removed
@@ -216,8 +227,28 @@ impl Delta {
         }
     }
 
-    /// The same as a told value, with an extra for each older count.
-    pub fn told(&self, alloc: Global) -> Result<Told, AllocError>
+    /// The same as a told value of the form: in the first with an extra for each older count, in the second with a range for each
+    /// older run.
+    pub fn told(&self, alloc: Global, form: Form) -> Result<Told, AllocError>
+        ensures { IfOk result (λ t. t ≡ telling_in form self.now) }
+    {
+        match form {
+            Form::One => self.told_in_dots(alloc),
+            Form::Two => self.told_in_runs(alloc),
+        }
+    }
+
+    fn told_in_runs(&self, alloc: Global) -> Result<Told, AllocError>
+        ensures { IfOk result (λ t. t ≡ telling_in Two self.now) }
+    {
+        let owner = self.owner();
+        let older = self.older();
+        let ranges = ranges_before(alloc, &owner, older, (self.from(), self.to()))?;
+        let live = rows_of(alloc, self.live())?;
+        Ok(Told::new(ranges, Vec::new(alloc), live))
+    }
+
+    fn told_in_dots(&self, alloc: Global) -> Result<Told, AllocError>
         ensures { IfOk result (λ t. t ≡ telling self.now) }
     {
         let owner = self.owner();
@@ -276,15 +307,41 @@ fn are_within(rows: &[(Dot, Row)], range: &(Replica, u64, u64)) -> bool
     rows.iter().all(|row| is_dot_within(&row.0, range))
 }
 
-fn has_delta_form(told: &Told) -> bool
+fn fits_in_dots(delta: &Delta) -> bool
+    ensures { result ≡ fits_line One delta.now }
+{
+    let rows = delta.live().len();
+    rows <= MAX_ROWS && have_at_most(delta.older(), (MAX_ROWS - rows) as u64)
+}
+
+fn fits_in_runs(delta: &Delta) -> bool
+    ensures { result ≡ fits_line Two delta.now }
+{
+    let rows = delta.live().len();
+    rows < MAX_ROWS && delta.older().len() < MAX_ROWS - rows
+}
+
+fn is_range_older(range: &(Replica, u64, u64), owner: &Replica, from: u64) -> bool
+    ensures { result ≡ is_older_range owner.now from range.now }
+{
+    range.0.cmp(owner).is_eq() && (range.1 < range.2 && range.2 <= from)
+}
+
+fn are_ranges_older(ranges: &[(Replica, u64, u64)], owner: &Replica, from: u64) -> bool
+    ensures { result ≡ list_all (is_older_range owner.now from) ranges.now }
+{
+    ranges
+        .iter()
+        .all(|range| is_range_older(range, owner, from))
+}
+
+// Whether a told value with this range behind these is a delta's.
+fn has_delta_form(told: &Told, range: &(Replica, u64, u64), before: &[(Replica, u64, u64)]) -> bool
+    requires { told.now.ranges ≡ before.now ++ range.now ∷ [] }
     ensures { result ≡ is_delta told.now }
 {
-    let ranges = told.ranges();
-    if ranges.len() != 1 {
-        return false;
-    }
-    let range = &ranges[0];
-    are_older(told.extras(), &range.0, range.1) && are_within(told.live(), range)
+    are_ranges_older(before, &range.0, range.1)
+        && (are_older(told.extras(), &range.0, range.1) && are_within(told.live(), range))
 }
 
 // The two as one, where the second goes on from the first.

@@ -4,6 +4,7 @@ ghost use Rattle.delta_range.specs.Keeping.{Kept, AreKept, is_nothing, alone, gr
 
 use crate::delta::Delta;
 use crate::growth::{Growth, is_join_within, is_sum_within, removal_of};
+use orswot_core::Form;
 use presence_base::Replica;
 use std::alloc::{AllocError, Global};
 use std::marker::Model;
@@ -161,14 +162,14 @@ impl Generations {
         keeps_something(&self.long)
     }
 
-    /// Of the generations that begin at or below `count` and tell no more rows and older counts than a node takes in, the one
-    /// with the smallest cap. It costs a look at each older run that is kept, and no dot is made of one. Takes no memory.
-    pub fn from_count(&self, count: u64) -> Option<&Delta>
-        ensures { option_copied result ≡ from_count self.now count }
+    /// Of the generations that begin at or below `count` and tell no more in the form than a node takes in, the one with the
+    /// smallest cap. It costs a look at each older run that is kept, and no dot is made of one. Takes no memory.
+    pub fn from_count(&self, count: u64, form: Form) -> Option<&Delta>
+        ensures { option_copied result ≡ from_count form self.now count }
     {
-        begun_by(&self.short, count)
-            .or(begun_by(&self.middle, count))
-            .or(begun_by(&self.long, count))
+        begun_by(&self.short, count, form)
+            .or(begun_by(&self.middle, count, form))
+            .or(begun_by(&self.long, count, form))
     }
 }
 
@@ -200,11 +201,11 @@ fn clone_kept(kept: &Option<Delta>) -> Result<Option<Delta>, AllocError>
     Ok(Some(delta))
 }
 
-fn begun_by(kept: &Option<Delta>, count: u64) -> Option<&Delta>
-    ensures { option_copied result ≡ begun count kept.now }
+fn begun_by(kept: &Option<Delta>, count: u64, form: Form) -> Option<&Delta>
+    ensures { option_copied result ≡ begun form count kept.now }
 {
     match kept {
-        Some(delta) if delta.from() <= count && delta.fits_line() => Some(delta),
+        Some(delta) if delta.from() <= count && delta.fits_line(form) => Some(delta),
         _ => None,
     }
 }

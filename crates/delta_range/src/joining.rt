@@ -1,6 +1,7 @@
 // The lists of a delta.
-ghost use Rattle.std.specs.Prelude.{◌≡◌, ◌++◌, ◌∷◌, [], IfOk};
+ghost use Rattle.std.specs.Prelude.{◌≡◌, ◌++◌, ◌∷◌, [], IfOk, OnOk};
 ghost use Rattle.dot_context_runs.specs.Runs.{AreRuns};
+ghost use Rattle.orswot_core.specs.Telling.{run_ranges};
 ghost use Rattle.delta_range.specs.Longest.{up_to, longest};
 
 use crate::runs::{longest, push_up_to};
@@ -42,4 +43,33 @@ pub(crate) fn one_range(
     let mut ranges = Vec::new(alloc);
     ranges.push((owner, from, to))?;
     Ok(ranges)
+}
+
+// The owner's runs, each as a range, and one more range behind them.
+pub(crate) fn ranges_before(
+    alloc: Global,
+    owner: &Replica,
+    runs: &[(u64, u64)],
+    last: (u64, u64),
+) -> Result<Vec<(Replica, u64, u64)>, AllocError>
+    ensures { IfOk result (λ v. v.items ≡ run_ranges owner.now runs.now ++ (owner.now, last.0, last.1) ∷ []) }
+{
+    let mut ranges = Vec::new(alloc);
+    for run in runs {
+        push_range(&mut ranges, owner, run.0, run.1)?;
+    }
+    push_range(&mut ranges, owner, last.0, last.1)?;
+    Ok(ranges)
+}
+
+fn push_range(
+    ranges: &mut Vec<(Replica, u64, u64)>,
+    owner: &Replica,
+    from: u64,
+    to: u64,
+) -> Result<(), AllocError>
+    ensures { OnOk result (ranges.new.items ≡ ranges.old.items ++ (owner.now, from, to) ∷ []) }
+{
+    ranges.push((*owner, from, to))?;
+    Ok(())
 }

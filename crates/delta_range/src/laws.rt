@@ -1,5 +1,5 @@
 ghost use Rattle.delta_range.specs.Caps.{AreCaps};
-ghost use Rattle.delta_range.specs.Laws.{TellsInTurn, IsNoLarger, StaysInOrder, OlderInOrder, CoversTheSame};
+ghost use Rattle.delta_range.specs.Laws.{TellsInTurn, IsNoLarger, StaysInOrder, OlderInOrder, CoversTheSame, FormsTellTheSame, DeltasAreInOrder};
 
 /// A joined delta tells a set what its two parts tell it in turn.
 pub fn joined_deltas_tell_in_turn()
@@ -14,6 +14,16 @@ pub fn joined_deltas_are_no_larger()
 /// Of two deltas whose rows are in order of dot, each once, the joined delta is too.
 pub fn joined_deltas_stay_in_order()
     ensures { StaysInOrder }
+{}
+
+/// A delta covers the same dots and has the same rows in whichever form it is told.
+pub fn forms_tell_the_same()
+    ensures { FormsTellTheSame }
+{}
+
+/// A delta is told with its ranges as the form wants them.
+pub fn deltas_are_in_order()
+    ensures { DeltasAreInOrder }
 {}
 
 /// The delta of a told value covers what the told value covers.

@@ -2,7 +2,7 @@
 ghost use Rattle.std.specs.Prelude.{◌≡◌, ◌-◌, ◌++◌, map, IfOk, OnOk};
 ghost use Rattle.dot_context_runs.specs.Runs.{AreLong};
 ghost use Rattle.dot_context.specs.Sets.{span, run_dots};
-ghost use Rattle.delta_range.specs.Deltas.{run_of};
+ghost use Rattle.delta_range.specs.Deltas.{run_of, ends_of};
 ghost use Rattle.delta_range.specs.Joining.{HasRuns};
 ghost use Rattle.delta_range.specs.Longest.{up_to, longest, coalesced};
 
@@ -33,6 +33,19 @@ pub(crate) fn runs_of(alloc: Global, dots: &[Dot]) -> Result<Vec<(u64, u64)>, Al
     dots.iter()
         .map(|dot| (dot.count.saturating_sub(1), dot.count))
         .collect(alloc)
+}
+
+// The ends of the ranges come behind the runs.
+pub(crate) fn push_ends(
+    runs: &mut Vec<(u64, u64)>,
+    ranges: &[(Replica, u64, u64)],
+) -> Result<(), AllocError>
+    ensures { OnOk result (runs.new.items ≡ runs.old.items ++ map ends_of ranges.now) }
+{
+    for range in ranges {
+        runs.push((range.1, range.2))?;
+    }
+    Ok(())
 }
 
 /// The longest runs that have the counts of these. The sort merges lists that are in order, so its cost is then that of

@@ -37,9 +37,9 @@ tops_of f = map (λ e. (e.0, top_count e.1)) f
 abbrev pub range_shown : Bor Replica × ℕ → Replica × ℕ
 range_shown p = (p.0.now, p.1)
 
--- what an entry of the cloud shows
-abbrev pub cloud_shown : Bor Replica × List (ℕ × ℕ) → Replica × List (ℕ × ℕ)
-cloud_shown p = (p.0.now, p.1)
+-- what an entry of the cloud, or of the runs, shows
+abbrev pub runs_shown : Bor Replica × List (ℕ × ℕ) → Replica × List (ℕ × ℕ)
+runs_shown p = (p.0.now, p.1)
 
 -- a set has one form: equal sets have equal ones
 abbrev pub HasOneForm : DotSet → Type 0

@@ -5,7 +5,7 @@ ghost use Rattle.dot_context.specs.Forms.{vector_of, cloud_of, tops_of, HasOneFo
 
 use crate::plan::ContextPlan;
 use crate::replicas::{covers_dot, join_all, put_range, take_out, top_of_replica};
-use crate::views::{Cloud, Ranges, Tops};
+use crate::views::{Cloud, Ranges, ReplicaRuns, Tops};
 use dot_context_runs::Runs;
 use presence_base::{Dot, Replica};
 use std::alloc::{AllocError, Global};
@@ -144,6 +144,15 @@ impl Context {
         ensures { IfFormed self.now (λ f. result ≡ cloud_of f) }
     {
         Cloud {
+            entries: self.replicas.iter(),
+        }
+    }
+
+    /// The runs: each replica that has dots in the set, with its longest runs. Takes no memory.
+    pub fn runs(&self) -> ReplicaRuns<'_>
+        ensures { IfFormed self.now (λ f. result ≡ f) }
+    {
+        ReplicaRuns {
             entries: self.replicas.iter(),
         }
     }

@@ -11,4 +11,4 @@ mod views;
 
 pub use context::{Context, one_form};
 pub use plan::ContextPlan;
-pub use views::{Cloud, Ranges, Tops};
+pub use views::{Cloud, Ranges, ReplicaRuns, Tops};

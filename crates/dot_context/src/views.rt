@@ -2,7 +2,7 @@
 ghost use Rattle.std.specs.Prelude.{◌≡◌, ◌<◌, length, Some, None, true, false};
 ghost use Rattle.std.specs.Bool.{MatchBool};
 ghost use Rattle.std.specs.Map.Iter.{TakesFirst};
-ghost use Rattle.dot_context.specs.Forms.{vector_of, cloud_of, tops_of, range_shown, cloud_shown};
+ghost use Rattle.dot_context.specs.Forms.{vector_of, cloud_of, tops_of, range_shown, runs_shown};
 
 use dot_context_runs::Runs;
 use presence_base::Replica;
@@ -131,11 +131,11 @@ impl<'a> Iterator for Cloud<'a> {
     ghost use Rattle.std.specs.Prelude.{length};
     ghost use Rattle.std.specs.Iterator.{at_most};
     ghost use Rattle.std.specs.Map.Iter.{TakesFirst};
-    ghost use Rattle.dot_context.specs.Forms.{cloud_shown};
+    ghost use Rattle.dot_context.specs.Forms.{runs_shown};
 
     type Item = (&'a Replica, Range<'a, u64, u64>);
 
-    ghost next_gives = { TakesFirst cloud_shown };
+    ghost next_gives = { TakesFirst runs_shown };
 
     ghost remaining = { λ s. at_most (length s) };
 
@@ -147,7 +147,7 @@ impl<'a> Iterator for Cloud<'a> {
 fn next_cloud<'a>(
     entries: &mut Iter<'a, Replica, Runs>,
 ) -> Option<(&'a Replica, Range<'a, u64, u64>)>
-    ensures { TakesFirst cloud_shown (cloud_of entries.old) result (cloud_of entries.new) }
+    ensures { TakesFirst runs_shown (cloud_of entries.old) result (cloud_of entries.new) }
 {
     while let Some((replica, runs)) = entries.next() {
         if runs.has_above_top() {
@@ -155,4 +155,50 @@ fn next_cloud<'a>(
         }
     }
     None
+}
+
+/// The runs of a context: each replica that has dots in the set, with its longest runs in order.
+/// A run is a pair: the count below its first one, and its last one.
+#[derive(Drop)]
+pub struct ReplicaRuns<'a> {
+    pub(crate) entries: Iter<'a, Replica, Runs>,
+}
+
+impl<'a> Model for ReplicaRuns<'a> {
+    ghost use Rattle.std.specs.Prelude.{ℕ, List};
+    ghost use Rattle.presence_base.specs.declared.dots.Replica.{Replica};
+    ghost use Rattle.presence_base.specs.Codes.{replica_code};
+    ghost use Rattle.std.specs.Coded.{coded_ℕ, coded_list, coded×};
+
+    ghost Value = { List (Replica × List (ℕ × ℕ)) };
+
+    ghost coded = { coded_list (coded× replica_code (coded_list (coded× coded_ℕ coded_ℕ))) };
+
+    ghost view = { λ a. a.entries };
+}
+
+impl<'a> Iterator for ReplicaRuns<'a> {
+    ghost use Rattle.std.specs.Prelude.{length};
+    ghost use Rattle.std.specs.Iterator.{at_most};
+    ghost use Rattle.std.specs.Map.Iter.{TakesFirst};
+    ghost use Rattle.dot_context.specs.Forms.{runs_shown};
+
+    type Item = (&'a Replica, Iter<'a, u64, u64>);
+
+    ghost next_gives = { TakesFirst runs_shown };
+
+    ghost remaining = { λ s. at_most (length s) };
+
+    fn next(&mut self) -> Option<(&'a Replica, Iter<'a, u64, u64>)> {
+        next_runs(&mut self.entries)
+    }
+}
+
+fn next_runs<'a>(entries: &mut Iter<'a, Replica, Runs>) -> Option<(&'a Replica, Iter<'a, u64, u64>)>
+    ensures { TakesFirst runs_shown entries.old result entries.new }
+{
+    match entries.next() {
+        Some((replica, runs)) => Some((replica, runs.iter())),
+        None => None,
+    }
 }

@@ -6,7 +6,7 @@ ghost use Rattle.dot_context_runs.specs.Runs.{in_run, holds, IsLastAt, AreLong, 
 
 use std::alloc::{AllocError, Global};
 use std::collections::BTreeMap;
-use std::collections::btree_map::Range;
+use std::collections::btree_map::{Iter, Range};
 use std::marker::Model;
 
 // The last run that begins at or below `count`.
@@ -250,6 +250,13 @@ impl Runs {
         ensures apart { AreApart 0 self.now }
     {
         top_of(&self.items)
+    }
+
+    /// All runs, in order.
+    pub fn iter(&self) -> Iter<'_, u64, u64>
+        ensures { result ≡ self.now }
+    {
+        self.items.iter()
     }
 
     /// The runs above the first gap.

@@ -53,7 +53,7 @@ each_found {K = K} {X = X} {R = R} o (e ∷ es) h = (
       found_later xs above.1 found.1,
     )
 
-no_repeat : {K : Type 0} (R : K → K → Ordering) (ks : List K) → IsStrictlySortedBy R ks → has_repeat (eq_by_cmp R) ks ≡ false
+pub no_repeat : {K : Type 0} (R : K → K → Ordering) (ks : List K) → IsStrictlySortedBy R ks → has_repeat (eq_by_cmp R) ks ≡ false
 unfolding IsStrictlySortedBy
 no_repeat R [] h = refl
 no_repeat {K = K} R (k ∷ ks) h = ap (λ b. b || has_repeat (eq_by_cmp R) ks) (none_tied ks h.0) ∙ no_repeat R ks h.1
@@ -109,7 +109,7 @@ entries_are es h = same_entries dot_cmp dot_total dot_antisymmetric es (map.entr
 pub live_sorted : (m : LiveRows) → IsStrictlySortedBy dot_cmp (keys_of (map.entries m))
 live_sorted m = from_test dot_cmp (map.entries m) (passed _ (map.entries_sorted m))
 
-live_found : (m : LiveRows) → AllByRecursion (λ (e : Dot × Row). map.get m e.0 ≡ Some e.1) (map.entries m)
+pub live_found : (m : LiveRows) → AllByRecursion (λ (e : Dot × Row). map.get m e.0 ≡ Some e.1) (map.entries m)
 live_found m = each_weaker (λ (e : Dot × Row). lookup (same_dot e.0) (map.entries m) ≡ Some e.1) (λ (e : Dot × Row). map.get m e.0 ≡ Some e.1)
     (λ e found. map.get-entries m e.0 ∙ find_is (map.entries m) e.0 ∙ found) (map.entries m) (each_found dot_total (map.entries m) (live_sorted m))
 
@@ -213,10 +213,13 @@ covers_all s t h d =
     either false false f = refl
 
 -- its live rows are the set's
-pub rows_all : (s : DotRows) (t : ToldValue) → IsFull s t → (d : Dot) → live_row t d ≡ map.get s.live d
-rows_all s t h d = ap (lookup (same_dot d)) h.live ∙ sym (find_is (map.entries s.live) d) ∙ sym (map.get-entries s.live d)
+pub rows_listed : (s : DotRows) (t : ToldValue) → t.live ≡ map.entries s.live → (d : Dot) → live_row t d ≡ map.get s.live d
+rows_listed s t live d = ap (lookup (same_dot d)) live ∙ sym (find_is (map.entries s.live) d) ∙ sym (map.get-entries s.live d)
 
-covered_dot : (s : DotRows) → IsSound s.covered s.live → (d : Dot) → set.contains s.covered d ≡ true → is_dot d ≡ true
+pub rows_all : (s : DotRows) (t : ToldValue) → IsFull s t → (d : Dot) → live_row t d ≡ map.get s.live d
+rows_all s t h d = rows_listed s t h.live d
+
+pub covered_dot : (s : DotRows) → IsSound s.covered s.live → (d : Dot) → set.contains s.covered d ≡ true → is_dot d ≡ true
 covered_dot s sound d has = by_parts (set.contains s.covered d) (map.get s.live d) has (sound d)
   where
     by_parts : (c : Bool) (o : Option Row) → c ≡ true → is_sound d c o ≡ true → is_dot d ≡ true
@@ -224,7 +227,7 @@ covered_dot s sound d has = by_parts (set.contains s.covered d) (map.get s.live 
     by_parts true (Some r) e h = (both_parts (is_dot d) (is_row r) h).0
     by_parts false o e h = absurd (cc)
 
-live_dot : (s : DotRows) → IsSound s.covered s.live → (d : Dot) (r : Row) → map.get s.live d ≡ Some r → (set.contains s.covered d ≡ true) × ((is_dot d && is_row r) ≡ true)
+pub live_dot : (s : DotRows) → IsSound s.covered s.live → (d : Dot) (r : Row) → map.get s.live d ≡ Some r → (set.contains s.covered d ≡ true) × ((is_dot d && is_row r) ≡ true)
 live_dot s sound d r has = by_parts (set.contains s.covered d) (map.get s.live d) has (sound d)
   where
     by_parts : (c : Bool) (o : Option Row) → o ≡ Some r → is_sound d c o ≡ true → (c ≡ true) × ((is_dot d && is_row r) ≡ true)
@@ -251,7 +254,7 @@ top_limits s sound g h = join (is_count g.0.incarnation) (nat_le g.1 MAX_COUNT) 
     top_small limit zero f = grind (arith, nat_tests)
     top_small limit (suc n) f = f (omega arith)
 
-all_of : {A : Type 0} (P : A → Type 0) (p : A → Bool) → ((x : A) → P x → p x ≡ true) → (xs : List A) → AllByRecursion P xs → list_all p xs ≡ true
+pub all_of : {A : Type 0} (P : A → Type 0) (p : A → Bool) → ((x : A) → P x → p x ≡ true) → (xs : List A) → AllByRecursion P xs → list_all p xs ≡ true
 all_of P p f [] h = refl
 all_of P p f (x ∷ xs) h = ap (λ b. b && list_all p xs) (f x h.0) ∙ all_of P p f xs h.1
 
@@ -271,7 +274,6 @@ full_is_told s t sound h =
     let tops = recursion_from_All (IsTopRange s.covered) t.ranges h.ranges in
     let live = subst (AllByRecursion (λ (x : Dot × Row). map.get s.live x.0 ≡ Some x.1)) (sym h.live) (live_found s.live) in
     record {
-      one_range = no_repeat replica_cmp (replicas_of t.ranges) h.ranges_in_order;
       forward = all_of (IsTopRange s.covered) is_forward (λ g top. ap (λ n. nat_le n g.2) top.from ∙ zero_first g.2) t.ranges tops;
       ranges = all_of (IsTopRange s.covered) is_range (top_limits s sound) t.ranges tops;
       extras = all_members is_dot t.extras (λ d has. covered_dot s sound d (both_parts (set.contains s.covered d) (not (list_any (range_has d) t.ranges)) (sym (h.extras d) ∙ has)).0);

@@ -1,5 +1,6 @@
 pub use Rattle.orswot_core_told.proofs.OrderFacts
 pub use Rattle.orswot_core_told.proofs.LoopFacts
+pub mod RunFacts
 pub mod RowFacts
 pub mod GatherFacts
 pub mod CoverFacts
@@ -9,5 +10,8 @@ pub mod LawFacts
 pub mod ListedFacts
 pub mod OrderedFacts
 pub mod FullFacts
+pub mod RunRangeFacts
+pub mod ApartFacts
 pub mod OneFullFacts
+pub mod FittingFacts
 pub mod ReplicaRows

@@ -50,7 +50,7 @@ none_later p q r (x ∷ xs) h same =
     let apart : same_replica q x.0 ≡ false = ap (λ y. same_replica y x.0) (replicas_equal q r same) ∙ ap is_eq h.0 in
     ap (λ b. (b && p x.1) || list_any (λ y. same_replica q y.0 && p y.1) xs) apart ∙ none_later p q r xs h.1 same
 
-any_found : (p : List (ℕ × ℕ) → Bool) (q : Replica) (f : Form) → IsStrictlySortedBy replica_cmp (keys_of f)
+pub any_found : (p : List (ℕ × ℕ) → Bool) (q : Replica) (f : Form) → IsStrictlySortedBy replica_cmp (keys_of f)
     → list_any (λ x. same_replica q x.0 && p x.1) f ≡ found_by p (lookup (same_replica q) f)
 unfolding IsStrictlySortedBy
 any_found p q [] h = refl

@@ -7,18 +7,24 @@ use Rattle.std.specs.List.Sorted.{IsStrictlySortedBy}
 use Rattle.std.specs.Ordering.{eq_by_cmp}
 use Rattle.std.specs.Cmp.{IsTotalOrder}
 use Rattle.std.specs.FinSet as set
+use Rattle.std.specs.FinMap as map
 use Rattle.std.specs.FinMap.Entries.{find, same_entries, is_some-find}
 use Rattle.std.specs.Map.{keys_of}
 use Rattle.presence_base.specs.declared.dots.Replica.{Replica}
+use Rattle.presence_base.specs.declared.dots.Dot.{Dot}
 use Rattle.presence_base.specs.Order.{replica_cmp, same_replica}
 use Rattle.dot_context.specs.Sets.{DotSet}
-use Rattle.orswot_core_told.specs.Telling.{Range, ToldValue, range_has}
+use Rattle.orswot_core_told.specs.declared.form.Form.{Form as ToldForm}
+use Rattle.orswot_core_told.specs.declared.form.Form.TheVariants.{One, Two}
+use Rattle.orswot_core_told.specs.Telling.{Range, ToldValue, range_has, covers, live_row}
 use Rattle.orswot_core_told.specs.Checks.{replicas_of}
 use Rattle.orswot_core.specs.Sets.{DotRows}
-use Rattle.orswot_core.specs.Full.{dot_of, IsTopRange, IsFull}
-use Rattle.orswot_core.specs.Laws.{OneFull}
+use Rattle.orswot_core.specs.Full.{dot_of, IsTopRange, IsFull, IsFullInRuns, IsFullIn}
+use Rattle.orswot_core.specs.Laws.{OneFull, FormsTellTheSame, FullsAreInOrder}
 use Rattle.orswot_core_told.proofs.OrderFacts.{replica_total, replica_antisymmetric, dot_total, dot_antisymmetric, replicas_equal}
-use Rattle.orswot_core.proofs.FullFacts.{passes, to_test}
+use Rattle.orswot_core.proofs.FullFacts.{passes, to_test, no_repeat, covers_all, rows_all, rows_listed}
+use Rattle.orswot_core.proofs.RunRangeFacts.{covers_in_runs, runs_not_astray}
+use Rattle.orswot_core.proofs.ApartFacts.{same_ranges_apart}
 
 abbrev marked : {K : Type 0} → List K → List (K × Unit {0})
 marked [] = []
@@ -112,10 +118,37 @@ same_ranges s t u h k =
     (passes _ (to_test replica_cmp (ends_of t.ranges) (test t h))) (passes _ (to_test replica_cmp (ends_of u.ranges) (test u k))) (same_found s t u h k) in
     sym (back_at t.ranges) ∙ ap ranges_at ends ∙ back_at u.ranges
 
-pub one_full : OneFull
-one_full s t u h k =
+one_full_in_tops : (s : DotRows) (t u : ToldValue) → IsFull s t → IsFull s u → t ≡ u
+one_full_in_tops s t u h k =
     let ranges : t.ranges ≡ u.ranges = same_ranges s t u h k in
     let extras : t.extras ≡ u.extras = same_members dot_total dot_antisymmetric t.extras u.extras h.extras_in_order k.extras_in_order
     (λ d. h.extras d ∙ ap (λ gs. set.contains s.covered d && not (list_any (range_has d) gs)) ranges ∙ sym (k.extras d)) in
     let live : t.live ≡ u.live = h.live ∙ sym k.live in
     λ i. record { ranges = ranges i; extras = extras i; live = live i }
+
+one_full_in_runs : (s : DotRows) (t u : ToldValue) → IsFullInRuns s t → IsFullInRuns s u → t ≡ u
+one_full_in_runs s t u h k =
+    let ranges : t.ranges ≡ u.ranges = same_ranges_apart t.ranges u.ranges h.some k.some h.apart k.apart (λ d. h.ranges d ∙ sym (k.ranges d)) in
+    let extras : t.extras ≡ u.extras = h.extras ∙ sym k.extras in
+    let live : t.live ≡ u.live = h.live ∙ sym k.live in
+    λ i. record { ranges = ranges i; extras = extras i; live = live i }
+
+pub one_full : OneFull
+one_full One s t u h k = one_full_in_tops s t u h k
+one_full Two s t u h k = one_full_in_runs s t u h k
+
+-- in either form it covers what the set covers, and its live rows are the set's
+pub covers_full : (form : ToldForm) (s : DotRows) (t : ToldValue) → IsFullIn form s t → (d : Dot) → covers t d ≡ set.contains s.covered d
+covers_full One s t h d = covers_all s t h d
+covers_full Two s t h d = covers_in_runs s t h d
+
+pub rows_full : (form : ToldForm) (s : DotRows) (t : ToldValue) → IsFullIn form s t → (d : Dot) → live_row t d ≡ map.get s.live d
+rows_full One s t h d = rows_all s t h d
+rows_full Two s t h d = rows_listed s t h.live d
+
+pub tells_the_same : FormsTellTheSame
+tells_the_same form other s t u h k d = (covers_full form s t h d ∙ sym (covers_full other s u k d), rows_full form s t h d ∙ sym (rows_full other s u k d))
+
+pub fulls_in_order : FullsAreInOrder
+fulls_in_order One s t h = no_repeat replica_cmp (replicas_of t.ranges) h.ranges_in_order
+fulls_in_order Two s t h = runs_not_astray s t h

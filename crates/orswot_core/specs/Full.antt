@@ -1,6 +1,7 @@
 -- The full told value of a set: all that is told of it, each thing once and in order.
-use Rattle.std.specs.Prelude.{◌≡◌, ℕ, ◌+◌, ◌≤◌, true, false, not, ◌&&◌, List, [], ◌∷◌, ◌++◌, map as each_of}
-use Rattle.std.specs.List.{All, list_any}
+use Rattle.std.specs.Prelude.{◌≡◌, ℕ, zero, ◌+◌, ◌-◌, ◌≤◌, Bool, true, false, cond, not, ◌&&◌, ◌||◌, nat_lt, List, [], ◌∷◌, ◌++◌, map as each_of, Option, Some, None}
+use Rattle.std.specs.List.{All, list_any, list_all}
+use Rattle.std.specs.Ordering.{is_lt}
 use Rattle.std.specs.List.Sorted.{IsStrictlySortedBy}
 use Rattle.std.specs.FinSet as set
 use Rattle.std.specs.FinMap as map
@@ -9,8 +10,10 @@ use Rattle.presence_base.specs.declared.dots.Dot.{Dot}
 use Rattle.presence_base.specs.Order.{replica_cmp, dot_cmp, same_replica, same_dot}
 use Rattle.dot_context.specs.Sets.{DotSet, run_dots}
 use Rattle.dot_context.specs.Forms.{Form, tops_of, cloud_of}
-use Rattle.orswot_core_told.specs.Telling.{Range, ToldValue, range_has}
-use Rattle.orswot_core_told.specs.Checks.{replicas_of}
+use Rattle.orswot_core_told.specs.declared.form.Form.{Form as ToldForm}
+use Rattle.orswot_core_told.specs.declared.form.Form.TheVariants.{One, Two}
+use Rattle.orswot_core_told.specs.Telling.{Range, ToldValue, range_has, run_ranges}
+use Rattle.orswot_core_told.specs.Checks.{replicas_of, is_too_many_in}
 use Rattle.orswot_core.specs.Sets.{DotRows}
 
 abbrev pub dot_of : Replica → ℕ → Dot
@@ -35,6 +38,37 @@ pub record IsFull (s : DotRows) (t : ToldValue) : Type 0 where
   pub extras_in_order : IsStrictlySortedBy dot_cmp t.extras
   pub live : t.live ≡ map.entries s.live
 
+-- a range that has a dot
+abbrev pub is_some : Range → Bool
+is_some g = nat_lt g.1 g.2
+
+-- the second is of a later replica, or of the same one and begins above the end of the first, so that they don't meet
+abbrev pub is_apart : Range → Range → Bool
+is_apart g h = is_lt (replica_cmp g.0 h.0) || (same_replica g.0 h.0 && nat_lt g.2 h.1)
+
+-- each is apart from the one before it
+abbrev pub are_apart_from : Range → List Range → Bool
+are_apart_from g [] = true
+are_apart_from g (h ∷ hs) = is_apart g h && are_apart_from h hs
+
+abbrev pub are_apart : List Range → Bool
+are_apart [] = true
+are_apart (g ∷ gs) = are_apart_from g gs
+
+-- ranges that have the covered dots and no others, in order, none of which is empty or meets another; no extras; the live rows
+-- in order of dot, each once
+pub record IsFullInRuns (s : DotRows) (t : ToldValue) : Type 0 where
+  pub ranges : (d : Dot) → list_any (range_has d) t.ranges ≡ set.contains s.covered d
+  pub some : list_all is_some t.ranges ≡ true
+  pub apart : are_apart t.ranges ≡ true
+  pub extras : t.extras ≡ []
+  pub live : t.live ≡ map.entries s.live
+
+-- the full told value in each form
+abbrev pub IsFullIn : ToldForm → DotRows → ToldValue → Type 0
+IsFullIn One s t = IsFull s t
+IsFullIn Two s t = IsFullInRuns s t
+
 -- the range up to a replica's top
 abbrev pub up_to_top : Replica × ℕ → Range
 up_to_top p = (p.0, 0, p.1)
@@ -50,3 +84,20 @@ top_ranges f = each_of up_to_top (tops_of f)
 
 abbrev pub dots_above : Form → List Dot
 dots_above f = dots_of_runs (cloud_of f)
+
+abbrev pub all_ranges : Form → List Range
+all_ranges [] = []
+all_ranges (e ∷ es) = run_ranges e.0 e.1 ++ all_ranges es
+
+-- how many counts the runs have
+abbrev pub counts_in : List (ℕ × ℕ) → ℕ
+counts_in [] = zero
+counts_in (r ∷ rs) = (r.1 - r.0) + counts_in rs
+
+-- what is left of so many behind so many others, where these are no more
+abbrev pub left_behind : ℕ → ℕ → Option ℕ
+left_behind left n = cond (nat_lt left n) None (Some (left - n))
+
+-- whether what is told so has no more in the form than a node takes in
+abbrev pub Fits : ToldForm → (ToldValue → Type 0) → Bool → Type 0
+Fits form Is fits = (t : ToldValue) × Is t × (fits ≡ not (is_too_many_in form t))

@@ -4,9 +4,10 @@ use Rattle.std.specs.FinSet as set
 use Rattle.std.specs.FinMap as map
 use Rattle.presence_base.specs.declared.dots.Dot.{Dot}
 use Rattle.presence_base.specs.declared.row.Row.{Row}
+use Rattle.orswot_core_told.specs.declared.form.Form.{Form}
 use Rattle.orswot_core_told.specs.Telling.{ToldValue, covers, live_row, tells_removed}
-use Rattle.orswot_core_told.specs.Checks.{IsTold}
-use Rattle.orswot_core.specs.Full.{IsFull}
+use Rattle.orswot_core_told.specs.Checks.{IsTold, has_range_astray}
+use Rattle.orswot_core.specs.Full.{IsFullIn}
 use Rattle.orswot_core.specs.Sets.{DotRows, IsSound, IsJoin, with_dot, removed}
 
 -- y is the set x joined with the set s
@@ -79,6 +80,15 @@ abbrev pub OldChangesNothing : Type 0
 OldChangesNothing = (s x y z : DotRows) (old : ToldValue) (others : List ToldValue) → IsTold old → TakesIn s old x
     → TakesInAll x others y → TakesIn y old z → z ≡ y
 
--- two values that each tell all of a set are one
+-- two values that each tell all of a set in one form are one
 abbrev pub OneFull : Type 0
-OneFull = (s : DotRows) (t u : ToldValue) → IsFull s t → IsFull s u → t ≡ u
+OneFull = (form : Form) (s : DotRows) (t u : ToldValue) → IsFullIn form s t → IsFullIn form s u → t ≡ u
+
+-- in whatever forms all of a set is told, the same dots are covered, and the same rows are live
+abbrev pub FormsTellTheSame : Type 0
+FormsTellTheSame = (form other : Form) (s : DotRows) (t u : ToldValue) → IsFullIn form s t → IsFullIn other s u → (d : Dot)
+    → (covers t d ≡ covers u d) × (live_row t d ≡ live_row u d)
+
+-- what is told of all of a set can be heard as far as its ranges go: none stands where its form has none
+abbrev pub FullsAreInOrder : Type 0
+FullsAreInOrder = (form : Form) (s : DotRows) (t : ToldValue) → IsFullIn form s t → has_range_astray form t.ranges ≡ false

@@ -4,24 +4,27 @@ ghost use Rattle.std.specs.List.Sorted.{IsStrictlySortedBy};
 ghost use Rattle.std.specs.Map.{keys_of};
 ghost use Rattle.presence_base.specs.Order.{dot_cmp};
 ghost use Rattle.orswot_core.specs.Sets.{IsSound, rows_of, seen};
-ghost use Rattle.orswot_core.specs.Full.{IsFull, up_to_top, dots_of_runs};
+ghost use Rattle.orswot_core.specs.Full.{IsFullIn, up_to_top, dots_of_runs, all_ranges};
+ghost use Rattle.orswot_core_told.specs.declared.form.Form.TheVariants.{One, Two};
+ghost use Rattle.orswot_core_told.specs.Telling.{run_ranges};
 ghost use Rattle.dot_context.specs.Sets.{span, run_dots};
 
-use dot_context::{Cloud, Context, Tops};
-use orswot_core_told::Told;
+use dot_context::{Cloud, Context, ReplicaRuns, Tops};
+use orswot_core_told::{Form, Told};
 use presence_base::{Dot, Replica, Row};
 use std::alloc::{AllocError, Global};
 use std::collections::BTreeMap;
-use std::collections::btree_map::Range;
+use std::collections::btree_map::{Iter, Range};
 
 fn push_range(
     ranges: &mut Vec<(Replica, u64, u64)>,
     replica: &Replica,
-    top: u64,
+    from: u64,
+    to: u64,
 ) -> Result<(), AllocError>
-    ensures { OnOk result (ranges.new.items ≡ ranges.old.items ++ up_to_top (replica.now, top) ∷ []) }
+    ensures { OnOk result (ranges.new.items ≡ ranges.old.items ++ (replica.now, from, to) ∷ []) }
 {
-    ranges.push((*replica, 0, top))?;
+    ranges.push((*replica, from, to))?;
     Ok(())
 }
 
@@ -31,7 +34,7 @@ fn ranges_up_to(alloc: Global, tops: Tops<'_>) -> Result<Vec<(Replica, u64, u64)
 {
     let mut ranges = Vec::new(alloc);
     for (replica, top) in tops {
-        push_range(&mut ranges, replica, top)?;
+        push_range(&mut ranges, replica, 0, top)?;
     }
     Ok(ranges)
 }
@@ -46,9 +49,11 @@ fn push_count(dots: &mut Vec<Dot>, replica: &Replica, count: u64) -> Result<(), 
     Ok(())
 }
 
+// A run that memory can't hold is refused before a dot of it is made, however long it is.
 fn push_run(dots: &mut Vec<Dot>, replica: &Replica, from: u64, to: u64) -> Result<(), AllocError>
     ensures { OnOk result (dots.new.items ≡ dots.old.items ++ span replica.now from (to - from)) }
 {
+    dots.reserve(to.saturating_sub(from) as usize)?;
     for count in from..to {
         push_count(dots, replica, count + 1)?;
     }
@@ -79,6 +84,30 @@ fn dots_in(alloc: Global, cloud: Cloud<'_>) -> Result<Vec<Dot>, AllocError>
     Ok(dots)
 }
 
+fn push_ranges(
+    ranges: &mut Vec<(Replica, u64, u64)>,
+    replica: &Replica,
+    runs: Iter<'_, u64, u64>,
+) -> Result<(), AllocError>
+    ensures { OnOk result (ranges.new.items ≡ ranges.old.items ++ run_ranges replica.now runs.entry) }
+{
+    for (from, to) in runs {
+        push_range(ranges, replica, *from, *to)?;
+    }
+    Ok(())
+}
+
+// Each run as a range.
+fn ranges_of(alloc: Global, all: ReplicaRuns<'_>) -> Result<Vec<(Replica, u64, u64)>, AllocError>
+    ensures { IfOk result (λ v. v.items ≡ all_ranges all.entry) }
+{
+    let mut ranges = Vec::new(alloc);
+    for (replica, runs) in all {
+        push_ranges(&mut ranges, replica, runs)?;
+    }
+    Ok(ranges)
+}
+
 fn push_live(rows: &mut Vec<(Dot, Row)>, dot: &Dot, row: &Row) -> Result<(), AllocError>
     ensures { OnOk result (rows.new.items ≡ rows.old.items ++ (dot.now, row.now) ∷ []) }
 {
@@ -99,16 +128,46 @@ fn rows_in(alloc: Global, live: &BTreeMap<Dot, Row>) -> Result<Vec<(Dot, Row)>, 
     Ok(rows)
 }
 
-pub(crate) fn full_told(
+// With a range up to its top for each replica, and an extra for each dot above it.
+fn told_in_tops(
     alloc: Global,
     covered: &Context,
     live: &BTreeMap<Dot, Row>,
 ) -> Result<Told, AllocError>
     requires { IsSound covered.now (rows_of live.now.entries) }
-    ensures { IfOk result (λ t. IsFull (seen covered.now live.now) t) }
+    ensures { IfOk result (λ t. IsFullIn One (seen covered.now live.now) t) }
 {
     let ranges = ranges_up_to(alloc, covered.tops())?;
     let extras = dots_in(alloc, covered.cloud())?;
     let live = rows_in(alloc, live)?;
     Ok(Told::new(ranges, extras, live))
+}
+
+// With a range for each run.
+fn told_in_runs(
+    alloc: Global,
+    covered: &Context,
+    live: &BTreeMap<Dot, Row>,
+) -> Result<Told, AllocError>
+    requires { IsSound covered.now (rows_of live.now.entries) }
+    ensures { IfOk result (λ t. IsFullIn Two (seen covered.now live.now) t) }
+{
+    let ranges = ranges_of(alloc, covered.runs())?;
+    let live = rows_in(alloc, live)?;
+    Ok(Told::new(ranges, Vec::new(alloc), live))
+}
+
+pub(crate) fn full_told(
+    alloc: Global,
+    form: Form,
+    covered: &Context,
+    live: &BTreeMap<Dot, Row>,
+) -> Result<Told, AllocError>
+    requires { IsSound covered.now (rows_of live.now.entries) }
+    ensures { IfOk result (λ t. IsFullIn form (seen covered.now live.now) t) }
+{
+    match form {
+        Form::One => told_in_tops(alloc, covered, live),
+        Form::Two => told_in_runs(alloc, covered, live),
+    }
 }

@@ -1,4 +1,4 @@
-ghost use Rattle.orswot_core.specs.Laws.{Idempotent, Commutative, Associative, RemovalsAreHeard, RemovedStays, Learns, JoinsKeepKnown, StepsKeepKnown, KnownChangesNothing, OldChangesNothing, OneFull};
+ghost use Rattle.orswot_core.specs.Laws.{Idempotent, Commutative, Associative, RemovalsAreHeard, RemovedStays, Learns, JoinsKeepKnown, StepsKeepKnown, KnownChangesNothing, OldChangesNothing, OneFull, FormsTellTheSame, FullsAreInOrder};
 
 /// Sets join in any order and number: with itself a set stays as it is, two of them join to the
 /// same either way where their rows agree, and three join to the same in either grouping.
@@ -29,7 +29,17 @@ pub fn old_told_changes_nothing()
     ensures { OldChangesNothing }
 {}
 
-/// All that is told of a set is one told value: no order and no choice is left.
+/// All that is told of a set in one form is one told value: no order and no choice is left.
 pub fn told_whole_in_one_way()
     ensures { OneFull }
+{}
+
+/// All that is told of a set covers the same dots and has the same rows in either form.
+pub fn forms_tell_the_same()
+    ensures { FormsTellTheSame }
+{}
+
+/// All that is told of a set has its ranges as the form wants them.
+pub fn fulls_are_in_order()
+    ensures { FullsAreInOrder }
 {}

@@ -7,6 +7,7 @@
 //! - `specs/Steps`: what the steps on covered dots and live rows leave, and which dots they gather
 #![tactic(auto)]
 
+mod fitting;
 mod full;
 mod joins;
 pub mod laws;
@@ -14,6 +15,6 @@ mod plan;
 mod rows;
 mod set;
 
-pub use orswot_core_told::{MAX_ROWS, RawRow, RawTold, ReplicaTest, Told, ToldFault};
+pub use orswot_core_told::{Form, MAX_ROWS, RawRow, RawTold, ReplicaTest, Told, ToldFault};
 pub use plan::JoinPlan;
 pub use set::Orswot;

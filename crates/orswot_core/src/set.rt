@@ -4,19 +4,20 @@ ghost use Rattle.std.specs.FinSet as set;
 ghost use Rattle.std.specs.FinMap as map;
 ghost use Rattle.presence_base.specs.declared.dots.Dot.{Dot as DotValue};
 ghost use Rattle.dot_context.specs.Sets.{HasUpTo};
-ghost use Rattle.orswot_core_told.specs.Checks.{is_forward};
+ghost use Rattle.orswot_core_told.specs.Checks.{is_forward, WhereItFits};
 ghost use Rattle.orswot_core_told.specs.Limits.{is_dot, is_row};
 ghost use Rattle.orswot_core_told.specs.Telling.{covers, live_row, cut_to};
-ghost use Rattle.orswot_core.specs.Full.{IsFull};
+ghost use Rattle.orswot_core.specs.Full.{IsFullIn};
 ghost use Rattle.orswot_core.specs.Laws.{TakesIn};
 ghost use Rattle.orswot_core.specs.Sets.{with_dot, removed, IsJoin, without_replica, rows_by, rows_within};
 
+use crate::fitting::fits_line;
 use crate::full::full_told;
 use crate::joins::{add_row, forget_rows, join_rows, parts_of, remove_rows};
 use crate::plan::{JoinPlan, plan_parts};
 use crate::rows::rows_in_range;
 use dot_context::Context;
-use orswot_core_told::{ReplicaTest, Told};
+use orswot_core_told::{Form, ReplicaTest, Told};
 use presence_base::{Dot, MAX_COUNT, Replica, Row};
 use std::alloc::{AllocError, Global};
 use std::collections::BTreeMap;
@@ -206,14 +207,27 @@ impl Orswot {
         )
     }
 
-    /// All that is told of the set. It costs what it gives, and needs memory for each covered dot above its replica's first
-    /// gap: a set that heard of a huge run above a gap can't be told in whole.
-    pub fn told(&self, alloc: Global) -> Result<Told, AllocError>
-        ensures full { IfOk result (λ t. IsFull self.now t) }
+    /// All that is told of the set, in the form. It costs what it gives. In the first form it needs memory for each covered dot
+    /// above its replica's first gap: a set that heard of a huge run above a gap can't be told in whole. In the second a run of
+    /// any length is one range.
+    pub fn told(&self, alloc: Global, form: Form) -> Result<Told, AllocError>
+        ensures full { IfOk result (λ t. IsFullIn form self.now t) }
         ensures covers { IfOk result (λ t. (d : DotValue) → covers t d ≡ set.contains self.now.covered d) }
         ensures rows { IfOk result (λ t. (d : DotValue) → live_row t d ≡ map.get self.now.live d) }
     {
-        full_told(alloc, &self.covered, &self.live)
+        full_told(alloc, form, &self.covered, &self.live)
+    }
+
+    /// The same where it has no more in the form than a node takes in: rows and extras in the first, rows and ranges in the second. What
+    /// has more is counted by the ends of its runs, before a dot or a range is made, and needs no memory.
+    pub fn fitting_told(&self, alloc: Global, form: Form) -> Result<Option<Told>, AllocError>
+        ensures { IfOk result (WhereItFits form (IsFullIn form self.now)) }
+    {
+        if !fits_line(form, &self.covered, &self.live) {
+            return Ok(None);
+        }
+        let told = self.told(alloc, form)?;
+        Ok(Some(told))
     }
 
     /// Takes out the replica's dots and rows.

@@ -99,7 +99,6 @@ cut_tells picks t d = (
 
 pub cut_told : (picks : Replica → Bool) (t : ToldValue) → IsTold t → IsTold (cut_to picks t)
 cut_told picks t h = record {
-  one_range = once_kept same_replica (λ (g : Range). g.0) (λ g. picks g.0) t.ranges h.one_range;
   forward = all_kept is_forward is_forward (λ g. picks g.0) t.ranges (λ g k e. e) h.forward;
   ranges = all_kept is_range is_range (λ g. picks g.0) t.ranges (λ g k e. e) h.ranges;
   extras = all_kept is_dot is_dot (λ d. picks d.replica) t.extras (λ d k e. e) h.extras;

@@ -1,3 +1,4 @@
 pub mod OrderFacts
 pub mod LoopFacts
 pub mod CutFacts
+pub mod FitFacts

@@ -1,10 +1,13 @@
 -- What is wrong with a told value: the first fault, in order.
 use Rattle.std.specs.Prelude.{◌≡◌, ℕ, ◌+◌, Bool, true, false, cond, not, ◌&&◌, ◌||◌, nat_lt, nat_le, List, [], ◌∷◌, length, map, Option, Some, None, Result, Ok, Err, Vec}
 use Rattle.std.specs.List.{list_any, list_all}
+use Rattle.std.specs.Ordering.{is_lt}
 use Rattle.presence_base.specs.declared.dots.Replica.{Replica}
 use Rattle.presence_base.specs.declared.dots.Dot.{Dot}
 use Rattle.presence_base.specs.declared.row.Row.{Row}
-use Rattle.presence_base.specs.Order.{same_replica, same_dot}
+use Rattle.presence_base.specs.Order.{replica_cmp, same_replica, same_dot}
+use Rattle.orswot_core_told.specs.declared.form.Form.{Form}
+use Rattle.orswot_core_told.specs.declared.form.Form.TheVariants.{One, Two}
 use Rattle.orswot_core_told.specs.declared.raw.RawTold.{RawTold}
 use Rattle.orswot_core_told.specs.declared.told.TheConstants.{MAX_ROWS}
 use Rattle.orswot_core_told.specs.declared.told.ToldFault.{ToldFault}
@@ -18,6 +21,19 @@ raw_value t = record { ranges = t.ranges.items; extras = t.extras.items; live = 
 
 abbrev pub is_too_many : ToldValue → Bool
 is_too_many t = nat_lt MAX_ROWS (length t.extras + length t.live)
+
+-- what counts towards the limit: the rows with the extras, and in the second form, which has no extras, with the ranges
+abbrev pub sum_in : Form → ℕ → ℕ → ℕ → ℕ
+sum_in One ranges extras live = extras + live
+sum_in Two ranges extras live = ranges + (extras + live)
+
+abbrev pub is_too_many_in : Form → ToldValue → Bool
+is_too_many_in form t = nat_lt MAX_ROWS (sum_in form (length t.ranges) (length t.extras) (length t.live))
+
+-- what is told where it has no more in the form than a node takes in, and none in its place where it has more
+abbrev pub WhereItFits : Form → (ToldValue → Type 0) → Option ToldValue → Type 0
+WhereItFits form Is (Some t) = Is t × (is_too_many_in form t ≡ false)
+WhereItFits form Is None = (t : ToldValue) × Is t × (is_too_many_in form t ≡ true)
 
 abbrev pub LimitOfRows : Type 0
 LimitOfRows = MAX_ROWS ≡ 65536
@@ -33,8 +49,23 @@ replicas_of gs = map (λ g. g.0) gs
 abbrev pub dots_of : List (Dot × Row) → List Dot
 dots_of xs = map (λ x. x.0) xs
 
-abbrev pub has_two_ranges : ToldValue → Bool
-has_two_ranges t = has_repeat same_replica (replicas_of t.ranges)
+-- the second may come next: it is of a later replica, or of the same and begins at or above both ends of the first
+abbrev pub may_precede : Range → Range → Bool
+may_precede g h = is_lt (replica_cmp g.0 h.0) || (same_replica g.0 h.0 && (nat_le g.1 h.1 && nat_le g.2 h.1))
+
+-- each may come next to the one before it
+abbrev pub follow_on : Range → List Range → Bool
+follow_on g [] = true
+follow_on g (h ∷ hs) = may_precede g h && follow_on h hs
+
+abbrev pub are_in_order : List Range → Bool
+are_in_order [] = true
+are_in_order (g ∷ gs) = follow_on g gs
+
+-- whether a range stands where its form has none: a second one of a replica, or one out of order
+abbrev pub has_range_astray : Form → List Range → Bool
+has_range_astray One gs = has_repeat same_replica (replicas_of gs)
+has_range_astray Two gs = not (are_in_order gs)
 
 -- a range that is empty or runs upwards
 abbrev pub is_forward : Range → Bool
@@ -57,10 +88,10 @@ abbrev pub has_live_twice : ToldValue → Bool
 has_live_twice t = has_repeat same_dot (dots_of t.live)
 
 -- the first fault for this one of n shards, memory aside
-abbrev pub first_fault : ℕ → ℕ → ToldValue → Option ToldFault
-first_fault shard n t =
-    cond (is_too_many t) (Some TooMany)
-    (cond (has_two_ranges t) (Some TwoRanges)
+abbrev pub first_fault : ℕ → ℕ → Form → ToldValue → Option ToldFault
+first_fault shard n form t =
+    cond (is_too_many_in form t) (Some TooMany)
+    (cond (has_range_astray form t.ranges) (Some TwoRanges)
     (cond (not (are_forward t)) (Some BadRange)
     (cond (not (are_limited shard n t)) (Some RowLimits)
     (cond (not (are_live_covered t)) (Some LiveNotCovered)
@@ -79,7 +110,6 @@ IsAnswer (Err f) raw first = IsFault f first
 
 -- what every told value keeps, whatever its shard and its size
 pub record IsTold (t : ToldValue) : Type 0 where
-  pub one_range : has_two_ranges t ≡ false
   pub forward : are_forward t ≡ true
   pub ranges : list_all is_range t.ranges ≡ true
   pub extras : list_all is_dot t.extras ≡ true

@@ -1,5 +1,5 @@
 -- Telling: what a told value covers, and which adds and removes it tells (Bieniusa et al., 2012).
-use Rattle.std.specs.Prelude.{◌≡◌, ℕ, Bool, cond, ◌&&◌, ◌||◌, List, Option, None, is_none}
+use Rattle.std.specs.Prelude.{◌≡◌, ℕ, Bool, cond, ◌&&◌, ◌||◌, List, [], ◌∷◌, Option, None, is_none}
 use Rattle.std.specs.List.{filter, list_any}
 use Rattle.std.specs.Map.{lookup}
 use Rattle.std.specs.FinSet as set
@@ -12,6 +12,11 @@ use Rattle.dot_context.specs.Sets.{DotSet, in_range}
 -- the dots of a replica above one count, up to another
 abbrev pub Range : Type 0
 Range = Replica × ℕ × ℕ
+
+-- the runs of a replica's counts, each as a range
+abbrev pub run_ranges : Replica → List (ℕ × ℕ) → List Range
+run_ranges r [] = []
+run_ranges r (x ∷ xs) = (r, x.0, x.1) ∷ run_ranges r xs
 
 pub record ToldValue : Type 0 where
   pub ranges : List Range

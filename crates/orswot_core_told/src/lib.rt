@@ -7,11 +7,13 @@
 #![tactic(auto)]
 
 mod cut;
+mod form;
 pub mod laws;
 mod limits;
 mod raw;
 mod told;
 
 pub use cut::ReplicaTest;
+pub use form::Form;
 pub use raw::{RawRow, RawTold};
 pub use told::{MAX_ROWS, Told, ToldFault, add_dots, told_context};

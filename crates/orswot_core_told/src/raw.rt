@@ -4,6 +4,7 @@ ghost use Rattle.presence_base.specs.Names.{guarded};
 ghost use Rattle.orswot_core_told.specs.Limits.{is_row, are_texts};
 ghost use Rattle.orswot_core_told.specs.Checks.{AreRows, is_raw_row};
 
+use crate::form::Form;
 use crate::limits::{is_dot_within, is_row_within};
 use crate::told::ToldFault;
 use presence_base::{Dot, Key, Meta, Replica, Row, Topic, shard_of};
@@ -41,9 +42,10 @@ impl Model for RawRow {
 }
 
 /// What was told of a set, before it is checked: ranges (above one count, up to another), dots
-/// beside them, and the rows that are live.
+/// beside them, and the rows that are live; and the form in which it was told.
 #[derive(Drop)]
 pub struct RawTold {
+    pub form: Form,
     pub ranges: Vec<(Replica, u64, u64)>,
     pub extras: Vec<Dot>,
     pub live: Vec<(Dot, RawRow)>,

@@ -1,4 +1,4 @@
-ghost use Rattle.std.specs.Prelude.{◌≡◌, ◌≤◌, true, Err, IfOk, OnOk};
+ghost use Rattle.std.specs.Prelude.{◌≡◌, ◌≤◌, true, Err, IfOk, OnOk, nat_lt};
 ghost use Rattle.std.specs.List.{list_all};
 ghost use Rattle.std.specs.FinSet as set;
 ghost use Rattle.presence_base.specs.Order.{same_replica, same_dot};
@@ -6,14 +6,16 @@ ghost use Rattle.presence_base.specs.declared.dots.Dot.{Dot as DotValue};
 ghost use Rattle.orswot_core_told.specs.Limits.{is_dot};
 ghost use Rattle.orswot_core_told.specs.Telling.{lies_in, is_among, is_told_by, CoversMore, cut_to};
 ghost use Rattle.orswot_core_told.specs.declared.told.ToldFault.TheVariants.{TooMany};
-ghost use Rattle.orswot_core_told.specs.Checks.{raw_value, IsAnswer, IsTold, is_too_many, first_fault, has_repeat, replicas_of, dots_of};
+ghost use Rattle.orswot_core_told.specs.Checks.{raw_value, IsAnswer, IsTold, sum_in, is_too_many_in, may_precede as may_come_next, are_in_order as is_ordered, has_range_astray, first_fault, has_repeat, replicas_of, dots_of};
 
 use crate::cut::{ReplicaTest, cut_extras, cut_ranges, cut_rows};
+use crate::form::Form;
 use crate::limits::{are_dots_within, are_ranges_forward, are_ranges_within};
 use crate::raw::{RawTold, checked_rows};
 use dot_context::Context;
 use presence_base::{Dot, Replica, Row};
 use std::alloc::{AllocError, Global};
+use std::cmp::Ordering;
 use std::collections::BTreeSet;
 use std::fmt;
 use std::marker::Model;
@@ -96,18 +98,19 @@ impl Told {
     /// too many rows and extras is refused without memory.
     pub fn check(alloc: Global, raw: RawTold, shard: u32, shards: u32) -> Result<Told, ToldFault>
         requires { 1 ≤ shards }
-        ensures answer { IsAnswer result (raw_value raw) (first_fault shard shards (raw_value raw)) }
-        ensures many { is_too_many (raw_value raw) ≡ true → result ≡ Err TooMany }
+        ensures answer { IsAnswer result (raw_value raw) (first_fault shard shards raw.form (raw_value raw)) }
+        ensures many { is_too_many_in raw.form (raw_value raw) ≡ true → result ≡ Err TooMany }
     {
         let RawTold {
+            form,
             ranges,
             extras,
             live,
         } = raw;
-        if extras.len() > MAX_ROWS || live.len() > MAX_ROWS - extras.len() {
+        if is_over_limit(form, ranges.len(), extras.len(), live.len()) {
             return Err(ToldFault::TooMany);
         }
-        if has_two_ranges(alloc, &ranges)? {
+        if has_range_astray(alloc, form, &ranges)? {
             return Err(ToldFault::TwoRanges);
         }
         if !are_ranges_forward(&ranges) {
@@ -175,6 +178,32 @@ impl Told {
     }
 }
 
+// Whether so many ranges, extras and rows are more than a told value of this form may bring.
+fn is_over_limit(form: Form, ranges: usize, extras: usize, live: usize) -> bool
+    ensures { result ≡ nat_lt MAX_ROWS (sum_in form ranges extras live) }
+{
+    let left = match form {
+        Form::One => MAX_ROWS,
+        Form::Two if ranges > MAX_ROWS => return true,
+        Form::Two => MAX_ROWS - ranges,
+    };
+    extras > left || live > left - extras
+}
+
+// Whether a range stands where its form has none.
+fn has_range_astray(
+    alloc: Global,
+    form: Form,
+    ranges: &[(Replica, u64, u64)],
+) -> Result<bool, AllocError>
+    ensures { IfOk result (λ b. b ≡ has_range_astray form ranges.now) }
+{
+    match form {
+        Form::One => has_two_ranges(alloc, ranges),
+        Form::Two => Ok(!are_in_order(ranges)),
+    }
+}
+
 // Whether two ranges are of one replica.
 fn has_two_ranges(alloc: Global, ranges: &[(Replica, u64, u64)]) -> Result<bool, AllocError>
     ensures { IfOk result (λ b. b ≡ has_repeat same_replica (replicas_of ranges.now)) }
@@ -187,6 +216,33 @@ fn has_two_ranges(alloc: Global, ranges: &[(Replica, u64, u64)]) -> Result<bool,
         seen.insert(range.0)?;
     }
     Ok(false)
+}
+
+fn may_precede(first: &(Replica, u64, u64), next: &(Replica, u64, u64)) -> bool
+    ensures { result ≡ may_come_next first.now next.now }
+{
+    match first.0.cmp(&next.0) {
+        Ordering::Less => true,
+        Ordering::Equal => first.1 <= next.1 && first.2 <= next.1,
+        Ordering::Greater => false,
+    }
+}
+
+// Whether each range may come next to the one before it.
+fn are_in_order(ranges: &[(Replica, u64, u64)]) -> bool
+    ensures { result ≡ is_ordered ranges.now }
+{
+    let Some((first, rest)) = ranges.split_first() else {
+        return true;
+    };
+    let mut last = *first;
+    for range in rest {
+        if !may_precede(&last, range) {
+            return false;
+        }
+        last = *range;
+    }
+    true
 }
 
 // Whether two rows are of one dot.

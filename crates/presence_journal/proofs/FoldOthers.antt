@@ -1,5 +1,5 @@
 -- What a step leaves as it was.
-use Rattle.std.proofs.Common.{◌≡◌, ℕ, ◌+◌, ◌≤◌, ◌^◌, Bool, true, false, cond, ◌||◌, List, [], ◌∷◌, Option, Some, None, refl, sym, ◌∙◌, ap, subst, arith, inl, inr}
+use Rattle.std.proofs.Common.{◌≡◌, ℕ, ◌^◌, Bool, true, false, cond, ◌||◌, List, [], ◌∷◌, Option, Some, None, refl, sym, ◌∙◌, ap, subst, inl, inr}
 use Rattle.std.specs.Prelude.{nat_lt, ◌⊎◌}
 use Rattle.std.specs.List.{All}
 use Rattle.std.specs.FinMap as map
@@ -13,7 +13,7 @@ use Rattle.presence_journal_data.specs.declared.step.Step.TheVariants as steps_a
 use Rattle.presence_journal_data.specs.declared.entry.Outcome.TheVariants as outcomes_are
 use Rattle.presence_journal_data.specs.declared.rows.Place.{Place}
 use Rattle.presence_journal.specs.Steps.{Step, Outcome, Entry}
-use Rattle.presence_journal.specs.History.{History, Begin, Then, count, counts_used, next_dot, is_full, has_dot, first_some, row, row_made, row_added, dot_removed, removed, is_up, status, live, shown}
+use Rattle.presence_journal.specs.History.{History, Then, count, next_dot, is_full, has_dot, first_some, row, row_made, row_added, dot_removed, removed, is_up, status, live, shown}
 use Rattle.presence_journal.specs.Present.{of_topic, present, listed, in_order, dots_of}
 use Rattle.presence_journal.specs.Queue.{Behind, Queued, shout_item, items_made, topic_of, queue}
 use Rattle.presence_journal.specs.Table.{IsLegal, AreWithinLimits, is_mine, has_key, rows_of_pid, rows_of_key, counting, tracked, updated, untracked, for_present, take_outcome, outcome_of, next_entry, with_outcome, accepted, after}

@@ -1,20 +1,19 @@
 -- What is present at a place, and that the difference of an entry leads from what was present to what is.
-use Rattle.std.proofs.Common.{◌≡◌, Bool, true, false, cond, ◌&&◌, ◌||◌, List, [], ◌∷◌, ◌++◌, Option, Some, None, Ordering, refl, sym, ◌∙◌, ap, ℕ}
+use Rattle.std.proofs.Common.{◌≡◌, Bool, true, false, cond, ◌&&◌, ◌||◌, List, [], ◌∷◌, Option, Some, None, Ordering, refl, sym, ◌∙◌, ap, ℕ}
 use Rattle.std.specs.declared.cmp.Ordering.TheVariants.{Less, Equal, Greater}
 use Rattle.std.specs.Ordering.{ordering_then, is_eq}
 use Rattle.std.specs.Cmp.{eq_by_cmp_equiv}
 use Rattle.std.specs.Cmp.Lexicographic.{nat_list_cmp_total}
 use Rattle.std.specs.FinMap as map
-use Rattle.std.proofs.lemmas.Bool.{both_ways, or_right}
+use Rattle.std.proofs.lemmas.Bool.{both_ways}
 use Rattle.std.proofs.lemmas.Option.{same_Some}
 use Rattle.presence_base.specs.declared.dots.Dot.{Dot}
 use Rattle.presence_base.specs.declared.row.Row.{Row}
 use Rattle.presence_base.specs.Order.{text_cmp, dot_cmp, same_text, same_dot}
-use Rattle.presence_journal_data.specs.declared.entry.Outcome.TheVariants as outcomes_are
 use Rattle.presence_journal_data.specs.declared.rows.Place.{Place}
-use Rattle.presence_journal.specs.Steps.{Step, Outcome, Entry}
-use Rattle.presence_journal.specs.History.{History, Begin, Then, is_up, status, has_dot, first_some, row, row_made, row_added, removed, live, shown}
-use Rattle.presence_journal.specs.Present.{place_cmp, place_of, of_topic, dots, dots_added, put, put_all, present}
+use Rattle.presence_journal.specs.Steps.{Entry}
+use Rattle.presence_journal.specs.History.{History, Then, has_dot, shown}
+use Rattle.presence_journal.specs.Present.{place_cmp, place_of, of_topic, dots, put, put_all, present}
 use Rattle.presence_journal.specs.Laws.{IsPlaced, Agrees, of_key, PresentIsShown, DiffsLead}
 use Rattle.presence_journal.proofs.FoldOrder.{place_cmp_total, same_text-is, same_dot-is}
 use Rattle.presence_journal.proofs.FoldTables.{changes_lead}

@@ -1,10 +1,10 @@
 -- What is known, live and shown after an entry, a merge among them.
-use Rattle.std.proofs.Common.{◌≡◌, ℕ, ◌+◌, ◌<◌, ◌≤◌, nat_le, Bool, true, false, cond, ◌&&◌, ◌||◌, List, [], ◌∷◌, Option, Some, None, refl, sym, ◌∙◌, ap, arith, inl, inr}
+use Rattle.std.proofs.Common.{◌≡◌, ◌+◌, ◌<◌, ◌≤◌, nat_le, Bool, true, false, cond, ◌&&◌, ◌||◌, [], ◌∷◌, Option, Some, None, refl, sym, ◌∙◌, ap, arith, inl, inr}
 use Rattle.std.specs.Prelude.{◌⊎◌, is_none}
 use Rattle.std.proofs.lemmas.Bool.{and_from, or_left, or_right, or_parts, leb-true, leb-false}
 use Rattle.presence_base.specs.declared.dots.Dot.{Dot}
 use Rattle.presence_base.specs.declared.row.Row.{Row}
-use Rattle.presence_base.specs.Order.{same_dot, same_replica}
+use Rattle.presence_base.specs.Order.{same_dot}
 use Rattle.orswot_core_told.specs.Telling.{ToldValue, covers, live_row}
 use Rattle.presence_journal_data.specs.declared.step.Step.TheVariants as steps_are
 use Rattle.presence_journal_data.specs.declared.entry.Outcome.TheVariants as outcomes_are
@@ -14,10 +14,10 @@ use Rattle.presence_journal.specs.Present.{dots_added, dots_taken}
 use Rattle.presence_journal.specs.Table.{IsLegal, is_step}
 use Rattle.presence_journal_data.specs.StepLimits.{is_heard}
 use Rattle.presence_journal.specs.Walk.{tells}
-use Rattle.presence_journal.specs.Merges.{RemovedIsKnown, KnownIsLiveOrRemoved, row_taken_in, MergeIsKnown, MergeIsLive, touches, LiveStays, ShownStays, is_of_rows, SameOwn, OwnStepsAlone}
+use Rattle.presence_journal.specs.Merges.{RemovedIsKnown, KnownIsLiveOrRemoved, row_taken_in, MergeIsKnown, MergeIsLive, LiveStays, ShownStays, is_of_rows, OwnStepsAlone}
 use Rattle.presence_journal.proofs.Same.{same_dot-refl}
-use Rattle.presence_journal.proofs.ToldLemmas.{told_other, row_told_covers, live_row_covered, rowless_told_removed, untold_row, untold_removed}
-use Rattle.presence_journal.proofs.HistoryLemmas.{Kind, Adds, Replaces, Removes, Quiet, is_quiet, quiet_row, quiet_removed, quiet_taken, tells_quiet, kind_of, KnowsItsDots, legal_knows, counted_parts, known_cases, known_from, known_quiet, is_own, count-then, live_by, shown_then, first_none, no_more}
+use Rattle.presence_journal.proofs.ToldLemmas.{told_other, live_row_covered, rowless_told_removed, untold_row, untold_removed}
+use Rattle.presence_journal.proofs.HistoryLemmas.{Kind, Adds, Replaces, Removes, Quiet, is_quiet, quiet_row, quiet_removed, tells_quiet, kind_of, legal_knows, counted_parts, known_cases, known_from, known_quiet, is_own, count-then, live_by, shown_then, first_none, no_more}
 use Rattle.presence_journal.proofs.Walking.{quiet_uses_none}
 use Rattle.presence_journal.proofs.Fresh.{not_added}
 

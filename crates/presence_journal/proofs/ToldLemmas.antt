@@ -13,7 +13,7 @@ use Rattle.presence_base.specs.Order.{same_dot, same_replica}
 use Rattle.presence_base.specs.Refs.{IsDot}
 use Rattle.orswot_core_told.specs.Limits.{is_count, is_dot, is_row, is_range, are_texts}
 use Rattle.orswot_core_told.specs.Telling.{ToldValue, covers, live_row}
-use Rattle.orswot_core_told.specs.Checks.{has_two_ranges, are_forward, are_live_covered, has_live_twice}
+use Rattle.orswot_core_told.specs.Checks.{are_forward, are_live_covered, has_live_twice}
 use Rattle.presence_journal_data.specs.StepLimits.{is_told, is_named, is_heard}
 use Rattle.presence_journal_data.specs.declared.step.Step.TheVariants as steps_are
 use Rattle.presence_journal.specs.Steps.{Step}
@@ -68,8 +68,7 @@ row_covered t (x ∷ xs) d r a e = let parts = and_parts (covers t x.0) (list_al
 heard_covers : (t : ToldValue) → is_heard t ≡ true → are_live_covered t ≡ true
 heard_covers t e =
     let told = (and_parts (is_told t) _ e).0 in
-    let a = (and_parts (not (has_two_ranges t)) _ told).1 in
-    let b = (and_parts (are_forward t) _ a).1 in
+    let b = (and_parts (are_forward t) _ told).1 in
     let c = (and_parts (list_all is_range t.ranges) _ b).1 in
     let f = (and_parts (list_all is_dot t.extras) _ c).1 in
     let g = (and_parts (list_all (λ x. is_dot x.0 && is_row x.1) t.live) _ f).1 in
@@ -132,8 +131,7 @@ found_in p (x ∷ xs) d r a e = let parts = and_parts (p x) (list_all p xs) a in
 heard_rows : (t : ToldValue) → is_heard t ≡ true → list_all (λ x. is_dot x.0 && is_row x.1) t.live ≡ true
 heard_rows t e =
     let told = (and_parts (is_told t) _ e).0 in
-    let a = (and_parts (not (has_two_ranges t)) _ told).1 in
-    let b = (and_parts (are_forward t) _ a).1 in
+    let b = (and_parts (are_forward t) _ told).1 in
     let c = (and_parts (list_all is_range t.ranges) _ b).1 in
     let f = (and_parts (list_all is_dot t.extras) _ c).1 in
     (and_parts (list_all (λ x. is_dot x.0 && is_row x.1) t.live) _ f).0

@@ -5,7 +5,7 @@ use Rattle.presence_base.specs.declared.row.Row.{Row}
 use Rattle.presence_base.specs.Order.{same_text}
 use Rattle.presence_journal_data.specs.declared.entry.Outcome.TheVariants as outcomes_are
 use Rattle.presence_journal.specs.Steps.{Step, Outcome, Entry, Start}
-use Rattle.presence_journal.specs.History.{History, Begin, Then, onto, count, counts_used, first_some, has_dot, row_added, live, shown}
+use Rattle.presence_journal.specs.History.{History, Begin, Then, onto, count, counts_used, first_some, has_dot, row_added, shown}
 use Rattle.presence_journal.specs.Present.{of_topic}
 use Rattle.presence_journal.specs.Walk.{joined, rows_after, shown_of}
 use Rattle.presence_journal.specs.Laws.{is_callers}

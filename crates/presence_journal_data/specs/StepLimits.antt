@@ -8,7 +8,7 @@ use Rattle.presence_base.specs.declared.row.Row.{Row}
 use Rattle.presence_base.specs.Names.{is_short_text, is_node_name}
 use Rattle.orswot_core_told.specs.Limits.{is_dot, is_row, is_range, are_texts}
 use Rattle.orswot_core_told.specs.Telling.{ToldValue}
-use Rattle.orswot_core_told.specs.Checks.{has_two_ranges, are_forward, are_live_covered, has_live_twice}
+use Rattle.orswot_core_told.specs.Checks.{are_forward, are_live_covered, has_live_twice}
 use Rattle.presence_journal_data.specs.declared.step.Step.{Step}
 use Rattle.presence_journal_data.specs.declared.step.Step.TheVariants as steps_are
 use Rattle.presence_journal_data.specs.Limits.{is_payload, is_take_limit}
@@ -23,9 +23,9 @@ is_asked pid topic = is_short_text topic && nat_lt pid (2 ^ 64)
 
 -- whether a told value is sound
 abbrev pub is_told : ToldValue → Bool
-is_told t = not (has_two_ranges t) && (are_forward t
+is_told t = are_forward t
     && (list_all is_range t.ranges && (list_all is_dot t.extras
-    && (list_all (λ x. is_dot x.0 && is_row x.1) t.live && (are_live_covered t && not (has_live_twice t))))))
+    && (list_all (λ x. is_dot x.0 && is_row x.1) t.live && (are_live_covered t && not (has_live_twice t)))))
 
 -- what another node may tell: rows within their limits, under dots whose names are names
 abbrev pub is_named : Dot × Row → Bool

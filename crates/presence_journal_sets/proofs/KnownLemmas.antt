@@ -9,7 +9,7 @@ use Rattle.presence_base.specs.declared.dots.TheConstants.{MAX_COUNT}
 use Rattle.presence_base.specs.Order.{same_replica, same_dot}
 use Rattle.orswot_core_told.specs.Limits.{is_count, is_dot, is_range}
 use Rattle.orswot_core_told.specs.Telling.{Range, ToldValue, covers, range_has, lies_in, is_among}
-use Rattle.orswot_core_told.specs.Checks.{has_two_ranges, are_forward}
+use Rattle.orswot_core_told.specs.Checks.{are_forward}
 use Rattle.presence_journal_data.specs.StepLimits.{is_told, is_heard}
 use Rattle.presence_journal_data.specs.declared.step.Step.TheVariants as steps_are
 use Rattle.presence_journal.specs.Steps.{Step, Entry, Start}
@@ -82,8 +82,7 @@ extra_limit d x limits same =
 covers_limit : (t : ToldValue) (d : Dot) → is_heard t ≡ true → covers t d ≡ true → d.count ≤ MAX_COUNT
 covers_limit t d heard has =
     let told = (and_parts (is_told t) _ heard).0 in
-    let a = (and_parts (not (has_two_ranges t)) _ told).1 in
-    let b = (and_parts (are_forward t) _ a).1 in
+    let b = (and_parts (are_forward t) _ told).1 in
     let ranges = and_parts (list_all is_range t.ranges) _ b in
     let extras = and_parts (list_all is_dot t.extras) _ ranges.1 in
     go ranges.0 extras.0 (or_cases (lies_in t.ranges d) (is_among t.extras d) has)

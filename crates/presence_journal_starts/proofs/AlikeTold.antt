@@ -3,6 +3,7 @@ use Rattle.std.proofs.Common.{◌≡◌, ℕ, cond, Option, Some, None, sym, ◌
 use Rattle.presence_base.specs.declared.dots.Dot.{Dot}
 use Rattle.presence_base.specs.Order.{same_replica}
 use Rattle.dot_context.specs.Sets.{in_range}
+use Rattle.orswot_core_told.specs.declared.form.Form.{Form}
 use Rattle.orswot_core_told.specs.Telling.{ToldValue}
 use Rattle.orswot_core.specs.Sets.{DotRows}
 use Rattle.delta_range.specs.Deltas.{DeltaValue}
@@ -39,8 +40,8 @@ set_of g h s a f = record {
   live = λ d. f.live d ∙ sym (a.rows d);
 }
 
-pub full_of : (g h : History) (t : ToldValue) → IsLike g h → IsFullOf h t → IsFullOf g t
-full_of g h t a f = (f.0, set_of g h f.0 a f.1, f.2)
+pub full_of : (form : Form) (g h : History) (t : ToldValue) → IsLike g h → IsFullOf form h t → IsFullOf form g t
+full_of form g h t a f = (f.0, set_of g h f.0 a f.1, f.2)
 
 -- ---- cuts
 
@@ -60,15 +61,15 @@ cut_of g h c a is = record {
 
 -- ---- from a count on
 
-tells_of : (g h : History) (t : ToldValue) → IsLike g h → (o : Option DeltaValue) → TellsOrAll o h t → TellsOrAll o g t
-tells_of g h t a (Some d) p = p
-tells_of g h t a None p = full_of g h t a p
+tells_of : (form : Form) (g h : History) (t : ToldValue) → IsLike g h → (o : Option DeltaValue) → TellsOrAll form o h t → TellsOrAll form o g t
+tells_of form g h t a (Some d) p = p
+tells_of form g h t a None p = full_of form g h t a p
 
-pub told_from_of : (g h : History) (n : ℕ) (t : ToldValue) → IsLike g h → IsToldFrom h n t → IsToldFrom g n t
-told_from_of g h n t a f = record {
+pub told_from_of : (form : Form) (g h : History) (n : ℕ) (t : ToldValue) → IsLike g h → IsToldFrom form h n t → IsToldFrom form g n t
+told_from_of form g h n t a f = record {
   kept = f.kept;
   of = (a.deltas f.kept).1 f.of;
-  tells = tells_of g h t a (from_count f.kept n) f.tells;
+  tells = tells_of form g h t a (from_count form f.kept n) f.tells;
 }
 
 pub alike_tell_the_same : AlikeTellTheSame
@@ -82,7 +83,7 @@ alike_tell_the_same g h a =
       shown = shown_same g h a;
       present = present_same g h a;
       listed = listed_same g h a;
-      full = λ t. (full_of g h t a, full_of h g t b);
+      full = λ form t. (full_of form g h t a, full_of form h g t b);
       cut = λ c. (cut_of g h c a, cut_of h g c b);
-      told_from = λ n t. (told_from_of g h n t a, told_from_of h g n t b);
+      told_from = λ form n t. (told_from_of form g h n t a, told_from_of form h g n t b);
     }

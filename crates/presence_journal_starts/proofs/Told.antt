@@ -1,6 +1,6 @@
 -- A checkpoint says what the history says: what is told in full and by a cut, and the subscribers.
 use Rattle.std.proofs.Common.{◌∙◌}
-use Rattle.orswot_core.proofs.FullFacts.{covers_all, rows_all}
+use Rattle.orswot_core.proofs.OneFullFacts.{covers_full, rows_full}
 use Rattle.presence_journal.specs.History.{Begin}
 use Rattle.presence_journal.proofs.Topics.{topic_of-begin, queue-begin}
 use Rattle.presence_journal_starts.specs.Laws.{KeepsSet, KeepsFull, FullStands, KeepsCut, KeepsOlder, KeepsRecent, KeepsShownChains, KeepsUnusedChains, OneKept, OthersKeep, KeepsKeptDeltas, KeepsToldFrom, KeepsTopics, SubscribersAreBehind}
@@ -18,16 +18,16 @@ keeps_set h s c x =
     )
 
 pub keeps_full : KeepsFull
-keeps_full h s c t =
+keeps_full h s c form t =
     let a = begins_alike h s c in (
-      full_of (Begin s) h t a,
-      full_of h (Begin s) t (turned (Begin s) h a),
+      full_of form (Begin s) h t a,
+      full_of form h (Begin s) t (turned (Begin s) h a),
     )
 
 pub full_stands : FullStands
-full_stands h t f = (
-  λ d. covers_all f.0 t f.2 d ∙ f.1.covered d,
-  λ d. rows_all f.0 t f.2 d ∙ f.1.live d,
+full_stands form h t f = (
+  λ d. covers_full form f.0 t f.2 d ∙ f.1.covered d,
+  λ d. rows_full form f.0 t f.2 d ∙ f.1.live d,
 )
 
 -- ---- cuts
@@ -63,10 +63,10 @@ pub keeps_kept_deltas : KeepsKeptDeltas
 keeps_kept_deltas h s c k = let a = begins_alike h s c in ((a.deltas k).1, (a.deltas k).0)
 
 pub keeps_told_from : KeepsToldFrom
-keeps_told_from h s c n t =
+keeps_told_from h s c form n t =
     let a = begins_alike h s c in (
-      told_from_of (Begin s) h n t a,
-      told_from_of h (Begin s) n t (turned (Begin s) h a),
+      told_from_of form (Begin s) h n t a,
+      told_from_of form h (Begin s) n t (turned (Begin s) h a),
     )
 
 -- ---- subscribers

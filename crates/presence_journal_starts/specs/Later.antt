@@ -5,6 +5,7 @@ use Rattle.presence_base.specs.declared.dots.Replica.{Replica}
 use Rattle.presence_base.specs.declared.dots.Dot.{Dot}
 use Rattle.presence_base.specs.declared.row.Row.{Row}
 use Rattle.presence_base.specs.Order.{same_replica}
+use Rattle.orswot_core_told.specs.declared.form.Form.{Form}
 use Rattle.orswot_core_told.specs.Telling.{ToldValue}
 use Rattle.delta_range.specs.Deltas.{DeltaValue}
 use Rattle.delta_range.specs.Keeping.{Kept}
@@ -42,9 +43,9 @@ pub record TellTheSame (g h : History) : Type 0 where
   pub shown : (d : Dot) → shown g d ≡ shown h d
   pub present : (t : List ℕ) → present g t ≡ present h t
   pub listed : (t : List ℕ) → listed g t ≡ listed h t
-  pub full : (t : ToldValue) → IsFullOf h t ↔ IsFullOf g t
+  pub full : (form : Form) (t : ToldValue) → IsFullOf form h t ↔ IsFullOf form g t
   pub cut : (c : DeltaValue) → IsCut h c ↔ IsCut g c
-  pub told_from : (n : ℕ) (t : ToldValue) → IsToldFrom h n t ↔ IsToldFrom g n t
+  pub told_from : (form : Form) (n : ℕ) (t : ToldValue) → IsToldFrom form h n t ↔ IsToldFrom form g n t
 
 abbrev pub AlikeTellTheSame : Type 0
 AlikeTellTheSame = (g h : History) → IsLike g h → TellTheSame g h

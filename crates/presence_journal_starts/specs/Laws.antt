@@ -3,6 +3,7 @@ use Rattle.std.specs.Prelude.{◌≡◌, ◌<◌, ◌↔◌, ℕ, ◌+◌, ◌^�
 use Rattle.presence_base.specs.declared.dots.Replica.{Replica}
 use Rattle.presence_base.specs.declared.dots.Dot.{Dot}
 use Rattle.presence_base.specs.declared.row.Row.{Row}
+use Rattle.orswot_core_told.specs.declared.form.Form.{Form}
 use Rattle.orswot_core_told.specs.Telling.{ToldValue, covers, live_row}
 use Rattle.orswot_core.specs.Sets.{DotRows}
 use Rattle.delta_range.specs.Deltas.{DeltaValue}
@@ -91,11 +92,12 @@ abbrev pub KeepsSet : Type 0
 KeepsSet = (h : History) (s : Start) → IsCheckpoint h s → (x : DotRows) → HoldsCovered h x ↔ HoldsCovered (Begin s) x
 
 abbrev pub KeepsFull : Type 0
-KeepsFull = (h : History) (s : Start) → IsCheckpoint h s → (t : ToldValue) → IsFullOf h t ↔ IsFullOf (Begin s) t
+KeepsFull = (h : History) (s : Start) → IsCheckpoint h s → (form : Form) (t : ToldValue)
+    → IsFullOf form h t ↔ IsFullOf form (Begin s) t
 
 -- all that is told of a history in full can be the content of its checkpoint
 abbrev pub FullStands : Type 0
-FullStands = (h : History) (t : ToldValue) → IsFullOf h t → ((d : Dot) → covers t d ≡ covered h d)
+FullStands = (form : Form) (h : History) (t : ToldValue) → IsFullOf form h t → ((d : Dot) → covers t d ≡ covered h d)
     × ((d : Dot) → live_row t d ≡ kept_row h d)
 
 -- what the next cut tells: the older counts that went since the last one, and the own rows above it
@@ -130,8 +132,8 @@ abbrev pub KeepsKeptDeltas : Type 0
 KeepsKeptDeltas = (h : History) (s : Start) → IsCheckpoint h s → (k : Kept) → AreKeptOf h k ↔ AreKeptOf (Begin s) k
 
 abbrev pub KeepsToldFrom : Type 0
-KeepsToldFrom = (h : History) (s : Start) → IsCheckpoint h s → (n : ℕ) (t : ToldValue)
-    → IsToldFrom h n t ↔ IsToldFrom (Begin s) n t
+KeepsToldFrom = (h : History) (s : Start) → IsCheckpoint h s → (form : Form) (n : ℕ) (t : ToldValue)
+    → IsToldFrom form h n t ↔ IsToldFrom form (Begin s) n t
 
 -- who subscribes to what
 abbrev pub KeepsTopics : Type 0

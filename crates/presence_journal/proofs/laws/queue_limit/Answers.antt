@@ -1,5 +1,3 @@
-use Rattle.presence_journal.proofs.Diffs.{leaves_are}
-use Rattle.presence_journal.proofs.Topics.{waits_more}
 use Rattle.presence_journal.proofs.Limit.{holds_most, queues_items, falls_behind, stays_behind}
 use Rattle.presence_journal.proofs.laws.queue_limit.Goals as goal
 

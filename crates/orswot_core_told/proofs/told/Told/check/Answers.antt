@@ -1,11 +1,11 @@
 use Rattle.std.proofs.Common.{◌≡◌, Bool, true, false, ◌&&◌, ◌||◌, refl, sym, ◌∙◌, ap}
 use Rattle.std.specs.List.{list_any, list_all}
-use Rattle.presence_base.specs.Order.{same_replica, same_dot}
+use Rattle.presence_base.specs.Order.{same_dot}
 use Rattle.presence_base.specs.declared.dots.Dot.{Dot}
 use Rattle.presence_base.specs.declared.row.Row.{Row}
 use Rattle.orswot_core_told.specs.Limits.{is_dot, is_row, is_range, are_texts, is_on_shard}
 use Rattle.orswot_core_told.specs.Telling.{range_has}
-use Rattle.orswot_core_told.specs.Checks.{has_repeat, replicas_of, dots_of, is_forward, is_raw_row}
+use Rattle.orswot_core_told.specs.Checks.{has_repeat, dots_of, is_forward, is_raw_row}
 use Rattle.orswot_core_told.proofs.LoopFacts.{all_weaker}
 use Rattle.orswot_core_told.proofs.told.Told.check.Goals as goal
 
@@ -16,7 +16,6 @@ numbers false r m h = absurd (cc)
 
 pub invariant_of-result : goal.invariant_of-result
 invariant_of-result c = record {
-  one_range = ap (λ l. has_repeat same_replica (replicas_of l)) (sym c.deref.ensures.value) ∙ sym c.in_ok-has_two_ranges.ensures ∙ c.if-branch.false;
   forward = ap (list_all is_forward) (sym c.deref-2.ensures.value) ∙ sym c.are_ranges_forward.ensures ∙ c.if-not-are_ranges_forward.false;
   ranges = ap (list_all is_range) (sym c.deref-3.ensures.value) ∙ sym c.are_ranges_within.ensures ∙ c.if-not-are_ranges_within.false;
   extras = ap (list_all is_dot) (sym c.deref-else-not-are_ranges_within.ensures.value) ∙ sym c.are_dots_within.ensures ∙ c.if-not-are_dots_within.false;

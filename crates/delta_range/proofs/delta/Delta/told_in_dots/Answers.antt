@@ -1,5 +1,5 @@
 use Rattle.delta_range.proofs.DeltaFacts.{parts_told}
-use Rattle.delta_range.proofs.delta.Delta.told.Goals as goal
+use Rattle.delta_range.proofs.delta.Delta.told_in_dots.Goals as goal
 
 pub new-requires : goal.new-requires
 new-requires c =
