@@ -9,7 +9,7 @@ use Rattle.presence_base.specs.declared.dots.Dot.{Dot}
 use Rattle.presence_base.specs.declared.row.Row.{Row}
 use Rattle.orswot_core_told.specs.Limits.{is_dot, is_row, is_range, are_texts}
 use Rattle.orswot_core_told.specs.Telling.{ToldValue, covers, live_row, tells_removed}
-use Rattle.orswot_core_told.specs.Checks.{IsTold, has_two_ranges, are_forward, are_live_covered, has_live_twice}
+use Rattle.orswot_core_told.specs.Checks.{IsTold, are_forward, are_live_covered, has_live_twice}
 use Rattle.orswot_core.proofs.SoundFacts.{told_sound, only_covered}
 use Rattle.delta_range.specs.Deltas.{DeltaValue, telling, IsDelta, GoesOn}
 use Rattle.delta_range.specs.Joining.{joined, not_covered}
@@ -181,12 +181,11 @@ merges_in_turn h a b ha hb next room more =
 
 told_test : (t : ToldValue) → IsTold t → is_told t ≡ true
 told_test t k =
-    and_from (not (has_two_ranges t)) _ (ap not k.one_range)
-    (and_from (are_forward t) _ k.forward
+    and_from (are_forward t) _ k.forward
     (and_from (list_all is_range t.ranges) _ k.ranges
     (and_from (list_all is_dot t.extras) _ k.extras
     (and_from (list_all (λ x. is_dot x.0 && is_row x.1) t.live) _ k.rows
-    (and_from (are_live_covered t) (not (has_live_twice t)) k.covered (ap not k.once))))))
+    (and_from (are_live_covered t) (not (has_live_twice t)) k.covered (ap not k.once)))))
 
 -- what holds of all rows of both deltas holds of those of the joined one
 all_joined : (p : Dot × Row → Bool) (a b : DeltaValue) → list_all p a.live ≡ true → list_all p b.live ≡ true → list_all p (joined a b).live ≡ true

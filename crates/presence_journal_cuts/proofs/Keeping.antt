@@ -42,12 +42,12 @@ start_legal (Then h e) l = start_legal h l.0
 count_test : (n : ℕ) → 1 ≤ n → n ≤ MAX_COUNT → is_count n ≡ true
 count_test n p q = and_from (nat_le 1 n) (nat_le n MAX_COUNT) (le-leb 1 n p) (le-leb n MAX_COUNT q)
 
-own_limit : (h : History) → IsLegal h → is_count (own h).incarnation ≡ true
+pub own_limit : (h : History) → IsLegal h → is_count (own h).incarnation ≡ true
 own_limit h l =
     let limits = (start_legal h l).incarnation in
     ap (λ (r : Replica). is_count r.incarnation) (own-start_of h) ∙ count_test (start_of h).own.incarnation limits.0 limits.1
 
-known_is_dot : (h : History) → IsLegal h → (d : Dot) → d.replica ≡ own h → known h d ≡ true → is_dot d ≡ true
+pub known_is_dot : (h : History) → IsLegal h → (d : Dot) → d.replica ≡ own h → known h d ≡ true → is_dot d ≡ true
 known_is_dot h l d o k =
     let p = known_parts h l d o k in
     let most = count-limit h l in
@@ -80,7 +80,7 @@ added_limits h e d r l (Replaces x old m o c w) g =
 added_limits h e d r l (Removes y ys o c a q) g = let f : None ≡ Some r = sym (ap (λ z. row_added e.step z d) o) ∙ g in absurd (cc)
 added_limits h e d r l (Quiet q) g = let f : None ≡ Some r = sym (quiet_none e.step e.outcome d q) ∙ g in absurd (cc)
 
-row_limits : (h : History) → IsLegal h → (d : Dot) → d.replica ≡ own h → (r : Row) → row h d ≡ Some r → is_row r ≡ true
+pub row_limits : (h : History) → IsLegal h → (d : Dot) → d.replica ≡ own h → (r : Row) → row h d ≡ Some r → is_row r ≡ true
 unfolding row
 row_limits (Begin s) l d o r e = live_row_limits s.content d r l.content e
 row_limits (Then h e) l d o r f = go (row h d) refl (row_limits h l.0 d (o ∙ own-then h e)) f
@@ -114,7 +114,7 @@ recent_limits h l d r e =
 -- ---- lists in order
 
 -- each entry is the one that a look-up of its dot finds
-each_found : (es : List (Dot × Row)) → IsStrictlySortedBy dot_cmp (keys_of es) → AllByRecursion (λ (e : Dot × Row). lookup (same_dot e.0) es ≡ Some e.1) es
+pub each_found : (es : List (Dot × Row)) → IsStrictlySortedBy dot_cmp (keys_of es) → AllByRecursion (λ (e : Dot × Row). lookup (same_dot e.0) es ≡ Some e.1) es
 unfolding IsStrictlySortedBy
 each_found [] h = tt
 each_found (e ∷ es) h = (
@@ -130,7 +130,7 @@ each_found (e ∷ es) h = (
       found_later xs above.1 found.1,
     )
 
-no_repeat : (ks : List Dot) → IsStrictlySortedBy dot_cmp ks → has_repeat same_dot ks ≡ false
+pub no_repeat : (ks : List Dot) → IsStrictlySortedBy dot_cmp ks → has_repeat same_dot ks ≡ false
 unfolding IsStrictlySortedBy
 no_repeat [] h = refl
 no_repeat (k ∷ ks) h = ap (λ b. b || has_repeat same_dot ks) (none_tied ks h.0) ∙ no_repeat ks h.1
@@ -139,7 +139,7 @@ no_repeat (k ∷ ks) h = ap (λ b. b || has_repeat same_dot ks) (none_tied ks h.
     none_tied [] above = refl
     none_tied (x ∷ xs) above = ap (λ o. is_eq o || list_any (same_dot k) xs) above.0 ∙ none_tied xs above.1
 
-all_of : (P : Dot × Row → Type 0) (p : Dot × Row → Bool) → ((x : Dot × Row) → P x → p x ≡ true) → (xs : List (Dot × Row)) → AllByRecursion P xs → list_all p xs ≡ true
+pub all_of : (P : Dot × Row → Type 0) (p : Dot × Row → Bool) → ((x : Dot × Row) → P x → p x ≡ true) → (xs : List (Dot × Row)) → AllByRecursion P xs → list_all p xs ≡ true
 all_of P p f [] h = refl
 all_of P p f (x ∷ xs) h = ap (λ b. b && list_all p xs) (f x h.0) ∙ all_of P p f xs h.1
 

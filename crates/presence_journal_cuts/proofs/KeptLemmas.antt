@@ -1,5 +1,5 @@
 -- The kept deltas of a history: it has them once, and the next cut goes on from them.
-use Rattle.std.proofs.Common.{◌≡◌, ℕ, zero, suc, ◌≤◌, Bool, true, false, ◌&&◌, ◌||◌, nat_le, nat_lt, List, [], ◌∷◌, Option, Some, None, refl, sym, ◌∙◌, ap, subst, arith}
+use Rattle.std.proofs.Common.{◌≡◌, ℕ, zero, suc, ◌≤◌, false, ◌&&◌, ◌||◌, nat_le, nat_lt, List, [], ◌∷◌, refl, sym, ◌∙◌, subst, arith}
 use Rattle.std.specs.Map.{lookup, keys_of}
 use Rattle.std.specs.List.Sorted.{IsStrictlySortedBy}
 use Rattle.std.specs.FinMap.Entries.{same_entries}
@@ -17,9 +17,8 @@ use Rattle.delta_range.specs.Deltas.{DeltaValue, IsDelta, GoesOn}
 use Rattle.delta_range.specs.Keeping.{Kept, pushed, IsNext}
 use Rattle.presence_journal_data.specs.declared.entry.Outcome.TheVariants as outcomes_are
 use Rattle.presence_journal.specs.Steps.{Start, Outcome, Entry}
-use Rattle.presence_journal.specs.History.{History, Begin, Then, own, count, last_cut, cut_after}
+use Rattle.presence_journal.specs.History.{History, Begin, Then, own, last_cut, cut_after}
 use Rattle.presence_journal.specs.Table.{IsLegal}
-use Rattle.presence_journal.proofs.HistoryLemmas.{own-then}
 use Rattle.presence_journal_cuts.specs.Cuts.{IsCut}
 use Rattle.presence_journal_cuts.specs.KeptDeltas.{is_cut, IsPushed, KeepsAfter, AreKeptOf}
 use Rattle.presence_journal_cuts.proofs.Histories.{CutsHere, cuts_here}

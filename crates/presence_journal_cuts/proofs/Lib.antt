@@ -6,3 +6,6 @@ pub mod Goings
 pub mod KeptLemmas
 mod Joined
 mod PlainLemmas
+pub mod PartRows
+pub mod PartFacts
+pub mod CutShort

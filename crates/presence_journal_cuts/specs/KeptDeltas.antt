@@ -1,7 +1,8 @@
 -- The kept deltas: what the cuts of a history told, joined in three generations, and what is told of them from a count on.
 use Rattle.std.specs.Prelude.{◌≡◌, ℕ, Bool, true, false, Option, Some, None}
+use Rattle.orswot_core_told.specs.declared.form.Form.{Form}
 use Rattle.orswot_core_told.specs.Telling.{ToldValue}
-use Rattle.delta_range.specs.Deltas.{DeltaValue, telling, IsDelta}
+use Rattle.delta_range.specs.Deltas.{DeltaValue, telling_in, IsDelta}
 use Rattle.delta_range.specs.Keeping.{Kept, pushed, from_count}
 use Rattle.presence_journal_data.specs.declared.entry.Outcome.TheVariants as outcomes_are
 use Rattle.presence_journal.specs.Steps.{Outcome}
@@ -33,12 +34,17 @@ AreKeptOf (Begin s) k = k ≡ s.kept
 AreKeptOf (Then h e) k = KeepsAfter e.outcome (AreKeptOf h) h k
 
 -- the delta as it is told, or all that is known where there is none
-abbrev pub TellsOrAll : Option DeltaValue → History → ToldValue → Type 0
-TellsOrAll (Some d) h t = t ≡ telling d
-TellsOrAll None h t = IsFullOf h t
+abbrev pub TellsOrAll : Form → Option DeltaValue → History → ToldValue → Type 0
+TellsOrAll form (Some d) h t = t ≡ telling_in form d
+TellsOrAll form None h t = IsFullOf form h t
 
 -- from a count on: the kept delta of the smallest cap that begins at or below it, else the full value
-pub record IsToldFrom (h : History) (n : ℕ) (t : ToldValue) : Type 0 where
+pub record IsToldFrom (form : Form) (h : History) (n : ℕ) (t : ToldValue) : Type 0 where
   pub kept : Kept
   pub of : AreKeptOf h kept
-  pub tells : TellsOrAll (from_count kept n) h t
+  pub tells : TellsOrAll form (from_count form kept n) h t
+
+-- what a node is told that knows the own dots up to a count, or that asks for all
+abbrev pub TellsFrom : Form → History → Option ℕ → ToldValue → Type 0
+TellsFrom form h (Some n) t = IsToldFrom form h n t
+TellsFrom form h None t = IsFullOf form h t

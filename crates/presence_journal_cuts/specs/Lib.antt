@@ -3,3 +3,5 @@ pub mod Chains
 pub mod Joined
 pub mod Plain
 pub mod KeptDeltas
+pub mod ToldParts
+pub mod Parting

@@ -1,7 +1,8 @@
-//! What a shard's journal tells other nodes of its own replica: a cut.
+//! What a shard's journal tells other nodes of its own replica: a cut, or a part of all.
 //!
-//! Its public contracts cite `specs/Cuts`: what a cut tells; `specs/Joined`: what a history says once it merged
-//! joined deltas; and `specs/Plain`: what goes wrong with less than a cut tells. `specs/Chains` is of loops and parts.
+//! Its public contracts cite `specs/Cuts`: what a cut tells; `specs/Parting`: how a part is made, which `specs/ToldParts` says;
+//! `specs/Joined`: what a history says once it merged joined deltas; and `specs/Plain`: what goes wrong with less than a cut
+//! tells. `specs/Chains` is of loops and parts.
 #![tactic(auto)]
 
 mod chain;
@@ -10,6 +11,7 @@ mod kept;
 mod last;
 pub mod laws;
 mod older;
+mod part;
 mod recent;
 
 pub use chain::Chain;
@@ -17,4 +19,5 @@ pub use cut::walk_cut;
 pub use kept::{kept_chains, kept_rows, kept_runs};
 pub use last::{dots_out, walk_last_cut};
 pub use older::push_all_gone;
+pub use part::{rows_from, up_to, vacant_runs};
 pub use recent::{added_row, drop_dots, put_row};

@@ -1,5 +1,5 @@
 -- What a node tells is true: a cut, two deltas joined, and all that is covered.
-use Rattle.std.proofs.Common.{◌≡◌, ℕ, ◌<◌, ◌≤◌, Bool, true, false, cond, not, ◌&&◌, ◌||◌, nat_lt, nat_le, [], ◌∷◌, Option, Some, None, refl, sym, ◌∙◌, ap, subst, arith, inl, inr, ltb-true, leb-true, lt-ltb, le-leb, is_some}
+use Rattle.std.proofs.Common.{◌≡◌, ℕ, is_none, ◌<◌, ◌≤◌, Bool, true, false, cond, not, ◌&&◌, ◌||◌, nat_lt, nat_le, [], ◌∷◌, Option, Some, None, refl, sym, ◌∙◌, ap, subst, arith, inl, inr, ltb-true, leb-true, lt-ltb, le-leb, is_some}
 use Rattle.std.specs.Prelude.{◌⊎◌, is_none}
 use Rattle.std.proofs.lemmas.Bool.{and_parts, and_from, or_cases, or_left, or_right, both_ways, cases_lt, not-true}
 use Rattle.presence_base.specs.declared.dots.Replica.{Replica}
@@ -8,11 +8,14 @@ use Rattle.presence_base.specs.declared.row.Row.{Row}
 use Rattle.presence_base.specs.Order.{same_replica}
 use Rattle.dot_context_runs.specs.Runs.{holds}
 use Rattle.dot_context.specs.Sets.{in_range}
+use Rattle.orswot_core_told.specs.declared.form.Form.{Form}
+use Rattle.orswot_core_told.specs.declared.form.Form.TheVariants.{One}
 use Rattle.orswot_core_told.specs.Telling.{ToldValue, covers, live_row, tells_removed, lies_in, is_among}
 use Rattle.orswot_core.specs.Full.{dot_of}
-use Rattle.delta_range.specs.Deltas.{DeltaValue, telling, own_dots, older_dots, IsDelta, GoesOn}
+use Rattle.delta_range.specs.Deltas.{DeltaValue, telling, telling_in, own_dots, older_dots, IsDelta, GoesOn}
 use Rattle.delta_range.specs.Joining.{joined}
 use Rattle.delta_range.proofs.DeltaFacts.{older_has, held_below}
+use Rattle.delta_range.proofs.FormFacts.{tells_the_same}
 use Rattle.delta_range.proofs.ViewFacts.{union_at, row_at, fresh}
 use Rattle.presence_journal.specs.History.{History, own, count, last_cut, status, is_gone, covered, known, removed, row, live, shown}
 use Rattle.presence_journal.specs.Table.{IsLegal}
@@ -41,11 +44,11 @@ told_gone t d f n = and_from (covers t d) (is_none (live_row t d)) f (ap is_none
 pub gone_told : (t : ToldValue) (d : Dot) → tells_removed t d ≡ true → (covers t d ≡ true) × (live_row t d ≡ None)
 gone_told t d f = let p = and_parts (covers t d) (is_none (live_row t d)) f in (p.0, is_none_is (live_row t d) p.1)
 
-live_gone : (h : History) (d : Dot) → removed h d ≡ true → live h d ≡ None
+pub live_gone : (h : History) (d : Dot) → removed h d ≡ true → live h d ≡ None
 unfolding live
 live_gone h d f = ap (λ b. cond b None (row h d)) f
 
-live_some : (h : History) (d : Dot) (r : Row) → live h d ≡ Some r → row h d ≡ Some r
+pub live_some : (h : History) (d : Dot) (r : Row) → live h d ≡ Some r → row h d ≡ Some r
 unfolding live
 live_some h d r f = go (removed h d) f
   where
@@ -63,13 +66,13 @@ gone_or_live h l d k = go (some_or_none (live h d))
 
 -- ---- a cut
 
-range_parts : (r : Replica) (from to : ℕ) (d : Dot) → in_range r from to d ≡ true → (d.replica ≡ r) × (from < d.count) × (d.count ≤ to)
+pub range_parts : (r : Replica) (from to : ℕ) (d : Dot) → in_range r from to d ≡ true → (d.replica ≡ r) × (from < d.count) × (d.count ≤ to)
 range_parts r from to d f =
     let p = and_parts (same_replica d.replica r) (nat_lt from d.count && nat_le d.count to) f in
     let q = and_parts (nat_lt from d.count) (nat_le d.count to) p.1 in
     (same_replica-true d.replica r p.0, ltb-true from d.count q.0, leb-true d.count to q.1)
 
-range_from : (r : Replica) (from to n : ℕ) → from < n → n ≤ to → in_range r from to (dot_of r n) ≡ true
+pub range_from : (r : Replica) (from to n : ℕ) → from < n → n ≤ to → in_range r from to (dot_of r n) ≡ true
 range_from r from to n a b = and_from (same_replica r r) (nat_lt from n && nat_le n to) (same_replica-refl r) (and_from (nat_lt from n) (nat_le n to) (lt-ltb from n a) (le-leb n to b))
 
 module _ (deeds : AllDeeds) (h : History) (c : DeltaValue) (are : (r : Replica) → AreDeeds (deeds r)) (t : IsTrueOf deeds h) (cut : IsCut h c) (delta : IsDelta c) where
@@ -190,8 +193,23 @@ module _ (deeds : AllDeeds) (h : History) (c : DeltaValue) (are : (r : Replica) 
       removes : (r : Replica) (m n : ℕ) → In (dot_of r m) ⊎ Older (dot_of r m) → (deeds r).removes m n ≡ true → tells_removed (telling c) (dot_of r n) ≡ true
       removes r m n p k = subst (λ (q : Replica). (In (dot_of q m) ⊎ Older (dot_of q m)) → (deeds q).removes m n ≡ true → tells_removed (telling c) (dot_of q n) ≡ true) (sym (of_own r m p)) (own_case m n) p k
 
+-- what covers the same and has the same rows tells as truly
+true_alike : (deeds : AllDeeds) (t u : ToldValue) → ((d : Dot) → covers t d ≡ covers u d) → ((d : Dot) → live_row t d ≡ live_row u d) → TellsTrue deeds t → TellsTrue deeds u
+true_alike deeds t u same_dots same_rows k = record {
+  row_made = λ d r f. k.row_made d r (same_rows d ∙ f);
+  used = λ d f. k.used d (same_dots d ∙ f);
+  removed_went = λ d f. k.removed_went d (alike d ∙ f);
+  targets_told = λ r m n f g. sym (alike (dot_of r n)) ∙ k.targets_told r m n (same_dots (dot_of r m) ∙ f) g;
+}
+  where
+    alike : (d : Dot) → tells_removed t d ≡ tells_removed u d
+    alike d = λ i. same_dots d i && is_none (same_rows d i)
+
+pub delta_tells_alike : (deeds : AllDeeds) (form : Form) (c : DeltaValue) → TellsTrue deeds (telling c) → TellsTrue deeds (telling_in form c)
+delta_tells_alike deeds form c k = true_alike deeds (telling c) (telling_in form c) (λ d. (tells_the_same One form c d).0) (λ d. (tells_the_same One form c d).1) k
+
 pub cuts_tell_true : CutsTellTrue
-cuts_tell_true deeds h c are t cut delta = cut_tells deeds h c are t cut delta
+cuts_tell_true deeds h c are t cut delta form = delta_tells_alike deeds form c (cut_tells deeds h c are t cut delta)
 
 -- ---- all that is covered
 
@@ -229,7 +247,7 @@ module _ (deeds : AllDeeds) (h : History) (t : ToldValue) (l : IsLegal h) (ho : 
   }
 
 pub fulls_tell_true : FullsTellTrue
-fulls_tell_true deeds h t k f = let s = full_stands h t f in all_tells deeds h t k.legal k.honest s.0 s.1
+fulls_tell_true deeds h form t k f = let s = full_stands form h t f in all_tells deeds h t k.legal k.honest s.0 s.1
 
 -- ---- joined deltas
 

@@ -3,8 +3,9 @@ use Rattle.std.specs.Prelude.{◌≡◌, IsTrue, ℕ}
 use Rattle.presence_base.specs.declared.dots.Replica.{Replica}
 use Rattle.presence_base.specs.Names.{is_node_name}
 use Rattle.presence_base.specs.Refs.{IsCount}
+use Rattle.orswot_core_told.specs.declared.form.Form.{Form}
 use Rattle.orswot_core_told.specs.Telling.{ToldValue}
-use Rattle.delta_range.specs.Deltas.{DeltaValue, telling, IsDelta, GoesOn}
+use Rattle.delta_range.specs.Deltas.{DeltaValue, telling, telling_in, IsDelta, GoesOn}
 use Rattle.delta_range.specs.Joining.{joined}
 use Rattle.presence_journal_data.specs.declared.step.Step.TheVariants as steps_are
 use Rattle.presence_journal.specs.Steps.{Entry, Start}
@@ -13,6 +14,7 @@ use Rattle.presence_journal.specs.Table.{IsLegal}
 use Rattle.presence_journal_sets.specs.Full.{IsFullOf}
 use Rattle.presence_journal_cuts.specs.Cuts.{IsCut}
 use Rattle.presence_journal_cuts.specs.KeptDeltas.{IsToldFrom}
+use Rattle.presence_journal_cuts.specs.ToldParts.{IsPart}
 use Rattle.presence_journal_starts.specs.Checkpoints.{IsCheckpoint}
 use Rattle.presence_journal_deeds.specs.Deeds.{AllDeeds, no_deeds, with_entry, put}
 use Rattle.presence_journal_deeds.specs.Truth.{AreDeeds, TellsTrue, IsTrueOf, DoMore}
@@ -48,17 +50,22 @@ ToldStaysTrue = (old new : AllDeeds) (t : ToldValue) → DoMore old new → Tell
 -- what is told
 abbrev pub CutsTellTrue : Type 0
 CutsTellTrue = (deeds : AllDeeds) (h : History) (c : DeltaValue) → ((r : Replica) → AreDeeds (deeds r))
-    → IsTrueOf deeds h → IsCut h c → IsDelta c → TellsTrue deeds (telling c)
+    → IsTrueOf deeds h → IsCut h c → IsDelta c → (form : Form) → TellsTrue deeds (telling_in form c)
+
+abbrev pub PartsTellTrue : Type 0
+PartsTellTrue = (deeds : AllDeeds) (h : History) (n : ℕ) (d : DeltaValue) → ((r : Replica) → AreDeeds (deeds r))
+    → IsTrueOf deeds h → IsPart h n d → IsDelta d → (form : Form) → TellsTrue deeds (telling_in form d)
 
 abbrev pub FullsTellTrue : Type 0
-FullsTellTrue = (deeds : AllDeeds) (h : History) (t : ToldValue) → IsTrueOf deeds h → IsFullOf h t → TellsTrue deeds t
+FullsTellTrue = (deeds : AllDeeds) (h : History) (form : Form) (t : ToldValue) → IsTrueOf deeds h → IsFullOf form h t
+    → TellsTrue deeds t
 
 abbrev pub JoinedTellTrue : Type 0
 JoinedTellTrue = (deeds : AllDeeds) (a b : DeltaValue) → IsDelta a → IsDelta b → GoesOn a.owner a.to b
     → TellsTrue deeds (telling a) → TellsTrue deeds (telling b) → TellsTrue deeds (telling (joined a b))
 
 abbrev pub KeptTellTrue : Type 0
-KeptTellTrue = (deeds : AllDeeds) (h : History) (n : ℕ) (t : ToldValue) → IsTrueOf deeds h → IsToldFrom h n t
+KeptTellTrue = (deeds : AllDeeds) (h : History) (form : Form) (n : ℕ) (t : ToldValue) → IsTrueOf deeds h → IsToldFrom form h n t
     → TellsTrue deeds t
 
 -- a checkpoint

@@ -2,7 +2,7 @@
 
 ghost use Rattle.presence_journal_deeds.specs.Laws.{EntriesStayTrue, EntriesAreDeeds, EntriesGoOn};
 ghost use Rattle.presence_journal_deeds.specs.Laws.{OthersStayTrue, ToldStaysTrue};
-ghost use Rattle.presence_journal_deeds.specs.Laws.{CutsTellTrue, FullsTellTrue, JoinedTellTrue, KeptTellTrue};
+ghost use Rattle.presence_journal_deeds.specs.Laws.{CutsTellTrue, FullsTellTrue, JoinedTellTrue, KeptTellTrue, PartsTellTrue};
 ghost use Rattle.presence_journal_deeds.specs.Laws.{CheckpointsStayTrue, LivesBeginTrue};
 
 /// Behind a legal entry that tells nothing false, all that was true of a history is true of the longer one, and what its
@@ -19,13 +19,14 @@ pub fn others_stay_true()
     ensures told { ToldStaysTrue }
 {}
 
-/// A cut, a full value, two deltas that are joined and what is told from a count on are true: each row that is told was
+/// A cut, a part, a full value, two deltas that are joined and what is told from a count on are true: each row that is told was
 /// made by its owner, each dot that is told as removed went there, and who is told a removal is told all that it removed.
 pub fn told_values_are_true()
     ensures cut { CutsTellTrue }
     ensures full { FullsTellTrue }
     ensures joined { JoinedTellTrue }
     ensures from { KeptTellTrue }
+    ensures part { PartsTellTrue }
 {}
 
 /// All that is true of a history is true of a checkpoint that stands for it.

@@ -1,5 +1,6 @@
 use Rattle.presence_journal_deeds.proofs.Telling.{cuts_tell_true, fulls_tell_true, joined_tell_true}
 use Rattle.presence_journal_deeds.proofs.Keeping.{kept_tell_true}
+use Rattle.presence_journal_deeds.proofs.Parts.{parts_tell_true}
 use Rattle.presence_journal_deeds.proofs.laws.told_values_are_true.Goals as goal
 
 pub returns-clause-cut : goal.returns-clause-cut
@@ -13,3 +14,6 @@ returns-clause-joined c = joined_tell_true
 
 pub returns-clause-from : goal.returns-clause-from
 returns-clause-from c = kept_tell_true
+
+pub returns-clause-part : goal.returns-clause-part
+returns-clause-part c = parts_tell_true
