@@ -3,7 +3,8 @@ use Rattle.std.proofs.Common.{◌≡◌, ℕ, true, false, List, Option, Some, r
 use Rattle.std.specs.Prelude.{Result, Ok, Err, OnOk, OnErr}
 use Rattle.orswot_core_told.specs.Telling.{ToldValue}
 use Rattle.orswot_core.specs.Sets.{DotRows}
-use Rattle.orswot_core.specs.Full.{IsFull}
+use Rattle.orswot_core_told.specs.declared.form.Form.{Form}
+use Rattle.orswot_core.specs.Full.{IsFullIn}
 use Rattle.presence_journal_data.specs.declared.step.Step.{Step}
 use Rattle.presence_journal_data.specs.declared.step.Step.TheVariants as steps_are
 use Rattle.presence_journal_data.specs.declared.entry.Outcome.{Outcome}
@@ -29,8 +30,8 @@ pub made_kept : (h : History) (s : Step) (seat : Option ℕ) (o : Outcome) → I
 made_kept h s seat o kept e room limits = rw (after-accepted h s seat o e room) (record { legal = (kept.legal, e, refl, room, within_step s limits); limits = (kept.limits, limits) })
 
 -- what tells all of the set that a history covers tells all of the history
-pub full_of : (h : History) (s : DotRows) (t : ToldValue) → HoldsCovered h s → IsFull s t → IsFullOf h t
-full_of h s t c f = (s, c, f)
+pub full_of : (form : Form) (h : History) (s : DotRows) (t : ToldValue) → HoldsCovered h s → IsFullIn form s t → IsFullOf form h t
+full_of form h s t c f = (s, c, f)
 
 -- whether the entry was written or refused, the journal is kept as it is to be
 pub kept_new : {A E : Type 0} (h new : History) (s : Step) (seat : Option ℕ) (o : Outcome) (r : Result A E) → OnOk r (new ≡ after h s seat) → OnErr r (new ≡ h) → IsKept h → outcome_of h s ≡ Some o → is_full h ≡ false → is_within_limits s ≡ true → IsKept new

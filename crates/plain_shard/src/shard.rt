@@ -1,6 +1,6 @@
 use crate::answers::{cut_outcome, first_dot_of, given_items, replaced, taken_outcome};
 use delta_range::Delta;
-use orswot_core::Told;
+use orswot_core::{Form, Told};
 use presence_base::{Dot, Json, Key, MAX_COUNT, Meta, Replica, Row, Topic};
 use presence_journal::{Dots, Item, Journal, Outcome, SharedRows, Step, dots_of_rows};
 use presence_journal_cuts::walk_cut;
@@ -548,13 +548,13 @@ impl PlainShard {
         self.write(None, step, Outcome::Merged)
     }
 
-    /// All that the shard knows, for a node that missed what was told: of each replica that is not gone the counts up to its
-    /// first gap, the dots above, and the live rows. It is no step.
-    pub fn full(&self, alloc: Global) -> Result<Told, AllocError>
-        ensures { IfOk result (λ t. IsFullOf self.now t) }
+    /// All that the shard knows, for a node that missed what was told: of each replica that is not gone the counts that are covered,
+    /// as the form has them, and the live rows. It is no step.
+    pub fn full(&self, alloc: Global, form: Form) -> Result<Told, AllocError>
+        ensures { IfOk result (λ t. IsFullOf form self.now t) }
     {
         let set = walk_set(alloc, &self.journal)?;
-        let told = set.told(alloc)?;
+        let told = set.told(alloc, form)?;
         Ok(told)
     }
 

@@ -1,5 +1,5 @@
 //! What another node tells the pool.
-use orswot_core_told::{RawRow, RawTold, Told};
+use orswot_core_told::{Form, RawRow, RawTold, Told};
 use presence_base::{Dot, Replica};
 use serde_json::{Map, Value};
 use std::alloc::Global;
@@ -64,6 +64,7 @@ pub fn two_rows(alloc: Global, replica: &Replica, room: &str) -> Option<Told> {
     let ranges = ranges_of(alloc, replica, 0, 2)?;
     let live = live_of(alloc, replica, room, &[(1, "u2"), (2, "u3")])?;
     let raw = RawTold {
+        form: Form::One,
         ranges,
         extras: Vec::new(alloc),
         live,
@@ -76,6 +77,7 @@ pub fn first_removed(alloc: Global, replica: &Replica) -> Option<Told> {
     let ranges = ranges_of(alloc, replica, 2, 3)?;
     let extras = extras_of(alloc, replica, &[1])?;
     let raw = RawTold {
+        form: Form::One,
         ranges,
         extras,
         live: Vec::new(alloc),

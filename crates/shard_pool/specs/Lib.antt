@@ -11,4 +11,5 @@ pub use Rattle.shard_pool_locks.specs.Lines
 pub use Rattle.shard_pool_locks.specs.Seated
 pub use Rattle.shard_pool_locks.specs.Full
 pub use Rattle.shard_pool_locks.specs.KeptDeltas
+pub use Rattle.shard_pool_locks.specs.ToldParts
 pub use Rattle.shard_pool_locks.specs.Quiet

@@ -4,7 +4,9 @@ ghost use Rattle.std.specs.Prelude.{◌≡◌, ◌<◌, ◌-◌, ◌^◌, min, I
 ghost use Rattle.presence_journal.specs.History.{IsTop, entry_count, start_of, status};
 ghost use Rattle.presence_journal.specs.TextBytes.{text_bytes};
 ghost use Rattle.shard_pool_locks.specs.Full.{IsFullOf};
-ghost use Rattle.shard_pool_locks.specs.KeptDeltas.{IsToldFrom};
+ghost use Rattle.orswot_core_told.specs.Checks.{WhereItFits};
+ghost use Rattle.shard_pool_locks.specs.KeptDeltas.{IsToldFrom, TellsFrom};
+ghost use Rattle.shard_pool_locks.specs.ToldParts.{IsPartWhereItFits};
 ghost use Rattle.shard_pool_locks.specs.ShardFault.TheVariants.{OutOfMemory};
 ghost use Rattle.shard_pool_locks.specs.Unseated.{IsOf, IsBehind, IsMade, IsCutMade, IsCheckpointed, TellsWaiting};
 ghost use Rattle.shard_pool_locks.specs.Unseated.{IsMadeWhereFull, IsMadeWhereQuiet};
@@ -14,16 +16,16 @@ ghost use Rattle.shard_pool_locks.specs.Lines.{IsOfLane};
 use crate::pool::Pool;
 use crate::seat::Seat;
 use delta_range::Delta;
-use orswot_core_told::Told;
+use orswot_core_told::{Form, Told};
 use presence_base::{Replica, Topic, shard_of};
 use presence_journal::{Journal, Step};
 use replica_status::Status;
 use shard_pool_locks::{
     DueFrom, Gate, Lane, PoolFault, RowCounts, Sub, locked_checkpoint,
     locked_checkpoint_where_full, locked_checkpoint_where_quiet, locked_cut, locked_entry_count,
-    locked_full, locked_heard, locked_journal, locked_merge, locked_permdown, locked_row_counts,
-    locked_start_of, locked_status, locked_text_bytes, locked_tick, locked_told_from, locked_top,
-    locked_trim, locked_waits,
+    locked_fitting, locked_full, locked_heard, locked_journal, locked_merge, locked_part,
+    locked_permdown, locked_row_counts, locked_start_of, locked_status, locked_text_bytes,
+    locked_tick, locked_told_from, locked_top, locked_trim, locked_waits,
 };
 use std::alloc::Global;
 use std::sync::Wait;
@@ -158,20 +160,26 @@ impl<G: Gate, A: Lane, B: Lane, C: Lane, D: Lane> Pool<G, A, B, C, D> {
         }
     }
 
-    /// All that a shard knows. It is no step, and refuses with `OutOfMemory` alone.
+    /// All that a shard knows, in the form. It is no step, and refuses with `OutOfMemory` alone.
     #[tactic(auto, using(crate::proofs::Lanes::lanes))]
-    pub fn full<R: Wait>(&self, rt: &R, alloc: Global, shard: u32) -> Result<Told, PoolFault>
+    pub fn full<R: Wait>(
+        &self,
+        rt: &R,
+        alloc: Global,
+        shard: u32,
+        form: Form,
+    ) -> Result<Told, PoolFault>
         requires { shard < self.now.shards }
-        ensures full { IfOk result (λ t. IsBehind self.now.own.name (λ h. IsFullOf h t)) }
+        ensures full { IfOk result (λ t. IsBehind self.now.own.name (λ h. IsFullOf form h t)) }
         ensures lane { IfOk result (λ t. IsBehindAt A.begins B.begins C.begins D.begins shard self.now.own.name
-            (λ h. IsFullOf h t)) }
+            (λ h. IsFullOf form h t)) }
         ensures err { IfErr result (λ e. e ≡ OutOfMemory) }
     {
         match shard {
-            0 => locked_full(rt, alloc, &self.first),
-            1 => locked_full(rt, alloc, &self.second),
-            2 => locked_full(rt, alloc, &self.third),
-            _ => locked_full(rt, alloc, &self.fourth),
+            0 => locked_full(rt, alloc, &self.first, form),
+            1 => locked_full(rt, alloc, &self.second, form),
+            2 => locked_full(rt, alloc, &self.third, form),
+            _ => locked_full(rt, alloc, &self.fourth, form),
         }
     }
 
@@ -184,18 +192,68 @@ impl<G: Gate, A: Lane, B: Lane, C: Lane, D: Lane> Pool<G, A, B, C, D> {
         alloc: Global,
         shard: u32,
         count: u64,
+        form: Form,
     ) -> Result<Told, PoolFault>
         requires { shard < self.now.shards }
-        ensures told { IfOk result (λ t. IsBehind self.now.own.name (λ h. IsToldFrom h count t)) }
+        ensures told { IfOk result (λ t. IsBehind self.now.own.name (λ h. IsToldFrom form h count t)) }
         ensures lane { IfOk result (λ t. IsBehindAt A.begins B.begins C.begins D.begins shard self.now.own.name
-            (λ h. IsToldFrom h count t)) }
+            (λ h. IsToldFrom form h count t)) }
         ensures err { IfErr result (λ e. e ≡ OutOfMemory) }
     {
         match shard {
-            0 => locked_told_from(rt, alloc, &self.first, count),
-            1 => locked_told_from(rt, alloc, &self.second, count),
-            2 => locked_told_from(rt, alloc, &self.third, count),
-            _ => locked_told_from(rt, alloc, &self.fourth, count),
+            0 => locked_told_from(rt, alloc, &self.first, count, form),
+            1 => locked_told_from(rt, alloc, &self.second, count, form),
+            2 => locked_told_from(rt, alloc, &self.third, count, form),
+            _ => locked_told_from(rt, alloc, &self.fourth, count, form),
+        }
+    }
+
+    /// The same for a line of a link: what a node is told that knows the shard's own dots up to a count, or without a count all that
+    /// the shard knows, where it has no more in the form than a node takes in. It is no step, and refuses with `OutOfMemory` alone.
+    #[tactic(auto, using(crate::proofs::Lanes::lanes))]
+    pub fn fitting<R: Wait>(
+        &self,
+        rt: &R,
+        alloc: Global,
+        shard: u32,
+        from: Option<u64>,
+        form: Form,
+    ) -> Result<Option<Told>, PoolFault>
+        requires { shard < self.now.shards }
+        ensures told { IfOk result (λ o. IsBehind self.now.own.name (λ h. WhereItFits form (TellsFrom form h from) o)) }
+        ensures lane { IfOk result (λ o. IsBehindAt A.begins B.begins C.begins D.begins shard self.now.own.name
+            (λ h. WhereItFits form (TellsFrom form h from) o)) }
+        ensures err { IfErr result (λ e. e ≡ OutOfMemory) }
+    {
+        match shard {
+            0 => locked_fitting(rt, alloc, &self.first, from, form),
+            1 => locked_fitting(rt, alloc, &self.second, from, form),
+            2 => locked_fitting(rt, alloc, &self.third, from, form),
+            _ => locked_fitting(rt, alloc, &self.fourth, from, form),
+        }
+    }
+
+    /// A part of the shard's own rows, for a node that knows its dots up to a count, where neither what it missed nor all that the
+    /// shard knows fits a line. It is no step, and refuses with `OutOfMemory` alone.
+    #[tactic(auto, using(crate::proofs::Lanes::lanes))]
+    pub fn part<R: Wait>(
+        &self,
+        rt: &R,
+        alloc: Global,
+        shard: u32,
+        count: u64,
+    ) -> Result<Option<Delta>, PoolFault>
+        requires { shard < self.now.shards }
+        ensures part { IfOk result (λ o. IsBehind self.now.own.name (λ h. IsPartWhereItFits h count o)) }
+        ensures lane { IfOk result (λ o. IsBehindAt A.begins B.begins C.begins D.begins shard self.now.own.name
+            (λ h. IsPartWhereItFits h count o)) }
+        ensures err { IfErr result (λ e. e ≡ OutOfMemory) }
+    {
+        match shard {
+            0 => locked_part(rt, alloc, &self.first, count),
+            1 => locked_part(rt, alloc, &self.second, count),
+            2 => locked_part(rt, alloc, &self.third, count),
+            _ => locked_part(rt, alloc, &self.fourth, count),
         }
     }
 

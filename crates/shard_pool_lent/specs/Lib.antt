@@ -9,4 +9,5 @@ pub use Rattle.tracker_shard.specs.Starting
 pub use Rattle.tracker_shard.specs.Full
 pub use Rattle.tracker_shard.specs.Cuts
 pub use Rattle.tracker_shard.specs.KeptDeltas
+pub use Rattle.tracker_shard.specs.ToldParts
 pub use Rattle.tracker_shard.specs.Quiet

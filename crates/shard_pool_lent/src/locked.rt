@@ -8,7 +8,9 @@ ghost use Rattle.presence_journal.specs.Table.{IsLegal, outcome_of};
 ghost use Rattle.tracker_shard.specs.Full.{IsFullOf};
 ghost use Rattle.tracker_shard.specs.Quiet.{TellsQuiet};
 ghost use Rattle.tracker_shard.specs.Cuts.{IsCut};
-ghost use Rattle.tracker_shard.specs.KeptDeltas.{IsToldFrom};
+ghost use Rattle.orswot_core_told.specs.Checks.{WhereItFits};
+ghost use Rattle.tracker_shard.specs.KeptDeltas.{IsToldFrom, TellsFrom};
+ghost use Rattle.tracker_shard.specs.ToldParts.{IsPartWhereItFits};
 ghost use Rattle.tracker_shard.specs.Steps.{Stepped, Answers, AnswersDot, IsDue, refusal, refusal_at, is_found};
 ghost use Rattle.tracker_shard.specs.Steps.{AnswersRowsOfKey, AnswersRowsOfPid, AnswersListed, AnswersListedKey};
 ghost use Rattle.tracker_shard.specs.Steps.{AnswersItems, AnswersSub, RefusesForRoom, checkpoint_refusal};
@@ -19,7 +21,7 @@ ghost use Rattle.shard_pool_lent.specs.Lines.{IsOfLane};
 use crate::lane::Lane;
 use crate::noting::{count_call, is_made};
 use delta_range::Delta;
-use orswot_core_told::Told;
+use orswot_core_told::{Form, Told};
 use presence_base::{Dot, Key, Meta, Replica, Row, Topic};
 use presence_journal::{Item, Journal, Outcome, Payload, SharedRows, Step};
 use replica_status::Status;
@@ -445,21 +447,46 @@ impl<L: Lane> Locked<L> {
         self.shard.checkpoint(alloc)
     }
 
-    /// All that the shard knows. It is no step.
-    pub fn full(&self, alloc: Global) -> Result<Told, AllocError>
-        ensures { IfOk result (λ t. IsFullOf self.now.shard t) }
+    /// All that the shard knows, in the form. It is no step.
+    pub fn full(&self, alloc: Global, form: Form) -> Result<Told, AllocError>
+        ensures { IfOk result (λ t. IsFullOf form self.now.shard t) }
     {
-        self.shard.full(alloc)
+        self.shard.full(alloc, form)
     }
 
     /// What a node is told that knows the own dots up to a count, as `Shard::told_from` tells it. It is no step.
     #[tactic(auto, using(crate::proofs::Counts::counts))]
-    pub fn told_from(&mut self, alloc: Global, count: u64) -> Result<Told, AllocError>
-        ensures told { IfOk result (IsToldFrom self.old.shard count) }
+    pub fn told_from(&mut self, alloc: Global, count: u64, form: Form) -> Result<Told, AllocError>
+        ensures told { IfOk result (IsToldFrom form self.old.shard count) }
         ensures same { self.new.shard ≡ self.old.shard }
         ensures total { self.new.calls.total ≡ self.old.calls.total }
     {
-        self.shard.told_from(alloc, count)
+        self.shard.told_from(alloc, count, form)
+    }
+
+    /// The same for a line of a link, as `Shard::fitting` tells it. It is no step.
+    #[tactic(auto, using(crate::proofs::Counts::counts))]
+    pub fn fitting(
+        &mut self,
+        alloc: Global,
+        from: Option<u64>,
+        form: Form,
+    ) -> Result<Option<Told>, AllocError>
+        ensures told { IfOk result (WhereItFits form (TellsFrom form self.old.shard from)) }
+        ensures same { self.new.shard ≡ self.old.shard }
+        ensures total { self.new.calls.total ≡ self.old.calls.total }
+    {
+        self.shard.fitting(alloc, from, form)
+    }
+
+    /// A part for a node that knows the own dots up to a count, as `Shard::part` tells it. It is no step.
+    #[tactic(auto, using(crate::proofs::Counts::counts))]
+    pub fn part(&mut self, alloc: Global, count: u64) -> Result<Option<Delta>, AllocError>
+        ensures part { IfOk result (IsPartWhereItFits self.old.shard count) }
+        ensures same { self.new.shard ≡ self.old.shard }
+        ensures total { self.new.calls.total ≡ self.old.calls.total }
+    {
+        self.shard.part(alloc, count)
     }
 
     /// The count up to which all of a replica's dots are covered. It is no step.

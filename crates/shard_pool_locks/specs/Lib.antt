@@ -10,4 +10,5 @@ pub use Rattle.shard_pool_lent.specs.Steps
 pub use Rattle.shard_pool_lent.specs.ShardFault
 pub use Rattle.shard_pool_lent.specs.Full
 pub use Rattle.shard_pool_lent.specs.KeptDeltas
+pub use Rattle.shard_pool_lent.specs.ToldParts
 pub use Rattle.shard_pool_lent.specs.Quiet

@@ -4,7 +4,9 @@ ghost use Rattle.std.specs.Prelude.{◌≡◌, ◌-◌, ◌^◌, min, IfOk, IfEr
 ghost use Rattle.presence_journal.specs.History.{IsTop, entry_count, start_of, status};
 ghost use Rattle.presence_journal.specs.TextBytes.{text_bytes};
 ghost use Rattle.shard_pool_lent.specs.Full.{IsFullOf};
-ghost use Rattle.shard_pool_lent.specs.KeptDeltas.{IsToldFrom};
+ghost use Rattle.orswot_core_told.specs.Checks.{WhereItFits};
+ghost use Rattle.shard_pool_lent.specs.KeptDeltas.{IsToldFrom, TellsFrom};
+ghost use Rattle.shard_pool_lent.specs.ToldParts.{IsPartWhereItFits};
 ghost use Rattle.shard_pool_lent.specs.Hands.{without_receipts};
 ghost use Rattle.shard_pool_lent.specs.Lines.{IsOfLane, IsOfShard};
 ghost use Rattle.shard_pool_lent.specs.ShardFault.TheVariants.{OutOfMemory};
@@ -13,7 +15,7 @@ ghost use Rattle.shard_pool_locks.specs.Unseated.{IsMadeWhereFull, IsMadeWhereQu
 
 use crate::due::{DueFrom, is_due};
 use delta_range::Delta;
-use orswot_core_told::Told;
+use orswot_core_told::{Form, Told};
 use presence_base::Replica;
 use presence_journal::{Journal, Step};
 use replica_status::Status;
@@ -111,19 +113,20 @@ pub fn locked_merge<L: Lane, R: Wait>(
     guard.merge(alloc, told)
 }
 
-/// All that the shard knows. It is no step, and refuses with `OutOfMemory` alone.
+/// All that the shard knows, in the form. It is no step, and refuses with `OutOfMemory` alone.
 #[tactic(auto, using(crate::proofs::Calls::unseated))]
 pub fn locked_full<L: Lane, R: Wait>(
     rt: &R,
     alloc: Global,
     shard: &Mutex<Locked<L>>,
+    form: Form,
 ) -> Result<Told, PoolFault>
-    ensures full { IfOk result (λ t. IsBehindOf (IsOfShard L.node L.begins) (λ h. IsFullOf h t)) }
+    ensures full { IfOk result (λ t. IsBehindOf (IsOfShard L.node L.begins) (λ h. IsFullOf form h t)) }
     ensures err { IfErr result (λ e. e ≡ OutOfMemory) }
 {
     let guard = shard.lock(rt);
     let _journal = guard.journal();
-    match guard.full(alloc) {
+    match guard.full(alloc, form) {
         Ok(told) => Ok(told),
         Err(_) => Err(PoolFault::OutOfMemory),
     }
@@ -136,14 +139,55 @@ pub fn locked_told_from<L: Lane, R: Wait>(
     alloc: Global,
     shard: &Mutex<Locked<L>>,
     count: u64,
+    form: Form,
 ) -> Result<Told, PoolFault>
-    ensures told { IfOk result (λ t. IsBehindOf (IsOfShard L.node L.begins) (λ h. IsToldFrom h count t)) }
+    ensures told { IfOk result (λ t. IsBehindOf (IsOfShard L.node L.begins) (λ h. IsToldFrom form h count t)) }
     ensures err { IfErr result (λ e. e ≡ OutOfMemory) }
 {
     let mut guard = shard.lock(rt);
     let _journal = guard.journal();
-    match guard.told_from(alloc, count) {
+    match guard.told_from(alloc, count, form) {
         Ok(told) => Ok(told),
+        Err(_) => Err(PoolFault::OutOfMemory),
+    }
+}
+
+/// The same for a line of a link, as `Shard::fitting` tells it. It is no step, and refuses with `OutOfMemory` alone.
+#[tactic(auto, using(crate::proofs::Calls::unseated))]
+pub fn locked_fitting<L: Lane, R: Wait>(
+    rt: &R,
+    alloc: Global,
+    shard: &Mutex<Locked<L>>,
+    from: Option<u64>,
+    form: Form,
+) -> Result<Option<Told>, PoolFault>
+    ensures told { IfOk result (λ o. IsBehindOf (IsOfShard L.node L.begins) (λ h. WhereItFits form (TellsFrom form h from) o)) }
+    ensures err { IfErr result (λ e. e ≡ OutOfMemory) }
+{
+    let mut guard = shard.lock(rt);
+    let _journal = guard.journal();
+    match guard.fitting(alloc, from, form) {
+        Ok(told) => Ok(told),
+        Err(_) => Err(PoolFault::OutOfMemory),
+    }
+}
+
+/// A part for a node that knows the own dots up to a count, as `Shard::part` tells it. It is no step, and refuses with `OutOfMemory`
+/// alone.
+#[tactic(auto, using(crate::proofs::Calls::unseated))]
+pub fn locked_part<L: Lane, R: Wait>(
+    rt: &R,
+    alloc: Global,
+    shard: &Mutex<Locked<L>>,
+    count: u64,
+) -> Result<Option<Delta>, PoolFault>
+    ensures part { IfOk result (λ o. IsBehindOf (IsOfShard L.node L.begins) (λ h. IsPartWhereItFits h count o)) }
+    ensures err { IfErr result (λ e. e ≡ OutOfMemory) }
+{
+    let mut guard = shard.lock(rt);
+    let _journal = guard.journal();
+    match guard.part(alloc, count) {
+        Ok(part) => Ok(part),
         Err(_) => Err(PoolFault::OutOfMemory),
     }
 }

@@ -2,7 +2,7 @@ use crate::answers::{cut_outcome, note, own_dot, removal, replaced, write};
 use crate::fault::ShardFault;
 use crate::foreseen::foreseen;
 use delta_range::Delta;
-use orswot_core::Told;
+use orswot_core::{Form, Told};
 use presence_base::{Dot, Json, Key, MAX_COUNT, Meta, Replica, Row, Topic};
 use presence_journal::{Dots, Item, Journal, Outcome, Payload, SharedRows, Step, dots_of_rows};
 use replica_status::Status;
@@ -52,7 +52,9 @@ impl Shard {
     ghost use Rattle.presence_journal.specs.Queue.{queue, is_waiting};
     ghost use Rattle.presence_journal.specs.Table.{IsLegal, AreWithinLimits, outcome_of};
     ghost use Rattle.tracker_shard_indexed.specs.Cuts.{IsCut};
-    ghost use Rattle.tracker_shard_indexed.specs.KeptDeltas.{IsToldFrom};
+    ghost use Rattle.orswot_core_told.specs.Checks.{WhereItFits};
+    ghost use Rattle.tracker_shard_indexed.specs.KeptDeltas.{IsToldFrom, TellsFrom};
+    ghost use Rattle.tracker_shard_indexed.specs.ToldParts.{IsPartWhereItFits};
     ghost use Rattle.tracker_shard_indexed.specs.Full.{IsFullOf};
     ghost use Rattle.tracker_shard_indexed.specs.Quiet.{TellsQuiet};
     ghost use Rattle.tracker_shard.specs.Steps.{Stepped, Answers, IsDue, RefusesForRoom, refusal, refusal_at, is_found};
@@ -543,22 +545,54 @@ impl Shard {
         Ok(())
     }
 
-    /// All that the shard knows, for a node that missed what was told: of each replica that is not gone the counts up to its
-    /// first gap, the dots above, and the live rows. It is no step.
-    pub fn full(&self, alloc: Global) -> Result<Told, AllocError>
-        ensures { IfOk result (λ t. IsFullOf self.now t) }
+    /// All that the shard knows, for a node that missed what was told: of each replica that is not gone the counts that are covered,
+    /// as the form has them, and the live rows. It is no step.
+    pub fn full(&self, alloc: Global, form: Form) -> Result<Told, AllocError>
+        ensures { IfOk result (λ t. IsFullOf form self.now t) }
     {
-        self.table.full(alloc)
+        self.table.full(alloc, form)
     }
 
     /// What a node that knows the own dots up to a count has missed: of the kept deltas that begin at or below the count the
     /// shortest, or all that the shard knows where none does. It is no step, and costs what it tells.
-    pub fn told_from(&mut self, alloc: Global, count: u64) -> Result<Told, AllocError>
+    pub fn told_from(&mut self, alloc: Global, count: u64, form: Form) -> Result<Told, AllocError>
         ensures same { self.new ≡ self.old }
-        ensures told { IfOk result (IsToldFrom self.old count) }
+        ensures told { IfOk result (IsToldFrom form self.old count) }
     {
         self.table.ready(alloc)?;
-        self.table.told_from(alloc, count)
+        self.table.told_from(alloc, count, form)
+    }
+
+    /// The same for a line of a link: what a node has missed that knows the own dots up to a count, or without a count all that the
+    /// shard knows, where it has no more in the form than a node takes in. What has more is counted by the ends of its runs, before a
+    /// dot or a range is made. It is no step.
+    pub fn fitting(
+        &mut self,
+        alloc: Global,
+        from: Option<u64>,
+        form: Form,
+    ) -> Result<Option<Told>, AllocError>
+        ensures same { self.new ≡ self.old }
+        ensures told { IfOk result (WhereItFits form (TellsFrom form self.old from)) }
+    {
+        match from {
+            Some(count) => {
+                self.table.ready(alloc)?;
+                self.table.fitting_from(alloc, count, form)
+            }
+            None => self.table.fitting_full(alloc, form),
+        }
+    }
+
+    /// A part, for a node that knows the own dots up to a count, where neither what it missed nor all that the shard knows fits a
+    /// line: the own live rows above the count in order, as many as a node takes in beside the runs of the older counts that have no
+    /// row. None where these runs alone are more. It is no step, and costs a look at each own row.
+    pub fn part(&mut self, alloc: Global, count: u64) -> Result<Option<Delta>, AllocError>
+        ensures same { self.new ≡ self.old }
+        ensures part { IfOk result (IsPartWhereItFits self.old count) }
+    {
+        self.table.ready(alloc)?;
+        self.table.part(alloc, count)
     }
 
     /// The count up to which all of a replica's dots are covered; 0 for one that is gone. It is no step, and takes no memory.

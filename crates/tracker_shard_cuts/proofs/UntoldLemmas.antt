@@ -11,8 +11,9 @@ use Rattle.presence_base.specs.declared.row.Row.{Row}
 use Rattle.presence_base.specs.Order.{dot_cmp}
 use Rattle.dot_context_runs.specs.Runs.{holds, AreLong}
 use Rattle.dot_context.specs.Sets.{listed}
+use Rattle.orswot_core_told.specs.declared.form.Form.{Form}
 use Rattle.orswot_core_told.specs.Telling.{ToldValue}
-use Rattle.delta_range.specs.Deltas.{DeltaValue, telling, IsDelta}
+use Rattle.delta_range.specs.Deltas.{DeltaValue, telling_in, IsDelta}
 use Rattle.delta_range.specs.Longest.{longest}
 use Rattle.delta_range.specs.Keeping.{Kept as KeptDeltas, pushed, IsNext, from_count}
 use Rattle.presence_journal_data.specs.declared.entry.Outcome.TheVariants as outcomes_are
@@ -229,8 +230,8 @@ err_leaves (Ok x) p = tt
 err_leaves (Err e) p = p
 
 -- what is told of the kept deltas
-pub kept_from : (u : Untold) (n : ℕ) (o : Option ToldValue) → o ≡ option_map telling (from_count u.kept n) → (h : History) → IsUntoldOf h u → IsKeptFrom h n o
-kept_from u n o is h k = record { kept = u.kept; of = k.kept; is = is }
+pub kept_from : (form : Form) (u : Untold) (n : ℕ) (o : Option ToldValue) → o ≡ option_map (telling_in form) (from_count form u.kept n) → (h : History) → IsUntoldOf h u → IsKeptFrom form h n o
+kept_from form u n o is h k = record { kept = u.kept; of = k.kept; is = is }
 
 -- once a cut is pushed, or memory was refused for it
 

@@ -5,8 +5,9 @@ use Rattle.presence_base.specs.declared.dots.Dot.{Dot}
 use Rattle.presence_base.specs.declared.row.Row.{Row}
 use Rattle.presence_base.specs.Order.{dot_cmp}
 use Rattle.dot_context_runs.specs.Runs.{holds}
+use Rattle.orswot_core_told.specs.declared.form.Form.{Form}
 use Rattle.orswot_core_told.specs.Telling.{ToldValue}
-use Rattle.delta_range.specs.Deltas.{telling}
+use Rattle.delta_range.specs.Deltas.{telling_in}
 use Rattle.delta_range.specs.Keeping.{Kept, from_count}
 use Rattle.presence_journal.specs.Steps.{Entry}
 use Rattle.presence_journal.specs.History.{History, Then, own, count, last_cut, shown}
@@ -67,10 +68,10 @@ abbrev pub Follows : Untold → Entry → Untold → Type 0
 Follows u e v = (h : History) → IsLegal (Then h e) → IsUntoldOf h u → IsUntoldOf (Then h e) v
 
 -- what is told of the kept deltas from a count on, where one of them begins at or below it
-pub record IsKeptFrom (h : History) (n : ℕ) (o : Option ToldValue) : Type 0 where
+pub record IsKeptFrom (form : Form) (h : History) (n : ℕ) (o : Option ToldValue) : Type 0 where
   pub kept : Kept
   pub of : AreKeptOf h kept
-  pub is : o ≡ option_map telling (from_count kept n)
+  pub is : o ≡ option_map (telling_in form) (from_count form kept n)
 
 -- v keeps what u kept
 abbrev pub Stays : Untold → Untold → Type 0

@@ -8,7 +8,7 @@ use crate::listing::listed_chains;
 use crate::putting::{add_runs, drop_chains, put_both};
 use crate::start::most_listed;
 use delta_range::{Delta, Generations, longest};
-use orswot_core::Told;
+use orswot_core::{Form, Told};
 use presence_base::{Dot, Replica, Row};
 use presence_journal::{Chains, Entry, Outcome, Runs, Start};
 use presence_journal_cuts::{Chain, dots_out, drop_dots, kept_chains, kept_rows, kept_runs};
@@ -135,14 +135,19 @@ impl Untold {
         Ok(Delta::new(self.own, self.last, self.count, older, rows))
     }
 
-    /// What the kept deltas tell from a count on, where one begins at or below it: the shortest. It costs what it gives.
-    pub fn told_from(&self, alloc: Global, count: u64) -> Result<Option<Told>, AllocError>
-        ensures { IfOk result (λ o. (h : History) → IsUntoldOf h self.now → IsKeptFrom h count o) }
+    /// What the kept deltas tell in the form from a count on, where one begins at or below it: the shortest. It costs what it gives.
+    pub fn told_from(
+        &self,
+        alloc: Global,
+        count: u64,
+        form: Form,
+    ) -> Result<Option<Told>, AllocError>
+        ensures { IfOk result (λ o. (h : History) → IsUntoldOf h self.now → IsKeptFrom form h count o) }
     {
-        let Some(delta) = self.kept.from_count(count) else {
+        let Some(delta) = self.kept.from_count(count, form) else {
             return Ok(None);
         };
-        let told = delta.told(alloc)?;
+        let told = delta.told(alloc, form)?;
         Ok(Some(told))
     }
 

@@ -6,15 +6,16 @@ use Rattle.std.proofs.lemmas.Result.{IfOk-weaker}
 use Rattle.presence_base.specs.declared.dots.Replica.{Replica}
 use Rattle.presence_base.specs.declared.dots.Dot.{Dot}
 use Rattle.presence_base.specs.declared.row.Row.{Row}
+use Rattle.orswot_core_told.specs.declared.form.Form.{Form}
 use Rattle.orswot_core_told.specs.Telling.{ToldValue}
 use Rattle.orswot_core.specs.Sets.{DotRows}
-use Rattle.orswot_core.specs.Full.{IsFull}
+use Rattle.orswot_core.specs.Full.{IsFullIn}
 use Rattle.presence_journal.specs.Steps.{Step, Outcome, Entry, Start}
 use Rattle.presence_journal.specs.History.{History, Begin, Then, begun, onto, start_of, own, is_full, is_up, status, removed, row, live, shown}
 use Rattle.presence_journal.specs.Limits.{is_within_limits}
 use Rattle.presence_journal.specs.Table.{IsLegal, AreWithinLimits, IsKept, outcome_of, next_entry, after}
 use Rattle.presence_journal.proofs.HistoryLemmas.{after-accepted, within_step}
-use Rattle.delta_range.specs.Deltas.{DeltaValue, telling}
+use Rattle.delta_range.specs.Deltas.{DeltaValue, telling_in}
 use Rattle.delta_range.specs.Keeping.{from_count}
 use Rattle.tracker_shard_cuts.specs.Cuts.{IsCut}
 use Rattle.tracker_shard_cuts.specs.KeptDeltas.{TellsOrAll, IsToldFrom}
@@ -159,11 +160,11 @@ begins_seen s j new p q step seat o view ready sound e room limits is same =
 
 -- What is told of all.
 
-pub full_kept : {E : Type 0} (s : Seen) (j : History) (p : Parts) (r : Result ToldValue E) → seen j p ≡ s → p.stage ≡ Done → IsSound j p → IfOk r (λ t. (h : History) → IsKnownOf h p.known → IsFullOf h t) → IfOk r (IsFullOf s.history)
-full_kept s j p r view done sound told = IfOk-weaker r (λ t. (h : History) → IsKnownOf h p.known → IsFullOf h t) (IsFullOf s.history) (λ t f. f s.history (kept_at_end s j p view done sound).known) told
+pub full_kept : {E : Type 0} (form : Form) (s : Seen) (j : History) (p : Parts) (r : Result ToldValue E) → seen j p ≡ s → p.stage ≡ Done → IsSound j p → IfOk r (λ t. (h : History) → IsKnownOf h p.known → IsFullOf form h t) → IfOk r (IsFullOf form s.history)
+full_kept form s j p r view done sound told = IfOk-weaker r (λ t. (h : History) → IsKnownOf h p.known → IsFullOf form h t) (IsFullOf form s.history) (λ t f. f s.history (kept_at_end s j p view done sound).known) told
 
-pub full_walked : {E : Type 0} (s : Seen) (j : History) (p : Parts) (set : DotRows) (r : Result ToldValue E) → seen j p ≡ s → HoldsCovered j set → IfOk r (IsFull set) → IfOk r (IsFullOf s.history)
-full_walked s j p set r view holds told = IfOk-weaker r (IsFull set) (IsFullOf s.history) (λ t f. (set, subst (λ h. HoldsCovered h set) (ap (λ (v : Seen). v.history) view) holds, f)) told
+pub full_walked : {E : Type 0} (form : Form) (s : Seen) (j : History) (p : Parts) (set : DotRows) (r : Result ToldValue E) → seen j p ≡ s → HoldsCovered j set → IfOk r (IsFullIn form set) → IfOk r (IsFullOf form s.history)
+full_walked form s j p set r view holds told = IfOk-weaker r (IsFullIn form set) (IsFullOf form s.history) (λ t f. (set, subst (λ h. HoldsCovered h set) (ap (λ (v : Seen). v.history) view) holds, f)) told
 
 -- What a cut tells.
 
@@ -175,23 +176,23 @@ cut_kept s j p r view done sound told = IfOk-weaker r (λ d. (h : History) → I
 
 -- What is told from a count on.
 
-tells_one : (o : Option DeltaValue) (h : History) (t : ToldValue) → Some t ≡ option_map telling o → TellsOrAll o h t
-tells_one None h t e = absurd (cc)
-tells_one (Some d) h t e = same_Some t (telling d) e
+tells_one : (form : Form) (o : Option DeltaValue) (h : History) (t : ToldValue) → Some t ≡ option_map (telling_in form) o → TellsOrAll form o h t
+tells_one form None h t e = absurd (cc)
+tells_one form (Some d) h t e = same_Some t (telling_in form d) e
 
-tells_all : (o : Option DeltaValue) (h : History) (t : ToldValue) → None ≡ option_map telling o → IsFullOf h t → TellsOrAll o h t
-tells_all None h t e full = full
-tells_all (Some d) h t e full = absurd (cc)
+pub tells_all : (form : Form) (o : Option DeltaValue) (h : History) (t : ToldValue) → None ≡ option_map (telling_in form) o → IsFullOf form h t → TellsOrAll form o h t
+tells_all form None h t e full = full
+tells_all form (Some d) h t e full = absurd (cc)
 
-abbrev KeptFrom : Parts → ℕ → Option ToldValue → Type 0
-KeptFrom p n o = (h : History) → IsUntoldOf h p.untold → IsKeptFrom h n o
+abbrev pub KeptFrom : Form → Parts → ℕ → Option ToldValue → Type 0
+KeptFrom form p n o = (h : History) → IsUntoldOf h p.untold → IsKeptFrom form h n o
 
-pub told_kept : (s : Seen) (j : History) (p : Parts) (n : ℕ) (o : Option ToldValue) (t : ToldValue) → seen j p ≡ s → s.is_ready ≡ true → IsSound j p → KeptFrom p n o → o ≡ Some t → IsToldFrom s.history n t
-told_kept s j p n o t view ready sound told is =
+pub told_kept : (form : Form) (s : Seen) (j : History) (p : Parts) (n : ℕ) (o : Option ToldValue) (t : ToldValue) → seen j p ≡ s → s.is_ready ≡ true → IsSound j p → KeptFrom form p n o → o ≡ Some t → IsToldFrom form s.history n t
+told_kept form s j p n o t view ready sound told is =
     let f = told s.history (kept_seen s j p view ready sound).untold in
-    record { kept = f.kept; of = f.of; tells = tells_one (from_count f.kept n) s.history t (sym is ∙ f.is) }
+    record { kept = f.kept; of = f.of; tells = tells_one form (from_count form f.kept n) s.history t (sym is ∙ f.is) }
 
-pub told_all : {E : Type 0} (s : Seen) (j : History) (p : Parts) (n : ℕ) (o : Option ToldValue) (r : Result ToldValue E) → seen j p ≡ s → s.is_ready ≡ true → IsSound j p → KeptFrom p n o → o ≡ None → IfOk r (IsFullOf s.history) → IfOk r (IsToldFrom s.history n)
-told_all s j p n o r view ready sound told is full =
+pub told_all : {E : Type 0} (form : Form) (s : Seen) (j : History) (p : Parts) (n : ℕ) (o : Option ToldValue) (r : Result ToldValue E) → seen j p ≡ s → s.is_ready ≡ true → IsSound j p → KeptFrom form p n o → o ≡ None → IfOk r (IsFullOf form s.history) → IfOk r (IsToldFrom form s.history n)
+told_all form s j p n o r view ready sound told is full =
     let f = told s.history (kept_seen s j p view ready sound).untold in
-    IfOk-weaker r (IsFullOf s.history) (IsToldFrom s.history n) (λ t whole. record { kept = f.kept; of = f.of; tells = tells_all (from_count f.kept n) s.history t (sym is ∙ f.is) whole }) full
+    IfOk-weaker r (IsFullOf form s.history) (IsToldFrom form s.history n) (λ t whole. record { kept = f.kept; of = f.of; tells = tells_all form (from_count form f.kept n) s.history t (sym is ∙ f.is) whole }) full

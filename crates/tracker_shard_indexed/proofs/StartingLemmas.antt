@@ -1,4 +1,5 @@
 -- A Start that stands for a journal, and what is kept of one.
+use Rattle.orswot_core_told.specs.declared.form.Form.TheVariants.{Two}
 use Rattle.std.proofs.Common.{◌≡◌, ℕ, ◌+◌, ◌<◌, ◌≤◌, ◌^◌, Bool, true, false, nat_eq, List, [], ◌∷◌, is_some, refl, sym, ◌∙◌, ap, subst, arith}
 use Rattle.std.specs.Prelude.{map as each}
 use Rattle.orswot_core_told.specs.Checks.{has_repeat}
@@ -49,10 +50,10 @@ seats_low (Then h e) l = omega (arith, seats_low h l.0, one_low (is_some e.seat)
 
 pub is_start : (h : History) (f : Fed) (s : Start) → IsLegal h → last_number h < 2 ^ 62 → IsFedBy h f
     → s.number ≡ last_number h + 1 → s.own ≡ own h → s.count ≡ count h → s.time ≡ time h → s.last_cut ≡ last_cut h → s.seated ≡ seats h
-    → IsFullOf h s.content → is_heard s.content ≡ true → ListsStandings h s.standings → AreOlder h s.older → AreListedChains h s.chains → AreKeptOf h s.kept → AreListed f s.subscribers
+    → IsFullOf Two h s.content → is_heard s.content ≡ true → ListsStandings h s.standings → AreOlder h s.older → AreListedChains h s.chains → AreKeptOf h s.kept → AreListed f s.subscribers
     → IsStartOf h s
 is_start h f s legal room fed number mine counts at cut seated full sound others older chains deltas subscribers =
-    let told = full_stands h s.content full in
+    let told = full_stands Two h s.content full in
     let topics = listed_are_those h f s.number s.subscribers legal fed (omega (arith, number)) subscribers in
     record {
       stands = record {

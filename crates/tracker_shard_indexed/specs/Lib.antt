@@ -6,4 +6,5 @@ pub mod Resuming
 pub use Rattle.tracker_shard_cuts.specs.Full
 pub use Rattle.tracker_shard_cuts.specs.Cuts
 pub use Rattle.tracker_shard_cuts.specs.KeptDeltas
+pub use Rattle.tracker_shard_cuts.specs.ToldParts
 pub use Rattle.tracker_shard_feeds.specs.Quiet

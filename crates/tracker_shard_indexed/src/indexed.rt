@@ -9,9 +9,10 @@ use crate::resuming::start_of_count;
 use crate::starting::{kept_of, start_of};
 use crate::taking::{copy_items, state_item, taken, taken_shared};
 use delta_range::Delta;
-use orswot_core::Told;
+use orswot_core::{Form, MAX_ROWS, Told};
 use presence_base::{Dot, Key, Replica, Row, Topic};
 use presence_journal::Journal;
+use presence_journal_cuts::{rows_from, vacant_runs};
 use presence_journal_data::{Item, Outcome, SharedRows, Step};
 use presence_journal_waits::{walk_topic, walk_waits};
 use replica_status::Status;
@@ -79,6 +80,7 @@ fn begun_again(alloc: Global, journal: &Journal, parts: &Parts) -> Result<Indexe
 impl Indexed {
     ghost use Rattle.std.specs.Prelude.{◌≡◌, ◌<◌, ◌≤◌, ◌^◌, true, false, Some, option_copied, option_map, IfOk, OnOk, OnErr};
     ghost use Rattle.presence_base.specs.Refs.{IsCount};
+    ghost use Rattle.orswot_core_told.specs.Checks.{WhereItFits};
     ghost use Rattle.presence_journal.specs.History.{begun, is_full, last_number, status, IsTop};
     ghost use Rattle.presence_journal.specs.Limits.{is_within_limits};
     ghost use Rattle.presence_journal.specs.Present.{listed};
@@ -86,6 +88,7 @@ impl Indexed {
     ghost use Rattle.presence_journal.specs.Table.{IsLegal, AreWithinLimits, outcome_of, after, listed_key, rows_of_key, rows_of_pid};
     ghost use Rattle.tracker_shard_cuts.specs.Cuts.{IsCut};
     ghost use Rattle.tracker_shard_cuts.specs.KeptDeltas.{IsToldFrom};
+    ghost use Rattle.tracker_shard_cuts.specs.ToldParts.{IsPartWhereItFits};
     ghost use Rattle.tracker_shard_cuts.specs.Full.{IsFullOf};
     ghost use Rattle.tracker_shard_indexed.specs.Resuming.{resumed};
     ghost use Rattle.tracker_shard_indexed.specs.Starting.{IsBegunAgain};
@@ -342,27 +345,72 @@ impl Indexed {
         }
     }
 
-    /// All that is known of replicas that are not gone.
-    pub fn full(&self, alloc: Global) -> Result<Told, AllocError>
-        ensures { IfOk result (λ t. IsFullOf self.now.history t) }
+    /// All that is known of replicas that are not gone, in the form.
+    pub fn full(&self, alloc: Global, form: Form) -> Result<Told, AllocError>
+        ensures { IfOk result (λ t. IsFullOf form self.now.history t) }
     {
         match self.parts.stage {
-            Stage::Done => self.parts.known.told(alloc),
-            _ => walk_set(alloc, &self.journal)?.told(alloc),
+            Stage::Done => self.parts.known.told(alloc, form),
+            _ => walk_set(alloc, &self.journal)?.told(alloc, form),
         }
     }
 
     /// What a node that knows the own dots up to a count is told: the shortest kept delta that begins at or below it, or all
     /// that is known where there is none. It costs what it tells.
-    pub fn told_from(&self, alloc: Global, count: u64) -> Result<Told, AllocError>
+    pub fn told_from(&self, alloc: Global, count: u64, form: Form) -> Result<Told, AllocError>
         requires { self.now.is_ready ≡ true }
-        ensures { IfOk result (IsToldFrom self.now.history count) }
+        ensures { IfOk result (IsToldFrom form self.now.history count) }
     {
-        let kept = self.parts.untold.told_from(alloc, count)?;
+        let kept = self.parts.untold.told_from(alloc, count, form)?;
         match kept {
             Some(told) => Ok(told),
-            None => self.full(alloc),
+            None => self.full(alloc, form),
         }
+    }
+
+    /// All that is known of replicas that are not gone, where it has no more in the form than a node takes in.
+    pub fn fitting_full(&self, alloc: Global, form: Form) -> Result<Option<Told>, AllocError>
+        ensures { IfOk result (WhereItFits form (IsFullOf form self.now.history)) }
+    {
+        match self.parts.stage {
+            Stage::Done => self.parts.known.fitting_told(alloc, form),
+            _ => walk_set(alloc, &self.journal)?.fitting_told(alloc, form),
+        }
+    }
+
+    /// What `told_from` tells, where it has no more in the form than a node takes in.
+    pub fn fitting_from(
+        &self,
+        alloc: Global,
+        count: u64,
+        form: Form,
+    ) -> Result<Option<Told>, AllocError>
+        requires { self.now.is_ready ≡ true }
+        ensures { IfOk result (WhereItFits form (IsToldFrom form self.now.history count)) }
+    {
+        let kept = self.parts.untold.told_from(alloc, count, form)?;
+        match kept {
+            Some(told) => Ok(Some(told)),
+            None => self.fitting_full(alloc, form),
+        }
+    }
+
+    /// The part that a node is told that knows the own dots up to a count: the own live rows above it, as many as a node takes in
+    /// beside the runs of older counts without a row. None where these runs alone are more. It costs a look at each own row.
+    pub fn part(&self, alloc: Global, count: u64) -> Result<Option<Delta>, AllocError>
+        requires { self.now.is_ready ≡ true }
+        ensures { IfOk result (IsPartWhereItFits self.now.history count) }
+    {
+        let own = *self.journal.own();
+        let last = self.parts.known.count();
+        let from = count.min(last);
+        let older = vacant_runs(alloc, self.parts.known.rows_of(&own), from)?;
+        if older.len() >= MAX_ROWS {
+            return Ok(None);
+        }
+        let room = (MAX_ROWS - 1 - older.len()) as u64;
+        let (live, to) = rows_from(alloc, self.parts.known.rows_of(&own), from, last, room)?;
+        Ok(Some(Delta::new(own, from, to, older, live)))
     }
 
     /// What the own replica did since the last cut. It costs what it tells, and a walk over the journal where memory ran

@@ -15,7 +15,8 @@ use Rattle.presence_base.specs.Order.{dot_cmp, same_replica, same_dot}
 use Rattle.dot_context.specs.Sets.{HasUpTo}
 use Rattle.orswot_core_told.specs.Telling.{ToldValue}
 use Rattle.orswot_core.specs.Sets.{DotRows, rows_by, without_replica}
-use Rattle.orswot_core.specs.Full.{IsFull}
+use Rattle.orswot_core_told.specs.declared.form.Form.{Form}
+use Rattle.orswot_core.specs.Full.{IsFullIn}
 use Rattle.orswot_core.proofs.FullFacts.{live_sorted}
 use Rattle.presence_journal_data.specs.declared.step.Step.TheVariants as steps_are
 use Rattle.presence_journal_data.specs.declared.entry.Outcome.TheVariants as outcomes_are
@@ -101,8 +102,8 @@ some_next h k less known =
     ap (λ (d : Dot). Some d) (next_counts h k known)
     ∙ ap (λ b. cond b (Some (next_dot h)) None) (sym (ap (λ n. nat_lt n (2 ^ 62)) (sym known.count) ∙ lt-ltb k.count (2 ^ 62) less))
 
-pub full_of : (h : History) (k : Known) (t : ToldValue) → IsFull k.set t → IsKnownOf h k → IsFullOf h t
-full_of h k t full known = (k.set, known.set, full)
+pub full_of : (form : Form) (h : History) (k : Known) (t : ToldValue) → IsFullIn form k.set t → IsKnownOf h k → IsFullOf form h t
+full_of form h k t full known = (k.set, known.set, full)
 
 -- entries that are noted
 

@@ -192,7 +192,6 @@ removed_dots e next ds s can some is =
 
 pub swap_told : (new old : Dot) (r : Row) → is_dot new ≡ true → is_dot old ≡ true → is_row r ≡ true → IsTold (told_swap new old r)
 swap_told new old r a b c = record {
-  one_range = refl;
   forward = refl;
   ranges = refl;
   extras = and_from (is_dot new) (is_dot old && true) a (and_from (is_dot old) true b refl);

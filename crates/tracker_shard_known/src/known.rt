@@ -2,6 +2,8 @@ ghost use Rattle.std.specs.Prelude.{◌≡◌, ℕ, IfOk, OnOk, OnErr, option_co
 ghost use Rattle.presence_journal_data.specs.StepLimits.{is_heard};
 ghost use Rattle.presence_journal.specs.History.{History, Begin, begun, covered, count as counted, status, time as time_in, IsTop};
 ghost use Rattle.presence_journal.specs.Laws.{is_callers};
+ghost use Rattle.orswot_core_told.specs.declared.form.Form.TheVariants.{Two};
+ghost use Rattle.orswot_core_told.specs.Checks.{WhereItFits};
 ghost use Rattle.presence_journal_sets.specs.Full.{IsFullOf};
 ghost use Rattle.tracker_shard_known.specs.Known.{IsKnownOf, CanFollow, Follows, FollowsStep, Stays, kept, next_left, AreRowsOf};
 ghost use Rattle.tracker_shard_known.specs.Starts.{ListsStandings};
@@ -11,7 +13,7 @@ use crate::fading::{forget_faded, forget_other};
 use crate::listing::{listed_standings, read_rows};
 use crate::own::{join_heard, take_own};
 use crate::starting::{others_of, set_of};
-use orswot_core::{Orswot, Told};
+use orswot_core::{Form, Orswot, Told};
 use presence_base::{Dot, MAX_COUNT, Replica, Row};
 use presence_journal::{Entry, Standings, Start, Step};
 use presence_journal_sets::used_by;
@@ -117,19 +119,26 @@ impl Known {
         })
     }
 
-    /// All that is told of the set. It costs what it gives.
-    pub fn told(&self, alloc: Global) -> Result<Told, AllocError>
-        ensures { IfOk result (λ t. (h : History) → IsKnownOf h self.now → IsFullOf h t) }
+    /// All that is told of the set, in the form. It costs what it gives.
+    pub fn told(&self, alloc: Global, form: Form) -> Result<Told, AllocError>
+        ensures { IfOk result (λ t. (h : History) → IsKnownOf h self.now → IsFullOf form h t) }
     {
-        self.set.told(alloc)
+        self.set.told(alloc, form)
     }
 
-    /// The same, as a Start can have it. It costs what it gives.
+    /// The same, where it has no more in the form than a node takes in. None costs a look at each run, and needs no memory.
+    pub fn fitting_told(&self, alloc: Global, form: Form) -> Result<Option<Told>, AllocError>
+        ensures { IfOk result (λ o. (h : History) → IsKnownOf h self.now → WhereItFits form (IsFullOf form h) o) }
+    {
+        self.set.fitting_told(alloc, form)
+    }
+
+    /// The same, as a Start can have it: with ranges alone, so that no dot is made of a run, however long. It costs what it gives.
     pub fn content(&self, alloc: Global) -> Result<Told, AllocError>
-        ensures full { IfOk result (λ t. (h : History) → IsKnownOf h self.now → IsFullOf h t) }
+        ensures full { IfOk result (λ t. (h : History) → IsKnownOf h self.now → IsFullOf Two h t) }
         ensures sound { IfOk result (λ t. is_heard t ≡ true) }
     {
-        let told = self.told(alloc)?;
+        let told = self.told(alloc, Form::Two)?;
         read_rows(told.live());
         Ok(told)
     }

@@ -5,6 +5,6 @@ use Rattle.plain_shard.proofs.shard.PlainShard.full.Goals as goal
 
 pub returns : goal.returns
 returns c =
-    full_of c.args.self.now c.in_ok-set.set c.in_ok-told.told
+    full_of c.args.form c.args.self.now c.in_ok-set.set c.in_ok-told.told
     (subst (λ h. HoldsCovered h c.in_ok-set.set) c.self.view_is c.in_ok-set.ensures)
     c.in_ok-told.ensures.full

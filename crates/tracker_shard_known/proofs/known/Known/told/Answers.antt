@@ -7,4 +7,4 @@ if_ok P Q f (Ok x) p = f x p
 if_ok P Q f (Err e) p = tt
 
 pub returns : goal.returns
-returns c = if_ok _ _ (λ t full h known. full_of h c.args.self.now t full known) c.told.result c.told.ensures.full
+returns c = if_ok _ _ (λ t full h known. full_of c.args.form h c.args.self.now t full known) c.told.result c.told.ensures.full

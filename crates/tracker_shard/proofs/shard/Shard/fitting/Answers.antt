@@ -1,0 +1,11 @@
+use Rattle.std.proofs.Common.{IfOk, sym, subst}
+use Rattle.orswot_core_told.specs.Checks.{WhereItFits}
+use Rattle.tracker_shard_indexed.specs.KeptDeltas.{TellsFrom}
+use Rattle.tracker_shard_indexed.specs.Full.{IsFullOf}
+use Rattle.tracker_shard.proofs.shard.Shard.fitting.Goals as goal
+
+pub returns-in-None-clause-told : goal.returns-in-None-clause-told
+returns-in-None-clause-told c =
+    let form = c.args.form in
+    subst (λ o. IfOk c.fitting_full.result (WhereItFits form (TellsFrom form c.args.self.now o))) (sym c.in-None.is)
+    (subst (λ h. IfOk c.fitting_full.result (WhereItFits form (IsFullOf form h))) c.self.view_is c.fitting_full.ensures)
