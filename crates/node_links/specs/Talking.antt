@@ -1,14 +1,17 @@
 -- What a call for one exchange does to the stream, the peer and the port, at either end of a link.
 use Rattle.std.specs.Prelude.{◌≡◌, ℕ, Bool, true, false, length, Option, Some, None, Result, Ok, Err}
+use Rattle.orswot_core_told.specs.declared.form.Form.{Form}
+use Rattle.orswot_core_told.specs.declared.form.Form.TheVariants.{One, Two}
 use Rattle.orswot_core.specs.Telling.{ToldValue}
 use Rattle.node_links_lines.specs.declared.lines.Line.{Line}
 use Rattle.node_links_lines.specs.declared.lines.Line.TheVariants as lines_are
+use Rattle.node_links_members.specs.declared.hearer.Telling.{Telling}
 use Rattle.node_links_members.specs.declared.fault.LinkFault.{LinkFault}
 use Rattle.node_links_members.specs.declared.fault.LinkFault.TheVariants.{LineTooLong}
 use Rattle.node_links_lines.specs.Results.{Answers}
 use Rattle.node_links_streams.specs.Bytes.{Known}
 use Rattle.node_links_streams.specs.Streams.{ReadsLine, WritesLine}
-use Rattle.node_links_peer.specs.Exchanges.{PeerValue, Actions, actions_of, after}
+use Rattle.node_links_peer.specs.Exchanges.{PeerValue, hearer_of, Actions, actions_of, after}
 use Rattle.node_links_acts.specs.declared.outcome.Act.{Act}
 use Rattle.node_links_acts.specs.declared.port.ActFault.{ActFault}
 use Rattle.node_links_acts.specs.Asks.{Answer, full}
@@ -69,12 +72,24 @@ HearsRead step shards now (Err e) p p' q q' r = (p' ≡ p) × (q' ≡ q) × (r �
 abbrev pub Takes : {S P : Type 0} → (S → Known) → Steps P → (P → ℕ) → ℕ → Lent S P → Lent S P
     → Result (Option Act) DialFault → Type 0
 Takes left step shards now old new r = (read : Result (Option Line) LinkFault)
-    × ReadsLine old.peer.shards (left old.stream) (left new.stream) read
+    × ReadsLine (hearer_of old.peer) (left old.stream) (left new.stream) read
     × HearsRead step shards now read old.peer new.peer old.port new.port r
 
--- what fits no line
-abbrev pub untold : ℕ → ToldValue → UntoldValue
-untold k t = record { shard = k; rows = length t.live; extras = length t.extras }
+-- what is told, with its form
+abbrev pub in_form : Form → ToldValue → Telling
+in_form form t = record { form = form; told = t }
+
+-- what stands beside the rows: extras, or in the second form ranges
+abbrev pub beside_in : Form → ToldValue → ℕ
+beside_in One t = length t.extras
+beside_in Two t = length t.ranges
+
+abbrev pub untold : ℕ → Telling → UntoldValue
+untold k t = record { shard = k; size = Some (record { rows = length t.told.live; beside = beside_in t.form t.told }) }
+
+-- of a shard that has more than a line takes no value is made
+abbrev pub uncounted : ℕ → UntoldValue
+uncounted k = record { shard = k; size = None }
 
 -- nothing stays untold where the line went out
 abbrev pub sent : UntoldValue → Result Unit LinkFault → Result (Option UntoldValue) DialFault
@@ -83,28 +98,30 @@ sent u (Err LineTooLong) = Ok (Some u)
 sent u (Err e) = Err (faults_are.Link e)
 
 -- all that a shard tells goes out, unless it is too long
-abbrev pub WritesAll : {S : Type 0} → (S → Known) → ℕ → Result ToldValue ActFault → S → S
+abbrev pub WritesAll : {S : Type 0} → (S → Known) → ℕ → Form → Result (Option ToldValue) ActFault → S → S
     → Result (Option UntoldValue) DialFault → Type 0
-WritesAll out k (Ok t) s s' r = (w : Result Unit LinkFault) × WritesLine (lines_are.Told k t) (out s) (out s') w
-    × (r ≡ sent (untold k t) w)
-WritesAll out k (Err e) s s' r = (s' ≡ s) × (r ≡ Err (faults_are.Act e))
+WritesAll out k form (Ok None) s s' r = (s' ≡ s) × (r ≡ Ok (Some (uncounted k)))
+WritesAll out k form (Ok (Some t)) s s' r = (w : Result Unit LinkFault)
+    × WritesLine (lines_are.Told k (in_form form t)) (out s) (out s') w × (r ≡ sent (untold k (in_form form t)) w)
+WritesAll out k form (Err e) s s' r = (s' ≡ s) × (r ≡ Err (faults_are.Act e))
 
--- the shard is asked for all of it
-abbrev pub AsksForAll : {S P : Type 0} → (S → Known) → Steps P → ℕ → S → S → P → P
+-- the shard is asked for all of it in the form
+abbrev pub AsksForAll : {S P : Type 0} → (S → Known) → Steps P → ℕ → Form → S → S → P → P
     → Result (Option UntoldValue) DialFault → Type 0
-AsksForAll out step k s s' q q' r = (a : Answer (full k)) × step q (full k) a q' × WritesAll out k a s s' r
+AsksForAll out step k form s s' q q' r = (a : Answer (full k form)) × step q (full k form) a q'
+    × WritesAll out k form a s s' r
 
 -- in the place of a told value that is too long all of the shard goes out, unless that is too long as well
-abbrev pub WritesElse : {S P : Type 0} → (S → Known) → Steps P → ℕ → Result Unit LinkFault → S → S → P → P
+abbrev pub WritesElse : {S P : Type 0} → (S → Known) → Steps P → ℕ → Form → Result Unit LinkFault → S → S → P → P
     → Result (Option UntoldValue) DialFault → Type 0
-WritesElse out step k (Ok done) s s' q q' r = (s' ≡ s) × (q' ≡ q) × (r ≡ Ok None)
-WritesElse out step k (Err LineTooLong) s s' q q' r = AsksForAll out step k s s' q q' r
-WritesElse out step k (Err e) s s' q q' r = (s' ≡ s) × (q' ≡ q) × (r ≡ Err (faults_are.Link e))
+WritesElse out step k form (Ok done) s s' q q' r = (s' ≡ s) × (q' ≡ q) × (r ≡ Ok None)
+WritesElse out step k form (Err LineTooLong) s s' q q' r = AsksForAll out step k form s s' q q' r
+WritesElse out step k form (Err e) s s' q q' r = (s' ≡ s) × (q' ≡ q) × (r ≡ Err (faults_are.Link e))
 
-abbrev pub WritesTold : {S P : Type 0} → (S → Known) → Steps P → ℕ → ToldValue → S → S → P → P
+abbrev pub WritesTold : {S P : Type 0} → (S → Known) → Steps P → ℕ → Telling → S → S → P → P
     → Result (Option UntoldValue) DialFault → Type 0
 WritesTold {S} out step k t s s' q q' r = (mid : S) × (w : Result Unit LinkFault)
-    × WritesLine (lines_are.Told k t) (out s) (out mid) w × WritesElse out step k w mid s' q q' r
+    × WritesLine (lines_are.Told k t) (out s) (out mid) w × WritesElse out step k t.form w mid s' q q' r
 
 -- once it was written, whatever stays untold
 abbrev pub done : {A B : Type 0} → B → Result A DialFault → Result B DialFault
@@ -185,31 +202,37 @@ TakesMore left step shards now (Ok (Some u)) old new r = (new ≡ old) × (r ≡
 TakesMore left step shards now (Err f) old new r = (new ≡ old) × (r ≡ Err f)
 
 -- this told value goes out, or what stands in its place
-abbrev pub Tells : {S P : Type 0} → (left out : S → Known) → Steps P → (P → ℕ) → ℕ → ℕ × ToldValue → Lent S P
+abbrev pub Tells : {S P : Type 0} → (left out : S → Known) → Steps P → (P → ℕ) → ℕ → ℕ × Telling → Lent S P
     → Lent S P → Result Outcome DialFault → Type 0
 Tells {S} {P} left out step shards now told old new r = (s : S) × (q : P) × (w : Result (Option UntoldValue) DialFault)
     × WritesTold out step told.0 told.1 old.stream s old.port q w
     × TakesMore left step shards now w (lent s old.peer q) new r
 
 -- of what would be answered a told value alone goes out, with its shard
-abbrev pub if_told : Line → Option (ℕ × ToldValue)
+abbrev pub if_told : Line → Option (ℕ × Telling)
 if_told (lines_are.Told k t) = Some (k, t)
 if_told _ = None
 
-abbrev pub told_in : Option Line → Option (ℕ × ToldValue)
+abbrev pub told_in : Option Line → Option (ℕ × Telling)
 told_in None = None
 told_in (Some line) = if_told line
 
-abbrev pub TellsWanted : {S P : Type 0} → (left out : S → Known) → Steps P → (P → ℕ) → ℕ → Bool
-    → Option (ℕ × ToldValue) → Lent S P → Lent S P → Result Outcome DialFault → Type 0
-TellsWanted left out step shards now given_up None old new r = (new ≡ old) × (r ≡ Ok (outcome_of given_up))
-TellsWanted left out step shards now given_up (Some told) old new r = Tells left out step shards now told old new r
+-- where nothing is told: nothing was wanted, or nothing that a line takes
+abbrev pub outcome_without : Bool → Option ℕ → Outcome
+outcome_without true untold = GivenUp
+outcome_without false (Some k) = Untold (uncounted k)
+outcome_without false None = Done
+
+abbrev pub TellsWanted : {S P : Type 0} → (left out : S → Known) → Steps P → (P → ℕ) → ℕ → Outcome
+    → Option (ℕ × Telling) → Lent S P → Lent S P → Result Outcome DialFault → Type 0
+TellsWanted left out step shards now else None old new r = (new ≡ old) × (r ≡ Ok else)
+TellsWanted left out step shards now else (Some told) old new r = Tells left out step shards now told old new r
 
 abbrev pub TellsTaken : {S P : Type 0} → (left out : S → Known) → Steps P → (P → ℕ) → ℕ → Result (Option Act) DialFault
     → Lent S P → Lent S P → Result Outcome DialFault → Type 0
 TellsTaken left out step shards now (Ok None) old new r = (new ≡ old) × (r ≡ Ok Done)
 TellsTaken left out step shards now (Ok (Some act)) old new r =
-    TellsWanted left out step shards now act.given_up (told_in act.answer) old new r
+    TellsWanted left out step shards now (outcome_without act.given_up act.untold) (told_in act.answer) old new r
 TellsTaken left out step shards now (Err f) old new r = (new ≡ old) × (r ≡ Err f)
 
 abbrev pub GoesOn : {S P : Type 0} → (left out : S → Known) → Steps P → (P → ℕ) → ℕ → Result Unit LinkFault → Lent S P

@@ -1,16 +1,16 @@
 ghost use Rattle.std.specs.Prelude.{◌≡◌};
-ghost use Rattle.node_links.specs.Talking.{bare as bare_of, outcome_of as outcome, untold, sent as sent_of, told_in};
+ghost use Rattle.node_links.specs.Talking.{bare as bare_of, outcome_of as outcome, outcome_without as without, beside_in, untold, uncounted as uncounted_of, sent as sent_of, told_in};
 ghost use Rattle.node_links.specs.Talking.{WritesBare, WritesGiven, AsksForAll, WritesTold, Tells, TellsWanted};
 ghost use Rattle.node_links.specs.Talking.{Exchanges, Dials, lent};
 
 use crate::fault::DialFault;
 use crate::hearing::take_one;
-use crate::outcome::{Outcome, Untold};
+use crate::outcome::{Outcome, Untold, UntoldSize};
 use node_links_acts::{Act, LinkPort};
-use node_links_lines::{Line, LinkFault};
+use node_links_lines::{Line, LinkFault, Telling};
 use node_links_peer::Peer;
 use node_links_streams::write_line;
-use orswot_core::Told;
+use orswot_core::{Form, Told};
 use std::alloc::Global;
 use std::io::{Read, Write};
 
@@ -54,7 +54,7 @@ fn write_given<W: Write>(alloc: Global, writer: &mut W, line: &Line) -> Result<(
 }
 
 // What is told of which shard, where something is.
-fn told_of(answer: Option<Line>) -> Option<(u32, Told)>
+fn told_of(answer: Option<Line>) -> Option<(u32, Telling)>
     ensures { result ≡ told_in answer }
 {
     match answer {
@@ -73,14 +73,42 @@ fn outcome_of(given_up: bool) -> Outcome
     }
 }
 
-fn untold_of(shard: u32, told: &Told) -> Untold
-    ensures { result ≡ untold shard told.now }
+// Where nothing is told: nothing was wanted, or nothing that a line takes.
+fn outcome_without(given_up: bool, untold: Option<u32>) -> Outcome
+    ensures { result ≡ without given_up untold }
+{
+    match untold {
+        Some(shard) if !given_up => Outcome::Untold(uncounted(shard)),
+        _ => outcome_of(given_up),
+    }
+}
+
+fn beside(form: Form, told: &Told) -> usize
+    ensures { result ≡ beside_in form told.now }
+{
+    match form {
+        Form::One => told.extras().len(),
+        Form::Two => told.ranges().len(),
+    }
+}
+
+fn untold_of(shard: u32, telling: &Telling) -> Untold
+    ensures { result ≡ untold shard telling.now }
 {
     Untold {
         shard,
-        rows: told.live().len(),
-        extras: told.extras().len(),
+        size: Some(UntoldSize {
+            rows: telling.told.live().len(),
+            beside: beside(telling.form, &telling.told),
+        }),
     }
+}
+
+// Of a shard that has more than a line takes.
+fn uncounted(shard: u32) -> Untold
+    ensures { result ≡ uncounted_of shard }
+{
+    Untold { shard, size: None }
 }
 
 // What stays untold where a line was written so: of one that went out, nothing.
@@ -94,17 +122,20 @@ fn sent(untold: Untold, written: Result<(), LinkFault>) -> Result<Option<Untold>
     }
 }
 
-// All that is known of the shard goes out, where it fits a line; else it is what stays untold.
+// All that is known of the shard goes out in the form, where it fits a line; else it is what stays untold.
 fn write_all<W: Write, P: LinkPort>(
     alloc: Global,
     writer: &mut W,
     port: &mut P,
     shard: u32,
+    form: Form,
 ) -> Result<Option<Untold>, DialFault>
-    ensures { AsksForAll W.contents P.step shard writer.old writer.new port.old port.new result }
+    ensures { AsksForAll W.contents P.step shard form writer.old writer.new port.old port.new result }
 {
-    match port.full(alloc, shard) {
-        Ok(told) => {
+    match port.full(alloc, shard, form) {
+        Ok(None) => Ok(Some(uncounted(shard))),
+        Ok(Some(told)) => {
+            let told = Telling { form, told };
             let untold = untold_of(shard, &told);
             sent(
                 untold,
@@ -121,13 +152,14 @@ pub(crate) fn write_told<W: Write, P: LinkPort>(
     writer: &mut W,
     port: &mut P,
     shard: u32,
-    told: Told,
+    told: Telling,
 ) -> Result<Option<Untold>, DialFault>
     ensures { WritesTold W.contents P.step shard told writer.old writer.new port.old port.new result }
 {
+    let form = told.form;
     match write_line(alloc, writer, &Line::Told { shard, told }) {
         Ok(()) => Ok(None),
-        Err(LinkFault::LineTooLong) => write_all(alloc, writer, port, shard),
+        Err(LinkFault::LineTooLong) => write_all(alloc, writer, port, shard, form),
         Err(fault) => Err(DialFault::Link(fault)),
     }
 }
@@ -138,7 +170,7 @@ fn tell<S: Read + Write, P: LinkPort>(
     stream: &mut S,
     peer: &mut Peer,
     port: &mut P,
-    told: (u32, Told),
+    told: (u32, Telling),
     now: u64,
 ) -> Result<Outcome, DialFault>
     ensures { Tells S.remaining S.contents P.step P.shard_count now told
@@ -163,13 +195,17 @@ fn follow<S: Read + Write, P: LinkPort>(
     act: Act,
     now: u64,
 ) -> Result<Outcome, DialFault>
-    ensures { TellsWanted S.remaining S.contents P.step P.shard_count now act.given_up (told_in act.answer)
-        (lent stream.old peer.old port.old) (lent stream.new peer.new port.new) result }
+    ensures { TellsWanted S.remaining S.contents P.step P.shard_count now (without act.given_up act.untold)
+        (told_in act.answer) (lent stream.old peer.old port.old) (lent stream.new peer.new port.new) result }
 {
-    let given_up = act.given_up;
-    match told_of(act.answer) {
+    let Act {
+        answer,
+        given_up,
+        untold,
+    } = act;
+    match told_of(answer) {
         Some(told) => tell(alloc, stream, peer, port, told, now),
-        None => Ok(outcome_of(given_up)),
+        None => Ok(outcome_without(given_up, untold)),
     }
 }
 
@@ -178,7 +214,7 @@ fn follow<S: Read + Write, P: LinkPort>(
 /// read and acted upon. No other answer is written.
 ///
 /// An end between lines, where a line was to be read, ends the exchange well. A beat whose line is too
-/// long, in bytes or in rows and extras, goes out without its delta. In place of a told line that is too
+/// long, in bytes or in what it tells, goes out without its delta. In place of a told line that is too
 /// long all that is known of the shard goes out; where that is too long as well nothing does, and it is
 /// told so. Any other line that is too long is refused.
 ///

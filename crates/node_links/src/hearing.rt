@@ -34,7 +34,7 @@ pub(crate) fn take_one<S: Read, P: LinkPort>(
     ensures { Takes S.remaining P.step P.shard_count now
         (lent stream.old peer.old port.old) (lent stream.new peer.new port.new) result }
 {
-    let Some(line) = read_line(alloc, stream, peer.shards())? else {
+    let Some(line) = read_line(alloc, stream, peer.hearer())? else {
         return Ok(None);
     };
     Ok(Some(hear(alloc, peer, port, line, now)?))

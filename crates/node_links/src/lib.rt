@@ -13,7 +13,9 @@ pub use accepting::{accept_one, answer_line};
 pub use dialling::{dial, exchange};
 pub use fault::DialFault;
 pub use node_links_acts::{Act, ActFault, LinkPort, act};
-pub use node_links_lines::{Line, LinkFault, MAX_LINE_BYTES, MAX_SHARDS, decode_line, encode_line};
-pub use node_links_peer::{End, LinkAction, Peer};
+pub use node_links_lines::{
+    Hearer, Line, LinkFault, MAX_LINE_BYTES, MAX_SHARDS, Telling, decode_line, encode_line,
+};
+pub use node_links_peer::{End, LinkAction, Peer, form_told, next_form};
 pub use node_links_streams::{read_line, write_line};
-pub use outcome::{Outcome, Untold};
+pub use outcome::{Outcome, Untold, UntoldSize};

@@ -1,6 +1,7 @@
 -- What the actions of a line ask of a port, and what comes of them.
 use Rattle.std.specs.Prelude.{◌≡◌, ℕ, zero, suc, true, false, if◌then◌else◌, nat_lt, List, [], ◌∷◌, Option, Some, None, Result, Ok, Err}
 use Rattle.presence_base.specs.declared.dots.Replica.{Replica}
+use Rattle.orswot_core_told.specs.declared.form.Form.{Form}
 use Rattle.orswot_core.specs.Telling.{ToldValue}
 use Rattle.replica_status.specs.declared.status.Status.{Status}
 use Rattle.replica_status.specs.declared.status.Status.TheVariants.{Gone}
@@ -16,14 +17,18 @@ use Rattle.node_links_acts.specs.Asks.{Ask, status, heard, merge, permdown, top,
 
 -- before any action: nothing is answered
 abbrev pub silent : Act
-silent = record { answer = None; given_up = false }
+silent = record { answer = None; given_up = false; untold = None }
 
 -- this line is answered
 abbrev pub answers : Act → Line → Act
-answers act line = record { answer = Some line; given_up = act.given_up }
+answers act line = record { answer = Some line; given_up = act.given_up; untold = act.untold }
 
 abbrev pub gives_up : Act → Act
-gives_up act = record { answer = act.answer; given_up = true }
+gives_up act = record { answer = act.answer; given_up = true; untold = act.untold }
+
+-- no line takes what is wanted of a shard
+abbrev pub leaves_untold : Act → ℕ → Act
+leaves_untold act k = record { answer = act.answer; given_up = act.given_up; untold = Some k }
 
 -- a replica that is gone is told so, and ends what is done
 abbrev pub unless_gone : Act → Replica → Status → Turn
@@ -37,8 +42,9 @@ wanted k r count n = if nat_lt n count then lines_are.Want k r n else lines_are.
 abbrev pub asks_for : Act → ℕ → Replica → ℕ → ℕ → Turn
 asks_for act k r count n = Next (answers act (wanted k r count n))
 
-abbrev pub tells : Act → ℕ → ToldValue → Turn
-tells act k t = Next (answers act (lines_are.Told k t))
+abbrev pub tells : Act → ℕ → Form → Option ToldValue → Turn
+tells act k form (Some t) = Next (answers act (lines_are.Told k (record { form = form; told = t })))
+tells act k form None = Next (leaves_untold act k)
 
 -- what each call of a port does: from the one to the other this was asked and this answered
 abbrev pub Steps : Type 0 → Type 1
@@ -70,10 +76,15 @@ abbrev pub DownsAll : {P : Type 0} → Steps P → (P → ℕ) → Replica → A
 DownsAll step shards q act old new r = (a : Result Unit ActFault) × Downs step q (shards old) 0 old new a
     × (r ≡ comes_to (λ _. Next act) a)
 
--- what this shard counted above a count is told, or all of it
-abbrev pub Tells : {P : Type 0} → Steps P → ℕ → Act → Option ℕ → P → P → Result Turn ActFault → Type 0
-Tells step k act (Some n) = Asks step (told_from k n) (tells act k)
-Tells step k act None = Asks step (full k) (tells act k)
+-- the shard is asked in the form for what it counted above a count, or for all
+abbrev pub IsAsked : {P : Type 0} → Steps P → ℕ → Option ℕ → Form → P → P → Result (Option ToldValue) ActFault → Type 0
+IsAsked step k (Some n) form old new r = step old (told_from k n form) r new
+IsAsked step k None form old new r = step old (full k form) r new
+
+-- and that is told
+abbrev pub Tells : {P : Type 0} → Steps P → ℕ → Act → Option ℕ → Form → P → P → Result Turn ActFault → Type 0
+Tells step k act from form old new r = (a : Result (Option ToldValue) ActFault) × IsAsked step k from form old new a
+    × (r ≡ comes_to (tells act k form) a)
 
 -- One action, a line each: what it asks, and what comes of the answer.
 abbrev pub Does : {P : Type 0} → Steps P → (P → ℕ) → LinkAction → Act → P → P → Result Turn ActFault → Type 0
@@ -82,7 +93,7 @@ Does step shards (actions_are.Heard k q now) act old new r = Asks step (heard k 
 Does step shards (actions_are.Merge k t) act old new r = Asks step (merge k t) (λ _. Next act) old new r
 Does step shards (actions_are.PermDown q) act old new r = DownsAll step shards q act old new r
 Does step shards (actions_are.AnswerTop k q c) act old new r = Asks step (top k q) (asks_for act k q c) old new r
-Does step shards (actions_are.AnswerTold k from) act old new r = Tells step k act from old new r
+Does step shards (actions_are.AnswerTold k from form) act old new r = Tells step k act from form old new r
 Does step shards (actions_are.Answer line) act old new r = (new ≡ old) × (r ≡ Ok (Next (answers act line)))
 Does step shards actions_are.GivenUp act old new r = (new ≡ old) × (r ≡ Ok (Next (gives_up act)))
 

@@ -1,6 +1,7 @@
 -- What a link asks of a node's shards, and what it is answered.
-use Rattle.std.specs.Prelude.{ℕ, Result}
+use Rattle.std.specs.Prelude.{ℕ, Option, Result}
 use Rattle.presence_base.specs.declared.dots.Replica.{Replica}
+use Rattle.orswot_core_told.specs.declared.form.Form.{Form}
 use Rattle.orswot_core.specs.Telling.{ToldValue}
 use Rattle.replica_status.specs.declared.status.Status.{Status}
 use Rattle.node_links_acts.specs.declared.port.ActFault.{ActFault}
@@ -12,18 +13,18 @@ pub data Ask : Type 0 where
   merge : (shard : ℕ) (told : ToldValue) → Ask
   permdown : (shard : ℕ) (replica : Replica) → Ask
   top : (shard : ℕ) (replica : Replica) → Ask
-  told_from : (shard from : ℕ) → Ask
-  full : (shard : ℕ) → Ask
+  told_from : (shard from : ℕ) (form : Form) → Ask
+  full : (shard : ℕ) (form : Form) → Ask
 
--- what is given where a question is accepted
+-- what is given where a question is accepted: no told value where it has more than a line takes
 abbrev pub Given : Ask → Type 0
 Given (status k r) = Status
 Given (heard k r now) = Unit {0}
 Given (merge k t) = Unit {0}
 Given (permdown k r) = Unit {0}
 Given (top k r) = ℕ
-Given (told_from k n) = ToldValue
-Given (full k) = ToldValue
+Given (told_from k n form) = Option ToldValue
+Given (full k form) = Option ToldValue
 
 abbrev pub Answer : Ask → Type 0
 Answer q = Result (Given q) ActFault

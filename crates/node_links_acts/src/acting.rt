@@ -1,10 +1,11 @@
 ghost use Rattle.std.specs.Prelude.{◌≡◌};
-ghost use Rattle.node_links_acts.specs.Acting.{Acts, Does, Downs, Tells};
+ghost use Rattle.node_links_acts.specs.Acting.{Acts, Does, Downs, IsAsked};
 
 use crate::outcome::Act;
 use crate::port::{ActFault, LinkPort};
 use crate::turn::{Turn, answer_told, answer_top, answers, gives_up, next, unless_gone};
 use node_links_peer::LinkAction;
+use orswot_core::{Form, Told};
 use presence_base::Replica;
 use std::alloc::Global;
 
@@ -20,6 +21,7 @@ pub fn act<P: LinkPort>(
     let mut act = Act {
         answer: None,
         given_up: false,
+        untold: None,
     };
     for action in actions {
         match do_one(alloc, port, action, act)? {
@@ -58,7 +60,10 @@ fn do_one<P: LinkPort>(
             let top = port.top(alloc, shard, &replica);
             answer_top(top, act, shard, replica, count)
         },
-        LinkAction::AnswerTold { shard, from } => tell(alloc, port, shard, from, act),
+        LinkAction::AnswerTold { shard, from, form } => {
+            let told = asked(alloc, port, shard, from, form);
+            answer_told(told, act, shard, form)
+        },
         LinkAction::Answer(line) => Ok(Turn::Next(answers(act, line))),
         LinkAction::GivenUp => Ok(Turn::Next(gives_up(act))),
     }
@@ -74,19 +79,18 @@ fn permdown<P: LinkPort>(alloc: Global, port: &mut P, replica: &Replica) -> Resu
     Ok(())
 }
 
-// What the shard counted itself above a count, or all of it, is answered.
-fn tell<P: LinkPort>(
+// What the shard counted itself above a count, or all of it, in the form.
+fn asked<P: LinkPort>(
     alloc: Global,
     port: &mut P,
     shard: u32,
     from: Option<u64>,
-    act: Act,
-) -> Result<Turn, ActFault>
-    ensures { Tells P.step shard act from port.old port.new result }
+    form: Form,
+) -> Result<Option<Told>, ActFault>
+    ensures { IsAsked P.step shard from form port.old port.new result }
 {
-    let told = match from {
-        Some(from) => port.told_from(alloc, shard, from),
-        None => port.full(alloc, shard),
-    };
-    answer_told(told, act, shard)
+    match from {
+        Some(from) => port.told_from(alloc, shard, from, form),
+        None => port.full(alloc, shard, form),
+    }
 }

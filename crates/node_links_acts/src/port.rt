@@ -1,4 +1,4 @@
-use orswot_core::Told;
+use orswot_core::{Form, Told};
 use presence_base::Replica;
 use replica_status::Status;
 use std::alloc::Global;
@@ -52,11 +52,17 @@ pub trait LinkPort {
     fn top(&mut self, alloc: Global, shard: u32, replica: &Replica) -> Result<u64, ActFault>
         ensures { step self.old (top shard replica.now) result self.new };
 
-    /// What was counted here above `from`, or all that is known.
-    fn told_from(&mut self, alloc: Global, shard: u32, from: u64) -> Result<Told, ActFault>
-        ensures { step self.old (told_from shard from) result self.new };
+    /// What was counted here above `from`, or all that is known, in the form; none where that is more than a line takes.
+    fn told_from(
+        &mut self,
+        alloc: Global,
+        shard: u32,
+        from: u64,
+        form: Form,
+    ) -> Result<Option<Told>, ActFault>
+        ensures { step self.old (told_from shard from form) result self.new };
 
-    /// All that is known.
-    fn full(&mut self, alloc: Global, shard: u32) -> Result<Told, ActFault>
-        ensures { step self.old (full shard) result self.new };
+    /// All that is known, in the form; none where that is more than a line takes.
+    fn full(&mut self, alloc: Global, shard: u32, form: Form) -> Result<Option<Told>, ActFault>
+        ensures { step self.old (full shard form) result self.new };
 }

@@ -1,12 +1,12 @@
 // What an action comes to.
 ghost use Rattle.std.specs.Prelude.{◌≡◌};
 ghost use Rattle.node_links_acts.specs.declared.turn.Turn.TheVariants as turns_are;
-ghost use Rattle.node_links_acts.specs.Acting.{answers as answers_of, gives_up as gives_up_of, unless_gone as unless_gone_of, asks_for, tells, comes_to, wanted as wanted_of};
+ghost use Rattle.node_links_acts.specs.Acting.{answers as answers_of, gives_up as gives_up_of, leaves_untold as leaves_untold_of, unless_gone as unless_gone_of, asks_for, tells, comes_to, wanted as wanted_of};
 
 use crate::outcome::Act;
 use crate::port::ActFault;
-use node_links_lines::Line;
-use orswot_core::Told;
+use node_links_lines::{Line, Telling};
+use orswot_core::{Form, Told};
 use presence_base::Replica;
 use replica_status::Status;
 
@@ -24,6 +24,7 @@ pub(crate) fn answers(act: Act, line: Line) -> Act
     Act {
         answer: Some(line),
         given_up: act.given_up,
+        untold: act.untold,
     }
 }
 
@@ -33,6 +34,18 @@ pub(crate) fn gives_up(act: Act) -> Act
     Act {
         answer: act.answer,
         given_up: true,
+        untold: act.untold,
+    }
+}
+
+// No line takes what is wanted of the shard.
+fn leaves_untold(act: Act, shard: u32) -> Act
+    ensures { result ≡ leaves_untold_of act shard }
+{
+    Act {
+        answer: act.answer,
+        given_up: act.given_up,
+        untold: Some(shard),
     }
 }
 
@@ -99,16 +112,21 @@ pub(crate) fn answer_top(
     }
 }
 
-// What the shard tells is answered.
+// What the shard tells in the form is answered, where a line takes it.
 pub(crate) fn answer_told(
-    told: Result<Told, ActFault>,
+    told: Result<Option<Told>, ActFault>,
     act: Act,
     shard: u32,
+    form: Form,
 ) -> Result<Turn, ActFault>
-    ensures { result ≡ comes_to (tells act shard) told }
+    ensures { result ≡ comes_to (tells act shard form) told }
 {
     match told {
-        Ok(told) => Ok(Turn::Next(answers(act, Line::Told { shard, told }))),
+        Ok(Some(told)) => {
+            let told = Telling { form, told };
+            Ok(Turn::Next(answers(act, Line::Told { shard, told })))
+        },
+        Ok(None) => Ok(Turn::Next(leaves_untold(act, shard))),
         Err(fault) => Err(fault),
     }
 }

@@ -1,5 +1,5 @@
 -- What is written is read again: parts of a line, told values and lines.
-use Rattle.std.proofs.Common.{◌≡◌, ℕ, ◌≤◌, Bool, true, false, ◌&&◌, List, [], ◌∷◌, length, ◌<◌, nat_lt, cond, subst, is_some, is_none, map, Option, Some, None, option_map, Result, Ok, Err, IfOk, refl, sym, ◌∙◌, ap, arith}
+use Rattle.std.proofs.Common.{◌≡◌, ℕ, ◌≤◌, Bool, true, false, ◌&&◌, List, [], ◌∷◌, length, ◌<◌, nat_lt, nat_eq, suc, cond, subst, is_some, is_none, map, Option, Some, None, option_map, Result, Ok, Err, IfOk, refl, sym, ◌∙◌, ap, arith}
 use Rattle.std.specs.List.{list_all}
 use Rattle.std.proofs.lemmas.Bool.{and_parts}
 use Rattle.std.proofs.lemmas.Bool.Decides.{nat_tests}
@@ -13,22 +13,26 @@ use Rattle.presence_base.specs.declared.row.Row.{Row}
 use Rattle.presence_base.specs.Names.{is_node_name, guarded}
 use Rattle.orswot_core_told.specs.declared.told.ToldFault.{ToldFault}
 use Rattle.orswot_core.specs.Telling.{Range, ToldValue}
+use Rattle.orswot_core_told.specs.declared.form.Form.{Form}
+use Rattle.orswot_core_told.specs.declared.form.Form.TheVariants.{One, Two}
 use Rattle.orswot_core.specs.Checks.{first_fault}
 use Rattle.node_links_lines.specs.declared.lines.Line.{Line}
 use Rattle.node_links_lines.specs.declared.lines.Line.TheVariants as lines_are
+use Rattle.node_links_members.specs.declared.hearer.Hearer.{Hearer}
+use Rattle.node_links_members.specs.declared.hearer.Telling.{Telling}
 use Rattle.node_links_members.specs.declared.fault.LinkFault.{LinkFault}
 use Rattle.node_links_members.specs.declared.fault.LinkFault.TheVariants.{LineTooLong}
 use Rattle.presence_base.specs.declared.names.TheConstants.{MAX_SHARDS}
 use Rattle.node_links_lines.specs.declared.lines.TheConstants.{MAX_LINE_BYTES}
-use Rattle.node_links_lines.specs.Limits.{is_from_to, is_counted, is_bound, is_replica, is_told_range, is_told_dot, is_told_prev, is_told_row, is_told, is_sound, is_delta, is_within}
+use Rattle.node_links_lines.specs.Limits.{is_from_to, is_counted, is_bound, is_replica, is_told_range, is_told_dot, is_told_prev, is_told_row, is_told, has_form, is_form, is_sound, is_delta, is_within}
 use Rattle.node_links_members.specs.Members.{number_in, name_in, replica_in, dot_in}
 use Rattle.node_links_lines.specs.Reading.{shard_in, line_in, value_in, decoded, IsLine}
 use Rattle.node_links_members.specs.Results.{◌>>=◌, or_bad, Answers}
 use Rattle.node_links_members.specs.Telling.{range_in, extra_in, prev_in, object_in, row_in, each_in}
-use Rattle.node_links_members.specs.Told.{raw_told_in, unless, sound, told_in, is_delta_of, own_delta, delta_in}
+use Rattle.node_links_members.specs.Told.{raw_told_in, unless, sound, in_form, told_as, told_in, is_delta_of, own_delta, delta_as, delta_in}
 use Rattle.node_links_lines.specs.Writing.{text_of, encoded}
 use Rattle.node_links_lines.proofs.FoundLines.{decoded_found}
-use Rattle.node_links_lines.specs.Values.{whole, range_value, dot_value, prev_value, row_value, told_value, delta_value, value_of}
+use Rattle.node_links_lines.specs.Values.{whole, range_value, dot_value, prev_value, row_value, value_in as written_in, told_value, delta_value, value_of}
 
 -- ---- members
 
@@ -86,9 +90,25 @@ each_again f value is one (x ∷ xs) h =
 
 -- ---- told values
 
-raw_told_again : (t : ToldValue) → is_told t ≡ true → raw_told_in (told_value t) ≡ Ok t
+no_extras : (es : List Dot) → nat_eq (length es) 0 ≡ true → es ≡ []
+no_extras [] h = refl
+no_extras (e ∷ es) h = absurd (some (length es) h)
+  where
+    some : (n : ℕ) → nat_eq (suc n) 0 ≡ true → ⊥
+    some n k = grind (arith, nat_tests)
+
+raw_told_again : (form : Form) (t : ToldValue) → has_form form t ≡ true → is_told t ≡ true → raw_told_in form (written_in form t) ≡ Ok t
 unfolding raw_told_in
-raw_told_again t h =
+raw_told_again Two t none h =
+    let p = and_parts (list_all is_told_range t.ranges) (list_all is_told_dot t.extras && list_all is_told_row t.live) h in
+    let q = and_parts (list_all is_told_dot t.extras) (list_all is_told_row t.live) p.1 in
+    let bare : ToldValue = record { ranges = t.ranges; extras = []; live = t.live } in
+    let read : raw_told_in Two (written_in Two t) ≡ Ok bare = rw (
+      each_again range_in range_value is_told_range range_again t.ranges p.0,
+      each_again row_in row_value is_told_row row_again t.live q.1,
+    ) refl in
+    read ∙ ap (λ es. Ok (record { ranges = t.ranges; extras = es; live = t.live })) (sym (no_extras t.extras none))
+raw_told_again One t any h =
     let p = and_parts (list_all is_told_range t.ranges) (list_all is_told_dot t.extras && list_all is_told_row t.live) h in
     let q = and_parts (list_all is_told_dot t.extras) (list_all is_told_row t.live) p.1 in
     rw (
@@ -101,49 +121,93 @@ unless_none : (o : Option ToldFault) (t : ToldValue) → is_none o ≡ true → 
 unless_none None t h = refl
 unless_none (Some f) t h = cc
 
-told_again : (k n : ℕ) (t : ToldValue) → is_sound k n t ≡ true → told_in k n (told_value t) ≡ Ok t
-told_again k n t h =
-    let p = and_parts (is_told t) (is_none (first_fault k n t)) h in
-    ap (λ r. r >>= sound k n) (raw_told_again t p.0) ∙ unless_none (first_fault k n t) t p.1
+form_known : (o : Option Form) (f : Form) → is_form o f ≡ true → o ≡ Some f
+form_known None One h = cc
+form_known None Two h = cc
+form_known (Some One) One h = refl
+form_known (Some One) Two h = cc
+form_known (Some Two) One h = cc
+form_known (Some Two) Two h = refl
 
-abbrev some_told : Result ToldValue LinkFault → Result (Option ToldValue) LinkFault
-some_told r = r >>= (λ t. Ok (Some t))
+-- what is_sound says, part by part
+record Sound (k : ℕ) (h : Hearer) (t : Telling) : Type 0 where
+  known : h.form ≡ Some t.form
+  shaped : has_form t.form t.told ≡ true
+  told : is_told t.told ≡ true
+  faultless : is_none (first_fault k h.shards t.form t.told) ≡ true
 
-delta_again : (k n : ℕ) (r : Replica) (o : Option ToldValue) → is_delta k n r o ≡ true → delta_in k n r (delta_value o) ≡ Ok o
-delta_again k n r None h = refl
-delta_again k n r (Some t) h =
-    let p = and_parts (is_delta_of r t) (is_sound k n t) h in
-    let q = and_parts (is_told t) (is_none (first_fault k n t)) p.1 in
-    ap (λ x. some_told (x >>= own_delta r >>= sound k n)) (raw_told_again t q.0)
-    ∙ ap (λ b. some_told (or_bad (guarded b t) >>= sound k n)) p.0
-    ∙ ap some_told (unless_none (first_fault k n t) t q.1)
+sound_parts : (k : ℕ) (h : Hearer) (t : Telling) → is_sound k h t ≡ true → Sound k h t
+sound_parts k h t s =
+    let p = and_parts (is_form h.form t.form) (has_form t.form t.told && (is_told t.told && is_none (first_fault k h.shards t.form t.told))) s in
+    let q = and_parts (has_form t.form t.told) (is_told t.told && is_none (first_fault k h.shards t.form t.told)) p.1 in
+    let e = and_parts (is_told t.told) (is_none (first_fault k h.shards t.form t.told)) q.1 in
+    record { known = form_known h.form t.form p.0; shaped = q.0; told = e.0; faultless = e.1 }
+
+told_again : (k : ℕ) (h : Hearer) (t : Telling) → is_sound k h t ≡ true → told_in k h (told_value t) ≡ Ok t
+told_again k h t s =
+    let p = sound_parts k h t s in
+    ap (λ o. or_bad o >>= told_as k h.shards (told_value t)) p.known
+    ∙ ap (λ r. r >>= sound k h.shards t.form >>= in_form t.form) (raw_told_again t.form t.told p.shaped p.told)
+    ∙ ap (λ r. r >>= in_form t.form) (unless_none (first_fault k h.shards t.form t.told) t.told p.faultless)
+
+abbrev some_told : Form → Result ToldValue LinkFault → Result (Option Telling) LinkFault
+some_told form r = r >>= (λ t. Ok (Some (record { form = form; told = t })))
+
+as_again : (k n : ℕ) (r : Replica) (t : Telling) → is_delta_of t.form r t.told ≡ true → has_form t.form t.told ≡ true → is_told t.told ≡ true → is_none (first_fault k n t.form t.told) ≡ true
+    → delta_as k n r (told_value t) t.form ≡ Ok (Some t)
+as_again k n r t own shaped told faultless =
+    ap (λ x. some_told t.form (x >>= own_delta t.form r >>= sound k n t.form)) (raw_told_again t.form t.told shaped told)
+    ∙ ap (λ b. some_told t.form (or_bad (guarded b t.told) >>= sound k n t.form)) own
+    ∙ ap (some_told t.form) (unless_none (first_fault k n t.form t.told) t.told faultless)
+
+-- a value that is written is an array, and no null
+not_null : (k : ℕ) (h : Hearer) (r : Replica) (t : Telling) → delta_in k h r (told_value t) ≡ (or_bad h.form >>= delta_as k h.shards r (told_value t))
+not_null k h r t = go t.form
+  where
+    go : (f : Form) → delta_in k h r (written_in f t.told) ≡ (or_bad h.form >>= delta_as k h.shards r (written_in f t.told))
+    go One = refl
+    go Two = refl
+
+delta_again : (k : ℕ) (h : Hearer) (r : Replica) (o : Option Telling) → is_delta k h r o ≡ true → delta_in k h r (delta_value o) ≡ Ok o
+delta_again k h r None s = refl
+delta_again k h r (Some t) s =
+    let p = and_parts (is_delta_of t.form r t.told) (is_sound k h t) s in
+    let q = sound_parts k h t p.1 in
+    not_null k h r t
+    ∙ ap (λ o. or_bad o >>= delta_as k h.shards r (told_value t)) q.known
+    ∙ as_again k h.shards r t p.0 q.shaped q.told q.faultless
 
 -- ---- lines
 
 shard_again : (n k : ℕ) → nat_lt k n ≡ true → shard_in n (whole k) ≡ Ok k
 shard_again n k h = ap (λ b. or_bad (guarded b k)) h
 
-pub line_again : (n : ℕ) (line : Line) → is_within n line ≡ true → line_in n (value_of line) ≡ Ok line
-line_again n (lines_are.Hello r k) h =
-    let p = and_parts (is_replica r) (is_from_to 1 MAX_SHARDS k) h in
-    rw (replica_again r p.0, number_again 1 MAX_SHARDS k p.1) refl
+pub line_again : (n : Hearer) (line : Line) → is_within n line ≡ true → line_in n (value_of line) ≡ Ok line
+line_again n (lines_are.Hello r k None) h =
+    let p = and_parts (is_replica r) (is_from_to 1 MAX_SHARDS k && true) h in
+    let q = and_parts (is_from_to 1 MAX_SHARDS k) true p.1 in
+    rw (replica_again r p.0, number_again 1 MAX_SHARDS k q.0) refl
+line_again n (lines_are.Hello r k (Some v)) h =
+    let p = and_parts (is_replica r) (is_from_to 1 MAX_SHARDS k && is_counted v) h in
+    let q = and_parts (is_from_to 1 MAX_SHARDS k) (is_counted v) p.1 in
+    rw (number_again 1 MAX_COUNT v q.1, replica_again r p.0, number_again 1 MAX_SHARDS k q.0) refl
 line_again n (lines_are.Beat k r c t) h =
-    let p = and_parts (nat_lt k n) (is_replica r && (is_bound c && is_delta k n r t)) h in
+    let p = and_parts (nat_lt k n.shards) (is_replica r && (is_bound c && is_delta k n r t)) h in
     let q = and_parts (is_replica r) (is_bound c && is_delta k n r t) p.1 in
     let s = and_parts (is_bound c) (is_delta k n r t) q.1 in
-    rw (shard_again n k p.0, replica_again r q.0, number_again 0 MAX_COUNT c s.0, delta_again k n r t s.1) refl
+    rw (shard_again n.shards k p.0, replica_again r q.0, number_again 0 MAX_COUNT c s.0, delta_again k n r t s.1) refl
 line_again n (lines_are.Want k r c) h =
-    let p = and_parts (nat_lt k n) (is_replica r && is_bound c) h in
+    let p = and_parts (nat_lt k n.shards) (is_replica r && is_bound c) h in
     let q = and_parts (is_replica r) (is_bound c) p.1 in
-    rw (shard_again n k p.0, replica_again r q.0, number_again 0 MAX_COUNT c q.1) refl
+    rw (shard_again n.shards k p.0, replica_again r q.0, number_again 0 MAX_COUNT c q.1) refl
 line_again n (lines_are.Told k t) h =
-    let p = and_parts (nat_lt k n) (is_sound k n t) h in
-    rw (shard_again n k p.0, told_again k n t p.1) refl
+    let p = and_parts (nat_lt k n.shards) (is_sound k n t) h in
+    rw (shard_again n.shards k p.0, told_again k n t p.1) refl
 line_again n (lines_are.PermDown r) h = rw (replica_again r h) refl
 line_again n (lines_are.Gone r) h = rw (replica_again r h) refl
 line_again n lines_are.Ok h = refl
 
-pub decoded_only : (n : ℕ) (s : List ℕ) (line : Line) → IsLine n s line → decoded n s ≡ Ok line
+pub decoded_only : (n : Hearer) (s : List ℕ) (line : Line) → IsLine n s line → decoded n s ≡ Ok line
 decoded_only n s line h =
     let short = h.short in
     let fits : nat_lt MAX_LINE_BYTES (length s) ≡ false = grind (arith, nat_tests) in
@@ -163,6 +227,6 @@ fits_well line s is short =
     let test : nat_lt MAX_LINE_BYTES (length (text_of line)) ≡ false = grind (arith, nat_tests) in
     ap (λ b. cond b (Err LineTooLong) (Ok (text_of line))) test ∙ ap (λ x. Ok x) (sym is)
 
-pub found_from_answer : (n : ℕ) (s : List ℕ) (r : Result Line LinkFault) → Answers r (decoded n s) → IfOk r (IsLine n s)
+pub found_from_answer : (n : Hearer) (s : List ℕ) (r : Result Line LinkFault) → Answers r (decoded n s) → IfOk r (IsLine n s)
 found_from_answer n s (Ok line) h = decoded_found n s line h
 found_from_answer n s (Err e) h = tt

@@ -6,22 +6,26 @@ use Rattle.serde_json.specs.Read.{read}
 use Rattle.presence_base.specs.declared.dots.Replica.{Replica}
 use Rattle.orswot_core_told.specs.declared.told.ToldFault.{ToldFault}
 use Rattle.orswot_core.specs.Telling.{ToldValue}
+use Rattle.orswot_core_told.specs.declared.form.Form.{Form}
+use Rattle.orswot_core_told.specs.declared.form.Form.TheVariants.{One, Two}
 use Rattle.orswot_core.specs.Checks.{first_fault}
 use Rattle.node_links_lines.specs.declared.kinds.Kind.{Kind}
 use Rattle.node_links_lines.specs.declared.kinds.Kind.TheVariants as kinds_are
 use Rattle.node_links_lines.specs.declared.lines.Line.{Line}
+use Rattle.node_links_members.specs.declared.hearer.Hearer.{Hearer}
+use Rattle.node_links_members.specs.declared.hearer.Telling.{Telling}
 use Rattle.node_links_members.specs.declared.fault.LinkFault.{LinkFault}
 use Rattle.node_links_members.specs.declared.fault.LinkFault.TheVariants.{LineTooLong, NotJson, BadLine, BadTold, OtherShards, ReadFailed, WriteFailed, OutOfMemory, CutLine}
 use Rattle.presence_base.specs.declared.names.TheConstants.{MAX_SHARDS}
 use Rattle.node_links_lines.specs.declared.lines.TheConstants.{MAX_LINE_BYTES}
 use Rattle.presence_base.specs.Names.{guarded}
-use Rattle.node_links_members.specs.Arrays.{three_in, four_in, five_in, six_in}
+use Rattle.node_links_members.specs.Arrays.{two_in, three_in, Four, four_in, Five, five_in, six_in}
 use Rattle.node_links_lines.specs.Kinds.{kind_in}
-use Rattle.node_links_members.specs.Members.{whole_in, number_in, bound_in, replica_in}
+use Rattle.node_links_members.specs.Members.{whole_in, number_in, count_in, bound_in, replica_in}
 use Rattle.node_links_members.specs.Telling.{range_in, extra_in, row_in, list_in}
-use Rattle.node_links_lines.specs.Reading.{below, shard_in, ok_items, ok_in, line_of_kind, line_in, found_value, decoded, IsTextFault}
+use Rattle.node_links_lines.specs.Reading.{below, shard_in, hello_with, hello_of, ok_items, ok_in, line_of_kind, line_in, found_value, decoded, IsTextFault}
 use Rattle.node_links_members.specs.Results.{◌>>=◌, or_bad, Answers}
-use Rattle.node_links_members.specs.Told.{raw_told_in, unless, sound, told_in, is_delta_of, own_delta, delta_in}
+use Rattle.node_links_members.specs.Told.{raw_told_in, unless, sound, in_form, told_as, told_in, is_delta_of, own_delta, delta_as, delta_in}
 
 -- a bad line or a bad told value
 abbrev IsBad : LinkFault → Type 0
@@ -55,29 +59,36 @@ bad_unless : (o : Option ToldFault) (t : ToldValue) → OnlyBad ToldValue (unles
 bad_unless None t = record { is = tt }
 bad_unless (Some f) t = record { is = tt }
 
-bad_raw : (d : Data) → OnlyBad ToldValue (raw_told_in d)
+bad_raw : (form : Form) (d : Data) → OnlyBad ToldValue (raw_told_in form d)
 unfolding raw_told_in
-bad_raw d =
+bad_raw Two d =
+    bad_next (two_in d) _ (λ m.
+    bad_next (list_in range_in m.0) _ (λ gs.
+    bad_next (list_in row_in m.1) _ (λ xs. fine _)))
+bad_raw One d =
     bad_next (three_in d) _ (λ m.
     bad_next (list_in range_in m.0) _ (λ gs.
     bad_next (list_in extra_in m.1) _ (λ es.
     bad_next (list_in row_in m.2) _ (λ xs. fine _))))
 
-bad_told : (k n : ℕ) (d : Data) → OnlyBad ToldValue (told_in k n d)
-bad_told k n d = bad_then (raw_told_in d) (sound k n) (bad_raw d) (λ t. bad_unless (first_fault k n t) t)
+bad_told : (k : ℕ) (h : Hearer) (d : Data) → OnlyBad Telling (told_in k h d)
+bad_told k h d = bad_next h.form (told_as k h.shards d) (λ form.
+    bad_then (raw_told_in form d >>= sound k h.shards form) (in_form form)
+    (bad_then (raw_told_in form d) (sound k h.shards form) (bad_raw form d) (λ t. bad_unless (first_fault k h.shards form t) t))
+    (λ t. fine _))
 
-abbrev some_told : ToldValue → Result (Option ToldValue) LinkFault
-some_told t = Ok (Some t)
+abbrev some_told : Form → ToldValue → Result (Option Telling) LinkFault
+some_told form t = Ok (Some (record { form = form; told = t }))
 
-bad_some : (k n : ℕ) (r : Replica) (d : Data) → OnlyBad (Option ToldValue) (raw_told_in d >>= own_delta r >>= sound k n >>= some_told)
-bad_some k n r d =
-    bad_then (raw_told_in d >>= own_delta r >>= sound k n) some_told
-    (bad_then (raw_told_in d >>= own_delta r) (sound k n)
-    (bad_then (raw_told_in d) (own_delta r) (bad_raw d) (λ t. bad_or (guarded (is_delta_of r t) t)))
-    (λ t. bad_unless (first_fault k n t) t))
-    (λ t. fine (Some t))
+bad_some : (k : ℕ) (h : Hearer) (r : Replica) (d : Data) → OnlyBad (Option Telling) (or_bad h.form >>= delta_as k h.shards r d)
+bad_some k h r d = bad_next h.form (delta_as k h.shards r d) (λ form.
+    bad_then (raw_told_in form d >>= own_delta form r >>= sound k h.shards form) (some_told form)
+    (bad_then (raw_told_in form d >>= own_delta form r) (sound k h.shards form)
+    (bad_then (raw_told_in form d) (own_delta form r) (bad_raw form d) (λ t. bad_or (guarded (is_delta_of form r t) t)))
+    (λ t. bad_unless (first_fault k h.shards form t) t))
+    (λ t. fine _))
 
-bad_delta : (k n : ℕ) (r : Replica) (d : Data) → OnlyBad (Option ToldValue) (delta_in k n r d)
+bad_delta : (k : ℕ) (n : Hearer) (r : Replica) (d : Data) → OnlyBad (Option Telling) (delta_in k n r d)
 bad_delta k n r null = fine None
 bad_delta k n r (boolean b) = bad_some k n r (boolean b)
 bad_delta k n r (number x) = bad_some k n r (number x)
@@ -101,28 +112,36 @@ bad_ok (string s) = record { is = tt }
 bad_ok (array ds) = bad_ok_items ds
 bad_ok (object ms) = record { is = tt }
 
-bad_kind : (n : ℕ) (d : Data) (k : Kind) → OnlyBad Line (line_of_kind n d k)
-bad_kind n d kinds_are.Hello = bad_next (four_in d) _ (λ m. bad_next (replica_in m.1 m.2) _ (λ r. bad_next (number_in 1 MAX_SHARDS m.3) _ (λ k. fine _)))
+bad_hello_with : (name incarnation shards : Data) (version : Option ℕ) → OnlyBad Line (hello_with name incarnation shards version)
+bad_hello_with name incarnation shards version = bad_next (replica_in name incarnation) _ (λ r. bad_next (number_in 1 MAX_SHARDS shards) _ (λ k. fine _))
+
+bad_hello : (o : Option Four) (p : Option Five) → OnlyBad Line (hello_of o p)
+bad_hello (Some m) p = bad_hello_with m.1 m.2 m.3 None
+bad_hello None (Some m) = bad_next (count_in m.4) _ (λ v. bad_hello_with m.1 m.2 m.3 (Some v))
+bad_hello None None = record { is = tt }
+
+bad_kind : (n : Hearer) (d : Data) (k : Kind) → OnlyBad Line (line_of_kind n d k)
+bad_kind n d kinds_are.Hello = bad_hello (four_in d) (five_in d)
 bad_kind n d kinds_are.Beat =
     bad_next (six_in d) _ (λ m.
-    bad_then (shard_in n m.1) _ (bad_shard n m.1) (λ k.
+    bad_then (shard_in n.shards m.1) _ (bad_shard n.shards m.1) (λ k.
     bad_next (replica_in m.2 m.3) _ (λ r.
     bad_next (bound_in m.4) _ (λ c.
     bad_then (delta_in k n r m.5) _ (bad_delta k n r m.5) (λ t. fine _)))))
 bad_kind n d kinds_are.Want =
     bad_next (five_in d) _ (λ m.
-    bad_then (shard_in n m.1) _ (bad_shard n m.1) (λ k.
+    bad_then (shard_in n.shards m.1) _ (bad_shard n.shards m.1) (λ k.
     bad_next (replica_in m.2 m.3) _ (λ r.
     bad_next (bound_in m.4) _ (λ c. fine _))))
 bad_kind n d kinds_are.Told =
     bad_next (three_in d) _ (λ m.
-    bad_then (shard_in n m.1) _ (bad_shard n m.1) (λ k.
+    bad_then (shard_in n.shards m.1) _ (bad_shard n.shards m.1) (λ k.
     bad_then (told_in k n m.2) _ (bad_told k n m.2) (λ t. fine _)))
 bad_kind n d kinds_are.PermDown = bad_next (three_in d) _ (λ m. bad_next (replica_in m.1 m.2) _ (λ r. fine _))
 bad_kind n d kinds_are.Gone = bad_next (three_in d) _ (λ m. bad_next (replica_in m.1 m.2) _ (λ r. fine _))
 bad_kind n d kinds_are.Ok = bad_ok d
 
-bad_line : (n : ℕ) (d : Data) → OnlyBad Line (line_in n d)
+bad_line : (n : Hearer) (d : Data) → OnlyBad Line (line_in n d)
 bad_line n d = bad_next (kind_in d) (line_of_kind n d) (λ k. bad_kind n d k)
 
 -- ---- texts
@@ -137,11 +156,11 @@ of_text s (Err BadLine) h = tt
 of_text s (Err (BadTold f)) h = tt
 of_text s (Err _) h = absurd h
 
-found_of_text : (n : ℕ) (s : List ℕ) (o : Option Data) → OfText s (found_value o >>= line_in n)
+found_of_text : (n : Hearer) (s : List ℕ) (o : Option Data) → OfText s (found_value o >>= line_in n)
 found_of_text n s None = tt
 found_of_text n s (Some d) = of_text s (line_in n d) ((bad_line n d).is)
 
-decoded_of_text : (n : ℕ) (s : List ℕ) → OfText s (decoded n s)
+decoded_of_text : (n : Hearer) (s : List ℕ) → OfText s (decoded n s)
 decoded_of_text n s = go (nat_lt MAX_LINE_BYTES (length s)) refl
   where
     go : (b : Bool) → nat_lt MAX_LINE_BYTES (length s) ≡ b → OfText s (cond b (Err LineTooLong) (found_value (read s)) >>= line_in n)
@@ -159,6 +178,6 @@ fault_of_text s ReadFailed r h a = rw a at h
 fault_of_text s WriteFailed r h a = rw a at h
 fault_of_text s CutLine r h a = rw a at h
 
-pub faults_from_answer : (n : ℕ) (s : List ℕ) (r : Result Line LinkFault) → Answers r (decoded n s) → IfErr r (IsTextFault s)
+pub faults_from_answer : (n : Hearer) (s : List ℕ) (r : Result Line LinkFault) → Answers r (decoded n s) → IfErr r (IsTextFault s)
 faults_from_answer n s (Ok line) a = tt
 faults_from_answer n s (Err e) a = fault_of_text s e (decoded n s) (decoded_of_text n s) a

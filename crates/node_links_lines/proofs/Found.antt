@@ -10,7 +10,7 @@ use Rattle.presence_base.specs.declared.dots.Dot.{Dot}
 use Rattle.presence_base.specs.declared.row.Row.{Row}
 use Rattle.presence_base.specs.Names.{is_node_name, guarded}
 use Rattle.orswot_core.specs.Telling.{Range}
-use Rattle.node_links_members.specs.Arrays.{Three, three_items, three_in, Four, four_items, four_in, Five, five_items, five_in, Six, six_items, six_in, Eight, eight_items, eight_in}
+use Rattle.node_links_members.specs.Arrays.{Pair, two_items, two_in, Three, three_items, three_in, Four, four_items, four_in, Five, five_items, five_in, Six, six_items, six_in, Eight, eight_items, eight_in}
 use Rattle.node_links_lines.specs.Limits.{is_from_to, is_counted, is_bound, is_replica, is_told_range, is_told_dot, is_told_prev, is_told_row}
 use Rattle.node_links_members.specs.Members.{◌>>=◌, whole_in, within, number_in, count_in, bound_in, text_in, name_in, replica_in, dot_in}
 use Rattle.node_links_members.specs.Telling.{range_in, extra_in, prev_in, object_in, row_of, row_in, each_in, list_in}
@@ -109,6 +109,23 @@ dot_ok name incarnation count d h =
         rw (← same) (record { name_is = a.name_is; incarnation_is = a.incarnation_is; count_is = b.0; limits = both (is_replica r) (is_counted n) a.limits b.1 })
 
 -- ---- arrays
+
+abbrev pub items_two : Pair → Items
+items_two m = item m.0 (item m.1 no_items)
+
+two_items_ok : (ds : Items) (m : Pair) → two_items ds ≡ Some m → ds ≡ items_two m
+two_items_ok no_items m h = cc
+two_items_ok (item a no_items) m h = cc
+two_items_ok (item a (item b no_items)) m h = let same : (a, b) ≡ m = cc in ap items_two same
+two_items_ok (item a (item b (item c ds))) m h = cc
+
+pub two_ok : (d : Data) (m : Pair) → two_in d ≡ Some m → d ≡ array (items_two m)
+two_ok null m h = cc
+two_ok (boolean b) m h = cc
+two_ok (number n) m h = cc
+two_ok (string s) m h = cc
+two_ok (array ds) m h = ap array (two_items_ok ds m h)
+two_ok (object ms) m h = cc
 
 abbrev pub items_three : Three → Items
 items_three m = item m.0 (item m.1 (item m.2 no_items))

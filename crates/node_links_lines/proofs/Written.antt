@@ -7,11 +7,14 @@ use Rattle.serde_json.specs.Written.{has_float, items_have_float}
 use Rattle.presence_base.specs.declared.dots.Dot.{Dot}
 use Rattle.presence_base.specs.declared.row.Row.{Row}
 use Rattle.presence_base.specs.Metas.{is_plain, is_small_tree, is_meta}
+use Rattle.orswot_core_told.specs.declared.form.Form.{Form}
+use Rattle.orswot_core_told.specs.declared.form.Form.TheVariants.{One, Two}
 use Rattle.orswot_core.specs.Telling.{Range, ToldValue}
+use Rattle.node_links_members.specs.declared.hearer.Telling.{Telling}
 use Rattle.node_links_lines.specs.declared.lines.Line.{Line}
 use Rattle.node_links_lines.specs.declared.lines.Line.TheVariants as lines_are
 use Rattle.node_links_lines.specs.Limits.{are_metas, delta_metas, has_metas}
-use Rattle.node_links_lines.specs.Values.{range_value, dot_value, prev_value, row_value, told_value, delta_value, value_of}
+use Rattle.node_links_lines.specs.Values.{range_value, dot_value, prev_value, row_value, value_in, told_value, delta_value, value_of}
 
 -- no float within, and at most n levels
 record IsTame (n : ℕ) (d : Data) : Type 0 where
@@ -67,8 +70,15 @@ rows_tame (x ∷ xs) h =
     let p = and_parts (is_meta x.1.meta) (are_metas xs) h in
     both_tame 33 (row_value x) (map row_value xs) (row_tame x p.0) (rows_tame xs p.1)
 
-told_tame : (t : ToldValue) → are_metas t.live ≡ true → IsTame 35 (told_value t)
-told_tame t h =
+value_tame : (form : Form) (t : ToldValue) → are_metas t.live ≡ true → IsTame 35 (value_in form t)
+value_tame Two t h =
+    let a = each_tame 33 range_value range_tame t.ranges in
+    let e = rows_tame t.live h in
+    record {
+      whole = rw (a.whole, e.whole) refl;
+      shallow = let x = a.shallow in let z = e.shallow in omega arith;
+    }
+value_tame One t h =
     let a = each_tame 33 range_value range_tame t.ranges in
     let b = each_tame 33 dot_value extra_tame t.extras in
     let e = rows_tame t.live h in
@@ -77,12 +87,16 @@ told_tame t h =
       shallow = let x = a.shallow in let y = b.shallow in let z = e.shallow in omega arith;
     }
 
-delta_tame : (o : Option ToldValue) → delta_metas o ≡ true → IsTame 35 (delta_value o)
+told_tame : (t : Telling) → are_metas t.told.live ≡ true → IsTame 35 (told_value t)
+told_tame t h = value_tame t.form t.told h
+
+delta_tame : (o : Option Telling) → delta_metas o ≡ true → IsTame 35 (delta_value o)
 delta_tame None h = record { whole = refl; shallow = omega arith }
 delta_tame (Some t) h = told_tame t h
 
 line_tame : (line : Line) → has_metas line ≡ true → IsTame 36 (value_of line)
-line_tame (lines_are.Hello r k) h = record { whole = refl; shallow = omega arith }
+line_tame (lines_are.Hello r k None) h = record { whole = refl; shallow = omega arith }
+line_tame (lines_are.Hello r k (Some v)) h = record { whole = refl; shallow = omega arith }
 line_tame (lines_are.Beat k r c t) h = let d = delta_tame t h in record { whole = rw (d.whole) refl; shallow = let a = d.shallow in omega arith }
 line_tame (lines_are.Want k r c) h = record { whole = refl; shallow = omega arith }
 line_tame (lines_are.Told k t) h = let d = told_tame t h in record { whole = rw (d.whole) refl; shallow = let a = d.shallow in omega arith }

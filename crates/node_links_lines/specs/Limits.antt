@@ -1,5 +1,5 @@
 -- The limits of lines.
-use Rattle.std.specs.Prelude.{◌≡◌, ℕ, List, Bool, true, ◌&&◌, nat_le, nat_lt, is_some, is_none, Option, Some, None}
+use Rattle.std.specs.Prelude.{◌≡◌, ℕ, List, Bool, true, false, ◌&&◌, nat_le, nat_lt, nat_eq, length, is_some, is_none, Option, Some, None}
 use Rattle.std.specs.List.{list_all}
 use Rattle.serde_json.specs.Find.{as_object}
 use Rattle.presence_base.specs.declared.dots.TheConstants.{MAX_COUNT}
@@ -9,11 +9,15 @@ use Rattle.presence_base.specs.declared.row.Row.{Row}
 use Rattle.presence_base.specs.Names.{is_node_name}
 use Rattle.presence_base.specs.Metas.{is_meta}
 use Rattle.orswot_core.specs.Telling.{Range, ToldValue}
+use Rattle.orswot_core_told.specs.declared.form.Form.{Form}
+use Rattle.orswot_core_told.specs.declared.form.Form.TheVariants.{One, Two}
 use Rattle.orswot_core.specs.Checks.{first_fault}
 use Rattle.node_links_lines.specs.declared.lines.Line.{Line}
 use Rattle.node_links_lines.specs.declared.lines.Line.TheVariants as lines_are
 use Rattle.presence_base.specs.declared.names.TheConstants.{MAX_SHARDS}
 use Rattle.node_links_lines.specs.declared.lines.TheConstants.{MAX_LINE_BYTES}
+use Rattle.node_links_members.specs.declared.hearer.Hearer.{Hearer}
+use Rattle.node_links_members.specs.declared.hearer.Telling.{Telling}
 use Rattle.node_links_members.specs.Told.{is_delta_of}
 
 -- the limits, which the other definitions cite by their names
@@ -51,33 +55,49 @@ is_told_row x = is_told_dot x.0 && (is_some (as_object x.1.meta) && is_told_prev
 abbrev pub is_told : ToldValue → Bool
 is_told t = list_all is_told_range t.ranges && (list_all is_told_dot t.extras && list_all is_told_row t.live)
 
--- and nothing is wrong with it for this one of n shards
-abbrev pub is_sound : ℕ → ℕ → ToldValue → Bool
-is_sound k n t = is_told t && is_none (first_fault k n t)
+-- the second form has no extras
+abbrev pub has_form : Form → ToldValue → Bool
+has_form One t = true
+has_form Two t = nat_eq (length t.extras) 0
 
-abbrev pub is_delta : ℕ → ℕ → Replica → Option ToldValue → Bool
-is_delta k n r None = true
-is_delta k n r (Some t) = is_delta_of r t && is_sound k n t
+-- this is the form in which the hearer is told
+abbrev pub is_form : Option Form → Form → Bool
+is_form (Some One) One = true
+is_form (Some Two) Two = true
+is_form _ _ = false
 
--- a line that may come to a node with n shards
-abbrev pub is_within : ℕ → Line → Bool
-is_within n (lines_are.Hello r k) = is_replica r && is_from_to 1 MAX_SHARDS k
-is_within n (lines_are.Beat k r c t) = nat_lt k n && (is_replica r && (is_bound c && is_delta k n r t))
-is_within n (lines_are.Want k r c) = nat_lt k n && (is_replica r && is_bound c)
-is_within n (lines_are.Told k t) = nat_lt k n && is_sound k n t
-is_within n (lines_are.PermDown r) = is_replica r
-is_within n (lines_are.Gone r) = is_replica r
-is_within n lines_are.Ok = true
+-- it is told in the hearer's form, and nothing is wrong with it for this one of the hearer's shards
+abbrev pub is_sound : ℕ → Hearer → Telling → Bool
+is_sound k h t = is_form h.form t.form
+    && (has_form t.form t.told && (is_told t.told && is_none (first_fault k h.shards t.form t.told)))
+
+abbrev pub is_delta : ℕ → Hearer → Replica → Option Telling → Bool
+is_delta k h r None = true
+is_delta k h r (Some t) = is_delta_of t.form r t.told && is_sound k h t
+
+abbrev pub is_version : Option ℕ → Bool
+is_version None = true
+is_version (Some v) = is_counted v
+
+-- a line that may come to this hearer
+abbrev pub is_within : Hearer → Line → Bool
+is_within h (lines_are.Hello r k v) = is_replica r && (is_from_to 1 MAX_SHARDS k && is_version v)
+is_within h (lines_are.Beat k r c t) = nat_lt k h.shards && (is_replica r && (is_bound c && is_delta k h r t))
+is_within h (lines_are.Want k r c) = nat_lt k h.shards && (is_replica r && is_bound c)
+is_within h (lines_are.Told k t) = nat_lt k h.shards && is_sound k h t
+is_within h (lines_are.PermDown r) = is_replica r
+is_within h (lines_are.Gone r) = is_replica r
+is_within h lines_are.Ok = true
 
 -- the metas of what a line tells are within their limits
 abbrev pub are_metas : List (Dot × Row) → Bool
 are_metas rows = list_all (λ x. is_meta x.1.meta) rows
 
-abbrev pub delta_metas : Option ToldValue → Bool
+abbrev pub delta_metas : Option Telling → Bool
 delta_metas None = true
-delta_metas (Some t) = are_metas t.live
+delta_metas (Some t) = are_metas t.told.live
 
 abbrev pub has_metas : Line → Bool
 has_metas (lines_are.Beat k r c t) = delta_metas t
-has_metas (lines_are.Told k t) = are_metas t.live
+has_metas (lines_are.Told k t) = are_metas t.told.live
 has_metas _ = true

@@ -11,10 +11,11 @@ use Rattle.presence_base.specs.declared.names.TheConstants.{MAX_SHARDS}
 use Rattle.node_links_lines.specs.declared.lines.TheConstants.{MAX_LINE_BYTES}
 use Rattle.node_links_lines.specs.declared.kinds.Kind.{Kind}
 use Rattle.node_links_lines.specs.declared.kinds.Kind.TheVariants as kinds_are
-use Rattle.node_links_members.specs.Arrays.{three_in, four_in, five_in, six_in}
+use Rattle.node_links_members.specs.declared.hearer.Hearer.{Hearer}
+use Rattle.node_links_members.specs.Arrays.{three_in, Four, four_in, Five, five_in, six_in}
 use Rattle.node_links_lines.specs.Limits.{is_within}
 use Rattle.node_links_lines.specs.Kinds.{kind_in}
-use Rattle.node_links_members.specs.Members.{whole_in, number_in, bound_in, replica_in}
+use Rattle.node_links_members.specs.Members.{whole_in, number_in, count_in, bound_in, replica_in}
 use Rattle.node_links_members.specs.Results.{◌>>=◌, or_bad}
 use Rattle.node_links_members.specs.Told.{told_in, delta_in}
 use Rattle.node_links_lines.specs.Values.{value_of}
@@ -23,25 +24,37 @@ use Rattle.node_links_lines.specs.Values.{value_of}
 abbrev pub below : ℕ → ℕ → Option ℕ
 below n k = guarded (nat_lt k n) k
 
+abbrev pub hello_with : Data → Data → Data → Option ℕ → Result Line LinkFault
+hello_with name incarnation shards version = do
+  replica ← or_bad (replica_in name incarnation)
+  n ← or_bad (number_in 1 MAX_SHARDS shards)
+  Ok (lines_are.Hello replica n version)
+
+-- the fifth member is the version
+abbrev pub hello_of_five : Option Five → Result Line LinkFault
+hello_of_five None = Err BadLine
+hello_of_five (Some m) = or_bad (count_in m.4) >>= (λ v. hello_with m.1 m.2 m.3 (Some v))
+
+abbrev pub hello_of : Option Four → Option Five → Result Line LinkFault
+hello_of (Some m) five = hello_with m.1 m.2 m.3 None
+hello_of None five = hello_of_five five
+
+-- four members, or five
 abbrev pub hello_in : Data → Result Line LinkFault
-hello_in d = do
-  m ← or_bad (four_in d)
-  replica ← or_bad (replica_in m.1 m.2)
-  shards ← or_bad (number_in 1 MAX_SHARDS m.3)
-  Ok (lines_are.Hello replica shards)
+hello_in d = hello_of (four_in d) (five_in d)
 
 abbrev pub shard_in : ℕ → Data → Result ℕ LinkFault
 shard_in n d = do
   k ← or_bad (whole_in d)
   or_bad (below n k)
 
-abbrev pub beat_in : ℕ → Data → Result Line LinkFault
-beat_in n d = do
+abbrev pub beat_in : Hearer → Data → Result Line LinkFault
+beat_in h d = do
   m ← or_bad (six_in d)
-  shard ← shard_in n m.1
+  shard ← shard_in h.shards m.1
   replica ← or_bad (replica_in m.2 m.3)
   count ← or_bad (bound_in m.4)
-  delta ← delta_in shard n replica m.5
+  delta ← delta_in shard h replica m.5
   Ok (lines_are.Beat shard replica count delta)
 
 abbrev pub want_in : ℕ → Data → Result Line LinkFault
@@ -52,11 +65,11 @@ want_in n d = do
   top ← or_bad (bound_in m.4)
   Ok (lines_are.Want shard replica top)
 
-abbrev pub told_line_in : ℕ → Data → Result Line LinkFault
-told_line_in n d = do
+abbrev pub told_line_in : Hearer → Data → Result Line LinkFault
+told_line_in h d = do
   m ← or_bad (three_in d)
-  shard ← shard_in n m.1
-  told ← told_in shard n m.2
+  shard ← shard_in h.shards m.1
+  told ← told_in shard h m.2
   Ok (lines_are.Told shard told)
 
 abbrev pub permdown_in : Data → Result Line LinkFault
@@ -80,18 +93,18 @@ abbrev pub ok_in : Data → Result Line LinkFault
 ok_in (array ds) = ok_items ds
 ok_in _ = Err BadLine
 
-abbrev pub line_of_kind : ℕ → Data → Kind → Result Line LinkFault
-line_of_kind n d kinds_are.Hello = hello_in d
-line_of_kind n d kinds_are.Beat = beat_in n d
-line_of_kind n d kinds_are.Want = want_in n d
-line_of_kind n d kinds_are.Told = told_line_in n d
-line_of_kind n d kinds_are.PermDown = permdown_in d
-line_of_kind n d kinds_are.Gone = gone_in d
-line_of_kind n d kinds_are.Ok = ok_in d
+abbrev pub line_of_kind : Hearer → Data → Kind → Result Line LinkFault
+line_of_kind h d kinds_are.Hello = hello_in d
+line_of_kind h d kinds_are.Beat = beat_in h d
+line_of_kind h d kinds_are.Want = want_in h.shards d
+line_of_kind h d kinds_are.Told = told_line_in h d
+line_of_kind h d kinds_are.PermDown = permdown_in d
+line_of_kind h d kinds_are.Gone = gone_in d
+line_of_kind h d kinds_are.Ok = ok_in d
 
--- the line that a JSON value is, at a node with n shards
-abbrev pub line_in : ℕ → Data → Result Line LinkFault
-line_in n d = or_bad (kind_in d) >>= line_of_kind n d
+-- the line that a JSON value is to a hearer
+abbrev pub line_in : Hearer → Data → Result Line LinkFault
+line_in h d = or_bad (kind_in d) >>= line_of_kind h d
 
 abbrev pub found_value : Option Data → Result Data LinkFault
 found_value None = Err NotJson
@@ -109,12 +122,12 @@ IsTextFault s (BadTold f) = Unit {0}
 IsTextFault s OutOfMemory = Unit {0}
 IsTextFault s _ = ⊥
 
--- the line that a text is, at a node with n shards
-abbrev pub decoded : ℕ → List ℕ → Result Line LinkFault
-decoded n s = value_in s >>= line_in n
+-- the line that a text is to a hearer
+abbrev pub decoded : Hearer → List ℕ → Result Line LinkFault
+decoded h s = value_in s >>= line_in h
 
--- the text is the line's, which may come to a node with n shards
-pub record IsLine (n : ℕ) (s : List ℕ) (line : Line) : Type 0 where
-  pub within : is_within n line ≡ true
+-- the text is the line's, which may come to this hearer
+pub record IsLine (h : Hearer) (s : List ℕ) (line : Line) : Type 0 where
+  pub within : is_within h line ≡ true
   pub short : length s ≤ MAX_LINE_BYTES
   pub reads : read s ≡ Some (value_of line)

@@ -4,7 +4,10 @@ use Rattle.serde_json.specs.Data.{unsigned, Data, null, number, string, array}
 use Rattle.serde_json.specs.View.{items_of}
 use Rattle.presence_base.specs.declared.dots.Dot.{Dot}
 use Rattle.presence_base.specs.declared.row.Row.{Row}
+use Rattle.orswot_core_told.specs.declared.form.Form.{Form}
+use Rattle.orswot_core_told.specs.declared.form.Form.TheVariants.{One, Two}
 use Rattle.orswot_core.specs.Telling.{Range, ToldValue}
+use Rattle.node_links_members.specs.declared.hearer.Telling.{Telling}
 use Rattle.node_links_lines.specs.declared.lines.Line.{Line}
 use Rattle.node_links_lines.specs.declared.lines.Line.TheVariants as lines_are
 
@@ -28,18 +31,28 @@ abbrev pub row_value : Dot × Row → Data
 row_value x = array_of (string x.0.replica.name ∷ whole x.0.replica.incarnation ∷ whole x.0.count
     ∷ string x.1.topic ∷ string x.1.key ∷ whole x.1.pid ∷ x.1.meta ∷ prev_value x.1.prev ∷ [])
 
--- three lists: ranges, extras, live rows
-abbrev pub told_value : ToldValue → Data
-told_value t = array_of
+-- in the first form three lists, ranges, extras and live rows; in the second two, ranges and live rows
+abbrev pub value_in : Form → ToldValue → Data
+value_in One t = array_of
     (array_of (map range_value t.ranges) ∷ array_of (map dot_value t.extras) ∷ array_of (map row_value t.live) ∷ [])
+value_in Two t = array_of (array_of (map range_value t.ranges) ∷ array_of (map row_value t.live) ∷ [])
 
-abbrev pub delta_value : Option ToldValue → Data
+abbrev pub told_value : Telling → Data
+told_value t = value_in t.form t.told
+
+abbrev pub delta_value : Option Telling → Data
 delta_value None = null
 delta_value (Some t) = told_value t
 
+-- the version is the last member, where it is told
+abbrev pub version_values : Option ℕ → List Data
+version_values None = []
+version_values (Some v) = whole v ∷ []
+
 -- an array whose first member names the line's kind
 abbrev pub value_of : Line → Data
-value_of (lines_are.Hello r n) = array_of (string (codes "hello") ∷ string r.name ∷ whole r.incarnation ∷ whole n ∷ [])
+value_of (lines_are.Hello r n v) =
+    array_of (string (codes "hello") ∷ string r.name ∷ whole r.incarnation ∷ whole n ∷ version_values v)
 value_of (lines_are.Beat k r n t) =
     array_of (string (codes "beat") ∷ whole k ∷ string r.name ∷ whole r.incarnation ∷ whole n ∷ delta_value t ∷ [])
 value_of (lines_are.Want k r n) =

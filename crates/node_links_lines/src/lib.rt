@@ -16,6 +16,6 @@ mod texts;
 mod values;
 
 pub use lines::{Line, MAX_LINE_BYTES};
-pub use node_links_members::LinkFault;
+pub use node_links_members::{Hearer, LinkFault, Telling};
 pub use presence_base::MAX_SHARDS;
 pub use texts::{decode_line, encode_line};

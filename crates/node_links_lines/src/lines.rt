@@ -1,4 +1,4 @@
-use orswot_core::Told;
+use node_links_members::Telling;
 use presence_base::Replica;
 
 /// The longest line without its line feed, in bytes.
@@ -10,17 +10,18 @@ pub const MAX_LINE_BYTES: usize = 4_194_304;
 /// shard's rows has been checked.
 #[derive(Drop)]
 pub enum Line {
-    /// Who speaks, and over how many shards its rows lie.
+    /// Who speaks, over how many shards its rows lie, and up to which version it speaks; where that isn't told, the first.
     Hello {
         replica: Replica,
         shards: u32,
+        version: Option<u64>,
     },
     /// The replica is alive, and has used so many counts of the shard. What is new may come along.
     Beat {
         shard: u32,
         replica: Replica,
         count: u64,
-        delta: Option<Told>,
+        delta: Option<Telling>,
     },
     /// Up to which count the hearer covers the replica's dots, when that isn't all.
     Want {
@@ -31,7 +32,7 @@ pub enum Line {
     /// What is told of a shard.
     Told {
         shard: u32,
-        told: Told,
+        told: Telling,
     },
     /// The replica has ended.
     PermDown {

@@ -1,16 +1,16 @@
 // The lines, read from JSON values.
 ghost use Rattle.std.specs.Prelude.{◌≡◌, ◌≤◌};
 ghost use Rattle.serde_json.specs.View.{view, items_view};
-ghost use Rattle.node_links_lines.specs.Reading.{shard_in, hello_in, beat_in, want_in, told_line_in, permdown_in, gone_in, ok_items, ok_in, line_of_kind, line_in};
+ghost use Rattle.node_links_lines.specs.Reading.{shard_in, hello_with as with_version, hello_in, beat_in, want_in, told_line_in, permdown_in, gone_in, ok_items, ok_in, line_of_kind, line_in};
 ghost use Rattle.node_links_members.specs.Results.{Answers, or_bad as found_or_bad};
 
 use crate::kinds::{Kind, kind_of};
 use crate::lines::Line;
 use node_links_members::{
-    LinkFault, bound_of, delta_of, five_of, four_of, number_of, replica_of, take_six, take_three,
-    three_of, told_of, whole_of,
+    Hearer, LinkFault, bound_of, delta_of, five_of, four_of, number_of, replica_of, take_six,
+    take_three, three_of, told_of, whole_of,
 };
-use presence_base::MAX_SHARDS;
+use presence_base::{MAX_COUNT, MAX_SHARDS};
 use serde_json::Value;
 use std::alloc::Global;
 
@@ -40,31 +40,48 @@ fn or_bad<T>(found: Option<T>) -> Result<T, LinkFault>
     }
 }
 
-fn hello_of(alloc: Global, value: &Value) -> Result<Line, LinkFault>
-    ensures { Answers result (hello_in (view value.now)) }
+fn hello_with(
+    alloc: Global,
+    name: &Value,
+    incarnation: &Value,
+    shards: &Value,
+    version: Option<u64>,
+) -> Result<Line, LinkFault>
+    ensures { Answers result (with_version (view name.now) (view incarnation.now) (view shards.now) version) }
 {
-    let Some((_, name, incarnation, shards)) = four_of(value) else {
-        return Err(LinkFault::BadLine);
-    };
     let replica = or_bad(replica_of(alloc, name, incarnation))?;
     let shards = or_bad(number_of(shards, 1, MAX_SHARDS as u64))?;
     Ok(Line::Hello {
         replica,
         shards: shards as u32,
+        version,
     })
 }
 
-fn beat_of(alloc: Global, value: Value, shards: u32) -> Result<Line, LinkFault>
-    requires { 1 ≤ shards }
-    ensures { Answers result (beat_in shards (view value)) }
+fn hello_of(alloc: Global, value: &Value) -> Result<Line, LinkFault>
+    ensures { Answers result (hello_in (view value.now)) }
+{
+    if let Some((_, name, incarnation, shards)) = four_of(value) {
+        return hello_with(alloc, name, incarnation, shards, None);
+    }
+    let Some((_, name, incarnation, shards, version)) = five_of(value) else {
+        return Err(LinkFault::BadLine);
+    };
+    let version = or_bad(number_of(version, 1, MAX_COUNT))?;
+    hello_with(alloc, name, incarnation, shards, Some(version))
+}
+
+fn beat_of(alloc: Global, value: Value, hearer: Hearer) -> Result<Line, LinkFault>
+    requires { 1 ≤ hearer.shards }
+    ensures { Answers result (beat_in hearer (view value)) }
 {
     let Some((_, shard, name, incarnation, count, delta)) = take_six(value) else {
         return Err(LinkFault::BadLine);
     };
-    let shard = shard_of(&shard, shards)?;
+    let shard = shard_of(&shard, hearer.shards)?;
     let replica = or_bad(replica_of(alloc, &name, &incarnation))?;
     let count = or_bad(bound_of(&count))?;
-    let delta = delta_of(alloc, delta, shard, shards, &replica)?;
+    let delta = delta_of(alloc, delta, shard, hearer, &replica)?;
     Ok(Line::Beat {
         shard,
         replica,
@@ -89,15 +106,15 @@ fn want_of(alloc: Global, value: &Value, shards: u32) -> Result<Line, LinkFault>
     })
 }
 
-fn told_line_of(alloc: Global, value: Value, shards: u32) -> Result<Line, LinkFault>
-    requires { 1 ≤ shards }
-    ensures { Answers result (told_line_in shards (view value)) }
+fn told_line_of(alloc: Global, value: Value, hearer: Hearer) -> Result<Line, LinkFault>
+    requires { 1 ≤ hearer.shards }
+    ensures { Answers result (told_line_in hearer (view value)) }
 {
     let Some((_, shard, told)) = take_three(value) else {
         return Err(LinkFault::BadLine);
     };
-    let shard = shard_of(&shard, shards)?;
-    let told = told_of(alloc, told, shard, shards)?;
+    let shard = shard_of(&shard, hearer.shards)?;
+    let told = told_of(alloc, told, shard, hearer)?;
     Ok(Line::Told { shard, told })
 }
 
@@ -140,15 +157,15 @@ fn ok_of(value: &Value) -> Result<Line, LinkFault>
 }
 
 // The line of this kind that the value is.
-fn line_of(alloc: Global, kind: Kind, value: Value, shards: u32) -> Result<Line, LinkFault>
-    requires { 1 ≤ shards }
-    ensures { Answers result (line_of_kind shards (view value) kind) }
+fn line_of(alloc: Global, kind: Kind, value: Value, hearer: Hearer) -> Result<Line, LinkFault>
+    requires { 1 ≤ hearer.shards }
+    ensures { Answers result (line_of_kind hearer (view value) kind) }
 {
     match kind {
         Kind::Hello => hello_of(alloc, &value),
-        Kind::Beat => beat_of(alloc, value, shards),
-        Kind::Want => want_of(alloc, &value, shards),
-        Kind::Told => told_line_of(alloc, value, shards),
+        Kind::Beat => beat_of(alloc, value, hearer),
+        Kind::Want => want_of(alloc, &value, hearer.shards),
+        Kind::Told => told_line_of(alloc, value, hearer),
         Kind::PermDown => permdown_of(alloc, &value),
         Kind::Gone => gone_of(alloc, &value),
         Kind::Ok => ok_of(&value),
@@ -156,10 +173,10 @@ fn line_of(alloc: Global, kind: Kind, value: Value, shards: u32) -> Result<Line,
 }
 
 // The line that the value is.
-pub(crate) fn line_of_value(alloc: Global, value: Value, shards: u32) -> Result<Line, LinkFault>
-    requires { 1 ≤ shards }
-    ensures { Answers result (line_in shards (view value)) }
+pub(crate) fn line_of_value(alloc: Global, value: Value, hearer: Hearer) -> Result<Line, LinkFault>
+    requires { 1 ≤ hearer.shards }
+    ensures { Answers result (line_in hearer (view value)) }
 {
     let kind = or_bad(kind_of(&value))?;
-    line_of(alloc, kind, value, shards)
+    line_of(alloc, kind, value, hearer)
 }

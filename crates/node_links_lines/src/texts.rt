@@ -2,6 +2,7 @@ ghost use Rattle.std.specs.Prelude.{◌≡◌, ◌≤◌, ◌<◌, ℕ, length, 
 ghost use Rattle.serde_json.specs.Read.{read};
 ghost use Rattle.serde_json.specs.View.{view};
 ghost use Rattle.node_links_lines.specs.declared.lines.Line.{Line as LineValue};
+ghost use Rattle.node_links_members.specs.declared.hearer.Hearer.{Hearer as HearerValue};
 ghost use Rattle.node_links_members.specs.declared.fault.LinkFault.TheVariants.{LineTooLong};
 ghost use Rattle.node_links_lines.specs.declared.lines.TheConstants.{MAX_LINE_BYTES};
 ghost use Rattle.node_links_lines.specs.Limits.{is_within};
@@ -13,7 +14,7 @@ ghost use Rattle.node_links_lines.specs.Writing.{text_of, encoded};
 use crate::lines::{Line, MAX_LINE_BYTES};
 use crate::reading::line_of_value;
 use crate::values::value_of_line;
-use node_links_members::LinkFault;
+use node_links_members::{Hearer, LinkFault};
 use serde_json::{Category, Value};
 use std::alloc::{AllocError, Global};
 
@@ -36,26 +37,27 @@ fn value_of_text(alloc: Global, text: &str) -> Result<Value, LinkFault>
     }
 }
 
-fn decode_exactly(alloc: Global, text: &str, shards: u32) -> Result<Line, LinkFault>
-    requires { 1 ≤ shards }
-    ensures exact { Answers result (decoded shards text.now) }
+fn decode_exactly(alloc: Global, text: &str, hearer: Hearer) -> Result<Line, LinkFault>
+    requires { 1 ≤ hearer.shards }
+    ensures exact { Answers result (decoded hearer text.now) }
     ensures long { MAX_LINE_BYTES < length text.now → result ≡ Err LineTooLong }
 {
     let value = value_of_text(alloc, text)?;
-    line_of_value(alloc, value, shards)
+    line_of_value(alloc, value, hearer)
 }
 
-/// The line that a text is at a node with `shards` shards, or the first thing that is wrong with
-/// the text. Want of memory is answered in place of any answer, but of a text that is too long.
-pub fn decode_line(alloc: Global, text: &str, shards: u32) -> Result<Line, LinkFault>
-    requires { 1 ≤ shards }
-    ensures found { IfOk result (IsLine shards text.now) }
-    ensures only { (line : LineValue) → IsLine shards text.now line → Answers result (Ok line) }
-    ensures exact { Answers result (decoded shards text.now) }
+/// The line that a text is to a hearer, or the first thing that is wrong with the text. What is told in another form than
+/// the hearer's is a bad line, whatever is wrong with it. Want of memory is answered in place of any answer, but of a text
+/// that is too long.
+pub fn decode_line(alloc: Global, text: &str, hearer: Hearer) -> Result<Line, LinkFault>
+    requires { 1 ≤ hearer.shards }
+    ensures found { IfOk result (IsLine hearer text.now) }
+    ensures only { (line : LineValue) → IsLine hearer text.now line → Answers result (Ok line) }
+    ensures exact { Answers result (decoded hearer text.now) }
     ensures long { MAX_LINE_BYTES < length text.now → result ≡ Err LineTooLong }
     ensures faults { IfErr result (IsTextFault text.now) }
 {
-    decode_exactly(alloc, text, shards)
+    decode_exactly(alloc, text, hearer)
 }
 
 // The text of a line, however long.
@@ -71,8 +73,8 @@ fn text_of_line(alloc: Global, line: &Line) -> Result<String, AllocError>
 /// a line that `decode_line` would refuse is written too.
 pub fn encode_line(alloc: Global, line: &Line) -> Result<String, LinkFault>
     ensures exact { Gives string_bytes result (encoded line.now) }
-    ensures again { IfOk result (λ s. (n : ℕ) → is_within n line.now ≡ true
-        → decoded n (string_bytes s) ≡ Ok line.now) }
+    ensures again { IfOk result (λ s. (h : HearerValue) → is_within h line.now ≡ true
+        → decoded h (string_bytes s) ≡ Ok line.now) }
 {
     let Ok(text) = text_of_line(alloc, line) else {
         return Err(LinkFault::OutOfMemory);

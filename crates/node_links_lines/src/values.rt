@@ -1,13 +1,15 @@
 // The JSON values that lines are written as.
 ghost use Rattle.std.specs.Prelude.{◌≡◌, map, true, IfOk};
 ghost use Rattle.serde_json.specs.View.{view};
+ghost use Rattle.orswot_core_told.specs.declared.form.Form.TheVariants.{One, Two};
 ghost use Rattle.presence_base.specs.Metas.{is_meta};
 ghost use Rattle.node_links_lines.specs.declared.lines.Line.TheVariants as lines_are;
 ghost use Rattle.node_links_lines.specs.Limits.{are_metas, delta_metas, has_metas};
-ghost use Rattle.node_links_lines.specs.Values.{array_of, range_value, dot_value, prev_value, row_value, told_value, delta_value, value_of};
+ghost use Rattle.node_links_lines.specs.Values.{array_of, range_value, dot_value, prev_value, row_value, value_in, told_value, delta_value, value_of};
 
 use crate::lines::Line;
-use orswot_core::Told;
+use node_links_members::Telling;
+use orswot_core::{Form, Told};
 use presence_base::{Dot, Replica, Row};
 use serde_json::{Value, json};
 use std::alloc::{AllocError, Global};
@@ -86,8 +88,8 @@ fn values_of_rows(alloc: Global, rows: &[(Dot, Row)]) -> Result<Vec<Value>, Allo
     Ok(values)
 }
 
-fn value_of_told(alloc: Global, told: &Told) -> Result<Value, AllocError>
-    ensures value { IfOk result (λ v. view v ≡ told_value told.now) }
+fn value_with_extras(alloc: Global, told: &Told) -> Result<Value, AllocError>
+    ensures value { IfOk result (λ v. view v ≡ value_in One told.now) }
     ensures metas { IfOk result (λ v. are_metas told.now.live ≡ true) }
 {
     let ranges = Value::Array(values_of_ranges(alloc, told.ranges())?);
@@ -96,7 +98,26 @@ fn value_of_told(alloc: Global, told: &Told) -> Result<Value, AllocError>
     json!(in alloc; [ranges, extras, live])
 }
 
-fn value_of_delta(alloc: Global, delta: &Option<Told>) -> Result<Value, AllocError>
+fn value_in_ranges(alloc: Global, told: &Told) -> Result<Value, AllocError>
+    ensures value { IfOk result (λ v. view v ≡ value_in Two told.now) }
+    ensures metas { IfOk result (λ v. are_metas told.now.live ≡ true) }
+{
+    let ranges = Value::Array(values_of_ranges(alloc, told.ranges())?);
+    let live = Value::Array(values_of_rows(alloc, told.live())?);
+    json!(in alloc; [ranges, live])
+}
+
+fn value_of_told(alloc: Global, telling: &Telling) -> Result<Value, AllocError>
+    ensures value { IfOk result (λ v. view v ≡ told_value telling.now) }
+    ensures metas { IfOk result (λ v. are_metas telling.now.told.live ≡ true) }
+{
+    match telling.form {
+        Form::One => value_with_extras(alloc, &telling.told),
+        Form::Two => value_in_ranges(alloc, &telling.told),
+    }
+}
+
+fn value_of_delta(alloc: Global, delta: &Option<Telling>) -> Result<Value, AllocError>
     ensures value { IfOk result (λ v. view v ≡ delta_value delta.now) }
     ensures metas { IfOk result (λ v. delta_metas delta.now ≡ true) }
 {
@@ -111,7 +132,7 @@ fn value_of_beat(
     shard: u32,
     replica: &Replica,
     count: u64,
-    delta: &Option<Told>,
+    delta: &Option<Telling>,
 ) -> Result<Value, AllocError>
     ensures value { IfOk result (λ v. view v ≡ value_of (lines_are.Beat shard replica.now count delta.now)) }
     ensures metas { IfOk result (λ v. delta_metas delta.now ≡ true) }
@@ -135,20 +156,28 @@ fn value_of_want(
     json!(in alloc; ["want", shard, name, incarnation, top])
 }
 
-fn value_of_told_line(alloc: Global, shard: u32, told: &Told) -> Result<Value, AllocError>
+fn value_of_told_line(alloc: Global, shard: u32, told: &Telling) -> Result<Value, AllocError>
     ensures value { IfOk result (λ v. view v ≡ value_of (lines_are.Told shard told.now)) }
-    ensures metas { IfOk result (λ v. are_metas told.now.live ≡ true) }
+    ensures metas { IfOk result (λ v. are_metas told.now.told.live ≡ true) }
 {
     let told = value_of_told(alloc, told)?;
     json!(in alloc; ["told", shard, told])
 }
 
-fn value_of_hello(alloc: Global, replica: &Replica, shards: u32) -> Result<Value, AllocError>
-    ensures { IfOk result (λ v. view v ≡ value_of (lines_are.Hello replica.now shards)) }
+fn value_of_hello(
+    alloc: Global,
+    replica: &Replica,
+    shards: u32,
+    version: Option<u64>,
+) -> Result<Value, AllocError>
+    ensures { IfOk result (λ v. view v ≡ value_of (lines_are.Hello replica.now shards version)) }
 {
     let name = replica.name.as_str();
     let incarnation = replica.incarnation;
-    json!(in alloc; ["hello", name, incarnation, shards])
+    match version {
+        Some(version) => json!(in alloc; ["hello", name, incarnation, shards, version]),
+        None => json!(in alloc; ["hello", name, incarnation, shards]),
+    }
 }
 
 fn value_of_permdown(alloc: Global, replica: &Replica) -> Result<Value, AllocError>
@@ -173,7 +202,11 @@ pub(crate) fn value_of_line(alloc: Global, line: &Line) -> Result<Value, AllocEr
     ensures metas { IfOk result (λ v. has_metas line.now ≡ true) }
 {
     match line {
-        Line::Hello { replica, shards } => value_of_hello(alloc, replica, *shards),
+        Line::Hello {
+            replica,
+            shards,
+            version,
+        } => value_of_hello(alloc, replica, *shards, *version),
         Line::Beat {
             shard,
             replica,

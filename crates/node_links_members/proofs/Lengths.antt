@@ -2,7 +2,13 @@
 use Rattle.std.proofs.Common.{◌≡◌, ◌≢◌, [], ◌∷◌, List, length, None, refl}
 use Rattle.serde_json.specs.View.{items_view}
 use Rattle.serde_json.specs.declared.value.Value.{Value}
-use Rattle.node_links_members.specs.Arrays.{three_items, four_items, five_items, six_items, eight_items}
+use Rattle.node_links_members.specs.Arrays.{two_items, three_items, four_items, five_items, six_items, eight_items}
+
+pub not_two : (vs : List Value) → length vs ≢ 2 → None ≡ two_items (items_view vs)
+not_two [] h = refl
+not_two (a ∷ []) h = refl
+not_two (a ∷ b ∷ []) h = absurd (h refl)
+not_two (a ∷ b ∷ c ∷ vs) h = refl
 
 pub not_three : (vs : List Value) → length vs ≢ 3 → None ≡ three_items (items_view vs)
 not_three [] h = refl

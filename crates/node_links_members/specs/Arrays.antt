@@ -2,6 +2,17 @@
 use Rattle.std.specs.Prelude.{Option, Some, None}
 use Rattle.serde_json.specs.Data.{Data, array, Items, no_items, item}
 
+abbrev pub Pair : Type 0
+Pair = Data × Data
+
+abbrev pub two_items : Items → Option Pair
+two_items (item a (item b no_items)) = Some (a, b)
+two_items _ = None
+
+abbrev pub two_in : Data → Option Pair
+two_in (array ds) = two_items ds
+two_in _ = None
+
 abbrev pub Three : Type 0
 Three = Data × Data × Data
 

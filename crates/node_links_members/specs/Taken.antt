@@ -2,7 +2,7 @@
 use Rattle.std.specs.Borrow.{Bor}
 use Rattle.serde_json.specs.View.{view}
 use Rattle.serde_json.specs.declared.value.Value.{Value}
-use Rattle.node_links_members.specs.Arrays.{Three, Four, Five, Six, Eight}
+use Rattle.node_links_members.specs.Arrays.{Pair, Three, Four, Five, Six, Eight}
 use Rattle.node_links_members.specs.declared.arrays.RowMembers.{RowMembers}
 
 abbrev pub lent_three : Bor Value × Bor Value × Bor Value → Three
@@ -13,6 +13,9 @@ lent_four m = (view m.0.now, view m.1.now, view m.2.now, view m.3.now)
 
 abbrev pub lent_five : Bor Value × Bor Value × Bor Value × Bor Value × Bor Value → Five
 lent_five m = (view m.0.now, view m.1.now, view m.2.now, view m.3.now, view m.4.now)
+
+abbrev pub taken_two : Value × Value → Pair
+taken_two m = (view m.0, view m.1)
 
 abbrev pub taken_three : Value × Value × Value → Three
 taken_three m = (view m.0, view m.1, view m.2)

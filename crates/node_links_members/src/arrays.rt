@@ -1,8 +1,8 @@
 // The members of arrays of just so many: lent, or taken out.
 ghost use Rattle.std.specs.Prelude.{◌≡◌, option_map};
 ghost use Rattle.serde_json.specs.View.{view, items_view};
-ghost use Rattle.node_links_members.specs.Taken.{lent_three, lent_four, lent_five, taken_three, taken_six, taken_row};
-ghost use Rattle.node_links_members.specs.Arrays.{three_items, three_in, four_items, four_in, five_items, five_in, six_items, six_in, eight_items, eight_in};
+ghost use Rattle.node_links_members.specs.Taken.{lent_three, lent_four, lent_five, taken_two, taken_three, taken_six, taken_row};
+ghost use Rattle.node_links_members.specs.Arrays.{two_items, two_in, three_items, three_in, four_items, four_in, five_items, five_in, six_items, six_in, eight_items, eight_in};
 
 use serde_json::Value;
 
@@ -56,6 +56,26 @@ pub fn five_of(value: &Value) -> Option<(&Value, &Value, &Value, &Value, &Value)
 {
     match value {
         Value::Array(items) => five_of_items(items),
+        _ => None,
+    }
+}
+
+fn take_two_items(mut items: Vec<Value>) -> Option<(Value, Value)>
+    ensures { option_map taken_two result ≡ two_items (items_view items.items) }
+{
+    if items.len() != 2 {
+        return None;
+    }
+    let second = items.pop().unwrap();
+    let first = items.pop().unwrap();
+    Some((first, second))
+}
+
+pub(crate) fn take_two(value: Value) -> Option<(Value, Value)>
+    ensures { option_map taken_two result ≡ two_in (view value) }
+{
+    match value {
+        Value::Array(items) => take_two_items(items),
         _ => None,
     }
 }

@@ -13,11 +13,13 @@
 
 mod arrays;
 mod fault;
+mod hearer;
 mod members;
 mod telling;
 mod told;
 
 pub use arrays::{five_of, four_of, take_six, take_three, three_of};
 pub use fault::LinkFault;
+pub use hearer::{Hearer, Telling};
 pub use members::{bound_of, number_of, replica_of, whole_of};
 pub use told::{delta_of, told_of};

@@ -1,5 +1,5 @@
 use node_links_lines::Line;
-use orswot_core::Told;
+use orswot_core::{Form, Told};
 use presence_base::Replica;
 
 /// What a line asks of a node's shards, and of the link.
@@ -31,10 +31,12 @@ pub enum LinkAction {
         replica: Replica,
         count: u64,
     },
-    /// What that shard tells is answered: what it counted itself above `from`, or all of it.
+    /// What that shard tells is answered, in the link's form: what it counted itself above `from`, or all of it. In
+    /// `Form::Two` it is to have no dots beside its ranges, since a line has no place for them.
     AnswerTold {
         shard: u32,
         from: Option<u64>,
+        form: Form,
     },
     /// This line is answered.
     Answer(Line),

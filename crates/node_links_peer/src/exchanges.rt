@@ -1,14 +1,16 @@
 // What each line asks for.
-ghost use Rattle.std.specs.Prelude.{◌≡◌, ◌++◌, ◌∷◌, [], Ok, OnOk, IfErr};
+ghost use Rattle.std.specs.Prelude.{◌≡◌, ◌++◌, ◌∷◌, [], cond, Some, None, Ok, OnOk, IfErr};
 ghost use Rattle.presence_base.specs.Order.{same_replica};
 ghost use Rattle.node_links_members.specs.declared.fault.LinkFault.TheVariants.{OutOfMemory};
+ghost use Rattle.node_links_lines.specs.declared.lines.Line.TheVariants as lines_are;
 ghost use Rattle.node_links_lines.specs.Results.{Adds, Gives};
-ghost use Rattle.node_links_peer.specs.Exchanges.{answer as answer_of, greeting as greeting_of, heard as heard_of, merge as merge_of, on_beat as on_beat_of, on_want as on_want_of, on_told as on_told_of, on_permdown as on_permdown_of, on_gone as on_gone_of, later as later_of};
+ghost use Rattle.node_links_peer.specs.Exchanges.{answer as answer_of, greeting_by as greeting_of, heard as heard_of, merge as merge_of, is_told_in as is_told_in_form, on_beat as on_beat_of, on_told as on_told_of, on_permdown as on_permdown_of, on_gone as on_gone_of, later as later_of};
 
 use crate::action::LinkAction;
+use crate::forms::version_of;
 use crate::peer::End;
-use node_links_lines::{Line, LinkFault};
-use orswot_core::Told;
+use node_links_lines::{Line, LinkFault, Telling};
+use orswot_core::Form;
 use presence_base::Replica;
 use std::alloc::Global;
 
@@ -16,6 +18,16 @@ fn is_same(a: &Replica, b: &Replica) -> bool
     ensures { result ≡ same_replica a.now b.now }
 {
     a.cmp(b).is_eq()
+}
+
+// Whether nothing is told, or in the link's form.
+fn is_told_in(form: Form, told: &Option<Telling>) -> bool
+    ensures { result ≡ is_told_in_form form told.now }
+{
+    match told {
+        Some(telling) => telling.form == form,
+        None => true,
+    }
 }
 
 fn push(actions: &mut Vec<LinkAction>, action: LinkAction) -> Result<(), LinkFault>
@@ -55,8 +67,9 @@ pub(crate) fn greeting(
     own: Replica,
     shards: u32,
     end: End,
+    form: Form,
 ) -> Result<Vec<LinkAction>, LinkFault>
-    ensures { Gives (λ v. v.items) result (Ok (greeting_of own shards end)) }
+    ensures { Gives (λ v. v.items) result (Ok (greeting_of own shards end form)) }
 {
     match end {
         End::Accepting => answer(
@@ -64,6 +77,7 @@ pub(crate) fn greeting(
             Line::Hello {
                 replica: own,
                 shards,
+                version: version_of(form),
             },
         ),
         End::Dialling => Ok(Vec::new(alloc)),
@@ -74,13 +88,19 @@ pub(crate) fn greeting(
 fn push_merge(
     actions: &mut Vec<LinkAction>,
     shard: u32,
-    delta: Option<Told>,
+    delta: Option<Telling>,
 ) -> Result<(), LinkFault>
     ensures ok { OnOk result (actions.new.items ≡ actions.old.items ++ merge_of shard delta) }
     ensures err { IfErr result (λ e. e ≡ OutOfMemory) }
 {
     match delta {
-        Some(told) => push(actions, LinkAction::Merge { shard, told }),
+        Some(telling) => push(
+            actions,
+            LinkAction::Merge {
+                shard,
+                told: telling.told,
+            },
+        ),
         None => Ok(()),
     }
 }
@@ -106,12 +126,13 @@ fn heard(
     two(alloc, unless_gone, heard)
 }
 
-// A beat of another replica.
+// What a beat tells.
+#[derive(Drop)]
 struct Beat {
     shard: u32,
     replica: Replica,
     count: u64,
-    delta: Option<Told>,
+    delta: Option<Telling>,
 }
 
 fn on_beat(alloc: Global, beat: Beat, now: u64) -> Result<Vec<LinkAction>, LinkFault>
@@ -134,27 +155,43 @@ fn on_beat(alloc: Global, beat: Beat, now: u64) -> Result<Vec<LinkAction>, LinkF
     Ok(actions)
 }
 
-fn on_want(
+// A beat of another replica, or of the node's own.
+fn on_any_beat(
     alloc: Global,
     own: &Replica,
-    shard: u32,
-    replica: &Replica,
-    top: u64,
+    form: Form,
+    beat: Beat,
+    now: u64,
 ) -> Result<Vec<LinkAction>, LinkFault>
-    ensures { Gives (λ v. v.items) result (Ok (on_want_of own.now shard replica.now top)) }
+    ensures { Gives (λ v. v.items) result (later_of own.now form now (lines_are.Beat beat.shard beat.replica beat.count beat.delta)) }
 {
-    let from = if is_same(replica, own) {
+    if !is_told_in(form, &beat.delta) {
+        return Err(LinkFault::BadLine);
+    }
+    if is_same(&beat.replica, own) {
+        return answer(alloc, Line::Ok);
+    }
+    on_beat(alloc, beat, now)
+}
+
+// What is wanted: above the top where that is the node's own.
+fn wanted_from(own: &Replica, replica: &Replica, top: u64) -> Option<u64>
+    ensures { result ≡ cond (same_replica replica.now own.now) (Some top) None }
+{
+    if is_same(replica, own) {
         Some(top)
     } else {
         None
-    };
-    one(alloc, LinkAction::AnswerTold { shard, from })
+    }
 }
 
-fn on_told(alloc: Global, shard: u32, told: Told) -> Result<Vec<LinkAction>, LinkFault>
-    ensures { Gives (λ v. v.items) result (Ok (on_told_of shard told)) }
+fn on_told(alloc: Global, shard: u32, telling: Telling) -> Result<Vec<LinkAction>, LinkFault>
+    ensures { Gives (λ v. v.items) result (Ok (on_told_of shard telling)) }
 {
-    let merge = LinkAction::Merge { shard, told };
+    let merge = LinkAction::Merge {
+        shard,
+        told: telling.told,
+    };
     two(alloc, merge, LinkAction::Answer(Line::Ok))
 }
 
@@ -177,14 +214,15 @@ fn on_gone(alloc: Global, own: &Replica, replica: &Replica) -> Result<Vec<LinkAc
     Ok(Vec::new(alloc))
 }
 
-// A line behind the hello, at the node that is this replica.
+// A line behind the hello, at the node that is this replica, on a link of this form.
 pub(crate) fn later(
     alloc: Global,
     own: &Replica,
+    form: Form,
     line: Line,
     now: u64,
 ) -> Result<Vec<LinkAction>, LinkFault>
-    ensures { Gives (λ v. v.items) result (later_of own.now now line) }
+    ensures { Gives (λ v. v.items) result (later_of own.now form now line) }
 {
     match line {
         Line::Hello { .. } => Err(LinkFault::BadLine),
@@ -194,23 +232,28 @@ pub(crate) fn later(
             count,
             delta,
         } => {
-            if is_same(&replica, own) {
-                return answer(alloc, Line::Ok);
-            }
             let beat = Beat {
                 shard,
                 replica,
                 count,
                 delta,
             };
-            on_beat(alloc, beat, now)
+            on_any_beat(alloc, own, form, beat, now)
         },
         Line::Want {
             shard,
             replica,
             top,
-        } => on_want(alloc, own, shard, &replica, top),
-        Line::Told { shard, told } => on_told(alloc, shard, told),
+        } => {
+            let from = wanted_from(own, &replica, top);
+            one(alloc, LinkAction::AnswerTold { shard, from, form })
+        },
+        Line::Told { shard, told } => {
+            if told.form != form {
+                return Err(LinkFault::BadLine);
+            }
+            on_told(alloc, shard, told)
+        },
         Line::PermDown { replica } => on_permdown(alloc, own, replica),
         Line::Gone { replica } => on_gone(alloc, own, &replica),
         Line::Ok => Ok(Vec::new(alloc)),

@@ -6,7 +6,9 @@
 
 mod action;
 mod exchanges;
+mod forms;
 mod peer;
 
 pub use action::LinkAction;
+pub use forms::{form_told, next_form};
 pub use peer::{End, Peer};

@@ -1,10 +1,12 @@
 ghost use Rattle.std.specs.Prelude.{◌≡◌, ◌≤◌, None, OnOk, OnErr};
 ghost use Rattle.node_links_lines.specs.Results.{Gives};
-ghost use Rattle.node_links_peer.specs.Exchanges.{at_first, actions_of, after};
+ghost use Rattle.node_links_peer.specs.Exchanges.{at_first, actions_of, after, who, link_form, hearer_of, hello_of};
 
 use crate::action::LinkAction;
 use crate::exchanges::{greeting, later};
-use node_links_lines::{Line, LinkFault};
+use crate::forms::{form_told, lesser, version_of};
+use node_links_lines::{Hearer, Line, LinkFault};
+use orswot_core::Form;
 use presence_base::Replica;
 use std::alloc::Global;
 use std::marker::Model;
@@ -16,13 +18,14 @@ pub enum End {
     Accepting,
 }
 
-/// What one end of a link knows of the other one: whether its hello came, and who it is.
+/// What one end of a link knows of the other one: whether its hello came, who it is, and in which form the two tell.
 #[derive(Drop)]
 pub struct Peer {
     own: Replica,
     shards: u32,
     end: End,
-    other: Option<Replica>,
+    speaks: Form,
+    other: Option<(Replica, Form)>,
 }
 
 impl Model for Peer {
@@ -31,22 +34,56 @@ impl Model for Peer {
 
     ghost Value = { PeerValue };
 
-    ghost view = { λ p. record { own = p.own; shards = p.shards; end = p.end; other = p.other } };
+    ghost view = { λ p. record { own = p.own; shards = p.shards; end = p.end; speaks = p.speaks; other = p.other } };
 
     ghost invariant = { λ p. 1 ≤ p.shards };
 }
 
 impl Peer {
-    /// The end of a link at the node that is this replica and has so many shards, before any line came.
-    pub fn new(own: Replica, shards: u32, end: End) -> Peer
+    /// The end of a link at the node that is this replica and has so many shards, before any line came. It speaks up to this
+    /// form: at the dialling end that which its hello tells.
+    pub fn new(own: Replica, shards: u32, end: End, speaks: Form) -> Peer
         requires { 1 ≤ shards }
-        ensures { result ≡ record { own = own; shards = shards; end = end; other = None } }
+        ensures { result ≡ record { own = own; shards = shards; end = end; speaks = speaks; other = None } }
     {
         Peer {
             own,
             shards,
             end,
+            speaks,
             other: None,
+        }
+    }
+
+    /// The hello that this end tells: of a dialling end the first line.
+    pub fn hello(&self) -> Line
+        ensures { result ≡ hello_of self.now }
+    {
+        Line::Hello {
+            replica: self.own,
+            shards: self.shards,
+            version: version_of(self.speaks),
+        }
+    }
+
+    /// What is known of the next line: over how many shards it speaks, and from the other end's hello on its form.
+    pub fn hearer(&self) -> Hearer
+        ensures hearer { result ≡ hearer_of self.now }
+        ensures some { 1 ≤ result.shards }
+    {
+        Hearer {
+            shards: self.shards,
+            form: self.form(),
+        }
+    }
+
+    /// The form in which the two ends tell, from the other end's hello on.
+    pub fn form(&self) -> Option<Form>
+        ensures { result ≡ link_form self.now.other }
+    {
+        match self.other {
+            Some((_, form)) => Some(form),
+            None => None,
         }
     }
 
@@ -60,9 +97,12 @@ impl Peer {
 
     /// Who is at the other end, from its hello on.
     pub fn other(&self) -> Option<Replica>
-        ensures { result ≡ self.now.other }
+        ensures { result ≡ who self.now.other }
     {
-        self.other
+        match self.other {
+            Some((replica, _)) => Some(replica),
+            None => None,
+        }
     }
 
     /// What a line that came at this time (in milliseconds) asks for, in order.
@@ -80,7 +120,7 @@ impl Peer {
         ensures err { OnErr result (self.new ≡ self.old) }
     {
         match self.other {
-            Some(_) => later(alloc, &self.own, line, now),
+            Some((_, form)) => later(alloc, &self.own, form, line, now),
             None => self.greeted(alloc, line),
         }
     }
@@ -92,14 +132,20 @@ impl Peer {
         ensures ok { OnOk result (self.new ≡ after self.old line) }
         ensures err { OnErr result (self.new ≡ self.old) }
     {
-        let Line::Hello { replica, shards } = line else {
+        let Line::Hello {
+            replica,
+            shards,
+            version,
+        } = line
+        else {
             return Err(LinkFault::BadLine);
         };
         if shards != self.shards {
             return Err(LinkFault::OtherShards);
         }
-        let actions = greeting(alloc, self.own, self.shards, self.end)?;
-        self.other = Some(replica);
+        let form = lesser(self.speaks, form_told(version));
+        let actions = greeting(alloc, self.own, self.shards, self.end, form)?;
+        self.other = Some((replica, form));
         Ok(actions)
     }
 }

@@ -4,6 +4,7 @@ use Rattle.std.specs.Str.{IsUtf8, is_utf8}
 use Rattle.std.proofs.lemmas.Str.{IsUtf8-from_is_utf8, is_utf8-from_IsUtf8}
 use Rattle.std.specs.Io.KnownBytes.{Appends}
 use Rattle.node_links_lines.specs.declared.lines.Line.{Line}
+use Rattle.node_links_members.specs.declared.hearer.Hearer.{Hearer}
 use Rattle.node_links_members.specs.declared.fault.LinkFault.{LinkFault}
 use Rattle.node_links_members.specs.declared.fault.LinkFault.TheVariants.{LineTooLong, NotJson, BadLine, BadTold, OtherShards, ReadFailed, WriteFailed, OutOfMemory, CutLine}
 use Rattle.node_links_lines.specs.declared.lines.TheConstants.{MAX_LINE_BYTES}
@@ -15,7 +16,7 @@ use Rattle.node_links_streams.specs.Streams.{line_in_bytes, ReadsLine, fed, Writ
 use Rattle.node_links_streams.proofs.Known.{little_here}
 
 -- bytes that are UTF-8 are what their text is
-pub text_line : (n : ℕ) (bytes : List ℕ) → IsUtf8 bytes → line_in_bytes n bytes ≡ decoded n bytes
+pub text_line : (n : Hearer) (bytes : List ℕ) → IsUtf8 bytes → line_in_bytes n bytes ≡ decoded n bytes
 text_line n bytes utf8 = rw (is_utf8-from_IsUtf8 bytes utf8) refl
 
 no_text : (b : Bool) (bytes : List ℕ) → is_utf8 bytes ≡ b → ¬ (IsUtf8 bytes) → b ≡ false
@@ -23,11 +24,11 @@ no_text true bytes e lacks = absurd (lacks (IsUtf8-from_is_utf8 bytes e))
 no_text false bytes e lacks = refl
 
 -- others are no JSON
-pub not_text : (n : ℕ) (bytes : List ℕ) → ¬ (IsUtf8 bytes) → line_in_bytes n bytes ≡ Err NotJson
+pub not_text : (n : Hearer) (bytes : List ℕ) → ¬ (IsUtf8 bytes) → line_in_bytes n bytes ≡ Err NotJson
 not_text n bytes lacks = rw (no_text (is_utf8 bytes) bytes refl lacks) refl
 
 -- a whole line was read that is refused
-pub read_fault : (n : ℕ) (a b : Known) (text : List ℕ) (e : LinkFault) → TakesWhole a b text → Answers {X = Line} (Err e) (line_in_bytes n text) → IsTextFault text e → ReadsLine n a b (Err e)
+pub read_fault : (n : Hearer) (a b : Known) (text : List ℕ) (e : LinkFault) → TakesWhole a b text → Answers {X = Line} (Err e) (line_in_bytes n text) → IsTextFault text e → ReadsLine n a b (Err e)
 read_fault n a b text LineTooLong whole is of_text = let short = whole.short in absurd (omega arith)
 read_fault n a b text NotJson whole is of_text = record { text = text; whole = whole; comes_to = is }
 read_fault n a b text BadLine whole is of_text = record { text = text; whole = whole; comes_to = is }

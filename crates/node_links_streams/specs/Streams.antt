@@ -2,10 +2,11 @@
 use Rattle.std.specs.Prelude.{◌≡◌, ◌≤◌, ◌<◌, ◌+◌, ℕ, Bool, true, false, List, [], ◌∷◌, ◌++◌, length, if◌then◌else◌, Option, Some, None, Result, Ok, Err}
 use Rattle.std.specs.Io.KnownBytes.{Keeps, Consumes, Appends}
 use Rattle.std.specs.Str.{is_utf8}
-use Rattle.orswot_core.specs.Telling.{ToldValue}
-use Rattle.orswot_core.specs.Checks.{is_too_many}
+use Rattle.orswot_core.specs.Checks.{is_too_many_in}
 use Rattle.node_links_lines.specs.declared.lines.Line.{Line}
 use Rattle.node_links_lines.specs.declared.lines.Line.TheVariants as lines_are
+use Rattle.node_links_members.specs.declared.hearer.Hearer.{Hearer}
+use Rattle.node_links_members.specs.declared.hearer.Telling.{Telling}
 use Rattle.node_links_members.specs.declared.fault.LinkFault.{LinkFault}
 use Rattle.node_links_members.specs.declared.fault.LinkFault.TheVariants.{LineTooLong, NotJson, ReadFailed, WriteFailed, OutOfMemory, CutLine}
 use Rattle.node_links_lines.specs.declared.lines.TheConstants.{MAX_LINE_BYTES}
@@ -13,15 +14,15 @@ use Rattle.node_links_lines.specs.Reading.{decoded}
 use Rattle.node_links_lines.specs.Writing.{text_of}
 use Rattle.node_links_streams.specs.Bytes.{Known, FindsEnd, TakesWhole, BreaksLine, PassesLimit, CutsLine, AppendsFront}
 
--- the line that these bytes are, at a node with n shards
-abbrev pub line_in_bytes : ℕ → List ℕ → Result Line LinkFault
-line_in_bytes n bytes = if is_utf8 bytes then decoded n bytes else Err NotJson
+-- the line that these bytes are to a hearer
+abbrev pub line_in_bytes : Hearer → List ℕ → Result Line LinkFault
+line_in_bytes h bytes = if is_utf8 bytes then decoded h bytes else Err NotJson
 
 -- a line's bytes and its line feed were read, and they come to this
-pub record ReadsAs (n : ℕ) (old new : Known) (r : Result Line LinkFault) : Type 0 where
+pub record ReadsAs (h : Hearer) (old new : Known) (r : Result Line LinkFault) : Type 0 where
   pub text : List ℕ
   pub whole : TakesWhole old new text
-  pub comes_to : line_in_bytes n text ≡ r
+  pub comes_to : line_in_bytes h text ≡ r
 
 -- at most one byte more than the limit was read
 pub record ReadsLittle (old new : Known) : Type 0 where
@@ -30,27 +31,30 @@ pub record ReadsLittle (old new : Known) : Type 0 where
   pub short : length part ≤ MAX_LINE_BYTES + 1
 
 -- a line, or none at an end between lines, or the first fault
-abbrev pub ReadsLine : ℕ → Known → Known → Result (Option Line) LinkFault → Type 0
-ReadsLine n old new (Ok None) = FindsEnd old new
-ReadsLine n old new (Ok (Some line)) = ReadsAs n old new (Ok line)
-ReadsLine n old new (Err LineTooLong) = PassesLimit old new
-ReadsLine n old new (Err CutLine) = CutsLine old new
-ReadsLine n old new (Err ReadFailed) = BreaksLine old new
-ReadsLine n old new (Err OutOfMemory) = ReadsLittle old new
-ReadsLine n old new (Err e) = ReadsAs n old new (Err e)
+abbrev pub ReadsLine : Hearer → Known → Known → Result (Option Line) LinkFault → Type 0
+ReadsLine h old new (Ok None) = FindsEnd old new
+ReadsLine h old new (Ok (Some line)) = ReadsAs h old new (Ok line)
+ReadsLine h old new (Err LineTooLong) = PassesLimit old new
+ReadsLine h old new (Err CutLine) = CutsLine old new
+ReadsLine h old new (Err ReadFailed) = BreaksLine old new
+ReadsLine h old new (Err OutOfMemory) = ReadsLittle old new
+ReadsLine h old new (Err e) = ReadsAs h old new (Err e)
 
 -- the line's text, and its line feed
 abbrev pub fed : Line → List ℕ
 fed line = text_of line ++ 10 ∷ []
 
--- what a line tells has more rows and extras than a node takes in
-abbrev pub news_are_too_many : Option ToldValue → Bool
+-- what a line tells is more than a node takes in: rows and extras, or in the second form rows and ranges
+abbrev pub is_above : Telling → Bool
+is_above t = is_too_many_in t.form t.told
+
+abbrev pub news_are_too_many : Option Telling → Bool
 news_are_too_many None = false
-news_are_too_many (Some t) = is_too_many t
+news_are_too_many (Some t) = is_above t
 
 abbrev pub tells_too_many : Line → Bool
 tells_too_many (lines_are.Beat k r c t) = news_are_too_many t
-tells_too_many (lines_are.Told k t) = is_too_many t
+tells_too_many (lines_are.Told k t) = is_above t
 tells_too_many _ = false
 
 -- Ok: all of it went out, and nothing else. A text that is too long, or for which memory is wanting, leaves nothing.
@@ -61,7 +65,7 @@ WritesText line old new (Err OutOfMemory) = Keeps old new
 WritesText line old new (Err WriteFailed) = AppendsFront old new (fed line)
 WritesText line old new (Err e) = ⊥
 
--- a line that tells too many rows and extras is too long, whatever memory there is
+-- a line that tells too much is too long, whatever memory there is
 abbrev pub WritesCounted : Bool → Line → Known → Known → Result Unit LinkFault → Type 0
 WritesCounted true line old new r = Keeps old new × (r ≡ Err LineTooLong)
 WritesCounted false line old new r = WritesText line old new r

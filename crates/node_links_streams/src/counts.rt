@@ -1,30 +1,35 @@
 // How much a line tells.
 ghost use Rattle.std.specs.Prelude.{◌≡◌};
-ghost use Rattle.orswot_core.specs.Checks.{is_too_many as are_too_many};
-ghost use Rattle.node_links_streams.specs.Streams.{news_are_too_many, tells_too_many as is_above};
+ghost use Rattle.node_links_streams.specs.Streams.{is_above, news_are_too_many, tells_too_many as line_is_above};
 
-use node_links_lines::Line;
-use orswot_core::{MAX_ROWS, Told};
+use node_links_lines::{Line, Telling};
+use orswot_core::{Form, MAX_ROWS};
 
-fn is_too_many(told: &Told) -> bool
-    ensures { result ≡ are_too_many told.now }
+fn is_too_many(telling: &Telling) -> bool
+    ensures { result ≡ is_above telling.now }
 {
-    let extras = told.extras().len();
-    extras > MAX_ROWS || told.live().len() > MAX_ROWS - extras
+    let ranges = telling.told.ranges().len();
+    let left = match telling.form {
+        Form::One => MAX_ROWS,
+        Form::Two if ranges > MAX_ROWS => return true,
+        Form::Two => MAX_ROWS - ranges,
+    };
+    let extras = telling.told.extras().len();
+    extras > left || telling.told.live().len() > left - extras
 }
 
-fn are_news_too_many(news: &Option<Told>) -> bool
+fn are_news_too_many(news: &Option<Telling>) -> bool
     ensures { result ≡ news_are_too_many news.now }
 {
     match news {
-        Some(told) => is_too_many(told),
+        Some(telling) => is_too_many(telling),
         None => false,
     }
 }
 
-// Whether the line tells more rows and extras than a node takes in.
+// Whether the line tells more than a node takes in: rows and extras, or in the second form rows and ranges.
 pub(crate) fn tells_too_many(line: &Line) -> bool
-    ensures { result ≡ is_above line.now }
+    ensures { result ≡ line_is_above line.now }
 {
     match line {
         Line::Beat { delta, .. } => are_news_too_many(delta),

@@ -5,6 +5,7 @@ use Rattle.presence_base.specs.declared.dots.Replica.{Replica}
 use Rattle.presence_base.specs.declared.dots.Dot.{Dot}
 use Rattle.presence_base.specs.declared.row.Row.{Row}
 use Rattle.presence_journal_data.specs.declared.entry.Outcome.TheVariants as outcomes_are
+use Rattle.orswot_core_told.specs.declared.form.Form.{Form}
 use Rattle.orswot_core_told.specs.Telling.{ToldValue}
 use Rattle.presence_journal_data.specs.declared.step.Step.TheVariants as steps_are
 use Rattle.presence_journal.specs.Steps.{Step, Outcome}
@@ -53,8 +54,8 @@ cut_row xs (Some (outcomes_are.Added d)) = refl
 cut_row xs (Some (outcomes_are.Replaced d old)) = refl
 cut_row xs (Some _) = refl
 
-module _ (old new : Lives) (p : List Replica) (n : ℕ) (r : Replica) (t u : List ToldValue) (o : Option ToldValue) (some : (one : ToldValue) → o ≡ Some one → u ≡ t ++ one ∷ []) (none : o ≡ None → u ≡ t) where
-  cuts_life : (l : LifeValue) → map.get old r ≡ Some l → (b : Bool) (x : Option ToldValue) → o ≡ x → (m : LifeValue) → CutsIf b l.history m.history x → m.made ≡ l.made → new ≡ map.insert old r m → CutsHere b (world old p t) (r, l) (world new p u)
+module _ (form : Form) (old new : Lives) (p : List Replica) (n : ℕ) (r : Replica) (t u : List ToldValue) (o : Option ToldValue) (some : (one : ToldValue) → o ≡ Some one → u ≡ t ++ one ∷ []) (none : o ≡ None → u ≡ t) where
+  cuts_life : (l : LifeValue) → map.get old r ≡ Some l → (b : Bool) (x : Option ToldValue) → o ≡ x → (m : LifeValue) → CutsIf form b l.history m.history x → m.made ≡ l.made → new ≡ map.insert old r m → CutsHere form b (world old p t) (r, l) (world new p u)
   cuts_life l e true (Some one) q m c made put =
       let same : m ≡ stepped steps_are.Cut l = λ i. record { history = c.1 i; made = (made ∙ sym (cut_row l.made (accepted l.history steps_are.Cut))) i } in
       (one, c.0, λ i. world ((put ∙ ap (map.insert old r) same) i) p (some one q i))
@@ -64,39 +65,39 @@ module _ (old new : Lives) (p : List Replica) (n : ℕ) (r : Replica) (t u : Lis
       let same : m ≡ l = λ i. record { history = c i; made = made i } in
       λ i. world ((put ∙ (ap (map.insert old r) same ∙ insert_same old r l e)) i) p (none q i)
 
-  cuts_at : (x : Option LifeValue) → map.get old r ≡ x → CutIf x old r new o → Cuts (world old p t) (with_replica r x) (world new p u)
+  cuts_at : (x : Option LifeValue) → map.get old r ≡ x → CutIf form x old r new o → Cuts form (world old p t) (with_replica r x) (world new p u)
   cuts_at None e c = λ i. world (c.0 i) p (none c.1 i)
   cuts_at (Some l) e c = cuts_life l e (is_some (accepted l.history steps_are.Cut)) o refl c.0 c.1 c.2 c.3
 
-  pub cuts_here : slice_get p n ≡ Some r → Cut old r new o → Cuts (world old p t) (life_at (world old p t) n) (world new p u)
-  cuts_here f k = subst (λ x. Cuts (world old p t) (life_of (world old p t) x) (world new p u)) (sym f) (cuts_at (map.get old r) refl k)
+  pub cuts_here : slice_get p n ≡ Some r → Cut form old r new o → Cuts form (world old p t) (life_at (world old p t) n) (world new p u)
+  cuts_here f k = subst (λ x. Cuts form (world old p t) (life_of (world old p t) x) (world new p u)) (sym f) (cuts_at (map.get old r) refl k)
 
-pub cut_told : (old new : Lives) (p : List Replica) (n : ℕ) (r : Replica) (t u : List ToldValue) (one : ToldValue) → slice_get p n ≡ Some r → Cut old r new (Some one) → u ≡ t ++ one ∷ [] → CutsTo p old t n new u
-cut_told old new p n r t u one f k g = cuts_here old new p n r t u (Some one) (λ a e. let same : one ≡ a = cc in g ∙ ap (λ z. t ++ z ∷ []) same) (λ e. absurd (cc)) f k
+pub cut_told : (form : Form) (old new : Lives) (p : List Replica) (n : ℕ) (r : Replica) (t u : List ToldValue) (one : ToldValue) → slice_get p n ≡ Some r → Cut form old r new (Some one) → u ≡ t ++ one ∷ [] → CutsTo form p old t n new u
+cut_told form old new p n r t u one f k g = cuts_here form old new p n r t u (Some one) (λ a e. let same : one ≡ a = cc in g ∙ ap (λ z. t ++ z ∷ []) same) (λ e. absurd (cc)) f k
 
-pub cut_nothing : (old new : Lives) (p : List Replica) (n : ℕ) (r : Replica) (t u : List ToldValue) → slice_get p n ≡ Some r → Cut old r new None → u ≡ t → CutsTo p old t n new u
-cut_nothing old new p n r t u f k same = cuts_here old new p n r t u None (λ a e. absurd (cc)) (λ e. same) f k
+pub cut_nothing : (form : Form) (old new : Lives) (p : List Replica) (n : ℕ) (r : Replica) (t u : List ToldValue) → slice_get p n ≡ Some r → Cut form old r new None → u ≡ t → CutsTo form p old t n new u
+cut_nothing form old new p n r t u f k same = cuts_here form old new p n r t u None (λ a e. absurd (cc)) (λ e. same) f k
 
-pub cut_nobody : (old : Lives) (p : List Replica) (n : ℕ) (t : List ToldValue) → slice_get p n ≡ None → Cuts (world old p t) (life_at (world old p t) n) (world old p t)
-cut_nobody old p n t f = subst (λ x. Cuts (world old p t) (life_of (world old p t) x) (world old p t)) (sym f) refl
+pub cut_nobody : (form : Form) (old : Lives) (p : List Replica) (n : ℕ) (t : List ToldValue) → slice_get p n ≡ None → Cuts form (world old p t) (life_at (world old p t) n) (world old p t)
+cut_nobody form old p n t f = subst (λ x. Cuts form (world old p t) (life_of (world old p t) x) (world old p t)) (sym f) refl
 
 pub ruleset cutting = (cut_told, cut_nothing, cut_nobody)
 
 -- ---- what is told
 
-tells_at : (old new : Lives) (p : List Replica) (r : Replica) (t u : List ToldValue) (from : Option ℕ) (x : Option LifeValue) (o : Option ToldValue) → new ≡ old → ToldIf x from o → ((one : ToldValue) → o ≡ Some one → u ≡ t ++ one ∷ []) → (o ≡ None → u ≡ t) → Tells (world old p t) from (with_replica r x) (world new p u)
-tells_at old new p r t u from None o same k some none = λ i. world (same i) p (none k i)
-tells_at old new p r t u from (Some l) None same k some none = absurd k
-tells_at old new p r t u from (Some l) (Some one) same k some none = (one, k, λ i. world (same i) p (some one refl i))
+tells_at : (form : Form) (old new : Lives) (p : List Replica) (r : Replica) (t u : List ToldValue) (from : Option ℕ) (x : Option LifeValue) (o : Option ToldValue) → new ≡ old → ToldIf form x from o → ((one : ToldValue) → o ≡ Some one → u ≡ t ++ one ∷ []) → (o ≡ None → u ≡ t) → Tells form (world old p t) from (with_replica r x) (world new p u)
+tells_at form old new p r t u from None o same k some none = λ i. world (same i) p (none k i)
+tells_at form old new p r t u from (Some l) None same k some none = absurd k
+tells_at form old new p r t u from (Some l) (Some one) same k some none = (one, k, λ i. world (same i) p (some one refl i))
 
-pub tell_told : (old new : Lives) (p : List Replica) (n : ℕ) (r : Replica) (t u : List ToldValue) (from : Option ℕ) (one : ToldValue) → slice_get p n ≡ Some r → new ≡ old → ToldIf (map.get old r) from (Some one) → u ≡ t ++ one ∷ [] → TellsTo p old t n from new u
-tell_told old new p n r t u from one f same k g = subst (λ y. Tells (world old p t) from (life_of (world old p t) y) (world new p u)) (sym f) (tells_at old new p r t u from (map.get old r) (Some one) same k (λ a e. let w : one ≡ a = cc in g ∙ ap (λ z. t ++ z ∷ []) w) (λ e. absurd (cc)))
+pub tell_told : (form : Form) (old new : Lives) (p : List Replica) (n : ℕ) (r : Replica) (t u : List ToldValue) (from : Option ℕ) (one : ToldValue) → slice_get p n ≡ Some r → new ≡ old → ToldIf form (map.get old r) from (Some one) → u ≡ t ++ one ∷ [] → TellsTo form p old t n from new u
+tell_told form old new p n r t u from one f same k g = subst (λ y. Tells form (world old p t) from (life_of (world old p t) y) (world new p u)) (sym f) (tells_at form old new p r t u from (map.get old r) (Some one) same k (λ a e. let w : one ≡ a = cc in g ∙ ap (λ z. t ++ z ∷ []) w) (λ e. absurd (cc)))
 
-pub tell_nothing : (old new : Lives) (p : List Replica) (n : ℕ) (r : Replica) (t u : List ToldValue) (from : Option ℕ) → slice_get p n ≡ Some r → new ≡ old → ToldIf (map.get old r) from None → u ≡ t → TellsTo p old t n from new u
-tell_nothing old new p n r t u from f same k left = subst (λ y. Tells (world old p t) from (life_of (world old p t) y) (world new p u)) (sym f) (tells_at old new p r t u from (map.get old r) None same k (λ a e. absurd (cc)) (λ e. left))
+pub tell_nothing : (form : Form) (old new : Lives) (p : List Replica) (n : ℕ) (r : Replica) (t u : List ToldValue) (from : Option ℕ) → slice_get p n ≡ Some r → new ≡ old → ToldIf form (map.get old r) from None → u ≡ t → TellsTo form p old t n from new u
+tell_nothing form old new p n r t u from f same k left = subst (λ y. Tells form (world old p t) from (life_of (world old p t) y) (world new p u)) (sym f) (tells_at form old new p r t u from (map.get old r) None same k (λ a e. absurd (cc)) (λ e. left))
 
-pub tell_nobody : (old : Lives) (p : List Replica) (n : ℕ) (t : List ToldValue) (from : Option ℕ) → slice_get p n ≡ None → Tells (world old p t) from (life_at (world old p t) n) (world old p t)
-tell_nobody old p n t from f = subst (λ x. Tells (world old p t) from (life_of (world old p t) x) (world old p t)) (sym f) refl
+pub tell_nobody : (form : Form) (old : Lives) (p : List Replica) (n : ℕ) (t : List ToldValue) (from : Option ℕ) → slice_get p n ≡ None → Tells form (world old p t) from (life_at (world old p t) n) (world old p t)
+tell_nobody form old p n t from f = subst (λ x. Tells form (world old p t) from (life_of (world old p t) x) (world old p t)) (sym f) refl
 
 pub ruleset telling = (tell_told, tell_nothing, tell_nobody)
 

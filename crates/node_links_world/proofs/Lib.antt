@@ -1,4 +1,5 @@
 pub mod LifeFacts
 pub mod Events
+pub mod Parts
 pub mod Begun
 pub mod Asked

@@ -7,6 +7,7 @@ use Rattle.std.specs.Map.{lookup}
 use Rattle.std.specs.Cmp.{eq_by_cmp_equiv}
 use Rattle.presence_base.specs.declared.dots.Replica.{Replica}
 use Rattle.presence_base.specs.Order.{replica_cmp, same_replica}
+use Rattle.orswot_core_told.specs.declared.form.Form.{Form}
 use Rattle.orswot_core_told.specs.Telling.{ToldValue}
 use Rattle.presence_journal.proofs.Same.{replica_total, same_replica-true}
 use Rattle.node_links_world_laws.specs.World.{LifeValue, Lives, TellsWhole}
@@ -44,12 +45,12 @@ turns_some Turn m n r old new (Ok x) was w t = subst (λ o. TurnsIf o Turn (seen
 pub turns_none : (Turn : LifeValue → LifeValue → Type 0) (m n : LifeMap) (r : Replica) → get replica_cmp m r ≡ None → m ≡ n → Turns Turn (seen m) r (seen n)
 turns_none Turn m n r was same = subst (λ o. TurnsIf o Turn (seen m) r (seen n)) (sym (seen_life m r ∙ was)) (ap seen (sym same))
 
-pub cut_some : {E : Type 0} (m n : LifeMap) (r : Replica) (old new : LifeValue) (q : Result (Option ToldValue) E) → get replica_cmp m r ≡ Some old → WritesThrough replica_cmp (replica_cmp r) m new n → IfOk q (Cuts old.history new.history) → new.made ≡ old.made → IfOk q (Cut (seen m) r (seen n))
-cut_some m n r old new (Err e) was w t k = tt
-cut_some m n r old new (Ok o) was w t k = subst (λ x. CutIf x (seen m) r (seen n) o) (sym (seen_life m r ∙ was)) (new, t, k, through m n r old new was w)
+pub cut_some : {E : Type 0} (form : Form) (m n : LifeMap) (r : Replica) (old new : LifeValue) (q : Result (Option ToldValue) E) → get replica_cmp m r ≡ Some old → WritesThrough replica_cmp (replica_cmp r) m new n → IfOk q (Cuts form old.history new.history) → new.made ≡ old.made → IfOk q (Cut form (seen m) r (seen n))
+cut_some form m n r old new (Err e) was w t k = tt
+cut_some form m n r old new (Ok o) was w t k = subst (λ x. CutIf form x (seen m) r (seen n) o) (sym (seen_life m r ∙ was)) (new, t, k, through m n r old new was w)
 
-pub cut_none : (m n : LifeMap) (r : Replica) → get replica_cmp m r ≡ None → m ≡ n → Cut (seen m) r (seen n) None
-cut_none m n r was same = subst (λ x. CutIf x (seen m) r (seen n) None) (sym (seen_life m r ∙ was)) (ap seen (sym same), refl)
+pub cut_none : (form : Form) (m n : LifeMap) (r : Replica) → get replica_cmp m r ≡ None → m ≡ n → Cut form (seen m) r (seen n) None
+cut_none form m n r was same = subst (λ x. CutIf form x (seen m) r (seen n) None) (sym (seen_life m r ∙ was)) (ap seen (sym same), refl)
 
 -- a life that is left as it was
 same_cond : (b : Bool) (o : Option LifeValue) (l : LifeValue) → (b ≡ true → o ≡ Some l) → cond b (Some l) o ≡ o
@@ -62,13 +63,13 @@ same_seen m n r old new was w same = map.same_map replica_total replica_antisymm
     ∙ map.get-insert replica_total (seen m) r new q
     ∙ same_cond (same_replica q r) (map.get (seen m) q) new (λ e. ap (map.get (seen m)) (same_replica-true q r e) ∙ (seen_life m r ∙ (was ∙ ap Some (sym same)))))
 
-pub told_some : {E F : Type 0} (m : LifeMap) (r : Replica) (old : LifeValue) (from : Option ℕ) (t : Result ToldValue E) (q : Result (Option ToldValue) F) → get replica_cmp m r ≡ Some old → IfOk t (TellsWhole old.history from) → IfOk q (λ o. IfOk t (λ x. o ≡ Some x)) → OnOk q (IsOk t) → IfOk q (ToldIf (map.get (seen m) r) from)
-told_some m r old from t (Err e) was f g ok = tt
-told_some m r old from (Err e) (Ok o) was f g ok = absurd (cc)
-told_some m r old from (Ok x) (Ok o) was f g ok = subst (λ y. ToldIf y from o) (sym (seen_life m r ∙ was)) (subst (λ y. ToldIf (Some old) from y) (sym g) f)
+pub told_some : {E F : Type 0} (form : Form) (m : LifeMap) (r : Replica) (old : LifeValue) (from : Option ℕ) (t : Result ToldValue E) (q : Result (Option ToldValue) F) → get replica_cmp m r ≡ Some old → IfOk t (TellsWhole form old.history from) → IfOk q (λ o. IfOk t (λ x. o ≡ Some x)) → OnOk q (IsOk t) → IfOk q (ToldIf form (map.get (seen m) r) from)
+told_some form m r old from t (Err e) was f g ok = tt
+told_some form m r old from (Err e) (Ok o) was f g ok = absurd (cc)
+told_some form m r old from (Ok x) (Ok o) was f g ok = subst (λ y. ToldIf form y from o) (sym (seen_life m r ∙ was)) (subst (λ y. ToldIf form (Some old) from y) (sym g) f)
 
-pub told_none : (m : LifeMap) (r : Replica) (from : Option ℕ) → get replica_cmp m r ≡ None → ToldIf (map.get (seen m) r) from None
-told_none m r from was = subst (λ y. ToldIf y from None) (sym (seen_life m r ∙ was)) refl
+pub told_none : (form : Form) (m : LifeMap) (r : Replica) (from : Option ℕ) → get replica_cmp m r ≡ None → ToldIf form (map.get (seen m) r) from None
+told_none form m r from was = subst (λ y. ToldIf form y from None) (sym (seen_life m r ∙ was)) refl
 
 pub insert_same : (m : Lives) (r : Replica) (l : LifeValue) → map.get m r ≡ Some l → map.insert m r l ≡ m
 insert_same m r l was = map.same_map replica_total replica_antisymmetric (map.insert m r l) m (λ q.

@@ -4,9 +4,10 @@ use Rattle.std.specs.BTreeMap.{BTreeMap}
 use Rattle.std.specs.FinMap as map
 use Rattle.presence_base.specs.declared.dots.Replica.{Replica}
 use Rattle.presence_base.specs.Order.{replica_cmp}
+use Rattle.orswot_core_told.specs.declared.form.Form.{Form}
 use Rattle.orswot_core_told.specs.Telling.{ToldValue}
 use Rattle.presence_journal.specs.Steps.{Step}
-use Rattle.node_links_world_laws.specs.World.{LifeValue, Lives, WorldValue, first_life, newborn, stepped, TellsWhole}
+use Rattle.node_links_world_laws.specs.World.{LifeValue, Lives, WorldValue, first_life, newborn, stepped, TellsPartIf, TellsWhole}
 use Rattle.node_links_world_lives.specs.Living.{Cuts, BeginsAgain}
 
 abbrev pub LifeMap : Type 0
@@ -33,20 +34,25 @@ Steps s l m = m ≡ stepped s l
 abbrev pub Begun : LifeValue → LifeValue → Type 0
 Begun l m = BeginsAgain l.history m.history × (m.made ≡ l.made)
 
--- what a cut of a life tells, if there is one
-abbrev pub CutIf : Option LifeValue → Lives → Replica → Lives → Option ToldValue → Type 0
-CutIf None old r new o = (new ≡ old) × (o ≡ None)
-CutIf (Some l) old r new o =
-    (m : LifeValue) × (Cuts l.history m.history o) × (m.made ≡ l.made) × (new ≡ map.insert old r m)
+-- what a cut of a life tells in a form, if there is one
+abbrev pub CutIf : Form → Option LifeValue → Lives → Replica → Lives → Option ToldValue → Type 0
+CutIf form None old r new o = (new ≡ old) × (o ≡ None)
+CutIf form (Some l) old r new o =
+    (m : LifeValue) × (Cuts form l.history m.history o) × (m.made ≡ l.made) × (new ≡ map.insert old r m)
 
-abbrev pub Cut : Lives → Replica → Lives → Option ToldValue → Type 0
-Cut old r new o = CutIf (map.get old r) old r new o
+abbrev pub Cut : Form → Lives → Replica → Lives → Option ToldValue → Type 0
+Cut form old r new o = CutIf form (map.get old r) old r new o
 
--- what a life tells, if there is one
-abbrev pub ToldIf : Option LifeValue → Option ℕ → Option ToldValue → Type 0
-ToldIf None from o = o ≡ None
-ToldIf (Some l) from None = ⊥
-ToldIf (Some l) from (Some t) = TellsWhole l.history from t
+-- what a life tells in a form, if there is one
+abbrev pub ToldIf : Form → Option LifeValue → Option ℕ → Option ToldValue → Type 0
+ToldIf form None from o = o ≡ None
+ToldIf form (Some l) from None = ⊥
+ToldIf form (Some l) from (Some t) = TellsWhole form l.history from t
+
+-- and in part
+abbrev pub PartOfLife : Form → Option LifeValue → ℕ → Option ToldValue → Type 0
+PartOfLife form None from o = o ≡ None
+PartOfLife form (Some l) from o = TellsPartIf form l.history from o
 
 -- ---- at first
 

@@ -1,9 +1,10 @@
 -- A world by its parts, and what the parts are behind an event.
 use Rattle.std.specs.Prelude.{◌≡◌, ℕ, cond, List, slice_get, Option}
 use Rattle.presence_base.specs.declared.dots.Replica.{Replica}
+use Rattle.orswot_core_told.specs.declared.form.Form.{Form}
 use Rattle.orswot_core_told.specs.Telling.{ToldValue}
 use Rattle.presence_journal.specs.Steps.{Step}
-use Rattle.node_links_world_laws.specs.World.{Lives, WorldValue, acts, life_at, may_ask, Cuts, Tells, delivered, Begins, restarted}
+use Rattle.node_links_world_laws.specs.World.{Lives, WorldValue, acts, life_at, may_ask, Cuts, Tells, TellsInPart, delivered, Begins, restarted}
 
 abbrev pub world : Lives → List Replica → List ToldValue → WorldValue
 world l p t = record { lives = l; present = p; told = t }
@@ -17,12 +18,15 @@ abbrev pub AsksTo : List Replica → Lives → ℕ → Step → Lives → Type 0
 AsksTo p old n s new = (t : List ToldValue)
     → world new p t ≡ cond (may_ask s) (acts (world old p t) n s) (world old p t)
 
--- the lives and what was told after a cut, after a full value, and the lives after a delivery
-abbrev pub CutsTo : List Replica → Lives → List ToldValue → ℕ → Lives → List ToldValue → Type 0
-CutsTo p old t n new u = Cuts (world old p t) (life_at (world old p t) n) (world new p u)
+-- the lives and what was told after a cut, after a full value, after a part, and the lives after a delivery
+abbrev pub CutsTo : Form → List Replica → Lives → List ToldValue → ℕ → Lives → List ToldValue → Type 0
+CutsTo form p old t n new u = Cuts form (world old p t) (life_at (world old p t) n) (world new p u)
 
-abbrev pub TellsTo : List Replica → Lives → List ToldValue → ℕ → Option ℕ → Lives → List ToldValue → Type 0
-TellsTo p old t n from new u = Tells (world old p t) from (life_at (world old p t) n) (world new p u)
+abbrev pub TellsTo : Form → List Replica → Lives → List ToldValue → ℕ → Option ℕ → Lives → List ToldValue → Type 0
+TellsTo form p old t n from new u = Tells form (world old p t) from (life_at (world old p t) n) (world new p u)
+
+abbrev pub PartsTo : Form → List Replica → Lives → List ToldValue → ℕ → ℕ → Lives → List ToldValue → Type 0
+PartsTo form p old t n from new u = TellsInPart form (world old p t) from (life_at (world old p t) n) (world new p u)
 
 abbrev pub DeliversTo : List Replica → List ToldValue → Lives → ℕ → ℕ → Lives → Type 0
 DeliversTo p t old n k new = world new p t ≡ delivered (world old p t) n (slice_get t k)

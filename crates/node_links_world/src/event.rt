@@ -2,17 +2,27 @@
 ghost use Rattle.std.specs.Prelude.{◌≡◌, true, OnOk, OnErr, set};
 ghost use Rattle.presence_journal.specs.Table.{is_step};
 ghost use Rattle.node_links_world.specs.Lives.{seen};
-ghost use Rattle.node_links_world.specs.Worlds.{world, ActsTo, AsksTo, CutsTo, TellsTo};
+ghost use Rattle.node_links_world.specs.Worlds.{world, ActsTo, AsksTo, CutsTo, PartsTo, TellsTo};
 ghost use Rattle.node_links_world.specs.Worlds.{DeliversTo, BeginsTo, RestartsTo};
 ghost use Rattle.node_links_world_laws.specs.World.{Happens};
 
 use crate::lives;
 use node_links_world_laws::Event;
 use node_links_world_lives::{Life, Telling, is_callers, is_limited};
+use orswot_core_told::Form;
 use presence_base::{MAX_COUNT, Replica};
 use presence_journal::Step;
 use std::alloc::{AllocError, Global};
 use std::collections::BTreeMap;
+
+// Which node tells a part, from which count on, up to which one, in which form.
+#[derive(Clone, Copy)]
+struct PartWanted {
+    node: usize,
+    from: u64,
+    to: Option<u64>,
+    form: Form,
+}
 
 // The step of a node's present life.
 #[tactic(auto, using(crate::proofs::Events::acting))]
@@ -54,7 +64,7 @@ fn ask(
     act(lives, present, alloc, node, step)
 }
 
-// A node tells what it did since its last cut. The room to keep it is made first.
+// A node tells what it did since its last cut, in the form. The room to keep it is made first.
 #[tactic(auto, using(crate::proofs::Events::cutting))]
 fn cut(
     lives: &mut BTreeMap<Replica, Life>,
@@ -62,8 +72,9 @@ fn cut(
     told: &mut Vec<Telling>,
     alloc: Global,
     node: usize,
+    form: Form,
 ) -> Result<(), AllocError>
-    ensures cuts { OnOk result (CutsTo present.now (seen lives.old) told.old.items node
+    ensures cuts { OnOk result (CutsTo form present.now (seen lives.old) told.old.items node
         (seen lives.new) told.new.items) }
     ensures same { OnErr result (seen lives.new ≡ seen lives.old) }
     ensures kept { OnErr result (told.new.items ≡ told.old.items) }
@@ -72,7 +83,7 @@ fn cut(
         return Ok(());
     };
     told.reserve(1)?;
-    match lives::cut(lives, alloc, own) {
+    match lives::cut(lives, alloc, own, form) {
         Ok(Some(one)) => {
             told.push_reserved(one);
             Ok(())
@@ -82,7 +93,7 @@ fn cut(
     }
 }
 
-// A node tells what another one missed, or all that it knows.
+// A node tells what another one missed, or all that it knows, in the form.
 #[tactic(auto, using(crate::proofs::Events::telling))]
 fn tell(
     lives: &mut BTreeMap<Replica, Life>,
@@ -91,8 +102,9 @@ fn tell(
     alloc: Global,
     node: usize,
     from: Option<u64>,
+    form: Form,
 ) -> Result<(), AllocError>
-    ensures tells { OnOk result (TellsTo present.now (seen lives.old) told.old.items node from
+    ensures tells { OnOk result (TellsTo form present.now (seen lives.old) told.old.items node from
         (seen lives.new) told.new.items) }
     ensures same { seen lives.new ≡ seen lives.old }
     ensures kept { OnErr result (told.new.items ≡ told.old.items) }
@@ -101,7 +113,35 @@ fn tell(
         return Ok(());
     };
     told.reserve(1)?;
-    match lives::told(lives, alloc, own, from) {
+    match lives::told(lives, alloc, own, from, form) {
+        Ok(Some(one)) => {
+            told.push_reserved(one);
+            Ok(())
+        }
+        Ok(None) => Ok(()),
+        Err(AllocError) => Err(AllocError),
+    }
+}
+
+// A node tells a part of what another one missed, in the form.
+#[tactic(auto, using(crate::proofs::Parts::parting))]
+fn tell_part(
+    lives: &mut BTreeMap<Replica, Life>,
+    present: &[Replica],
+    told: &mut Vec<Telling>,
+    alloc: Global,
+    part: &PartWanted,
+) -> Result<(), AllocError>
+    ensures tells { OnOk result (PartsTo part.now.form present.now (seen lives.old) told.old.items part.now.node part.now.from
+        (seen lives.new) told.new.items) }
+    ensures same { seen lives.new ≡ seen lives.old }
+    ensures kept { OnErr result (told.new.items ≡ told.old.items) }
+{
+    let Some(own) = present.get(part.node) else {
+        return Ok(());
+    };
+    told.reserve(1)?;
+    match lives::part(lives, alloc, own, (part.from, part.to), part.form) {
         Ok(Some(one)) => {
             told.push_reserved(one);
             Ok(())
@@ -202,8 +242,30 @@ pub(crate) fn happen(
 {
     match event {
         Event::Client { node, step } => ask(lives, present.as_slice(), alloc, *node, step),
-        Event::Cut { node } => cut(lives, present.as_slice(), told, alloc, *node),
-        Event::Full { node, from } => tell(lives, present.as_slice(), told, alloc, *node, *from),
+        Event::Cut { node, form } => cut(lives, present.as_slice(), told, alloc, *node, *form),
+        Event::Full { node, from, form } => tell(
+            lives,
+            present.as_slice(),
+            told,
+            alloc,
+            *node,
+            *from,
+            *form,
+        ),
+        Event::Part {
+            node,
+            from,
+            to,
+            form,
+        } => {
+            let part = PartWanted {
+                node: *node,
+                from: *from,
+                to: *to,
+                form: *form,
+            };
+            tell_part(lives, present.as_slice(), told, alloc, &part)
+        }
         Event::Deliver { node, told: place } => deliver(
             lives,
             present.as_slice(),

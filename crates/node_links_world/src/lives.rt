@@ -3,10 +3,11 @@ ghost use Rattle.std.specs.Prelude.{◌≡◌, true, Some, IfOk, IsOk, OnOk, OnE
 ghost use Rattle.std.specs.FinMap as map;
 ghost use Rattle.presence_base.specs.Refs.{IsCount};
 ghost use Rattle.presence_journal.specs.Table.{is_step};
-ghost use Rattle.node_links_world.specs.Lives.{seen, Turns, Steps, Begun, Cut, ToldIf};
+ghost use Rattle.node_links_world.specs.Lives.{seen, Turns, Steps, Begun, Cut, PartOfLife, ToldIf};
 ghost use Rattle.node_links_world_laws.specs.World.{newborn};
 
 use node_links_world_lives::{Life, Telling};
+use orswot_core_told::Form;
 use presence_base::Replica;
 use presence_journal::Step;
 use std::alloc::{AllocError, Global};
@@ -44,17 +45,18 @@ pub(crate) fn checkpoint(
     }
 }
 
-/// What it did since its last cut.
+/// What it did since its last cut, in the form.
 pub(crate) fn cut(
     lives: &mut BTreeMap<Replica, Life>,
     alloc: Global,
     own: &Replica,
+    form: Form,
 ) -> Result<Option<Telling>, AllocError>
-    ensures cut { IfOk result (Cut (seen lives.old) own.now (seen lives.new)) }
+    ensures cut { IfOk result (Cut form (seen lives.old) own.now (seen lives.new)) }
     ensures same { OnErr result (seen lives.new ≡ seen lives.old) }
 {
     match lives.get_mut(own) {
-        Some(life) => life.cut(alloc),
+        Some(life) => life.cut(alloc, form),
         None => Ok(None),
     }
 }
@@ -69,18 +71,36 @@ fn some(told: Result<Telling, AllocError>) -> Result<Option<Telling>, AllocError
     }
 }
 
-/// What it tells in whole, or from a count on.
+/// A part of what it tells from a count on, in the form: as far as fits a line, or up to a count.
+pub(crate) fn part(
+    lives: &mut BTreeMap<Replica, Life>,
+    alloc: Global,
+    own: &Replica,
+    wanted: (u64, Option<u64>),
+    form: Form,
+) -> Result<Option<Telling>, AllocError>
+    ensures same { seen lives.new ≡ seen lives.old }
+    ensures told { IfOk result (PartOfLife form (map.get (seen lives.old) own.now) wanted.0) }
+{
+    match lives.get_mut(own) {
+        Some(life) => life.part(alloc, wanted.0, wanted.1, form),
+        None => Ok(None),
+    }
+}
+
+/// What it tells in whole, or from a count on, in the form.
 pub(crate) fn told(
     lives: &mut BTreeMap<Replica, Life>,
     alloc: Global,
     own: &Replica,
     from: Option<u64>,
+    form: Form,
 ) -> Result<Option<Telling>, AllocError>
     ensures same { seen lives.new ≡ seen lives.old }
-    ensures told { IfOk result (ToldIf (map.get (seen lives.old) own.now) from) }
+    ensures told { IfOk result (ToldIf form (map.get (seen lives.old) own.now) from) }
 {
     match lives.get_mut(own) {
-        Some(life) => some(life.told(alloc, from)),
+        Some(life) => some(life.told(alloc, from, form)),
         None => Ok(None),
     }
 }

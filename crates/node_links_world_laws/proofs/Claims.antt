@@ -31,7 +31,7 @@ use Rattle.presence_journal_deeds.specs.Truth.{IsTrueOf}
 use Rattle.presence_journal_deeds.proofs.Telling.{some_or_none, gone_or_live}
 use Rattle.node_links_world_laws.specs.declared.event.Event.{Event}
 use Rattle.node_links_world_laws.specs.declared.event.Event.TheVariants as events_are
-use Rattle.node_links_world_laws.specs.World.{LifeValue, WorldValue, newborn, start, life_at, stepped, with_life, acted, acts, with_told, may_ask, CutsHere, Cuts, Tells, delivered, BeginsHere, Begins, is_later, next_life, reborn, restarted, Happens, Runs}
+use Rattle.node_links_world_laws.specs.World.{LifeValue, WorldValue, newborn, start, life_at, stepped, with_life, acted, acts, with_told, with_told_if, may_ask, CutsHere, Cuts, Tells, TellsInPart, delivered, BeginsHere, Begins, is_later, next_life, reborn, restarted, Happens, Runs}
 use Rattle.node_links_world_laws.specs.Claims.{AreNames, WasMade, NothingInvented, IsOver, NothingResurrected, CaughtUpIsEqual, NeverInvented, NeverResurrected, CaughtUpIsAlwaysEqual}
 use Rattle.node_links_world_laws.proofs.Lists.{get-put}
 use Rattle.node_links_world_laws.specs.TrueWorlds.{IsTrueLife, IsTrueWorld}
@@ -179,20 +179,29 @@ goes_happens d w v (events_are.Client n s) iw f = goes_from d w (cond (may_ask s
     go : (b : Bool) → GoesOn d w (cond b (acts w n s) w)
     go true = goes_acts d w n s
     go false = goes_same d w w refl
-goes_happens d w v (events_are.Cut n) iw f = go (life_at w n) refl f
+goes_happens d w v (events_are.Cut n form) iw f = go (life_at w n) refl f
   where
-    at : (x : Replica × LifeValue) → IsLife w n x → (b : Bool) → CutsHere b w x v → GoesOn d w v
+    at : (x : Replica × LifeValue) → IsLife w n x → (b : Bool) → CutsHere form b w x v → GoesOn d w v
     at x k false g = goes_from d w w v g (goes_same d w w refl)
     at x k true g = goes_from d w (with_told (with_life w x.0 (stepped steps_are.Cut x.1)) g.0) v g.2 (goes_put d w (with_told (with_life w x.0 (stepped steps_are.Cut x.1)) g.0) x.0 x.1 (stepped steps_are.Cut x.1) k.lives refl (over_after x.1.history steps_are.Cut d))
 
-    go : (o : Option (Replica × LifeValue)) → life_at w n ≡ o → Cuts w o v → GoesOn d w v
+    go : (o : Option (Replica × LifeValue)) → life_at w n ≡ o → Cuts form w o v → GoesOn d w v
     go None p g = goes_from d w w v g (goes_same d w w refl)
     go (Some x) p g = at x (life_is w n x p) (is_some (accepted x.1.history steps_are.Cut)) g
-goes_happens d w v (events_are.Full n from) iw f = go (life_at w n) f
+goes_happens d w v (events_are.Full n from form) iw f = go (life_at w n) f
   where
-    go : (o : Option (Replica × LifeValue)) → Tells w from o v → GoesOn d w v
+    go : (o : Option (Replica × LifeValue)) → Tells form w from o v → GoesOn d w v
     go None g = goes_from d w w v g (goes_same d w w refl)
     go (Some x) g = goes_from d w (with_told w g.0) v g.2 (goes_same d w (with_told w g.0) refl)
+goes_happens d w v (events_are.Part n from to form) iw f = go (life_at w n) f
+  where
+    at : (o : Option ToldValue) → v ≡ with_told_if w o → GoesOn d w v
+    at None g = goes_from d w w v g (goes_same d w w refl)
+    at (Some t) g = goes_from d w (with_told w t) v g (goes_same d w (with_told w t) refl)
+
+    go : (o : Option (Replica × LifeValue)) → TellsInPart form w from o v → GoesOn d w v
+    go None g = goes_from d w w v g (goes_same d w w refl)
+    go (Some x) g = at g.0 g.2
 goes_happens d w v (events_are.Deliver n k) iw f = goes_from d w (delivered w n (slice_get w.told k)) v f (go (slice_get w.told k))
   where
     go : (o : Option ToldValue) → GoesOn d w (delivered w n o)

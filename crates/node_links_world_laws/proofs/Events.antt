@@ -12,9 +12,10 @@ use Rattle.presence_base.specs.declared.row.Row.{Row}
 use Rattle.presence_base.specs.Names.{is_node_name}
 use Rattle.presence_base.specs.Refs.{IsCount}
 use Rattle.presence_base.specs.Order.{replica_cmp, same_replica, same_dot}
+use Rattle.orswot_core_told.specs.declared.form.Form.{Form}
 use Rattle.orswot_core_told.specs.Telling.{ToldValue}
 use Rattle.orswot_core.specs.Full.{dot_of}
-use Rattle.delta_range.specs.Deltas.{telling}
+use Rattle.delta_range.specs.Deltas.{telling_in}
 use Rattle.presence_journal_data.specs.declared.step.Step.TheVariants as steps_are
 use Rattle.presence_journal_data.specs.declared.entry.Outcome.TheVariants as outcomes_are
 use Rattle.presence_journal.specs.Steps.{Step, Outcome, Entry, Start}
@@ -31,12 +32,14 @@ use Rattle.presence_journal_deeds.specs.Truth.{AreDeeds, TellsTrue, IsTrueOf, Do
 use Rattle.presence_journal_deeds.specs.Laws.{then_did}
 use Rattle.presence_journal_deeds.proofs.More.{put_same, more_same, entries_go_on, told_stays_true}
 use Rattle.presence_journal_deeds.proofs.Entries.{entries_are_deeds}
+use Rattle.presence_journal_cuts.specs.KeptDeltas.{TellsFrom}
 use Rattle.presence_journal_deeds.proofs.Telling.{cuts_tell_true, fulls_tell_true}
+use Rattle.presence_journal_deeds.proofs.Parts.{parts_tell_true}
 use Rattle.presence_journal_deeds.proofs.Keeping.{entries_stay_true, kept_tell_true}
 use Rattle.presence_journal_deeds.proofs.Checkpoints.{checkpoints_stay_true, lives_begin_true}
 use Rattle.node_links_world_laws.specs.declared.event.Event.{Event}
 use Rattle.node_links_world_laws.specs.declared.event.Event.TheVariants as events_are
-use Rattle.node_links_world_laws.specs.World.{LifeValue, Lives, WorldValue, first_life, newborn, with_lives, start, with_replica, life_of, life_at, under, added, with_row, stepped, with_life, acted, acts, with_told, TellsFrom, is_client, may_ask, CutsHere, Cuts, Tells, delivered, BeginsHere, Begins, is_later, next_life, reborn, restarted, Happens, Runs}
+use Rattle.node_links_world_laws.specs.World.{LifeValue, Lives, WorldValue, first_life, newborn, with_lives, start, with_replica, life_of, life_at, under, added, with_row, stepped, with_life, acted, acts, with_told, is_client, may_ask, CutsHere, Cuts, Tells, TellsPartIf, TellsInPart, with_told_if, delivered, BeginsHere, Begins, is_later, next_life, reborn, restarted, Happens, Runs}
 use Rattle.node_links_world_laws.specs.Claims.{AreNames}
 use Rattle.node_links_world_laws.proofs.Lists.{all_at, all_more, set_cases, lookup-append, get-put, one_place}
 use Rattle.node_links_world_laws.specs.TrueWorlds.{IsTrueLife, IsTrueTold, ArePresent, IsTrueBy, IsTrueWorld}
@@ -167,37 +170,51 @@ acts_true w iw n s limits hears = go (life_at w n) refl
 with_told_true : (w : WorldValue) (t : ToldValue) (deeds : AllDeeds) → IsTrueBy deeds w → IsTrueTold deeds t → IsTrueBy deeds (with_told w t)
 with_told_true w t deeds iv k = record { are = iv.are; lives = iv.lives; told = all_more (IsTrueTold deeds) w.told t iv.told k; fresh = iv.fresh; present = iv.present }
 
-cuts_true : (w v : WorldValue) → IsTrueWorld w → (n : ℕ) → Cuts w (life_at w n) v → IsTrueWorld v
-cuts_true w v iw n c = go (life_at w n) refl c
+cuts_true : (form : Form) (w v : WorldValue) → IsTrueWorld w → (n : ℕ) → Cuts form w (life_at w n) v → IsTrueWorld v
+cuts_true form w v iw n c = go (life_at w n) refl c
   where
-    at : (x : Replica × LifeValue) → IsLife w n x → (b : Bool) → CutsHere b w x v → IsTrueWorld v
+    at : (x : Replica × LifeValue) → IsLife w n x → (b : Bool) → CutsHere form b w x v → IsTrueWorld v
     at x k false g = subst IsTrueWorld (sym g) iw
     at x k true g =
         let here = iw.is.lives x.0 x.1 k.lives in
         let on = step_true iw.deeds x.0 x.1 steps_are.Cut iw.is.are here refl (λ t m. absurd (cc)) in
-        let old : TellsTrue iw.deeds (telling g.1.delta) = cuts_tell_true iw.deeds x.1.history g.1.delta iw.is.are here.is g.1.cut g.1.sound in
+        let old : TellsTrue iw.deeds (telling_in form g.1.delta) = cuts_tell_true iw.deeds x.1.history g.1.delta iw.is.are here.is g.1.cut g.1.sound form in
         let told : TellsTrue on.new g.0 = told_stays_true iw.deeds on.new g.0 on.more (subst (TellsTrue iw.deeds) (sym g.1.tells) old) in
         let next : IsTrueBy on.new (with_told (with_life w x.0 (stepped steps_are.Cut x.1)) g.0) = with_told_true (with_life w x.0 (stepped steps_are.Cut x.1)) g.0 on.new (put_on w n x (stepped steps_are.Cut x.1) iw.deeds iw.is k on) (told, g.1.limits) in
         record { deeds = on.new; is = subst (IsTrueBy on.new) (sym g.2) next }
 
-    go : (o : Option (Replica × LifeValue)) → life_at w n ≡ o → Cuts w o v → IsTrueWorld v
+    go : (o : Option (Replica × LifeValue)) → life_at w n ≡ o → Cuts form w o v → IsTrueWorld v
     go None f g = subst IsTrueWorld (sym g) iw
     go (Some x) f g = at x (life_is w n x f) (is_some (accepted x.1.history steps_are.Cut)) g
 
-tells_true : (w v : WorldValue) → IsTrueWorld w → (n : ℕ) (from : Option ℕ) → Tells w from (life_at w n) v → IsTrueWorld v
-tells_true w v iw n from c = go (life_at w n) refl c
+tells_true : (form : Form) (w v : WorldValue) → IsTrueWorld w → (n : ℕ) (from : Option ℕ) → Tells form w from (life_at w n) v → IsTrueWorld v
+tells_true form w v iw n from c = go (life_at w n) refl c
   where
-    whole : (x : Replica × LifeValue) (t : ToldValue) → IsTrueOf iw.deeds x.1.history → (o : Option ℕ) → TellsFrom x.1.history o t → TellsTrue iw.deeds t
-    whole x t k None g = fulls_tell_true iw.deeds x.1.history t k g
-    whole x t k (Some m) g = kept_tell_true iw.deeds x.1.history m t k g
+    whole : (x : Replica × LifeValue) (t : ToldValue) → IsTrueOf iw.deeds x.1.history → (o : Option ℕ) → TellsFrom form x.1.history o t → TellsTrue iw.deeds t
+    whole x t k None g = fulls_tell_true iw.deeds x.1.history form t k g
+    whole x t k (Some m) g = kept_tell_true iw.deeds x.1.history form m t k g
 
-    go : (o : Option (Replica × LifeValue)) → life_at w n ≡ o → Tells w from o v → IsTrueWorld v
+    go : (o : Option (Replica × LifeValue)) → life_at w n ≡ o → Tells form w from o v → IsTrueWorld v
     go None f g = subst IsTrueWorld (sym g) iw
     go (Some x) f g =
         let k = life_is w n x f in
         let here = iw.is.lives x.0 x.1 k.lives in
         let told : TellsTrue iw.deeds g.0 = whole x g.0 here.is from g.1.tells in
         record { deeds = iw.deeds; is = subst (IsTrueBy iw.deeds) (sym g.2) (with_told_true w g.0 iw.deeds iw.is (told, g.1.limits)) }
+
+parts_true : (form : Form) (w v : WorldValue) → IsTrueWorld w → (n from : ℕ) → TellsInPart form w from (life_at w n) v → IsTrueWorld v
+parts_true form w v iw n from c = go (life_at w n) refl c
+  where
+    at : (x : Replica × LifeValue) → IsLife w n x → (o : Option ToldValue) → TellsPartIf form x.1.history from o → v ≡ with_told_if w o → IsTrueWorld v
+    at x k None p g = subst IsTrueWorld (sym g) iw
+    at x k (Some t) p g =
+        let here = iw.is.lives x.0 x.1 k.lives in
+        let told : TellsTrue iw.deeds t = subst (TellsTrue iw.deeds) (sym p.is) (parts_tell_true iw.deeds x.1.history from p.delta iw.is.are here.is p.part p.sound form) in
+        record { deeds = iw.deeds; is = subst (IsTrueBy iw.deeds) (sym g) (with_told_true w t iw.deeds iw.is (told, p.limits)) }
+
+    go : (o : Option (Replica × LifeValue)) → life_at w n ≡ o → TellsInPart form w from o v → IsTrueWorld v
+    go None f g = subst IsTrueWorld (sym g) iw
+    go (Some x) f g = at x (life_is w n x f) g.0 g.1 g.2
 
 delivered_true : (w : WorldValue) → IsTrueWorld w → (n k : ℕ) → IsTrueWorld (delivered w n (slice_get w.told k))
 delivered_true w iw n k = go (slice_get w.told k) refl
@@ -322,8 +339,9 @@ happens_true w v (events_are.Client n s) iw f = subst IsTrueWorld (sym f) (go (m
     go : (b : Bool) → may_ask s ≡ b → IsTrueWorld (cond b (acts w n s) w)
     go true p = let q = and_parts (is_client s) (is_step s) p in acts_true w iw n s q.1 (λ deeds iv. quiet s q.0 deeds)
     go false p = iw
-happens_true w v (events_are.Cut n) iw f = cuts_true w v iw n f
-happens_true w v (events_are.Full n from) iw f = tells_true w v iw n from f
+happens_true w v (events_are.Cut n form) iw f = cuts_true form w v iw n f
+happens_true w v (events_are.Full n from form) iw f = tells_true form w v iw n from f
+happens_true w v (events_are.Part n from to form) iw f = parts_true form w v iw n from f
 happens_true w v (events_are.Deliver n k) iw f = subst IsTrueWorld (sym f) (delivered_true w iw n k)
 happens_true w v (events_are.Heard n r now) iw f = subst IsTrueWorld (sym f) (acts_true w iw n (steps_are.Heard r now) refl (λ deeds iv t m. absurd (cc)))
 happens_true w v (events_are.Tick n now) iw f = subst IsTrueWorld (sym f) (acts_true w iw n (steps_are.Tick now) refl (λ deeds iv t m. absurd (cc)))

@@ -6,17 +6,18 @@ use Rattle.presence_base.specs.declared.dots.Replica.{Replica}
 use Rattle.presence_base.specs.declared.dots.Dot.{Dot}
 use Rattle.presence_base.specs.declared.row.Row.{Row}
 use Rattle.presence_base.specs.Order.{replica_cmp}
+use Rattle.orswot_core_told.specs.declared.form.Form.{Form}
 use Rattle.orswot_core_told.specs.Telling.{ToldValue}
-use Rattle.delta_range.specs.Deltas.{DeltaValue, telling, IsDelta}
+use Rattle.delta_range.specs.Deltas.{DeltaValue, telling_in, IsDelta}
 use Rattle.presence_journal_data.specs.StepLimits.{is_heard}
 use Rattle.presence_journal_data.specs.declared.step.Step.TheVariants as steps_are
 use Rattle.presence_journal_data.specs.declared.entry.Outcome.TheVariants as outcomes_are
 use Rattle.presence_journal.specs.Steps.{Step, Outcome, Start}
 use Rattle.presence_journal.specs.History.{History, Begin, begun, last_number, row_made}
 use Rattle.presence_journal.specs.Table.{accepted, after, is_step}
-use Rattle.presence_journal_sets.specs.Full.{IsFullOf}
 use Rattle.presence_journal_cuts.specs.Cuts.{IsCut}
-use Rattle.presence_journal_cuts.specs.KeptDeltas.{IsToldFrom}
+use Rattle.presence_journal_cuts.specs.KeptDeltas.{TellsFrom}
+use Rattle.presence_journal_cuts.specs.ToldParts.{IsPart, HasNoPart}
 use Rattle.presence_journal_starts.specs.Checkpoints.{IsCheckpoint}
 use Rattle.node_links_world_laws.specs.declared.event.Event.{Event}
 use Rattle.node_links_world_laws.specs.declared.event.Event.TheVariants as events_are
@@ -99,22 +100,31 @@ acts w n s = acted w s (life_at w n)
 abbrev pub with_told : WorldValue → ToldValue → WorldValue
 with_told w t = record w { told = w.told ++ t ∷ [] }
 
--- what a cut of a history tells
-pub record TellsCut (h : History) (t : ToldValue) : Type 0 where
+-- what a cut of a history tells in a form
+pub record TellsCut (form : Form) (h : History) (t : ToldValue) : Type 0 where
   pub delta : DeltaValue
   pub cut : IsCut h delta
   pub sound : IsDelta delta
-  pub tells : t ≡ telling delta
+  pub tells : t ≡ telling_in form delta
   pub limits : is_heard t ≡ true
 
--- what is told from a count on, or in full
-abbrev pub TellsFrom : History → Option ℕ → ToldValue → Type 0
-TellsFrom h None t = IsFullOf h t
-TellsFrom h (Some n) t = IsToldFrom h n t
-
-pub record TellsWhole (h : History) (from : Option ℕ) (t : ToldValue) : Type 0 where
-  pub tells : TellsFrom h from t
+-- what is told from a count on, or in full, in a form
+pub record TellsWhole (form : Form) (h : History) (from : Option ℕ) (t : ToldValue) : Type 0 where
+  pub tells : TellsFrom form h from t
   pub limits : is_heard t ≡ true
+
+-- a part of what a history tells from a count on, in a form; where it ends is the teller's choice
+pub record TellsPart (form : Form) (h : History) (n : ℕ) (t : ToldValue) : Type 0 where
+  pub delta : DeltaValue
+  pub part : IsPart h n delta
+  pub sound : IsDelta delta
+  pub is : t ≡ telling_in form delta
+  pub limits : is_heard t ≡ true
+
+-- or nothing, where even a part without rows is too much for a line
+abbrev pub TellsPartIf : Form → History → ℕ → Option ToldValue → Type 0
+TellsPartIf form h n None = HasNoPart h n
+TellsPartIf form h n (Some t) = TellsPart form h n t
 
 -- ---- events
 
@@ -132,18 +142,26 @@ abbrev pub may_ask : Step → Bool
 may_ask s = is_client s && is_step s
 
 -- where the cut is accepted, what it tells is kept
-abbrev pub CutsHere : Bool → WorldValue → Replica × LifeValue → WorldValue → Type 0
-CutsHere true w x v =
-    (t : ToldValue) × TellsCut x.1.history t × (v ≡ with_told (with_life w x.0 (stepped steps_are.Cut x.1)) t)
-CutsHere false w x v = v ≡ w
+abbrev pub CutsHere : Form → Bool → WorldValue → Replica × LifeValue → WorldValue → Type 0
+CutsHere form true w x v =
+    (t : ToldValue) × TellsCut form x.1.history t × (v ≡ with_told (with_life w x.0 (stepped steps_are.Cut x.1)) t)
+CutsHere form false w x v = v ≡ w
 
-abbrev pub Cuts : WorldValue → Option (Replica × LifeValue) → WorldValue → Type 0
-Cuts w None v = v ≡ w
-Cuts w (Some x) v = CutsHere (is_some (accepted x.1.history steps_are.Cut)) w x v
+abbrev pub Cuts : Form → WorldValue → Option (Replica × LifeValue) → WorldValue → Type 0
+Cuts form w None v = v ≡ w
+Cuts form w (Some x) v = CutsHere form (is_some (accepted x.1.history steps_are.Cut)) w x v
 
-abbrev pub Tells : WorldValue → Option ℕ → Option (Replica × LifeValue) → WorldValue → Type 0
-Tells w from None v = v ≡ w
-Tells w from (Some x) v = (t : ToldValue) × TellsWhole x.1.history from t × (v ≡ with_told w t)
+abbrev pub Tells : Form → WorldValue → Option ℕ → Option (Replica × LifeValue) → WorldValue → Type 0
+Tells form w from None v = v ≡ w
+Tells form w from (Some x) v = (t : ToldValue) × TellsWhole form x.1.history from t × (v ≡ with_told w t)
+
+abbrev pub with_told_if : WorldValue → Option ToldValue → WorldValue
+with_told_if w None = w
+with_told_if w (Some t) = with_told w t
+
+abbrev pub TellsInPart : Form → WorldValue → ℕ → Option (Replica × LifeValue) → WorldValue → Type 0
+TellsInPart form w n None v = v ≡ w
+TellsInPart form w n (Some x) v = (o : Option ToldValue) × TellsPartIf form x.1.history n o × (v ≡ with_told_if w o)
 
 abbrev pub delivered : WorldValue → ℕ → Option ToldValue → WorldValue
 delivered w n None = w
@@ -177,12 +195,13 @@ abbrev pub restarted : WorldValue → ℕ → ℕ → Option Replica → WorldVa
 restarted w n i None = w
 restarted w n i (Some r) = cond (is_later r i) (reborn w n (next_life r i)) w
 
--- What an event makes of a world, one line for each. A cut, a full value and a checkpoint leave open which value is told,
--- or which Start is made, of those that are right; all that is said of worlds holds for each.
+-- What an event makes of a world, one line for each. A cut, a full value, a part and a checkpoint leave open which value of the form
+-- is told, or which Start is made, of those that are right; all that is said of worlds holds for each.
 abbrev pub Happens : WorldValue → Event → WorldValue → Type 0
 Happens w (events_are.Client n s) v = v ≡ cond (may_ask s) (acts w n s) w
-Happens w (events_are.Cut n) v = Cuts w (life_at w n) v
-Happens w (events_are.Full n from) v = Tells w from (life_at w n) v
+Happens w (events_are.Cut n form) v = Cuts form w (life_at w n) v
+Happens w (events_are.Full n from form) v = Tells form w from (life_at w n) v
+Happens w (events_are.Part n from to form) v = TellsInPart form w from (life_at w n) v
 Happens w (events_are.Deliver n k) v = v ≡ delivered w n (slice_get w.told k)
 Happens w (events_are.Heard n r now) v = v ≡ acts w n (steps_are.Heard r now)
 Happens w (events_are.Tick n now) v = v ≡ acts w n (steps_are.Tick now)

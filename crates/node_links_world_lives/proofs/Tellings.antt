@@ -1,17 +1,20 @@
 -- What is told is within the limits of what is heard, where the names and texts of its rows are.
 use Rattle.std.proofs.Common.{◌≡◌, true, not, ◌&&◌}
 use Rattle.std.specs.List.{list_all}
+use Rattle.orswot_core_told.specs.declared.form.Form.{Form}
+use Rattle.orswot_core_told.specs.declared.form.Form.TheVariants.{One, Two}
 use Rattle.orswot_core_told.specs.Telling.{ToldValue}
 use Rattle.orswot_core_told.specs.Checks.{IsTold}
 use Rattle.orswot_core_told.specs.Limits.{are_texts}
-use Rattle.delta_range.specs.Deltas.{DeltaValue, telling, IsDelta}
-use Rattle.delta_range.proofs.DeltaFacts.{delta_told}
+use Rattle.delta_range.specs.Deltas.{DeltaValue, telling_in, IsDelta}
+use Rattle.delta_range.proofs.FormFacts.{delta_told_in}
 use Rattle.presence_journal_data.specs.StepLimits.{is_heard, is_named}
 
 pub heard_told : (t : ToldValue) → IsTold t → list_all is_named t.live ≡ true → list_all (λ x. are_texts x.1) t.live ≡ true → is_heard t ≡ true
-heard_told t k n x = λ i. (not (k.one_range i) && (k.forward i && (k.ranges i && (k.extras i && (k.rows i && (k.covered i && not (k.once i))))))) && (n i && x i)
+heard_told t k n x = λ i. (k.forward i && (k.ranges i && (k.extras i && (k.rows i && (k.covered i && not (k.once i)))))) && (n i && x i)
 
-pub heard_delta : (d : DeltaValue) → IsDelta d → list_all is_named d.live ≡ true → list_all (λ x. are_texts x.1) d.live ≡ true → is_heard (telling d) ≡ true
-heard_delta d k n x = heard_told (telling d) (delta_told d k) n x
+pub heard_delta : (form : Form) (d : DeltaValue) → IsDelta d → list_all is_named d.live ≡ true → list_all (λ x. are_texts x.1) d.live ≡ true → is_heard (telling_in form d) ≡ true
+heard_delta One d k n x = heard_told (telling_in One d) (delta_told_in One d k) n x
+heard_delta Two d k n x = heard_told (telling_in Two d) (delta_told_in Two d k) n x
 
 pub ruleset heard = (heard_told, heard_delta)

@@ -2,36 +2,42 @@
 use Rattle.std.proofs.Common.{◌≡◌, ℕ, ◌^◌, Bool, true, false, cond, is_some, nat_lt, nat_le, Option, Some, None, Result, Ok, Err, OnOk, refl, sym, subst}
 use Rattle.std.proofs.lemmas.Bool.Decides.{nat_tests}
 use Rattle.std.proofs.Common.{arith}
+use Rattle.orswot_core_told.specs.declared.form.Form.{Form}
 use Rattle.orswot_core_told.specs.Telling.{ToldValue}
-use Rattle.delta_range.specs.Deltas.{DeltaValue}
+use Rattle.delta_range.specs.Deltas.{DeltaValue, telling_in, IsDelta}
 use Rattle.presence_journal_data.specs.StepLimits.{is_heard}
 use Rattle.presence_journal_data.specs.declared.step.Step.TheVariants as steps_are
 use Rattle.presence_journal.specs.History.{History, is_full, last_number}
 use Rattle.presence_journal.specs.Table.{outcome_of, accepted}
 use Rattle.presence_journal_sets.specs.Full.{IsFullOf}
+use Rattle.presence_journal_cuts.specs.Cuts.{IsCut}
 use Rattle.presence_journal_cuts.specs.KeptDeltas.{IsToldFrom}
 use Rattle.tracker_shard.specs.declared.fault.ShardFault.{ShardFault}
 use Rattle.tracker_shard.specs.declared.fault.ShardFault.TheVariants.{AlreadyTracked, NoPresence, ClockFull, JournalFull, NoSub, OutOfMemory}
 use Rattle.tracker_shard.specs.Steps.{Stepped, Answers, IsDue, RefusesForRoom, cause, refusal, checkpoint_refusal}
 use Rattle.node_links_world_lives.specs.Living.{CutsIf, Cuts, BeginsIf, BeginsAgain}
-use Rattle.node_links_world_laws.specs.World.{TellsWhole}
+use Rattle.node_links_world_laws.specs.World.{TellsCut, TellsWhole}
 
-pub whole_all : (h : History) (from : Option ℕ) (t u : ToldValue) → from ≡ None → IsFullOf h t → u ≡ t → is_heard u ≡ true → TellsWhole h from u
-whole_all h from t u n f same limits = subst (λ o. TellsWhole h o u) (sym n) (record { tells = subst (IsFullOf h) (sym same) f; limits = limits })
+pub whole_all : (form : Form) (h : History) (from : Option ℕ) (t u : ToldValue) → from ≡ None → IsFullOf form h t → u ≡ t → is_heard u ≡ true → TellsWhole form h from u
+whole_all form h from t u n f same limits = subst (λ o. TellsWhole form h o u) (sym n) (record { tells = subst (IsFullOf form h) (sym same) f; limits = limits })
 
-pub whole_from : (h : History) (from : Option ℕ) (m : ℕ) (t u : ToldValue) → from ≡ Some m → IsToldFrom h m t → u ≡ t → is_heard u ≡ true → TellsWhole h from u
-whole_from h from m t u n f same limits = subst (λ o. TellsWhole h o u) (sym n) (record { tells = subst (IsToldFrom h m) (sym same) f; limits = limits })
+pub whole_from : (form : Form) (h : History) (from : Option ℕ) (m : ℕ) (t u : ToldValue) → from ≡ Some m → IsToldFrom form h m t → u ≡ t → is_heard u ≡ true → TellsWhole form h from u
+whole_from form h from m t u n f same limits = subst (λ o. TellsWhole form h o u) (sym n) (record { tells = subst (IsToldFrom form h m) (sym same) f; limits = limits })
+
+-- a cut that is told in a form
+pub cut_told : (form : Form) (h : History) (t : ToldValue) (d : DeltaValue) → IsCut h d → IsDelta d → t ≡ telling_in form d → is_heard t ≡ true → TellsCut form h t
+cut_told form h t d cut sound tells limits = record { delta = d; cut = cut; sound = sound; tells = tells; limits = limits }
 
 -- a full journal takes no cut
-cut_none : (h g : History) → g ≡ h → refusal true h steps_are.Cut ≡ Some JournalFull → Cuts h g None
+cut_none : (form : Form) (h g : History) → g ≡ h → refusal true h steps_are.Cut ≡ Some JournalFull → Cuts form h g None
 unfolding accepted outcome_of
-cut_none h g same r = go (is_full h) r
+cut_none form h g same r = go (is_full h) r
   where
-    go : (b : Bool) → cond b (Some JournalFull) (cond true None (Some (cause steps_are.Cut))) ≡ Some JournalFull → CutsIf (is_some (cond b None (outcome_of h steps_are.Cut))) h g None
+    go : (b : Bool) → cond b (Some JournalFull) (cond true None (Some (cause steps_are.Cut))) ≡ Some JournalFull → CutsIf form (is_some (cond b None (outcome_of h steps_are.Cut))) h g None
     go true f = same
     go false f = absurd (cc)
 
-pub cut_refused : (h g : History) → g ≡ h → refusal true h steps_are.Cut ≡ Some JournalFull → Cuts h g None
+pub cut_refused : (form : Form) (h g : History) → g ≡ h → refusal true h steps_are.Cut ≡ Some JournalFull → Cuts form h g None
 cut_refused = cut_none
 
 pub begin_refused : (h g : History) → g ≡ h → checkpoint_refusal h ≡ Some JournalFull → BeginsAgain h g
@@ -54,7 +60,7 @@ cut_short Gives h g JournalFull k a = k
 cut_short Gives h g NoSub k a = k
 cut_short Gives h g OutOfMemory k a = k
 
-pub ruleset wholes = (whole_all, whole_from, cut_refused, cut_short, begin_refused)
+pub ruleset wholes = (whole_all, whole_from, cut_told, cut_refused, cut_short, begin_refused)
 
 -- ---- refused for want of room
 
@@ -78,8 +84,8 @@ room_of A B OutOfMemory k = k
 pub room_at : {A : Type 0} (r : Result A ShardFault) (f : ShardFault) → r ≡ Err f → RefusesForRoom r → RefusesForRoom {A = Unit {0}} (Err f)
 room_at {A} r f e k = room_of A (Unit {0}) f (subst (λ (y : Result A ShardFault). RefusesForRoom y) e k)
 
-pub cut_full : (h g : History) (f : ShardFault) → f ≡ JournalFull → g ≡ h → IsDue {A = DeltaValue} (Err f) (refusal true h steps_are.Cut) → Cuts h g None
-cut_full h g f e same d = cut_refused h g same (subst (λ (x : ShardFault). IsDue {A = DeltaValue} (Err x) (refusal true h steps_are.Cut)) e d)
+pub cut_full : (form : Form) (h g : History) (f : ShardFault) → f ≡ JournalFull → g ≡ h → IsDue {A = DeltaValue} (Err f) (refusal true h steps_are.Cut) → Cuts form h g None
+cut_full form h g f e same d = cut_refused form h g same (subst (λ (x : ShardFault). IsDue {A = DeltaValue} (Err x) (refusal true h steps_are.Cut)) e d)
 
 pub begin_full : {E : Type 0} (h g : History) (f : ShardFault) (q : Result (Unit {0}) E) → g ≡ h → IsDue {A = Unit {0}} (Err f) (checkpoint_refusal h) → OnOk q (f ≡ JournalFull) → OnOk q (BeginsAgain h g)
 begin_full h g f (Err e) same d k = tt

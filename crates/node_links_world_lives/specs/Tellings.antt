@@ -1,9 +1,9 @@
--- What was told, by the form in which it is kept.
+-- What was told, by what is kept of it.
 use Rattle.orswot_core_told.specs.Telling.{ToldValue}
-use Rattle.delta_range.specs.Deltas.{telling}
-use Rattle.node_links_world_lives.specs.declared.telling.Form.{Form}
-use Rattle.node_links_world_lives.specs.declared.telling.Form.TheVariants as forms_are
+use Rattle.delta_range.specs.Deltas.{telling_in}
+use Rattle.node_links_world_lives.specs.declared.telling.Source.{Source}
+use Rattle.node_links_world_lives.specs.declared.telling.Source.TheVariants as sources_are
 
-abbrev pub told_by : Form → ToldValue
-told_by (forms_are.Cut delta) = telling delta
-told_by (forms_are.Whole told) = told
+abbrev pub told_by : Source → ToldValue
+told_by (sources_are.Cut delta form) = telling_in form delta
+told_by (sources_are.Whole told) = told

@@ -3,10 +3,11 @@ ghost use Rattle.presence_base.specs.Refs.{IsCount};
 ghost use Rattle.presence_journal.specs.Table.{is_step, IsLegal};
 ghost use Rattle.presence_journal.specs.History.{IsTop, count, status};
 ghost use Rattle.node_links_world_lives.specs.Living.{Cuts, BeginsAgain};
-ghost use Rattle.node_links_world_laws.specs.World.{newborn, stepped, TellsWhole};
+ghost use Rattle.node_links_world_laws.specs.World.{newborn, stepped, TellsPartIf, TellsWhole};
 
 use crate::taking;
 use crate::telling::Telling;
+use orswot_core_told::Form;
 use presence_base::{Dot, Replica, Row};
 use presence_journal::{Journal, Step};
 use replica_status::Status;
@@ -89,22 +90,41 @@ impl Life {
         taking::take(&mut self.shard, &mut self.made, alloc, step)
     }
 
-    /// What it did since its last cut, where there is room for the entry.
+    /// What it did since its last cut, in the form, where there is room for the entry.
     #[tactic(auto, using(crate::proofs::LifeFacts::parts_same))]
-    pub fn cut(&mut self, alloc: Global) -> Result<Option<Telling>, AllocError>
-        ensures history { IfOk result (Cuts self.old.history self.new.history) }
+    pub fn cut(&mut self, alloc: Global, form: Form) -> Result<Option<Telling>, AllocError>
+        ensures history { IfOk result (Cuts form self.old.history self.new.history) }
         ensures made { self.new.made ≡ self.old.made }
         ensures same { OnErr result (self.new ≡ self.old) }
     {
-        taking::cut(&mut self.shard, alloc)
+        taking::cut(&mut self.shard, alloc, form)
     }
 
-    /// All that it knows, or what a node missed that knows its dots up to a count.
-    pub fn told(&mut self, alloc: Global, from: Option<u64>) -> Result<Telling, AllocError>
+    /// All that it knows, or what a node missed that knows its dots up to a count, in the form.
+    pub fn told(
+        &mut self,
+        alloc: Global,
+        from: Option<u64>,
+        form: Form,
+    ) -> Result<Telling, AllocError>
         ensures same { self.new ≡ self.old }
-        ensures told { IfOk result (TellsWhole self.old.history from) }
+        ensures told { IfOk result (TellsWhole form self.old.history from) }
     {
-        taking::told(&mut self.shard, alloc, from)
+        taking::told(&mut self.shard, alloc, from, form)
+    }
+
+    /// A part of what a node missed that knows its dots up to a count, in the form: as far as fits a line, or up to a count.
+    pub fn part(
+        &mut self,
+        alloc: Global,
+        from: u64,
+        to: Option<u64>,
+        form: Form,
+    ) -> Result<Option<Telling>, AllocError>
+        ensures same { self.new ≡ self.old }
+        ensures told { IfOk result (TellsPartIf form self.old.history from) }
+    {
+        taking::part(&mut self.shard, alloc, from, to, form)
     }
 
     /// Puts a Start in the place of its journal, where a number is left.

@@ -1,16 +1,21 @@
 // What a shard does at an event. Where memory runs out it is as it was.
-ghost use Rattle.std.specs.Prelude.{◌≡◌, ◌<◌, true, None, Err, IfOk, OnOk, OnErr, vec_len, vec_capacity};
+ghost use Rattle.std.specs.Prelude.{◌≡◌, ◌<◌, ℕ, true, None, Err, IfOk, OnOk, OnErr, vec_len, vec_capacity};
+ghost use Rattle.presence_journal.specs.History.{History};
+ghost use Rattle.presence_journal_cuts.specs.ToldParts.{IsPart};
 ghost use Rattle.presence_journal.specs.Table.{outcome_of, after, is_step};
 ghost use Rattle.tracker_shard.specs.Steps.{RefusesForRoom};
 ghost use Rattle.node_links_world_lives.specs.Living.{Cuts, BeginsAgain};
 ghost use Rattle.node_links_world_lives.specs.Taken.{AddsRow};
-ghost use Rattle.node_links_world_laws.specs.World.{added, with_row, TellsWhole};
+ghost use Rattle.node_links_world_laws.specs.World.{added, with_row, TellsPartIf, TellsWhole};
 
 use crate::row::added_row;
 use crate::steps;
 use crate::telling::Telling;
+use delta_range::Delta;
+use orswot_core_told::Form;
 use presence_base::{Dot, Row};
 use presence_journal::Step;
+use presence_journal_cuts::up_to;
 use std::alloc::{AllocError, Global};
 use tracker_shard::{Shard, ShardFault};
 
@@ -73,14 +78,18 @@ fn full_journal(fault: ShardFault) -> Result<(), AllocError>
     }
 }
 
-/// What a shard did since its last cut, where there is room for the entry.
+/// What a shard did since its last cut, in the form, where there is room for the entry.
 #[tactic(auto, using(crate::proofs::Wholes::wholes, crate::proofs::Wholes::rooms))]
-pub(crate) fn cut(shard: &mut Shard, alloc: Global) -> Result<Option<Telling>, AllocError>
-    ensures cut { IfOk result (Cuts shard.old shard.new) }
+pub(crate) fn cut(
+    shard: &mut Shard,
+    alloc: Global,
+    form: Form,
+) -> Result<Option<Telling>, AllocError>
+    ensures cut { IfOk result (Cuts form shard.old shard.new) }
     ensures same { OnErr result (shard.new ≡ shard.old) }
 {
     match shard.cut(alloc) {
-        Ok(delta) => Ok(Some(Telling::of_cut(delta))),
+        Ok(delta) => Ok(Some(Telling::of_cut(delta, form))),
         Err(fault) => {
             full_journal(fault)?;
             Ok(None)
@@ -88,26 +97,58 @@ pub(crate) fn cut(shard: &mut Shard, alloc: Global) -> Result<Option<Telling>, A
     }
 }
 
-/// All that a shard knows, or what a node missed that knows its dots up to a count.
+/// All that a shard knows, or what a node missed that knows its dots up to a count, in the form.
 #[tactic(auto, using(crate::proofs::Wholes::wholes))]
 pub(crate) fn told(
     shard: &mut Shard,
     alloc: Global,
     from: Option<u64>,
+    form: Form,
 ) -> Result<Telling, AllocError>
     ensures same { shard.new ≡ shard.old }
-    ensures told { IfOk result (TellsWhole shard.old from) }
+    ensures told { IfOk result (TellsWhole form shard.old from) }
 {
     match from {
         Some(count) => {
-            let told = shard.told_from(alloc, count)?;
+            let told = shard.told_from(alloc, count, form)?;
             Ok(Telling::of_told(told))
         }
         None => {
-            let told = shard.full(alloc)?;
+            let told = shard.full(alloc, form)?;
             Ok(Telling::of_told(told))
         }
     }
+}
+
+// A part up to a count, where one is named.
+#[tactic(auto, using(crate::proofs::PartFacts::parts))]
+fn shortened(alloc: Global, part: Delta, to: Option<u64>) -> Result<Delta, AllocError>
+    ensures { (h : History) (n : ℕ) → IsPart h n part → IfOk result (IsPart h n) }
+{
+    let _live = part.live();
+    match to {
+        Some(count) => up_to(alloc, &part, count),
+        None => Ok(part),
+    }
+}
+
+/// A part of what a node missed that knows its dots up to a count, in the form: as far as fits a line, or up to a count.
+#[tactic(auto, using(crate::proofs::PartFacts::parts))]
+pub(crate) fn part(
+    shard: &mut Shard,
+    alloc: Global,
+    from: u64,
+    to: Option<u64>,
+    form: Form,
+) -> Result<Option<Telling>, AllocError>
+    ensures same { shard.new ≡ shard.old }
+    ensures told { IfOk result (TellsPartIf form shard.old from) }
+{
+    let Some(part) = shard.part(alloc, from)? else {
+        return Ok(None);
+    };
+    let part = shortened(alloc, part, to)?;
+    Ok(Some(Telling::of_cut(part, form)))
 }
 
 /// Puts a Start in the place of a shard's journal, where a number is left.

@@ -1,33 +1,33 @@
 ghost use Rattle.std.specs.Prelude.{◌≡◌, true, IfOk};
 ghost use Rattle.std.specs.List.{list_all};
 ghost use Rattle.orswot_core_told.specs.Limits.{are_texts};
-ghost use Rattle.delta_range.specs.Deltas.{telling, IsDelta};
+ghost use Rattle.delta_range.specs.Deltas.{telling_in, IsDelta};
 ghost use Rattle.presence_journal_data.specs.StepLimits.{is_heard, is_named};
 ghost use Rattle.presence_journal.specs.Table.{is_step};
 
 use delta_range::Delta;
-use orswot_core_told::Told;
+use orswot_core_told::{Form, Told};
 use presence_base::{Dot, Row};
 use presence_journal::Step;
 use std::alloc::{AllocError, Global};
 use std::marker::Model;
 
 #[derive(Drop)]
-enum Form {
-    Cut(Delta),
+enum Source {
+    Cut(Delta, Form),
     Whole(Told),
 }
 
 /// What a node told once, seen by contracts as the told value. A cut stays the delta that it is, so that keeping it takes no
 /// memory.
 pub struct Telling {
-    form: Form,
+    source: Source,
 }
 
 impl Drop for Telling {
     fn drop(self) {
-        let Telling { form } = self;
-        drop(form);
+        let Telling { source } = self;
+        drop(source);
     }
 }
 
@@ -42,9 +42,9 @@ impl Model for Telling {
 
     ghost coded = { told_code };
 
-    ghost view = { λ t. told_by t.form };
+    ghost view = { λ t. told_by t.source };
 
-    ghost invariant = { λ t. is_heard (told_by t.form) ≡ true };
+    ghost invariant = { λ t. is_heard (told_by t.source) ≡ true };
 }
 
 fn read_row(row: &(Dot, Row))
@@ -67,8 +67,8 @@ fn read_rows(live: &[(Dot, Row)])
 
 // What a delta tells is within the limits of what is heard.
 #[tactic(auto, using(crate::proofs::Tellings::heard))]
-fn read_delta(delta: &Delta)
-    ensures { is_heard (telling delta.now) ≡ true }
+fn read_delta(delta: &Delta, form: Form)
+    ensures { is_heard (telling_in form delta.now) ≡ true }
 {
     read_rows(delta.live());
 }
@@ -81,15 +81,15 @@ fn read_told(told: &Told)
 }
 
 impl Telling {
-    /// What a cut tells. Takes no memory.
-    pub fn of_cut(delta: Delta) -> Telling
-        ensures tells { result ≡ telling delta }
+    /// What a cut tells in the form. Takes no memory.
+    pub fn of_cut(delta: Delta, form: Form) -> Telling
+        ensures tells { result ≡ telling_in form delta }
         ensures delta { IsDelta delta }
         ensures limits { is_heard result ≡ true }
     {
-        read_delta(&delta);
+        read_delta(&delta, form);
         Telling {
-            form: Form::Cut(delta),
+            source: Source::Cut(delta, form),
         }
     }
 
@@ -100,16 +100,16 @@ impl Telling {
     {
         read_told(&told);
         Telling {
-            form: Form::Whole(told),
+            source: Source::Whole(told),
         }
     }
 
     fn told(&self, alloc: Global) -> Result<Told, AllocError>
         ensures { IfOk result (λ t. t ≡ self.now) }
     {
-        match &self.form {
-            Form::Cut(delta) => delta.told(alloc),
-            Form::Whole(told) => told.clone(),
+        match &self.source {
+            Source::Cut(delta, form) => delta.told(alloc, *form),
+            Source::Whole(told) => told.clone(),
         }
     }
 
@@ -119,7 +119,7 @@ impl Telling {
         ensures limits { IfOk result (λ s. is_step s ≡ true) }
     {
         // Read for the proof alone: what was told is within its limits.
-        let _form = &self.form;
+        let _source = &self.source;
         let told = self.told(alloc)?;
         Ok(Step::Merge { told })
     }

@@ -4,18 +4,22 @@ use Rattle.std.specs.List.{list_any}
 use Rattle.presence_base.specs.declared.dots.Dot.{Dot}
 use Rattle.presence_base.specs.declared.dots.Replica.{Replica}
 use Rattle.presence_base.specs.Order.{same_replica}
+use Rattle.orswot_core_told.specs.declared.form.Form.{Form}
+use Rattle.orswot_core_told.specs.declared.form.Form.TheVariants.{Two}
 use Rattle.orswot_core_told.specs.Telling.{ToldValue}
-use Rattle.delta_range.specs.Deltas.{DeltaValue, telling}
+use Rattle.orswot_core_told.specs.Checks.{WhereItFits}
+use Rattle.delta_range.specs.Deltas.{DeltaValue, telling_in}
 use Rattle.presence_journal_data.specs.declared.step.Step.{Step}
 use Rattle.presence_journal_data.specs.declared.step.Step.TheVariants as steps_are
 use Rattle.presence_journal.specs.History.{History, IsTop, status as status_in}
-use Rattle.shard_pool.specs.Full.{IsFullOf}
-use Rattle.shard_pool.specs.KeptDeltas.{IsToldFrom}
+use Rattle.shard_pool.specs.KeptDeltas.{TellsFrom}
 use Rattle.shard_pool.specs.ShardFault.{ShardFault}
 use Rattle.shard_pool.specs.ShardFault.TheVariants as faults
 use Rattle.shard_pool.specs.Unseated.{IsBehindOf, IsMade, IsMadeWhereFull}
+use Rattle.node_links_members.specs.declared.hearer.Telling.{Telling}
 use Rattle.node_links_lines.specs.declared.lines.Line.{Line}
 use Rattle.node_links_lines.specs.declared.lines.Line.TheVariants as lines
+use Rattle.presence_node_link_ports.specs.Parts.{TellsPart}
 use Rattle.node_links_acts.specs.Asks.{Ask, Answer, status, heard, merge, permdown, top, told_from, full}
 use Rattle.node_links_acts.specs.declared.port.ActFault.{ActFault}
 use Rattle.node_links_acts.specs.declared.port.ActFault.TheVariants as acts
@@ -51,15 +55,16 @@ abbrev pub Reads : {A : Type 0} → (History → Type 0) → (History → A → 
 Reads Here Is (Ok value) = IsBehindOf Here (λ h. Is h value)
 Reads Here Is (Err fault) = ⊥
 
--- all that the shard knows, unless there is no memory
-abbrev pub TellsAll : (History → Type 0) → Result ToldValue ActFault → Type 0
-TellsAll Here (Ok told) = IsBehindOf Here (λ h. IsFullOf h told)
-TellsAll Here (Err fault) = fault ≡ acts.OutOfMemory
+-- what the shard tells from a count on, or all that it knows, in the form, where a line takes it, unless there is no memory
+abbrev pub Tells : (History → Type 0) → Form → Option ℕ → Result (Option ToldValue) ActFault → Type 0
+Tells Here form from (Ok told) = IsBehindOf Here (λ h. WhereItFits form (TellsFrom form h from) told)
+Tells Here form from (Err fault) = fault ≡ acts.OutOfMemory
 
--- what the shard tells from a count on, unless there is no memory
-abbrev pub TellsFrom : (History → Type 0) → ℕ → Result ToldValue ActFault → Type 0
-TellsFrom Here from (Ok told) = IsBehindOf Here (λ h. IsToldFrom h from told)
-TellsFrom Here from (Err fault) = fault ≡ acts.OutOfMemory
+-- the same from a count on, or in the second form, where no line takes that, a part
+abbrev pub TellsSince : (History → Type 0) → ℕ → Form → ℕ → Result (Option ToldValue) ActFault → Type 0
+TellsSince Here shard form from (Ok told) =
+    Tells Here form (Some from) (Ok told) ⊎ ((form ≡ Two) × IsBehindOf Here (λ h. TellsPart shard h from told))
+TellsSince Here shard form from (Err fault) = fault ≡ acts.OutOfMemory
 
 -- what is answered at a shard that is there; `here` tells which histories are those of a shard's number
 abbrev pub Asked : (ℕ → History → Type 0) → (q : Ask) → Answer q → Type 0
@@ -68,8 +73,8 @@ Asked here (heard s r now) a = Made (here s) (steps_are.Heard r now) a
 Asked here (merge s t) a = Made (here s) (steps_are.Merge t) a
 Asked here (permdown s r) a = Made (here s) (steps_are.PermDown r) a
 Asked here (top s r) a = Reads (here s) (λ h n. IsTop h r n) a
-Asked here (told_from s from) a = TellsFrom (here s) from a
-Asked here (full s) a = TellsAll (here s) a
+Asked here (told_from s from form) a = TellsSince (here s) s form from a
+Asked here (full s form) a = Tells (here s) form None a
 
 abbrev pub shard_in : Ask → ℕ
 shard_in (status s r) = s
@@ -77,8 +82,8 @@ shard_in (heard s r now) = s
 shard_in (merge s t) = s
 shard_in (permdown s r) = s
 shard_in (top s r) = s
-shard_in (told_from s from) = s
-shard_in (full s) = s
+shard_in (told_from s from form) = s
+shard_in (full s form) = s
 
 -- this was asked of the pool and this answered
 abbrev pub LinkStep : (ℕ → History → Type 0) → ℕ → (q : Ask) → Answer q → Type 0
@@ -103,10 +108,10 @@ tells_above r n t = ranges_above r n t.ranges || dots_above r n t.extras
 
 -- ---- a period
 
--- what a cut tells: nothing where there are no new counts
-abbrev pub news_of : DeltaValue → Option ToldValue
-news_of d = cond (d.from == d.to) None (Some (telling d))
+-- what a cut tells, in the form: nothing where there are no new counts
+abbrev pub news_of : Form → DeltaValue → Option Telling
+news_of form d = cond (d.from == d.to) None (Some (record { form = form; told = telling_in form d }))
 
 -- the beat of a cut: it has the count up to which the cut goes
-abbrev pub beat_line : ℕ → DeltaValue → Line
-beat_line shard d = lines.Beat shard d.owner d.to (news_of d)
+abbrev pub beat_line : Form → ℕ → DeltaValue → Line
+beat_line form shard d = lines.Beat shard d.owner d.to (news_of form d)

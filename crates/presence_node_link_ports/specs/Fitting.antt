@@ -1,5 +1,6 @@
 -- The beat of a cut, and what it tells.
 use Rattle.std.specs.Prelude.{ℕ, None, cond}
+use Rattle.orswot_core_told.specs.declared.form.Form.{Form}
 use Rattle.delta_range.specs.Deltas.{DeltaValue}
 use Rattle.delta_range.specs.Fitting.{fits_line}
 use Rattle.node_links_lines.specs.declared.lines.Line.{Line}
@@ -10,6 +11,6 @@ use Rattle.presence_node_link_ports.specs.Asking.{beat_line}
 abbrev pub bare_line : ℕ → DeltaValue → Line
 bare_line shard d = lines.Beat shard d.owner d.to None
 
--- what the cut tells goes along where a node takes that in
-abbrev pub fitting_line : ℕ → DeltaValue → Line
-fitting_line shard d = cond (fits_line d) (beat_line shard d) (bare_line shard d)
+-- what the cut tells in the form goes along where a node takes that in
+abbrev pub fitting_line : Form → ℕ → DeltaValue → Line
+fitting_line form shard d = cond (fits_line form d) (beat_line form shard d) (bare_line shard d)

@@ -7,8 +7,8 @@ ghost use Rattle.presence_node_link_ports.specs.Asking.{beat_line, news_of};
 
 use crate::room::room_made;
 use delta_range::Delta;
-use node_links_lines::Line;
-use orswot_core_told::Told;
+use node_links_lines::{Line, Telling};
+use orswot_core_told::Form;
 use shard_pool::{Gate, Lane, Pool, PoolFault};
 use std::alloc::{AllocError, Global};
 use std::sync::Wait;
@@ -51,21 +51,22 @@ pub fn cut_off<R: Wait, G: Gate, A: Lane, B: Lane, C: Lane, D: Lane>(
     pool.cut(rt, alloc, shard)
 }
 
-// What a cut tells, where there are new counts.
-fn news(alloc: Global, cut: &Delta) -> Result<Option<Told>, AllocError>
-    ensures { IfOk result (λ told. told ≡ news_of cut.now) }
+// What a cut tells in the form, where there are new counts.
+fn news(alloc: Global, cut: &Delta, form: Form) -> Result<Option<Telling>, AllocError>
+    ensures { IfOk result (λ news. news ≡ news_of form cut.now) }
 {
     if cut.from() == cut.to() {
         return Ok(None);
     }
-    Ok(Some(cut.told(alloc)?))
+    let told = cut.told(alloc, form)?;
+    Ok(Some(Telling { form, told }))
 }
 
-/// The beat of a cut: up to which count it goes, and what it tells where there are new counts.
-pub fn beat_of(alloc: Global, shard: u32, cut: &Delta) -> Result<Line, AllocError>
-    ensures { IfOk result (λ line. line ≡ beat_line shard cut.now) }
+/// The beat of a cut: up to which count it goes, and what it tells in the form where there are new counts.
+pub fn beat_of(alloc: Global, shard: u32, cut: &Delta, form: Form) -> Result<Line, AllocError>
+    ensures { IfOk result (λ line. line ≡ beat_line form shard cut.now) }
 {
-    let delta = news(alloc, cut)?;
+    let delta = news(alloc, cut, form)?;
     Ok(Line::Beat {
         shard,
         replica: cut.owner(),

@@ -1,14 +1,16 @@
 //! What a link asks of a server's shards: a pool of shards, without a seat.
 //!
 //! What its contracts cite: `specs/Asking` has the pool's call for each question of a link, and what a period of the
-//! ticker asks of a shard; `specs/Fitting` what goes along with a beat.
+//! ticker asks of a shard; `specs/Fitting` what goes along with a beat; `specs/Parts` what is told in parts.
 #![tactic(auto)]
 
 mod above;
 mod beats;
 mod fault;
 mod fitting;
+mod lengths;
 mod link_port;
+mod parts;
 mod room;
 
 pub use beats::{beat_of, cut_off, let_pass};

@@ -3,9 +3,10 @@ ghost use Rattle.shard_pool.specs.ShardFault.TheVariants.{JournalFull};
 
 use crate::above::tells_above;
 use crate::fault::told;
+use crate::parts::{is_told_in_parts, part_on_line};
 use crate::room::room_made;
 use node_links_acts::{ActFault, LinkPort};
-use orswot_core_told::Told;
+use orswot_core_told::{Form, Told};
 use presence_base::Replica;
 use replica_status::Status;
 use shard_pool::{Gate, Lane, Pool, PoolFault};
@@ -199,19 +200,29 @@ impl<'a, R: Wait, G: Gate, A: Lane, B: Lane, C: Lane, D: Lane> LinkPort
         Ok(self.pool.top(self.rt, shard, replica))
     }
 
-    fn told_from(&mut self, alloc: Global, shard: u32, from: u64) -> Result<Told, ActFault> {
+    fn told_from(
+        &mut self,
+        alloc: Global,
+        shard: u32,
+        from: u64,
+        form: Form,
+    ) -> Result<Option<Told>, ActFault> {
         self.has_told = true;
         if shard >= self.shards {
             return Err(ActFault::ShardFull);
         }
-        told(self.pool.told_from(self.rt, alloc, shard, from))
+        let whole = self.pool.fitting(self.rt, alloc, shard, Some(from), form);
+        if is_told_in_parts(form, &whole) {
+            return told(part_on_line(self.rt, alloc, self.pool, shard, from));
+        }
+        told(whole)
     }
 
-    fn full(&mut self, alloc: Global, shard: u32) -> Result<Told, ActFault> {
+    fn full(&mut self, alloc: Global, shard: u32, form: Form) -> Result<Option<Told>, ActFault> {
         self.has_told = true;
         if shard >= self.shards {
             return Err(ActFault::ShardFull);
         }
-        told(self.pool.full(self.rt, alloc, shard))
+        told(self.pool.fitting(self.rt, alloc, shard, None, form))
     }
 }

@@ -9,8 +9,8 @@ use Rattle.presence_base.specs.contracts.names.Key as Key
 use Rattle.presence_base.specs.contracts.names.NodeName as NodeName
 use Rattle.presence_base.specs.contracts.dots.Replica as Replica
 use Rattle.presence_base.specs.contracts.dots.Dot as Dot
-use Rattle.orswot_core_told.specs.contracts.told.Told as Told
-use Rattle.node_links_lines.specs.contracts.lines.Line as Line
+use Rattle.orswot_core_told.specs.contracts.form.Form as Form
+use Rattle.delta_range.specs.contracts.delta.Delta as Delta
 use Rattle.presence_node_sockets.specs.contracts.watch.Bell as Bell
 use Rattle.presence_node_sockets.specs.contracts.watch.Watch as Watch
 use Rattle.presence_node_link_words.specs.contracts.end.LinkEnd as LinkEnd
@@ -26,7 +26,7 @@ use Rattle.presence_node_link_streams.specs.contracts.stopping.Stopping as Stopp
 use Rattle.presence_node_link_threads.specs.contracts.tallies.Tallies as Tallies
 use Rattle.presence_node_link_threads.specs.contracts.tasks.LinkTask as LinkTask
 
--- ---- a line
+-- ---- what a cut tells
 
 json_text_send : IsSend (JsonText.the_field).row
 json_text_send = search (heap.crosses, sendable) depth 60 fits 20000
@@ -70,17 +70,14 @@ row_send = search (meta_send, topic_send, key_send, dot_send, sendable) depth 60
 row_sync : IsSync (Row.the_field).row
 row_sync = search (meta_sync, topic_sync, key_sync, dot_sync, sendable) depth 60 fits 20000
 
-told_send : IsSend (Told.the_field).row
-told_send = search (row_send, dot_send, replica_send, heap.crosses, sendable) depth 60 fits 20000
+delta_send : IsSend (Delta.the_field).row
+delta_send = search (row_send, dot_send, replica_send, heap.crosses, sendable) depth 60 fits 20000
 
-told_sync : IsSync (Told.the_field).row
-told_sync = search (row_sync, dot_sync, replica_sync, heap.crosses, sendable) depth 60 fits 20000
+delta_sync : IsSync (Delta.the_field).row
+delta_sync = search (row_sync, dot_sync, replica_sync, heap.crosses, sendable) depth 60 fits 20000
 
-line_send : IsSend (Line.the_field).row
-line_send = search (told_send, replica_send, sendable) depth 60 fits 20000
-
-line_sync : IsSync (Line.the_field).row
-line_sync = search (told_sync, replica_sync, sendable) depth 60 fits 20000
+form_sync : IsSync (Form.the_field).row
+form_sync = search sendable depth 60 fits 20000
 
 -- ---- what is shared
 
@@ -118,7 +115,7 @@ tallies_sync : IsSync (Tallies.the_field).row
 tallies_sync = search (heap.crosses, sendable) depth 60 fits 20000
 
 pub links_sync : IsSync (Links.the_field).row
-links_sync = search (line_send, line_sync, waiting_sync, book_send, name_sync, stopping_sync, bell_sync, tallies_sync, replica_sync, heap.crosses, sendable) depth 60 fits 20000
+links_sync = search (delta_send, delta_sync, form_sync, waiting_sync, book_send, name_sync, stopping_sync, bell_sync, tallies_sync, replica_sync, heap.crosses, sendable) depth 60 fits 20000
 
 -- ---- what is given
 

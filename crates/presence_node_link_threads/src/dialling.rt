@@ -1,11 +1,13 @@
 //! The threads that dial other nodes, one each.
 ghost use Rattle.std.specs.Prelude.{◌≡◌};
 
-use crate::links::{Beats, Links, Place, Wakes};
+use crate::links::{Cuts, Links, Place, Wakes};
 use crate::serving::{coming_from, end_of};
-use node_links::{DialFault, End, Line, LinkFault, Outcome, Peer, Untold, exchange};
+use delta_range::Delta;
+use node_links::{DialFault, End, Line, LinkFault, Outcome, Peer, Untold, exchange, next_form};
+use orswot_core_told::Form;
 use presence_base::{NodeName, Replica};
-use presence_node_link_ports::{Gate, Lane, Pool, PoolLinkPort};
+use presence_node_link_ports::{Gate, Lane, Pool, PoolLinkPort, bare_beat, fitting_beat};
 use presence_node_link_streams::{LinkStream, time_behind};
 use presence_node_link_words::{LinkEnd, LinkWarning, greeted};
 use presence_node_sockets::is_no_file;
@@ -169,13 +171,15 @@ where
     }
 }
 
-// A link to the node that is dialled, behind its hello, and who is there.
+// A link to the node that is dialled, behind its hello, and who is there. The form is that of this node's hello, and then
+// that of its next one.
 fn link_to<'a, R, G, A, B, C, D, W>(
     rt: &'a R,
     links: &'a Links,
     pool: &Pool<G, A, B, C, D>,
     wakes: &W,
     dialler: &Dialler,
+    form: &mut Form,
 ) -> Result<(Dialled<'a, R>, Replica), LinkEnd>
 where
     R: Net<Listener = TcpListener, Stream = TcpStream> + Wait + Clock + Eprint,
@@ -187,24 +191,30 @@ where
     W: Wakes,
     requires { links.now.shards ≡ pool.now.shards }
 {
-    let socket = reach(rt, dialler)?;
+    let socket = match reach(rt, dialler) {
+        Ok(socket) => socket,
+        Err(end) => {
+            *form = links.speaks;
+            return Err(end);
+        }
+    };
     let Ok(stream) = LinkStream::new(rt, links.alloc, socket, &links.stopping, LAST_LOOKS) else {
         return Err(LinkEnd::Fault(DialFault::Link(LinkFault::ReadFailed)));
     };
+    let speaks = *form;
+    *form = next_form(links.speaks, speaks);
     let mut link = Dialled {
         stream,
-        peer: links.peer(End::Dialling),
+        peer: links.peer(End::Dialling, speaks),
         since: time_behind(rt, 0),
         has_stood: false,
     };
-    let hello = Line::Hello {
-        replica: links.own,
-        shards: links.shards,
-    };
+    let hello = link.peer.hello();
     say(rt, links, pool, wakes, &mut link, dialler.place(), &hello)?;
     let Some(other) = link.peer.other() else {
         return Err(LinkEnd::Closed);
     };
+    *form = links.speaks;
     greeted(&links.own, Some(dialler.name), &other)?;
     Ok((link, other))
 }
@@ -216,6 +226,15 @@ struct Broken {
     shard: u32,
 }
 
+// The beat of a cut in the link's form. Where memory is wanting for what is told, it goes out without it.
+fn beat_for(links: &Links, peer: &Peer, shard: u32, cut: &Delta) -> Line {
+    let form = peer.form().unwrap_or(Form::One);
+    match fitting_beat(links.alloc, shard, cut, form) {
+        Ok(line) => line,
+        Err(_) => bare_beat(shard, cut),
+    }
+}
+
 // Sends the beats: each goes out whatever came of the one before, as far as the stream stands.
 fn send_all<R, G, A, B, C, D, W>(
     rt: &R,
@@ -224,7 +243,7 @@ fn send_all<R, G, A, B, C, D, W>(
     wakes: &W,
     link: &mut Dialled<'_, R>,
     place: Place<'_>,
-    beats: &[(u32, Arc<Line>)],
+    cuts: &[(u32, Arc<Delta>)],
 ) -> Result<(), Broken>
 where
     R: Wait + Clock + Eprint,
@@ -237,8 +256,9 @@ where
     requires { links.now.shards ≡ pool.now.shards }
 {
     let mut broken = None;
-    for (shard, beat) in beats {
-        match say(rt, links, pool, wakes, link, place, &**beat) {
+    for (shard, cut) in cuts {
+        let beat = beat_for(links, &link.peer, *shard, &**cut);
+        match say(rt, links, pool, wakes, link, place, &beat) {
             Ok(None) => links.tallies.count_beat(),
             Ok(Some(untold)) => {
                 links.tallies.count_beat();
@@ -272,9 +292,11 @@ fn behind(broken: Option<Broken>, end: LinkEnd, shard: u32) -> Broken {
 // A link that may be up.
 struct State<'a, R: Clock> {
     link: Option<Dialled<'a, R>>,
+    // The form of the next hello.
+    form: Form,
     // The shard whose beat goes first: the one behind the last that didn't get through.
     first: u32,
-    // Whether the link was cut because this node stops.
+    // Whether the link was cut because this node stops: it is dialled once more then, in the same form.
     was_cut: bool,
 }
 
@@ -282,6 +304,7 @@ impl<R: Clock> Drop for State<'_, R> {
     fn drop(self) {
         let State {
             link,
+            form: _,
             first: _,
             was_cut: _,
         } = self;
@@ -295,11 +318,14 @@ impl<'a, R: Clock> State<'a, R> {
     where
         R: Wait + Eprint,
     {
-        if self.link.is_some() {
+        self.was_cut = end == LinkEnd::Stopped;
+        if let Some(link) = &self.link {
             links.tallies.count_down();
+            if self.was_cut {
+                self.form = link.peer.form().unwrap_or(self.form);
+            }
         }
         self.link = None;
-        self.was_cut = end == LinkEnd::Stopped;
         links.tell_down(rt, dialler.place(), end);
     }
 
@@ -347,7 +373,7 @@ impl<'a, R: Clock> State<'a, R> {
         if self.link.is_some() {
             return;
         }
-        match link_to(rt, links, pool, wakes, dialler) {
+        match link_to(rt, links, pool, wakes, dialler, &mut self.form) {
             Ok((link, other)) => {
                 self.link = Some(link);
                 links.tallies.count_up();
@@ -365,7 +391,7 @@ impl<'a, R: Clock> State<'a, R> {
         pool: &Pool<G, A, B, C, D>,
         wakes: &W,
         dialler: &Dialler,
-        beats: &[(u32, Arc<Line>)],
+        cuts: &[(u32, Arc<Delta>)],
     )
     where
         R: Wait + Clock + Eprint,
@@ -380,7 +406,7 @@ impl<'a, R: Clock> State<'a, R> {
         let Some(link) = &mut self.link else {
             return;
         };
-        if let Err(broken) = send_all(rt, links, pool, wakes, link, dialler.place(), beats) {
+        if let Err(broken) = send_all(rt, links, pool, wakes, link, dialler.place(), cuts) {
             self.first = broken.shard.saturating_add(1);
             self.goes(rt, links, dialler, broken.end);
         }
@@ -394,7 +420,7 @@ impl<'a, R: Clock> State<'a, R> {
         pool: &Pool<G, A, B, C, D>,
         wakes: &W,
         dialler: &Dialler,
-        beats: &[(u32, Arc<Line>)],
+        cuts: &[(u32, Arc<Delta>)],
     )
     where
         R: Net<Listener = TcpListener, Stream = TcpStream> + Wait + Clock + Eprint,
@@ -407,8 +433,8 @@ impl<'a, R: Clock> State<'a, R> {
         requires { links.now.shards ≡ pool.now.shards }
     {
         let first = self.first;
-        let at = beats.iter().position(|beat| beat.0 >= first).unwrap_or(0);
-        let (later, sooner) = beats.split_at(at);
+        let at = cuts.iter().position(|cut| cut.0 >= first).unwrap_or(0);
+        let (later, sooner) = cuts.split_at(at);
         self.comes(rt, links, pool, wakes, dialler);
         self.sends(rt, links, pool, wakes, dialler, sooner);
         self.sends(rt, links, pool, wakes, dialler, later);
@@ -453,7 +479,7 @@ fn send_posted<'a, R, G, A, B, C, D, W>(
     pool: &Pool<G, A, B, C, D>,
     wakes: &W,
     dialler: &Dialler,
-    mailbox: &Beats,
+    mailbox: &Cuts,
 )
 where
     R: Net<Listener = TcpListener, Stream = TcpStream> + Wait + Clock + Eprint,
@@ -467,16 +493,17 @@ where
 {
     let mut state = State {
         link: None,
+        form: links.speaks,
         first: 0,
         was_cut: false,
     };
     for _ in rt.forever() {
-        let beats = mailbox.take(rt, links.alloc, IDLE_MILLISECONDS);
+        let cuts = mailbox.take(rt, links.alloc, IDLE_MILLISECONDS);
         if links.is_stopped() {
             break;
         }
-        if !beats.is_empty() {
-            state.beats(rt, links, pool, wakes, dialler, beats.as_slice());
+        if !cuts.is_empty() {
+            state.beats(rt, links, pool, wakes, dialler, cuts.as_slice());
         }
     }
     state.leaves(rt, links, pool, wakes, dialler);

@@ -21,4 +21,4 @@ mod ticking;
 pub use links::{Links, Wakes};
 pub use presence_node_link_streams::time_behind;
 pub use tallies::LinkTallies;
-pub use tasks::{LinkTask, LinkTasks, tasks_for};
+pub use tasks::{LinkNode, LinkTask, LinkTasks, tasks_for};

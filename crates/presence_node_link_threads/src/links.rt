@@ -4,7 +4,9 @@ ghost use Rattle.std.specs.Prelude.{◌≤◌};
 use crate::book::{Begun, Book};
 use crate::incoming::Waiting;
 use crate::tallies::{LinkTallies, Tallies};
-use node_links::{End, Line, Peer};
+use delta_range::Delta;
+use node_links::{End, Peer};
+use orswot_core_told::Form;
 use presence_base::{NodeName, Replica};
 use presence_node_link_streams::Stopping;
 use presence_node_link_words::{LinkEnd, LinkWarning, down_line, up_line, warning_line};
@@ -14,8 +16,8 @@ use std::alloc::Global;
 use std::sync::atomic::{AtomicBool, AtomicU64, Ordering};
 use std::sync::{Arc, Mutex, Wait};
 
-/// The beats for one node that is dialled.
-pub(crate) type Beats = Mailbox<Arc<Line>>;
+/// What the shards did in a period, for one node that is dialled. Its beats are made in its link's form.
+pub(crate) type Cuts = Mailbox<Arc<Delta>>;
 
 /// What is told where clients may be shown something new.
 pub trait Wakes {
@@ -35,8 +37,10 @@ pub struct Links {
     pub(crate) alloc: Global,
     pub(crate) own: Replica,
     pub(crate) shards: u32,
+    /// The highest form in which this node tells and is told.
+    pub(crate) speaks: Form,
     /// One of each node that is dialled, in their order.
-    pub(crate) mailboxes: Vec<Beats>,
+    pub(crate) mailboxes: Vec<Cuts>,
     /// The names of the nodes that are dialled.
     pub(crate) dialled: Vec<NodeName>,
     /// The number of the link that came in last from each of these.
@@ -59,6 +63,7 @@ impl Drop for Links {
             alloc: _,
             own: _,
             shards: _,
+            speaks: _,
             mailboxes,
             dialled,
             newest,
@@ -112,28 +117,28 @@ impl Links {
         }
     }
 
-    // One end of a link, before any line came.
-    pub(crate) fn peer(&self, end: End) -> Peer
-        ensures { result ≡ record { own = self.now.own; shards = self.now.shards; end = end; other = None } }
+    // One end of a link, before any line came, which speaks up to this form.
+    pub(crate) fn peer(&self, end: End, speaks: Form) -> Peer
+        ensures { result ≡ record { own = self.now.own; shards = self.now.shards; end = end; speaks = speaks; other = None } }
     {
-        Peer::new(self.own, self.shards, end)
+        Peer::new(self.own, self.shards, end, speaks)
     }
 
-    // The same beats once more: those for which there is memory.
-    fn copied(&self, beats: &[(u32, Arc<Line>)]) -> Vec<(u32, Arc<Line>)> {
+    // The same cuts once more: those for which there is memory.
+    fn copied(&self, cuts: &[(u32, Arc<Delta>)]) -> Vec<(u32, Arc<Delta>)> {
         let mut copies = Vec::new(self.alloc);
-        for (shard, beat) in beats {
-            if let Ok(theirs) = Arc::try_clone(beat) {
+        for (shard, cut) in cuts {
+            if let Ok(theirs) = Arc::try_clone(cut) {
                 let _lost = copies.push((*shard, theirs));
             }
         }
         copies
     }
 
-    // Posts the beats of a period to each node that is dialled, all at once, so that it is dialled once a period.
-    pub(crate) fn post<R: Wait>(&self, rt: &R, beats: &[(u32, Arc<Line>)]) {
+    // Posts the cuts of a period to each node that is dialled, all at once, so that it is dialled once a period.
+    pub(crate) fn post<R: Wait>(&self, rt: &R, cuts: &[(u32, Arc<Delta>)]) {
         for mailbox in self.mailboxes.iter() {
-            mailbox.post(rt, self.copied(beats));
+            mailbox.post(rt, self.copied(cuts));
         }
     }
 

@@ -257,7 +257,7 @@ impl<'a, R: Clock> Incoming<'a, R> {
         } else {
             self.stream.awaits_hello();
         }
-        match read_line(links.alloc, &mut self.stream, links.shards) {
+        match read_line(links.alloc, &mut self.stream, self.peer.hearer()) {
             Ok(Some(line)) => Ok(line),
             Ok(None) => Err(LinkEnd::Closed),
             Err(fault) => Err(self.unread(rt, links, fault)),
@@ -341,7 +341,7 @@ fn incoming_of<'a, R: Wait + Clock + Eprint>(
     };
     Some(Incoming {
         stream,
-        peer: links.peer(End::Accepting),
+        peer: links.peer(End::Accepting, links.speaks),
         origin,
         is_up: false,
         since: 0,

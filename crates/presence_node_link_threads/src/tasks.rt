@@ -1,5 +1,6 @@
 //! What each of the threads of links does.
-ghost use Rattle.std.specs.Prelude.{◌≡◌, ◌≤◌, [], vec_len, string_bytes, IfOk, OnOk};
+ghost use Rattle.std.specs.Prelude.{◌≡◌, ◌≤◌, [], Some, vec_len, string_bytes, IfOk, OnOk};
+ghost use Rattle.node_links_peer.specs.Exchanges.{form_told as form_of_version};
 ghost use Rattle.presence_node_link_threads.specs.Tasks.{AreFirst, Dials};
 ghost use Rattle.presence_node_link_words.specs.declared.words.TheConstants.{MAX_LINKS};
 
@@ -10,6 +11,7 @@ use crate::links::{Links, Wakes};
 use crate::serving::serve_links;
 use crate::tallies::Tallies;
 use crate::ticking::tick;
+use node_links::form_told;
 use presence_base::{NodeName, Replica};
 use presence_node_link_ports::{Gate, Lane, Pool};
 use presence_node_link_streams::Stopping;
@@ -161,18 +163,27 @@ fn first_tasks(alloc: Global, door: LinkDoor) -> Result<Vec<LinkTask>, AllocErro
     Ok(tasks)
 }
 
+/// A node as it says hello on its links.
+#[derive(Clone, Copy)]
+pub struct LinkNode {
+    pub own: Replica,
+    pub shards: u32,
+    /// The highest version of links that it speaks.
+    pub version: u32,
+}
+
 /// What the threads of links of this node share, and what each of them does: links come in at this listening socket, and
 /// no node is dialled yet.
 pub fn tasks_for<R: Net>(
     net: &R,
     alloc: Global,
-    own: Replica,
-    shards: u32,
+    node: LinkNode,
     listener: TcpListener,
 ) -> io::Result<LinkTasks>
-    requires { 1 ≤ shards }
-    ensures shards { IfOk result (λ t. t.links.shards ≡ shards) }
-    ensures own { IfOk result (λ t. t.links.own ≡ own) }
+    requires { 1 ≤ node.shards }
+    ensures shards { IfOk result (λ t. t.links.shards ≡ node.shards) }
+    ensures own { IfOk result (λ t. t.links.own ≡ node.own) }
+    ensures speaks { IfOk result (λ t. t.links.speaks ≡ form_of_version (Some node.version)) }
     ensures tasks { IfOk result (λ t. AreFirst MAX_LINKS t.tasks.items) }
     ensures dialled { IfOk result (λ t. t.links.mailboxes.items ≡ []) }
 {
@@ -180,8 +191,9 @@ pub fn tasks_for<R: Net>(
     let tasks = first_tasks(alloc, door)?;
     let links = Links {
         alloc,
-        own,
-        shards,
+        own: node.own,
+        shards: node.shards,
+        speaks: form_told(Some(u64::from(node.version))),
         mailboxes: Vec::new(alloc),
         dialled: Vec::new(alloc),
         newest: Vec::new(alloc),

@@ -1,9 +1,9 @@
-//! The thread that lets time pass at the shards and makes the beats.
+//! The thread that lets time pass at the shards and cuts off what they did.
 ghost use Rattle.std.specs.Prelude.{◌≡◌, ◌<◌};
 
 use crate::links::{Links, Wakes};
-use node_links::Line;
-use presence_node_link_ports::{Gate, Lane, Pool, bare_beat, cut_off, fitting_beat, let_pass};
+use delta_range::Delta;
+use presence_node_link_ports::{Gate, Lane, Pool, cut_off, let_pass};
 use presence_node_link_streams::Ticker;
 use std::sync::{Arc, Wait};
 use std::time::Clock;
@@ -11,14 +11,14 @@ use std::time::Clock;
 /// The period of the beats, in milliseconds.
 pub(crate) const PERIOD_MILLISECONDS: u64 = 1_500;
 
-// One period of a shard, and its beat. What is refused waits for the next.
-fn beat<R, G, A, B, C, D>(
+// One period of a shard, and what it did. What is refused waits for the next.
+fn cut<R, G, A, B, C, D>(
     rt: &R,
     links: &Links,
     pool: &Pool<G, A, B, C, D>,
     shard: u32,
     now: u64,
-) -> Option<Arc<Line>>
+) -> Option<Arc<Delta>>
 where
     R: Wait,
     G: Gate,
@@ -32,21 +32,16 @@ where
     let Ok(cut) = cut_off(rt, links.alloc, pool, shard) else {
         return None;
     };
-    // Where memory is wanting for what is told, the beat goes out without it.
-    let line = match fitting_beat(links.alloc, shard, &cut) {
-        Ok(line) => line,
-        Err(_) => bare_beat(shard, &cut),
-    };
-    Arc::new(links.alloc, line).ok()
+    Arc::new(links.alloc, cut).ok()
 }
 
-// One period of all shards, and their beats.
-fn beats<R, G, A, B, C, D>(
+// One period of all shards, and what they did.
+fn cuts<R, G, A, B, C, D>(
     rt: &R,
     links: &Links,
     pool: &Pool<G, A, B, C, D>,
     now: u64,
-) -> Vec<(u32, Arc<Line>)>
+) -> Vec<(u32, Arc<Delta>)>
 where
     R: Wait,
     G: Gate,
@@ -56,13 +51,13 @@ where
     D: Lane,
     requires { links.now.shards ≡ pool.now.shards }
 {
-    let mut beats = Vec::new(links.alloc);
+    let mut cuts = Vec::new(links.alloc);
     for shard in 0..links.shards {
-        if let Some(beat) = beat(rt, links, pool, shard, now) {
-            let _lost = beats.push((shard, beat));
+        if let Some(cut) = cut(rt, links, pool, shard, now) {
+            let _lost = cuts.push((shard, cut));
         }
     }
-    beats
+    cuts
 }
 
 /// Lets time pass at each shard, and posts what each did, once a period, until the links are to end.
@@ -89,8 +84,8 @@ where
         }
         let now = ticker.next(rt);
         links.set_time(now);
-        let beats = beats(rt, links, pool, now);
-        links.post(rt, beats.as_slice());
+        let cuts = cuts(rt, links, pool, now);
+        links.post(rt, cuts.as_slice());
         if links.has_met() {
             wakes.look();
         }

@@ -1,22 +1,20 @@
 -- What is said of what is odd about a link.
-use Rattle.std.specs.Prelude.{ℕ, ◌+◌, List, [], ◌++◌, Bool, nat_lt, cond, codes, decimal}
-use Rattle.orswot_core_told.specs.declared.told.TheConstants.{MAX_ROWS}
+use Rattle.std.specs.Prelude.{ℕ, List, [], ◌++◌, Option, Some, None, codes, decimal}
 use Rattle.node_links.specs.declared.outcome.Untold.{Untold as UntoldValue}
+use Rattle.node_links.specs.declared.outcome.UntoldSize.{UntoldSize}
 use Rattle.presence_node_link_words.specs.declared.warning.LinkWarning.{LinkWarning}
 use Rattle.presence_node_link_words.specs.declared.warning.LinkWarning.TheVariants.{Untold, NotDialled, NotDialling, TwoNodes, CountsBelow, OwnCounts}
 
--- its rows and extras are too many for a line
-abbrev pub is_counted : UntoldValue → Bool
-is_counted u = nat_lt MAX_ROWS (u.rows + u.extras)
-
--- which limit it is above
-abbrev pub limit_words : Bool → List ℕ
-limit_words is_many = cond is_many (codes "65536 in all") (codes "4194304 bytes")
+-- what is said of a shard whose rows and other counts are too many, or as many as these are more bytes than a line has
+abbrev pub untold_words : ℕ → Option UntoldSize → List ℕ
+untold_words k None = codes "it stays without shard " ++ (decimal k
+    ++ codes ", whose rows and other counts are more than a line holds, 65536 in all or 4194304 bytes: more --shards or fewer rows help")
+untold_words k (Some s) = codes "it stays without shard " ++ (decimal k ++ (codes ", whose " ++ (decimal s.rows
+    ++ (codes " rows and " ++ (decimal s.beside
+    ++ codes " other counts are more than a line holds, 4194304 bytes: more --shards or fewer rows help")))))
 
 abbrev pub untold_text : UntoldValue → List ℕ
-untold_text u = codes "it stays without shard " ++ (decimal u.shard ++ (codes ", whose " ++ (decimal u.rows
-    ++ (codes " rows and " ++ (decimal u.extras ++ (codes " other counts are more than a line holds, "
-    ++ (limit_words (is_counted u) ++ codes ": more --shards or fewer rows help")))))))
+untold_text u = untold_words u.shard u.size
 
 abbrev pub warning_words : LinkWarning → List ℕ
 warning_words (Untold u) = []

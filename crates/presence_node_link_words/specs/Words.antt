@@ -41,11 +41,11 @@ told_label tolds.OutOfMemory = codes "N8"
 
 -- what is said of a refused told value behind its number
 abbrev pub told_words : ToldFault → List ℕ
-told_words tolds.TwoRanges = codes "a told value has two ranges of one node"
+told_words tolds.TwoRanges = codes "a told value has two ranges of one node, or in version 2 one out of order"
 told_words tolds.BadRange = codes "a told value has a range that ends below its start"
 told_words tolds.LiveNotCovered = codes "a told value has a row that none of its ranges and extras covers"
 told_words tolds.LiveTwice = codes "a told value has a row twice"
-told_words tolds.TooMany = codes "a told value has more than 65536 rows and extras"
+told_words tolds.TooMany = codes "a told value has more than 65536 rows and extras, or in version 2 rows and ranges"
 told_words tolds.RowLimits = codes "a told value has a row outside its limits, or of a topic of another shard"
 told_words tolds.OutOfMemory = codes "out of memory"
 

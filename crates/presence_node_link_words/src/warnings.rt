@@ -1,32 +1,24 @@
 //! The lines on standard error of what is odd about a link.
 ghost use Rattle.std.specs.Prelude.{◌≡◌, IfOk, string_bytes};
-ghost use Rattle.presence_node_link_words.specs.Warnings.{is_counted as is_above, untold_text, warning_words, what_is_odd, warning_text};
+ghost use Rattle.presence_node_link_words.specs.Warnings.{untold_text, warning_words, what_is_odd, warning_text};
 
 use crate::warning::LinkWarning;
 use node_links::Untold;
-use orswot_core_told::MAX_ROWS;
 use std::alloc::{AllocError, Global};
-
-// Whether it is its rows and extras that are too many, and not its bytes.
-fn is_counted(untold: &Untold) -> bool
-    ensures { result ≡ is_above untold.now }
-{
-    untold.rows > MAX_ROWS || untold.extras > MAX_ROWS - untold.rows
-}
 
 fn untold_words(alloc: Global, untold: &Untold) -> Result<String, AllocError>
     ensures { IfOk result (λ s. string_bytes s ≡ untold_text untold.now) }
 {
     let shard = untold.shard;
-    let rows = untold.rows;
-    let extras = untold.extras;
-    let limit = if is_counted(untold) {
-        "65536 in all"
-    } else {
-        "4194304 bytes"
+    let Some(size) = untold.size else {
+        return format!(in alloc;
+            "it stays without shard {shard}, whose rows and other counts are more than a line holds, 65536 in all or 4194304 bytes: more --shards or fewer rows help"
+        );
     };
+    let rows = size.rows;
+    let beside = size.beside;
     format!(in alloc;
-        "it stays without shard {shard}, whose {rows} rows and {extras} other counts are more than a line holds, {limit}: more --shards or fewer rows help"
+        "it stays without shard {shard}, whose {rows} rows and {beside} other counts are more than a line holds, 4194304 bytes: more --shards or fewer rows help"
     )
 }
 

@@ -31,12 +31,14 @@ fn told_words(fault: ToldFault) -> &'static str
     ensures { result.now ≡ told_words fault }
 {
     match fault {
-        ToldFault::TwoRanges => "a told value has two ranges of one node",
+        ToldFault::TwoRanges =>
+            "a told value has two ranges of one node, or in version 2 one out of order",
         ToldFault::BadRange => "a told value has a range that ends below its start",
         ToldFault::LiveNotCovered =>
             "a told value has a row that none of its ranges and extras covers",
         ToldFault::LiveTwice => "a told value has a row twice",
-        ToldFault::TooMany => "a told value has more than 65536 rows and extras",
+        ToldFault::TooMany =>
+            "a told value has more than 65536 rows and extras, or in version 2 rows and ranges",
         ToldFault::RowLimits =>
             "a told value has a row outside its limits, or of a topic of another shard",
         ToldFault::OutOfMemory => "out of memory",

@@ -10,7 +10,7 @@ use Rattle.clap.proofs.OnLiterals.{clap_on_literals}
 use Rattle.presence_node_options.specs.CommandLine.{program}
 use Rattle.presence_node_options.specs.Given.{AskFor, Calls, Chooses, ChoosesNone, HasCause, IsFor, IsHelpFor, IsNoHelp, Refused, RefusedFor, Refuses, ServeRefuses}
 use Rattle.presence_node_options.specs.declared.fault.UsageCause.{UsageCause}
-use Rattle.presence_node_options.specs.declared.fault.UsageCause.TheVariants.{Words, Name, Incarnation, Route, Port, LinkPort, Shards, Workers, Peer, Origin, PerAddress, HandshakesPerSecond}
+use Rattle.presence_node_options.specs.declared.fault.UsageCause.TheVariants.{Words, Name, Incarnation, Route, Port, LinkPort, Shards, Workers, LinkVersion, Peer, Origin, PerAddress, HandshakesPerSecond}
 use Rattle.presence_node_options.specs.declared.fault.UsageFault.{UsageFault}
 use Rattle.presence_node_options.specs.declared.fault.UsageFault.TheVariants.{Usage, Memory}
 use Rattle.presence_node_options.specs.declared.options.Options.{Options}
@@ -117,6 +117,7 @@ chosen_refused c words m name rows (Err (Usage Port text)) is h met none = why_r
 chosen_refused c words m name rows (Err (Usage LinkPort text)) is h met none = why_refused c words m name rows LinkPort is h met none
 chosen_refused c words m name rows (Err (Usage Shards text)) is h met none = why_refused c words m name rows Shards is h met none
 chosen_refused c words m name rows (Err (Usage Workers text)) is h met none = why_refused c words m name rows Workers is h met none
+chosen_refused c words m name rows (Err (Usage LinkVersion text)) is h met none = why_refused c words m name rows LinkVersion is h met none
 chosen_refused c words m name rows (Err (Usage Peer text)) is h met none = why_refused c words m name rows Peer is h met none
 chosen_refused c words m name rows (Err (Usage Origin text)) is h met none = why_refused c words m name rows Origin is h met none
 chosen_refused c words m name rows (Err (Usage PerAddress text)) is h met none = why_refused c words m name rows PerAddress is h met none

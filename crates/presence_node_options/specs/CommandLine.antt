@@ -28,13 +28,14 @@ fold_app = with_rule (new_app (codes "fold")) (flag_rule (codes "explain"))
 -- the options of the node itself
 abbrev pub served_app : App
 served_app =
-    with_rule (with_rule (with_rule (with_rule (with_rule (with_rule (new_app (codes "serve"))
+    with_rule (with_rule (with_rule (with_rule (with_rule (with_rule (with_rule (new_app (codes "serve"))
     (option_rule (codes "name") Set))
     (option_rule (codes "incarnation") Set))
     (option_rule (codes "port") Set))
     (option_rule (codes "link-port") Set))
     (option_rule (codes "shards") Set))
-    (option_rule (codes "workers") Set)
+    (option_rule (codes "workers") Set))
+    (option_rule (codes "link-version") Set)
 
 -- and those of its topics, of links and of addresses
 abbrev pub serve_app : App

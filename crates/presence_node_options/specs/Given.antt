@@ -13,7 +13,7 @@ use Rattle.presence_base.specs.Refs.{IsCount}
 use Rattle.presence_node_options.specs.CommandLine.{program}
 use Rattle.presence_node_options.specs.Limits.{numbered}
 use Rattle.presence_node_options.specs.declared.fault.UsageCause.{UsageCause}
-use Rattle.presence_node_options.specs.declared.fault.UsageCause.TheVariants.{Words, Name, Incarnation, Route, Port, LinkPort, Shards, Workers, Peer, Origin, PerAddress, HandshakesPerSecond}
+use Rattle.presence_node_options.specs.declared.fault.UsageCause.TheVariants.{Words, Name, Incarnation, Route, Port, LinkPort, Shards, Workers, LinkVersion, Peer, Origin, PerAddress, HandshakesPerSecond}
 use Rattle.presence_node_options.specs.declared.fault.UsageFault.{UsageFault}
 use Rattle.presence_node_options.specs.declared.fault.UsageFault.TheVariants.{Usage, Memory}
 use Rattle.presence_node_options.specs.declared.options.Options.{Options}
@@ -22,7 +22,7 @@ use Rattle.presence_node_options.specs.declared.options.PeerOption.{PeerOption}
 use Rattle.presence_node_options.specs.declared.options.ServeOptions.{ServeOptions}
 use Rattle.presence_node_options.specs.declared.options.StdioOptions.{StdioOptions}
 use Rattle.presence_base.specs.declared.names.TheConstants.{MAX_SHARDS}
-use Rattle.presence_node_options.specs.declared.options.TheConstants.{MAX_HANDSHAKES_PER_SECOND, MAX_ORIGINS, MAX_PER_ADDRESS, MAX_WORKERS}
+use Rattle.presence_node_options.specs.declared.options.TheConstants.{MAX_HANDSHAKES_PER_SECOND, MAX_LINK_VERSION, MAX_ORIGINS, MAX_PER_ADDRESS, MAX_WORKERS}
 
 -- the number that a text's digits write
 abbrev pub number_in : Text → ℕ
@@ -44,7 +44,8 @@ life_given rows = first_of (codes "incarnation") rows
 abbrev pub patterns_given : List Row → List Text
 patterns_given rows = unwrap_or (all_of (codes "route") rows) (codes "room:*" ∷ [])
 
--- the texts of the ports, of the number of shards and of that of workers that are given, or their defaults
+-- the texts of the ports, of the number of shards, of that of workers and of the version of links that are given, or their
+-- defaults
 abbrev pub port_given : List Row → Text
 port_given rows = unwrap_or (first_of (codes "port") rows) (codes "4000")
 
@@ -56,6 +57,9 @@ shards_given rows = unwrap_or (first_of (codes "shards") rows) (codes "4")
 
 abbrev pub workers_given : List Row → Text
 workers_given rows = unwrap_or (first_of (codes "workers") rows) (codes "4")
+
+abbrev pub link_version_given : List Row → Text
+link_version_given rows = unwrap_or (first_of (codes "link-version") rows) (codes "2")
 
 -- the texts of the peers that are given, in their order
 abbrev pub peers_given : List Row → List Text
@@ -158,6 +162,7 @@ pub record IsServed (rows : List Row) (o : ServeOptions) : Type 0 where
   pub link_port : o.link_port ≡ number_in (link_port_given rows)
   pub shards : o.shards ≡ number_in (shards_given rows)
   pub workers : o.workers ≡ number_in (workers_given rows)
+  pub link_version : o.link_version ≡ number_in (link_version_given rows)
   pub peers : ArePeers (peers_given rows) o.peers.items
   pub listen : string_bytes o.listen ≡ listen_given rows
   pub link_listen : string_bytes o.link_listen ≡ link_listen_given rows
@@ -228,6 +233,7 @@ Refuses rows Port = ⊥
 Refuses rows LinkPort = ⊥
 Refuses rows Shards = ⊥
 Refuses rows Workers = ⊥
+Refuses rows LinkVersion = ⊥
 Refuses rows Peer = ⊥
 Refuses rows Origin = ⊥
 Refuses rows PerAddress = ⊥
@@ -258,6 +264,9 @@ AreShards rows = IsNumberWithin 1 MAX_SHARDS (shards_given rows)
 abbrev pub AreWorkers : List Row → Type 0
 AreWorkers rows = IsNumberWithin 1 MAX_WORKERS (workers_given rows)
 
+abbrev pub IsLinkVersion : List Row → Type 0
+IsLinkVersion rows = IsNumberWithin 1 MAX_LINK_VERSION (link_version_given rows)
+
 -- a number from 1 to this one, if one is given
 abbrev pub IsUpTo : ℕ → Option Text → Type 0
 IsUpTo high None = Unit {0}
@@ -270,24 +279,27 @@ abbrev pub AreHandshakes : List Row → Type 0
 AreHandshakes rows = IsUpTo MAX_HANDSHAKES_PER_SECOND (handshakes_given rows)
 
 -- why the options of `serve` are refused: the name is looked at first, then the incarnation, the port, that of links, the
--- shards, the workers, the peers, the origins, how many clients and handshakes one address may have, and the routes
+-- shards, the workers, the version of links, the peers, the origins, how many clients and handshakes one address may have,
+-- and the routes
 abbrev pub ServeRefuses : List Row → UsageCause → Type 0
 ServeRefuses rows Incarnation = IsTrue (is_node_name (name_given rows)) × (IsLife (life_given rows) → ⊥)
 ServeRefuses rows Port = IsNamed rows × (IsPort rows → ⊥)
 ServeRefuses rows LinkPort = IsNamed rows × IsPort rows × (IsLinkPort rows → ⊥)
 ServeRefuses rows Shards = IsNamed rows × ArePorts rows × (AreShards rows → ⊥)
 ServeRefuses rows Workers = IsNamed rows × ArePorts rows × AreShards rows × (AreWorkers rows → ⊥)
-ServeRefuses rows Peer = IsNamed rows × ArePorts rows × AreShards rows × AreWorkers rows
+ServeRefuses rows LinkVersion = IsNamed rows × ArePorts rows × AreShards rows × AreWorkers rows
+    × (IsLinkVersion rows → ⊥)
+ServeRefuses rows Peer = IsNamed rows × ArePorts rows × AreShards rows × AreWorkers rows × IsLinkVersion rows
     × (AllArePeers (peers_given rows) → ⊥)
-ServeRefuses rows Origin = IsNamed rows × ArePorts rows × AreShards rows × AreWorkers rows
+ServeRefuses rows Origin = IsNamed rows × ArePorts rows × AreShards rows × AreWorkers rows × IsLinkVersion rows
     × AllArePeers (peers_given rows) × (AreFewOrigins (origins_given rows) → ⊥)
 ServeRefuses rows Route =
-    IsNamed rows × ArePorts rows × AreShards rows × AreWorkers rows × AllArePeers (peers_given rows)
+    IsNamed rows × ArePorts rows × AreShards rows × AreWorkers rows × IsLinkVersion rows × AllArePeers (peers_given rows)
     × AreFewOrigins (origins_given rows) × IsPerAddress rows × AreHandshakes rows
     × (AreFewPatterns (patterns_given rows) → ⊥)
-ServeRefuses rows PerAddress = IsNamed rows × ArePorts rows × AreShards rows × AreWorkers rows
+ServeRefuses rows PerAddress = IsNamed rows × ArePorts rows × AreShards rows × AreWorkers rows × IsLinkVersion rows
     × AllArePeers (peers_given rows) × AreFewOrigins (origins_given rows) × (IsPerAddress rows → ⊥)
-ServeRefuses rows HandshakesPerSecond = IsNamed rows × ArePorts rows × AreShards rows × AreWorkers rows
+ServeRefuses rows HandshakesPerSecond = IsNamed rows × ArePorts rows × AreShards rows × AreWorkers rows × IsLinkVersion rows
     × AllArePeers (peers_given rows) × AreFewOrigins (origins_given rows) × IsPerAddress rows × (AreHandshakes rows → ⊥)
 ServeRefuses rows cause = Refuses rows cause
 

@@ -9,7 +9,7 @@ use Rattle.hook_registry.specs.declared.routes.TheConstants.{MAX_ROUTES}
 use Rattle.presence_node_options.specs.declared.options.StdioOptions.{StdioOptions}
 use Rattle.presence_node_options.specs.declared.options.ServeOptions.{ServeOptions}
 use Rattle.presence_base.specs.declared.names.TheConstants.{MAX_SHARDS}
-use Rattle.presence_node_options.specs.declared.options.TheConstants.{MAX_HANDSHAKES_PER_SECOND, MAX_ORIGINS, MAX_PER_ADDRESS, MAX_WORKERS}
+use Rattle.presence_node_options.specs.declared.options.TheConstants.{MAX_HANDSHAKES_PER_SECOND, MAX_LINK_VERSION, MAX_ORIGINS, MAX_PER_ADDRESS, MAX_WORKERS}
 use Rattle.presence_node_options.specs.declared.options.Options.{Options}
 use Rattle.presence_node_options.specs.declared.options.Options.TheVariants.{Help, Version, Bare, Stdio, Fold, Serve}
 
@@ -37,8 +37,8 @@ pub record IsWithin (o : StdioOptions) : Type 0 where
 abbrev pub IsFrom1To : ℕ → ℕ → Type 0
 IsFrom1To high n = (1 ≤ n) × (n ≤ high)
 
--- the same for a server, with ports from 1 to 65535, and shards, workers and origins as many as there may be; its
--- incarnation may be left to the clock, and what one address may have to the server
+-- the same for a server, with ports from 1 to 65535, shards, workers and origins as many as there may be, and a version of
+-- links; its incarnation may be left to the clock, and what one address may have to the server
 pub record IsServedWithin (o : ServeOptions) : Type 0 where
   pub name : IsTrue (is_node_name o.name)
   pub incarnation : ForSome o.incarnation IsCount
@@ -47,6 +47,7 @@ pub record IsServedWithin (o : ServeOptions) : Type 0 where
   pub link_port : (1 ≤ o.link_port) × (o.link_port ≤ 65535)
   pub shards : (1 ≤ o.shards) × (o.shards ≤ MAX_SHARDS)
   pub workers : (1 ≤ o.workers) × (o.workers ≤ MAX_WORKERS)
+  pub link_version : (1 ≤ o.link_version) × (o.link_version ≤ MAX_LINK_VERSION)
   pub origins : length o.origins.items ≤ MAX_ORIGINS
   pub per_address : ForSome o.per_address (IsFrom1To MAX_PER_ADDRESS)
   pub handshakes_per_second : ForSome o.handshakes_per_second (IsFrom1To MAX_HANDSHAKES_PER_SECOND)

@@ -10,15 +10,15 @@ ghost use Rattle.presence_node_options.specs.Limits.{AreRoutes, IsFrom1To, IsWit
 use crate::fault::{UsageCause, UsageFault};
 use crate::help::{
     ALL_OPTIONS, ALLOWED, EXPLAIN_HELP, FOLD_REFUSALS, FOLD_USAGE, HANDSHAKES_HELP,
-    INCARNATION_HELP, LINK_LISTEN_HELP, LINK_PORT_HELP, LISTEN_HELP, NAME_HELP, NOTICES_HELP,
-    ORIGIN_HELP, PEER_HELP, PER_ADDRESS_HELP, PORT_HELP, ROUTE_HELP, SERVE_ENDS, SERVE_USAGE,
-    SERVED_INCARNATION_HELP, SHARDS_HELP, STDIO_REFUSALS, STDIO_USAGE, TO_TRY, USAGES, VERSION,
-    WORKERS_HELP,
+    INCARNATION_HELP, LINK_LISTEN_HELP, LINK_PORT_HELP, LINK_VERSION_HELP, LISTEN_HELP, NAME_HELP,
+    NOTICES_HELP, ORIGIN_HELP, PEER_HELP, PER_ADDRESS_HELP, PORT_HELP, ROUTE_HELP, SERVE_ENDS,
+    SERVE_USAGE, SERVED_INCARNATION_HELP, SHARDS_HELP, STDIO_REFUSALS, STDIO_USAGE, TO_TRY, USAGES,
+    VERSION, WORKERS_HELP,
 };
 use crate::options::{FoldOptions, Options, PeerOption, ServeOptions, StdioOptions};
 use crate::values::{
-    address_of, handshakes_of, incarnation_of, link_port_of, name_of, origins_of, peers_of,
-    per_address_of, port_of, routes_of, shards_of, usage_of, workers_of,
+    address_of, handshakes_of, incarnation_of, link_port_of, link_version_of, name_of, origins_of,
+    peers_of, per_address_of, port_of, routes_of, shards_of, usage_of, workers_of,
 };
 use clap::error::ErrorKind;
 use clap::{Arg, ArgAction, ArgMatches, Command, Error};
@@ -105,6 +105,18 @@ fn link_port_option<'a>(alloc: Global) -> Arg<'a>
         .value_name("PORT")
         .action(ArgAction::Set)
         .help(LINK_PORT_HELP)
+}
+
+// `--link-version NUMBER`.
+fn link_version_option<'a>(alloc: Global) -> Arg<'a>
+    ensures rule { rule_of result ≡ option_rule (codes "link-version") ArgAction.Set }
+    ensures local { result.global ≡ false }
+{
+    Arg::new(alloc, "link-version")
+        .long("link-version")
+        .value_name("NUMBER")
+        .action(ArgAction::Set)
+        .help(LINK_VERSION_HELP)
 }
 
 // `--shards NUMBER`.
@@ -242,7 +254,8 @@ fn served_command<'a>(alloc: Global) -> Result<Command<'a>, AllocError>
         .arg(port_option(alloc))?
         .arg(link_port_option(alloc))?
         .arg(shards_option(alloc))?
-        .arg(workers_option(alloc))
+        .arg(workers_option(alloc))?
+        .arg(link_version_option(alloc))
 }
 
 // The command `serve` with all of its options.
@@ -487,7 +500,7 @@ fn stdio_options(alloc: Global, matches: &ArgMatches<'_>) -> Result<StdioOptions
 }
 
 // The options of the words behind `serve`.
-#[tactic(auto, using(crate::proofs::Serving::too_hasty))]
+#[tactic(auto, using(crate::proofs::Serving::too_crowded, crate::proofs::Serving::too_hasty))]
 fn serve_options(alloc: Global, matches: &ArgMatches<'_>) -> Result<ServeOptions, UsageFault>
     ensures given { IfOk result (IsServed (rows_of (found_of matches.now))) }
     ensures limits { IfOk result IsServedWithin }
@@ -499,6 +512,7 @@ fn serve_options(alloc: Global, matches: &ArgMatches<'_>) -> Result<ServeOptions
     let link_port = link_port_of(alloc, text_given(matches, "link-port", "4001"))?;
     let shards = shards_of(alloc, text_given(matches, "shards", "4"))?;
     let workers = workers_of(alloc, text_given(matches, "workers", "4"))?;
+    let link_version = link_version_of(alloc, text_given(matches, "link-version", "2"))?;
     let peers = given_peers(alloc, matches)?;
     let origins = given_origins(alloc, matches)?;
     let per_address = given_per_address(alloc, matches)?;
@@ -514,6 +528,7 @@ fn serve_options(alloc: Global, matches: &ArgMatches<'_>) -> Result<ServeOptions
         link_port,
         shards,
         workers,
+        link_version,
         peers,
         listen,
         link_listen,

@@ -20,6 +20,8 @@ pub enum UsageCause {
     Shards,
     /// The number of workers is none from 1 to `MAX_WORKERS`.
     Workers,
+    /// The version of links is none from 1 to `MAX_LINK_VERSION`.
+    LinkVersion,
     /// A peer is no name, host and port.
     Peer,
     /// There are too many origins.

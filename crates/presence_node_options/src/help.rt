@@ -48,6 +48,10 @@ pub(crate) const LISTEN_HELP: &str = "The address of the port of clients [defaul
 
 pub(crate) const LINK_LISTEN_HELP: &str = "The address of the port of links [default: 127.0.0.1]";
 
+pub(crate) const LINK_VERSION_HELP: &str =
+    "Up to which version links are spoken, 1 or 2 [default: 2]
+1 is for a cluster that is upgraded node by node: other nodes are spoken to in their own version anyway";
+
 pub(crate) const ORIGIN_HELP: &str = "Where pages may connect from; up to 64 times [default: any]
 As https://example.com; pages of other origins are refused";
 
@@ -85,6 +89,7 @@ Options of serve:
       --peer <NAME=HOST:PORT>  Another node to link to, as b=10.0.0.2:4001
       --link-port <PORT>       The port of other nodes' links, 1 to 65535 [default: 4001]
       --link-listen <ADDRESS>  The address of the port of links [default: 127.0.0.1]
+      --link-version <NUMBER>  Up to which version links are spoken, 1 or 2 [default: 2]
 
 Options of stdio:
       --notices                Say on standard error who joins and leaves, as join a.1.2
@@ -162,9 +167,10 @@ A link is closed for these reasons:
   N2  the line is not JSON
   N3  the line is none that is allowed here, or a member of it is outside its limits
   N4  the told value is refused; B1 to B6 behind it say why: it has two ranges of one
-      node, a range that ends below its start, a row that none of its ranges and extras
-      covers, a row twice, more than 65536 rows and extras, or a row outside its limits
-      or of a topic of another shard
+      node (in version 2: a range out of order), a range that ends below its start, a row
+      that none of its ranges and extras covers, a row twice, more than 65536 rows and
+      extras (in version 2: rows and ranges), or a row outside its limits or of a topic
+      of another shard
   N5  the other node has another number of shards
   N6  reading failed, or a line was late
   N7  writing failed
@@ -178,6 +184,6 @@ pub(crate) const ALLOWED: &str =
 behind it, of 1 to 255 bytes, --notices and --explain;
 fold takes --explain;
 serve takes --name, --incarnation and --route as stdio, --port PORT and --link-port PORT, 1 to
-65535, --shards NUMBER, 1 to 4, --workers NUMBER, 1 to 64, --peer NAME=HOST:PORT, as often as one
-likes, --listen ADDRESS, --link-listen ADDRESS, up to 64 times --origin ORIGIN, --per-address
-NUMBER, 1 to 65536, and --handshakes NUMBER, 1 to 1000";
+65535, --shards NUMBER, 1 to 4, --workers NUMBER, 1 to 64, --link-version NUMBER, 1 or 2, --peer
+NAME=HOST:PORT, as often as one likes, --listen ADDRESS, --link-listen ADDRESS, up to 64 times
+--origin ORIGIN, --per-address NUMBER, 1 to 65536, and --handshakes NUMBER, 1 to 1000";

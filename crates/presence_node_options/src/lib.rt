@@ -15,6 +15,6 @@ pub use command_line::options_of;
 pub use fault::{UsageCause, UsageFault};
 pub use help::{ALL_OPTIONS, FOLD_REFUSALS, SERVE_ENDS, STDIO_REFUSALS, TO_TRY, VERSION};
 pub use options::{
-    FoldOptions, MAX_HANDSHAKES_PER_SECOND, MAX_ORIGINS, MAX_PER_ADDRESS, MAX_WORKERS, Options,
-    PeerOption, ServeOptions, StdioOptions,
+    FoldOptions, MAX_HANDSHAKES_PER_SECOND, MAX_LINK_VERSION, MAX_ORIGINS, MAX_PER_ADDRESS,
+    MAX_WORKERS, Options, PeerOption, ServeOptions, StdioOptions,
 };

@@ -2,7 +2,7 @@ ghost use Rattle.std.specs.Prelude.{◌<◌, ◌≤◌, vec_len};
 ghost use Rattle.std.specs.Option.{ForSome};
 ghost use Rattle.presence_base.specs.Refs.{IsCount};
 ghost use Rattle.presence_base.specs.declared.names.TheConstants.{MAX_SHARDS};
-ghost use Rattle.presence_node_options.specs.declared.options.TheConstants.{MAX_ORIGINS, MAX_WORKERS};
+ghost use Rattle.presence_node_options.specs.declared.options.TheConstants.{MAX_LINK_VERSION, MAX_ORIGINS, MAX_WORKERS};
 
 use hook_registry::Routes;
 use presence_base::NodeName;
@@ -25,6 +25,9 @@ pub struct StdioOptions {
 pub struct FoldOptions {
     pub explain: bool,
 }
+
+/// The highest version of links that a server speaks.
+pub const MAX_LINK_VERSION: u32 = 2;
 
 /// The most workers that a server has.
 pub const MAX_WORKERS: u32 = 64;
@@ -58,10 +61,10 @@ impl Drop for PeerOption {
 }
 
 /// What `serve` runs as: the node and its routes as those of `stdio`, the ports of its clients and of
-/// links, from 1 on, how many shards and workers there are, the nodes that are linked to, the addresses of both
-/// ports, and the origins whose pages may connect, or none where those of any may. Without an incarnation the node takes
-/// that of the clock. How many clients one address may have at once, and how many handshakes a second, are left to the
-/// server where they are none.
+/// links, from 1 on, how many shards and workers there are, up to which version links are spoken, the nodes that are
+/// linked to, the addresses of both ports, and the origins whose pages may connect, or none where those of any may. Without
+/// an incarnation the node takes that of the clock. How many clients one address may have at once, and how many handshakes
+/// a second, are left to the server where they are none.
 #[derive(Debug, Drop)]
 pub struct ServeOptions {
     pub name: NodeName,
@@ -71,6 +74,7 @@ pub struct ServeOptions {
     pub link_port: u16,
     pub shards: u32,
     pub workers: u32,
+    pub link_version: u32,
     pub peers: Vec<PeerOption>,
     pub listen: String,
     pub link_listen: String,
@@ -81,6 +85,7 @@ pub struct ServeOptions {
     ghost few_origins: { vec_len origins ≤ MAX_ORIGINS },
     ghost some_shards: { (0 < shards) × (shards ≤ MAX_SHARDS) },
     ghost some_workers: { (0 < workers) × (workers ≤ MAX_WORKERS) },
+    ghost some_version: { (0 < link_version) × (link_version ≤ MAX_LINK_VERSION) },
 }
 
 /// What a command line asks for.

@@ -4,11 +4,12 @@ ghost use Rattle.presence_base.specs.Refs.{IsCount};
 ghost use Rattle.presence_node_options.specs.Given.{number_in, AllArePeers, ArePeers, IsAddressIn, IsPeerIn, IsPeerText, IsIncarnation, IsIncarnationIn, IsNumberIn, IsNumberWithin, HasCause, IsFor, MayFollow, AreFewOrigins, AreFewPatterns};
 ghost use Rattle.presence_node_options.specs.Limits.{ArePatterns, AreRoutes, numbered};
 ghost use Rattle.presence_base.specs.declared.names.TheConstants.{MAX_SHARDS};
-ghost use Rattle.presence_node_options.specs.declared.options.TheConstants.{MAX_HANDSHAKES_PER_SECOND, MAX_ORIGINS, MAX_PER_ADDRESS, MAX_WORKERS};
+ghost use Rattle.presence_node_options.specs.declared.options.TheConstants.{MAX_HANDSHAKES_PER_SECOND, MAX_LINK_VERSION, MAX_ORIGINS, MAX_PER_ADDRESS, MAX_WORKERS};
 
 use crate::fault::{UsageCause, UsageFault};
 use crate::options::{
-    MAX_HANDSHAKES_PER_SECOND, MAX_ORIGINS, MAX_PER_ADDRESS, MAX_WORKERS, PeerOption,
+    MAX_HANDSHAKES_PER_SECOND, MAX_LINK_VERSION, MAX_ORIGINS, MAX_PER_ADDRESS, MAX_WORKERS,
+    PeerOption,
 };
 use hook_registry::{MAX_PATTERN_BYTES, MAX_ROUTES, RouteFault, Routes};
 use presence_base::{MAX_COUNT, MAX_SHARDS, NodeName};
@@ -141,6 +142,23 @@ pub(crate) fn workers_of(alloc: Global, text: &str) -> Result<u32, UsageFault>
         None => Err(usage_of(
             UsageCause::Workers,
             format!(in alloc; "--workers '{text}': there are 1 to {MAX_WORKERS} workers"),
+        )),
+    }
+}
+
+/// The version of links that a text is.
+pub(crate) fn link_version_of(alloc: Global, text: &str) -> Result<u32, UsageFault>
+    ensures number { IfOk result (λ n. n ≡ number_in text.now) }
+    ensures limits { IfOk result (λ n. IsNumberWithin 1 MAX_LINK_VERSION text.now) }
+    ensures cause { IfErr result (IsFor UsageCause.LinkVersion (IsNumberWithin 1 MAX_LINK_VERSION text.now → ⊥)) }
+{
+    match number_within(text, 1, u64::from(MAX_LINK_VERSION)) {
+        Some(version) => Ok(version as u32),
+        None => Err(usage_of(
+            UsageCause::LinkVersion,
+            format!(in alloc;
+                "--link-version '{text}': there are versions 1 to {MAX_LINK_VERSION}"
+            ),
         )),
     }
 }

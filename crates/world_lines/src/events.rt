@@ -5,6 +5,7 @@ use crate::members::{
     topic_at,
 };
 use node_links_world::Event;
+use orswot_core_told::Form;
 use presence_base::Meta;
 use presence_journal::Step;
 use serde_json::Value;
@@ -79,17 +80,34 @@ pub(crate) fn client_of(alloc: Global, members: &mut Vec<Value>) -> Result<Event
     Ok(Event::Client { node, step })
 }
 
-fn cut_of(members: &[Value]) -> Result<Event, LineFault> {
+fn cut_of(members: &[Value], form: Form) -> Result<Event, LineFault> {
     are_so_many(members, 2)?;
     let node = position_at(members, 1)?;
-    Ok(Event::Cut { node })
+    Ok(Event::Cut { node, form })
 }
 
-fn full_of(members: &[Value]) -> Result<Event, LineFault> {
+fn full_of(members: &[Value], form: Form) -> Result<Event, LineFault> {
     are_so_many(members, 3)?;
     let node = position_at(members, 1)?;
     let from = number_or_null_at(members, 2)?;
-    Ok(Event::Full { node, from })
+    Ok(Event::Full { node, from, form })
+}
+
+// As far as fits a line, or up to a count, which is then the fourth member.
+fn part_of(members: &[Value], form: Form) -> Result<Event, LineFault> {
+    let node = position_at(members, 1)?;
+    let from = number_at(members, 2)?;
+    let mut to = None;
+    if members.len() != 3 {
+        are_so_many(members, 4)?;
+        to = Some(number_at(members, 3)?);
+    }
+    Ok(Event::Part {
+        node,
+        from,
+        to,
+        form,
+    })
 }
 
 fn deliver_of(members: &[Value]) -> Result<Event, LineFault> {
@@ -134,11 +152,17 @@ fn restart_of(members: &[Value]) -> Result<Event, LineFault> {
     Ok(Event::Restart { node, incarnation })
 }
 
-/// What happens to a node besides, by the first member.
-pub(crate) fn event_of(alloc: Global, kind: &str, members: &[Value]) -> Result<Event, LineFault> {
+/// What happens to a node besides, by the first member. A node tells in this form.
+pub(crate) fn event_of(
+    alloc: Global,
+    kind: &str,
+    members: &[Value],
+    form: Form,
+) -> Result<Event, LineFault> {
     match kind {
-        "cut" => cut_of(members),
-        "full" => full_of(members),
+        "cut" => cut_of(members, form),
+        "full" => full_of(members, form),
+        "part" => part_of(members, form),
         "deliver" => deliver_of(members),
         "heard" => heard_of(alloc, members),
         "tick" => tick_of(members),

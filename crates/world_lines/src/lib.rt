@@ -9,6 +9,8 @@
 //! | `["client",node,"track",pid,topic,key,meta]`, `["client",node,"update",pid,topic,key,meta]` | a track, an update |
 //! | `["client",node,"untrack",pid,topic,key]`, `["client",node,"untrack_all",pid,topic]` | rows are taken out |
 //! | `["cut",node]`, `["full",node,null]`, `["full",node,from]` | a node tells |
+//! | `["part",node,from]`, `["part",node,from,to]` | a node tells a part of what was counted above `from`, or above it up to `to` |
+//! | `["form",1]`, `["form",2]` | in which form nodes tell from here on; before any such line it is the first |
 //! | `["deliver",node,told]` | what was told comes to a node |
 //! | `["heard",node,[name,incarnation],now]`, `["tick",node,now]` | a replica is heard, time passes |
 //! | `["permdown",node,[name,incarnation]]` | a replica is gone for good |

@@ -1,4 +1,5 @@
 use node_links_world::Event;
+use orswot_core_told::Form;
 use presence_base::{NodeName, Replica, Topic};
 
 /// What a line says.
@@ -8,5 +9,7 @@ pub(crate) enum Line {
     Happens(Event),
     List { node: usize, topic: Topic },
     Told,
+    /// In which form nodes tell from now on.
+    Form(Form),
     CaughtUp { node: usize, replica: Replica },
 }

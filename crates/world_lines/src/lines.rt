@@ -3,17 +3,20 @@ use crate::fault::LineFault;
 use crate::line::Line;
 use crate::reading::line_of;
 use node_links_world::{World, has_name_twice};
+use orswot_core_told::Form;
 use presence_base::{NodeName, Topic};
 use std::alloc::{AllocError, Global};
 
 /// A world by its lines: none before the nodes are named.
 pub struct Lines {
     world: Option<World>,
+    // The form in which nodes tell from now on.
+    form: Form,
 }
 
 impl Drop for Lines {
     fn drop(self) {
-        let Lines { world } = self;
+        let Lines { world, form: _ } = self;
         drop(world);
     }
 }
@@ -32,7 +35,12 @@ fn listed(world: &World, alloc: Global, node: usize, topic: &Topic) -> Result<St
 }
 
 // What a line makes of a world whose nodes are named, and what it is answered if it asks.
-fn go_on(world: &mut World, alloc: Global, line: &Line) -> Result<Option<String>, LineFault> {
+fn go_on(
+    world: &mut World,
+    tells_in: &mut Form,
+    alloc: Global,
+    line: &Line,
+) -> Result<Option<String>, LineFault> {
     match line {
         Line::Names(_) => Err(LineFault::Unknown),
         Line::Happens(event) => {
@@ -40,6 +48,10 @@ fn go_on(world: &mut World, alloc: Global, line: &Line) -> Result<Option<String>
             Ok(None)
         }
         Line::List { node, topic } => Ok(Some(listed(world, alloc, *node, topic)?)),
+        Line::Form(form) => {
+            *tells_in = *form;
+            Ok(None)
+        }
         Line::Told => Ok(Some(number_text(alloc, world.told_count())?)),
         Line::CaughtUp { node, replica } => {
             Ok(Some(yes_or_no(alloc, world.caught_up(*node, replica))?))
@@ -50,15 +62,18 @@ fn go_on(world: &mut World, alloc: Global, line: &Line) -> Result<Option<String>
 impl Lines {
     /// No line yet.
     pub fn new() -> Lines {
-        Lines { world: None }
+        Lines {
+            world: None,
+            form: Form::One,
+        }
     }
 
     /// Does what a line says; answers the text of what it asks for, if it asks. A line that is none of those that are allowed
     /// changes nothing, and so does one that memory ran out for.
     pub fn take(&mut self, alloc: Global, text: &str) -> Result<Option<String>, LineFault> {
-        let line = line_of(alloc, text)?;
+        let line = line_of(alloc, text, self.form)?;
         if let Some(world) = &mut self.world {
-            return go_on(world, alloc, &line);
+            return go_on(world, &mut self.form, alloc, &line);
         }
         let Line::Names(names) = &line else {
             return Err(LineFault::Unknown);

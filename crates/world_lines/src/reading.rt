@@ -3,6 +3,7 @@ use crate::events::{client_of, event_of};
 use crate::fault::LineFault;
 use crate::line::Line;
 use crate::members::{are_so_many, names_at, position_at, replica_at, text_at, topic_at};
+use orswot_core_told::Form;
 use serde_json::{Category, Value};
 use std::alloc::Global;
 
@@ -42,27 +43,37 @@ fn told_line(members: &[Value]) -> Result<Line, LineFault> {
     Ok(Line::Told)
 }
 
+fn form_line(members: &[Value]) -> Result<Line, LineFault> {
+    are_so_many(members, 2)?;
+    match position_at(members, 1)? {
+        1 => Ok(Line::Form(Form::One)),
+        2 => Ok(Line::Form(Form::Two)),
+        _ => Err(LineFault::Unknown),
+    }
+}
+
 // A line of any other kind than a client's.
-fn other_line(alloc: Global, kind: &str, members: &[Value]) -> Result<Line, LineFault> {
+fn other_line(alloc: Global, kind: &str, members: &[Value], form: Form) -> Result<Line, LineFault> {
     match kind {
         "names" => names_line(alloc, members),
         "list" => list_of(alloc, members),
         "told" => told_line(members),
+        "form" => form_line(members),
         "caught_up" => caught_up_of(alloc, members),
         _ => {
-            let event = event_of(alloc, kind, members)?;
+            let event = event_of(alloc, kind, members, form)?;
             Ok(Line::Happens(event))
         }
     }
 }
 
-/// What a text says.
-pub(crate) fn line_of(alloc: Global, text: &str) -> Result<Line, LineFault> {
+/// What a text says, where nodes tell in this form.
+pub(crate) fn line_of(alloc: Global, text: &str, form: Form) -> Result<Line, LineFault> {
     let mut members = members_of(alloc, text)?;
     if text_at(members.as_slice(), 0)? == "client" {
         let event = client_of(alloc, &mut members)?;
         return Ok(Line::Happens(event));
     }
     let kind = text_at(members.as_slice(), 0)?;
-    other_line(alloc, kind, members.as_slice())
+    other_line(alloc, kind, members.as_slice(), form)
 }

@@ -13,7 +13,7 @@ use hook_registry::PresenceHooks;
 use presence_base::{MAX_COUNT, Replica};
 use presence_node_crew::{Posts, run_crew};
 use presence_node_duties::{
-    Counts, Door, LinkTask, LinkTasks, Server, Workplace, seats_of, tasks_for,
+    Counts, Door, LinkNode, LinkTask, LinkTasks, Server, Workplace, seats_of, tasks_for,
 };
 use presence_node_ends::{ServeEnd, settled};
 use presence_node_options::{PeerOption, ServeOptions};
@@ -173,7 +173,12 @@ fn links_for<R: Net, H>(
         name: options.name,
         incarnation: setting.incarnation,
     };
-    let mut tasks = tasks_for(rt, alloc, own, options.shards, listener)?;
+    let node = LinkNode {
+        own,
+        shards: options.shards,
+        version: options.link_version,
+    };
+    let mut tasks = tasks_for(rt, alloc, node, listener)?;
     dial_all(alloc, options.peers.as_slice(), &mut tasks)?;
     Ok(tasks)
 }

@@ -7,5 +7,5 @@ use Rattle.node_links_world_lives.proofs.telling.read_delta.Goals as goal
 
 pub returns : goal.returns
 returns c =
-    heard_delta c.args.delta.now c.live.ensures.delta (sym (ap (list_all is_named) c.live.ensures.live) ∙ c.read_rows.ensures.names)
+    heard_delta c.args.form c.args.delta.now c.live.ensures.delta (sym (ap (list_all is_named) c.live.ensures.live) ∙ c.read_rows.ensures.names)
     (sym (ap (list_all (λ x. are_texts x.1)) c.live.ensures.live) ∙ c.read_rows.ensures.texts)

@@ -12,4 +12,5 @@ returns c =
     let three = c.in_ok-arg-3.ensures.shape c.port_option.ensures.local ∙ ap₂ with_rule two c.port_option.ensures.rule in
     let four = c.in_ok-arg-4.ensures.shape c.link_port_option.ensures.local ∙ ap₂ with_rule three c.link_port_option.ensures.rule in
     let five = c.in_ok-arg-5.ensures.shape c.shards_option.ensures.local ∙ ap₂ with_rule four c.shards_option.ensures.rule in
-    IfOk-weaker c.arg-6.result _ _ (λ r a. a.shape c.workers_option.ensures.local ∙ ap₂ with_rule five c.workers_option.ensures.rule) c.arg-6.ensures
+    let six = c.in_ok-arg-6.ensures.shape c.workers_option.ensures.local ∙ ap₂ with_rule five c.workers_option.ensures.rule in
+    IfOk-weaker c.arg-7.result _ _ (λ r a. a.shape c.link_version_option.ensures.local ∙ ap₂ with_rule six c.link_version_option.ensures.rule) c.arg-7.ensures

@@ -1,0 +1,86 @@
+-- A part that is cut short for a line.
+use Rattle.std.proofs.Common.{◌≡◌, ℕ, ◌+◌, ◌≤◌, suc, Bool, true, false, not, cond, nat_lt, List, [], ◌∷◌, ◌++◌, length, Option, Some, None, refl, sym, ◌∙◌, ap, subst, arith, inl, inr}
+use Rattle.std.specs.Prelude.{◌⊎◌, Result, Ok, Err, IfOk, IfErr}
+use Rattle.std.specs.List.{filter}
+use Rattle.std.proofs.lemmas.Bool.Decides.{nat_tests}
+use Rattle.presence_base.specs.declared.dots.Dot.{Dot}
+use Rattle.presence_base.specs.declared.row.Row.{Row}
+use Rattle.presence_base.specs.Names.{guarded}
+use Rattle.orswot_core_told.specs.declared.form.Form.{Form}
+use Rattle.orswot_core_told.specs.declared.form.Form.TheVariants.{Two}
+use Rattle.orswot_core_told.specs.Telling.{ToldValue, Range, run_ranges}
+use Rattle.orswot_core_told.specs.Checks.{is_too_many_in}
+use Rattle.delta_range.specs.Deltas.{DeltaValue, telling_in, own_dots, IsDelta}
+use Rattle.delta_range.specs.Fitting.{fits_line}
+use Rattle.presence_journal.specs.History.{History}
+use Rattle.presence_journal_cuts.specs.ToldParts.{IsPartWhereItFits}
+use Rattle.presence_journal_cuts.specs.Parting.{is_up_to, up_to}
+use Rattle.presence_journal_cuts.proofs.CutShort.{short_sound, parts_cut_short}
+use Rattle.shard_pool.specs.Unseated.{IsBehindOf}
+use Rattle.shard_pool.specs.ShardFault.{ShardFault}
+use Rattle.shard_pool.specs.ShardFault.TheVariants as faults
+use Rattle.node_links_acts.specs.declared.port.ActFault.{ActFault}
+use Rattle.presence_node_link_ports.specs.Asking.{act_fault, told_of, TellsSince}
+use Rattle.presence_node_link_ports.specs.Parts.{IsShortened, IsPartOnLine, TellsPart, is_long}
+
+-- ---- no more than before
+
+one_more : (xs : List Range) (y z : Range) → length (xs ++ y ∷ []) ≡ length (xs ++ z ∷ [])
+one_more [] y z = refl
+one_more (x ∷ xs) y z = ap suc (one_more xs y z)
+
+no_longer : (p : Dot × Row → Bool) (xs : List (Dot × Row)) → length (filter p xs) ≤ length xs
+no_longer p [] = omega arith
+no_longer p (x ∷ xs) = go (p x) (no_longer p xs)
+  where
+    go : (b : Bool) → length (filter p xs) ≤ length xs → length (cond b (x ∷ filter p xs) (filter p xs)) ≤ suc (length xs)
+    go true le = omega (arith, le)
+    go false le = omega (arith, le)
+
+fewer : (a k l : ℕ) → l ≤ k → not (nat_lt 65536 (a + (0 + k))) ≡ true → nat_lt 65536 (a + (0 + l)) ≡ false
+fewer a k l le e = grind (arith, nat_tests, le, e)
+
+short_fits : (m : ℕ) (d : DeltaValue) → fits_line Two d ≡ true → is_too_many_in Two (telling_in Two (up_to m d)) ≡ false
+short_fits m d fits =
+    fewer (length (run_ranges d.owner d.older ++ own_dots (up_to m d) ∷ [])) (length d.live) (length (up_to m d).live) (no_longer (λ x. is_up_to m x.0) d.live)
+    (ap (λ k. not (nat_lt 65536 (k + (0 + length d.live)))) (one_more (run_ranges d.owner d.older) (own_dots (up_to m d)) (own_dots d)) ∙ fits)
+
+-- ---- on a line
+
+pub guarded_short : (shard : ℕ) (t : ToldValue) (o : Option ToldValue) (m : ℕ) (d : DeltaValue) → IsDelta d → t ≡ telling_in Two (up_to m d) → o ≡ guarded (not (is_long shard t)) t → IsShortened shard d o
+guarded_short shard t o m d sound is made = subst (IsShortened shard d) (sym made) (go (is_long shard t) refl)
+  where
+    go : (b : Bool) → is_long shard t ≡ b → IsShortened shard d (guarded (not b) t)
+    go true e = tt
+    go false e = (m, sound, is, e)
+
+told_part : (shard n : ℕ) (h : History) (d : DeltaValue) (o : Option ToldValue) → IsPartWhereItFits h n (Some d) → IsShortened shard d o → TellsPart shard h n o
+told_part shard n h d None part short = tt
+told_part shard n h d (Some t) part short = record {
+  delta = up_to short.0 d;
+  part = parts_cut_short h n short.0 d part.part short.1;
+  sound = short_sound short.0 d short.1;
+  tells = short.2;
+  few = ap (is_too_many_in Two) short.2 ∙ short_fits short.0 d part.fits;
+  short = short.3;
+}
+
+pub told_behind : (Here : History → Type 0) (shard n : ℕ) (part : Option DeltaValue) (d : DeltaValue) (o : Option ToldValue) → part ≡ Some d → IsBehindOf Here (λ h. IsPartWhereItFits h n part) → IsShortened shard d o → IsBehindOf Here (λ h. TellsPart shard h n o)
+told_behind Here shard n part d o is b short = record {
+  history = b.history;
+  legal = b.legal;
+  here = b.here;
+  is = told_part shard n b.history d o (subst (IsPartWhereItFits b.history n) is b.is) short;
+}
+
+pub none_behind : (Here : History → Type 0) (shard n : ℕ) → IsBehindOf Here (λ h. IsPartWhereItFits h n None) → IsBehindOf Here (λ h. TellsPart shard h n None)
+none_behind Here shard n b = record { history = b.history; legal = b.legal; here = b.here; is = tt }
+
+-- as a link is told it
+pub told_in_part : (Here : History → Type 0) (shard n : ℕ) (form : Form) (r : Result (Option ToldValue) ShardFault) (a : Result (Option ToldValue) ActFault) → a ≡ told_of r → form ≡ Two → IfOk r (λ o. IsBehindOf Here (λ h. TellsPart shard h n o)) → IfErr r (λ e. e ≡ faults.OutOfMemory)
+    → TellsSince Here shard form n a
+told_in_part Here shard n form r a is two behind err = subst (TellsSince Here shard form n) (sym is) (go r behind err)
+  where
+    go : (x : Result (Option ToldValue) ShardFault) → IfOk x (λ o. IsBehindOf Here (λ h. TellsPart shard h n o)) → IfErr x (λ e. e ≡ faults.OutOfMemory) → TellsSince Here shard form n (told_of x)
+    go (Ok o) b e = inr (two, b)
+    go (Err f) b e = ap act_fault e

@@ -1,0 +1,41 @@
+-- What is told in parts, where a kept delta, or all that a shard knows, is more than a line takes.
+use Rattle.std.specs.Prelude.{◌≡◌, ◌⊎◌, ◌<◌, ℕ, Bool, true, false, nat_lt, length, Option, Some, None, Result, Ok, Err}
+use Rattle.orswot_core_told.specs.declared.form.Form.{Form}
+use Rattle.orswot_core_told.specs.declared.form.Form.TheVariants.{Two}
+use Rattle.orswot_core_told.specs.Telling.{ToldValue}
+use Rattle.orswot_core_told.specs.Checks.{is_too_many_in, WhereItFits}
+use Rattle.delta_range.specs.Deltas.{DeltaValue, telling_in, IsDelta}
+use Rattle.presence_journal.specs.History.{History}
+use Rattle.presence_journal_cuts.specs.Parting.{up_to}
+use Rattle.shard_pool.specs.ToldParts.{IsPart}
+use Rattle.node_links_lines.specs.declared.lines.Line.{Line}
+use Rattle.node_links_lines.specs.declared.lines.Line.TheVariants as lines
+use Rattle.node_links_lines.specs.declared.lines.TheConstants.{MAX_LINE_BYTES}
+use Rattle.node_links_lines.specs.Writing.{text_of}
+
+-- the line that a value of the second form is told on
+abbrev pub told_line : ℕ → ToldValue → Line
+told_line shard t = lines.Told shard (record { form = Two; told = t })
+
+-- it has more bytes than a line may have
+abbrev pub is_long : ℕ → ToldValue → Bool
+is_long shard t = nat_lt MAX_LINE_BYTES (length (text_of (told_line shard t)))
+
+-- the delta, which is sound, cut short, where a line takes it
+abbrev pub IsShortened : ℕ → DeltaValue → Option ToldValue → Type 0
+IsShortened shard d None = Unit {0}
+IsShortened shard d (Some t) = (m : ℕ) × IsDelta d × (t ≡ telling_in Two (up_to m d)) × (is_long shard t ≡ false)
+
+-- a part of what the history tells from a count on, on a line that a node takes in
+pub record IsPartOnLine (shard : ℕ) (h : History) (n : ℕ) (t : ToldValue) : Type 0 where
+  pub delta : DeltaValue
+  pub part : IsPart h n delta
+  pub sound : IsDelta delta
+  pub tells : t ≡ telling_in Two delta
+  pub few : is_too_many_in Two t ≡ false
+  pub short : is_long shard t ≡ false
+
+-- a part, where one is told: none where a line has no room even for the first row
+abbrev pub TellsPart : ℕ → History → ℕ → Option ToldValue → Type 0
+TellsPart shard h n None = Unit {0}
+TellsPart shard h n (Some t) = IsPartOnLine shard h n t

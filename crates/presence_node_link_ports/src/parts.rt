@@ -1,0 +1,118 @@
+//! What is told in parts where it has more than a line takes.
+ghost use Rattle.std.specs.Prelude.{◌≡◌, ◌<◌, ℕ, not, true, Some, IfOk, IfErr};
+ghost use Rattle.presence_base.specs.Names.{guarded};
+ghost use Rattle.orswot_core_told.specs.declared.form.Form.TheVariants.{Two};
+ghost use Rattle.node_links_members.specs.declared.hearer.Telling.{Telling};
+ghost use Rattle.node_links_lines.specs.declared.lines.Line.TheVariants as lines;
+ghost use Rattle.delta_range.specs.Deltas.{IsDelta};
+ghost use Rattle.shard_pool.specs.Seats.{IsBehindAt};
+ghost use Rattle.shard_pool.specs.ShardFault.TheVariants.{OutOfMemory};
+ghost use Rattle.presence_node_link_ports.specs.Parts.{IsShortened, TellsPart, is_long};
+
+use crate::lengths::{delta_ranges_bytes, row_bytes, told_bytes};
+use delta_range::Delta;
+use node_links_lines::{Line, LinkFault, MAX_LINE_BYTES, Telling, encode_line};
+use orswot_core_told::{Form, Told};
+use presence_journal_cuts::up_to;
+use shard_pool::{Gate, Lane, Pool, PoolFault};
+use std::alloc::{AllocError, Global};
+use std::sync::Wait;
+
+// What a told line has beside its ranges and its rows: `["told",9,[[],[]]]`, with the shard's digits.
+const FRAME_BYTES: usize = 32;
+
+// Whether a told value of the second form is short enough for a line.
+fn is_short(told: &Told) -> bool {
+    told_bytes(told) <= MAX_LINE_BYTES - FRAME_BYTES
+}
+
+/// Whether a part is told in place of this, which no line takes: in the second form alone.
+pub(crate) fn is_told_in_parts(form: Form, whole: &Result<Option<Told>, PoolFault>) -> bool
+    ensures { result ≡ true → form ≡ Two }
+{
+    match form {
+        Form::One => false,
+        Form::Two => match whole {
+            Ok(Some(told)) => !is_short(told),
+            Ok(None) => true,
+            Err(_) => false,
+        },
+    }
+}
+
+// The count up to which a part's rows are short enough for a line beside its ranges.
+fn end_on_line(part: &Delta) -> u64
+    ensures { IsDelta part.now }
+{
+    let mut left = (MAX_LINE_BYTES - FRAME_BYTES).saturating_sub(delta_ranges_bytes(part));
+    for row in part.live() {
+        let bytes = row_bytes(row);
+        if left < bytes {
+            return row.0.count.saturating_sub(1);
+        }
+        left -= bytes;
+    }
+    part.to()
+}
+
+// What a told line tells.
+fn told_of(line: Line) -> Option<Told>
+    ensures { (shard : ℕ) (told : Telling) → line ≡ lines.Told shard told → result ≡ Some told.told }
+{
+    match line {
+        Line::Told { told, .. } => Some(told.told),
+        _ => None,
+    }
+}
+
+// The told value, where its line is no longer than a line may be.
+fn on_line(alloc: Global, shard: u32, told: Told) -> Result<Option<Told>, AllocError>
+    ensures { IfOk result (λ o. o ≡ guarded (not (is_long shard told)) told) }
+{
+    let form = Form::Two;
+    let line = Line::Told {
+        shard,
+        told: Telling { form, told },
+    };
+    match encode_line(alloc, &line) {
+        Ok(_) => Ok(told_of(line)),
+        Err(LinkFault::LineTooLong) => Ok(None),
+        Err(_) => Err(AllocError),
+    }
+}
+
+// The part up to the last row for which a line has room, where it has room for one.
+fn shortened(alloc: Global, shard: u32, part: &Delta) -> Result<Option<Told>, AllocError>
+    ensures { IfOk result (IsShortened shard part.now) }
+{
+    let to = end_on_line(part);
+    if to <= part.from() {
+        return Ok(None);
+    }
+    let told = up_to(alloc, part, to)?.told(alloc, Form::Two)?;
+    on_line(alloc, shard, told)
+}
+
+/// A part of the shard's own rows, for a node that knows its dots up to a count, on a line of the second form. None where the line
+/// has no room for a row beside the runs of older counts. It refuses with `OutOfMemory` alone.
+#[tactic(auto, using(crate::proofs::PartLemmas::none_behind))]
+pub(crate) fn part_on_line<R: Wait, G: Gate, A: Lane, B: Lane, C: Lane, D: Lane>(
+    rt: &R,
+    alloc: Global,
+    pool: &Pool<G, A, B, C, D>,
+    shard: u32,
+    count: u64,
+) -> Result<Option<Told>, PoolFault>
+    requires { shard < pool.now.shards }
+    ensures part { IfOk result (λ o. IsBehindAt A.begins B.begins C.begins D.begins shard pool.now.own.name
+        (λ h. TellsPart shard h count o)) }
+    ensures err { IfErr result (λ e. e ≡ OutOfMemory) }
+{
+    let Some(part) = pool.part(rt, alloc, shard, count)? else {
+        return Ok(None);
+    };
+    match shortened(alloc, shard, &part) {
+        Ok(told) => Ok(told),
+        Err(_) => Err(PoolFault::OutOfMemory),
+    }
+}
