@@ -13,8 +13,20 @@ use std::os::fd::{AsRawFd, RawFd};
 /// How many bytes of a client are read before the others of its worker have their turns.
 pub const TURN_BYTES: usize = 65_536;
 
+/// What is known of the bytes that a stream has.
+#[derive(Clone, Copy, PartialEq, Eq, Debug)]
+enum News {
+    /// Nobody tells when some come, so that each read has to ask.
+    Untold,
+    /// Some may have come.
+    Some,
+    /// The last read found none, and nobody has told of any since.
+    Nothing,
+}
+
 /// A client's stream. It gives `TURN_BYTES` at most, and then, once, it answers that it would block, so that the turn that
-/// reads it ends; and it remembers whether the last write found no room.
+/// reads it ends; it remembers whether the last write found no room, and, where it is told when something comes, it doesn't
+/// ask for what can't be there.
 pub struct ClientStream<S> {
     stream: S,
     /// How many bytes the turn that reads may still have.
@@ -25,6 +37,8 @@ pub struct ClientStream<S> {
     blocked: bool,
     /// Since when writes have found none, in milliseconds, if that was noted.
     stalled: Cell<Option<u64>>,
+    /// Whether a read has to ask the system.
+    news: Cell<News>,
     /// Among the clients of its address.
     neighbour: Option<Ticket>,
     /// Among those that have a place.
@@ -45,6 +59,7 @@ impl<S: Drop> Drop for ClientStream<S> {
             put_off: _,
             blocked: _,
             stalled: _,
+            news: _,
             neighbour,
             place,
             waiting,
@@ -75,6 +90,7 @@ impl<S> ClientStream<S> {
             put_off: false,
             blocked: false,
             stalled: Cell::new(None),
+            news: Cell::new(News::Untold),
             neighbour: None,
             place: None,
             waiting: None,
@@ -103,6 +119,18 @@ impl<S> ClientStream<S> {
         ensures left { self.new.left ≡ self.old.left }
     {
         self.waiting = Some(ticket);
+    }
+
+    /// From now on it is told when something comes, so that a read which would find nothing needn't ask.
+    pub fn expect_news(&self) {
+        self.news.set(News::Some);
+    }
+
+    /// Something may have come.
+    pub fn has_news(&self) {
+        if self.news.get() == News::Nothing {
+            self.news.set(News::Some);
+        }
     }
 
     /// The stream inside.
@@ -148,6 +176,17 @@ impl<S> ClientStream<S> {
 }
 
 impl<S: Read> ClientStream<S> {
+    // Notes that a read found nothing.
+    fn found_nothing(&mut self)
+        ensures left { self.new.left ≡ TURN_BYTES }
+        ensures stream { self.new.stream ≡ self.old.stream }
+    {
+        self.left = TURN_BYTES;
+        if self.news.get() == News::Some {
+            self.news.set(News::Nothing);
+        }
+    }
+
     // Ends the turn: the next one may have as much again.
     fn put_off(&mut self) -> io::Error
         ensures left { self.new.left ≡ TURN_BYTES }
@@ -172,6 +211,9 @@ impl<S: Read> Read for ClientStream<S> {
         ensures spends { Spends self.old.left self.new.left result }
     {
         self.waiting = None;
+        if self.news.get() == News::Nothing {
+            return Err(io::Error::from(ErrorKind::WouldBlock));
+        }
         if self.left == 0 {
             return Err(self.put_off());
         }
@@ -184,7 +226,7 @@ impl<S: Read> Read for ClientStream<S> {
             }
             Err(error) => {
                 if would_block(&error) {
-                    self.left = TURN_BYTES;
+                    self.found_nothing();
                 }
                 Err(error)
             }

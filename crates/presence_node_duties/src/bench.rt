@@ -1,6 +1,6 @@
 //! A worker's thread: it serves its connections in turns.
 use crate::draining::{Drain, Due, count_anew, have_all_delivered, is_due, make_due, set_draining};
-use crate::ends::count_ends;
+use crate::ends::ended_by;
 use crate::server::Server;
 use hook_registry::PresenceHooks;
 use presence_node_counts::{Checkpoint, Counts};
@@ -21,8 +21,8 @@ use std::thread;
 use std::time::{Clock, Duration};
 use tungstenite::{NoMask, WebSocket};
 
-/// So many turns may pass before what waits is sent, while messages come.
-const MAX_HELD: u32 = 16;
+/// So many rounds, of two turns each, may pass before what waits is sent, while clients have further messages.
+const MAX_HELD: u32 = 8;
 
 /// How long one wait lasts where nothing is to be done, in milliseconds.
 const IDLE_MILLISECONDS: u64 = 1_000;
@@ -77,11 +77,30 @@ fn joined_topics(alloc: Global, told: &[Arc<Topics>]) -> Topics {
     all
 }
 
-// The connections that were ready at the last wait take the next turn.
+// The stream of a client.
+fn stream_of(client: &Client<ClientSocket>) -> &ClientSocket {
+    client.connection.socket.get_ref()
+}
+
+// The connections that were ready at the last wait take the next turn, and read.
 fn mark_ready(watch: &Watch, worker: &mut Worker<ClientSocket>) {
     for event in watch.events() {
-        if let Some(token) = number_of(event) {
-            worker.mark(token as usize);
+        if let Some(number) = number_of(event) {
+            let token = number as usize;
+            if let Some(client) = worker.with_token(token) {
+                stream_of(client).has_news();
+            }
+            worker.mark(token);
+        }
+    }
+}
+
+// Each connection takes the next turn, and reads.
+fn mark_each(worker: &mut Worker<ClientSocket>) {
+    worker.mark_all();
+    for place in 0..worker.len() {
+        if let Some(client) = worker.at(place) {
+            stream_of(client).has_news();
         }
     }
 }
@@ -91,14 +110,33 @@ fn mark_ready(watch: &Watch, worker: &mut Worker<ClientSocket>) {
 fn watch_from(watch: &Watch, worker: &Worker<ClientSocket>, place: usize) {
     for place in place..worker.len() {
         if let Some(client) = worker.at(place) {
-            let _lost = watch.add(client.connection.socket.get_ref(), client.token as u64);
+            let stream = stream_of(client);
+            if watch.add(stream, client.token as u64).is_ok() {
+                stream.expect_news();
+            }
         }
     }
 }
 
-// Whether a connection may have a further message or delivery.
-fn is_busy(client: &Client<ClientSocket>) -> bool {
-    client.ready && client.connection.stage == Stage::Open
+/// What the connections of a worker have to do next.
+#[derive(Clone, Copy, PartialEq, Eq, Debug)]
+enum Outlook {
+    /// One of them may have a further message or delivery.
+    Busy,
+    /// None may, but one asks for its session's end again.
+    Ending,
+    Idle,
+}
+
+// What a connection has to do next.
+fn outlook_of(client: &Client<ClientSocket>) -> Outlook {
+    if !client.ready {
+        Outlook::Idle
+    } else if client.connection.stage == Stage::Open {
+        Outlook::Busy
+    } else {
+        Outlook::Ending
+    }
 }
 
 // The topics that the sessions of a worker have joined.
@@ -184,7 +222,9 @@ pub struct Bench<A: Lane, B: Lane, C: Lane, D: Lane> {
     worker: Worker<ClientSocket>,
     watch: Watch,
     leavers: Leavers,
-    /// How many turns have passed since what waited was sent.
+    /// Whether a client took nothing of what was sent to it.
+    stalls: bool,
+    /// How many rounds have passed since what waited was sent.
     held: u32,
     /// The time of this turn, in milliseconds.
     now: u64,
@@ -207,6 +247,7 @@ impl<A: Lane, B: Lane, C: Lane, D: Lane> Drop for Bench<A, B, C, D> {
             worker,
             watch,
             leavers,
+            stalls: _,
             held: _,
             now: _,
             swept: _,
@@ -241,6 +282,7 @@ impl<A: Lane, B: Lane, C: Lane, D: Lane> Bench<A, B, C, D> {
             worker: Worker::new(alloc, taker),
             watch,
             leavers: Leavers::new(alloc),
+            stalls: false,
             held: 0,
             now: 0,
             swept: 0,
@@ -261,6 +303,7 @@ impl<A: Lane, B: Lane, C: Lane, D: Lane> Bench<A, B, C, D> {
             worker,
             watch,
             leavers,
+            stalls: _,
             held: _,
             now: _,
             swept: _,
@@ -296,24 +339,26 @@ impl<A: Lane, B: Lane, C: Lane, D: Lane> Bench<A, B, C, D> {
     }
 
     // Looks at what the workers and the links told, all of it at once. What clients were told in this turn goes out before
-    // the others that follow their topics have theirs.
-    fn hear<R: Wait, H>(&mut self, rt: &R, server: &Server<'_, H, A, B, C, D>, own: usize) {
+    // the others that follow their topics have theirs. Whether some of them were told of anything.
+    fn hear<R: Wait, H>(&mut self, rt: &R, server: &Server<'_, H, A, B, C, D>, own: usize) -> bool {
         let Some(mailbox) = server.mailboxes.get(own) else {
-            return;
+            return false;
         };
-        if mailbox.looked() {
+        let looked = mailbox.looked();
+        if looked {
             self.dealt = self.now;
             self.worker.mark_all();
         }
         let told = mailbox.inbox.take(rt, server.alloc);
         if told.is_empty() {
-            return;
+            return looked;
         }
         self.dealt = self.now;
         self.crowded = told.len() > 1;
         self.send(&server.counts, false);
         let topics = joined_topics(server.alloc, told.as_slice());
         self.mark_followers(&topics);
+        true
     }
 
     // For how many milliseconds more what the workers tell is gathered: for none where one client at a time says something,
@@ -355,7 +400,7 @@ impl<A: Lane, B: Lane, C: Lane, D: Lane> Bench<A, B, C, D> {
         rt: &R,
         server: &Server<'_, H, A, B, C, D>,
     ) -> Noted {
-        hold_stalled(&mut self.worker, self.now);
+        self.stalls |= hold_stalled(&mut self.worker, self.now);
         let served = serve_ready(
             rt,
             server,
@@ -375,7 +420,7 @@ impl<A: Lane, B: Lane, C: Lane, D: Lane> Bench<A, B, C, D> {
         server: &Server<'_, H, A, B, C, D>,
     ) -> Noted {
         self.worker.mark_all();
-        hold_stalled(&mut self.worker, self.now);
+        self.stalls |= hold_stalled(&mut self.worker, self.now);
         let served = deliver_ready(
             rt,
             server,
@@ -484,39 +529,66 @@ impl<A: Lane, B: Lane, C: Lane, D: Lane> Bench<A, B, C, D> {
         self.make_checkpoints(rt, server);
     }
 
-    // Whether one of the connections may.
+    // What its connections have to do next.
+    fn outlook(&self) -> Outlook {
+        let mut outlook = Outlook::Idle;
+        for place in 0..self.worker.len() {
+            match self.worker.due_at(place).map(outlook_of) {
+                Some(Outlook::Busy) => return Outlook::Busy,
+                Some(Outlook::Ending) => outlook = Outlook::Ending,
+                Some(Outlook::Idle) | None => {}
+            }
+        }
+        outlook
+    }
+
+    // Whether one of them may have a further message or delivery.
     fn is_busy(&self) -> bool {
-        (0..self.worker.len()).any(|place| self.worker.at(place).is_some_and(is_busy))
+        self.outlook() == Outlook::Busy
     }
 
-    // Whether a connection takes the next turn at all.
-    fn is_ready(&self) -> bool {
-        (0..self.worker.len()).any(|place| self.worker.at(place).is_some_and(|client| client.ready))
+    // Counts the sessions that have ended, whose connections the worker gives up with its next flush, and waits for the
+    // clients that were told so: the place of the first of them.
+    fn see_off(&mut self, counts: &Counts) -> usize {
+        let first = self.leavers.len();
+        for place in 0..self.worker.len() {
+            let Some(client) = self.worker.due_at(place) else {
+                continue;
+            };
+            if let Stage::Over(cause) = client.connection.stage {
+                counts.ended(ended_by(cause));
+                self.leavers.admit(client, &self.watch, self.now);
+            }
+        }
+        first
     }
 
-    // Sends what waits. It gathers for some turns while messages come. A client that is given up here leaves.
+    // Sends what waits. It gathers for some rounds while messages come. A client that is given up here leaves.
     fn send(&mut self, counts: &Counts, busy: bool) {
         if busy && self.held < MAX_HELD {
             self.held += 1;
             return;
         }
         self.held = 0;
-        let first = self.leavers.admit(&self.worker, &self.watch, self.now);
-        count_ends(counts, &self.worker);
+        let first = self.see_off(counts);
         self.worker.flush();
         self.leavers.hang_up(first);
-        resume_recovered(&mut self.worker);
+        if self.stalls {
+            self.stalls = resume_recovered(&mut self.worker, self.now);
+        }
     }
 
     // How long the next wait lasts, if nothing comes.
     fn wait_for(&self) -> u64 {
         if self.drain.is_on() {
-            DRAIN_MILLISECONDS
-        } else if self.is_busy() {
+            return DRAIN_MILLISECONDS;
+        }
+        let outlook = self.outlook();
+        if outlook == Outlook::Busy {
             0
         } else if self.gathers_for(false) > 0 {
             self.gathers_for(false)
-        } else if self.is_ready() || !self.leavers.is_empty() {
+        } else if outlook == Outlook::Ending || !self.leavers.is_empty() {
             RETRY_MILLISECONDS
         } else {
             IDLE_MILLISECONDS
@@ -539,7 +611,7 @@ impl<A: Lane, B: Lane, C: Lane, D: Lane> Bench<A, B, C, D> {
             return;
         }
         self.swept = self.now;
-        self.worker.mark_all();
+        mark_each(&mut self.worker);
         server.follow_only(rt, own, followed_by(server.alloc, &self.worker));
     }
 
@@ -554,7 +626,7 @@ impl<A: Lane, B: Lane, C: Lane, D: Lane> Bench<A, B, C, D> {
             self.take_in(rt, server);
             self.worker.stop_all();
             let _told = self.serve(rt, server);
-            count_ends(&server.counts, &self.worker);
+            let _told_why = self.see_off(&server.counts);
             self.worker.flush();
             if self.worker.len() == 0 {
                 break;
@@ -563,7 +635,8 @@ impl<A: Lane, B: Lane, C: Lane, D: Lane> Bench<A, B, C, D> {
         }
     }
 
-    // Serves what is ready, looks at what the workers told, and sends what waits.
+    // Serves what is ready, and once more where a message came, so that its reply goes out in this round where it was the
+    // last; looks at what the workers told, and sends what waits.
     fn go_on<R: Wait, H: PresenceHooks>(
         &mut self,
         rt: &R,
@@ -571,11 +644,13 @@ impl<A: Lane, B: Lane, C: Lane, D: Lane> Bench<A, B, C, D> {
         own: usize,
     ) {
         self.turn(rt, server, own);
-        let busy = self.is_busy();
-        if self.gathers_for(busy) == 0 {
-            self.hear(rt, server, own);
+        if self.is_busy() {
+            self.turn(rt, server, own);
         }
-        let busy = self.is_busy();
+        let mut busy = self.is_busy();
+        if self.gathers_for(busy) == 0 && self.hear(rt, server, own) {
+            busy = self.is_busy();
+        }
         self.send(&server.counts, busy);
     }
 

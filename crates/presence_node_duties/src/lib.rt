@@ -23,5 +23,5 @@ pub use place::{Workplace, seats_of};
 pub use presence_node_counts::Counts;
 pub use presence_node_hints::Inbox;
 pub use presence_node_leaving::ClientSocket;
-pub use presence_node_link_threads::{LinkTask, LinkTasks, tasks_for};
+pub use presence_node_link_threads::{LinkNode, LinkTask, LinkTasks, tasks_for};
 pub use server::{Mailbox, Server};

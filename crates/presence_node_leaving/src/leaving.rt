@@ -4,7 +4,7 @@
 //! the close frame. So the server ends its own side and waits for the client's end (RFC 6455, 7.1.1).
 use presence_node_client_streams::ClientSocket;
 use presence_node_sockets::Watch;
-use presence_node_workers::{Cause, Client, Stage, Worker};
+use presence_node_workers::{Cause, Client, Stage};
 use std::alloc::Global;
 use std::io::{ErrorKind, Read};
 use std::net::{Shutdown, TcpStream};
@@ -104,18 +104,16 @@ impl Leavers {
         }
     }
 
-    /// Waits for the clients that were told why their connection ends, which the worker gives up with its next flush:
-    /// the place of the first of them.
-    pub fn admit(&mut self, worker: &Worker<ClientSocket>, watch: &Watch, now: u64) -> usize {
-        let first = self.leavers.len();
-        for place in 0..worker.len() {
-            if let Some(client) = worker.at(place) {
-                if was_told(client) {
-                    self.wait_for(watch, client.connection.socket.get_ref().stream(), now);
-                }
-            }
+    /// How many do.
+    pub fn len(&self) -> usize {
+        self.leavers.len()
+    }
+
+    /// Waits for a client whose connection is over, which the worker gives up with its next flush, if it was told why.
+    pub fn admit(&mut self, client: &Client<ClientSocket>, watch: &Watch, now: u64) {
+        if was_told(client) {
+            self.wait_for(watch, client.connection.socket.get_ref().stream(), now);
         }
-        first
     }
 
     /// Ends the server's side of the clients from this place on, behind all that was sent to them.

@@ -25,32 +25,40 @@ fn stalled(client: &Client<ClientSocket>, now: u64) -> Option<usize> {
 }
 
 /// A client that takes nothing of what is sent to it gets no turn: nothing is read of it and nothing taken for it, so that
-/// what waits for it falls behind. After a minute it is cut off.
-pub fn hold_stalled(worker: &mut Worker<ClientSocket>, now: u64) {
+/// what waits for it falls behind. After a minute it is cut off. Whether there is one.
+pub fn hold_stalled(worker: &mut Worker<ClientSocket>, now: u64) -> bool {
+    let mut some = false;
     for place in 0..worker.len() {
-        let held = worker.at(place).and_then(|client| stalled(client, now));
+        let held = worker.due_at(place).and_then(|client| stalled(client, now));
         if let Some(token) = held {
             worker.hold(token);
+            some = true;
         }
     }
+    some
 }
 
-/// A client that takes again what is sent to it has the next turn.
-pub fn resume_recovered(worker: &mut Worker<ClientSocket>) {
+/// A client that takes again what is sent to it has the next turn. Whether there is one that doesn't.
+pub fn resume_recovered(worker: &mut Worker<ClientSocket>, now: u64) -> bool {
+    let mut some = false;
     for place in 0..worker.len() {
         if let Some(client) = worker.at(place) {
             let token = client.token;
-            if stream_of(client).has_recovered() {
+            let stream = stream_of(client);
+            if stream.has_recovered() {
                 worker.mark(token);
+            } else if stream.stalled_since(now).is_some() {
+                some = true;
             }
         }
     }
+    some
 }
 
 /// A client of which a turn may have read more has the next turn too.
 pub fn mark_put_off(worker: &mut Worker<ClientSocket>) {
     for place in 0..worker.len() {
-        if let Some(client) = worker.at(place) {
+        if let Some(client) = worker.due_at(place) {
             let token = client.token;
             if stream_of(client).is_put_off() {
                 worker.mark(token);

@@ -24,7 +24,7 @@ module _ {S : Type 0} where
   left_all old now (k ∷ ks) (suc i) e h = (h.0, left_all old now ks i (omega (arith, e)) h.1)
 
   -- at the loop's place nothing is changed yet
-  left_here : (old now : Slab (Client S)) (ks : List ℕ) (i z : ℕ) → i < length ks → LeftTo old now ks i → get now (get_or ks i z) ≡ get old (get_or ks i z)
+  pub left_here : (old now : Slab (Client S)) (ks : List ℕ) (i z : ℕ) → i < length ks → LeftTo old now ks i → get now (get_or ks i z) ≡ get old (get_or ks i z)
   left_here old now [] i z lt h = absurd (omega (arith, lt))
   left_here old now (k ∷ ks) zero z lt h = h.0
   left_here old now (k ∷ ks) (suc i) z lt h = left_here old now ks i z (omega arith) h.1

@@ -3,6 +3,7 @@ pub mod Numbers
 pub mod Takings
 pub mod Places
 pub mod Leaving
+pub mod Notes
 pub mod Marking
 pub mod Holding
 pub mod Crossing

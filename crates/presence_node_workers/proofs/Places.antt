@@ -2,7 +2,7 @@
 use Rattle.std.proofs.Common.{◌≡◌, ◌≢◌, ℕ, zero, suc, ◌+◌, ◌<◌, ◌≤◌, Bool, true, false, List, [], ◌∷◌, ◌++◌, length, get_or, slice_set, Option, Some, None, refl, sym, ap, ◌∙◌, inl, inr, arith}
 use Rattle.std.specs.Prelude.{◌==◌, ◌||◌}
 use Rattle.std.proofs.lemmas.Bool.{cases_eq}
-use Rattle.std.proofs.lemmas.List.{take_all}
+use Rattle.std.proofs.lemmas.List.{take_all, set-get_or}
 use Rattle.slab.specs.Slab.{Slab, get, with_value, Updates}
 use Rattle.slab.proofs.SlabLemmas.{Updates-with_value}
 use Rattle.presence_node_workers.specs.declared.client.Client.{Client}
@@ -173,6 +173,40 @@ module _ {S : Type 0} where
         written_kept slab ks i z c d lt e t kept,
         rw (written_served slab ks i z c d lt e kept) (pairwise_next R (served first ks) (served slab ks) i c d within step h.1),
       )
+
+  kept_at : (slab : Slab (Client S)) (ks : List ℕ) (i z : ℕ) → AreKept slab ks → i < length ks → (c : Client S) × (get slab (get_or ks i z) ≡ Some c)
+  kept_at slab [] i z h lt = absurd (omega (arith, lt))
+  kept_at slab (k ∷ ks) zero z h lt = let some = some_token (get slab k) k h.0 in (some.0, some.1)
+  kept_at slab (k ∷ ks) (suc i) z h lt = kept_at slab ks i z h.1.1 (omega arith)
+
+  -- the connection at the next key was passed over
+  pub chained_over : {P : Type 0} (R : Client S → Client S → P → P → Type 0) (first slab : Slab (Client S)) (ks : List ℕ) (i z : ℕ) (a b : P)
+      → i < length ks → ((c : Client S) → get slab (get_or ks i z) ≡ Some c → R c c b b)
+      → AreKept slab ks × ChainedTo R (served first ks) (served slab ks) i a b
+      → AreKept slab ks × ChainedTo R (served first ks) (served slab ks) (i + 1) a b
+  chained_over {P} R first slab ks i z a b lt same h =
+      let kept : AreKept slab ks = h.0 in
+      let one = kept_at slab ks i z kept lt in
+      let within : i < length (served slab ks) = omega (arith, lt, kept_length slab ks kept) in
+      let here : get_or (served slab ks) i one.0 ≡ one.0 = at_place slab ks i z one.0 one.0 kept lt one.1 in
+      let step : R (get_or (served slab ks) i one.0) one.0 b b = rw here (same one.0 one.1) in
+      let stays : slice_set (served slab ks) i one.0 ≡ served slab ks = ap (slice_set (served slab ks) i) (sym here) ∙ set-get_or (served slab ks) i one.0 in
+      let next = chained_next R (served first ks) (served slab ks) i one.0 one.0 a b b within step h.1 in
+      (kept, rw stays at next)
+
+  pub pairwise_over : (R : Client S → Client S → Type 0) (first slab : Slab (Client S)) (ks : List ℕ) (i z : ℕ)
+      → i < length ks → ((c : Client S) → get slab (get_or ks i z) ≡ Some c → R c c)
+      → AreKept slab ks × PairwiseTo R (served first ks) (served slab ks) i
+      → AreKept slab ks × PairwiseTo R (served first ks) (served slab ks) (i + 1)
+  pairwise_over R first slab ks i z lt same h =
+      let kept : AreKept slab ks = h.0 in
+      let one = kept_at slab ks i z kept lt in
+      let within : i < length (served slab ks) = omega (arith, lt, kept_length slab ks kept) in
+      let here : get_or (served slab ks) i one.0 ≡ one.0 = at_place slab ks i z one.0 one.0 kept lt one.1 in
+      let step : R (get_or (served slab ks) i one.0) one.0 = rw here (same one.0 one.1) in
+      let stays : slice_set (served slab ks) i one.0 ≡ served slab ks = ap (slice_set (served slab ks) i) (sym here) ∙ set-get_or (served slab ks) i one.0 in
+      let next = pairwise_next R (served first ks) (served slab ks) i one.0 one.0 within step h.1 in
+      (kept, rw stays at next)
 
   -- each was led on
   pub chained_all : {P : Type 0} (R : Client S → Client S → P → P → Type 0) (first slab : Slab (Client S)) (ks : List ℕ) (i : ℕ) (a b : P)

@@ -1,6 +1,7 @@
 //! A connection at its worker.
 ghost use Rattle.std.specs.Prelude.{◌≡◌};
 ghost use Rattle.presence_node_turns.specs.Turning.{around};
+ghost use Rattle.presence_node_workers.specs.Resting.{rests as rests_in};
 ghost use Rattle.presence_node_workers.specs.Working.{Delivers, SendsIf, Serves, StopsOne, has_ended, is_ending, is_over, readied, stays_ready as stays_ready_in, unreadied};
 
 use hook_registry::{PresenceHooks, Routes};
@@ -105,6 +106,13 @@ impl<S: Read + Write + Drop> Client<S> {
         ensures { result ≡ has_ended self.now }
     {
         is_done(self.connection.stage)
+    }
+
+    /// Whether it has nothing to do: it takes no turn, nothing of it waits to be sent, and it hasn't ended.
+    pub(crate) fn rests(&self) -> bool
+        ensures { result ≡ rests_in self.now }
+    {
+        !self.ready && !self.unsent && !self.has_ended()
     }
 
     // Lets it take the next turn.

@@ -1,13 +1,15 @@
 //! The connections of a worker.
-ghost use Rattle.std.specs.Prelude.{◌≡◌, ◌≤◌, [], length, map, option_copied, slice_get, IfOk};
+ghost use Rattle.std.specs.Prelude.{◌≡◌, ◌≤◌, ◌&&◌, [], false, filter, length, map, not, option_copied, slice_get, IfOk};
 ghost use Rattle.crossbeam_queue.specs.Passes.{view};
 ghost use Rattle.slab.specs.Slab.{get};
 ghost use Rattle.presence_node_turns.specs.Turning.{around};
 ghost use Rattle.presence_node_workers.specs.declared.worker.TheConstants.{MAX_CONNECTIONS};
 ghost use Rattle.presence_node_workers.specs.Places.{AreKept, AreLeft, kept_prop, served};
-ghost use Rattle.presence_node_workers.specs.Working.{DeliversAll, EndsAt, NoneLost, Pairwise, RisesBetween, Sends, SendsAll, Serves, ServesAll, StopsAll, TakesIn, TakesOne, ended_at, held, marked, readied, rises_prop};
+ghost use Rattle.presence_node_workers.specs.Resting.{AreAtRest, FindsDue, is_noted, rest_prop, rests_at};
+ghost use Rattle.presence_node_workers.specs.Working.{DeliversAll, EndsAt, NoneLost, Pairwise, RisesBetween, Sends, SendsAll, Serves, ServesAll, StopsAll, TakesIn, TakesOne, ended_at, goes_on, held, marked, readied, rises_prop};
 
 use crate::client::Client;
+use crate::resting::Resting;
 use hook_registry::{PresenceHooks, Routes};
 use presence_node_queue::{NoneWaits, Numbered, Taker};
 use presence_node_turns::{Connection, Port};
@@ -34,8 +36,11 @@ pub struct Worker<S: Read + Write + Drop> {
     clients: Slab<Client<S>>,
     /// The key of each connection, in order of their numbers.
     order: Vec<usize>,
+    /// Which connections have nothing to do, so that no turn or flush has to look at them.
+    resting: Resting,
     taker: Taker<WebSocket<S, NoMask>>,
     ghost kept: { AreKept clients order.items } by { kept_prop clients order.items },
+    ghost at_rest: { AreAtRest clients resting.notes.items order.items } by { rest_prop clients resting.notes.items order.items },
     ghost few: { length order.items ≤ MAX_CONNECTIONS },
     ghost rising: { RisesBetween 0 (view taker.pass).taken (served clients order.items) } by { rises_prop 0 (view taker.pass).taken (served clients order.items) },
 }
@@ -45,10 +50,12 @@ impl<S: Read + Write + Drop> Drop for Worker<S> {
         let Worker {
             clients,
             order,
+            resting,
             taker,
         } = self;
         drop(clients);
         drop(order);
+        drop(resting);
         drop(taker);
     }
 }
@@ -58,19 +65,24 @@ fn serve_all<S: Read + Write + Drop, P: Port, H: PresenceHooks>(
     alloc: Global,
     clients: &mut Slab<Client<S>>,
     order: &[usize],
+    resting: &Resting,
     port: &mut P,
     routes: &Routes,
     hooks: &H,
     now: u64,
 )
-    requires { AreKept clients.old order.now }
+    requires kept { AreKept clients.old order.now }
+    requires at_rest { AreAtRest clients.old resting.now.notes.items order.now }
     ensures kept { AreKept clients.new order.now }
+    ensures at_rest { AreAtRest clients.new resting.now.notes.items order.now }
     ensures serves { ServesAll (around S.remaining S.contents P.step H.PresenceHooks hooks.now)
         routes.now now (served clients.old order.now) (served clients.new order.now) port.old port.new }
 {
     for key in order {
-        if let Some(client) = clients.get_mut(*key) {
-            client.turn(alloc, port, routes, hooks, now);
+        if !resting.is_noted(*key) {
+            if let Some(client) = clients.get_mut(*key) {
+                client.turn(alloc, port, routes, hooks, now);
+            }
         }
     }
 }
@@ -80,79 +92,171 @@ fn deliver_all<S: Read + Write + Drop, P: Port, H: PresenceHooks>(
     alloc: Global,
     clients: &mut Slab<Client<S>>,
     order: &[usize],
+    resting: &Resting,
     port: &mut P,
     hooks: &H,
 )
-    requires { AreKept clients.old order.now }
+    requires kept { AreKept clients.old order.now }
+    requires at_rest { AreAtRest clients.old resting.now.notes.items order.now }
     ensures kept { AreKept clients.new order.now }
+    ensures at_rest { AreAtRest clients.new resting.now.notes.items order.now }
     ensures delivers { DeliversAll (around S.remaining S.contents P.step H.PresenceHooks hooks.now)
         (served clients.old order.now) (served clients.new order.now) port.old port.new }
 {
     for key in order {
-        if let Some(client) = clients.get_mut(*key) {
-            client.deliver(alloc, port, hooks);
+        if !resting.is_noted(*key) {
+            if let Some(client) = clients.get_mut(*key) {
+                client.deliver(alloc, port, hooks);
+            }
         }
     }
 }
 
 // Each sends what waits.
-fn send_all<S: Read + Write + Drop>(clients: &mut Slab<Client<S>>, order: &[usize])
-    requires { AreKept clients.old order.now }
+fn send_all<S: Read + Write + Drop>(
+    clients: &mut Slab<Client<S>>,
+    order: &[usize],
+    resting: &Resting,
+)
+    requires kept { AreKept clients.old order.now }
+    requires at_rest { AreAtRest clients.old resting.now.notes.items order.now }
     ensures kept { AreKept clients.new order.now }
+    ensures at_rest { AreAtRest clients.new resting.now.notes.items order.now }
     ensures sends { SendsAll S.contents (served clients.old order.now) (served clients.new order.now) }
 {
     for key in order {
-        if let Some(client) = clients.get_mut(*key) {
-            client.flush();
+        if !resting.is_noted(*key) {
+            if let Some(client) = clients.get_mut(*key) {
+                client.flush();
+            }
         }
     }
 }
 
 // Each takes the next turn.
-fn mark_each<S: Read + Write + Drop>(clients: &mut Slab<Client<S>>, order: &[usize])
-    requires { AreKept clients.old order.now }
+fn mark_each<S: Read + Write + Drop>(
+    clients: &mut Slab<Client<S>>,
+    order: &[usize],
+    resting: &mut Resting,
+)
+    requires kept { AreKept clients.old order.now }
+    requires at_rest { AreAtRest clients.old resting.old.notes.items order.now }
     ensures kept { AreKept clients.new order.now }
+    ensures at_rest { AreAtRest clients.new resting.new.notes.items order.now }
     ensures marks { Pairwise (λ old new. new ≡ readied old)
         (served clients.old order.now) (served clients.new order.now) }
 {
     for key in order {
         if let Some(client) = clients.get_mut(*key) {
             client.get_ready();
+            resting.wake(*key);
         }
     }
 }
 
 // Each is told that the server stops.
-fn stop_each<S: Read + Write + Drop>(clients: &mut Slab<Client<S>>, order: &[usize])
-    requires { AreKept clients.old order.now }
+fn stop_each<S: Read + Write + Drop>(
+    clients: &mut Slab<Client<S>>,
+    order: &[usize],
+    resting: &mut Resting,
+)
+    requires kept { AreKept clients.old order.now }
+    requires at_rest { AreAtRest clients.old resting.old.notes.items order.now }
     ensures kept { AreKept clients.new order.now }
+    ensures at_rest { AreAtRest clients.new resting.new.notes.items order.now }
     ensures stops { StopsAll S.contents (served clients.old order.now) (served clients.new order.now) }
 {
     for key in order {
         if let Some(client) = clients.get_mut(*key) {
             client.stop();
+            resting.wake(*key);
         }
     }
 }
 
 // Whether the connection at this key has ended.
-fn has_ended_at<S: Read + Write + Drop>(clients: &Slab<Client<S>>, key: usize) -> bool
-    ensures { result ≡ ended_at (get clients.now key) }
+fn has_ended_at<S: Read + Write + Drop>(
+    clients: &Slab<Client<S>>,
+    resting: &Resting,
+    key: usize,
+) -> bool
+    ensures { result ≡ (not (is_noted resting.now.notes.items key) && ended_at (get clients.now key)) }
 {
+    if resting.is_noted(key) {
+        return false;
+    }
     match clients.get(key) {
         Some(client) => client.has_ended(),
         None => false,
     }
 }
 
-// Those that have ended go from their keys.
-fn let_go<S: Read + Write + Drop>(clients: &mut Slab<Client<S>>, order: &[usize])
-    requires { AreKept clients.old order.now }
-    ensures { AreLeft clients.old clients.new order.now }
+// Those that have ended go from their keys: whether there was one.
+fn let_go<S: Read + Write + Drop>(
+    clients: &mut Slab<Client<S>>,
+    order: &[usize],
+    resting: &Resting,
+) -> bool
+    requires kept { AreKept clients.old order.now }
+    requires at_rest { AreAtRest clients.old resting.now.notes.items order.now }
+    ensures left { AreLeft clients.old clients.new order.now }
+    ensures none { result ≡ false → clients.new ≡ clients.old }
+{
+    let mut some = false;
+    for key in order {
+        if has_ended_at(clients, resting, *key) {
+            clients.try_remove(*key);
+            some = true;
+        }
+    }
+    some
+}
+
+// Those that have ended go, and their keys.
+fn drop_ended<S: Read + Write + Drop>(
+    clients: &mut Slab<Client<S>>,
+    order: &mut Vec<usize>,
+    resting: &Resting,
+)
+    requires kept { AreKept clients.old order.old.items }
+    requires at_rest { AreAtRest clients.old resting.now.notes.items order.old.items }
+    ensures kept { AreKept clients.new order.new.items }
+    ensures at_rest { AreAtRest clients.new resting.now.notes.items order.new.items }
+    ensures few { length order.new.items ≤ length order.old.items }
+    ensures left { served clients.new order.new.items ≡ filter goes_on (served clients.old order.old.items) }
+{
+    if !let_go(clients, order.as_slice(), resting) {
+        return;
+    }
+    let clients = &*clients;
+    order.retain(|key| clients.get(*key).is_some());
+}
+
+// Whether the connection at this key has nothing to do, and that isn't noted.
+fn comes_to_rest<S: Read + Write + Drop>(
+    clients: &Slab<Client<S>>,
+    resting: &Resting,
+    key: usize,
+) -> bool
+    ensures { result ≡ (not (is_noted resting.now.notes.items key) && rests_at (get clients.now key)) }
+{
+    if resting.is_noted(key) {
+        return false;
+    }
+    match clients.get(key) {
+        Some(client) => client.rests(),
+        None => false,
+    }
+}
+
+// Those that have nothing to do any more are noted.
+fn settle<S: Read + Write + Drop>(clients: &Slab<Client<S>>, order: &[usize], resting: &mut Resting)
+    requires { AreAtRest clients.now resting.old.notes.items order.now }
+    ensures { AreAtRest clients.now resting.new.notes.items order.now }
 {
     for key in order {
-        if has_ended_at(clients, *key) {
-            clients.try_remove(*key);
+        if comes_to_rest(clients, resting, *key) {
+            resting.settle(*key);
         }
     }
 }
@@ -165,6 +269,7 @@ impl<S: Read + Write + Drop> Worker<S> {
         Worker {
             clients: Slab::new(alloc),
             order: Vec::new(alloc),
+            resting: Resting::new(alloc),
             taker,
         }
     }
@@ -183,6 +288,25 @@ impl<S: Read + Write + Drop> Worker<S> {
         self.clients.get(*self.order.get(place)?)
     }
 
+    /// The connection at this place, of all in order of their numbers, unless it has nothing to do: it takes no turn,
+    /// nothing of it waits to be sent, and it hasn't ended.
+    pub fn due_at(&self, place: usize) -> Option<&Client<S>>
+        ensures { FindsDue (slice_get (served self.now.clients self.now.order.items) place) (option_copied result) }
+    {
+        let key = *self.order.get(place)?;
+        if self.resting.is_noted(key) {
+            return None;
+        }
+        self.clients.get(key)
+    }
+
+    /// The connection of this token, if one has it.
+    pub fn with_token(&self, token: usize) -> Option<&Client<S>>
+        ensures { option_copied result ≡ get self.now.clients token }
+    {
+        self.clients.get(token)
+    }
+
     /// The connection of this token takes the next turn, if one of this worker's has it.
     pub fn mark(&mut self, token: usize)
         ensures { served self.new.clients self.new.order.items
@@ -190,6 +314,7 @@ impl<S: Read + Write + Drop> Worker<S> {
     {
         if let Some(client) = self.clients.get_mut(token) {
             client.get_ready();
+            self.resting.wake(token);
         }
     }
 
@@ -201,6 +326,7 @@ impl<S: Read + Write + Drop> Worker<S> {
     {
         if let Some(client) = self.clients.get_mut(token) {
             client.hold();
+            self.resting.wake(token);
         }
     }
 
@@ -209,7 +335,7 @@ impl<S: Read + Write + Drop> Worker<S> {
         ensures { served self.new.clients self.new.order.items
             ≡ map readied (served self.old.clients self.old.order.items) }
     {
-        mark_each(&mut self.clients, self.order.as_slice());
+        mark_each(&mut self.clients, self.order.as_slice(), &mut self.resting);
     }
 
     /// Ends each connection since the server stops: its client is told so at the next flush, and its
@@ -218,7 +344,7 @@ impl<S: Read + Write + Drop> Worker<S> {
         ensures { StopsAll S.contents (served self.old.clients self.old.order.items)
             (served self.new.clients self.new.order.items) }
     {
-        stop_each(&mut self.clients, self.order.as_slice());
+        stop_each(&mut self.clients, self.order.as_slice(), &mut self.resting);
     }
 
     /// One turn, at this time: each connection that is ready, in order of its number, has at most one
@@ -239,6 +365,7 @@ impl<S: Read + Write + Drop> Worker<S> {
             alloc,
             &mut self.clients,
             self.order.as_slice(),
+            &self.resting,
             port,
             routes,
             hooks,
@@ -253,7 +380,14 @@ impl<S: Read + Write + Drop> Worker<S> {
             (served self.old.clients self.old.order.items) (served self.new.clients self.new.order.items)
             port.old port.new }
     {
-        deliver_all(alloc, &mut self.clients, self.order.as_slice(), port, hooks);
+        deliver_all(
+            alloc,
+            &mut self.clients,
+            self.order.as_slice(),
+            &self.resting,
+            port,
+            hooks,
+        );
     }
 
     /// Hands what waits to be sent to the streams, and gives up the connections that have ended.
@@ -261,10 +395,9 @@ impl<S: Read + Write + Drop> Worker<S> {
         ensures { Sends S.contents (served self.old.clients self.old.order.items)
             (served self.new.clients self.new.order.items) }
     {
-        send_all(&mut self.clients, self.order.as_slice());
-        let_go(&mut self.clients, self.order.as_slice());
-        let clients = &self.clients;
-        self.order.retain(|key| clients.get(*key).is_some());
+        send_all(&mut self.clients, self.order.as_slice(), &self.resting);
+        drop_ended(&mut self.clients, &mut self.order, &self.resting);
+        settle(&self.clients, self.order.as_slice(), &mut self.resting);
     }
 
     // Takes a connection from the queue, or tells why it takes none.
@@ -289,6 +422,8 @@ impl<S: Read + Write + Drop> Worker<S> {
             Err(none) => return Ok(Some(NoMore::NoneWaits(none))),
         };
         let token = self.clients.vacant_key();
+        self.resting.make_room(token);
+        self.resting.wake(token);
         let key = self.clients.insert_reserved(Client {
             number,
             token,

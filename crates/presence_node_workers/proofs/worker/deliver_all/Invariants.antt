@@ -1,11 +1,13 @@
 use Rattle.presence_node_turns.specs.Turning.{around}
 use Rattle.presence_node_workers.specs.Places.{AreKept, served}
+use Rattle.presence_node_workers.specs.Resting.{AreAtRest}
 use Rattle.presence_node_workers.specs.Working.{Delivers}
 use Rattle.presence_node_workers.proofs.Lists.{ChainedTo}
 use Rattle.presence_node_workers.proofs.worker.deliver_all.Given as goal
 
 abbrev pub invariant-loop-key : goal.invariant-loop-key
 invariant-loop-key g l =
-    AreKept l.clients l.fn.order
+    (AreKept l.clients l.fn.order
     × ChainedTo (Delivers (around g.S.Read.remaining g.S.Write.contents g.P.Port.step g.H.PresenceHooks l.fn.hooks))
-    (served l.fn.clients l.fn.order) (served l.clients l.fn.order) l.key-index l.fn.port l.port
+    (served l.fn.clients l.fn.order) (served l.clients l.fn.order) l.key-index l.fn.port l.port)
+    × AreAtRest l.clients l.fn.resting.notes.items l.fn.order

@@ -1,9 +1,11 @@
 use Rattle.presence_node_workers.specs.Places.{AreKept, served}
+use Rattle.presence_node_workers.specs.Resting.{AreAtRest}
 use Rattle.presence_node_workers.specs.Working.{StopsOne}
 use Rattle.presence_node_workers.proofs.Lists.{PairwiseTo}
 use Rattle.presence_node_workers.proofs.worker.stop_each.Given as goal
 
 abbrev pub invariant-loop-key : goal.invariant-loop-key
 invariant-loop-key g l =
-    AreKept l.clients l.fn.order
-    × PairwiseTo (StopsOne g.S.Write.contents) (served l.fn.clients l.fn.order) (served l.clients l.fn.order) l.key-index
+    (AreKept l.clients l.fn.order
+    × PairwiseTo (StopsOne g.S.Write.contents) (served l.fn.clients l.fn.order) (served l.clients l.fn.order) l.key-index)
+    × AreAtRest l.clients l.resting.notes.items l.fn.order

@@ -9,6 +9,7 @@ invariant_of-self g c =
     let w = around g.S.Read.remaining g.S.Write.contents g.P.Port.step g.H.PresenceHooks c.args.hooks.now in
     record {
       kept = rw c.as_slice.ensures.value at c.deliver_all.ensures.kept;
+      at_rest = rw c.as_slice.ensures.value at c.deliver_all.ensures.at_rest;
       few = c.args.self.now.few;
       rising = delivers_rising w 0 (view c.args.self.now.taker.pass).taken
           (served c.args.self.now.clients c.args.self.now.order.items) (served c.deliver_all.new.clients c.args.self.now.order.items)

@@ -3,6 +3,7 @@ use Rattle.std.specs.Option.{option_copied_mut}
 use Rattle.crossbeam_queue.specs.Passes.{view}
 use Rattle.slab.specs.Slab.{get}
 use Rattle.presence_node_workers.specs.Places.{served}
+use Rattle.presence_node_workers.proofs.Notes.{roused_at_rest}
 use Rattle.presence_node_workers.proofs.Numbers.{marked_rising}
 use Rattle.presence_node_workers.proofs.Marking.{marked_kept, marked_served, unmarked_served}
 use Rattle.presence_node_workers.proofs.worker.Worker.mark.Goals as goal
@@ -12,6 +13,8 @@ invariant_of-self g c =
     let there : get c.args.self.now.clients c.args.token ≡ Some c.in-Some.client.now = sym c.get_mut.follows ∙ ap option_copied_mut c.in-Some.is in
     record {
       kept = marked_kept c.args.self.now.clients c.args.token c.in-Some.client.now c.get_ready.new.self c.args.self.now.order.items there c.get_ready.ensures c.args.self.now.kept;
+      at_rest = rw c.wake.ensures (roused_at_rest c.args.self.now.clients c.args.self.now.resting.notes.items c.args.token c.in-Some.client.now c.get_ready.new.self
+          c.args.self.now.order.items there c.args.self.now.at_rest);
       few = c.args.self.now.few;
       rising = rw (marked_served c.args.self.now.clients c.args.token c.in-Some.client.now c.get_ready.new.self c.args.self.now.order.items there c.get_ready.ensures c.args.self.now.kept)
           (marked_rising c.args.token 0 (view c.args.self.now.taker.pass).taken (served c.args.self.now.clients c.args.self.now.order.items) c.args.self.now.rising);

@@ -15,6 +15,7 @@ invariant_of-self g c =
     let marks : Pairwise R old new = rw c.as_slice.ensures.value at c.mark_each.ensures.marks in
     record {
       kept = rw c.as_slice.ensures.value at c.mark_each.ensures.kept;
+      at_rest = rw c.as_slice.ensures.value at c.mark_each.ensures.at_rest;
       few = c.args.self.now.few;
       rising = pairwise_rising R (λ x y h. readies_number x y h) 0 (view c.args.self.now.taker.pass).taken old new marks c.args.self.now.rising;
     }

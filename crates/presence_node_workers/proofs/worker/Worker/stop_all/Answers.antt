@@ -14,6 +14,7 @@ invariant_of-self g c =
     let stops : Pairwise R old new = rw c.as_slice.ensures.value at c.stop_each.ensures.stops in
     record {
       kept = rw c.as_slice.ensures.value at c.stop_each.ensures.kept;
+      at_rest = rw c.as_slice.ensures.value at c.stop_each.ensures.at_rest;
       few = c.args.self.now.few;
       rising = pairwise_rising R (λ x y h. stops_number g.S.Write.contents x y h) 0 (view c.args.self.now.taker.pass).taken old new stops c.args.self.now.rising;
     }

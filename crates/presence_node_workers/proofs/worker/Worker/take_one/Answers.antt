@@ -3,6 +3,7 @@ use Rattle.crossbeam_queue.specs.Passes.{view}
 use Rattle.presence_node_workers.specs.Places.{AreKept, served}
 use Rattle.presence_node_workers.specs.declared.client.Client.{Client}
 use Rattle.presence_node_workers.specs.declared.worker.TheConstants.{MAX_CONNECTIONS}
+use Rattle.presence_node_workers.proofs.Notes.{pushed_at_rest, room_at_rest, same_at_rest}
 use Rattle.presence_node_workers.proofs.Numbers.{rising_more}
 use Rattle.presence_node_workers.proofs.Takings.{lost_not, just}
 use Rattle.presence_node_workers.proofs.Places.{kept_length, same_kept, same_served, pushed_kept, pushed_served}
@@ -15,6 +16,7 @@ invariant_of-self-in-Break-branch-2 g c =
     let same : served c.reserve-2.new.self keys ≡ served c.args.self.now.clients keys = same_served c.args.self.now.clients c.reserve-2.new.self keys slots in
     record {
       kept = rw c.reserve.ensures.items (same_kept c.args.self.now.clients c.reserve-2.new.self keys slots c.args.self.now.kept);
+      at_rest = rw c.reserve.ensures.items (same_at_rest c.args.self.now.clients c.reserve-2.new.self c.args.self.now.resting.notes.items keys slots c.args.self.now.at_rest);
       few = rw c.reserve.ensures.items c.args.self.now.few;
       rising = rw (c.reserve.ensures.items, same) c.args.self.now.rising;
     }
@@ -27,6 +29,7 @@ invariant_of-self-in-Err-1 g c =
     let none : (view c.take.new.self.pass).taken ≡ (view c.args.self.now.taker.pass).taken = search rules in
     record {
       kept = rw c.reserve.ensures.items (same_kept c.args.self.now.clients c.reserve-2.new.self keys slots c.args.self.now.kept);
+      at_rest = rw c.reserve.ensures.items (same_at_rest c.args.self.now.clients c.reserve-2.new.self c.args.self.now.resting.notes.items keys slots c.args.self.now.at_rest);
       few = rw c.reserve.ensures.items c.args.self.now.few;
       rising = rw (c.reserve.ensures.items, same, none) c.args.self.now.rising;
     }
@@ -45,11 +48,16 @@ invariant_of-self-2 g c =
     c.insert_reserved-key.ensures.updates c.insert_reserved-key.ensures.was_vacant room ∙ ap (λ (l : List (Client g.row.S.Denot)). l ++ x ∷ []) same in
     let top : ℕ = (view c.args.self.now.taker.pass).taken in
     let above : top < c.in-Ok.connection.number = search rules in
+    let token : c.vacant_key-token.result ≡ c.insert_reserved-key.result = c.vacant_key-token.ensures.value ∙ sym c.insert_reserved-key.ensures.key in
     let is : (view c.take.new.self.pass).taken ≡ c.in-Ok.connection.number = search rules in
     record {
       kept = rw more (pushed_kept c.reserve-2.new.self c.insert_reserved-key.new.self c.insert_reserved-key.result x keys
           c.insert_reserved-key.ensures.updates c.insert_reserved-key.ensures.was_vacant
           (c.vacant_key-token.ensures.value ∙ sym c.insert_reserved-key.ensures.key) room);
+      at_rest = rw (more, c.wake.ensures, token) (pushed_at_rest c.reserve-2.new.self c.insert_reserved-key.new.self c.make_room.new.self.notes.items c.insert_reserved-key.result x keys
+          c.insert_reserved-key.ensures.updates
+          (room_at_rest c.reserve-2.new.self c.args.self.now.resting.notes.items c.make_room.new.self.notes.items keys c.make_room.ensures
+          (same_at_rest c.args.self.now.clients c.reserve-2.new.self c.args.self.now.resting.notes.items keys slots c.args.self.now.at_rest)));
       few = search rules;
       rising = rw (more, all, is) (rising_more 0 top (served c.args.self.now.clients keys) x above c.args.self.now.rising);
     }
