@@ -5,4 +5,5 @@ mod checks;
 mod contexts;
 mod deltas;
 mod fitting;
+mod forms;
 mod rows;

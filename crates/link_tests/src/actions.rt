@@ -34,8 +34,14 @@ fn asked_by(action: &LinkAction) -> Asks {
             replica,
             count,
         } => Asks::AnswerTop(*shard, *replica, *count),
-        LinkAction::AnswerTold { shard, from } => Asks::AnswerTold(*shard, *from),
-        LinkAction::Answer(Line::Hello { replica, shards }) => Asks::Hello(*replica, *shards),
+        LinkAction::AnswerTold { shard, from, .. } => Asks::AnswerTold(*shard, *from),
+        LinkAction::Answer(
+            Line::Hello {
+                replica,
+                shards,
+                ..
+            },
+        ) => Asks::Hello(*replica, *shards),
         LinkAction::Answer(Line::Ok) => Asks::Ok,
         LinkAction::Answer(_) => Asks::OtherAnswer,
         LinkAction::GivenUp => Asks::GivenUp,

@@ -1,6 +1,7 @@
 //! Told values of so many rows and extras.
+use crate::desk::ONE;
 use node_links::{Line, decode_line};
-use orswot_core::{Orswot, Told};
+use orswot_core::{Form, Orswot, Told};
 use std::alloc::{AllocError, Global};
 
 // The most that a told value may bring, and one more.
@@ -32,18 +33,19 @@ fn join_part(
     rows: &str,
 ) -> Result<(), AllocError> {
     let text = part_text(alloc, first, last, rows)?;
-    match decode_line(alloc, text.as_str(), 2) {
-        Ok(Line::Told { told, .. }) => set.join(alloc, &told),
+    match decode_line(alloc, text.as_str(), ONE) {
+        Ok(Line::Told { told, .. }) => set.join(alloc, &told.told),
         _ => Err(AllocError),
     }
 }
 
-// So many rows and extras: b.1.2 with its row, and the counts behind it, each an extra since b.1.1 is missing.
-pub(super) fn counted_told(alloc: Global, things: u64) -> Result<Told, AllocError> {
+// In the first form so many rows and extras: b.1.2 with its row, and the counts behind it, each an extra since b.1.1 is
+// missing. In the second it is one row and one range.
+pub(super) fn counted_told(alloc: Global, things: u64, form: Form) -> Result<Told, AllocError> {
     let mut set = Orswot::new(alloc);
     join_part(alloc, &mut set, 2, 40_000, ROW)?;
     join_part(alloc, &mut set, 40_001, things, "")?;
-    set.told(alloc)
+    set.told(alloc, form)
 }
 
 // A told line with the rows of b.1 from one count up to another, which are all that it tells.
@@ -62,16 +64,16 @@ fn rows_text(alloc: Global, first: u64, last: u64) -> Result<String, AllocError>
 // Takes in the rows of b.1 from one count up to another.
 fn join_rows(alloc: Global, set: &mut Orswot, first: u64, last: u64) -> Result<(), AllocError> {
     let text = rows_text(alloc, first, last)?;
-    match decode_line(alloc, text.as_str(), 2) {
-        Ok(Line::Told { told, .. }) => set.join(alloc, &told),
+    match decode_line(alloc, text.as_str(), ONE) {
+        Ok(Line::Told { told, .. }) => set.join(alloc, &told.told),
         _ => Err(AllocError),
     }
 }
 
 // So many rows of b.1, from the first count on.
-pub(super) fn rows_told(alloc: Global, rows: u64) -> Result<Told, AllocError> {
+pub(super) fn rows_told(alloc: Global, rows: u64, form: Form) -> Result<Told, AllocError> {
     let mut set = Orswot::new(alloc);
     join_rows(alloc, &mut set, 1, 40_000)?;
     join_rows(alloc, &mut set, 40_001, rows)?;
-    set.told(alloc)
+    set.told(alloc, form)
 }

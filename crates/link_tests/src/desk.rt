@@ -2,8 +2,10 @@
 use crate::port::{Call, Much, TestPort};
 use crate::wire::Wire;
 use node_links::{
-    ActFault, DialFault, End, Line, LinkAction, LinkFault, Peer, accept_one, decode_line, dial,
+    ActFault, DialFault, End, Hearer, Line, LinkAction, LinkFault, Peer, accept_one, decode_line,
+    dial,
 };
+use orswot_core::Form;
 use presence_base::{NodeName, Replica};
 use replica_status::Status;
 use std::alloc::Global;
@@ -13,6 +15,17 @@ pub(super) const NOW: u64 = 1_000;
 
 // A number of a call that is never made.
 pub(super) const NEVER: usize = usize::MAX;
+
+// Two shards, told in the first form, and in the second.
+pub(super) const ONE: Hearer = Hearer {
+    shards: 2,
+    form: Some(Form::One),
+};
+
+pub(super) const TWO: Hearer = Hearer {
+    shards: 2,
+    form: Some(Form::Two),
+};
 
 pub(super) fn replica(alloc: Global, name: &str, incarnation: u64) -> Option<Replica> {
     match NodeName::new(alloc, name) {
@@ -36,10 +49,10 @@ impl Drop for Desk<'_> {
     }
 }
 
-// The node that is this replica, with two shards, at this end of a link that gives these bytes.
-fn seated(alloc: Global, own: Replica, end: End, bytes: &[u8]) -> Desk<'_> {
+// The node that is this replica, with two shards, at this end of a link that gives these bytes, which speaks this form.
+fn seated(alloc: Global, own: Replica, end: End, speaks: Form, bytes: &[u8]) -> Desk<'_> {
     Desk {
-        peer: Peer::new(own, 2, end),
+        peer: Peer::new(own, 2, end, speaks),
         port: TestPort {
             shards: 2,
             status: Status::Up,
@@ -98,10 +111,15 @@ impl<'a> Desk<'a> {
         }
     }
 
+    // What a line asks the peer for.
+    pub fn hears_line(&mut self, alloc: Global, line: Line) -> Result<Vec<LinkAction>, LinkFault> {
+        self.peer.on_line(alloc, line, NOW)
+    }
+
     // What the line that this text is asks the peer for.
     pub fn hears(&mut self, alloc: Global, text: &str) -> Result<Vec<LinkAction>, LinkFault> {
         match line(alloc, text) {
-            Ok(line) => self.peer.on_line(alloc, line, NOW),
+            Ok(line) => self.hears_line(alloc, line),
             Err(fault) => Err(fault),
         }
     }
@@ -150,16 +168,22 @@ impl<'a> Desk<'a> {
 // The node `a.1`, at the end that was dialled.
 pub(super) fn at_a(alloc: Global, bytes: &[u8]) -> Option<Desk<'_>> {
     let own = replica(alloc, "a", 1)?;
-    Some(seated(alloc, own, End::Accepting, bytes))
+    Some(seated(alloc, own, End::Accepting, Form::Two, bytes))
+}
+
+// The same, which speaks the first form alone.
+pub(super) fn at_old_a(alloc: Global, bytes: &[u8]) -> Option<Desk<'_>> {
+    let own = replica(alloc, "a", 1)?;
+    Some(seated(alloc, own, End::Accepting, Form::One, bytes))
 }
 
 // The node `b.1`, at the end that dialled.
 pub(super) fn at_b(alloc: Global, bytes: &[u8]) -> Option<Desk<'_>> {
     let own = replica(alloc, "b", 1)?;
-    Some(seated(alloc, own, End::Dialling, bytes))
+    Some(seated(alloc, own, End::Dialling, Form::Two, bytes))
 }
 
-// The line that a text is.
+// The line that a text is on a link of the first version.
 pub(super) fn line(alloc: Global, text: &str) -> Result<Line, LinkFault> {
-    decode_line(alloc, text, 2)
+    decode_line(alloc, text, ONE)
 }

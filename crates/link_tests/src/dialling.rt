@@ -1,7 +1,8 @@
 //! The end that dialled: node `b`, with two shards, which dialled node `a`.
 use crate::desk::{Desk, at_b, replica};
 use crate::port::{Call, Much, long_told};
-use node_links::{ActFault, DialFault, Line, LinkFault};
+use node_links::{ActFault, DialFault, Line, LinkFault, Telling};
+use orswot_core::Form;
 use std::alloc::Global;
 
 const HELLO: &str = r#"["hello","b",1,2]"#;
@@ -197,7 +198,10 @@ fn long_beat(alloc: Global) -> Option<Line> {
             shard: 0,
             replica,
             count: 2,
-            delta: Some(told),
+            delta: Some(Telling {
+                form: Form::One,
+                told,
+            }),
         }),
         Err(_) => None,
     }
@@ -206,7 +210,13 @@ fn long_beat(alloc: Global) -> Option<Line> {
 // A told line that is too long.
 fn long_line(alloc: Global) -> Option<Line> {
     match long_told(alloc) {
-        Ok(told) => Some(Line::Told { shard: 0, told }),
+        Ok(told) => Some(Line::Told {
+            shard: 0,
+            told: Telling {
+                form: Form::One,
+                told,
+            },
+        }),
         Err(_) => None,
     }
 }

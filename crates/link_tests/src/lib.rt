@@ -17,6 +17,8 @@ mod exchange;
 #[cfg(test)]
 mod faulty;
 #[cfg(test)]
+mod forms;
+#[cfg(test)]
 mod junk;
 #[cfg(test)]
 mod limits;
@@ -26,6 +28,8 @@ mod port;
 mod streams;
 #[cfg(test)]
 mod ticking;
+#[cfg(test)]
+mod versions;
 #[cfg(test)]
 mod wire;
 #[cfg(test)]

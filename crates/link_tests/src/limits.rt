@@ -1,11 +1,11 @@
 //! Told values at their limit of rows and extras, and one above it: in a beat, in what is told from a count, and in all
 //! that is told.
 use crate::counted::{MOST, TOO_MANY, counted_told, rows_told};
-use crate::desk::{Desk, at_b, replica};
+use crate::desk::{Desk, ONE, at_b, replica};
 use crate::faulty::Sink;
 use crate::port::{Call, Much};
-use node_links::{DialFault, Line, LinkFault, decode_line, write_line};
-use orswot_core::Told;
+use node_links::{DialFault, Line, LinkFault, Telling, decode_line, write_line};
+use orswot_core::{Form, Told};
 use std::alloc::{AllocError, Global};
 
 // The bytes of lines with 65,536 rows and extras of b.1, line feeds aside: 65,535 extras of 8 bytes and 316,573 digits in
@@ -28,9 +28,19 @@ const WANT: &[u8] = b"[\"want\",0,\"b\",1,1]\n[\"ok\"]\n";
 
 const LITTLE: &str = "[\"beat\",0,\"b\",1,2,null]\n[\"told\",0,[[[\"b\",1,0,2]],[],[]]]\n";
 
+fn telling(told: Told) -> Telling {
+    Telling {
+        form: Form::One,
+        told,
+    }
+}
+
 fn told_line(told: Result<Told, AllocError>) -> Option<Line> {
     match told {
-        Ok(told) => Some(Line::Told { shard: 0, told }),
+        Ok(told) => Some(Line::Told {
+            shard: 0,
+            told: telling(told),
+        }),
         Err(_) => None,
     }
 }
@@ -42,7 +52,7 @@ fn beat_line(alloc: Global, count: u64, told: Result<Told, AllocError>) -> Optio
             shard: 0,
             replica,
             count,
-            delta: Some(told),
+            delta: Some(telling(told)),
         }),
         Err(_) => None,
     }
@@ -72,15 +82,15 @@ fn bytes_of(alloc: Global, line: Option<Line>) -> Ending {
 
 // How writing a told line and a beat ends that tell a row and extras, so many in all, and how many bytes go out.
 fn counted_lines(alloc: Global, things: u64) -> [Ending; 2] {
-    let told = told_line(counted_told(alloc, things));
-    let beat = beat_line(alloc, 2, counted_told(alloc, things));
+    let told = told_line(counted_told(alloc, things, Form::One));
+    let beat = beat_line(alloc, 2, counted_told(alloc, things, Form::One));
     [bytes_of(alloc, told), bytes_of(alloc, beat)]
 }
 
 // The same of lines that tell so many rows.
 fn lines_of_rows(alloc: Global, rows: u64) -> [Ending; 2] {
-    let told = told_line(rows_told(alloc, rows));
-    let beat = beat_line(alloc, rows, rows_told(alloc, rows));
+    let told = told_line(rows_told(alloc, rows, Form::One));
+    let beat = beat_line(alloc, rows, rows_told(alloc, rows, Form::One));
     [bytes_of(alloc, told), bytes_of(alloc, beat)]
 }
 
@@ -114,15 +124,17 @@ fn lines_of_rows_at_the_limit_are_written_and_above_it_are_not(rt: HostRuntime) 
 
 // Whether what goes out for the line is read as a line of so many extras and a row.
 fn is_read(alloc: Global, things: u64) -> bool {
-    let Some((Ok(()), taken)) = written(alloc, told_line(counted_told(alloc, things))) else {
+    let Some((Ok(()), taken)) = written(alloc, told_line(counted_told(alloc, things, Form::One)))
+    else {
         return false;
     };
     let Ok(text) = std::str::from_utf8(&taken) else {
         return false;
     };
-    match decode_line(alloc, text, 2) {
+    match decode_line(alloc, text, ONE) {
         Ok(Line::Told { told, .. }) => {
-            told.live().len() == 1 && told.extras().len() as u64 == things.saturating_sub(1)
+            told.told.live().len() == 1
+                && told.told.extras().len() as u64 == things.saturating_sub(1)
         }
         _ => false,
     }
@@ -217,7 +229,7 @@ fn beat_goes_out(alloc: Global, things: u64) -> Option<(Result<bool, DialFault>,
     if !desk.takes(alloc, r#"["hello","a",1,2]"#) {
         return None;
     }
-    let beat = beat_line(alloc, 2, counted_told(alloc, things))?;
+    let beat = beat_line(alloc, 2, counted_told(alloc, things, Form::One))?;
     let end = desk.dials(alloc, &beat);
     Some((end, desk.wire.taken.len()))
 }

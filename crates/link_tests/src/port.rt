@@ -1,7 +1,7 @@
 //! A port that notes what it was asked, and refuses one of its calls.
 use crate::counted::{counted_told, rows_told};
-use node_links::{ActFault, Line, LinkPort, decode_line};
-use orswot_core::{RawRow, RawTold, Told};
+use node_links::{ActFault, Hearer, Line, LinkPort, decode_line};
+use orswot_core::{Form, RawRow, RawTold, Told};
 use presence_base::{Dot, NodeName, Replica};
 use replica_status::Status;
 use serde_json::Value;
@@ -143,6 +143,7 @@ fn long_raw(alloc: Global, replica: &Replica) -> Option<RawTold> {
         return None;
     }
     Some(RawTold {
+        form: Form::One,
         ranges,
         extras: Vec::new(alloc),
         live,
@@ -174,12 +175,12 @@ fn made(told: Result<Told, AllocError>) -> Result<Told, ActFault> {
     }
 }
 
-fn told(alloc: Global, shards: u32, much: Much) -> Result<Told, ActFault> {
+fn told(alloc: Global, shards: u32, much: Much, form: Form) -> Result<Told, ActFault> {
     match much {
         Much::Little => little_told(alloc, shards),
         Much::Long => long_told(alloc),
-        Much::Counted(things) => made(counted_told(alloc, things)),
-        Much::Rows(rows) => made(rows_told(alloc, rows)),
+        Much::Counted(things) => made(counted_told(alloc, things, form)),
+        Much::Rows(rows) => made(rows_told(alloc, rows, form)),
     }
 }
 
@@ -187,8 +188,12 @@ fn little_told(alloc: Global, shards: u32) -> Result<Told, ActFault> {
     if shards == 0 {
         return Err(ActFault::ShardFull);
     }
-    match decode_line(alloc, r#"["told",0,[[["b",1,0,2]],[],[]]]"#, shards) {
-        Ok(Line::Told { told, .. }) => Ok(told),
+    let hearer = Hearer {
+        shards,
+        form: Some(Form::One),
+    };
+    match decode_line(alloc, r#"["told",0,[[["b",1,0,2]],[],[]]]"#, hearer) {
+        Ok(Line::Told { told, .. }) => Ok(told.told),
         _ => Err(ActFault::OutOfMemory),
     }
 }
@@ -230,13 +235,19 @@ impl LinkPort for TestPort {
         Ok(self.top)
     }
 
-    fn told_from(&mut self, alloc: Global, shard: u32, from: u64) -> Result<Told, ActFault> {
+    fn told_from(
+        &mut self,
+        alloc: Global,
+        shard: u32,
+        from: u64,
+        form: Form,
+    ) -> Result<Option<Told>, ActFault> {
         self.note(Call::ToldFrom(shard, from))?;
-        told(alloc, self.shards, self.from)
+        Ok(Some(told(alloc, self.shards, self.from, form)?))
     }
 
-    fn full(&mut self, alloc: Global, shard: u32) -> Result<Told, ActFault> {
+    fn full(&mut self, alloc: Global, shard: u32, form: Form) -> Result<Option<Told>, ActFault> {
         self.note(Call::Full(shard))?;
-        told(alloc, self.shards, self.all)
+        Ok(Some(told(alloc, self.shards, self.all, form)?))
     }
 }

@@ -1,4 +1,5 @@
 //! Lines over streams: their ends, their limit, and streams that fail at each call.
+use crate::desk::ONE;
 use crate::faulty::{Sink, Source};
 use crate::worked::WORKED;
 use node_links_lines::{Line, LinkFault, MAX_LINE_BYTES, decode_line};
@@ -19,17 +20,17 @@ fn ends(outcome: Result<Option<Line>, LinkFault>) -> Result<bool, LinkFault> {
 // How reading a line of these bytes ends, and how many bytes are left.
 fn read_from(alloc: Global, bytes: &[u8]) -> (Result<bool, LinkFault>, usize) {
     let mut reader = bytes;
-    let end = ends(read_line(alloc, &mut reader, 2));
+    let end = ends(read_line(alloc, &mut reader, ONE));
     (end, reader.len())
 }
 
 #[test]
 fn lines_are_read_one_after_another(rt: HostRuntime) -> Result<(), Fail> {
     let mut reader = b"[\"ok\"]\n[\"want\",0,\"b\",1,1]\n".as_slice();
-    assert_eq!(rt; ends(read_line(rt.alloc(), &mut reader, 2)), Ok(true));
+    assert_eq!(rt; ends(read_line(rt.alloc(), &mut reader, ONE)), Ok(true));
     assert_eq!(rt; reader.len(), 19);
-    assert_eq!(rt; ends(read_line(rt.alloc(), &mut reader, 2)), Ok(true));
-    assert_eq!(rt; ends(read_line(rt.alloc(), &mut reader, 2)), Ok(false));
+    assert_eq!(rt; ends(read_line(rt.alloc(), &mut reader, ONE)), Ok(true));
+    assert_eq!(rt; ends(read_line(rt.alloc(), &mut reader, ONE)), Ok(false));
     Ok(())
 }
 
@@ -92,7 +93,7 @@ fn read_failing(alloc: Global, fails: usize, interrupts: u32) -> Result<bool, Li
         calls: 0,
         fails,
     };
-    ends(read_line(alloc, &mut source, 2))
+    ends(read_line(alloc, &mut source, ONE))
 }
 
 #[test]
@@ -130,7 +131,7 @@ fn write_failing(
         fails,
         so,
     };
-    let Ok(line) = decode_line(alloc, WORKED[1], 2) else {
+    let Ok(line) = decode_line(alloc, WORKED[1], ONE) else {
         return (Err(LinkFault::NotJson), sink.taken);
     };
     let end = write_line(alloc, &mut sink, &line);

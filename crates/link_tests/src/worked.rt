@@ -1,4 +1,5 @@
 //! The worked lines of node `b` with two shards, read and written back.
+use crate::desk::ONE;
 use node_links_lines::{Line, decode_line, encode_line};
 use std::alloc::Global;
 use std::test::Fail;
@@ -23,7 +24,7 @@ const OTHERS: [&str; 5] = [
 
 // The text of the line that a text is.
 fn written_again(alloc: Global, text: &str) -> Option<String> {
-    let Ok(line) = decode_line(alloc, text, 2) else {
+    let Ok(line) = decode_line(alloc, text, ONE) else {
         return None;
     };
     match encode_line(alloc, &line) {
@@ -65,10 +66,14 @@ fn spaces_are_left_out(rt: HostRuntime) -> Result<(), Fail> {
 
 fn shown(line: &Line) -> (u64, u64) {
     match line {
-        Line::Hello { replica, shards } => (replica.incarnation, *shards as u64),
+        Line::Hello {
+            replica,
+            shards,
+            ..
+        } => (replica.incarnation, *shards as u64),
         Line::Beat { shard, count, .. } => (*shard as u64, *count),
         Line::Want { shard, top, .. } => (*shard as u64, *top),
-        Line::Told { shard, told } => (*shard as u64, told.live().len() as u64),
+        Line::Told { shard, told } => (*shard as u64, told.told.live().len() as u64),
         Line::PermDown { replica } | Line::Gone { replica } => (replica.incarnation, 0),
         Line::Ok => (0, 0),
     }
@@ -76,7 +81,7 @@ fn shown(line: &Line) -> (u64, u64) {
 
 #[test]
 fn members_are_in_their_places(rt: HostRuntime) -> Result<(), Fail> {
-    let read = |text| match decode_line(rt.alloc(), text, 2) {
+    let read = |text| match decode_line(rt.alloc(), text, ONE) {
         Ok(line) => Some(shown(&line)),
         Err(_) => None,
     };

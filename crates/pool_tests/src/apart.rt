@@ -1,6 +1,7 @@
 //! Calls at one of two shards, which the other shows nothing of.
 ghost use Rattle.std.specs.Prelude.{◌<◌, IfSome};
 
+use orswot_core_told::Form;
 use pool_desk::{topic, track, two_rows};
 use presence_base::Replica;
 use replica_status::Status;
@@ -63,8 +64,12 @@ fn side_of<G: Gate, A: Lane, B: Lane, C: Lane, D: Lane, R: Wait>(
 ) -> Option<Side>
     requires { shard < pool.now.shards }
 {
-    let live = pool.full(rt, alloc, shard).ok()?.live().len();
-    let told = pool.told_from(rt, alloc, shard, 0).ok()?.live().len();
+    let live = pool.full(rt, alloc, shard, Form::One).ok()?.live().len();
+    let told = pool
+        .told_from(rt, alloc, shard, 0, Form::One)
+        .ok()?
+        .live()
+        .len();
     let entries = pool.journal(rt, alloc, shard).ok()?.entries().len();
     Some(Side {
         status: pool.status(rt, shard, other),

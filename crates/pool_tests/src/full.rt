@@ -3,6 +3,7 @@ ghost use Rattle.std.specs.Prelude.{◌≡◌, ◌<◌};
 
 use channel_session_rules::Port;
 use node_links::LinkPort;
+use orswot_core_told::Form;
 use pool_desk::{key, meta, replica, topic, track, two_rows};
 use presence_base::{Replica, Topic};
 use presence_node_link_ports::{PoolLinkPort, cut_off, let_pass};
@@ -108,8 +109,12 @@ fn says<R: Wait, A: Lane, B: Lane, C: Lane, D: Lane>(
         status: port.status(alloc, shard, other).ok()?,
         other_top: port.top(alloc, shard, other).ok()?,
         own_top: port.top(alloc, shard, own).ok()?,
-        told: port.told_from(alloc, shard, 0).ok()?.live().len(),
-        full: port.full(alloc, shard).ok()?.live().len(),
+        told: port
+            .told_from(alloc, shard, 0, Form::One)
+            .ok()??
+            .live()
+            .len(),
+        full: port.full(alloc, shard, Form::One).ok()??.live().len(),
     })
 }
 

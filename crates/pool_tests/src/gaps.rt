@@ -1,6 +1,6 @@
 //! What another node tells late or in order, through the pool, and what the own node then tells.
 
-use orswot_core_told::Told;
+use orswot_core_told::{Form, Told};
 use pool_desk::{first_removed, topic, track, two_rows};
 use presence_base::{Dot, Replica, Row};
 use replica_status::Status;
@@ -141,7 +141,7 @@ fn live_rows<G: Gate, A: Lane, B: Lane, C: Lane, D: Lane, R: Wait>(
     pool: &Pool<G, A, B, C, D>,
     other: &Replica,
 ) -> Option<Live> {
-    let told = pool.full(rt, alloc, 0).ok()?;
+    let told = pool.full(rt, alloc, 0, Form::One).ok()?;
     Some(live_of(told.live(), other))
 }
 

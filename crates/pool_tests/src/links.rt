@@ -7,6 +7,7 @@ mod hearing;
 mod loopback;
 mod lost;
 mod node;
+mod parts;
 mod pools;
 mod saying;
 mod waiting;

@@ -9,7 +9,7 @@ use crate::checkpoints::{Behind, WANTED as WANTED_BEHIND, checkpointed};
 use crate::diffs::{GONE_WHILE_DOWN, GONE_WHILE_UP, SILENT, Told, told};
 use crate::full::{Asked, Filled, ask_when_full, wanted_behind};
 use crate::gaps::{Played, wanted, watch};
-use crate::kept_deltas::{Tells, WANTED as WANTED_KEPT, kept};
+use crate::kept_deltas::{WANTED as WANTED_KEPT, WhatIsKept, kept};
 use crate::quiet::{Due, asked_in_turn, wanted as wanted_due};
 use crate::statuses::{WANTED as WANTED_STATUSES, statuses};
 use pool_desk::{replica, track};
@@ -50,7 +50,7 @@ enum Came {
     Told(usize),
     Tellings(Played),
     Checkpoint(Behind),
-    Kept([Tells; 4]),
+    Kept(WhatIsKept),
     Apart(Sides),
     Filled(Filled),
     Due([Due; 6]),

@@ -6,6 +6,7 @@ ghost use Rattle.presence_base.specs.Refs.{IsCount};
 use crate::answers::Called;
 use crate::calls::calls;
 use crate::replaying::{Counts, seen_of};
+use orswot_core_told::Form;
 use pool_desk::{first_removed, replica, two_rows};
 use presence_base::Replica;
 use replica_status::Status;
@@ -28,7 +29,7 @@ fn top_of<G: Gate, A: Lane, B: Lane, C: Lane, D: Lane, R: Wait>(
 ) -> Option<u64> {
     let sub = Sub { slot: 0, number: 1 };
     let _waits = pool.waits(rt, 0, &sub);
-    let _told = pool.full(rt, alloc, 0).ok()?;
+    let _told = pool.full(rt, alloc, 0, Form::One).ok()?;
     if pool.start_of(rt, 0) == 0 && pool.status(rt, 0, other) == Status::Up {
         Some(pool.top(rt, 0, other))
     } else {

@@ -6,7 +6,7 @@ use std::alloc::Global;
 use std::test::Fail;
 
 // A command, an option with a value, and why these words are wrong.
-const WRONG: [(&str, &str, &str, UsageCause); 23] = [
+const WRONG: [(&str, &str, &str, UsageCause); 25] = [
     ("stdio", "--name", "A!", UsageCause::Name),
     ("stdio", "--incarnation", "0", UsageCause::Incarnation),
     ("stdio", "--route", "a*b", UsageCause::Route),
@@ -19,6 +19,8 @@ const WRONG: [(&str, &str, &str, UsageCause); 23] = [
     ("serve", "--link-port", "4001x", UsageCause::LinkPort),
     ("serve", "--shards", "5", UsageCause::Shards),
     ("serve", "--workers", "65", UsageCause::Workers),
+    ("serve", "--link-version", "0", UsageCause::LinkVersion),
+    ("serve", "--link-version", "3", UsageCause::LinkVersion),
     ("serve", "--route", "a*b", UsageCause::Route),
     ("serve", "--peer", "b", UsageCause::Peer),
     ("serve", "--peer", "B=host:1", UsageCause::Peer),

@@ -1,7 +1,7 @@
 //! A shard at its desk: what it is asked, and its answers as text.
 
 use crate::merge_desk::{Telling, replica, told};
-use orswot_core::Told;
+use orswot_core::{Form, Told};
 use presence_base::{Dot, Json, Key, Meta, Row, Topic, has_float, is_within_depth, ref_text};
 use presence_journal::{Item, MAX_PAYLOAD_DEPTH};
 use presence_journal_walks::{walk_status, walk_top};
@@ -321,14 +321,14 @@ fn ranges_text(alloc: Global, told: &Told) -> Result<String, AllocError> {
 }
 
 fn told_size(alloc: Global, shard: &mut Shard, count: u64) -> Result<String, AllocError> {
-    let told = shard.told_from(alloc, count)?;
+    let told = shard.told_from(alloc, count, Form::One)?;
     let ranges = ranges_text(alloc, &told)?;
     format!(in alloc; "{ranges} {}", told.live().len())
 }
 
 // The ranges, the extras and the rows of what is told from a count on.
 fn told_from(alloc: Global, shard: &mut Shard, count: u64) -> Result<String, AllocError> {
-    let told = shard.told_from(alloc, count)?;
+    let told = shard.told_from(alloc, count, Form::One)?;
     let text = ranges_text(alloc, &told)?;
     let extras = references(alloc, told.extras())?;
     let rows = row_references(alloc, told.live())?;
@@ -384,7 +384,7 @@ fn note(alloc: Global, shard: &mut Shard, ask: Ask) -> Result<String, AllocError
         Ask::Top(name) => top(alloc, shard, name, false),
         Ask::WalkedTop(name) => top(alloc, shard, name, true),
         Ask::LiveCount => {
-            let full = shard.full(alloc)?;
+            let full = shard.full(alloc, Form::One)?;
             format!(in alloc; "{}", full.live().len())
         }
         Ask::LastNumber => format!(in alloc; "{}", shard.journal().last_number()),

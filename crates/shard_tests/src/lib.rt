@@ -41,4 +41,6 @@ mod statuses;
 #[cfg(test)]
 mod tops;
 #[cfg(test)]
+mod two_forms;
+#[cfg(test)]
 mod two_ways;

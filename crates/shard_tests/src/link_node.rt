@@ -3,7 +3,7 @@ use crate::desk::{shard_of, topic};
 use crate::link_wire::Wire;
 use crate::merge_desk::replica;
 use node_links::{ActFault, DialFault, End, LinkPort, Peer, accept_one};
-use orswot_core::Told;
+use orswot_core::{Form, Told};
 use presence_base::Replica;
 use replica_status::Status;
 use std::alloc::Global;
@@ -104,12 +104,18 @@ impl LinkPort for Shards {
         Ok(self.at(shard).top(replica))
     }
 
-    fn told_from(&mut self, alloc: Global, shard: u32, _from: u64) -> Result<Told, ActFault> {
-        self.full(alloc, shard)
+    fn told_from(
+        &mut self,
+        alloc: Global,
+        shard: u32,
+        _from: u64,
+        form: Form,
+    ) -> Result<Option<Told>, ActFault> {
+        self.full(alloc, shard, form)
     }
 
-    fn full(&mut self, alloc: Global, shard: u32) -> Result<Told, ActFault> {
-        match self.at(shard).full(alloc) {
+    fn full(&mut self, alloc: Global, shard: u32, form: Form) -> Result<Option<Told>, ActFault> {
+        match self.at(shard).fitting(alloc, None, form) {
             Ok(told) => Ok(told),
             Err(_) => Err(ActFault::OutOfMemory),
         }
@@ -138,12 +144,17 @@ impl Drop for Node<'_> {
     }
 }
 
-// The node `a`, dialled by one that sends these lines.
+// The node `a` of the first version, dialled by one that sends these lines.
 pub(super) fn at_a<'a>(alloc: Global, lines: &'a str) -> Option<Node<'a>> {
+    at_a_of(alloc, Form::One, lines)
+}
+
+// The node `a` that speaks up to this form.
+pub(super) fn at_a_of<'a>(alloc: Global, speaks: Form, lines: &'a str) -> Option<Node<'a>> {
     let own = replica(alloc, "a").ok()?;
     let shards = shards_of(alloc, "a")?;
     Some(Node {
-        peer: Peer::new(own, 2, End::Accepting),
+        peer: Peer::new(own, 2, End::Accepting, speaks),
         shards,
         wire: Wire {
             rest: lines.as_bytes(),

@@ -3,7 +3,8 @@ use crate::desk::{key, meta, topic};
 use crate::link_node::{Shards, at_a, shards_of};
 use crate::merge_desk::replica;
 use delta_range::Delta;
-use node_links::{Line, encode_line};
+use node_links::{Line, Telling, encode_line};
+use orswot_core::Form;
 use std::alloc::Global;
 
 // Node `b`, and the lines that it sent.
@@ -65,12 +66,15 @@ fn sends(alloc: Global, teller: &mut Teller, line: &Line) -> Option<()> {
 // The beat of `b` with what its first shard did since its last cut.
 fn beat(alloc: Global, delta: &Delta) -> Option<Line> {
     let replica = replica(alloc, "b").ok()?;
-    match delta.told(alloc) {
+    match delta.told(alloc, Form::One) {
         Ok(told) => Some(Line::Beat {
             shard: 0,
             replica,
             count: delta.to(),
-            delta: Some(told),
+            delta: Some(Telling {
+                form: Form::One,
+                told,
+            }),
         }),
         Err(_) => None,
     }
@@ -95,8 +99,14 @@ fn loses(alloc: Global, teller: &mut Teller) -> Option<()> {
 }
 
 fn tells_all(alloc: Global, teller: &mut Teller) -> Option<()> {
-    match teller.shards.first.full(alloc) {
-        Ok(told) => sends(alloc, teller, &Line::Told { shard: 0, told }),
+    match teller.shards.first.full(alloc, Form::One) {
+        Ok(told) => {
+            let told = Telling {
+                form: Form::One,
+                told,
+            };
+            sends(alloc, teller, &Line::Told { shard: 0, told })
+        },
         Err(_) => None,
     }
 }

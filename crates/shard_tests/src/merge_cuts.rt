@@ -3,7 +3,7 @@
 use crate::desk::{Ask, ROOM, key, meta, said, shard_after, shard_of, topic};
 use crate::merge_desk::replica;
 use delta_range::Delta;
-use orswot_core::Told;
+use orswot_core::{Form, Told};
 use presence_base::{Dot, Key, Meta, Row, Topic, ref_text};
 use std::alloc::{AllocError, Global};
 use std::test::Fail;
@@ -76,7 +76,7 @@ fn play(alloc: Global, shard: &mut Shard, deed: &Deed) -> Result<(), AllocError>
 }
 
 fn told_of(alloc: Global, delta: &Delta) -> Result<Told, AllocError> {
-    delta.told(alloc)
+    delta.told(alloc, Form::One)
 }
 
 fn play_all(alloc: Global, shard: &mut Shard, deeds: &[Deed]) -> Result<(), AllocError> {
@@ -113,7 +113,7 @@ fn told_in_turn(alloc: Global, shard: &mut Shard) -> Result<Vec<Told>, AllocErro
     for deeds in &DEEDS {
         told.push(cut_after(alloc, shard, deeds)?)?;
     }
-    told.push(shard.full(alloc)?)?;
+    told.push(shard.full(alloc, Form::One)?)?;
     Ok(told)
 }
 
@@ -324,7 +324,7 @@ fn each_cut_makes_one_diff(rt: HostRuntime) -> Result<(), Fail> {
 // All that `a` knows behind two cuts.
 fn told_by_a(alloc: Global) -> Result<Told, AllocError> {
     let shard = after_told(alloc, &[0, 1])?;
-    shard.full(alloc)
+    shard.full(alloc, Form::One)
 }
 
 // It is told to `b`, which made it.

@@ -1,7 +1,7 @@
 //! What a node tells, made by hand.
 ghost use Rattle.std.specs.Prelude.{◌≡◌, IfOk};
 
-use orswot_core::{RawRow, RawTold, Told};
+use orswot_core::{Form, RawRow, RawTold, Told};
 use presence_base::{Dot, NodeName, Replica};
 use serde_json::{Map, Value};
 use std::alloc::{AllocError, Global};
@@ -85,6 +85,7 @@ pub(crate) fn told(alloc: Global, telling: &Telling) -> Result<Told, AllocError>
     let extras = extras_of(alloc, &replica, telling.extras)?;
     let live = live_of(alloc, &replica, telling.live)?;
     let raw = RawTold {
+        form: Form::One,
         ranges,
         extras,
         live,

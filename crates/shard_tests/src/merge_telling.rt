@@ -3,7 +3,7 @@
 use crate::desk::{Ask, ROOM, said, shard_after, shard_of};
 use crate::journal::{Look, seen};
 use crate::merge_desk::{Telling, replica};
-use orswot_core::Told;
+use orswot_core::{Form, Told};
 use presence_base::Dot;
 use std::alloc::{AllocError, Global};
 use std::test::Fail;
@@ -34,7 +34,7 @@ fn full(alloc: Global) -> Result<Told, AllocError> {
         Ask::Merge(BEHIND_A_GAP),
     ];
     let shard = shard_after(alloc, &asks)?;
-    shard.full(alloc)
+    shard.full(alloc, Form::One)
 }
 
 fn dot_of_b(alloc: Global, count: u64) -> Result<Dot, AllocError> {

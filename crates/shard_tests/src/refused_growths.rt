@@ -5,7 +5,7 @@
 
 use crate::desk::{Ask, ROOM, items_text, references, row_references, said, shard_after, shard_of};
 use crate::merge_desk::{Telling, replica, told};
-use orswot_core::Told;
+use orswot_core::{Form, Told};
 use presence_journal::Item;
 use std::alloc::{AllocError, Global};
 use std::test::Fail;
@@ -86,7 +86,7 @@ fn seen(alloc: Global, shard: &Shard, number: u64) -> Result<String, AllocError>
     let waits = shard.waits(&Sub { slot: 0, number });
     let last = shard.journal().last_number();
     let kept = shard.journal().entries().len();
-    let full = shard.full(alloc)?;
+    let full = shard.full(alloc, Form::One)?;
     let covered = full.ranges().len();
     let top = shard.top(&b);
     let extras = references(alloc, full.extras())?;

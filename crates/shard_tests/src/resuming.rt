@@ -4,6 +4,7 @@ ghost use Rattle.std.specs.Prelude.{◌≤◌, ◌^◌};
 
 use crate::desk::{Ask, ROOM, said, shard_of};
 use crate::merge_desk::{Telling, replica};
+use orswot_core::Form;
 use std::alloc::{AllocError, Global};
 use std::test::Fail;
 use tracker_shard::{RowCounts, Shard};
@@ -82,7 +83,7 @@ fn counts_before_are_covered(rt: HostRuntime) -> Result<(), Fail> {
     for count in [0, 1, 4_611_686_018_427_387_904] {
         let shard = resumed(rt.alloc(), count)?;
         assert_eq!(rt; shard.top(&own), count);
-        assert_eq!(rt; shard.full(rt.alloc())?.live().len(), 0);
+        assert_eq!(rt; shard.full(rt.alloc(), Form::One)?.live().len(), 0);
     }
     Ok(())
 }

@@ -1,6 +1,6 @@
 // The check of told values: each refusal at its limit and one past it, and their order.
 use super::rows::{empty, named, raw_row, replica};
-use orswot_core::{MAX_ROWS, RawRow, RawTold, Told, ToldFault};
+use orswot_core::{Form, MAX_ROWS, RawRow, RawTold, Told, ToldFault};
 use presence_base::{Dot, MAX_COUNT, Replica};
 use serde_json::Value;
 use std::alloc::{AllocError, Global};
@@ -32,6 +32,7 @@ fn extras(alloc: Global, times: usize) -> Result<Vec<Dot>, AllocError> {
 
 fn with_extras(alloc: Global, extras: Vec<Dot>) -> RawTold {
     RawTold {
+        form: Form::One,
         ranges: Vec::new(alloc),
         extras,
         live: Vec::new(alloc),
@@ -59,6 +60,7 @@ fn live_fault(
     let live = listed(alloc, at, row)?;
     let extras = extras(alloc, times)?;
     let raw = RawTold {
+        form: Form::One,
         ranges: Vec::new(alloc),
         extras,
         live,
@@ -370,6 +372,7 @@ fn rows_fault(
     Ok(fault_of(
         alloc,
         RawTold {
+            form: Form::One,
             ranges,
             extras: Vec::new(alloc),
             live,
@@ -453,6 +456,7 @@ fn spoiled_fault(alloc: Global, spoiled: u32) -> Result<Option<ToldFault>, Alloc
     let extras = extras_spoiled(alloc, spoiled)?;
     let live = live_spoiled(alloc, spoiled)?;
     let raw = RawTold {
+        form: Form::One,
         ranges,
         extras,
         live,

@@ -2,7 +2,7 @@ ghost use Rattle.std.specs.Prelude.{◌≡◌, codes, IfSome, IfOk, ◌∷◌, [
 
 use super::rows::{named, replica};
 use delta_range::{Delta, DeltaFault, Generations};
-use orswot_core::{Orswot, RawRow, RawTold, Told};
+use orswot_core::{Form, Orswot, RawRow, RawTold, Told};
 use presence_base::{Dot, Replica};
 use serde_json::{Map, Value};
 use std::alloc::{AllocError, Global};
@@ -69,6 +69,7 @@ fn told(
     ensures { IfSome result (λ t. t.ranges ≡ ranges.items) }
 {
     let raw = RawTold {
+        form: Form::One,
         ranges,
         extras,
         live,
@@ -199,7 +200,7 @@ fn runs_of_both_are_joined_to_longest_runs(rt: HostRuntime) {
 }
 
 fn tells_again(alloc: Global) -> Option<bool> {
-    let told = with_extras(alloc)?.told(alloc).ok()?;
+    let told = with_extras(alloc)?.told(alloc, Form::One).ok()?;
     let extras: Vec<u64> = told
         .extras()
         .iter()
@@ -242,7 +243,7 @@ fn another_owner_goes_before_a_gap(rt: HostRuntime) {
 
 // Where the generation that is picked for a count begins and ends.
 pub(super) fn picked(kept: &Generations, count: u64) -> Option<(u64, u64)> {
-    kept.from_count(count)
+    kept.from_count(count, Form::One)
         .map(|delta| (delta.from(), delta.to()))
 }
 
@@ -305,7 +306,7 @@ fn counts_a_chain(alloc: Global) -> Option<bool> {
     let kept = pushed(alloc, 200, 201, 202, chain.as_slice())?;
     Some(
         picked(&kept, 200) == Some((200, 202))
-            && kept.clone().ok()?.from_count(200)?.older() == [(0, 199)].as_slice(),
+            && kept.clone().ok()?.from_count(200, Form::One)?.older() == [(0, 199)].as_slice(),
     )
 }
 
@@ -348,7 +349,7 @@ fn has_row(set: &Orswot, replica: Replica, count: u64) -> bool {
 
 fn tells_a_set(alloc: Global) -> Option<bool> {
     let b = replica(alloc).ok()?;
-    let both = with_extras(alloc)?.told(alloc).ok()?;
+    let both = with_extras(alloc)?.told(alloc, Form::One).ok()?;
     let mut set = Orswot::new(alloc);
     set.join(alloc, &both).ok()?;
     Some(has_row(&set, b, 3) && !has_row(&set, b, 4) && has_row(&set, b, 6))
@@ -393,7 +394,7 @@ fn counts_of_more_than_32_bits_are_joined(rt: HostRuntime) {
 // Whether what such deltas tell is known and shown of a set, and no count of the same low bits.
 fn tells_up_to(alloc: Global, last: u64) -> Option<bool> {
     let b = replica(alloc).ok()?;
-    let both = joins_up_to(alloc, last)?.told(alloc).ok()?;
+    let both = joins_up_to(alloc, last)?.told(alloc, Form::One).ok()?;
     let mut set = Orswot::new(alloc);
     set.join(alloc, &both).ok()?;
     let low = last.checked_sub(WIDE)?;

@@ -4,6 +4,7 @@ ghost use Rattle.std.specs.Prelude.{◌≡◌, ◌≤◌, ◌<◌, ◌^◌, ◌�
 use super::deltas::{delta, picked};
 use super::rows::named;
 use delta_range::{Delta, Generations};
+use orswot_core::Form;
 use std::alloc::{AllocError, Global};
 use std::test::Fail;
 
@@ -98,14 +99,17 @@ fn rows_and_older_counts_fit_together(rt: HostRuntime) {
     assert_eq!(rt; picked_of_rows(alloc, 65_435), Some((None, row)));
 }
 
-// Older counts are counted, and a run of all counts is no walk.
+// Older counts are counted, and a run of all counts is no walk. Where runs are told as ranges it is one.
 #[test]
 fn a_run_of_all_counts_is_counted(rt: HostRuntime) -> Result<(), Fail> {
     let Some(run) = tells_run(rt.alloc(), (LAST, LAST), (1, LAST)) else {
         return Err(Fail::new("none was given"));
     };
-    assert!(rt; !run.fits_line());
-    assert!(rt; run.tells_at_most(4_611_686_018_427_387_903));
-    assert!(rt; !run.tells_at_most(4_611_686_018_427_387_902));
+    assert!(rt; !run.fits_line(Form::One));
+    assert!(rt; run.tells_at_most(4_611_686_018_427_387_903, Form::One));
+    assert!(rt; !run.tells_at_most(4_611_686_018_427_387_902, Form::One));
+    assert!(rt; run.fits_line(Form::Two));
+    assert!(rt; run.tells_at_most(1, Form::Two));
+    assert!(rt; !run.tells_at_most(0, Form::Two));
     Ok(())
 }

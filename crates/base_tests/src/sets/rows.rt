@@ -1,7 +1,7 @@
 ghost use Rattle.std.specs.Prelude.{◌≡◌, ◌≤◌, ◌^◌, true, IfOk};
 ghost use Rattle.orswot_core.specs.Limits.{is_dot, is_row};
 
-use orswot_core::{Orswot, RawRow, RawTold, ReplicaTest, Told};
+use orswot_core::{Form, Orswot, RawRow, RawTold, ReplicaTest, Told};
 use presence_base::{Dot, Key, Meta, NodeName, Replica, Row, Topic};
 use serde_json::{Map, Value};
 use std::alloc::{AllocError, Global};
@@ -70,6 +70,7 @@ fn row(alloc: Global, key: &str) -> Result<Row, AllocError>
 
 pub(super) fn empty(alloc: Global) -> RawTold {
     RawTold {
+        form: Form::One,
         ranges: Vec::new(alloc),
         extras: Vec::new(alloc),
         live: Vec::new(alloc),
@@ -128,6 +129,7 @@ fn told_of(
     told(
         alloc,
         RawTold {
+            form: Form::One,
             ranges,
             extras,
             live,
@@ -191,7 +193,7 @@ fn tells(
     extras: &[u64],
     live: &[u64],
 ) -> Result<bool, AllocError> {
-    let told = set.told(alloc)?;
+    let told = set.told(alloc, Form::One)?;
     Ok(lists(&told, ranges, extras, live))
 }
 
@@ -257,7 +259,7 @@ fn a_late_gap_fills(rt: HostRuntime) -> Result<(), Fail> {
 
 // Tells the set whole to an empty one, and clones what was told on the way.
 fn retold(alloc: Global, set: &Orswot) -> Result<Orswot, AllocError> {
-    let told = set.told(alloc)?;
+    let told = set.told(alloc, Form::One)?;
     let copy = told.clone()?;
     hears(alloc, &copy, &told)
 }
@@ -380,7 +382,7 @@ fn told_rows(alloc: Global, rows: u64) -> Result<Told, AllocError>
     for row in 0..rows {
         add_row(alloc, &mut set, row + 1)?;
     }
-    set.told(alloc)
+    set.told(alloc, Form::One)
 }
 
 #[test]

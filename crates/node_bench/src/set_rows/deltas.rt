@@ -3,6 +3,7 @@ use super::making::{DeltaOf, delta_of};
 use super::playing::{Fault, Played};
 use crate::texts::push_told;
 use delta_range::Delta;
+use orswot_core::Form;
 use std::alloc::Global;
 
 /// The deltas that were joined so far, as one.
@@ -47,7 +48,7 @@ impl Played for Joined {
     fn tell(&self, alloc: Global) -> Result<String, Fault> {
         let mut text = String::new(alloc);
         match &self.delta {
-            Some(delta) => push_told(&mut text, &delta.told(alloc)?)?,
+            Some(delta) => push_told(&mut text, &delta.told(alloc, Form::One)?)?,
             None => text.push_str("no delta")?,
         }
         Ok(text)

@@ -4,6 +4,7 @@ ghost use Rattle.std.specs.Prelude.{◌≡◌, codes, option_map};
 use super::making::{DeltaOf, delta_of};
 use super::playing::{Fault, Played};
 use delta_range::{Delta, Generations};
+use orswot_core::Form;
 use std::alloc::{AllocError, Global};
 
 /// The generations after some deltas of `b`, and where the last of these ended.
@@ -39,7 +40,7 @@ fn push_picked(text: &mut String, count: u64, picked: (u64, u64, usize)) -> Resu
 fn push_all_picked(text: &mut String, pushed: &Pushed) -> Result<(), AllocError> {
     let mut before = None;
     for count in 0..=pushed.end.unwrap_or(0) {
-        let picked = pushed.kept.from_count(count).map(size_of);
+        let picked = pushed.kept.from_count(count, Form::One).map(size_of);
         if picked != before {
             if let Some(delta) = picked {
                 push_picked(text, count, delta)?;

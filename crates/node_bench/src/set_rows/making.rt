@@ -5,7 +5,7 @@ ghost use Rattle.orswot_core.specs.Limits.{is_dot, is_row};
 use super::playing::Fault;
 use crate::making::{ROOM, key, meta, raw_row, replica, topic};
 use delta_range::Delta;
-use orswot_core::{RawRow, RawTold, Told};
+use orswot_core::{Form, RawRow, RawTold, Told};
 use presence_base::{Dot, MAX_COUNT, Replica, Row};
 use std::alloc::{AllocError, Global};
 
@@ -136,6 +136,7 @@ pub fn told_of(alloc: Global, tells: &Tells) -> Result<Told, Fault> {
     checked(
         alloc,
         RawTold {
+            form: Form::One,
             ranges,
             extras,
             live,
@@ -153,6 +154,7 @@ fn told_delta(alloc: Global, of: &DeltaOf) -> Result<Told, Fault>
     checked(
         alloc,
         RawTold {
+            form: Form::One,
             ranges,
             extras,
             live,

@@ -3,7 +3,7 @@ use super::making::{Tells, row, set_dot, told_of};
 use super::playing::{Fault, Played};
 use crate::making::replica;
 use crate::texts::push_told;
-use orswot_core::Orswot;
+use orswot_core::{Form, Orswot};
 use std::alloc::Global;
 
 /// A call of a set, with counts of `b`.
@@ -69,7 +69,7 @@ impl Played for Orswot {
     fn tell(&self, alloc: Global) -> Result<String, Fault> {
         let b = replica(alloc, "b")?;
         let top = self.top(&b);
-        let told = self.told(alloc)?;
+        let told = self.told(alloc, Form::One)?;
         let mut text = format!(in alloc; "top {top}, ")?;
         push_told(&mut text, &told)?;
         Ok(text)

@@ -1,6 +1,6 @@
 use crate::making::{ROOM, raw_row, replica};
 use dot_context::Context;
-use orswot_core::{Orswot, RawRow, RawTold, Told, ToldFault};
+use orswot_core::{Form, Orswot, RawRow, RawTold, Told, ToldFault};
 use presence_base::{Dot, Replica};
 use std::alloc::{AllocError, Global};
 
@@ -69,6 +69,7 @@ fn raw_rows(alloc: Global, from: u64, to: u64) -> Result<RawTold, AllocError> {
         live.push((dot, row_of(alloc, count)?))?;
     }
     Ok(RawTold {
+        form: Form::One,
         ranges,
         extras: Vec::new(alloc),
         live,

@@ -2,7 +2,7 @@
 use super::making::told;
 use super::room::{PID, Room, take, track, update_told};
 use crate::making::numbered;
-use orswot_core::Told;
+use orswot_core::{Form, Told};
 use presence_base::Key;
 use std::alloc::Global;
 use tracker_shard::{Shard, ShardFault, Sub};
@@ -175,7 +175,7 @@ fn ask(alloc: Global, room: &Room, call: Call) -> Result<(), ShardFault> {
             room.shard.status(&room.other);
         }
         _ => {
-            room.shard.full(alloc)?;
+            room.shard.full(alloc, Form::One)?;
         }
     }
     Ok(())

@@ -1,6 +1,6 @@
 // What another node tells the room.
 use crate::making::{ROOM, checked, raw_row};
-use orswot_core::{RawTold, Told};
+use orswot_core::{Form, RawTold, Told};
 use presence_base::{Dot, Replica};
 use std::alloc::{AllocError, Global};
 
@@ -19,6 +19,7 @@ pub fn told(alloc: Global, from: &Replica, n: u64) -> Result<Told, AllocError> {
     checked(
         alloc,
         RawTold {
+            form: Form::One,
             ranges,
             extras: Vec::new(alloc),
             live,

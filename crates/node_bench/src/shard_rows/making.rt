@@ -1,6 +1,6 @@
 // What another node tells the shard.
 use crate::making::{checked, raw_row, replica};
-use orswot_core::{RawRow, RawTold, Told};
+use orswot_core::{Form, RawRow, RawTold, Told};
 use presence_base::{Dot, Replica};
 use std::alloc::{AllocError, Global};
 
@@ -68,6 +68,7 @@ pub fn told(alloc: Global, tells: &Tells) -> Result<Told, AllocError> {
     checked(
         alloc,
         RawTold {
+            form: Form::One,
             ranges,
             extras,
             live,

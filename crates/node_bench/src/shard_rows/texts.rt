@@ -3,6 +3,7 @@ use super::calls::subscriber;
 use super::making::other_replica;
 use crate::making::{ROOM, topic};
 use crate::texts::{push_dot, push_dots, push_rows, push_told};
+use orswot_core::Form;
 use presence_journal::Outcome;
 use presence_journal_walks::walk_list;
 use std::alloc::{AllocError, Global};
@@ -32,7 +33,7 @@ fn push_last(text: &mut String, shard: &Shard) -> Result<(), AllocError> {
 }
 
 fn push_full(alloc: Global, text: &mut String, shard: &Shard) -> Result<(), AllocError> {
-    let full = shard.full(alloc)?;
+    let full = shard.full(alloc, Form::One)?;
     push_told(text, &full)
 }
 
@@ -77,7 +78,7 @@ fn push_waits(text: &mut String, shard: &Shard) -> Result<(), AllocError> {
 
 /// What the shard tells from a count on.
 pub fn tell_from(alloc: Global, shard: &mut Shard, count: u64) -> Result<String, AllocError> {
-    let told = shard.told_from(alloc, count)?;
+    let told = shard.told_from(alloc, count, Form::One)?;
     let mut text = String::new(alloc);
     push_told(&mut text, &told)?;
     Ok(text)

@@ -4,7 +4,7 @@ ghost use Rattle.std.specs.Prelude.{◌≡◌};
 use super::desk::track;
 use super::node::NOW;
 use node_links::{Line, LinkPort};
-use orswot_core_told::{RawRow, RawTold, Told};
+use orswot_core_told::{Form, RawRow, RawTold, Told};
 use pool_desk::replica;
 use presence_base::{Dot, Replica};
 use presence_node_link_ports::{PoolLinkPort, cut_off, fitting_beat};
@@ -13,16 +13,17 @@ use shard_pool::{Lane, NoGate, Pool, Seat};
 use std::alloc::Global;
 use std::sync::Wait;
 
-// How many rows a beat tells, or none where it goes out bare; and how many the shard tells in full.
-pub(crate) type SayingCrowd = (Option<usize>, usize);
+// How many rows a beat tells in either form, or none where it goes out bare; and how many the shard tells in full. In the
+// second form the range of the cut is counted beside the rows.
+pub(crate) type SayingCrowd = ([Option<usize>; 2], usize);
 
 pub(crate) const MOST: u32 = 65_536;
 
-pub(crate) const SAYING_MOST: SayingCrowd = (Some(65_536), 65_536);
+pub(crate) const SAYING_MOST: SayingCrowd = ([Some(65_536), None], 65_536);
 
 pub(crate) const TOO_MANY: u32 = 65_537;
 
-pub(crate) const SAYING_TOO_MANY: SayingCrowd = (None, 65_537);
+pub(crate) const SAYING_TOO_MANY: SayingCrowd = ([None, None], 65_537);
 
 // Tracks so many rows of the first shard's room.
 fn track_many<R: Wait, A: Lane, B: Lane, C: Lane, D: Lane>(
@@ -45,7 +46,7 @@ fn rows_along(beat: Line) -> Option<usize> {
         Line::Beat {
             delta: Some(told),
             ..
-        } => Some(told.live().len()),
+        } => Some(told.told.live().len()),
         _ => None,
     }
 }
@@ -61,9 +62,10 @@ pub(crate) fn say_crowd<R: Wait, A: Lane, B: Lane, C: Lane, D: Lane>(
 {
     track_many(rt, alloc, pool, seat, rows)?;
     let cut = cut_off(rt, alloc, pool, 0).ok()?;
-    let beat = fitting_beat(alloc, 0, &cut).ok()?;
-    let told = rows_along(beat);
-    let full = pool.full(rt, alloc, 0).ok()?.live().len();
+    let one = fitting_beat(alloc, 0, &cut, Form::One).ok()?;
+    let two = fitting_beat(alloc, 0, &cut, Form::Two).ok()?;
+    let told = [rows_along(one), rows_along(two)];
+    let full = pool.full(rt, alloc, 0, Form::One).ok()?.live().len();
     Some((told, full))
 }
 
@@ -97,6 +99,7 @@ fn crowd_of(alloc: Global, replica: &Replica, rows: u32) -> Option<Told> {
     let mut ranges = Vec::new(alloc);
     ranges.push((*replica, 0, u64::from(rows))).ok()?;
     let raw = RawTold {
+        form: Form::One,
         ranges,
         extras: Vec::new(alloc),
         live,
@@ -118,6 +121,6 @@ pub(crate) fn hear_crowd<R: Wait, A: Lane, B: Lane, C: Lane, D: Lane>(
     port.heard(alloc, 0, other, NOW).ok()?;
     port.merge(alloc, 0, &told).ok()?;
     let top = port.top(alloc, 0, &other).ok()?;
-    let full = port.full(alloc, 0).ok()?.live().len();
+    let full = port.full(alloc, 0, Form::One).ok()??.live().len();
     Some((top, full))
 }

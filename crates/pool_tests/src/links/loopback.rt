@@ -4,6 +4,7 @@ ghost use Rattle.std.specs.Prelude.{◌≡◌};
 use super::node::NOW;
 use super::saying::{comes, goes_unheard, next_beat};
 use node_links::{End, Line, Peer, accept_one, dial};
+use orswot_core_told::Form;
 use pool_desk::topic;
 use presence_base::Replica;
 use presence_node_link_ports::PoolLinkPort;
@@ -47,10 +48,11 @@ pub(crate) fn dial_over<R: Wait, A: Lane, B: Lane, C: Lane, D: Lane, S: Read + W
     requires { pool.now.shards ≡ 2 }
 {
     let mut port = PoolLinkPort::new(rt, pool, 2);
-    let mut peer = Peer::new(*own, 2, End::Dialling);
+    let mut peer = Peer::new(*own, 2, End::Dialling, Form::One);
     let hello = Line::Hello {
         replica: *own,
         shards: 2,
+        version: None,
     };
     let met = dial(alloc, stream, &mut peer, &mut port, &hello, NOW).ok()?;
     comes(rt, alloc, pool, seat)?;
@@ -104,7 +106,7 @@ pub(crate) fn accept_over<R: Wait, A: Lane, B: Lane, C: Lane, D: Lane, S: Read +
     requires { pool.now.shards ≡ 2 }
 {
     let mut port = PoolLinkPort::new(rt, pool, 2);
-    let mut peer = Peer::new(*own, 2, End::Accepting);
+    let mut peer = Peer::new(*own, 2, End::Accepting, Form::One);
     let mut behind = [(false, EMPTY); 5];
     for line in &mut behind {
         let came = accept_one(alloc, stream, &mut peer, &mut port, NOW).ok()?;

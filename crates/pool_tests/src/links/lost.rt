@@ -131,6 +131,7 @@ pub(crate) fn say_lost<'a, R: Wait, A: Lane, B: Lane, C: Lane, D: Lane>(
     let hello = Line::Hello {
         replica: *own,
         shards: 2,
+        version: None,
     };
     let met = node.dials(alloc, &hello)?;
     match lost {

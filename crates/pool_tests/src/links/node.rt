@@ -3,6 +3,7 @@ ghost use Rattle.std.specs.Prelude.{◌≡◌};
 
 use super::wire::Wire;
 use node_links::{End, Line, Peer, accept_one, dial};
+use orswot_core_told::Form;
 use presence_base::Replica;
 use presence_node_link_ports::PoolLinkPort;
 use shard_pool::{Lane, NoGate, Pool};
@@ -47,7 +48,7 @@ pub(crate) fn node_over<'a, R: Wait, A: Lane, B: Lane, C: Lane, D: Lane>(
 {
     Node {
         port: PoolLinkPort::new(rt, pool, 2),
-        peer: Peer::new(own, 2, end),
+        peer: Peer::new(own, 2, end, Form::One),
         wire: Wire {
             rest: lines.as_bytes(),
             taken: Vec::new(alloc),

@@ -11,6 +11,10 @@ use super::hearing::{HEARING, HEARING_KEPT, HEARING_OUTGROWN, Hearing, hear};
 use super::loopback::{ACCEPTED, Accepted, DIALLED, Dialled, accept_over, both_ends, dial_over};
 use super::lost::{KEPT, Lost, OUTGROWN, SAYING_LOST, SayingLost, say_lost};
 use super::node::Dialogue;
+use super::parts::{
+    HEAVY, Heavy, LIGHT, MIDDLING, SAYING_HEAVY, SAYING_LIGHT, SAYING_MIDDLING, SayingParts,
+    say_parts,
+};
 use super::saying::{FIRST, SAYING, Saying, say};
 use pool_desk::replica;
 use presence_base::Replica;
@@ -32,6 +36,7 @@ enum Run {
     // So many rows.
     SayCrowd(u32),
     HearCrowd(u32),
+    SayParts(Heavy),
     // At one end of a connection.
     Dial(TcpStream),
     Accept(TcpStream),
@@ -45,6 +50,7 @@ enum Came {
     Heard(Hearing),
     SaidCrowd(SayingCrowd),
     HeardCrowd(HearingCrowd),
+    SaidParts(SayingParts),
     Dialled(Dialled),
     Accepted(Accepted),
 }
@@ -65,6 +71,7 @@ fn run_over<A: Lane, B: Lane, C: Lane, D: Lane, R: Wait>(
         Run::Hear(dialogue) => Some(Came::Heard(hear(rt, alloc, pool, seat, *own, dialogue)?)),
         Run::SayCrowd(rows) => Some(Came::SaidCrowd(say_crowd(rt, alloc, pool, seat, rows)?)),
         Run::HearCrowd(rows) => Some(Came::HeardCrowd(hear_crowd(rt, alloc, pool, rows)?)),
+        Run::SayParts(heavy) => Some(Came::SaidParts(say_parts(rt, alloc, pool, seat, heavy)?)),
         Run::Dial(mut stream) => Some(Came::Dialled(dial_over(
             rt,
             alloc,
@@ -187,6 +194,18 @@ fn a_beat_of_65_536_rows(rt: HostRuntime) {
 fn a_merge_of_65_536_rows(rt: HostRuntime) {
     let heard = came_of(&rt, rt.alloc(), "a", Run::HearCrowd(MOST));
     assert!(rt; heard == Some(Came::HeardCrowd(HEARING_MOST)));
+}
+
+// What fits no line is told in as few parts as lines take.
+#[test]
+fn a_shard_is_told_in_parts(rt: HostRuntime) {
+    let alloc = rt.alloc();
+    let light = came_of(&rt, alloc, "b", Run::SayParts(LIGHT));
+    assert!(rt; light == Some(Came::SaidParts(SAYING_LIGHT)));
+    let middling = came_of(&rt, alloc, "b", Run::SayParts(MIDDLING));
+    assert!(rt; middling == Some(Came::SaidParts(SAYING_MIDDLING)));
+    let heavy = came_of(&rt, alloc, "b", Run::SayParts(HEAVY));
+    assert!(rt; heavy == Some(Came::SaidParts(SAYING_HEAVY)));
 }
 
 // Each pool is in a thread of its own. The dialling end hangs up once its run is over.

@@ -4,6 +4,7 @@ ghost use Rattle.std.specs.Prelude.{◌≡◌};
 use super::desk::track;
 use super::node::{Dialogue, NOW, Node, node_over};
 use node_links::{End, Line};
+use orswot_core_told::Form;
 use pool_desk::{key, topic};
 use presence_base::Replica;
 use presence_node_link_ports::{beat_of, cut_off, let_pass};
@@ -48,7 +49,7 @@ pub(crate) fn next_beat<R: Wait, A: Lane, B: Lane, C: Lane, D: Lane>(
 {
     let_pass(rt, alloc, pool, 0, NOW).ok()?;
     let cut = cut_off(rt, alloc, pool, 0).ok()?;
-    beat_of(alloc, 0, &cut).ok()
+    beat_of(alloc, 0, &cut, Form::One).ok()
 }
 
 // One period of the first shard, whose beat goes out.
@@ -102,6 +103,7 @@ pub(crate) fn say<'a, R: Wait, A: Lane, B: Lane, C: Lane, D: Lane>(
     let hello = Line::Hello {
         replica: *own,
         shards: 2,
+        version: None,
     };
     let met = node.dials(alloc, &hello)?;
     comes(rt, alloc, pool, seat)?;

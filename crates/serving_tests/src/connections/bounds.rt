@@ -1,11 +1,11 @@
-//! A client's stream: how much a turn reads of it, and what it remembers of its writes.
+//! A client's stream: how much a turn reads of it, when it asks at all, and what it remembers of its writes.
 
-use crate::served::{Connection, Progress, add_frame, rooms, socket_config, wire_of};
+use crate::served::{Connection, Progress, Wire, add_frame, rooms, socket_config, wire_of};
 use hook_registry::NoHooks;
 use presence_node_client_streams::ClientStream;
 use session_desk::TestPort;
 use std::alloc::{AllocError, Global};
-use std::io::{ErrorKind, Write};
+use std::io::{ErrorKind, Read, Write};
 use std::test::Fail;
 use tungstenite::{NoMask, Role, WebSocket};
 
@@ -67,5 +67,38 @@ fn a_stream_tells_since_when_it_finds_no_room(rt: HostRuntime) -> Result<(), Fai
     assert!(rt; stream.has_recovered());
     assert!(rt; !stream.has_recovered());
     assert_eq!(rt; stream.stream().taken.as_slice(), b"ab".as_slice());
+    Ok(())
+}
+
+// Whether a read finds nothing, and how many reads have asked the stream inside by then.
+fn finds_nothing(stream: &mut ClientStream<Wire<'_>>) -> (bool, usize) {
+    let mut byte = [0_u8; 1];
+    let nothing = stream.read(&mut byte).is_err();
+    (nothing, stream.stream().reads)
+}
+
+// Once it found nothing, a stream that is told when something comes asks no more until it was told.
+#[test]
+fn a_stream_that_is_told_asks_once(rt: HostRuntime) -> Result<(), Fail> {
+    let mut stream = ClientStream::new(wire_of(rt.alloc(), b"ab"));
+    assert_eq!(rt; finds_nothing(&mut stream), (false, 1));
+    stream.expect_news();
+    assert_eq!(rt; finds_nothing(&mut stream), (false, 2));
+    assert_eq!(rt; finds_nothing(&mut stream), (true, 3));
+    assert_eq!(rt; finds_nothing(&mut stream), (true, 3));
+    stream.has_news();
+    assert_eq!(rt; finds_nothing(&mut stream), (true, 4));
+    assert_eq!(rt; finds_nothing(&mut stream), (true, 4));
+    Ok(())
+}
+
+// One that nobody tells asks each time.
+#[test]
+fn a_stream_that_nobody_tells_asks_each_time(rt: HostRuntime) -> Result<(), Fail> {
+    let mut stream = ClientStream::new(wire_of(rt.alloc(), b""));
+    assert_eq!(rt; finds_nothing(&mut stream), (true, 1));
+    stream.has_news();
+    assert_eq!(rt; finds_nothing(&mut stream), (true, 2));
+    assert_eq!(rt; finds_nothing(&mut stream), (true, 3));
     Ok(())
 }

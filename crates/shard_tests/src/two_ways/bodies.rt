@@ -4,7 +4,7 @@ ghost use Rattle.presence_base.specs.Refs.{IsCount};
 use super::asks::{Ask, Claim, Deed, Telling};
 use super::making::{Asking, asked_with, replica, told, topic};
 use delta_range::Delta;
-use orswot_core::Told;
+use orswot_core::{Form, Told};
 use plain_shard::PlainShard;
 use presence_base::Replica;
 use presence_journal::{Entry, Outcome};
@@ -80,7 +80,7 @@ fn are_same_entries(alloc: Global, first: &Entry, second: &Entry) -> Option<bool
 
 fn told_of(alloc: Global, answer: Result<Delta, ShardFault>) -> Option<Told> {
     let delta = answer.ok()?;
-    delta.told(alloc).ok()
+    delta.told(alloc, Form::One).ok()
 }
 
 impl Bodies {
@@ -269,8 +269,8 @@ impl Bodies {
     }
 
     fn same_full(&self, alloc: Global) -> Option<bool> {
-        let first = self.indexed.full(alloc).ok()?;
-        let second = self.walking.full(alloc).ok()?;
+        let first = self.indexed.full(alloc, Form::One).ok()?;
+        let second = self.walking.full(alloc, Form::One).ok()?;
         alike(alloc, first, second)
     }
 

@@ -4,7 +4,7 @@ ghost use Rattle.presence_base.specs.Refs.{IsCount};
 ghost use Rattle.presence_journal.specs.Limits.{is_payload};
 
 use super::asks::{Claim, Live, Telling};
-use orswot_core::{RawRow, RawTold, Told};
+use orswot_core::{Form, RawRow, RawTold, Told};
 use presence_base::{Dot, Json, Key, Meta, NodeName, Replica, Topic, has_float, is_within_depth};
 use presence_journal::MAX_PAYLOAD_DEPTH;
 use serde_json::{Map, Value};
@@ -151,6 +151,7 @@ pub(crate) fn told(alloc: Global, telling: &Telling) -> Option<Told> {
     let extras = extras_of(alloc, &replica, telling.removed)?;
     let live = live_of(alloc, &replica, telling)?;
     let raw = RawTold {
+        form: Form::One,
         ranges,
         extras,
         live,
