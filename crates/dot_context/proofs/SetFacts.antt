@@ -1,5 +1,6 @@
 -- The set of dots that runs stand for.
-use Rattle.std.proofs.Common.{◌≡◌, ℕ, ◌+◌, ◌-◌, ◌≤◌, suc, zero, Bool, true, false, not, cond, ◌&&◌, ◌||◌, ltb, leb, eqb, List, [], ◌∷◌, ◌++◌, arith, refl, sym, ◌∙◌, ap, Option, Some, None, Ordering, Result, Ok, Err, OnOk, OnErr}
+use Rattle.std.proofs.Common.{◌≡◌, ℕ, ◌+◌, ◌-◌, ◌≤◌, suc, zero, Bool, true, false, not, cond, ◌&&◌, ◌||◌, ltb, leb, eqb, List, [], ◌∷◌, ◌++◌, arith, refl, sym, ◌∙◌, ap, Option, Some, None, Ordering, Result, Ok, Err, OnOk, OnErr, is_some, nat_lt, nat_le, length, subst, ◌<◌}
+use Rattle.std.proofs.lemmas.Bool.{and_from, or_left, lt-ltb, le-leb}
 use Rattle.std.proofs.lemmas.Bool.Decides.{nat_tests}
 use Rattle.std.specs.List.{list_any}
 use Rattle.std.specs.Ordering.{eq_by_cmp, is_eq, nat_cmp, ordering_then}
@@ -11,10 +12,10 @@ use Rattle.std.specs.Map.{lookup}
 use Rattle.presence_base.specs.declared.dots.Replica.{Replica}
 use Rattle.presence_base.specs.declared.dots.Dot.{Dot}
 use Rattle.presence_base.specs.Order.{replica_cmp, dot_cmp, same_replica}
-use Rattle.dot_context_runs.specs.Runs.{holds, in_run, AreApart, top_count}
+use Rattle.dot_context_runs.specs.Runs.{holds, in_run, AreRuns, AreApart, top_count}
 use Rattle.std.specs.BTreeMap.{get}
 use Rattle.std.specs.Cmp.{eq_by_cmp_equiv}
-use Rattle.dot_context.specs.Sets.{DotSet, RunsOf, span, range, in_range, run_dots, set_of, others_dots, listed, runs_at}
+use Rattle.dot_context.specs.Sets.{DotSet, RunsOf, SomeDot, TellsIfAny, HasSome, IsCompact, span, range, in_range, run_dots, set_of, others_dots, listed, runs_at}
 
 pub replica_total : IsTotalOrder replica_cmp
 replica_total = then_total (on_total (λ r. r.name) nat_list_cmp_total) (on_total (λ r. r.incarnation) nat_cmp_total)
@@ -150,6 +151,24 @@ set_by m s same = set.same_set dot_total dot_antisymmetric (set_of m.entries) s 
 
 pub seen_at : (m : RunsOf) (s : DotSet) (q : Dot) → set_of m.entries ≡ s → holds (runs_at m q.replica) q.count ≡ set.contains s q
 seen_at m s q e = sym (contains-set_of m.entries q) ∙ ap (λ t. set.contains t q) e
+
+-- a replica that is there has a dot, and one that is not has none
+pub any_dots : (m : RunsOf) (s : DotSet) (r : Replica) (b : Bool) → set_of m.entries ≡ s → IsCompact m → b ≡ is_some (get replica_cmp m r) → TellsIfAny s r b
+any_dots m s r b is compact same = subst (TellsIfAny s r) (sym same) (go (get replica_cmp m r) refl)
+  where
+    at : (n : ℕ) → set.contains s (record { replica = r; count = n }) ≡ holds (runs_at m r) n
+    at n = sym (seen_at m s (record { replica = r; count = n }) is)
+
+    first : (rs : List (ℕ × ℕ)) → runs_at m r ≡ rs → 0 < length rs → AreRuns 0 rs → SomeDot s r
+    first [] e some runs = absurd (omega (arith, some))
+    first (x ∷ xs) e some runs = record {
+      count = x.1;
+      there = at x.1 ∙ (ap (λ ys. holds ys x.1) e ∙ or_left (in_run x x.1) (holds xs x.1) (and_from (nat_lt x.0 x.1) (nat_le x.1 x.1) (lt-ltb x.0 x.1 runs.1) (le-leb x.1 x.1 (omega arith))));
+    }
+
+    go : (o : Option (List (ℕ × ℕ))) → get replica_cmp m r ≡ o → TellsIfAny s r (is_some o)
+    go None e = λ n. at n ∙ ap (λ o. holds (listed o) n) e
+    go (Some rs) e = first rs (ap listed e) (subst HasSome e (compact.some r)) (subst (AreRuns 0) (ap listed e) (compact.runs r))
 
 pub united : (m n : RunsOf) (s : DotSet) (r : Replica) (from to : ℕ) → set_of m.entries ≡ s
     → ((q : Dot) → holds (runs_at n q.replica) q.count ≡ (holds (runs_at m q.replica) q.count || in_range r from to q)) → set_of n.entries ≡ set.union s (range r from to)

@@ -1,5 +1,5 @@
 -- What the runs of each replica stand for: a set of dots.
-use Rattle.std.specs.Prelude.{◌≡◌, ℕ, true, ◌-◌, ◌<◌, ◌≤◌, zero, suc, Bool, not, cond, ◌&&◌, nat_lt, nat_le, List, [], ◌∷◌, ◌++◌, length, Option, Some, None}
+use Rattle.std.specs.Prelude.{◌≡◌, ℕ, true, ◌-◌, ◌<◌, ◌≤◌, zero, suc, Bool, not, cond, ◌&&◌, nat_lt, nat_le, List, [], ◌∷◌, ◌++◌, length, Option, Some, None, false}
 use Rattle.std.specs.FinSet as set
 use Rattle.std.specs.BTreeMap.{BTreeMap, get}
 use Rattle.presence_base.specs.declared.dots.Replica.{Replica}
@@ -13,6 +13,16 @@ DotSet = set.FinSet dot_cmp
 -- all of the replica's dots up to a count are in the set
 abbrev pub HasUpTo : DotSet → Replica → ℕ → Type 0
 HasUpTo s r top = (n : ℕ) → 1 ≤ n → n ≤ top → set.contains s (record { replica = r; count = n }) ≡ true
+
+-- a dot of the replica is in the set
+pub record SomeDot (s : DotSet) (r : Replica) : Type 0 where
+  pub count : ℕ
+  pub there : set.contains s (record { replica = r; count = count }) ≡ true
+
+-- whether the set has dots of the replica
+abbrev pub TellsIfAny : DotSet → Replica → Bool → Type 0
+TellsIfAny s r true = SomeDot s r
+TellsIfAny s r false = (n : ℕ) → set.contains s (record { replica = r; count = n }) ≡ false
 
 -- the dots of the k counts above `from`
 abbrev pub span : Replica → ℕ → ℕ → List Dot

@@ -1,10 +1,10 @@
 ghost use Rattle.std.specs.Prelude.{◌≡◌, ◌≤◌, ◌+◌, false, OnOk, OnErr, IfOk, IfErr};
 ghost use Rattle.std.specs.FinSet as set;
-ghost use Rattle.dot_context.specs.Sets.{DotSet, HasUpTo, range, others_dots};
+ghost use Rattle.dot_context.specs.Sets.{DotSet, HasUpTo, TellsIfAny, range, others_dots};
 ghost use Rattle.dot_context.specs.Forms.{vector_of, cloud_of, tops_of, HasOneForm, IfFormed};
 
 use crate::plan::ContextPlan;
-use crate::replicas::{covers_dot, join_all, put_range, take_out, top_of_replica};
+use crate::replicas::{covers_dot, has_runs, join_all, put_range, take_out, top_of_replica};
 use crate::views::{Cloud, Ranges, ReplicaRuns, Tops};
 use dot_context_runs::Runs;
 use presence_base::{Dot, Replica};
@@ -64,6 +64,13 @@ impl Context {
         ensures next { set.contains self.now (record { replica = replica.now; count = result + 1 }) ≡ false }
     {
         top_of_replica(&self.replicas, replica)
+    }
+
+    /// Whether a dot of the replica is in the set. Takes no memory.
+    pub fn has_dots(&self, replica: &Replica) -> bool
+        ensures { TellsIfAny self.now replica.now result }
+    {
+        has_runs(&self.replicas, replica)
     }
 
     /// Adds the dots above `from`, up to `to`. The cost is that of one search and of the runs that the range swallows,

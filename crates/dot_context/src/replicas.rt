@@ -1,7 +1,7 @@
 // The runs of each replica, by the replica.
-ghost use Rattle.std.specs.Prelude.{◌≡◌, ◌≤◌, ◌<◌, ◌&&◌, ◌+◌, ℕ, true, false, Some, None, OnOk, OnErr};
-ghost use Rattle.std.specs.BTreeMap.{IsUnchanged};
-ghost use Rattle.presence_base.specs.Order.{same_replica};
+ghost use Rattle.std.specs.Prelude.{◌≡◌, ◌≤◌, ◌<◌, ◌&&◌, ◌+◌, ℕ, true, false, Some, None, is_some, OnOk, OnErr};
+ghost use Rattle.std.specs.BTreeMap.{get, IsUnchanged};
+ghost use Rattle.presence_base.specs.Order.{replica_cmp, same_replica};
 ghost use Rattle.dot_context_runs.specs.Runs.{holds, AreLong};
 ghost use Rattle.dot_context.specs.Sets.{in_range, runs_at, IsCompact, HasRoomFor};
 ghost use Rattle.dot_context.specs.Changes.{ChangesAt, has_dot, SameDots, AddsDots, AllApart, AllHaveRuns, OthersHaveRuns, NoneHasRuns};
@@ -29,6 +29,13 @@ pub(crate) fn top_of_replica(replicas: &BTreeMap<Replica, Runs>, replica: &Repli
         Some(runs) => runs.top(),
         None => 0,
     }
+}
+
+// Whether the replica has runs.
+pub(crate) fn has_runs(replicas: &BTreeMap<Replica, Runs>, replica: &Replica) -> bool
+    ensures { result ≡ is_some (get replica_cmp replicas.now replica.now) }
+{
+    replicas.get(replica).is_some()
 }
 
 fn insert_new(

@@ -3,7 +3,7 @@ ghost use Rattle.std.specs.List.{list_all};
 ghost use Rattle.std.specs.FinSet as set;
 ghost use Rattle.std.specs.FinMap as map;
 ghost use Rattle.presence_base.specs.declared.dots.Dot.{Dot as DotValue};
-ghost use Rattle.dot_context.specs.Sets.{HasUpTo};
+ghost use Rattle.dot_context.specs.Sets.{HasUpTo, TellsIfAny};
 ghost use Rattle.orswot_core_told.specs.Checks.{is_forward, WhereItFits};
 ghost use Rattle.orswot_core_told.specs.Limits.{is_dot, is_row};
 ghost use Rattle.orswot_core_told.specs.Telling.{covers, live_row, cut_to};
@@ -76,6 +76,13 @@ impl Orswot {
         ensures next { set.contains self.now.covered (record { replica = replica.now; count = result + 1 }) ≡ false }
     {
         self.covered.top(replica)
+    }
+
+    /// Whether a dot of the replica is covered. Takes no memory.
+    pub fn has_dots(&self, replica: &Replica) -> bool
+        ensures { TellsIfAny self.now.covered replica.now result }
+    {
+        self.covered.has_dots(replica)
     }
 
     /// The row that is live at the dot.

@@ -17,12 +17,12 @@ use Rattle.presence_journal.specs.Present.{dots_taken}
 use Rattle.presence_journal.specs.Queue.{diff_at}
 use Rattle.presence_journal.proofs.Lookups.{get-missing_in}
 use Rattle.presence_journal.proofs.PresentLemmas.{get-present, of_topic-some, shown-row, row-stays}
-use Rattle.presence_journal.proofs.HistoryLemmas.{kind_of, legal_knows, added_fresh, legal_before, onto-append}
+use Rattle.presence_journal.proofs.HistoryLemmas.{kind_of, added_plain, legal_knows, added_fresh, legal_before, onto-append}
 use Rattle.presence_journal.proofs.Walking.{shows_more}
 
 -- a row that joins was not shown before
 pub joined_fresh : (h : History) (e : Entry) (t : List ℕ) (d : Dot) (r : Row) → IsLegal (Then h e) → joined e t d ≡ Some r → shown_of h t d ≡ None
-joined_fresh h e t d r l f = ap (of_topic t) (added_fresh h e d r (legal_knows h l.0) (kind_of h e.step e.outcome l.1) (of_topic-some t (row_added e.step e.outcome d) r f).0)
+joined_fresh h e t d r l f = ap (of_topic t) (added_fresh h e d r (legal_knows h l.0) (kind_of h e.step e.outcome (added_plain e.step e.outcome d r (of_topic-some t (row_added e.step e.outcome d) r f).0) l.1) (of_topic-some t (row_added e.step e.outcome d) r f).0)
 
 -- the rows shown after an entry that changes no status, by those before it
 pub shown_of-then : (h : History) (e : Entry) (t : List ℕ) (d : Dot) → IsLegal (Then h e) → is_callers e.step ≡ true → shown_of (Then h e) t d ≡ rows_after e t (shown_of h t) d

@@ -17,9 +17,9 @@ use Rattle.presence_journal.specs.History.{History, Then, count, next_dot, is_fu
 use Rattle.presence_journal.specs.Present.{of_topic, present, listed, in_order, dots_of}
 use Rattle.presence_journal.specs.Queue.{Behind, Queued, shout_item, items_made, topic_of, queue}
 use Rattle.presence_journal.specs.Table.{IsLegal, AreWithinLimits, is_mine, has_key, rows_of_pid, rows_of_key, counting, tracked, updated, untracked, for_present, take_outcome, outcome_of, next_entry, with_outcome, accepted, after}
-use Rattle.presence_journal.specs.Walk.{tells}
+use Rattle.presence_journal.specs.Walk.{tells, is_again}
 use Rattle.presence_journal.specs.Laws.{is_callers, concerns, reaches, OthersStay, OthersHearNothing, RefusedStays, StaysLegal, StaysKept}
-use Rattle.presence_journal.proofs.HistoryLemmas.{legal_knows, live_untold, shown_then, status_stays, shown-next, within_step}
+use Rattle.presence_journal.proofs.HistoryLemmas.{kind_of, kind_plain, callers_plain, legal_knows, live_untold, shown_then, status_stays, shown-next, within_step}
 use Rattle.presence_journal.proofs.ToldLemmas.{none_told_row, none_told_removed, callers_tell_none}
 use Rattle.presence_journal.proofs.FoldOrder.{same_dot-is}
 use Rattle.presence_journal.proofs.FoldTables.{AreOf, stripped, entries_found, no_changes}
@@ -99,6 +99,7 @@ spares h legal (steps_are.Update pid topic key meta) t n o e = spares_updated h 
 spares h legal (steps_are.Untrack pid topic key) t n o e = spares_untracked h legal topic t n (rows_of_key h pid topic key) (key_on h pid topic key) o e
 spares h legal (steps_are.UntrackAll pid topic) t n o e = spares_untracked h legal topic t n (rows_of_pid h pid topic) (pid_on h pid topic) o e
 spares h legal (steps_are.Take m max) t n o e = spares_taken h t m max o e
+spares h legal (steps_are.Rebirth i) t n o e = absurd (cc)
 spares h legal (steps_are.Unsubscribe m) t n o e = subst (Spares h t) (for_present-is (topic_of h m) _ o e) (λ d f. absurd (cc))
 spares h legal _ t n o e = subst (Spares h t) (same_Some _ _ e) (λ d f. absurd (cc))
 
@@ -121,10 +122,10 @@ added_elsewhere s t n (outcomes_are.Replaced new old) d = go (same_dot d new)
     go false = refl
 added_elsewhere s t n _ d = refl
 
-live_elsewhere : (h : History) (e : Entry) (t : List ℕ) (d : Dot) → tells e.step ≡ false → (dot_removed e.outcome (next_dot h) d ≡ true → of_topic t (shown h d) ≡ None) → of_topic t (row_added e.step e.outcome d) ≡ None → is_callers e.step ≡ true → of_topic t (shown (Then h e) d) ≡ of_topic t (shown h d)
+live_elsewhere : (h : History) (e : Entry) (t : List ℕ) (d : Dot) → is_again e.outcome ≡ false → tells e.step ≡ false → (dot_removed e.outcome (next_dot h) d ≡ true → of_topic t (shown h d) ≡ None) → of_topic t (row_added e.step e.outcome d) ≡ None → is_callers e.step ≡ true → of_topic t (shown (Then h e) d) ≡ of_topic t (shown h d)
 unfolding shown live
-live_elsewhere h e t d none spared added c =
-    ap (of_topic t) (shown_then h e d (status_stays h e d.replica c) ∙ ap (λ o. cond (is_up (status h d.replica)) o None) (live_untold h e d (none_told_row h e.step d none) (none_told_removed h e.step d none)))
+live_elsewhere h e t d a none spared added c =
+    ap (of_topic t) (shown_then h e d (status_stays h e d.replica c) ∙ ap (λ o. cond (is_up (status h d.replica)) o None) (live_untold h e d a (none_told_row h e.step d none) (none_told_removed h e.step d none)))
     ∙ go (is_up (status h d.replica)) (removed h d) (dot_removed e.outcome (next_dot h) d) (row h d) spared
   where
     go : (u a b : Bool) (o : Option Row) → (b ≡ true → of_topic t (cond u (cond a None o) None) ≡ None) → of_topic t (cond u (cond (a || b) None (first_some o (row_added e.step e.outcome d))) None) ≡ of_topic t (cond u (cond a None o) None)
@@ -134,8 +135,8 @@ live_elsewhere h e t d none spared added c =
     go true false false (Some r) f = refl
     go false a b o f = refl
 
-shown_elsewhere : (h : History) (e : Entry) (t : List ℕ) (d : Dot) → is_callers e.step ≡ true → (dot_removed e.outcome (next_dot h) d ≡ true → of_topic t (shown h d) ≡ None) → of_topic t (row_added e.step e.outcome d) ≡ None → of_topic t (shown (Then h e) d) ≡ of_topic t (shown h d)
-shown_elsewhere h e t d c spared added = live_elsewhere h e t d (callers_tell_none e.step c) spared added c
+shown_elsewhere : (h : History) (e : Entry) (t : List ℕ) (d : Dot) → is_again e.outcome ≡ false → is_callers e.step ≡ true → (dot_removed e.outcome (next_dot h) d ≡ true → of_topic t (shown h d) ≡ None) → of_topic t (row_added e.step e.outcome d) ≡ None → of_topic t (shown (Then h e) d) ≡ of_topic t (shown h d)
+shown_elsewhere h e t d a c spared added = live_elsewhere h e t d a (callers_tell_none e.step c) spared added c
 
 -- a step that doesn't concern a topic changes no status, and tells nothing
 unconcerned : (s : Step) (t : List ℕ) → concerns s t ≡ false → is_callers s ≡ true
@@ -143,6 +144,7 @@ unconcerned (steps_are.Heard replica now) t n = absurd (cc)
 unconcerned (steps_are.Tick now) t n = absurd (cc)
 unconcerned (steps_are.PermDown replica) t n = absurd (cc)
 unconcerned (steps_are.Merge told) t n = absurd (cc)
+unconcerned (steps_are.Rebirth i) t n = absurd (cc)
 unconcerned _ t n = refl
 
 -- an accepted step has its outcome and room
@@ -155,7 +157,7 @@ accepted_is h s o e = go (is_full h) e
     go false f = (refl, f)
 
 others_then : (h : History) → IsLegal h → (s : Step) (seat : Option ℕ) (o : Outcome) → accepted h s ≡ Some o → (t : List ℕ) → concerns s t ≡ false → present (Then h (next_entry h s seat o)) t ≡ present h t
-others_then h legal s seat o e t n = same_present (Then h (next_entry h s seat o)) h t (λ d. shown_elsewhere h (next_entry h s seat o) t d (unconcerned s t n) (spares h legal s t n o (accepted_is h s o e).1 d) (added_elsewhere s t n o d))
+others_then h legal s seat o e t n = same_present (Then h (next_entry h s seat o)) h t (λ d. shown_elsewhere h (next_entry h s seat o) t d (kind_plain h s o (kind_of h s o (callers_plain s (unconcerned s t n)) (accepted_is h s o e).1)) (unconcerned s t n) (spares h legal s t n o (accepted_is h s o e).1 d) (added_elsewhere s t n o d))
 
 pub others_stay : OthersStay
 unfolding after
@@ -175,6 +177,7 @@ quiet_concerns (steps_are.Heard replica now) t n = n
 quiet_concerns (steps_are.Tick now) t n = n
 quiet_concerns (steps_are.PermDown replica) t n = n
 quiet_concerns (steps_are.Merge told) t n = n
+quiet_concerns (steps_are.Rebirth i) t n = n
 quiet_concerns _ t n = refl
 
 quiet_shout : (s : Step) (t : List ℕ) → reaches s t ≡ false → shout_item s t ≡ []

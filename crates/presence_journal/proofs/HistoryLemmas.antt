@@ -3,6 +3,7 @@ use Rattle.std.proofs.Common.{◌≡◌, ℕ, zero, suc, ◌+◌, ◌-◌, slice
 use Rattle.std.specs.Prelude.{◌⊎◌, max, is_none}
 use Rattle.std.specs.List.{AllByRecursion}
 use Rattle.std.proofs.lemmas.Bool.{and_parts, or_left, or_right, or_parts, lt-leb, leb-false, and_from, or_cases, ltb-true, leb-true, lt-ltb, le-leb}
+use Rattle.std.specs.Map.{lookup}
 use Rattle.std.proofs.lemmas.Option.{same_Some, slice_get_within}
 use Rattle.presence_base.specs.declared.dots.Replica.{Replica}
 use Rattle.presence_base.specs.declared.dots.Dot.{Dot}
@@ -18,18 +19,20 @@ use Rattle.replica_status.specs.declared.status.Status.TheVariants as status_is
 use Rattle.replica_status.specs.declared.standing.Standing.{Standing}
 use Rattle.replica_status.specs.Table.{status_of}
 use Rattle.presence_journal.specs.Steps.{Step, Outcome, Entry, Start}
-use Rattle.presence_journal.specs.History.{History, Begin, Then, onto, start_of, own, is_full, count, counts_used, last_cut, last_number, entry_count, next_dot, is_counted, known, time, time_of, standing, standing_after, status, is_up, told_covers, told_row, told_removed, first_some, has_dot, row_made, row_added, dot_removed, removed, row, live, shown}
+use Rattle.presence_journal.specs.History.{History, Begin, Then, onto, start_of, own, reborn, own_after, is_full, count, counts_used, count_after, has_dots, row_again, row_brought, last_cut, last_number, entry_count, next_dot, is_counted, known, time, time_of, standing, standing_after, status, is_up, told_covers, told_row, told_removed, first_some, has_dot, row_made, row_added, dot_removed, removed, row, live, shown}
 use Rattle.presence_journal.specs.Present.{listed, dots_of}
 use Rattle.presence_journal.specs.Queue.{Waiting, Behind, Queued, queue, topic_of}
 use Rattle.presence_journal.specs.Table.{rows_of_pid, rows_of_key, listed_key, counting, tracked, updated, untracked, take_outcome, for_present, outcome_of, next_entry, accepted, after, is_step, IsStart, IsLegal, AreWithinLimits}
 use Rattle.presence_journal_data.specs.StepLimits.{is_row_made, is_within_limits}
 use Rattle.presence_journal.specs.Present.{dots_taken}
-use Rattle.presence_journal.specs.Walk.{tells}
+use Rattle.presence_journal.specs.Walk.{tells, is_reborn, is_again}
 use Rattle.presence_journal.specs.Laws.{is_callers}
 use Rattle.presence_journal.specs.Merges.{is_of_rows}
 use Rattle.presence_journal.proofs.Same.{same_dot-true, same_replica-true, same_replica-refl}
 use Rattle.presence_journal.proofs.ToldLemmas.{told_other, none_told_row, none_told_removed, callers_tell_none, live_row_covered, row_told_covers, removed_told_covers}
+use Rattle.presence_journal.specs.Table.{own_dots, reborn_from}
 use Rattle.presence_journal.proofs.PresentLemmas.{shown-row, IsOwnListed, own_rows, own_rows_of_key}
+use Rattle.presence_journal.proofs.Reborn.{known_has, length_reborn, again_parts, IsAgain, again_of, own_dots_most}
 
 -- entries in order upon a history
 
@@ -44,11 +47,6 @@ legal_before h (x ∷ xs) l = (legal_before (Then h x) xs l).0
 pub start_of-onto : (h : History) (xs : List Entry) → start_of (onto h xs) ≡ start_of h
 start_of-onto h [] = refl
 start_of-onto h (x ∷ xs) = start_of-onto (Then h x) xs
-
-pub own-start_of : (h : History) → own h ≡ (start_of h).own
-unfolding own
-own-start_of (Begin s) = refl
-own-start_of (Then h e) = own-start_of h
 
 pub entry_count-onto : (h : History) (xs : List Entry) → entry_count (onto h xs) ≡ entry_count h + length xs
 unfolding entry_count
@@ -74,18 +72,40 @@ counted_from r n d p l m = and_from (same_replica d.replica r) (nat_lt 0 d.count
 pub is_own : (h : History) (d : Dot) → d.replica ≡ own h → same_replica d.replica (own h) ≡ true
 is_own h d o = ap (λ q. same_replica q (own h)) o ∙ same_replica-refl (own h)
 
-pub own-then : (h : History) (e : Entry) → own (Then h e) ≡ own h
-unfolding own
-own-then h e = refl
+pub own_same : (s : Step) (r : Replica) → is_reborn s ≡ false → own_after s r ≡ r
+own_same (steps_are.Rebirth i) r f = absurd (cc)
+own_same _ r f = refl
 
-pub count-then : (h : History) (e : Entry) → count (Then h e) ≡ count h + counts_used e.outcome
+-- a rebirth alone changes the own replica
+pub own-then : (h : History) (e : Entry) → is_reborn e.step ≡ false → own (Then h e) ≡ own h
+unfolding own
+own-then h e f = own_same e.step (own h) f
+
+pub count_same : (o : Outcome) (n : ℕ) → is_again o ≡ false → count_after o n ≡ n + counts_used o
+count_same (outcomes_are.Reborn ps) n a = absurd (cc)
+count_same _ n a = refl
+
+-- and counts anew
+pub count-then : (h : History) (e : Entry) → is_again e.outcome ≡ false → count (Then h e) ≡ count h + counts_used e.outcome
 unfolding count
-count-then h e = refl
+count-then h e a = count_same e.outcome (count h) a
+
+pub brought_told : (o : Outcome) (f : Dot → Option Row) (r : Option Row) (d : Dot) → is_again o ≡ false → row_brought o f r d ≡ r
+brought_told (outcomes_are.Reborn ps) f r d a = absurd (cc)
+brought_told _ f r d a = refl
+
+pub callers_plain : (s : Step) → is_callers s ≡ true → is_reborn s ≡ false
+callers_plain (steps_are.Rebirth i) f = absurd (cc)
+callers_plain _ f = refl
+
+pub used_plain : (o : Outcome) → counts_used o ≡ 1 → is_again o ≡ false
+used_plain (outcomes_are.Reborn ps) u = absurd (omega (arith, u))
+used_plain _ u = refl
 
 -- what an entry makes known
 
-pub known-then : (h : History) (e : Entry) (d : Dot) → known (Then h e) d ≡ (known h d || (is_counted (own h) (count (Then h e)) d || told_covers h e.step d))
-unfolding known own
+pub known-then : (h : History) (e : Entry) (d : Dot) → known (Then h e) d ≡ (known h d || (is_counted (own (Then h e)) (count (Then h e)) d || told_covers h e.step d))
+unfolding known
 known-then h e d = refl
 
 -- what is known stays known
@@ -93,22 +113,22 @@ pub known_then : (h : History) (e : Entry) (d : Dot) → known h d ≡ true → 
 unfolding known
 known_then h e d k = or_left (known h d) (is_counted (own (Then h e)) (count (Then h e)) d || told_covers h e.step d) k
 
-pub counted_known : (h : History) (e : Entry) (d : Dot) → is_counted (own h) (count (Then h e)) d ≡ true → known (Then h e) d ≡ true
-unfolding known own
-counted_known h e d k = or_right (known h d) (is_counted (own h) (count (Then h e)) d || told_covers h e.step d) (or_left (is_counted (own h) (count (Then h e)) d) (told_covers h e.step d) k)
+pub counted_known : (h : History) (e : Entry) (d : Dot) → is_counted (own (Then h e)) (count (Then h e)) d ≡ true → known (Then h e) d ≡ true
+unfolding known
+counted_known h e d k = or_right (known h d) (is_counted (own (Then h e)) (count (Then h e)) d || told_covers h e.step d) (or_left (is_counted (own (Then h e)) (count (Then h e)) d) (told_covers h e.step d) k)
 
 pub told_known : (h : History) (e : Entry) (d : Dot) → told_covers h e.step d ≡ true → known (Then h e) d ≡ true
 unfolding known
 told_known h e d k = or_right (known h d) (is_counted (own (Then h e)) (count (Then h e)) d || told_covers h e.step d) (or_right (is_counted (own (Then h e)) (count (Then h e)) d) (told_covers h e.step d) k)
 
 -- what is known, by what it is known from
-pub known_cases : (h : History) (e : Entry) (d : Dot) → known (Then h e) d ≡ true → (known h d ≡ true) ⊎ ((is_counted (own h) (count (Then h e)) d ≡ true) ⊎ (told_covers h e.step d ≡ true))
-unfolding known own
-known_cases h e d k = go (or_cases (known h d) (is_counted (own h) (count (Then h e)) d || told_covers h e.step d) k)
+pub known_cases : (h : History) (e : Entry) (d : Dot) → known (Then h e) d ≡ true → (known h d ≡ true) ⊎ ((is_counted (own (Then h e)) (count (Then h e)) d ≡ true) ⊎ (told_covers h e.step d ≡ true))
+unfolding known
+known_cases h e d k = go (or_cases (known h d) (is_counted (own (Then h e)) (count (Then h e)) d || told_covers h e.step d) k)
   where
-    go : (known h d ≡ true) ⊎ ((is_counted (own h) (count (Then h e)) d || told_covers h e.step d) ≡ true) → (known h d ≡ true) ⊎ ((is_counted (own h) (count (Then h e)) d ≡ true) ⊎ (told_covers h e.step d ≡ true))
+    go : (known h d ≡ true) ⊎ ((is_counted (own (Then h e)) (count (Then h e)) d || told_covers h e.step d) ≡ true) → (known h d ≡ true) ⊎ ((is_counted (own (Then h e)) (count (Then h e)) d ≡ true) ⊎ (told_covers h e.step d ≡ true))
     go (inl f) = inl f
-    go (inr f) = inr (or_cases (is_counted (own h) (count (Then h e)) d) (told_covers h e.step d) f)
+    go (inr f) = inr (or_cases (is_counted (own (Then h e)) (count (Then h e)) d) (told_covers h e.step d) f)
 
 -- own dots that were counted are known
 
@@ -118,21 +138,27 @@ known_first s start d o l m = start.own_dots d o ∙ counted_from s.own s.count 
 
 pub known_from : (h : History) → IsLegal h → (d : Dot) → d.replica ≡ own h → 0 < d.count → d.count ≤ count h → known h d ≡ true
 known_from (Begin s) legal d o l m = known_first s legal d o l m
-known_from (Then h e) legal d o l m = counted_known h e d (counted_from (own h) (count (Then h e)) d (o ∙ own-then h e) l m)
+known_from (Then h e) legal d o l m = counted_known h e d (counted_from (own (Then h e)) (count (Then h e)) d o l m)
 
 -- the next dot is known once it is used
-pub next_known : (h : History) (e : Entry) (d : Dot) → d ≡ next_dot h → counts_used e.outcome ≡ 1 → known (Then h e) d ≡ true
-next_known h e d p u =
+pub next_known : (h : History) (e : Entry) (d : Dot) → is_reborn e.step ≡ false → d ≡ next_dot h → counts_used e.outcome ≡ 1 → known (Then h e) d ≡ true
+next_known h e d f p u =
     let c : d.count ≡ count h + 1 = ap (λ (z : Dot). z.count) p in
-    counted_known h e d (counted_from (own h) (count (Then h e)) d (ap (λ (z : Dot). z.replica) p) (omega (arith, c)) (omega (arith, c, u, count-then h e)))
+    let o : d.replica ≡ own (Then h e) = ap (λ (z : Dot). z.replica) p ∙ sym (own-then h e f) in
+    counted_known h e d (counted_from (own (Then h e)) (count (Then h e)) d o (omega (arith, c)) (omega (arith, c, u, count-then h e (used_plain e.outcome u))))
 
--- the four kinds of entry
+-- the four kinds of entry that is no rebirth
 
 abbrev pub is_quiet : Outcome → Bool
 is_quiet (outcomes_are.Added d) = false
 is_quiet (outcomes_are.Replaced d old) = false
 is_quiet (outcomes_are.Removed (d ∷ ds)) = false
+is_quiet (outcomes_are.Reborn ps) = false
 is_quiet _ = true
+
+pub quiet_plain : (o : Outcome) → is_quiet o ≡ true → is_again o ≡ false
+quiet_plain (outcomes_are.Reborn ps) q = absurd (cc)
+quiet_plain _ q = refl
 
 -- an own row that is shown
 pub record IsOwnShown (h : History) (d : Dot) : Type 0 where
@@ -189,23 +215,31 @@ quiet_took n Behind = refl
 quiet_took n (Queued q) = refl
 
 -- what the table answers is of one of the four kinds
-pub kind_of : (h : History) (s : Step) (o : Outcome) → outcome_of h s ≡ Some o → Kind h s o
+pub kind_of : (h : History) (s : Step) (o : Outcome) → is_reborn s ≡ false → outcome_of h s ≡ Some o → Kind h s o
 unfolding outcome_of
-kind_of h (steps_are.Track pid topic key meta) o e = kind_tracked h (steps_are.Track pid topic key meta) o _ (rows_of_key h pid topic key) refl e
-kind_of h (steps_are.Update pid topic key meta) o e = kind_updated h (steps_are.Update pid topic key meta) o topic (λ old. record { topic = topic; key = key; pid = pid; meta = meta; prev = Some old }) (rows_of_key h pid topic key) (λ old. refl) (own_rows_of_key h pid topic key) e
-kind_of h (steps_are.Untrack pid topic key) o e = kind_untracked h (steps_are.Untrack pid topic key) o (dots_of (rows_of_key h pid topic key)) (own_shown h topic (rows_of_key h pid topic key) (own_rows_of_key h pid topic key)) refl e
-kind_of h (steps_are.UntrackAll pid topic) o e = kind_untracked h (steps_are.UntrackAll pid topic) o (dots_of (rows_of_pid h pid topic)) (own_shown h topic (rows_of_pid h pid topic) (own_rows h pid topic)) refl e
-kind_of h (steps_are.List topic) o e = Quiet (ap is_quiet (same_Some o (outcomes_are.Shown (dots_of (listed h topic))) (sym e)))
-kind_of h (steps_are.Get topic key) o e = Quiet (ap is_quiet (same_Some o (outcomes_are.Shown (dots_of (listed_key h topic key))) (sym e)))
-kind_of h (steps_are.Subscribe topic) o e = Quiet (ap is_quiet (same_Some o (outcomes_are.Subscribed (last_number h + 1)) (sym e)))
-kind_of h (steps_are.Take n max) o e = quiet_present h (steps_are.Take n max) o (take_outcome max (queue h n)) (topic_of h n) (quiet_took max (queue h n)) e
-kind_of h (steps_are.Unsubscribe n) o e = quiet_present h (steps_are.Unsubscribe n) o outcomes_are.Ended (topic_of h n) refl e
-kind_of h (steps_are.Shout topic payload) o e = Quiet (ap is_quiet (same_Some o outcomes_are.Sent (sym e)))
-kind_of h (steps_are.Heard replica now) o e = Quiet (ap is_quiet (same_Some o outcomes_are.Noted (sym e)))
-kind_of h (steps_are.Tick now) o e = Quiet (ap is_quiet (same_Some o outcomes_are.Noted (sym e)))
-kind_of h (steps_are.PermDown replica) o e = Quiet (ap is_quiet (same_Some o outcomes_are.Noted (sym e)))
-kind_of h steps_are.Cut o e = Quiet (ap is_quiet (same_Some o (outcomes_are.CutAt (last_cut h) (count h)) (sym e)))
-kind_of h (steps_are.Merge told) o e = Quiet (ap is_quiet (same_Some o outcomes_are.Merged (sym e)))
+kind_of h (steps_are.Rebirth i) o f e = absurd (cc)
+kind_of h (steps_are.Track pid topic key meta) o f e = kind_tracked h (steps_are.Track pid topic key meta) o _ (rows_of_key h pid topic key) refl e
+kind_of h (steps_are.Update pid topic key meta) o f e = kind_updated h (steps_are.Update pid topic key meta) o topic (λ old. record { topic = topic; key = key; pid = pid; meta = meta; prev = Some old }) (rows_of_key h pid topic key) (λ old. refl) (own_rows_of_key h pid topic key) e
+kind_of h (steps_are.Untrack pid topic key) o f e = kind_untracked h (steps_are.Untrack pid topic key) o (dots_of (rows_of_key h pid topic key)) (own_shown h topic (rows_of_key h pid topic key) (own_rows_of_key h pid topic key)) refl e
+kind_of h (steps_are.UntrackAll pid topic) o f e = kind_untracked h (steps_are.UntrackAll pid topic) o (dots_of (rows_of_pid h pid topic)) (own_shown h topic (rows_of_pid h pid topic) (own_rows h pid topic)) refl e
+kind_of h (steps_are.List topic) o f e = Quiet (ap is_quiet (same_Some o (outcomes_are.Shown (dots_of (listed h topic))) (sym e)))
+kind_of h (steps_are.Get topic key) o f e = Quiet (ap is_quiet (same_Some o (outcomes_are.Shown (dots_of (listed_key h topic key))) (sym e)))
+kind_of h (steps_are.Subscribe topic) o f e = Quiet (ap is_quiet (same_Some o (outcomes_are.Subscribed (last_number h + 1)) (sym e)))
+kind_of h (steps_are.Take n max) o f e = quiet_present h (steps_are.Take n max) o (take_outcome max (queue h n)) (topic_of h n) (quiet_took max (queue h n)) e
+kind_of h (steps_are.Unsubscribe n) o f e = quiet_present h (steps_are.Unsubscribe n) o outcomes_are.Ended (topic_of h n) refl e
+kind_of h (steps_are.Shout topic payload) o f e = Quiet (ap is_quiet (same_Some o outcomes_are.Sent (sym e)))
+kind_of h (steps_are.Heard replica now) o f e = Quiet (ap is_quiet (same_Some o outcomes_are.Noted (sym e)))
+kind_of h (steps_are.Tick now) o f e = Quiet (ap is_quiet (same_Some o outcomes_are.Noted (sym e)))
+kind_of h (steps_are.PermDown replica) o f e = Quiet (ap is_quiet (same_Some o outcomes_are.Noted (sym e)))
+kind_of h steps_are.Cut o f e = Quiet (ap is_quiet (same_Some o (outcomes_are.CutAt (last_cut h) (count h)) (sym e)))
+kind_of h (steps_are.Merge told) o f e = Quiet (ap is_quiet (same_Some o outcomes_are.Merged (sym e)))
+
+-- of these none is a rebirth's
+pub kind_plain : (h : History) (s : Step) (o : Outcome) → Kind h s o → is_again o ≡ false
+kind_plain h s o (Adds r m p l) = ap is_again p
+kind_plain h s o (Replaces r old m p l w) = ap is_again p
+kind_plain h s o (Removes y ys p l a q) = ap is_again p
+kind_plain h s o (Quiet q) = quiet_plain o q
 
 -- a merge changes no own row
 pub tells_quiet : (h : History) (s : Step) (o : Outcome) → Kind h s o → tells s ≡ true → is_quiet o ≡ true
@@ -259,6 +293,17 @@ begin_knows s start =
 pub next_unknown : (h : History) → KnowsItsDots h → known h (next_dot h) ≡ true → ⊥
 next_unknown h knows k = let p = (knows.of_own (next_dot h) refl k).1 in omega (arith, p)
 
+none_either : (b : Bool) (r : Row) → cond {A = Option Row} b None None ≡ Some r → ⊥
+none_either true r e = absurd (cc)
+none_either false r e = absurd (cc)
+
+-- a row that is added is no rebirth's
+pub added_plain : (s : Step) (o : Outcome) (d : Dot) (r : Row) → row_added s o d ≡ Some r → is_reborn s ≡ false
+added_plain (steps_are.Rebirth i) (outcomes_are.Added new) d r e = absurd (none_either (same_dot d new) r e)
+added_plain (steps_are.Rebirth i) (outcomes_are.Replaced new old) d r e = absurd (none_either (same_dot d new) r e)
+added_plain (steps_are.Rebirth i) _ d r e = absurd (cc)
+added_plain _ o d r e = refl
+
 pub one_added : (h : History) (e : Entry) (d : Dot) (r : Row) → Kind h e.step e.outcome → row_added e.step e.outcome d ≡ Some r → (d ≡ next_dot h) × (counts_used e.outcome ≡ 1)
 one_added h e d r (Adds x m o l) g = (here (same_dot d (next_dot h)) refl (sym (ap (λ y. row_added e.step y d) o) ∙ g), ap counts_used o)
   where
@@ -276,65 +321,128 @@ one_added h e d r (Quiet q) g = let f : None ≡ Some r = sym (quiet_row e.step 
 shown_known : (h : History) → KnowsItsDots h → (d : Dot) → IsOwnShown h d → known h d ≡ true
 shown_known h k d w = k.of_row d w.row (shown-row h d w.row w.shown).0
 
-removed_known : (h : History) (e : Entry) (d : Dot) → KnowsItsDots h → Kind h e.step e.outcome → dot_removed e.outcome (next_dot h) d ≡ true → known (Then h e) d ≡ true
-removed_known h e d k (Adds x m o l) g = let f : false ≡ true = sym (ap (λ y. dot_removed y (next_dot h) d) o) ∙ g in cc
-removed_known h e d k (Replaces x old m o l w) g =
+removed_known : (h : History) (e : Entry) (d : Dot) → KnowsItsDots h → is_reborn e.step ≡ false → Kind h e.step e.outcome → dot_removed e.outcome (next_dot h) d ≡ true → known (Then h e) d ≡ true
+removed_known h e d k n (Adds x m o l) g = let f : false ≡ true = sym (ap (λ y. dot_removed y (next_dot h) d) o) ∙ g in cc
+removed_known h e d k n (Replaces x old m o l w) g =
     let f : same_dot d old ≡ true = sym (ap (λ y. dot_removed y (next_dot h) d) o) ∙ g in
     known_then h e d (ap (known h) (same_dot-true d old f) ∙ shown_known h k old w)
-removed_known h e d k (Removes y ys o l a q) g = go (or_cases (same_dot d (next_dot h)) (has_dot (y ∷ ys) d) (sym (ap (λ z. dot_removed z (next_dot h) d) o) ∙ g))
+removed_known h e d k n (Removes y ys o l a q) g = go (or_cases (same_dot d (next_dot h)) (has_dot (y ∷ ys) d) (sym (ap (λ z. dot_removed z (next_dot h) d) o) ∙ g))
   where
     go : (same_dot d (next_dot h) ≡ true) ⊎ (has_dot (y ∷ ys) d ≡ true) → known (Then h e) d ≡ true
-    go (inl f) = next_known h e d (same_dot-true d (next_dot h) f) (ap counts_used o)
+    go (inl f) = next_known h e d n (same_dot-true d (next_dot h) f) (ap counts_used o)
     go (inr f) = known_then h e d (shown_known h k d (all_has_dot (IsOwnShown h) (y ∷ ys) d a f))
-removed_known h e d k (Quiet q) g = let f : false ≡ true = sym (quiet_removed e.outcome (next_dot h) d q) ∙ g in cc
+removed_known h e d k n (Quiet q) g = let f : false ≡ true = sym (quiet_removed e.outcome (next_dot h) d q) ∙ g in cc
 
-own_then_counted : (h : History) (e : Entry) (d : Dot) → KnowsItsDots h → d.replica ≡ own (Then h e) → known (Then h e) d ≡ true → (0 < d.count) × (d.count ≤ count (Then h e))
-own_then_counted h e d k o f = go (known_cases h e d f)
+own_then_counted : (h : History) (e : Entry) (d : Dot) → KnowsItsDots h → is_reborn e.step ≡ false → is_again e.outcome ≡ false → d.replica ≡ own (Then h e) → known (Then h e) d ≡ true → (0 < d.count) × (d.count ≤ count (Then h e))
+own_then_counted h e d k n a o f = go (known_cases h e d f)
   where
     here : d.replica ≡ own h
-    here = o ∙ own-then h e
+    here = o ∙ own-then h e n
 
-    go : (known h d ≡ true) ⊎ ((is_counted (own h) (count (Then h e)) d ≡ true) ⊎ (told_covers h e.step d ≡ true)) → (0 < d.count) × (d.count ≤ count (Then h e))
-    go (inl g) = let p = k.of_own d here g in (p.0, omega (arith, p.1, count-then h e))
-    go (inr (inl g)) = let p = counted_parts (own h) (count (Then h e)) d g in (p.1, p.2)
+    go : (known h d ≡ true) ⊎ ((is_counted (own (Then h e)) (count (Then h e)) d ≡ true) ⊎ (told_covers h e.step d ≡ true)) → (0 < d.count) × (d.count ≤ count (Then h e))
+    go (inl g) = let p = k.of_own d here g in (p.0, omega (arith, p.1, count-then h e a))
+    go (inr (inl g)) = let p = counted_parts (own (Then h e)) (count (Then h e)) d g in (p.1, p.2)
     go (inr (inr g)) = let w : true ≡ false = sym (is_own h d here) ∙ told_other h e.step d g in absurd (cc)
 
-pub knows_then : (h : History) (e : Entry) → KnowsItsDots h → Kind h e.step e.outcome → is_step e.step ≡ true → KnowsItsDots (Then h e)
+pub knows_then : (h : History) (e : Entry) → KnowsItsDots h → is_reborn e.step ≡ false → Kind h e.step e.outcome → is_step e.step ≡ true → KnowsItsDots (Then h e)
 unfolding row removed
-knows_then h e k kind limits =
+knows_then h e k n kind limits =
     record {
       of_row = λ d r f. at_row d r (row h d) (row_added e.step e.outcome d) refl refl f;
       of_removed = λ d f. at_removed d (or_cases (removed h d) (dot_removed e.outcome (next_dot h) d || told_removed h e.step d) f);
-      of_own = λ d o f. own_then_counted h e d k o f;
+      of_own = λ d o f. own_then_counted h e d k n plain o f;
     }
   where
-    at_row : (d : Dot) (r : Row) (o p : Option Row) → row h d ≡ o → row_added e.step e.outcome d ≡ p → first_some o (first_some p (told_row h e.step d)) ≡ Some r → known (Then h e) d ≡ true
+    plain : is_again e.outcome ≡ false
+    plain = kind_plain h e.step e.outcome kind
+
+    at_row : (d : Dot) (r : Row) (o p : Option Row) → row h d ≡ o → row_added e.step e.outcome d ≡ p → first_some o (first_some p (row_brought e.outcome (row h) (told_row h e.step d) d)) ≡ Some r → known (Then h e) d ≡ true
     at_row d r (Some x) p is added f = known_then h e d (k.of_row d x is)
-    at_row d r None (Some x) is added f = let w = one_added h e d x kind added in next_known h e d w.0 w.1
-    at_row d r None None is added f = told_known h e d (row_told_covers h e.step d r limits f)
+    at_row d r None (Some x) is added f = let w = one_added h e d x kind added in next_known h e d n w.0 w.1
+    at_row d r None None is added f = told_known h e d (row_told_covers h e.step d r limits (sym (brought_told e.outcome (row h) (told_row h e.step d) d plain) ∙ f))
 
     at_now : (d : Dot) → (dot_removed e.outcome (next_dot h) d ≡ true) ⊎ (told_removed h e.step d ≡ true) → known (Then h e) d ≡ true
-    at_now d (inl f) = removed_known h e d k kind f
+    at_now d (inl f) = removed_known h e d k n kind f
     at_now d (inr f) = told_known h e d (removed_told_covers h e.step d f)
 
     at_removed : (d : Dot) → (removed h d ≡ true) ⊎ ((dot_removed e.outcome (next_dot h) d || told_removed h e.step d) ≡ true) → known (Then h e) d ≡ true
     at_removed d (inl f) = known_then h e d (k.of_removed d f)
     at_removed d (inr f) = at_now d (or_cases (dot_removed e.outcome (next_dot h) d) (told_removed h e.step d) f)
 
+-- a rebirth
+
+pub own_again : (h : History) (e : Entry) (w : IsAgain h e.step e.outcome) → own (Then h e) ≡ reborn (own h) w.incarnation
+unfolding own
+own_again h e w = ap (λ s. own_after s (own h)) w.step
+
+pub count_again : (h : History) (e : Entry) → IsAgain h e.step e.outcome → count (Then h e) ≡ length (own_dots h)
+unfolding count
+count_again h e w = ap (λ o. count_after o (count h)) w.outcome ∙ length_reborn (reborn (own h) w.incarnation) 0 (own_dots h)
+
+pub added_again : (h : History) (e : Entry) (d : Dot) → IsAgain h e.step e.outcome → row_added e.step e.outcome d ≡ None
+added_again h e d w = ap (λ o. row_added e.step o d) w.outcome
+
+pub removed_again : (h : History) (e : Entry) (d : Dot) → IsAgain h e.step e.outcome → removed (Then h e) d ≡ removed h d
+unfolding removed
+removed_again h e d w = (λ i. removed h d || (dot_removed (w.outcome i) (next_dot h) d || told_removed h (w.step i) d)) ∙ no_more_again (removed h d)
+  where
+    no_more_again : (b : Bool) → (b || (false || false)) ≡ b
+    no_more_again true = refl
+    no_more_again false = refl
+
+pub row_again-is : (h : History) (e : Entry) (d : Dot) (w : IsAgain h e.step e.outcome) → row (Then h e) d ≡ first_some (row h d) (row_again (row h) (lookup (same_dot d) (reborn_from (reborn (own h) w.incarnation) 0 (own_dots h))))
+unfolding row
+row_again-is h e d w = λ i. first_some (row h d) (first_some (row_added e.step (w.outcome i) d) (row_brought (w.outcome i) (row h) (told_row h e.step d) d))
+
+-- none of the new replica's dots was known
+pub again_unknown : (h : History) (d : Dot) (i : ℕ) → has_dots h (reborn (own h) i) ≡ false → d.replica ≡ reborn (own h) i → known h d ≡ true → ⊥
+again_unknown h d i f o k = let w : false ≡ true = sym f ∙ (ap (has_dots h) (sym o) ∙ known_has h d k) in absurd (cc)
+
+pub again_known : (h : History) (e : Entry) (d old : Dot) (w : IsAgain h e.step e.outcome) → lookup (same_dot d) (reborn_from (reborn (own h) w.incarnation) 0 (own_dots h)) ≡ Some old → known (Then h e) d ≡ true
+again_known h e d old w f =
+    let p = again_parts (reborn (own h) w.incarnation) 0 (own_dots h) d old f in
+    counted_known h e d (counted_from (own (Then h e)) (count (Then h e)) d (p.0 ∙ sym (own_again h e w)) p.1 (omega (arith, p.2, count_again h e w)))
+
+knows_again : (h : History) (e : Entry) → KnowsItsDots h → IsAgain h e.step e.outcome → KnowsItsDots (Then h e)
+knows_again h e k w =
+    record {
+      of_row = λ d r f. at_row d r (row h d) refl (lookup (same_dot d) (reborn_from (reborn (own h) w.incarnation) 0 (own_dots h))) refl (sym (row_again-is h e d w) ∙ f);
+      of_removed = λ d f. known_then h e d (k.of_removed d (sym (removed_again h e d w) ∙ f));
+      of_own = λ d o f. at_own d (o ∙ own_again h e w) (known_cases h e d f);
+    }
+  where
+    at_row : (d : Dot) (r : Row) (o : Option Row) → row h d ≡ o → (p : Option Dot) → lookup (same_dot d) (reborn_from (reborn (own h) w.incarnation) 0 (own_dots h)) ≡ p → first_some o (row_again (row h) p) ≡ Some r → known (Then h e) d ≡ true
+    at_row d r (Some x) is p found f = known_then h e d (k.of_row d x is)
+    at_row d r None is (Some old) found f = again_known h e d old w found
+    at_row d r None is None found f = absurd (cc)
+
+    at_own : (d : Dot) → d.replica ≡ reborn (own h) w.incarnation → (known h d ≡ true) ⊎ ((is_counted (own (Then h e)) (count (Then h e)) d ≡ true) ⊎ (told_covers h e.step d ≡ true)) → (0 < d.count) × (d.count ≤ count (Then h e))
+    at_own d o (inl g) = absurd (again_unknown h d w.incarnation w.fresh o g)
+    at_own d o (inr (inl g)) = let p = counted_parts (own (Then h e)) (count (Then h e)) d g in (p.1, p.2)
+    at_own d o (inr (inr g)) = let f : false ≡ true = sym (ap (λ s. told_covers h s d) w.step) ∙ g in absurd (cc)
+
+-- its rows are no more than the counts that were used before
+pub again_most : (h : History) (e : Entry) → KnowsItsDots h → IsAgain h e.step e.outcome → count (Then h e) ≤ count h
+again_most h e k w = omega (arith, count_again h e w, own_dots_most h (count h) (λ d g. k.of_own d g.own (k.of_row d g.row (shown-row h d g.row g.shown).0)))
+
 pub legal_knows : (h : History) → IsLegal h → KnowsItsDots h
 legal_knows (Begin s) l = begin_knows s l
-legal_knows (Then h e) l = knows_then h e (legal_knows h l.0) (kind_of h e.step e.outcome l.1) l.4
+legal_knows (Then h e) l = go (is_reborn e.step) refl (legal_knows h l.0)
+  where
+    go : (b : Bool) → is_reborn e.step ≡ b → KnowsItsDots h → KnowsItsDots (Then h e)
+    go false f k = knows_then h e k f (kind_of h e.step e.outcome f l.1) l.4
+    go true f k = knows_again h e k (again_of h e.step e.outcome f l.1)
 
 -- an own dot that is known was counted
 pub known_parts : (h : History) → IsLegal h → (d : Dot) → d.replica ≡ own h → known h d ≡ true → (0 < d.count) × (d.count ≤ count h)
 known_parts h l d o k = (legal_knows h l).of_own d o k
 
 -- an entry that uses no count makes known what it tells
-pub known_quiet : (h : History) (e : Entry) (d : Dot) → IsLegal h → counts_used e.outcome ≡ 0 → known (Then h e) d ≡ (known h d || told_covers h e.step d)
-known_quiet h e d l u = known-then h e d ∙ go (known h d) (is_counted (own h) (count (Then h e)) d) (λ f. counted_before (counted_parts (own h) (count (Then h e)) d f))
+pub known_quiet : (h : History) (e : Entry) (d : Dot) → IsLegal h → is_reborn e.step ≡ false → is_again e.outcome ≡ false → counts_used e.outcome ≡ 0 → known (Then h e) d ≡ (known h d || told_covers h e.step d)
+known_quiet h e d l n a u = known-then h e d ∙ go (known h d) (is_counted (own (Then h e)) (count (Then h e)) d) (λ f. counted_before (counted_parts (own (Then h e)) (count (Then h e)) d f))
   where
-    counted_before : (d.replica ≡ own h) × (0 < d.count) × (d.count ≤ count (Then h e)) → known h d ≡ true
-    counted_before p = known_from h l d p.0 p.1 (omega (arith, p.2, u, count-then h e))
+    counted_before : (d.replica ≡ own (Then h e)) × (0 < d.count) × (d.count ≤ count (Then h e)) → known h d ≡ true
+    counted_before p = known_from h l d (p.0 ∙ own-then h e n) p.1 (omega (arith, p.2, u, count-then h e a))
 
     go : (a b : Bool) → (b ≡ true → a ≡ true) → (a || (b || told_covers h e.step d)) ≡ (a || told_covers h e.step d)
     go true b f = refl
@@ -406,11 +514,12 @@ first_none None = refl
 first_none (Some x) = refl
 
 -- what is live once an entry tells nothing of the dot
-pub live_untold : (h : History) (e : Entry) (d : Dot) → told_row h e.step d ≡ None → told_removed h e.step d ≡ false → live (Then h e) d ≡ cond (removed h d || dot_removed e.outcome (next_dot h) d) None (first_some (row h d) (row_added e.step e.outcome d))
+pub live_untold : (h : History) (e : Entry) (d : Dot) → is_again e.outcome ≡ false → told_row h e.step d ≡ None → told_removed h e.step d ≡ false → live (Then h e) d ≡ cond (removed h d || dot_removed e.outcome (next_dot h) d) None (first_some (row h d) (row_added e.step e.outcome d))
 unfolding live row removed
-live_untold h e d p q =
+live_untold h e d a p q =
+    let brought : row_brought e.outcome (row h) (told_row h e.step d) d ≡ None = brought_told e.outcome (row h) (told_row h e.step d) d a ∙ p in
     let gone : (dot_removed e.outcome (next_dot h) d || told_removed h e.step d) ≡ dot_removed e.outcome (next_dot h) d = ap (λ b. dot_removed e.outcome (next_dot h) d || b) q ∙ no_more (dot_removed e.outcome (next_dot h) d) in
-    let come : first_some (row_added e.step e.outcome d) (told_row h e.step d) ≡ row_added e.step e.outcome d = ap (first_some (row_added e.step e.outcome d)) p ∙ first_none (row_added e.step e.outcome d) in
+    let come : first_some (row_added e.step e.outcome d) (row_brought e.outcome (row h) (told_row h e.step d) d) ≡ row_added e.step e.outcome d = ap (first_some (row_added e.step e.outcome d)) brought ∙ first_none (row_added e.step e.outcome d) in
     λ i. cond (removed h d || gone i) None (first_some (row h d) (come i))
 
 live_from : (h : History) (e : Entry) (d : Dot) → KnowsItsDots h → Kind h e.step e.outcome → cond (removed h d || dot_removed e.outcome (next_dot h) d) None (first_some (row h d) (row_added e.step e.outcome d)) ≡ first_some (row_added e.step e.outcome d) (cond (has_dot (dots_taken e.outcome) d) None (live h d))
@@ -433,19 +542,20 @@ live_from h e d k (Removes y ys o l a q) = rw o (shape_drop (removed h d) (same_
 live_from h e d k (Quiet q) = rw (quiet_row e.step e.outcome d q, quiet_removed e.outcome (next_dot h) d q, quiet_taken e.outcome q) (shape_old (removed h d) false (row h d))
 
 pub live_by : (h : History) (e : Entry) (d : Dot) → KnowsItsDots h → Kind h e.step e.outcome → tells e.step ≡ false → live (Then h e) d ≡ first_some (row_added e.step e.outcome d) (cond (has_dot (dots_taken e.outcome) d) None (live h d))
-live_by h e d k kind t = live_untold h e d (none_told_row h e.step d t) (none_told_removed h e.step d t) ∙ live_from h e d k kind
+live_by h e d k kind t = live_untold h e d (kind_plain h e.step e.outcome kind) (none_told_row h e.step d t) (none_told_removed h e.step d t) ∙ live_from h e d k kind
 
 -- a step of the own replica alone leaves every status
 
-standing_stays : (s : Step) (t : ℕ) (r : Replica) (x : Standing) → is_callers s ≡ true → standing_after s t r x ≡ x
-standing_stays (steps_are.Heard replica now) t r x f = absurd (cc)
-standing_stays (steps_are.Tick now) t r x f = absurd (cc)
-standing_stays (steps_are.PermDown replica) t r x f = absurd (cc)
-standing_stays _ t r x f = refl
+standing_stays : (o : Replica) (s : Step) (t : ℕ) (r : Replica) (x : Standing) → is_callers s ≡ true → standing_after o s t r x ≡ x
+standing_stays o (steps_are.Heard replica now) t r x f = absurd (cc)
+standing_stays o (steps_are.Tick now) t r x f = absurd (cc)
+standing_stays o (steps_are.PermDown replica) t r x f = absurd (cc)
+standing_stays o (steps_are.Rebirth i) t r x f = absurd (cc)
+standing_stays o _ t r x f = refl
 
 pub status_stays : (h : History) (e : Entry) (r : Replica) → is_callers e.step ≡ true → status (Then h e) r ≡ status h r
 unfolding status standing own
-status_stays h e r f = ap (λ x. cond (same_replica r (own h)) status_is.Up (status_of x)) (standing_stays e.step (max (time h) (time_of e.step)) r (standing h r) f)
+status_stays h e r f = λ i. cond (same_replica r (own_same e.step (own h) (callers_plain e.step f) i)) status_is.Up (status_of (standing_stays (own h) e.step (max (time h) (time_of e.step)) r (standing h r) f i))
 
 -- what is shown after an entry that changes no status
 pub shown_then : (h : History) (e : Entry) (d : Dot) → status (Then h e) d.replica ≡ status h d.replica → shown (Then h e) d ≡ cond (is_up (status h d.replica)) (live (Then h e) d) None

@@ -3,8 +3,10 @@ pub mod TextBytes
 pub mod ToldLemmas
 pub mod Lookups
 pub mod PresentLemmas
+pub mod Reborn
 pub mod HistoryLemmas
 pub mod Walking
+pub mod AfterRebirth
 pub mod Diffs
 pub mod Topics
 mod FoldOrder

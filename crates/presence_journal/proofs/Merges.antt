@@ -1,5 +1,6 @@
 -- What is known, live and shown after an entry, a merge among them.
-use Rattle.std.proofs.Common.{◌≡◌, ◌+◌, ◌<◌, ◌≤◌, nat_le, Bool, true, false, cond, ◌&&◌, ◌||◌, [], ◌∷◌, Option, Some, None, refl, sym, ◌∙◌, ap, arith, inl, inr}
+use Rattle.std.proofs.Common.{◌≡◌, ◌+◌, ◌<◌, ◌≤◌, nat_le, Bool, true, false, cond, ◌&&◌, ◌||◌, [], ◌∷◌, Option, Some, None, refl, sym, ◌∙◌, ap, arith, inl, inr, is_some}
+use Rattle.std.specs.Map.{lookup}
 use Rattle.std.specs.Prelude.{◌⊎◌, is_none}
 use Rattle.std.proofs.lemmas.Bool.{and_from, or_left, or_right, or_parts, leb-true, leb-false}
 use Rattle.presence_base.specs.declared.dots.Dot.{Dot}
@@ -9,15 +10,17 @@ use Rattle.orswot_core_told.specs.Telling.{ToldValue, covers, live_row}
 use Rattle.presence_journal_data.specs.declared.step.Step.TheVariants as steps_are
 use Rattle.presence_journal_data.specs.declared.entry.Outcome.TheVariants as outcomes_are
 use Rattle.presence_journal.specs.Steps.{Step, Outcome, Entry, Start}
-use Rattle.presence_journal.specs.History.{History, Begin, Then, own, count, counts_used, status, is_up, hears, told_covers, told_row, told_removed, is_counted, known, next_dot, has_dot, first_some, row_made, row_added, dot_removed, removed, row, live, shown}
+use Rattle.presence_journal.specs.History.{History, Begin, Then, own, reborn, with_prev, row_again, row_brought, count, counts_used, status, is_up, hears, told_covers, told_row, told_removed, is_counted, known, next_dot, has_dot, first_some, row_made, row_added, dot_removed, removed, row, live, shown}
 use Rattle.presence_journal.specs.Present.{dots_added, dots_taken}
-use Rattle.presence_journal.specs.Table.{IsLegal, is_step}
+use Rattle.presence_journal.specs.Table.{IsLegal, own_dots, reborn_from, is_step}
 use Rattle.presence_journal_data.specs.StepLimits.{is_heard}
-use Rattle.presence_journal.specs.Walk.{tells}
+use Rattle.presence_journal.specs.Walk.{tells, is_reborn}
 use Rattle.presence_journal.specs.Merges.{RemovedIsKnown, KnownIsLiveOrRemoved, row_taken_in, MergeIsKnown, MergeIsLive, LiveStays, ShownStays, is_of_rows, OwnStepsAlone}
 use Rattle.presence_journal.proofs.Same.{same_dot-refl}
 use Rattle.presence_journal.proofs.ToldLemmas.{told_other, live_row_covered, rowless_told_removed, untold_row, untold_removed}
-use Rattle.presence_journal.proofs.HistoryLemmas.{Kind, Adds, Replaces, Removes, Quiet, is_quiet, quiet_row, quiet_removed, tells_quiet, kind_of, legal_knows, counted_parts, known_cases, known_from, known_quiet, is_own, count-then, live_by, shown_then, first_none, no_more}
+use Rattle.presence_journal.proofs.HistoryLemmas.{Kind, Adds, Replaces, Removes, Quiet, is_quiet, quiet_row, quiet_removed, tells_quiet, kind_of, legal_knows, counted_parts, known_cases, known_from, known_quiet, is_own, count-then, live_by, shown_then, first_none, no_more, kind_plain, quiet_plain, brought_told, own-then, own_again, count_again, removed_again, row_again-is}
+use Rattle.presence_journal.proofs.PresentLemmas.{shown-row}
+use Rattle.presence_journal.proofs.Reborn.{lookup_among, Found, again_found, IsAgain, again_of, own_dot}
 use Rattle.presence_journal.proofs.Walking.{quiet_uses_none}
 use Rattle.presence_journal.proofs.Fresh.{not_added}
 
@@ -59,9 +62,9 @@ removed_counted h e d legal kind ih none o l m = go (nat_le d.count (count h)) r
     go true p = or_left (removed h d) _ (ih (known_from h legal d o l (leb-true d.count (count h) p)))
     go false p =
         let high = leb-false d.count (count h) p in
-        let last : d.count ≡ count h + 1 = omega (arith, m, high, one_at_most e.outcome, count-then h e) in
+        let last : d.count ≡ count h + 1 = omega (arith, m, high, one_at_most e.outcome, count-then h e (kind_plain h e.step e.outcome kind)) in
         let is : d ≡ next_dot h = λ i. record { replica = o i; count = last i } in
-        let used = next_used h e.step e.outcome kind (omega (arith, m, high, count-then h e)) (ap (row_added e.step e.outcome) (sym is) ∙ none) in
+        let used = next_used h e.step e.outcome kind (omega (arith, m, high, count-then h e (kind_plain h e.step e.outcome kind))) (ap (row_added e.step e.outcome) (sym is) ∙ none) in
         or_right (removed h d) _ (or_left (dot_removed e.outcome (next_dot h) d) (told_removed h e.step d) (ap (dot_removed e.outcome (next_dot h)) is ∙ used))
 
 none_first : (o p q : Option Row) → first_some o (first_some p q) ≡ None → (o ≡ None) × (p ≡ None) × (q ≡ None)
@@ -74,16 +77,44 @@ known_start : (s : Start) (d : Dot) → known (Begin s) d ≡ true → covers s.
 unfolding known
 known_start s d k = k
 
+-- each of the new replica's dots that is counted has a row
+again_rows : (h : History) (e : Entry) (d : Dot) (w : IsAgain h e.step e.outcome) → is_counted (own (Then h e)) (count (Then h e)) d ≡ true → row_brought e.outcome (row h) (told_row h e.step d) d ≡ None → ⊥
+again_rows h e d w c f = go (again_found (reborn (own h) w.incarnation) 0 (own_dots h) d (p.0 ∙ own_again h e w) p.1 (omega (arith, p.2, count_again h e w)))
+  where
+    p : (d.replica ≡ own (Then h e)) × (0 < d.count) × (d.count ≤ count (Then h e))
+    p = counted_parts (own (Then h e)) (count (Then h e)) d c
+
+    gone : (o : Option Row) (old : Dot) (r : Row) → o ≡ Some r → with_prev old o ≡ None → ⊥
+    gone None old r is g = absurd (cc)
+    gone (Some x) old r is g = absurd (cc)
+
+    go : Found (own_dots h) (lookup (same_dot d) (reborn_from (reborn (own h) w.incarnation) 0 (own_dots h))) → ⊥
+    go x =
+        let g = own_dot h x.old x.among in
+        gone (row h x.old) x.old g.row (shown-row h x.old g.row g.shown).0 (sym (ap (row_again (row h)) x.is) ∙ (sym (ap (λ o. row_brought o (row h) (told_row h e.step d) d) w.outcome) ∙ f))
+
 -- a known dot that never had a row was removed
 rowless_removed : (h : History) → IsLegal h → (d : Dot) → known h d ≡ true → row h d ≡ None → removed h d ≡ true
 unfolding removed row
 rowless_removed (Begin s) legal d k f = and_from (covers s.content d) (is_none (live_row s.content d)) (known_start s d k) (ap is_none f)
-rowless_removed (Then h e) legal d k f = go (none_first (row h d) (row_added e.step e.outcome d) (told_row h e.step d) f) (rowless_removed h legal.0 d) (known_cases h e d k)
+rowless_removed (Then h e) legal d k f = either (is_reborn e.step) refl (rowless_removed h legal.0 d)
   where
-    go : (row h d ≡ None) × (row_added e.step e.outcome d ≡ None) × (told_row h e.step d ≡ None) → (known h d ≡ true → row h d ≡ None → removed h d ≡ true) → (known h d ≡ true) ⊎ ((is_counted (own h) (count (Then h e)) d ≡ true) ⊎ (told_covers h e.step d ≡ true)) → removed_now h e d ≡ true
-    go none ih (inl x) = or_left (removed h d) _ (ih x none.0)
-    go none ih (inr (inl x)) = let c = counted_parts (own h) (count (Then h e)) d x in removed_counted h e d legal.0 (kind_of h e.step e.outcome legal.1) (λ y. ih y none.0) none.1 c.0 c.1 c.2
-    go none ih (inr (inr x)) = removed_told h e d none.2 x
+    none : (row h d ≡ None) × (row_added e.step e.outcome d ≡ None) × (row_brought e.outcome (row h) (told_row h e.step d) d ≡ None)
+    none = none_first (row h d) (row_added e.step e.outcome d) (row_brought e.outcome (row h) (told_row h e.step d) d) f
+
+    go : is_reborn e.step ≡ false → Kind h e.step e.outcome → (known h d ≡ true → row h d ≡ None → removed h d ≡ true) → (known h d ≡ true) ⊎ ((is_counted (own (Then h e)) (count (Then h e)) d ≡ true) ⊎ (told_covers h e.step d ≡ true)) → removed_now h e d ≡ true
+    go n kind ih (inl x) = or_left (removed h d) _ (ih x none.0)
+    go n kind ih (inr (inl x)) = let c = counted_parts (own (Then h e)) (count (Then h e)) d x in removed_counted h e d legal.0 kind (λ y. ih y none.0) none.1 (c.0 ∙ own-then h e n) c.1 c.2
+    go n kind ih (inr (inr x)) = removed_told h e d (sym (brought_told e.outcome (row h) (told_row h e.step d) d (kind_plain h e.step e.outcome kind)) ∙ none.2) x
+
+    again : (w : IsAgain h e.step e.outcome) → (known h d ≡ true → row h d ≡ None → removed h d ≡ true) → (known h d ≡ true) ⊎ ((is_counted (own (Then h e)) (count (Then h e)) d ≡ true) ⊎ (told_covers h e.step d ≡ true)) → removed_now h e d ≡ true
+    again w ih (inl x) = or_left (removed h d) _ (ih x none.0)
+    again w ih (inr (inl x)) = absurd (again_rows h e d w x none.2)
+    again w ih (inr (inr x)) = let g : false ≡ true = sym (ap (λ s. told_covers h s d) w.step) ∙ x in absurd (cc)
+
+    either : (b : Bool) → is_reborn e.step ≡ b → (known h d ≡ true → row h d ≡ None → removed h d ≡ true) → removed_now h e d ≡ true
+    either false n ih = go n (kind_of h e.step e.outcome n legal.1) ih (known_cases h e d k)
+    either true n ih = again (again_of h e.step e.outcome n legal.1) ih (known_cases h e d k)
 
 pub known_is_live_or_removed : KnownIsLiveOrRemoved
 unfolding live
@@ -99,17 +130,17 @@ told_merge : (h : History) (e : Entry) (t : ToldValue) → e.step ≡ steps_are.
 told_merge h e t m = ap tells m
 
 quiet_merge : (h : History) (e : Entry) (t : ToldValue) → IsLegal (Then h e) → e.step ≡ steps_are.Merge t → is_quiet e.outcome ≡ true
-quiet_merge h e t l m = tells_quiet h e.step e.outcome (kind_of h e.step e.outcome l.1) (told_merge h e t m)
+quiet_merge h e t l m = tells_quiet h e.step e.outcome (kind_of h e.step e.outcome (ap is_reborn m) l.1) (told_merge h e t m)
 
 pub merge_is_known : MergeIsKnown
 merge_is_known h e l t m d =
-    known_quiet h e d l.0 (quiet_uses_none e.outcome (quiet_merge h e t l m))
+    known_quiet h e d l.0 (ap is_reborn m) (quiet_plain e.outcome (quiet_merge h e t l m)) (quiet_uses_none e.outcome (quiet_merge h e t l m))
     ∙ ap (λ s. known h d || told_covers h s d) m
 
 -- what is live after an entry that changes no own row
 live_quiet : (h : History) (e : Entry) (d : Dot) → is_quiet e.outcome ≡ true → live (Then h e) d ≡ cond (removed h d || told_removed h e.step d) None (first_some (row h d) (told_row h e.step d))
 unfolding live removed row
-live_quiet h e d q = λ i. cond (removed h d || (quiet_removed e.outcome (next_dot h) d q i || told_removed h e.step d)) None (first_some (row h d) (first_some (quiet_row e.step e.outcome d q i) (told_row h e.step d)))
+live_quiet h e d q = λ i. cond (removed h d || (quiet_removed e.outcome (next_dot h) d q i || told_removed h e.step d)) None (first_some (row h d) (first_some (quiet_row e.step e.outcome d q i) (brought_told e.outcome (row h) (told_row h e.step d) d (quiet_plain e.outcome q) i)))
 
 pub merge_is_live : MergeIsLive
 unfolding live
@@ -148,21 +179,34 @@ live_same : (h : History) (e : Entry) (d : Dot) → is_quiet e.outcome ≡ true 
 unfolding live
 live_same h e d q x y = live_quiet h e d q ∙ ((λ i. cond (removed h d || y i) None (first_some (row h d) (x i))) ∙ shape_same (removed h d) (row h d))
 
-pub live_stays : LiveStays
-live_stays h e l d n = go (tells e.step) refl
+-- a rebirth leaves what is live but for the dots that it adds
+live_again : (h : History) (e : Entry) (d : Dot) (w : IsAgain h e.step e.outcome) → has_dot (dots_added e.outcome) d ≡ false → live (Then h e) d ≡ live h d
+unfolding live
+live_again h e d w a =
+    (λ i. cond (removed_again h e d w i) None (row_again-is h e d w i))
+    ∙ (ap (λ o. cond (removed h d) None (first_some (row h d) (row_again (row h) o))) (none_of (lookup (same_dot d) (reborn_from (reborn (own h) w.incarnation) 0 (own_dots h))) (lookup_among (reborn_from (reborn (own h) w.incarnation) 0 (own_dots h)) d ∙ (sym (ap (λ o. has_dot (dots_added o) d) w.outcome) ∙ a)))
+    ∙ ap (λ o. cond (removed h d) None o) (first_none (row h d)))
   where
-    kind : Kind h e.step e.outcome
-    kind = kind_of h e.step e.outcome l.1
+    none_of : (o : Option Dot) → is_some o ≡ false → o ≡ None
+    none_of None f = refl
+    none_of (Some x) f = absurd (cc)
 
+pub live_stays : LiveStays
+live_stays h e l d n = either (is_reborn e.step) refl
+  where
     a : (has_dot (dots_added e.outcome) d ≡ false) × ((has_dot (dots_taken e.outcome) d || told_covers h e.step d) ≡ false)
     a = or_parts (has_dot (dots_added e.outcome) d) (has_dot (dots_taken e.outcome) d || told_covers h e.step d) n
 
     b : (has_dot (dots_taken e.outcome) d ≡ false) × (told_covers h e.step d ≡ false)
     b = or_parts (has_dot (dots_taken e.outcome) d) (told_covers h e.step d) a.1
 
-    go : (x : Bool) → tells e.step ≡ x → live (Then h e) d ≡ live h d
-    go false f = live_by h e d (legal_knows h l.0) kind f ∙ (λ i. first_some (not_added e.step e.outcome d a.0 i) (cond (b.0 i) None (live h d)))
-    go true f = live_same h e d (tells_quiet h e.step e.outcome kind f) (untold_row h e.step d l.4 b.1) (untold_removed h e.step d b.1)
+    go : Kind h e.step e.outcome → (x : Bool) → tells e.step ≡ x → live (Then h e) d ≡ live h d
+    go kind false f = live_by h e d (legal_knows h l.0) kind f ∙ (λ i. first_some (not_added e.step e.outcome d a.0 i) (cond (b.0 i) None (live h d)))
+    go kind true f = live_same h e d (tells_quiet h e.step e.outcome kind f) (untold_row h e.step d l.4 b.1) (untold_removed h e.step d b.1)
+
+    either : (c : Bool) → is_reborn e.step ≡ c → live (Then h e) d ≡ live h d
+    either false f = go (kind_of h e.step e.outcome f l.1) (tells e.step) refl
+    either true f = live_again h e d (again_of h e.step e.outcome f l.1) a.0
 
 pub shown_stays : ShownStays
 unfolding shown
@@ -182,7 +226,7 @@ quiet_step h s o (Removes y ys p l a q) f = let g : true ≡ false = sym q ∙ f
 quiet_step h s o (Quiet q) f = q
 
 count_quiet : (h : History) (e : Entry) → is_quiet e.outcome ≡ true → count (Then h e) ≡ count h
-count_quiet h e q = count-then h e ∙ omega (arith, quiet_uses_none e.outcome q)
+count_quiet h e q = count-then h e (quiet_plain e.outcome q) ∙ omega (arith, quiet_uses_none e.outcome q)
 
 own_untold : (h : History) (s : Step) (d : Dot) → d.replica ≡ own h → told_covers h s d ≡ false
 own_untold h s d o = go (told_covers h s d) refl
@@ -191,8 +235,8 @@ own_untold h s d o = go (told_covers h s d) refl
     go false e = refl
     go true e = let f : true ≡ false = sym (is_own h d o) ∙ told_other h s d e in absurd (cc)
 
-same_known : (h : History) (e : Entry) (d : Dot) → IsLegal h → is_quiet e.outcome ≡ true → told_covers h e.step d ≡ false → known (Then h e) d ≡ known h d
-same_known h e d l q f = known_quiet h e d l (quiet_uses_none e.outcome q) ∙ (ap (λ b. known h d || b) f ∙ no_more (known h d))
+same_known : (h : History) (e : Entry) (d : Dot) → IsLegal h → is_reborn e.step ≡ false → is_quiet e.outcome ≡ true → told_covers h e.step d ≡ false → known (Then h e) d ≡ known h d
+same_known h e d l n q f = known_quiet h e d l n (quiet_plain e.outcome q) (quiet_uses_none e.outcome q) ∙ (ap (λ b. known h d || b) f ∙ no_more (known h d))
 
 same_removed : (h : History) (e : Entry) (d : Dot) → is_quiet e.outcome ≡ true → told_removed h e.step d ≡ false → removed (Then h e) d ≡ removed h d
 unfolding removed
@@ -200,7 +244,11 @@ same_removed h e d q f = (λ i. removed h d || (quiet_removed e.outcome (next_do
 
 same_row : (h : History) (e : Entry) (d : Dot) → is_quiet e.outcome ≡ true → told_row h e.step d ≡ None → row (Then h e) d ≡ row h d
 unfolding row
-same_row h e d q f = (λ i. first_some (row h d) (first_some (quiet_row e.step e.outcome d q i) (f i))) ∙ first_none (row h d)
+same_row h e d q f = (λ i. first_some (row h d) (first_some (quiet_row e.step e.outcome d q i) ((brought_told e.outcome (row h) (told_row h e.step d) d (quiet_plain e.outcome q) ∙ f) i))) ∙ first_none (row h d)
+
+rows_plain : (s : Step) → is_of_rows s ≡ false → is_reborn s ≡ false
+rows_plain (steps_are.Rebirth i) f = absurd (cc)
+rows_plain _ f = refl
 
 pub own_steps_alone : OwnStepsAlone
 own_steps_alone h e l f = (
@@ -210,7 +258,7 @@ own_steps_alone h e l f = (
       let rowless = untold_row h e.step d l.4 none in
       let stands = untold_removed h e.step d none in
       record {
-        known = same_known h e d l.0 quiet none;
+        known = same_known h e d l.0 (rows_plain e.step f) quiet none;
         removed = same_removed h e d quiet stands;
         row = same_row h e d quiet rowless;
         live = live_same h e d quiet rowless stands;
@@ -218,4 +266,4 @@ own_steps_alone h e l f = (
 )
   where
     quiet : is_quiet e.outcome ≡ true
-    quiet = quiet_step h e.step e.outcome (kind_of h e.step e.outcome l.1) f
+    quiet = quiet_step h e.step e.outcome (kind_of h e.step e.outcome (rows_plain e.step f) l.1) f

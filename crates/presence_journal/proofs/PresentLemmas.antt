@@ -13,7 +13,7 @@ use Rattle.presence_journal_data.specs.declared.step.Step.TheVariants as steps_a
 use Rattle.presence_journal_data.specs.declared.entry.Outcome.TheVariants as outcomes_are
 use Rattle.presence_journal_data.specs.declared.rows.Place.{Place}
 use Rattle.presence_journal.specs.Steps.{Step, Outcome, Entry}
-use Rattle.presence_journal.specs.History.{History, Begin, Then, own, is_up, status, first_some, has_dot, row_added, row_made, hears, told_row, removed, row, live, shown}
+use Rattle.presence_journal.specs.History.{History, Begin, Then, own, is_up, status, first_some, has_dot, row_added, row_made, row_again, row_brought, hears, told_row, removed, row, live, shown}
 use Rattle.presence_journal.specs.Present.{of_topic, dots_added, dots_told, dots, present, in_order, listed}
 use Rattle.presence_journal.specs.Table.{is_mine, has_key, rows_of_pid, rows_of_key}
 use Rattle.presence_journal.specs.Walk.{keyed, shown_of, IsTableOf}
@@ -33,7 +33,7 @@ shown-row h d r e = go (is_up (status h d.replica)) (removed h d) e
 -- the first row of a dot stays
 pub row-stays : (h : History) (e : Entry) (d : Dot) (r : Row) → row h d ≡ Some r → row (Then h e) d ≡ Some r
 unfolding row
-row-stays h e d r f = ap (λ o. first_some o (first_some (row_added e.step e.outcome d) (told_row h e.step d))) f
+row-stays h e d r f = ap (λ o. first_some o (first_some (row_added e.step e.outcome d) (row_brought e.outcome (row h) (told_row h e.step d) d))) f
 
 has_dot-append : (xs ys : List Dot) (d : Dot) → has_dot (xs ++ ys) d ≡ (has_dot xs d || has_dot ys d)
 has_dot-append [] ys d = refl
@@ -52,7 +52,7 @@ added_here s (outcomes_are.Added new) d r e = when_here (same_dot d new) (row_ma
 added_here s (outcomes_are.Replaced new old) d r e = when_here (same_dot d new) (row_made s (Some old)) r e
 added_here s _ d r e = cc
 
-told_here : (xs : List (Dot × Row)) (d : Dot) (r : Row) → lookup (same_dot d) xs ≡ Some r → has_dot (each (λ x. x.0) xs) d ≡ true
+told_here : {A : Type 0} (xs : List (Dot × A)) (d : Dot) (r : A) → lookup (same_dot d) xs ≡ Some r → has_dot (each (λ x. x.0) xs) d ≡ true
 told_here [] d r e = absurd (cc)
 told_here (x ∷ xs) d r e = go (same_dot d x.0) e (told_here xs d r)
   where
@@ -68,6 +68,19 @@ told_in_dots h (steps_are.Merge t) d r e = go (hears h d.replica) e
     go false f = absurd (cc)
 told_in_dots h _ d r e = absurd (cc)
 
+-- and so is the dot that a row is brought under, among those that are added or told
+brought_here : (h : History) (s : Step) (o : Outcome) (d : Dot) (r : Row) → row_brought o (row h) (told_row h s d) d ≡ Some r → (has_dot (dots_added o) d || has_dot (dots_told s) d) ≡ true
+brought_here h s (outcomes_are.Reborn ps) d r e = or_left (has_dot (dots_added (outcomes_are.Reborn ps)) d) (has_dot (dots_told s) d) (go (lookup (same_dot d) ps) refl e)
+  where
+    go : (o : Option Dot) → lookup (same_dot d) ps ≡ o → row_again (row h) o ≡ Some r → has_dot (each (λ x. x.0) ps) d ≡ true
+    go None p f = absurd (cc)
+    go (Some old) p f = told_here ps d old p
+brought_here h s o d r e = or_right (has_dot (dots_added o) d) (has_dot (dots_told s) d) (told_in_dots h s d r e)
+
+either_here : (a b c : Bool) → (a || b) ≡ true → (a || (b || c)) ≡ true
+either_here true b c e = refl
+either_here false b c e = or_left b c e
+
 -- every dot with a row is among the dots that were added or told
 pub row_in_dots : (h : History) (d : Dot) (r : Row) → row h d ≡ Some r → has_dot (dots h) d ≡ true
 unfolding row dots
@@ -77,10 +90,10 @@ row_in_dots (Then h e) d r f =
     ∙ (ap (λ b. has_dot (dots_added e.outcome) d || b) (has_dot-append (dots_told e.step) (dots h) d)
     ∙ go (row h d) (row_added e.step e.outcome d) refl refl f (row_in_dots h d))
   where
-    go : (o p : Option Row) → row h d ≡ o → row_added e.step e.outcome d ≡ p → first_some o (first_some p (told_row h e.step d)) ≡ Some r → ((q : Row) → row h d ≡ Some q → has_dot (dots h) d ≡ true) → (has_dot (dots_added e.outcome) d || (has_dot (dots_told e.step) d || has_dot (dots h) d)) ≡ true
+    go : (o p : Option Row) → row h d ≡ o → row_added e.step e.outcome d ≡ p → first_some o (first_some p (row_brought e.outcome (row h) (told_row h e.step d) d)) ≡ Some r → ((q : Row) → row h d ≡ Some q → has_dot (dots h) d ≡ true) → (has_dot (dots_added e.outcome) d || (has_dot (dots_told e.step) d || has_dot (dots h) d)) ≡ true
     go (Some q) p is added g ih = or_right (has_dot (dots_added e.outcome) d) _ (or_right (has_dot (dots_told e.step) d) (has_dot (dots h) d) (ih q is))
     go None (Some q) is added g ih = or_left (has_dot (dots_added e.outcome) d) _ (added_here e.step e.outcome d q added)
-    go None None is added g ih = or_right (has_dot (dots_added e.outcome) d) _ (or_left (has_dot (dots_told e.step) d) (has_dot (dots h) d) (told_in_dots h e.step d r g))
+    go None None is added g ih = either_here (has_dot (dots_added e.outcome) d) (has_dot (dots_told e.step) d) (has_dot (dots h) d) (brought_here h e.step e.outcome d r g)
 
 -- what is present at a place: the shown row of its dot, where it is of the topic and the key
 pub get-present : (h : History) (t : List ℕ) → IsTableOf (shown_of h t) (present h t)

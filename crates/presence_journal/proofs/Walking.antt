@@ -5,13 +5,16 @@ use Rattle.presence_base.specs.declared.row.Row.{Row}
 use Rattle.presence_base.specs.Order.{same_text}
 use Rattle.presence_journal_data.specs.declared.entry.Outcome.TheVariants as outcomes_are
 use Rattle.presence_journal.specs.Steps.{Step, Outcome, Entry, Start}
-use Rattle.presence_journal.specs.History.{History, Begin, Then, onto, count, counts_used, first_some, has_dot, row_added, shown}
+use Rattle.presence_journal.specs.History.{History, Begin, Then, onto, count, counts_used, first_some, has_dot, row_added, shown, own, own_after, count_after}
+use Rattle.presence_base.specs.declared.dots.Replica.{Replica}
 use Rattle.presence_journal.specs.Present.{of_topic}
 use Rattle.presence_journal.specs.Walk.{joined, rows_after, shown_of}
 use Rattle.presence_journal.specs.Laws.{is_callers}
 use Rattle.presence_journal.specs.Present.{dots_taken}
 use Rattle.presence_journal.specs.Table.{after, IsLegal}
-use Rattle.presence_journal.proofs.HistoryLemmas.{legal_before, Kind, Adds, Replaces, Removes, Quiet, is_quiet, kind_of, legal_knows, count-then, shown_by, added_fresh}
+use Rattle.presence_journal.proofs.HistoryLemmas.{legal_before, Kind, Adds, Replaces, Removes, Quiet, is_quiet, kind_of, kind_plain, callers_plain, legal_knows, again_most, count-then, shown_by, added_fresh}
+use Rattle.presence_journal.specs.Walk.{is_reborn}
+use Rattle.presence_journal.proofs.Reborn.{again_of}
 
 -- after i entries of `whole`, P holds of the history that they make
 pub record Reached (whole : History) (es : List Entry) (i : ℕ) (P : History → Type 0) : Type 0 where
@@ -34,8 +37,22 @@ reached_on whole es i e P Q l lt is step r =
 pub reached_more : (whole : History) (es : List Entry) (i : ℕ) (e : Entry) (P Q : History → Type 0) → IsLegal whole → i < length es → e ≡ get_or es i e → ((h : History) → IsLegal (Then h e) → P h → Q (Then h e)) → Reached whole es i P → Reached whole es (i + 1) Q
 reached_more whole es i e P Q l lt is step r = reached_on whole es i e P Q l lt is (λ h k on p. step h k p) r
 
+-- the same where it needs no legality
+pub reached_plain : (whole : History) (es : List Entry) (i : ℕ) (e : Entry) (P Q : History → Type 0) → i < length es → e ≡ get_or es i e → ((h : History) → P h → Q (Then h e)) → Reached whole es i P → Reached whole es (i + 1) Q
+reached_plain whole es i e P Q lt is step r = record { front = Then r.front e; rest = ap (onto r.front) (sym (drop_next es i e lt is)) ∙ r.rest; here = step r.front r.here }
+
 pub reached_all : (whole : History) (es : List Entry) (i : ℕ) (P : History → Type 0) → length es ≤ i → Reached whole es i P → P whole
 reached_all whole es i P l r = subst P (ap (onto r.front) (sym (drop_of_length-le es l)) ∙ r.rest) r.here
+
+-- the own replica
+
+pub own_begin : (s : Start) → s.own ≡ own (Begin s)
+unfolding own
+own_begin s = refl
+
+pub own_more : (r : Replica) (h : History) (e : Entry) → r ≡ own h → own_after e.step r ≡ own (Then h e)
+unfolding own
+own_more r h e is = ap (own_after e.step) is
 
 -- counting
 
@@ -55,10 +72,19 @@ used_when_counted h s o (Replaces r old m p l w) k = omega (arith, ap counts_use
 used_when_counted h s o (Removes y ys p l a q) k = omega (arith, ap counts_used p)
 used_when_counted h s o (Quiet q) k = omega (arith, quiet_uses_none o q)
 
-pub count-limit : (h : History) → IsLegal h → count h ≤ 2 ^ 62
+first_count : (s : Start) → IsLegal (Begin s) → count (Begin s) ≤ 2 ^ 62
 unfolding count
-count-limit (Begin s) l = l.count
-count-limit (Then h e) l = used_when_counted h e.step e.outcome (kind_of h e.step e.outcome l.1) (count-limit h l.0)
+first_count s l = l.count
+
+pub count-limit : (h : History) → IsLegal h → count h ≤ 2 ^ 62
+count-limit (Begin s) l = first_count s l
+count-limit (Then h e) l = go (is_reborn e.step) refl (count-limit h l.0)
+  where
+    go : (b : Bool) → is_reborn e.step ≡ b → count h ≤ 2 ^ 62 → count (Then h e) ≤ 2 ^ 62
+    go false f ih =
+        let kind = kind_of h e.step e.outcome f l.1 in
+        omega (arith, used_when_counted h e.step e.outcome kind ih, count-then h e (kind_plain h e.step e.outcome kind))
+    go true f ih = omega (arith, ih, again_most h e (legal_knows h l.0) (again_of h e.step e.outcome f l.1))
 
 -- the rows of a topic
 
@@ -80,7 +106,7 @@ topic_first t (Some r) p c f = rw (f r refl) (go (same_text r.topic t) c)
 pub shows_more : (f g : Dot → Option Row) (t : List ℕ) (h : History) (e : Entry) → IsLegal (Then h e) → is_callers e.step ≡ true → ((d : Dot) → g d ≡ rows_after e t f d) → ShowsAlike f t h → ShowsAlike g t (Then h e)
 shows_more f g t h e l c after before d =
     let knows = legal_knows h l.0 in
-    let kind = kind_of h e.step e.outcome l.1 in
+    let kind = kind_of h e.step e.outcome (callers_plain e.step c) l.1 in
     after d
     ∙ (ap (λ o. first_some (joined e t d) (cond (has_dot (dots_taken e.outcome) d) None o)) (before d)
     ∙ (sym (topic_first t (row_added e.step e.outcome d) (shown h d) (has_dot (dots_taken e.outcome) d) (λ r. added_fresh h e d r knows kind))
@@ -90,7 +116,11 @@ pub counted_start : (s : Start) → IsLegal (Begin s) → IsCounted s.count (Beg
 unfolding count
 counted_start s l = (refl, l.count)
 
-pub counted_more : (n : ℕ) (h : History) (e : Entry) → IsLegal (Then h e) → IsCounted n h → IsCounted (n + counts_used e.outcome) (Then h e)
+counted_next : (n : ℕ) (h : History) (e : Entry) → n ≡ count h → count_after e.outcome n ≡ count (Then h e)
+unfolding count
+counted_next n h e c = ap (count_after e.outcome) c
+
+pub counted_more : (n : ℕ) (h : History) (e : Entry) → IsLegal (Then h e) → IsCounted n h → IsCounted (count_after e.outcome n) (Then h e)
 counted_more n h e l c =
-    let is : n + counts_used e.outcome ≡ count (Then h e) = ap (λ m. m + counts_used e.outcome) c.0 ∙ sym (count-then h e) in
+    let is : count_after e.outcome n ≡ count (Then h e) = counted_next n h e c.0 in
     (is, omega (arith, is, count-limit (Then h e) l))

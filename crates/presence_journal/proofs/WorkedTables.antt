@@ -154,6 +154,7 @@ outcome_now h (steps_are.Tick now) = outcome_of h (steps_are.Tick now)
 outcome_now h (steps_are.PermDown replica) = outcome_of h (steps_are.PermDown replica)
 outcome_now h steps_are.Cut = outcome_of h steps_are.Cut
 outcome_now h (steps_are.Merge told) = outcome_of h (steps_are.Merge told)
+outcome_now h (steps_are.Rebirth i) = outcome_of h (steps_are.Rebirth i)
 
 outcome_is : (h : History) (s : Step) → outcome_of h s ≡ outcome_now h s
 unfolding outcome_of

@@ -1,6 +1,7 @@
 -- What a history says of each dot and replica. Every function goes over the entries, the newest outermost.
-use Rattle.std.specs.Prelude.{ℕ, ◌+◌, ◌^◌, max, Bool, true, false, cond, not, ◌≡◌, ◌≤◌, ◌&&◌, ◌||◌, nat_lt, nat_le, List, [], ◌∷◌, Option, Some, None}
+use Rattle.std.specs.Prelude.{ℕ, ◌+◌, ◌^◌, max, Bool, true, false, cond, not, ◌≡◌, ◌≤◌, ◌&&◌, ◌||◌, nat_lt, nat_le, List, [], ◌∷◌, length, Option, Some, None}
 use Rattle.std.specs.List.{list_any}
+use Rattle.std.specs.Map.{lookup}
 use Rattle.replica_status.specs.declared.standing.Standing.{Standing}
 use Rattle.replica_status.specs.declared.status.Status.{Status}
 use Rattle.replica_status.specs.declared.status.Status.TheVariants as status_is
@@ -60,9 +61,17 @@ newest_first (Begin s) = []
 newest_first (Then h e) = e ∷ newest_first h
 
 -- the replica that counts here
+abbrev pub reborn : Replica → ℕ → Replica
+reborn r i = record { name = r.name; incarnation = i }
+
+-- a rebirth gives the replica another incarnation
+abbrev pub own_after : Step → Replica → Replica
+own_after (steps_are.Rebirth incarnation) r = reborn r incarnation
+own_after _ r = r
+
 unfoldable pub own : History → Replica
 own (Begin s) = s.own
-own (Then h e) = own h
+own (Then h e) = own_after e.step (own h)
 
 -- how many counts an outcome uses: each row that is added or replaced, and each removal, has its own
 abbrev pub counts_used : Outcome → ℕ
@@ -71,9 +80,14 @@ counts_used (outcomes_are.Replaced d old) = 1
 counts_used (outcomes_are.Removed (d ∷ ds)) = 1
 counts_used _ = 0
 
+-- a rebirth counts its rows from 1
+abbrev pub count_after : Outcome → ℕ → ℕ
+count_after (outcomes_are.Reborn pairs) n = length pairs
+count_after o n = n + counts_used o
+
 unfoldable pub count : History → ℕ
 count (Begin s) = s.count
-count (Then h e) = count h + counts_used e.outcome
+count (Then h e) = count_after e.outcome (count h)
 
 unfoldable pub last_number : History → ℕ
 last_number (Begin s) = s.number
@@ -99,17 +113,18 @@ unfoldable pub time : History → ℕ
 time (Begin s) = s.time
 time (Then h e) = max (time h) (time_of e.step)
 
--- what a step at a time makes of the standing of a replica
-abbrev pub standing_after : Step → ℕ → Replica → Standing → Standing
-standing_after (steps_are.Heard replica now) t r x = cond (same_replica r replica) (heard_at t x) x
-standing_after (steps_are.Tick now) t r x = ticked_at t x
-standing_after (steps_are.PermDown replica) t r x = cond (same_replica r replica) (put_down x) x
-standing_after _ t r x = x
+-- what a step at a time makes of the standing of a replica; a rebirth puts down the one that was the own one
+abbrev pub standing_after : Replica → Step → ℕ → Replica → Standing → Standing
+standing_after o (steps_are.Heard replica now) t r x = cond (same_replica r replica) (heard_at t x) x
+standing_after o (steps_are.Tick now) t r x = ticked_at t x
+standing_after o (steps_are.PermDown replica) t r x = cond (same_replica r replica) (put_down x) x
+standing_after o (steps_are.Rebirth incarnation) t r x = cond (same_replica r o) (put_down x) x
+standing_after o _ t r x = x
 
 -- the standing of another replica
 unfoldable pub standing : History → Replica → Standing
 standing (Begin s) r = standing_in s.standings r
-standing (Then h e) r = standing_after e.step (max (time h) (time_of e.step)) r (standing h r)
+standing (Then h e) r = standing_after (own h) e.step (max (time h) (time_of e.step)) r (standing h r)
 
 -- the own replica is up
 unfoldable pub status : History → Replica → Status
@@ -144,6 +159,7 @@ told_removed h _ d = false
 -- the count up to which the last cut told
 abbrev pub cut_after : Outcome → ℕ → ℕ
 cut_after (outcomes_are.CutAt from to) n = to
+cut_after (outcomes_are.Reborn pairs) n = 0
 cut_after _ n = n
 
 unfoldable pub last_cut : History → ℕ
@@ -166,6 +182,21 @@ known (Then h e) d = known h d || (is_counted (own (Then h e)) (count (Then h e)
 -- of a replica that is gone only its name is kept
 abbrev pub covered : History → Dot → Bool
 covered h d = known h d && not (is_gone (status h d.replica))
+
+-- a told value covers a dot of the replica
+abbrev pub tells_of : Replica → ToldValue → Bool
+tells_of r t = list_any (λ g. same_replica r g.0 && nat_lt g.1 g.2) t.ranges
+    || list_any (λ d. same_replica r d.replica) t.extras
+
+abbrev pub told_of : History → Step → Replica → Bool
+told_of h (steps_are.Merge t) r = hears h r && tells_of r t
+told_of h _ r = false
+
+-- some dot of the replica is known
+unfoldable pub has_dots : History → Replica → Bool
+has_dots (Begin s) r = tells_of r s.content
+has_dots (Then h e) r = has_dots h r
+    || ((same_replica r (own (Then h e)) && nat_lt 0 (count (Then h e))) || told_of h e.step r)
 
 -- all counts of the replica up to this one are covered, and the next one is not
 pub record IsTop (h : History) (r : Replica) (n : ℕ) : Type 0 where
@@ -200,10 +231,25 @@ unfoldable pub removed : History → Dot → Bool
 removed (Begin s) d = tells_removed s.content d
 removed (Then h e) d = removed h d || (dot_removed e.outcome (next_dot h) d || told_removed h e.step d)
 
+-- the row with the dot that it stood under before
+abbrev pub with_prev : Dot → Option Row → Option Row
+with_prev old None = None
+with_prev old (Some r) = Some (record { topic = r.topic; key = r.key; pid = r.pid; meta = r.meta; prev = Some old })
+
+abbrev pub row_again : (Dot → Option Row) → Option Dot → Option Row
+row_again rows None = None
+row_again rows (Some old) = with_prev old (rows old)
+
+-- the row that is told of another replica; in a rebirth the own row that goes on under the dot
+abbrev pub row_brought : Outcome → (Dot → Option Row) → Option Row → Dot → Option Row
+row_brought (outcomes_are.Reborn pairs) rows told d = row_again rows (lookup (same_dot d) pairs)
+row_brought _ rows told d = told
+
 -- the row in the first entry that adds the dot, the live rows of a Start among them
 unfoldable pub row : History → Dot → Option Row
 row (Begin s) d = live_row s.content d
-row (Then h e) d = first_some (row h d) (first_some (row_added e.step e.outcome d) (told_row h e.step d))
+row (Then h e) d =
+    first_some (row h d) (first_some (row_added e.step e.outcome d) (row_brought e.outcome (row h) (told_row h e.step d) d))
 
 -- the row, where it is not removed
 unfoldable pub live : History → Dot → Option Row

@@ -1,10 +1,13 @@
 -- The laws of the presence table, which the functions of `laws` state.
-use Rattle.std.specs.Prelude.{◌≡◌, ℕ, zero, suc, ◌<◌, ◌≤◌, Bool, true, false, cond, List, [], ◌∷◌, ◌++◌, length, map as each, reverse, replicate, codes, nat_eq, Option, Some, None}
+use Rattle.std.specs.Prelude.{◌≡◌, ℕ, zero, suc, ◌+◌, ◌<◌, ◌≤◌, Bool, true, false, cond, List, [], ◌∷◌, ◌++◌, length, map as each, reverse, replicate, codes, nat_eq, Option, Some, None}
+use Rattle.std.specs.List.Sorted.{IsStrictlySortedBy}
+use Rattle.std.specs.Map.{lookup}
 use Rattle.std.specs.FinMap as map
 use Rattle.serde_json.specs.Data.{Data, null, string, object, member, no_members}
+use Rattle.presence_base.specs.declared.dots.Replica.{Replica}
 use Rattle.presence_base.specs.declared.dots.Dot.{Dot}
 use Rattle.presence_base.specs.declared.row.Row.{Row}
-use Rattle.presence_base.specs.Order.{same_text}
+use Rattle.presence_base.specs.Order.{dot_cmp, same_text, same_replica, same_dot}
 use Rattle.presence_base.specs.Refs.{ref_of}
 use Rattle.presence_journal_data.specs.declared.step.Step.TheVariants as steps_are
 use Rattle.presence_journal_data.specs.declared.entry.Outcome.TheVariants as outcomes_are
@@ -12,7 +15,7 @@ use Rattle.presence_journal_data.specs.declared.rows.Item.{Item}
 use Rattle.presence_journal_data.specs.declared.rows.Item.TheVariants as items_are
 use Rattle.presence_journal_data.specs.declared.rows.Place.{Place}
 use Rattle.presence_journal.specs.Steps.{Step, Outcome, Entry}
-use Rattle.presence_journal.specs.History.{History, Then, begun, newest_first, known, has_dot, row, shown}
+use Rattle.presence_journal.specs.History.{History, Then, begun, newest_first, own, known, has_dot, row_again, row, shown}
 use Rattle.presence_journal.specs.Present.{RowMap, of_topic, present, listed, changes, dots_added, dots_taken}
 use Rattle.presence_journal.specs.Queue.{Behind, Queued, most_waiting, topic_of, queue, taken, fold, apply_item, diff_of, items_made}
 use Rattle.presence_journal.specs.Limits.{is_within_limits}
@@ -61,6 +64,7 @@ concerns (steps_are.Heard replica now) t = true
 concerns (steps_are.Tick now) t = true
 concerns (steps_are.PermDown replica) t = true
 concerns (steps_are.Merge told) t = true
+concerns (steps_are.Rebirth incarnation) t = true
 concerns _ t = false
 
 -- the step is of the own replica alone: it tells of no other, hears none, and no time passes in it
@@ -69,6 +73,7 @@ is_callers (steps_are.Heard replica now) = false
 is_callers (steps_are.Tick now) = false
 is_callers (steps_are.PermDown replica) = false
 is_callers (steps_are.Merge told) = false
+is_callers (steps_are.Rebirth incarnation) = false
 is_callers _ = true
 
 -- a step leaves the present rows of each topic that it does not concern
@@ -290,3 +295,34 @@ pub record AsWorked : Type 0 where
   pub nothing_waits : queue caught_up 1 ≡ Queued []
   pub just_holds : queue (shouted 256) 1 ≡ Queued (replicate 256 (items_are.Shout null))
   pub falls_behind : queue (shouted 257) 1 ≡ Behind
+
+-- Rebirths.
+
+-- so many dots of a replica, from count n on
+abbrev pub dots_from : Replica → ℕ → ℕ → List Dot
+dots_from r n zero = []
+dots_from r n (suc m) = record { replica = r; count = n } ∷ dots_from r (n + 1) m
+
+abbrev pub new_dots_in : List (Dot × Dot) → List Dot
+new_dots_in pairs = each (λ p. p.0) pairs
+
+abbrev pub old_dots_in : List (Dot × Dot) → List Dot
+old_dots_in pairs = each (λ p. p.1) pairs
+
+-- No row is lost by a rebirth of these pairs of a new and an old dot: each own row that was shown is shown under its new
+-- dot, with the old one as the one before it and all else as it was, and no longer under the old one; and what is shown of
+-- others is as it was. The new dots are counted from 1, in the order of the old ones.
+pub record LosesNoRow (h : History) (e : Entry) (pairs : List (Dot × Dot)) : Type 0 where
+  pub counted : new_dots_in pairs ≡ dots_from (own (Then h e)) 1 (length pairs)
+  pub ordered : IsStrictlySortedBy dot_cmp (old_dots_in pairs)
+  pub all : (d : Dot) (r : Row) → d.replica ≡ own h → shown h d ≡ Some r → has_dot (old_dots_in pairs) d ≡ true
+  pub only : (d : Dot) → has_dot (old_dots_in pairs) d ≡ true → d.replica ≡ own h
+  pub rows : (d : Dot) → same_replica d.replica (own (Then h e)) ≡ true
+      → shown (Then h e) d ≡ row_again (shown h) (lookup (same_dot d) pairs)
+  pub hidden : (d : Dot) → same_replica d.replica (own h) ≡ true → shown (Then h e) d ≡ None
+  pub others : (d : Dot) → same_replica d.replica (own h) ≡ false → same_replica d.replica (own (Then h e)) ≡ false
+      → shown (Then h e) d ≡ shown h d
+
+abbrev pub RebirthLosesNoRow : Type 0
+RebirthLosesNoRow = (h : History) (e : Entry) (pairs : List (Dot × Dot)) → IsLegal (Then h e)
+    → e.outcome ≡ outcomes_are.Reborn pairs → LosesNoRow h e pairs

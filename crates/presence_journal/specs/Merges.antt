@@ -56,6 +56,7 @@ is_of_rows (steps_are.Track pid topic key meta) = true
 is_of_rows (steps_are.Update pid topic key meta) = true
 is_of_rows (steps_are.Untrack pid topic key) = true
 is_of_rows (steps_are.UntrackAll pid topic) = true
+is_of_rows (steps_are.Rebirth incarnation) = true
 is_of_rows _ = false
 
 -- what a history says of an own dot

@@ -42,6 +42,7 @@ dots_added outcomes_are.Sent = []
 dots_added outcomes_are.Noted = []
 dots_added (outcomes_are.CutAt from to) = []
 dots_added outcomes_are.Merged = []
+dots_added (outcomes_are.Reborn pairs) = each (λ p. p.0) pairs
 
 -- the dots that an outcome names as taken out
 abbrev pub dots_taken : Outcome → List Dot

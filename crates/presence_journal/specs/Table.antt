@@ -1,10 +1,13 @@
 -- The sequential presence table: what each step comes to, and the histories that keep to it.
-use Rattle.std.specs.Prelude.{◌≡◌, ◌≤◌, ℕ, ◌+◌, ◌^◌, Bool, true, false, cond, ◌&&◌, nat_eq, nat_lt, nat_le, min, IsTrue, List, [], ◌∷◌, length, filter, map, Option, Some, None}
+use Rattle.std.specs.Prelude.{◌≡◌, ◌≤◌, ℕ, ◌+◌, ◌^◌, Bool, true, false, cond, ◌&&◌, nat_eq, nat_lt, nat_le, min, IsTrue, List, [], ◌∷◌, length, filter, map as each, not, Option, Some, None}
 use Rattle.std.specs.List.{AllByRecursion, list_all}
+use Rattle.presence_base.specs.declared.dots.Replica.{Replica}
 use Rattle.presence_base.specs.declared.dots.Dot.{Dot}
 use Rattle.presence_base.specs.declared.row.Row.{Row}
 use Rattle.presence_base.specs.Names.{is_node_name, is_short_text}
-use Rattle.presence_base.specs.Order.{same_text, same_replica}
+use Rattle.std.specs.FinMap as map
+use Rattle.presence_base.specs.Order.{dot_cmp, same_text, same_replica}
+pub use Rattle.replica_status.specs.Table.{is_unheard}
 use Rattle.presence_base.specs.Refs.{IsCount}
 use Rattle.dot_context_runs.specs.Runs.{AreLong}
 use Rattle.orswot_core_told.specs.Checks.{has_repeat}
@@ -15,8 +18,8 @@ use Rattle.presence_journal_data.specs.declared.step.Step.TheVariants as steps_a
 use Rattle.presence_journal_data.specs.declared.entry.Outcome.TheVariants as outcomes_are
 use Rattle.presence_journal_data.specs.StepLimits.{is_heard, is_within_limits}
 use Rattle.presence_journal.specs.Steps.{Step, Outcome, Entry, Start}
-use Rattle.presence_journal.specs.History.{History, Begin, Then, own, count, is_counted, last_cut, next_dot, last_number, is_full}
-use Rattle.presence_journal.specs.Present.{listed, dots_of}
+use Rattle.presence_journal.specs.History.{History, Begin, Then, own, reborn, count, is_counted, last_cut, next_dot, last_number, is_full, status, shown, has_dots}
+use Rattle.presence_journal.specs.Present.{dots, listed, dots_of}
 use Rattle.presence_journal.specs.Queue.{Waiting, Behind, Queued, queue, topic_of}
 
 -- an own row of this pid
@@ -61,6 +64,41 @@ abbrev pub for_present : Option (List ℕ) → Outcome → Option Outcome
 for_present None o = None
 for_present (Some t) o = Some o
 
+-- Rebirths. The own dots whose rows are shown, in order of dot, and each under the new replica's next count.
+
+abbrev pub own_shown : History → Dot → Option Row
+own_shown h d = cond (same_replica d.replica (own h)) (shown h d) None
+
+abbrev pub DotRows : Type 0
+DotRows = map.FinMap dot_cmp Row
+
+abbrev pub put_row : Dot → Option Row → DotRows → DotRows
+put_row d None m = m
+put_row d (Some r) m = map.insert m d r
+
+abbrev pub put_rows : (Dot → Option Row) → List Dot → DotRows
+put_rows f [] = map.empty
+put_rows f (d ∷ ds) = put_row d (f d) (put_rows f ds)
+
+unfoldable pub own_dots : History → List Dot
+own_dots h = each (λ e. e.0) (map.entries (put_rows (own_shown h) (dots h)))
+
+-- the new dots, each with its old one
+abbrev pub reborn_from : Replica → ℕ → List Dot → List (Dot × Dot)
+reborn_from r n [] = []
+reborn_from r n (d ∷ ds) = (record { replica = r; count = n + 1 }, d) ∷ reborn_from r (n + 1) ds
+
+abbrev pub pairs_for : History → ℕ → List (Dot × Dot)
+pairs_for h i = reborn_from (reborn (own h) i) 0 (own_dots h)
+
+abbrev pub reborn_rows : Bool → Replica → List Dot → Option Outcome
+reborn_rows can r ds = cond can (Some (outcomes_are.Reborn (reborn_from r 0 ds))) None
+
+-- the incarnation is above the own one and at most 2^62, and of the replica nothing was heard or told
+unfoldable pub can_be_reborn : History → ℕ → Bool
+can_be_reborn h i = nat_lt (own h).incarnation i && (nat_le i (2 ^ 62)
+    && (is_unheard (status h (reborn (own h) i)) && not (has_dots h (reborn (own h) i))))
+
 -- What a step comes to where its entry has room, or None where no count is left or no present subscriber has the
 -- number. (A subscriber is found by its slot too: that half is the shard's.)
 unfoldable pub outcome_of : History → Step → Option Outcome
@@ -79,6 +117,8 @@ outcome_of h (steps_are.Tick now) = Some outcomes_are.Noted
 outcome_of h (steps_are.PermDown replica) = Some outcomes_are.Noted
 outcome_of h steps_are.Cut = Some (outcomes_are.CutAt (last_cut h) (count h))
 outcome_of h (steps_are.Merge told) = Some outcomes_are.Merged
+outcome_of h (steps_are.Rebirth incarnation) =
+    reborn_rows (can_be_reborn h incarnation) (reborn (own h) incarnation) (own_dots h)
 
 abbrev pub next_entry : History → Step → Option ℕ → Outcome → Entry
 next_entry h s seat o = record { number = last_number h + 1; seat = seat; step = s; outcome = o }
@@ -121,7 +161,7 @@ pub record IsStart (s : Start) : Type 0 where
   pub chains : AllByRecursion (λ x. AreLong x.1) s.chains
   pub kept : (d : DeltaValue) → GoesOn s.own s.last_cut d → IsNext s.kept.last d
   pub subscribers : list_all (is_subscriber s.number) s.subscribers ≡ true
-  pub subscribers_once : has_repeat nat_eq (map (λ x. x.0) s.subscribers) ≡ false
+  pub subscribers_once : has_repeat nat_eq (each (λ x. x.0) s.subscribers) ≡ false
   pub seated : s.seated ≤ s.number
 
 -- each entry has the outcome of the table and the next number, and stands where there was room for it

@@ -9,7 +9,8 @@ use Rattle.presence_journal_data.specs.declared.step.Step.TheVariants as steps_a
 use Rattle.presence_journal_data.specs.declared.rows.Place.{Place}
 use Rattle.presence_journal.specs.History.{History, first_some, has_dot, row_added, shown}
 use Rattle.presence_journal.specs.Present.{place_cmp, RowMap, place_of, of_topic, dots_taken}
-use Rattle.presence_journal.specs.Steps.{Step, Entry}
+use Rattle.presence_journal_data.specs.declared.entry.Outcome.TheVariants as outcomes_are
+use Rattle.presence_journal.specs.Steps.{Step, Outcome, Entry}
 
 -- the row of a topic that is added under a dot
 abbrev pub joined : Entry → List ℕ → Dot → Option Row
@@ -53,6 +54,21 @@ IsTableOf f m = (p : Place) → map.get m p ≡ keyed p.key (f p.dot)
 abbrev pub placed : List (Place × Row) → List (Dot × Row) → List (Place × Row)
 placed es [] = es
 placed es (x ∷ xs) = placed (insert_entry place_cmp es (place_of x.0 x.1) x.1) xs
+
+-- the step is a rebirth
+abbrev pub is_reborn : Step → Bool
+is_reborn (steps_are.Rebirth incarnation) = true
+is_reborn _ = false
+
+-- the outcome is a rebirth's
+abbrev pub is_again : Outcome → Bool
+is_again (outcomes_are.Reborn pairs) = true
+is_again _ = false
+
+-- its pairs of a new and an old dot
+abbrev pub pairs_in : Outcome → List (Dot × Dot)
+pairs_in (outcomes_are.Reborn pairs) = pairs
+pairs_in _ = []
 
 -- the step tells of other replicas
 abbrev pub tells : Step → Bool

@@ -1,3 +1,6 @@
+ghost use Rattle.std.specs.Prelude.{◌≡◌};
+ghost use Rattle.presence_journal.specs.History.{Begin, onto, own, own_after};
+
 use crate::entries::Entries;
 use orswot_core_told::Told;
 use presence_base::{MAX_COUNT, Replica};
@@ -122,10 +125,10 @@ impl Journal {
     }
 
     /// The replica that counts here.
-    pub fn own(&self) -> &Replica
-        ensures { result.now ≡ own self.now }
+    pub fn own(&self) -> Replica
+        ensures { result ≡ own self.now }
     {
-        &self.start.own
+        own_of(&self.start, self.entries.as_slice())
     }
 
     /// The number of the newest entry.
@@ -168,4 +171,28 @@ impl Journal {
         };
         self.entries.push(entry)
     }
+}
+
+/// The own replica after a step.
+pub fn own_after(step: &Step, own: Replica) -> Replica
+    ensures { result ≡ own_after step.now own }
+{
+    match step {
+        Step::Rebirth { incarnation } => Replica {
+            name: own.name,
+            incarnation: *incarnation,
+        },
+        _ => own,
+    }
+}
+
+/// The own replica after these entries.
+pub fn own_of(start: &Start, entries: &[Entry]) -> Replica
+    ensures { result ≡ own (onto (Begin start.now) entries.now) }
+{
+    let mut own = start.own;
+    for entry in entries {
+        own = own_after(&entry.step, own);
+    }
+    own
 }

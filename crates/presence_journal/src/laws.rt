@@ -4,7 +4,7 @@ ghost use Rattle.presence_journal.specs.Laws.{FoldsToPresent, PresentIsShown, Ch
 ghost use Rattle.presence_journal.specs.Laws.{NewIsUnknown, NewIsCounted, RowsAreKnown, RefsAreDistinct};
 ghost use Rattle.presence_journal.specs.Laws.{OnlyNamedLeave, OthersStay, OthersHearNothing, RefusedStays};
 ghost use Rattle.presence_journal.specs.Laws.{HoldsMost, QueuesItems, FallsBehind, StaysBehind};
-ghost use Rattle.presence_journal.specs.Laws.{StaysLegal, StaysKept, AsWorked};
+ghost use Rattle.presence_journal.specs.Laws.{StaysLegal, StaysKept, RebirthLosesNoRow, AsWorked};
 ghost use Rattle.presence_journal.specs.Sizes.{AreSizes};
 ghost use Rattle.presence_journal.specs.Merges.{RemovedIsKnown, KnownIsLiveOrRemoved, MergeIsKnown, MergeIsLive};
 ghost use Rattle.presence_journal.specs.Merges.{LiveStays, ShownStays, OwnStepsAlone};
@@ -75,6 +75,12 @@ pub fn own_steps_alone()
 pub fn steps_stay_legal()
     ensures legal { StaysLegal }
     ensures kept { StaysKept }
+{}
+
+/// After a rebirth each own row stands under its new dot, counted from 1 in the order of the old dots, with the old dot as
+/// the one before it and all else as it was; none stands under its old dot, and all rows of others are as they were.
+pub fn no_row_is_lost()
+    ensures { RebirthLosesNoRow }
 {}
 
 /// At most `MAX_WAITING` items wait for a subscriber. An entry puts what it makes behind them, and where

@@ -18,10 +18,10 @@ mod journal;
 pub mod laws;
 mod waiting;
 
-pub use journal::{Journal, MAX_ENTRIES};
+pub use journal::{Journal, MAX_ENTRIES, own_after, own_of};
 pub use presence_journal_data::{
-    Chains, Dots, Entry, Item, MAX_PAYLOAD_DEPTH, MAX_TAKEN, Outcome, Payload, Place, RowDiff,
-    Rows, Runs, SharedDiff, SharedRows, SharedShout, Standings, Start, Step, Subscribers,
+    Chains, Dots, Entry, Item, MAX_PAYLOAD_DEPTH, MAX_TAKEN, Outcome, Pairs, Payload, Place,
+    RowDiff, Rows, Runs, SharedDiff, SharedRows, SharedShout, Standings, Start, Step, Subscribers,
     TakeLimit, dots_of_rows,
 };
 pub use waiting::MAX_WAITING;

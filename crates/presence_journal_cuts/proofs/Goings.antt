@@ -33,10 +33,12 @@ older_same : (o : Outcome) (k k' : ℕ) (f g : ℕ → ℕ → Bool) (p q : ℕ 
 older_same (outcomes_are.CutAt from to) k k' f g p q n a b c = refl
 older_same (outcomes_are.Replaced new old) k k' f g p q n a b c = λ i. c i || (nat_le n (a i) && goes_same f g (old ∷ []) n b i)
 older_same (outcomes_are.Removed ds) k k' f g p q n a b c = λ i. c i || (nat_le n (a i) && goes_same f g ds n b i)
+older_same (outcomes_are.Reborn ps) k k' f g p q n a b c = refl
 older_same _ k k' f g p q n a b c = λ i. c i || (nat_le n (a i) && false)
 
 chain_same : (o : Outcome) (f g : ℕ → ℕ → Bool) (c n : ℕ) → ((x : ℕ) → f x n ≡ g x n) → chain_after o f c n ≡ chain_after o g c n
 chain_same (outcomes_are.Replaced new old) f g c n e = λ i. cond (nat_eq c new.count) (nat_eq n old.count || e old.count i) (cond (nat_eq c old.count) false (e c i))
+chain_same (outcomes_are.Reborn ps) f g c n e = refl
 chain_same _ f g c n e = e c
 
 -- a walk's last cut, its chains and the runs that went are those of the history

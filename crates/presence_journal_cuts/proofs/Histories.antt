@@ -1,5 +1,5 @@
 -- The last cut, the rows above it, and what every delta keeps of them.
-use Rattle.std.proofs.Common.{◌≡◌, ℕ, ◌+◌, ◌≤◌, ◌^◌, Bool, true, false, cond, ◌&&◌, nat_lt, nat_le, List, [], ◌∷◌, Option, Some, None, refl, sym, ◌∙◌, ap, subst, arith}
+use Rattle.std.proofs.Common.{◌≡◌, ℕ, ◌+◌, ◌<◌, ◌≤◌, ◌^◌, length, get_or, take, Bool, true, false, cond, ◌&&◌, nat_lt, nat_le, List, [], ◌∷◌, Option, Some, None, refl, sym, ◌∙◌, ap, subst, arith}
 use Rattle.std.specs.Prelude.{is_none}
 use Rattle.std.proofs.lemmas.Bool.{and_parts}
 use Rattle.std.proofs.lemmas.Bool.Decides.{nat_tests}
@@ -12,15 +12,20 @@ use Rattle.orswot_core_told.specs.Telling.{covers, live_row}
 use Rattle.presence_journal_data.specs.declared.step.Step.TheVariants as steps_are
 use Rattle.presence_journal_data.specs.declared.entry.Outcome.TheVariants as outcomes_are
 use Rattle.presence_journal.specs.Steps.{Step, Outcome, Entry, Start}
-use Rattle.presence_journal.specs.History.{History, Begin, Then, own, count, counts_used, last_cut, cut_after, next_dot, has_dot, first_some, row_made, row_added, removed, row, live, shown}
+use Rattle.presence_journal.specs.History.{History, Begin, Then, onto, own, count, counts_used, count_after, last_cut, cut_after, next_dot, has_dot, first_some, row_made, row_added, removed, row, live, shown}
 use Rattle.presence_journal.specs.Present.{dots_taken}
 use Rattle.presence_journal.specs.Queue.{Waiting, Behind, Queued, queue, topic_of}
 use Rattle.presence_journal.specs.Table.{IsLegal, rows_of_key, counting, tracked, updated, untracked, take_outcome, for_present, outcome_of}
-use Rattle.presence_journal.specs.Walk.{without_dots, tells}
+use Rattle.presence_journal.specs.Walk.{without_dots, tells, is_again}
+use Rattle.presence_journal.proofs.Reborn.{IsAgain, again_of}
+use Rattle.presence_journal_sets.proofs.OwnLemmas.{plain_step, reborn_step}
+use Rattle.presence_journal_sets.proofs.FrontLemmas.{front_next}
+use Rattle.presence_journal_cuts.specs.Chains.{AreNextRecent}
+use Rattle.presence_journal_cuts.specs.Reborn.{own_live as live_of_own}
 use Rattle.presence_journal.specs.Merges.{is_of_rows}
 use Rattle.presence_journal.proofs.PresentLemmas.{shown-row}
 use Rattle.presence_journal.proofs.Same.{same_replica-refl, same_replica-true, same_dot-true}
-use Rattle.presence_journal.proofs.HistoryLemmas.{KnowsItsDots, Kind, Adds, Replaces, Removes, Quiet, kind_of, legal_knows, own-then, count-then, is_quiet, quiet_taken, tells_quiet, live_by, shown-live}
+use Rattle.presence_journal.proofs.HistoryLemmas.{KnowsItsDots, Kind, Adds, Replaces, Removes, Quiet, kind_of, legal_knows, counted_from, own-then, count-then, is_quiet, quiet_taken, tells_quiet, live_by, shown-live}
 use Rattle.presence_journal.proofs.Merges.{own_steps_alone}
 use Rattle.presence_journal_cuts.specs.Chains.{unless_cut, recent_after, is_recent, rows_recent}
 use Rattle.presence_journal_cuts.specs.Cuts.{recent}
@@ -64,6 +69,7 @@ cuts_here h (steps_are.Untrack pid topic key) o e = cuts_untracked h _ o e
 cuts_here h (steps_are.UntrackAll pid topic) o e = cuts_untracked h _ o e
 cuts_here h (steps_are.Take n max) o e = cuts_present h (topic_of h n) _ o (cuts_taken h max (queue h n)) e
 cuts_here h (steps_are.Unsubscribe n) o e = cuts_present h (topic_of h n) _ o tt e
+cuts_here h (steps_are.Rebirth i) o e = subst (CutsHere h) (sym (again_of h (steps_are.Rebirth i) o refl e).outcome) tt
 cuts_here h steps_are.Cut o e = subst (CutsHere h) (same_Some _ _ e) (refl, refl)
 cuts_here h _ o e = subst (CutsHere h) (same_Some _ _ e) tt
 
@@ -83,8 +89,9 @@ unfolding last_cut count
 last_cut-low (Begin s) l = l.cut
 last_cut-low (Then h e) l = go e.outcome (cuts_here h e.step e.outcome l.1) (last_cut-low h l.0)
   where
-    go : (o : Outcome) → CutsHere h o → last_cut h ≤ count h → cut_after o (last_cut h) ≤ count h + counts_used o
+    go : (o : Outcome) → CutsHere h o → last_cut h ≤ count h → cut_after o (last_cut h) ≤ count_after o (count h)
     go (outcomes_are.CutAt from to) c ih = omega (arith, c.1)
+    go (outcomes_are.Reborn ps) c ih = omega arith
     go _ c ih = omega (arith, ih)
 
 -- ---- the rows above it
@@ -149,20 +156,20 @@ after_quiet : (s : Step) (o : Outcome) (d : Dot) (x : Option Row) → is_quiet o
 after_quiet s o d x q = λ i. first_some (quiet_none s o d q i) (cond (has_dot (quiet_taken o q i) d) None x)
 
 -- an own row after an entry
-own_live : (h : History) (e : Entry) (d : Dot) → IsLegal (Then h e) → d.replica ≡ own h → live (Then h e) d ≡ first_some (row_added e.step e.outcome d) (cond (has_dot (dots_taken e.outcome) d) None (live h d))
-own_live h e d l o = go (tells e.step) refl
+own_live : (h : History) (e : Entry) (d : Dot) → IsLegal (Then h e) → is_again e.outcome ≡ false → d.replica ≡ own h → live (Then h e) d ≡ first_some (row_added e.step e.outcome d) (cond (has_dot (dots_taken e.outcome) d) None (live h d))
+own_live h e d l a o = go (tells e.step) refl
   where
     kind : Kind h e.step e.outcome
-    kind = kind_of h e.step e.outcome l.1
+    kind = kind_of h e.step e.outcome (plain_step h e l a) l.1
 
     go : (b : Bool) → tells e.step ≡ b → live (Then h e) d ≡ first_some (row_added e.step e.outcome d) (cond (has_dot (dots_taken e.outcome) d) None (live h d))
     go false t = live_by h e d (legal_knows h l.0) kind t
     go true t = ((own_steps_alone h e l (tells_of_none e.step t)).1 d o).live ∙ sym (after_quiet e.step e.outcome d (live h d) (tells_quiet h e.step e.outcome kind t))
 
-pub own_shown : (h : History) (e : Entry) (d : Dot) → IsLegal (Then h e) → d.replica ≡ own h → shown (Then h e) d ≡ first_some (row_added e.step e.outcome d) (cond (has_dot (dots_taken e.outcome) d) None (shown h d))
-own_shown h e d l o =
-    shown-live (Then h e) d (o ∙ sym (own-then h e))
-    ∙ (own_live h e d l o ∙ ap (λ x. first_some (row_added e.step e.outcome d) (cond (has_dot (dots_taken e.outcome) d) None x)) (sym (shown-live h d o)))
+pub own_shown : (h : History) (e : Entry) (d : Dot) → IsLegal (Then h e) → is_again e.outcome ≡ false → d.replica ≡ own h → shown (Then h e) d ≡ first_some (row_added e.step e.outcome d) (cond (has_dot (dots_taken e.outcome) d) None (shown h d))
+own_shown h e d l a o =
+    shown-live (Then h e) d (o ∙ sym (own-then h e (plain_step h e l a)))
+    ∙ (own_live h e d l a o ∙ ap (λ x. first_some (row_added e.step e.outcome d) (cond (has_dot (dots_taken e.outcome) d) None x)) (sym (shown-live h d o)))
 
 -- a row of another replica is not among them
 others_none : (h : History) (d : Dot) → same_replica d.replica (own h) ≡ false → recent h d ≡ None
@@ -183,14 +190,14 @@ neither true = refl
 neither false = refl
 
 -- an entry that is no cut
-recent_same : (h : History) (e : Entry) (d : Dot) → IsLegal (Then h e) → cut_after e.outcome (last_cut h) ≡ last_cut h → recent (Then h e) d ≡ first_some (row_added e.step e.outcome d) (without_dots (dots_taken e.outcome) (recent h) d)
-recent_same h e d l same = by_own (same_replica d.replica (own h)) refl
+recent_same : (h : History) (e : Entry) (d : Dot) → IsLegal (Then h e) → is_again e.outcome ≡ false → cut_after e.outcome (last_cut h) ≡ last_cut h → recent (Then h e) d ≡ first_some (row_added e.step e.outcome d) (without_dots (dots_taken e.outcome) (recent h) d)
+recent_same h e d l a same = by_own (same_replica d.replica (own h)) refl
   where
     knows : KnowsItsDots h
     knows = legal_knows h l.0
 
     kind : Kind h e.step e.outcome
-    kind = kind_of h e.step e.outcome l.1
+    kind = kind_of h e.step e.outcome (plain_step h e l a) l.1
 
     gone : Bool
     gone = has_dot (dots_taken e.outcome) d
@@ -218,22 +225,23 @@ recent_same h e d l same = by_own (same_replica d.replica (own h)) refl
     by_own true p =
         let w = same_replica-true d.replica (own h) p in
         recent_is (Then h e) d
-        ∙ ((λ i. cond (in_range (own-then h e i) ((last_cut-then h e ∙ same) i) (count-then h e i) d) (own_shown h e d l w i) None)
+        ∙ ((λ i. cond (in_range (own-then h e (plain_step h e l a) i) ((last_cut-then h e ∙ same) i) (count-then h e a i) d) (own_shown h e d l a w i) None)
         ∙ (go w (row_added e.step e.outcome d) refl
         ∙ ap (λ o. first_some (row_added e.step e.outcome d) (cond gone None o)) (sym (recent_is h d))))
     by_own false p =
-        others_none (Then h e) d (ap (same_replica d.replica) (own-then h e) ∙ p)
+        others_none (Then h e) d (ap (same_replica d.replica) (own-then h e (plain_step h e l a)) ∙ p)
         ∙ sym ((λ i. first_some (others_added h e d kind p i) (cond gone None (others_none h d p i))) ∙ neither gone)
 
-pub recent-then : (h : History) (e : Entry) (d : Dot) → IsLegal (Then h e) → recent (Then h e) d ≡ recent_after e (recent h) d
-recent-then h e d l = go e.outcome refl (cuts_here h e.step e.outcome l.1)
+pub recent-then : (h : History) (e : Entry) (d : Dot) → IsLegal (Then h e) → is_again e.outcome ≡ false → recent (Then h e) d ≡ recent_after e (recent h) d
+recent-then h e d l a = go e.outcome refl (cuts_here h e.step e.outcome l.1)
   where
     go : (o : Outcome) → e.outcome ≡ o → CutsHere h o → recent (Then h e) d ≡ unless_cut o (first_some (row_added e.step e.outcome d) (without_dots (dots_taken e.outcome) (recent h) d))
     go (outcomes_are.CutAt from to) p c =
         recent_is (Then h e) d
-        ∙ ((λ i. cond (in_range (own (Then h e)) ((last_cut-then h e ∙ (ap (λ o. cut_after o (last_cut h)) p ∙ c.1)) i) ((count-then h e ∙ ap (λ o. count h + counts_used o) p) i) d) (shown (Then h e) d) None)
+        ∙ ((λ i. cond (in_range (own (Then h e)) ((last_cut-then h e ∙ (ap (λ o. cut_after o (last_cut h)) p ∙ c.1)) i) ((count-then h e a ∙ ap (λ o. count h + counts_used o) p) i) d) (shown (Then h e) d) None)
         ∙ ap (λ b. cond b (shown (Then h e) d) None) (none_above (same_replica d.replica (own (Then h e))) (count h) d.count))
-    go _ p c = recent_same h e d l (ap (λ o. cut_after o (last_cut h)) p)
+    go (outcomes_are.Reborn ps) p c = let f : true ≡ false = sym (ap is_again p) ∙ a in absurd (cc)
+    go _ p c = recent_same h e d l a (ap (λ o. cut_after o (last_cut h)) p)
 
 live-begin : (s : Start) (d : Dot) → live (Begin s) d ≡ live_row s.content d
 unfolding live removed row
@@ -260,8 +268,55 @@ recent-begin s d = recent_at-begin s d ∙ (go (is_recent s d) refl ∙ sym (rec
     go false e = refl
 
 -- one entry more
-pub recent-more : (f g : Dot → Option Row) (h : History) (e : Entry) → IsLegal (Then h e) → ((d : Dot) → g d ≡ recent_after e f d) → ((d : Dot) → f d ≡ recent h d) → (d : Dot) → g d ≡ recent (Then h e) d
-recent-more f g h e l after before d =
+pub recent-more : (f g : Dot → Option Row) (h : History) (e : Entry) → IsLegal (Then h e) → is_again e.outcome ≡ false → ((d : Dot) → g d ≡ recent_after e f d) → ((d : Dot) → f d ≡ recent h d) → (d : Dot) → g d ≡ recent (Then h e) d
+recent-more f g h e l a after before d =
     after d
     ∙ (ap (λ o. unless_cut e.outcome (first_some (row_added e.step e.outcome d) (cond (has_dot (dots_taken e.outcome) d) None o))) (before d)
-    ∙ sym (recent-then h e d l))
+    ∙ sym (recent-then h e d l a))
+
+-- after a rebirth they are all own rows
+
+none_live : (h : History) (d : Dot) → KnowsItsDots h → d.replica ≡ own h → (b : Bool) → in_range (own h) 0 (count h) d ≡ b → cond b (live h d) None ≡ live h d
+unfolding live
+none_live h d k o b e = go b e (row h d) refl (removed h d)
+  where
+    go : (b : Bool) → in_range (own h) 0 (count h) d ≡ b → (x : Option Row) → row h d ≡ x → (g : Bool) → cond b (cond g None x) None ≡ cond g None x
+    go true e x is g = refl
+    go false e None is true = refl
+    go false e None is false = refl
+    go false e (Some r) is g =
+        let p = k.of_own d o (k.of_row d r is) in
+        let f : false ≡ true = sym e ∙ counted_from (own h) (count h) d o p.0 p.1 in
+        absurd (cc)
+
+pub recent_again : (h : History) (e : Entry) (d : Dot) → IsLegal (Then h e) → is_again e.outcome ≡ true → live_of_own (Then h e) d ≡ recent (Then h e) d
+recent_again h e d l a = by_own (same_replica d.replica (own (Then h e))) refl
+  where
+    w : IsAgain h e.step e.outcome
+    w = again_of h e.step e.outcome (reborn_step h e l a) l.1
+
+    zero_cut : last_cut (Then h e) ≡ 0
+    zero_cut = last_cut-then h e ∙ ap (λ o. cut_after o (last_cut h)) w.outcome
+
+    by_own : (b : Bool) → same_replica d.replica (own (Then h e)) ≡ b → cond b (live (Then h e) d) None ≡ recent (Then h e) d
+    by_own true p =
+        let o = same_replica-true d.replica (own (Then h e)) p in
+        sym (none_live (Then h e) d (legal_knows (Then h e) l) o (in_range (own (Then h e)) 0 (count (Then h e)) d) refl)
+        ∙ ((λ i. cond (in_range (own (Then h e)) (sym zero_cut i) (count (Then h e)) d) (sym (shown-live (Then h e) d o) i) None)
+        ∙ sym (recent_is (Then h e) d))
+    by_own false p = sym (others_none (Then h e) d p)
+
+pub next_again : (e : Entry) (h : History) (f g : Dot → Option Row) → IsLegal h → is_again e.outcome ≡ true → ((d : Dot) → g d ≡ live_of_own h d) → AreNextRecent e h f g
+next_again e h f g l a is before eq same d = is d ∙ (ap (λ k. live_of_own k d) eq ∙ (recent_again before e d (subst IsLegal eq l) a ∙ ap (λ k. recent k d) (sym eq)))
+
+pub next_plain : (e : Entry) (h : History) (f g : Dot → Option Row) → IsLegal h → is_again e.outcome ≡ false → ((d : Dot) → g d ≡ recent_after e f d) → AreNextRecent e h f g
+next_plain e h f g l a after before eq same d = recent-more f g before e (subst IsLegal eq l) a after same d ∙ ap (λ k. recent k d) (sym eq)
+
+pub rest_is_plain : (o : Outcome) → ((ps : List (Dot × Dot)) → o ≡ outcomes_are.Reborn ps → ⊥) → is_again o ≡ false
+rest_is_plain (outcomes_are.Reborn ps) f = absurd (f ps refl)
+rest_is_plain _ f = refl
+
+-- one entry more, by what came before it
+
+pub recent_on : (s : Start) (es : List Entry) (i : ℕ) (e : Entry) (f g : Dot → Option Row) → i < length es → e ≡ get_or es i e → AreNextRecent e (onto (Begin s) (take (i + 1) es)) f g → ((d : Dot) → f d ≡ recent (onto (Begin s) (take i es)) d) → (d : Dot) → g d ≡ recent (onto (Begin s) (take (i + 1) es)) d
+recent_on s es i e f g lt is next before = next (onto (Begin s) (take i es)) (front_next (Begin s) es i e lt is) before

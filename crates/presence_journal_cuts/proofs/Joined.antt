@@ -52,7 +52,7 @@ unfolding count
 count_same h d = let none : count h + 0 ≡ count h = omega arith in none
 
 known_in : (h : History) (d : DeltaValue) (q : Dot) → known (with_merge h d) q ≡ (known h q || (is_counted (own h) (count h) q || (hears h q.replica && covers (telling d) q)))
-known_in h d q = known-then h (next_entry h (merge_of d) None outcomes_are.Merged) q ∙ ap (λ n. known h q || (is_counted (own h) n q || (hears h q.replica && covers (telling d) q))) (count_same h d)
+known_in h d q = known-then h (next_entry h (merge_of d) None outcomes_are.Merged) q ∙ (λ i. known h q || (is_counted (own_same h d i) (count_same h d i) q || (hears h q.replica && covers (telling d) q)))
 
 removed_in : (h : History) (d : DeltaValue) (q : Dot) → removed (with_merge h d) q ≡ (removed h q || (hears h q.replica && tells_removed (telling d) q))
 unfolding removed

@@ -1,5 +1,5 @@
 -- What is told of a legal history keeps what every delta keeps.
-use Rattle.std.proofs.Common.{◌≡◌, ℕ, ◌≤◌, ◌^◌, Bool, true, false, cond, ◌&&◌, ◌||◌, nat_le, nat_lt, List, [], ◌∷◌, Option, Some, None, refl, sym, ◌∙◌, ap, arith}
+use Rattle.std.proofs.Common.{◌≡◌, ℕ, ◌≤◌, Bool, true, false, cond, ◌&&◌, ◌||◌, nat_le, nat_lt, List, [], ◌∷◌, Option, Some, None, refl, sym, ◌∙◌, ap, arith}
 use Rattle.std.specs.List.{AllByRecursion, list_any, list_all}
 use Rattle.std.specs.List.Sorted.{IsStrictlySortedBy}
 use Rattle.std.specs.Map.{lookup, keys_of}
@@ -7,7 +7,6 @@ use Rattle.std.specs.Ordering.{is_eq}
 use Rattle.std.specs.Cmp.{eq_by_cmp_equiv}
 use Rattle.std.specs.declared.cmp.Ordering.TheVariants.{Less}
 use Rattle.std.proofs.lemmas.Bool.{and_from, and_parts, le-leb}
-use Rattle.std.proofs.lemmas.Option.{same_Some}
 use Rattle.presence_base.specs.declared.dots.TheConstants.{MAX_COUNT}
 use Rattle.presence_base.specs.declared.dots.Replica.{Replica}
 use Rattle.presence_base.specs.declared.dots.Dot.{Dot}
@@ -15,23 +14,22 @@ use Rattle.presence_base.specs.declared.row.Row.{Row}
 use Rattle.presence_base.specs.Order.{dot_cmp, same_dot, same_replica}
 use Rattle.dot_context.specs.Sets.{in_range}
 use Rattle.dot_context_runs.specs.Runs.{holds}
-use Rattle.orswot_core_told.specs.Limits.{is_count, is_dot, is_prev, is_row}
+use Rattle.orswot_core_told.specs.Limits.{is_count, is_dot, is_row}
 use Rattle.orswot_core_told.specs.Checks.{has_repeat}
 use Rattle.delta_range.specs.Deltas.{IsDelta}
 use Rattle.delta_range.specs.Longest.{longest}
 use Rattle.delta_range.proofs.RunFacts.{longest_runs, holds_longest, ends_longest}
-use Rattle.presence_journal_data.specs.declared.step.Step.TheVariants as steps_are
-use Rattle.presence_journal.specs.Steps.{Step, Entry}
-use Rattle.presence_journal.specs.History.{History, Begin, Then, start_of, own, count, last_cut, next_dot, known, first_some, row_made, row_added, told_row, row, shown}
-use Rattle.presence_journal.specs.Table.{IsLegal, IsStart, is_step}
+use Rattle.presence_journal.specs.History.{History, Begin, Then, start_of, own, count, last_cut, known, shown}
+use Rattle.presence_journal.specs.Table.{IsLegal, IsStart}
 use Rattle.presence_journal.proofs.PresentLemmas.{shown-row}
 use Rattle.presence_journal.proofs.Same.{dot_total, same_replica-true}
-use Rattle.presence_journal.proofs.ToldLemmas.{told_other, row_told_covers, live_row_limits}
 use Rattle.presence_journal.proofs.Walking.{count-limit}
-use Rattle.presence_journal.proofs.HistoryLemmas.{Kind, Adds, Replaces, Removes, Quiet, kind_of, legal_knows, known_parts, own-start_of, own-then, is_own}
+use Rattle.presence_journal.proofs.HistoryLemmas.{legal_knows, known_parts}
+use Rattle.presence_journal.proofs.Fresh.{own_is}
+use Rattle.presence_journal_sets.proofs.RebornLemmas.{row_limits}
 use Rattle.presence_journal_cuts.specs.Chains.{AreUpTo, Counts}
 use Rattle.presence_journal_cuts.specs.Cuts.{older, recent, IsCut}
-use Rattle.presence_journal_cuts.proofs.Histories.{last_cut-low, quiet_none}
+use Rattle.presence_journal_cuts.proofs.Histories.{last_cut-low}
 
 -- ---- dots
 
@@ -43,9 +41,7 @@ count_test : (n : ℕ) → 1 ≤ n → n ≤ MAX_COUNT → is_count n ≡ true
 count_test n p q = and_from (nat_le 1 n) (nat_le n MAX_COUNT) (le-leb 1 n p) (le-leb n MAX_COUNT q)
 
 pub own_limit : (h : History) → IsLegal h → is_count (own h).incarnation ≡ true
-own_limit h l =
-    let limits = (start_legal h l).incarnation in
-    ap (λ (r : Replica). is_count r.incarnation) (own-start_of h) ∙ count_test (start_of h).own.incarnation limits.0 limits.1
+own_limit h l = let limits = (own_is h l).incarnation in count_test (own h).incarnation limits.0 limits.1
 
 pub known_is_dot : (h : History) → IsLegal h → (d : Dot) → d.replica ≡ own h → known h d ≡ true → is_dot d ≡ true
 known_is_dot h l d o k =
@@ -56,45 +52,6 @@ known_is_dot h l d o k =
     (count_test d.count (omega (arith, p.0)) (omega (arith, p.1, most)))
 
 -- ---- rows
-
-made_limits : (s : Step) (prev : Option Dot) (r : Row) → is_step s ≡ true → row_made s prev ≡ Some r → (nat_le r.pid (2 ^ 62) ≡ true) × (r.prev ≡ prev)
-made_limits (steps_are.Track pid topic key meta) prev r i e = let same = same_Some _ _ e in (ap (λ (x : Row). nat_le x.pid (2 ^ 62)) (sym same) ∙ i, ap (λ (x : Row). x.prev) (sym same))
-made_limits (steps_are.Update pid topic key meta) prev r i e = let same = same_Some _ _ e in (ap (λ (x : Row). nat_le x.pid (2 ^ 62)) (sym same) ∙ i, ap (λ (x : Row). x.prev) (sym same))
-made_limits _ prev r i e = absurd (cc)
-
-under : (b : Bool) (o : Option Row) (r : Row) → cond b o None ≡ Some r → o ≡ Some r
-under true o r e = e
-under false o r e = absurd (cc)
-
-row_of_made : (s : Step) (prev : Option Dot) (r : Row) → is_step s ≡ true → is_prev prev ≡ true → row_made s prev ≡ Some r → is_row r ≡ true
-row_of_made s prev r i p e =
-    let limits = made_limits s prev r i e in
-    and_from (nat_le r.pid MAX_COUNT) (is_prev r.prev) limits.0 (ap is_prev limits.1 ∙ p)
-
-added_limits : (h : History) (e : Entry) (d : Dot) (r : Row) → IsLegal (Then h e) → Kind h e.step e.outcome → row_added e.step e.outcome d ≡ Some r → is_row r ≡ true
-added_limits h e d r l (Adds x m o c) g =
-    row_of_made e.step None r l.4 refl (under (same_dot d (next_dot h)) (row_made e.step None) r (sym (ap (λ y. row_added e.step y d) o) ∙ g))
-added_limits h e d r l (Replaces x old m o c w) g =
-    row_of_made e.step (Some old) r l.4 (known_is_dot h l.0 old w.own ((legal_knows h l.0).of_row old w.row (shown-row h old w.row w.shown).0))
-    (under (same_dot d (next_dot h)) (row_made e.step (Some old)) r (sym (ap (λ y. row_added e.step y d) o) ∙ g))
-added_limits h e d r l (Removes y ys o c a q) g = let f : None ≡ Some r = sym (ap (λ z. row_added e.step z d) o) ∙ g in absurd (cc)
-added_limits h e d r l (Quiet q) g = let f : None ≡ Some r = sym (quiet_none e.step e.outcome d q) ∙ g in absurd (cc)
-
-pub row_limits : (h : History) → IsLegal h → (d : Dot) → d.replica ≡ own h → (r : Row) → row h d ≡ Some r → is_row r ≡ true
-unfolding row
-row_limits (Begin s) l d o r e = live_row_limits s.content d r l.content e
-row_limits (Then h e) l d o r f = go (row h d) refl (row_limits h l.0 d (o ∙ own-then h e)) f
-  where
-    at_added : (a : Option Row) → row_added e.step e.outcome d ≡ a → first_some a (told_row h e.step d) ≡ Some r → is_row r ≡ true
-    at_added (Some x) p g = added_limits h e d r l (kind_of h e.step e.outcome l.1) (p ∙ g)
-    at_added None p g =
-        let other = told_other h e.step d (row_told_covers h e.step d r l.4 g) in
-        let both : true ≡ false = sym (is_own h d (o ∙ own-then h e)) ∙ other in
-        absurd (cc)
-
-    go : (a : Option Row) → row h d ≡ a → ((x : Row) → row h d ≡ Some x → is_row x ≡ true) → first_some a (first_some (row_added e.step e.outcome d) (told_row h e.step d)) ≡ Some r → is_row r ≡ true
-    go (Some x) p ih g = ih r (p ∙ g)
-    go None p ih g = at_added (row_added e.step e.outcome d) refl g
 
 recent_parts : (h : History) (d : Dot) (r : Row) → recent h d ≡ Some r → (in_range (own h) (last_cut h) (count h) d ≡ true) × (shown h d ≡ Some r)
 unfolding recent
@@ -109,7 +66,7 @@ recent_limits h l d r e =
     let parts = recent_parts h d r e in
     let has_row = (shown-row h d r parts.1).0 in
     let mine = same_replica-true d.replica (own h) (and_parts (same_replica d.replica (own h)) (nat_lt (last_cut h) d.count && nat_le d.count (count h)) parts.0).0 in
-    and_from (is_dot d) (is_row r) (known_is_dot h l d mine ((legal_knows h l).of_row d r has_row)) (row_limits h l d mine r has_row)
+    and_from (is_dot d) (is_row r) (known_is_dot h l d mine ((legal_knows h l).of_row d r has_row)) (row_limits h l d r has_row)
 
 -- ---- lists in order
 

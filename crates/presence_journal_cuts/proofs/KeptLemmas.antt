@@ -1,5 +1,6 @@
 -- The kept deltas of a history: it has them once, and the next cut goes on from them.
-use Rattle.std.proofs.Common.{◌≡◌, ℕ, zero, suc, ◌≤◌, false, ◌&&◌, ◌||◌, nat_le, nat_lt, List, [], ◌∷◌, refl, sym, ◌∙◌, subst, arith}
+use Rattle.presence_journal.proofs.HistoryLemmas.{own-then}
+use Rattle.std.proofs.Common.{◌≡◌, ℕ, zero, suc, ◌≤◌, false, ◌&&◌, ◌||◌, nat_le, nat_lt, List, [], ◌∷◌, refl, sym, ◌∙◌, subst, arith, Bool, true}
 use Rattle.std.specs.Map.{lookup, keys_of}
 use Rattle.std.specs.List.Sorted.{IsStrictlySortedBy}
 use Rattle.std.specs.FinMap.Entries.{same_entries}
@@ -17,10 +18,12 @@ use Rattle.delta_range.specs.Deltas.{DeltaValue, IsDelta, GoesOn}
 use Rattle.delta_range.specs.Keeping.{Kept, pushed, IsNext}
 use Rattle.presence_journal_data.specs.declared.entry.Outcome.TheVariants as outcomes_are
 use Rattle.presence_journal.specs.Steps.{Start, Outcome, Entry}
-use Rattle.presence_journal.specs.History.{History, Begin, Then, own, last_cut, cut_after}
+use Rattle.presence_journal.specs.History.{History, Begin, Then, own, last_cut, cut_after, nothing_kept}
+use Rattle.presence_journal.specs.Walk.{is_reborn, is_again}
+use Rattle.presence_journal_sets.proofs.OwnLemmas.{plain_step}
 use Rattle.presence_journal.specs.Table.{IsLegal}
 use Rattle.presence_journal_cuts.specs.Cuts.{IsCut}
-use Rattle.presence_journal_cuts.specs.KeptDeltas.{is_cut, IsPushed, KeepsAfter, AreKeptOf}
+use Rattle.presence_journal_cuts.specs.KeptDeltas.{renews_kept, IsPushed, KeepsAfter, AreKeptOf}
 use Rattle.presence_journal_cuts.proofs.Histories.{CutsHere, cuts_here}
 
 -- ---- entry by entry
@@ -44,18 +47,20 @@ then-kept h e k of = of
 pub kept_cut : (h : History) (e : Entry) (k : Kept) (from to : ℕ) → e.outcome ≡ outcomes_are.CutAt from to → IsPushed (AreKeptOf h) h k → AreKeptOf (Then h e) k
 kept_cut h e k from to is p = kept-then h e k (subst (λ (o : Outcome). KeepsAfter o (AreKeptOf h) h k) (sym is) p)
 
-others_keep : (o : Outcome) (B : Kept → Type 0) (h : History) (k : Kept) → is_cut o ≡ false → B k → KeepsAfter o B h k
+others_keep : (o : Outcome) (B : Kept → Type 0) (h : History) (k : Kept) → renews_kept o ≡ false → B k → KeepsAfter o B h k
 others_keep (outcomes_are.CutAt from to) B h k uncut b = absurd (cc)
+others_keep (outcomes_are.Reborn ps) B h k uncut b = absurd (cc)
 others_keep _ B h k uncut b = b
 
-others_kept : (o : Outcome) (B : Kept → Type 0) (h : History) (k : Kept) → is_cut o ≡ false → KeepsAfter o B h k → B k
+others_kept : (o : Outcome) (B : Kept → Type 0) (h : History) (k : Kept) → renews_kept o ≡ false → KeepsAfter o B h k → B k
 others_kept (outcomes_are.CutAt from to) B h k uncut b = absurd (cc)
+others_kept (outcomes_are.Reborn ps) B h k uncut b = absurd (cc)
 others_kept _ B h k uncut b = b
 
-pub kept_other : (h : History) (e : Entry) (k : Kept) → is_cut e.outcome ≡ false → AreKeptOf h k → AreKeptOf (Then h e) k
+pub kept_other : (h : History) (e : Entry) (k : Kept) → renews_kept e.outcome ≡ false → AreKeptOf h k → AreKeptOf (Then h e) k
 kept_other h e k uncut of = kept-then h e k (others_keep e.outcome (AreKeptOf h) h k uncut of)
 
-pub other_kept : (h : History) (e : Entry) (k : Kept) → is_cut e.outcome ≡ false → AreKeptOf (Then h e) k → AreKeptOf h k
+pub other_kept : (h : History) (e : Entry) (k : Kept) → renews_kept e.outcome ≡ false → AreKeptOf (Then h e) k → AreKeptOf h k
 other_kept h e k uncut of = others_kept e.outcome (AreKeptOf h) h k uncut (then-kept h e k of)
 
 -- ---- one cut
@@ -93,6 +98,7 @@ once_after (outcomes_are.CutAt from to) B h j k one p q =
     let before : p.before ≡ q.before = one p.before q.before p.was q.was in
     let delta : p.delta ≡ q.delta = one_cut h p.delta q.delta p.sound q.sound p.cut q.cut in
     p.is ∙ ((λ i. pushed (before i) (delta i)) ∙ sym q.is)
+once_after (outcomes_are.Reborn ps) B h j k one p q = p ∙ sym q
 once_after _ B h j k one p q = one j k p q
 
 pub one_kept : (h : History) (j k : Kept) → AreKeptOf h j → AreKeptOf h k → j ≡ k
@@ -104,25 +110,34 @@ one_kept (Then h e) j k p q = once_after e.outcome (AreKeptOf h) h j k (one_kept
 abbrev NextGoesOn : Replica → ℕ → Kept → Type 0
 NextGoesOn r n k = (d : DeltaValue) → GoesOn r n d → IsNext k.last d
 
-goes_on_after : (h : History) (o : Outcome) (k : Kept) → CutsHere h o → ((j : Kept) → AreKeptOf h j → NextGoesOn (own h) (last_cut h) j) → KeepsAfter o (AreKeptOf h) h k → NextGoesOn (own h) (cut_after o (last_cut h)) k
-goes_on_after h (outcomes_are.CutAt from to) k here before p =
+goes_on_after : (h : History) (o : Outcome) (k : Kept) → is_again o ≡ false → CutsHere h o → ((j : Kept) → AreKeptOf h j → NextGoesOn (own h) (last_cut h) j) → KeepsAfter o (AreKeptOf h) h k → NextGoesOn (own h) (cut_after o (last_cut h)) k
+goes_on_after h (outcomes_are.Reborn ps) k a here before p = absurd (cc)
+goes_on_after h (outcomes_are.CutAt from to) k a here before p =
     let owner : own h ≡ p.delta.owner = sym p.cut.owner in
     let end : to ≡ p.delta.to = here.1 ∙ sym p.cut.to in
     λ d next. subst (λ (j : Kept). IsNext j.last d) (sym p.is) (record { owned = next.owned ∙ owner; begins = next.begins ∙ end })
-goes_on_after h _ k here before p = before k p
+goes_on_after h _ k a here before p = before k p
 
 begin_goes_on : (s : Start) (k : Kept) → NextGoesOn s.own s.last_cut s.kept → AreKeptOf (Begin s) k → NextGoesOn (own (Begin s)) (last_cut (Begin s)) k
 unfolding own last_cut
 begin_goes_on s k next of = subst (NextGoesOn s.own s.last_cut) (sym (begin-kept s k of)) next
 
-then_goes_on : (h : History) (e : Entry) (k : Kept) → NextGoesOn (own h) (cut_after e.outcome (last_cut h)) k → NextGoesOn (own (Then h e)) (last_cut (Then h e)) k
-unfolding own last_cut
-then_goes_on h e k next = next
+then_goes_on : (h : History) (e : Entry) (k : Kept) → is_reborn e.step ≡ false → NextGoesOn (own h) (cut_after e.outcome (last_cut h)) k → NextGoesOn (own (Then h e)) (last_cut (Then h e)) k
+unfolding last_cut
+then_goes_on h e k n next = subst (λ (r : Replica). NextGoesOn r (cut_after e.outcome (last_cut h)) k) (sym (own-then h e n)) next
+
+anew : (o : Outcome) (B : Kept → Type 0) (h : History) (k : Kept) → is_again o ≡ true → KeepsAfter o B h k → k ≡ nothing_kept
+anew (outcomes_are.Reborn ps) B h k a of = of
+anew _ B h k a of = absurd (cc)
 
 -- what is cut next goes on from the kept deltas
 pub goes_on_from : (h : History) (k : Kept) → IsLegal h → AreKeptOf h k → (d : DeltaValue) → GoesOn (own h) (last_cut h) d → IsNext k.last d
 goes_on_from (Begin s) k l of = begin_goes_on s k l.kept of
-goes_on_from (Then h e) k l of = then_goes_on h e k (goes_on_after h e.outcome k (cuts_here h e.step e.outcome l.1) (λ j p. goes_on_from h j l.0 p) (then-kept h e k of))
+goes_on_from (Then h e) k l of = go (is_again e.outcome) refl (λ j p. goes_on_from h j l.0 p)
+  where
+    go : (b : Bool) → is_again e.outcome ≡ b → ((j : Kept) → AreKeptOf h j → NextGoesOn (own h) (last_cut h) j) → NextGoesOn (own (Then h e)) (last_cut (Then h e)) k
+    go false a ih = then_goes_on h e k (plain_step h e l a) (goes_on_after h e.outcome k a (cuts_here h e.step e.outcome l.1) ih (then-kept h e k of))
+    go true a ih = λ d next. subst (λ (j : Kept). IsNext j.last d) (sym (anew e.outcome (AreKeptOf h) h k a (then-kept h e k of))) tt
 
 pub next_cut : (h : History) (k : Kept) (d : DeltaValue) → IsLegal h → AreKeptOf h k → IsCut h d → IsNext k.last d
 next_cut h k d l of cut = goes_on_from h k l of d (record { owned = cut.owner; begins = cut.from })

@@ -6,6 +6,7 @@ pub mod Goings
 pub mod KeptLemmas
 mod Joined
 mod PlainLemmas
-pub mod PartRows
-pub mod PartFacts
 pub mod CutShort
+pub mod PartFacts
+pub mod PartRows
+pub mod PickedLemmas

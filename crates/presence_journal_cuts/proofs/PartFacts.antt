@@ -22,9 +22,10 @@ use Rattle.presence_journal.specs.Table.{IsLegal}
 use Rattle.presence_journal.proofs.Same.{same_replica-true, same_replica-refl}
 use Rattle.presence_journal.proofs.Walking.{count-limit}
 use Rattle.presence_journal.proofs.HistoryLemmas.{legal_knows, known_parts}
+use Rattle.presence_journal_sets.proofs.RebornLemmas.{row_limits}
 use Rattle.presence_journal_cuts.specs.ToldParts.{IsPart, IsLargestPart, HasNoPart, GoesFar, row_of_count, is_vacant}
 use Rattle.presence_journal_cuts.specs.Parting.{AreOwnRows, vacant, rows_above, end_of}
-use Rattle.presence_journal_cuts.proofs.Keeping.{own_limit, known_is_dot, row_limits, each_found, no_repeat, all_of}
+use Rattle.presence_journal_cuts.proofs.Keeping.{own_limit, known_is_dot, each_found, no_repeat, all_of}
 use Rattle.presence_journal_cuts.proofs.PartRows.{Ascend, Within, ascending, in_order, holds_vacant, runs_vacant, ends_vacant, end_from, end_within, rows_ascend, rows_found, few_rows, goes_far}
 
 live_row_of : (h : History) (d : Dot) (r : Row) → live h d ≡ Some r → row h d ≡ Some r
@@ -56,7 +57,7 @@ module _ (h : History) (l : IsLegal h) (es : List (Dot × Row)) (rows : AreOwnRo
             of = mine;
             positive = parts.0;
             within = parts.1;
-            limits = and_from (is_dot d) (is_row r) (known_is_dot h l d mine known) (row_limits h l d mine r has_row);
+            limits = and_from (is_dot d) (is_row r) (known_is_dot h l d mine known) (row_limits h l d r has_row);
           }
       go false p g = absurd (cc)
 

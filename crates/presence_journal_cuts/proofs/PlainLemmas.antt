@@ -102,7 +102,7 @@ out_legal = subst IsLegal is_out (ran_legal empty all_steps empty_legal refl)
 
 recent_once : (d : Dot) → recent once d ≡ cond (same_dot d (dot 1)) (Some (row_of 1 here None)) None
 recent_once d =
-    recent-then empty (entry 1 (track 1) (outcomes_are.Added (dot 1))) d once_legal
+    recent-then empty (entry 1 (track 1) (outcomes_are.Added (dot 1))) d once_legal refl
     ∙ (ap (λ o. first_some (cond (same_dot d (dot 1)) (Some (row_of 1 here None)) None) o) (recent-begin (start_of empty) d)
     ∙ first_none (cond (same_dot d (dot 1)) (Some (row_of 1 here None)) None))
 
@@ -112,8 +112,8 @@ neither false = refl
 
 recent_out : (d : Dot) → recent out d ≡ None
 recent_out d =
-    recent-then told_twice (entry 5 (untrack 1) (outcomes_are.Removed (dot 2 ∷ []))) d out_legal
-    ∙ (ap (λ o. cond (same_dot d (dot 2) || false) None o) (recent-then twice (entry 4 steps_are.Cut (outcomes_are.CutAt 1 2)) d out_legal.0)
+    recent-then told_twice (entry 5 (untrack 1) (outcomes_are.Removed (dot 2 ∷ []))) d out_legal refl
+    ∙ (ap (λ o. cond (same_dot d (dot 2) || false) None o) (recent-then twice (entry 4 steps_are.Cut (outcomes_are.CutAt 1 2)) d out_legal.0 refl)
     ∙ neither (same_dot d (dot 2) || false))
 
 cut_once : IsPlainCut once first_delta

@@ -9,10 +9,10 @@ use Rattle.dot_context_runs.specs.Runs.{holds, AreLong}
 use Rattle.dot_context.specs.Sets.{in_range, listed}
 use Rattle.presence_journal_data.specs.declared.entry.Outcome.TheVariants as outcomes_are
 use Rattle.presence_journal.specs.Steps.{Outcome, Entry, Start}
-use Rattle.presence_journal.specs.History.{first_some, cut_after, row_added}
+use Rattle.presence_journal.specs.History.{History, Then, first_some, cut_after, row_added}
 use Rattle.presence_journal.specs.Present.{dots_taken}
 use Rattle.presence_journal.specs.Walk.{row_at, without_dots}
-use Rattle.presence_journal_cuts.specs.Cuts.{goes, older_after}
+use Rattle.presence_journal_cuts.specs.Cuts.{goes, older_after, recent}
 
 abbrev pub Chains : Type 0
 Chains = BTreeMap ℕ (List (ℕ × ℕ))
@@ -78,6 +78,10 @@ unless_cut _ o = o
 abbrev pub recent_after : Entry → (Dot → Option Row) → Dot → Option Row
 recent_after e f d =
     unless_cut e.outcome (first_some (row_added e.step e.outcome d) (without_dots (dots_taken e.outcome) f d))
+
+-- g gives the rows above the last cut of a history that ends with the entry, where f gives those before it
+abbrev pub AreNextRecent : Entry → History → (Dot → Option Row) → (Dot → Option Row) → Type 0
+AreNextRecent e h f g = (before : History) → h ≡ Then before e → ((d : Dot) → f d ≡ recent before d) → (d : Dot) → g d ≡ recent h d
 
 -- a dot of a Start's own counts above its last cut
 abbrev pub is_recent : Start → Dot → Bool

@@ -26,6 +26,7 @@ left_at gone chain c n = cond (nat_eq c gone) false (chain c n)
 abbrev pub chain_after : Outcome → (ℕ → ℕ → Bool) → ℕ → ℕ → Bool
 chain_after (outcomes_are.Replaced new old) chain c n =
     cond (nat_eq c new.count) (stands_for chain old.count n) (left_at old.count chain c n)
+chain_after (outcomes_are.Reborn pairs) chain c n = false
 chain_after _ chain c n = chain c n
 
 -- the chain that a list has for a count
@@ -43,6 +44,7 @@ goes chain ds n = list_any (λ d. stands_for chain d.count n) ds
 
 abbrev pub older_after : Outcome → ℕ → (ℕ → ℕ → Bool) → (ℕ → Bool) → ℕ → Bool
 older_after (outcomes_are.CutAt from to) last chain older n = false
+older_after (outcomes_are.Reborn pairs) last chain older n = false
 older_after o last chain older n = older n || (nat_le n last && goes chain (dots_taken o) n)
 
 -- the counts at or below the last cut that went since: who knows what removed them knows them all as removed

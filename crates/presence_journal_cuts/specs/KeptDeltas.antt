@@ -6,13 +6,15 @@ use Rattle.delta_range.specs.Deltas.{DeltaValue, telling_in, IsDelta}
 use Rattle.delta_range.specs.Keeping.{Kept, pushed, from_count}
 use Rattle.presence_journal_data.specs.declared.entry.Outcome.TheVariants as outcomes_are
 use Rattle.presence_journal.specs.Steps.{Outcome}
-use Rattle.presence_journal.specs.History.{History, Begin, Then}
+use Rattle.presence_journal.specs.History.{History, Begin, Then, nothing_kept}
 use Rattle.presence_journal_sets.specs.Full.{IsFullOf}
 use Rattle.presence_journal_cuts.specs.Cuts.{IsCut}
 
-abbrev pub is_cut : Outcome → Bool
-is_cut (outcomes_are.CutAt from to) = true
-is_cut _ = false
+-- what is kept changes: a cut adds to it, and behind a rebirth nothing is kept
+abbrev pub renews_kept : Outcome → Bool
+renews_kept (outcomes_are.CutAt from to) = true
+renews_kept (outcomes_are.Reborn pairs) = true
+renews_kept _ = false
 
 -- what a cut of h tells comes to what was kept before it
 pub record IsPushed (Before : Kept → Type 0) (h : History) (k : Kept) : Type 0 where
@@ -23,9 +25,10 @@ pub record IsPushed (Before : Kept → Type 0) (h : History) (k : Kept) : Type 0
   pub sound : IsDelta delta
   pub is : k ≡ pushed before delta
 
--- nothing but a cut changes what is kept
+-- what is kept behind an outcome: a cut is pushed, a rebirth leaves nothing, and all else leaves it
 abbrev pub KeepsAfter : Outcome → (Kept → Type 0) → History → Kept → Type 0
 KeepsAfter (outcomes_are.CutAt from to) Before h k = IsPushed Before h k
+KeepsAfter (outcomes_are.Reborn pairs) Before h k = k ≡ nothing_kept
 KeepsAfter o Before h k = Before k
 
 -- what the Start holds, with each cut since

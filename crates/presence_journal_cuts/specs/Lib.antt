@@ -3,5 +3,6 @@ pub mod Chains
 pub mod Joined
 pub mod Plain
 pub mod KeptDeltas
-pub mod ToldParts
 pub mod Parting
+pub mod Reborn
+pub mod ToldParts

@@ -150,6 +150,10 @@ pub(crate) fn hand_on(
     ensures chains { OnOk result (Chained (has chains.new) (chain_after outcome.now (has chains.old))) }
     ensures long { OnOk result (AreChains chains.new) }
 {
+    if let Outcome::Reborn(_) = outcome {
+        *chains = BTreeMap::new(alloc);
+        return Ok(());
+    }
     if let Outcome::Replaced(new, old) = outcome {
         let mut chain = taken_chain(alloc, chains, old.count);
         chain.push(old.count)?;

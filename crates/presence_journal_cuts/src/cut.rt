@@ -20,5 +20,5 @@ pub fn walk_cut(alloc: Global, journal: &Journal) -> Result<Delta, AllocError>
     let runs = walk_older(alloc, journal)?;
     let older = longest(alloc, runs)?;
     let rows = recent_rows(alloc, journal)?;
-    Ok(Delta::new(*journal.own(), from, to, older, rows))
+    Ok(Delta::new(journal.own(), from, to, older, rows))
 }

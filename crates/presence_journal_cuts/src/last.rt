@@ -11,6 +11,7 @@ pub(crate) fn last_after(outcome: &Outcome, last: u64) -> u64
 {
     match outcome {
         Outcome::CutAt(_, to) => *to,
+        Outcome::Reborn(_) => 0,
         _ => last,
     }
 }

@@ -64,7 +64,7 @@ fn go_out(
     ensures kept { OnOk result (KeptAfter outcome.now last chains.now runs.old.items runs.new.items) }
 {
     match outcome {
-        Outcome::CutAt(_, _) => {
+        Outcome::CutAt(_, _) | Outcome::Reborn(_) => {
             *runs = Vec::new(alloc);
             Ok(())
         }

@@ -1,21 +1,24 @@
 // The own rows above the last cut.
-ghost use Rattle.std.specs.Prelude.{◌≡◌, None, cond, IfOk, OnErr, OnOk};
+ghost use Rattle.std.specs.Prelude.{◌≡◌, Some, None, cond, IfOk, OnErr, OnOk};
 ghost use Rattle.std.specs.BTreeMap.{get};
 ghost use Rattle.std.specs.List.Sorted.{IsStrictlySortedBy};
 ghost use Rattle.std.specs.Map.{keys_of, lookup};
 ghost use Rattle.presence_base.specs.declared.dots.Dot.{Dot};
-ghost use Rattle.presence_base.specs.Order.{dot_cmp, same_dot};
-ghost use Rattle.presence_journal.specs.History.{row_added};
+ghost use Rattle.presence_base.specs.Order.{dot_cmp, same_dot, same_replica};
+ghost use Rattle.presence_journal.specs.History.{Begin, onto, row_added};
 ghost use Rattle.presence_journal.specs.Walk.{row_at, without_dots};
 ghost use Rattle.presence_journal_sets.specs.ByDot.{Alike, over};
-ghost use Rattle.presence_journal_cuts.specs.Chains.{recent_after};
+ghost use Rattle.presence_journal.specs.Table.{IsLegal};
+ghost use Rattle.presence_journal_cuts.specs.Chains.{recent_after, AreNextRecent};
+ghost use Rattle.presence_journal_cuts.specs.Reborn.{of_replica, own_live};
 ghost use Rattle.presence_journal_cuts.specs.Cuts.{recent};
 
 use crate::kept::kept_rows;
 use crate::last::dots_out;
-use presence_base::{Dot, Row};
-use presence_journal::{Entry, Journal, Outcome};
-use presence_journal_sets::made_row;
+use orswot_core::Orswot;
+use presence_base::{Dot, Replica, Row};
+use presence_journal::{Entry, Journal, Outcome, Start, own_of};
+use presence_journal_sets::{made_row, walk_set_of};
 use std::alloc::{AllocError, Global};
 use std::collections::BTreeMap;
 
@@ -85,6 +88,71 @@ fn take_entry(alloc: Global, rows: &mut BTreeMap<Dot, Row>, entry: &Entry) -> Re
     put_row(rows, added)
 }
 
+// The row with its dot, where it is kept.
+fn kept_row(is_kept: bool, dot: &Dot, row: &Row) -> Result<Option<(Dot, Row)>, AllocError>
+    ensures { IfOk result (λ o. o ≡ cond is_kept (Some (dot.now, row.now)) None) }
+{
+    if is_kept {
+        Ok(Some((*dot, row.clone()?)))
+    } else {
+        Ok(None)
+    }
+}
+
+// Whether the dot is of the replica.
+fn is_of(dot: &Dot, own: &Replica) -> bool
+    ensures { result ≡ same_replica dot.now.replica own.now }
+{
+    dot.replica.cmp(own).is_eq()
+}
+
+// The live rows of a replica, by dot.
+fn rows_of(alloc: Global, set: &Orswot, own: &Replica) -> Result<BTreeMap<Dot, Row>, AllocError>
+    ensures { IfOk result (λ m. Alike (get dot_cmp m) (of_replica own.now set.now)) }
+{
+    let mut rows = BTreeMap::new(alloc);
+    for (dot, row) in set.rows() {
+        let is_kept = is_of(dot, own);
+        put_row(&mut rows, kept_row(is_kept, dot, row)?)?;
+    }
+    Ok(rows)
+}
+
+// The own rows after these entries, all of which are above the last cut where the last entry is a rebirth.
+fn own_rows(
+    alloc: Global,
+    start: &Start,
+    entries: &[Entry],
+) -> Result<BTreeMap<Dot, Row>, AllocError>
+    requires { IsLegal (onto (Begin start.now) entries.now) }
+    ensures { IfOk result (λ m. Alike (get dot_cmp m) (own_live (onto (Begin start.now) entries.now))) }
+{
+    let own = own_of(start, entries);
+    let set = walk_set_of(alloc, start, entries)?;
+    rows_of(alloc, &set, &own)
+}
+
+// Takes the last of these entries into the rows.
+fn next_rows(
+    alloc: Global,
+    rows: &mut BTreeMap<Dot, Row>,
+    start: &Start,
+    entries: &[Entry],
+    entry: &Entry,
+) -> Result<(), AllocError>
+    requires { IsLegal (onto (Begin start.now) entries.now) }
+    ensures { OnOk result
+        (AreNextRecent entry.now (onto (Begin start.now) entries.now) (get dot_cmp rows.old) (get dot_cmp rows.new)) }
+{
+    match &entry.outcome {
+        Outcome::Reborn(_) => {
+            *rows = own_rows(alloc, start, entries)?;
+            Ok(())
+        }
+        _ => take_entry(alloc, rows, entry),
+    }
+}
+
 // The own rows above the last cut, by dot.
 fn walk_recent(alloc: Global, journal: &Journal) -> Result<BTreeMap<Dot, Row>, AllocError>
     ensures { IfOk result (λ m. Alike (get dot_cmp m) (recent journal.now)) }
@@ -92,8 +160,8 @@ fn walk_recent(alloc: Global, journal: &Journal) -> Result<BTreeMap<Dot, Row>, A
     let start = journal.start();
     let entries = journal.entries();
     let mut rows = kept_rows(alloc, start)?;
-    for entry in entries {
-        take_entry(alloc, &mut rows, entry)?;
+    for (place, entry) in entries.iter().enumerate() {
+        next_rows(alloc, &mut rows, start, &entries[..place + 1], entry)?;
     }
     Ok(rows)
 }

@@ -50,3 +50,4 @@ is_within_limits (steps_are.Tick now) = true
 is_within_limits (steps_are.PermDown replica) = is_node_name replica.name
 is_within_limits steps_are.Cut = true
 is_within_limits (steps_are.Merge told) = is_heard told
+is_within_limits (steps_are.Rebirth incarnation) = nat_le 1 incarnation && nat_le incarnation (2 ^ 62)

@@ -70,6 +70,59 @@ impl Dots {
     }
 }
 
+/// Dots that came in the place of others: each new one with the old one.
+#[derive(Debug)]
+pub struct Pairs {
+    items: Vec<(Dot, Dot)>,
+}
+
+impl Drop for Pairs {
+    fn drop(self) {
+        let Pairs { items } = self;
+        drop(items);
+    }
+}
+
+impl Model for Pairs {
+    ghost use Rattle.std.specs.Prelude.{List};
+    ghost use Rattle.std.specs.Coded.{coded_list, coded×};
+    ghost use Rattle.presence_base.specs.declared.dots.Dot.{Dot};
+    ghost use Rattle.presence_base.specs.Codes.{dot_code};
+
+    ghost Value = { List (Dot × Dot) };
+
+    ghost coded = { coded_list (coded× dot_code dot_code) };
+
+    ghost view = { λ p. p.items.items };
+}
+
+impl Clone for Pairs {
+    ghost use Rattle.std.specs.Prelude.{◌≡◌};
+
+    ghost is_clone = { λ p q. q ≡ p };
+
+    fn clone(&self) -> Result<Pairs, AllocError> {
+        let items = self.items.clone()?;
+        Ok(Pairs { items })
+    }
+}
+
+impl Pairs {
+    ghost use Rattle.std.specs.Prelude.{◌≡◌};
+
+    pub fn new(items: Vec<(Dot, Dot)>) -> Pairs
+        ensures { result ≡ items.items }
+    {
+        Pairs { items }
+    }
+
+    pub fn as_slice(&self) -> &[(Dot, Dot)]
+        ensures { result.now ≡ self.now }
+    {
+        self.items.as_slice()
+    }
+}
+
 /// What a step came to.
 #[derive(Debug, Drop)]
 pub enum Outcome {
@@ -97,6 +150,8 @@ pub enum Outcome {
     CutAt(u64, u64),
     /// What was told is taken in.
     Merged,
+    /// A rebirth put the own rows under new dots.
+    Reborn(Pairs),
 }
 
 /// One step of a shard, with what it came to.
@@ -172,6 +227,7 @@ impl Clone for Outcome {
             Outcome::Noted => Ok(Outcome::Noted),
             Outcome::CutAt(from, to) => Ok(Outcome::CutAt(*from, *to)),
             Outcome::Merged => Ok(Outcome::Merged),
+            Outcome::Reborn(pairs) => Ok(Outcome::Reborn(pairs.clone()?)),
         }
     }
 }

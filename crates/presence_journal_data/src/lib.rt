@@ -13,7 +13,7 @@ mod step;
 mod text_bytes;
 
 pub use delta_range::Generations;
-pub use entry::{Dots, Entry, Outcome, Start};
+pub use entry::{Dots, Entry, Outcome, Pairs, Start};
 pub use limits::{MAX_PAYLOAD_DEPTH, MAX_TAKEN, Payload, TakeLimit};
 pub use presence_journal_kept::{Chains, Runs, Standings, Subscribers};
 pub use rows::{Item, Place, RowDiff, Rows};

@@ -73,6 +73,10 @@ pub enum Step {
     Merge {
         told: Told,
     },
+    /// The own replica goes on under a higher incarnation.
+    Rebirth {
+        incarnation: u64,
+    },
 }
 
 // Each of these makes a step of what a caller lends, and reads a text or a value only to show its limits.
@@ -286,6 +290,9 @@ impl Clone for Step {
             Step::PermDown { replica } => Ok(Step::PermDown { replica: *replica }),
             Step::Cut => Ok(Step::Cut),
             Step::Merge { told } => Step::merge(told),
+            Step::Rebirth { incarnation } => Ok(Step::Rebirth {
+                incarnation: *incarnation,
+            }),
         }
     }
 }

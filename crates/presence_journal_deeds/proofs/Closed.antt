@@ -13,14 +13,15 @@ use Rattle.presence_journal.specs.Present.{dots_taken}
 use Rattle.presence_journal.specs.Table.{IsLegal}
 use Rattle.presence_journal.proofs.Same.{same_dot-true, same_dot-refl}
 use Rattle.presence_journal.proofs.PresentLemmas.{shown-row}
-use Rattle.presence_journal.proofs.HistoryLemmas.{IsOwnShown, Kind, Adds, Replaces, Removes, Quiet, kind_of, is_quiet, quiet_row, legal_knows, count-then}
+use Rattle.presence_journal.proofs.HistoryLemmas.{IsOwnShown, Kind, Adds, Replaces, Removes, Quiet, kind_of, is_quiet, quiet_row, legal_knows, count-then, kind_plain, own-then}
 use Rattle.presence_journal_cuts.specs.Cuts.{stands_for, left_at, chain_after, chain, goes, older_after, older}
-use Rattle.presence_journal_cuts.specs.KeptDeltas.{is_cut}
+use Rattle.presence_journal_cuts.specs.KeptDeltas.{renews_kept}
 use Rattle.presence_journal_cuts.proofs.Histories.{CutsHere, cuts_here, last_cut-low, own_shown}
 use Rattle.presence_journal_deeds.specs.Deeds.{Deeds, removes_by, with_entry}
 use Rattle.presence_journal_deeds.specs.Truth.{AreDeeds, IsOwners, IsShownAt, IsClosed}
 use Rattle.presence_journal_deeds.proofs.Effects.{Effects, effects}
 use Rattle.presence_journal_deeds.proofs.Entries.{at_own}
+use Rattle.presence_journal.specs.Walk.{is_reborn, is_again}
 
 -- ---- what goes with dots
 
@@ -54,26 +55,32 @@ goes_to ch (y ∷ ys) n p = go (or_cases (same_dot p.0 y) (has_dot ys p.0) p.1) 
     go (inl e) ih = or_left (stands_for ch y.count n) (goes ch ys n) (subst (λ (z : Dot). stands_for ch z.count n ≡ true) (same_dot-true p.0 y e) (stood ch (p.0).count n p.2))
     go (inr m) ih = or_right (stands_for ch y.count n) (goes ch ys n) (ih m)
 
--- ---- an entry that is no cut
+-- ---- an entry that is neither a cut nor a rebirth
 
-uncut_after : (o : Outcome) (n : ℕ) → is_cut o ≡ false → cut_after o n ≡ n
+uncut_after : (o : Outcome) (n : ℕ) → renews_kept o ≡ false → cut_after o n ≡ n
 uncut_after (outcomes_are.CutAt a b) n q = absurd (cc)
+uncut_after (outcomes_are.Reborn ps) n q = absurd (cc)
 uncut_after _ n q = refl
 
-uncut_older : (o : Outcome) (last : ℕ) (ch : ℕ → ℕ → Bool) (old : ℕ → Bool) (n : ℕ) → is_cut o ≡ false → older_after o last ch old n ≡ (old n || (nat_le n last && goes ch (dots_taken o) n))
+uncut_older : (o : Outcome) (last : ℕ) (ch : ℕ → ℕ → Bool) (old : ℕ → Bool) (n : ℕ) → renews_kept o ≡ false → older_after o last ch old n ≡ (old n || (nat_le n last && goes ch (dots_taken o) n))
 uncut_older (outcomes_are.CutAt a b) last ch old n q = absurd (cc)
+uncut_older (outcomes_are.Reborn ps) last ch old n q = absurd (cc)
 uncut_older _ last ch old n q = refl
 
 unreplaced : (o : Outcome) (ch : ℕ → ℕ → Bool) (c n : ℕ) → is_quiet o ≡ true → chain_after o ch c n ≡ ch c n
 unreplaced (outcomes_are.Replaced a b) ch c n q = absurd (cc)
+unreplaced (outcomes_are.Reborn ps) ch c n q = absurd (cc)
 unreplaced _ ch c n q = refl
 
-module _ (x : Deeds) (h : History) (e : Entry) (are : AreDeeds x) (l : IsLegal (Then h e)) (o : IsOwners x h) (c : IsClosed x h) where
+module _ (x : Deeds) (h : History) (e : Entry) (are : AreDeeds x) (l : IsLegal (Then h e)) (lasts : is_reborn e.step ≡ false) (o : IsOwners x h) (c : IsClosed x h) where
   abbrev y : Deeds
   y = with_entry x h e
 
   kind : Kind h e.step e.outcome
-  kind = kind_of h e.step e.outcome l.1
+  kind = kind_of h e.step e.outcome lasts l.1
+
+  plain : is_again e.outcome ≡ false
+  plain = kind_plain h e.step e.outcome kind
 
   did : Effects h e
   did = effects h e kind
@@ -135,8 +142,7 @@ module _ (x : Deeds) (h : History) (e : Entry) (are : AreDeeds x) (l : IsLegal (
   Comes = (r : Row) × (row_added e.step e.outcome (next_dot h) ≡ Some r)
 
   shown_cases : (n : ℕ) → IsShownAt (Then h e) n → ((n ≡ count h + 1) × Comes) ⊎ (IsShownAt h n × (has_dot (dots_taken e.outcome) (dot_of (own h) n) ≡ false))
-  unfolding own
-  shown_cases n s = go (row_added e.step e.outcome (dot_of (own h) n)) (has_dot (dots_taken e.outcome) (dot_of (own h) n)) refl refl (sym (own_shown h e (dot_of (own h) n) l refl) ∙ s.1)
+  shown_cases n s = go (row_added e.step e.outcome (dot_of (own h) n)) (has_dot (dots_taken e.outcome) (dot_of (own h) n)) refl refl (sym (own_shown h e (dot_of (own h) n) l plain refl) ∙ (ap (λ q. shown (Then h e) (dot_of q n)) (sym (own-then h e lasts)) ∙ s.1))
     where
       go : (a : Option Row) (b : Bool) → row_added e.step e.outcome (dot_of (own h) n) ≡ a → has_dot (dots_taken e.outcome) (dot_of (own h) n) ≡ b → first_some a (cond b None (shown h (dot_of (own h) n))) ≡ Some s.0
           → ((n ≡ count h + 1) × ((r : Row) × (row_added e.step e.outcome (next_dot h) ≡ Some r))) ⊎ (IsShownAt h n × (has_dot (dots_taken e.outcome) (dot_of (own h) n) ≡ false))
@@ -154,7 +160,7 @@ module _ (x : Deeds) (h : History) (e : Entry) (are : AreDeeds x) (l : IsLegal (
     all : (m n : ℕ) → y.removes m n ≡ true → last_cut (Then h e) < m → n ≤ last_cut (Then h e) → older (Then h e) n ≡ true
     closed : (m n : ℕ) → y.removes m n ≡ true → older (Then h e) m ≡ true → older (Then h e) n ≡ true
 
-  older_uncut : is_cut e.outcome ≡ false → OlderIs
+  older_uncut : renews_kept e.outcome ≡ false → OlderIs
   unfolding older last_cut
   older_uncut un = record { low = low; all = all; closed = closed }
     where
@@ -243,18 +249,19 @@ module _ (x : Deeds) (h : History) (e : Entry) (are : AreDeeds x) (l : IsLegal (
     where
       go : (z : Outcome) → e.outcome ≡ z → OlderIs
       go (outcomes_are.CutAt a b) q = older_cut a b q
-      go (outcomes_are.Added d) q = older_uncut (ap is_cut q)
-      go (outcomes_are.Replaced d old) q = older_uncut (ap is_cut q)
-      go outcomes_are.AlreadyTracked q = older_uncut (ap is_cut q)
-      go outcomes_are.NoPresence q = older_uncut (ap is_cut q)
-      go (outcomes_are.Removed ds) q = older_uncut (ap is_cut q)
-      go (outcomes_are.Shown ds) q = older_uncut (ap is_cut q)
-      go (outcomes_are.Subscribed n) q = older_uncut (ap is_cut q)
-      go (outcomes_are.Taken s i) q = older_uncut (ap is_cut q)
-      go outcomes_are.Ended q = older_uncut (ap is_cut q)
-      go outcomes_are.Sent q = older_uncut (ap is_cut q)
-      go outcomes_are.Noted q = older_uncut (ap is_cut q)
-      go outcomes_are.Merged q = older_uncut (ap is_cut q)
+      go (outcomes_are.Added d) q = older_uncut (ap renews_kept q)
+      go (outcomes_are.Replaced d old) q = older_uncut (ap renews_kept q)
+      go outcomes_are.AlreadyTracked q = older_uncut (ap renews_kept q)
+      go outcomes_are.NoPresence q = older_uncut (ap renews_kept q)
+      go (outcomes_are.Removed ds) q = older_uncut (ap renews_kept q)
+      go (outcomes_are.Shown ds) q = older_uncut (ap renews_kept q)
+      go (outcomes_are.Subscribed n) q = older_uncut (ap renews_kept q)
+      go (outcomes_are.Taken s i) q = older_uncut (ap renews_kept q)
+      go outcomes_are.Ended q = older_uncut (ap renews_kept q)
+      go outcomes_are.Sent q = older_uncut (ap renews_kept q)
+      go outcomes_are.Noted q = older_uncut (ap renews_kept q)
+      go outcomes_are.Merged q = older_uncut (ap renews_kept q)
+      go (outcomes_are.Reborn ps) q = let f : false ≡ true = sym plain ∙ ap is_again q in absurd (cc)
 
   -- ---- chains
 
@@ -285,7 +292,7 @@ module _ (x : Deeds) (h : History) (e : Entry) (are : AreDeeds x) (l : IsLegal (
 
   -- an entry that replaces no row
   chains_same : ((b n : ℕ) → chain (Then h e) b n ≡ chain h b n) → ((n : ℕ) → Comes → Taken n → ⊥) → ChainsAre
-  chains_same same apart = record { first = first; closed = closed; low = low; unused = λ b n u pos. same b n ∙ c.chain_unused b n (omega (arith, u, count-then h e)) pos }
+  chains_same same apart = record { first = first; closed = closed; low = low; unused = λ b n u pos. same b n ∙ c.chain_unused b n (omega (arith, u, count-then h e plain)) pos }
     where
       unused_here : (b n : ℕ) → b ≡ count h + 1 → 0 < n → chain h b n ≡ true → ⊥
       unused_here b n p pos f = both_ways (chain h b n) (c.chain_unused b n (omega (arith, p)) pos) f
@@ -391,7 +398,7 @@ module _ (x : Deeds) (h : History) (e : Entry) (are : AreDeeds x) (l : IsLegal (
           go (inr p) = old_low b p.0 n pos (sym (kept b n p.0 p.1) ∙ f)
 
       unused : (b n : ℕ) → count (Then h e) < b → 0 < n → chain_after e.outcome (chain h) b n ≡ false
-      unused b n u pos = elsewhere b n (λ p. omega (arith, p, u, count-then h e, ap counts_used q)) (λ p. omega (arith, p, u, count-then h e, below.1)) ∙ c.chain_unused b n (omega (arith, u, count-then h e)) pos
+      unused b n u pos = elsewhere b n (λ p. omega (arith, p, u, count-then h e plain, ap counts_used q)) (λ p. omega (arith, p, u, count-then h e plain, below.1)) ∙ c.chain_unused b n (omega (arith, u, count-then h e plain)) pos
 
   chains_are : ChainsAre
   unfolding chain
@@ -404,13 +411,15 @@ module _ (x : Deeds) (h : History) (e : Entry) (are : AreDeeds x) (l : IsLegal (
       go (Quiet q) = chains_same (λ b n. unreplaced e.outcome (chain h) b n q) (λ n r f. let g : None ≡ Some r.0 = sym (quiet_row e.step e.outcome (next_dot h) q) ∙ r.1 in absurd (cc))
 
   pub closed_then : IsClosed (with_entry x h e) (Then h e)
-  unfolding own
   closed_then = record {
-    older_low = older_is.low;
+    older_low = λ n p f. let q = older_is.low n p f in (q.0, still_own n q.1);
     older_all = older_is.all;
     older_closed = older_is.closed;
     chain_first = chains_are.first;
     chain_closed = chains_are.closed;
-    chain_low = chains_are.low;
+    chain_low = λ b n s p f. let q = chains_are.low b n s p f in (q.0, still_own n q.1);
     chain_unused = chains_are.unused;
   }
+    where
+      still_own : (n : ℕ) → removed (Then h e) (dot_of (own h) n) ≡ true → removed (Then h e) (dot_of (own (Then h e)) n) ≡ true
+      still_own n f = ap (λ q. removed (Then h e) (dot_of q n)) (own-then h e lasts) ∙ f

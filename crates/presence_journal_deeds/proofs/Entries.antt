@@ -12,18 +12,19 @@ use Rattle.presence_journal.specs.History.{History, Then, own, count, counts_use
 use Rattle.presence_journal.specs.Present.{dots_taken}
 use Rattle.presence_journal.specs.Table.{IsLegal}
 use Rattle.presence_journal.proofs.PresentLemmas.{shown-row}
-use Rattle.presence_journal.proofs.HistoryLemmas.{IsOwnShown, kind_of, legal_knows, count-then, counted_parts, known_from, known_cases}
+use Rattle.presence_journal.proofs.HistoryLemmas.{IsOwnShown, kind_of, legal_knows, count-then, counted_parts, known_from, known_cases, kind_plain, own-then, brought_told}
 use Rattle.presence_journal_deeds.specs.Deeds.{Deeds, AllDeeds, removes_by, with_entry}
 use Rattle.presence_journal_deeds.specs.Truth.{AreDeeds, IsHonest, IsOwners, IsTrueOf, DoMore}
 use Rattle.presence_journal_deeds.specs.Laws.{then_did, HearsTrue, EntriesAreDeeds}
 use Rattle.presence_journal_deeds.proofs.Effects.{Effects, effects, heard_covers, heard_removes, heard_row, removed_heard}
 use Rattle.presence_journal_deeds.proofs.More.{put_same, entries_go_on}
+use Rattle.presence_journal.specs.Walk.{is_reborn, is_again}
 
 -- a dot of this replica, by its count
 pub at_own : (r : Replica) (d : Dot) → d.replica ≡ r → dot_of r d.count ≡ d
 at_own r d o = λ i. record { replica = sym o i; count = d.count }
 
-module _ (deeds : AllDeeds) (h : History) (e : Entry) (are : (r : Replica) → AreDeeds (deeds r)) (t : IsTrueOf deeds h) (l : IsLegal (Then h e)) where
+module _ (deeds : AllDeeds) (h : History) (e : Entry) (are : (r : Replica) → AreDeeds (deeds r)) (t : IsTrueOf deeds h) (l : IsLegal (Then h e)) (lasts : is_reborn e.step ≡ false) where
   abbrev x : Deeds
   x = deeds (own h)
 
@@ -31,7 +32,13 @@ module _ (deeds : AllDeeds) (h : History) (e : Entry) (are : (r : Replica) → A
   new = then_did deeds h e
 
   did : Effects h e
-  did = effects h e (kind_of h e.step e.outcome l.1)
+  did = effects h e (kind_of h e.step e.outcome lasts l.1)
+
+  plain : is_again e.outcome ≡ false
+  plain = kind_plain h e.step e.outcome (kind_of h e.step e.outcome lasts l.1)
+
+  known_ways : (d : Dot) → known (Then h e) d ≡ true → (known h d ≡ true) ⊎ ((is_counted (own h) (count (Then h e)) d ≡ true) ⊎ (told_covers h e.step d ≡ true))
+  known_ways d f = subst (λ (q : Replica). (known h d ≡ true) ⊎ ((is_counted q (count (Then h e)) d ≡ true) ⊎ (told_covers h e.step d ≡ true))) (own-then h e lasts) (known_cases h e d f)
 
   own_low : (d : Dot) → IsOwnShown h d → (0 < d.count) × (d.count ≤ x.used)
   own_low d s =
@@ -130,10 +137,9 @@ module _ (deeds : AllDeeds) (h : History) (e : Entry) (are : (r : Replica) → A
   -- ---- the owner's own history
 
   pub owners_then : IsOwners (with_entry x h e) (Then h e)
-  unfolding own
   owners_then = record {
-    used = ap (λ n. n + counts_used e.outcome) t.owners.used ∙ sym (count-then h e);
-    went = λ n f. go n (or_cases (x.went n) (dot_removed e.outcome (next_dot h) (dot_of (own h) n)) f);
+    used = ap (λ n. n + counts_used e.outcome) t.owners.used ∙ sym (count-then h e plain);
+    went = λ n f. ap (λ q. removed (Then h e) (dot_of q n)) (own-then h e lasts) ∙ go n (or_cases (x.went n) (dot_removed e.outcome (next_dot h) (dot_of (own h) n)) f);
   }
     where
       go : (n : ℕ) → (x.went n ≡ true) ⊎ (dot_removed e.outcome (next_dot h) (dot_of (own h) n) ≡ true) → removed (Then h e) (dot_of (own h) n) ≡ true
@@ -151,7 +157,9 @@ module _ (deeds : AllDeeds) (h : History) (e : Entry) (are : (r : Replica) → A
 
     row_made : (d : Dot) (r : Row) → row (Then h e) d ≡ Some r → (new d.replica).made d.count ≡ Some r
     unfolding row
-    row_made d r f = go (row h d) (row_added e.step e.outcome d) refl refl f
+    row_made d r f =
+        go (row h d) (row_added e.step e.outcome d) refl refl
+        (sym (ap (λ o. first_some (row h d) (first_some (row_added e.step e.outcome d) o)) (brought_told e.outcome (row h) (told_row h e.step d) d plain)) ∙ f)
       where
         at_next : row_added e.step e.outcome (next_dot h) ≡ Some r → (new (own h)).made (count h + 1) ≡ Some r
         at_next g = ap (λ (y : Deeds). y.made (count h + 1)) (new_own (own h) refl) ∙ (ap (λ o. first_some o (row_added e.step e.outcome (next_dot h))) (made_next (count h + 1) refl) ∙ g)
@@ -164,14 +172,14 @@ module _ (deeds : AllDeeds) (h : History) (e : Entry) (are : (r : Replica) → A
         go None None p q g = let z = heard_row h e.step d r g in (more d.replica).made d.count r ((hears z.told z.is).row_made d r z.of)
 
     known_used : (d : Dot) → known (Then h e) d ≡ true → d.count ≤ (new d.replica).used
-    known_used d f = go (known_cases h e d f)
+    known_used d f = go (known_ways d f)
       where
         go : (known h d ≡ true) ⊎ ((is_counted (own h) (count (Then h e)) d ≡ true) ⊎ (told_covers h e.step d ≡ true)) → d.count ≤ (new d.replica).used
         go (inl g) = let u = (more d.replica).used in omega (arith, t.honest.known_used d g, u)
         go (inr (inl g)) =
             let p = counted_parts (own h) (count (Then h e)) d g in
             let u : (new d.replica).used ≡ x.used + counts_used e.outcome = ap (λ (y : Deeds). y.used) (new_own d.replica p.0) in
-            omega (arith, p.2, u, count-then h e, t.owners.used)
+            omega (arith, p.2, u, count-then h e plain, t.owners.used)
         go (inr (inr g)) = let z = heard_covers h e.step d g in let u = (more d.replica).used in omega (arith, (hears z.told z.is).used d z.of, u)
 
     removed_went : (d : Dot) → removed (Then h e) d ≡ true → (new d.replica).went d.count ≡ true
@@ -206,7 +214,7 @@ module _ (deeds : AllDeeds) (h : History) (e : Entry) (are : (r : Replica) → A
         go (inr k) = removed_here (dot_of (own h) n) (did.taken (dot_of (own h) n) (and_parts (nat_eq c (count h + 1)) (has_dot (dots_taken e.outcome) (dot_of (own h) n)) k).1).1
 
     targets_known : (r : Replica) (c n : ℕ) → known (Then h e) (dot_of r c) ≡ true → (new r).removes c n ≡ true → removed (Then h e) (dot_of r n) ≡ true
-    targets_known r c n f k = go (known_cases h e (dot_of r c) f)
+    targets_known r c n f k = go (known_ways (dot_of r c) f)
       where
         go : (known h (dot_of r c) ≡ true) ⊎ ((is_counted (own h) (count (Then h e)) (dot_of r c) ≡ true) ⊎ (told_covers h e.step (dot_of r c) ≡ true)) → removed (Then h e) (dot_of r n) ≡ true
         go (inl g) = removed_old (dot_of r n) (t.honest.targets_known r c n g ((more r).removes c n (t.honest.known_used (dot_of r c) g) k))
@@ -222,4 +230,4 @@ module _ (deeds : AllDeeds) (h : History) (e : Entry) (are : (r : Replica) → A
     honest_then = record { row_made = row_made; known_used = known_used; removed_went = removed_went; targets_known = targets_known }
 
 pub entries_are_deeds : EntriesAreDeeds
-entries_are_deeds deeds h e are t l = all_deeds_then deeds h e are t l
+entries_are_deeds deeds h e are t l lasts = all_deeds_then deeds h e are t l lasts

@@ -208,6 +208,9 @@ true_alike deeds t u same_dots same_rows k = record {
 pub delta_tells_alike : (deeds : AllDeeds) (form : Form) (c : DeltaValue) → TellsTrue deeds (telling c) → TellsTrue deeds (telling_in form c)
 delta_tells_alike deeds form c k = true_alike deeds (telling c) (telling_in form c) (λ d. (tells_the_same One form c d).0) (λ d. (tells_the_same One form c d).1) k
 
+form_tells_alike : (deeds : AllDeeds) (form : Form) (c : DeltaValue) → TellsTrue deeds (telling_in form c) → TellsTrue deeds (telling c)
+form_tells_alike deeds form c k = true_alike deeds (telling_in form c) (telling c) (λ d. (tells_the_same form One c d).0) (λ d. (tells_the_same form One c d).1) k
+
 pub cuts_tell_true : CutsTellTrue
 cuts_tell_true deeds h c are t cut delta form = delta_tells_alike deeds form c (cut_tells deeds h c are t cut delta)
 
@@ -306,4 +309,6 @@ module _ (deeds : AllDeeds) (a b : DeltaValue) (da : IsDelta a) (db : IsDelta b)
       removes r m n k (inr f) = then_gone (dot_of r n) (tb.targets_told r m n f k)
 
 pub joined_tell_true : JoinedTellTrue
-joined_tell_true deeds a b da db next ta tb = joined_tells deeds a b da db next ta tb
+joined_tell_true deeds a b da db next f g k ta tb =
+    delta_tells_alike deeds k (joined a b)
+    (joined_tells deeds a b da db next (form_tells_alike deeds f a ta) (form_tells_alike deeds g b tb))

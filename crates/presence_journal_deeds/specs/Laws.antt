@@ -1,23 +1,25 @@
 -- One law for each kind of event: what is true of histories and of told values stays true.
-use Rattle.std.specs.Prelude.{◌≡◌, IsTrue, ℕ}
+use Rattle.std.specs.Prelude.{◌≡◌, IsTrue, ℕ, true, false}
 use Rattle.presence_base.specs.declared.dots.Replica.{Replica}
 use Rattle.presence_base.specs.Names.{is_node_name}
 use Rattle.presence_base.specs.Refs.{IsCount}
 use Rattle.orswot_core_told.specs.declared.form.Form.{Form}
 use Rattle.orswot_core_told.specs.Telling.{ToldValue}
-use Rattle.delta_range.specs.Deltas.{DeltaValue, telling, telling_in, IsDelta, GoesOn}
+use Rattle.delta_range.specs.Deltas.{DeltaValue, telling_in, IsDelta, GoesOn}
 use Rattle.delta_range.specs.Joining.{joined}
 use Rattle.presence_journal_data.specs.declared.step.Step.TheVariants as steps_are
 use Rattle.presence_journal.specs.Steps.{Entry, Start}
-use Rattle.presence_journal.specs.History.{History, Begin, Then, begun, own}
+use Rattle.presence_journal.specs.History.{History, Begin, Then, begun, own, count, row}
 use Rattle.presence_journal.specs.Table.{IsLegal}
 use Rattle.presence_journal_sets.specs.Full.{IsFullOf}
 use Rattle.presence_journal_cuts.specs.Cuts.{IsCut}
 use Rattle.presence_journal_cuts.specs.KeptDeltas.{IsToldFrom}
 use Rattle.presence_journal_cuts.specs.ToldParts.{IsPart}
 use Rattle.presence_journal_starts.specs.Checkpoints.{IsCheckpoint}
-use Rattle.presence_journal_deeds.specs.Deeds.{AllDeeds, no_deeds, with_entry, put}
+use Rattle.presence_journal_deeds.specs.Deeds.{AllDeeds, no_deeds, with_entry, put, Deeds}
 use Rattle.presence_journal_deeds.specs.Truth.{AreDeeds, TellsTrue, IsTrueOf, DoMore}
+use Rattle.presence_journal.specs.Walk.{is_reborn}
+use Rattle.orswot_core.specs.Full.{dot_of}
 
 -- what each replica did, once this entry was made
 abbrev pub then_did : AllDeeds → History → Entry → AllDeeds
@@ -27,17 +29,42 @@ then_did deeds h e = put (own h) (with_entry (deeds (own h)) h e) deeds
 abbrev pub HearsTrue : AllDeeds → Entry → Type 0
 HearsTrue deeds e = (t : ToldValue) → e.step ≡ steps_are.Merge t → TellsTrue deeds t
 
--- an entry: a client's step, a cut, a merge of what is true, a replica that is heard or put down, time that passes
+-- an entry but a rebirth: a client's step, a cut, a merge of what is true, a replica that is heard or put down, time that passes
 abbrev pub EntriesStayTrue : Type 0
 EntriesStayTrue = (deeds : AllDeeds) (h : History) (e : Entry) → ((r : Replica) → AreDeeds (deeds r)) → IsTrueOf deeds h
-    → IsLegal (Then h e) → HearsTrue deeds e → IsTrueOf (then_did deeds h e) (Then h e)
+    → IsLegal (Then h e) → is_reborn e.step ≡ false → HearsTrue deeds e → IsTrueOf (then_did deeds h e) (Then h e)
 
 abbrev pub EntriesAreDeeds : Type 0
 EntriesAreDeeds = (deeds : AllDeeds) (h : History) (e : Entry) → ((r : Replica) → AreDeeds (deeds r)) → IsTrueOf deeds h
-    → IsLegal (Then h e) → (r : Replica) → AreDeeds (then_did deeds h e r)
+    → IsLegal (Then h e) → is_reborn e.step ≡ false → (r : Replica) → AreDeeds (then_did deeds h e r)
 
 abbrev pub EntriesGoOn : Type 0
 EntriesGoOn = (deeds : AllDeeds) (h : History) (e : Entry) → IsTrueOf deeds h → DoMore deeds (then_did deeds h e)
+
+-- A rebirth: the new replica, which did nothing yet, made the rows that go on under its dots, and so many counts are used.
+-- The history goes on as that of the new one, and what was told before stays true.
+abbrev pub reborn_deeds : History → Entry → Deeds
+reborn_deeds h e = record {
+  used = count (Then h e);
+  made = λ n. row (Then h e) (dot_of (own (Then h e)) n);
+  went = λ n. false;
+  removes = λ c n. false;
+}
+
+abbrev pub reborn_did : AllDeeds → History → Entry → AllDeeds
+reborn_did deeds h e = put (own (Then h e)) (reborn_deeds h e) deeds
+
+abbrev pub RebirthsStayTrue : Type 0
+RebirthsStayTrue = (deeds : AllDeeds) (h : History) (e : Entry) → IsTrueOf deeds h → IsLegal (Then h e)
+    → is_reborn e.step ≡ true → IsTrueOf (reborn_did deeds h e) (Then h e)
+
+abbrev pub RebirthsAreDeeds : Type 0
+RebirthsAreDeeds = (deeds : AllDeeds) (h : History) (e : Entry) → ((r : Replica) → AreDeeds (deeds r))
+    → IsLegal (Then h e) → is_reborn e.step ≡ true → (r : Replica) → AreDeeds (reborn_did deeds h e r)
+
+abbrev pub RebirthsGoOn : Type 0
+RebirthsGoOn = (deeds : AllDeeds) (h : History) (e : Entry) → deeds (own (Then h e)) ≡ no_deeds
+    → DoMore deeds (reborn_did deeds h e)
 
 -- another replica's history, and what was told before, while its owner did nothing more
 abbrev pub OthersStayTrue : Type 0
@@ -61,8 +88,8 @@ FullsTellTrue = (deeds : AllDeeds) (h : History) (form : Form) (t : ToldValue) �
     → TellsTrue deeds t
 
 abbrev pub JoinedTellTrue : Type 0
-JoinedTellTrue = (deeds : AllDeeds) (a b : DeltaValue) → IsDelta a → IsDelta b → GoesOn a.owner a.to b
-    → TellsTrue deeds (telling a) → TellsTrue deeds (telling b) → TellsTrue deeds (telling (joined a b))
+JoinedTellTrue = (deeds : AllDeeds) (a b : DeltaValue) → IsDelta a → IsDelta b → GoesOn a.owner a.to b → (f g k : Form)
+    → TellsTrue deeds (telling_in f a) → TellsTrue deeds (telling_in g b) → TellsTrue deeds (telling_in k (joined a b))
 
 abbrev pub KeptTellTrue : Type 0
 KeptTellTrue = (deeds : AllDeeds) (h : History) (form : Form) (n : ℕ) (t : ToldValue) → IsTrueOf deeds h → IsToldFrom form h n t

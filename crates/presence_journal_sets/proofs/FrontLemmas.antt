@@ -1,15 +1,16 @@
 -- Going over the entries with what came before each.
 use Rattle.std.proofs.Common.{◌≡◌, ℕ, zero, suc, ◌+◌, ◌<◌, ◌≤◌, List, [], ◌∷◌, length, get_or, take, drop, take-append-drop, refl, sym, ◌∙◌, ap, subst, arith, add-one}
+use Rattle.presence_base.specs.declared.dots.Replica.{Replica}
 use Rattle.presence_base.specs.declared.dots.Dot.{Dot}
 use Rattle.orswot_core.specs.Sets.{DotRows}
 use Rattle.presence_journal.specs.Steps.{Entry, Start}
-use Rattle.presence_journal.specs.History.{History, Begin, Then, onto, count, counts_used, next_dot}
+use Rattle.presence_journal.specs.History.{History, Begin, Then, onto, own, own_after, count, count_after, next_dot}
 use Rattle.presence_journal.specs.Table.{IsLegal}
-use Rattle.presence_journal.proofs.Walking.{IsCounted, counted_start, counted_more}
+use Rattle.presence_journal.proofs.Walking.{IsCounted, counted_start, counted_more, own_more}
 use Rattle.presence_journal.proofs.HistoryLemmas.{legal_before, onto-append}
 use Rattle.presence_journal.proofs.Diffs.{legal_at}
 use Rattle.presence_journal_sets.specs.Walked.{Holds}
-use Rattle.presence_journal_sets.proofs.StatusLemmas.{own-begin, own_onto}
+use Rattle.presence_journal_sets.proofs.StatusLemmas.{own-begin}
 
 front_suc : (h : History) (es : List Entry) (i : ℕ) (e : Entry) → i < length es → e ≡ get_or es i e → onto h (take (suc i) es) ≡ Then (onto h (take i es)) e
 front_suc h [] i e l is = absurd (omega arith)
@@ -30,26 +31,28 @@ front_all h (x ∷ es) zero l = absurd (omega arith)
 front_all h (x ∷ es) (suc i) l = front_all (Then h x) es i (omega arith)
 
 -- the set and the own count after so many entries
-pub record WalkedTo (s : Start) (es : List Entry) (i : ℕ) (set : DotRows) (used : ℕ) : Type 0 where
+pub record WalkedTo (s : Start) (es : List Entry) (i : ℕ) (set : DotRows) (o : Replica) (used : ℕ) : Type 0 where
+  pub mine : o ≡ own (onto (Begin s) (take i es))
   pub holds : Holds (onto (Begin s) (take i es)) set
   pub counted : IsCounted used (onto (Begin s) (take i es))
 
-pub walked_none : (s : Start) (es : List Entry) (set : DotRows) → IsLegal (onto (Begin s) es) → Holds (Begin s) set → WalkedTo s es 0 set s.count
-walked_none s es set l holds = record { holds = holds; counted = counted_start s (legal_before (Begin s) es l) }
+pub walked_none : (s : Start) (es : List Entry) (set : DotRows) → IsLegal (onto (Begin s) es) → Holds (Begin s) set → WalkedTo s es 0 set s.own s.count
+walked_none s es set l holds = record { mine = sym (own-begin s); holds = holds; counted = counted_start s (legal_before (Begin s) es l) }
 
-pub walked_more : (s : Start) (es : List Entry) (i : ℕ) (e : Entry) (set : DotRows) (used more : ℕ) → IsLegal (onto (Begin s) es) → i < length es → e ≡ get_or es i e → IsCounted used (onto (Begin s) (take i es)) → more ≡ counts_used e.outcome → Holds (Then (onto (Begin s) (take i es)) e) set → WalkedTo s es (i + 1) set (used + more)
-walked_more s es i e set used more l lt is counted m holds =
+pub walked_more : (s : Start) (es : List Entry) (i : ℕ) (e : Entry) (set : DotRows) (o p : Replica) (used more : ℕ) → IsLegal (onto (Begin s) es) → i < length es → e ≡ get_or es i e → o ≡ own (onto (Begin s) (take i es)) → IsCounted used (onto (Begin s) (take i es)) → p ≡ own_after e.step o → more ≡ count_after e.outcome used → Holds (Then (onto (Begin s) (take i es)) e) set → WalkedTo s es (i + 1) set p more
+walked_more s es i e set o p used more l lt is mine counted owned m holds =
     let next = front_next (Begin s) es i e lt is in
     record {
+      mine = (owned ∙ own_more o (onto (Begin s) (take i es)) e mine) ∙ ap own (sym next);
       holds = subst (λ (h : History). Holds h set) (sym next) holds;
-      counted = subst (λ (h : History). IsCounted (used + more) h) (sym next)
-          (subst (λ (n : ℕ). IsCounted (used + n) (Then (onto (Begin s) (take i es)) e)) (sym m)
+      counted = subst (λ (h : History). IsCounted more h) (sym next)
+          (subst (λ (n : ℕ). IsCounted n (Then (onto (Begin s) (take i es)) e)) (sym m)
           (counted_more used (onto (Begin s) (take i es)) e (legal_at (Begin s) es i e lt is l) counted));
     }
 
 -- the next own dot
-pub next_own : (s : Start) (es : List Entry) (n : ℕ) → n ≡ count (onto (Begin s) es) → ◌≡◌ {A = Dot} (record { replica = s.own; count = n + 1 }) (next_dot (onto (Begin s) es))
-next_own s es n c = λ i. record { replica = sym (own_onto (Begin s) es ∙ own-begin s) i; count = c i + 1 }
+pub next_own : (h : History) (o : Replica) (n : ℕ) → o ≡ own h → n ≡ count h → ◌≡◌ {A = Dot} (record { replica = o; count = n + 1 }) (next_dot h)
+next_own h o n mine c = λ i. record { replica = mine i; count = c i + 1 }
 
 -- the entry at a place
 pub entry_at : (es : List Entry) (i : ℕ) → i < length es → (e : Entry) × (e ≡ get_or es i e)

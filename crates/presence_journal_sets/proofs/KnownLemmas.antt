@@ -13,13 +13,13 @@ use Rattle.orswot_core_told.specs.Checks.{are_forward}
 use Rattle.presence_journal_data.specs.StepLimits.{is_told, is_heard}
 use Rattle.presence_journal_data.specs.declared.step.Step.TheVariants as steps_are
 use Rattle.presence_journal.specs.Steps.{Step, Entry, Start}
-use Rattle.presence_journal.specs.History.{History, Begin, Then, onto, own, count, counts_used, is_counted, is_gone, status, hears, told_covers, known, covered, IsTop}
+use Rattle.presence_journal.specs.History.{History, Begin, Then, onto, own, own_after, count, count_after, is_counted, is_gone, status, hears, told_covers, known, covered, IsTop}
 use Rattle.presence_journal.specs.Table.{IsLegal, is_step}
 use Rattle.presence_journal.proofs.Same.{same_dot-true}
-use Rattle.presence_journal.proofs.Walking.{IsCounted, count-limit, counted_start, counted_more}
+use Rattle.presence_journal.proofs.Walking.{IsCounted, count-limit, counted_start, counted_more, own_more}
 use Rattle.presence_journal.proofs.Diffs.{legal_at}
 use Rattle.presence_journal.proofs.HistoryLemmas.{legal_before, counted_parts, known-then, known_cases}
-use Rattle.presence_journal_sets.proofs.StatusLemmas.{own-begin, own_onto}
+use Rattle.presence_journal_sets.proofs.StatusLemmas.{own-begin}
 use Rattle.presence_journal_sets.proofs.FrontLemmas.{front_next}
 
 -- one or the other of two tests, by the first of them
@@ -32,7 +32,8 @@ or_second a b x y is f other = other ∙ ap (λ c. c || b) (sym f ∙ is)
 
 -- what is known after so many entries, with the own count
 
-pub record KnownTo (s : Start) (es : List Entry) (i : ℕ) (d : Dot) (b : Bool) (used : ℕ) : Type 0 where
+pub record KnownTo (s : Start) (es : List Entry) (i : ℕ) (d : Dot) (b : Bool) (o : Replica) (used : ℕ) : Type 0 where
+  pub mine : o ≡ own (onto (Begin s) (take i es))
   pub known : b ≡ known (onto (Begin s) (take i es)) d
   pub counted : IsCounted used (onto (Begin s) (take i es))
 
@@ -40,21 +41,22 @@ pub known-begin : (s : Start) (d : Dot) → covers s.content d ≡ known (Begin 
 unfolding known
 known-begin s d = refl
 
-pub known_none : (s : Start) (es : List Entry) (d : Dot) (b : Bool) → IsLegal (onto (Begin s) es) → b ≡ covers s.content d → KnownTo s es 0 d b s.count
-known_none s es d b l is = record { known = is ∙ known-begin s d; counted = counted_start s (legal_before (Begin s) es l) }
+pub known_none : (s : Start) (es : List Entry) (d : Dot) (b : Bool) → IsLegal (onto (Begin s) es) → b ≡ covers s.content d → KnownTo s es 0 d b s.own s.count
+known_none s es d b l is = record { mine = sym (own-begin s); known = is ∙ known-begin s d; counted = counted_start s (legal_before (Begin s) es l) }
 
-pub known_more : (s : Start) (es : List Entry) (i : ℕ) (e : Entry) (d : Dot) (b c : Bool) (used more : ℕ) → IsLegal (onto (Begin s) es) → i < length es → e ≡ get_or es i e → more ≡ counts_used e.outcome → c ≡ (known (onto (Begin s) (take i es)) d || (is_counted s.own (used + more) d || told_covers (onto (Begin s) (take i es)) e.step d)) → KnownTo s es i d b used → KnownTo s es (i + 1) d c (used + more)
-known_more s es i e d b c used more l lt is m now before =
+pub known_more : (s : Start) (es : List Entry) (i : ℕ) (e : Entry) (d : Dot) (b c : Bool) (o p : Replica) (used more : ℕ) → IsLegal (onto (Begin s) es) → i < length es → e ≡ get_or es i e → p ≡ own_after e.step o → more ≡ count_after e.outcome used → c ≡ (known (onto (Begin s) (take i es)) d || (is_counted p more d || told_covers (onto (Begin s) (take i es)) e.step d)) → KnownTo s es i d b o used → KnownTo s es (i + 1) d c p more
+known_more s es i e d b c o p used more l lt is owned m now before =
     let h = onto (Begin s) (take i es) in
     let next = front_next (Begin s) es i e lt is in
-    let counted : IsCounted (used + more) (Then h e) =
-    subst (λ (n : ℕ). IsCounted (used + n) (Then h e)) (sym m) (counted_more used h e (legal_at (Begin s) es i e lt is l) before.counted) in
-    let mine : s.own ≡ own h = sym (own_onto (Begin s) (take i es) ∙ own-begin s) in
+    let counted : IsCounted more (Then h e) =
+    subst (λ (n : ℕ). IsCounted n (Then h e)) (sym m) (counted_more used h e (legal_at (Begin s) es i e lt is l) before.counted) in
+    let mine : p ≡ own (Then h e) = owned ∙ own_more o h e before.mine in
     record {
+      mine = mine ∙ ap own (sym next);
       known = now
           ∙ ((λ j. known h d || (is_counted (mine j) (counted.0 j) d || told_covers h e.step d))
           ∙ (sym (known-then h e d) ∙ ap (λ (g : History). known g d) (sym next)));
-      counted = subst (λ (g : History). IsCounted (used + more) g) (sym next) counted;
+      counted = subst (λ (g : History). IsCounted more g) (sym next) counted;
     }
 
 -- a known dot's count is within its limit
@@ -99,9 +101,9 @@ known_limit : (h : History) (d : Dot) → IsLegal h → known h d ≡ true → d
 known_limit (Begin s) d legal has = covers_limit s.content d legal.content (known-begin s d ∙ has)
 known_limit (Then h e) d legal has = go (known_cases h e d has) (known_limit h d legal.0)
   where
-    go : (known h d ≡ true) ⊎ ((is_counted (own h) (count (Then h e)) d ≡ true) ⊎ (told_covers h e.step d ≡ true)) → (known h d ≡ true → d.count ≤ MAX_COUNT) → d.count ≤ MAX_COUNT
+    go : (known h d ≡ true) ⊎ ((is_counted (own (Then h e)) (count (Then h e)) d ≡ true) ⊎ (told_covers h e.step d ≡ true)) → (known h d ≡ true → d.count ≤ MAX_COUNT) → d.count ≤ MAX_COUNT
     go (inl before) rest = rest before
-    go (inr (inl now)) rest = let c = counted_parts (own h) (count (Then h e)) d now in omega (arith, c.2, count-limit (Then h e) legal)
+    go (inr (inl now)) rest = let c = counted_parts (own (Then h e)) (count (Then h e)) d now in omega (arith, c.2, count-limit (Then h e) legal)
     go (inr (inr now)) rest = told_limit h e.step d legal.4 now
 
 -- how far a replica's dots are covered

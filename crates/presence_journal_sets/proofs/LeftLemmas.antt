@@ -18,8 +18,9 @@ use Rattle.replica_status.specs.Table.{status_of, heard_at, put_down}
 use Rattle.replica_status.specs.Boards.{standing_in}
 use Rattle.presence_journal_data.specs.declared.step.Step.TheVariants as steps_are
 use Rattle.presence_journal.specs.Steps.{Step, Entry, Start}
-use Rattle.presence_journal.specs.History.{History, Begin, Then, onto, own, known, live, time, time_of, standing, standing_after, status, is_gone}
+use Rattle.presence_journal.specs.History.{History, Begin, Then, onto, own, own_after, known, live, time, time_of, standing, standing_after, status, is_gone}
 use Rattle.presence_journal.proofs.Same.{same_replica-true, dot_cmp-IsAntisymmetric}
+use Rattle.presence_journal_sets.proofs.StatusLemmas.{own-begin}
 use Rattle.presence_journal_sets.specs.Walked.{Holds}
 use Rattle.presence_journal_sets.specs.LeftOut.{HoldsCovered, LeavesOut, without_gone, named_by, is_it, is_named, is_listed, none_left}
 
@@ -87,18 +88,19 @@ left_all h s o = record { covered = λ d. (go d (is_gone (status h d.replica)) r
 
 -- only a replica that is listed or named can be gone
 
-stays_unheard : (s : Step) (t : ℕ) (r : Replica) → is_it (named_by s) r ≡ false → standing_after s t r Unheard ≡ Unheard
-stays_unheard (steps_are.Heard replica now) t r f = ap (λ b. cond b (heard_at t Unheard) Unheard) f
-stays_unheard (steps_are.Tick now) t r f = refl
-stays_unheard (steps_are.PermDown replica) t r f = ap (λ b. cond b (put_down Unheard) Unheard) f
-stays_unheard _ t r f = refl
+stays_unheard : (o : Replica) (s : Step) (t : ℕ) (r : Replica) → is_it (named_by o s) r ≡ false → standing_after o s t r Unheard ≡ Unheard
+stays_unheard o (steps_are.Heard replica now) t r f = ap (λ b. cond b (heard_at t Unheard) Unheard) f
+stays_unheard o (steps_are.Tick now) t r f = refl
+stays_unheard o (steps_are.PermDown replica) t r f = ap (λ b. cond b (put_down Unheard) Unheard) f
+stays_unheard o (steps_are.Rebirth i) t r f = ap (λ b. cond b (put_down Unheard) Unheard) f
+stays_unheard o _ t r f = refl
 
-unheard_on : (h : History) (es : List Entry) (r : Replica) → standing h r ≡ Unheard → is_named es r ≡ false → standing (onto h es) r ≡ Unheard
-unfolding standing
+unheard_on : (h : History) (es : List Entry) (r : Replica) → standing h r ≡ Unheard → is_named (own h) es r ≡ false → standing (onto h es) r ≡ Unheard
+unfolding standing own
 unheard_on h [] r u f = u
 unheard_on h (e ∷ es) r u f =
-    let p = or_parts (is_it (named_by e.step) r) (is_named es r) f in
-    unheard_on (Then h e) es r (ap (standing_after e.step (max (time h) (time_of e.step)) r) u ∙ stays_unheard e.step (max (time h) (time_of e.step)) r p.0) p.1
+    let p = or_parts (is_it (named_by (own h) e.step) r) (is_named (own_after e.step (own h)) es r) f in
+    unheard_on (Then h e) es r (ap (standing_after (own h) e.step (max (time h) (time_of e.step)) r) u ∙ stays_unheard (own h) e.step (max (time h) (time_of e.step)) r p.0) p.1
 
 unlisted : (xs : List (Replica × Standing)) (r : Replica) → is_listed xs r ≡ false → standing_in xs r ≡ Unheard
 unlisted [] r f = refl
@@ -119,26 +121,26 @@ not_gone h r u = ap (λ (x : Standing). is_gone (cond (same_replica r (own h)) s
     go false = refl
 
 -- at first all that are listed or named are left
-pub left_none : (s : Start) (es : List Entry) (x : DotRows) → Holds (onto (Begin s) es) x → LeavesOut (onto (Begin s) es) (λ r. is_listed s.standings r || is_named es r) x
+pub left_none : (s : Start) (es : List Entry) (x : DotRows) → Holds (onto (Begin s) es) x → LeavesOut (onto (Begin s) es) (λ r. is_listed s.standings r || is_named s.own es r) x
 left_none s es x holds = record {
   kept = λ d f. (holds.known d, holds.live d);
-  lost = λ d f none. go d f (or_parts (is_listed s.standings d.replica) (is_named es d.replica) none);
+  lost = λ d f none. go d f (or_parts (is_listed s.standings d.replica) (is_named s.own es d.replica) none);
 }
   where
-    go : (d : Dot) → is_gone (status (onto (Begin s) es) d.replica) ≡ true → (is_listed s.standings d.replica ≡ false) × (is_named es d.replica ≡ false) → (set.contains x.covered d ≡ false) × (map.get x.live d ≡ None)
+    go : (d : Dot) → is_gone (status (onto (Begin s) es) d.replica) ≡ true → (is_listed s.standings d.replica ≡ false) × (is_named s.own es d.replica ≡ false) → (set.contains x.covered d ≡ false) × (map.get x.live d ≡ None)
     go d f p =
-        let u = unheard_on (Begin s) es d.replica (standing-begin s d.replica ∙ unlisted s.standings d.replica p.0) p.1 in
+        let u = unheard_on (Begin s) es d.replica (standing-begin s d.replica ∙ unlisted s.standings d.replica p.0) (ap (λ o. is_named o es d.replica) (own-begin s) ∙ p.1) in
         let w : true ≡ false = sym f ∙ not_gone (onto (Begin s) es) d.replica u in
         absurd (cc)
 
-pub one_listed : (h : History) (xs rest : List (Replica × Standing)) (es : List Entry) (x : Replica × Standing) (s u : DotRows) → xs ≡ x ∷ rest → u ≡ without_gone h s (Some x.0) → LeavesOut h (λ r. is_listed xs r || is_named es r) s → LeavesOut h (λ r. is_listed rest r || is_named es r) u
-one_listed h xs rest es x s u split is o =
-    left_more h (λ r. is_listed xs r || is_named es r) (λ r. is_listed rest r || is_named es r) s u (Some x.0) is
-    (λ r. ap (λ (ys : List (Replica × Standing)). is_listed ys r || is_named es r) split ∙ grouped (same_replica r x.0) (is_listed rest r) (is_named es r)) o
+pub one_listed : (h : History) (xs rest : List (Replica × Standing)) (own : Replica) (es : List Entry) (x : Replica × Standing) (s u : DotRows) → xs ≡ x ∷ rest → u ≡ without_gone h s (Some x.0) → LeavesOut h (λ r. is_listed xs r || is_named own es r) s → LeavesOut h (λ r. is_listed rest r || is_named own es r) u
+one_listed h xs rest own es x s u split is o =
+    left_more h (λ r. is_listed xs r || is_named own es r) (λ r. is_listed rest r || is_named own es r) s u (Some x.0) is
+    (λ r. ap (λ (ys : List (Replica × Standing)). is_listed ys r || is_named own es r) split ∙ grouped (same_replica r x.0) (is_listed rest r) (is_named own es r)) o
   where
     grouped : (a b c : Bool) → ((a || b) || c) ≡ (a || (b || c))
     grouped true b c = refl
     grouped false b c = refl
 
-pub one_named : (h : History) (es rest : List Entry) (e : Entry) (s u : DotRows) → es ≡ e ∷ rest → u ≡ without_gone h s (named_by e.step) → LeavesOut h (is_named es) s → LeavesOut h (is_named rest) u
-one_named h es rest e s u split is o = left_more h (is_named es) (is_named rest) s u (named_by e.step) is (λ r. ap (λ (ys : List Entry). is_named ys r) split) o
+pub one_named : (h : History) (own p : Replica) (es rest : List Entry) (e : Entry) (s u : DotRows) → es ≡ e ∷ rest → p ≡ own_after e.step own → u ≡ without_gone h s (named_by own e.step) → LeavesOut h (is_named own es) s → LeavesOut h (is_named p rest) u
+one_named h own p es rest e s u split mine is o = left_more h (is_named own es) (is_named p rest) s u (named_by own e.step) is (λ r. ap (λ (ys : List Entry). is_named own ys r) split ∙ ap (λ (q : Replica). is_it (named_by own e.step) r || is_named q rest r) (sym mine)) o

@@ -5,3 +5,6 @@ pub mod FrontLemmas
 pub mod LeftLemmas
 pub mod KnownLemmas
 pub mod ReachLemmas
+pub mod RebornLemmas
+pub mod NumberedLemmas
+pub mod PairsLemmas

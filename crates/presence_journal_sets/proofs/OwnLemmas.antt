@@ -10,7 +10,6 @@ use Rattle.presence_base.specs.declared.row.Row.{Row}
 use Rattle.presence_base.specs.Order.{same_dot}
 use Rattle.presence_base.specs.declared.dots.Replica.{Replica}
 use Rattle.presence_base.specs.declared.dots.TheConstants.{MAX_COUNT}
-use Rattle.presence_base.specs.Refs.{IsCount}
 use Rattle.orswot_core_told.specs.Limits.{is_count, is_dot, is_row, is_prev}
 use Rattle.presence_journal.proofs.PresentLemmas.{shown-row}
 use Rattle.presence_journal.proofs.Walking.{count-limit, quiet_uses_none}
@@ -21,16 +20,18 @@ use Rattle.std.proofs.lemmas.Option.{same_Some}
 use Rattle.presence_journal_data.specs.declared.step.Step.TheVariants as steps_are
 use Rattle.presence_journal_data.specs.declared.entry.Outcome.TheVariants as outcomes_are
 use Rattle.presence_journal.specs.Steps.{Step, Outcome, Entry}
-use Rattle.presence_journal.specs.History.{History, Begin, Then, own, count, counts_used, is_counted, told_covers, known, next_dot, has_dot, first_some, row_made, row_added, live}
+use Rattle.presence_journal.specs.History.{History, Then, own, count, counts_used, is_counted, told_covers, known, next_dot, has_dot, first_some, row_made, row_added, live}
 use Rattle.presence_journal.specs.Present.{dots_taken}
-use Rattle.presence_journal.specs.Walk.{tells}
+use Rattle.presence_journal.specs.Walk.{tells, is_reborn, is_again}
+use Rattle.presence_journal.proofs.Reborn.{again_of}
+use Rattle.presence_journal.proofs.Fresh.{own_is}
 use Rattle.presence_journal.specs.Table.{IsLegal, is_step}
 use Rattle.presence_journal.proofs.Same.{same_dot-refl, same_dot-true}
 use Rattle.presence_journal.proofs.ToldLemmas.{none_told_covers}
-use Rattle.presence_journal.proofs.HistoryLemmas.{Kind, Adds, Replaces, Removes, Quiet, IsOwnShown, known_parts, next_unknown, quiet_row, quiet_taken, is_quiet, tells_quiet, kind_of, legal_knows, counted_parts, known_cases, known_from, known_quiet, known_then, next_known, no_more, count-then, live_by}
+use Rattle.presence_journal.proofs.HistoryLemmas.{Kind, Adds, Replaces, Removes, Quiet, IsOwnShown, known_parts, next_unknown, quiet_row, quiet_taken, is_quiet, tells_quiet, kind_of, kind_plain, quiet_plain, used_plain, own-then, legal_knows, counted_parts, known_cases, known_from, known_quiet, known_then, next_known, no_more, count-then, live_by}
 use Rattle.presence_journal_sets.specs.Walked.{Holds, with_made, IsMadeWithin}
 
-both : (a b k : Bool) → (b ≡ true → a ≡ true) → (k ≡ true → a ≡ true) → (a ≡ true → (b ≡ true) ⊎ (k ≡ true)) → a ≡ (b || k)
+pub both : (a b k : Bool) → (b ≡ true → a ≡ true) → (k ≡ true → a ≡ true) → (a ≡ true → (b ≡ true) ⊎ (k ≡ true)) → a ≡ (b || k)
 both true true k f g h = refl
 both false true k f g h = f refl
 both a false true f g h = g refl
@@ -46,17 +47,32 @@ same_next h d p q =
     let is : d ≡ next_dot h = λ i. record { replica = p i; count = q i } in
     ap (λ x. same_dot x (next_dot h)) is ∙ same_dot-refl (next_dot h)
 
+-- a step whose outcome is no rebirth's is none
+pub plain_step : (h : History) (e : Entry) → IsLegal (Then h e) → is_again e.outcome ≡ false → is_reborn e.step ≡ false
+plain_step h e l a = go (is_reborn e.step) refl
+  where
+    go : (b : Bool) → is_reborn e.step ≡ b → b ≡ false
+    go false f = refl
+    go true f = let w = again_of h e.step e.outcome f l.1 in let g : true ≡ false = sym (ap is_again w.outcome) ∙ a in absurd (cc)
+
+pub reborn_step : (h : History) (e : Entry) → IsLegal (Then h e) → is_again e.outcome ≡ true → is_reborn e.step ≡ true
+reborn_step h e l a = go (is_reborn e.step) refl
+  where
+    go : (b : Bool) → is_reborn e.step ≡ b → b ≡ true
+    go true f = refl
+    go false f = let g : false ≡ true = sym (kind_plain h e.step e.outcome (kind_of h e.step e.outcome f l.1)) ∙ a in absurd (cc)
+
 -- the next dot is known beside the known ones
-pub known_used : (h : History) (e : Entry) (d : Dot) → IsLegal h → counts_used e.outcome ≡ 1 → tells e.step ≡ false → known (Then h e) d ≡ (same_dot d (next_dot h) || known h d)
-known_used h e d legal u t = both (known (Then h e) d) (same_dot d (next_dot h)) (known h d) (λ s. next_known h e d (same_dot-true d (next_dot h) s) u) (known_then h e d) (λ k. go (known_cases h e d k))
+pub known_used : (h : History) (e : Entry) (d : Dot) → IsLegal h → is_reborn e.step ≡ false → counts_used e.outcome ≡ 1 → tells e.step ≡ false → known (Then h e) d ≡ (same_dot d (next_dot h) || known h d)
+known_used h e d legal n u t = both (known (Then h e) d) (same_dot d (next_dot h)) (known h d) (λ s. next_known h e d n (same_dot-true d (next_dot h) s) u) (known_then h e d) (λ k. go (known_cases h e d k))
   where
     at : d.replica ≡ own h → 0 < d.count → d.count ≤ count h + 1 → (b : Bool) → nat_le d.count (count h) ≡ b → (same_dot d (next_dot h) ≡ true) ⊎ (known h d ≡ true)
     at p l m true f = inr (known_from h legal d p l (leb-true d.count (count h) f))
     at p l m false f = let over = leb-false d.count (count h) f in inl (same_next h d p (omega (arith, over, m)))
 
-    go : (known h d ≡ true) ⊎ ((is_counted (own h) (count (Then h e)) d ≡ true) ⊎ (told_covers h e.step d ≡ true)) → (same_dot d (next_dot h) ≡ true) ⊎ (known h d ≡ true)
+    go : (known h d ≡ true) ⊎ ((is_counted (own (Then h e)) (count (Then h e)) d ≡ true) ⊎ (told_covers h e.step d ≡ true)) → (same_dot d (next_dot h) ≡ true) ⊎ (known h d ≡ true)
     go (inl f) = inr f
-    go (inr (inl f)) = let p = counted_parts (own h) (count (Then h e)) d f in at p.0 p.1 (omega (arith, p.2, u, count-then h e)) (nat_le d.count (count h)) refl
+    go (inr (inl f)) = let p = counted_parts (own (Then h e)) (count (Then h e)) d f in at (p.0 ∙ own-then h e n) p.1 (omega (arith, p.2, u, count-then h e (used_plain e.outcome u))) (nat_le d.count (count h)) refl
     go (inr (inr f)) = let w : false ≡ true = sym (none_told_covers h e.step d t) ∙ f in absurd (cc)
 
 -- a row is added
@@ -65,14 +81,14 @@ added h e new r s legal holds is next made t = record {
   known = λ d.
       set.contains-insert dot_total s.covered new d
       ∙ ((λ i. same_dot d (next i) || holds.known d i)
-      ∙ sym (known_used h e d legal.0 (ap counts_used is) t));
+      ∙ sym (known_used h e d legal.0 (plain_step h e legal (ap is_again is)) (ap counts_used is) t));
   live = λ d.
       map.get-insert dot_total s.live new r d
       ∙ (ap (λ o. cond (same_dot d new) (Some r) o) (holds.live d)
       ∙ (shape (same_dot d new) (live h d)
       ∙ ((λ i. first_some (cond (same_dot d new) (sym made i) None) (cond false None (live h d)))
       ∙ ((λ i. first_some (row_added e.step (sym is i) d) (cond (has_dot (dots_taken (sym is i)) d) None (live h d)))
-      ∙ sym (live_by h e d (legal_knows h legal.0) (kind_of h e.step e.outcome legal.1) t)))));
+      ∙ sym (live_by h e d (legal_knows h legal.0) (kind_of h e.step e.outcome (plain_step h e legal (ap is_again is)) legal.1) t)))));
 }
   where
     shape : (b : Bool) (o : Option Row) → cond b (Some r) o ≡ first_some (cond b (Some r) None) (cond false None o)
@@ -87,12 +103,12 @@ taken h e x xs s legal holds is knows t = record {
       ∙ (ap (λ b. same_dot d (next_dot h) || b) (set.contains-union dot_total s.covered (set.from_list (x ∷ xs)) d
       ∙ ((λ i. holds.known d i || set.contains-from_list dot_total (x ∷ xs) d i)
       ∙ within (known h d) (has_dot (x ∷ xs) d) (knows d)))
-      ∙ sym (known_used h e d legal.0 (ap counts_used is) t));
+      ∙ sym (known_used h e d legal.0 (plain_step h e legal (ap is_again is)) (ap counts_used is) t));
   live = λ d.
       without_rows_at s.live (x ∷ xs) d
       ∙ (ap (λ o. cond (has_dot (x ∷ xs) d) None o) (holds.live d)
       ∙ ((λ i. first_some (row_added e.step (sym is i) d) (cond (has_dot (dots_taken (sym is i)) d) None (live h d)))
-      ∙ sym (live_by h e d (legal_knows h legal.0) (kind_of h e.step e.outcome legal.1) t)));
+      ∙ sym (live_by h e d (legal_knows h legal.0) (kind_of h e.step e.outcome (plain_step h e legal (ap is_again is)) legal.1) t)));
 }
   where
     within : (k b : Bool) → (b ≡ true → k ≡ true) → (k || b) ≡ k
@@ -102,23 +118,18 @@ taken h e x xs s legal holds is knows t = record {
 
 -- own dots are within the limits of dots
 
-own_limits : (h : History) → IsLegal h → IsCount (own h).incarnation
-unfolding own
-own_limits (Begin s) l = l.incarnation
-own_limits (Then h e) l = own_limits h l.0
-
 counts : (n : ℕ) → 1 ≤ n → n ≤ MAX_COUNT → is_count n ≡ true
 counts n l m = and_from (nat_le 1 n) (nat_le n MAX_COUNT) (le-leb 1 n l) (le-leb n MAX_COUNT m)
 
-own_dot : (h : History) → IsLegal h → (d : Dot) → d.replica ≡ own h → 1 ≤ d.count → d.count ≤ MAX_COUNT → is_dot d ≡ true
+pub own_dot : (h : History) → IsLegal h → (d : Dot) → d.replica ≡ own h → 1 ≤ d.count → d.count ≤ MAX_COUNT → is_dot d ≡ true
 own_dot h l d p low high =
-    let i = own_limits h l in
+    let i = (own_is h l).incarnation in
     and_from (is_count d.replica.incarnation) (is_count d.count) (ap (λ (r : Replica). is_count r.incarnation) p ∙ counts (own h).incarnation i.0 i.1) (counts d.count low high)
 
 pub next_dot_limits : (h : History) → IsLegal h → count h < 2 ^ 62 → is_dot (next_dot h) ≡ true
 next_dot_limits h l c = own_dot h l (next_dot h) refl (omega arith) (omega (arith, c))
 
-known_dot : (h : History) → IsLegal h → (d : Dot) → d.replica ≡ own h → known h d ≡ true → is_dot d ≡ true
+pub known_dot : (h : History) → IsLegal h → (d : Dot) → d.replica ≡ own h → known h d ≡ true → is_dot d ≡ true
 known_dot h l d p k = let b = known_parts h l d p k in let c = count-limit h l in own_dot h l d p (omega (arith, b.0)) (omega (arith, b.1, c))
 
 own_known : (h : History) → IsLegal h → (d : Dot) → IsOwnShown h d → known h d ≡ true
@@ -169,7 +180,7 @@ out_by h e x xs (Quiet q) is = let f : true ≡ false = sym q ∙ ap is_quiet is
 
 pub out : (h : History) (e : Entry) (ds : List Dot) → IsLegal (Then h e) → 1 ≤ length ds → e.outcome ≡ outcomes_are.Removed ds → AreOut h e ds
 out h e [] l some is = absurd (omega (arith, some))
-out h e (x ∷ xs) l some is = out_by h e x xs (kind_of h e.step e.outcome l.1) is
+out h e (x ∷ xs) l some is = out_by h e x xs (kind_of h e.step e.outcome (plain_step h e l (ap is_again is)) l.1) is
 
 pub out_dots : (h : History) (e : Entry) (ds : List Dot) → IsLegal (Then h e) → AreOut h e ds → list_all is_dot ds ≡ true
 out_dots h e ds l o = all_dots h l.0 ds o.shown
@@ -205,7 +216,7 @@ in_by h e new (Removes y ys p l a q) is = let f : true ≡ false = ap is_removed
 in_by h e new (Quiet q) is = let f : true ≡ false = sym q ∙ ap is_quiet is in absurd (cc)
 
 pub is_in : (h : History) (e : Entry) (new : Dot) → IsLegal (Then h e) → e.outcome ≡ outcomes_are.Added new → IsIn h e new
-is_in h e new l is = in_by h e new (kind_of h e.step e.outcome l.1) is
+is_in h e new l is = in_by h e new (kind_of h e.step e.outcome (plain_step h e l (ap is_again is)) l.1) is
 
 pub new_uncovered : (h : History) (new : Dot) (s : DotRows) → IsLegal h → Holds h s → new ≡ next_dot h → set.contains s.covered new ≡ false
 new_uncovered h new s legal holds p = holds.known new ∙ (ap (known h) p ∙ go (known h (next_dot h)) refl)
@@ -259,7 +270,7 @@ swap_by h e new old (Removes y ys p l a q) is = let f : true ≡ false = ap is_r
 swap_by h e new old (Quiet q) is = let f : true ≡ false = sym q ∙ ap is_quiet is in absurd (cc)
 
 pub is_swap : (h : History) (e : Entry) (new old : Dot) → IsLegal (Then h e) → e.outcome ≡ outcomes_are.Replaced new old → IsSwap h e new old
-is_swap h e new old l is = swap_by h e new old (kind_of h e.step e.outcome l.1) is
+is_swap h e new old l is = swap_by h e new old (kind_of h e.step e.outcome (plain_step h e l (ap is_again is)) l.1) is
 
 pub old_dot : (h : History) (old : Dot) → IsLegal h → IsOwnShown h old → is_dot old ≡ true
 old_dot h old l w = known_dot h l old w.own (own_known h l old w)
@@ -273,14 +284,14 @@ swapped h e new old s legal holds is i = record {
       ∙ ap (λ k. (same_dot d new || k) || has_dot (old ∷ []) d) (holds.known d)))
       ∙ (within (same_dot d new) (known h d) (has_dot (old ∷ []) d) (all_known h legal.0 (old ∷ []) (i.shown, tt) d)
       ∙ (ap (λ x. same_dot d x || known h d) i.next
-      ∙ sym (known_used h e d legal.0 (ap counts_used is) i.alone))));
+      ∙ sym (known_used h e d legal.0 (plain_step h e legal (ap is_again is)) (ap counts_used is) i.alone))));
   live = λ d.
       without_rows_at (map.insert s.live new i.row) (old ∷ []) d
       ∙ (ap (λ o. cond (has_dot (old ∷ []) d) None o) (map.get-insert dot_total s.live new i.row d ∙ ap (λ o. cond (same_dot d new) (Some i.row) o) (holds.live d))
       ∙ (shape (same_dot d new) (has_dot (old ∷ []) d) i.row (live h d) (apart d)
       ∙ ((λ j. first_some (cond (same_dot d new) (sym i.made j) None) (cond (has_dot (old ∷ []) d) None (live h d)))
       ∙ ((λ j. first_some (row_added e.step (sym is j) d) (cond (has_dot (dots_taken (sym is j)) d) None (live h d)))
-      ∙ sym (live_by h e d (legal_knows h legal.0) (kind_of h e.step e.outcome legal.1) i.alone)))));
+      ∙ sym (live_by h e d (legal_knows h legal.0) (kind_of h e.step e.outcome (plain_step h e legal (ap is_again is)) legal.1) i.alone)))));
 }
   where
     within : (a k b : Bool) → (b ≡ true → k ≡ true) → (a || ((a || k) || b)) ≡ (a || k)
@@ -312,11 +323,11 @@ pub quiet_holds : (h : History) (e : Entry) (s : DotRows) → IsLegal (Then h e)
 quiet_holds h e s legal q t holds = record {
   known = λ d.
       holds.known d
-      ∙ sym (known_quiet h e d legal.0 (quiet_uses_none e.outcome q) ∙ (ap (λ b. known h d || b) (none_told_covers h e.step d t) ∙ no_more (known h d)));
+      ∙ sym (known_quiet h e d legal.0 (plain_step h e legal (quiet_plain e.outcome q)) (quiet_plain e.outcome q) (quiet_uses_none e.outcome q) ∙ (ap (λ b. known h d || b) (none_told_covers h e.step d t) ∙ no_more (known h d)));
   live = λ d.
       holds.live d
       ∙ ((λ j. first_some (sym (quiet_row e.step e.outcome d q) j) (cond (has_dot (sym (quiet_taken e.outcome q) j) d) None (live h d)))
-      ∙ sym (live_by h e d (legal_knows h legal.0) (kind_of h e.step e.outcome legal.1) t));
+      ∙ sym (live_by h e d (legal_knows h legal.0) (kind_of h e.step e.outcome (plain_step h e legal (quiet_plain e.outcome q)) legal.1) t));
 }
 
 -- an untrack that found nothing
@@ -325,8 +336,9 @@ untracked_none h e [] s legal holds t is none = quiet_holds h e s legal (ap is_q
 untracked_none h e (d ∷ ds) s legal holds t is none = absurd (omega (arith, eqb-true (length (d ∷ ds)) 0 none))
 
 -- an outcome that changes no own row
-pub rest_is_quiet : (o : Outcome) → ((x : Dot) → o ≡ outcomes_are.Added x → ⊥) → ((x y : Dot) → o ≡ outcomes_are.Replaced x y → ⊥) → ((ds : List Dot) → o ≡ outcomes_are.Removed ds → ⊥) → is_quiet o ≡ true
-rest_is_quiet (outcomes_are.Added x) f g k = absurd (f x refl)
-rest_is_quiet (outcomes_are.Replaced x y) f g k = absurd (g x y refl)
-rest_is_quiet (outcomes_are.Removed ds) f g k = absurd (k ds refl)
-rest_is_quiet _ f g k = refl
+pub rest_is_quiet : (o : Outcome) → ((x : Dot) → o ≡ outcomes_are.Added x → ⊥) → ((x y : Dot) → o ≡ outcomes_are.Replaced x y → ⊥) → ((ds : List Dot) → o ≡ outcomes_are.Removed ds → ⊥) → ((ps : List (Dot × Dot)) → o ≡ outcomes_are.Reborn ps → ⊥) → is_quiet o ≡ true
+rest_is_quiet (outcomes_are.Added x) f g k m = absurd (f x refl)
+rest_is_quiet (outcomes_are.Replaced x y) f g k m = absurd (g x y refl)
+rest_is_quiet (outcomes_are.Removed ds) f g k m = absurd (k ds refl)
+rest_is_quiet (outcomes_are.Reborn ps) f g k m = absurd (m ps refl)
+rest_is_quiet _ f g k m = refl

@@ -8,13 +8,13 @@ use Rattle.presence_base.specs.declared.dots.Replica.{Replica}
 use Rattle.presence_base.specs.Order.{same_dot}
 use Rattle.orswot_core_told.specs.Telling.{Range, range_has, covers}
 use Rattle.presence_journal.specs.Steps.{Entry, Start}
-use Rattle.presence_journal.specs.History.{History, Begin, Then, onto, own, count, counts_used, is_counted, told_covers, known}
+use Rattle.presence_journal.specs.History.{History, Begin, Then, onto, own, own_after, count, count_after, is_counted, told_covers, known}
 use Rattle.presence_journal.specs.Table.{IsLegal}
-use Rattle.presence_journal.proofs.Walking.{IsCounted, counted_start, counted_more, drop_next}
+use Rattle.presence_journal.proofs.Walking.{IsCounted, counted_start, counted_more, own_more, drop_next}
 use Rattle.presence_journal.proofs.Diffs.{legal_at}
 use Rattle.presence_journal.proofs.HistoryLemmas.{legal_before, known-then}
 use Rattle.presence_journal_sets.specs.Reaching.{counts_of, Reaches}
-use Rattle.presence_journal_sets.proofs.StatusLemmas.{own-begin, own_onto}
+use Rattle.presence_journal_sets.proofs.StatusLemmas.{own-begin}
 use Rattle.presence_journal_sets.proofs.FrontLemmas.{front_next}
 use Rattle.presence_journal_sets.proofs.KnownLemmas.{known-begin}
 
@@ -76,39 +76,43 @@ dot_counts r x = counts_of (λ d. same_dot d x) r
 
 -- what is known after so many entries
 
-pub record ReachesTo (s : Start) (es : List Entry) (i : ℕ) (r : Replica) (from reach used : ℕ) : Type 0 where
+pub record ReachesTo (s : Start) (es : List Entry) (i : ℕ) (r : Replica) (from reach : ℕ) (o : Replica) (used : ℕ) : Type 0 where
+  pub mine : o ≡ own (onto (Begin s) (take i es))
   pub reaches : Reaches (counts_of (known (onto (Begin s) (take i es))) r) from reach
   pub counted : IsCounted used (onto (Begin s) (take i es))
 
-pub reaches_start : (s : Start) (es : List Entry) (r : Replica) (from reach : ℕ) → IsLegal (onto (Begin s) es) → Reaches (counts_of (covers s.content) r) from reach → ReachesTo s es 0 r from reach s.count
+pub reaches_start : (s : Start) (es : List Entry) (r : Replica) (from reach : ℕ) → IsLegal (onto (Begin s) es) → Reaches (counts_of (covers s.content) r) from reach → ReachesTo s es 0 r from reach s.own s.count
 reaches_start s es r from reach l f = record {
+  mine = sym (own-begin s);
   reaches = reach_alike (counts_of (covers s.content) r) (counts_of (known (Begin s)) r) from reach (λ n. sym (known-begin s (record { replica = r; count = n }))) f;
   counted = counted_start s (legal_before (Begin s) es l);
 }
 
-entry_parts : (s : Start) (h : History) (e : Entry) (used : ℕ) → s.own ≡ own h → used ≡ count (Then h e) → (d : Dot) → known (Then h e) d ≡ ((known h d || is_counted s.own used d) || told_covers h e.step d)
-entry_parts s h e used mine now d =
+entry_parts : (h : History) (e : Entry) (o : Replica) (used : ℕ) → o ≡ own (Then h e) → used ≡ count (Then h e) → (d : Dot) → known (Then h e) d ≡ ((known h d || is_counted o used d) || told_covers h e.step d)
+entry_parts h e o used mine now d =
     known-then h e d
     ∙ ((λ j. known h d || (is_counted (sym mine j) (sym now j) d || told_covers h e.step d))
-    ∙ sym (or_assoc (known h d) (is_counted s.own used d) (told_covers h e.step d)))
+    ∙ sym (or_assoc (known h d) (is_counted o used d) (told_covers h e.step d)))
   where
     or_assoc : (a b c : Bool) → ((a || b) || c) ≡ (a || (b || c))
     or_assoc true b c = refl
     or_assoc false b c = refl
 
-pub reaches_more : (s : Start) (es : List Entry) (i : ℕ) (e : Entry) (r : Replica) (from reach mid next used more : ℕ) → IsLegal (onto (Begin s) es) → i < length es → e ≡ get_or es i e → more ≡ counts_used e.outcome → Reaches (counts_of (is_counted s.own (used + more)) r) reach mid → Reaches (counts_of (told_covers (onto (Begin s) (take i es)) e.step) r) mid next → ReachesTo s es i r from reach used → ReachesTo s es (i + 1) r from next (used + more)
-reaches_more s es i e r from reach mid next used more l lt is m own_on told_on before =
+pub reaches_more : (s : Start) (es : List Entry) (i : ℕ) (e : Entry) (r o p : Replica) (from reach mid next used more : ℕ) → IsLegal (onto (Begin s) es) → i < length es → e ≡ get_or es i e → p ≡ own_after e.step o → more ≡ count_after e.outcome used
+    → Reaches (counts_of (is_counted p more) r) reach mid → Reaches (counts_of (told_covers (onto (Begin s) (take i es)) e.step) r) mid next → ReachesTo s es i r from reach o used → ReachesTo s es (i + 1) r from next p more
+reaches_more s es i e r o p from reach mid next used more l lt is owned m own_on told_on before =
     let h = onto (Begin s) (take i es) in
     let then = front_next (Begin s) es i e lt is in
-    let counted : IsCounted (used + more) (Then h e) =
-    subst (λ (n : ℕ). IsCounted (used + n) (Then h e)) (sym m) (counted_more used h e (legal_at (Begin s) es i e lt is l) before.counted) in
-    let mine : s.own ≡ own h = sym (own_onto (Begin s) (take i es) ∙ own-begin s) in
+    let counted : IsCounted more (Then h e) =
+    subst (λ (n : ℕ). IsCounted n (Then h e)) (sym m) (counted_more used h e (legal_at (Begin s) es i e lt is l) before.counted) in
+    let mine : p ≡ own (Then h e) = owned ∙ own_more o h e before.mine in
     let here = counts_of (known h) r in
-    let ours = counts_of (is_counted s.own (used + more)) r in
+    let ours = counts_of (is_counted p more) r in
     let theirs = counts_of (told_covers h e.step) r in
     let all = reach_on (λ n. here n || ours n) theirs from mid next (reach_on here ours from reach mid before.reaches own_on) told_on in
     record {
+      mine = mine ∙ ap own (sym then);
       reaches = reach_alike (λ n. (here n || ours n) || theirs n) (counts_of (known (onto (Begin s) (take (i + 1) es))) r) from next
-          (λ n. ap (λ (g : History). known g (record { replica = r; count = n })) then ∙ entry_parts s h e (used + more) mine counted.0 (record { replica = r; count = n })) all;
-      counted = subst (λ (g : History). IsCounted (used + more) g) (sym then) counted;
+          (λ n. ap (λ (g : History). known g (record { replica = r; count = n })) then ∙ entry_parts h e p more mine counted.0 (record { replica = r; count = n })) all;
+      counted = subst (λ (g : History). IsCounted more g) (sym then) counted;
     }

@@ -1,5 +1,5 @@
 -- The standing of a replica, entry by entry.
-use Rattle.std.proofs.Common.{◌≡◌, ℕ, ◌+◌, ◌<◌, true, false, cond, refl, sym, ◌∙◌, ap, List, [], ◌∷◌, length, get_or, not, ◌&&◌}
+use Rattle.std.proofs.Common.{◌≡◌, ℕ, ◌+◌, ◌<◌, true, false, cond, refl, sym, ◌∙◌, ap, List, length, get_or, not, ◌&&◌}
 use Rattle.std.specs.Prelude.{max}
 use Rattle.presence_base.specs.declared.dots.Replica.{Replica}
 use Rattle.presence_base.specs.Order.{same_replica}
@@ -8,7 +8,7 @@ use Rattle.replica_status.specs.declared.status.Status.TheVariants as status_is
 use Rattle.replica_status.specs.Table.{status_of}
 use Rattle.replica_status.specs.Boards.{standing_in}
 use Rattle.presence_journal.specs.Steps.{Entry, Start}
-use Rattle.presence_journal.specs.History.{History, Begin, Then, onto, own, time_of, time, standing_after, standing, status, is_gone, hears}
+use Rattle.presence_journal.specs.History.{History, Begin, Then, onto, own, own_after, time_of, time, standing_after, standing, status, is_gone, hears}
 use Rattle.presence_journal.proofs.Walking.{Reached, drop_next}
 
 -- the own replica is up, and the status of another is that of its standing
@@ -21,32 +21,29 @@ pub status_other : (h : History) (r : Replica) → same_replica r (own h) ≡ fa
 unfolding status
 status_other h r e = sym (ap (λ b. cond b status_is.Up (status_of (standing h r))) e)
 
--- this is the greatest time, and the standing of the replica
-pub record Stands (r : Replica) (t : ℕ) (x : Standing) (h : History) : Type 0 where
+-- this is the own replica, the greatest time, and the standing of the replica
+pub record Stands (o r : Replica) (t : ℕ) (x : Standing) (h : History) : Type 0 where
+  pub mine : o ≡ own h
   pub now : t ≡ time h
   pub stands : x ≡ standing h r
 
-pub stands_start : (r : Replica) (s : Start) → Stands r s.time (standing_in s.standings r) (Begin s)
-unfolding time standing
-stands_start r s = record { now = refl; stands = refl }
+pub stands_start : (r : Replica) (s : Start) → Stands s.own r s.time (standing_in s.standings r) (Begin s)
+unfolding own time standing
+stands_start r s = record { mine = refl; now = refl; stands = refl }
 
-pub stands_more : (r : Replica) (t u : ℕ) (x y : Standing) (h : History) (e : Entry) → u ≡ max t (time_of e.step) → y ≡ standing_after e.step u r x → Stands r t x h → Stands r u y (Then h e)
-unfolding time standing
-stands_more r t u x y h e later next s = record {
+pub stands_more : (o p r : Replica) (t u : ℕ) (x y : Standing) (h : History) (e : Entry) → p ≡ own_after e.step o → u ≡ max t (time_of e.step) → y ≡ standing_after o e.step u r x → Stands o r t x h → Stands p r u y (Then h e)
+unfolding own time standing
+stands_more o p r t u x y h e mine later next s = record {
+  mine = mine ∙ ap (own_after e.step) s.mine;
   now = later ∙ ap (λ n. max n (time_of e.step)) s.now;
   stands = next
-      ∙ (ap (λ n. standing_after e.step n r x) later
-      ∙ (λ i. standing_after e.step (max (s.now i) (time_of e.step)) r (s.stands i)));
+      ∙ (ap (λ n. standing_after o e.step n r x) later
+      ∙ (λ i. standing_after (s.mine i) e.step (max (s.now i) (time_of e.step)) r (s.stands i)));
 }
 
 pub own-begin : (s : Start) → own (Begin s) ≡ s.own
 unfolding own
 own-begin s = refl
-
-pub own_onto : (h : History) (es : List Entry) → own (onto h es) ≡ own h
-unfolding own
-own_onto h [] = refl
-own_onto h (e ∷ es) = own_onto (Then h e) es
 
 -- one entry more, of any history
 pub passed_more : (whole : History) (es : List Entry) (i : ℕ) (e : Entry) (P Q : History → Type 0) → i < length es → e ≡ get_or es i e → ((h : History) → P h → Q (Then h e)) → Reached whole es i P → Reached whole es (i + 1) Q

@@ -1,5 +1,5 @@
 -- A set without the replicas that are gone.
-use Rattle.std.specs.Prelude.{◌≡◌, Bool, true, false, cond, List, Option, Some, None}
+use Rattle.std.specs.Prelude.{◌≡◌, Bool, true, false, cond, ◌||◌, List, [], ◌∷◌, Option, Some, None}
 use Rattle.std.specs.List.{list_any}
 use Rattle.std.specs.FinSet as set
 use Rattle.std.specs.FinMap as map
@@ -10,7 +10,7 @@ use Rattle.orswot_core.specs.Sets.{DotRows, without_replica}
 use Rattle.replica_status.specs.declared.standing.Standing.{Standing}
 use Rattle.presence_journal_data.specs.declared.step.Step.TheVariants as steps_are
 use Rattle.presence_journal.specs.Steps.{Step, Entry}
-use Rattle.presence_journal.specs.History.{History, known, live, covered, status, is_gone}
+use Rattle.presence_journal.specs.History.{History, own_after, known, live, covered, status, is_gone}
 
 -- the set of what is covered, with the live rows of the replicas that are not gone
 pub record HoldsCovered (h : History) (s : DotRows) : Type 0 where
@@ -29,18 +29,20 @@ abbrev pub without_gone : History → DotRows → Option Replica → DotRows
 without_gone h s None = s
 without_gone h s (Some r) = cond (is_gone (status h r)) (without_replica s r) s
 
--- the replica that a step hears or puts down
-abbrev pub named_by : Step → Option Replica
-named_by (steps_are.Heard replica now) = Some replica
-named_by (steps_are.PermDown replica) = Some replica
-named_by _ = None
+-- the replica that a step hears or puts down, where this is the own one before it
+abbrev pub named_by : Replica → Step → Option Replica
+named_by o (steps_are.Heard replica now) = Some replica
+named_by o (steps_are.PermDown replica) = Some replica
+named_by o (steps_are.Rebirth incarnation) = Some o
+named_by o _ = None
 
 abbrev pub is_it : Option Replica → Replica → Bool
 is_it None r = false
 is_it (Some x) r = same_replica r x
 
-abbrev pub is_named : List Entry → Replica → Bool
-is_named es r = list_any (λ e. is_it (named_by e.step) r) es
+abbrev pub is_named : Replica → List Entry → Replica → Bool
+is_named o [] r = false
+is_named o (e ∷ es) r = is_it (named_by o e.step) r || is_named (own_after e.step o) es r
 
 abbrev pub is_listed : List (Replica × Standing) → Replica → Bool
 is_listed xs r = list_any (λ x. same_replica r x.0) xs

@@ -8,7 +8,7 @@ use Rattle.presence_base.specs.declared.row.Row.{Row}
 use Rattle.orswot_core_told.specs.Limits.{is_row}
 use Rattle.orswot_core.specs.Sets.{DotRows, with_dot}
 use Rattle.presence_journal_data.specs.declared.step.Step.TheVariants as steps_are
-use Rattle.presence_journal.specs.History.{History, Then, known, live}
+use Rattle.presence_journal.specs.History.{History, Then, with_prev, known, live}
 use Rattle.presence_journal.specs.Steps.{Step, Entry}
 use Rattle.presence_journal.specs.Table.{IsLegal}
 
@@ -25,6 +25,10 @@ IsMergeAfter h t s = (e : Entry) → IsLegal (Then h e) → e.step ≡ steps_are
 abbrev pub with_made : DotRows → Option Row → Dot → DotRows
 with_made s None d = s
 with_made s (Some r) d = with_dot s d r
+
+-- with the row of the old dot under the new one
+abbrev pub with_again : DotRows → Dot × Dot → DotRows
+with_again s p = with_made s (with_prev p.1 (map.get s.live p.1)) p.0
 
 -- a row that is made is within the limits of rows
 abbrev pub IsMadeWithin : Option Row → Type 0

@@ -1,7 +1,9 @@
 ghost use Rattle.std.specs.Prelude.{◌≡◌, ◌≤◌, ◌^◌};
-ghost use Rattle.presence_journal.specs.History.{Begin, onto, count, counts_used};
+ghost use Rattle.presence_journal.specs.History.{Begin, onto, count, counts_used, count_after};
 ghost use Rattle.presence_journal.specs.Table.{IsLegal};
+ghost use Rattle.presence_journal.specs.Walk.{pairs_in};
 
+use presence_base::Dot;
 use presence_journal::{Entry, Journal, Outcome, Start};
 
 /// How many counts an outcome uses.
@@ -16,6 +18,28 @@ pub fn used_by(outcome: &Outcome) -> u64
     }
 }
 
+/// The pairs of a new and an old dot that a rebirth makes; none of any other outcome.
+pub fn reborn_pairs(outcome: &Outcome) -> &[(Dot, Dot)]
+    ensures { result.now ≡ pairs_in outcome.now }
+{
+    match outcome {
+        Outcome::Reborn(pairs) => pairs.as_slice(),
+        _ => &[],
+    }
+}
+
+/// How many counts the own replica has used with an outcome, where it had used so many before.
+pub fn used_after(outcome: &Outcome, used: u64) -> u64
+    requires { used ≤ 2 ^ 62 }
+    ensures { result ≡ count_after outcome.now used }
+{
+    if let Outcome::Reborn(pairs) = outcome {
+        return pairs.as_slice().len() as u64;
+    }
+    let more = used_by(outcome);
+    used + more
+}
+
 // How many counts the own replica has used after these entries.
 pub(crate) fn count_after(start: &Start, entries: &[Entry]) -> u64
     requires { IsLegal (onto (Begin start.now) entries.now) }
@@ -24,7 +48,7 @@ pub(crate) fn count_after(start: &Start, entries: &[Entry]) -> u64
 {
     let mut used = start.count;
     for entry in entries {
-        used += used_by(&entry.outcome);
+        used = used_after(&entry.outcome, used);
     }
     used
 }

@@ -4,11 +4,11 @@ ghost use Rattle.orswot_core_told.specs.Telling.{lies_in, is_among, covers};
 ghost use Rattle.presence_journal.specs.History.{Begin, onto, is_counted, told_covers, known};
 ghost use Rattle.presence_journal.specs.Table.{IsLegal};
 
-use crate::counts::used_by;
+use crate::counts::used_after;
 use crate::statuses::{hears_after, is_same};
 use orswot_core::Told;
 use presence_base::{Dot, Replica};
-use presence_journal::{Entry, Start, Step};
+use presence_journal::{Entry, Start, Step, own_after};
 
 // Whether one of the ranges has the dot.
 fn lies_in(ranges: &[(Replica, u64, u64)], dot: &Dot) -> bool
@@ -51,12 +51,19 @@ fn is_counted(own: &Replica, used: u64, dot: &Dot) -> bool
 }
 
 // Whether an entry behind these makes the dot known: the own replica used so many counts with it.
-fn makes_known(start: &Start, entries: &[Entry], entry: &Entry, used: u64, dot: &Dot) -> bool
+fn makes_known(
+    start: &Start,
+    entries: &[Entry],
+    entry: &Entry,
+    own: &Replica,
+    used: u64,
+    dot: &Dot,
+) -> bool
     ensures { result
-        ≡ (is_counted start.now.own used dot.now
+        ≡ (is_counted own.now used dot.now
         || told_covers (onto (Begin start.now) entries.now) entry.now.step dot.now) }
 {
-    is_counted(&start.own, used, dot) || told_covers(start, entries, &entry.step, dot)
+    is_counted(own, used, dot) || told_covers(start, entries, &entry.step, dot)
 }
 
 // Whether the dot is known after these entries.
@@ -64,11 +71,13 @@ pub(crate) fn is_known_after(start: &Start, entries: &[Entry], dot: &Dot) -> boo
     requires { IsLegal (onto (Begin start.now) entries.now) }
     ensures { result ≡ known (onto (Begin start.now) entries.now) dot.now }
 {
+    let mut own = start.own;
     let mut used = start.count;
     let mut is_known = covers(&start.content, dot);
     for (place, entry) in entries.iter().enumerate() {
-        used += used_by(&entry.outcome);
-        is_known = is_known || makes_known(start, &entries[..place], entry, used, dot);
+        own = own_after(&entry.step, own);
+        used = used_after(&entry.outcome, used);
+        is_known = is_known || makes_known(start, &entries[..place], entry, &own, used, dot);
     }
     is_known
 }

@@ -9,7 +9,7 @@ use crate::statuses::{is_gone, status_after};
 use crate::walked::walk_set_of;
 use orswot_core::Orswot;
 use presence_base::Replica;
-use presence_journal::{Entry, Journal, Start, Step};
+use presence_journal::{Entry, Journal, Start, Step, own_after};
 use std::alloc::{AllocError, Global};
 
 // Forgets the replica, where it is gone after these entries.
@@ -21,22 +21,23 @@ fn forget_gone(set: &mut Orswot, start: &Start, entries: &[Entry], replica: &Rep
     }
 }
 
-// The replica that a step hears or puts down.
-fn named_by(step: &Step) -> Option<&Replica>
-    ensures { option_copied result ≡ named_by step.now }
+// The replica that a step hears or puts down, where this is the own one before it.
+fn named_by<'a>(own: &'a Replica, step: &'a Step) -> Option<&'a Replica>
+    ensures { option_copied result ≡ named_by own.now step.now }
 {
     match step {
         Step::Heard { replica, .. } => Some(replica),
         Step::PermDown { replica } => Some(replica),
+        Step::Rebirth { .. } => Some(own),
         _ => None,
     }
 }
 
 // Forgets the replica that a step names, where it is gone after these entries.
-fn forget_named(set: &mut Orswot, start: &Start, entries: &[Entry], step: &Step)
-    ensures { set.new ≡ without_gone (onto (Begin start.now) entries.now) set.old (named_by step.now) }
+fn forget_named(set: &mut Orswot, start: &Start, entries: &[Entry], own: &Replica, step: &Step)
+    ensures { set.new ≡ without_gone (onto (Begin start.now) entries.now) set.old (named_by own.now step.now) }
 {
-    if let Some(replica) = named_by(step) {
+    if let Some(replica) = named_by(own, step) {
         forget_gone(set, start, entries, replica);
     }
 }
@@ -44,7 +45,7 @@ fn forget_named(set: &mut Orswot, start: &Start, entries: &[Entry], step: &Step)
 // Forgets those of the listed replicas that are gone.
 fn leave_out_listed(set: &mut Orswot, start: &Start, entries: &[Entry])
     requires { Holds (onto (Begin start.now) entries.now) set.old }
-    ensures { LeavesOut (onto (Begin start.now) entries.now) (is_named entries.now) set.new }
+    ensures { LeavesOut (onto (Begin start.now) entries.now) (is_named start.now.own entries.now) set.new }
 {
     let standings = start.standings.as_slice();
     for listed in standings {
@@ -54,16 +55,22 @@ fn leave_out_listed(set: &mut Orswot, start: &Start, entries: &[Entry])
 
 // Forgets those of the named replicas that are gone.
 fn leave_out_named(set: &mut Orswot, start: &Start, entries: &[Entry])
-    requires { LeavesOut (onto (Begin start.now) entries.now) (is_named entries.now) set.old }
+    requires { LeavesOut (onto (Begin start.now) entries.now) (is_named start.now.own entries.now) set.old }
     ensures { LeavesOut (onto (Begin start.now) entries.now) none_left set.new }
 {
+    let mut own = start.own;
     for entry in entries {
-        forget_named(set, start, entries, &entry.step);
+        forget_named(set, start, entries, &own, &entry.step);
+        own = own_after(&entry.step, own);
     }
 }
 
 // The set of what is covered after these entries.
-fn covered_set(alloc: Global, start: &Start, entries: &[Entry]) -> Result<Orswot, AllocError>
+pub(crate) fn covered_set(
+    alloc: Global,
+    start: &Start,
+    entries: &[Entry],
+) -> Result<Orswot, AllocError>
     requires { IsLegal (onto (Begin start.now) entries.now) }
     ensures { IfOk result (HoldsCovered (onto (Begin start.now) entries.now)) }
 {

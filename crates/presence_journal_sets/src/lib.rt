@@ -9,12 +9,14 @@ mod counts;
 mod known;
 mod leaving;
 mod reaching;
+mod rebirths;
 mod sets;
 mod statuses;
 mod walked;
 
-pub use counts::{used_by, walk_count};
+pub use counts::{reborn_pairs, used_after, used_by, walk_count};
 pub use leaving::walk_set;
+pub use rebirths::{can_go_on, number_dots, walk_can_be_reborn, walk_pairs};
 pub use sets::{walk_covers, walk_top};
 pub use statuses::{hears_after, status_after, walk_status};
-pub use walked::{made_row, row_of, walk_set_of};
+pub use walked::{made_row, reborn_row, row_of, walk_set_of};

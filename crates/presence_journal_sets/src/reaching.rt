@@ -6,11 +6,11 @@ ghost use Rattle.presence_journal.specs.History.{Begin, onto, is_counted, told_c
 ghost use Rattle.presence_journal.specs.Table.{IsLegal};
 ghost use Rattle.presence_journal_sets.specs.Reaching.{counts_of, Reaches};
 
-use crate::counts::used_by;
+use crate::counts::used_after;
 use crate::statuses::{hears_after, is_same};
 use orswot_core::Told;
 use presence_base::{Dot, Replica};
-use presence_journal::{Entry, Start, Step};
+use presence_journal::{Entry, Start, Step, own_after};
 
 // How far a range goes on.
 fn reach_by_range(range: &(Replica, u64, u64), replica: &Replica, from: u64) -> u64
@@ -97,11 +97,13 @@ pub(crate) fn reach_after(start: &Start, entries: &[Entry], replica: &Replica, f
     requires { IsLegal (onto (Begin start.now) entries.now) }
     ensures { Reaches (counts_of (known (onto (Begin start.now) entries.now)) replica.now) from result }
 {
+    let mut own = start.own;
     let mut used = start.count;
     let mut reach = reach_by_told(&start.content, replica, from);
     for (place, entry) in entries.iter().enumerate() {
-        used += used_by(&entry.outcome);
-        reach = reach_by_count(&start.own, used, replica, reach);
+        own = own_after(&entry.step, own);
+        used = used_after(&entry.outcome, used);
+        reach = reach_by_count(&own, used, replica, reach);
         reach = reach_by_step(start, &entries[..place], &entry.step, replica, reach);
     }
     reach

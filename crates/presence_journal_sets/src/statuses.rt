@@ -5,7 +5,7 @@ ghost use Rattle.replica_status.specs.Table.{heard_at, put_down};
 ghost use Rattle.presence_journal.specs.History.{Begin, onto, time_of, standing_after, standing, status, is_gone, hears};
 
 use presence_base::Replica;
-use presence_journal::{Entry, Journal, Start, Step};
+use presence_journal::{Entry, Journal, Start, Step, own_after, own_of};
 use replica_status::{Standing, Status};
 
 // Whether the two are one replica.
@@ -56,8 +56,14 @@ fn gone_standing(is_gone: bool, standing: Standing) -> Standing
 }
 
 // What a step at a time makes of the standing of a replica.
-fn next_standing(step: &Step, time: u64, replica: &Replica, standing: Standing) -> Standing
-    ensures { result ≡ standing_after step.now time replica.now standing }
+fn next_standing(
+    own: &Replica,
+    step: &Step,
+    time: u64,
+    replica: &Replica,
+    standing: Standing,
+) -> Standing
+    ensures { result ≡ standing_after own.now step.now time replica.now standing }
 {
     match step {
         Step::Heard { replica: heard, .. } => {
@@ -65,6 +71,7 @@ fn next_standing(step: &Step, time: u64, replica: &Replica, standing: Standing) 
         }
         Step::Tick { .. } => standing.ticked_at(time),
         Step::PermDown { replica: gone } => gone_standing(is_same(replica, gone), standing),
+        Step::Rebirth { .. } => gone_standing(is_same(replica, own), standing),
         _ => standing,
     }
 }
@@ -73,11 +80,13 @@ fn next_standing(step: &Step, time: u64, replica: &Replica, standing: Standing) 
 fn standing_after(start: &Start, entries: &[Entry], replica: &Replica) -> Standing
     ensures { result ≡ standing (onto (Begin start.now) entries.now) replica.now }
 {
+    let mut own = start.own;
     let mut time = start.time;
     let mut standing = listed_standing(start.standings.as_slice(), replica);
     for entry in entries {
         time = time.max(time_of_step(&entry.step));
-        standing = next_standing(&entry.step, time, replica, standing);
+        standing = next_standing(&own, &entry.step, time, replica, standing);
+        own = own_after(&entry.step, own);
     }
     standing
 }
@@ -86,7 +95,8 @@ fn standing_after(start: &Start, entries: &[Entry], replica: &Replica) -> Standi
 pub fn status_after(start: &Start, entries: &[Entry], replica: &Replica) -> Status
     ensures { result ≡ status (onto (Begin start.now) entries.now) replica.now }
 {
-    if is_same(replica, &start.own) {
+    let own = own_of(start, entries);
+    if is_same(replica, &own) {
         return Status::Up;
     }
     standing_after(start, entries, replica).status()
@@ -106,7 +116,8 @@ pub(crate) fn is_gone(status: Status) -> bool
 pub fn hears_after(start: &Start, entries: &[Entry], replica: &Replica) -> bool
     ensures { result ≡ hears (onto (Begin start.now) entries.now) replica.now }
 {
-    if is_same(replica, &start.own) {
+    let own = own_of(start, entries);
+    if is_same(replica, &own) {
         return false;
     }
     let status = status_after(start, entries, replica);

@@ -1,18 +1,19 @@
 // The set that a history says, kept entry by entry.
-ghost use Rattle.std.specs.Prelude.{◌≡◌, ◌∷◌, [], true, false, IfOk, OnOk, None, ◌≤◌, ◌+◌, length, option_copied};
+ghost use Rattle.std.specs.Prelude.{◌≡◌, ◌∷◌, [], true, false, IfOk, OnOk, Some, None, ◌≤◌, ◌+◌, length, option_copied};
 ghost use Rattle.std.specs.FinSet as dots_in;
+ghost use Rattle.std.specs.FinMap as rows_in;
 ghost use Rattle.orswot_core_told.specs.Limits.{is_dot};
-ghost use Rattle.presence_journal.specs.History.{Begin, Then, onto, row_made, next_dot};
+ghost use Rattle.presence_journal.specs.History.{Begin, Then, onto, row_made, next_dot, with_prev};
 ghost use Rattle.presence_journal.specs.Table.{IsLegal};
 ghost use Rattle.presence_journal.specs.Walk.{tells};
 ghost use Rattle.presence_journal_sets.specs.ByDot.{row_with};
-ghost use Rattle.presence_journal_sets.specs.Walked.{Holds, IsMergeAfter, with_made, IsMadeWithin, told_in};
+ghost use Rattle.presence_journal_sets.specs.Walked.{Holds, IsMergeAfter, with_made, with_again, IsMadeWithin, told_in};
 
-use crate::counts::used_by;
+use crate::counts::used_after;
 use crate::statuses::hears_after;
 use orswot_core::{Orswot, ReplicaTest, Told};
 use presence_base::{Dot, Key, Meta, Replica, Row, Topic};
-use presence_journal::{Entry, Outcome, Start, Step};
+use presence_journal::{Entry, Outcome, Start, Step, own_after};
 use std::alloc::{AllocError, Global};
 
 // The replicas of which these entries hear what is told.
@@ -210,6 +211,59 @@ fn take_untracked(
     take_removed(alloc, set, start, entries, entry, dots, next)
 }
 
+/// The row as it goes on under another dot: with the dot that it stood under before.
+pub fn reborn_row(row: &Row, old: &Dot) -> Result<Row, AllocError>
+    ensures { IfOk result (λ r. Some r ≡ with_prev old.now (Some row.now)) }
+{
+    let Row {
+        topic,
+        key,
+        meta,
+        ..
+    } = row.clone()?;
+    Ok(Row {
+        topic,
+        key,
+        pid: row.pid,
+        meta,
+        prev: Some(*old),
+    })
+}
+
+// Puts the row of the old dot under the new one, too.
+fn add_again(alloc: Global, set: &mut Orswot, pair: &(Dot, Dot)) -> Result<(), AllocError>
+    requires new { dots_in.contains set.old.covered pair.now.0 ≡ false }
+    requires dot { is_dot pair.now.0 ≡ true }
+    requires row { IsMadeWithin (with_prev pair.now.1 (rows_in.get set.old.live pair.now.1)) }
+    ensures { OnOk result (set.new ≡ with_again set.old pair.now) }
+{
+    let Some(row) = set.row(&pair.1) else {
+        return Ok(());
+    };
+    let row = reborn_row(row, &pair.1)?;
+    set.add(alloc, pair.0, row)
+}
+
+// Takes in a rebirth.
+fn take_reborn(
+    alloc: Global,
+    set: &mut Orswot,
+    start: &Start,
+    entries: &[Entry],
+    entry: &Entry,
+    pairs: &[(Dot, Dot)],
+) -> Result<(), AllocError>
+    requires legal { IsLegal (Then (onto (Begin start.now) entries.now) entry.now) }
+    requires holds { Holds (onto (Begin start.now) entries.now) set.old }
+    requires outcome { entry.now.outcome ≡ Outcome.Reborn pairs.now }
+    ensures { OnOk result (Holds (Then (onto (Begin start.now) entries.now) entry.now) set.new) }
+{
+    for pair in pairs {
+        add_again(alloc, set, pair)?;
+    }
+    Ok(())
+}
+
 // Takes in an entry that tells nothing, whose own count would be the next one.
 fn take_own(
     alloc: Global,
@@ -231,6 +285,7 @@ fn take_own(
         Outcome::Removed(dots) => {
             take_untracked(alloc, set, start, entries, entry, dots.as_slice(), next)
         }
+        Outcome::Reborn(pairs) => take_reborn(alloc, set, start, entries, entry, pairs.as_slice()),
         _ => Ok(()),
     }
 }
@@ -266,11 +321,11 @@ fn take_entry(
 }
 
 // The own dot of a count.
-fn own_dot(start: &Start, count: u64) -> Dot
-    ensures { result ≡ record { replica = start.now.own; count = count } }
+fn own_dot(own: &Replica, count: u64) -> Dot
+    ensures { result ≡ record { replica = own.now; count = count } }
 {
     Dot {
-        replica: start.own,
+        replica: *own,
         count,
     }
 }
@@ -281,11 +336,13 @@ pub fn walk_set_of(alloc: Global, start: &Start, entries: &[Entry]) -> Result<Or
     ensures { IfOk result (Holds (onto (Begin start.now) entries.now)) }
 {
     let mut set = kept_set(alloc, start)?;
+    let mut own = start.own;
     let mut used = start.count;
     for (place, entry) in entries.iter().enumerate() {
-        let next = own_dot(start, used + 1);
+        let next = own_dot(&own, used + 1);
         take_entry(alloc, &mut set, start, &entries[..place], entry, next)?;
-        used += used_by(&entry.outcome);
+        own = own_after(&entry.step, own);
+        used = used_after(&entry.outcome, used);
     }
     Ok(set)
 }

@@ -1,17 +1,21 @@
 -- In histories that say the same, each step that is not a subscriber's has one outcome.
-use Rattle.std.proofs.Common.{◌≡◌, ℕ, ◌^◌, cond, ◌&&◌, nat_eq, nat_lt, List, [], ◌∷◌, Some, None, refl, ◌∙◌, ap}
+use Rattle.std.proofs.Common.{◌≡◌, ℕ, ◌^◌, Bool, true, false, not, cond, ◌&&◌, nat_eq, nat_lt, nat_le, List, [], ◌∷◌, Some, None, refl, ◌∙◌, ap}
 use Rattle.std.specs.List.{filter}
 use Rattle.presence_base.specs.declared.dots.Dot.{Dot}
 use Rattle.presence_base.specs.declared.row.Row.{Row}
 use Rattle.presence_base.specs.Order.{same_replica}
 use Rattle.presence_journal_data.specs.declared.step.Step.TheVariants as steps_are
 use Rattle.presence_journal_data.specs.declared.entry.Outcome.TheVariants as outcomes_are
-use Rattle.presence_journal.specs.History.{History}
+use Rattle.replica_status.specs.declared.status.Status.{Status}
+use Rattle.replica_status.specs.declared.status.Status.TheVariants as status_is
+use Rattle.presence_base.specs.declared.dots.Replica.{Replica}
+use Rattle.presence_journal.specs.History.{History, own, reborn, status, is_gone, has_dots}
+use Rattle.presence_journal.proofs.Reborn.{same_own_dots, same_has}
 use Rattle.presence_journal.specs.Present.{dots_of}
-use Rattle.presence_journal.specs.Table.{has_key, rows_of_pid, rows_of_key, listed_key, tracked, updated, untracked, outcome_of}
+use Rattle.presence_journal.specs.Table.{has_key, rows_of_pid, rows_of_key, listed_key, tracked, updated, untracked, reborn_rows, is_unheard, can_be_reborn, outcome_of}
 use Rattle.presence_journal_starts.specs.Later.{IsLike, SameOutcomes}
-use Rattle.presence_journal_starts.proofs.Alikes.{next_same}
-use Rattle.presence_journal_starts.proofs.AlikeRows.{listed_same}
+use Rattle.presence_journal_starts.proofs.Alikes.{next_same, status_same, known_same}
+use Rattle.presence_journal_starts.proofs.AlikeRows.{listed_same, shown_same}
 
 module _ (g h : History) (a : IsLike g h) where
   pid_same : (pid : ℕ) (t : List ℕ) → rows_of_pid g pid t ≡ rows_of_pid h pid t
@@ -38,6 +42,28 @@ module _ (g h : History) (a : IsLike g h) where
   untracked_same [] = refl
   untracked_same (d ∷ ds) = λ i. cond (nat_lt (a.count i) (2 ^ 62)) (Some (outcomes_are.Removed (d ∷ ds))) None
 
+-- rebirths
+
+unheard_there : (x : Status) → is_unheard x ≡ true → is_gone x ≡ false
+unheard_there status_is.Unheard f = refl
+unheard_there status_is.Up f = absurd (cc)
+unheard_there status_is.Down f = absurd (cc)
+unheard_there status_is.Gone f = absurd (cc)
+
+module _ (g h : History) (a : IsLike g h) where
+  unheard_same : (r : Replica) → (is_unheard (status g r) && not (has_dots g r)) ≡ (is_unheard (status h r) && not (has_dots h r))
+  unheard_same r = ap (λ x. is_unheard x && not (has_dots g r)) (status_same g h a r) ∙ go (is_unheard (status h r)) refl
+    where
+      go : (b : Bool) → is_unheard (status h r) ≡ b → (b && not (has_dots g r)) ≡ (b && not (has_dots h r))
+      go false u = refl
+      go true u = ap not (same_has g h r (λ d o. known_same g h a d (ap (λ q. is_gone (status h q)) o ∙ unheard_there (status h r) u)))
+
+  can_same : (i : ℕ) → can_be_reborn g i ≡ can_be_reborn h i
+  unfolding can_be_reborn
+  can_same i =
+      (λ j. nat_lt (a.own j).incarnation i && (nat_le i (2 ^ 62) && (is_unheard (status g (reborn (a.own j) i)) && not (has_dots g (reborn (a.own j) i)))))
+      ∙ ap (λ b. nat_lt (own h).incarnation i && (nat_le i (2 ^ 62) && b)) (unheard_same (reborn (own h) i))
+
 pub same_outcomes : SameOutcomes
 unfolding outcome_of
 same_outcomes g h a (steps_are.Track pid topic key meta) f = ap (tracked g) (key_same g h a pid topic key) ∙ tracked_same g h a (rows_of_key h pid topic key)
@@ -55,3 +81,4 @@ same_outcomes g h a (steps_are.Tick now) f = refl
 same_outcomes g h a (steps_are.PermDown replica) f = refl
 same_outcomes g h a steps_are.Cut f = λ i. Some (outcomes_are.CutAt (a.last_cut i) (a.count i))
 same_outcomes g h a (steps_are.Merge told) f = refl
+same_outcomes g h a (steps_are.Rebirth i) f = λ j. reborn_rows (can_same g h a i j) (reborn (a.own j) i) (same_own_dots g h a.own (shown_same g h a) j)

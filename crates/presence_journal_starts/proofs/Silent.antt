@@ -8,16 +8,16 @@ use Rattle.replica_status.specs.declared.standing.Standing.{Standing}
 use Rattle.presence_journal_data.specs.declared.step.Step.TheVariants as steps_are
 use Rattle.presence_journal_data.specs.declared.entry.Outcome.TheVariants as outcomes_are
 use Rattle.presence_journal.specs.Steps.{Step, Outcome, Entry}
-use Rattle.presence_journal.specs.History.{History, Then, time, time_of, standing, standing_after, status, is_gone, last_cut, cut_after, known, first_some, has_dot, live}
+use Rattle.presence_journal.specs.History.{History, Then, own, time, time_of, standing, standing_after, status, is_gone, last_cut, cut_after, known, first_some, has_dot, live}
 use Rattle.presence_journal.specs.Queue.{Waiting, Behind, Queued, queue, topic_of}
 use Rattle.presence_journal.specs.Table.{IsLegal, take_outcome, for_present, outcome_of}
-use Rattle.presence_journal.specs.Walk.{tells}
+use Rattle.presence_journal.specs.Walk.{tells, is_reborn}
 use Rattle.presence_journal.specs.Laws.{is_callers}
-use Rattle.presence_journal.proofs.HistoryLemmas.{is_quiet, quiet_row, quiet_taken, kind_of, legal_knows, known_quiet, live_by, status_stays, own-then, count-then, no_more}
+use Rattle.presence_journal.proofs.HistoryLemmas.{is_quiet, quiet_plain, callers_plain, quiet_row, quiet_taken, kind_of, legal_knows, known_quiet, live_by, status_stays, own-then, count-then, no_more}
 use Rattle.presence_journal.proofs.ToldLemmas.{none_told_covers}
 use Rattle.presence_journal.proofs.Walking.{quiet_uses_none}
 use Rattle.presence_journal_cuts.specs.Cuts.{chain, chain_after, older, older_after}
-use Rattle.presence_journal_cuts.specs.KeptDeltas.{is_cut}
+use Rattle.presence_journal_cuts.specs.KeptDeltas.{renews_kept}
 use Rattle.presence_journal_cuts.proofs.KeptLemmas.{kept_other, other_kept}
 use Rattle.presence_journal_starts.specs.Later.{IsLike, is_of_subscribers}
 use Rattle.presence_journal_starts.proofs.Thens.{standing-then, time-then, cut-then, chain-then, older-then}
@@ -42,11 +42,11 @@ no_time (steps_are.Take n max) f = refl
 no_time (steps_are.Unsubscribe n) f = refl
 no_time _ f = absurd (cc)
 
-same_standing : (s : Step) (t : ℕ) (r : Replica) (x : Standing) → is_of_subscribers s ≡ true → standing_after s t r x ≡ x
-same_standing (steps_are.Subscribe topic) t r x f = refl
-same_standing (steps_are.Take n max) t r x f = refl
-same_standing (steps_are.Unsubscribe n) t r x f = refl
-same_standing _ t r x f = absurd (cc)
+same_standing : (o : Replica) (s : Step) (t : ℕ) (r : Replica) (x : Standing) → is_of_subscribers s ≡ true → standing_after o s t r x ≡ x
+same_standing o (steps_are.Subscribe topic) t r x f = refl
+same_standing o (steps_are.Take n max) t r x f = refl
+same_standing o (steps_are.Unsubscribe n) t r x f = refl
+same_standing o _ t r x f = absurd (cc)
 
 -- ---- its outcome
 
@@ -77,7 +77,7 @@ quiet (outcomes_are.Taken state items) f = refl
 quiet outcomes_are.Ended f = refl
 quiet _ f = absurd (cc)
 
-uncut : (o : Outcome) → is_silent o ≡ true → is_cut o ≡ false
+uncut : (o : Outcome) → is_silent o ≡ true → renews_kept o ≡ false
 uncut (outcomes_are.Subscribed n) f = refl
 uncut (outcomes_are.Taken state items) f = refl
 uncut outcomes_are.Ended f = refl
@@ -115,14 +115,17 @@ module _ (h : History) (e : Entry) (l : IsLegal (Then h e)) (of : is_of_subscrib
   quiet_here : is_quiet e.outcome ≡ true
   quiet_here = quiet e.outcome silent_here
 
+  plain_here : is_reborn e.step ≡ false
+  plain_here = callers_plain e.step (callers e.step of)
+
   known_here : (d : Dot) → known (Then h e) d ≡ known h d
   known_here d =
-      known_quiet h e d l.0 (quiet_uses_none e.outcome quiet_here)
+      known_quiet h e d l.0 plain_here (quiet_plain e.outcome quiet_here) (quiet_uses_none e.outcome quiet_here)
       ∙ (ap (λ b. known h d || b) (none_told_covers h e.step d (tells_none e.step of)) ∙ no_more (known h d))
 
   live_here : (d : Dot) → live (Then h e) d ≡ live h d
   live_here d =
-      live_by h e d (legal_knows h l.0) (kind_of h e.step e.outcome l.1) (tells_none e.step of)
+      live_by h e d (legal_knows h l.0) (kind_of h e.step e.outcome plain_here l.1) (tells_none e.step of)
       ∙ (λ i. first_some (quiet_row e.step e.outcome d quiet_here i) (cond (has_dot (quiet_taken e.outcome quiet_here i) d) None (live h d)))
 
   status_here : (r : Replica) → status (Then h e) r ≡ status h r
@@ -133,7 +136,7 @@ module _ (h : History) (e : Entry) (l : IsLegal (Then h e)) (of : is_of_subscrib
 
   pub silent_alike : IsLike (Then h e) h
   silent_alike = record {
-    standings = λ r f. standing-then h e r ∙ same_standing e.step (max (time h) (time_of e.step)) r (standing h r) of;
+    standings = λ r f. standing-then h e r ∙ same_standing (own h) e.step (max (time h) (time_of e.step)) r (standing h r) of;
     covers = λ d. (λ i. known_here d i && not (is_gone (status_here d.replica i)));
     rows = λ d. (λ i. cond (is_gone (status_here d.replica i)) None (live_here d i));
     older = λ n low. older-then h e n ∙ same_older e.outcome (last_cut h) (chain h) (older h) n silent_here;
@@ -142,6 +145,6 @@ module _ (h : History) (e : Entry) (l : IsLegal (Then h e)) (of : is_of_subscrib
     deltas = λ k. (other_kept h e k (uncut e.outcome silent_here), kept_other h e k (uncut e.outcome silent_here));
     time = time_here;
     last_cut = cut-then h e ∙ same_cut e.outcome (last_cut h) silent_here;
-    own = own-then h e;
-    count = count-then h e ∙ omega (arith, quiet_uses_none e.outcome quiet_here);
+    own = own-then h e plain_here;
+    count = count-then h e (quiet_plain e.outcome quiet_here) ∙ omega (arith, quiet_uses_none e.outcome quiet_here);
   }

@@ -12,12 +12,12 @@ use Rattle.delta_range.specs.Deltas.{DeltaValue, GoesOn}
 use Rattle.delta_range.specs.Keeping.{IsNext}
 use Rattle.presence_journal.specs.declared.journal.TheConstants.{MAX_ENTRIES}
 use Rattle.presence_journal.specs.Steps.{Start}
-use Rattle.presence_journal.specs.History.{History, Begin, entry_count, last_number, own, count, last_cut, is_counted, status, is_gone, known, covered}
+use Rattle.presence_journal.specs.History.{History, Begin, entry_count, last_number, own, count, is_counted, status, is_gone, known, covered}
 use Rattle.presence_journal.specs.Table.{IsLegal}
-use Rattle.presence_journal.proofs.HistoryLemmas.{own-start_of, counted_parts, counted_from, known_from, known_parts, status-own}
+use Rattle.presence_journal.proofs.HistoryLemmas.{counted_parts, counted_from, known_from, known_parts, status-own}
 use Rattle.presence_journal.proofs.Walking.{count-limit}
 use Rattle.presence_journal_cuts.proofs.Histories.{last_cut-low}
-use Rattle.presence_journal_cuts.proofs.Keeping.{start_legal}
+use Rattle.presence_journal.proofs.Fresh.{own_is}
 use Rattle.presence_journal_cuts.proofs.KeptLemmas.{goes_on_from}
 use Rattle.presence_journal_starts.specs.Checkpoints.{IsCheckpoint}
 use Rattle.presence_journal_starts.specs.Laws.{IsSound, BeginsLegal, BeginsKept, BeginsWithRoom}
@@ -26,10 +26,10 @@ use Rattle.presence_journal_starts.proofs.Beginnings.{number-begin, one_truth}
 -- the name and the incarnation of the own replica are within their limits
 
 own_name : (h : History) → IsLegal h → IsTrue (is_node_name (own h).name)
-own_name h l = subst (λ (r : Replica). IsTrue (is_node_name r.name)) (sym (own-start_of h)) (start_legal h l).name
+own_name h l = (own_is h l).name
 
 own_incarnation : (h : History) → IsLegal h → IsCount (own h).incarnation
-own_incarnation h l = subst (λ (r : Replica). IsCount r.incarnation) (sym (own-start_of h)) (start_legal h l).incarnation
+own_incarnation h l = (own_is h l).incarnation
 
 -- the own dots that were counted are covered, and no others
 

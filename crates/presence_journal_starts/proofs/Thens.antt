@@ -9,13 +9,19 @@ use Rattle.replica_status.specs.declared.standing.Standing.TheVariants.{Unheard,
 use Rattle.replica_status.specs.Table.{status_of}
 use Rattle.presence_journal_data.specs.declared.step.Step.TheVariants as steps_are
 use Rattle.presence_journal.specs.Steps.{Step, Outcome, Entry}
-use Rattle.presence_journal.specs.History.{History, Then, own, time, time_of, standing, standing_after, status, is_gone, last_cut, cut_after}
+use Rattle.presence_journal.specs.History.{History, Then, own, reborn, time, time_of, standing, standing_after, status, is_gone, last_cut, cut_after}
 use Rattle.presence_journal.specs.Present.{dots_taken}
-use Rattle.presence_journal.proofs.HistoryLemmas.{Kind, Adds, Replaces, Removes, Quiet, IsOwnShown, quiet_taken, own-then}
+use Rattle.presence_journal.proofs.HistoryLemmas.{Kind, Adds, Replaces, Removes, Quiet, IsOwnShown, quiet_taken, own-then, own_again}
+use Rattle.replica_status.specs.declared.status.Status.{Status}
+use Rattle.replica_status.specs.declared.status.Status.TheVariants as status_is
+use Rattle.presence_journal.specs.Table.{IsLegal, is_unheard}
+use Rattle.presence_journal.specs.Walk.{is_reborn}
+use Rattle.presence_journal.proofs.Same.{same_replica-true}
+use Rattle.presence_journal.proofs.Reborn.{again_of}
 use Rattle.presence_journal_sets.proofs.StatusLemmas.{status_up, status_other}
 use Rattle.presence_journal_cuts.specs.Cuts.{chain, chain_after, older, older_after}
 
-pub standing-then : (h : History) (e : Entry) (r : Replica) → standing (Then h e) r ≡ standing_after e.step (max (time h) (time_of e.step)) r (standing h r)
+pub standing-then : (h : History) (e : Entry) (r : Replica) → standing (Then h e) r ≡ standing_after (own h) e.step (max (time h) (time_of e.step)) r (standing h r)
 unfolding standing
 standing-then h e r = refl
 
@@ -47,13 +53,32 @@ one_of : (b : Bool) → cond b Gone Gone ≡ Gone
 one_of true = refl
 one_of false = refl
 
-stays_gone : (s : Step) (t : ℕ) (r : Replica) → standing_after s t r Gone ≡ Gone
-stays_gone (steps_are.Heard replica now) t r = one_of (same_replica r replica)
-stays_gone (steps_are.PermDown replica) t r = one_of (same_replica r replica)
-stays_gone _ t r = refl
+stays_gone : (o : Replica) (s : Step) (t : ℕ) (r : Replica) → standing_after o s t r Gone ≡ Gone
+stays_gone o (steps_are.Heard replica now) t r = one_of (same_replica r replica)
+stays_gone o (steps_are.PermDown replica) t r = one_of (same_replica r replica)
+stays_gone o (steps_are.Rebirth i) t r = one_of (same_replica r o)
+stays_gone o _ t r = refl
 
-gone_later : (h : History) (e : Entry) (r : Replica) → is_gone (status h r) ≡ true → is_gone (status (Then h e) r) ≡ true
-gone_later h e r g = go (same_replica r (own h)) refl
+-- and does not become the own one
+unheard_there : (x : Status) → is_unheard x ≡ true → is_gone x ≡ true → ⊥
+unheard_there status_is.Unheard f g = absurd (cc)
+unheard_there status_is.Up f g = absurd (cc)
+unheard_there status_is.Down f g = absurd (cc)
+unheard_there status_is.Gone f g = absurd (cc)
+
+other_later : (h : History) (e : Entry) (r : Replica) → IsLegal (Then h e) → is_gone (status h r) ≡ true → same_replica r (own (Then h e)) ≡ false
+other_later h e r l g = go (same_replica r (own (Then h e))) (is_reborn e.step) refl refl
+  where
+    go : (b c : Bool) → same_replica r (own (Then h e)) ≡ b → is_reborn e.step ≡ c → b ≡ false
+    go false c f n = refl
+    go true false f n = let w : false ≡ true = ap is_gone (status_up h r (ap (same_replica r) (sym (own-then h e n)) ∙ f)) ∙ g in absurd (cc)
+    go true true f n =
+        let w = again_of h e.step e.outcome n l.1 in
+        let is : r ≡ reborn (own h) w.incarnation = same_replica-true r (own (Then h e)) f ∙ own_again h e w in
+        absurd (unheard_there (status h r) (ap (λ q. is_unheard (status h q)) is ∙ w.unheard) g)
+
+gone_later : (h : History) (e : Entry) (r : Replica) → IsLegal (Then h e) → is_gone (status h r) ≡ true → is_gone (status (Then h e) r) ≡ true
+gone_later h e r l g = go (same_replica r (own h)) refl
   where
     go : (b : Bool) → same_replica r (own h) ≡ b → is_gone (status (Then h e) r) ≡ true
     go true f = let w : false ≡ true = ap is_gone (status_up h r f) ∙ g in absurd (cc)
@@ -61,16 +86,16 @@ gone_later h e r g = go (same_replica r (own h)) refl
         let gone : standing h r ≡ Gone = only_gone (standing h r) (ap is_gone (status_other h r f) ∙ g) in
         let still : standing (Then h e) r ≡ Gone =
         standing-then h e r
-        ∙ (ap (standing_after e.step (max (time h) (time_of e.step)) r) gone
-        ∙ stays_gone e.step (max (time h) (time_of e.step)) r) in
-        ap is_gone (sym (status_other (Then h e) r (ap (same_replica r) (own-then h e) ∙ f))) ∙ ap (λ x. is_gone (status_of x)) still
+        ∙ (ap (standing_after (own h) e.step (max (time h) (time_of e.step)) r) gone
+        ∙ stays_gone (own h) e.step (max (time h) (time_of e.step)) r) in
+        ap is_gone (sym (status_other (Then h e) r (other_later h e r l g))) ∙ ap (λ x. is_gone (status_of x)) still
 
-pub there_before : (h : History) (e : Entry) (r : Replica) → is_gone (status (Then h e) r) ≡ false → is_gone (status h r) ≡ false
-there_before h e r f = go (is_gone (status h r)) refl
+pub there_before : (h : History) (e : Entry) (r : Replica) → IsLegal (Then h e) → is_gone (status (Then h e) r) ≡ false → is_gone (status h r) ≡ false
+there_before h e r l f = go (is_gone (status h r)) refl
   where
     go : (b : Bool) → is_gone (status h r) ≡ b → b ≡ false
     go false g = refl
-    go true g = let w : false ≡ true = sym f ∙ gone_later h e r g in absurd (cc)
+    go true g = let w : false ≡ true = sym f ∙ gone_later h e r l g in absurd (cc)
 
 -- ---- the rows that an entry takes out are own rows that are shown
 

@@ -18,7 +18,7 @@ use Rattle.replica_status.specs.Boards.{standing_in}
 use Rattle.presence_journal_data.specs.declared.step.Step.TheVariants as steps_are
 use Rattle.presence_journal_data.specs.declared.entry.Outcome.TheVariants as outcomes_are
 use Rattle.presence_journal.specs.Steps.{Step, Outcome, Entry}
-use Rattle.presence_journal.specs.History.{History, Then, nothing_kept, own, count, last_number, entry_count, time, standing, status, is_up, is_gone, hears, last_cut, is_counted, told_covers, known, covered, first_some, row_added, told_row, removed, row, live, shown}
+use Rattle.presence_journal.specs.History.{History, Then, nothing_kept, own, count, last_number, entry_count, time, standing, status, is_up, is_gone, hears, last_cut, is_counted, told_covers, known, covered, first_some, row_added, row_brought, told_row, removed, row, live, shown}
 use Rattle.presence_journal.specs.Present.{dots}
 use Rattle.presence_journal.specs.Queue.{topic_at, topic_of}
 use Rattle.presence_journal.specs.Table.{IsLegal, is_step, outcome_of, after}
@@ -112,7 +112,7 @@ gone_b : (r : Replica) → same_replica r node_a ≡ false → same_replica r no
 unfolding status standing own time
 gone_b r e f = λ i. is_gone (cond (e i) status_is.Up (status_of (cond (f i) Gone Unheard)))
 
-unknown_then : (h : History) (e : Entry) (d : Dot) → same_replica d.replica (own h) ≡ false → told_covers h e.step d ≡ false → known h d ≡ false → known (Then h e) d ≡ false
+unknown_then : (h : History) (e : Entry) (d : Dot) → same_replica d.replica (own (Then h e)) ≡ false → told_covers h e.step d ≡ false → known h d ≡ false → known (Then h e) d ≡ false
 unknown_then h e d apart told none = known-then h e d ∙ (λ i. none i || ((apart i && (nat_lt 0 d.count && nat_le d.count (count (Then h e)))) || told i))
 
 -- no dot of any other replica is known
@@ -145,7 +145,7 @@ covered_whole d = go (same_replica d.replica node_a) (same_replica d.replica nod
 
 -- ---- what is live
 
-rowless_then : (h : History) (e : Entry) (d : Dot) → row h d ≡ None → row_added e.step e.outcome d ≡ None → told_row h e.step d ≡ None → row (Then h e) d ≡ None
+rowless_then : (h : History) (e : Entry) (d : Dot) → row h d ≡ None → row_added e.step e.outcome d ≡ None → row_brought e.outcome (row h) (told_row h e.step d) d ≡ None → row (Then h e) d ≡ None
 unfolding row
 rowless_then h e d a b c = λ i. first_some (a i) (first_some (b i) (c i))
 

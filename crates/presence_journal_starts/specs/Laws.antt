@@ -17,7 +17,7 @@ use Rattle.presence_journal_sets.specs.Full.{IsFullOf}
 use Rattle.presence_journal_sets.specs.LeftOut.{HoldsCovered}
 use Rattle.presence_journal_cuts.specs.Chains.{Counts}
 use Rattle.presence_journal_cuts.specs.Cuts.{chain, older, recent, IsCut}
-use Rattle.presence_journal_cuts.specs.KeptDeltas.{is_cut, AreKeptOf, IsToldFrom}
+use Rattle.presence_journal_cuts.specs.KeptDeltas.{renews_kept, AreKeptOf, IsToldFrom}
 use Rattle.presence_journal_starts.specs.Checkpoints.{kept_row, IsCheckpoint}
 
 -- a checkpoint is a sound Start: a legal history can begin with it, and a journal can
@@ -123,9 +123,9 @@ KeepsUnusedChains = (h : History) (s : Start) → IsCheckpoint h s → (c : ℕ)
 abbrev pub OneKept : Type 0
 OneKept = (h : History) (j k : Kept) → AreKeptOf h j → AreKeptOf h k → j ≡ k
 
--- an entry that is no cut leaves them
+-- an entry that is neither a cut nor a rebirth leaves them
 abbrev pub OthersKeep : Type 0
-OthersKeep = (h : History) (e : Entry) → is_cut e.outcome ≡ false → (k : Kept) → AreKeptOf h k ↔ AreKeptOf (Then h e) k
+OthersKeep = (h : History) (e : Entry) → renews_kept e.outcome ≡ false → (k : Kept) → AreKeptOf h k ↔ AreKeptOf (Then h e) k
 
 -- and so does a checkpoint, with what is told from a count on
 abbrev pub KeepsKeptDeltas : Type 0

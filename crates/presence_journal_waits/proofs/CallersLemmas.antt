@@ -15,14 +15,17 @@ use Rattle.presence_journal.specs.History.{History, Then, count, next_dot, first
 use Rattle.presence_journal.specs.Present.{of_topic, present, dots_of, dots_taken}
 use Rattle.presence_journal.specs.Queue.{diff_item, shout_item, diff_of, items_made}
 use Rattle.presence_journal.specs.Table.{IsLegal, rows_of_pid, rows_of_key, counting, tracked, updated, untracked, outcome_of, after}
-use Rattle.presence_journal.specs.Walk.{shown_of}
+use Rattle.presence_journal.specs.Walk.{shown_of, is_reborn, is_again}
 use Rattle.presence_journal.specs.Laws.{is_callers, concerns}
 use Rattle.presence_journal.proofs.Same.{same_text-true, same_text-refl, same_dot-refl}
 use Rattle.presence_journal.proofs.PresentLemmas.{IsListed, IsOwnListed, own_rows, own_rows_of_key}
-use Rattle.presence_journal.proofs.HistoryLemmas.{is_quiet, Quiet, kind_of, legal_knows, shown_by, added_fresh, after-accepted}
+use Rattle.presence_journal.proofs.HistoryLemmas.{is_quiet, Quiet, kind_of, callers_plain, legal_knows, shown_by, added_fresh, after-accepted}
 use Rattle.presence_journal.proofs.Fold.{same_present}
 use Rattle.presence_journal.proofs.FoldOthers.{others_stay}
-use Rattle.presence_journal_waits.specs.Changes.{changes_on}
+use Rattle.presence_journal.proofs.Reborn.{IsAgain, again_of}
+use Rattle.presence_journal_sets.proofs.OwnLemmas.{plain_step, reborn_step}
+use Rattle.presence_journal_waits.proofs.AgainLemmas.{again_count}
+use Rattle.presence_journal_waits.specs.Changes.{changes_on, goes_on}
 use Rattle.presence_journal_waits.specs.Waits.{is_on, is_news, makes_on}
 use Rattle.presence_journal_waits.proofs.ChangesLemmas.{no_diff, one_changed, others_count}
 
@@ -54,7 +57,7 @@ on_topic t r b = ap (λ c. cond c (Some r) None) (ap (same_text r.topic) (sym b)
 one_added : (h : History) (e : Entry) (t : List ℕ) (d : Dot) (r : Row) → IsLegal (Then h e) → is_callers e.step ≡ true → row_added e.step e.outcome d ≡ Some r → r.topic ≡ t → length (diff_item (diff_of h e t)) ≡ 1
 one_added h e t d r legal c a b =
     let knows = legal_knows h legal.0 in
-    let kind = kind_of h e.step e.outcome legal.1 in
+    let kind = kind_of h e.step e.outcome (callers_plain e.step c) legal.1 in
     let now : shown_of (Then h e) t d ≡ Some r = ap (of_topic t) (shown_by h e d knows kind c ∙ ap (λ o. first_some o (cond (has_dot (dots_taken e.outcome) d) None (shown h d))) a) ∙ on_topic t r b in
     let before : shown_of h t d ≡ None = ap (of_topic t) (added_fresh h e d r knows kind a) in
     one_changed h e t d (came (shown_of h t d) (shown_of (Then h e) t d) r before now)
@@ -65,7 +68,7 @@ one_added h e t d r legal c a b =
 -- so are the rows of the topic that are taken out
 one_taken : (h : History) (e : Entry) (t : List ℕ) (x : Dot × Row) → IsLegal (Then h e) → is_callers e.step ≡ true → IsListed h t x → row_added e.step e.outcome x.0 ≡ None → has_dot (dots_taken e.outcome) x.0 ≡ true → length (diff_item (diff_of h e t)) ≡ 1
 one_taken h e t x legal c listed a b =
-    let now : shown_of (Then h e) t x.0 ≡ None = ap (of_topic t) (shown_by h e x.0 (legal_knows h legal.0) (kind_of h e.step e.outcome legal.1) c ∙ (λ i. first_some (a i) (cond (b i) None (shown h x.0)))) in
+    let now : shown_of (Then h e) t x.0 ≡ None = ap (of_topic t) (shown_by h e x.0 (legal_knows h legal.0) (kind_of h e.step e.outcome (callers_plain e.step c) legal.1) c ∙ (λ i. first_some (a i) (cond (b i) None (shown h x.0)))) in
     let before : shown_of h t x.0 ≡ Some x.1 = ap (of_topic t) listed.shown ∙ on_topic t x.1 listed.topic in
     one_changed h e t x.0 (went (shown_of h t x.0) (shown_of (Then h e) t x.0) x.1 before now)
   where
@@ -149,6 +152,7 @@ made_by h e t (steps_are.Heard replica now) is k o f g = absurd (cc)
 made_by h e t (steps_are.Tick now) is k o f g = absurd (cc)
 made_by h e t (steps_are.PermDown replica) is k o f g = absurd (cc)
 made_by h e t (steps_are.Merge t2) is k o f g = absurd (cc)
+made_by h e t (steps_are.Rebirth i) is k o f g = absurd (cc)
 made_by h e t _ is k o f g = rows_only false (is_news e.outcome) (diff_item (diff_of h e t)) f g
 
 -- an entry of the own replica alone makes one item for the subscribers of its topic where its outcome is news, and no
@@ -163,16 +167,29 @@ no_shout : (s : Step) (t : List ℕ) → is_callers s ≡ false → shout_item s
 no_shout (steps_are.Shout topic payload) t f = absurd (cc)
 no_shout _ t f = refl
 
-rest_count : (h : History) (e : Entry) (t : List ℕ) → IsLegal (Then h e) → is_callers e.step ≡ false → length (items_made h e t) ≡ cond (changes_on h (Then h e) t) 1 0
+rest_count : (h : History) (e : Entry) (t : List ℕ) → IsLegal (Then h e) → is_callers e.step ≡ false → is_reborn e.step ≡ false → length (items_made h e t) ≡ cond (changes_on h (Then h e) t) 1 0
 unfolding items_made
-rest_count h e t legal c =
+rest_count h e t legal c n =
     ap (λ (is : List Item). length (diff_item (diff_of h e t) ++ is)) (no_shout e.step t c)
     ∙ (omega (arith, length-append (diff_item (diff_of h e t)) [])
-    ∙ others_count h e t legal c)
+    ∙ others_count h e t legal c n)
+
+-- a rebirth does where a row of the topic goes on
+
+reborn_count : (h : History) (e : Entry) (t : List ℕ) → IsLegal (Then h e) → is_callers e.step ≡ false → IsAgain h e.step e.outcome → length (items_made h e t) ≡ cond (goes_on h t e.outcome) 1 0
+unfolding items_made
+reborn_count h e t legal c w =
+    ap (λ (is : List Item). length (diff_item (diff_of h e t) ++ is)) (no_shout e.step t c)
+    ∙ (omega (arith, length-append (diff_item (diff_of h e t)) [])
+    ∙ again_count h e t legal w)
 
 pub items_count : (h : History) (e : Entry) (t : List ℕ) → IsLegal (Then h e) → length (items_made h e t) ≡ cond (makes_on h (Then h e) e t) 1 0
 items_count h e t legal = go (is_callers e.step) refl
   where
-    go : (b : Bool) → is_callers e.step ≡ b → length (items_made h e t) ≡ cond (cond b (is_news e.outcome && is_on e.step t) (changes_on h (Then h e) t)) 1 0
+    rest : is_callers e.step ≡ false → (b : Bool) → is_again e.outcome ≡ b → length (items_made h e t) ≡ cond (cond b (goes_on h t e.outcome) (changes_on h (Then h e) t)) 1 0
+    rest c true a = reborn_count h e t legal c (again_of h e.step e.outcome (reborn_step h e legal a) legal.1)
+    rest c false a = rest_count h e t legal c (plain_step h e legal a)
+
+    go : (b : Bool) → is_callers e.step ≡ b → length (items_made h e t) ≡ cond (cond b (is_news e.outcome && is_on e.step t) (cond (is_again e.outcome) (goes_on h t e.outcome) (changes_on h (Then h e) t))) 1 0
     go true c = callers_count h e t legal c
-    go false c = rest_count h e t legal c
+    go false c = rest c (is_again e.outcome) refl

@@ -13,13 +13,15 @@ use Rattle.presence_journal_data.specs.declared.step.Step.TheVariants as steps_a
 use Rattle.presence_journal_data.specs.declared.rows.Item.TheVariants as items_are
 use Rattle.presence_journal_data.specs.declared.rows.Place.{Place}
 use Rattle.presence_journal.specs.Steps.{Step, Entry}
-use Rattle.presence_journal.specs.History.{History, Begin, Then, own, hears, first_some, told_row, row, shown}
+use Rattle.presence_journal.specs.History.{History, Begin, Then, own, hears, first_some, told_row, is_up, is_gone, status, row, live, shown}
 use Rattle.presence_journal.specs.Present.{RowMap, of_topic, present, place_of, changes}
 use Rattle.presence_journal.specs.Queue.{is_empty, diff_item, diff_of, with_rows, without_rows}
 use Rattle.presence_journal.specs.Table.{IsLegal}
 use Rattle.presence_journal.specs.Laws.{is_callers}
 use Rattle.presence_journal.specs.Merges.{is_of_rows}
-use Rattle.presence_journal.specs.Walk.{keyed, shown_of}
+use Rattle.presence_journal.specs.Walk.{keyed, shown_of, is_reborn}
+use Rattle.replica_status.specs.declared.status.Status.{Status}
+use Rattle.replica_status.specs.declared.status.Status.TheVariants as status_is
 use Rattle.presence_journal.proofs.Same.{same_text-refl, same_dot-true, same_replica-true}
 use Rattle.presence_journal.proofs.PresentLemmas.{get-present, of_topic-some, shown-row, row-stays}
 use Rattle.presence_journal.proofs.HistoryLemmas.{own-then, shown-live}
@@ -128,18 +130,19 @@ told_none p (Then h e) d r f g = go (first_told h d) refl g (told_none p h d)
 
 -- the dots of the own replica
 
-quiet_rows : (s : Step) → is_callers s ≡ false → is_of_rows s ≡ false
-quiet_rows (steps_are.Heard replica now) f = refl
-quiet_rows (steps_are.Tick now) f = refl
-quiet_rows (steps_are.PermDown replica) f = refl
-quiet_rows (steps_are.Merge told) f = refl
-quiet_rows _ f = absurd (cc)
+quiet_rows : (s : Step) → is_callers s ≡ false → is_reborn s ≡ false → is_of_rows s ≡ false
+quiet_rows (steps_are.Heard replica now) f n = refl
+quiet_rows (steps_are.Tick now) f n = refl
+quiet_rows (steps_are.PermDown replica) f n = refl
+quiet_rows (steps_are.Merge told) f n = refl
+quiet_rows (steps_are.Rebirth i) f n = absurd (cc)
+quiet_rows _ f n = absurd (cc)
 
-own_stays : (h : History) (e : Entry) (t : List ℕ) (d : Dot) → IsLegal (Then h e) → is_callers e.step ≡ false → same_replica d.replica (own h) ≡ true → shown_of (Then h e) t d ≡ shown_of h t d
-own_stays h e t d l c o =
+own_stays : (h : History) (e : Entry) (t : List ℕ) (d : Dot) → IsLegal (Then h e) → is_callers e.step ≡ false → is_reborn e.step ≡ false → same_replica d.replica (own h) ≡ true → shown_of (Then h e) t d ≡ shown_of h t d
+own_stays h e t d l c n o =
     let is = same_replica-true d.replica (own h) o in
-    let same = (own_steps_alone h e l (quiet_rows e.step c)).1 d is in
-    ap (of_topic t) (shown-live (Then h e) d (is ∙ sym (own-then h e)) ∙ (same.live ∙ sym (shown-live h d is)))
+    let same = (own_steps_alone h e l (quiet_rows e.step c n)).1 d is in
+    ap (of_topic t) (shown-live (Then h e) d (is ∙ sym (own-then h e n)) ∙ (same.live ∙ sym (shown-live h d is)))
 
 -- and those of others
 
@@ -152,10 +155,10 @@ same_shown h e t d f = go (shown_of h t d) (shown_of (Then h e) t d) refl refl f
     go (Some r) None a b g = absurd (cc)
     go None (Some s) a b g = absurd (cc)
 
-differs_is : (h : History) (e : Entry) (t : List ℕ) (d : Dot) → IsLegal (Then h e) → same_replica d.replica (own h) ≡ false → differs h (Then h e) t d ≡ cond (is_some (shown_of h t d)) (not (is_some (shown_of (Then h e) t d))) (is_some (shown_of (Then h e) t d))
-differs_is h e t d l f =
+differs_is : (h : History) (e : Entry) (t : List ℕ) (d : Dot) → IsLegal (Then h e) → is_reborn e.step ≡ false → same_replica d.replica (own h) ≡ false → differs h (Then h e) t d ≡ cond (is_some (shown_of h t d)) (not (is_some (shown_of (Then h e) t d))) (is_some (shown_of (Then h e) t d))
+differs_is h e t d l n f =
     let before = shows_other h t d l.0 f in
-    let later = shows_other (Then h e) t d l (ap (same_replica d.replica) (own-then h e) ∙ f) in
+    let later = shows_other (Then h e) t d l (ap (same_replica d.replica) (own-then h e n) ∙ f) in
     λ i. cond (before i) (not (later i)) (later i)
 
 rowless : (h : History) (t : List ℕ) (d : Dot) → row h d ≡ None → shown_of h t d ≡ None
@@ -172,36 +175,63 @@ rowless_before h e d f = go (row h d) refl
     go None g = refl
     go (Some r) g = let w : Some r ≡ None = sym (row-stays h e d r g) ∙ f in absurd (cc)
 
-other_stays : (h : History) (e : Entry) (t : List ℕ) (d : Dot) → IsLegal (Then h e) → changes_on h (Then h e) t ≡ false → same_replica d.replica (own h) ≡ false → shown_of (Then h e) t d ≡ shown_of h t d
-other_stays h e t d l none f = go (row (Then h e) d) refl
+pub gone_shows_none : (h : History) (t : List ℕ) (d : Dot) → is_gone (status h d.replica) ≡ true → shown_of h t d ≡ None
+unfolding shown
+gone_shows_none h t d g = ap (of_topic t) (go (status h d.replica) g)
   where
-    go : (o : Option Row) → row (Then h e) d ≡ o → shown_of (Then h e) t d ≡ shown_of h t d
-    go None g = rowless (Then h e) t d g ∙ sym (rowless h t d (rowless_before h e d g))
-    go (Some r) g =
-        let told = sym (row_of_other (Then h e) d l (ap (same_replica d.replica) (own-then h e) ∙ f)) ∙ g in
-        same_shown h e t d (sym (differs_is h e t d l f) ∙ told_none (differs h (Then h e) t) (Then h e) d r none told)
+    go : (x : Status) → is_gone x ≡ true → cond (is_up x) (live h d) None ≡ None
+    go status_is.Unheard e = absurd (cc)
+    go status_is.Up e = absurd (cc)
+    go status_is.Down e = absurd (cc)
+    go status_is.Gone e = refl
 
-changed : (h : History) (e : Entry) (t : List ℕ) → IsLegal (Then h e) → changes_on h (Then h e) t ≡ true → length (diff_item (diff_of h e t)) ≡ 1
-changed h e t l some = let x = told_one (differs h (Then h e) t) (Then h e) some in go x.0 x.1 (same_replica x.0.replica (own h)) refl
+first_stays : (h : History) (e : Entry) (d : Dot) (r : Row) → first_told h d ≡ Some r → first_told (Then h e) d ≡ Some r
+unfolding first_told
+first_stays h e d r f = ap (λ o. first_some o (told_row h e.step d)) f
+
+other_stays : (h : History) (e : Entry) (t : List ℕ) (d : Dot) → IsLegal (Then h e) → is_reborn e.step ≡ false → changes_on h (Then h e) t ≡ false → same_replica d.replica (own h) ≡ false → shown_of (Then h e) t d ≡ shown_of h t d
+other_stays h e t d l n none f = either (is_gone (status (Then h e) d.replica)) refl
+  where
+    later : same_replica d.replica (own (Then h e)) ≡ false
+    later = ap (same_replica d.replica) (own-then h e n) ∙ f
+
+    by_told : (r : Row) → first_told (Then h e) d ≡ Some r → shown_of (Then h e) t d ≡ shown_of h t d
+    by_told r told = same_shown h e t d (sym (differs_is h e t d l n f) ∙ told_none (differs h (Then h e) t) (Then h e) d r none told)
+
+    go : is_gone (status (Then h e) d.replica) ≡ false → (o : Option Row) → row (Then h e) d ≡ o → shown_of (Then h e) t d ≡ shown_of h t d
+    go x None g = rowless (Then h e) t d g ∙ sym (rowless h t d (rowless_before h e d g))
+    go x (Some r) g = by_told r (sym (row_of_other (Then h e) d l later x) ∙ g)
+
+    down : (b : Bool) → is_gone (status h d.replica) ≡ b → (o : Option Row) → row h d ≡ o → is_gone (status (Then h e) d.replica) ≡ true → shown_of (Then h e) t d ≡ shown_of h t d
+    down true x o g y = gone_shows_none (Then h e) t d y ∙ sym (gone_shows_none h t d x)
+    down false x None g y = gone_shows_none (Then h e) t d y ∙ sym (rowless h t d g)
+    down false x (Some r) g y = by_told r (first_stays h e d r (sym (row_of_other h d l.0 f x) ∙ g))
+
+    either : (b : Bool) → is_gone (status (Then h e) d.replica) ≡ b → shown_of (Then h e) t d ≡ shown_of h t d
+    either false x = go x (row (Then h e) d) refl
+    either true x = down (is_gone (status h d.replica)) refl (row h d) refl x
+
+changed : (h : History) (e : Entry) (t : List ℕ) → IsLegal (Then h e) → is_reborn e.step ≡ false → changes_on h (Then h e) t ≡ true → length (diff_item (diff_of h e t)) ≡ 1
+changed h e t l n some = let x = told_one (differs h (Then h e) t) (Then h e) some in go x.0 x.1 (same_replica x.0.replica (own h)) refl
   where
     go : (d : Dot) → differs h (Then h e) t d ≡ true → (b : Bool) → same_replica d.replica (own h) ≡ b → length (diff_item (diff_of h e t)) ≡ 1
     go d f true o =
-        let before = shows_own h t d o in
-        let later = shows_own (Then h e) t d (ap (same_replica d.replica) (own-then h e) ∙ o) in
+        let before = shows_own h t d l.0 o in
+        let later = shows_own (Then h e) t d l (ap (same_replica d.replica) (own-then h e n) ∙ o) in
         let w : true ≡ false = sym f ∙ (λ i. cond (before i) (not (later i)) (later i)) in
         absurd (cc)
-    go d f false o = one_changed h e t d (sym (differs_is h e t d l o) ∙ f)
+    go d f false o = one_changed h e t d (sym (differs_is h e t d l n o) ∙ f)
 
-stayed : (h : History) (e : Entry) (t : List ℕ) → IsLegal (Then h e) → is_callers e.step ≡ false → changes_on h (Then h e) t ≡ false → diff_item (diff_of h e t) ≡ []
-stayed h e t l c none = no_diff h e t (same_present (Then h e) h t (λ d. go d (same_replica d.replica (own h)) refl))
+stayed : (h : History) (e : Entry) (t : List ℕ) → IsLegal (Then h e) → is_callers e.step ≡ false → is_reborn e.step ≡ false → changes_on h (Then h e) t ≡ false → diff_item (diff_of h e t) ≡ []
+stayed h e t l c n none = no_diff h e t (same_present (Then h e) h t (λ d. go d (same_replica d.replica (own h)) refl))
   where
     go : (d : Dot) (b : Bool) → same_replica d.replica (own h) ≡ b → shown_of (Then h e) t d ≡ shown_of h t d
-    go d true o = own_stays h e t d l c o
-    go d false o = other_stays h e t d l none o
+    go d true o = own_stays h e t d l c n o
+    go d false o = other_stays h e t d l n none o
 
-pub others_count : (h : History) (e : Entry) (t : List ℕ) → IsLegal (Then h e) → is_callers e.step ≡ false → length (diff_item (diff_of h e t)) ≡ cond (changes_on h (Then h e) t) 1 0
-others_count h e t l c = go (changes_on h (Then h e) t) refl
+pub others_count : (h : History) (e : Entry) (t : List ℕ) → IsLegal (Then h e) → is_callers e.step ≡ false → is_reborn e.step ≡ false → length (diff_item (diff_of h e t)) ≡ cond (changes_on h (Then h e) t) 1 0
+others_count h e t l c n = go (changes_on h (Then h e) t) refl
   where
     go : (b : Bool) → changes_on h (Then h e) t ≡ b → length (diff_item (diff_of h e t)) ≡ cond b 1 0
-    go true f = changed h e t l f
-    go false f = ap length (stayed h e t l c f)
+    go true f = changed h e t l n f
+    go false f = ap length (stayed h e t l c n f)

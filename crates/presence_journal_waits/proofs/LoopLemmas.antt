@@ -1,14 +1,14 @@
 -- What was told of a dot, entry by entry.
-use Rattle.std.proofs.Common.{◌≡◌, ℕ, ◌+◌, ◌<◌, Bool, true, false, ◌||◌, List, Option, Some, None, Bor, option_copied, length, get_or, take, refl, sym, ◌∙◌, ap}
+use Rattle.std.proofs.Common.{◌≡◌, ℕ, ◌+◌, ◌-◌, ◌<◌, ◌≤◌, Bool, true, false, ◌||◌, List, [], ◌∷◌, is_some, arith, Option, Some, None, Bor, option_copied, length, get_or, take, refl, sym, ◌∙◌, ap}
 use Rattle.std.specs.Option.{option_or}
 use Rattle.std.specs.List.{list_any}
 use Rattle.presence_base.specs.declared.dots.Dot.{Dot}
 use Rattle.presence_base.specs.declared.row.Row.{Row}
-use Rattle.orswot_core_told.specs.Telling.{tells_removed}
+use Rattle.orswot_core_told.specs.Telling.{live_row, tells_removed}
 use Rattle.presence_journal.specs.Steps.{Entry, Start}
-use Rattle.presence_journal.specs.History.{History, Begin, Then, onto, first_some, told_row, told_removed}
-use Rattle.presence_journal_sets.proofs.FrontLemmas.{front_next}
-use Rattle.presence_journal_waits.specs.Changes.{topic_in, rows_told, row_kept, first_told, was_told_removed, any_of, any_told}
+use Rattle.presence_journal.specs.History.{History, Begin, Then, onto, first_some, row_added, told_row, told_removed}
+use Rattle.presence_journal_sets.proofs.FrontLemmas.{front_next, front_all}
+use Rattle.presence_journal_waits.specs.Changes.{topic_in, rows_told, row_kept, first_told, was_told_removed, any_of, any_told, topic_again, dot_before, topic_back}
 
 topic_first : (o p : Option Row) → topic_in (first_some o p) ≡ first_some (topic_in o) (topic_in p)
 topic_first None p = refl
@@ -65,3 +65,52 @@ or_kept b x c is t = is ∙ (t ∙ sym (ap (λ a. a || x) t))
 
 pub or_asked : (b x c : Bool) → c ≡ x → b ≡ false → c ≡ (b || x)
 or_asked b x c is f = is ∙ sym (ap (λ a. a || x) f)
+
+-- from the newest entry back
+
+pub record BackTo (s : Start) (es : List Entry) (d at : Dot) (n : ℕ) : Type 0 where
+  pub within : n ≤ length es
+  pub topic : topic_back (onto (Begin s) es) d ≡ topic_back (onto (Begin s) (take n es)) at
+
+back_then : (h : History) (e : Entry) (d : Dot) → topic_back (Then h e) d ≡ first_some (topic_in (row_added e.step e.outcome d)) (topic_again (topic_back h) (dot_before e.outcome d))
+unfolding topic_back
+back_then h e d = refl
+
+back_begin : (s : Start) (d : Dot) → topic_back (Begin s) d ≡ topic_in (live_row s.content d)
+unfolding topic_back
+back_begin s d = refl
+
+pub back_none : (s : Start) (es : List Entry) (d : Dot) (n : ℕ) → n ≡ length es → BackTo s es d d n
+back_none s es d n is = record { within = omega (arith, is); topic = ap (λ h. topic_back h d) (sym (front_all (Begin s) es n (omega (arith, is)))) }
+
+pub back_at : (s : Start) (es : List Entry) (d at : Dot) (n : ℕ) (e : Entry) → 0 < n → e ≡ get_or es (n - 1) e → BackTo s es d at n → topic_back (onto (Begin s) es) d ≡ first_some (topic_in (row_added e.step e.outcome at)) (topic_again (topic_back (onto (Begin s) (take (n - 1) es))) (dot_before e.outcome at))
+back_at s es d at n e some is b =
+    let last : n ≡ (n - 1) + 1 = omega (arith, some) in
+    b.topic
+    ∙ (ap (λ h. topic_back h at) (ap (λ m. onto (Begin s) (take m es)) last ∙ front_next (Begin s) es (n - 1) e (omega (arith, some, b.within)) is)
+    ∙ back_then (onto (Begin s) (take (n - 1) es)) e at)
+
+-- the row was added here
+pub back_found : (s : Start) (es : List Entry) (d at : Dot) (n : ℕ) (e : Entry) (o : Option (List ℕ)) → 0 < n → e ≡ get_or es (n - 1) e → o ≡ topic_in (row_added e.step e.outcome at) → is_some o ≡ true → BackTo s es d at n → o ≡ topic_back (onto (Begin s) es) d
+back_found s es d at n e o some is added there b = go o added there ∙ sym (back_at s es d at n e some is b)
+  where
+    go : (x : Option (List ℕ)) → x ≡ topic_in (row_added e.step e.outcome at) → is_some x ≡ true → x ≡ first_some (topic_in (row_added e.step e.outcome at)) (topic_again (topic_back (onto (Begin s) (take (n - 1) es))) (dot_before e.outcome at))
+    go None f g = absurd (cc)
+    go (Some t) f g = ap (λ y. first_some y (topic_again (topic_back (onto (Begin s) (take (n - 1) es))) (dot_before e.outcome at))) f
+
+-- the row goes on under another dot, or under none
+pub back_more : (s : Start) (es : List Entry) (d at : Dot) (n : ℕ) (e : Entry) (o : Option (List ℕ)) (x : Option Dot) → 0 < n → e ≡ get_or es (n - 1) e → o ≡ topic_in (row_added e.step e.outcome at) → is_some o ≡ false → x ≡ dot_before e.outcome at → BackTo s es d at n → topic_back (onto (Begin s) es) d ≡ topic_again (topic_back (onto (Begin s) (take (n - 1) es))) x
+back_more s es d at n e o x some is added none before b =
+    back_at s es d at n e some is b
+    ∙ (λ i. first_some ((sym added ∙ nothing o none) i) (topic_again (topic_back (onto (Begin s) (take (n - 1) es))) (sym before i)))
+  where
+    nothing : (y : Option (List ℕ)) → is_some y ≡ false → y ≡ None
+    nothing None f = refl
+    nothing (Some t) f = absurd (cc)
+
+pub back_ends : (s : Start) (es : List Entry) (d at : Dot) (n : ℕ) → n ≡ 0 → BackTo s es d at n → topic_back (onto (Begin s) es) d ≡ topic_in (live_row s.content at)
+back_ends s es d at n is b = b.topic ∙ (ap (λ m. topic_back (onto (Begin s) (take m es)) at) is ∙ (ap (λ ys. topic_back (onto (Begin s) ys) at) (take-none es) ∙ back_begin s at))
+  where
+    take-none : (ys : List Entry) → take 0 ys ≡ []
+    take-none [] = refl
+    take-none (y ∷ ys) = refl

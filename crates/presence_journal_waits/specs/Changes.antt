@@ -3,11 +3,13 @@ use Rattle.std.specs.Prelude.{ℕ, Bool, false, cond, not, ◌&&◌, ◌||◌, L
 use Rattle.std.specs.List.{list_any}
 use Rattle.presence_base.specs.declared.dots.Dot.{Dot}
 use Rattle.presence_base.specs.declared.row.Row.{Row}
-use Rattle.presence_base.specs.Order.{same_text, same_replica}
+use Rattle.std.specs.Map.{lookup}
+use Rattle.presence_base.specs.Order.{same_text, same_replica, same_dot}
 use Rattle.orswot_core_told.specs.Telling.{live_row, tells_removed}
 use Rattle.presence_journal_data.specs.declared.step.Step.TheVariants as steps_are
-use Rattle.presence_journal.specs.Steps.{Step, Start}
-use Rattle.presence_journal.specs.History.{History, Begin, Then, first_some, told_row, told_removed, is_up, status}
+use Rattle.presence_journal_data.specs.declared.entry.Outcome.TheVariants as outcomes_are
+use Rattle.presence_journal.specs.Steps.{Step, Outcome, Start}
+use Rattle.presence_journal.specs.History.{History, Begin, Then, first_some, row_added, told_row, told_removed, is_up, status}
 
 -- the row of a Start, where the dot is of another replica
 abbrev pub row_kept : Start → Dot → Option Row
@@ -38,6 +40,35 @@ shows_told h t d = is_topic t (topic_in (first_told h d)) && (is_up (status h d.
 -- it is so in one of two histories alone
 abbrev pub differs : History → History → List ℕ → Dot → Bool
 differs g h t d = cond (shows_told g t d) (not (shows_told h t d)) (shows_told h t d)
+
+-- the topic of an own row, from its newest entry back: the row of a dot that a rebirth gave stood under the old one before
+
+abbrev pub topic_again : (Dot → Option (List ℕ)) → Option Dot → Option (List ℕ)
+topic_again f None = None
+topic_again f (Some old) = f old
+
+abbrev pub dot_before : Outcome → Dot → Option Dot
+dot_before (outcomes_are.Reborn pairs) d = lookup (same_dot d) pairs
+dot_before _ d = Some d
+
+unfoldable pub topic_back : History → Dot → Option (List ℕ)
+topic_back (Begin s) d = topic_in (live_row s.content d)
+topic_back (Then h e) d =
+    first_some (topic_in (row_added e.step e.outcome d)) (topic_again (topic_back h) (dot_before e.outcome d))
+
+-- the topic of the row that a step makes
+abbrev pub topic_made : Step → Option (List ℕ)
+topic_made (steps_are.Track pid topic key meta) = Some topic
+topic_made (steps_are.Update pid topic key meta) = Some topic
+topic_made _ = None
+
+-- a row of the topic goes on under a new dot
+abbrev pub any_again : History → List ℕ → List (Dot × Dot) → Bool
+any_again h t ps = list_any (λ p. is_topic t (topic_back h p.1)) ps
+
+abbrev pub goes_on : History → List ℕ → Outcome → Bool
+goes_on h t (outcomes_are.Reborn pairs) = any_again h t pairs
+goes_on h t _ = false
 
 -- the rows that a step tells
 abbrev pub rows_told : Step → List (Dot × Row)

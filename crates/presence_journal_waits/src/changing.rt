@@ -44,7 +44,7 @@ fn was_told_removed(start: &Start, entries: &[Entry], dot: &Dot) -> bool
 }
 
 // Whether the topic that was found is this one.
-fn is_topic(topic: &Topic, found: Option<&Topic>) -> bool
+pub(crate) fn is_topic(topic: &Topic, found: Option<&Topic>) -> bool
     ensures { result ≡ is_topic topic.now (option_copied found.entry) }
 {
     match found {

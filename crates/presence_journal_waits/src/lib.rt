@@ -4,6 +4,7 @@
 //! `specs/Waits` are of loops.
 #![tactic(auto)]
 
+mod again;
 mod changing;
 mod steps;
 mod told;

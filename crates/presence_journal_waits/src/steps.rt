@@ -13,8 +13,11 @@ pub fn is_callers(step: &Step) -> bool
     ensures { result ≡ is_callers step.now }
 {
     match step {
-        Step::Heard { .. } | Step::Tick { .. } | Step::PermDown { .. } | Step::Merge { .. } =>
-            false,
+        Step::Heard { .. }
+        | Step::Tick { .. }
+        | Step::PermDown { .. }
+        | Step::Merge { .. }
+        | Step::Rebirth { .. } => false,
         _ => true,
     }
 }

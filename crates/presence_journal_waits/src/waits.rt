@@ -5,11 +5,12 @@ ghost use Rattle.presence_journal.specs.Queue.{topic_of, queue, is_waiting};
 ghost use Rattle.presence_journal_waits.specs.Waits.{makes_on, makes_one};
 ghost use Rattle.presence_journal_waits.specs.Waits.{tally_of, tally_pushed, tally_left, tally_after, tally_waits};
 
+use crate::again::any_again;
 use crate::changing::changes_topic;
 use crate::steps::{is_callers, is_news, is_on};
 use crate::topics::{listed_topic, topic_after_entry};
 use presence_base::Topic;
-use presence_journal::{Entry, Journal, MAX_WAITING, Start, Step};
+use presence_journal::{Entry, Journal, MAX_WAITING, Outcome, Start, Step};
 
 // What waits for a subscriber, counted.
 #[derive(Clone, Copy)]
@@ -72,9 +73,11 @@ fn makes_on(start: &Start, before: &[Entry], after: &[Entry], entry: &Entry, top
         (onto (Begin start.now) after.now) entry.now topic.now }
 {
     if is_callers(&entry.step) {
-        is_news(&entry.outcome) && is_on(&entry.step, topic)
-    } else {
-        changes_topic(start, before, after, topic)
+        return is_news(&entry.outcome) && is_on(&entry.step, topic);
+    }
+    match &entry.outcome {
+        Outcome::Reborn(pairs) => any_again(start, before, topic, pairs.as_slice()),
+        _ => changes_topic(start, before, after, topic),
     }
 }
 

@@ -83,7 +83,7 @@ pub fn walk_own_rows(
     let own = journal.own();
     let rows = walk_list(alloc, journal, topic)?;
     rows.into_iter()
-        .filter(|row| is_of_pid(own, pid, row))
+        .filter(|row| is_of_pid(&own, pid, row))
         .collect(alloc)
 }
 

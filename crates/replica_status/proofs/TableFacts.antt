@@ -8,11 +8,12 @@ use Rattle.presence_base.specs.declared.dots.Replica.{Replica}
 use Rattle.presence_base.specs.Order.{same_replica}
 use Rattle.replica_status.specs.declared.standing.Standing.{Standing}
 use Rattle.replica_status.specs.declared.standing.Standing.TheVariants.{Unheard, Up, Down, Gone}
+use Rattle.replica_status.specs.declared.status.Status.{Status}
 use Rattle.replica_status.specs.declared.status.Status.TheVariants as status_is
 use Rattle.replica_status.specs.Replicas.{same_replica_equiv}
-use Rattle.replica_status.specs.Table.{status_of, heard_at, ticked_at, put_down}
-use Rattle.replica_status.specs.Boards.{BoardValue, standing_in, status, time_at, changed, after_tick}
-use Rattle.replica_status.specs.Laws.{FollowsTable, StaysGone}
+use Rattle.replica_status.specs.Table.{status_of, is_unheard, heard_at, ticked_at, put_down}
+use Rattle.replica_status.specs.Boards.{BoardValue, standing_in, status, time_at, changed, after_tick, gone_on_as, after_reborn}
+use Rattle.replica_status.specs.Laws.{FollowsTable, StaysGone, IsReborn}
 
 -- who is the same as k is the same as x, where k and x are the same
 alike : (q k x : Replica) → same_replica k x ≡ true → same_replica q x ≡ same_replica q k
@@ -83,11 +84,20 @@ pub standing_after_tick : (b : BoardValue) (now : ℕ) (q : Replica) → standin
 standing_after_tick b now q =
     ap (λ o. unwrap_or o Unheard) (lookup-map_values (ticked_at (time_at b now)) (same_replica q) b.standings) ∙ ticked_or_unheard (time_at b now) (lookup (same_replica q) b.standings)
 
+-- a rebirth lists the replica that was the own one
+pub standing_after_reborn : (b : BoardValue) (r q : Replica) → same_replica q b.own ≡ false → standing_in (after_reborn b r).standings q ≡ standing_in b.standings q
+standing_after_reborn b r q not_own = go (is_unheard (status b r))
+  where
+    go : (c : Bool) → standing_in (cond c (gone_on_as b r) b).standings q ≡ standing_in b.standings q
+    go true = standing_after_put b.standings b.own q Gone ∙ ap (λ c. cond c Gone (standing_in b.standings q)) not_own
+    go false = refl
+
 pub follows_table : (b : BoardValue) (q : Replica) → same_replica q b.own ≡ false → FollowsTable b q (standing_in b.standings q)
 follows_table b q not_own = record {
   hears = λ r now. standing_after_change (heard_at (time_at b now)) b r q not_own;
   ticks = λ now. standing_after_tick b now q;
   goes = λ r. standing_after_change put_down b r q not_own;
+  stays = λ r. standing_after_reborn b r q not_own;
 }
 
 not_own_from_gone : (c : Bool) (s : Standing) → cond c status_is.Up (status_of s) ≡ status_is.Gone → (c ≡ false) × (s ≡ Gone)
@@ -104,6 +114,10 @@ gone_either_way false s t e f = f
 still_gone : (c : Bool) (s : Standing) → c ≡ false → s ≡ Gone → cond c status_is.Up (status_of s) ≡ status_is.Gone
 still_gone c s e f = rw (e, f)
 
+-- replicas that are the same have one status
+same_status_at : (b : BoardValue) (q r : Replica) → same_replica q r ≡ true → status b q ≡ status b r
+same_status_at b q r f = (λ i. cond (same_replica_equiv.congr q r b.own f i) status_is.Up (status_of (found_same b.standings r q f i)))
+
 pub stays_gone : (b : BoardValue) (q : Replica) → status b q ≡ status_is.Gone → StaysGone b q
 stays_gone b q e =
     let parts = not_own_from_gone (same_replica q b.own) (standing_in b.standings q) e in
@@ -113,4 +127,59 @@ stays_gone b q e =
       hears = λ r now. still_gone _ _ parts.0 (table.hears r now ∙ gone_either_way (same_replica q r) _ _ (ap (heard_at (time_at b now)) gone) gone);
       ticks = λ now. still_gone _ _ parts.0 (table.ticks now ∙ ap (ticked_at (time_at b now)) gone);
       goes = λ r. still_gone _ _ parts.0 (table.goes r ∙ gone_either_way (same_replica q r) _ _ (ap put_down gone) gone);
+      stays = λ r. reborn_gone r parts.0 (table.stays r ∙ gone);
     }
+  where
+    apart_from : (r : Replica) → is_unheard (status b r) ≡ true → same_replica q r ≡ false
+    apart_from r u = by (same_replica q r) refl
+      where
+        by : (c : Bool) → same_replica q r ≡ c → c ≡ false
+        by false f = refl
+        by true f = absurd (cc (ap is_unheard (sym (same_status_at b q r f) ∙ e), u))
+
+    reborn_gone : (r : Replica) → same_replica q b.own ≡ false → standing_in (after_reborn b r).standings q ≡ Gone → status (after_reborn b r) q ≡ status_is.Gone
+    reborn_gone r other gone = by (is_unheard (status b r)) refl gone
+      where
+        by : (c : Bool) → is_unheard (status b r) ≡ c → standing_in (cond c (gone_on_as b r) b).standings q ≡ Gone → status (cond c (gone_on_as b r) b) q ≡ status_is.Gone
+        by true u g = still_gone _ _ (apart_from r u) g
+        by false u g = still_gone _ _ other g
+
+-- what is unheard becomes the own one
+
+unheard_other : (b : BoardValue) (r : Replica) → is_unheard (status b r) ≡ true → same_replica r b.own ≡ false
+unheard_other b r = by (same_replica r b.own)
+  where
+    by : (c : Bool) → is_unheard (cond c status_is.Up (status_of (standing_in b.standings r))) ≡ true → c ≡ false
+    by false u = refl
+    by true u = absurd (cc)
+
+pub only_unheard : (x : Status) → is_unheard x ≡ true → x ≡ status_is.Unheard
+only_unheard status_is.Unheard u = refl
+only_unheard status_is.Up u = absurd (cc)
+only_unheard status_is.Down u = absurd (cc)
+only_unheard status_is.Gone u = absurd (cc)
+
+pub as_it_was : (b : BoardValue) (r : Replica) → is_unheard (status b r) ≡ false → b ≡ after_reborn b r
+as_it_was b r u = ap (λ c. cond c (gone_on_as b r) b) (sym u)
+
+pub goes_on : (b : BoardValue) (r : Replica) → is_unheard (status b r) ≡ true → gone_on_as b r ≡ after_reborn b r
+goes_on b r u = ap (λ c. cond c (gone_on_as b r) b) (sym u)
+
+pub is_reborn : (b : BoardValue) (r : Replica) → is_unheard (status b r) ≡ true → IsReborn b r
+is_reborn b r u = record {
+  new = ap (λ c. status c r) reborn-is ∙ ap (λ c. cond c status_is.Up (status_of (standing_in listed r))) (same_replica_equiv.refl r);
+  old = ap (λ c. status c b.own) reborn-is
+      ∙ still_gone _ _ (same_replica_equiv.symm b.own r ∙ unheard_other b r u)
+      (standing_after_put b.standings b.own b.own Gone ∙ ap (λ c. cond c Gone (standing_in b.standings b.own)) (same_replica_equiv.refl b.own));
+  others = λ q other not_own.
+      ap (λ c. status c q) reborn-is
+      ∙ (ap (λ c. cond c status_is.Up (status_of (standing_in listed q))) other
+      ∙ (ap status_of (standing_after_put b.standings b.own q Gone ∙ ap (λ c. cond c Gone (standing_in b.standings q)) not_own)
+      ∙ sym (ap (λ c. cond c status_is.Up (status_of (standing_in b.standings q))) not_own)));
+}
+  where
+    listed : List (Replica × Standing)
+    listed = (gone_on_as b r).standings
+
+    reborn-is : after_reborn b r ≡ gone_on_as b r
+    reborn-is = ap (λ c. cond c (gone_on_as b r) b) u

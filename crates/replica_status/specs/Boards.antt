@@ -8,10 +8,10 @@ use Rattle.presence_base.specs.declared.dots.Replica.{Replica}
 use Rattle.presence_base.specs.Order.{same_replica}
 use Rattle.replica_status.specs.declared.change.Change.{Change}
 use Rattle.replica_status.specs.declared.standing.Standing.{Standing}
-use Rattle.replica_status.specs.declared.standing.Standing.TheVariants.{Unheard}
+use Rattle.replica_status.specs.declared.standing.Standing.TheVariants.{Unheard, Gone}
 use Rattle.replica_status.specs.declared.status.Status.{Status}
 use Rattle.replica_status.specs.declared.status.Status.TheVariants as status_is
-use Rattle.replica_status.specs.Table.{status_of, heard_at, ticked_at, put_down}
+use Rattle.replica_status.specs.Table.{status_of, is_unheard, heard_at, ticked_at, put_down}
 
 -- the own replica, the greatest time handed in, and the replicas that are not unheard, in the order in which they came
 pub record BoardValue : Type 0 where
@@ -52,6 +52,14 @@ after_tick b now =
       time = time_at b now;
       standings = map (λ e. (e.0, ticked_at (time_at b now) e.1)) b.standings;
     }
+
+-- an unheard replica is the own one from now on, and the one that was the own one is gone
+abbrev pub gone_on_as : BoardValue → Replica → BoardValue
+gone_on_as b r = record { own = r; time = b.time; standings = with_standing b.standings b.own Gone }
+
+-- of any other replica this can't be, and the board stays
+abbrev pub after_reborn : BoardValue → Replica → BoardValue
+after_reborn b r = cond (is_unheard (status b r)) (gone_on_as b r) b
 
 abbrev pub same_status : Status → Status → Bool
 same_status status_is.Unheard status_is.Unheard = true

@@ -1,5 +1,5 @@
 -- The status table: what is made of the standing of one replica, a line for each standing.
-use Rattle.std.specs.Prelude.{ℕ, ◌-◌, Bool, cond, nat_lt}
+use Rattle.std.specs.Prelude.{ℕ, ◌-◌, Bool, cond, nat_lt, true, false}
 use Rattle.replica_status.specs.declared.standing.Standing.{Standing}
 use Rattle.replica_status.specs.declared.standing.Standing.TheVariants.{Unheard, Up, Down, Gone}
 use Rattle.replica_status.specs.declared.standing.TheConstants.{DOWN_AFTER_MS, GONE_AFTER_MS}
@@ -37,3 +37,8 @@ put_down Unheard = Gone
 put_down (Up heard) = Gone
 put_down (Down heard) = Gone
 put_down Gone = Gone
+
+-- nothing was heard of the replica, and it was not put down
+abbrev pub is_unheard : Status → Bool
+is_unheard status_is.Unheard = true
+is_unheard _ = false

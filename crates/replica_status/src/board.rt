@@ -1,7 +1,7 @@
 ghost use Rattle.std.specs.Prelude.{◌≡◌, ◌≤◌, [], IfOk, OnOk, OnErr, length, map, true};
 ghost use Rattle.replica_status.specs.declared.status.Status.TheVariants.{Unheard};
 ghost use Rattle.replica_status.specs.Table.{ticked_at};
-ghost use Rattle.replica_status.specs.Boards.{standing_in, with_standing, status, after_heard, after_tick, after_permdown, changes_in, changes};
+ghost use Rattle.replica_status.specs.Boards.{standing_in, with_standing, status, after_heard, after_tick, after_permdown, after_reborn, changes_in, changes};
 
 use crate::change::{Change, change_between};
 use crate::listed::Listed;
@@ -93,6 +93,22 @@ impl Board {
             return Ok(());
         }
         put(&mut self.standings, replica, Standing::Gone)
+    }
+
+    /// From now on the replica is the own one, which is up, and the one that was the own one is gone. A replica that was heard
+    /// or put down, or that is the own one already, changes nothing. Memory may be wanted where the replica is unheard, and
+    /// only there.
+    #[tactic(auto, using(crate::proofs::TableFacts::as_it_was, crate::proofs::TableFacts::goes_on, crate::proofs::TableFacts::only_unheard))]
+    pub fn reborn(&mut self, _alloc: Global, replica: Replica) -> Result<(), AllocError>
+        ensures ok { OnOk result (self.new ≡ after_reborn self.old replica) }
+        ensures err { OnErr result (self.new ≡ self.old) }
+        ensures cause { OnErr result (status self.old replica ≡ Unheard) }
+    {
+        if self.status(&replica).is_unheard() {
+            put(&mut self.standings, self.own, Standing::Gone)?;
+            self.own = replica;
+        }
+        Ok(())
     }
 
     /// The status of a replica. Takes no memory.

@@ -1,4 +1,4 @@
-use Rattle.std.proofs.Common.{◌≡◌, ◌+◌, ◌∙◌, ◌||◌, ap, take}
+use Rattle.std.proofs.Common.{◌≡◌, ◌∙◌, ◌||◌, ap, take}
 use Rattle.presence_journal.specs.History.{Begin, onto, is_counted, told_covers, known}
 use Rattle.presence_journal_sets.proofs.FrontLemmas.{front_all}
 use Rattle.presence_journal_sets.proofs.KnownLemmas.{or_first, or_second, known_none, known_more}
@@ -17,13 +17,13 @@ loop-place-preserved c =
     let e = c.index-entries-place.result in
     let h = onto (Begin s) (take l.place es) in
     let before = known h d in
-    let more = is_counted s.own (l.used + c.used_by-used.result) d || told_covers h e.step d in
+    let more = is_counted c.own_after-own.result c.used_after-used.result d || told_covers h e.step d in
     let now : c.if-is_known.is_known ≡ (before || more) =
     elim c.if-is_known.branch [
       | then-is_known w ↦ or_first before more c.if-is_known.is_known (w.is_known-is ∙ l.invariant.known) (w.is_known-is ∙ w.if-is_known.true)
       | else-is_known w ↦ or_second before more l.is_known c.if-is_known.is_known l.invariant.known w.if-is_known.false (w.is_known-is ∙ w.makes_known-is_known.ensures)
     ] in
-    known_more s es l.place e d l.is_known c.if-is_known.is_known l.used c.used_by-used.result c.requires c.loop-place-test.true c.index-entries-place.is c.used_by-used.ensures now l.invariant
+    known_more s es l.place e d l.is_known c.if-is_known.is_known l.own c.own_after-own.result l.used c.used_after-used.result c.requires c.loop-place-test.true c.index-entries-place.is c.own_after-own.ensures c.used_after-used.ensures now l.invariant
 
 pub returns : goal.returns
 returns c =

@@ -11,7 +11,7 @@ pub loop-listed-init : goal.loop-listed-init
 loop-listed-init c =
     let es = c.args.entries.now in
     let h = onto (Begin c.args.start.now) es in
-    subst (λ (xs : List (Replica × Standing)). LeavesOut h (λ r. is_listed xs r || is_named es r) c.args.set.now) (sym c.as_slice-standings.ensures) (left_none c.args.start.now es c.args.set.now c.requires)
+    subst (λ (xs : List (Replica × Standing)). LeavesOut h (λ r. is_listed xs r || is_named c.args.start.now.own es r) c.args.set.now) (sym c.as_slice-standings.ensures) (left_none c.args.start.now es c.args.set.now c.requires)
 
 pub loop-listed-preserved : goal.loop-listed-preserved
 loop-listed-preserved c =
@@ -19,4 +19,4 @@ loop-listed-preserved c =
     let es = c.args.entries.now in
     let xs = c.as_slice-standings.result.now in
     let x = c.listed-item.result in
-    one_listed (onto (Begin c.args.start.now) es) (drop l.listed-index xs) (drop (l.listed-index + 1) xs) es x l.set c.forget_gone.new.set (list_next xs l.listed-index x c.loop-listed-test.true c.listed-item.is) c.forget_gone.ensures l.invariant
+    one_listed (onto (Begin c.args.start.now) es) (drop l.listed-index xs) (drop (l.listed-index + 1) xs) c.args.start.now.own es x l.set c.forget_gone.new.set (list_next xs l.listed-index x c.loop-listed-test.true c.listed-item.is) c.forget_gone.ensures l.invariant

@@ -4,4 +4,4 @@ use Rattle.presence_journal_sets.specs.LeftOut.{LeavesOut, is_named}
 use Rattle.presence_journal_sets.proofs.leaving.leave_out_named.Given as goal
 
 abbrev pub invariant-loop-entry : goal.invariant-loop-entry
-invariant-loop-entry l = LeavesOut (onto (Begin l.start) l.entries) (is_named (drop l.entry-index l.entries)) l.set
+invariant-loop-entry l = LeavesOut (onto (Begin l.start) l.entries) (is_named l.own (drop l.entry-index l.entries)) l.set

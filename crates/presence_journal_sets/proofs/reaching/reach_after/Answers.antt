@@ -8,6 +8,6 @@ loop-place-init c =
 pub loop-place-preserved : goal.loop-place-preserved
 loop-place-preserved c =
     let l = c.loop-place in
-    reaches_more c.args.start.now c.args.entries.now l.place c.index-entries-place.result c.args.replica.now c.args.from
-    l.reach c.reach_by_count-reach.result c.reach_by_step-reach.result l.used c.used_by-used.result
-    c.requires c.loop-place-test.true c.index-entries-place.is c.used_by-used.ensures c.reach_by_count-reach.ensures c.reach_by_step-reach.ensures l.invariant
+    reaches_more c.args.start.now c.args.entries.now l.place c.index-entries-place.result c.args.replica.now l.own c.own_after-own.result c.args.from
+    l.reach c.reach_by_count-reach.result c.reach_by_step-reach.result l.used c.used_after-used.result
+    c.requires c.loop-place-test.true c.index-entries-place.is c.own_after-own.ensures c.used_after-used.ensures c.reach_by_count-reach.ensures c.reach_by_step-reach.ensures l.invariant

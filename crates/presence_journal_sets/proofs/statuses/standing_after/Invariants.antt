@@ -4,4 +4,4 @@ use Rattle.presence_journal_sets.proofs.StatusLemmas.{Stands}
 use Rattle.presence_journal_sets.proofs.statuses.standing_after.Given as goal
 
 abbrev pub invariant-loop-entry : goal.invariant-loop-entry
-invariant-loop-entry l = Reached (onto (Begin l.start) l.entries) l.entries l.entry-index (Stands l.replica l.time l.standing)
+invariant-loop-entry l = Reached (onto (Begin l.start) l.entries) l.entries l.entry-index (Stands l.own l.replica l.time l.standing)

@@ -1,10 +1,9 @@
-use Rattle.std.proofs.Common.{sym, ◌∙◌, ap}
-use Rattle.presence_journal.specs.Steps.{Start}
-use Rattle.presence_journal.specs.History.{Begin, start_of}
-use Rattle.presence_journal.proofs.HistoryLemmas.{own-start_of, start_of-onto}
+use Rattle.std.proofs.Common.{◌∙◌, ap, List}
+use Rattle.presence_journal.specs.Steps.{Entry}
+use Rattle.presence_journal.specs.History.{Begin, onto, own}
 use Rattle.presence_journal.proofs.journal.Journal.own.Goals as goal
 
 pub returns : goal.returns
 returns c =
     let j = c.self.inside in
-    ap (λ (s : Start). s.own) (sym (start_of-onto (Begin j.start) j.entries) ∙ ap start_of c.self.view_is) ∙ sym (own-start_of c.args.self.now)
+    c.own_of.ensures ∙ (ap (λ (es : List Entry). own (onto (Begin j.start) es)) c.as_slice.ensures.value ∙ ap own c.self.view_is)
