@@ -1,5 +1,5 @@
 -- What the table comes to, by what a shard looks up, and which refusals stand.
-use Rattle.std.proofs.Common.{◌≡◌, ℕ, ◌+◌, ◌^◌, Bool, true, false, cond, nat_eq, ◌&&◌, List, [], ◌∷◌, Option, Some, None, refl, sym, ◌∙◌, ap}
+use Rattle.std.proofs.Common.{◌≡◌, ℕ, ◌+◌, ◌^◌, Bool, true, false, cond, nat_eq, ◌&&◌, List, [], ◌∷◌, Option, Some, None, refl, sym, ◌∙◌, ap, nat_le, arith}
 use Rattle.std.specs.Prelude.{nat_lt, is_some, option_map}
 use Rattle.serde_json.specs.Data.{Data}
 use Rattle.presence_base.specs.declared.dots.Replica.{Replica}
@@ -12,12 +12,16 @@ use Rattle.presence_journal_data.specs.declared.entry.Outcome.{Outcome}
 use Rattle.presence_journal_data.specs.declared.entry.Outcome.TheVariants as outcomes_are
 use Rattle.delta_range.specs.Deltas.{DeltaValue}
 use Rattle.tracker_shard_indexed.specs.Cuts.{IsCut}
-use Rattle.presence_journal.specs.History.{History, count, is_full, next_dot, last_number}
+use Rattle.presence_journal.specs.History.{History, count, is_full, next_dot, last_number, own, reborn}
 use Rattle.presence_journal.specs.Present.{listed, dots_of}
 use Rattle.presence_journal.specs.Queue.{queue, topic_of, is_waiting}
-use Rattle.presence_journal.specs.Table.{for_present, outcome_of, accepted, after, rows_of_key, rows_of_pid, listed_key, tracked, updated, untracked, counting}
-use Rattle.tracker_shard.specs.Steps.{Made, cause, refusal, first_dot, new_dot, next_counted, slot_of, is_found, found_topic}
-use Rattle.tracker_shard.specs.declared.fault.ShardFault.TheVariants.{ClockFull, JournalFull, NoSub}
+use Rattle.presence_journal.specs.Table.{for_present, outcome_of, accepted, after, rows_of_key, rows_of_pid, listed_key, tracked, updated, untracked, counting, can_be_reborn, reborn_rows, own_dots, next_entry, with_outcome, IsLegal, pairs_for}
+use Rattle.tracker_shard.specs.Steps.{Made, cause, refusal, first_dot, new_dot, next_counted, slot_of, is_found, found_topic, KeepsRows}
+use Rattle.tracker_shard.specs.declared.fault.ShardFault.TheVariants.{JournalFull, NoSub, BadIncarnation}
+use Rattle.presence_journal.specs.Limits.{is_within_limits}
+use Rattle.presence_journal.proofs.Reborn.{can_parts}
+use Rattle.presence_journal.proofs.AfterRebirth.{rebirth_loses_no_row}
+use Rattle.std.proofs.lemmas.Bool.{and_from, le-leb}
 
 pub made : (h : History) (s : Step) (seat : Option ℕ) (o : Outcome) → outcome_of h s ≡ Some o → is_full h ≡ false → (new : History) → new ≡ after h s seat → Made h new seat s
 unfolding accepted
@@ -179,8 +183,44 @@ none_stands h s o e room = rw (room, e) refl
 pub full_stands : (h : History) (s : Step) → is_full h ≡ true → refusal true h s ≡ Some JournalFull
 full_stands h s full = rw full refl
 
-pub clock_stands : (h : History) (s : Step) → outcome_of h s ≡ None → is_full h ≡ false → refusal true h s ≡ Some ClockFull
+pub clock_stands : (h : History) (s : Step) → outcome_of h s ≡ None → is_full h ≡ false → refusal true h s ≡ Some (cause s)
 clock_stands h s e room = rw (room, e) refl
+
+-- rebirths
+
+pub reborn_answered : (h : History) (i : ℕ) (pairs : List (Dot × Dot)) → can_be_reborn h i ≡ true → pairs ≡ pairs_for h i → outcome_of h (steps_are.Rebirth i) ≡ Some (outcomes_are.Reborn pairs)
+unfolding outcome_of
+reborn_answered h i pairs can is =
+    ap (λ b. reborn_rows b (reborn (own h) i) (own_dots h)) can
+    ∙ ap (λ ps. Some (outcomes_are.Reborn ps)) (sym is)
+
+-- what is answered, where it was looked up in a table of the same history
+pub rebirth_answers : (h g : History) (i : ℕ) (pairs items : List (Dot × Dot)) → g ≡ h → can_be_reborn g i ≡ true → pairs ≡ pairs_for g i → items ≡ pairs → outcome_of h (steps_are.Rebirth i) ≡ Some (outcomes_are.Reborn items)
+rebirth_answers h g i pairs items same can is copied =
+    reborn_answered h i items (ap (λ k. can_be_reborn k i) (sym same) ∙ can) (copied ∙ (is ∙ ap (λ k. pairs_for k i) same))
+
+pub reborn_refused : (h : History) (i : ℕ) → can_be_reborn h i ≡ false → outcome_of h (steps_are.Rebirth i) ≡ None
+unfolding outcome_of
+reborn_refused h i can = ap (λ b. reborn_rows b (reborn (own h) i) (own_dots h)) can
+
+pub incarnation_stands : (h : History) (i : ℕ) → can_be_reborn h i ≡ false → is_full h ≡ false → refusal true h (steps_are.Rebirth i) ≡ Some BadIncarnation
+incarnation_stands h i can room = clock_stands h (steps_are.Rebirth i) (reborn_refused h i can) room
+
+pub reborn_limits : (h : History) (i : ℕ) → can_be_reborn h i ≡ true → is_within_limits (steps_are.Rebirth i) ≡ true
+reborn_limits h i can =
+    let parts = can_parts h i can in
+    and_from (nat_le 1 i) (nat_le i (2 ^ 62)) (le-leb 1 i (omega (arith, parts.0))) (le-leb i (2 ^ 62) (omega (arith, parts.1)))
+
+pub rebirth_keeps : (h : History) (i : ℕ) (seat : Option ℕ) (pairs : List (Dot × Dot)) → IsLegal h → outcome_of h (steps_are.Rebirth i) ≡ Some (outcomes_are.Reborn pairs) → is_full h ≡ false
+    → (new : History) → new ≡ after h (steps_are.Rebirth i) seat → KeepsRows h new pairs
+unfolding after accepted
+rebirth_keeps h i seat pairs legal answered room new is =
+    let e = next_entry h (steps_are.Rebirth i) seat (outcomes_are.Reborn pairs) in
+    record {
+      entry = e;
+      last = is ∙ (λ j. with_outcome h (steps_are.Rebirth i) seat (cond (room j) None (answered j)));
+      rows = rebirth_loses_no_row h e pairs (legal, answered, refl, room, refl) refl;
+    }
 
 -- the refusals of a call that names a subscriber
 pub sub_none_stands : (h : History) (slot n : ℕ) (s : Step) (t : List ℕ) (o : Outcome) → found_topic h slot n ≡ Some t → outcome_of h s ≡ Some o → is_full h ≡ false → refusal (is_found h slot n) h s ≡ None
@@ -207,7 +247,7 @@ waits_missing h n e = go (topic_of h n) e
     go None p = refl
     go (Some t) p = absurd (cc)
 
-pub ruleset tables = (list_shown, get_shown, shout_sent, subscribe_number, heard_noted, tick_noted, permdown_noted, merge_taken_in, cut_told, track_added, track_full, track_again, update_replaced, update_full, update_none, untrack_is, untrack_all_is, found_is, ended_found, none_stands, full_stands, clock_stands, sub_none_stands, sub_full_stands, no_sub_stands)
+pub ruleset tables = (list_shown, get_shown, shout_sent, subscribe_number, heard_noted, tick_noted, permdown_noted, merge_taken_in, cut_told, track_added, track_full, track_again, update_replaced, update_full, update_none, untrack_is, untrack_all_is, found_is, ended_found, none_stands, full_stands, clock_stands, reborn_answered, reborn_refused, incarnation_stands, reborn_limits, sub_none_stands, sub_full_stands, no_sub_stands)
 
 -- a subscriber that isn't there can't be ended
 pub not_ended : (h : History) (n : ℕ) → topic_of h n ≡ None → outcome_of h (steps_are.Unsubscribe n) ≡ None

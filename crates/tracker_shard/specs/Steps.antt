@@ -7,13 +7,15 @@ use Rattle.presence_journal_data.specs.declared.step.Step.{Step}
 use Rattle.presence_journal_data.specs.declared.entry.Outcome.{Outcome}
 use Rattle.presence_journal_data.specs.declared.step.Step.TheVariants as steps_are
 use Rattle.presence_journal_data.specs.declared.rows.Item.{Item}
-use Rattle.presence_journal.specs.History.{History, is_full, count, next_dot, last_number}
+use Rattle.presence_journal.specs.Steps.{Entry}
+use Rattle.presence_journal.specs.Laws.{LosesNoRow}
+use Rattle.presence_journal.specs.History.{History, Then, is_full, count, next_dot, last_number}
 use Rattle.presence_journal.specs.Present.{listed, dots_of}
 use Rattle.presence_journal.specs.Table.{outcome_of, accepted, after, listed_key, rows_of_key, rows_of_pid}
 use Rattle.presence_journal.specs.Queue.{topic_of, items_given}
 use Rattle.tracker_shard.specs.declared.shard.Sub.{Sub}
 use Rattle.tracker_shard.specs.declared.fault.ShardFault.{ShardFault}
-use Rattle.tracker_shard.specs.declared.fault.ShardFault.TheVariants.{AlreadyTracked, NoPresence, ClockFull, JournalFull, NoSub, OutOfMemory}
+use Rattle.tracker_shard.specs.declared.fault.ShardFault.TheVariants.{AlreadyTracked, NoPresence, ClockFull, JournalFull, NoSub, BadIncarnation, OutOfMemory}
 
 -- the step was made: the journal has one entry more, with its outcome and seat
 pub record Made (old new : History) (seat : Option ℕ) (step : Step) : Type 0 where
@@ -28,6 +30,7 @@ Stepped old new seat step (Err NoPresence) = Made old new seat step
 Stepped old new seat step (Err ClockFull) = new ≡ old
 Stepped old new seat step (Err JournalFull) = new ≡ old
 Stepped old new seat step (Err NoSub) = new ≡ old
+Stepped old new seat step (Err BadIncarnation) = new ≡ old
 Stepped old new seat step (Err OutOfMemory) = new ≡ old
 
 -- what is answered is the table's outcome, as `Gives` ties them where the call is accepted
@@ -38,11 +41,14 @@ Answers Gives o (Err NoPresence) = o ≡ Some outcomes_are.NoPresence
 Answers Gives o (Err ClockFull) = Unit {0}
 Answers Gives o (Err JournalFull) = Unit {0}
 Answers Gives o (Err NoSub) = Unit {0}
+Answers Gives o (Err BadIncarnation) = Unit {0}
 Answers Gives o (Err OutOfMemory) = Unit {0}
 
--- why the table refuses a step whose subscriber is there: it needs a count, and none is left
+-- why the table refuses a step whose subscriber is there: the incarnation is none to go on under; or a count is needed, and
+-- none is left
 abbrev pub cause : Step → ShardFault
-cause s = ClockFull
+cause (steps_are.Rebirth incarnation) = BadIncarnation
+cause _ = ClockFull
 
 -- The refusal that stands against a step, in the order in which they are tried. `found` tells whether its subscriber is there.
 abbrev pub refusal : Bool → History → Step → Option ShardFault
@@ -64,6 +70,7 @@ IsDue (Err NoPresence) r = r ≡ None
 IsDue (Err ClockFull) r = r ≡ Some ClockFull
 IsDue (Err JournalFull) r = r ≡ Some JournalFull
 IsDue (Err NoSub) r = r ≡ Some NoSub
+IsDue (Err BadIncarnation) r = r ≡ Some BadIncarnation
 IsDue (Err OutOfMemory) r = MayRunOut r
 
 -- refused at most for want of room: the journal is full, or memory is wanting
@@ -74,6 +81,7 @@ RefusesForRoom (Err NoPresence) = ⊥
 RefusesForRoom (Err ClockFull) = ⊥
 RefusesForRoom (Err JournalFull) = Unit {0}
 RefusesForRoom (Err NoSub) = ⊥
+RefusesForRoom (Err BadIncarnation) = ⊥
 RefusesForRoom (Err OutOfMemory) = Unit {0}
 
 -- What each call answers where it is accepted.
@@ -111,6 +119,18 @@ AnswersItems h n max r = Answers (λ items. items.items ≡ items_given h n max)
 abbrev pub AnswersSub : History → List ℕ → Result Sub ShardFault → Type 0
 AnswersSub h t r = Answers (λ sub. (sub.number ≡ last_number h + 1) × (sub.slot ≡ slot_of sub.number))
     (outcome_of h (steps_are.Subscribe t)) r
+
+-- the new dots, each with its old one
+abbrev pub AnswersPairs : {A : Type 0} → History → ℕ → Result (Vec (Dot × Dot) A) ShardFault → Type 0
+AnswersPairs h i r =
+    Answers (λ pairs. outcome_of h (steps_are.Rebirth i) ≡ Some (outcomes_are.Reborn pairs.items))
+    (outcome_of h (steps_are.Rebirth i)) r
+
+-- no row is lost with the last entry, which is a rebirth of these pairs of a new and an old dot
+pub record KeepsRows (old new : History) (pairs : List (Dot × Dot)) : Type 0 where
+  pub entry : Entry
+  pub last : new ≡ Then old entry
+  pub rows : LosesNoRow old entry pairs
 
 abbrev pub is_found : History → ℕ → ℕ → Bool
 is_found h slot number = is_some (topic_of h number) && nat_eq slot (slot_of number)

@@ -71,6 +71,23 @@ fn listed(table: &mut Indexed, alloc: Global, topic: &Topic) -> Result<Option<Ou
     Ok(Some(Outcome::Shown(rows.dots()?)))
 }
 
+// What a rebirth would come to, `None` where the replica can't go on under the incarnation.
+#[tactic(auto, using(crate::proofs::Tables::tables))]
+fn reborn_outcome(
+    table: &Indexed,
+    alloc: Global,
+    incarnation: u64,
+) -> Result<Option<Outcome>, AllocError>
+    requires { table.now.is_ready ≡ true }
+    ensures { IfOk result (λ o. o ≡ outcome_of table.now.history (Step.Rebirth incarnation)) }
+{
+    if !table.can_be_reborn(incarnation) {
+        return Ok(None);
+    }
+    let pairs = table.pairs_of(alloc, incarnation)?;
+    Ok(Some(Outcome::Reborn(pairs)))
+}
+
 // What a step about rows would come to, or one that another node asks for.
 #[tactic(auto, using(crate::proofs::Tables::tables, crate::proofs::Tables::subscriber_tables))]
 pub(crate) fn foreseen(
@@ -113,5 +130,6 @@ pub(crate) fn foreseen(
         Step::Heard { .. } | Step::Tick { .. } | Step::PermDown { .. } => Ok(Some(Outcome::Noted)),
         Step::Cut => Ok(Some(cut_outcome(&table.cut(alloc)?))),
         Step::Merge { .. } => Ok(Some(Outcome::Merged)),
+        Step::Rebirth { incarnation } => reborn_outcome(table, alloc, *incarnation),
     }
 }

@@ -47,7 +47,7 @@ impl Model for Shard {
 impl Shard {
     ghost use Rattle.std.specs.Prelude.{◌≡◌, ◌≤◌, ◌^◌, true, false, Some, None, option_copied, IfOk, IfErr, OnOk, OnErr, IsTrue};
     ghost use Rattle.presence_base.specs.Refs.{IsCount};
-    ghost use Rattle.presence_journal.specs.History.{begun, status, IsTop};
+    ghost use Rattle.presence_journal.specs.History.{begun, own, status, IsTop};
     ghost use Rattle.presence_journal.specs.Limits.{is_payload, is_take_limit};
     ghost use Rattle.presence_journal.specs.Queue.{queue, is_waiting};
     ghost use Rattle.presence_journal.specs.Table.{IsLegal, AreWithinLimits, outcome_of};
@@ -60,7 +60,7 @@ impl Shard {
     ghost use Rattle.tracker_shard.specs.Steps.{Stepped, Answers, IsDue, RefusesForRoom, refusal, refusal_at, is_found};
     ghost use Rattle.tracker_shard.specs.Steps.{AnswersDot, AnswersRowsOfKey, AnswersRowsOfPid, AnswersListed};
     ghost use Rattle.tracker_shard.specs.Steps.{AnswersListedKey, AnswersItems, AnswersSub};
-    ghost use Rattle.tracker_shard.specs.Steps.{found_topic, checkpoint_refusal};
+    ghost use Rattle.tracker_shard.specs.Steps.{found_topic, checkpoint_refusal, AnswersPairs, KeepsRows};
     ghost use Rattle.tracker_shard_indexed.specs.Starting.{IsBegunAgain};
     ghost use Rattle.tracker_shard_indexed.specs.Resuming.{resumed};
 
@@ -81,6 +81,14 @@ impl Shard {
         ensures { IfOk result (λ s. s ≡ resumed own count) }
     {
         let table = Indexed::resume(alloc, own, count)?;
+        Ok(Shard { table })
+    }
+
+    /// A shard that goes on from a journal as it is. It costs what each of its entries did when it was made.
+    pub fn of_journal(alloc: Global, journal: Journal) -> Result<Shard, AllocError>
+        ensures { IfOk result (λ s. s ≡ journal) }
+    {
+        let table = Indexed::of_journal(alloc, journal)?;
         Ok(Shard { table })
     }
 
@@ -524,6 +532,44 @@ impl Shard {
         self.table.ready(alloc)?;
         let step = Step::merge(told)?;
         write(&mut self.table, alloc, None, step, Outcome::Merged)
+    }
+
+    /// The incarnation under which the shard goes on. Takes no memory.
+    pub fn incarnation(&self) -> u64
+        ensures { result ≡ (own self.now).incarnation }
+    {
+        self.table.incarnation()
+    }
+
+    /// Goes on under a higher incarnation: that of the new replica, which is the own one from then on, and the old one is gone.
+    /// The own rows that are shown go on under new dots, counted from 1 in the order of the old ones; all else of them stays,
+    /// but the dot before. It answers each new dot with its old one. What was told and what is kept to be told again is of
+    /// the old replica, and goes. It costs the own rows, and a look at each other one.
+    ///
+    /// It refuses in this order: `JournalFull`; `BadIncarnation`; `OutOfMemory` in place of any answer but the first.
+    #[tactic(auto, using(crate::proofs::Tables::tables))]
+    pub fn rebirth(
+        &mut self,
+        alloc: Global,
+        incarnation: u64,
+    ) -> Result<Vec<(Dot, Dot)>, ShardFault>
+        ensures step { Stepped self.old self.new None (Step.Rebirth incarnation) result }
+        ensures answer { AnswersPairs self.old incarnation result }
+        ensures due { IsDue result (refusal true self.old (Step.Rebirth incarnation)) }
+        ensures rows { IfOk result (λ pairs. KeepsRows self.old self.new pairs.items) }
+    {
+        if self.table.journal().is_full() {
+            return Err(ShardFault::JournalFull);
+        }
+        self.table.ready(alloc)?;
+        if !self.table.can_be_reborn(incarnation) {
+            return Err(ShardFault::BadIncarnation);
+        }
+        let pairs = self.table.pairs_of(alloc, incarnation)?;
+        let answer = pairs.as_slice().to_vec(alloc)?;
+        let step = Step::Rebirth { incarnation };
+        write(&mut self.table, alloc, None, step, Outcome::Reborn(pairs))?;
+        Ok(answer)
     }
 
     /// Puts a Start that stands for the journal in its place, and so makes room: the entries go, and what later ones depend

@@ -23,9 +23,11 @@ use Rattle.presence_journal_cuts.proofs.RunLemmas.{holds_append}
 use Rattle.presence_journal_cuts.proofs.Histories.{own_shown}
 use Rattle.tracker_shard_cuts.specs.declared.change.Link.{Link}
 use Rattle.tracker_shard_cuts.specs.Untold.{HasChains, HasUnused, AreBelow, AreSettled}
-use Rattle.presence_journal_cuts.specs.KeptDeltas.{is_cut}
+use Rattle.presence_journal_cuts.specs.KeptDeltas.{renews_kept}
 use Rattle.tracker_shard_cuts.specs.Changes.{told_in, is_counted, IsLinkOf, linked, IsLinked, LosesChains}
 use Rattle.tracker_shard_cuts.proofs.FreshLemmas.{counted, added_next, added_stays, replaced_parts, taken_shown}
+use Rattle.presence_journal.specs.Walk.{is_again}
+use Rattle.presence_journal_sets.proofs.OwnLemmas.{plain_step}
 
 abbrev Runs : Type 0
 Runs = List (ℕ × ℕ)
@@ -106,18 +108,18 @@ other_one false x y e f = f
 above_new : (h : History) (e : Entry) (new old : Dot) (c : ℕ) → IsLegal (Then h e) → e.outcome ≡ outcomes_are.Replaced new old → count (Then h e) < c → nat_eq c new.count ≡ false
 above_new h e new old c l is above =
     let next : new.count ≡ count h + 1 = ap (λ (d : Dot). d.count) (replaced_parts h e new old l is).0 in
-    let most : count (Then h e) ≡ count h + 1 = count-then h e ∙ ap (λ o. count h + counts_used o) is in
+    let most : count (Then h e) ≡ count h + 1 = count-then h e (ap is_again is) ∙ ap (λ o. count h + counts_used o) is in
     over_next c new.count (omega (arith, above, next, most))
 
-before : (h : History) (e : Entry) (c : ℕ) → count (Then h e) < c → count h < c
-before h e c above = let most = count-then h e in omega (arith, above, most)
+before : (h : History) (e : Entry) (c : ℕ) → is_again e.outcome ≡ false → count (Then h e) < c → count h < c
+before h e c a above = let most = count-then h e a in omega (arith, above, most)
 
-pub few_then : (h : History) (e : Entry) (unsettled : ℕ) (f g : ℕ → ℕ → Bool) → IsLegal (Then h e) → AreBelow (count h) unsettled f → Hands e.outcome f g → AreBelow (count (Then h e)) unsettled g
-few_then h e unsettled f g l few hands c n low above over = hands c n low ∙ unless (is_counted (dots_taken e.outcome) c) (handed e.outcome f c n) (go e.outcome refl)
+pub few_then : (h : History) (e : Entry) (unsettled : ℕ) (f g : ℕ → ℕ → Bool) → IsLegal (Then h e) → is_again e.outcome ≡ false → AreBelow (count h) unsettled f → Hands e.outcome f g → AreBelow (count (Then h e)) unsettled g
+few_then h e unsettled f g l a few hands c n low above over = hands c n low ∙ unless (is_counted (dots_taken e.outcome) c) (handed e.outcome f c n) (go e.outcome refl)
   where
     go : (o : Outcome) → e.outcome ≡ o → handed o f c n ≡ false
-    go (outcomes_are.Replaced new old) is = other_one (nat_eq c new.count) (stands_for f old.count n) (f c n) (above_new h e new old c l is above) (few c n low (before h e c above) over)
-    go _ is = few c n low (before h e c above) over
+    go (outcomes_are.Replaced new old) is = other_one (nat_eq c new.count) (stands_for f old.count n) (f c n) (above_new h e new old c l is above) (few c n low (before h e c a above) over)
+    go _ is = few c n low (before h e c a above) over
 
 chain-then : (h : History) (e : Entry) (c n : ℕ) → chain (Then h e) c n ≡ chain_after e.outcome (chain h) c n
 unfolding chain
@@ -129,11 +131,12 @@ left : (b x : Bool) → b ≡ false → x ≡ cond b false x
 left true x e = let g : true ≡ false = e in absurd (cc)
 left false x e = refl
 
-same_handed : (o : Outcome) (f g : ℕ → ℕ → Bool) (c n : ℕ) → f c n ≡ g c n → AllByRecursion (λ (x : Dot). f x.count n ≡ g x.count n) (dots_taken o) → is_counted (dots_taken o) c ≡ false → handed o f c n ≡ chain_after o g c n
-same_handed (outcomes_are.Replaced new old) f g c n here olds none =
+same_handed : (o : Outcome) (f g : ℕ → ℕ → Bool) (c n : ℕ) → is_again o ≡ false → f c n ≡ g c n → AllByRecursion (λ (x : Dot). f x.count n ≡ g x.count n) (dots_taken o) → is_counted (dots_taken o) c ≡ false → handed o f c n ≡ chain_after o g c n
+same_handed (outcomes_are.Replaced new old) f g c n plain here olds none =
     (λ i. cond (nat_eq c new.count) (nat_eq n old.count || olds.0 i) (here i))
     ∙ ap (cond (nat_eq c new.count) (stands_for g old.count n)) (left (nat_eq c old.count) (g c n) (or_parts (nat_eq c old.count) false none).0)
-same_handed _ f g c n here olds none = here
+same_handed (outcomes_are.Reborn ps) f g c n plain here olds none = absurd (cc)
+same_handed _ f g c n plain here olds none = here
 
 none_counted : (h : History) (ds : List Dot) (d : Dot) → AllByRecursion (IsOwnShown h) ds → d.replica ≡ own h → has_dot ds d ≡ false → is_counted ds d.count ≡ false
 none_counted h [] d a o f = refl
@@ -160,25 +163,25 @@ none_above h (x ∷ xs) c l a above =
     or_from (nat_eq c x.count) (is_counted xs c) (over_next c x.count (omega (arith, low, above))) (none_above h xs c l a.1 above)
 
 -- a count that neither goes nor is new keeps its chain
-keeps : (h : History) (e : Entry) (m v : Chains) (c n : ℕ) → IsLegal (Then h e) → HasChains h m → Hands e.outcome (has m) (has v) → 1 ≤ n → has m c n ≡ chain h c n → is_counted (dots_taken e.outcome) c ≡ false → has v c n ≡ chain (Then h e) c n
-keeps h e m v c n l has_chains hands low here none =
+keeps : (h : History) (e : Entry) (m v : Chains) (c n : ℕ) → IsLegal (Then h e) → is_again e.outcome ≡ false → HasChains h m → Hands e.outcome (has m) (has v) → 1 ≤ n → has m c n ≡ chain h c n → is_counted (dots_taken e.outcome) c ≡ false → has v c n ≡ chain (Then h e) c n
+keeps h e m v c n l plain has_chains hands low here none =
     hands c n low
     ∙ (ap (λ b. cond b false (handed e.outcome (has m) c n)) none
-    ∙ (same_handed e.outcome (has m) (chain h) c n here (taken_have h m n (dots_taken e.outcome) has_chains low (taken_shown h e l)) none
+    ∙ (same_handed e.outcome (has m) (chain h) c n plain here (taken_have h m n (dots_taken e.outcome) has_chains low (taken_shown h e l)) none
     ∙ sym (chain-then h e c n)))
 
-pub unused_then : (h : History) (e : Entry) (m v : Chains) → IsLegal (Then h e) → HasChains h m → HasUnused h m → Hands e.outcome (has m) (has v) → HasUnused (Then h e) v
-unused_then h e m v l has_chains unused hands c n low above =
-    let over = before h e c above in
-    keeps h e m v c n l has_chains hands low (unused c n low over) (none_above h (dots_taken e.outcome) c l.0 (taken_shown h e l) over)
+pub unused_then : (h : History) (e : Entry) (m v : Chains) → IsLegal (Then h e) → is_again e.outcome ≡ false → HasChains h m → HasUnused h m → Hands e.outcome (has m) (has v) → HasUnused (Then h e) v
+unused_then h e m v l a has_chains unused hands c n low above =
+    let over = before h e c a above in
+    keeps h e m v c n l a has_chains hands low (unused c n low over) (none_above h (dots_taken e.outcome) c l.0 (taken_shown h e l) over)
 
-pub chains_then : (h : History) (e : Entry) (m v : Chains) → IsLegal (Then h e) → HasChains h m → HasUnused h m → Hands e.outcome (has m) (has v) → HasChains (Then h e) v
-chains_then h e m v l has_chains unused hands d r mine there n low =
-    let parts = go (row_added e.step e.outcome d) refl (sym (own_shown h e d l own_one) ∙ there) in
-    keeps h e m v d.count n l has_chains hands low parts.1 (none_counted h (dots_taken e.outcome) d (taken_shown h e l) own_one parts.0)
+pub chains_then : (h : History) (e : Entry) (m v : Chains) → IsLegal (Then h e) → is_again e.outcome ≡ false → HasChains h m → HasUnused h m → Hands e.outcome (has m) (has v) → HasChains (Then h e) v
+chains_then h e m v l a has_chains unused hands d r mine there n low =
+    let parts = go (row_added e.step e.outcome d) refl (sym (own_shown h e d l a own_one) ∙ there) in
+    keeps h e m v d.count n l a has_chains hands low parts.1 (none_counted h (dots_taken e.outcome) d (taken_shown h e l) own_one parts.0)
   where
     own_one : d.replica ≡ own h
-    own_one = mine ∙ own-then h e
+    own_one = mine ∙ own-then h e (plain_step h e l a)
 
     at : (b : Bool) → has_dot (dots_taken e.outcome) d ≡ b → cond b None (shown h d) ≡ Some r → (has_dot (dots_taken e.outcome) d ≡ false) × (has m d.count n ≡ chain h d.count n)
     at true p f = absurd (cc)
@@ -232,15 +235,16 @@ goes_same : (f g : ℕ → ℕ → Bool) (ds : List Dot) (n : ℕ) → AllByRecu
 goes_same f g [] n a = refl
 goes_same f g (d ∷ ds) n a = (λ i. (nat_eq n d.count || a.0 i) || goes_same f g ds n a.1 i)
 
-older_is : (o : Outcome) (last : ℕ) (ch : ℕ → ℕ → Bool) (f : ℕ → Bool) (n : ℕ) → is_cut o ≡ false → (f n || (nat_le n last && goes ch (dots_taken o) n)) ≡ older_after o last ch f n
+older_is : (o : Outcome) (last : ℕ) (ch : ℕ → ℕ → Bool) (f : ℕ → Bool) (n : ℕ) → renews_kept o ≡ false → (f n || (nat_le n last && goes ch (dots_taken o) n)) ≡ older_after o last ch f n
 older_is (outcomes_are.CutAt from to) last ch f n uncut = absurd (cc)
+older_is (outcomes_are.Reborn ps) last ch f n uncut = absurd (cc)
 older_is _ last ch f n uncut = refl
 
 older-then : (h : History) (e : Entry) (n : ℕ) → older (Then h e) n ≡ older_after e.outcome (last_cut h) (chain h) (older h) n
 unfolding older
 older-then h e n = refl
 
-pub older_then : (h : History) (e : Entry) (last : ℕ) (m : Chains) (old new : Runs) (n : ℕ) → IsLegal (Then h e) → is_cut e.outcome ≡ false → HasChains h m → last ≡ last_cut h → Counts (holds old) (older h) → 1 ≤ n
+pub older_then : (h : History) (e : Entry) (last : ℕ) (m : Chains) (old new : Runs) (n : ℕ) → IsLegal (Then h e) → renews_kept e.outcome ≡ false → HasChains h m → last ≡ last_cut h → Counts (holds old) (older h) → 1 ≤ n
     → holds new n ≡ (holds old n || (nat_le n last && goes (has m) (dots_taken e.outcome) n)) → holds new n ≡ older (Then h e) n
 older_then h e last m old new n l uncut has_chains same counts low after =
     after

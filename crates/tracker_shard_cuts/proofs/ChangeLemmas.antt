@@ -21,19 +21,20 @@ use Rattle.presence_journal_cuts.proofs.KeptLemmas.{kept_other}
 use Rattle.tracker_shard_cuts.specs.declared.change.Change.{Change}
 use Rattle.tracker_shard_cuts.specs.declared.untold.Untold.{Untold}
 use Rattle.tracker_shard_cuts.specs.Untold.{AreBelow, AreSettled, Follows}
-use Rattle.presence_journal_cuts.specs.KeptDeltas.{is_cut, AreKeptOf}
+use Rattle.presence_journal_cuts.specs.KeptDeltas.{renews_kept, AreKeptOf}
 use Rattle.tracker_shard_cuts.specs.Changes.{DotRows, dot_in, IsNew, IsWithoutDot, IsChange, IsLinked, LosesChains}
 use Rattle.tracker_shard_cuts.proofs.FreshLemmas.{added_stays}
 use Rattle.tracker_shard_cuts.proofs.ChainLemmas.{Hands, hands_on, stays_long, chains_then, unused_then, few_then, goes_told, older_then, settled_then}
-use Rattle.tracker_shard_cuts.proofs.UntoldLemmas.{taken}
+use Rattle.tracker_shard_cuts.proofs.UntoldLemmas.{taken, uncut_plain}
 
 abbrev Runs : Type 0
 Runs = List (ℕ × ℕ)
 
 -- ---- older counts
 
-stays_last : (o : Outcome) (last : ℕ) → is_cut o ≡ false → last ≡ cut_after o last
+stays_last : (o : Outcome) (last : ℕ) → renews_kept o ≡ false → last ≡ cut_after o last
 stays_last (outcomes_are.CutAt from to) last uncut = absurd (cc)
+stays_last (outcomes_are.Reborn ps) last uncut = absurd (cc)
 stays_last _ last uncut = refl
 
 low_taken : (last : ℕ) (old gone new : Runs) → new ≡ old ++ gone → AreUpTo last gone → AreUpTo last old → AreUpTo last new
@@ -41,7 +42,7 @@ low_taken last old gone new is more k = subst (AreUpTo last) (sym is) (long_appe
 
 -- ---- rows
 
-no_cut : (o : Outcome) (x : Option Row) → is_cut o ≡ false → x ≡ unless_cut o x
+no_cut : (o : Outcome) (x : Option Row) → renews_kept o ≡ false → x ≡ unless_cut o x
 no_cut (outcomes_are.CutAt from to) x uncut = absurd (cc)
 no_cut _ x uncut = refl
 
@@ -50,7 +51,7 @@ at_added gone None x stays = refl
 at_added false (Some r) x stays = refl
 at_added true (Some r) x stays = let f : true ≡ false = stays r refl in absurd (cc)
 
-rows_taken : (h : History) (e : Entry) (f g : Dot → Option Row) (o : Option (Dot × Row)) → IsLegal (Then h e) → is_cut e.outcome ≡ false → ((d : Dot) → row_at o d ≡ row_added e.step e.outcome d)
+rows_taken : (h : History) (e : Entry) (f g : Dot → Option Row) (o : Option (Dot × Row)) → IsLegal (Then h e) → renews_kept e.outcome ≡ false → ((d : Dot) → row_at o d ≡ row_added e.step e.outcome d)
     → Alike g (without_dots (dots_taken e.outcome) (over (row_at o) f)) → Alike g (recent_after e f)
 rows_taken h e f g o l uncut is after d =
     after d
@@ -72,16 +73,16 @@ back o x m n k is new there out = go o (subst (λ y. IsWithoutDot y n k) is out)
 
 -- ---- all of it
 
-pub committed : (u v : Untold) (e : Entry) (c : Change) (w : Chains) → is_cut e.outcome ≡ false → IsChange u.last u.unsettled u.chains e c → v.own ≡ u.own → v.count ≡ u.count + counts_used e.outcome → v.last ≡ u.last → v.unsettled ≡ u.unsettled
+pub committed : (u v : Untold) (e : Entry) (c : Change) (w : Chains) → renews_kept e.outcome ≡ false → IsChange u.last u.unsettled u.chains e c → v.own ≡ u.own → v.count ≡ u.count + counts_used e.outcome → v.last ≡ u.last → v.unsettled ≡ u.unsettled
     → v.older.items ≡ u.older.items ++ c.gone.items → IsLinked c.link u.chains w → LosesChains (dots_taken e.outcome) w v.chains
     → Alike (get dot_cmp v.rows) (without_dots (dots_taken e.outcome) (over (row_at c.row) (get dot_cmp u.rows))) → v.kept ≡ u.kept → Follows u e v
 committed u v e c w uncut change owns counts last opens older put lost rows deltas h l k =
     let hands : Hands e.outcome (has u.chains) (has v.chains) = hands_on e.outcome u.chains w v.chains c.link change.link put lost in
-    taken u v e h l k (record {
-      chains = chains_then h e u.chains v.chains l k.chains k.unused hands;
-      unused = unused_then h e u.chains v.chains l k.chains k.unused hands;
+    taken u v e h l (uncut_plain e.outcome uncut) k (record {
+      chains = chains_then h e u.chains v.chains l (uncut_plain e.outcome uncut) k.chains k.unused hands;
+      unused = unused_then h e u.chains v.chains l (uncut_plain e.outcome uncut) k.chains k.unused hands;
       long = stays_long e.outcome u.chains w v.chains c.link change.link put lost k.long;
-      few = subst (λ n. AreBelow (count (Then h e)) n (has v.chains)) (sym opens) (few_then h e u.unsettled (has u.chains) (has v.chains) l k.few hands);
+      few = subst (λ n. AreBelow (count (Then h e)) n (has v.chains)) (sym opens) (few_then h e u.unsettled (has u.chains) (has v.chains) l (uncut_plain e.outcome uncut) k.few hands);
       settled = subst (λ n. AreSettled n v.unsettled (has v.chains) v.older.items) (sym last) (subst (λ n. AreSettled u.last n (has v.chains) v.older.items) (sym opens)
           (settled_then e.outcome u.last u.unsettled (has u.chains) (has v.chains) u.older.items v.older.items k.settled hands after));
       unsettled = subst (λ n. n ≤ v.unsettled) (sym last) (subst (λ n. u.last ≤ n) (sym opens) k.unsettled);

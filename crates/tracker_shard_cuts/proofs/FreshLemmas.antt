@@ -11,14 +11,16 @@ use Rattle.presence_journal.specs.Steps.{Outcome, Entry}
 use Rattle.presence_journal.specs.History.{History, Then, own, count, last_cut, next_dot, has_dot, row_added, shown}
 use Rattle.presence_journal.specs.Present.{dots_taken}
 use Rattle.presence_journal.specs.Table.{IsLegal}
-use Rattle.presence_journal.specs.Walk.{row_at}
+use Rattle.presence_journal.specs.Walk.{row_at, is_reborn, is_again}
 use Rattle.presence_journal.proofs.Same.{same_dot-refl, same_dot-true}
 use Rattle.presence_journal.proofs.PresentLemmas.{shown-row}
-use Rattle.presence_journal.proofs.HistoryLemmas.{IsOwnShown, Kind, Adds, Replaces, Removes, Quiet, kind_of, legal_knows, one_added, quiet_taken}
+use Rattle.presence_journal.proofs.HistoryLemmas.{IsOwnShown, Kind, Adds, Replaces, Removes, Quiet, kind_of, legal_knows, one_added, quiet_taken, added_plain}
 use Rattle.presence_journal_sets.specs.ByDot.{Alike}
 use Rattle.presence_journal_cuts.specs.Cuts.{recent}
 use Rattle.presence_journal_cuts.proofs.Histories.{quiet_none}
 use Rattle.tracker_shard_cuts.specs.Changes.{DotRows, IsNew}
+use Rattle.presence_journal.proofs.Reborn.{IsAgain, again_of}
+use Rattle.presence_journal_sets.proofs.OwnLemmas.{plain_step}
 
 above_all : (same low : Bool) (n : ℕ) → (same && (low && nat_le (n + 1) n)) ≡ false
 above_all false low n = refl
@@ -31,7 +33,7 @@ unfolding recent
 next_none h = ap (λ b. cond b (shown h (next_dot h)) None) (above_all (same_replica (own h) (own h)) (nat_lt (last_cut h) (count h + 1)) (count h))
 
 pub added_next : (h : History) (e : Entry) (d : Dot) (r : Row) → IsLegal (Then h e) → row_added e.step e.outcome d ≡ Some r → d ≡ next_dot h
-added_next h e d r l f = (one_added h e d r (kind_of h e.step e.outcome l.1) f).0
+added_next h e d r l f = (one_added h e d r (kind_of h e.step e.outcome (added_plain e.step e.outcome d r f) l.1) f).0
 
 -- the dot of an own row that is shown was counted
 pub counted : (h : History) (d : Dot) → IsLegal h → IsOwnShown h d → d.count ≤ count h
@@ -39,7 +41,7 @@ counted h d l w = let knows = legal_knows h l in (knows.of_own d w.own (knows.of
 
 -- an update's new row has the next count, and its old one was shown
 pub replaced_parts : (h : History) (e : Entry) (new old : Dot) → IsLegal (Then h e) → e.outcome ≡ outcomes_are.Replaced new old → (new ≡ next_dot h) × IsOwnShown h old
-replaced_parts h e new old l is = go (kind_of h e.step e.outcome l.1)
+replaced_parts h e new old l is = go (kind_of h e.step e.outcome (plain_step h e l (ap is_again is)) l.1)
   where
     parts : (o : Outcome) → Dot × Dot
     parts (outcomes_are.Replaced x y) = (x, y)
@@ -55,17 +57,24 @@ replaced_parts h e new old l is = go (kind_of h e.step e.outcome l.1)
 
 -- the rows that an entry takes out were shown
 pub taken_shown : (h : History) (e : Entry) → IsLegal (Then h e) → AllByRecursion (IsOwnShown h) (dots_taken e.outcome)
-taken_shown h e l = go (kind_of h e.step e.outcome l.1)
+taken_shown h e l = by (is_reborn e.step) refl
   where
+    none : IsAgain h e.step e.outcome → AllByRecursion (IsOwnShown h) (dots_taken e.outcome)
+    none w = subst (λ y. AllByRecursion (IsOwnShown h) (dots_taken y)) (sym w.outcome) tt
+
     go : Kind h e.step e.outcome → AllByRecursion (IsOwnShown h) (dots_taken e.outcome)
     go (Adds x m o r) = subst (λ y. AllByRecursion (IsOwnShown h) (dots_taken y)) (sym o) tt
     go (Replaces x was m o r w) = subst (λ y. AllByRecursion (IsOwnShown h) (dots_taken y)) (sym o) (w, tt)
     go (Removes x xs o r a q) = subst (λ y. AllByRecursion (IsOwnShown h) (dots_taken y)) (sym o) a
     go (Quiet q) = subst (AllByRecursion (IsOwnShown h)) (sym (quiet_taken e.outcome q)) tt
 
+    by : (b : Bool) → is_reborn e.step ≡ b → AllByRecursion (IsOwnShown h) (dots_taken e.outcome)
+    by true f = none (again_of h e.step e.outcome f l.1)
+    by false f = go (kind_of h e.step e.outcome f l.1)
+
 -- the dot of the row that an entry adds is none of those that it takes out
 pub added_stays : (h : History) (e : Entry) (d : Dot) (r : Row) → IsLegal (Then h e) → row_added e.step e.outcome d ≡ Some r → has_dot (dots_taken e.outcome) d ≡ false
-added_stays h e d r l f = go (kind_of h e.step e.outcome l.1)
+added_stays h e d r l f = go (kind_of h e.step e.outcome (added_plain e.step e.outcome d r f) l.1)
   where
     at_old : (was : Dot) → IsOwnShown h was → (b : Bool) → same_dot d was ≡ b → (b || false) ≡ false
     at_old was w false p = refl

@@ -1,5 +1,5 @@
 -- What an entry changes of what is kept.
-use Rattle.std.specs.Prelude.{◌≡◌, ◌≤◌, ℕ, Bool, true, false, cond, nat_eq, nat_le, List, [], Option, Some, None}
+use Rattle.std.specs.Prelude.{◌≡◌, ◌≤◌, ℕ, Bool, cond, nat_eq, nat_le, List, [], Option, Some, None}
 use Rattle.std.specs.List.{filter, list_any}
 use Rattle.std.specs.BTreeMap.{BTreeMap, get}
 use Rattle.std.specs.Ordering.{nat_cmp}

@@ -7,3 +7,4 @@ pub use Rattle.presence_journal_cuts.specs.Cuts
 pub use Rattle.presence_journal_cuts.specs.KeptDeltas
 pub use Rattle.presence_journal_cuts.specs.ToldParts
 pub use Rattle.presence_journal_starts.specs.Checkpoints
+pub use Rattle.presence_journal_cuts.specs.Reborn

@@ -3,7 +3,7 @@ use Rattle.std.specs.Prelude.{◌≡◌, ℕ, ◌≤◌, ◌<◌, Bool, true, fa
 use Rattle.std.specs.BTreeMap.{get}
 use Rattle.presence_base.specs.declared.dots.Dot.{Dot}
 use Rattle.presence_base.specs.declared.row.Row.{Row}
-use Rattle.presence_base.specs.Order.{dot_cmp}
+use Rattle.presence_base.specs.Order.{dot_cmp, same_dot}
 use Rattle.dot_context_runs.specs.Runs.{holds}
 use Rattle.orswot_core_told.specs.declared.form.Form.{Form}
 use Rattle.orswot_core_told.specs.Telling.{ToldValue}
@@ -17,6 +17,10 @@ use Rattle.presence_journal_cuts.specs.Chains.{Chains, AreChains, AreUpTo, Count
 use Rattle.presence_journal_cuts.specs.Cuts.{chain, older, recent}
 use Rattle.presence_journal_cuts.specs.KeptDeltas.{AreKeptOf}
 use Rattle.tracker_shard_cuts.specs.declared.untold.Untold.{Untold}
+use Rattle.std.specs.Map.{lookup}
+use Rattle.presence_base.specs.declared.dots.Replica.{Replica}
+use Rattle.presence_journal.specs.Walk.{is_again}
+use Rattle.presence_journal_cuts.specs.Reborn.{own_live}
 
 -- each own row that is shown has its chain
 abbrev pub HasChains : History → Chains → Type 0
@@ -66,6 +70,11 @@ pub record CanFollow (u : Untold) (e : Entry) : Type 0 where
 -- what is kept after the entry, where u was kept before it
 abbrev pub Follows : Untold → Entry → Untold → Type 0
 Follows u e v = (h : History) → IsLegal (Then h e) → IsUntoldOf h u → IsUntoldOf (Then h e) v
+
+-- after a rebirth under this replica, with so many counts and these rows, and no others, it is that of the history
+abbrev pub BeginsAgain : Replica → ℕ → List (Dot × Row) → Untold → Type 0
+BeginsAgain o n rows u = (h : History) (e : Entry) → IsLegal (Then h e) → is_again e.outcome ≡ true → o ≡ own (Then h e)
+    → n ≡ count (Then h e) → ((d : Dot) → lookup (same_dot d) rows ≡ own_live (Then h e) d) → IsUntoldOf (Then h e) u
 
 -- what is told of the kept deltas from a count on, where one of them begins at or below it
 pub record IsKeptFrom (form : Form) (h : History) (n : ℕ) (o : Option ToldValue) : Type 0 where

@@ -9,6 +9,7 @@
 mod change;
 mod listing;
 mod putting;
+mod rows;
 mod start;
 mod untold;
 

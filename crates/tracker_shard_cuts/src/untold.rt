@@ -6,6 +6,7 @@ ghost use Rattle.presence_base.specs.Order.{dot_cmp};
 use crate::change::{Change, change_of};
 use crate::listing::listed_chains;
 use crate::putting::{add_runs, drop_chains, put_both};
+use crate::rows::copied;
 use crate::start::most_listed;
 use delta_range::{Delta, Generations, longest};
 use orswot_core::{Form, Told};
@@ -15,6 +16,7 @@ use presence_journal_cuts::{Chain, dots_out, drop_dots, kept_chains, kept_rows, 
 use presence_journal_sets::used_by;
 use std::alloc::{AllocError, Global};
 use std::collections::BTreeMap;
+use std::collections::btree_map::Range;
 
 /// What a shard has not told yet of its own replica, and the kept deltas of what it told.
 pub struct Untold {
@@ -80,9 +82,10 @@ impl Untold {
     ghost use Rattle.std.specs.Prelude.{◌≡◌, false, IfOk, OnOk, OnErr};
     ghost use Rattle.presence_journal.specs.History.{History, Begin, begun, last_cut as cut_in};
     ghost use Rattle.presence_journal.specs.Table.{IsLegal};
+    ghost use Rattle.presence_journal.specs.Walk.{is_again};
     ghost use Rattle.presence_journal_cuts.specs.Cuts.{IsCut};
-    ghost use Rattle.presence_journal_cuts.specs.KeptDeltas.{is_cut, AreKeptOf};
-    ghost use Rattle.tracker_shard_cuts.specs.Untold.{IsUntoldOf, IsKeptFrom, IsOfOne, CanFollow, Follows, Stays};
+    ghost use Rattle.presence_journal_cuts.specs.KeptDeltas.{renews_kept, AreKeptOf};
+    ghost use Rattle.tracker_shard_cuts.specs.Untold.{IsUntoldOf, IsKeptFrom, IsOfOne, BeginsAgain, CanFollow, Follows, Stays};
     ghost use Rattle.tracker_shard_cuts.specs.Listed.{AreOlder, AreListed};
     ghost use Rattle.tracker_shard_cuts.specs.Changes.{IsChangeOf, IsToldTo, KeepsCut};
 
@@ -121,6 +124,30 @@ impl Untold {
             older,
             rows,
             kept,
+        })
+    }
+
+    /// Where nothing was told of the replica, which an own one of before goes on as: these are all its rows, and so many its
+    /// counts. It costs the rows.
+    pub fn reborn(
+        alloc: Global,
+        own: Replica,
+        count: u64,
+        rows: Range<'_, Dot, Row>,
+    ) -> Result<Untold, AllocError>
+        requires { IsStrictlySortedBy dot_cmp (keys_of rows) }
+        ensures { IfOk result (BeginsAgain own count rows.entry) }
+    {
+        let rows = copied(alloc, rows)?;
+        Ok(Untold {
+            own,
+            count,
+            last: 0,
+            unsettled: 0,
+            chains: BTreeMap::new(alloc),
+            older: Vec::new(alloc),
+            rows,
+            kept: Generations::new(),
         })
     }
 
@@ -182,12 +209,13 @@ impl Untold {
         Ok(Chains::new(list))
     }
 
-    /// Brings it up to the next entry. Where memory is refused it is as it was.
+    /// Brings it up to the next entry, which is of no rebirth. Where memory is refused it is as it was.
     ///
     /// It costs the rows that the entry adds or takes out, with their chains, and for a cut that tells anything the rows of
     /// the kept deltas.
     pub fn apply(&mut self, alloc: Global, entry: &Entry) -> Result<(), AllocError>
-        requires { CanFollow self.old entry.now }
+        requires follows { CanFollow self.old entry.now }
+        requires plain { is_again entry.now.outcome ≡ false }
         ensures ok { OnOk result (Follows self.old entry.now self.new) }
         ensures err { OnErr result (Stays self.old self.new) }
     {
@@ -225,7 +253,7 @@ impl Untold {
     // Takes in what an entry changes.
     fn commit(&mut self, entry: &Entry, change: Change) -> Result<(), AllocError>
         requires follows { CanFollow self.old entry.now }
-        requires other { is_cut entry.now.outcome ≡ false }
+        requires other { renews_kept entry.now.outcome ≡ false }
         requires change { IsChangeOf self.old entry.now change }
         ensures ok { OnOk result (Follows self.old entry.now self.new) }
         ensures err { OnErr result (Stays self.old self.new) }

@@ -61,6 +61,12 @@ sound_new r o h p e is legal limits at = record {
   parts = subst (λ g. IsAt p.stage g p) (ap begun (is ∙ (ap own e ∙ sym (own_begun r))) ∙ sym e) at;
 }
 
+-- A journal as it is.
+
+pub sound_whole : (s : Start) (es : List Entry) (whole : History) (p : Parts) → onto (Begin s) es ≡ whole → IsLegal whole → AreWithinLimits whole
+    → IsAt p.stage (onto (Begin s) es) p → IsSound whole p
+sound_whole s es whole p w legal limits at = record { kept = record { legal = legal; limits = limits }; parts = subst (λ h. IsAt p.stage h p) w at }
+
 -- The last entry.
 
 last_is : (h : History) (es : List Entry) (n : ℕ) (e : Entry) → n + 1 ≡ length es → slice_get es n ≡ Some e → (before : History) × (Then before e ≡ onto h es)

@@ -5,3 +5,4 @@ pub mod FittingLemmas
 pub mod OwnRowLemmas
 pub mod StartingLemmas
 pub mod Crossing
+pub mod ReplayLemmas

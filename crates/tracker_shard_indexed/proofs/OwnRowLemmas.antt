@@ -34,7 +34,7 @@ own_rows h r es mine rows = record {
 }
 
 -- a part that is made of what is kept, of one list of the own rows and another
-module _ (s : Seen) (j : History) (p : Parts) (view : seen j p ≡ s) (ready : s.is_ready ≡ true) (sound : IsSound j p) (r : Replica) (last : ℕ) (es fs : List (Dot × Row)) (mine : r ≡ own j)
+module _ (s : Seen) (j : History) (p : Parts) (view : seen j p ≡ s) (ready : s.is_ready ≡ true) (sound : IsSound j p) (r : Replica) (last : ℕ) (es fs : List (Dot × Row)) (mine : (h : History) → IsKnownOf h p.known → r ≡ own h)
     (counts : (h : History) → IsKnownOf h p.known → last ≡ count h) (before : (h : History) → IsKnownOf h p.known → AreRowsOf h r es) (rows : (h : History) → IsKnownOf h p.known → AreRowsOf h r fs) where
   same : j ≡ s.history
   same = ap (λ (v : Seen). v.history) view
@@ -43,10 +43,10 @@ module _ (s : Seen) (j : History) (p : Parts) (view : seen j p ≡ s) (ready : s
   known = subst (λ h. IsKnownOf h p.known) (sym same) (kept_seen s j p view ready sound).known
 
   before_own : AreOwnRows j es
-  before_own = own_rows j r es mine (before j known)
+  before_own = own_rows j r es (mine j known) (before j known)
 
   rows_own : AreOwnRows j fs
-  rows_own = own_rows j r fs mine (rows j known)
+  rows_own = own_rows j r fs (mine j known) (rows j known)
 
   module _ (n from room to : ℕ) (older : List (ℕ × ℕ)) (live : List (Dot × Row)) (begins : from ≡ min n last) (runs : older ≡ vacant from 0 es) (ends : to ≡ end_of from last room fs) (told : live ≡ rows_above from room fs) where
     abbrev d : DeltaValue
@@ -54,7 +54,7 @@ module _ (s : Seen) (j : History) (p : Parts) (view : seen j p ≡ s) (ready : s
 
     made : IsMadeOf j n es fs room d
     made = record {
-      owner = mine;
+      owner = mine j known;
       from = begins ∙ ap (min n) (counts j known);
       to = ends ∙ ap (λ k. end_of from k room fs) (counts j known);
       older = runs;

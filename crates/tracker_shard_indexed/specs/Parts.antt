@@ -1,13 +1,17 @@
 -- How what is kept is tied to a journal's history.
-use Rattle.std.specs.Prelude.{Bool, true, false}
+use Rattle.std.specs.Prelude.{◌≡◌, Bool, true, false}
 use Rattle.presence_journal.specs.Steps.{Entry}
-use Rattle.presence_journal.specs.History.{History, Begin, Then}
+use Rattle.presence_base.specs.declared.dots.Replica.{Replica}
+use Rattle.presence_journal.specs.History.{History, Begin, Then, own, own_after}
 use Rattle.presence_journal.specs.Table.{IsLegal, IsKept}
 use Rattle.tracker_shard_turns.specs.declared.turn.Turn.{Turn}
 use Rattle.tracker_shard_turns.specs.Turns.{IsTurn}
+use Rattle.presence_journal.specs.Walk.{is_again}
+use Rattle.tracker_shard_known.specs.declared.known.Known.{Known}
 use Rattle.tracker_shard_known.specs.Known.{IsKnownOf}
 use Rattle.tracker_shard_shown.specs.Kept.{IsShownOf, IsBetween}
 use Rattle.tracker_shard_feeds.specs.Fed.{Fed, IsFedBy}
+use Rattle.tracker_shard_cuts.specs.declared.untold.Untold.{Untold}
 use Rattle.tracker_shard_cuts.specs.Untold.{IsUntoldOf}
 use Rattle.tracker_shard_indexed.specs.declared.parts.Parts.{Parts}
 use Rattle.tracker_shard_indexed.specs.declared.parts.Stage.{Stage}
@@ -76,6 +80,15 @@ pub record CanFeed (f : Fed) (e : Entry) : Type 0 where
   pub before : History
   pub legal : IsLegal (Then before e)
   pub fed : IsFedBy before f
+
+-- the own replica after the entry, where k is known before it
+abbrev pub OwnAfter : Known → Entry → Replica → Type 0
+OwnAfter k e o = (h : History) → IsKnownOf h k → o ≡ own_after e.step (own h)
+
+-- what is untold after a rebirth, where k is known after it
+abbrev pub IsUntoldAgain : Known → Untold → Type 0
+IsUntoldAgain k u = (h : History) (e : Entry) → IsLegal (Then h e) → is_again e.outcome ≡ true → IsKnownOf (Then h e) k
+    → IsUntoldOf (Then h e) u
 
 -- the feeds after an entry of this turn
 abbrev pub FeedsFollow : Entry → Turn → Fed → Fed → Type 0

@@ -5,6 +5,7 @@ ghost use Rattle.tracker_shard_indexed.specs.Parts.{IsKeptOf};
 ghost use Rattle.tracker_shard_indexed.specs.Starting.{IsBegunAgain as BeginsAgain};
 
 use crate::parts::{Parts, Stage};
+use crate::replaying::replayed;
 use crate::resuming::start_of_count;
 use crate::starting::{kept_of, start_of};
 use crate::taking::{copy_items, state_item, taken, taken_shared};
@@ -13,7 +14,7 @@ use orswot_core::{Form, MAX_ROWS, Told};
 use presence_base::{Dot, Key, Replica, Row, Topic};
 use presence_journal::Journal;
 use presence_journal_cuts::{rows_from, vacant_runs};
-use presence_journal_data::{Item, Outcome, SharedRows, Step};
+use presence_journal_data::{Item, Outcome, Pairs, SharedRows, Step};
 use presence_journal_waits::{walk_topic, walk_waits};
 use replica_status::Status;
 use std::alloc::{AllocError, Global};
@@ -80,12 +81,12 @@ fn begun_again(alloc: Global, journal: &Journal, parts: &Parts) -> Result<Indexe
 impl Indexed {
     ghost use Rattle.std.specs.Prelude.{◌≡◌, ◌<◌, ◌≤◌, ◌^◌, true, false, Some, option_copied, option_map, IfOk, OnOk, OnErr};
     ghost use Rattle.presence_base.specs.Refs.{IsCount};
+    ghost use Rattle.presence_journal.specs.History.{begun, own, is_full, last_number, status, IsTop};
     ghost use Rattle.orswot_core_told.specs.Checks.{WhereItFits};
-    ghost use Rattle.presence_journal.specs.History.{begun, is_full, last_number, status, IsTop};
     ghost use Rattle.presence_journal.specs.Limits.{is_within_limits};
     ghost use Rattle.presence_journal.specs.Present.{listed};
     ghost use Rattle.presence_journal.specs.Queue.{topic_of, queue, items_given, is_waiting};
-    ghost use Rattle.presence_journal.specs.Table.{IsLegal, AreWithinLimits, outcome_of, after, listed_key, rows_of_key, rows_of_pid};
+    ghost use Rattle.presence_journal.specs.Table.{IsLegal, AreWithinLimits, can_be_reborn, pairs_for, outcome_of, after, listed_key, rows_of_key, rows_of_pid};
     ghost use Rattle.tracker_shard_cuts.specs.Cuts.{IsCut};
     ghost use Rattle.tracker_shard_cuts.specs.KeptDeltas.{IsToldFrom};
     ghost use Rattle.tracker_shard_cuts.specs.ToldParts.{IsPartWhereItFits};
@@ -103,7 +104,7 @@ impl Indexed {
         let journal = Journal::new(alloc, own);
         // Read for the proof alone: an empty journal is legal.
         let _entries = journal.entries();
-        let parts = Parts::new(alloc, journal.own());
+        let parts = Parts::new(alloc, &journal.own());
         Indexed { journal, parts }
     }
 
@@ -116,6 +117,14 @@ impl Indexed {
         let start = start_of_count(alloc, own, count)?;
         let parts = kept_of(alloc, &start)?;
         let journal = Journal::of_start(alloc, start);
+        Ok(Indexed { journal, parts })
+    }
+
+    /// A journal as it is, with what is kept of it. It costs what each entry did when it was made.
+    pub fn of_journal(alloc: Global, journal: Journal) -> Result<Indexed, AllocError>
+        ensures { IfOk result (λ x. x ≡ record { history = journal; is_ready = true }) }
+    {
+        let parts = replayed(alloc, journal.start(), journal.entries())?;
         Ok(Indexed { journal, parts })
     }
 
@@ -201,6 +210,34 @@ impl Indexed {
         ensures { result ≡ next_left self.now.history }
     {
         self.parts.known.next_dot()
+    }
+
+    /// The incarnation of the own replica. Takes no memory; it costs a walk over the journal where memory ran out behind the
+    /// last entry.
+    pub fn incarnation(&self) -> u64
+        ensures { result ≡ (own self.now.history).incarnation }
+    {
+        match self.parts.stage {
+            Stage::Done => self.parts.known.own().incarnation,
+            _ => self.journal.own().incarnation,
+        }
+    }
+
+    /// Whether the own replica can go on under this incarnation: it is above the own one and at most 2^62, and of the new
+    /// replica nothing was heard or told, nor was it put down. Takes no memory.
+    pub fn can_be_reborn(&self, incarnation: u64) -> bool
+        requires { self.now.is_ready ≡ true }
+        ensures { result ≡ can_be_reborn self.now.history incarnation }
+    {
+        self.parts.known.can_be_reborn(incarnation)
+    }
+
+    /// The new dots of a rebirth under this incarnation, each with its old one, in order. It costs the own rows.
+    pub fn pairs_of(&self, alloc: Global, incarnation: u64) -> Result<Pairs, AllocError>
+        requires { self.now.is_ready ≡ true }
+        ensures { IfOk result (λ ps. ps ≡ pairs_for self.now.history incarnation) }
+    {
+        self.parts.known.pairs_of(alloc, incarnation)
     }
 
     /// The present rows of a topic, in order of key and dot, to be shared: a topic that stays is listed at the first ask alone,
@@ -401,7 +438,7 @@ impl Indexed {
         requires { self.now.is_ready ≡ true }
         ensures { IfOk result (IsPartWhereItFits self.now.history count) }
     {
-        let own = *self.journal.own();
+        let own = self.parts.known.own();
         let last = self.parts.known.count();
         let from = count.min(last);
         let older = vacant_runs(alloc, self.parts.known.rows_of(&own), from)?;

@@ -10,6 +10,7 @@
 
 mod indexed;
 mod parts;
+mod replaying;
 mod resuming;
 mod starting;
 mod taking;

@@ -1,11 +1,13 @@
 //! What is kept of a journal, and how it comes up to an entry.
-ghost use Rattle.std.specs.Prelude.{◌≡◌, false, OnOk, OnErr};
+ghost use Rattle.std.specs.Prelude.{◌≡◌, false, IfOk, OnOk, OnErr};
 ghost use Rattle.tracker_shard_feeds.specs.Fed.{SameFed};
 ghost use Rattle.tracker_shard_feeds.specs.Laws.{is_of_subscriber};
-ghost use Rattle.tracker_shard_indexed.specs.Parts.{CanFeed, FeedsFollow};
+ghost use Rattle.tracker_shard_indexed.specs.Parts.{CanFeed, FeedsFollow, IsUntoldAgain};
+ghost use Rattle.tracker_shard_known.specs.Known.{IsOfOne};
 
 use presence_base::Replica;
-use presence_journal_data::{Entry, Step};
+use presence_journal::own_after;
+use presence_journal_data::{Entry, Outcome, Step};
 use std::alloc::{AllocError, Global};
 use tracker_shard_cuts::Untold;
 use tracker_shard_feeds::Feeds;
@@ -73,9 +75,19 @@ fn feed(alloc: Global, feeds: &mut Feeds, entry: &Entry, turn: &Turn) -> Result<
     }
 }
 
+// What is untold after a rebirth: all own rows.
+fn untold_again(alloc: Global, known: &Known) -> Result<Untold, AllocError>
+    requires { IsOfOne known.now }
+    ensures { IfOk result (IsUntoldAgain known.now) }
+{
+    let own = known.own();
+    Untold::reborn(alloc, own, known.count(), known.rows_of(&own))
+}
+
 impl Parts {
-    ghost use Rattle.std.specs.Prelude.{◌≡◌, OnOk};
+    ghost use Rattle.std.specs.Prelude.{◌≡◌, true, false, OnOk};
     ghost use Rattle.presence_journal.specs.History.{begun};
+    ghost use Rattle.presence_journal.specs.Walk.{is_again};
     ghost use Rattle.tracker_shard_indexed.specs.Parts.{IsAt, CanGoOn, GoesOn};
     ghost use Rattle.tracker_shard_indexed.specs.declared.parts.Stage.TheVariants.{Done, Begun, Delivered, Learned};
 
@@ -105,8 +117,10 @@ impl Parts {
         ensures stage { OnOk result (self.new.stage ≡ Delivered) }
     {
         let turn = self.known.turn_of(alloc, entry)?;
-        self.shown.bring_up(&turn)?;
+        let own = own_after(&entry.step, self.known.own());
+        self.shown.bring_up(&turn, &own)?;
         feed(alloc, &mut self.feeds, entry, &turn)?;
+        self.shown.go_on_as(own);
         self.stage = Stage::Delivered;
         Ok(())
     }
@@ -123,6 +137,32 @@ impl Parts {
         Ok(())
     }
 
+    // Makes what is untold anew behind a rebirth.
+    fn finish_again(&mut self, alloc: Global, entry: &Entry) -> Result<(), AllocError>
+        requires follows { CanGoOn self.old entry.now }
+        requires stage { self.old.stage ≡ Learned }
+        requires again { is_again entry.now.outcome ≡ true }
+        ensures kept { GoesOn entry.now self.old self.new }
+        ensures stage { OnOk result (self.new.stage ≡ Done) }
+    {
+        self.untold = untold_again(alloc, &self.known)?;
+        self.stage = Stage::Done;
+        Ok(())
+    }
+
+    // Brings what is untold up to the last entry, where that is no rebirth.
+    fn finish_plain(&mut self, alloc: Global, entry: &Entry) -> Result<(), AllocError>
+        requires follows { CanGoOn self.old entry.now }
+        requires stage { self.old.stage ≡ Learned }
+        requires plain { is_again entry.now.outcome ≡ false }
+        ensures kept { GoesOn entry.now self.old self.new }
+        ensures stage { OnOk result (self.new.stage ≡ Done) }
+    {
+        self.untold.apply(alloc, entry)?;
+        self.stage = Stage::Done;
+        Ok(())
+    }
+
     // Brings what is untold up to the last entry, behind all else.
     fn finish(&mut self, alloc: Global, entry: &Entry) -> Result<(), AllocError>
         requires follows { CanGoOn self.old entry.now }
@@ -130,9 +170,10 @@ impl Parts {
         ensures kept { GoesOn entry.now self.old self.new }
         ensures stage { OnOk result (self.new.stage ≡ Done) }
     {
-        self.untold.apply(alloc, entry)?;
-        self.stage = Stage::Done;
-        Ok(())
+        match &entry.outcome {
+            Outcome::Reborn(_) => self.finish_again(alloc, entry),
+            _ => self.finish_plain(alloc, entry),
+        }
     }
 
     /// Brings all up to the last entry. After a refusal the same call goes on from there.

@@ -52,7 +52,7 @@ pub(crate) fn start_of(alloc: Global, journal: &Journal, parts: &Parts) -> Resul
     let subscribers = parts.feeds.subscribers(alloc)?;
     Ok(Start {
         number: journal.last_number() + 1,
-        own: *journal.own(),
+        own: journal.own(),
         count: parts.known.count(),
         content,
         standings,

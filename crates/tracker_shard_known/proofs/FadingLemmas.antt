@@ -17,10 +17,10 @@ use Rattle.replica_status.specs.Table.{status_of, heard_at, ticked_at, put_down}
 use Rattle.presence_journal_data.specs.declared.step.Step.TheVariants as steps_are
 use Rattle.presence_journal_data.specs.declared.entry.Outcome.TheVariants as outcomes_are
 use Rattle.presence_journal.specs.Steps.{Step, Entry}
-use Rattle.presence_journal.specs.History.{History, Then, own, counts_used, time, time_of, known, live, standing, standing_after, status, is_gone, has_dot, first_some, row_added}
+use Rattle.presence_journal.specs.History.{History, Then, own, counts_used, time, time_of, known, live, standing, standing_after, status, is_gone, has_dot, first_some, row_added, own_after}
 use Rattle.presence_journal.specs.Present.{dots_taken}
 use Rattle.presence_journal.specs.Table.{IsLegal, outcome_of}
-use Rattle.presence_journal.specs.Walk.{tells}
+use Rattle.presence_journal.specs.Walk.{tells, is_again}
 use Rattle.presence_journal.proofs.Same.{same_replica-true, dot_cmp-IsAntisymmetric}
 use Rattle.presence_journal.proofs.ToldLemmas.{none_told_covers}
 use Rattle.presence_journal.proofs.HistoryLemmas.{kind_of, legal_knows, known_quiet, no_more, live_by}
@@ -29,6 +29,7 @@ use Rattle.tracker_shard_known_others.specs.declared.others.Others.{Others}
 use Rattle.tracker_shard_known_others.specs.Standings.{standing_at, AreOthersOf}
 use Rattle.tracker_shard_known_others.proofs.StandingLemmas.{any_of}
 use Rattle.tracker_shard_known.specs.Steps.{LosesReplicas, fades, loses}
+use Rattle.presence_journal_sets.proofs.OwnLemmas.{plain_step}
 
 -- a step that is only noted changes no row
 
@@ -54,9 +55,9 @@ pub record LeavesRows (h : History) (e : Entry) : Type 0 where
 
 pub noted_leaves : (h : History) (e : Entry) → IsLegal (Then h e) → e.outcome ≡ outcomes_are.Noted → tells e.step ≡ false → LeavesRows h e
 noted_leaves h e l is t = record {
-  known = λ d. known_quiet h e d l.0 (ap counts_used is) ∙ (ap (λ b. known h d || b) (none_told_covers h e.step d t) ∙ no_more (known h d));
+  known = λ d. known_quiet h e d l.0 (plain_step h e l (ap is_again is)) (ap is_again is) (ap counts_used is) ∙ (ap (λ b. known h d || b) (none_told_covers h e.step d t) ∙ no_more (known h d));
   live = λ d.
-      live_by h e d (legal_knows h l.0) (kind_of h e.step e.outcome l.1) t
+      live_by h e d (legal_knows h l.0) (kind_of h e.step e.outcome (plain_step h e l (ap is_again is)) l.1) t
       ∙ (λ i. first_some (row_added e.step (is i) d) (cond (has_dot (dots_taken (is i)) d) None (live h d)));
 }
 
@@ -88,7 +89,7 @@ lost h e s u test leaves loses gone holds = record {
 
 -- which replicas become gone
 
-pub status-then : (h : History) (e : Entry) (r : Replica) → status (Then h e) r ≡ cond (same_replica r (own h)) status_is.Up (status_of (standing_after e.step (max (time h) (time_of e.step)) r (standing h r)))
+pub status-then : (h : History) (e : Entry) (r : Replica) → status (Then h e) r ≡ cond (same_replica r (own_after e.step (own h))) status_is.Up (status_of (standing_after (own h) e.step (max (time h) (time_of e.step)) r (standing h r)))
 unfolding status standing own
 status-then h e r = refl
 
@@ -104,7 +105,7 @@ still_gone t Gone = refl
 
 pub gone_heard : (h : History) (e : Entry) (r : Replica) (now : ℕ) → e.step ≡ steps_are.Heard r now → (q : Replica) → is_gone (status (Then h e) q) ≡ (false || is_gone (status h q))
 gone_heard h e r now is q =
-    ap is_gone (status-then h e q ∙ ap (λ s. cond (same_replica q (own h)) status_is.Up (status_of (standing_after s (max (time h) (time_of s)) q (standing h q)))) is)
+    ap is_gone (status-then h e q ∙ ap (λ s. cond (same_replica q (own_after s (own h))) status_is.Up (status_of (standing_after (own h) s (max (time h) (time_of s)) q (standing h q)))) is)
     ∙ (go (same_replica q (own h)) (same_replica q r)
     ∙ ap is_gone (status-here h q))
   where
@@ -121,7 +122,7 @@ gone_put Gone = refl
 
 pub gone_down : (h : History) (e : Entry) (r mine : Replica) → e.step ≡ steps_are.PermDown r → mine ≡ own h → (q : Replica) → is_gone (status (Then h e) q) ≡ (loses mine r q || is_gone (status h q))
 gone_down h e r mine is is_own q =
-    ap is_gone (status-then h e q ∙ ap (λ s. cond (same_replica q (own h)) status_is.Up (status_of (standing_after s (max (time h) (time_of s)) q (standing h q)))) is)
+    ap is_gone (status-then h e q ∙ ap (λ s. cond (same_replica q (own_after s (own h))) status_is.Up (status_of (standing_after (own h) s (max (time h) (time_of s)) q (standing h q)))) is)
     ∙ (go (same_replica q (own h)) (same_replica q r) (same_replica r (own h)) same same_own
     ∙ (λ i. (not (same_replica r (sym is_own i)) && same_replica q r) || is_gone (status-here h q i)))
   where
@@ -151,7 +152,7 @@ ticks t Gone = refl
 
 pub gone_tick : (h : History) (e : Entry) (now : ℕ) (o : Others) → e.step ≡ steps_are.Tick now → AreOthersOf h o → (q : Replica) → is_gone (status (Then h e) q) ≡ (fades (max o.time now) (standing_at o.standings q) || is_gone (status h q))
 gone_tick h e now o is a q =
-    ap is_gone (status-then h e q ∙ ap (λ s. cond (same_replica q (own h)) status_is.Up (status_of (standing_after s (max (time h) (time_of s)) q (standing h q)))) is)
+    ap is_gone (status-then h e q ∙ ap (λ s. cond (same_replica q (own_after s (own h))) status_is.Up (status_of (standing_after (own h) s (max (time h) (time_of s)) q (standing h q)))) is)
     ∙ (ap (λ n. is_gone (cond (same_replica q (own h)) status_is.Up (status_of (ticked_at (max n now) (standing h q))))) (sym a.time)
     ∙ (go (same_replica q (own h)) refl
     ∙ ap (λ x. fades (max o.time now) (standing_at o.standings q) || is_gone x) (status-here h q)))
@@ -169,7 +170,7 @@ and_true false = refl
 pub loses_none : (s : DotRows) → LosesReplicas s (λ r. false) s
 loses_none s d = (sym (and_true (set.contains s.covered d)), refl)
 
-get_without : (s : DotRows) (r : Replica) (d : Dot) → map.get (without_replica s r).live d ≡ cond (same_replica d.replica r) None (map.get s.live d)
+pub get_without : (s : DotRows) (r : Replica) (d : Dot) → map.get (without_replica s r).live d ≡ cond (same_replica d.replica r) None (map.get s.live d)
 get_without s r d =
     map.get-retain_keys s.live (λ x. not (same_replica x.replica r)) d (λ q e. sym (ap (λ (x : Dot). not (same_replica x.replica r)) (dot_cmp-IsAntisymmetric d q e)))
     ∙ turned (same_replica d.replica r) (map.get s.live d)

@@ -24,8 +24,8 @@ use Rattle.presence_journal.specs.Steps.{Step, Entry}
 use Rattle.presence_journal.specs.History.{History, Then, begun, count, counts_used, known, removed, row, live, status, is_gone, next_dot, IsTop}
 use Rattle.presence_journal.specs.Laws.{is_callers}
 use Rattle.presence_journal.specs.Table.{IsLegal}
-use Rattle.presence_journal.specs.Walk.{tells}
-use Rattle.presence_journal.proofs.HistoryLemmas.{count-then, kind_of, tells_quiet}
+use Rattle.presence_journal.specs.Walk.{tells, is_again, is_reborn}
+use Rattle.presence_journal.proofs.HistoryLemmas.{count-then, kind_of, tells_quiet, callers_plain, kind_plain}
 use Rattle.presence_journal.proofs.Walking.{count-limit, quiet_uses_none}
 use Rattle.presence_journal_sets.specs.LeftOut.{HoldsCovered}
 use Rattle.presence_journal_sets.specs.Full.{IsFullOf}
@@ -108,7 +108,7 @@ full_of form h k t full known = (k.set, known.set, full)
 -- entries that are noted
 
 count_stays : (h : History) (e : Entry) → e.outcome ≡ outcomes_are.Noted → count (Then h e) ≡ count h
-count_stays h e is = count-then h e ∙ (ap (λ o. count h + counts_used o) is ∙ more (count h))
+count_stays h e is = count-then h e (ap is_again is) ∙ (ap (λ o. count h + counts_used o) is ∙ more (count h))
   where
     more : (n : ℕ) → n + 0 ≡ n
     more n = omega arith
@@ -144,13 +144,13 @@ follows_down k l r mine own_is losing others counts h e is legal known =
 -- a merge
 
 merged_outcome : (h : History) (e : Entry) (t : ToldValue) → e.step ≡ steps_are.Merge t → IsLegal (Then h e) → counts_used e.outcome ≡ 0
-merged_outcome h e t is legal = quiet_uses_none e.outcome (tells_quiet h e.step e.outcome (kind_of h e.step e.outcome legal.1) (ap tells is))
+merged_outcome h e t is legal = quiet_uses_none e.outcome (tells_quiet h e.step e.outcome (kind_of h e.step e.outcome (ap is_reborn is) legal.1) (ap tells is))
 
 pub follows_merge : (k l : Known) (t : ToldValue) → TakesMerge k.set k.others t l.set → l.others ≡ k.others → l.count ≡ k.count → FollowsStep k (steps_are.Merge t) l
 follows_merge k l t takes same counts h e is legal known = record {
   set = takes h e legal is known.others known.set;
   others = subst (AreOthersOf (Then h e)) (sym same) (others_merge h e t k.others is known.others);
-  count = counts ∙ (known.count ∙ (sym (more (count h)) ∙ (ap (λ n. count h + n) (sym (merged_outcome h e t is legal)) ∙ sym (count-then h e))));
+  count = counts ∙ (known.count ∙ (sym (more (count h)) ∙ (ap (λ n. count h + n) (sym (merged_outcome h e t is legal)) ∙ sym (count-then h e (kind_plain h e.step e.outcome (kind_of h e.step e.outcome (ap is_reborn is) legal.1))))));
 }
   where
     more : (n : ℕ) → n + 0 ≡ n
@@ -165,15 +165,15 @@ pub follows_own : (k l : Known) (e : Entry) (next : Dot) → is_callers e.step �
 follows_own k l e next c is takes same counts h legal known = record {
   set = takes h legal (is ∙ next_counts h k known) known.set;
   others = subst (AreOthersOf (Then h e)) (sym same) (others_callers h e k.others c known.others);
-  count = counts ∙ (ap (λ n. n + counts_used e.outcome) known.count ∙ sym (count-then h e));
+  count = counts ∙ (ap (λ n. n + counts_used e.outcome) known.count ∙ sym (count-then h e (kind_plain h e.step e.outcome (kind_of h e.step e.outcome (callers_plain e.step c) legal.1))));
 }
 
-pub count_room : (k : Known) (e : Entry) → CanFollow k e → (k.count ≤ 2 ^ 62) × (k.count + counts_used e.outcome ≤ 2 ^ 62)
-count_room k e can =
+pub count_room : (k : Known) (e : Entry) → is_callers e.step ≡ true → CanFollow k e → (k.count ≤ 2 ^ 62) × (k.count + counts_used e.outcome ≤ 2 ^ 62)
+count_room k e c can =
     let h = can.before in
     let before = count-limit h can.legal.0 in
     let after = count-limit (Then h e) can.legal in
-    (omega (arith, before, can.known.count), omega (arith, after, can.known.count, count-then h e))
+    (omega (arith, before, can.known.count), omega (arith, after, can.known.count, count-then h e (kind_plain h e.step e.outcome (kind_of h e.step e.outcome (callers_plain e.step c) can.legal.1))))
 
 -- where nothing changes
 pub stays_by : (k l : Known) → l.set ≡ k.set → OthersStay k.others l.others → l.count ≡ k.count → Stays k l
@@ -187,9 +187,10 @@ pub stays_set : (k l : Known) → l.set ≡ k.set → l.others ≡ k.others → 
 stays_set k l same others counts = stays_by k l same (λ h a. subst (AreOthersOf h) (sym others) a) counts
 
 -- the step is of the own replica alone
-pub rest_is_callers : (s : Step) → ((r : Replica) (now : ℕ) → s ≡ steps_are.Heard r now → ⊥) → ((now : ℕ) → s ≡ steps_are.Tick now → ⊥) → ((r : Replica) → s ≡ steps_are.PermDown r → ⊥) → ((t : ToldValue) → s ≡ steps_are.Merge t → ⊥) → is_callers s ≡ true
-rest_is_callers (steps_are.Heard r now) f g j k = absurd (f r now refl)
-rest_is_callers (steps_are.Tick now) f g j k = absurd (g now refl)
-rest_is_callers (steps_are.PermDown r) f g j k = absurd (j r refl)
-rest_is_callers (steps_are.Merge t) f g j k = absurd (k t refl)
-rest_is_callers _ f g j k = refl
+pub rest_is_callers : (s : Step) → ((r : Replica) (now : ℕ) → s ≡ steps_are.Heard r now → ⊥) → ((now : ℕ) → s ≡ steps_are.Tick now → ⊥) → ((r : Replica) → s ≡ steps_are.PermDown r → ⊥) → ((t : ToldValue) → s ≡ steps_are.Merge t → ⊥) → ((i : ℕ) → s ≡ steps_are.Rebirth i → ⊥) → is_callers s ≡ true
+rest_is_callers (steps_are.Heard r now) f g j k m = absurd (f r now refl)
+rest_is_callers (steps_are.Tick now) f g j k m = absurd (g now refl)
+rest_is_callers (steps_are.PermDown r) f g j k m = absurd (j r refl)
+rest_is_callers (steps_are.Merge t) f g j k m = absurd (k t refl)
+rest_is_callers (steps_are.Rebirth i) f g j k m = absurd (m i refl)
+rest_is_callers _ f g j k m = refl

@@ -22,7 +22,7 @@ use Rattle.replica_status.specs.Table.{status_of}
 use Rattle.presence_journal_data.specs.declared.entry.Outcome.TheVariants as outcomes_are
 use Rattle.presence_journal_data.specs.declared.step.Step.TheVariants as steps_are
 use Rattle.presence_journal.specs.Steps.{Entry}
-use Rattle.presence_journal.specs.History.{History, Then, own, counts_used, status, is_gone, hears, known, covered, next_dot, has_dot, first_some, row_made, row_added, live, standing, standing_after, time, time_of}
+use Rattle.presence_journal.specs.History.{History, Then, own, counts_used, status, is_gone, hears, known, covered, next_dot, has_dot, first_some, row_made, row_added, live, standing, standing_after, time, time_of, own_after}
 use Rattle.presence_journal.specs.Present.{dots_taken}
 use Rattle.presence_journal.specs.Merges.{row_taken_in}
 use Rattle.presence_journal.specs.Table.{IsLegal}
@@ -30,12 +30,13 @@ use Rattle.presence_journal.specs.Laws.{is_callers}
 use Rattle.presence_journal.proofs.Same.{same_dot-refl, same_dot-true}
 use Rattle.presence_journal.proofs.ToldLemmas.{none_told_covers, callers_tell_none}
 use Rattle.presence_journal.proofs.Merges.{merge_is_known, merge_is_live}
+use Rattle.presence_journal.specs.Walk.{is_again}
 use Rattle.presence_journal.proofs.Walking.{quiet_uses_none}
 use Rattle.presence_journal.proofs.PresentLemmas.{shown-row}
-use Rattle.presence_journal.proofs.HistoryLemmas.{IsOwnShown, is_quiet, kind_of, legal_knows, one_added, next_unknown, known_quiet, no_more, status-own, status_stays, live_by, live-next, quiet_row, quiet_taken}
+use Rattle.presence_journal.proofs.HistoryLemmas.{IsOwnShown, is_quiet, kind_of, legal_knows, one_added, next_unknown, known_quiet, no_more, status-own, status_stays, live_by, live-next, quiet_row, quiet_taken, callers_plain, kind_plain}
 use Rattle.presence_journal_sets.specs.LeftOut.{HoldsCovered}
 use Rattle.presence_journal_sets.specs.Walked.{with_made}
-use Rattle.presence_journal_sets.proofs.OwnLemmas.{known_used, is_in, is_swap, AreOut, out, out_dots, old_dot, next_dot_limits, made_within}
+use Rattle.presence_journal_sets.proofs.OwnLemmas.{rest_is_quiet, known_used, is_in, is_swap, AreOut, out, out_dots, old_dot, next_dot_limits, made_within}
 use Rattle.tracker_shard_known.specs.Known.{kept}
 use Rattle.tracker_shard_known_others.specs.Standings.{hears_at}
 use Rattle.tracker_shard_known.specs.Steps.{CanTake, Takes, TakesMerge, told_swap}
@@ -53,7 +54,7 @@ own_next h d e = ap (λ (x : Dot). x.replica) (same_dot-true d (next_dot h) e)
 -- what is covered once a count is used
 covered_used : (h : History) (e : Entry) (d : Dot) → IsLegal h → counts_used e.outcome ≡ 1 → is_callers e.step ≡ true → covered (Then h e) d ≡ (same_dot d (next_dot h) || covered h d)
 covered_used h e d l u c =
-    (λ i. known_used h e d l u (callers_tell_none e.step c) i && not (is_gone (status_stays h e d.replica c i)))
+    (λ i. known_used h e d l (callers_plain e.step c) u (callers_tell_none e.step c) i && not (is_gone (status_stays h e d.replica c i)))
     ∙ go (same_dot d (next_dot h)) refl
   where
     go : (b : Bool) → same_dot d (next_dot h) ≡ b → ((b || known h d) && not (is_gone (status h d.replica))) ≡ (b || covered h d)
@@ -61,14 +62,14 @@ covered_used h e d l u c =
     go false p = refl
 
 -- and where none is
-covered_same : (h : History) (e : Entry) (d : Dot) → IsLegal h → counts_used e.outcome ≡ 0 → is_callers e.step ≡ true → covered (Then h e) d ≡ covered h d
+covered_same : (h : History) (e : Entry) (d : Dot) → IsLegal (Then h e) → counts_used e.outcome ≡ 0 → is_callers e.step ≡ true → covered (Then h e) d ≡ covered h d
 covered_same h e d l u c =
-    λ i. (known_quiet h e d l u ∙ (ap (λ b. known h d || b) (none_told_covers h e.step d (callers_tell_none e.step c)) ∙ no_more (known h d))) i && not (is_gone (status_stays h e d.replica c i))
+    λ i. (known_quiet h e d l.0 (callers_plain e.step c) (kind_plain h e.step e.outcome (kind_of h e.step e.outcome (callers_plain e.step c) l.1)) u ∙ (ap (λ b. known h d || b) (none_told_covers h e.step d (callers_tell_none e.step c)) ∙ no_more (known h d))) i && not (is_gone (status_stays h e d.replica c i))
 
 -- what is kept after an entry of the own replica
 pub kept_by : (h : History) (e : Entry) (d : Dot) → IsLegal (Then h e) → is_callers e.step ≡ true → kept (Then h e) d ≡ first_some (row_added e.step e.outcome d) (cond (has_dot (dots_taken e.outcome) d) None (kept h d))
 kept_by h e d l c =
-    let kind = kind_of h e.step e.outcome l.1 in
+    let kind = kind_of h e.step e.outcome (callers_plain e.step c) l.1 in
     (λ i. cond (is_gone (status_stays h e d.replica c i)) None (live_by h e d (legal_knows h l.0) kind (callers_tell_none e.step c) i))
     ∙ shape (is_gone (status h d.replica)) (has_dot (dots_taken e.outcome) d) (row_added e.step e.outcome d) (live h d)
     (λ r g. not_gone_own h d (ap (λ (x : Dot). x.replica) (one_added h e d r kind g).0))
@@ -156,7 +157,7 @@ taken h e x xs s l c holds is there = record {
 
 quiet_holds : (h : History) (e : Entry) (s : DotRows) → IsLegal (Then h e) → is_quiet e.outcome ≡ true → is_callers e.step ≡ true → HoldsCovered h s → HoldsCovered (Then h e) s
 quiet_holds h e s l q c holds = record {
-  covered = λ d. holds.covered d ∙ sym (covered_same h e d l.0 (quiet_uses_none e.outcome q) c);
+  covered = λ d. holds.covered d ∙ sym (covered_same h e d l (quiet_uses_none e.outcome q) c);
   live = λ d.
       holds.live d
       ∙ ((λ j. first_some (sym (quiet_row e.step e.outcome d q) j) (cond (has_dot (sym (quiet_taken e.outcome q) j) d) None (kept h d)))
@@ -165,6 +166,16 @@ quiet_holds h e s l q c holds = record {
 
 pub takes_quiet : (e : Entry) (next : Dot) (s : DotRows) → is_callers e.step ≡ true → is_quiet e.outcome ≡ true → Takes next s e s
 takes_quiet e next s c q h l counts holds = quiet_holds h e s l q c holds
+
+-- any outcome of a caller's step but these
+pub takes_rest : (e : Entry) (next : Dot) (s : DotRows) → is_callers e.step ≡ true → ((x : Dot) → e.outcome ≡ outcomes_are.Added x → ⊥)
+    → ((x y : Dot) → e.outcome ≡ outcomes_are.Replaced x y → ⊥) → ((ds : List Dot) → e.outcome ≡ outcomes_are.Removed ds → ⊥) → Takes next s e s
+takes_rest e next s c f g k h l counts holds = takes_quiet e next s c (rest_is_quiet e.outcome f g k again) h l counts holds
+  where
+    again : (ps : List (Dot × Dot)) → e.outcome ≡ outcomes_are.Reborn ps → ⊥
+    again ps p =
+        let no : false ≡ true = sym (kind_plain h e.step e.outcome (kind_of h e.step e.outcome (callers_plain e.step c) l.1)) ∙ ap is_again p in
+        absurd (cc)
 
 pub takes_none : (e : Entry) (next : Dot) (ds : List Dot) (s : DotRows) → is_callers e.step ≡ true → e.outcome ≡ outcomes_are.Removed ds → length ds ≡ 0 → Takes next s e s
 takes_none e next [] s c is none = takes_quiet e next s c (ap is_quiet is)
@@ -268,7 +279,7 @@ unheard None k = refl
 
 pub status_merge : (h : History) (e : Entry) (t : ToldValue) (r : Replica) → e.step ≡ steps_are.Merge t → status (Then h e) r ≡ status h r
 unfolding status standing own
-status_merge h e t r is = ap (λ s. cond (same_replica r (own h)) status_is.Up (status_of (standing_after s (max (time h) (time_of s)) r (standing h r)))) is
+status_merge h e t r is = ap (λ s. cond (same_replica r (own_after s (own h))) status_is.Up (status_of (standing_after (own h) s (max (time h) (time_of s)) r (standing h r)))) is
 
 hears_gone : (h : History) (r : Replica) → hears h r ≡ true → is_gone (status h r) ≡ false
 unfolding hears

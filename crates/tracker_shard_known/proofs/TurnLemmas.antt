@@ -17,14 +17,14 @@ use Rattle.replica_status.specs.Table.{is_over, status_of, heard_at, ticked_at, 
 use Rattle.replica_status.specs.declared.standing.TheConstants.{GONE_AFTER_MS}
 use Rattle.presence_journal_data.specs.declared.step.Step.TheVariants as steps_are
 use Rattle.presence_journal.specs.Steps.{Step, Outcome, Entry}
-use Rattle.presence_journal.specs.History.{History, Then, own, known, live, row, removed, shown, status, standing, standing_after, time, time_of, is_up, is_gone, hears, has_dot, first_some, row_added}
+use Rattle.presence_journal.specs.History.{History, Then, own, known, live, row, removed, shown, status, standing, standing_after, time, time_of, is_up, is_gone, hears, has_dot, first_some, row_added, own_after}
 use Rattle.presence_journal.specs.Present.{dots_taken}
 use Rattle.presence_journal.specs.Laws.{is_callers}
 use Rattle.presence_journal.specs.Merges.{row_taken_in}
 use Rattle.presence_journal.specs.Table.{IsLegal}
 use Rattle.presence_journal.proofs.Same.{same_replica-true}
 use Rattle.presence_journal.proofs.Merges.{merge_is_live}
-use Rattle.presence_journal.proofs.HistoryLemmas.{Kind, Adds, Replaces, Removes, Quiet, IsOwnShown, kind_of, legal_knows, shown_by, shown-live, added_fresh, quiet_taken}
+use Rattle.presence_journal.proofs.HistoryLemmas.{Kind, Adds, Replaces, Removes, Quiet, IsOwnShown, kind_of, legal_knows, shown_by, shown-live, added_fresh, quiet_taken, callers_plain}
 use Rattle.presence_journal_sets.specs.LeftOut.{HoldsCovered}
 use Rattle.tracker_shard_known_others.specs.declared.others.Others.{Others}
 use Rattle.tracker_shard_known.specs.Known.{kept}
@@ -55,7 +55,7 @@ up_not_gone status_is.Gone f = absurd (cc)
 pub own_joins : (h : History) (e : Entry) (d : Dot) → IsLegal (Then h e) → is_callers e.step ≡ true → row_added e.step e.outcome d ≡ joins_at h e d
 own_joins h e d l c =
     let knows = legal_knows h l.0 in
-    let kind = kind_of h e.step e.outcome l.1 in
+    let kind = kind_of h e.step e.outcome (callers_plain e.step c) l.1 in
     go (row_added e.step e.outcome d) (has_dot (dots_taken e.outcome) d) (shown h d) (λ r. added_fresh h e d r knows kind)
     ∙ ap (came (shown h d)) (sym (shown_by h e d knows kind c))
   where
@@ -72,13 +72,13 @@ taken_own h s o d (Removes y ys p l a q) f = (all_has_dot (IsOwnShown h) (y ∷ 
 taken_own h s o d (Quiet q) f = let w : false ≡ true = sym (ap (λ x. has_dot x d) (quiet_taken o q)) ∙ f in absurd (cc)
 
 -- an own row that is shown is kept
-own_kept : (h : History) (d : Dot) → d.replica ≡ own h → kept h d ≡ shown h d
+pub own_kept : (h : History) (d : Dot) → d.replica ≡ own h → kept h d ≡ shown h d
 own_kept h d o = ap (λ b. cond b None (live h d)) (not_gone_own h d o) ∙ sym (shown-live h d o)
 
 pub own_leaves : (h : History) (e : Entry) (d : Dot) (s : DotRows) → IsLegal (Then h e) → is_callers e.step ≡ true → HoldsCovered h s → picked s.live (has_dot (dots_taken e.outcome)) d ≡ leaves_at h e d
 own_leaves h e d s l c holds =
     let knows = legal_knows h l.0 in
-    let kind = kind_of h e.step e.outcome l.1 in
+    let kind = kind_of h e.step e.outcome (callers_plain e.step c) l.1 in
     ap (λ o. cond (has_dot (dots_taken e.outcome) d) o None) (holds.live d)
     ∙ (here (has_dot (dots_taken e.outcome) d) (λ f. own_kept h d (taken_own h e.step e.outcome d kind f))
     ∙ (go (row_added e.step e.outcome d) (has_dot (dots_taken e.outcome) d) (shown h d) (λ r. added_fresh h e d r knows kind)
@@ -173,7 +173,7 @@ one_leaves h e r was now s one holds d = shift_leaves h e d s (same_replica d.re
 -- a replica that is heard is up, if it is not gone
 
 heard-then : (h : History) (e : Entry) (r : Replica) (now : ℕ) (q : Replica) → e.step ≡ steps_are.Heard r now → status (Then h e) q ≡ cond (same_replica q (own h)) status_is.Up (status_of (cond (same_replica q r) (heard_at (max (time h) now) (standing h q)) (standing h q)))
-heard-then h e r now q is = status-then h e q ∙ ap (λ s. cond (same_replica q (own h)) status_is.Up (status_of (standing_after s (max (time h) (time_of s)) q (standing h q)))) is
+heard-then h e r now q is = status-then h e q ∙ ap (λ s. cond (same_replica q (own_after s (own h))) status_is.Up (status_of (standing_after (own h) s (max (time h) (time_of s)) q (standing h q)))) is
 
 up_heard : (b : Bool) (t : ℕ) (x : Standing) → is_up (cond b status_is.Up (status_of (heard_at t x))) ≡ not (is_gone (cond b status_is.Up (status_of x)))
 up_heard true t x = refl
@@ -198,7 +198,7 @@ heard_shifts h e r now x is leaves self same = record {
 -- one that is put down is not, if it is not the own one
 
 down-then : (h : History) (e : Entry) (r q : Replica) → e.step ≡ steps_are.PermDown r → status (Then h e) q ≡ cond (same_replica q (own h)) status_is.Up (status_of (cond (same_replica q r) (put_down (standing h q)) (standing h q)))
-down-then h e r q is = status-then h e q ∙ ap (λ s. cond (same_replica q (own h)) status_is.Up (status_of (standing_after s (max (time h) (time_of s)) q (standing h q)))) is
+down-then h e r q is = status-then h e q ∙ ap (λ s. cond (same_replica q (own_after s (own h))) status_is.Up (status_of (standing_after (own h) s (max (time h) (time_of s)) q (standing h q)))) is
 
 up_down : (b : Bool) (x : Standing) → is_up (cond b status_is.Up (status_of (put_down x))) ≡ b
 up_down true x = refl
@@ -222,7 +222,7 @@ down_shifts h e r x is leaves self same = record {
 -- time
 
 tick-then : (h : History) (e : Entry) (now : ℕ) (q : Replica) → e.step ≡ steps_are.Tick now → status (Then h e) q ≡ cond (same_replica q (own h)) status_is.Up (status_of (ticked_at (max (time h) now) (standing h q)))
-tick-then h e now q is = status-then h e q ∙ ap (λ s. cond (same_replica q (own h)) status_is.Up (status_of (standing_after s (max (time h) (time_of s)) q (standing h q)))) is
+tick-then h e now q is = status-then h e q ∙ ap (λ s. cond (same_replica q (own_after s (own h))) status_is.Up (status_of (standing_after (own h) s (max (time h) (time_of s)) q (standing h q)))) is
 
 never_up : (t : ℕ) (x : Standing) → false ≡ (not (is_up (status_of x)) && is_up (status_of (ticked_at t x)))
 never_up t Unheard = refl

@@ -29,6 +29,12 @@ pub record CanFollow (k : Known) (e : Entry) : Type 0 where
   pub legal : IsLegal (Then before e)
   pub known : IsKnownOf before k
 
+-- this is known of a legal history
+pub record IsOfOne (k : Known) : Type 0 where
+  pub history : History
+  pub legal : IsLegal history
+  pub known : IsKnownOf history k
+
 -- what is known after the entry, where k was known before it
 abbrev pub Follows : Known → Entry → Known → Type 0
 Follows k e l = (h : History) → IsLegal (Then h e) → IsKnownOf h k → IsKnownOf (Then h e) l

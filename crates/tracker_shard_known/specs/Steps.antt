@@ -1,5 +1,5 @@
 -- What entries make of the set of covered dots and live rows.
-use Rattle.std.specs.Prelude.{◌≡◌, ℕ, Bool, cond, not, ◌&&◌, [], ◌∷◌, None}
+use Rattle.std.specs.Prelude.{◌≡◌, ℕ, Bool, true, cond, not, ◌&&◌, List, [], ◌∷◌, length, Option, None}
 use Rattle.std.specs.FinSet as set
 use Rattle.std.specs.FinMap as map
 use Rattle.presence_base.specs.declared.dots.Replica.{Replica}
@@ -12,9 +12,11 @@ use Rattle.replica_status.specs.declared.standing.Standing.{Standing}
 use Rattle.replica_status.specs.Table.{status_of, ticked_at}
 use Rattle.presence_journal_data.specs.declared.step.Step.TheVariants as steps_are
 use Rattle.presence_journal.specs.Steps.{Entry}
-use Rattle.presence_journal.specs.History.{History, Then, next_dot, is_gone}
+use Rattle.presence_journal.specs.History.{History, Then, own, next_dot, is_gone}
 use Rattle.presence_journal.specs.Table.{IsLegal}
+use Rattle.presence_journal.specs.Walk.{is_reborn, pairs_in}
 use Rattle.presence_journal_sets.specs.LeftOut.{HoldsCovered}
+use Rattle.tracker_shard_known_turns.specs.Again.{rows_again}
 use Rattle.tracker_shard_known_others.specs.declared.others.Others.{Others}
 use Rattle.tracker_shard_known_others.specs.Standings.{AreOthersOf}
 
@@ -37,6 +39,20 @@ TakesMerge s o t u = (h : History) (e : Entry) → IsLegal (Then h e) → e.step
 -- what is told of an update: both dots are covered, and the row is under the new one
 abbrev pub told_swap : Dot → Dot → Row → ToldValue
 told_swap new old r = record { ranges = []; extras = new ∷ old ∷ []; live = (new, r) ∷ [] }
+
+-- what is told of a rebirth: the new replica's counts, with the rows of the old dots under the new ones
+abbrev pub told_again : (Dot → Option Row) → Replica → List (Dot × Dot) → ToldValue
+told_again rows r pairs = record { ranges = (r, 0, length pairs) ∷ []; extras = []; live = rows_again rows pairs }
+
+-- a rebirth of these pairs, under this replica, can follow a legal history whose set this is
+pub record CanBeReborn (s : DotRows) (r : Replica) (pairs : List (Dot × Dot)) : Type 0 where
+  pub before : History
+  pub entry : Entry
+  pub legal : IsLegal (Then before entry)
+  pub holds : HoldsCovered before s
+  pub new : r ≡ own (Then before entry)
+  pub step : is_reborn entry.step ≡ true
+  pub pairs_are : pairs ≡ pairs_in entry.outcome
 
 -- u is s without the dots and rows of the replicas that pass the test
 abbrev pub LosesReplicas : DotRows → (Replica → Bool) → DotRows → Type 0

@@ -1,28 +1,32 @@
 ghost use Rattle.std.specs.Prelude.{◌≡◌, ℕ, IfOk, OnOk, OnErr, option_copied, true};
 ghost use Rattle.presence_journal_data.specs.StepLimits.{is_heard};
-ghost use Rattle.presence_journal.specs.History.{History, Begin, begun, covered, count as counted, status, time as time_in, IsTop};
+ghost use Rattle.presence_journal.specs.History.{History, Begin, begun, own, covered, count as counted, status, time as time_in, IsTop};
 ghost use Rattle.presence_journal.specs.Laws.{is_callers};
 ghost use Rattle.orswot_core_told.specs.declared.form.Form.TheVariants.{Two};
+ghost use Rattle.presence_journal.specs.Walk.{is_reborn};
+ghost use Rattle.presence_journal.specs.Table.{can_be_reborn, pairs_for};
 ghost use Rattle.orswot_core_told.specs.Checks.{WhereItFits};
 ghost use Rattle.presence_journal_sets.specs.Full.{IsFullOf};
-ghost use Rattle.tracker_shard_known.specs.Known.{IsKnownOf, CanFollow, Follows, FollowsStep, Stays, kept, next_left, AreRowsOf};
+ghost use Rattle.tracker_shard_known.specs.Known.{IsKnownOf, IsOfOne, CanFollow, Follows, FollowsStep, Stays, kept, next_left, AreRowsOf};
 ghost use Rattle.tracker_shard_known.specs.Starts.{ListsStandings};
 ghost use Rattle.tracker_shard_known.specs.Turns.{TurnsEntry, TurnsStep};
 
+use crate::again::join_again;
 use crate::fading::{forget_faded, forget_other};
 use crate::listing::{listed_standings, read_rows};
 use crate::own::{join_heard, take_own};
 use crate::starting::{others_of, set_of};
 use orswot_core::{Form, Orswot, Told};
 use presence_base::{Dot, MAX_COUNT, Replica, Row};
-use presence_journal::{Entry, Standings, Start, Step};
-use presence_journal_sets::used_by;
+use presence_journal::{Entry, Pairs, Standings, Start, Step, own_after};
+use presence_journal_sets::{can_go_on, number_dots, reborn_pairs, used_by};
 use replica_status::Status;
 use std::alloc::{AllocError, Global};
 use std::collections::btree_map::Range;
-use tracker_shard_known_others::{Others, is_gone, is_same, is_up};
+use tracker_shard_known_others::{Others, is_gone, is_same, is_up, reborn};
 use tracker_shard_known_turns::{
-    rows_added, rows_dropped, rows_taken, turn_of_merge, turn_of_replica,
+    rows_added, rows_again, rows_dropped, rows_of_replica, rows_taken, turn_of_merge,
+    turn_of_replica,
 };
 use tracker_shard_turns::Turn;
 
@@ -151,6 +155,34 @@ impl Known {
         Ok(Standings::new(list))
     }
 
+    /// The own replica. Takes no memory.
+    pub fn own(&self) -> Replica
+        ensures { (h : History) → IsKnownOf h self.now → result ≡ own h }
+    {
+        self.others.own
+    }
+
+    /// The new dots of a rebirth under this incarnation, each with its old one: those of the own rows that are shown, in
+    /// order of dot, counted from 1. It costs the own rows.
+    pub fn pairs_of(&self, alloc: Global, incarnation: u64) -> Result<Pairs, AllocError>
+        requires { IsOfOne self.now }
+        ensures { IfOk result (λ ps. (h : History) → IsKnownOf h self.now → ps ≡ pairs_for h incarnation) }
+    {
+        let new = reborn(&self.others.own, incarnation);
+        number_dots(alloc, &new, self.set.rows_of(&self.others.own))
+    }
+
+    /// Whether the own replica can go on under this incarnation: it is above the own one and at most 2^62, and of the new
+    /// replica nothing was heard or told, nor was it put down. Takes no memory.
+    pub fn can_be_reborn(&self, incarnation: u64) -> bool
+        ensures { (h : History) → IsKnownOf h self.now → result ≡ can_be_reborn h incarnation }
+    {
+        let new = reborn(&self.others.own, incarnation);
+        let status = self.others.status(&new);
+        let has_dots = self.set.has_dots(&new);
+        can_go_on(self.others.own.incarnation, incarnation, status, has_dots)
+    }
+
     /// The greatest time that was handed in, in milliseconds. Takes no memory.
     pub fn time(&self) -> u64
         ensures { (h : History) → IsKnownOf h self.now → result ≡ time_in h }
@@ -182,6 +214,7 @@ impl Known {
             }
             Step::PermDown { replica } => self.apply_down(*replica),
             Step::Merge { told } => self.apply_merge(alloc, told),
+            Step::Rebirth { incarnation } => self.apply_reborn(alloc, *incarnation, entry),
             _ => self.apply_own(alloc, entry),
         }
     }
@@ -221,6 +254,32 @@ impl Known {
         join_heard(alloc, &mut self.set, &self.others, told)
     }
 
+    // The own replica goes on under another incarnation. What can be refused comes first; the new rows are forgotten again
+    // where the old replica can't be put down.
+    fn apply_reborn(
+        &mut self,
+        alloc: Global,
+        incarnation: u64,
+        entry: &Entry,
+    ) -> Result<(), AllocError>
+        requires follows { CanFollow self.old entry.now }
+        requires step { entry.now.step ≡ Step.Rebirth incarnation }
+        ensures ok { OnOk result (Follows self.old entry.now self.new) }
+        ensures err { OnErr result (Stays self.old self.new) }
+    {
+        let pairs = reborn_pairs(&entry.outcome);
+        let old = self.others.own;
+        let new = own_after(&entry.step, old);
+        join_again(alloc, &mut self.set, new, pairs)?;
+        if let Err(fault) = self.others.reborn(incarnation) {
+            self.set.forget(&new);
+            return Err(fault);
+        }
+        self.set.forget(&old);
+        self.count = pairs.len() as u64;
+        Ok(())
+    }
+
     // A step of the own replica alone.
     fn apply_own(&mut self, alloc: Global, entry: &Entry) -> Result<(), AllocError>
         requires follows { CanFollow self.old entry.now }
@@ -249,6 +308,7 @@ impl Known {
             Step::Tick { now } => self.turn_of_tick(alloc, *now),
             Step::PermDown { replica } => self.turn_of_down(alloc, replica),
             Step::Merge { told } => self.turn_of_told(alloc, told),
+            Step::Rebirth { .. } => self.turn_of_reborn(alloc, entry),
             _ => self.turn_of_own(alloc, entry),
         }
     }
@@ -296,6 +356,17 @@ impl Known {
     {
         let joins = rows_added(alloc, entry)?;
         let leaves = rows_taken(alloc, &self.set, &entry.outcome)?;
+        Ok(Turn { joins, leaves })
+    }
+
+    // The own replica goes on under another incarnation: the rows of the old one leave, and join under the new dots.
+    fn turn_of_reborn(&self, alloc: Global, entry: &Entry) -> Result<Turn, AllocError>
+        requires { is_reborn entry.now.step ≡ true }
+        ensures { IfOk result (TurnsEntry self.now entry.now) }
+    {
+        let pairs = reborn_pairs(&entry.outcome);
+        let joins = rows_again(alloc, &self.set, pairs)?;
+        let leaves = rows_of_replica(alloc, &self.set, &self.others.own)?;
         Ok(Turn { joins, leaves })
     }
 }

@@ -6,6 +6,7 @@
 //! `ListsStandings`.
 #![tactic(auto)]
 
+mod again;
 mod fading;
 mod known;
 mod listing;

@@ -12,13 +12,16 @@ use Rattle.replica_status.specs.declared.status.Status.TheVariants as status_is
 use Rattle.replica_status.specs.Table.{status_of, heard_at, ticked_at, put_down}
 use Rattle.presence_journal_data.specs.declared.step.Step.TheVariants as steps_are
 use Rattle.presence_journal.specs.Steps.{Step, Entry}
-use Rattle.presence_journal.specs.History.{History, Then, begun, own, time, time_of, standing, standing_after, status, is_gone, hears}
+use Rattle.presence_journal.specs.History.{History, Then, begun, own, reborn, time, time_of, standing, standing_after, status, is_gone, hears}
 use Rattle.presence_journal.specs.Laws.{is_callers}
 use Rattle.orswot_core_told.specs.Telling.{ToldValue}
 use Rattle.presence_journal.proofs.Same.{same_replica-true, same_replica-refl}
-use Rattle.presence_journal.proofs.HistoryLemmas.{own-then}
+use Rattle.presence_journal.specs.Walk.{is_reborn}
+use Rattle.presence_journal.specs.Table.{is_unheard}
+use Rattle.presence_journal.proofs.Reborn.{IsAgain, again_of}
+use Rattle.presence_journal.proofs.HistoryLemmas.{own-then, own_again, callers_plain}
 use Rattle.tracker_shard_known_others.specs.declared.others.Others.{Others}
-use Rattle.tracker_shard_known_others.specs.Standings.{StandingMap, standing_at, Puts, status_at, hears_at, AreOthersOf, OthersFollow, OthersStay}
+use Rattle.tracker_shard_known_others.specs.Standings.{StandingMap, standing_at, Puts, status_at, hears_at, AreOthersOf, OthersFollow, OthersStay, OthersReborn}
 
 -- statuses
 
@@ -40,7 +43,7 @@ time-then : (h : History) (e : Entry) → time (Then h e) ≡ max (time h) (time
 unfolding time
 time-then h e = refl
 
-standing-then : (h : History) (e : Entry) (r : Replica) → standing (Then h e) r ≡ standing_after e.step (max (time h) (time_of e.step)) r (standing h r)
+standing-then : (h : History) (e : Entry) (r : Replica) → standing (Then h e) r ≡ standing_after (own h) e.step (max (time h) (time_of e.step)) r (standing h r)
 unfolding standing
 standing-then h e r = refl
 
@@ -55,21 +58,21 @@ same_flip r q = by (same_replica r q) (same_replica q r) (λ f. ap (λ x. same_r
     by false false f g = refl
 
 -- after a step that makes f of the standing of a replica that is not the own one
-pub others_put : (h : History) (e : Entry) (f : Standing → Standing) (r : Replica) (o p : Others) → same_replica r o.own ≡ false → p.own ≡ o.own → p.time ≡ max o.time (time_of e.step) → Puts o.standings p.standings r (f (standing_at o.standings r))
+pub others_put : (h : History) (e : Entry) (f : Standing → Standing) (r : Replica) (o p : Others) → is_reborn e.step ≡ false → same_replica r o.own ≡ false → p.own ≡ o.own → p.time ≡ max o.time (time_of e.step) → Puts o.standings p.standings r (f (standing_at o.standings r))
     → ((q : Replica) → standing (Then h e) q ≡ cond (same_replica q r) (f (standing h q)) (standing h q)) → AreOthersOf h o → AreOthersOf (Then h e) p
-others_put h e f r o p other mine later puts step a = record {
-  own = mine ∙ (a.own ∙ sym (own-then h e));
+others_put h e f r o p n other mine later puts step a = record {
+  own = mine ∙ (a.own ∙ sym (own-then h e n));
   time = later ∙ (ap (λ n. max n (time_of e.step)) a.time ∙ sym (time-then h e));
   standing = λ q none.
       puts q
       ∙ (ap (λ b. cond b (f (standing_at o.standings r)) (standing_at o.standings q)) (same_flip r q)
       ∙ (at q (same_replica q r) refl
-      ∙ ((λ i. cond (same_replica q r) (f (a.standing q (ap (same_replica q) (sym (own-then h e)) ∙ none) i)) (a.standing q (ap (same_replica q) (sym (own-then h e)) ∙ none) i))
+      ∙ ((λ i. cond (same_replica q r) (f (a.standing q (ap (same_replica q) (sym (own-then h e n)) ∙ none) i)) (a.standing q (ap (same_replica q) (sym (own-then h e n)) ∙ none) i))
       ∙ sym (step q))));
   none_own = λ q same.
       puts q
-      ∙ (ap (λ b. cond b (f (standing_at o.standings r)) (standing_at o.standings q)) (apart q (ap (same_replica q) (sym (own-then h e)) ∙ same) (same_replica r q) refl)
-      ∙ a.none_own q (ap (same_replica q) (sym (own-then h e)) ∙ same));
+      ∙ (ap (λ b. cond b (f (standing_at o.standings r)) (standing_at o.standings q)) (apart q (ap (same_replica q) (sym (own-then h e n)) ∙ same) (same_replica r q) refl)
+      ∙ a.none_own q (ap (same_replica q) (sym (own-then h e n)) ∙ same));
 }
   where
     at : (q : Replica) (b : Bool) → same_replica q r ≡ b → cond b (f (standing_at o.standings r)) (standing_at o.standings q) ≡ cond b (f (standing_at o.standings q)) (standing_at o.standings q)
@@ -83,13 +86,13 @@ others_put h e f r o p other mine later puts step a = record {
         absurd (cc)
 
 -- after a step that leaves the standings of the others
-pub others_pass : (h : History) (e : Entry) (o p : Others) → p.own ≡ o.own → p.time ≡ max o.time (time_of e.step) → ((q : Replica) → standing_at p.standings q ≡ standing_at o.standings q)
+pub others_pass : (h : History) (e : Entry) (o p : Others) → is_reborn e.step ≡ false → p.own ≡ o.own → p.time ≡ max o.time (time_of e.step) → ((q : Replica) → standing_at p.standings q ≡ standing_at o.standings q)
     → ((q : Replica) → same_replica q (own h) ≡ false → standing (Then h e) q ≡ standing h q) → AreOthersOf h o → AreOthersOf (Then h e) p
-others_pass h e o p mine later same step a = record {
-  own = mine ∙ (a.own ∙ sym (own-then h e));
+others_pass h e o p n mine later same step a = record {
+  own = mine ∙ (a.own ∙ sym (own-then h e n));
   time = later ∙ (ap (λ n. max n (time_of e.step)) a.time ∙ sym (time-then h e));
-  standing = λ q none. let other = ap (same_replica q) (sym (own-then h e)) ∙ none in same q ∙ (a.standing q other ∙ sym (step q other));
-  none_own = λ q own_is. same q ∙ a.none_own q (ap (same_replica q) (sym (own-then h e)) ∙ own_is);
+  standing = λ q none. let other = ap (same_replica q) (sym (own-then h e n)) ∙ none in same q ∙ (a.standing q other ∙ sym (step q other));
+  none_own = λ q own_is. same q ∙ a.none_own q (ap (same_replica q) (sym (own-then h e n)) ∙ own_is);
 }
 
 -- one replica is the own one, and another is not
@@ -102,22 +105,22 @@ apart_from_own h r q own_is other true same =
 -- hearing
 
 heard-step : (h : History) (e : Entry) (r : Replica) (now : ℕ) (q : Replica) → e.step ≡ steps_are.Heard r now → standing (Then h e) q ≡ cond (same_replica q r) (heard_at (max (time h) now) (standing h q)) (standing h q)
-heard-step h e r now q is = standing-then h e q ∙ ap (λ s. standing_after s (max (time h) (time_of s)) q (standing h q)) is
+heard-step h e r now q is = standing-then h e q ∙ ap (λ s. standing_after (own h) s (max (time h) (time_of s)) q (standing h q)) is
 
 pub heard_other : (r : Replica) (now : ℕ) (o p : Others) → same_replica r o.own ≡ false → p.own ≡ o.own → p.time ≡ max o.time now → Puts o.standings p.standings r (heard_at (max o.time now) (standing_at o.standings r)) → OthersFollow o (steps_are.Heard r now) p
 heard_other r now o p other mine later puts h e is a =
-    others_put h e (heard_at (max o.time now)) r o p other mine (later ∙ ap (λ s. max o.time (time_of s)) (sym is)) puts
+    others_put h e (heard_at (max o.time now)) r o p (ap is_reborn is) other mine (later ∙ ap (λ s. max o.time (time_of s)) (sym is)) puts
     (λ q. heard-step h e r now q is ∙ ap (λ n. cond (same_replica q r) (heard_at (max n now) (standing h q)) (standing h q)) (sym a.time)) a
 
 pub heard_own : (r : Replica) (now : ℕ) (o p : Others) → same_replica r o.own ≡ true → p.own ≡ o.own → p.time ≡ max o.time now → p.standings ≡ o.standings → OthersFollow o (steps_are.Heard r now) p
 heard_own r now o p own_is mine later same h e is a =
-    others_pass h e o p mine (later ∙ ap (λ s. max o.time (time_of s)) (sym is)) (λ q. ap (λ m. standing_at m q) same)
+    others_pass h e o p (ap is_reborn is) mine (later ∙ ap (λ s. max o.time (time_of s)) (sym is)) (λ q. ap (λ m. standing_at m q) same)
     (λ q other. heard-step h e r now q is ∙ ap (λ b. cond b (heard_at (max (time h) now) (standing h q)) (standing h q)) (apart_from_own h r q (ap (same_replica r) (sym a.own) ∙ own_is) other (same_replica q r) refl)) a
 
 -- putting down
 
 down-step : (h : History) (e : Entry) (r q : Replica) → e.step ≡ steps_are.PermDown r → standing (Then h e) q ≡ cond (same_replica q r) (put_down (standing h q)) (standing h q)
-down-step h e r q is = standing-then h e q ∙ ap (λ s. standing_after s (max (time h) (time_of s)) q (standing h q)) is
+down-step h e r q is = standing-then h e q ∙ ap (λ s. standing_after (own h) s (max (time h) (time_of s)) q (standing h q)) is
 
 none_later : (n : ℕ) → max n 0 ≡ n
 none_later n = omega arith
@@ -130,19 +133,19 @@ put_down-is Gone = refl
 
 pub down_other : (r : Replica) (o p : Others) → same_replica r o.own ≡ false → p.own ≡ o.own → p.time ≡ o.time → Puts o.standings p.standings r Gone → OthersFollow o (steps_are.PermDown r) p
 down_other r o p other mine same puts h e is a =
-    others_put h e put_down r o p other mine (same ∙ (sym (none_later o.time) ∙ ap (λ s. max o.time (time_of s)) (sym is)))
+    others_put h e put_down r o p (ap is_reborn is) other mine (same ∙ (sym (none_later o.time) ∙ ap (λ s. max o.time (time_of s)) (sym is)))
     (λ q. puts q ∙ ap (λ x. cond (same_replica r q) x (standing_at o.standings q)) (sym (put_down-is (standing_at o.standings r))))
     (λ q. down-step h e r q is) a
 
 pub down_own : (r : Replica) (o : Others) → same_replica r o.own ≡ true → OthersFollow o (steps_are.PermDown r) o
 down_own r o own_is h e is a =
-    others_pass h e o o refl (sym (none_later o.time) ∙ ap (λ s. max o.time (time_of s)) (sym is)) (λ q. refl)
+    others_pass h e o o (ap is_reborn is) refl (sym (none_later o.time) ∙ ap (λ s. max o.time (time_of s)) (sym is)) (λ q. refl)
     (λ q other. down-step h e r q is ∙ ap (λ b. cond b (put_down (standing h q)) (standing h q)) (apart_from_own h r q (ap (same_replica r) (sym a.own) ∙ own_is) other (same_replica q r) refl)) a
 
 -- time
 
 tick-step : (h : History) (e : Entry) (now : ℕ) (q : Replica) → e.step ≡ steps_are.Tick now → standing (Then h e) q ≡ ticked_at (max (time h) now) (standing h q)
-tick-step h e now q is = standing-then h e q ∙ ap (λ s. standing_after s (max (time h) (time_of s)) q (standing h q)) is
+tick-step h e now q is = standing-then h e q ∙ ap (λ s. standing_after (own h) s (max (time h) (time_of s)) q (standing h q)) is
 
 ticked_or_unheard : (t : ℕ) (o : Option Standing) → unwrap_or (option_map (ticked_at t) o) Unheard ≡ ticked_at t (unwrap_or o Unheard)
 ticked_or_unheard t None = refl
@@ -159,15 +162,15 @@ ticked_map m n t q is =
 
 pub ticked : (now : ℕ) (o p : Others) → p.own ≡ o.own → p.time ≡ max o.time now → p.standings.entries ≡ each_ticked (max o.time now) o.standings.entries → OthersFollow o (steps_are.Tick now) p
 ticked now o p mine later is h e step a = record {
-  own = mine ∙ (a.own ∙ sym (own-then h e));
+  own = mine ∙ (a.own ∙ sym (own-then h e (ap is_reborn step)));
   time = later ∙ ((λ i. max (a.time i) (time_of (sym step i))) ∙ sym (time-then h e));
   standing = λ q none.
       ticked_map o.standings p.standings (max o.time now) q is
-      ∙ ((λ i. ticked_at (max (a.time i) now) (a.standing q (ap (same_replica q) (sym (own-then h e)) ∙ none) i))
+      ∙ ((λ i. ticked_at (max (a.time i) now) (a.standing q (ap (same_replica q) (sym (own-then h e (ap is_reborn step))) ∙ none) i))
       ∙ sym (tick-step h e now q step));
   none_own = λ q same.
       ticked_map o.standings p.standings (max o.time now) q is
-      ∙ ap (ticked_at (max o.time now)) (a.none_own q (ap (same_replica q) (sym (own-then h e)) ∙ same));
+      ∙ ap (ticked_at (max o.time now)) (a.none_own q (ap (same_replica q) (sym (own-then h e (ap is_reborn step))) ∙ same));
 }
 
 -- the others of a new shard
@@ -190,19 +193,71 @@ others_same o p mine later same h a = record {
 
 -- an entry that neither hears a replica, nor puts one down, nor hands in a time
 
-callers_quiet : (s : Step) (t : ℕ) (r : Replica) (x : Standing) → is_callers s ≡ true → (time_of s ≡ 0) × (standing_after s t r x ≡ x)
-callers_quiet (steps_are.Heard replica now) t r x c = absurd (cc)
-callers_quiet (steps_are.Tick now) t r x c = absurd (cc)
-callers_quiet (steps_are.PermDown replica) t r x c = absurd (cc)
-callers_quiet _ t r x c = (refl, refl)
+callers_quiet : (o : Replica) (s : Step) (t : ℕ) (r : Replica) (x : Standing) → is_callers s ≡ true → (time_of s ≡ 0) × (standing_after o s t r x ≡ x)
+callers_quiet o (steps_are.Heard replica now) t r x c = absurd (cc)
+callers_quiet o (steps_are.Tick now) t r x c = absurd (cc)
+callers_quiet o (steps_are.PermDown replica) t r x c = absurd (cc)
+callers_quiet o (steps_are.Rebirth i) t r x c = absurd (cc)
+callers_quiet o _ t r x c = (refl, refl)
 
-pub others_quiet : (h : History) (e : Entry) (o : Others) → ((t : ℕ) (r : Replica) (x : Standing) → (time_of e.step ≡ 0) × (standing_after e.step t r x ≡ x)) → AreOthersOf h o → AreOthersOf (Then h e) o
-others_quiet h e o quiet a =
-    others_pass h e o o refl (sym (none_later o.time) ∙ ap (λ n. max o.time n) (sym (quiet 0 (own h) Unheard).0)) (λ q. refl)
+pub others_quiet : (h : History) (e : Entry) (o : Others) → is_reborn e.step ≡ false → ((t : ℕ) (r : Replica) (x : Standing) → (time_of e.step ≡ 0) × (standing_after (own h) e.step t r x ≡ x)) → AreOthersOf h o → AreOthersOf (Then h e) o
+others_quiet h e o n quiet a =
+    others_pass h e o o n refl (sym (none_later o.time) ∙ ap (λ n. max o.time n) (sym (quiet 0 (own h) Unheard).0)) (λ q. refl)
     (λ q other. standing-then h e q ∙ (quiet (max (time h) (time_of e.step)) q (standing h q)).1) a
 
 pub others_callers : (h : History) (e : Entry) (o : Others) → is_callers e.step ≡ true → AreOthersOf h o → AreOthersOf (Then h e) o
-others_callers h e o c a = others_quiet h e o (λ t r x. callers_quiet e.step t r x c) a
+others_callers h e o c a = others_quiet h e o (callers_plain e.step c) (λ t r x. callers_quiet (own h) e.step t r x c) a
 
 pub others_merge : (h : History) (e : Entry) (t : ToldValue) (o : Others) → e.step ≡ steps_are.Merge t → AreOthersOf h o → AreOthersOf (Then h e) o
-others_merge h e t o is a = others_quiet h e o (λ n r x. (ap time_of is, ap (λ s. standing_after s n r x) is)) a
+others_merge h e t o is a = others_quiet h e o (ap is_reborn is) (λ n r x. (ap time_of is, ap (λ s. standing_after (own h) s n r x) is)) a
+
+abbrev incarnation_of : Step → ℕ
+incarnation_of (steps_are.Rebirth i) = i
+incarnation_of _ = 0
+
+-- a rebirth: the old one is put down, and the new one, which was never heard, is the own one
+
+status_is_of : (h : History) (q : Replica) → same_replica q (own h) ≡ false → status h q ≡ status_of (standing h q)
+unfolding status
+status_is_of h q f = ap (λ b. cond b status_is.Up (status_of (standing h q))) f
+
+only_unheard : (x : Standing) → is_unheard (status_of x) ≡ true → x ≡ Unheard
+only_unheard Unheard e = refl
+only_unheard (Up t) e = absurd (cc)
+only_unheard (Down t) e = absurd (cc)
+only_unheard Gone e = absurd (cc)
+
+pub others_reborn : (i : ℕ) (o p : Others) → p.own ≡ reborn o.own i → p.time ≡ o.time → Puts o.standings p.standings o.own Gone → OthersReborn o i p
+others_reborn i o p mine later puts h e l is a = record {
+  own = mine ∙ ((λ j. reborn (a.own j) i) ∙ sym (own_again h e w ∙ ap (reborn (own h)) same));
+  time = later ∙ (a.time ∙ (sym (none_later (time h)) ∙ (ap (λ s. max (time h) (time_of s)) (sym is) ∙ sym (time-then h e))));
+  standing = λ q none.
+      puts q
+      ∙ (ap (λ b. cond b Gone (standing_at o.standings q)) (same_flip o.own q ∙ ap (same_replica q) a.own)
+      ∙ (at q (same_replica q (own h)) refl
+      ∙ sym (standing-then h e q ∙ ap (λ s. standing_after (own h) s (max (time h) (time_of s)) q (standing h q)) is)));
+  none_own = λ q own_is.
+      let new : q ≡ reborn (own h) w.incarnation = same_replica-true q (own (Then h e)) own_is ∙ own_again h e w in
+      puts q
+      ∙ (ap (λ b. cond b Gone (standing_at o.standings q)) (same_flip o.own q ∙ ap (same_replica q) a.own)
+      ∙ fresh q new (same_replica q (own h)) refl);
+}
+  where
+    w : IsAgain h e.step e.outcome
+    w = again_of h e.step e.outcome (ap is_reborn is) l.1
+
+    same : w.incarnation ≡ i
+    same = ap incarnation_of (sym w.step ∙ is)
+
+    at : (q : Replica) (b : Bool) → same_replica q (own h) ≡ b → cond b Gone (standing_at o.standings q) ≡ cond b (put_down (standing h q)) (standing h q)
+    at q true f = sym (put_down-is (standing h q))
+    at q false f = a.standing q f
+
+    fresh : (q : Replica) → q ≡ reborn (own h) w.incarnation → (b : Bool) → same_replica q (own h) ≡ b → cond b Gone (standing_at o.standings q) ≡ Unheard
+    fresh q new true f =
+        let n : (own h).incarnation ≡ w.incarnation = ap (λ (x : Replica). x.incarnation) (sym (same_replica-true q (own h) f) ∙ new) in
+        absurd (omega (arith, n, w.above))
+    fresh q new false f =
+        only_unheard (standing_at o.standings q)
+        (ap (λ x. is_unheard (status_of x)) (a.standing q f)
+        ∙ (ap is_unheard (sym (status_is_of h q f)) ∙ (ap (λ x. is_unheard (status h x)) new ∙ w.unheard)))

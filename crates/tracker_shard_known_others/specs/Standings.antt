@@ -1,5 +1,5 @@
 -- The standings of the other replicas, by a history.
-use Rattle.std.specs.Prelude.{◌≡◌, Bool, true, false, cond, not, ◌&&◌}
+use Rattle.std.specs.Prelude.{◌≡◌, ℕ, Bool, true, false, cond, not, ◌&&◌}
 use Rattle.std.specs.Option.{unwrap_or}
 use Rattle.std.specs.BTreeMap.{BTreeMap, get}
 use Rattle.presence_base.specs.declared.dots.Replica.{Replica}
@@ -9,6 +9,8 @@ use Rattle.replica_status.specs.declared.standing.Standing.TheVariants.{Unheard}
 use Rattle.replica_status.specs.declared.status.Status.{Status}
 use Rattle.replica_status.specs.declared.status.Status.TheVariants as status_is
 use Rattle.replica_status.specs.Table.{status_of}
+use Rattle.presence_journal_data.specs.declared.step.Step.TheVariants as steps_are
+use Rattle.presence_journal.specs.Table.{IsLegal}
 use Rattle.presence_journal.specs.Steps.{Step, Entry}
 use Rattle.presence_journal.specs.History.{History, Then, own, time, standing, is_gone}
 use Rattle.tracker_shard_known_others.specs.declared.others.Others.{Others}
@@ -42,6 +44,11 @@ pub record AreOthersOf (h : History) (o : Others) : Type 0 where
 -- what p holds of after any entry of the step, where o held before it
 abbrev pub OthersFollow : Others → Step → Others → Type 0
 OthersFollow o s p = (h : History) (e : Entry) → e.step ≡ s → AreOthersOf h o → AreOthersOf (Then h e) p
+
+-- what p holds of after a rebirth under this incarnation
+abbrev pub OthersReborn : Others → ℕ → Others → Type 0
+OthersReborn o i p = (h : History) (e : Entry) → IsLegal (Then h e) → e.step ≡ steps_are.Rebirth i → AreOthersOf h o
+    → AreOthersOf (Then h e) p
 
 abbrev pub OthersStay : Others → Others → Type 0
 OthersStay o p = (h : History) → AreOthersOf h o → AreOthersOf h p

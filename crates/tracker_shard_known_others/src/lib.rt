@@ -5,4 +5,4 @@
 
 mod others;
 
-pub use others::{Others, is_gone, is_same, is_up};
+pub use others::{Others, is_gone, is_same, is_up, reborn};

@@ -3,8 +3,8 @@ ghost use Rattle.std.specs.Prelude.{◌≡◌, true, map, OnOk, OnErr};
 ghost use Rattle.presence_base.specs.declared.dots.Replica.{Replica as ReplicaValue};
 ghost use Rattle.presence_base.specs.Order.{same_replica};
 ghost use Rattle.replica_status.specs.Table.{ticked_at};
-ghost use Rattle.presence_journal.specs.History.{begun, is_gone as is_gone_status, is_up as is_up_status};
-ghost use Rattle.tracker_shard_known_others.specs.Standings.{standing_at, Puts, status_at, hears_at, AreOthersOf, OthersFollow, OthersStay};
+ghost use Rattle.presence_journal.specs.History.{begun, reborn, is_gone as is_gone_status, is_up as is_up_status};
+ghost use Rattle.tracker_shard_known_others.specs.Standings.{standing_at, Puts, status_at, hears_at, AreOthersOf, OthersFollow, OthersStay, OthersReborn};
 
 use presence_base::Replica;
 use presence_journal::Step;
@@ -87,6 +87,16 @@ fn tick_all(standings: &mut BTreeMap<Replica, Standing>, time: u64)
     );
 }
 
+/// The replica under another incarnation.
+pub fn reborn(own: &Replica, incarnation: u64) -> Replica
+    ensures { result ≡ reborn own.now incarnation }
+{
+    Replica {
+        name: own.name,
+        incarnation,
+    }
+}
+
 impl Others {
     /// Those of a new shard, which has heard of none.
     pub fn new(alloc: Global, own: Replica) -> Others
@@ -139,6 +149,17 @@ impl Others {
         let time = self.time.max(now);
         tick_all(&mut self.standings, time);
         self.time = time;
+    }
+
+    /// The own replica goes on under another incarnation: the old one is put down.
+    pub fn reborn(&mut self, incarnation: u64) -> Result<(), AllocError>
+        ensures ok { OnOk result (OthersReborn self.old incarnation self.new) }
+        ensures err { OnErr result (OthersStay self.old self.new) }
+    {
+        let next = reborn(&self.own, incarnation);
+        put(&mut self.standings, self.own, Standing::Gone)?;
+        self.own = next;
+        Ok(())
     }
 
     /// A replica is gone for good.

@@ -1,2 +1,3 @@
 pub mod GatherLemmas
 pub mod MergeLemmas
+pub mod AgainLemmas

@@ -35,7 +35,11 @@ picked source test d = cond (test d) (map.get source d) None
 abbrev pub IsPick : LiveRows → (Dot → Bool) → List (Dot × Row) → Type 0
 IsPick source test xs = IsListOf (picked source test) xs
 
--- the dots of a replica, or none
+-- the dots of a replica
+abbrev pub of_replica : Replica → Dot → Bool
+of_replica r d = same_replica d.replica r
+
+-- the same, or none
 abbrev pub of_replica_if : Replica → Bool → Dot → Bool
 of_replica_if r b d = same_replica d.replica r && b
 

@@ -2,7 +2,7 @@
 ghost use Rattle.std.specs.Prelude.{◌≡◌, ◌&&◌, not, IfOk, OnOk};
 ghost use Rattle.presence_journal.specs.History.{row_added, has_dot};
 ghost use Rattle.presence_journal.specs.Present.{dots_taken};
-ghost use Rattle.tracker_shard_known_turns.specs.Picks.{Gathers, IsPick, of_replica_if, drops, of_dropped, made_rows};
+ghost use Rattle.tracker_shard_known_turns.specs.Picks.{Gathers, IsPick, of_replica, of_replica_if, drops, of_dropped, made_rows};
 ghost use Rattle.tracker_shard_turns.specs.Turns.{IsListOf};
 
 use crate::gather::{gather_dots, gather_replica, listed};
@@ -64,6 +64,19 @@ pub fn rows_taken(
 {
     let mut rows = BTreeMap::new(alloc);
     gather_dots(&mut rows, set, dots_taken(outcome))?;
+    listed(alloc, &rows)
+}
+
+/// The rows of a replica.
+pub fn rows_of_replica(
+    alloc: Global,
+    set: &Orswot,
+    replica: &Replica,
+) -> Result<Vec<(Dot, Row)>, AllocError>
+    ensures { IfOk result (λ v. IsPick set.now.live (of_replica replica.now) v.items) }
+{
+    let mut rows = BTreeMap::new(alloc);
+    gather_replica(&mut rows, set, replica)?;
     listed(alloc, &rows)
 }
 

@@ -1,5 +1,5 @@
 -- How what is kept goes from one history to the next.
-use Rattle.std.proofs.Common.{◌≡◌, ℕ, ◌+◌, Bool, true, false, cond, ◌&&◌, List, [], ◌∷◌, drop, Option, Some, None, refl, sym, ◌∙◌, ap, subst}
+use Rattle.std.proofs.Common.{◌≡◌, ℕ, ◌+◌, Bool, true, false, cond, ◌&&◌, List, [], ◌∷◌, drop, Option, Some, None, refl, sym, ◌∙◌, ap, subst, nat_eq}
 use Rattle.std.specs.Prelude.{◌⊎◌, Result, Ok, Err, OnErr}
 use Rattle.std.proofs.Common.{inl, inr}
 use Rattle.std.specs.List.{AllByRecursion, IsDistinct}
@@ -13,24 +13,27 @@ use Rattle.std.proofs.lemmas.Map.Keys.{IsDistinct-head, IsDistinct-tail}
 use Rattle.presence_base.specs.declared.dots.Replica.{Replica}
 use Rattle.presence_base.specs.declared.dots.Dot.{Dot}
 use Rattle.presence_base.specs.declared.row.Row.{Row}
-use Rattle.presence_base.specs.Order.{same_text, same_dot}
+use Rattle.presence_base.specs.Order.{same_text, same_dot, same_replica}
 use Rattle.presence_journal_data.specs.declared.rows.Place.{Place}
 use Rattle.presence_journal.specs.Steps.{Entry}
 use Rattle.presence_journal.specs.History.{History, Then, own, shown}
 use Rattle.presence_journal.specs.Present.{of_topic}
-use Rattle.presence_journal.specs.Walk.{keyed}
+use Rattle.presence_journal.specs.Walk.{keyed, is_reborn}
 use Rattle.presence_journal.proofs.Same.{dot_total, same_dot-true, same_dot-refl, same_dot-sym}
 use Rattle.presence_journal.proofs.HistoryLemmas.{own-then}
 use Rattle.presence_journal.proofs.PresentLemmas.{get-present, shown-row, row-stays, all_weaker}
 use Rattle.tracker_shard_shown.specs.declared.stand.Holder.{Holder}
-use Rattle.tracker_shard_shown.specs.declared.stand.Holder.TheVariants.{Room}
+use Rattle.tracker_shard_shown.specs.declared.stand.Holder.TheVariants.{Room, Session}
 use Rattle.tracker_shard_shown.specs.declared.shown.Shown.{Shown}
 use Rattle.tracker_shard_turns.specs.declared.turn.Turn.{Turn}
 use Rattle.tracker_shard_turns.specs.Turns.{came, IsListOf, IsTurn}
 use Rattle.tracker_shard_turns.proofs.Once.{distinct}
-use Rattle.tracker_shard_shown.specs.Kept.{Kept, kept_at, is_for, held_by, held, belongs, IsNothing, IsSet, IsPartlySet, AreBetween, IsBetween, IsShownOf}
+use Rattle.tracker_shard_shown.specs.Kept.{Kept, kept_at, is_for, held_by, held, belongs, IsNothing, IsSet, IsPartlySet, AreBetween, IsBetween, IsBrought, IsShownOf}
 use Rattle.tracker_shard_shown.specs.Turns.{Joins, Leaves, set_all, PutsAll, TakesAll, KeepsBetween, BringsUp, StaysBetween}
 use Rattle.tracker_shard_shown.proofs.StandLemmas.{same_text-sym}
+use Rattle.presence_journal.specs.Table.{IsLegal}
+use Rattle.presence_journal.proofs.Reborn.{IsAgain, again_of}
+use Rattle.presence_journal.proofs.AfterRebirth.{shown_of_old, none_of_new}
 
 -- the row belongs to the holder, the topic and the key
 abbrev fits : Replica → Holder → List ℕ → Place → Row → Bool
@@ -106,12 +109,12 @@ between_set g e o d r v m n is set before w t p = go (set w t p) (before w t p)
     go (inr x) y = by (belongs o d r w t p) refl x y
 
 -- what is held after the entry where a row belongs that joins
-joins_held : (g : History) (e : Entry) (o : Replica) → o ≡ own g → (d : Dot) (r : Row) → Joins g e (d, r) → (w : Holder) (t : List ℕ) (p : Place) → belongs o d r w t p ≡ true → held (Then g e) w t p ≡ Some r
-joins_held g e o mine d r shows w t p b =
+joins_held : (g : History) (e : Entry) (o : Replica) (d : Dot) (r : Row) → Joins o g e (d, r) → (w : Holder) (t : List ℕ) (p : Place) → belongs o d r w t p ≡ true → held (Then g e) w t p ≡ Some r
+joins_held g e o d r joins w t p b =
     held_is (Then g e) w t p
-    ∙ ((λ i. fitting (own-then g e i) w t p (shown (Then g e) (sym (belongs_dot o d r w t p b) i)))
-    ∙ (ap (fitting (own g) w t p) shows
-    ∙ ap (λ k. cond k (Some r) None) (ap (λ k. fits k w t p r) (sym mine) ∙ (sym (belongs_here o r w t p) ∙ (ap (λ k. belongs o k r w t p) (sym (belongs_dot o d r w t p b)) ∙ b)))))
+    ∙ ((λ i. fitting (sym joins.0 i) w t p (shown (Then g e) (sym (belongs_dot o d r w t p b) i)))
+    ∙ (ap (fitting o w t p) joins.1
+    ∙ ap (λ k. cond k (Some r) None) (sym (belongs_here o r w t p) ∙ (ap (λ k. belongs o k r w t p) (sym (belongs_dot o d r w t p b)) ∙ b))))
 
 leaves_held : (g : History) (e : Entry) (o : Replica) (d : Dot) (r : Row) → Leaves g e (d, r) → (w : Holder) (t : List ℕ) (p : Place) → belongs o d r w t p ≡ true → held (Then g e) w t p ≡ None
 leaves_held g e o d r gone w t p b =
@@ -125,8 +128,8 @@ abbrev pub SetTo : (Row → Option Row) → Replica → List (Dot × Row) → �
 SetTo v o xs i m n = (w : Holder) (t : List ℕ) (p : Place) → set_all v o (drop i xs) w t p (kept_at n w t p) ≡ set_all v o xs w t p (kept_at m w t p)
 
 -- each place is still between, and what is left is of the entry
-abbrev pub BetweenTo : (History → Entry → Dot × Row → Type 0) → Replica → List (Dot × Row) → ℕ → Kept → Kept → Type 0
-BetweenTo P o xs i m n = (g : History) (e : Entry) → o ≡ own g → AllByRecursion (P g e) xs → AreBetween g e m → AreBetween g e n × AllByRecursion (P g e) (drop i xs)
+abbrev pub BetweenTo : (History → Entry → Dot × Row → Type 0) → List (Dot × Row) → ℕ → Kept → Kept → Type 0
+BetweenTo P xs i m n = (g : History) (e : Entry) → AllByRecursion (P g e) xs → AreBetween g e m → AreBetween g e n × AllByRecursion (P g e) (drop i xs)
 
 pub set_more : (v : Row → Option Row) (o : Replica) (xs : List (Dot × Row)) (i : ℕ) (x : Dot × Row) (m k n : Kept) → drop i xs ≡ x ∷ drop (i + 1) xs → IsSet o x.0 x.1 (v x.1) k n → SetTo v o xs i m k → SetTo v o xs (i + 1) m n
 set_more v o xs i x m k n e set told w t p =
@@ -136,15 +139,15 @@ set_more v o xs i x m k n e set told w t p =
 pub wholly : (o : Replica) (d : Dot) (r : Row) (v : Option Row) (m n : Kept) → IsSet o d r v m n → IsPartlySet o d r v m n
 wholly o d r v m n set w t p = inr (set w t p)
 
-pub joins_more : (o : Replica) (xs : List (Dot × Row)) (i : ℕ) (x : Dot × Row) (m k n : Kept) → drop i xs ≡ x ∷ drop (i + 1) xs → IsPartlySet o x.0 x.1 (Some x.1) k n → BetweenTo Joins o xs i m k → BetweenTo Joins o xs (i + 1) m n
-joins_more o xs i x m k n at set told g e mine all before =
-    let so_far = told g e mine all before in
-    let rest = subst (AllByRecursion (Joins g e)) at so_far.1 in
-    (between_set g e o x.0 x.1 (Some x.1) k n (joins_held g e o mine x.0 x.1 rest.0) set so_far.0, rest.1)
+pub joins_more : (o : Replica) (xs : List (Dot × Row)) (i : ℕ) (x : Dot × Row) (m k n : Kept) → drop i xs ≡ x ∷ drop (i + 1) xs → IsPartlySet o x.0 x.1 (Some x.1) k n → BetweenTo (Joins o) xs i m k → BetweenTo (Joins o) xs (i + 1) m n
+joins_more o xs i x m k n at set told g e all before =
+    let so_far = told g e all before in
+    let rest = subst (AllByRecursion (Joins o g e)) at so_far.1 in
+    (between_set g e o x.0 x.1 (Some x.1) k n (joins_held g e o x.0 x.1 rest.0) set so_far.0, rest.1)
 
-pub leaves_more : (o : Replica) (xs : List (Dot × Row)) (i : ℕ) (x : Dot × Row) (m k n : Kept) → drop i xs ≡ x ∷ drop (i + 1) xs → IsPartlySet o x.0 x.1 None k n → BetweenTo Leaves o xs i m k → BetweenTo Leaves o xs (i + 1) m n
-leaves_more o xs i x m k n at set told g e mine all before =
-    let so_far = told g e mine all before in
+pub leaves_more : (o : Replica) (xs : List (Dot × Row)) (i : ℕ) (x : Dot × Row) (m k n : Kept) → drop i xs ≡ x ∷ drop (i + 1) xs → IsPartlySet o x.0 x.1 None k n → BetweenTo Leaves xs i m k → BetweenTo Leaves xs (i + 1) m n
+leaves_more o xs i x m k n at set told g e all before =
+    let so_far = told g e all before in
     let rest = subst (AllByRecursion (Leaves g e)) at so_far.1 in
     (between_set g e o x.0 x.1 None k n (leaves_held g e o x.0 x.1 rest.0) set so_far.0, rest.1)
 
@@ -153,8 +156,8 @@ leaves_more o xs i x m k n at set told g e mine all before =
 pub set_end : (v : Row → Option Row) (o : Replica) (xs : List (Dot × Row)) (i : ℕ) (m n : Kept) → drop i xs ≡ [] → SetTo v o xs i m n → (w : Holder) (t : List ℕ) (p : Place) → kept_at n w t p ≡ set_all v o xs w t p (kept_at m w t p)
 set_end v o xs i m n e told w t p = ap (λ ys. set_all v o ys w t p (kept_at n w t p)) (sym e) ∙ told w t p
 
-pub between_end : (P : History → Entry → Dot × Row → Type 0) (o : Replica) (xs : List (Dot × Row)) (i : ℕ) (m n : Kept) → BetweenTo P o xs i m n → KeepsBetween P o xs m n
-between_end P o xs i m n told g e mine all before = (told g e mine all before).0
+pub between_end : (P : History → Entry → Dot × Row → Type 0) (xs : List (Dot × Row)) (i : ℕ) (m n : Kept) → BetweenTo P xs i m n → KeepsBetween P xs m n
+between_end P xs i m n told g e all before = (told g e all before).0
 
 -- a whole turn
 
@@ -191,57 +194,84 @@ cond_none : (b : Bool) → cond {A = Option Row} b None None ≡ None
 cond_none true = refl
 cond_none false = refl
 
-module _ (o : Replica) (js ls : List (Dot × Row)) (once : IsDistinct same_dot (keys_of js)) (gone : IsDistinct same_dot (keys_of ls)) (w : Holder) (t : List ℕ) (p : Place) where
+module _ (o n : Replica) (js ls : List (Dot × Row)) (once : IsDistinct same_dot (keys_of js)) (gone : IsDistinct same_dot (keys_of ls)) (w : Holder) (t : List ℕ) (p : Place) where
   -- what the leaves and then the joins make of a place that is as before or as after
-  turned : (a b x : Option Row) → lookup (same_dot p.dot) js ≡ came a b → lookup (same_dot p.dot) ls ≡ came b a → ((r s : Row) → a ≡ Some r → b ≡ Some s → r ≡ s) → (x ≡ fitting o w t p a) ⊎ (x ≡ fitting o w t p b) → set_all (λ r. Some r) o js w t p (set_all (λ r. None) o ls w t p x) ≡ fitting o w t p b
-  turned None None x j l agree is = set_none (λ r. Some r) o js w t p (set_all (λ r. None) o ls w t p x) j ∙ (set_none (λ r. None) o ls w t p x l ∙ go is)
+  turned : (a b x : Option Row) → lookup (same_dot p.dot) js ≡ came a b → lookup (same_dot p.dot) ls ≡ came b a → ((r s : Row) → a ≡ Some r → b ≡ Some s → (r ≡ s) × (fits o w t p s ≡ fits n w t p s)) → (x ≡ fitting o w t p a) ⊎ (x ≡ fitting n w t p b) → set_all (λ r. Some r) n js w t p (set_all (λ r. None) o ls w t p x) ≡ fitting n w t p b
+  turned None None x j l agree is = set_none (λ r. Some r) n js w t p (set_all (λ r. None) o ls w t p x) j ∙ (set_none (λ r. None) o ls w t p x l ∙ go is)
     where
       go : (x ≡ None) ⊎ (x ≡ None) → x ≡ None
       go (inl e) = e
       go (inr e) = e
   turned None (Some s) x j l agree is =
-      set_some (λ r. Some r) o js w t p (set_all (λ r. None) o ls w t p x) s once j
-      ∙ (ap (cond (fits o w t p s) (Some s)) (set_none (λ r. None) o ls w t p x l) ∙ go is)
+      set_some (λ r. Some r) n js w t p (set_all (λ r. None) o ls w t p x) s once j
+      ∙ (ap (cond (fits n w t p s) (Some s)) (set_none (λ r. None) o ls w t p x l) ∙ go is)
     where
-      go : (x ≡ None) ⊎ (x ≡ cond (fits o w t p s) (Some s) None) → cond (fits o w t p s) (Some s) x ≡ cond (fits o w t p s) (Some s) None
-      go (inl e) = ap (cond (fits o w t p s) (Some s)) e
-      go (inr e) = ap (cond (fits o w t p s) (Some s)) e ∙ put_twice (fits o w t p s) s
+      go : (x ≡ None) ⊎ (x ≡ cond (fits n w t p s) (Some s) None) → cond (fits n w t p s) (Some s) x ≡ cond (fits n w t p s) (Some s) None
+      go (inl e) = ap (cond (fits n w t p s) (Some s)) e
+      go (inr e) = ap (cond (fits n w t p s) (Some s)) e ∙ put_twice (fits n w t p s) s
   turned (Some r) None x j l agree is =
-      set_none (λ r. Some r) o js w t p (set_all (λ r. None) o ls w t p x) j
+      set_none (λ r. Some r) n js w t p (set_all (λ r. None) o ls w t p x) j
       ∙ (set_some (λ r. None) o ls w t p x r gone l ∙ go is)
     where
       go : (x ≡ cond (fits o w t p r) (Some r) None) ⊎ (x ≡ None) → cond (fits o w t p r) None x ≡ None
       go (inl e) = ap (cond (fits o w t p r) None) e ∙ taken_out (fits o w t p r) r
       go (inr e) = ap (cond (fits o w t p r) None) e ∙ cond_none (fits o w t p r)
-  turned (Some r) (Some s) x j l agree is = set_none (λ r. Some r) o js w t p (set_all (λ r. None) o ls w t p x) j ∙ (set_none (λ r. None) o ls w t p x l ∙ go is)
+  turned (Some r) (Some s) x j l agree is = set_none (λ r. Some r) n js w t p (set_all (λ r. None) o ls w t p x) j ∙ (set_none (λ r. None) o ls w t p x l ∙ go is)
     where
-      go : (x ≡ fitting o w t p (Some r)) ⊎ (x ≡ fitting o w t p (Some s)) → x ≡ fitting o w t p (Some s)
-      go (inl e) = e ∙ ap (λ y. fitting o w t p (Some y)) (agree r s refl refl)
+      go : (x ≡ fitting o w t p (Some r)) ⊎ (x ≡ fitting n w t p (Some s)) → x ≡ fitting n w t p (Some s)
+      go (inl e) = let same = agree r s refl refl in e ∙ (ap (λ y. fitting o w t p (Some y)) same.0 ∙ ap (λ c. cond c (Some s) None) same.1)
       go (inr e) = e
 
 -- a dot has one row, whenever it is shown
 shown_agrees : (g : History) (e : Entry) (d : Dot) (r s : Row) → shown g d ≡ Some r → shown (Then g e) d ≡ Some s → r ≡ s
 shown_agrees g e d r s f h = same_Some r s (sym (row-stays g e d r (shown-row g d r f).0) ∙ (shown-row (Then g e) d s h).0)
 
+-- an own row that is shown before an entry and after it is held by the same sessions
+same_holders : (g : History) (e : Entry) → IsLegal (Then g e) → (d : Dot) (r s : Row) → shown g d ≡ Some r → shown (Then g e) d ≡ Some s → (w : Holder) (y : Row) → is_for (own g) w d y ≡ is_for (own (Then g e)) w d y
+same_holders g e l d r s f h Room y = refl
+same_holders g e l d r s f h (Session pid) y = go (is_reborn e.step) refl
+  where
+    go : (b : Bool) → is_reborn e.step ≡ b → (same_replica d.replica (own g) && nat_eq y.pid pid) ≡ (same_replica d.replica (own (Then g e)) && nat_eq y.pid pid)
+    go false n = ap (λ o. same_replica d.replica o && nat_eq y.pid pid) (sym (own-then g e n))
+    go true n = ap (λ b. b && nat_eq y.pid pid) (old (same_replica d.replica (own g)) refl ∙ sym (new (same_replica d.replica (own (Then g e))) refl))
+      where
+        again : IsAgain g e.step e.outcome
+        again = again_of g e.step e.outcome n l.1
+
+        old : (b : Bool) → same_replica d.replica (own g) ≡ b → b ≡ false
+        old false p = refl
+        old true p = let x : None ≡ Some s = sym (shown_of_old g e d again p) ∙ h in absurd (cc)
+
+        new : (b : Bool) → same_replica d.replica (own (Then g e)) ≡ b → b ≡ false
+        new false p = refl
+        new true p = let x : None ≡ Some r = sym (none_of_new g e d l.0 again p) ∙ f in absurd (cc)
+
 -- from what lies between a history and the next one to the next one
-pub brought : (g : History) (e : Entry) (turn : Turn) (x y : Shown) (k : Kept) → IsTurn g e turn → IsBetween g e x → y.own ≡ x.own → TakesAll x.own turn.leaves.items x.rows k → PutsAll x.own turn.joins.items k y.rows → IsShownOf (Then g e) y
-brought g e turn x y k is before kept takes puts =
+pub brought : (g : History) (e : Entry) (o : Replica) (turn : Turn) (x y : Shown) (k : Kept) → IsLegal (Then g e) → o ≡ own (Then g e) → y.own ≡ x.own → IsTurn g e turn → IsBetween g e x → TakesAll x.own turn.leaves.items x.rows k → PutsAll o turn.joins.items k y.rows → IsBrought g e y
+brought g e o turn x y k l mine kept is before takes puts =
     record {
-      own = kept ∙ (before.own ∙ sym (own-then g e));
+      own = kept ∙ before.own;
       rows = λ w t p.
           puts w t p
-          ∙ (ap (set_all (λ r. Some r) x.own turn.joins.items w t p) (takes w t p)
-          ∙ (turned x.own turn.joins.items turn.leaves.items (distinct same_dot (keys_of turn.joins.items) is.joins.once) (distinct same_dot (keys_of turn.leaves.items) is.leaves.once) w t p (shown g p.dot) (shown (Then g e) p.dot) (kept_at x.rows w t p) (is.joins.found p.dot) (is.leaves.found p.dot) (shown_agrees g e p.dot) (either w t p (before.rows w t p))
+          ∙ (ap (set_all (λ r. Some r) o turn.joins.items w t p) (takes w t p)
+          ∙ (turned x.own o turn.joins.items turn.leaves.items (distinct same_dot (keys_of turn.joins.items) is.joins.once) (distinct same_dot (keys_of turn.leaves.items) is.leaves.once) w t p (shown g p.dot) (shown (Then g e) p.dot) (kept_at x.rows w t p)
+          (is.joins.found p.dot) (is.leaves.found p.dot) (λ r s f h. (shown_agrees g e p.dot r s f h, same_fits w t p r s f h)) (either w t p (before.rows w t p))
           ∙ sym (later w t p)));
     }
   where
+    same_fits : (w : Holder) (t : List ℕ) (p : Place) (r s : Row) → shown g p.dot ≡ Some r → shown (Then g e) p.dot ≡ Some s → fits x.own w t p s ≡ fits o w t p s
+    same_fits w t p r s f h =
+        ap (λ q. fits q w t p s) before.own
+        ∙ (ap (λ b. b && (same_text s.topic t && same_text s.key p.key)) (same_holders g e l p.dot r s f h w s)
+        ∙ ap (λ q. fits q w t p s) (sym mine))
+
     earlier : (w : Holder) (t : List ℕ) (p : Place) → held g w t p ≡ fitting x.own w t p (shown g p.dot)
-    earlier w t p = held_is g w t p ∙ ap (λ o. fitting o w t p (shown g p.dot)) (sym before.own)
+    earlier w t p = held_is g w t p ∙ ap (λ q. fitting q w t p (shown g p.dot)) (sym before.own)
 
-    later : (w : Holder) (t : List ℕ) (p : Place) → held (Then g e) w t p ≡ fitting x.own w t p (shown (Then g e) p.dot)
-    later w t p = held_is (Then g e) w t p ∙ ap (λ o. fitting o w t p (shown (Then g e) p.dot)) (own-then g e ∙ sym before.own)
+    later : (w : Holder) (t : List ℕ) (p : Place) → held (Then g e) w t p ≡ fitting o w t p (shown (Then g e) p.dot)
+    later w t p = held_is (Then g e) w t p ∙ ap (λ q. fitting q w t p (shown (Then g e) p.dot)) (sym mine)
 
-    either : (w : Holder) (t : List ℕ) (p : Place) → (kept_at x.rows w t p ≡ held g w t p) ⊎ (kept_at x.rows w t p ≡ held (Then g e) w t p) → (kept_at x.rows w t p ≡ fitting x.own w t p (shown g p.dot)) ⊎ (kept_at x.rows w t p ≡ fitting x.own w t p (shown (Then g e) p.dot))
+    either : (w : Holder) (t : List ℕ) (p : Place) → (kept_at x.rows w t p ≡ held g w t p) ⊎ (kept_at x.rows w t p ≡ held (Then g e) w t p) → (kept_at x.rows w t p ≡ fitting x.own w t p (shown g p.dot)) ⊎ (kept_at x.rows w t p ≡ fitting o w t p (shown (Then g e) p.dot))
     either w t p (inl f) = inl (f ∙ earlier w t p)
     either w t p (inr f) = inr (f ∙ later w t p)
 
@@ -251,8 +281,8 @@ come_nothing : (b : Option Row) → came b None ≡ None
 come_nothing None = refl
 come_nothing (Some r) = refl
 
-none_agrees : (b : Option Row) (r s : Row) → None ≡ Some r → b ≡ Some s → r ≡ s
-none_agrees b r s f h = absurd (cc)
+none_agrees : (o : Replica) (w : Holder) (t : List ℕ) (p : Place) (b : Option Row) (r s : Row) → None ≡ Some r → b ≡ Some s → (r ≡ s) × (fits o w t p s ≡ fits o w t p s)
+none_agrees o w t p b r s f h = absurd (cc)
 
 none_twice : IsDistinct same_dot (keys_of {K = Dot} {X = Row} [])
 unfolding IsDistinct
@@ -265,7 +295,7 @@ shown_from g x m xs nothing puts mine is =
       rows = λ w t p.
           puts w t p
           ∙ (ap (set_all (λ r. Some r) x.own xs w t p) (nothing w t p)
-          ∙ (turned x.own xs [] (distinct same_dot (keys_of xs) is.once) none_twice w t p None (shown g p.dot) None (is.found p.dot) (sym (come_nothing (shown g p.dot))) (none_agrees (shown g p.dot)) (inl refl)
+          ∙ (turned x.own x.own xs [] (distinct same_dot (keys_of xs) is.once) none_twice w t p None (shown g p.dot) None (is.found p.dot) (sym (come_nothing (shown g p.dot))) (none_agrees x.own w t p (shown g p.dot)) (inl refl)
           ∙ sym (held_is g w t p ∙ ap (λ o. fitting o w t p (shown g p.dot)) (sym mine))));
     }
 
@@ -281,20 +311,23 @@ fits_room o t p (Some r) = go (same_text r.topic t)
 
 pub placed_from : (o : Replica) (f : Dot → Option Row) (xs : List (Dot × Row)) → IsListOf f xs → (t : List ℕ) (p : Place) → set_all (λ r. Some r) o xs Room t p None ≡ keyed p.key (of_topic t (f p.dot))
 placed_from o f xs is t p =
-    turned o xs [] (distinct same_dot (keys_of xs) is.once) none_twice Room t p None (f p.dot) None (is.found p.dot) (sym (come_nothing (f p.dot))) (none_agrees (f p.dot)) (inl refl)
+    turned o o xs [] (distinct same_dot (keys_of xs) is.once) none_twice Room t p None (f p.dot) None (is.found p.dot) (sym (come_nothing (f p.dot))) (none_agrees o Room t p (f p.dot)) (inl refl)
     ∙ fits_room o t p (f p.dot)
+
+-- the rows of the next history, under its own replica
+pub goes_on : (g : History) (e : Entry) (o : Replica) (x y : Shown) → o ≡ own (Then g e) → y.own ≡ o → y.rows ≡ x.rows → IsBrought g e x → IsShownOf (Then g e) y
+goes_on g e o x y mine own_is same b = record {
+  own = own_is ∙ mine;
+  rows = λ w t p. ap (λ m. kept_at m w t p) same ∙ b.rows w t p;
+}
+
+-- the rows of the next history lie between it and the one before
+pub at_last : (g : History) (e : Entry) (x : Shown) → IsBrought g e x → IsBetween g e x
+at_last g e x b = record { own = b.own; rows = λ w t p. inr (b.rows w t p) }
 
 -- before an entry is between it and the next history
 pub at_first : (g : History) (e : Entry) (x : Shown) → IsShownOf g x → IsBetween g e x
 at_first g e x s = record { own = s.own; rows = λ w t p. inl (s.rows w t p) }
-
--- an entry that changes nothing of what is shown
-pub unmoved : (g : History) (e : Entry) (x : Shown) → ((d : Dot) → shown (Then g e) d ≡ shown g d) → IsShownOf g x → IsShownOf (Then g e) x
-unmoved g e x same s =
-    record {
-      own = s.own ∙ sym (own-then g e);
-      rows = λ w t p. s.rows w t p ∙ (held_is g w t p ∙ ((λ i. fitting (sym (own-then g e) i) w t p (sym (same p.dot) i)) ∙ sym (held_is (Then g e) w t p)));
-    }
 
 -- each row of a turn
 
@@ -314,32 +347,32 @@ come_new : (a b : Option Row) (r : Row) → came a b ≡ Some r → a ≡ None
 come_new None b r e = refl
 come_new (Some x) b r e = absurd (cc)
 
-pub joins_all : (g : History) (e : Entry) (x : Turn) → IsTurn g e x → AllByRecursion (Joins g e) x.joins.items
-joins_all g e x is = all_weaker (λ (y : Dot × Row). lookup (same_dot y.0) x.joins.items ≡ Some y.1) (Joins g e) (λ y f. come_now (shown g y.0) (shown (Then g e) y.0) y.1 (sym (is.joins.found y.0) ∙ f)) x.joins.items (found_all x.joins.items (distinct same_dot (keys_of x.joins.items) is.joins.once))
+pub joins_all : (g : History) (e : Entry) (o : Replica) (x : Turn) → o ≡ own (Then g e) → IsTurn g e x → AllByRecursion (Joins o g e) x.joins.items
+joins_all g e o x mine is = all_weaker (λ (y : Dot × Row). lookup (same_dot y.0) x.joins.items ≡ Some y.1) (Joins o g e) (λ y f. (mine, come_now (shown g y.0) (shown (Then g e) y.0) y.1 (sym (is.joins.found y.0) ∙ f))) x.joins.items (found_all x.joins.items (distinct same_dot (keys_of x.joins.items) is.joins.once))
 
 pub leaves_all : (g : History) (e : Entry) (x : Turn) → IsTurn g e x → AllByRecursion (Leaves g e) x.leaves.items
 leaves_all g e x is = all_weaker (λ (y : Dot × Row). lookup (same_dot y.0) x.leaves.items ≡ Some y.1) (Leaves g e) (λ y f. come_new (shown (Then g e) y.0) (shown g y.0) y.1 (sym (is.leaves.found y.0) ∙ f)) x.leaves.items (found_all x.leaves.items (distinct same_dot (keys_of x.leaves.items) is.leaves.once))
 
 -- the two parts of a bring-up
 
-pub to_the_end : (turn : Turn) (x y : Shown) (k : Kept) (ls js : List (Dot × Row)) → ls ≡ turn.leaves.items → js ≡ turn.joins.items → y.own ≡ x.own → TakesAll x.own ls x.rows k → PutsAll x.own js k y.rows → BringsUp turn x y
-to_the_end turn x y k ls js l j kept takes puts g e is before =
-    brought g e turn x y k is before kept (subst (λ xs. TakesAll x.own xs x.rows k) l takes) (subst (λ xs. PutsAll x.own xs k y.rows) j puts)
+pub to_the_end : (o : Replica) (turn : Turn) (x y : Shown) (k : Kept) (ls js : List (Dot × Row)) → ls ≡ turn.leaves.items → js ≡ turn.joins.items → y.own ≡ x.own → TakesAll x.own ls x.rows k → PutsAll o js k y.rows → BringsUp o turn x y
+to_the_end o turn x y k ls js l j kept takes puts g e legal mine is before =
+    brought g e o turn x y k legal mine kept is before (subst (λ xs. TakesAll x.own xs x.rows k) l takes) (subst (λ xs. PutsAll o xs k y.rows) j puts)
 
-pub half_way : (turn : Turn) (x y : Shown) (ls : List (Dot × Row)) → ls ≡ turn.leaves.items → y.own ≡ x.own → KeepsBetween Leaves x.own ls x.rows y.rows → StaysBetween turn x y
-half_way turn x y ls l kept stays g e is before =
+pub half_way : (o : Replica) (turn : Turn) (x y : Shown) (ls : List (Dot × Row)) → ls ≡ turn.leaves.items → y.own ≡ x.own → KeepsBetween Leaves ls x.rows y.rows → StaysBetween o turn x y
+half_way o turn x y ls l kept stays g e own_is is before =
     record {
       own = kept ∙ before.own;
-      rows = stays g e before.own (subst (AllByRecursion (Leaves g e)) (sym l) (leaves_all g e turn is)) before.rows;
+      rows = stays g e (subst (AllByRecursion (Leaves g e)) (sym l) (leaves_all g e turn is)) before.rows;
     }
 
-pub further : (turn : Turn) (x y : Shown) (k : Kept) (ls js : List (Dot × Row)) → ls ≡ turn.leaves.items → js ≡ turn.joins.items → y.own ≡ x.own → KeepsBetween Leaves x.own ls x.rows k → KeepsBetween Joins x.own js k y.rows → StaysBetween turn x y
-further turn x y k ls js l j kept stays more g e is before =
+pub further : (o : Replica) (turn : Turn) (x y : Shown) (k : Kept) (ls js : List (Dot × Row)) → ls ≡ turn.leaves.items → js ≡ turn.joins.items → y.own ≡ x.own → KeepsBetween Leaves ls x.rows k → KeepsBetween (Joins o) js k y.rows → StaysBetween o turn x y
+further o turn x y k ls js l j kept stays more g e own_is is before =
     record {
       own = kept ∙ before.own;
       rows =
-          more g e before.own (subst (AllByRecursion (Joins g e)) (sym j) (joins_all g e turn is))
-          (stays g e before.own (subst (AllByRecursion (Leaves g e)) (sym l) (leaves_all g e turn is)) before.rows);
+          more g e (subst (AllByRecursion (Joins o g e)) (sym j) (joins_all g e o turn own_is is))
+          (stays g e (subst (AllByRecursion (Leaves g e)) (sym l) (leaves_all g e turn is)) before.rows);
     }
 
 -- what always holds holds of an error

@@ -66,6 +66,11 @@ pub record IsBetween (g : History) (e : Entry) (x : Shown) : Type 0 where
   pub own : x.own ≡ own g
   pub rows : AreBetween g e x.rows
 
+-- each place is as after the entry, under the own replica before it
+pub record IsBrought (g : History) (e : Entry) (x : Shown) : Type 0 where
+  pub own : x.own ≡ own g
+  pub rows : (w : Holder) (t : List ℕ) (p : Place) → kept_at x.rows w t p ≡ held (Then g e) w t p
+
 -- with one stand changed
 abbrev pub IsPut : Kept → Kept → Stand → Option Row → Type 0
 IsPut m n s v = (q : Stand) → get stand_cmp n q ≡ cond (same_stand s q) v (get stand_cmp m q)

@@ -9,17 +9,18 @@ use Rattle.presence_journal.specs.Steps.{Entry}
 use Rattle.presence_journal.specs.History.{History, Then, own, shown}
 use Rattle.tracker_shard_shown.specs.declared.stand.Holder.{Holder}
 use Rattle.tracker_shard_shown.specs.declared.shown.Shown.{Shown}
+use Rattle.presence_journal.specs.Table.{IsLegal}
 use Rattle.tracker_shard_turns.specs.declared.turn.Turn.{Turn}
 use Rattle.tracker_shard_turns.specs.Turns.{IsListOf, IsTurn}
-use Rattle.tracker_shard_shown.specs.Kept.{Kept, kept_at, belongs, AreBetween, IsBetween, IsShownOf}
+use Rattle.tracker_shard_shown.specs.Kept.{Kept, kept_at, belongs, AreBetween, IsBetween, IsShownOf, IsBrought}
 
 -- what is kept of the rows that a history shows
 abbrev pub IsOpenedWith : Replica → List (Dot × Row) → Shown → Type 0
 IsOpenedWith o xs x = (g : History) → o ≡ own g → IsListOf (shown g) xs → IsShownOf g x
 
--- one of the rows that join, and one of those that leave
-abbrev pub Joins : History → Entry → Dot × Row → Type 0
-Joins g e x = shown (Then g e) x.0 ≡ Some x.1
+-- one of the rows that join, under the own replica after the entry, and one of those that leave
+abbrev pub Joins : Replica → History → Entry → Dot × Row → Type 0
+Joins o g e x = (o ≡ own (Then g e)) × (shown (Then g e) x.0 ≡ Some x.1)
 
 abbrev pub Leaves : History → Entry → Dot × Row → Type 0
 Leaves g e x = shown (Then g e) x.0 ≡ None
@@ -42,14 +43,15 @@ abbrev pub TakesAll : Replica → List (Dot × Row) → Kept → Kept → Type 0
 TakesAll = SetsAll (λ r. None)
 
 -- what lay between a history and the next one still does, where these rows are of the entry
-abbrev pub KeepsBetween : (History → Entry → Dot × Row → Type 0) → Replica → List (Dot × Row) → Kept → Kept → Type 0
-KeepsBetween P o xs m n =
-    (g : History) (e : Entry) → o ≡ own g → AllByRecursion (P g e) xs → AreBetween g e m → AreBetween g e n
+abbrev pub KeepsBetween : (History → Entry → Dot × Row → Type 0) → List (Dot × Row) → Kept → Kept → Type 0
+KeepsBetween P xs m n = (g : History) (e : Entry) → AllByRecursion (P g e) xs → AreBetween g e m → AreBetween g e n
 
--- from anywhere between a history and the next one to the next one
-abbrev pub BringsUp : Turn → Shown → Shown → Type 0
-BringsUp turn x y = (g : History) (e : Entry) → IsTurn g e turn → IsBetween g e x → IsShownOf (Then g e) y
+-- from anywhere between a history and the next one, whose own replica this is, to the rows of the next one
+abbrev pub BringsUp : Replica → Turn → Shown → Shown → Type 0
+BringsUp o turn x y = (g : History) (e : Entry) → IsLegal (Then g e) → o ≡ own (Then g e) → IsTurn g e turn
+    → IsBetween g e x → IsBrought g e y
 
 -- and to somewhere between them
-abbrev pub StaysBetween : Turn → Shown → Shown → Type 0
-StaysBetween turn x y = (g : History) (e : Entry) → IsTurn g e turn → IsBetween g e x → IsBetween g e y
+abbrev pub StaysBetween : Replica → Turn → Shown → Shown → Type 0
+StaysBetween o turn x y = (g : History) (e : Entry) → o ≡ own (Then g e) → IsTurn g e turn → IsBetween g e x
+    → IsBetween g e y

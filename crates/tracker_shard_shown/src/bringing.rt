@@ -16,7 +16,7 @@ pub(crate) fn take_all(
     leaves: &[(Dot, Row)],
 ) -> Result<(), AllocError>
     ensures ok { OnOk result (TakesAll own.now leaves.now rows.old rows.new) }
-    ensures between { KeepsBetween Leaves own.now leaves.now rows.old rows.new }
+    ensures between { KeepsBetween Leaves leaves.now rows.old rows.new }
     ensures others { LeavesOthers leaves.now rows.old rows.new }
 {
     for leave in leaves {
@@ -32,7 +32,7 @@ pub(crate) fn put_all(
     joins: &[(Dot, Row)],
 ) -> Result<(), AllocError>
     ensures ok { OnOk result (PutsAll own.now joins.now rows.old rows.new) }
-    ensures between { KeepsBetween Joins own.now joins.now rows.old rows.new }
+    ensures between { KeepsBetween (Joins own.now) joins.now rows.old rows.new }
     ensures others { LeavesOthers joins.now rows.old rows.new }
 {
     for join in joins {

@@ -137,17 +137,18 @@ impl Shown {
         taken
     }
 
-    // Brings the places up to an entry's turn.
-    fn bring(&mut self, turn: &Turn) -> Result<(), AllocError>
-        ensures ok { OnOk result (BringsUp turn.now self.old self.new) }
-        ensures err { OnErr result (StaysBetween turn.now self.old self.new) }
+    // Brings the places up to an entry's turn. What leaves stands under the own replica before the entry, and what joins
+    // under that after it.
+    fn bring(&mut self, turn: &Turn, own: &Replica) -> Result<(), AllocError>
+        ensures ok { OnOk result (BringsUp own.now turn.now self.old self.new) }
+        ensures err { OnErr result (StaysBetween own.now turn.now self.old self.new) }
     {
         let leaves = turn.leaves.as_slice();
         let joins = turn.joins.as_slice();
         self.states.forget_all(leaves);
         self.states.forget_all(joins);
         take_all(&mut self.table.rows, &self.table.own, leaves)?;
-        put_all(&mut self.table.rows, &self.table.own, joins)
+        put_all(&mut self.table.rows, own, joins)
     }
 
     // Counts the rows of others anew, behind a change of own rows or of theirs.
@@ -157,17 +158,25 @@ impl Shown {
         self.others = others_after(is_own, self.others, before, self.table.rows.len());
     }
 
-    /// Shows what is shown after an entry. Where memory runs out each place is as before the entry or as after it, and
-    /// the same call goes on from there.
-    pub fn bring_up(&mut self, turn: &Turn) -> Result<(), AllocError>
-        ensures ok { OnOk result (BringsUp turn.now self.old self.new) }
-        ensures err { OnErr result (StaysBetween turn.now self.old self.new) }
+    /// Shows what is shown after an entry, whose turn this is, and the own replica behind it; the own replica itself stays.
+    /// Where memory runs out each place is as before the entry or as after it, and the same call goes on from there.
+    pub fn bring_up(&mut self, turn: &Turn, own: &Replica) -> Result<(), AllocError>
+        ensures ok { OnOk result (BringsUp own.now turn.now self.old self.new) }
+        ensures err { OnErr result (StaysBetween own.now turn.now self.old self.new) }
     {
         let is_own = is_of_own(&self.table.own, turn);
         let before = self.table.rows.len();
-        let brought = self.bring(turn);
+        let brought = self.bring(turn, own);
         self.count(is_own, before);
         brought
+    }
+
+    /// The own replica is this one from now on. Takes no memory, and changes no row.
+    pub fn go_on_as(&mut self, own: Replica)
+        ensures own { self.new.own ≡ own }
+        ensures rows { self.new.rows ≡ self.old.rows }
+    {
+        self.table.own = own;
     }
 
     /// The row that is present at a place of a topic.

@@ -1,8 +1,7 @@
-use Rattle.presence_journal_sets.proofs.OwnLemmas.{rest_is_quiet}
-use Rattle.tracker_shard_known.proofs.SetLemmas.{takes_quiet}
+use Rattle.tracker_shard_known.proofs.SetLemmas.{takes_rest}
 use Rattle.tracker_shard_known.proofs.own.take_own.Goals as goal
 
 pub returns-in_default-clause-ok : goal.returns-in_default-clause-ok
 returns-in_default-clause-ok c =
     let d = c.in_default in
-    takes_quiet c.args.entry.now c.args.next c.args.set.now c.requires.own (rest_is_quiet c.args.entry.now.outcome d.not-Added d.not-Replaced d.not-Removed)
+    takes_rest c.args.entry.now c.args.next c.args.set.now c.requires.own d.not-Added d.not-Replaced d.not-Removed

@@ -6,7 +6,7 @@ use Rattle.tracker_shard_shown.proofs.StateLemmas.{others_stay, others_more, oth
 use Rattle.tracker_shard_shown.proofs.bringing.put_all.Goals as goal
 
 pub loop-join-init : goal.loop-join-init
-loop-join-init c = record { set = λ w t p. refl; between = λ g e mine all before. (before, all); others = λ w t p are. (refl, are) }
+loop-join-init c = record { set = λ w t p. refl; between = λ g e all before. (before, all); others = λ w t p are. (refl, are) }
 
 pub loop-join-preserved : goal.loop-join-preserved
 loop-join-preserved c =
@@ -31,7 +31,7 @@ returns-in_err-put_row-clause-between c =
     let x = c.join-item.result in
     let new = c.put_row.new.rows in
     let at = drop_next xs l.join-index x c.loop-join-test.true c.join-item.is in
-    between_end Joins o xs (l.join-index + 1) c.args.rows.now new (joins_more o xs l.join-index x c.args.rows.now l.rows new at c.in_err-put_row.ensures.err l.invariant.between)
+    between_end (Joins o) xs (l.join-index + 1) c.args.rows.now new (joins_more o xs l.join-index x c.args.rows.now l.rows new at c.in_err-put_row.ensures.err l.invariant.between)
 
 pub returns-in_err-put_row-clause-others : goal.returns-in_err-put_row-clause-others
 returns-in_err-put_row-clause-others c =
@@ -49,7 +49,7 @@ returns-clause-ok c =
     set_end (λ r. Some r) c.args.own.now xs l.join-index c.args.rows.now l.rows (drop_of_length-le xs c.loop-join-test.false) l.invariant.set
 
 pub returns-clause-between : goal.returns-clause-between
-returns-clause-between c = between_end Joins c.args.own.now c.args.joins.now c.loop-join.join-index c.args.rows.now c.loop-join.rows c.loop-join.invariant.between
+returns-clause-between c = between_end (Joins c.args.own.now) c.args.joins.now c.loop-join.join-index c.args.rows.now c.loop-join.rows c.loop-join.invariant.between
 
 pub returns-clause-others : goal.returns-clause-others
 returns-clause-others c = others_end c.args.joins.now c.loop-join.join-index c.args.rows.now c.loop-join.rows c.loop-join.invariant.others

@@ -8,6 +8,6 @@ abbrev pub invariant-loop-join : goal.invariant-loop-join
 invariant-loop-join l =
     record {
       set : SetTo (λ r. Some r) l.own l.joins l.join-index l.fn.rows l.rows;
-      between : BetweenTo Joins l.own l.joins l.join-index l.fn.rows l.rows;
+      between : BetweenTo (Joins l.own) l.joins l.join-index l.fn.rows l.rows;
       others : OthersTo l.joins l.join-index l.fn.rows l.rows;
     }

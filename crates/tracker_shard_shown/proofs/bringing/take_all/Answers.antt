@@ -6,7 +6,7 @@ use Rattle.tracker_shard_shown.proofs.StateLemmas.{others_stay, others_more, oth
 use Rattle.tracker_shard_shown.proofs.bringing.take_all.Goals as goal
 
 pub loop-leave-init : goal.loop-leave-init
-loop-leave-init c = record { set = λ w t p. refl; between = λ g e mine all before. (before, all); others = λ w t p are. (refl, are) }
+loop-leave-init c = record { set = λ w t p. refl; between = λ g e all before. (before, all); others = λ w t p are. (refl, are) }
 
 pub loop-leave-preserved : goal.loop-leave-preserved
 loop-leave-preserved c =
@@ -31,7 +31,7 @@ returns-in_err-take_row-clause-between c =
     let x = c.leave-item.result in
     let new = c.take_row.new.rows in
     let at = drop_next xs l.leave-index x c.loop-leave-test.true c.leave-item.is in
-    between_end Leaves o xs (l.leave-index + 1) c.args.rows.now new (leaves_more o xs l.leave-index x c.args.rows.now l.rows new at c.in_err-take_row.ensures.err l.invariant.between)
+    between_end Leaves xs (l.leave-index + 1) c.args.rows.now new (leaves_more o xs l.leave-index x c.args.rows.now l.rows new at c.in_err-take_row.ensures.err l.invariant.between)
 
 pub returns-in_err-take_row-clause-others : goal.returns-in_err-take_row-clause-others
 returns-in_err-take_row-clause-others c =
@@ -49,7 +49,7 @@ returns-clause-ok c =
     set_end (λ r. None) c.args.own.now xs l.leave-index c.args.rows.now l.rows (drop_of_length-le xs c.loop-leave-test.false) l.invariant.set
 
 pub returns-clause-between : goal.returns-clause-between
-returns-clause-between c = between_end Leaves c.args.own.now c.args.leaves.now c.loop-leave.leave-index c.args.rows.now c.loop-leave.rows c.loop-leave.invariant.between
+returns-clause-between c = between_end Leaves c.args.leaves.now c.loop-leave.leave-index c.args.rows.now c.loop-leave.rows c.loop-leave.invariant.between
 
 pub returns-clause-others : goal.returns-clause-others
 returns-clause-others c = others_end c.args.leaves.now c.loop-leave.leave-index c.args.rows.now c.loop-leave.rows c.loop-leave.invariant.others

@@ -8,6 +8,6 @@ abbrev pub invariant-loop-leave : goal.invariant-loop-leave
 invariant-loop-leave l =
     record {
       set : SetTo (λ r. None) l.own l.leaves l.leave-index l.fn.rows l.rows;
-      between : BetweenTo Leaves l.own l.leaves l.leave-index l.fn.rows l.rows;
+      between : BetweenTo Leaves l.leaves l.leave-index l.fn.rows l.rows;
       others : OthersTo l.leaves l.leave-index l.fn.rows l.rows;
     }

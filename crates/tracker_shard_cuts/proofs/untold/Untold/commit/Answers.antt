@@ -4,7 +4,7 @@ use Rattle.std.specs.Ordering.{nat_cmp}
 use Rattle.presence_journal.specs.History.{has_dot}
 use Rattle.tracker_shard_cuts.specs.Changes.{is_counted}
 use Rattle.tracker_shard_cuts.proofs.FreshLemmas.{is_new}
-use Rattle.tracker_shard_cuts.proofs.UntoldLemmas.{stays, count_room, err_leaves}
+use Rattle.tracker_shard_cuts.proofs.UntoldLemmas.{stays, count_room, err_leaves, uncut_plain}
 use Rattle.tracker_shard_cuts.proofs.ChangeLemmas.{committed}
 use Rattle.tracker_shard_cuts.proofs.untold.Untold.commit.Goals as goal
 
@@ -21,7 +21,7 @@ returns-in_err-put_both-clause-err c =
     refl refl refl refl c.in_err-put_both.ensures.same_chains c.reserve.ensures.items c.in_err-put_both.ensures.same_rows refl)
 
 pub overflow_add-self : goal.overflow_add-self
-overflow_add-self c = let room = count_room c.args.self.now c.args.entry.now c.requires.follows in omega (arith, room, c.used_by.ensures)
+overflow_add-self c = let room = count_room c.args.self.now c.args.entry.now (uncut_plain c.args.entry.now.outcome c.requires.other) c.requires.follows in omega (arith, room, c.used_by.ensures)
 
 pub returns-clause-ok : goal.returns-clause-ok
 returns-clause-ok c =

@@ -1,8 +1,7 @@
-use Rattle.std.proofs.Common.{◌≡◌, Option, Some, None, sym, ◌∙◌, ap}
+use Rattle.std.proofs.Common.{Some, None, sym, ◌∙◌, ap}
 use Rattle.std.specs.Prelude.{option_copied, option_map}
 use Rattle.orswot_core_told.specs.Telling.{ToldValue}
 use Rattle.delta_range.specs.Deltas.{telling_in}
-use Rattle.delta_range.specs.Keeping.{from_count}
 use Rattle.tracker_shard_cuts.proofs.UntoldLemmas.{kept_from}
 use Rattle.tracker_shard_cuts.proofs.untold.Untold.told_from.Goals as goal
 

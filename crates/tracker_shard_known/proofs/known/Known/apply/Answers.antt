@@ -15,4 +15,4 @@ pub returns-in-Merge-clause-ok : goal.returns-in-Merge-clause-ok
 returns-in-Merge-clause-ok c = on_ok c.apply_merge.result (λ f h legal known. f h c.args.entry.now c.in-Merge.is legal known) c.apply_merge.ensures.ok
 
 pub apply_own-requires-clause-own : goal.apply_own-requires-clause-own
-apply_own-requires-clause-own c = let d = c.in_default in rest_is_callers c.args.entry.now.step d.not-Heard d.not-Tick d.not-PermDown d.not-Merge
+apply_own-requires-clause-own c = let d = c.in_default in rest_is_callers c.args.entry.now.step d.not-Heard d.not-Tick d.not-PermDown d.not-Merge d.not-Rebirth

@@ -1,4 +1,3 @@
-use Rattle.std.proofs.Common.{IfOk}
 use Rattle.std.proofs.lemmas.Result.{IfOk-weaker}
 use Rattle.orswot_core.specs.Full.{IsFullIn}
 use Rattle.orswot_core_told.specs.Checks.{WhereItFits}

@@ -15,4 +15,4 @@ pub returns-in-Merge : goal.returns-in-Merge
 returns-in-Merge c = if_ok _ _ (λ t f h legal known. f h c.args.entry.now c.in-Merge.is legal known) c.turn_of_told.result c.turn_of_told.ensures
 
 pub turn_of_own-requires : goal.turn_of_own-requires
-turn_of_own-requires c = let d = c.in_default in rest_is_callers c.args.entry.now.step d.not-Heard d.not-Tick d.not-PermDown d.not-Merge
+turn_of_own-requires c = let d = c.in_default in rest_is_callers c.args.entry.now.step d.not-Heard d.not-Tick d.not-PermDown d.not-Merge d.not-Rebirth

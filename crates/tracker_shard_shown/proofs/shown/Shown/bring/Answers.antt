@@ -10,8 +10,8 @@ returns-in_err-take_all-clause-err c =
     let x = c.self.inside.table in
     let y : Shown = record { own = x.own; rows = c.take_all.new.rows } in
     on_err_too c.from_residual.result
-    (subst (λ (s : Shown). StaysBetween c.args.turn.now s y) c.self.view_is
-    (half_way c.args.turn.now x y c.as_slice-leaves.result.now c.as_slice-leaves.ensures.value refl c.take_all.ensures.between))
+    (subst (λ (s : Shown). StaysBetween c.args.own.now c.args.turn.now s y) c.self.view_is
+    (half_way c.args.own.now c.args.turn.now x y c.as_slice-leaves.result.now c.as_slice-leaves.ensures.value refl c.take_all.ensures.between))
 
 pub returns-clause-ok : goal.returns-clause-ok
 returns-clause-ok c =
@@ -19,8 +19,8 @@ returns-clause-ok c =
     let y : Shown = record { own = x.own; rows = c.put_all.new.rows } in
     on_ok_weaker c.put_all.result
     (λ puts.
-    subst (λ (s : Shown). BringsUp c.args.turn.now s y) c.self.view_is
-    (to_the_end c.args.turn.now x y c.take_all.new.rows
+    subst (λ (s : Shown). BringsUp c.args.own.now c.args.turn.now s y) c.self.view_is
+    (to_the_end c.args.own.now c.args.turn.now x y c.take_all.new.rows
     c.as_slice-leaves.result.now c.as_slice-joins.result.now c.as_slice-leaves.ensures.value c.as_slice-joins.ensures.value refl c.in_ok-take_all.ensures.ok puts))
     c.put_all.ensures.ok
 
@@ -29,6 +29,6 @@ returns-clause-err c =
     let x = c.self.inside.table in
     let y : Shown = record { own = x.own; rows = c.put_all.new.rows } in
     on_err_too c.put_all.result
-    (subst (λ (s : Shown). StaysBetween c.args.turn.now s y) c.self.view_is
-    (further c.args.turn.now x y c.take_all.new.rows
+    (subst (λ (s : Shown). StaysBetween c.args.own.now c.args.turn.now s y) c.self.view_is
+    (further c.args.own.now c.args.turn.now x y c.take_all.new.rows
     c.as_slice-leaves.result.now c.as_slice-joins.result.now c.as_slice-leaves.ensures.value c.as_slice-joins.ensures.value refl c.take_all.ensures.between c.put_all.ensures.between))

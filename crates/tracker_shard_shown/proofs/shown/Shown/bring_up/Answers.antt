@@ -5,8 +5,8 @@ use Rattle.tracker_shard_shown.proofs.shown.Shown.bring_up.Goals as goal
 
 pub returns-clause-ok : goal.returns-clause-ok
 returns-clause-ok c =
-    subst (λ (s : Shown). OnOk c.bring-brought.result (BringsUp c.args.turn.now c.args.self.now s)) (sym c.count.ensures) c.bring-brought.ensures.ok
+    subst (λ (s : Shown). OnOk c.bring-brought.result (BringsUp c.args.own.now c.args.turn.now c.args.self.now s)) (sym c.count.ensures) c.bring-brought.ensures.ok
 
 pub returns-clause-err : goal.returns-clause-err
 returns-clause-err c =
-    subst (λ (s : Shown). OnErr c.bring-brought.result (StaysBetween c.args.turn.now c.args.self.now s)) (sym c.count.ensures) c.bring-brought.ensures.err
+    subst (λ (s : Shown). OnErr c.bring-brought.result (StaysBetween c.args.own.now c.args.turn.now c.args.self.now s)) (sym c.count.ensures) c.bring-brought.ensures.err
