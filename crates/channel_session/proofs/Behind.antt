@@ -20,13 +20,13 @@ use Rattle.presence_journal.specs.Present.{place_cmp, present, in_order, dots_of
 use Rattle.presence_journal.specs.Queue.{topic_of, topic_after}
 use Rattle.presence_journal.specs.Table.{IsLegal, is_mine, rows_of_pid, untracked, for_present, outcome_of, accepted, after, next_entry, with_outcome, is_step}
 use Rattle.presence_journal.proofs.Same.{same_text-true, same_dot-true, same_place}
-use Rattle.presence_journal.proofs.HistoryLemmas.{own-then}
+use Rattle.presence_journal.proofs.HistoryLemmas.{own-then, callers_plain}
 use Rattle.presence_journal.proofs.FoldOthers.{accepted_is, stays_legal}
 use Rattle.presence_journal.specs.Laws.{OnlyNamedLeave, is_callers}
 use Rattle.presence_journal.proofs.Topics.{topic_of-then}
-use Rattle.channel_session_rules.specs.Steps.{Stepped, Made, is_found, slot_of, refusal}
+use Rattle.channel_session_rules.specs.Steps.{Stepped, Made, is_found, slot_of, refusal, cause}
 use Rattle.channel_session_rules.specs.ShardFault.{ShardFault}
-use Rattle.channel_session_rules.specs.ShardFault.TheVariants.{AlreadyTracked, NoPresence, ClockFull, JournalFull, NoSub, OutOfMemory}
+use Rattle.channel_session_rules.specs.ShardFault.TheVariants.{AlreadyTracked, NoPresence, ClockFull, JournalFull, NoSub, BadIncarnation, OutOfMemory}
 use Rattle.channel_session_rules.specs.Sub.{Sub}
 use Rattle.channel_session_rules.specs.Asks.{Ask, Answer, Call, unsubscribe, untrack_all}
 use Rattle.channel_session_rules.specs.Asks.{Made as Chained}
@@ -35,6 +35,7 @@ use Rattle.channel_session_rules.specs.Script.{Script, done, ask, Plays}
 use Rattle.channel_session_laws.specs.Local.{LocalStep}
 use Rattle.channel_session.specs.Ending.{Played, Ended, Leaving, then_rows, ends_topic, ends_topics, left_with, then_topics, staying, ended_as, ends_cut_short}
 use Rattle.channel_session.specs.LeftBehind.{is_named, StandsOn, IsOver, LeavesNothing, EndLeavesNothing}
+use Rattle.presence_journal.specs.Walk.{is_reborn}
 
 -- ---- one step that adds no row
 
@@ -42,14 +43,14 @@ cond_some : (b : Bool) (o : Option Row) (r : Row) → cond b None o ≡ Some r �
 cond_some true o r e = absurd (cc)
 cond_some false o r e = (refl, e)
 
-module _ (h : History) (s : Step) where
+module _ (h : History) (s : Step) (lasts : is_reborn s ≡ false) where
   own_after : own (after h s None) ≡ own h
   unfolding after
   own_after = go (accepted h s)
     where
       go : (o : Option Outcome) → own (with_outcome h s None o) ≡ own h
       go None = refl
-      go (Some o) = own-then h (next_entry h s None o)
+      go (Some o) = own-then h (next_entry h s None o) lasts
 
   pub mine_after : (pid : ℕ) (x : Dot × Row) → is_mine (after h s None) pid x ≡ is_mine h pid x
   mine_after pid x = ap (λ o. same_replica x.0.replica o && nat_eq x.1.pid pid) own_after
@@ -85,7 +86,7 @@ module _ (leave : OnlyNamedLeave) (h : History) (legal : IsLegal h) (s : Step) (
           record { before = both.1; spared = λ q f. ap (λ x. has_dot (dots_taken x) p.dot) (same_some q o (sym f ∙ a)) ∙ both.0 }
 
   stands_after : (ts : List (List ℕ)) (pid : ℕ) → StandsOn ts pid h → StandsOn ts pid (after h s None)
-  stands_after ts pid on t p r e mine = on t p r (was_there t p r e).before (sym (mine_after h s pid (p.dot, r)) ∙ mine)
+  stands_after ts pid on t p r e mine = on t p r (was_there t p r e).before (sym (mine_after h s (callers_plain s callers) pid (p.dot, r)) ∙ mine)
 
 -- what holds before a step and after it holds whatever was answered
 pub either : {A : Type 0} (P : History → Type 0) (old new : History) (s : Step) (a : Result A ShardFault) → Stepped old new None s a → P old → P (after old s None) → P new
@@ -95,6 +96,7 @@ either P old new s (Err NoPresence) m p q = subst P (sym m.journal) q
 either P old new s (Err ClockFull) m p q = subst P (sym m) p
 either P old new s (Err JournalFull) m p q = subst P (sym m) p
 either P old new s (Err NoSub) m p q = subst P (sym m) p
+either P old new s (Err BadIncarnation) m p q = subst P (sym m) p
 either P old new s (Err OutOfMemory) m p q = subst P (sym m) p
 
 -- ---- the two steps of an end
@@ -178,7 +180,7 @@ module _ (leave : OnlyNamedLeave) (h new : History) (legal : IsLegal h) (pid : �
       there : StandsOn ts pid (after h (steps_are.UntrackAll pid t) None)
       there u p r e mine =
           let was = was_there leave h legal (steps_are.UntrackAll pid t) refl (untrack_adds h pid t) u p r e in
-          let owned : is_mine h pid (p.dot, r) ≡ true = sym (mine_after h (steps_are.UntrackAll pid t) pid (p.dot, r)) ∙ mine in
+          let owned : is_mine h pid (p.dot, r) ≡ true = sym (mine_after h (steps_are.UntrackAll pid t) refl pid (p.dot, r)) ∙ mine in
           let spared = was.spared (outcomes_are.Removed (dots_of (rows_of_pid h pid t))) (is_accepted (accepted h (steps_are.UntrackAll pid t)) refl made.accepted) in
           go (same_text u t) refl was.before owned spared (on u p r was.before owned)
         where
@@ -242,10 +244,14 @@ pub unknown_is_over : (found : Bool) (h : History) (s : Step) → refusal found 
 unknown_is_over false h s e = refl
 unknown_is_over true h s e = absurd (full (is_full h) (is_some (outcome_of h s)) e)
   where
-    full : (a b : Bool) → cond a (Some JournalFull) (cond b None (Some ClockFull)) ≡ Some NoSub → ⊥
+    another : (s : Step) → Some (cause s) ≡ Some NoSub → ⊥
+    another (steps_are.Rebirth incarnation) f = cc
+    another _ f = cc
+
+    full : (a b : Bool) → cond a (Some JournalFull) (cond b None (Some (cause s))) ≡ Some NoSub → ⊥
     full true b f = cc
     full false true f = cc
-    full false false f = cc
+    full false false f = another s f
 
 -- ---- the calls of an end
 
@@ -340,6 +346,7 @@ topic_ended leave pid t sub next old new e legal p =
     go mid (Err NoPresence) k r = stays mid NoPresence k r
     go mid (Err ClockFull) k r = stays mid ClockFull k r
     go mid (Err JournalFull) k r = stays mid JournalFull k r
+    go mid (Err BadIncarnation) k r = stays mid BadIncarnation k r
     go mid (Err OutOfMemory) k r = stays mid OutOfMemory k r
 
 -- ---- all topics

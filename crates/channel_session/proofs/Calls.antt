@@ -18,10 +18,12 @@ use Rattle.presence_journal.proofs.Same.{same_text-true, same_text-refl}
 use Rattle.presence_journal.proofs.FoldOthers.{others_stay, stays_legal}
 use Rattle.channel_session_rules.specs.Steps.{Stepped, Made, Answers}
 use Rattle.channel_session_rules.specs.ShardFault.{ShardFault}
-use Rattle.channel_session_rules.specs.ShardFault.TheVariants.{AlreadyTracked, NoPresence, ClockFull, JournalFull, NoSub, OutOfMemory}
+use Rattle.channel_session_rules.specs.ShardFault.TheVariants.{AlreadyTracked, NoPresence, ClockFull, JournalFull, NoSub, BadIncarnation, OutOfMemory}
 use Rattle.channel_session_rules.specs.Asks.{Ask, Answer, track, update, untrack, untrack_all, list, get, subscribe, take, unsubscribe, waits, shout}
 use Rattle.channel_session_laws.specs.Local.{LocalStep, IsNew}
 use Rattle.channel_session.proofs.Behind.{AddsNone, was_there, mine_after, mine_is_named, is_accepted, either, untracked_is, untrack_adds, unsubscribe_adds, same_some, no_row, or_true}
+use Rattle.presence_journal.proofs.HistoryLemmas.{callers_plain}
+use Rattle.presence_journal.specs.Walk.{is_reborn}
 
 -- each own row of the pid that is present stands on one of these topics
 abbrev pub On : (List ℕ → Bool) → ℕ → History → Type 0
@@ -97,7 +99,7 @@ module _ (leave : OnlyNamedLeave) (pid : ℕ) (f : List ℕ → Bool) (old new :
       either (λ h. Kept pid f h) old new s a m k
       (record {
         legal = stays_legal old k.legal s None limits;
-        rows = λ t p r e mine. k.rows t p r (was_there leave old k.legal s callers adds t p r e).before (sym (mine_after old s pid (p.dot, r)) ∙ mine);
+        rows = λ t p r e mine. k.rows t p r (was_there leave old k.legal s callers adds t p r e).before (sym (mine_after old s (callers_plain s callers) pid (p.dot, r)) ∙ mine);
       })
 
   same : new ≡ old → Kept pid f new
@@ -110,11 +112,12 @@ module _ (leave : OnlyNamedLeave) (pid : ℕ) (f : List ℕ → Bool) (old new :
   refused s Gives ClockFull l c m g = same m
   refused s Gives JournalFull l c m g = same m
   refused s Gives NoSub l c m g = same m
+  refused s Gives BadIncarnation l c m g = same m
   refused s Gives OutOfMemory l c m g = same m
 
   -- a step that may add a row on this topic, and concerns no other
-  added : (s : Step) (u : List ℕ) → ((t : List ℕ) → concerns s t ≡ same_text u t) → is_step s ≡ true → Made old new None s → Kept pid (and_at u f) new
-  added s u concerned limits m = subst (λ h. Kept pid (and_at u f) h) (sym m.journal) (record { legal = stays_legal old k.legal s None limits; rows = there })
+  added : (s : Step) (u : List ℕ) → ((t : List ℕ) → concerns s t ≡ same_text u t) → is_step s ≡ true → is_reborn s ≡ false → Made old new None s → Kept pid (and_at u f) new
+  added s u concerned limits lasts m = subst (λ h. Kept pid (and_at u f) h) (sym m.journal) (record { legal = stays_legal old k.legal s None limits; rows = there })
     where
       there : On (and_at u f) pid (after old s None)
       there t p r e mine = go (same_text u t) refl
@@ -123,7 +126,7 @@ module _ (leave : OnlyNamedLeave) (pid : ℕ) (f : List ℕ → Bool) (old new :
           go true q = or_first (same_text t u) (f t) (flip_same u t q)
           go false q =
               let before : map.get (present old t) p ≡ Some r = sym (ap (λ x. map.get x p) (others_stay old k.legal s None t (concerned t ∙ q))) ∙ e in
-              or_second (same_text t u) (f t) (k.rows t p r before (sym (mine_after old s pid (p.dot, r)) ∙ mine))
+              or_second (same_text t u) (f t) (k.rows t p r before (sym (mine_after old s lasts pid (p.dot, r)) ∙ mine))
 
   -- an accepted removal of all
   gone : (u : List ℕ) → Made old new None (steps_are.UntrackAll pid u) → Kept pid (and_not u f) new
@@ -132,7 +135,7 @@ module _ (leave : OnlyNamedLeave) (pid : ℕ) (f : List ℕ → Bool) (old new :
       there : On (and_not u f) pid (after old (steps_are.UntrackAll pid u) None)
       there t p r e mine =
           let was = was_there leave old k.legal (steps_are.UntrackAll pid u) refl (untrack_adds old pid u) t p r e in
-          let owned : is_mine old pid (p.dot, r) ≡ true = sym (mine_after old (steps_are.UntrackAll pid u) pid (p.dot, r)) ∙ mine in
+          let owned : is_mine old pid (p.dot, r) ≡ true = sym (mine_after old (steps_are.UntrackAll pid u) refl pid (p.dot, r)) ∙ mine in
           let spared = was.spared (outcomes_are.Removed (dots_of (rows_of_pid old pid u))) (is_accepted leave old new k.legal pid u m (accepted old (steps_are.UntrackAll pid u)) refl m.accepted) in
           go (same_text t u) refl was.before owned spared
         where
@@ -169,9 +172,9 @@ module _ (leave : OnlyNamedLeave) (pid : ℕ) (low : nat_le pid (2 ^ 62) ≡ tru
   limit p e = ap (λ n. nat_le n (2 ^ 62)) e ∙ low
 
   pub call_keeps : (f : List ℕ → Bool) (old new : History) (q : Ask) (a : Answer q) → Fits pid t q → Kept pid f old → LocalStep old q a new → Kept pid (after_call f q a) new
-  call_keeps f old new (track p u k m) (Ok d) fits h s = added leave pid f old new h (steps_are.Track p u k m) u (λ x. refl) (limit p fits.0) s.stepped
+  call_keeps f old new (track p u k m) (Ok d) fits h s = added leave pid f old new h (steps_are.Track p u k m) u (λ x. refl) (limit p fits.0) refl s.stepped
   call_keeps f old new (track p u k m) (Err x) fits h s = refused leave pid f old new h {A = Dot} (steps_are.Track p u k m) (IsNew old (steps_are.Track p u k m)) x (limit p fits.0) refl s.stepped s.given
-  call_keeps f old new (update p u k m) (Ok d) fits h s = added leave pid f old new h (steps_are.Update p u k m) u (λ x. refl) (limit p fits.0) s.stepped
+  call_keeps f old new (update p u k m) (Ok d) fits h s = added leave pid f old new h (steps_are.Update p u k m) u (λ x. refl) (limit p fits.0) refl s.stepped
   call_keeps f old new (update p u k m) (Err x) fits h s = refused leave pid f old new h {A = Dot} (steps_are.Update p u k m) (IsNew old (steps_are.Update p u k m)) x (limit p fits.0) refl s.stepped s.given
   call_keeps f old new (untrack p u k) a fits h s = quiet leave pid f old new h (steps_are.Untrack p u k) a refl refl (untrack_key_adds old p u k) s.stepped
   call_keeps f old new (untrack_all p u) (Ok x) fits h s = gone leave pid f old new h u (subst (λ n. Made old new None (steps_are.UntrackAll n u)) fits s.stepped)

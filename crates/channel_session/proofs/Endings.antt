@@ -2,7 +2,7 @@
 use Rattle.std.proofs.Common.{◌≡◌, ℕ, zero, suc, List, [], ◌∷◌, drop, take, Some, None, Option, Result, Ok, Err, true, refl, sym, ap, ◌∙◌, subst}
 use Rattle.std.specs.List.{slice_get, remove}
 use Rattle.channel_session_rules.specs.ShardFault.{ShardFault}
-use Rattle.channel_session_rules.specs.ShardFault.TheVariants.{AlreadyTracked, NoPresence, ClockFull, JournalFull, NoSub, OutOfMemory}
+use Rattle.channel_session_rules.specs.ShardFault.TheVariants.{AlreadyTracked, NoPresence, ClockFull, JournalFull, NoSub, BadIncarnation, OutOfMemory}
 use Rattle.channel_session_rules.specs.Sub.{Sub}
 use Rattle.channel_session_rules.specs.Asks.{Ask, Answer, unsubscribe, untrack_all}
 use Rattle.channel_session_rules.specs.Script.{Script, done, ask}
@@ -23,6 +23,7 @@ goes_on_refused pid t next ClockFull h = refl
 goes_on_refused pid t next JournalFull h = refl
 goes_on_refused pid t next OutOfMemory h = refl
 goes_on_refused pid t next NoSub h = absurd (h refl)
+goes_on_refused pid t next BadIncarnation h = refl
 
 module _ {P : Type 0} (step : P → (q : Ask) → Answer q → P → Type 0) (pid : ℕ) (topic : List ℕ) (sub : Sub) where
   pub rows_gone : (u : Unit {0}) (r : Answer (untrack_all pid topic)) (old mid new : P) → step old (unsubscribe topic sub) (Ok u) mid → step mid (untrack_all pid topic) r new → Gone step pid topic sub old new r

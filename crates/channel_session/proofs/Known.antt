@@ -12,7 +12,7 @@ use Rattle.phx_message.specs.Making.{closing}
 use Rattle.presence_journal.specs.History.{History}
 use Rattle.channel_session_rules.specs.Sub.{Sub}
 use Rattle.channel_session_rules.specs.ShardFault.{ShardFault}
-use Rattle.channel_session_rules.specs.ShardFault.TheVariants.{AlreadyTracked, NoPresence, ClockFull, JournalFull, NoSub, OutOfMemory}
+use Rattle.channel_session_rules.specs.ShardFault.TheVariants.{AlreadyTracked, NoPresence, ClockFull, JournalFull, NoSub, BadIncarnation, OutOfMemory}
 use Rattle.channel_session_rules.specs.declared.asked.Asked.{Asked}
 use Rattle.channel_session_rules.specs.declared.asked.Asked.TheVariants.{Nothing, Bad, Wants}
 use Rattle.channel_session_rules.specs.declared.kind.EventKind.{EventKind}
@@ -99,6 +99,7 @@ module _ (others : Sub → Bool) (o : InForce) (m : Message) where
   unsaid_ends g v ClockFull = v
   unsaid_ends g v JournalFull = v
   unsaid_ends g v NoSub = v
+  unsaid_ends g v BadIncarnation = v
   unsaid_ends g v OutOfMemory = tt
 
   said_ends : (g : Sub → Bool) (answer : List ℕ → End) → ((reason : List ℕ) → TextEnds others o g (answer reason)) → Knows g o → (e : ShardFault) (r : Option (List ℕ)) → TextEnds others o g (said answer e r)
@@ -340,6 +341,7 @@ module _ (others : Sub → Bool) (pid : ℕ) where
       first later (Err NoPresence) = refused later g (λ x q. q) NoPresence
       first later (Err ClockFull) = refused later g (λ x q. q) ClockFull
       first later (Err JournalFull) = refused later g (λ x q. q) JournalFull
+      first later (Err BadIncarnation) = refused later g (λ x q. q) BadIncarnation
       first later (Err OutOfMemory) = refused later g (λ x q. q) OutOfMemory
 
 module _ (others : Sub → Bool) (s : InForce) where

@@ -12,7 +12,7 @@ use Rattle.presence_journal.specs.Laws.{OnlyNamedLeave}
 use Rattle.presence_journal.proofs.Same.{same_text-true, same_text-refl}
 use Rattle.channel_session_rules.specs.Sub.{Sub}
 use Rattle.channel_session_rules.specs.ShardFault.{ShardFault}
-use Rattle.channel_session_rules.specs.ShardFault.TheVariants.{AlreadyTracked, NoPresence, ClockFull, JournalFull, NoSub, OutOfMemory}
+use Rattle.channel_session_rules.specs.ShardFault.TheVariants.{AlreadyTracked, NoPresence, ClockFull, JournalFull, NoSub, BadIncarnation, OutOfMemory}
 use Rattle.channel_session_rules.specs.declared.asked.Asked.{Asked}
 use Rattle.channel_session_rules.specs.declared.asked.Asked.TheVariants.{Nothing, Bad, Wants}
 use Rattle.channel_session_rules.specs.declared.kind.EventKind.{EventKind}
@@ -277,6 +277,7 @@ module _ (o : InForce) (m : Message) where
   unsaid_ends f ClockFull = tt
   unsaid_ends f JournalFull = tt
   unsaid_ends f NoSub = tt
+  unsaid_ends f BadIncarnation = tt
   unsaid_ends f OutOfMemory = tt
 
   said_ends : (f : List ℕ → Bool) (answer : List ℕ → End) → ((reason : List ℕ) → TextEnds o f (answer reason)) → (e : ShardFault) (r : Option (List ℕ)) → TextEnds o f (said answer e r)
@@ -353,6 +354,7 @@ module _ (o : InForce) (m : Message) where
         go (Err ClockFull) = tt
         go (Err JournalFull) = tt
         go (Err NoSub) = tt
+        go (Err BadIncarnation) = tt
         go (Err OutOfMemory) = tt
 
     track_leads : (f : List ℕ → Bool) → Within f (names s) → (first : Bool) (key : List ℕ) (meta : Data) → L f (tracks o.pid first before kind s m key meta)
@@ -621,6 +623,7 @@ module _ (pid : ℕ) where
       first later (Err NoPresence) = refused later NoPresence
       first later (Err ClockFull) = refused later ClockFull
       first later (Err JournalFull) = refused later JournalFull
+      first later (Err BadIncarnation) = refused later BadIncarnation
       first later (Err OutOfMemory) = refused later OutOfMemory
 
 module _ (s : InForce) where

@@ -13,7 +13,7 @@ use Rattle.presence_journal.proofs.Topics.{topic_of-then}
 use Rattle.channel_session_rules.specs.Sub.{Sub}
 use Rattle.channel_session_rules.specs.Steps.{Stepped, Made, Answers, is_found, slot_of}
 use Rattle.channel_session_rules.specs.ShardFault.{ShardFault}
-use Rattle.channel_session_rules.specs.ShardFault.TheVariants.{AlreadyTracked, NoPresence, ClockFull, JournalFull, NoSub, OutOfMemory}
+use Rattle.channel_session_rules.specs.ShardFault.TheVariants.{AlreadyTracked, NoPresence, ClockFull, JournalFull, NoSub, BadIncarnation, OutOfMemory}
 use Rattle.channel_session_rules.specs.Asks.{Ask, Answer, Call, enters, some_enters, track, update, untrack, untrack_all, list, get, subscribe, take, unsubscribe, waits, shout}
 use Rattle.channel_session_rules.specs.Asks.{Made as Chained}
 use Rattle.channel_session_rules.specs.Script.{Script, done, ask, Plays}
@@ -105,6 +105,7 @@ module _ (g : Sub → Bool) (old new : History) (k : Held g old) where
   made_none t ClockFull m a = same m
   made_none t JournalFull m a = same m
   made_none t NoSub m a = same m
+  made_none t BadIncarnation m a = same m
   made_none t OutOfMemory m a = same m
 
 -- ---- calls
@@ -133,6 +134,7 @@ ended_within g sub (Err AlreadyTracked) x e = e
 ended_within g sub (Err NoPresence) x e = e
 ended_within g sub (Err ClockFull) x e = e
 ended_within g sub (Err JournalFull) x e = e
+ended_within g sub (Err BadIncarnation) x e = e
 ended_within g sub (Err OutOfMemory) x e = e
 
 -- a call that makes no subscriber leaves no more of them
@@ -154,6 +156,7 @@ module _ (g : Sub → Bool) (old new : History) (k : Held g old) where
   unsubscribed t sub (Err NoPresence) s = ends_none sub (Err NoPresence) s.stepped
   unsubscribed t sub (Err ClockFull) s = ends_none sub (Err ClockFull) s.stepped
   unsubscribed t sub (Err JournalFull) s = ends_none sub (Err JournalFull) s.stepped
+  unsubscribed t sub (Err BadIncarnation) s = ends_none sub (Err BadIncarnation) s.stepped
   unsubscribed t sub (Err OutOfMemory) s = ends_none sub (Err OutOfMemory) s.stepped
 
 call_keeps : (g : Sub → Bool) (old new : History) (q : Ask) (a : Answer q) → Held g old → LocalStep old q a new → Held (after_call g q a) new

@@ -68,7 +68,8 @@ fn fault_of_refusal(fault: ShardFault) -> SessionFault
         | ShardFault::NoPresence
         | ShardFault::ClockFull
         | ShardFault::JournalFull
-        | ShardFault::NoSub => SessionFault::ShardFull,
+        | ShardFault::NoSub
+        | ShardFault::BadIncarnation => SessionFault::ShardFull,
     }
 }
 

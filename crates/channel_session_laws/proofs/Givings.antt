@@ -18,7 +18,7 @@ use Rattle.presence_metas.specs.Listing.{Listing}
 use Rattle.channel_session_rules.specs.Steps.{Made, Stepped}
 use Rattle.channel_session_rules.specs.Sub.{Sub}
 use Rattle.channel_session_rules.specs.ShardFault.{ShardFault}
-use Rattle.channel_session_rules.specs.ShardFault.TheVariants.{AlreadyTracked, NoPresence, ClockFull, JournalFull, NoSub, OutOfMemory}
+use Rattle.channel_session_rules.specs.ShardFault.TheVariants.{AlreadyTracked, NoPresence, ClockFull, JournalFull, NoSub, BadIncarnation, OutOfMemory}
 use Rattle.channel_session_rules.specs.Asks.{track, update, untrack, untrack_all, list, get, subscribe, take, unsubscribe, waits, shout}
 use Rattle.channel_session_rules.specs.Frames.{message_of}
 use Rattle.channel_session_laws.specs.Laws.{AllFramesMirror, CallsGive}
@@ -100,6 +100,7 @@ quiet_call old new s n none (Err NoPresence) made = made_gives old new s n made 
 quiet_call old new s n none (Err ClockFull) e = kept old new n e
 quiet_call old new s n none (Err JournalFull) e = kept old new n e
 quiet_call old new s n none (Err NoSub) e = kept old new n e
+quiet_call old new s n none (Err BadIncarnation) e = kept old new n e
 quiet_call old new s n none (Err OutOfMemory) e = kept old new n e
 
 -- a take is never answered as a track or an update is
@@ -126,6 +127,7 @@ take_call old new n t sub max (Err NoPresence) h = absurd (never_absent (topic_o
 take_call old new n t sub max (Err ClockFull) h = kept old new n h.stepped
 take_call old new n t sub max (Err JournalFull) h = kept old new n h.stepped
 take_call old new n t sub max (Err NoSub) h = kept old new n h.stepped
+take_call old new n t sub max (Err BadIncarnation) h = kept old new n h.stepped
 take_call old new n t sub max (Err OutOfMemory) h = kept old new n h.stepped
 
 pub calls_give : CallsGive

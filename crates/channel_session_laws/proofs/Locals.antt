@@ -12,7 +12,7 @@ use Rattle.presence_journal.specs.Queue.{Waiting, Behind, Queued, queue, topic_o
 use Rattle.presence_journal.specs.Table.{outcome_of, tracked, updated, untracked, take_outcome, for_present, listed_key, rows_of_key, rows_of_pid}
 use Rattle.channel_session_rules.specs.Steps.{Stepped, Answers, IsDue, refusal, new_dot, is_found}
 use Rattle.channel_session_rules.specs.ShardFault.{ShardFault}
-use Rattle.channel_session_rules.specs.ShardFault.TheVariants.{AlreadyTracked, NoPresence, ClockFull, JournalFull, NoSub, OutOfMemory}
+use Rattle.channel_session_rules.specs.ShardFault.TheVariants.{AlreadyTracked, NoPresence, ClockFull, JournalFull, NoSub, BadIncarnation, OutOfMemory}
 use Rattle.channel_session_rules.specs.Sub.{Sub}
 use Rattle.channel_session_rules.specs.Asks.{Ask, track, update, untrack, untrack_all, list, get, subscribe, take, unsubscribe, waits, shout, Answer, Call, Made}
 use Rattle.channel_session_laws.specs.Local.{Asked, LocalStep, answer_to, after_unless, answer_of, after_of, answer_in, after_in, played, Heeds}
@@ -74,6 +74,7 @@ module _ {A : Type 0} (old new : History) (s : Step) (Gives : A → Type 0) (x :
   by_table r o (Err ClockFull) fits stepped given due ample = rw due (refl, stepped)
   by_table r o (Err JournalFull) fits stepped given due ample = rw due (refl, stepped)
   by_table r o (Err NoSub) fits stepped given due ample = rw due (refl, stepped)
+  by_table r o (Err BadIncarnation) fits stepped given due ample = rw due (refl, stepped)
   by_table r o (Err OutOfMemory) fits stepped given due ample = absurd (ample refl)
 
   asked_is : (found : Bool) (a : Result A ShardFault) → ((y : A) → Gives y → Fits (outcome_of old s) x y) → Asked found old new s Gives a → (Wanted a → ⊥) → (a ≡ answer_of found old s x) × (new ≡ after_of found old s)

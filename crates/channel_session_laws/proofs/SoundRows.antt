@@ -1,5 +1,5 @@
 -- Where the steps of a history bring sound values, so are its rows, what is told of them, and what waits.
-use Rattle.std.proofs.Common.{◌≡◌, ℕ, Bool, true, false, cond, ◌&&◌, nat_eq, nat_lt, length, List, [], ◌∷◌, ◌++◌, zero, suc, take, drop, Option, Some, None, is_some, sym, ◌∙◌, subst}
+use Rattle.std.proofs.Common.{◌≡◌, ℕ, Bool, true, false, cond, ◌&&◌, nat_eq, nat_lt, length, List, [], ◌∷◌, ◌++◌, zero, suc, take, drop, Option, Some, None, is_some, sym, ◌∙◌, subst, refl}
 use Rattle.std.proofs.lemmas.Option.{same_Some}
 use Rattle.std.specs.FinMap as map
 use Rattle.std.specs.List.{AllByRecursion, filter}
@@ -17,7 +17,7 @@ use Rattle.presence_journal_data.specs.declared.step.Step.{Step}
 use Rattle.presence_journal_data.specs.declared.entry.Outcome.{Outcome}
 use Rattle.presence_journal_data.specs.declared.entry.Outcome.TheVariants as outcomes_are
 use Rattle.presence_journal_data.specs.declared.entry.Entry.{Entry}
-use Rattle.presence_journal.specs.History.{History, Begin, Then, row_made, row_added, hears, told_row, first_some, row}
+use Rattle.presence_journal.specs.History.{History, Begin, Then, row_made, row_added, hears, told_row, first_some, row, with_prev, row_again, row_brought}
 use Rattle.presence_journal.specs.Present.{RowMap, in_order, present, listed, missing_in, changes}
 use Rattle.presence_journal.specs.Queue.{Waiting, Behind, Queued, is_empty, diff_item, shout_item, diff_of, items_made, most_waiting, push_items, queued, left_by, queue, queue_after, made_for, topic_of, listed_for, given, items_given}
 use Rattle.presence_journal.specs.Table.{has_key, listed_key}
@@ -62,6 +62,7 @@ made_sound (steps_are.Tick now) prev r h e = absurd (no_row r e)
 made_sound (steps_are.PermDown replica) prev r h e = absurd (no_row r e)
 made_sound steps_are.Cut prev r h e = absurd (no_row r e)
 made_sound (steps_are.Merge told) prev r h e = absurd (no_row r e)
+made_sound (steps_are.Rebirth incarnation) prev r h e = absurd (no_row r e)
 
 made_if : (b : Bool) (s : Step) (prev : Option Dot) (r : Row) → StepSound s → cond b (row_made s prev) None ≡ Some r → RowSound r
 made_if true s prev r h e = made_sound s prev r h e
@@ -81,6 +82,20 @@ added_sound s outcomes_are.Sent d r h e = absurd (no_row r e)
 added_sound s outcomes_are.Noted d r h e = absurd (no_row r e)
 added_sound s (outcomes_are.CutAt from to) d r h e = absurd (no_row r e)
 added_sound s outcomes_are.Merged d r h e = absurd (no_row r e)
+added_sound s (outcomes_are.Reborn pairs) d r h e = absurd (no_row r e)
+
+-- a row that goes on keeps its meta
+again_sound : (old : Dot) (o : Option Row) (r : Row) → ((q : Row) → o ≡ Some q → RowSound q) → with_prev old o ≡ Some r → RowSound r
+again_sound old None r f e = absurd (no_row r e)
+again_sound old (Some q) r f e = subst RowSound (same_Some (record { topic = q.topic; key = q.key; pid = q.pid; meta = q.meta; prev = Some old }) r e) (f q refl)
+
+brought_sound : (rows : Dot → Option Row) (o : Outcome) (told : Option Row) (d : Dot) (r : Row) → ((old : Dot) (q : Row) → rows old ≡ Some q → RowSound q) → (told ≡ Some r → RowSound r) → row_brought o rows told d ≡ Some r → RowSound r
+brought_sound rows (outcomes_are.Reborn pairs) told d r f g e = go (lookup (same_dot d) pairs) e
+  where
+    go : (x : Option Dot) → row_again rows x ≡ Some r → RowSound r
+    go None k = absurd (no_row r k)
+    go (Some old) k = again_sound old (rows old) r (f old) k
+brought_sound rows _ told d r f g e = g e
 
 found_sound : (xs : List (Dot × Row)) (d : Dot) (r : Row) → RowsSound xs → lookup (same_dot d) xs ≡ Some r → RowSound r
 found_sound [] d r k e = absurd (no_row r e)
@@ -106,8 +121,9 @@ row_sound : (h : History) (d : Dot) (r : Row) → HistorySound h → row h d ≡
 unfolding row
 row_sound (Begin s) d r k e = found_sound s.content.live d r k e
 row_sound (Then h x) d r k e =
-    first_sound (row h d) (first_some (row_added x.step x.outcome d) (told_row h x.step d)) r e (row_sound h d r k.0)
-    (λ f. first_sound (row_added x.step x.outcome d) (told_row h x.step d) r f (added_sound x.step x.outcome d r k.1) (told_sound h x.step d r k.1))
+    first_sound (row h d) (first_some (row_added x.step x.outcome d) (row_brought x.outcome (row h) (told_row h x.step d) d)) r e (row_sound h d r k.0)
+    (λ f. first_sound (row_added x.step x.outcome d) (row_brought x.outcome (row h) (told_row h x.step d) d) r f (added_sound x.step x.outcome d r k.1)
+    (brought_sound (row h) x.outcome (told_row h x.step d) d r (λ old q. row_sound h old q k.0) (told_sound h x.step d r k.1)))
 
 -- ---- tables
 

@@ -216,6 +216,7 @@ answer_rows None (Some outcomes_are.Sent) rows h = h
 answer_rows None (Some outcomes_are.Noted) rows h = h
 answer_rows None (Some (outcomes_are.CutAt from to)) rows h = h
 answer_rows None (Some outcomes_are.Merged) rows h = h
+answer_rows None (Some (outcomes_are.Reborn pairs)) rows h = h
 
 pub list_sound : (h : History) (t : List ℕ) (rows : List (Dot × Row)) → HistorySound h → answer_in h (list t) ≡ Ok rows → RowsSound rows
 unfolding answer_in

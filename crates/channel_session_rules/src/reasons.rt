@@ -16,6 +16,7 @@ pub fn full_reason(first: bool, fault: ShardFault) -> Option<&'static str>
         ShardFault::AlreadyTracked
         | ShardFault::NoPresence
         | ShardFault::NoSub
+        | ShardFault::BadIncarnation
         | ShardFault::OutOfMemory => None,
     }
 }
@@ -50,7 +51,8 @@ fn kind_of_refusal(fault: ShardFault) -> StopKind
         | ShardFault::NoPresence
         | ShardFault::ClockFull
         | ShardFault::JournalFull
-        | ShardFault::NoSub => StopKind::ShardFull,
+        | ShardFault::NoSub
+        | ShardFault::BadIncarnation => StopKind::ShardFull,
     }
 }
 

@@ -1,6 +1,6 @@
 -- A part that is cut short for a line.
-use Rattle.std.proofs.Common.{◌≡◌, ℕ, ◌+◌, ◌≤◌, suc, Bool, true, false, not, cond, nat_lt, List, [], ◌∷◌, ◌++◌, length, Option, Some, None, refl, sym, ◌∙◌, ap, subst, arith, inl, inr}
-use Rattle.std.specs.Prelude.{◌⊎◌, Result, Ok, Err, IfOk, IfErr}
+use Rattle.std.proofs.Common.{◌≡◌, ℕ, ◌+◌, ◌<◌, ◌≤◌, suc, min, max, Bool, true, false, not, cond, nat_lt, List, [], ◌∷◌, ◌++◌, length, Option, Some, None, refl, sym, ◌∙◌, ap, subst, arith, inl, inr}
+use Rattle.std.specs.Prelude.{◌⊎◌, Result, Ok, Err, IfOk, IfErr, is_some}
 use Rattle.std.specs.List.{filter}
 use Rattle.std.proofs.lemmas.Bool.Decides.{nat_tests}
 use Rattle.presence_base.specs.declared.dots.Dot.{Dot}
@@ -21,7 +21,7 @@ use Rattle.shard_pool.specs.ShardFault.{ShardFault}
 use Rattle.shard_pool.specs.ShardFault.TheVariants as faults
 use Rattle.node_links_acts.specs.declared.port.ActFault.{ActFault}
 use Rattle.presence_node_link_ports.specs.Asking.{act_fault, told_of, TellsSince}
-use Rattle.presence_node_link_ports.specs.Parts.{IsShortened, IsPartOnLine, TellsPart, is_long}
+use Rattle.presence_node_link_ports.specs.Parts.{IsShortened, IsUpTo, IsPartOnLine, IsOneTooLong, GoesNowhere, TellsPart, is_long}
 
 -- ---- no more than before
 
@@ -47,22 +47,48 @@ short_fits m d fits =
 
 -- ---- on a line
 
-pub guarded_short : (shard : ℕ) (t : ToldValue) (o : Option ToldValue) (m : ℕ) (d : DeltaValue) → IsDelta d → t ≡ telling_in Two (up_to m d) → o ≡ guarded (not (is_long shard t)) t → IsShortened shard d o
-guarded_short shard t o m d sound is made = subst (IsShortened shard d) (sym made) (go (is_long shard t) refl)
+pub guarded_short : (shard : ℕ) (t : ToldValue) (o : Option ToldValue) (m : ℕ) (d : DeltaValue) → t ≡ telling_in Two (up_to m d) → o ≡ guarded (not (is_long shard t)) t → IsUpTo shard m d o
+guarded_short shard t o m d is made = subst (IsUpTo shard m d) (sym made) (go (is_long shard t) refl)
   where
-    go : (b : Bool) → is_long shard t ≡ b → IsShortened shard d (guarded (not b) t)
-    go true e = tt
-    go false e = (m, sound, is, e)
+    go : (b : Bool) → is_long shard t ≡ b → IsUpTo shard m d (guarded (not b) t)
+    go true e = ap (is_long shard) (sym is) ∙ e
+    go false e = (is, e)
+
+pub nothing_more : (shard : ℕ) (d : DeltaValue) → d.to ≤ d.from → IsShortened shard d None
+nothing_more shard d none = inl none
+
+pub up_to_rows : (shard m : ℕ) (d : DeltaValue) (o : Option ToldValue) → IsDelta d → d.from < d.to → d.from < m → IsUpTo shard m d o → is_some o ≡ true → IsShortened shard d o
+up_to_rows shard m d None sound some above upto there = absurd (cc)
+up_to_rows shard m d (Some t) sound some above upto there = (m, sound, some, above, upto.0, upto.1)
+
+pub by_one : (shard next : ℕ) (d : DeltaValue) (o : Option ToldValue) → IsDelta d → d.from < d.to → next ≡ suc d.from → IsUpTo shard next d o → IsShortened shard d o
+by_one shard next d None sound some is upto = inr (sound, some, ap (λ m. is_long shard (telling_in Two (up_to m d))) (sym is) ∙ upto)
+by_one shard next d (Some t) sound some is upto = (next, sound, some, omega (arith, is), upto.0, upto.1)
+
+pub ruleset shortening = (nothing_more, up_to_rows, by_one)
+
+goes_further : (from m to : ℕ) → from < to → from < m → from < max from (min m to)
+goes_further from m to some above = omega (arith, some, above)
+
+one_further : (from to : ℕ) → from < to → max from (min (suc from) to) ≡ suc from
+one_further from to some = omega (arith, some)
 
 told_part : (shard n : ℕ) (h : History) (d : DeltaValue) (o : Option ToldValue) → IsPartWhereItFits h n (Some d) → IsShortened shard d o → TellsPart shard h n o
-told_part shard n h d None part short = tt
+told_part shard n h d None part (inl le) = inr (inl (record { delta = d; largest = part; nothing = le }))
+told_part shard n h d None part (inr short) = inr (inr (record {
+  delta = up_to (suc d.from) d;
+  part = parts_cut_short h n (suc d.from) d part.part short.0;
+  one = one_further d.from d.to short.1;
+  long = short.2;
+}))
 told_part shard n h d (Some t) part short = record {
   delta = up_to short.0 d;
   part = parts_cut_short h n short.0 d part.part short.1;
+  further = goes_further d.from short.0 d.to short.2 short.3;
   sound = short_sound short.0 d short.1;
-  tells = short.2;
-  few = ap (is_too_many_in Two) short.2 ∙ short_fits short.0 d part.fits;
-  short = short.3;
+  tells = short.4;
+  few = ap (is_too_many_in Two) short.4 ∙ short_fits short.0 d part.fits;
+  short = short.5;
 }
 
 pub told_behind : (Here : History → Type 0) (shard n : ℕ) (part : Option DeltaValue) (d : DeltaValue) (o : Option ToldValue) → part ≡ Some d → IsBehindOf Here (λ h. IsPartWhereItFits h n part) → IsShortened shard d o → IsBehindOf Here (λ h. TellsPart shard h n o)
@@ -74,7 +100,7 @@ told_behind Here shard n part d o is b short = record {
 }
 
 pub none_behind : (Here : History → Type 0) (shard n : ℕ) → IsBehindOf Here (λ h. IsPartWhereItFits h n None) → IsBehindOf Here (λ h. TellsPart shard h n None)
-none_behind Here shard n b = record { history = b.history; legal = b.legal; here = b.here; is = tt }
+none_behind Here shard n b = record { history = b.history; legal = b.legal; here = b.here; is = inl b.is }
 
 -- as a link is told it
 pub told_in_part : (Here : History → Type 0) (shard n : ℕ) (form : Form) (r : Result (Option ToldValue) ShardFault) (a : Result (Option ToldValue) ActFault) → a ≡ told_of r → form ≡ Two → IfOk r (λ o. IsBehindOf Here (λ h. TellsPart shard h n o)) → IfErr r (λ e. e ≡ faults.OutOfMemory)

@@ -8,6 +8,7 @@ mod above;
 mod beats;
 mod fault;
 mod fitting;
+mod going_on;
 mod lengths;
 mod link_port;
 mod parts;
@@ -15,5 +16,6 @@ mod room;
 
 pub use beats::{beat_of, cut_off, let_pass};
 pub use fitting::{bare_beat, fitting_beat};
+pub use going_on::go_on;
 pub use link_port::PoolLinkPort;
-pub use shard_pool::{Gate, Lane, Pool};
+pub use shard_pool::{Gate, Lane, Pool, PoolFault};

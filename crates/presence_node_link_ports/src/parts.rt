@@ -7,7 +7,7 @@ ghost use Rattle.node_links_lines.specs.declared.lines.Line.TheVariants as lines
 ghost use Rattle.delta_range.specs.Deltas.{IsDelta};
 ghost use Rattle.shard_pool.specs.Seats.{IsBehindAt};
 ghost use Rattle.shard_pool.specs.ShardFault.TheVariants.{OutOfMemory};
-ghost use Rattle.presence_node_link_ports.specs.Parts.{IsShortened, TellsPart, is_long};
+ghost use Rattle.presence_node_link_ports.specs.Parts.{IsShortened, IsUpTo, TellsPart, is_long};
 
 use crate::lengths::{delta_ranges_bytes, row_bytes, told_bytes};
 use delta_range::Delta;
@@ -81,20 +81,36 @@ fn on_line(alloc: Global, shard: u32, told: Told) -> Result<Option<Told>, AllocE
     }
 }
 
-// The part up to the last row for which a line has room, where it has room for one.
-fn shortened(alloc: Global, shard: u32, part: &Delta) -> Result<Option<Told>, AllocError>
-    ensures { IfOk result (IsShortened shard part.now) }
+// The part up to a count, where a line takes it.
+#[tactic(auto, using(crate::proofs::PartLemmas::guarded_short))]
+fn part_up_to(alloc: Global, shard: u32, part: &Delta, to: u64) -> Result<Option<Told>, AllocError>
+    ensures { IfOk result (IsUpTo shard to part.now) }
 {
-    let to = end_on_line(part);
-    if to <= part.from() {
-        return Ok(None);
-    }
     let told = up_to(alloc, part, to)?.told(alloc, Form::Two)?;
     on_line(alloc, shard, told)
 }
 
-/// A part of the shard's own rows, for a node that knows its dots up to a count, on a line of the second form. None where the line
-/// has no room for a row beside the runs of older counts. It refuses with `OutOfMemory` alone.
+// The part up to the last row for which a line has room, or by one count where it seems to have none, where a line takes that.
+#[tactic(auto, using(crate::proofs::PartLemmas::shortening))]
+fn shortened(alloc: Global, shard: u32, part: &Delta) -> Result<Option<Told>, AllocError>
+    ensures { IfOk result (IsShortened shard part.now) }
+{
+    if part.to() <= part.from() {
+        return Ok(None);
+    }
+    let next = part.from() + 1;
+    let to = end_on_line(part);
+    if next < to {
+        let told = part_up_to(alloc, shard, part, to)?;
+        if told.is_some() {
+            return Ok(told);
+        }
+    }
+    part_up_to(alloc, shard, part, next)
+}
+
+/// A part of the shard's own rows, for a node that knows its dots up to a count, on a line of the second form. None where a line
+/// has no room for one more count beside the runs of older ones, or there is none. It refuses with `OutOfMemory` alone.
 #[tactic(auto, using(crate::proofs::PartLemmas::none_behind))]
 pub(crate) fn part_on_line<R: Wait, G: Gate, A: Lane, B: Lane, C: Lane, D: Lane>(
     rt: &R,

@@ -4,7 +4,7 @@ use Rattle.std.specs.Prelude.{◌==◌, Result, Ok, Err}
 use Rattle.presence_journal_data.specs.declared.step.Step.{Step}
 use Rattle.presence_journal.specs.History.{History}
 use Rattle.channel_session_rules.specs.ShardFault.{ShardFault}
-use Rattle.channel_session_rules.specs.ShardFault.TheVariants.{AlreadyTracked, NoPresence, ClockFull, JournalFull, NoSub, OutOfMemory}
+use Rattle.channel_session_rules.specs.ShardFault.TheVariants.{AlreadyTracked, NoPresence, ClockFull, JournalFull, NoSub, BadIncarnation, OutOfMemory}
 use Rattle.shard_pool.specs.Reply.{Reply}
 use Rattle.shard_pool.specs.Seats.{Hands, CalledAt, hand_at, shard_of, with_hand}
 use Rattle.channel_session_rules.specs.Seen.{seen_by}
@@ -33,6 +33,7 @@ seen_call f here there old new s step GA GB kept (Err NoPresence) c = record { o
 seen_call f here there old new s step GA GB kept (Err ClockFull) c = record { others = c.others; shard = c.shard; call = record { history = c.call.history; left = c.call.left; legal = c.call.legal; here = c.call.here; made = c.call.made; notes = c.call.notes; answer = c.call.answer; due = c.call.due } }
 seen_call f here there old new s step GA GB kept (Err JournalFull) c = record { others = c.others; shard = c.shard; call = record { history = c.call.history; left = c.call.left; legal = c.call.legal; here = c.call.here; made = c.call.made; notes = c.call.notes; answer = c.call.answer; due = c.call.due } }
 seen_call f here there old new s step GA GB kept (Err NoSub) c = record { others = c.others; shard = c.shard; call = record { history = c.call.history; left = c.call.left; legal = c.call.legal; here = c.call.here; made = c.call.made; notes = c.call.notes; answer = c.call.answer; due = c.call.due } }
+seen_call f here there old new s step GA GB kept (Err BadIncarnation) c = record { others = c.others; shard = c.shard; call = record { history = c.call.history; left = c.call.left; legal = c.call.legal; here = c.call.here; made = c.call.made; notes = c.call.notes; answer = c.call.answer; due = c.call.due } }
 seen_call f here there old new s step GA GB kept (Err OutOfMemory) c = record { others = c.others; shard = c.shard; call = record { history = c.call.history; left = c.call.left; legal = c.call.legal; here = c.call.here; made = c.call.made; notes = c.call.notes; answer = c.call.answer; due = c.call.due } }
 
 module _ (here : ℕ → History → Type 0) (there : History → Bool) (n : ℕ) (old new : Hands) (t : List ℕ) (step : Step) where

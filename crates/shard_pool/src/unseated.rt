@@ -1,7 +1,7 @@
 // The calls without a seat, each at a shard that is named by its number. Since they let the lock go, their
 // contracts name a history behind the answer at most.
 ghost use Rattle.std.specs.Prelude.{◌≡◌, ◌<◌, ◌-◌, ◌^◌, min, IfOk, IfErr};
-ghost use Rattle.presence_journal.specs.History.{IsTop, entry_count, start_of, status};
+ghost use Rattle.presence_journal.specs.History.{IsTop, entry_count, own, start_of, status};
 ghost use Rattle.presence_journal.specs.TextBytes.{text_bytes};
 ghost use Rattle.shard_pool_locks.specs.Full.{IsFullOf};
 ghost use Rattle.orswot_core_told.specs.Checks.{WhereItFits};
@@ -9,7 +9,7 @@ ghost use Rattle.shard_pool_locks.specs.KeptDeltas.{IsToldFrom, TellsFrom};
 ghost use Rattle.shard_pool_locks.specs.ToldParts.{IsPartWhereItFits};
 ghost use Rattle.shard_pool_locks.specs.ShardFault.TheVariants.{OutOfMemory};
 ghost use Rattle.shard_pool_locks.specs.Unseated.{IsOf, IsBehind, IsMade, IsCutMade, IsCheckpointed, TellsWaiting};
-ghost use Rattle.shard_pool_locks.specs.Unseated.{IsMadeWhereFull, IsMadeWhereQuiet};
+ghost use Rattle.shard_pool_locks.specs.Unseated.{IsMadeWhereFull, IsMadeWhereQuiet, IsRebornMade};
 ghost use Rattle.shard_pool.specs.Seats.{shard_of, begins_at, IsBehindAt, IsTrimmed};
 ghost use Rattle.shard_pool_locks.specs.Lines.{IsOfLane};
 
@@ -17,15 +17,16 @@ use crate::pool::Pool;
 use crate::seat::Seat;
 use delta_range::Delta;
 use orswot_core_told::{Form, Told};
-use presence_base::{Replica, Topic, shard_of};
+use presence_base::{Dot, Replica, Topic, shard_of};
 use presence_journal::{Journal, Step};
 use replica_status::Status;
 use shard_pool_locks::{
     DueFrom, Gate, Lane, PoolFault, RowCounts, Sub, locked_checkpoint,
     locked_checkpoint_where_full, locked_checkpoint_where_quiet, locked_cut, locked_entry_count,
-    locked_fitting, locked_full, locked_heard, locked_journal, locked_merge, locked_part,
-    locked_permdown, locked_row_counts, locked_start_of, locked_status, locked_text_bytes,
-    locked_tick, locked_told_from, locked_top, locked_trim, locked_waits,
+    locked_fitting, locked_full, locked_heard, locked_incarnation, locked_journal, locked_merge,
+    locked_part, locked_permdown, locked_rebirth, locked_row_counts, locked_start_of,
+    locked_status, locked_text_bytes, locked_tick, locked_told_from, locked_top, locked_trim,
+    locked_waits,
 };
 use std::alloc::Global;
 use std::sync::Wait;
@@ -119,6 +120,46 @@ impl<G: Gate, A: Lane, B: Lane, C: Lane, D: Lane> Pool<G, A, B, C, D> {
             1 => locked_permdown(rt, alloc, &self.second, replica),
             2 => locked_permdown(rt, alloc, &self.third, replica),
             _ => locked_permdown(rt, alloc, &self.fourth, replica),
+        }
+    }
+
+    /// Makes a shard go on under a higher incarnation: its own rows stand under new dots from then on, each of which is
+    /// answered with the old one, and no row is lost. It refuses with `JournalFull`, else with `BadIncarnation` where the
+    /// shard can't go on under this one, else with `OutOfMemory`.
+    #[tactic(auto, using(crate::proofs::Lanes::lanes))]
+    pub fn rebirth<R: Wait>(
+        &self,
+        rt: &R,
+        alloc: Global,
+        shard: u32,
+        incarnation: u64,
+    ) -> Result<Vec<(Dot, Dot)>, PoolFault>
+        requires { shard < self.now.shards }
+        ensures some { IsBehind self.now.own.name (λ h. IsRebornMade h incarnation result) }
+        ensures lane { IsBehindAt A.begins B.begins C.begins D.begins shard self.now.own.name
+            (λ h. IsRebornMade h incarnation result) }
+    {
+        match shard {
+            0 => locked_rebirth(rt, alloc, &self.first, incarnation),
+            1 => locked_rebirth(rt, alloc, &self.second, incarnation),
+            2 => locked_rebirth(rt, alloc, &self.third, incarnation),
+            _ => locked_rebirth(rt, alloc, &self.fourth, incarnation),
+        }
+    }
+
+    /// The incarnation under which a shard goes on.
+    #[tactic(auto, using(crate::proofs::Lanes::lanes))]
+    pub fn incarnation<R: Wait>(&self, rt: &R, shard: u32) -> u64
+        requires { shard < self.now.shards }
+        ensures some { IsBehind self.now.own.name (λ h. result ≡ (own h).incarnation) }
+        ensures lane { IsBehindAt A.begins B.begins C.begins D.begins shard self.now.own.name
+            (λ h. result ≡ (own h).incarnation) }
+    {
+        match shard {
+            0 => locked_incarnation(rt, &self.first),
+            1 => locked_incarnation(rt, &self.second),
+            2 => locked_incarnation(rt, &self.third),
+            _ => locked_incarnation(rt, &self.fourth),
         }
     }
 

@@ -3,11 +3,12 @@ use Rattle.std.proofs.Common.{◌≡◌, ℕ, ◌+◌, true, List, Option, Some,
 use Rattle.std.specs.Prelude.{Result, Ok, Err, OnOk, OnErr, is_some}
 use Rattle.presence_journal_data.specs.declared.step.Step.{Step}
 use Rattle.presence_journal_data.specs.declared.entry.Outcome.{Outcome}
-use Rattle.presence_journal.specs.History.{History, own, begun}
+use Rattle.presence_journal_data.specs.declared.step.Step.TheVariants as steps_are
+use Rattle.presence_journal.specs.History.{History, own, begun, own_after}
 use Rattle.presence_base.specs.declared.dots.Replica.{Replica}
 use Rattle.presence_journal.specs.Table.{accepted, after, with_outcome}
 use Rattle.tracker_shard.specs.declared.fault.ShardFault.{ShardFault}
-use Rattle.tracker_shard.specs.declared.fault.ShardFault.TheVariants.{AlreadyTracked, NoPresence, ClockFull, JournalFull, NoSub, OutOfMemory}
+use Rattle.tracker_shard.specs.declared.fault.ShardFault.TheVariants.{AlreadyTracked, NoPresence, ClockFull, JournalFull, NoSub, BadIncarnation, OutOfMemory}
 use Rattle.tracker_shard.specs.Steps.{Made, Stepped}
 use Rattle.tracker_shard.specs.Starting.{seats, one_if, IsBegunAgain}
 use Rattle.shard_pool_lent.specs.Lent.{is_step, counted}
@@ -22,20 +23,28 @@ seats-after : (h : History) (s : Step) (seat : Option ℕ) → is_some (accepted
 unfolding after
 seats-after h s seat e = seats-with h s seat (accepted h s) e
 
-own-with : (h : History) (s : Step) (seat : Option ℕ) (o : Option Outcome) → own (with_outcome h s seat o) ≡ own h
+-- the node of a history: no step changes it
+abbrev own_name : History → List ℕ
+own_name h = (own h).name
+
+same_name : (s : Step) (r : Replica) → (own_after s r).name ≡ r.name
+same_name (steps_are.Rebirth incarnation) r = refl
+same_name _ r = refl
+
+own-with : (h : History) (s : Step) (seat : Option ℕ) (o : Option Outcome) → own_name (with_outcome h s seat o) ≡ own_name h
 unfolding own
 own-with h s seat None = refl
-own-with h s seat (Some o) = refl
+own-with h s seat (Some o) = same_name s (own h)
 
-pub own-after : (h : History) (s : Step) (seat : Option ℕ) → own (after h s seat) ≡ own h
+pub own-after : (h : History) (s : Step) (seat : Option ℕ) → own_name (after h s seat) ≡ own_name h
 unfolding after
 own-after h s seat = own-with h s seat (accepted h s)
 
 made_seated : (old new : History) (seat : Option ℕ) (s : Step) → Made old new seat s → seats new ≡ seats old + one_if (is_some seat)
 made_seated old new seat s m = ap seats m.journal ∙ seats-after old s seat m.accepted
 
-made_own : (old new : History) (seat : Option ℕ) (s : Step) → Made old new seat s → own new ≡ own old
-made_own old new seat s m = ap own m.journal ∙ own-after old s seat
+made_own : (old new : History) (seat : Option ℕ) (s : Step) → Made old new seat s → (own new).name ≡ (own old).name
+made_own old new seat s m = ap own_name m.journal ∙ own-after old s seat
 
 pub stepped_seated : {A : Type 0} (old new : History) (seat : ℕ) (s : Step) (r : Result A ShardFault) → Stepped old new (Some seat) s r → seats new ≡ counted (seats old) (is_step r)
 stepped_seated old new seat s (Ok x) m = made_seated old new (Some seat) s m
@@ -44,6 +53,7 @@ stepped_seated old new seat s (Err NoPresence) m = made_seated old new (Some sea
 stepped_seated old new seat s (Err ClockFull) m = ap seats m
 stepped_seated old new seat s (Err JournalFull) m = ap seats m
 stepped_seated old new seat s (Err NoSub) m = ap seats m
+stepped_seated old new seat s (Err BadIncarnation) m = ap seats m
 stepped_seated old new seat s (Err OutOfMemory) m = ap seats m
 
 plus_nothing : (old new : History) (s : Step) → Made old new None s → seats new ≡ seats old
@@ -56,19 +66,21 @@ unseated_same old new s (Err NoPresence) m = plus_nothing old new s m
 unseated_same old new s (Err ClockFull) m = ap seats m
 unseated_same old new s (Err JournalFull) m = ap seats m
 unseated_same old new s (Err NoSub) m = ap seats m
+unseated_same old new s (Err BadIncarnation) m = ap seats m
 unseated_same old new s (Err OutOfMemory) m = ap seats m
 
-pub stepped_own : {A : Type 0} (old new : History) (seat : Option ℕ) (s : Step) (r : Result A ShardFault) → Stepped old new seat s r → own new ≡ own old
+pub stepped_own : {A : Type 0} (old new : History) (seat : Option ℕ) (s : Step) (r : Result A ShardFault) → Stepped old new seat s r → (own new).name ≡ (own old).name
 stepped_own old new seat s (Ok x) m = made_own old new seat s m
 stepped_own old new seat s (Err AlreadyTracked) m = made_own old new seat s m
 stepped_own old new seat s (Err NoPresence) m = made_own old new seat s m
-stepped_own old new seat s (Err ClockFull) m = ap own m
-stepped_own old new seat s (Err JournalFull) m = ap own m
-stepped_own old new seat s (Err NoSub) m = ap own m
-stepped_own old new seat s (Err OutOfMemory) m = ap own m
+stepped_own old new seat s (Err ClockFull) m = ap own_name m
+stepped_own old new seat s (Err JournalFull) m = ap own_name m
+stepped_own old new seat s (Err NoSub) m = ap own_name m
+stepped_own old new seat s (Err BadIncarnation) m = ap own_name m
+stepped_own old new seat s (Err OutOfMemory) m = ap own_name m
 
 pub node_stays : {A : Type 0} (old new : History) (seat : Option ℕ) (s : Step) (r : Result A ShardFault) (node : List ℕ) → Stepped old new seat s r → (own old).name ≡ node → (own new).name ≡ node
-node_stays old new seat s r node m is = ap (λ x. x.name) (stepped_own old new seat s r m) ∙ is
+node_stays old new seat s r node m is = stepped_own old new seat s r m ∙ is
 
 pub count_stays : {A : Type 0} (old new : History) (seat : ℕ) (s : Step) (r : Result A ShardFault) (n k : ℕ) → Stepped old new (Some seat) s r → n ≡ seats old → k ≡ counted n (is_step r) → k ≡ seats new
 count_stays old new seat s r n k m is counts = counts ∙ ap (λ x. counted x (is_step r)) is ∙ sym (stepped_seated old new seat s r m)

@@ -4,7 +4,7 @@ use Rattle.std.specs.Prelude.{Result, Ok, Err, OnOk, OnErr}
 use Rattle.presence_journal_data.specs.declared.step.Step.{Step}
 use Rattle.presence_journal.specs.History.{History}
 use Rattle.tracker_shard.specs.declared.fault.ShardFault.{ShardFault}
-use Rattle.tracker_shard.specs.declared.fault.ShardFault.TheVariants.{AlreadyTracked, NoPresence, ClockFull, JournalFull, NoSub, OutOfMemory}
+use Rattle.tracker_shard.specs.declared.fault.ShardFault.TheVariants.{AlreadyTracked, NoPresence, ClockFull, JournalFull, NoSub, BadIncarnation, OutOfMemory}
 use Rattle.tracker_shard.specs.Steps.{Made, Stepped}
 use Rattle.tracker_shard.specs.Starting.{IsBegunAgain}
 use Rattle.shard_pool_lent.specs.Lines.{Descends, IsOfLane}
@@ -38,6 +38,7 @@ line_stays Begins old new seat s (Err NoPresence) m d = made_line Begins old new
 line_stays Begins old new seat s (Err ClockFull) m d = line_same Begins old new m d
 line_stays Begins old new seat s (Err JournalFull) m d = line_same Begins old new m d
 line_stays Begins old new seat s (Err NoSub) m d = line_same Begins old new m d
+line_stays Begins old new seat s (Err BadIncarnation) m d = line_same Begins old new m d
 line_stays Begins old new seat s (Err OutOfMemory) m d = line_same Begins old new m d
 
 pub line_after : {A : Type 0} (Begins : History → Type 0) (old new : History) (r : Result A ShardFault)

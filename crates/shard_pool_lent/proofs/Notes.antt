@@ -6,8 +6,9 @@ use Rattle.presence_journal_data.specs.declared.entry.Outcome.{Outcome}
 use Rattle.presence_journal.specs.History.{History, last_number, is_full}
 use Rattle.presence_journal.specs.Table.{accepted, outcome_of}
 use Rattle.tracker_shard.specs.declared.fault.ShardFault.{ShardFault}
-use Rattle.tracker_shard.specs.declared.fault.ShardFault.TheVariants.{AlreadyTracked, NoPresence, ClockFull, JournalFull, NoSub, OutOfMemory}
-use Rattle.tracker_shard.specs.Steps.{Stepped, Answers, IsDue, MayRunOut, refusal}
+use Rattle.tracker_shard.specs.declared.fault.ShardFault.TheVariants.{AlreadyTracked, NoPresence, ClockFull, JournalFull, NoSub, BadIncarnation, OutOfMemory}
+use Rattle.presence_journal_data.specs.declared.step.Step.TheVariants as steps_are
+use Rattle.tracker_shard.specs.Steps.{Stepped, Answers, IsDue, MayRunOut, refusal, cause}
 use Rattle.shard_pool_settled.specs.declared.receipt.Receipt.{Receipt}
 use Rattle.shard_pool_lent.specs.declared.reply.Reply.{Reply}
 use Rattle.shard_pool_lent.specs.Hands.{Hand, receipt, with_call}
@@ -20,6 +21,7 @@ step_of_reply old new seat s shard n (Err NoPresence) m = m
 step_of_reply old new seat s shard n (Err ClockFull) m = m
 step_of_reply old new seat s shard n (Err JournalFull) m = m
 step_of_reply old new seat s shard n (Err NoSub) m = m
+step_of_reply old new seat s shard n (Err BadIncarnation) m = m
 step_of_reply old new seat s shard n (Err OutOfMemory) m = m
 
 pub replied_step : {A : Type 0} (old new : History) (seat : Option ℕ) (s : Step) (shard n : ℕ) (r : Result A ShardFault) (x : Result (Reply A) ShardFault) → x ≡ reply_of shard n r → Stepped old new seat s r → Stepped old new seat s x
@@ -32,6 +34,7 @@ answer_of_reply h s Gives shard n (Err NoPresence) is a = a
 answer_of_reply h s Gives shard n (Err ClockFull) is a = a
 answer_of_reply h s Gives shard n (Err JournalFull) is a = a
 answer_of_reply h s Gives shard n (Err NoSub) is a = a
+answer_of_reply h s Gives shard n (Err BadIncarnation) is a = a
 answer_of_reply h s Gives shard n (Err OutOfMemory) is a = a
 
 pub replied_answer : {A : Type 0} (h : History) (s : Step) (Gives : A → Type 0) (shard n : ℕ) (r : Result A ShardFault) (x : Result (Reply A) ShardFault) → x ≡ reply_of shard n r → n ≡ last_number h + 1 → Answers Gives (outcome_of h s) r → Replies shard h s Gives x
@@ -44,6 +47,7 @@ due_of_reply stands shard n (Err NoPresence) d = d
 due_of_reply stands shard n (Err ClockFull) d = d
 due_of_reply stands shard n (Err JournalFull) d = d
 due_of_reply stands shard n (Err NoSub) d = d
+due_of_reply stands shard n (Err BadIncarnation) d = d
 due_of_reply stands shard n (Err OutOfMemory) d = d
 
 pub replied_due : {A : Type 0} (stands : Option ShardFault) (shard n : ℕ) (r : Result A ShardFault) (x : Result (Reply A) ShardFault) → x ≡ reply_of shard n r → IsDue r stands → IsDue x stands
@@ -61,15 +65,20 @@ full_stands_by found full o there is = rw (there, is) refl
 pub full_stands : (found : Bool) (h : History) (s : Step) → found ≡ true → is_full h ≡ true → refusal found h s ≡ Some JournalFull
 full_stands found h s there full = full_stands_by found (is_full h) _ there full
 
-memory_may_by : (found full some : Bool) → found ≡ true → full ≡ false
-    → MayRunOut (cond found (cond full (Some JournalFull) (cond some None (Some ClockFull))) (Some NoSub))
-memory_may_by true false true there room = tt
-memory_may_by true false false there room = tt
-memory_may_by true true some there room = absurd (cc)
-memory_may_by false full some there room = absurd (cc)
+-- any cause gives way to want of memory
+cause_may : (s : Step) → MayRunOut (Some (cause s))
+cause_may (steps_are.Rebirth incarnation) = tt
+cause_may _ = tt
+
+memory_may_by : (s : Step) (found full some : Bool) → found ≡ true → full ≡ false
+    → MayRunOut (cond found (cond full (Some JournalFull) (cond some None (Some (cause s)))) (Some NoSub))
+memory_may_by s true false true there room = tt
+memory_may_by s true false false there room = cause_may s
+memory_may_by s true true some there room = absurd (cc)
+memory_may_by s false full some there room = absurd (cc)
 
 pub memory_may : (found : Bool) (h : History) (s : Step) → found ≡ true → is_full h ≡ false → MayRunOut (refusal found h s)
-memory_may found h s there room = memory_may_by found (is_full h) (is_some (outcome_of h s)) there room
+memory_may found h s there room = memory_may_by s found (is_full h) (is_some (outcome_of h s)) there room
 
 step_is_step : {A : Type 0} (shard n : ℕ) (r : Result A ShardFault) → is_step (reply_of shard n r) ≡ is_step r
 step_is_step shard n (Ok x) = refl
@@ -78,6 +87,7 @@ step_is_step shard n (Err NoPresence) = refl
 step_is_step shard n (Err ClockFull) = refl
 step_is_step shard n (Err JournalFull) = refl
 step_is_step shard n (Err NoSub) = refl
+step_is_step shard n (Err BadIncarnation) = refl
 step_is_step shard n (Err OutOfMemory) = refl
 
 pub replied_counts : {A : Type 0} (shard n : ℕ) (r : Result A ShardFault) (x : Result (Reply A) ShardFault) (k m : ℕ) → x ≡ reply_of shard n r → k ≡ counted m (is_step r) → k ≡ counted m (is_step x)
@@ -98,6 +108,7 @@ made_accepts h new seat s (Err NoPresence) m e = table_has h s m.accepted
 made_accepts h new seat s (Err ClockFull) m e = absurd (cc)
 made_accepts h new seat s (Err JournalFull) m e = absurd (cc)
 made_accepts h new seat s (Err NoSub) m e = absurd (cc)
+made_accepts h new seat s (Err BadIncarnation) m e = absurd (cc)
 made_accepts h new seat s (Err OutOfMemory) m e = absurd (cc)
 
 hand_is : (p q : Hand) (r : Receipt) → q.seat ≡ p.seat → q.shard ≡ p.shard → q.receipts ≡ p.receipts ++ r ∷ [] → q.share ≡ p.share + 1 → q ≡ with_call p r

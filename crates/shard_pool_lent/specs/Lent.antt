@@ -5,7 +5,7 @@ use Rattle.presence_journal_data.specs.declared.entry.Outcome.{Outcome}
 use Rattle.presence_journal.specs.History.{History, last_number}
 use Rattle.presence_journal.specs.Table.{outcome_of}
 use Rattle.tracker_shard.specs.declared.fault.ShardFault.{ShardFault}
-use Rattle.tracker_shard.specs.declared.fault.ShardFault.TheVariants.{AlreadyTracked, NoPresence, ClockFull, JournalFull, NoSub, OutOfMemory}
+use Rattle.tracker_shard.specs.declared.fault.ShardFault.TheVariants.{AlreadyTracked, NoPresence, ClockFull, JournalFull, NoSub, BadIncarnation, OutOfMemory}
 use Rattle.tracker_shard.specs.Steps.{Answers}
 use Rattle.shard_pool_settled.specs.declared.receipt.Receipt.{Receipt}
 use Rattle.shard_pool_lent.specs.declared.reply.Reply.{Reply}
@@ -19,6 +19,7 @@ is_step (Err NoPresence) = true
 is_step (Err ClockFull) = false
 is_step (Err JournalFull) = false
 is_step (Err NoSub) = false
+is_step (Err BadIncarnation) = false
 is_step (Err OutOfMemory) = false
 
 -- one more where the step was made

@@ -14,6 +14,7 @@ ghost use Rattle.tracker_shard.specs.ToldParts.{IsPartWhereItFits};
 ghost use Rattle.tracker_shard.specs.Steps.{Stepped, Answers, AnswersDot, IsDue, refusal, refusal_at, is_found};
 ghost use Rattle.tracker_shard.specs.Steps.{AnswersRowsOfKey, AnswersRowsOfPid, AnswersListed, AnswersListedKey};
 ghost use Rattle.tracker_shard.specs.Steps.{AnswersItems, AnswersSub, RefusesForRoom, checkpoint_refusal};
+ghost use Rattle.tracker_shard.specs.Steps.{AnswersPairs, KeepsRows};
 ghost use Rattle.tracker_shard.specs.Starting.{seats, IsBegunAgain};
 ghost use Rattle.shard_pool_lent.specs.Lent.{is_step, counted};
 ghost use Rattle.shard_pool_lent.specs.Lines.{IsOfLane};
@@ -433,6 +434,29 @@ impl<L: Lane> Locked<L> {
         ensures total { self.new.calls.total ≡ self.old.calls.total }
     {
         self.shard.merge(alloc, told)
+    }
+
+    /// Goes on under a higher incarnation, as `Shard::rebirth` does, without a seat.
+    #[tactic(auto, using(crate::proofs::Counts::counts))]
+    pub fn rebirth(
+        &mut self,
+        alloc: Global,
+        incarnation: u64,
+    ) -> Result<Vec<(Dot, Dot)>, ShardFault>
+        ensures step { Stepped self.old.shard self.new.shard None (Step.Rebirth incarnation) result }
+        ensures answer { AnswersPairs self.old.shard incarnation result }
+        ensures due { IsDue result (refusal true self.old.shard (Step.Rebirth incarnation)) }
+        ensures rows { IfOk result (λ pairs. KeepsRows self.old.shard self.new.shard pairs.items) }
+        ensures total { self.new.calls.total ≡ self.old.calls.total }
+    {
+        self.shard.rebirth(alloc, incarnation)
+    }
+
+    /// The incarnation under which the shard goes on. It is no step, and takes no memory.
+    pub fn incarnation(&self) -> u64
+        ensures { result ≡ (own self.now.shard).incarnation }
+    {
+        self.shard.incarnation()
     }
 
     /// Puts a Start that stands for the journal in its place, as `Shard::checkpoint` does. It is no step.

@@ -1,14 +1,16 @@
 -- A call behind a lock, as it is seen once the lock is let go.
 use Rattle.std.proofs.Common.{arith, ◌≡◌, ◌≤◌, ◌<◌, ◌-◌, ◌^◌, inl, inr, ℕ, Bool, List, Some, None, Option, true, false, refl, sym, ap, subst}
-use Rattle.std.specs.Prelude.{min, Result, Ok, Err, OnOk, OnErr}
+use Rattle.std.specs.Prelude.{min, Result, Ok, Err, IfOk, OnOk, OnErr, Vec}
+use Rattle.presence_base.specs.declared.dots.Dot.{Dot}
 use Rattle.presence_journal_data.specs.declared.step.Step.{Step}
+use Rattle.presence_journal_data.specs.declared.step.Step.TheVariants as steps_are
 use Rattle.presence_journal.specs.History.{History, own, entry_count, is_full}
 use Rattle.presence_journal.specs.Table.{IsLegal, outcome_of}
 use Rattle.shard_pool_lent.specs.Quiet.{TellsQuiet}
 use Rattle.shard_pool_lent.specs.ShardFault.{ShardFault}
-use Rattle.shard_pool_lent.specs.ShardFault.TheVariants.{AlreadyTracked, NoPresence, ClockFull, JournalFull, NoSub, OutOfMemory}
+use Rattle.shard_pool_lent.specs.ShardFault.TheVariants.{AlreadyTracked, NoPresence, ClockFull, JournalFull, NoSub, BadIncarnation, OutOfMemory}
 use Rattle.shard_pool_lent.specs.Starting.{IsBegunAgain}
-use Rattle.shard_pool_lent.specs.Steps.{Stepped, Answers, IsDue, RefusesForRoom, refusal, checkpoint_refusal}
+use Rattle.shard_pool_lent.specs.Steps.{Stepped, Answers, IsDue, RefusesForRoom, refusal, checkpoint_refusal, AnswersPairs, KeepsRows}
 use Rattle.shard_pool_lent.specs.declared.reply.Reply.{Reply}
 use Rattle.shard_pool_lent.specs.Hands.{Hand}
 use Rattle.shard_pool_lent.specs.Lines.{IsOfLane, IsOfShard}
@@ -17,7 +19,7 @@ use Rattle.presence_journal.specs.TextBytes.{text_bytes}
 use Rattle.shard_pool_locks.specs.declared.due.DueFrom.{DueFrom}
 use Rattle.shard_pool_locks.specs.Due.{HasMany, TellsMany}
 use Rattle.shard_pool_locks.specs.Seated.{Called, IsDueOnceNoted}
-use Rattle.shard_pool_locks.specs.Unseated.{IsBehindOf, IsMadeWith, IsCheckpointed, IsMadeWhereFull, IsMadeWhereQuiet}
+use Rattle.shard_pool_locks.specs.Unseated.{IsBehindOf, IsMadeWith, IsCheckpointed, IsMadeWhereFull, IsMadeWhereQuiet, IsRebornMade}
 
 once_noted : {A : Type 0} (r : Result A ShardFault) (stands : Option ShardFault) → IsDue r stands → IsDueOnceNoted r stands
 once_noted (Ok x) stands d = d
@@ -26,6 +28,7 @@ once_noted (Err NoPresence) stands d = d
 once_noted (Err ClockFull) stands d = d
 once_noted (Err JournalFull) stands d = d
 once_noted (Err NoSub) stands d = d
+once_noted (Err BadIncarnation) stands d = d
 once_noted (Err OutOfMemory) stands d = tt
 
 pub called_in : {A : Type 0} (h left : History) (node : List ℕ) (Begins : History → Type 0) (there : History → Bool) (old new : Hand) (step : Step) (Gives : History → A → Type 0) (r : Result (Reply A) ShardFault)
@@ -53,7 +56,11 @@ is_made Gives h left step r made answer due room = record { left = left; step = 
 pub is_checkpointed : (h left : History) (r : Result Unit ShardFault) → OnOk r (IsBegunAgain h left) → OnErr r (left ≡ h) → IsDue r (checkpoint_refusal h) → RefusesForRoom r → IsCheckpointed h r
 is_checkpointed h left r again same due room = record { left = left; again = again; same = same; due = due; room = room }
 
-pub ruleset unseated = (is_behind_lane, is_made, is_checkpointed)
+pub is_reborn : {A : Type 0} (h left : History) (incarnation : ℕ) (r : Result (Vec (Dot × Dot) A) ShardFault) → Stepped h left None (steps_are.Rebirth incarnation) r → AnswersPairs h incarnation r → IsDue r (refusal true h (steps_are.Rebirth incarnation))
+    → IfOk r (λ pairs. KeepsRows h left pairs.items) → IsRebornMade h incarnation r
+is_reborn h left incarnation r made answer due rows = record { left = left; step = made; answer = answer; due = due; rows = rows }
+
+pub ruleset unseated = (is_behind_lane, is_made, is_reborn, is_checkpointed)
 
 -- a checkpoint that is made only where it is due
 
@@ -72,6 +79,7 @@ due_of NoPresence stands d = d
 due_of ClockFull stands d = d
 due_of JournalFull stands d = d
 due_of NoSub stands d = d
+due_of BadIncarnation stands d = d
 due_of OutOfMemory stands d = d
 
 room_of : (f : ShardFault) → RefusesForRoom (refused {A = Unit {0}} f) → RefusesForRoom (refused {A = Bool} f)
@@ -80,6 +88,7 @@ room_of NoPresence d = d
 room_of ClockFull d = d
 room_of JournalFull d = d
 room_of NoSub d = d
+room_of BadIncarnation d = d
 room_of OutOfMemory d = d
 
 pub refused_full : (h left : History) (r : Result Unit ShardFault) (f : ShardFault) → is_full h ≡ true → r ≡ Err f → OnErr r (left ≡ h) → IsDue r (checkpoint_refusal h) → RefusesForRoom r → IsMadeWhereFull h (Err f)
@@ -109,6 +118,7 @@ full_due (Err NoPresence) stands d e = absurd (cc)
 full_due (Err ClockFull) stands d e = absurd (cc)
 full_due (Err JournalFull) stands d e = d
 full_due (Err NoSub) stands d e = absurd (cc)
+full_due (Err BadIncarnation) stands d e = absurd (cc)
 full_due (Err OutOfMemory) stands d e = absurd (cc)
 
 pub refused_quiet : (h left : History) (due : DueFrom) (r : Result Unit ShardFault) (f : ShardFault) → HasMany due h → r ≡ Err f → OnErr r (left ≡ h) → IsDue r (checkpoint_refusal h) → RefusesForRoom r → IsMadeWhereQuiet due h (Err f)

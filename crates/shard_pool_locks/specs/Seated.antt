@@ -5,7 +5,7 @@ use Rattle.presence_journal.specs.History.{History}
 use Rattle.presence_journal.specs.Table.{IsLegal}
 use Rattle.shard_pool_lent.specs.Sub.{Sub}
 use Rattle.shard_pool_lent.specs.ShardFault.{ShardFault}
-use Rattle.shard_pool_lent.specs.ShardFault.TheVariants.{AlreadyTracked, NoPresence, ClockFull, JournalFull, NoSub, OutOfMemory}
+use Rattle.shard_pool_lent.specs.ShardFault.TheVariants.{AlreadyTracked, NoPresence, ClockFull, JournalFull, NoSub, BadIncarnation, OutOfMemory}
 use Rattle.shard_pool_lent.specs.Steps.{Stepped, refusal, is_found}
 use Rattle.shard_pool_lent.specs.declared.reply.Reply.{Reply}
 use Rattle.shard_pool_lent.specs.Hands.{Hand}
@@ -27,6 +27,7 @@ IsDueOnceNoted (Err NoPresence) r = r ≡ None
 IsDueOnceNoted (Err ClockFull) r = r ≡ Some ClockFull
 IsDueOnceNoted (Err JournalFull) r = r ≡ Some JournalFull
 IsDueOnceNoted (Err NoSub) r = r ≡ Some NoSub
+IsDueOnceNoted (Err BadIncarnation) r = r ≡ Some BadIncarnation
 IsDueOnceNoted (Err OutOfMemory) r = Unit {0}
 
 -- Some legal history of the shard stands behind the answer: the step was made at its end, the part has the receipt of a step

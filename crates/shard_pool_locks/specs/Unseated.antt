@@ -1,5 +1,6 @@
 -- What stands behind the answer of a call without a seat, which has let the lock go.
-use Rattle.std.specs.Prelude.{◌≡◌, ◌⊎◌, true, false, ℕ, Bool, List, Some, None, Result, Ok, Err, IfOk, OnOk, OnErr}
+use Rattle.presence_base.specs.declared.dots.Dot.{Dot}
+use Rattle.std.specs.Prelude.{◌≡◌, ◌⊎◌, true, false, ℕ, Bool, List, Some, None, Result, Ok, Err, IfOk, OnOk, OnErr, Vec}
 use Rattle.delta_range.specs.Deltas.{DeltaValue}
 use Rattle.presence_journal_data.specs.declared.step.Step.{Step}
 use Rattle.presence_journal_data.specs.declared.step.Step.TheVariants as steps_are
@@ -14,7 +15,7 @@ use Rattle.shard_pool_locks.specs.Due.{HasMany, TellsMany}
 use Rattle.shard_pool_lent.specs.ShardFault.{ShardFault}
 use Rattle.shard_pool_lent.specs.ShardFault.TheVariants.{JournalFull, NoSub}
 use Rattle.shard_pool_lent.specs.Starting.{IsBegunAgain}
-use Rattle.shard_pool_lent.specs.Steps.{Stepped, Answers, IsDue, RefusesForRoom, refusal, is_found, checkpoint_refusal}
+use Rattle.shard_pool_lent.specs.Steps.{Stepped, Answers, IsDue, RefusesForRoom, refusal, is_found, checkpoint_refusal, AnswersPairs, KeepsRows}
 
 -- a legal journal of the node
 abbrev pub IsOf : List ℕ → History → Type 0
@@ -47,6 +48,15 @@ pub record IsMadeWith {A : Type 0} (Gives : A → Type 0) (h : History) (s : Ste
 -- a step that gives nothing but that it was made
 abbrev pub IsMade : {A : Type 0} → History → Step → Result A ShardFault → Type 0
 IsMade h s r = IsMadeWith (λ _. Unit {0}) h s r
+
+-- The answer is that of a rebirth at the history's end: the new dots, each with its old one, and no row is lost by it.
+pub record IsRebornMade {A : Type 0} (h : History) (incarnation : ℕ)
+    (r : Result (Vec (Dot × Dot) A) ShardFault) : Type 0 where
+  pub left : History
+  pub step : Stepped h left None (steps_are.Rebirth incarnation) r
+  pub answer : AnswersPairs h incarnation r
+  pub due : IsDue r (refusal true h (steps_are.Rebirth incarnation))
+  pub rows : IfOk r (λ pairs. KeepsRows h left pairs.items)
 
 -- the answer is that of a cut at the history's end, with the delta that it tells
 abbrev pub IsCutMade : History → Result DeltaValue ShardFault → Type 0

@@ -1,7 +1,7 @@
 // The calls without a seat, each behind the lock of one shard. The journal is read to show that it is legal
 // and of the node.
 ghost use Rattle.std.specs.Prelude.{◌≡◌, ◌-◌, ◌^◌, min, IfOk, IfErr};
-ghost use Rattle.presence_journal.specs.History.{IsTop, entry_count, start_of, status};
+ghost use Rattle.presence_journal.specs.History.{IsTop, entry_count, own, start_of, status};
 ghost use Rattle.presence_journal.specs.TextBytes.{text_bytes};
 ghost use Rattle.shard_pool_lent.specs.Full.{IsFullOf};
 ghost use Rattle.orswot_core_told.specs.Checks.{WhereItFits};
@@ -11,12 +11,12 @@ ghost use Rattle.shard_pool_lent.specs.Hands.{without_receipts};
 ghost use Rattle.shard_pool_lent.specs.Lines.{IsOfLane, IsOfShard};
 ghost use Rattle.shard_pool_lent.specs.ShardFault.TheVariants.{OutOfMemory};
 ghost use Rattle.shard_pool_locks.specs.Unseated.{IsOf, IsBehindOf, IsMade, IsCutMade, IsCheckpointed, TellsWaiting};
-ghost use Rattle.shard_pool_locks.specs.Unseated.{IsMadeWhereFull, IsMadeWhereQuiet};
+ghost use Rattle.shard_pool_locks.specs.Unseated.{IsMadeWhereFull, IsMadeWhereQuiet, IsRebornMade};
 
 use crate::due::{DueFrom, is_due};
 use delta_range::Delta;
 use orswot_core_told::{Form, Told};
-use presence_base::Replica;
+use presence_base::{Dot, Replica};
 use presence_journal::{Journal, Step};
 use replica_status::Status;
 use shard_pool_lent::{Lane, Locked, Part, PoolFault, RowCounts, Sub};
@@ -111,6 +111,31 @@ pub fn locked_merge<L: Lane, R: Wait>(
     let mut guard = shard.lock(rt);
     let _journal = guard.journal();
     guard.merge(alloc, told)
+}
+
+/// Goes on under a higher incarnation.
+#[tactic(auto, using(crate::proofs::Calls::unseated))]
+pub fn locked_rebirth<L: Lane, R: Wait>(
+    rt: &R,
+    alloc: Global,
+    shard: &Mutex<Locked<L>>,
+    incarnation: u64,
+) -> Result<Vec<(Dot, Dot)>, PoolFault>
+    ensures { IsBehindOf (IsOfShard L.node L.begins) (λ h. IsRebornMade h incarnation result) }
+{
+    let mut guard = shard.lock(rt);
+    let _journal = guard.journal();
+    guard.rebirth(alloc, incarnation)
+}
+
+/// The incarnation under which the shard goes on. It is no step.
+#[tactic(auto, using(crate::proofs::Calls::unseated))]
+pub fn locked_incarnation<L: Lane, R: Wait>(rt: &R, shard: &Mutex<Locked<L>>) -> u64
+    ensures { IsBehindOf (IsOfShard L.node L.begins) (λ h. result ≡ (own h).incarnation) }
+{
+    let guard = shard.lock(rt);
+    let _journal = guard.journal();
+    guard.incarnation()
 }
 
 /// All that the shard knows, in the form. It is no step, and refuses with `OutOfMemory` alone.

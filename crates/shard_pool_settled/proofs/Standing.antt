@@ -2,10 +2,10 @@
 use Rattle.std.proofs.Common.{◌≡◌, ℕ, ◌+◌, List, [], ◌∷◌, All, Option, Some, None, Bool, true, false, ◌&&◌, nat_eq, refl, sym, ap, ◌∙◌, is_eq}
 use Rattle.std.specs.Prelude.{slice_get}
 use Rattle.std.specs.Bool.{beq}
-use Rattle.std.specs.Cmp.{tied_itself, Equal-is}
+use Rattle.std.specs.Cmp.{IsTotalOrder, tied_itself, Equal-is}
 use Rattle.std.specs.Cmp.Lexicographic.{slice_cmp}
 use Rattle.std.proofs.lemmas.Bool.{eqb-true, and_parts}
-use Rattle.std.proofs.lemmas.Cmp.{lists_total}
+use Rattle.std.proofs.lemmas.Cmp.{on_total, then_total, lists_total}
 use Rattle.std.proofs.lemmas.Bool.Decides.{Decides-eqb}
 use Rattle.std.proofs.lemmas.List.Elements.{All-nil, All-cons, All-head, All-tail}
 use Rattle.serde_json.specs.Data.{null}
@@ -19,10 +19,10 @@ use Rattle.presence_journal_data.specs.declared.entry.Outcome.TheVariants as out
 use Rattle.presence_journal.specs.Steps.{Entry}
 use Rattle.presence_journal.specs.History.{History}
 use Rattle.presence_journal.proofs.Same.{same_text-true, same_text-refl, same_replica-true, same_replica-refl, same_dot-true, same_dot-refl}
-use Rattle.std.specs.FinMap.{slice_cmp-IsAntisymmetric}
-use Rattle.presence_journal.proofs.Same.{dot_total, dot_cmp-IsAntisymmetric}
+use Rattle.std.specs.FinMap.{IsAntisymmetric, slice_cmp-IsAntisymmetric}
+use Rattle.presence_journal.proofs.Same.{is_eq-then, dot_total, dot_cmp-IsAntisymmetric}
 use Rattle.shard_pool_settled.specs.declared.receipt.Receipt.{Receipt}
-use Rattle.shard_pool_settled.specs.Alike.{same_value, same_dots, same_step, same_outcome}
+use Rattle.shard_pool_settled.specs.Alike.{same_value, same_dots, pair_cmp, same_pairs, same_step, same_outcome}
 use Rattle.shard_pool_settled.specs.Seated.{entry_at}
 use Rattle.shard_pool_settled.specs.Settled.{is_seat, is_entry, is_in, is_told, all_told, seats_told}
 use Rattle.shard_pool_settled.specs.Words.{AreAlike, Stands, EachStands, ToldStand, StandingAreTold}
@@ -54,6 +54,20 @@ eqb-refl : (n : ℕ) → nat_eq n n ≡ true
 eqb-refl n = (Decides-eqb n n).1 refl
 
 -- outcomes
+
+pair_total : IsTotalOrder pair_cmp
+pair_total = then_total (on_total (λ (p : Dot × Dot). p.0) dot_total) (on_total (λ (p : Dot × Dot). p.1) dot_total)
+
+pair_cmp-IsAntisymmetric : IsAntisymmetric pair_cmp
+pair_cmp-IsAntisymmetric p q e =
+    let parts = and_parts (same_dot p.0 q.0) (same_dot p.1 q.1) (sym (is_eq-then (dot_cmp p.0 q.0) (dot_cmp p.1 q.1)) ∙ ap is_eq e) in
+    λ i. (same_dot-true p.0 q.0 parts.0 i, same_dot-true p.1 q.1 parts.1 i)
+
+pairs_same : (ps qs : List (Dot × Dot)) → same_pairs ps qs ≡ true → ps ≡ qs
+pairs_same ps qs e = slice_cmp-IsAntisymmetric pair_cmp-IsAntisymmetric ps qs ((Equal-is (slice_cmp pair_cmp ps qs)).0 e)
+
+same_pairs-refl : (ps : List (Dot × Dot)) → same_pairs ps ps ≡ true
+same_pairs-refl ps = ap is_eq (tied_itself (lists_total pair_total) ps)
 
 outcomes_same : (a b : Outcome) → same_outcome a b ≡ true → a ≡ b
 outcomes_same (outcomes_are.Added d) (outcomes_are.Added x) e = ap (λ y. outcomes_are.Added y) (sym (same_dot-true x d e))
@@ -94,6 +108,8 @@ outcomes_same (outcomes_are.CutAt f t) (outcomes_are.CutAt x y) e =
 outcomes_same (outcomes_are.CutAt f t) _ e = absurd (cc)
 outcomes_same outcomes_are.Merged outcomes_are.Merged e = refl
 outcomes_same outcomes_are.Merged _ e = absurd (cc)
+outcomes_same (outcomes_are.Reborn ps) (outcomes_are.Reborn qs) e = ap outcomes_are.Reborn (sym (pairs_same qs ps e))
+outcomes_same (outcomes_are.Reborn ps) _ e = absurd (cc)
 
 same_outcomes : (a : Outcome) → same_outcome a a ≡ true
 same_outcomes (outcomes_are.Added d) = same_dot-refl d
@@ -109,6 +125,7 @@ same_outcomes outcomes_are.Sent = refl
 same_outcomes outcomes_are.Noted = refl
 same_outcomes (outcomes_are.CutAt f t) = both (nat_eq f f) (nat_eq t t) (eqb-refl f) (eqb-refl t)
 same_outcomes outcomes_are.Merged = refl
+same_outcomes (outcomes_are.Reborn ps) = same_pairs-refl ps
 
 -- steps
 
@@ -120,7 +137,7 @@ steps_alike (steps_are.Track p t k m) (steps_are.Track pp t2 kk mm) e =
     let qp : pp ≡ p = eqb-true pp p p0.0 in
     let qt : t2 ≡ t = same_text-true t2 t p1.0 in
     let qk : kk ≡ k = same_text-true kk k p2.0 in
-    record { no_merge = refl; rest = λ i. steps_are.Track (sym qp i) (sym qt i) (sym qk i) null; text = sym (same_text-true (compact_text mm) (compact_text m) p2.1) }
+    record { seated = refl; rest = λ i. steps_are.Track (sym qp i) (sym qt i) (sym qk i) null; text = sym (same_text-true (compact_text mm) (compact_text m) p2.1) }
 steps_alike (steps_are.Track p t k m) _ e = absurd (cc)
 steps_alike (steps_are.Update p t k m) (steps_are.Update pp t2 kk mm) e =
     let p0 = and_parts (nat_eq pp p) (same_text t2 t && (same_text kk k && same_value mm m)) e in
@@ -129,7 +146,7 @@ steps_alike (steps_are.Update p t k m) (steps_are.Update pp t2 kk mm) e =
     let qp : pp ≡ p = eqb-true pp p p0.0 in
     let qt : t2 ≡ t = same_text-true t2 t p1.0 in
     let qk : kk ≡ k = same_text-true kk k p2.0 in
-    record { no_merge = refl; rest = λ i. steps_are.Update (sym qp i) (sym qt i) (sym qk i) null; text = sym (same_text-true (compact_text mm) (compact_text m) p2.1) }
+    record { seated = refl; rest = λ i. steps_are.Update (sym qp i) (sym qt i) (sym qk i) null; text = sym (same_text-true (compact_text mm) (compact_text m) p2.1) }
 steps_alike (steps_are.Update p t k m) _ e = absurd (cc)
 steps_alike (steps_are.Untrack p t k) (steps_are.Untrack pp t2 kk) e =
     let p0 = and_parts (nat_eq pp p) (same_text t2 t && same_text kk k) e in
@@ -137,60 +154,61 @@ steps_alike (steps_are.Untrack p t k) (steps_are.Untrack pp t2 kk) e =
     let qp : pp ≡ p = eqb-true pp p p0.0 in
     let qt : t2 ≡ t = same_text-true t2 t p1.0 in
     let qk : kk ≡ k = same_text-true kk k p1.1 in
-    record { no_merge = refl; rest = λ i. steps_are.Untrack (sym qp i) (sym qt i) (sym qk i); text = refl }
+    record { seated = refl; rest = λ i. steps_are.Untrack (sym qp i) (sym qt i) (sym qk i); text = refl }
 steps_alike (steps_are.Untrack p t k) _ e = absurd (cc)
 steps_alike (steps_are.UntrackAll p t) (steps_are.UntrackAll pp t2) e =
     let p0 = and_parts (nat_eq pp p) (same_text t2 t) e in
     let qp : pp ≡ p = eqb-true pp p p0.0 in
     let qt : t2 ≡ t = same_text-true t2 t p0.1 in
-    record { no_merge = refl; rest = λ i. steps_are.UntrackAll (sym qp i) (sym qt i); text = refl }
+    record { seated = refl; rest = λ i. steps_are.UntrackAll (sym qp i) (sym qt i); text = refl }
 steps_alike (steps_are.UntrackAll p t) _ e = absurd (cc)
 steps_alike (steps_are.List t) (steps_are.List t2) e =
     let qt : t2 ≡ t = same_text-true t2 t e in
-    record { no_merge = refl; rest = λ i. steps_are.List (sym qt i); text = refl }
+    record { seated = refl; rest = λ i. steps_are.List (sym qt i); text = refl }
 steps_alike (steps_are.List t) _ e = absurd (cc)
 steps_alike (steps_are.Get t k) (steps_are.Get t2 kk) e =
     let p0 = and_parts (same_text t2 t) (same_text kk k) e in
     let qt : t2 ≡ t = same_text-true t2 t p0.0 in
     let qk : kk ≡ k = same_text-true kk k p0.1 in
-    record { no_merge = refl; rest = λ i. steps_are.Get (sym qt i) (sym qk i); text = refl }
+    record { seated = refl; rest = λ i. steps_are.Get (sym qt i) (sym qk i); text = refl }
 steps_alike (steps_are.Get t k) _ e = absurd (cc)
 steps_alike (steps_are.Subscribe t) (steps_are.Subscribe t2) e =
     let qt : t2 ≡ t = same_text-true t2 t e in
-    record { no_merge = refl; rest = λ i. steps_are.Subscribe (sym qt i); text = refl }
+    record { seated = refl; rest = λ i. steps_are.Subscribe (sym qt i); text = refl }
 steps_alike (steps_are.Subscribe t) _ e = absurd (cc)
 steps_alike (steps_are.Take n m) (steps_are.Take nn mm) e =
     let p0 = and_parts (nat_eq nn n) (nat_eq mm m) e in
     let qn : nn ≡ n = eqb-true nn n p0.0 in
     let qm : mm ≡ m = eqb-true mm m p0.1 in
-    record { no_merge = refl; rest = λ i. steps_are.Take (sym qn i) (sym qm i); text = refl }
+    record { seated = refl; rest = λ i. steps_are.Take (sym qn i) (sym qm i); text = refl }
 steps_alike (steps_are.Take n m) _ e = absurd (cc)
 steps_alike (steps_are.Unsubscribe n) (steps_are.Unsubscribe nn) e =
     let qn : nn ≡ n = eqb-true nn n e in
-    record { no_merge = refl; rest = λ i. steps_are.Unsubscribe (sym qn i); text = refl }
+    record { seated = refl; rest = λ i. steps_are.Unsubscribe (sym qn i); text = refl }
 steps_alike (steps_are.Unsubscribe n) _ e = absurd (cc)
 steps_alike (steps_are.Shout t m) (steps_are.Shout t2 mm) e =
     let p0 = and_parts (same_text t2 t) (same_value mm m) e in
     let qt : t2 ≡ t = same_text-true t2 t p0.0 in
-    record { no_merge = refl; rest = λ i. steps_are.Shout (sym qt i) null; text = sym (same_text-true (compact_text mm) (compact_text m) p0.1) }
+    record { seated = refl; rest = λ i. steps_are.Shout (sym qt i) null; text = sym (same_text-true (compact_text mm) (compact_text m) p0.1) }
 steps_alike (steps_are.Shout t m) _ e = absurd (cc)
 steps_alike (steps_are.Heard r n) (steps_are.Heard rr nn) e =
     let p0 = and_parts (same_replica rr r) (nat_eq nn n) e in
     let qr : rr ≡ r = same_replica-true rr r p0.0 in
     let qn : nn ≡ n = eqb-true nn n p0.1 in
-    record { no_merge = refl; rest = λ i. steps_are.Heard (sym qr i) (sym qn i); text = refl }
+    record { seated = refl; rest = λ i. steps_are.Heard (sym qr i) (sym qn i); text = refl }
 steps_alike (steps_are.Heard r n) _ e = absurd (cc)
 steps_alike (steps_are.Tick n) (steps_are.Tick nn) e =
     let qn : nn ≡ n = eqb-true nn n e in
-    record { no_merge = refl; rest = λ i. steps_are.Tick (sym qn i); text = refl }
+    record { seated = refl; rest = λ i. steps_are.Tick (sym qn i); text = refl }
 steps_alike (steps_are.Tick n) _ e = absurd (cc)
 steps_alike (steps_are.PermDown r) (steps_are.PermDown rr) e =
     let qr : rr ≡ r = same_replica-true rr r e in
-    record { no_merge = refl; rest = λ i. steps_are.PermDown (sym qr i); text = refl }
+    record { seated = refl; rest = λ i. steps_are.PermDown (sym qr i); text = refl }
 steps_alike (steps_are.PermDown r) _ e = absurd (cc)
-steps_alike steps_are.Cut steps_are.Cut e = record { no_merge = refl; rest = refl; text = refl }
+steps_alike steps_are.Cut steps_are.Cut e = record { seated = refl; rest = refl; text = refl }
 steps_alike steps_are.Cut _ e = absurd (cc)
 steps_alike (steps_are.Merge t) _ e = absurd (cc)
+steps_alike (steps_are.Rebirth i) _ e = absurd (cc)
 
 -- and the other way round
 
@@ -272,7 +290,8 @@ alike_steps (steps_are.PermDown r) (steps_are.PermDown rr) l =
 alike_steps (steps_are.PermDown r) _ l = let alike = l.rest in absurd (cc)
 alike_steps steps_are.Cut steps_are.Cut l = refl
 alike_steps steps_are.Cut _ l = let alike = l.rest in absurd (cc)
-alike_steps (steps_are.Merge t) _ l = let merge = l.no_merge in absurd (cc)
+alike_steps (steps_are.Merge t) _ l = let merge = l.seated in absurd (cc)
+alike_steps (steps_are.Rebirth i) _ l = let rebirth = l.seated in absurd (cc)
 
 -- one receipt
 

@@ -1,7 +1,8 @@
 -- When two steps and two outcomes are alike. Metas and payloads are compared by their compact text.
 use Rattle.std.specs.Prelude.{ℕ, Bool, true, false, ◌&&◌, nat_eq, List}
 use Rattle.std.specs.Bool.{beq}
-use Rattle.std.specs.Ordering.{eq_by_cmp}
+use Rattle.std.specs.declared.cmp.Ordering.{Ordering}
+use Rattle.std.specs.Ordering.{eq_by_cmp, ordering_then}
 use Rattle.std.specs.Cmp.Lexicographic.{slice_cmp}
 use Rattle.serde_json.specs.Data.{Data}
 use Rattle.serde_json.specs.Written.{compact_text}
@@ -94,8 +95,9 @@ same_step (steps_are.Heard replica now) s = is_heard replica now s
 same_step (steps_are.Tick now) s = is_tick now s
 same_step (steps_are.PermDown replica) s = is_permdown replica s
 same_step steps_are.Cut s = is_cut s
--- a merge has no seat, so that no receipt is of one
+-- a merge and a rebirth have no seat, so that no receipt is of one
 same_step (steps_are.Merge told) s = false
+same_step (steps_are.Rebirth incarnation) s = false
 
 -- Is this that outcome?
 
@@ -151,6 +153,17 @@ abbrev pub is_merged : Outcome → Bool
 is_merged outcomes_are.Merged = true
 is_merged _ = false
 
+-- the same pairs of a new and an old dot
+abbrev pub pair_cmp : (Dot × Dot) → (Dot × Dot) → Ordering
+pair_cmp p q = ordering_then (dot_cmp p.0 q.0) (dot_cmp p.1 q.1)
+
+abbrev pub same_pairs : List (Dot × Dot) → List (Dot × Dot) → Bool
+same_pairs = eq_by_cmp (slice_cmp pair_cmp)
+
+abbrev pub is_reborn : List (Dot × Dot) → Outcome → Bool
+is_reborn pairs (outcomes_are.Reborn ps) = same_pairs ps pairs
+is_reborn pairs _ = false
+
 abbrev pub same_outcome : Outcome → Outcome → Bool
 same_outcome (outcomes_are.Added dot) o = is_added dot o
 same_outcome outcomes_are.AlreadyTracked o = is_already_tracked o
@@ -165,3 +178,4 @@ same_outcome outcomes_are.Sent o = is_sent o
 same_outcome outcomes_are.Noted o = is_noted o
 same_outcome (outcomes_are.CutAt from to) o = is_cut_at from to o
 same_outcome outcomes_are.Merged o = is_merged o
+same_outcome (outcomes_are.Reborn pairs) o = is_reborn pairs o

@@ -24,13 +24,16 @@ without_value (steps_are.Update pid topic key meta) = steps_are.Update pid topic
 without_value (steps_are.Shout topic payload) = steps_are.Shout topic null
 without_value s = s
 
-abbrev pub is_merge : Step → Bool
-is_merge (steps_are.Merge told) = true
-is_merge _ = false
+-- a merge or a rebirth
+abbrev pub is_unlike : Step → Bool
+is_unlike (steps_are.Merge told) = true
+is_unlike (steps_are.Rebirth incarnation) = true
+is_unlike _ = false
 
--- the steps are equal, their metas and payloads as compact text; a merge, which has no seat, is like no step
+-- the steps are equal, their metas and payloads as compact text; a merge and a rebirth, which have no seat, are like no
+-- step
 pub record AreAlike (a b : Step) : Type 0 where
-  pub no_merge : is_merge a ≡ false
+  pub seated : is_unlike a ≡ false
   pub rest : without_value a ≡ without_value b
   pub text : compact_text (value_of a) ≡ compact_text (value_of b)
 

@@ -1,11 +1,12 @@
 // Whether two outcomes are the same.
-ghost use Rattle.std.specs.Prelude.{◌≡◌};
+ghost use Rattle.std.specs.Prelude.{◌≡◌, ◌&&◌};
 ghost use Rattle.shard_pool_settled.specs.Alike.{same_dots, same_outcome, is_added, is_already_tracked, is_replaced};
 ghost use Rattle.shard_pool_settled.specs.Alike.{is_no_presence, is_removed, is_shown, is_subscribed, is_taken};
 ghost use Rattle.shard_pool_settled.specs.Alike.{is_ended, is_sent, is_noted, is_cut_at, is_merged};
+ghost use Rattle.shard_pool_settled.specs.Alike.{same_pairs, is_reborn};
 
 use presence_base::Dot;
-use presence_journal::{Dots, Outcome};
+use presence_journal::{Dots, Outcome, Pairs};
 
 fn are_dots_alike(a: &Dots, b: &Dots) -> bool
     ensures { result ≡ same_dots a.now b.now }
@@ -130,6 +131,21 @@ fn is_that_merged(outcome: &Outcome) -> bool
     }
 }
 
+fn are_pairs_alike(a: &Pairs, b: &Pairs) -> bool
+    ensures { result ≡ same_pairs a.now b.now }
+{
+    a.as_slice().cmp(b.as_slice()).is_eq()
+}
+
+fn is_that_reborn(pairs: &Pairs, outcome: &Outcome) -> bool
+    ensures { result ≡ is_reborn pairs.now outcome.now }
+{
+    match outcome {
+        Outcome::Reborn(ps) => are_pairs_alike(ps, pairs),
+        _ => false,
+    }
+}
+
 pub(crate) fn are_outcomes_alike(a: &Outcome, b: &Outcome) -> bool
     ensures { result ≡ same_outcome a.now b.now }
 {
@@ -147,5 +163,6 @@ pub(crate) fn are_outcomes_alike(a: &Outcome, b: &Outcome) -> bool
         Outcome::Noted => is_that_noted(b),
         Outcome::CutAt(from, to) => is_that_cut_at(*from, *to, b),
         Outcome::Merged => is_that_merged(b),
+        Outcome::Reborn(pairs) => is_that_reborn(pairs, b),
     }
 }

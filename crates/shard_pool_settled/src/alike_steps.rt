@@ -218,6 +218,6 @@ pub(crate) fn are_steps_alike(a: &Step, b: &Step) -> bool
         Step::Tick { now } => is_that_tick(*now, b),
         Step::PermDown { replica } => is_that_permdown(replica, b),
         Step::Cut => is_a_cut(b),
-        Step::Merge { told: _ } => false,
+        Step::Merge { told: _ } | Step::Rebirth { incarnation: _ } => false,
     }
 }
