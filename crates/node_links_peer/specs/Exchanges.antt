@@ -1,5 +1,5 @@
 -- The exchanges of a link: what a node does for each line that comes.
-use Rattle.std.specs.Prelude.{ℕ, Bool, true, nat_le, cond, ◌==◌, List, [], ◌∷◌, ◌++◌, Option, Some, None, Result, Ok, Err}
+use Rattle.std.specs.Prelude.{ℕ, Bool, true, false, nat_le, cond, ◌==◌, List, [], ◌∷◌, ◌++◌, slice_index_or, Option, Some, None, Result, Ok, Err}
 use Rattle.presence_base.specs.declared.dots.Replica.{Replica}
 use Rattle.presence_base.specs.Order.{same_replica}
 use Rattle.orswot_core_told.specs.declared.form.Form.{Form}
@@ -16,10 +16,11 @@ use Rattle.node_links_peer.specs.declared.action.LinkAction.TheVariants as actio
 use Rattle.node_links_peer.specs.declared.peer.End.{End}
 use Rattle.node_links_peer.specs.declared.peer.End.TheVariants.{Dialling, Accepting}
 
--- a node's own replica and number of shards, its end of the link, the highest form that it speaks, and who spoke at the other end,
--- with the link's form
+-- a node's own replica, and that of each shard by its number where some shard is still an earlier one; how many shards there
+-- are; its end of the link, the highest form that it speaks, and who spoke at the other end, with the link's form
 pub record PeerValue : Type 0 where
   pub own : Replica
+  pub owns : Option (List Replica)
   pub shards : ℕ
   pub end : End
   pub speaks : Form
@@ -33,6 +34,11 @@ who (Some x) = Some x.0
 abbrev pub link_form : Option (Replica × Form) → Option Form
 link_form None = None
 link_form (Some x) = Some x.1
+
+-- the node's own replica at a shard: where none is kept of it, that which its hello names
+abbrev pub own_at : Replica → Option (List Replica) → ℕ → Replica
+own_at own None k = own
+own_at own (Some owns) k = slice_index_or owns k own
 
 -- what a peer knows of the next line
 abbrev pub hearer_of : PeerValue → Hearer
@@ -58,6 +64,11 @@ lesser Two form = form
 abbrev pub next_form : Form → Form → Form
 next_form highest One = highest
 next_form highest Two = One
+
+-- a link of the first form is begun anew where this node speaks the second, and so does who is there
+abbrev pub begins_anew : (speaks theirs link : Form) → Bool
+begins_anew Two Two One = true
+begins_anew _ _ _ = false
 
 -- nothing is told, or what is told has the link's form
 abbrev pub is_told_in : Form → Option Telling → Bool
@@ -113,21 +124,22 @@ on_permdown own r = cond (same_replica r own) ok (actions_are.PermDown r ∷ ok)
 abbrev pub on_gone : Replica → Replica → Actions
 on_gone own r = cond (same_replica r own) (actions_are.GivenUp ∷ []) []
 
--- a line behind the hello, at the node that is this replica, on a link of this form: what is told in the other form is refused
--- before it is looked at whom the line is about
-abbrev pub later : Replica → Form → ℕ → Line → Result Actions LinkFault
-later own form now (lines_are.Hello r n v) = Err BadLine
-later own form now (lines_are.Beat k r c t) =
-    cond (is_told_in form t) (Ok (cond (same_replica r own) ok (on_beat now k r c t))) (Err BadLine)
-later own form now (lines_are.Want k r top) = Ok (on_want own form k r top)
-later own form now (lines_are.Told k t) = cond (is_told_in form (Some t)) (Ok (on_told k t)) (Err BadLine)
-later own form now (lines_are.PermDown r) = Ok (on_permdown own r)
-later own form now (lines_are.Gone r) = Ok (on_gone own r)
-later own form now lines_are.Ok = Ok []
+-- A line behind the hello, at the node that is this replica, and at its shards those, on a link of this form. A beat and a want are
+-- of a shard, and so about what that shard is; the others are about the node. What is told in the other form is refused before
+-- it is looked at whom the line is about.
+abbrev pub later : Replica → Option (List Replica) → Form → ℕ → Line → Result Actions LinkFault
+later own owns form now (lines_are.Hello r n v) = Err BadLine
+later own owns form now (lines_are.Beat k r c t) =
+    cond (is_told_in form t) (Ok (cond (same_replica r (own_at own owns k)) ok (on_beat now k r c t))) (Err BadLine)
+later own owns form now (lines_are.Want k r top) = Ok (on_want (own_at own owns k) form k r top)
+later own owns form now (lines_are.Told k t) = cond (is_told_in form (Some t)) (Ok (on_told k t)) (Err BadLine)
+later own owns form now (lines_are.PermDown r) = Ok (on_permdown own r)
+later own owns form now (lines_are.Gone r) = Ok (on_gone own r)
+later own owns form now lines_are.Ok = Ok []
 
 abbrev pub actions_by : PeerValue → ℕ → Line → Option (Replica × Form) → Result Actions LinkFault
 actions_by p now line None = at_first p line
-actions_by p now line (Some x) = later p.own x.1 now line
+actions_by p now line (Some x) = later p.own p.owns x.1 now line
 
 -- what a line asks for at this time, or why it is refused
 abbrev pub actions_of : PeerValue → ℕ → Line → Result Actions LinkFault
@@ -140,4 +152,5 @@ known_from p _ = p.other
 
 -- the peer behind a line that was not refused
 abbrev pub after : PeerValue → Line → PeerValue
-after p line = record { own = p.own; shards = p.shards; end = p.end; speaks = p.speaks; other = known_from p line }
+after p line =
+    record { own = p.own; owns = p.owns; shards = p.shards; end = p.end; speaks = p.speaks; other = known_from p line }

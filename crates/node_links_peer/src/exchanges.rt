@@ -1,5 +1,5 @@
 // What each line asks for.
-ghost use Rattle.std.specs.Prelude.{◌≡◌, ◌++◌, ◌∷◌, [], cond, Some, None, Ok, OnOk, IfErr};
+ghost use Rattle.std.specs.Prelude.{◌≡◌, ◌++◌, ◌∷◌, [], cond, Some, None, Ok, OnOk, IfErr, option_map};
 ghost use Rattle.presence_base.specs.Order.{same_replica};
 ghost use Rattle.node_links_members.specs.declared.fault.LinkFault.TheVariants.{OutOfMemory};
 ghost use Rattle.node_links_lines.specs.declared.lines.Line.TheVariants as lines_are;
@@ -8,6 +8,7 @@ ghost use Rattle.node_links_peer.specs.Exchanges.{answer as answer_of, greeting_
 
 use crate::action::LinkAction;
 use crate::forms::version_of;
+use crate::owns::Owns;
 use crate::peer::End;
 use node_links_lines::{Line, LinkFault, Telling};
 use orswot_core::Form;
@@ -155,26 +156,27 @@ fn on_beat(alloc: Global, beat: Beat, now: u64) -> Result<Vec<LinkAction>, LinkF
     Ok(actions)
 }
 
-// A beat of another replica, or of the node's own.
+// A beat of another replica, or of the shard's own.
 fn on_any_beat(
     alloc: Global,
-    own: &Replica,
+    owns: &Owns,
     form: Form,
     beat: Beat,
     now: u64,
 ) -> Result<Vec<LinkAction>, LinkFault>
-    ensures { Gives (λ v. v.items) result (later_of own.now form now (lines_are.Beat beat.shard beat.replica beat.count beat.delta)) }
+    ensures { Gives (λ v. v.items) result (later_of owns.now.node (option_map (λ v. v.items) owns.now.shards) form now
+        (lines_are.Beat beat.shard beat.replica beat.count beat.delta)) }
 {
     if !is_told_in(form, &beat.delta) {
         return Err(LinkFault::BadLine);
     }
-    if is_same(&beat.replica, own) {
+    if is_same(&beat.replica, &owns.at(beat.shard)) {
         return answer(alloc, Line::Ok);
     }
     on_beat(alloc, beat, now)
 }
 
-// What is wanted: above the top where that is the node's own.
+// What is wanted: above the top where that is the shard's own.
 fn wanted_from(own: &Replica, replica: &Replica, top: u64) -> Option<u64>
     ensures { result ≡ cond (same_replica replica.now own.now) (Some top) None }
 {
@@ -214,15 +216,16 @@ fn on_gone(alloc: Global, own: &Replica, replica: &Replica) -> Result<Vec<LinkAc
     Ok(Vec::new(alloc))
 }
 
-// A line behind the hello, at the node that is this replica, on a link of this form.
+// A line behind the hello, at the node that is this, on a link of this form.
 pub(crate) fn later(
     alloc: Global,
-    own: &Replica,
+    owns: &Owns,
     form: Form,
     line: Line,
     now: u64,
 ) -> Result<Vec<LinkAction>, LinkFault>
-    ensures { Gives (λ v. v.items) result (later_of own.now form now line) }
+    ensures { Gives (λ v. v.items) result
+        (later_of owns.now.node (option_map (λ v. v.items) owns.now.shards) form now line) }
 {
     match line {
         Line::Hello { .. } => Err(LinkFault::BadLine),
@@ -238,14 +241,14 @@ pub(crate) fn later(
                 count,
                 delta,
             };
-            on_any_beat(alloc, own, form, beat, now)
+            on_any_beat(alloc, owns, form, beat, now)
         },
         Line::Want {
             shard,
             replica,
             top,
         } => {
-            let from = wanted_from(own, &replica, top);
+            let from = wanted_from(&owns.at(shard), &replica, top);
             one(alloc, LinkAction::AnswerTold { shard, from, form })
         },
         Line::Told { shard, told } => {
@@ -254,8 +257,8 @@ pub(crate) fn later(
             }
             on_told(alloc, shard, told)
         },
-        Line::PermDown { replica } => on_permdown(alloc, own, replica),
-        Line::Gone { replica } => on_gone(alloc, own, &replica),
+        Line::PermDown { replica } => on_permdown(alloc, &owns.node, replica),
+        Line::Gone { replica } => on_gone(alloc, &owns.node, &replica),
         Line::Ok => Ok(Vec::new(alloc)),
     }
 }

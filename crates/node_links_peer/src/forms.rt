@@ -1,6 +1,6 @@
 // The form of a link.
 ghost use Rattle.std.specs.Prelude.{◌≡◌};
-ghost use Rattle.node_links_peer.specs.Exchanges.{form_told as form_told_of, version_of as version_told, lesser as lesser_of, next_form as next_form_of};
+ghost use Rattle.node_links_peer.specs.Exchanges.{form_told as form_told_of, version_of as version_told, lesser as lesser_of, next_form as next_form_of, begins_anew as begins_anew_of};
 
 use orswot_core::Form;
 
@@ -44,5 +44,16 @@ pub fn next_form(highest: Form, form: Form) -> Form
     match form {
         Form::One => highest,
         Form::Two => Form::One,
+    }
+}
+
+/// Whether a link of a form is dialled anew, in the second: where it is of the first, while this node speaks the second and
+/// so does the other node, by the last hello that came from there.
+pub fn begins_anew(speaks: Form, theirs: Form, link: Form) -> bool
+    ensures { result ≡ begins_anew_of speaks theirs link }
+{
+    match (speaks, theirs, link) {
+        (Form::Two, Form::Two, Form::One) => true,
+        _ => false,
     }
 }

@@ -7,8 +7,9 @@
 mod action;
 mod exchanges;
 mod forms;
+mod owns;
 mod peer;
 
 pub use action::LinkAction;
-pub use forms::{form_told, next_form};
+pub use forms::{begins_anew, form_told, next_form};
 pub use peer::{End, Peer};

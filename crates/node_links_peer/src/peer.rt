@@ -1,10 +1,11 @@
-ghost use Rattle.std.specs.Prelude.{◌≡◌, ◌≤◌, None, OnOk, OnErr};
+ghost use Rattle.std.specs.Prelude.{◌≡◌, ◌≤◌, None, Some, OnOk, OnErr};
 ghost use Rattle.node_links_lines.specs.Results.{Gives};
 ghost use Rattle.node_links_peer.specs.Exchanges.{at_first, actions_of, after, who, link_form, hearer_of, hello_of};
 
 use crate::action::LinkAction;
 use crate::exchanges::{greeting, later};
 use crate::forms::{form_told, lesser, version_of};
+use crate::owns::Owns;
 use node_links_lines::{Hearer, Line, LinkFault};
 use orswot_core::Form;
 use presence_base::Replica;
@@ -21,7 +22,7 @@ pub enum End {
 /// What one end of a link knows of the other one: whether its hello came, who it is, and in which form the two tell.
 #[derive(Drop)]
 pub struct Peer {
-    own: Replica,
+    owns: Owns,
     shards: u32,
     end: End,
     speaks: Form,
@@ -29,12 +30,19 @@ pub struct Peer {
 }
 
 impl Model for Peer {
-    ghost use Rattle.std.specs.Prelude.{◌≤◌};
+    ghost use Rattle.std.specs.Prelude.{◌≤◌, option_map};
     ghost use Rattle.node_links_peer.specs.Exchanges.{PeerValue};
 
     ghost Value = { PeerValue };
 
-    ghost view = { λ p. record { own = p.own; shards = p.shards; end = p.end; speaks = p.speaks; other = p.other } };
+    ghost view = { λ p. record {
+      own = p.owns.node;
+      owns = option_map (λ v. v.items) p.owns.shards;
+      shards = p.shards;
+      end = p.end;
+      speaks = p.speaks;
+      other = p.other;
+    } };
 
     ghost invariant = { λ p. 1 ≤ p.shards };
 }
@@ -44,10 +52,13 @@ impl Peer {
     /// form: at the dialling end that which its hello tells.
     pub fn new(own: Replica, shards: u32, end: End, speaks: Form) -> Peer
         requires { 1 ≤ shards }
-        ensures { result ≡ record { own = own; shards = shards; end = end; speaks = speaks; other = None } }
+        ensures { result ≡ record { own = own; owns = None; shards = shards; end = end; speaks = speaks; other = None } }
     {
         Peer {
-            own,
+            owns: Owns {
+                node: own,
+                shards: None,
+            },
             shards,
             end,
             speaks,
@@ -55,12 +66,35 @@ impl Peer {
         }
     }
 
+    /// The same end, at a node of which some shard is still an earlier replica: these are what its shards are, by their numbers.
+    pub fn with_owns(self, owns: Vec<Replica>) -> Peer
+        ensures { result ≡ record {
+          own = self.own;
+          owns = Some owns.items;
+          shards = self.shards;
+          end = self.end;
+          speaks = self.speaks;
+          other = self.other;
+        } }
+    {
+        let mut peer = self;
+        peer.owns.shards = Some(owns);
+        peer
+    }
+
+    /// The replica that this node is, as its hello names it.
+    pub fn own(&self) -> Replica
+        ensures { result ≡ self.now.own }
+    {
+        self.owns.node
+    }
+
     /// The hello that this end tells: of a dialling end the first line.
     pub fn hello(&self) -> Line
         ensures { result ≡ hello_of self.now }
     {
         Line::Hello {
-            replica: self.own,
+            replica: self.owns.node,
             shards: self.shards,
             version: version_of(self.speaks),
         }
@@ -120,7 +154,7 @@ impl Peer {
         ensures err { OnErr result (self.new ≡ self.old) }
     {
         match self.other {
-            Some((_, form)) => later(alloc, &self.own, form, line, now),
+            Some((_, form)) => later(alloc, &self.owns, form, line, now),
             None => self.greeted(alloc, line),
         }
     }
@@ -144,7 +178,7 @@ impl Peer {
             return Err(LinkFault::OtherShards);
         }
         let form = lesser(self.speaks, form_told(version));
-        let actions = greeting(alloc, self.own, self.shards, self.end, form)?;
+        let actions = greeting(alloc, self.owns.node, self.shards, self.end, form)?;
         self.other = Some((replica, form));
         Ok(actions)
     }

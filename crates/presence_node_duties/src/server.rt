@@ -176,7 +176,7 @@ impl<'a, H, A: Lane, B: Lane, C: Lane, D: Lane> Wakes for Server<'a, H, A, B, C,
 
 impl<R, H, A, B, C, D> Crew<R, Workplace<A, B, C, D>, Door, LinkTask> for Server<'_, H, A, B, C, D>
 where
-    R: Net<Listener = TcpListener, Stream = TcpStream> + Wait + Clock + Eprint,
+    R: Net<Listener = TcpListener, Stream = TcpStream> + Wait + Clock + Print + Eprint,
     H: PresenceHooks,
     A: Lane,
     B: Lane,

@@ -2,6 +2,7 @@
 ghost use Rattle.std.specs.Prelude.{◌≡◌};
 
 use crate::links::{Cuts, Links, Place, Wakes};
+use crate::lives::{given_up, owning};
 use crate::serving::{coming_from, end_of};
 use delta_range::Delta;
 use node_links::{DialFault, End, Line, LinkFault, Outcome, Peer, Untold, exchange, next_form};
@@ -67,6 +68,8 @@ impl Dialler {
 struct Dialled<'a, R: Clock> {
     stream: LinkStream<'a, R>,
     peer: Peer,
+    // The turn of the links in which it was begun.
+    turn: u64,
     // When it came up.
     since: u64,
     has_stood: bool,
@@ -77,6 +80,7 @@ impl<R: Clock> Drop for Dialled<'_, R> {
         let Dialled {
             stream,
             peer,
+            turn: _,
             since: _,
             has_stood: _,
         } = self;
@@ -134,7 +138,7 @@ fn say<R, G, A, B, C, D, W>(
     line: &Line,
 ) -> Result<Option<Untold>, LinkEnd>
 where
-    R: Wait + Clock + Eprint,
+    R: Wait + Clock + Print + Eprint,
     G: Gate,
     A: Lane,
     B: Lane,
@@ -144,7 +148,7 @@ where
     requires { links.now.shards ≡ pool.now.shards }
 {
     let mut port = PoolLinkPort::new(rt, pool, links.shards);
-    port.looks_for(links.own);
+    port.looks_for(link.peer.own());
     let done = exchange(
         links.alloc,
         &mut link.stream,
@@ -164,15 +168,15 @@ where
     }
     match done {
         Ok(Outcome::Untold(untold)) => Ok(Some(untold)),
-        Ok(Outcome::GivenUp) => Err(LinkEnd::GivenUp),
+        Ok(Outcome::GivenUp) => Err(given_up(rt, links, pool, wakes, &link.peer.own())),
         Ok(Outcome::Done) if link.stream.is_ended() => Err(LinkEnd::Closed),
         Ok(Outcome::Done) => Ok(None),
         Err(fault) => Err(end_of(links, fault)),
     }
 }
 
-// A link to the node that is dialled, behind its hello, and who is there. The form is that of this node's hello, and then
-// that of its next one.
+// A link to the node that is dialled, behind its hello and the first line of this node's life, and who is there. The form is
+// that of this node's hello, and then that of its next one.
 fn link_to<'a, R, G, A, B, C, D, W>(
     rt: &'a R,
     links: &'a Links,
@@ -182,7 +186,7 @@ fn link_to<'a, R, G, A, B, C, D, W>(
     form: &mut Form,
 ) -> Result<(Dialled<'a, R>, Replica), LinkEnd>
 where
-    R: Net<Listener = TcpListener, Stream = TcpStream> + Wait + Clock + Eprint,
+    R: Net<Listener = TcpListener, Stream = TcpStream> + Wait + Clock + Print + Eprint,
     G: Gate,
     A: Lane,
     B: Lane,
@@ -203,9 +207,12 @@ where
     };
     let speaks = *form;
     *form = next_form(links.speaks, speaks);
+    let life = links.life(rt);
+    let peer = Peer::new(life.own, links.shards, End::Dialling, speaks);
     let mut link = Dialled {
         stream,
-        peer: links.peer(End::Dialling, speaks),
+        peer: owning(rt, links, pool, peer),
+        turn: life.turn,
         since: time_behind(rt, 0),
         has_stood: false,
     };
@@ -215,7 +222,10 @@ where
         return Err(LinkEnd::Closed);
     };
     *form = links.speaks;
-    greeted(&links.own, Some(dialler.name), &other)?;
+    greeted(&life.own, Some(dialler.name), &other)?;
+    if let Some(line) = life.first_line() {
+        let _untold = say(rt, links, pool, wakes, &mut link, dialler.place(), &line)?;
+    }
     Ok((link, other))
 }
 
@@ -246,7 +256,7 @@ fn send_all<R, G, A, B, C, D, W>(
     cuts: &[(u32, Arc<Delta>)],
 ) -> Result<(), Broken>
 where
-    R: Wait + Clock + Eprint,
+    R: Wait + Clock + Print + Eprint,
     G: Gate,
     A: Lane,
     B: Lane,
@@ -329,6 +339,36 @@ impl<'a, R: Clock> State<'a, R> {
         links.tell_down(rt, dialler.place(), end);
     }
 
+    // A link that was begun before the links began anew ends: whether one did.
+    fn ends_old(&mut self, rt: &R, links: &Links, dialler: &Dialler) -> bool
+    where
+        R: Wait + Eprint,
+    {
+        let is_old = match &self.link {
+            Some(link) => !links.life(rt).is_of(link.turn),
+            None => false,
+        };
+        if is_old {
+            self.goes(rt, links, dialler, LinkEnd::Reborn);
+        }
+        is_old
+    }
+
+    // A link of the first form ends where the other node speaks the second, as this one does: it is dialled in that.
+    fn ends_lower(&mut self, links: &Links, dialler: &Dialler) {
+        let Some(link) = &self.link else {
+            return;
+        };
+        let Some(form) = link.peer.form() else {
+            return;
+        };
+        if links.dials_higher(dialler.number, form) {
+            links.tallies.count_down();
+            self.link = None;
+            self.form = links.speaks;
+        }
+    }
+
     // Says that the link has stood for a while, once, and that the other node doesn't dial this one, where it doesn't.
     fn stands(&mut self, rt: &R, links: &Links, dialler: &Dialler)
     where
@@ -361,7 +401,7 @@ impl<'a, R: Clock> State<'a, R> {
         dialler: &Dialler,
     )
     where
-        R: Net<Listener = TcpListener, Stream = TcpStream> + Wait + Clock + Eprint,
+        R: Net<Listener = TcpListener, Stream = TcpStream> + Wait + Clock + Print + Eprint,
         G: Gate,
         A: Lane,
         B: Lane,
@@ -394,7 +434,7 @@ impl<'a, R: Clock> State<'a, R> {
         cuts: &[(u32, Arc<Delta>)],
     )
     where
-        R: Wait + Clock + Eprint,
+        R: Wait + Clock + Print + Eprint,
         G: Gate,
         A: Lane,
         B: Lane,
@@ -423,7 +463,7 @@ impl<'a, R: Clock> State<'a, R> {
         cuts: &[(u32, Arc<Delta>)],
     )
     where
-        R: Net<Listener = TcpListener, Stream = TcpStream> + Wait + Clock + Eprint,
+        R: Net<Listener = TcpListener, Stream = TcpStream> + Wait + Clock + Print + Eprint,
         G: Gate,
         A: Lane,
         B: Lane,
@@ -435,13 +475,16 @@ impl<'a, R: Clock> State<'a, R> {
         let first = self.first;
         let at = cuts.iter().position(|cut| cut.0 >= first).unwrap_or(0);
         let (later, sooner) = cuts.split_at(at);
+        let _ended = self.ends_old(rt, links, dialler);
+        self.ends_lower(links, dialler);
         self.comes(rt, links, pool, wakes, dialler);
         self.sends(rt, links, pool, wakes, dialler, sooner);
         self.sends(rt, links, pool, wakes, dialler, later);
         self.stands(rt, links, dialler);
     }
 
-    // This node says that it has ended, if the link is up. One that was cut since it stops is dialled once more for that.
+    // This node says that it has ended, if the link is up. One that was cut since it stops, or is of an earlier turn, is
+    // dialled once more for that.
     fn leaves<G, A, B, C, D, W>(
         &mut self,
         rt: &'a R,
@@ -451,7 +494,7 @@ impl<'a, R: Clock> State<'a, R> {
         dialler: &Dialler,
     )
     where
-        R: Net<Listener = TcpListener, Stream = TcpStream> + Wait + Clock + Eprint,
+        R: Net<Listener = TcpListener, Stream = TcpStream> + Wait + Clock + Print + Eprint,
         G: Gate,
         A: Lane,
         B: Lane,
@@ -460,13 +503,16 @@ impl<'a, R: Clock> State<'a, R> {
         W: Wakes,
         requires { links.now.shards ≡ pool.now.shards }
     {
-        if self.was_cut {
+        let is_old = self.ends_old(rt, links, dialler);
+        if self.was_cut || is_old {
             self.comes(rt, links, pool, wakes, dialler);
         }
         let Some(link) = &mut self.link else {
             return;
         };
-        let line = Line::PermDown { replica: links.own };
+        let line = Line::PermDown {
+            replica: link.peer.own(),
+        };
         let _told = say(rt, links, pool, wakes, link, dialler.place(), &line);
         self.goes(rt, links, dialler, LinkEnd::Stopped);
     }
@@ -482,7 +528,7 @@ fn send_posted<'a, R, G, A, B, C, D, W>(
     mailbox: &Cuts,
 )
 where
-    R: Net<Listener = TcpListener, Stream = TcpStream> + Wait + Clock + Eprint,
+    R: Net<Listener = TcpListener, Stream = TcpStream> + Wait + Clock + Print + Eprint,
     G: Gate,
     A: Lane,
     B: Lane,
@@ -518,7 +564,7 @@ pub(crate) fn dial_one<R, G, A, B, C, D, W>(
     dialler: &Dialler,
 )
 where
-    R: Net<Listener = TcpListener, Stream = TcpStream> + Wait + Clock + Eprint,
+    R: Net<Listener = TcpListener, Stream = TcpStream> + Wait + Clock + Print + Eprint,
     G: Gate,
     A: Lane,
     B: Lane,

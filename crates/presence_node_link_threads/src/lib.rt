@@ -6,13 +6,16 @@
 //!
 //! Its contracts cite these definitions:
 //! - `specs/Tasks`: what the threads of links do, and what a node that is dialled adds to it
+//! - `specs/Lives`: what comes of a shard that is to go on under a higher incarnation
 #![tactic(auto)]
 
 mod book;
+mod cutting;
 mod dialling;
 mod incoming;
 pub mod laws;
 mod links;
+mod lives;
 mod serving;
 mod tallies;
 mod tasks;

@@ -5,16 +5,17 @@ use crate::book::{Begun, Book};
 use crate::incoming::Waiting;
 use crate::tallies::{LinkTallies, Tallies};
 use delta_range::Delta;
-use node_links::{End, Peer};
+use node_links::begins_anew;
 use orswot_core_told::Form;
 use presence_base::{NodeName, Replica};
 use presence_node_link_streams::Stopping;
-use presence_node_link_words::{LinkEnd, LinkWarning, down_line, up_line, warning_line};
+use presence_node_link_words::{Life, LinkEnd, LinkWarning, down_line, up_line, warning_line};
 use presence_node_mailboxes::Mailbox;
 use presence_node_sockets::Bell;
 use std::alloc::Global;
 use std::sync::atomic::{AtomicBool, AtomicU64, Ordering};
 use std::sync::{Arc, Mutex, Wait};
+use std::time::Clock;
 
 /// What the shards did in a period, for one node that is dialled. Its beats are made in its link's form.
 pub(crate) type Cuts = Mailbox<Arc<Delta>>;
@@ -35,7 +36,9 @@ pub(crate) struct Place<'a> {
 /// What the threads of links share.
 pub struct Links {
     pub(crate) alloc: Global,
-    pub(crate) own: Replica,
+    /// The life of the node that its links speak of. No other lock but a shard's, a mailbox's and what wakes clients is taken
+    /// under this one.
+    pub(crate) life: Mutex<Life>,
     pub(crate) shards: u32,
     /// The highest form in which this node tells and is told.
     pub(crate) speaks: Form,
@@ -45,6 +48,8 @@ pub struct Links {
     pub(crate) dialled: Vec<NodeName>,
     /// The number of the link that came in last from each of these.
     pub(crate) newest: Vec<AtomicU64>,
+    /// Whether the last hello from each of these was of the second form.
+    pub(crate) speak_two: Vec<AtomicBool>,
     pub(crate) waiting: Waiting,
     pub(crate) book: Mutex<Book>,
     /// The time that was handed in last, in milliseconds.
@@ -61,12 +66,13 @@ impl Drop for Links {
     fn drop(self) {
         let Links {
             alloc: _,
-            own: _,
+            life,
             shards: _,
             speaks: _,
             mailboxes,
             dialled,
             newest,
+            speak_two,
             waiting,
             book,
             time,
@@ -75,9 +81,11 @@ impl Drop for Links {
             has_met,
             tallies,
         } = self;
+        drop(life);
         drop(mailboxes);
         drop(dialled);
         drop(newest);
+        drop(speak_two);
         drop(waiting);
         drop(book);
         drop(time);
@@ -89,7 +97,7 @@ impl Drop for Links {
 }
 
 impl Links {
-    ghost use Rattle.std.specs.Prelude.{◌≡◌, None};
+    ghost use Rattle.std.specs.Prelude.{◌≡◌};
 
     /// How many shards the node has.
     pub fn shards(&self) -> u32
@@ -117,11 +125,17 @@ impl Links {
         }
     }
 
-    // One end of a link, before any line came, which speaks up to this form.
-    pub(crate) fn peer(&self, end: End, speaks: Form) -> Peer
-        ensures { result ≡ record { own = self.now.own; shards = self.now.shards; end = end; speaks = speaks; other = None } }
-    {
-        Peer::new(self.own, self.shards, end, speaks)
+    /// The life of the node that a link which begins now speaks of.
+    pub(crate) fn life<R: Wait>(&self, rt: &R) -> Life {
+        let life = self.life.lock(rt);
+        *life
+    }
+
+    /// Beats that were posted and not taken are never sent.
+    pub(crate) fn forget_posted<R: Wait + Clock>(&self, rt: &R) {
+        for mailbox in self.mailboxes.iter() {
+            let _old = mailbox.take(rt, self.alloc, 0);
+        }
     }
 
     // The same cuts once more: those for which there is memory.
@@ -157,6 +171,29 @@ impl Links {
             Some(at) => self.newest.get(at),
             None => None,
         }
+    }
+
+    /// A node that may be one of those that are dialled said hello in this form.
+    pub(crate) fn note_form(&self, name: NodeName, form: Form) {
+        let Some(at) = self.dialled.iter().position(|dialled| *dialled == name) else {
+            return;
+        };
+        if let Some(speaks_two) = self.speak_two.get(at) {
+            speaks_two.store(form == Form::Two, Ordering::SeqCst);
+        }
+    }
+
+    // The form of the last hello that came from the node that is dialled in this place.
+    fn form_at(&self, number: usize) -> Form {
+        match self.speak_two.get(number) {
+            Some(speaks_two) if speaks_two.load(Ordering::SeqCst) => Form::Two,
+            _ => Form::One,
+        }
+    }
+
+    /// Whether a link of this form to the node that is dialled in this place ends, and is dialled in the second.
+    pub(crate) fn dials_higher(&self, number: usize, form: Form) -> bool {
+        begins_anew(self.speaks, self.form_at(number), form)
     }
 
     /// A link of this node came in at this time.

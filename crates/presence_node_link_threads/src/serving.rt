@@ -4,6 +4,7 @@ ghost use Rattle.std.specs.Prelude.{◌≡◌};
 use crate::dialling::STANDING_MILLISECONDS;
 use crate::incoming::ANYBODY;
 use crate::links::{Links, Place, Wakes};
+use crate::lives::owning;
 use node_links::{DialFault, End, Line, LinkFault, LinkPort, Peer, answer_line, read_line};
 use presence_base::Replica;
 use presence_node_link_ports::{Gate, Lane, Pool, PoolLinkPort};
@@ -83,6 +84,8 @@ pub(crate) fn end_of(links: &Links, fault: DialFault) -> LinkEnd {
 struct Incoming<'a, R: Clock> {
     stream: LinkStream<'a, R>,
     peer: Peer,
+    // The turn of the links in which it was begun.
+    turn: u64,
     origin: Origin,
     is_up: bool,
     // When it came up, and its number among those that did.
@@ -100,6 +103,7 @@ impl<R: Clock> Drop for Incoming<'_, R> {
         let Incoming {
             stream,
             peer,
+            turn: _,
             origin,
             is_up: _,
             since: _,
@@ -121,10 +125,13 @@ impl<'a, R: Clock> Incoming<'a, R> {
     where
         R: Wait + Eprint,
     {
-        greeted(&links.own, None, other)?;
+        greeted(&self.peer.own(), None, other)?;
         if !is_welcome(links.dialled.as_slice(), &other.name) {
             self.names(links, other);
             return Err(LinkEnd::NotAPeer);
+        }
+        if let Some(form) = self.peer.form() {
+            links.note_form(other.name, form);
         }
         self.begins(rt, links, other);
         self.says_up(rt, links, other);
@@ -264,7 +271,7 @@ impl<'a, R: Clock> Incoming<'a, R> {
         }
     }
 
-    // One exchange.
+    // One exchange, unless the links began anew since this one was begun.
     fn exchange<G, A, B, C, D, W>(
         &mut self,
         rt: &R,
@@ -283,8 +290,11 @@ impl<'a, R: Clock> Incoming<'a, R> {
         requires { links.now.shards ≡ pool.now.shards }
     {
         let line = self.next_line(rt, links)?;
+        if !links.life(rt).is_of(self.turn) {
+            return Err(LinkEnd::Reborn);
+        }
         let mut port = PoolLinkPort::new(rt, pool, links.shards);
-        port.looks_for(links.own);
+        port.looks_for(self.peer.own());
         if self.counts_below(links.alloc, &mut port, &line) {
             links.tell_odd(rt, self.origin.place(), LinkWarning::CountsBelow);
         }
@@ -326,11 +336,21 @@ impl<R: Wait + Clock + Eprint> Incoming<'_, R> {
 }
 
 // The link of this socket, unless there is no memory or the system refuses it.
-fn incoming_of<'a, R: Wait + Clock + Eprint>(
+fn incoming_of<'a, R, G, A, B, C, D>(
     rt: &'a R,
     links: &'a Links,
+    pool: &Pool<G, A, B, C, D>,
     socket: TcpStream,
-) -> Option<Incoming<'a, R>> {
+) -> Option<Incoming<'a, R>>
+where
+    R: Wait + Clock + Eprint,
+    G: Gate,
+    A: Lane,
+    B: Lane,
+    C: Lane,
+    D: Lane,
+    requires { links.now.shards ≡ pool.now.shards }
+{
     let Ok(origin) = Origin::of(links.alloc, &socket) else {
         return None;
     };
@@ -339,9 +359,12 @@ fn incoming_of<'a, R: Wait + Clock + Eprint>(
         links.tell_down(rt, origin.place(), LinkEnd::Fault(fault));
         return None;
     };
+    let life = links.life(rt);
+    let peer = Peer::new(life.own, links.shards, End::Accepting, links.speaks);
     Some(Incoming {
         stream,
-        peer: links.peer(End::Accepting, links.speaks),
+        peer: owning(rt, links, pool, peer),
+        turn: life.turn,
         origin,
         is_up: false,
         since: 0,
@@ -402,7 +425,7 @@ where
         let Some(socket) = links.waiting.take(rt) else {
             break;
         };
-        if let Some(mut incoming) = incoming_of(rt, links, socket) {
+        if let Some(mut incoming) = incoming_of(rt, links, pool, socket) {
             let end = serve_one(rt, links, pool, wakes, &mut incoming);
             incoming.ends(rt, links, end);
         }

@@ -15,7 +15,7 @@ use node_links::form_told;
 use presence_base::{NodeName, Replica};
 use presence_node_link_ports::{Gate, Lane, Pool};
 use presence_node_link_streams::Stopping;
-use presence_node_link_words::MAX_LINKS;
+use presence_node_link_words::{Life, MAX_LINKS};
 use presence_node_mailboxes::Mailbox;
 use presence_node_sockets::{Bell, Watch};
 use std::alloc::{AllocError, Global};
@@ -57,7 +57,7 @@ impl LinkTask {
         wakes: &W,
     )
     where
-        R: Net<Listener = TcpListener, Stream = TcpStream> + Wait + Clock + Eprint,
+        R: Net<Listener = TcpListener, Stream = TcpStream> + Wait + Clock + Print + Eprint,
         G: Gate,
         A: Lane,
         B: Lane,
@@ -137,6 +137,7 @@ impl LinkTasks {
         self.tasks.push(LinkTask::Dial(dialler))?;
         self.links.mailboxes.push(Mailbox::new(alloc))?;
         self.links.newest.push(AtomicU64::new(0))?;
+        self.links.speak_two.push(AtomicBool::new(false))?;
         self.links.dialled.push(name)?;
         Ok(())
     }
@@ -182,7 +183,6 @@ pub fn tasks_for<R: Net>(
 ) -> io::Result<LinkTasks>
     requires { 1 ≤ node.shards }
     ensures shards { IfOk result (λ t. t.links.shards ≡ node.shards) }
-    ensures own { IfOk result (λ t. t.links.own ≡ node.own) }
     ensures speaks { IfOk result (λ t. t.links.speaks ≡ form_of_version (Some node.version)) }
     ensures tasks { IfOk result (λ t. AreFirst MAX_LINKS t.tasks.items) }
     ensures dialled { IfOk result (λ t. t.links.mailboxes.items ≡ []) }
@@ -191,12 +191,13 @@ pub fn tasks_for<R: Net>(
     let tasks = first_tasks(alloc, door)?;
     let links = Links {
         alloc,
-        own: node.own,
+        life: Mutex::new(Life::first(node.own)),
         shards: node.shards,
         speaks: form_told(Some(u64::from(node.version))),
         mailboxes: Vec::new(alloc),
         dialled: Vec::new(alloc),
         newest: Vec::new(alloc),
+        speak_two: Vec::new(alloc),
         waiting: Waiting::new(alloc, MAX_LINKS),
         book: Mutex::new(Book::new(alloc)),
         time: AtomicU64::new(0),

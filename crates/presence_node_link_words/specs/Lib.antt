@@ -1,3 +1,4 @@
 pub mod Words
 pub mod Saying
 pub mod Warnings
+pub mod Lives

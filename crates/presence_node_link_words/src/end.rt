@@ -10,8 +10,10 @@ pub enum LinkEnd {
     Fault(DialFault),
     /// The other end closed it.
     Closed,
-    /// This node's own incarnation is gone at the other end.
+    /// This node's own incarnation is gone at the other end, and it can't go on under the next one.
     GivenUp,
+    /// This node has gone on under a higher incarnation since the link was begun.
+    Reborn,
     /// The other end has this node's own name and incarnation.
     OwnReplica,
     /// The other end has this node's own name.

@@ -1,13 +1,16 @@
-//! Who may be at the other end of a link, and what is said of a link: that it comes up, goes, or is odd.
+//! Who may be at the other end of a link, and what is said of a link: that it comes up, goes, or is odd; and what a node does
+//! that another one has given up.
 //!
 //! What its contracts cite:
 //! - `specs/Words`: who is refused, and the number of each refusal
 //! - `specs/Warnings`: what is said of what is odd about a link
 //! - `specs/Saying`: when it is said that a link is up
+//! - `specs/Lives`: the lives of a node, and which links are of which
 #![tactic(auto)]
 
 mod end;
 pub mod laws;
+mod lives;
 mod meeting;
 mod saying;
 mod warning;
@@ -15,6 +18,7 @@ mod warnings;
 mod words;
 
 pub use end::LinkEnd;
+pub use lives::{Came, Coming, Course, Life, is_due};
 pub use meeting::{greeted, is_welcome};
 pub use saying::Saying;
 pub use warning::LinkWarning;

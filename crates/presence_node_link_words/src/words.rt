@@ -100,8 +100,9 @@ fn end_words(end: LinkEnd) -> &'static str
         LinkEnd::Fault(DialFault::Link(fault)) => fault_words(fault),
         LinkEnd::Closed => "the other node closed it",
         LinkEnd::GivenUp => {
-            "this incarnation is gone at the other node: start this one with a higher --incarnation"
+            "this incarnation is gone at the other node, and this node can't go on under the next: start it with a higher --incarnation"
         }
+        LinkEnd::Reborn => "this node goes on under a higher incarnation",
         LinkEnd::OwnReplica => {
             "the other node has this node's own name and incarnation: was it started twice, or does a --peer lead back here?"
         }

@@ -50,7 +50,7 @@ pub(crate) const LINK_LISTEN_HELP: &str = "The address of the port of links [def
 
 pub(crate) const LINK_VERSION_HELP: &str =
     "Up to which version links are spoken, 1 or 2 [default: 2]
-1 is for a cluster that is upgraded node by node: other nodes are spoken to in their own version anyway";
+1 is for clusters that are upgraded node by node";
 
 pub(crate) const ORIGIN_HELP: &str = "Where pages may connect from; up to 64 times [default: any]
 As https://example.com; pages of other origins are refused";
@@ -149,7 +149,8 @@ in the journals, with status 0. Where calls and journals don't agree, standard e
 of the refusal, as not settled: P2, with status 4. A port in use ends it with status 1, want of
 memory with status 2. The end of standard input doesn't end it. Standard error has a line for each
 link that comes up, and one with the reason for each that goes or can't be had; it is dialled again
-after 1.5 seconds.
+after 1.5 seconds. Where another node has given it up it goes on as its next incarnation, with all
+its clients, and prints reborn and that number.
   P1  a worker's seat is missing
   P2  a call of a worker is in no journal
   P3  a journal has more calls, or fewer
