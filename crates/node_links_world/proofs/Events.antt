@@ -1,5 +1,5 @@
 -- What an event makes of a world, by what it makes of the lives.
-use Rattle.std.proofs.Common.{◌≡◌, ℕ, ◌^◌, Bool, true, false, cond, ◌&&◌, nat_lt, is_some, List, [], ◌∷◌, ◌++◌, slice_get, Option, Some, None, Result, Ok, Err, OnOk, OnErr, refl, sym, ◌∙◌, ap, subst}
+use Rattle.std.proofs.Common.{◌≡◌, ℕ, ◌^◌, Bool, true, false, cond, ◌&&◌, nat_lt, is_some, List, [], ◌∷◌, ◌++◌, slice_get, Option, Some, None, Result, Ok, Err, OnOk, OnErr, refl, sym, ◌∙◌, ap, subst, set}
 use Rattle.std.specs.FinMap as map
 use Rattle.presence_base.specs.declared.dots.Replica.{Replica}
 use Rattle.presence_base.specs.declared.dots.Dot.{Dot}
@@ -11,10 +11,11 @@ use Rattle.presence_journal_data.specs.declared.step.Step.TheVariants as steps_a
 use Rattle.presence_journal.specs.Steps.{Step, Outcome}
 use Rattle.presence_journal.specs.History.{last_number}
 use Rattle.presence_journal.specs.Table.{accepted, is_step}
-use Rattle.node_links_world_laws.specs.World.{LifeValue, Lives, WorldValue, with_replica, life_of, life_at, stepped, acted, acts, is_client, may_ask, added, with_row, CutsHere, Cuts, BeginsHere, Begins, Tells}
+use Rattle.node_links_world_laws.specs.World.{LifeValue, Lives, WorldValue, with_replica, life_of, life_at, stepped, acted, acts, is_client, may_ask, added, with_row, CutsHere, Cuts, BeginsHere, Begins, Tells, next_life, goes_on_as, rebirths}
 use Rattle.node_links_world_lives.specs.Living.{CutsIf, BeginsIf}
-use Rattle.node_links_world.specs.Lives.{TurnsIf, Turns, Steps, Begun, CutIf, Cut, ToldIf}
-use Rattle.node_links_world.specs.Worlds.{world, ActsTo, CutsTo, TellsTo}
+use Rattle.node_links_world_lives.specs.GoingOn.{going_on}
+use Rattle.node_links_world.specs.Lives.{TurnsIf, Turns, Steps, Begun, CutIf, Cut, ToldIf, next_of, GoesOnTo, GoesOn}
+use Rattle.node_links_world.specs.Worlds.{world, ActsTo, CutsTo, TellsTo, RebirthsTo}
 use Rattle.node_links_world.proofs.LifeFacts.{insert_same}
 
 -- ---- steps
@@ -121,6 +122,36 @@ pub begin_none : (old : Lives) (p : List Replica) (n : ℕ) (t : List ToldValue)
 begin_none old p n t f = subst (λ x. Begins (world old p t) (life_of (world old p t) x) (world old p t)) (sym f) refl
 
 pub ruleset beginning = (begin_some, begin_none)
+
+-- ---- rebirths
+
+goes_life : (old new : Lives) (p q : List Replica) (n i : ℕ) (r : Replica) (t : List ToldValue) (l : LifeValue) (a : Option Outcome) (b : Bool) → GoesOnTo (going_on i l a) old (next_life r i) new b
+    → q ≡ cond b (set p n (next_life r i)) p → world new q t ≡ goes_on_as (world old p t) n i (r, l) a
+goes_life old new p q n i r t l (Some (outcomes_are.Reborn pairs)) b g k = λ j. world (g.0 j) ((k ∙ ap (λ x. cond x (set p n (next_life r i)) p) g.1) j) t
+goes_life old new p q n i r t l None b g k = λ j. world (g.0 j) ((k ∙ ap (λ x. cond x (set p n (next_life r i)) p) g.1) j) t
+goes_life old new p q n i r t l (Some _) b g k = λ j. world (g.0 j) ((k ∙ ap (λ x. cond x (set p n (next_life r i)) p) g.1) j) t
+
+goes_at : (old new : Lives) (p q : List Replica) (n i : ℕ) (r : Replica) (t : List ToldValue) (o : Option LifeValue) (b : Bool) → GoesOnTo (next_of i o) old (next_life r i) new b
+    → q ≡ cond b (set p n (next_life r i)) p → world new q t ≡ rebirths (world old p t) n i (with_replica r o)
+goes_at old new p q n i r t None b g k = λ j. world (g.0 j) ((k ∙ ap (λ x. cond x (set p n (next_life r i)) p) g.1) j) t
+goes_at old new p q n i r t (Some l) b g k = goes_life old new p q n i r t l (accepted l.history (steps_are.Rebirth i)) b g k
+
+pub goes_here : (old new : Lives) (p q : List Replica) (n i : ℕ) (r : Replica) (b : Bool) → slice_get p n ≡ Some r → GoesOn old r i new b
+    → q ≡ cond b (set p n (next_life r i)) p → RebirthsTo p old n i q new
+goes_here old new p q n i r b f g k =
+    λ t. goes_at old new p q n i r t (map.get old r) b g k ∙ ap (λ o. rebirths (world old p t) n i (life_of (world old p t) o)) (sym f)
+
+pub goes_on_here : (old new : Lives) (p q : List Replica) (n i : ℕ) (r own : Replica) (b : Bool) → slice_get p n ≡ Some r → GoesOn old r i new b → b ≡ true
+    → own ≡ next_life r i → q ≡ set p n own → RebirthsTo p old n i q new
+goes_on_here old new p q n i r own b f g e o k = goes_here old new p q n i r b f g (k ∙ (ap (set p n) o ∙ ap (λ x. cond x (set p n (next_life r i)) p) (sym e)))
+
+pub stays_here : (old new : Lives) (p : List Replica) (n i : ℕ) (r : Replica) (b : Bool) → slice_get p n ≡ Some r → GoesOn old r i new b → b ≡ false → RebirthsTo p old n i p new
+stays_here old new p n i r b f g e = goes_here old new p p n i r b f g (ap (λ x. cond x (set p n (next_life r i)) p) (sym e))
+
+pub goes_nobody : (old : Lives) (p : List Replica) (n i : ℕ) → slice_get p n ≡ None → RebirthsTo p old n i p old
+goes_nobody old p n i f = λ t. ap (λ o. rebirths (world old p t) n i (life_of (world old p t) o)) (sym f)
+
+pub ruleset rebirthing = (goes_on_here, stays_here, goes_nobody)
 
 -- ---- all events
 

@@ -10,9 +10,9 @@ use Rattle.presence_base.specs.Order.{replica_cmp, same_replica}
 use Rattle.orswot_core_told.specs.declared.form.Form.{Form}
 use Rattle.orswot_core_told.specs.Telling.{ToldValue}
 use Rattle.presence_journal.proofs.Same.{replica_total, same_replica-true}
-use Rattle.node_links_world_laws.specs.World.{LifeValue, Lives, TellsWhole}
+use Rattle.node_links_world_laws.specs.World.{LifeValue, Lives, next_life, TellsWhole}
 use Rattle.node_links_world_lives.specs.Living.{Cuts}
-use Rattle.node_links_world.specs.Lives.{LifeMap, seen, TurnsIf, Turns, CutIf, Cut, ToldIf}
+use Rattle.node_links_world.specs.Lives.{LifeMap, seen, TurnsIf, Turns, CutIf, Cut, ToldIf, next_of, GoesOnTo, GoesOn}
 
 pub replica_antisymmetric : map.IsAntisymmetric replica_cmp
 replica_antisymmetric a b h = same_replica-true a b (ap is_eq h)
@@ -83,3 +83,17 @@ on_both P Q (Ok x) p k = (p, k)
 pub stays_some : {A E : Type 0} (m n : LifeMap) (r : Replica) (old new : LifeValue) (q : Result A E) → get replica_cmp m r ≡ Some old → WritesThrough replica_cmp (replica_cmp r) m new n → OnErr q (new ≡ old) → OnErr q (seen n ≡ seen m)
 stays_some m n r old new (Err e) was w same = same_seen m n r old new was w same
 stays_some m n r old new (Ok x) was w same = tt
+
+-- ---- a life that goes on under another replica
+
+found_next : (m : LifeMap) (r : Replica) (i : ℕ) (x o : Option LifeValue) → x ≡ get replica_cmp m r → o ≡ next_of i x → o ≡ next_of i (map.get (seen m) r)
+found_next m r i x o was is = is ∙ ap (next_of i) (was ∙ sym (seen_life m r))
+
+pub goes_some : (m n : LifeMap) (r q : Replica) (i : ℕ) (x o : Option LifeValue) (l : LifeValue) → x ≡ get replica_cmp m r → o ≡ next_of i x → o ≡ Some l → q ≡ next_life r i
+    → ((p : Replica) → get replica_cmp n p ≡ cond (eq_by_cmp replica_cmp q p) (Some l) (get replica_cmp m p)) → GoesOn (seen m) r i (seen n) true
+goes_some m n r q i x o l was is some new step =
+    subst (λ y. GoesOnTo y (seen m) (next_life r i) (seen n) true) (sym some ∙ found_next m r i x o was is)
+    (put_seen m n q l step ∙ ap (λ p. map.insert (seen m) p l) new, refl)
+
+pub goes_none : (m : LifeMap) (r : Replica) (i : ℕ) (x o : Option LifeValue) → x ≡ get replica_cmp m r → o ≡ next_of i x → o ≡ None → GoesOn (seen m) r i (seen m) false
+goes_none m r i x o was is none = subst (λ y. GoesOnTo y (seen m) (next_life r i) (seen m) false) (sym none ∙ found_next m r i x o was is) (refl, refl)

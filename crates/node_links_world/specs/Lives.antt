@@ -1,14 +1,17 @@
 -- The lives of a world, as they are kept by replica.
-use Rattle.std.specs.Prelude.{◌≡◌, ℕ, List, [], ◌∷◌, ◌++◌, Option, Some, None}
+use Rattle.std.specs.Prelude.{◌≡◌, ℕ, Bool, true, false, List, [], ◌∷◌, ◌++◌, Option, Some, None}
 use Rattle.std.specs.BTreeMap.{BTreeMap}
 use Rattle.std.specs.FinMap as map
 use Rattle.presence_base.specs.declared.dots.Replica.{Replica}
 use Rattle.presence_base.specs.Order.{replica_cmp}
 use Rattle.orswot_core_told.specs.declared.form.Form.{Form}
 use Rattle.orswot_core_told.specs.Telling.{ToldValue}
+use Rattle.presence_journal_data.specs.declared.step.Step.TheVariants as steps_are
 use Rattle.presence_journal.specs.Steps.{Step}
-use Rattle.node_links_world_laws.specs.World.{LifeValue, Lives, WorldValue, first_life, newborn, stepped, TellsPartIf, TellsWhole}
+use Rattle.presence_journal.specs.Table.{accepted}
+use Rattle.node_links_world_laws.specs.World.{LifeValue, Lives, WorldValue, first_life, next_life, newborn, stepped, TellsWhole, TellsPartIf}
 use Rattle.node_links_world_lives.specs.Living.{Cuts, BeginsAgain}
+use Rattle.node_links_world_lives.specs.GoingOn.{going_on}
 
 abbrev pub LifeMap : Type 0
 LifeMap = BTreeMap Replica LifeValue
@@ -53,6 +56,21 @@ ToldIf form (Some l) from (Some t) = TellsWhole form l.history from t
 abbrev pub PartOfLife : Form → Option LifeValue → ℕ → Option ToldValue → Type 0
 PartOfLife form None from o = o ≡ None
 PartOfLife form (Some l) from o = TellsPartIf form l.history from o
+
+-- ---- rebirths
+
+-- what a life, if there is one, goes on as under a higher incarnation, if it can
+abbrev pub next_of : ℕ → Option LifeValue → Option LifeValue
+next_of i None = None
+next_of i (Some l) = going_on i l (accepted l.history (steps_are.Rebirth i))
+
+-- it has its place beside the others; b tells whether there is one
+abbrev pub GoesOnTo : Option LifeValue → Lives → Replica → Lives → Bool → Type 0
+GoesOnTo None old q new b = (new ≡ old) × (b ≡ false)
+GoesOnTo (Some m) old q new b = (new ≡ map.insert old q m) × (b ≡ true)
+
+abbrev pub GoesOn : Lives → Replica → ℕ → Lives → Bool → Type 0
+GoesOn old r i new b = GoesOnTo (next_of i (map.get old r)) old (next_life r i) new b
 
 -- ---- at first
 

@@ -4,7 +4,7 @@ use Rattle.presence_base.specs.declared.dots.Replica.{Replica}
 use Rattle.orswot_core_told.specs.declared.form.Form.{Form}
 use Rattle.orswot_core_told.specs.Telling.{ToldValue}
 use Rattle.presence_journal.specs.Steps.{Step}
-use Rattle.node_links_world_laws.specs.World.{Lives, WorldValue, acts, life_at, may_ask, Cuts, Tells, TellsInPart, delivered, Begins, restarted}
+use Rattle.node_links_world_laws.specs.World.{Lives, WorldValue, acts, life_at, may_ask, Cuts, Tells, delivered, Begins, restarted, rebirths, TellsInPart}
 
 abbrev pub world : Lives → List Replica → List ToldValue → WorldValue
 world l p t = record { lives = l; present = p; told = t }
@@ -37,3 +37,8 @@ BeginsTo p old n new = (t : List ToldValue) → Begins (world old p t) (life_at 
 
 abbrev pub RestartsTo : List Replica → Lives → ℕ → ℕ → List Replica → Lives → Type 0
 RestartsTo p old n i q new = (t : List ToldValue) → world new q t ≡ restarted (world old p t) n i (slice_get p n)
+
+-- and after a rebirth
+abbrev pub RebirthsTo : List Replica → Lives → ℕ → ℕ → List Replica → Lives → Type 0
+RebirthsTo p old n i q new = (t : List ToldValue)
+    → world new q t ≡ rebirths (world old p t) n i (life_at (world old p t) n)

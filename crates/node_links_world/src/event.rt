@@ -3,7 +3,7 @@ ghost use Rattle.std.specs.Prelude.{◌≡◌, true, OnOk, OnErr, set};
 ghost use Rattle.presence_journal.specs.Table.{is_step};
 ghost use Rattle.node_links_world.specs.Lives.{seen};
 ghost use Rattle.node_links_world.specs.Worlds.{world, ActsTo, AsksTo, CutsTo, PartsTo, TellsTo};
-ghost use Rattle.node_links_world.specs.Worlds.{DeliversTo, BeginsTo, RestartsTo};
+ghost use Rattle.node_links_world.specs.Worlds.{DeliversTo, BeginsTo, RestartsTo, RebirthsTo};
 ghost use Rattle.node_links_world_laws.specs.World.{Happens};
 
 use crate::lives;
@@ -226,6 +226,34 @@ fn restart(
     Ok(())
 }
 
+// A node goes on under a higher incarnation, with all its rows.
+#[tactic(auto, using(crate::proofs::Events::rebirthing))]
+fn rebirth(
+    lives: &mut BTreeMap<Replica, Life>,
+    present: &mut Vec<Replica>,
+    alloc: Global,
+    node: usize,
+    incarnation: u64,
+) -> Result<(), AllocError>
+    ensures rebirths { OnOk result (RebirthsTo present.old.items (seen lives.old) node incarnation
+        present.new.items (seen lives.new)) }
+    ensures same { OnErr result (seen lives.new ≡ seen lives.old) }
+    ensures kept { OnErr result (present.new.items ≡ present.old.items) }
+{
+    let Some(old) = present.get(node) else {
+        return Ok(());
+    };
+    let own = Replica {
+        name: old.name,
+        incarnation,
+    };
+    if !lives::go_on(lives, alloc, old, incarnation)? {
+        return Ok(());
+    }
+    replace(present, node, &own);
+    Ok(())
+}
+
 /// What an event makes of a world's parts.
 #[tactic(auto, using(crate::proofs::Events::happening))]
 pub(crate) fn happen(
@@ -288,5 +316,6 @@ pub(crate) fn happen(
         }
         Event::Checkpoint { node } => checkpoint(lives, present.as_slice(), alloc, *node),
         Event::Restart { node, incarnation } => restart(lives, present, alloc, *node, *incarnation),
+        Event::Rebirth { node, incarnation } => rebirth(lives, present, alloc, *node, *incarnation),
     }
 }

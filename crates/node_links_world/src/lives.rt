@@ -1,10 +1,10 @@
 // What the life of a replica does, if it has one.
-ghost use Rattle.std.specs.Prelude.{◌≡◌, true, Some, IfOk, IsOk, OnOk, OnErr};
+ghost use Rattle.std.specs.Prelude.{◌≡◌, true, Some, IfOk, IsOk, OnOk, OnErr, option_copied};
 ghost use Rattle.std.specs.FinMap as map;
 ghost use Rattle.presence_base.specs.Refs.{IsCount};
 ghost use Rattle.presence_journal.specs.Table.{is_step};
-ghost use Rattle.node_links_world.specs.Lives.{seen, Turns, Steps, Begun, Cut, PartOfLife, ToldIf};
-ghost use Rattle.node_links_world_laws.specs.World.{newborn};
+ghost use Rattle.node_links_world.specs.Lives.{seen, Turns, Steps, Begun, Cut, ToldIf, next_of, GoesOn, PartOfLife};
+ghost use Rattle.node_links_world_laws.specs.World.{newborn, next_life};
 
 use node_links_world_lives::{Life, Telling};
 use orswot_core_told::Form;
@@ -118,6 +118,46 @@ pub(crate) fn begin(
     let life = Life::new(alloc, *own);
     match lives.insert(*own, life) {
         Ok(_) => Ok(()),
+        Err(_) => Err(AllocError),
+    }
+}
+
+// What a life, if there is one, goes on as.
+fn next_of(life: Option<&Life>, alloc: Global, incarnation: u64) -> Result<Option<Life>, AllocError>
+    ensures { IfOk result (λ o. o ≡ next_of incarnation (option_copied life.entry)) }
+{
+    match life {
+        Some(life) => life.reborn(alloc, incarnation),
+        None => Ok(None),
+    }
+}
+
+// The replica under another incarnation.
+fn life_under(own: &Replica, incarnation: u64) -> Replica
+    ensures { result ≡ next_life own.now incarnation }
+{
+    Replica {
+        name: own.name,
+        incarnation,
+    }
+}
+
+/// Goes on under a higher incarnation, where it can: what goes on has a place of its own. It answers whether it does.
+pub(crate) fn go_on(
+    lives: &mut BTreeMap<Replica, Life>,
+    alloc: Global,
+    own: &Replica,
+    incarnation: u64,
+) -> Result<bool, AllocError>
+    ensures goes { IfOk result (GoesOn (seen lives.old) own.now incarnation (seen lives.new)) }
+    ensures same { OnErr result (seen lives.new ≡ seen lives.old) }
+{
+    let next = next_of(lives.get(own), alloc, incarnation)?;
+    let Some(life) = next else {
+        return Ok(false);
+    };
+    match lives.insert(life_under(own, incarnation), life) {
+        Ok(_) => Ok(true),
         Err(_) => Err(AllocError),
     }
 }

@@ -14,14 +14,17 @@ use Rattle.replica_status.specs.declared.standing.Standing.{Standing}
 use Rattle.replica_status.specs.declared.standing.Standing.TheVariants as standings_are
 use Rattle.replica_status.specs.declared.status.Status.{Status}
 use Rattle.replica_status.specs.declared.status.Status.TheVariants as status_is
-use Rattle.replica_status.specs.Table.{status_of}
+use Rattle.replica_status.specs.Table.{status_of, is_unheard}
 use Rattle.presence_journal_data.specs.declared.step.Step.TheVariants as steps_are
+use Rattle.presence_journal_data.specs.declared.entry.Outcome.TheVariants as outcomes_are
 use Rattle.presence_journal.specs.Steps.{Step, Outcome, Entry, Start}
 use Rattle.presence_journal.specs.History.{History, Begin, Then, own, count, last_number, time, time_of, standing, standing_after, status, is_up, is_gone, next_dot, dot_removed, told_removed, known, removed, row, live, shown}
-use Rattle.presence_journal.specs.Table.{accepted, after, next_entry}
+use Rattle.presence_journal.specs.Table.{accepted, after, next_entry, outcome_of}
+use Rattle.presence_journal.specs.Walk.{is_reborn}
 use Rattle.presence_journal.proofs.Same.{same_replica-true}
 use Rattle.presence_journal.proofs.PresentLemmas.{shown-row}
-use Rattle.presence_journal.proofs.HistoryLemmas.{after-accepted, known_from, up-own}
+use Rattle.presence_journal.proofs.HistoryLemmas.{after-accepted, known_from, up-own, own-then, own_again}
+use Rattle.presence_journal.proofs.Reborn.{again_of, can_parts, reborn_can}
 use Rattle.presence_journal.proofs.FoldOthers.{accepted_is, refused_stays}
 use Rattle.presence_journal_starts.specs.Checkpoints.{IsCheckpoint}
 use Rattle.presence_journal_starts.proofs.Covered.{keeps_status}
@@ -31,7 +34,7 @@ use Rattle.presence_journal_deeds.specs.Truth.{IsTrueOf}
 use Rattle.presence_journal_deeds.proofs.Telling.{some_or_none, gone_or_live}
 use Rattle.node_links_world_laws.specs.declared.event.Event.{Event}
 use Rattle.node_links_world_laws.specs.declared.event.Event.TheVariants as events_are
-use Rattle.node_links_world_laws.specs.World.{LifeValue, WorldValue, newborn, start, life_at, stepped, with_life, acted, acts, with_told, with_told_if, may_ask, CutsHere, Cuts, Tells, TellsInPart, delivered, BeginsHere, Begins, is_later, next_life, reborn, restarted, Happens, Runs}
+use Rattle.node_links_world_laws.specs.World.{LifeValue, WorldValue, newborn, start, life_at, stepped, with_life, acted, acts, with_told, may_ask, CutsHere, Cuts, Tells, delivered, BeginsHere, Begins, is_later, next_life, begun_anew, restarted, gone_on, goes_on_as, rebirths, Happens, Runs, with_told_if, TellsInPart}
 use Rattle.node_links_world_laws.specs.Claims.{AreNames, WasMade, NothingInvented, IsOver, NothingResurrected, CaughtUpIsEqual, NeverInvented, NeverResurrected, CaughtUpIsAlwaysEqual}
 use Rattle.node_links_world_laws.proofs.Lists.{get-put}
 use Rattle.node_links_world_laws.specs.TrueWorlds.{IsTrueLife, IsTrueWorld}
@@ -58,48 +61,80 @@ never_invented ns es w names f = invented w (world_true ns es w names f)
 
 -- ---- nothing resurrected
 
-gone_standing : (s : Step) (t : ℕ) (r : Replica) (x : Standing) → is_gone (status_of x) ≡ true → is_gone (status_of (standing_after s t r x)) ≡ true
-gone_standing s t r standings_are.Unheard f = absurd (cc)
-gone_standing s t r (standings_are.Up n) f = absurd (cc)
-gone_standing s t r (standings_are.Down n) f = absurd (cc)
-gone_standing (steps_are.Heard q now) t r standings_are.Gone f = go (same_replica r q)
-  where
-    go : (b : Bool) → is_gone (status_of (cond b standings_are.Gone standings_are.Gone)) ≡ true
-    go true = refl
-    go false = refl
-gone_standing (steps_are.PermDown q) t r standings_are.Gone f = go (same_replica r q)
-  where
-    go : (b : Bool) → is_gone (status_of (cond b standings_are.Gone standings_are.Gone)) ≡ true
-    go true = refl
-    go false = refl
-gone_standing (steps_are.Tick now) t r standings_are.Gone f = refl
-gone_standing _ t r standings_are.Gone f = refl
+either_gone : (b : Bool) → is_gone (status_of (cond b standings_are.Gone standings_are.Gone)) ≡ true
+either_gone true = refl
+either_gone false = refl
 
-gone_then : (h : History) (e : Entry) (q : Replica) → is_gone (status h q) ≡ true → is_gone (status (Then h e) q) ≡ true
-unfolding status standing own
-gone_then h e q f = go (same_replica q (own h)) f
+gone_standing : (o : Replica) (s : Step) (t : ℕ) (r : Replica) (x : Standing) → is_gone (status_of x) ≡ true → is_gone (status_of (standing_after o s t r x)) ≡ true
+gone_standing o s t r standings_are.Unheard f = absurd (cc)
+gone_standing o s t r (standings_are.Up n) f = absurd (cc)
+gone_standing o s t r (standings_are.Down n) f = absurd (cc)
+gone_standing o (steps_are.Heard q now) t r standings_are.Gone f = either_gone (same_replica r q)
+gone_standing o (steps_are.PermDown q) t r standings_are.Gone f = either_gone (same_replica r q)
+gone_standing o (steps_are.Rebirth i) t r standings_are.Gone f = either_gone (same_replica r o)
+gone_standing o (steps_are.Tick now) t r standings_are.Gone f = refl
+gone_standing o _ t r standings_are.Gone f = refl
+
+status-is : (h : History) (q : Replica) → status h q ≡ cond (same_replica q (own h)) status_is.Up (status_of (standing h q))
+unfolding status
+status-is h q = refl
+
+standing-is : (h : History) (e : Entry) (q : Replica) → standing (Then h e) q ≡ standing_after (own h) e.step (max (time h) (time_of e.step)) q (standing h q)
+unfolding standing
+standing-is h e q = refl
+
+not_own : (h : History) (q : Replica) → is_gone (status h q) ≡ true → same_replica q (own h) ≡ false
+not_own h q f = go (same_replica q (own h)) refl
   where
-    go : (b : Bool) → is_gone (cond b status_is.Up (status_of (standing h q))) ≡ true → is_gone (cond b status_is.Up (status_of (standing_after e.step (max (time h) (time_of e.step)) q (standing h q)))) ≡ true
-    go true g = absurd (cc)
-    go false g = gone_standing e.step (max (time h) (time_of e.step)) q (standing h q) g
+    go : (b : Bool) → same_replica q (own h) ≡ b → b ≡ false
+    go false e = refl
+    go true e = let g : false ≡ true = sym (ap is_gone (status-is h q ∙ ap (λ b. cond b status_is.Up (status_of (standing h q))) e)) ∙ f in absurd (cc)
+
+not_both : (x : Status) → is_unheard x ≡ true → is_gone x ≡ true → ⊥
+not_both status_is.Unheard u g = absurd (cc)
+not_both status_is.Up u g = absurd (cc)
+not_both status_is.Down u g = absurd (cc)
+not_both status_is.Gone u g = absurd (cc)
+
+-- nobody goes on as a replica that is gone
+still_other : (h : History) (e : Entry) (q : Replica) → outcome_of h e.step ≡ Some e.outcome → is_gone (status h q) ≡ true → same_replica q (own (Then h e)) ≡ false
+still_other h e q made f = go (is_reborn e.step) refl
+  where
+    go : (b : Bool) → is_reborn e.step ≡ b → same_replica q (own (Then h e)) ≡ false
+    go false n = ap (same_replica q) (own-then h e n) ∙ not_own h q f
+    go true n = at (same_replica q (own (Then h e))) refl
+      where
+        at : (b : Bool) → same_replica q (own (Then h e)) ≡ b → b ≡ false
+        at false k = refl
+        at true k =
+            let w = again_of h e.step e.outcome n made in
+            absurd (not_both (status h q) (ap (λ r. is_unheard (status h r)) (same_replica-true q (own (Then h e)) k ∙ own_again h e w) ∙ w.unheard) f)
+
+gone_then : (h : History) (e : Entry) (q : Replica) → outcome_of h e.step ≡ Some e.outcome → is_gone (status h q) ≡ true → is_gone (status (Then h e) q) ≡ true
+gone_then h e q made f =
+    ap is_gone (status-is (Then h e) q ∙ ap (λ b. cond b status_is.Up (status_of (standing (Then h e) q))) (still_other h e q made f))
+    ∙ (ap (λ x. is_gone (status_of x)) (standing-is h e q) ∙ gone_standing (own h) e.step (max (time h) (time_of e.step)) q (standing h q) before)
+  where
+    before : is_gone (status_of (standing h q)) ≡ true
+    before = sym (ap is_gone (status-is h q ∙ ap (λ b. cond b status_is.Up (status_of (standing h q))) (not_own h q f))) ∙ f
 
 removed_then : (h : History) (e : Entry) (d : Dot) → removed h d ≡ true → removed (Then h e) d ≡ true
 unfolding removed
 removed_then h e d f = or_left (removed h d) (dot_removed e.outcome (next_dot h) d || told_removed h e.step d) f
 
-over_then : (h : History) (e : Entry) (d : Dot) → IsOver h d → IsOver (Then h e) d
-over_then h e d f = go (or_cases (removed h d) (is_gone (status h d.replica)) f)
+over_then : (h : History) (e : Entry) (d : Dot) → outcome_of h e.step ≡ Some e.outcome → IsOver h d → IsOver (Then h e) d
+over_then h e d made f = go (or_cases (removed h d) (is_gone (status h d.replica)) f)
   where
     go : (removed h d ≡ true) ⊎ (is_gone (status h d.replica) ≡ true) → IsOver (Then h e) d
     go (inl g) = or_left (removed (Then h e) d) (is_gone (status (Then h e) d.replica)) (removed_then h e d g)
-    go (inr g) = or_right (removed (Then h e) d) (is_gone (status (Then h e) d.replica)) (gone_then h e d.replica g)
+    go (inr g) = or_right (removed (Then h e) d) (is_gone (status (Then h e) d.replica)) (gone_then h e d.replica made g)
 
 over_after : (h : History) (s : Step) (d : Dot) → IsOver h d → IsOver (after h s None) d
 over_after h s d f = go (accepted h s) refl
   where
     go : (o : Option Outcome) → accepted h s ≡ o → IsOver (after h s None) d
     go None p = subst (λ g. IsOver g d) (sym (refused_stays h s None p)) f
-    go (Some o) p = let a = accepted_is h s o p in subst (λ g. IsOver g d) (sym (after-accepted h s None o a.1 a.0)) (over_then h (next_entry h s None o) d f)
+    go (Some o) p = let a = accepted_is h s o p in subst (λ g. IsOver g d) (sym (after-accepted h s None o a.1 a.0)) (over_then h (next_entry h s None o) d a.1 f)
 
 over_begin : (h : History) (s : Start) (d : Dot) → IsCheckpoint h s → IsOver h d → IsOver (Begin s) d
 over_begin h s d c f = go (is_gone (status h d.replica)) refl (or_cases (removed h d) (is_gone (status h d.replica)) f)
@@ -158,20 +193,46 @@ goes_acts d w n s = go (life_at w n) refl
 goes_restarted : (d : Dot) (w : WorldValue) → IsTrueWorld w → (n i : ℕ) → GoesOn d w (restarted w n i (slice_get w.present n))
 goes_restarted d w iw n i = go (slice_get w.present n) refl
   where
-    begins : (r : Replica) → slice_get w.present n ≡ Some r → r.incarnation < i → GoesOn d w (reborn w n (next_life r i))
+    begins : (r : Replica) → slice_get w.present n ≡ Some r → r.incarnation < i → GoesOn d w (begun_anew w n (next_life r i))
     begins r p l q g f = (g, get-put w.lives (next_life r i) (newborn (next_life r i)) q ∙ at (same_replica q (next_life r i)) refl, λ x. x)
       where
         at : (b : Bool) → same_replica q (next_life r i) ≡ b → cond b (Some (newborn (next_life r i))) (map.get w.lives q) ≡ Some g
         at true e = let no : None ≡ Some g = sym (iw.is.present.newest n r p i l) ∙ (ap (map.get w.lives) (sym (same_replica-true q (next_life r i) e)) ∙ f) in absurd (cc)
         at false e = f
 
-    test : (r : Replica) → slice_get w.present n ≡ Some r → (b : Bool) → is_later r i ≡ b → GoesOn d w (cond b (reborn w n (next_life r i)) w)
+    test : (r : Replica) → slice_get w.present n ≡ Some r → (b : Bool) → is_later r i ≡ b → GoesOn d w (cond b (begun_anew w n (next_life r i)) w)
     test r p true e = begins r p (ltb-true r.incarnation i (and_parts (nat_lt r.incarnation i) _ e).0)
     test r p false e = goes_same d w w refl
 
     go : (o : Option Replica) → slice_get w.present n ≡ o → GoesOn d w (restarted w n i o)
     go None p = goes_same d w w refl
     go (Some r) p = test r p (is_later r i) refl
+
+-- a life that nobody had yet
+goes_born : (d : Dot) (w v : WorldValue) (q : Replica) (born : LifeValue) → map.get w.lives q ≡ None → v.lives ≡ map.insert w.lives q born → GoesOn d w v
+goes_born d w v q born none same r g f = (g, ap (λ m. map.get m r) same ∙ (get-put w.lives q born r ∙ at (same_replica r q) refl), λ x. x)
+  where
+    at : (b : Bool) → same_replica r q ≡ b → cond b (Some born) (map.get w.lives r) ≡ Some g
+    at true e = let no : None ≡ Some g = sym none ∙ (ap (map.get w.lives) (sym (same_replica-true r q e)) ∙ f) in absurd (cc)
+    at false e = f
+
+goes_rebirths : (d : Dot) (w : WorldValue) → IsTrueWorld w → (n i : ℕ) → GoesOn d w (rebirths w n i (life_at w n))
+goes_rebirths d w iw n i = go (life_at w n) refl
+  where
+    above : (x : Replica × LifeValue) → IsLife w n x → (pairs : List (Dot × Dot)) → accepted x.1.history (steps_are.Rebirth i) ≡ Some (outcomes_are.Reborn pairs) → x.0.incarnation < i
+    above x k pairs p =
+        let ok = accepted_is x.1.history (steps_are.Rebirth i) (outcomes_are.Reborn pairs) p in
+        subst (λ (r : Replica). r.incarnation < i) (iw.is.lives x.0 x.1 k.lives).own (can_parts x.1.history i (reborn_can x.1.history i pairs ok.1)).0
+
+    at : (x : Replica × LifeValue) → IsLife w n x → (o : Option Outcome) → accepted x.1.history (steps_are.Rebirth i) ≡ o → GoesOn d w (goes_on_as w n i x o)
+    at x k (Some (outcomes_are.Reborn pairs)) p =
+        goes_born d w (goes_on_as w n i x (Some (outcomes_are.Reborn pairs))) (next_life x.0 i) (gone_on i pairs x.1) (iw.is.present.newest n x.0 k.present i (above x k pairs p)) refl
+    at x k (Some _) p = goes_same d w w refl
+    at x k None p = goes_same d w w refl
+
+    go : (o : Option (Replica × LifeValue)) → life_at w n ≡ o → GoesOn d w (rebirths w n i o)
+    go None f = goes_same d w w refl
+    go (Some x) f = at x (life_is w n x f) (accepted x.1.history (steps_are.Rebirth i)) refl
 
 goes_happens : (d : Dot) (w v : WorldValue) (ev : Event) → IsTrueWorld w → Happens w ev v → GoesOn d w v
 goes_happens d w v (events_are.Client n s) iw f = goes_from d w (cond (may_ask s) (acts w n s) w) v f (go (may_ask s))
@@ -222,6 +283,7 @@ goes_happens d w v (events_are.Checkpoint n) iw f = go (life_at w n) refl f
     go None p g = goes_from d w w v g (goes_same d w w refl)
     go (Some x) p g = at x (life_is w n x p) (nat_lt (last_number x.1.history) (2 ^ 62)) g
 goes_happens d w v (events_are.Restart n i) iw f = goes_from d w (restarted w n i (slice_get w.present n)) v f (goes_restarted d w iw n i)
+goes_happens d w v (events_are.Rebirth n i) iw f = goes_from d w (rebirths w n i (life_at w n)) v f (goes_rebirths d w iw n i)
 
 goes_runs : (d : Dot) (w v : WorldValue) (es : List Event) → IsTrueWorld w → Runs w es v → GoesOn d w v
 goes_runs d w v [] iw f = goes_from d w w v f (goes_same d w w refl)

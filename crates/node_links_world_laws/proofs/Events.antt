@@ -1,10 +1,10 @@
 -- Each event keeps what is true of a world.
-use Rattle.std.proofs.Common.{◌≡◌, ℕ, ◌<◌, ◌≤◌, ◌^◌, Bool, true, false, cond, nat_lt, nat_le, List, [], ◌∷◌, set, slice_get, Option, Some, None, refl, sym, ◌∙◌, ap, subst, arith, zero, suc, inl, inr, is_some, option_map, map as each, IsTrue, ltb-true, leb-true}
+use Rattle.std.proofs.Common.{◌≡◌, ℕ, ◌<◌, ◌≤◌, ◌^◌, Bool, true, false, cond, nat_lt, nat_le, List, [], ◌∷◌, set, slice_get, Option, Some, None, refl, sym, ◌∙◌, ap, subst, arith, zero, suc, inl, inr, is_some, option_map, map as each, IsTrue, ltb-true, leb-true, ◌&&◌, ◌||◌}
 use Rattle.std.specs.Prelude.{◌⊎◌}
 use Rattle.std.specs.List.{list_all}
 use Rattle.std.specs.Map.{lookup}
 use Rattle.std.specs.FinMap as map
-use Rattle.std.proofs.lemmas.Bool.{and_parts}
+use Rattle.std.proofs.lemmas.Bool.{and_parts, and_from, le-leb, lt-ltb}
 use Rattle.std.proofs.lemmas.Option.{same_Some, slice_get-map}
 use Rattle.presence_base.specs.declared.dots.Replica.{Replica}
 use Rattle.presence_base.specs.declared.dots.Dot.{Dot}
@@ -19,17 +19,17 @@ use Rattle.delta_range.specs.Deltas.{telling_in}
 use Rattle.presence_journal_data.specs.declared.step.Step.TheVariants as steps_are
 use Rattle.presence_journal_data.specs.declared.entry.Outcome.TheVariants as outcomes_are
 use Rattle.presence_journal.specs.Steps.{Step, Outcome, Entry, Start}
-use Rattle.presence_journal.specs.History.{History, Begin, Then, begun, own, last_number, first_some, row_made, row_added}
-use Rattle.presence_journal.specs.Walk.{row_at}
+use Rattle.presence_journal.specs.History.{History, Begin, Then, begun, own, last_number, first_some, row_made, row_added, has_dot, row}
+use Rattle.presence_journal.specs.Walk.{row_at, is_reborn}
 use Rattle.presence_journal.specs.Table.{accepted, after, is_step, next_entry, IsLegal}
-use Rattle.presence_journal.proofs.Same.{same_replica-true}
+use Rattle.presence_journal.proofs.Same.{same_replica-true, same_dot-true}
 use Rattle.presence_journal.proofs.HistoryLemmas.{after-accepted, own-then, first_none}
 use Rattle.presence_journal.proofs.FoldOthers.{accepted_is, refused_stays}
 use Rattle.presence_journal_starts.specs.Checkpoints.{IsCheckpoint}
 use Rattle.presence_journal_starts.proofs.Covered.{keeps_counts}
-use Rattle.presence_journal_deeds.specs.Deeds.{Deeds, AllDeeds, no_deeds, with_entry}
+use Rattle.presence_journal_deeds.specs.Deeds.{Deeds, AllDeeds, no_deeds, with_entry, put}
 use Rattle.presence_journal_deeds.specs.Truth.{AreDeeds, TellsTrue, IsTrueOf, DoMore}
-use Rattle.presence_journal_deeds.specs.Laws.{then_did}
+use Rattle.presence_journal_deeds.specs.Laws.{then_did, reborn_deeds, reborn_did}
 use Rattle.presence_journal_deeds.proofs.More.{put_same, more_same, entries_go_on, told_stays_true}
 use Rattle.presence_journal_deeds.proofs.Entries.{entries_are_deeds}
 use Rattle.presence_journal_cuts.specs.KeptDeltas.{TellsFrom}
@@ -39,11 +39,14 @@ use Rattle.presence_journal_deeds.proofs.Keeping.{entries_stay_true, kept_tell_t
 use Rattle.presence_journal_deeds.proofs.Checkpoints.{checkpoints_stay_true, lives_begin_true}
 use Rattle.node_links_world_laws.specs.declared.event.Event.{Event}
 use Rattle.node_links_world_laws.specs.declared.event.Event.TheVariants as events_are
-use Rattle.node_links_world_laws.specs.World.{LifeValue, Lives, WorldValue, first_life, newborn, with_lives, start, with_replica, life_of, life_at, under, added, with_row, stepped, with_life, acted, acts, with_told, is_client, may_ask, CutsHere, Cuts, Tells, TellsPartIf, TellsInPart, with_told_if, delivered, BeginsHere, Begins, is_later, next_life, reborn, restarted, Happens, Runs}
+use Rattle.node_links_world_laws.specs.World.{LifeValue, Lives, WorldValue, first_life, newborn, with_lives, start, with_replica, life_of, life_at, under, added, with_row, stepped, with_life, acted, acts, with_told, is_client, may_ask, CutsHere, Cuts, Tells, delivered, BeginsHere, Begins, is_later, next_life, begun_anew, restarted, Happens, Runs, before_rows, rows_under, gone_on, goes_on_as, rebirths, TellsPartIf, TellsInPart, with_told_if}
 use Rattle.node_links_world_laws.specs.Claims.{AreNames}
 use Rattle.node_links_world_laws.proofs.Lists.{all_at, all_more, set_cases, lookup-append, get-put, one_place}
 use Rattle.node_links_world_laws.specs.TrueWorlds.{IsTrueLife, IsTrueTold, ArePresent, IsTrueBy, IsTrueWorld}
 use Rattle.node_links_world_laws.proofs.Invariant.{put_true, same_present}
+use Rattle.presence_journal.proofs.Reborn.{IsAgain, again_of, can_parts, reborn_can}
+use Rattle.presence_journal.proofs.AfterRebirth.{no_row_under}
+use Rattle.presence_journal_deeds.proofs.Rebirths.{rebirths_stay_true, rebirths_are_deeds, rebirths_go_on}
 
 -- ---- the life of a node
 
@@ -95,8 +98,8 @@ pub record GoesOnTrue (deeds : AllDeeds) (r : Replica) (l : LifeValue) : Type 0 
 abbrev pub TellsNoLie : AllDeeds → Step → Type 0
 TellsNoLie deeds s = (t : ToldValue) → s ≡ steps_are.Merge t → TellsTrue deeds t
 
-pub step_true : (deeds : AllDeeds) (r : Replica) (l : LifeValue) (s : Step) → ((q : Replica) → AreDeeds (deeds q)) → IsTrueLife deeds r l → is_step s ≡ true → TellsNoLie deeds s → GoesOnTrue deeds r (stepped s l)
-step_true deeds r l s are k limits hears = go (accepted l.history s) refl
+pub step_true : (deeds : AllDeeds) (r : Replica) (l : LifeValue) (s : Step) → ((q : Replica) → AreDeeds (deeds q)) → IsTrueLife deeds r l → is_step s ≡ true → is_reborn s ≡ false → TellsNoLie deeds s → GoesOnTrue deeds r (stepped s l)
+step_true deeds r l s are k limits lasts hears = go (accepted l.history s) refl
   where
     h : History
     h = l.history
@@ -118,11 +121,11 @@ step_true deeds r l s are k limits hears = go (accepted l.history s) refl
     taken o p = record {
       new = then_did deeds l.history e;
       more = entries_go_on deeds l.history e k.is;
-      are = entries_are_deeds deeds l.history e are k.is legal;
+      are = entries_are_deeds deeds l.history e are k.is legal lasts;
       others = λ q a. ap (λ b. cond b (with_entry (deeds (own l.history)) l.history e) (deeds q)) (ap (same_replica q) k.own ∙ a);
       is = record {
-        own = ap own same ∙ (own-then l.history e ∙ k.own);
-        is = subst (IsTrueOf (then_did deeds l.history e)) (sym same) (entries_stay_true deeds l.history e are k.is legal hears);
+        own = ap own same ∙ (own-then l.history e lasts ∙ k.own);
+        is = subst (IsTrueOf (then_did deeds l.history e)) (sym same) (entries_stay_true deeds l.history e are k.is legal lasts hears);
         made = subst (λ (q : Replica). (n : ℕ) → lookup (same_dot (dot_of q n)) (with_row l.made (added s (Some o))) ≡ (then_did deeds l.history e q).made n) k.own made_own;
       };
     }
@@ -155,14 +158,14 @@ pub put_on : (w : WorldValue) (n : ℕ) (x : Replica × LifeValue) (l : LifeValu
 put_on w n x l deeds iv k g =
     put_true w deeds g.new iv x.0 l g.more g.are g.others g.is w.present (same_present w deeds g.new iv x.0 l g.more g.are g.others g.is x.1 k.lives)
 
-pub acts_true : (w : WorldValue) → IsTrueWorld w → (n : ℕ) (s : Step) → is_step s ≡ true → ((deeds : AllDeeds) → IsTrueBy deeds w → TellsNoLie deeds s) → IsTrueWorld (acts w n s)
-acts_true w iw n s limits hears = go (life_at w n) refl
+pub acts_true : (w : WorldValue) → IsTrueWorld w → (n : ℕ) (s : Step) → is_step s ≡ true → is_reborn s ≡ false → ((deeds : AllDeeds) → IsTrueBy deeds w → TellsNoLie deeds s) → IsTrueWorld (acts w n s)
+acts_true w iw n s limits lasts hears = go (life_at w n) refl
   where
     go : (o : Option (Replica × LifeValue)) → life_at w n ≡ o → IsTrueWorld (acted w s o)
     go None f = iw
     go (Some x) f =
         let k = life_is w n x f in
-        let g = step_true iw.deeds x.0 x.1 s iw.is.are (iw.is.lives x.0 x.1 k.lives) limits (hears iw.deeds iw.is) in
+        let g = step_true iw.deeds x.0 x.1 s iw.is.are (iw.is.lives x.0 x.1 k.lives) limits lasts (hears iw.deeds iw.is) in
         record { deeds = g.new; is = put_on w n x (stepped s x.1) iw.deeds iw.is k g }
 
 -- ---- what is told
@@ -177,7 +180,7 @@ cuts_true form w v iw n c = go (life_at w n) refl c
     at x k false g = subst IsTrueWorld (sym g) iw
     at x k true g =
         let here = iw.is.lives x.0 x.1 k.lives in
-        let on = step_true iw.deeds x.0 x.1 steps_are.Cut iw.is.are here refl (λ t m. absurd (cc)) in
+        let on = step_true iw.deeds x.0 x.1 steps_are.Cut iw.is.are here refl refl (λ t m. absurd (cc)) in
         let old : TellsTrue iw.deeds (telling_in form g.1.delta) = cuts_tell_true iw.deeds x.1.history g.1.delta iw.is.are here.is g.1.cut g.1.sound form in
         let told : TellsTrue on.new g.0 = told_stays_true iw.deeds on.new g.0 on.more (subst (TellsTrue iw.deeds) (sym g.1.tells) old) in
         let next : IsTrueBy on.new (with_told (with_life w x.0 (stepped steps_are.Cut x.1)) g.0) = with_told_true (with_life w x.0 (stepped steps_are.Cut x.1)) g.0 on.new (put_on w n x (stepped steps_are.Cut x.1) iw.deeds iw.is k on) (told, g.1.limits) in
@@ -221,7 +224,7 @@ delivered_true w iw n k = go (slice_get w.told k) refl
   where
     go : (o : Option ToldValue) → slice_get w.told k ≡ o → IsTrueWorld (delivered w n o)
     go None f = iw
-    go (Some t) f = acts_true w iw n (steps_are.Merge t) (all_at (IsTrueTold iw.deeds) w.told k t iw.is.told f).1 (λ deeds iv u m. subst (TellsTrue deeds) (same t u m) (all_at (IsTrueTold deeds) w.told k t iv.told f).0)
+    go (Some t) f = acts_true w iw n (steps_are.Merge t) (all_at (IsTrueTold iw.deeds) w.told k t iw.is.told f).1 refl (λ deeds iv u m. subst (TellsTrue deeds) (same t u m) (all_at (IsTrueTold deeds) w.told k t iv.told f).0)
       where
         same : (t u : ToldValue) → steps_are.Merge t ≡ steps_are.Merge u → t ≡ u
         same t u m = cc
@@ -256,7 +259,7 @@ newborn_true : (deeds : AllDeeds) (r : Replica) → IsTrue (is_node_name r.name)
 unfolding own
 newborn_true deeds r name inc none = record { own = refl; is = lives_begin_true deeds r name inc none; made = λ n. sym (ap (λ (x : Deeds). x.made n) none) }
 
-module _ (w : WorldValue) (iw : IsTrueWorld w) (n i : ℕ) (r : Replica) (present : slice_get w.present n ≡ Some r) (later : is_later r i ≡ true) where
+module _ (w : WorldValue) (iw : IsTrueWorld w) (n i : ℕ) (r : Replica) (present : slice_get w.present n ≡ Some r) (later : is_later r i ≡ true) (born : LifeValue) where
   abbrev q : Replica
   q = next_life r i
 
@@ -273,19 +276,19 @@ module _ (w : WorldValue) (iw : IsTrueWorld w) (n i : ℕ) (r : Replica) (presen
   counted = (omega (arith, above.0), above.1)
 
   lives_now : Lives
-  lives_now = map.insert w.lives q (newborn q)
+  lives_now = map.insert w.lives q born
 
-  present_now : ArePresent (set w.present n q) (map.insert w.lives q (newborn q))
+  present_now : ArePresent (set w.present n q) (map.insert w.lives q born)
   present_now = record { newest = newest; apart = apart; named = named }
     where
-      newest : (m : ℕ) (p : Replica) → slice_get (set w.present n q) m ≡ Some p → (j : ℕ) → p.incarnation < j → map.get (map.insert w.lives q (newborn q)) (next_life p j) ≡ None
+      newest : (m : ℕ) (p : Replica) → slice_get (set w.present n q) m ≡ Some p → (j : ℕ) → p.incarnation < j → map.get (map.insert w.lives q born) (next_life p j) ≡ None
       newest m p f j a = go (set_cases w.present n m q p f)
         where
-          old : map.get w.lives (next_life p j) ≡ None → (b : Bool) → same_replica (next_life p j) q ≡ b → (next_life p j ≡ q → ⊥) → map.get (map.insert w.lives q (newborn q)) (next_life p j) ≡ None
+          old : map.get w.lives (next_life p j) ≡ None → (b : Bool) → same_replica (next_life p j) q ≡ b → (next_life p j ≡ q → ⊥) → map.get (map.insert w.lives q born) (next_life p j) ≡ None
           old g true e apart = absurd (apart (same_replica-true (next_life p j) q e))
-          old g false e apart = get-put w.lives q (newborn q) (next_life p j) ∙ (ap (λ b. cond b (Some (newborn q)) (map.get w.lives (next_life p j))) e ∙ g)
+          old g false e apart = get-put w.lives q born (next_life p j) ∙ (ap (λ b. cond b (Some born) (map.get w.lives (next_life p j))) e ∙ g)
 
-          go : ((m ≡ n) × (p ≡ q)) ⊎ ((m ≡ n → ⊥) × (slice_get w.present m ≡ Some p)) → map.get (map.insert w.lives q (newborn q)) (next_life p j) ≡ None
+          go : ((m ≡ n) × (p ≡ q)) ⊎ ((m ≡ n → ⊥) × (slice_get w.present m ≡ Some p)) → map.get (map.insert w.lives q born) (next_life p j) ≡ None
           go (inl g) =
               let names : p.name ≡ r.name = ap (λ (z : Replica). z.name) g.1 in
               let incs : p.incarnation ≡ i = ap (λ (z : Replica). z.incarnation) g.1 in
@@ -310,22 +313,134 @@ module _ (w : WorldValue) (iw : IsTrueWorld w) (n i : ℕ) (r : Replica) (presen
           go (inl g) = subst (λ (z : Replica). IsTrue (is_node_name z.name)) (sym g.1) name
           go (inr g) = iw.is.present.named m p g.1
 
-  reborn_true : IsTrueWorld (reborn w n q)
-  reborn_true = record {
-    deeds = iw.deeds;
-    is = put_true w iw.deeds iw.deeds iw.is q (newborn q) (λ a. more_same (iw.deeds a)) iw.is.are (λ a b. refl) (newborn_true iw.deeds q name counted (iw.is.fresh q none)) (set w.present n q) present_now;
-  }
+begun_anew_true : (w : WorldValue) (iw : IsTrueWorld w) (n i : ℕ) (r : Replica) → slice_get w.present n ≡ Some r → is_later r i ≡ true → IsTrueWorld (begun_anew w n (next_life r i))
+begun_anew_true w iw n i r present later = record {
+  deeds = iw.deeds;
+  is = put_true w iw.deeds iw.deeds iw.is q (newborn q) (λ a. more_same (iw.deeds a)) iw.is.are (λ a b. refl)
+      (newborn_true iw.deeds q (name w iw n i r present later (newborn q)) (counted w iw n i r present later (newborn q)) (iw.is.fresh q (none w iw n i r present later (newborn q))))
+      (set w.present n q) (present_now w iw n i r present later (newborn q));
+}
+  where
+    q : Replica
+    q = next_life r i
 
 restarted_true : (w : WorldValue) → IsTrueWorld w → (n i : ℕ) → IsTrueWorld (restarted w n i (slice_get w.present n))
 restarted_true w iw n i = go (slice_get w.present n) refl
   where
-    at : (r : Replica) → slice_get w.present n ≡ Some r → (b : Bool) → is_later r i ≡ b → IsTrueWorld (cond b (reborn w n (next_life r i)) w)
-    at r f true g = reborn_true w iw n i r f g
+    at : (r : Replica) → slice_get w.present n ≡ Some r → (b : Bool) → is_later r i ≡ b → IsTrueWorld (cond b (begun_anew w n (next_life r i)) w)
+    at r f true g = begun_anew_true w iw n i r f g
     at r f false g = iw
 
     go : (o : Option Replica) → slice_get w.present n ≡ o → IsTrueWorld (restarted w n i o)
     go None f = iw
     go (Some r) f = at r f (is_later r i) refl
+
+-- ---- a rebirth
+
+rows_under_at : (rows : Dot → Option Row) (ps : List (Dot × Dot)) (d : Dot) → lookup (same_dot d) (rows_under rows ps) ≡ cond (has_dot (each (λ p. p.0) ps) d) (rows d) None
+rows_under_at rows [] d = refl
+rows_under_at rows (p ∷ ps) d = go (rows p.0) refl (same_dot d p.0) refl (rows_under_at rows ps d)
+  where
+    rest : List (Dot × Row)
+    rest = rows_under rows ps
+
+    nothing : (b : Bool) → cond {A = Option Row} b None None ≡ None
+    nothing true = refl
+    nothing false = refl
+
+    go : (o : Option Row) → rows p.0 ≡ o → (b : Bool) → same_dot d p.0 ≡ b → lookup (same_dot d) rest ≡ cond (has_dot (each (λ p. p.0) ps) d) (rows d) None
+        → lookup (same_dot d) (before_rows (under p.0 o) rest) ≡ cond (b || has_dot (each (λ p. p.0) ps) d) (rows d) None
+    go None f true e ih =
+        let none : rows d ≡ None = ap rows (same_dot-true d p.0 e) ∙ f in
+        ih ∙ (ap (λ x. cond (has_dot (each (λ p. p.0) ps) d) x None) none ∙ (nothing (has_dot (each (λ p. p.0) ps) d) ∙ sym none))
+    go None f false e ih = ih
+    go (Some y) f true e ih = ap (λ b. cond b (Some y) (lookup (same_dot d) rest)) e ∙ sym (ap rows (same_dot-true d p.0 e) ∙ f)
+    go (Some y) f false e ih = ap (λ b. cond b (Some y) (lookup (same_dot d) rest)) e ∙ ih
+
+module _ (w : WorldValue) (iw : IsTrueWorld w) (n i : ℕ) (x : Replica × LifeValue) (k : IsLife w n x) (pairs : List (Dot × Dot)) (p : accepted x.1.history (steps_are.Rebirth i) ≡ Some (outcomes_are.Reborn pairs)) where
+  abbrev now : History
+  now = x.1.history
+
+  abbrev e : Entry
+  e = next_entry now (steps_are.Rebirth i) None (outcomes_are.Reborn pairs)
+
+  abbrev next : Replica
+  next = next_life x.0 i
+
+  here : IsTrueLife iw.deeds x.0 x.1
+  here = iw.is.lives x.0 x.1 k.lives
+
+  ok : (Rattle.presence_journal.specs.History.is_full now ≡ false) × (Rattle.presence_journal.specs.Table.outcome_of now (steps_are.Rebirth i) ≡ Some (outcomes_are.Reborn pairs))
+  ok = accepted_is now (steps_are.Rebirth i) (outcomes_are.Reborn pairs) p
+
+  legal : IsLegal (Then now e)
+  legal = (here.is.legal, ok.1, refl, ok.0, refl)
+
+  again : IsAgain now e.step e.outcome
+  again = again_of now e.step e.outcome refl ok.1
+
+  same : after now (steps_are.Rebirth i) None ≡ Then now e
+  same = after-accepted now (steps_are.Rebirth i) None (outcomes_are.Reborn pairs) ok.1 ok.0
+
+  mine : own (Then now e) ≡ next
+  unfolding own
+  mine = ap (λ r. next_life r i) here.own
+
+  is_above : is_later x.0 i ≡ true
+  is_above =
+      let c = can_parts now i (reborn_can now i pairs ok.1) in
+      ap (λ (r : Replica). nat_lt r.incarnation i && nat_le i (2 ^ 62)) (sym here.own)
+      ∙ and_from (nat_lt (own now).incarnation i) (nat_le i (2 ^ 62)) (lt-ltb (own now).incarnation i c.0) (le-leb i (2 ^ 62) c.1)
+
+  abbrev deeds_now : AllDeeds
+  deeds_now = reborn_did iw.deeds now e
+
+  unborn : iw.deeds next ≡ no_deeds
+  unborn = iw.is.fresh next (none w iw n i x.0 k.present is_above (gone_on i pairs x.1))
+
+  others_did : (r : Replica) → same_replica r next ≡ false → deeds_now r ≡ iw.deeds r
+  others_did r o = ap (λ q. put q (reborn_deeds now e) iw.deeds r) mine ∙ ap (λ b. cond b (reborn_deeds now e) (iw.deeds r)) o
+
+  -- the rows that it made are those under its dots
+  made_rows : (m : ℕ) → lookup (same_dot (dot_of next m)) (rows_under (row (after now (steps_are.Rebirth i) None)) pairs) ≡ (deeds_now next).made m
+  made_rows m =
+      ap (λ h. lookup (same_dot (dot_of next m)) (rows_under (row h) pairs)) same
+      ∙ (rows_under_at (row (Then now e)) pairs (dot_of next m)
+      ∙ (go (has_dot (each (λ p. p.0) pairs) (dot_of next m)) refl
+      ∙ ((λ j. row (Then now e) (dot_of (sym mine j) m))
+      ∙ ap (λ (y : Deeds). y.made m) (sym (put_same (own (Then now e)) next (reborn_deeds now e) iw.deeds (sym mine))))))
+    where
+      go : (b : Bool) → has_dot (each (λ p. p.0) pairs) (dot_of next m) ≡ b → cond b (row (Then now e) (dot_of next m)) None ≡ row (Then now e) (dot_of next m)
+      go true f = refl
+      go false f = sym (no_row_under now e again legal pairs refl (dot_of next m) (sym mine) f)
+
+  life_true : IsTrueLife deeds_now next (gone_on i pairs x.1)
+  life_true = record {
+    own = ap own same ∙ mine;
+    is = subst (IsTrueOf deeds_now) (sym same) (rebirths_stay_true iw.deeds now e here.is legal refl);
+    made = made_rows;
+  }
+
+  gone_on_true : IsTrueWorld (record { lives = map.insert w.lives next (gone_on i pairs x.1); present = set w.present n next; told = w.told })
+  gone_on_true = record {
+    deeds = deeds_now;
+    is = put_true w iw.deeds deeds_now iw.is next (gone_on i pairs x.1)
+        (rebirths_go_on iw.deeds now e (ap iw.deeds mine ∙ unborn))
+        (rebirths_are_deeds iw.deeds now e iw.is.are legal refl)
+        others_did life_true (set w.present n next) (present_now w iw n i x.0 k.present is_above (gone_on i pairs x.1));
+  }
+
+rebirths_true : (w : WorldValue) → IsTrueWorld w → (n i : ℕ) → IsTrueWorld (rebirths w n i (life_at w n))
+rebirths_true w iw n i = go (life_at w n) refl
+  where
+    at : (x : Replica × LifeValue) → IsLife w n x → (o : Option Outcome) → accepted x.1.history (steps_are.Rebirth i) ≡ o → IsTrueWorld (goes_on_as w n i x o)
+    at x k None f = iw
+    at x k (Some (outcomes_are.Reborn pairs)) f = gone_on_true w iw n i x k pairs f
+    at x k (Some _) f = iw
+
+    go : (o : Option (Replica × LifeValue)) → life_at w n ≡ o → IsTrueWorld (rebirths w n i o)
+    go None f = iw
+    go (Some x) f = at x (life_is w n x f) (accepted x.1.history (steps_are.Rebirth i)) refl
 
 -- ---- all events
 
@@ -333,21 +448,26 @@ quiet : (s : Step) → is_client s ≡ true → (deeds : AllDeeds) → TellsNoLi
 quiet (steps_are.Merge t) f deeds u m = absurd (cc)
 quiet _ f deeds u m = absurd (cc)
 
+lasting : (s : Step) → is_client s ≡ true → is_reborn s ≡ false
+lasting (steps_are.Rebirth i) f = absurd (cc)
+lasting _ f = refl
+
 pub happens_true : (w v : WorldValue) (ev : Event) → IsTrueWorld w → Happens w ev v → IsTrueWorld v
 happens_true w v (events_are.Client n s) iw f = subst IsTrueWorld (sym f) (go (may_ask s) refl)
   where
     go : (b : Bool) → may_ask s ≡ b → IsTrueWorld (cond b (acts w n s) w)
-    go true p = let q = and_parts (is_client s) (is_step s) p in acts_true w iw n s q.1 (λ deeds iv. quiet s q.0 deeds)
+    go true p = let q = and_parts (is_client s) (is_step s) p in acts_true w iw n s q.1 (lasting s q.0) (λ deeds iv. quiet s q.0 deeds)
     go false p = iw
 happens_true w v (events_are.Cut n form) iw f = cuts_true form w v iw n f
 happens_true w v (events_are.Full n from form) iw f = tells_true form w v iw n from f
 happens_true w v (events_are.Part n from to form) iw f = parts_true form w v iw n from f
 happens_true w v (events_are.Deliver n k) iw f = subst IsTrueWorld (sym f) (delivered_true w iw n k)
-happens_true w v (events_are.Heard n r now) iw f = subst IsTrueWorld (sym f) (acts_true w iw n (steps_are.Heard r now) refl (λ deeds iv t m. absurd (cc)))
-happens_true w v (events_are.Tick n now) iw f = subst IsTrueWorld (sym f) (acts_true w iw n (steps_are.Tick now) refl (λ deeds iv t m. absurd (cc)))
-happens_true w v (events_are.PermDown n r) iw f = subst IsTrueWorld (sym f) (acts_true w iw n (steps_are.PermDown r) refl (λ deeds iv t m. absurd (cc)))
+happens_true w v (events_are.Heard n r now) iw f = subst IsTrueWorld (sym f) (acts_true w iw n (steps_are.Heard r now) refl refl (λ deeds iv t m. absurd (cc)))
+happens_true w v (events_are.Tick n now) iw f = subst IsTrueWorld (sym f) (acts_true w iw n (steps_are.Tick now) refl refl (λ deeds iv t m. absurd (cc)))
+happens_true w v (events_are.PermDown n r) iw f = subst IsTrueWorld (sym f) (acts_true w iw n (steps_are.PermDown r) refl refl (λ deeds iv t m. absurd (cc)))
 happens_true w v (events_are.Checkpoint n) iw f = begins_true w v iw n f
 happens_true w v (events_are.Restart n i) iw f = subst IsTrueWorld (sym f) (restarted_true w iw n i)
+happens_true w v (events_are.Rebirth n i) iw f = subst IsTrueWorld (sym f) (rebirths_true w iw n i)
 
 pub runs_true : (w v : WorldValue) (es : List Event) → IsTrueWorld w → Runs w es v → IsTrueWorld v
 runs_true w v [] iw f = subst IsTrueWorld (sym f) iw

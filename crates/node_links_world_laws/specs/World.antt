@@ -13,7 +13,7 @@ use Rattle.presence_journal_data.specs.StepLimits.{is_heard}
 use Rattle.presence_journal_data.specs.declared.step.Step.TheVariants as steps_are
 use Rattle.presence_journal_data.specs.declared.entry.Outcome.TheVariants as outcomes_are
 use Rattle.presence_journal.specs.Steps.{Step, Outcome, Start}
-use Rattle.presence_journal.specs.History.{History, Begin, begun, last_number, row_made}
+use Rattle.presence_journal.specs.History.{History, Begin, begun, last_number, row_made, row}
 use Rattle.presence_journal.specs.Table.{accepted, after, is_step}
 use Rattle.presence_journal_cuts.specs.Cuts.{IsCut}
 use Rattle.presence_journal_cuts.specs.KeptDeltas.{TellsFrom}
@@ -81,6 +81,7 @@ abbrev pub with_row : List (Dot × Row) → Option (Dot × Row) → List (Dot ×
 with_row xs None = xs
 with_row xs (Some x) = xs ++ x ∷ []
 
+-- the life behind a step of its own; no rebirth is one, since another life goes on from it
 abbrev pub stepped : Step → LifeValue → LifeValue
 stepped s l = record { history = after l.history s None; made = with_row l.made (added s (accepted l.history s)) }
 
@@ -135,6 +136,7 @@ is_client (steps_are.Tick now) = false
 is_client (steps_are.PermDown replica) = false
 is_client steps_are.Cut = false
 is_client (steps_are.Merge told) = false
+is_client (steps_are.Rebirth incarnation) = false
 is_client _ = true
 
 -- and within its limits
@@ -188,12 +190,43 @@ is_later r i = nat_lt r.incarnation i && nat_le i (2 ^ 62)
 abbrev pub next_life : Replica → ℕ → Replica
 next_life r i = record { name = r.name; incarnation = i }
 
-abbrev pub reborn : WorldValue → ℕ → Replica → WorldValue
-reborn w n r = record { lives = map.insert w.lives r (newborn r); present = set w.present n r; told = w.told }
+abbrev pub begun_anew : WorldValue → ℕ → Replica → WorldValue
+begun_anew w n r = record { lives = map.insert w.lives r (newborn r); present = set w.present n r; told = w.told }
 
 abbrev pub restarted : WorldValue → ℕ → ℕ → Option Replica → WorldValue
 restarted w n i None = w
-restarted w n i (Some r) = cond (is_later r i) (reborn w n (next_life r i)) w
+restarted w n i (Some r) = cond (is_later r i) (begun_anew w n (next_life r i)) w
+
+-- a row before these, where there is one
+abbrev pub before_rows : Option (Dot × Row) → List (Dot × Row) → List (Dot × Row)
+before_rows None xs = xs
+before_rows (Some x) xs = x ∷ xs
+
+-- the rows under the new dots of these pairs
+abbrev pub rows_under : (Dot → Option Row) → List (Dot × Dot) → List (Dot × Row)
+rows_under rows [] = []
+rows_under rows (p ∷ ps) = before_rows (under p.0 (rows p.0)) (rows_under rows ps)
+
+-- the life that goes on from another one: its history is that one's with the entry of the rebirth, and the rows that it
+-- made are those that go on
+abbrev pub gone_on : ℕ → List (Dot × Dot) → LifeValue → LifeValue
+gone_on i pairs l = record {
+  history = after l.history (steps_are.Rebirth i) None;
+  made = rows_under (row (after l.history (steps_are.Rebirth i) None)) pairs;
+}
+
+-- the node's present life is that one, and the one before stays as it was; where the rebirth is refused nothing changes
+abbrev pub goes_on_as : WorldValue → ℕ → ℕ → Replica × LifeValue → Option Outcome → WorldValue
+goes_on_as w n i x (Some (outcomes_are.Reborn pairs)) = record {
+  lives = map.insert w.lives (next_life x.0 i) (gone_on i pairs x.1);
+  present = set w.present n (next_life x.0 i);
+  told = w.told;
+}
+goes_on_as w n i x _ = w
+
+abbrev pub rebirths : WorldValue → ℕ → ℕ → Option (Replica × LifeValue) → WorldValue
+rebirths w n i None = w
+rebirths w n i (Some x) = goes_on_as w n i x (accepted x.1.history (steps_are.Rebirth i))
 
 -- What an event makes of a world, one line for each. A cut, a full value, a part and a checkpoint leave open which value of the form
 -- is told, or which Start is made, of those that are right; all that is said of worlds holds for each.
@@ -208,6 +241,7 @@ Happens w (events_are.Tick n now) v = v ≡ acts w n (steps_are.Tick now)
 Happens w (events_are.PermDown n r) v = v ≡ acts w n (steps_are.PermDown r)
 Happens w (events_are.Checkpoint n) v = Begins w (life_at w n) v
 Happens w (events_are.Restart n i) v = v ≡ restarted w n i (slice_get w.present n)
+Happens w (events_are.Rebirth n i) v = v ≡ rebirths w n i (life_at w n)
 
 -- events make this of a world, one after another
 abbrev pub Runs : WorldValue → List Event → WorldValue → Type 0

@@ -4,3 +4,4 @@ pub mod Rows
 pub mod Wholes
 pub mod PartFacts
 pub mod LifeFacts
+pub mod GoneOn

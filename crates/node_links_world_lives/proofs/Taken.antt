@@ -8,7 +8,7 @@ use Rattle.presence_journal.specs.Queue.{topic_of}
 use Rattle.presence_journal.specs.Table.{outcome_of, accepted, for_present}
 use Rattle.presence_journal.proofs.FoldOthers.{refused_stays}
 use Rattle.tracker_shard.specs.declared.fault.ShardFault.{ShardFault}
-use Rattle.tracker_shard.specs.declared.fault.ShardFault.TheVariants.{AlreadyTracked, NoPresence, ClockFull, JournalFull, NoSub, OutOfMemory}
+use Rattle.tracker_shard.specs.declared.fault.ShardFault.TheVariants.{AlreadyTracked, NoPresence, ClockFull, JournalFull, NoSub, BadIncarnation, OutOfMemory}
 use Rattle.tracker_shard.specs.Steps.{Made, Stepped, IsDue, cause, refusal, refusal_at, is_found, slot_of}
 use Rattle.node_links_world_lives.specs.Taken.{Took, taken}
 
@@ -19,7 +19,7 @@ stays : (old new : History) (s : Step) → new ≡ old → accepted old s ≡ No
 stays old new s same none = record { is = sym (ap is_some none); journal = same ∙ sym (refused_stays old s None none) }
 
 -- a refusal that stands against the step
-stands : (old : History) (s : Step) (found : Bool) (f : ShardFault) → (found ≡ false → outcome_of old s ≡ None) → refusal found old s ≡ Some f → accepted old s ≡ None
+pub stands : (old : History) (s : Step) (found : Bool) (f : ShardFault) → (found ≡ false → outcome_of old s ≡ None) → refusal found old s ≡ Some f → accepted old s ≡ None
 unfolding accepted
 stands old s false f missing r = go (is_full old) (missing refl)
   where
@@ -42,6 +42,7 @@ took_err A old new s found NoPresence b g m d t = let e : true ≡ b = cc in sub
 took_err A old new s found ClockFull b g m d t = let e : false ≡ b = cc in subst (Took old new s) e (stays old new s m (stands old s found ClockFull g d))
 took_err A old new s found JournalFull b g m d t = let e : false ≡ b = cc in subst (Took old new s) e (stays old new s m (stands old s found JournalFull g d))
 took_err A old new s found NoSub b g m d t = let e : false ≡ b = cc in subst (Took old new s) e (stays old new s m (stands old s found NoSub g d))
+took_err A old new s found BadIncarnation b g m d t = let e : false ≡ b = cc in subst (Took old new s) e (stays old new s m (stands old s found BadIncarnation g d))
 took_err A old new s found OutOfMemory b g m d t = absurd (cc)
 
 -- what is made of a refusal
@@ -80,6 +81,7 @@ stays_short {A} old new s r f (Err e) is m t = go f (subst (λ (y : Result A Sha
     go ClockFull k n = absurd (cc)
     go JournalFull k n = absurd (cc)
     go NoSub k n = absurd (cc)
+    go BadIncarnation k n = absurd (cc)
     go OutOfMemory k n = k
 
 pub ruleset taking = (took_ok, took_refused, took_take, took_end, stays_short)

@@ -13,7 +13,7 @@ use Rattle.presence_journal_sets.specs.Full.{IsFullOf}
 use Rattle.presence_journal_cuts.specs.Cuts.{IsCut}
 use Rattle.presence_journal_cuts.specs.KeptDeltas.{IsToldFrom}
 use Rattle.tracker_shard.specs.declared.fault.ShardFault.{ShardFault}
-use Rattle.tracker_shard.specs.declared.fault.ShardFault.TheVariants.{AlreadyTracked, NoPresence, ClockFull, JournalFull, NoSub, OutOfMemory}
+use Rattle.tracker_shard.specs.declared.fault.ShardFault.TheVariants.{AlreadyTracked, NoPresence, ClockFull, JournalFull, NoSub, BadIncarnation, OutOfMemory}
 use Rattle.tracker_shard.specs.Steps.{Stepped, Answers, IsDue, RefusesForRoom, cause, refusal, checkpoint_refusal}
 use Rattle.node_links_world_lives.specs.Living.{CutsIf, Cuts, BeginsIf, BeginsAgain}
 use Rattle.node_links_world_laws.specs.World.{TellsCut, TellsWhole}
@@ -58,6 +58,7 @@ cut_short Gives h g NoPresence k a = absurd (cc)
 cut_short Gives h g ClockFull k a = k
 cut_short Gives h g JournalFull k a = k
 cut_short Gives h g NoSub k a = k
+cut_short Gives h g BadIncarnation k a = k
 cut_short Gives h g OutOfMemory k a = k
 
 pub ruleset wholes = (whole_all, whole_from, cut_told, cut_refused, cut_short, begin_refused)
@@ -71,6 +72,7 @@ short_of NoPresence k n = absurd k
 short_of ClockFull k n = absurd k
 short_of JournalFull k n = absurd (n refl)
 short_of NoSub k n = absurd k
+short_of BadIncarnation k n = absurd k
 short_of OutOfMemory k n = refl
 
 room_of : (A B : Type 0) (f : ShardFault) → RefusesForRoom {A = A} (Err f) → RefusesForRoom {A = B} (Err f)
@@ -79,6 +81,7 @@ room_of A B NoPresence k = k
 room_of A B ClockFull k = k
 room_of A B JournalFull k = k
 room_of A B NoSub k = k
+room_of A B BadIncarnation k = k
 room_of A B OutOfMemory k = k
 
 pub room_at : {A : Type 0} (r : Result A ShardFault) (f : ShardFault) → r ≡ Err f → RefusesForRoom r → RefusesForRoom {A = Unit {0}} (Err f)

@@ -6,7 +6,7 @@ use Rattle.presence_journal.specs.Steps.{Step}
 use Rattle.presence_journal.specs.History.{History}
 use Rattle.presence_journal.specs.Table.{accepted, after}
 use Rattle.tracker_shard.specs.declared.fault.ShardFault.{ShardFault}
-use Rattle.tracker_shard.specs.declared.fault.ShardFault.TheVariants.{AlreadyTracked, NoPresence, ClockFull, JournalFull, NoSub, OutOfMemory}
+use Rattle.tracker_shard.specs.declared.fault.ShardFault.TheVariants.{AlreadyTracked, NoPresence, ClockFull, JournalFull, NoSub, BadIncarnation, OutOfMemory}
 use Rattle.node_links_world_laws.specs.World.{added, with_row}
 
 -- the step was taken, or refused and nothing changed
@@ -21,6 +21,7 @@ taken NoPresence = Some true
 taken ClockFull = Some false
 taken JournalFull = Some false
 taken NoSub = Some false
+taken BadIncarnation = Some false
 taken OutOfMemory = None
 
 -- the rows behind a step: the one that it adds, if it is accepted, behind the others

@@ -10,6 +10,7 @@
 #![tactic(auto)]
 
 mod client;
+mod going_on;
 mod life;
 mod refused;
 mod row;

@@ -1,10 +1,12 @@
 ghost use Rattle.std.specs.Prelude.{◌≡◌, true, IfOk, OnOk, OnErr};
 ghost use Rattle.presence_base.specs.Refs.{IsCount};
-ghost use Rattle.presence_journal.specs.Table.{is_step, IsLegal};
+ghost use Rattle.presence_journal.specs.Table.{accepted, is_step, IsLegal};
 ghost use Rattle.presence_journal.specs.History.{IsTop, count, status};
+ghost use Rattle.node_links_world_lives.specs.GoingOn.{going_on};
 ghost use Rattle.node_links_world_lives.specs.Living.{Cuts, BeginsAgain};
 ghost use Rattle.node_links_world_laws.specs.World.{newborn, stepped, TellsPartIf, TellsWhole};
 
+use crate::going_on::{made_rows, refused_rebirth};
 use crate::taking;
 use crate::telling::Telling;
 use orswot_core_told::Form;
@@ -64,7 +66,7 @@ impl Life {
     pub fn count(&self) -> u64
         ensures { result ≡ count self.now.history }
     {
-        self.shard.top(self.shard.journal().own())
+        self.shard.top(&self.shard.journal().own())
     }
 
     /// The count up to which all of a replica's dots are covered.
@@ -135,5 +137,25 @@ impl Life {
         ensures same { OnErr result (self.new ≡ self.old) }
     {
         taking::checkpoint(&mut self.shard, alloc)
+    }
+
+    /// The life that goes on from this one under a higher incarnation, where it can; this one stays as it was. It costs what each
+    /// entry of the journal did when it was made.
+    pub fn reborn(&self, alloc: Global, incarnation: u64) -> Result<Option<Life>, AllocError>
+        ensures { IfOk result (λ o. o ≡ going_on incarnation self.now
+            (accepted self.now.history (Step.Rebirth incarnation))) }
+    {
+        let copy = self.journal().clone()?;
+        let mut shard = Shard::of_journal(alloc, copy)?;
+        match shard.rebirth(alloc, incarnation) {
+            Ok(pairs) => {
+                let made = made_rows(alloc, shard.journal(), pairs.as_slice())?;
+                Ok(Some(Life { shard, made }))
+            }
+            Err(fault) => {
+                refused_rebirth(fault)?;
+                Ok(None)
+            }
+        }
     }
 }

@@ -15,6 +15,7 @@ pub(crate) fn refused(fault: ShardFault) -> Result<bool, AllocError>
         ShardFault::ClockFull => Ok(false),
         ShardFault::JournalFull => Ok(false),
         ShardFault::NoSub => Ok(false),
+        ShardFault::BadIncarnation => Ok(false),
         ShardFault::OutOfMemory => Err(AllocError),
     }
 }

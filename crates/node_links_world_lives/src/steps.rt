@@ -20,7 +20,8 @@ pub fn is_callers(step: &Step) -> bool
         | Step::Tick { .. }
         | Step::PermDown { .. }
         | Step::Cut
-        | Step::Merge { .. } => false,
+        | Step::Merge { .. }
+        | Step::Rebirth { .. } => false,
         _ => true,
     }
 }
@@ -68,6 +69,7 @@ pub(crate) fn take(shard: &mut Shard, alloc: Global, step: &Step) -> Result<bool
         Step::Tick { now } => tick(shard, alloc, *now),
         Step::PermDown { replica } => permdown(shard, alloc, *replica),
         Step::Cut => cut(shard, alloc),
+        Step::Rebirth { incarnation } => rebirth(shard, alloc, *incarnation),
     }
 }
 
@@ -78,6 +80,18 @@ fn cut(shard: &mut Shard, alloc: Global) -> Result<bool, AllocError>
     ensures same { OnErr result (shard.new ≡ shard.old) }
 {
     match shard.cut(alloc) {
+        Ok(_) => Ok(true),
+        Err(fault) => refused(fault),
+    }
+}
+
+// Goes on under a higher incarnation; the pairs are dropped.
+#[tactic(auto, using(crate::proofs::Taken::taking))]
+fn rebirth(shard: &mut Shard, alloc: Global, incarnation: u64) -> Result<bool, AllocError>
+    ensures took { IfOk result (Took shard.old shard.new (Step.Rebirth incarnation)) }
+    ensures same { OnErr result (shard.new ≡ shard.old) }
+{
+    match shard.rebirth(alloc, incarnation) {
         Ok(_) => Ok(true),
         Err(fault) => refused(fault),
     }

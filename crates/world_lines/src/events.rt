@@ -152,6 +152,13 @@ fn restart_of(members: &[Value]) -> Result<Event, LineFault> {
     Ok(Event::Restart { node, incarnation })
 }
 
+fn rebirth_of(members: &[Value]) -> Result<Event, LineFault> {
+    are_so_many(members, 3)?;
+    let node = position_at(members, 1)?;
+    let incarnation = number_at(members, 2)?;
+    Ok(Event::Rebirth { node, incarnation })
+}
+
 /// What happens to a node besides, by the first member. A node tells in this form.
 pub(crate) fn event_of(
     alloc: Global,
@@ -169,6 +176,7 @@ pub(crate) fn event_of(
         "permdown" => permdown_of(alloc, members),
         "checkpoint" => checkpoint_of(members),
         "restart" => restart_of(members),
+        "rebirth" => rebirth_of(members),
         _ => Err(LineFault::Unknown),
     }
 }

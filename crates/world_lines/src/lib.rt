@@ -15,6 +15,7 @@
 //! | `["heard",node,[name,incarnation],now]`, `["tick",node,now]` | a replica is heard, time passes |
 //! | `["permdown",node,[name,incarnation]]` | a replica is gone for good |
 //! | `["checkpoint",node]`, `["restart",node,incarnation]` | a Start in the journal's place, a new life |
+//! | `["rebirth",node,incarnation]` | the node goes on under a higher incarnation, with all its rows |
 //! | `["list",node,topic]` | asks for `[reference,key,pid,meta,previous reference or null]` of each row, in order |
 //! | `["told"]`, `["caught_up",node,[name,incarnation]]` | asks how many values were told, whether a node is caught up |
 //!
