@@ -1,5 +1,5 @@
 //! What a peer asks for, line by line, and what comes of actions that no line gives.
-use crate::desk::{Desk, NOW, at_a, at_b, replica};
+use crate::desk::{Desk, NOW, at_a, at_b, at_late_a, replica};
 use crate::port::Call;
 use node_links::{Act, ActFault, Line, LinkAction, LinkFault, act};
 use presence_base::Replica;
@@ -106,17 +106,22 @@ fn greeted(alloc: Global) -> Option<Desk<'static>> {
     }
 }
 
-// Whether node `a`, behind the hellos, is asked for these actions by each line in turn.
-fn are_asking(alloc: Global, lines: &[(&str, &[Asks])]) -> bool {
-    let Some(mut desk) = greeted(alloc) else {
-        return false;
-    };
+// Whether a node is asked for these actions by each line in turn.
+fn are_asking_at(alloc: Global, desk: &mut Desk<'_>, lines: &[(&str, &[Asks])]) -> bool {
     for (text, wanted) in lines {
-        if !is_asking(alloc, &mut desk, text, wanted) {
+        if !is_asking(alloc, desk, text, wanted) {
             return false;
         }
     }
     true
+}
+
+// Whether node `a`, behind the hellos, is asked for these actions by each line in turn.
+fn are_asking(alloc: Global, lines: &[(&str, &[Asks])]) -> bool {
+    match greeted(alloc) {
+        Some(mut desk) => are_asking_at(alloc, &mut desk, lines),
+        None => false,
+    }
 }
 
 #[test]
@@ -199,6 +204,74 @@ fn the_other_lines(rt: HostRuntime) {
                 (r#"["gone","a",2]"#, &[]),
                 (r#"["gone","b",1]"#, &[]),
                 (r#"["ok"]"#, &[]),
+            ]
+        )
+    );
+}
+
+// Whether node `a.2`, whose shard 1 is still `a.1`, is asked for these actions by each line in turn.
+fn are_asking_late(alloc: Global, lines: &[(&str, &[Asks])]) -> bool {
+    match at_late_a(alloc) {
+        Some(mut desk) => {
+            desk.takes(alloc, r#"["hello","b",1,2]"#) && are_asking_at(alloc, &mut desk, lines)
+        },
+        None => false,
+    }
+}
+
+// A beat and a want are about what their shard is.
+#[test]
+fn a_late_shard_is_what_it_was(rt: HostRuntime) {
+    let alloc = rt.alloc();
+    let (Some(a1), Some(a2)) = (replica(alloc, "a", 1), replica(alloc, "a", 2)) else {
+        assert!(rt; false);
+        return;
+    };
+    let a1 = &a1;
+    let a2 = &a2;
+    let of_before = [
+        Asks::UnlessGone(0, *a1),
+        Asks::Heard(0, *a1, NOW),
+        Asks::AnswerTop(0, *a1, 3),
+    ];
+    let of_node = [
+        Asks::UnlessGone(1, *a2),
+        Asks::Heard(1, *a2, NOW),
+        Asks::AnswerTop(1, *a2, 3),
+    ];
+    assert!(rt;
+        are_asking_late(
+            alloc,
+            &[
+                (r#"["beat",0,"a",2,3,null]"#, &[Asks::Ok]),
+                (r#"["beat",0,"a",1,3,null]"#, &of_before),
+                (r#"["beat",1,"a",1,3,null]"#, &[Asks::Ok]),
+                (r#"["beat",1,"a",2,3,null]"#, &of_node),
+                (r#"["want",0,"a",2,7]"#, &[Asks::AnswerTold(0, Some(7))]),
+                (r#"["want",0,"a",1,7]"#, &[Asks::AnswerTold(0, None)]),
+                (r#"["want",1,"a",1,7]"#, &[Asks::AnswerTold(1, Some(7))]),
+                (r#"["want",1,"a",2,7]"#, &[Asks::AnswerTold(1, None)]),
+            ]
+        )
+    );
+}
+
+// The other lines are about what the node's hello says.
+#[test]
+fn a_node_with_a_late_shard(rt: HostRuntime) {
+    let alloc = rt.alloc();
+    let Some(a1) = replica(alloc, "a", 1) else {
+        assert!(rt; false);
+        return;
+    };
+    assert!(rt;
+        are_asking_late(
+            alloc,
+            &[
+                (r#"["permdown","a",2]"#, &[Asks::Ok]),
+                (r#"["permdown","a",1]"#, &[Asks::PermDown(a1), Asks::Ok]),
+                (r#"["gone","a",1]"#, &[]),
+                (r#"["gone","a",2]"#, &[Asks::GivenUp]),
             ]
         )
     );

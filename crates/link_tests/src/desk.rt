@@ -49,10 +49,10 @@ impl Drop for Desk<'_> {
     }
 }
 
-// The node that is this replica, with two shards, at this end of a link that gives these bytes, which speaks this form.
-fn seated(alloc: Global, own: Replica, end: End, speaks: Form, bytes: &[u8]) -> Desk<'_> {
+// A node with two shards, which is this peer at its end of a link that gives these bytes.
+fn seated(alloc: Global, peer: Peer, bytes: &[u8]) -> Desk<'_> {
     Desk {
-        peer: Peer::new(own, 2, end, speaks),
+        peer,
         port: TestPort {
             shards: 2,
             status: Status::Up,
@@ -168,19 +168,39 @@ impl<'a> Desk<'a> {
 // The node `a.1`, at the end that was dialled.
 pub(super) fn at_a(alloc: Global, bytes: &[u8]) -> Option<Desk<'_>> {
     let own = replica(alloc, "a", 1)?;
-    Some(seated(alloc, own, End::Accepting, Form::Two, bytes))
+    let peer = Peer::new(own, 2, End::Accepting, Form::Two);
+    Some(seated(alloc, peer, bytes))
 }
 
 // The same, which speaks the first form alone.
 pub(super) fn at_old_a(alloc: Global, bytes: &[u8]) -> Option<Desk<'_>> {
     let own = replica(alloc, "a", 1)?;
-    Some(seated(alloc, own, End::Accepting, Form::One, bytes))
+    let peer = Peer::new(own, 2, End::Accepting, Form::One);
+    Some(seated(alloc, peer, bytes))
+}
+
+// What the shards of a node are: the first is this, and the second that.
+fn owns(alloc: Global, first: &Replica, second: &Replica) -> Option<Vec<Replica>> {
+    match vec![in alloc; *first, *second] {
+        Ok(owns) => Some(owns),
+        Err(_) => None,
+    }
+}
+
+// The node `a.2`, whose shard 1 is still `a.1`, at the end that was dialled.
+pub(super) fn at_late_a(alloc: Global) -> Option<Desk<'static>> {
+    let own = replica(alloc, "a", 2)?;
+    let before = replica(alloc, "a", 1)?;
+    let owns = owns(alloc, &own, &before)?;
+    let peer = Peer::new(own, 2, End::Accepting, Form::One);
+    Some(seated(alloc, peer.with_owns(owns), b""))
 }
 
 // The node `b.1`, at the end that dialled.
 pub(super) fn at_b(alloc: Global, bytes: &[u8]) -> Option<Desk<'_>> {
     let own = replica(alloc, "b", 1)?;
-    Some(seated(alloc, own, End::Dialling, Form::Two, bytes))
+    let peer = Peer::new(own, 2, End::Dialling, Form::Two);
+    Some(seated(alloc, peer, bytes))
 }
 
 // The line that a text is on a link of the first version.

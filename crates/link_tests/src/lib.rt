@@ -1,5 +1,5 @@
 //! Tests of links: which text is which line, what streams do, and what each line of an exchange asks for, over a port that
-//! notes its calls and a stream that fails.
+//! notes its calls and a stream that fails; and the lives of a node.
 #![tactic(auto)]
 
 #[cfg(test)]
@@ -22,6 +22,8 @@ mod forms;
 mod junk;
 #[cfg(test)]
 mod limits;
+#[cfg(test)]
+mod lives;
 #[cfg(test)]
 mod port;
 #[cfg(test)]

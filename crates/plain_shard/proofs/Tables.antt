@@ -21,6 +21,7 @@ use Rattle.tracker_shard.proofs.Tables.{list_shown, get_shown, shout_sent, subsc
 use Rattle.tracker_shard.proofs.Tables.{track_added, track_full, track_again, update_replaced, update_full, update_none, untrack_is, untrack_all_is}
 use Rattle.tracker_shard.proofs.Tables.{found_is, ended_found, none_stands, full_stands, clock_stands, sub_none_stands, sub_full_stands, no_sub_stands}
 use Rattle.tracker_shard.proofs.Tables.{waits_found, waits_missing}
+use Rattle.tracker_shard.proofs.Tables.{reborn_answered, reborn_refused, incarnation_stands, reborn_limits}
 
 pub taken_is : (h : History) (n max : ℕ) (t : List ℕ) (w : Waiting) (o : Outcome) → topic_of h n ≡ Some t → w ≡ queue h n → o ≡ take_outcome max w → outcome_of h (steps_are.Take n max) ≡ Some o
 unfolding outcome_of
@@ -45,7 +46,7 @@ kept_seen h now new s seat o r view ok err kept e room limits = kept_new h new s
 pub made_seen : (h now new : History) (s : Step) (seat : Option ℕ) (o : Outcome) → h ≡ now → outcome_of now s ≡ Some o → is_full now ≡ false → new ≡ after h s seat → Made now new seat s
 made_seen h now new s seat o view e room is = made now s seat o e room new (is ∙ ap (λ x. after x s seat) view)
 
-pub ruleset tables = (list_shown, get_shown, shout_sent, subscribe_number, heard_noted, tick_noted, permdown_noted, merge_taken_in, cut_told, track_added, track_full, track_again, update_replaced, update_full, update_none, untrack_is, untrack_all_is, found_is, ended_found, none_stands, full_stands, clock_stands, sub_none_stands, sub_full_stands, no_sub_stands)
+pub ruleset tables = (list_shown, get_shown, shout_sent, subscribe_number, heard_noted, tick_noted, permdown_noted, merge_taken_in, cut_told, track_added, track_full, track_again, update_replaced, update_full, update_none, untrack_is, untrack_all_is, found_is, ended_found, none_stands, full_stands, clock_stands, reborn_answered, reborn_refused, incarnation_stands, reborn_limits, sub_none_stands, sub_full_stands, no_sub_stands)
 
 pub ruleset takes = (taken_is)
 

@@ -4,6 +4,7 @@ use orswot_core::{Form, Told};
 use presence_base::{Dot, Json, Key, MAX_COUNT, Meta, Replica, Row, Topic};
 use presence_journal::{Dots, Item, Journal, Outcome, SharedRows, Step, dots_of_rows};
 use presence_journal_cuts::walk_cut;
+use presence_journal_sets::{walk_can_be_reborn, walk_pairs};
 use presence_journal_walks::{
     walk_count, walk_get, walk_list, walk_own_row, walk_own_rows, walk_pending, walk_set,
     walk_status, walk_top, walk_topic, walk_waits,
@@ -45,7 +46,7 @@ impl Model for PlainShard {
 impl PlainShard {
     ghost use Rattle.std.specs.Prelude.{◌≡◌, ◌≤◌, ◌^◌, true, false, Some, None, option_copied, IfOk, IfErr, OnOk, OnErr, IsTrue};
     ghost use Rattle.presence_base.specs.Refs.{IsCount};
-    ghost use Rattle.presence_journal.specs.History.{begun, is_full, status, IsTop};
+    ghost use Rattle.presence_journal.specs.History.{begun, is_full, own, status, IsTop};
     ghost use Rattle.presence_journal.specs.Limits.{is_payload, is_take_limit, is_within_limits};
     ghost use Rattle.presence_journal.specs.Present.{dots_of};
     ghost use Rattle.presence_journal.specs.Queue.{topic_of, queue, items_given, is_waiting};
@@ -54,7 +55,7 @@ impl PlainShard {
     ghost use Rattle.presence_journal_sets.specs.Full.{IsFullOf};
     ghost use Rattle.tracker_shard.specs.Steps.{Made, Stepped, Answers, IsDue, RefusesForRoom, refusal, refusal_at, is_found};
     ghost use Rattle.tracker_shard.specs.Steps.{AnswersDot, AnswersRowsOfKey, AnswersRowsOfPid, AnswersListed};
-    ghost use Rattle.tracker_shard.specs.Steps.{AnswersListedKey, AnswersItems, AnswersSub};
+    ghost use Rattle.tracker_shard.specs.Steps.{AnswersListedKey, AnswersItems, AnswersSub, AnswersPairs};
     ghost use Rattle.tracker_shard.specs.Steps.{first_dot, next_counted, found_topic};
 
     /// A shard of the replica with an empty journal.
@@ -127,7 +128,7 @@ impl PlainShard {
             return None;
         }
         Some(Dot {
-            replica: *self.journal.own(),
+            replica: self.journal.own(),
             count: count + 1,
         })
     }
@@ -546,6 +547,38 @@ impl PlainShard {
         }
         let step = Step::merge(told)?;
         self.write(None, step, Outcome::Merged)
+    }
+
+    /// The incarnation under which the shard goes on.
+    pub fn incarnation(&self) -> u64
+        ensures { result ≡ (own self.now).incarnation }
+    {
+        self.journal.own().incarnation
+    }
+
+    /// Goes on under a higher incarnation, and answers each new dot of an own row with its old one.
+    ///
+    /// It refuses in this order: `JournalFull`; `BadIncarnation`; `OutOfMemory` in place of any answer but the first.
+    #[tactic(auto, using(crate::proofs::Tables::tables))]
+    pub fn rebirth(
+        &mut self,
+        alloc: Global,
+        incarnation: u64,
+    ) -> Result<Vec<(Dot, Dot)>, ShardFault>
+        ensures step { Stepped self.old self.new None (Step.Rebirth incarnation) result }
+        ensures answer { AnswersPairs self.old incarnation result }
+        ensures due { IsDue result (refusal true self.old (Step.Rebirth incarnation)) }
+    {
+        if self.journal.is_full() {
+            return Err(ShardFault::JournalFull);
+        }
+        if !walk_can_be_reborn(alloc, &self.journal, incarnation)? {
+            return Err(ShardFault::BadIncarnation);
+        }
+        let pairs = walk_pairs(alloc, &self.journal, incarnation)?;
+        let answer = pairs.as_slice().to_vec(alloc)?;
+        self.write(None, Step::Rebirth { incarnation }, Outcome::Reborn(pairs))?;
+        Ok(answer)
     }
 
     /// All that the shard knows, for a node that missed what was told: of each replica that is not gone the counts that are covered,

@@ -6,7 +6,7 @@ use node_links::LinkPort;
 use orswot_core_told::Form;
 use pool_desk::{key, meta, replica, topic, track, two_rows};
 use presence_base::{Replica, Topic};
-use presence_node_link_ports::{PoolLinkPort, cut_off, let_pass};
+use presence_node_link_ports::{PoolLinkPort, cut_off, go_on, let_pass};
 use presence_node_ports::PoolPort;
 use replica_status::Status;
 use shard_pool::{Lane, NoGate, Pool, PoolFault, Seat};
@@ -29,6 +29,8 @@ pub(crate) enum Asked {
     // By a period: a tick, and a cut.
     Tick,
     Cut,
+    // By a node that is told that it is gone: to go on under a higher incarnation.
+    GoOn,
     // By a session: the list of a room, a row, and a subscriber.
     List,
     Track,
@@ -229,6 +231,14 @@ fn ask<R: Wait, A: Lane, B: Lane, C: Lane, D: Lane>(
         Asked::Cut => {
             cut_off(rt, alloc, pool, shard).ok()?;
             Some(())
+        }
+        Asked::GoOn => {
+            let pairs = go_on(rt, alloc, pool, shard, 2).ok()?;
+            if pairs.len() == 1 && pool.incarnation(rt, shard) == 2 {
+                Some(())
+            } else {
+                None
+            }
         }
         Asked::List | Asked::Track | Asked::Subscribe => {
             ask_by_session(rt, alloc, pool, seat, asked)

@@ -33,6 +33,8 @@ mod one_seat;
 #[cfg(test)]
 mod quiet;
 #[cfg(test)]
+mod rebirths;
+#[cfg(test)]
 mod replayed;
 #[cfg(test)]
 mod replaying;

@@ -11,6 +11,7 @@ use crate::full::{Asked, Filled, ask_when_full, wanted_behind};
 use crate::gaps::{Played, wanted, watch};
 use crate::kept_deltas::{WANTED as WANTED_KEPT, WhatIsKept, kept};
 use crate::quiet::{Due, asked_in_turn, wanted as wanted_due};
+use crate::rebirths::{WANTED as WANTED_REBORN, WANTED_REFUSALS, WentOn, reborn, refusals};
 use crate::statuses::{WANTED as WANTED_STATUSES, statuses};
 use pool_desk::{replica, track};
 use presence_base::Replica;
@@ -39,6 +40,10 @@ enum Run {
     // A full journal at the shard of the room, and what is asked of it then.
     Fill(&'static str, Asked),
     Due,
+    // The first of four shards goes on under a higher incarnation.
+    Rebirth,
+    // The second of four shards is to go on under some.
+    Refusals,
 }
 
 // What came of it: the shard of the track.
@@ -54,6 +59,8 @@ enum Came {
     Apart(Sides),
     Filled(Filled),
     Due([Due; 6]),
+    Rebirth(WentOn),
+    Refusals([bool; 5]),
 }
 
 fn run_over<A: Lane, B: Lane, C: Lane, D: Lane, R: Wait>(
@@ -90,6 +97,9 @@ fn run_over<A: Lane, B: Lane, C: Lane, D: Lane, R: Wait>(
         )?)),
         Run::Fill(..) => None,
         Run::Due => Some(Came::Due(asked_in_turn(rt, alloc, pool, seat)?)),
+        Run::Rebirth if shards == 4 => Some(Came::Rebirth(reborn(rt, alloc, pool, seat)?)),
+        Run::Refusals if shards == 4 => Some(Came::Refusals(refusals(rt, alloc, pool)?)),
+        Run::Rebirth | Run::Refusals => None,
     }
 }
 
@@ -183,6 +193,18 @@ fn runs_over_one_shard(rt: HostRuntime) -> Result<(), Fail> {
 }
 
 #[test]
+fn a_shard_goes_on_under_a_higher_incarnation(rt: HostRuntime) {
+    let came = outcome_of(&rt, rt.alloc(), 4, Run::Rebirth);
+    assert_eq!(rt; came, Some(Came::Rebirth(WANTED_REBORN)));
+}
+
+#[test]
+fn a_shard_refuses_some_incarnations(rt: HostRuntime) {
+    let came = outcome_of(&rt, rt.alloc(), 4, Run::Refusals);
+    assert_eq!(rt; came, Some(Came::Refusals(WANTED_REFUSALS)));
+}
+
+#[test]
 fn calls_stay_at_their_shards(rt: HostRuntime) -> Result<(), Fail> {
     for (tracked, called) in [
         ("room:d", "room:a"),
@@ -236,6 +258,11 @@ fn a_tick_at_full_journals(rt: HostRuntime) {
 #[test]
 fn a_cut_at_full_journals(rt: HostRuntime) {
     assert!(rt; begin_again(&rt, rt.alloc(), Asked::Cut));
+}
+
+#[test]
+fn a_rebirth_at_full_journals(rt: HostRuntime) {
+    assert!(rt; begin_again(&rt, rt.alloc(), Asked::GoOn));
 }
 
 #[test]

@@ -37,7 +37,8 @@ fn top_of<G: Gate, A: Lane, B: Lane, C: Lane, D: Lane, R: Wait>(
     }
 }
 
-// Hears another replica and takes in what it tells, late, without a seat: whether both are covered behind it.
+// Hears another replica and takes in what it tells, late, and goes on as the second incarnation, without a seat: whether both
+// tellings are covered, before that and behind it.
 fn tell<G: Gate, A: Lane, B: Lane, C: Lane, D: Lane, R: Wait>(
     rt: &R,
     alloc: Global,
@@ -51,7 +52,9 @@ fn tell<G: Gate, A: Lane, B: Lane, C: Lane, D: Lane, R: Wait>(
     let before = top_of(rt, alloc, pool, other)?;
     pool.merge(rt, alloc, 0, &rows).ok()?;
     let after = top_of(rt, alloc, pool, other)?;
-    Some(before == 1 && after == 3)
+    let _reborn = pool.rebirth(rt, alloc, 0, 2).ok()?;
+    let last = top_of(rt, alloc, pool, other)?;
+    Some(before == 1 && after == 3 && last == 3 && pool.incarnation(rt, 0) == 2)
 }
 
 // What a thread with a seat gives back.
@@ -217,12 +220,12 @@ fn outcome<R: Threads + Wait + Sync>(rt: &R, alloc: Global) -> Option<Counts> {
     )
 }
 
-// Three times twenty rounds of ten calls, of which each second round has one that is answered by a refusal, and three
-// calls without a seat.
+// Three times twenty rounds of ten calls, of which each second round has one that is answered by a refusal, and four
+// calls without a seat, the last of which is a rebirth.
 #[test]
 fn pool_replay(rt: HostRuntime) -> Result<(), Fail> {
     let wanted = Counts {
-        entries: 603,
+        entries: 604,
         answers: 570,
         receipts: 600,
     };

@@ -24,6 +24,7 @@ fn unseated_again(alloc: Global, shard: &mut Shard, step: &Step) -> Option<Strin
         Step::Tick { now } => said(alloc, shard.tick(alloc, *now)),
         Step::PermDown { replica } => said(alloc, shard.permdown(alloc, *replica)),
         Step::Merge { told } => said(alloc, shard.merge(alloc, told)),
+        Step::Rebirth { incarnation } => said(alloc, shard.rebirth(alloc, *incarnation)),
         _ => None,
     }
 }

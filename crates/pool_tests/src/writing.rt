@@ -42,6 +42,13 @@ impl Written for Vec<(Dot, Row)> {
     }
 }
 
+impl Written for Vec<(Dot, Dot)> {
+    fn written(&self, alloc: Global) -> Result<String, AllocError> {
+        let pairs = self.as_slice();
+        format!(in alloc; "{pairs:?}")
+    }
+}
+
 impl Written for SharedRows {
     fn written(&self, alloc: Global) -> Result<String, AllocError> {
         rows_text(alloc, self.as_slice())

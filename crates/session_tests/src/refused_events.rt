@@ -5,12 +5,13 @@ use session_desk::{
 };
 use std::alloc::Global;
 
-const FAULTS: [ShardFault; 6] = [
+const FAULTS: [ShardFault; 7] = [
     ShardFault::AlreadyTracked,
     ShardFault::NoPresence,
     ShardFault::ClockFull,
     ShardFault::JournalFull,
     ShardFault::NoSub,
+    ShardFault::BadIncarnation,
     ShardFault::OutOfMemory,
 ];
 
@@ -33,6 +34,7 @@ fn reason_for(event: &str, fault: ShardFault) -> Option<&'static str> {
             None
         },
         ShardFault::NoSub => None,
+        ShardFault::BadIncarnation => None,
         ShardFault::OutOfMemory => None,
     }
 }

@@ -1,8 +1,11 @@
 //! A shard at its desk: what it is asked, and its answers as text.
+ghost use Rattle.std.specs.Prelude.{◌≡◌, IfOk};
 
 use crate::merge_desk::{Telling, replica, told};
 use orswot_core::{Form, Told};
-use presence_base::{Dot, Json, Key, Meta, Row, Topic, has_float, is_within_depth, ref_text};
+use presence_base::{
+    Dot, Json, Key, Meta, Replica, Row, Topic, has_float, is_within_depth, ref_text,
+};
 use presence_journal::{Item, MAX_PAYLOAD_DEPTH};
 use presence_journal_walks::{walk_status, walk_top};
 use serde_json::Value;
@@ -50,6 +53,12 @@ pub(crate) enum Ask {
     Top(&'static str),
     // The same as the journal is walked.
     WalkedTop(&'static str),
+    // The own replica goes on under this incarnation.
+    Rebirth(u64),
+    Incarnation,
+    // The own replica of this incarnation was heard from elsewhere, or its status is asked for.
+    HeardAs(u64),
+    StatusAs(u64),
     // How many rows of all nodes there are, shown or not.
     LiveCount,
     LastNumber,
@@ -311,6 +320,33 @@ fn cut(alloc: Global, shard: &mut Shard) -> Result<String, AllocError> {
     format!(in alloc; "{text}: {rows}")
 }
 
+// Each new dot with its old one, or the refusal's name.
+fn rebirth(alloc: Global, shard: &mut Shard, incarnation: u64) -> Result<String, AllocError> {
+    let pairs = match shard.rebirth(alloc, incarnation) {
+        Ok(pairs) => pairs,
+        Err(fault) => return format!(in alloc; "{fault:?}"),
+    };
+    let mut text = String::new(alloc);
+    for pair in &pairs {
+        let new = ref_text(alloc, &pair.0)?;
+        let old = ref_text(alloc, &pair.1)?;
+        let pair = format!(in alloc; "{new} from {old} ")?;
+        text.push_str(pair.as_str())?;
+    }
+    Ok(text)
+}
+
+// The own node under an incarnation.
+pub(crate) fn life(alloc: Global, incarnation: u64) -> Result<Replica, AllocError>
+    ensures { IfOk result (λ r. r.incarnation ≡ incarnation) }
+{
+    let first = replica(alloc, "a")?;
+    Ok(Replica {
+        name: first.name,
+        incarnation,
+    })
+}
+
 fn ranges_text(alloc: Global, told: &Told) -> Result<String, AllocError> {
     let mut text = String::new(alloc);
     for range in told.ranges() {
@@ -386,6 +422,16 @@ fn note(alloc: Global, shard: &mut Shard, ask: Ask) -> Result<String, AllocError
         Ask::LiveCount => {
             let full = shard.full(alloc, Form::One)?;
             format!(in alloc; "{}", full.live().len())
+        }
+        Ask::Rebirth(incarnation) => rebirth(alloc, shard, incarnation),
+        Ask::Incarnation => format!(in alloc; "{}", shard.incarnation()),
+        Ask::HeardAs(incarnation) => {
+            let replica = life(alloc, incarnation)?;
+            done(alloc, shard.heard(alloc, replica, 0))
+        }
+        Ask::StatusAs(incarnation) => {
+            let replica = life(alloc, incarnation)?;
+            format!(in alloc; "{:?}", shard.status(&replica))
         }
         Ask::LastNumber => format!(in alloc; "{}", shard.journal().last_number()),
         _ => String::from_str(alloc, "no such call"),

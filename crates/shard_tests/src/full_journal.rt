@@ -14,6 +14,8 @@ const LISTS: u32 = 262_141;
 const AT_A_FULL_JOURNAL: &[Ask] = &[
     Ask::List,
     Ask::Take(9),
+    Ask::Rebirth(1),
+    Ask::Rebirth(2),
     Ask::ToldFrom(0),
     Ask::LiveCount,
     Ask::Top("a"),
@@ -23,9 +25,11 @@ const AT_A_FULL_JOURNAL: &[Ask] = &[
     Ask::LastNumber,
     Ask::List,
     Ask::LastNumber,
+    Ask::Rebirth(2),
 ];
 
-const ANSWERS: &str = "JournalFull;NoSub;0-1: : a.1.1 ;1;1;Up;262143;Ok(());262144;a.1.1 ;262145;";
+const ANSWERS: &str =
+    "JournalFull;NoSub;JournalFull;JournalFull;0-1: : a.1.1 ;1;1;Up;262143;Ok(());262144;a.1.1 ;262145;a.2.1 from a.1.1 ;";
 
 #[test]
 fn a_full_journal_begins_again(rt: HostRuntime) -> Result<(), Fail> {

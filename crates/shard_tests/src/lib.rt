@@ -33,6 +33,8 @@ mod merge_telling;
 #[cfg(test)]
 mod merging;
 #[cfg(test)]
+mod rebirths;
+#[cfg(test)]
 mod refused_growths;
 #[cfg(test)]
 mod resuming;

@@ -1,11 +1,15 @@
-//! Merges and a checkpoint that are refused memory.
+//! Merges, a checkpoint and rebirths that are refused memory.
 //!
 //! A test here plays one run, and makes what was refused memory once more. By itself it has ample memory; `tests/refusals`
 //! runs it with each growth refused in turn.
 
-use crate::desk::{Ask, ROOM, items_text, references, row_references, said, shard_after, shard_of};
+use crate::desk::{
+    Ask, ROOM, items_text, life, references, row_references, said, shard_after, shard_of,
+};
 use crate::merge_desk::{Telling, replica, told};
+use delta_range::Delta;
 use orswot_core::{Form, Told};
+use presence_base::Dot;
 use presence_journal::Item;
 use std::alloc::{AllocError, Global};
 use std::test::Fail;
@@ -51,6 +55,19 @@ const FILLED: &[Ask] = &[
     Ask::Update(5, "u1"),
     Ask::Cut,
     Ask::Shout(ROOM),
+];
+
+// An own row that replaced one and one that went since a cut, another's rows, and a subscriber that has taken its state.
+const LIVED: &[Ask] = &[
+    Ask::Track(5, "u1"),
+    Ask::Track(5, "u2"),
+    Ask::Cut,
+    Ask::Heard("b", 0),
+    Ask::Merge(TWO_ROWS),
+    Ask::Update(5, "u1"),
+    Ask::Untrack(5, "u2"),
+    Ask::Subscribe(ROOM),
+    Ask::Take(8),
 ];
 
 // The shard after these calls, unless one of them is refused memory.
@@ -126,6 +143,55 @@ fn is_begun_anew(alloc: Global, shard: &mut Shard) -> Result<bool, AllocError> {
     }
 }
 
+// Whether the one own row goes on under a new dot of this incarnation: a call that is refused memory leaves the shard as it
+// was, and is made once more.
+fn is_reborn(
+    alloc: Global,
+    shard: &mut Shard,
+    incarnation: u64,
+    old: &Dot,
+) -> Result<bool, AllocError> {
+    let before = seen_again(alloc, shard, 8)?;
+    match shard.rebirth(alloc, incarnation) {
+        Err(ShardFault::OutOfMemory) => {
+            let after = seen_again(alloc, shard, 8)?;
+            let answer = shard.rebirth(alloc, incarnation);
+            Ok(before.as_str() == after.as_str() && is_pair(&answer, incarnation, old))
+        }
+        answer => Ok(is_pair(&answer, incarnation, old)),
+    }
+}
+
+fn is_pair(answer: &Result<Vec<(Dot, Dot)>, ShardFault>, incarnation: u64, old: &Dot) -> bool {
+    let Ok(pairs) = answer else {
+        return false;
+    };
+    match pairs.first() {
+        Some((new, was)) => {
+            let is_next = new.count == 1 && new.replica.incarnation == incarnation;
+            is_next && pairs.len() == 1 && *was == *old
+        }
+        None => false,
+    }
+}
+
+// What a cut tells, which is made once more where it was refused memory.
+fn cut_of(alloc: Global, shard: &mut Shard) -> Result<Delta, ShardFault> {
+    match shard.cut(alloc) {
+        Err(ShardFault::OutOfMemory) => shard.cut(alloc),
+        answer => answer,
+    }
+}
+
+// Whether a cut tells one count and its row, and nothing that is older.
+fn is_first_cut(alloc: Global, shard: &mut Shard) -> bool {
+    let Ok(delta) = cut_of(alloc, shard) else {
+        return false;
+    };
+    let counts = delta.from() == 0 && delta.to() == 1;
+    counts && delta.older().is_empty() && delta.live().len() == 1
+}
+
 // Whether the shard answers so, asked once more where memory was refused.
 fn is_answered(alloc: Global, shard: &mut Shard, ask: Ask, want: &str) -> Result<bool, AllocError> {
     let asks = [ask];
@@ -198,5 +264,40 @@ fn checkpoint_refusals(rt: HostRuntime) -> Result<(), Fail> {
     assert!(rt; is_answered(alloc, &mut shard, Ask::Top("b"), "2;")?);
     assert!(rt; is_answered(alloc, &mut shard, Ask::List, "a.1.2 b.1.1 b.1.2 ;")?);
     assert!(rt; is_told(alloc, &mut shard, 5, "state a.1.2 b.1.1 b.1.2 ")?);
+    Ok(())
+}
+
+fn own_dot(alloc: Global, incarnation: u64, count: u64) -> Result<Dot, AllocError> {
+    let replica = match life(alloc, incarnation) {
+        Ok(replica) => replica,
+        Err(_) => life(alloc, incarnation)?,
+    };
+    Ok(Dot { replica, count })
+}
+
+// What was told, what went since and what is kept are of the old replica. Where memory was refused behind the entry, the next
+// call goes on from there.
+#[test]
+fn rebirth_refusals(rt: HostRuntime) -> Result<(), Fail> {
+    let alloc = rt.alloc();
+    let mut shard = begun(alloc, LIVED)?;
+    let old = own_dot(alloc, 1, 3)?;
+    assert!(rt; is_reborn(alloc, &mut shard, 2, &old)?);
+    assert!(rt;
+        is_answered(
+            alloc,
+            &mut shard,
+            Ask::ToldFrom(0),
+            "0-1:0-2: : a.2.1 b.1.1 b.1.2 ;"
+        )?
+    );
+    assert!(rt; is_answered(alloc, &mut shard, Ask::List, "a.2.1 b.1.1 b.1.2 ;")?);
+    assert!(rt; is_told(alloc, &mut shard, 8, "+ a.2.1 - a.1.3 ")?);
+    assert!(rt; is_first_cut(alloc, &mut shard));
+    let old = own_dot(alloc, 2, 1)?;
+    assert!(rt; is_reborn(alloc, &mut shard, 4, &old)?);
+    assert!(rt; is_first_cut(alloc, &mut shard));
+    assert!(rt; is_told(alloc, &mut shard, 8, "+ a.4.1 - a.2.1 ")?);
+    assert!(rt; is_answered(alloc, &mut shard, Ask::Top("b"), "2;")?);
     Ok(())
 }

@@ -4,6 +4,8 @@
 #[cfg(test)]
 mod parts;
 #[cfg(test)]
+mod rebirths;
+#[cfg(test)]
 mod refused;
 #[cfg(test)]
 mod runs;

@@ -3,7 +3,8 @@
 use std::alloc::Global;
 use world_lines::{LineFault, Lines};
 
-fn push_line(text: &mut String, line: &str) -> bool {
+/// Adds a line to a text.
+pub(crate) fn push_line(text: &mut String, line: &str) -> bool {
     text.push_str(line).is_ok() && text.push_str("\n").is_ok()
 }
 

@@ -157,6 +157,32 @@ fn the_own_replica_stays_up(rt: HostRuntime) {
     assert_eq!(rt; own_stays(rt.alloc()), Some(true));
 }
 
+// The own replica goes on as `a.2`; then a board goes on as neither an own nor a heard one.
+fn goes_on(alloc: Global) -> Option<bool> {
+    let mut board = heard_b(alloc, 0)?;
+    let next = life(alloc, "a", 2)?;
+    board.reborn(alloc, next).ok()?;
+    let other = replica(alloc, "b")?;
+    board.reborn(alloc, other).ok()?;
+    board.reborn(alloc, next).ok()?;
+    let old = status(alloc, &board, "a")? == Status::Gone;
+    let new = board.status(&next) == Status::Up;
+    hear(alloc, &mut board, "a", 1)?;
+    let gone = status(alloc, &board, "a")? == Status::Gone;
+    let later = ticks(
+        alloc,
+        &mut board,
+        30_001,
+        &[("b", Status::Up, Status::Down)],
+    );
+    Some(old && new && gone && later && board.status(&next) == Status::Up)
+}
+
+#[test]
+fn a_board_goes_on_under_another_own_replica(rt: HostRuntime) {
+    assert_eq!(rt; goes_on(rt.alloc()), Some(true));
+}
+
 fn put_down_unheard(alloc: Global) -> Option<bool> {
     let mut board = board(alloc)?;
     let unheard = status(alloc, &board, "b")? == Status::Unheard;

@@ -26,10 +26,11 @@ pub enum Call {
     CutOlder,
     Full,
     Checkpoint,
+    Rebirth,
 }
 
 /// Each call once.
-pub fn calls() -> [Call; 17] {
+pub fn calls() -> [Call; 18] {
     [
         Call::Track,
         Call::TrackAgain,
@@ -48,6 +49,7 @@ pub fn calls() -> [Call; 17] {
         Call::CutOlder,
         Call::Full,
         Call::Checkpoint,
+        Call::Rebirth,
     ]
 }
 
@@ -71,6 +73,7 @@ pub fn name_of(call: Call) -> &'static str {
         Call::CutOlder => "cut_one_updated_row",
         Call::Full => "full",
         Call::Checkpoint => "checkpoint",
+        Call::Rebirth => "rebirth",
     }
 }
 
@@ -112,6 +115,10 @@ fn lead_up(alloc: Global, room: &mut Room, call: Call, n: u64) -> Result<Sub, Sh
             Ok(room.sub)
         }
         Call::State => room.shard.subscribe(alloc, None, &room.topic),
+        Call::Rebirth => {
+            room.shard.checkpoint(alloc)?;
+            Ok(room.sub)
+        }
         _ => Ok(room.sub),
     }
 }
@@ -191,6 +198,13 @@ fn take_of(alloc: Global, shard: &mut Shard, sub: &Sub) -> Result<(), ShardFault
     Ok(())
 }
 
+// The node goes on under its next incarnation.
+fn go_on(alloc: Global, shard: &mut Shard) -> Result<(), ShardFault> {
+    let next = shard.incarnation().saturating_add(1);
+    shard.rebirth(alloc, next)?;
+    Ok(())
+}
+
 /// Makes the call.
 pub fn make(alloc: Global, room: &mut Room, call: Call, given: &Given) -> Result<(), ShardFault> {
     match call {
@@ -203,6 +217,7 @@ pub fn make(alloc: Global, room: &mut Room, call: Call, given: &Given) -> Result
         Call::Tick => room.shard.tick(alloc, given.now),
         Call::Cut | Call::CutOlder => cut(alloc, &mut room.shard),
         Call::Checkpoint => room.shard.checkpoint(alloc),
+        Call::Rebirth => go_on(alloc, &mut room.shard),
         Call::Waits | Call::Top | Call::Status | Call::Full => ask(alloc, room, call),
     }
 }

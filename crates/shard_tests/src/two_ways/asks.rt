@@ -48,4 +48,5 @@ pub(crate) enum Ask {
     PermDown(&'static str),
     Merge(Telling),
     Cut,
+    Rebirth(u64),
 }

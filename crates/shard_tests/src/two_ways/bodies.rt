@@ -226,6 +226,14 @@ impl Bodies {
         alike(alloc, first, second)
     }
 
+    fn rebirth(&mut self, alloc: Global, incarnation: u64) -> Option<bool> {
+        same(
+            alloc,
+            self.indexed.rebirth(alloc, incarnation),
+            self.walking.rebirth(alloc, incarnation),
+        )
+    }
+
     // Makes the call on both: whether they answer the same.
     fn call(&mut self, alloc: Global, ask: &Ask) -> Option<bool> {
         match ask {
@@ -239,6 +247,7 @@ impl Bodies {
             Ask::PermDown(node) => self.permdown(alloc, &replica(alloc, node)?),
             Ask::Merge(telling) => self.merge(alloc, telling),
             Ask::Cut => self.cut(alloc),
+            Ask::Rebirth(incarnation) => self.rebirth(alloc, *incarnation),
         }
     }
 
@@ -288,6 +297,18 @@ impl Bodies {
         Some(true)
     }
 
+    // Whether they go on under the same incarnation, and the first ones of the own node are the same.
+    fn same_lives(&self, alloc: Global) -> Option<bool> {
+        let mut node = replica(alloc, "a")?;
+        for incarnation in 2..5 {
+            node.incarnation = incarnation;
+            if !self.same_replica(&node) {
+                return Some(false);
+            }
+        }
+        Some(self.indexed.incarnation() == self.walking.incarnation())
+    }
+
     // Whether the same subscribers wait.
     fn same_waiting(&self) -> bool {
         for sub in &self.kept {
@@ -302,7 +323,8 @@ impl Bodies {
     fn step(&mut self, alloc: Global, ask: &Ask) -> Option<bool> {
         let answers = self.call(alloc, ask)?;
         let same = answers && self.same_last(alloc)? && self.same_full(alloc)?;
-        Some(same && self.same_replicas(alloc)? && self.same_waiting())
+        let others = self.same_replicas(alloc)? && self.same_lives(alloc)?;
+        Some(same && others && self.same_waiting())
     }
 }
 

@@ -1,5 +1,5 @@
-// A fixed list of 2,000 calls, over four pids, three topics and two other nodes. They are made in parts, each on new
-// shards: the time of the walking body's calls rises with the square of the journal and more.
+// A fixed list of 2,000 calls, over four pids, three topics and two other nodes, with two rebirths in each part. They are made
+// in parts, each on new shards: the time of the walking body's calls rises with the square of the journal and more.
 use super::asks::{Ask, Claim, Deed, Telling};
 use super::bodies::agreed;
 use std::alloc::Global;
@@ -121,6 +121,8 @@ fn ask(numbers: &mut Numbers, turn: u32) -> Ask {
     match turn {
         0 => Ask::Subscribe(3, "room:a"),
         1 | 248 => Ask::Take(3),
+        90 => Ask::Rebirth(2),
+        180 => Ask::Rebirth(4),
         220 => Ask::PermDown("c"),
         240 => Ask::Tick(2_000_000),
         _ => numbers.any(turn),

@@ -201,6 +201,46 @@ fn down_up_and_gone(rt: HostRuntime) -> Result<(), Fail> {
 }
 
 #[test]
+fn rebirths(rt: HostRuntime) -> Result<(), Fail> {
+    let asks = [
+        two_rows(),
+        Ask::Heard("b", 0),
+        Ask::Subscribe(0, LOBBY),
+        Ask::Subscribe(1, ATTIC),
+        Ask::Take(0),
+        track(1, "z"),
+        track(2, "u1"),
+        ask(Deed::Update, 2, "u1", 2),
+        track(1, "y"),
+        Ask::Cut,
+        untrack(1, "z"),
+        Ask::TakeTwo(0),
+        Ask::Rebirth(1),
+        Ask::Rebirth(2),
+        Ask::Rebirth(2),
+        Ask::Take(0),
+        Ask::Take(0),
+        Ask::Take(1),
+        list(),
+        tells("a", (0, 9), Some(1), (Some((9, LOBBY, "u9")), None)),
+        Ask::Heard("a", 7),
+        ask(Deed::Update, 2, "u1", 3),
+        Ask::Cut,
+        ask(Deed::Get, 1, "u1", 1),
+        Ask::Rebirth(4),
+        Ask::Take(0),
+        first_removed(),
+        untrack(1, "y"),
+        Ask::Tick(2_000_000),
+        list(),
+        Ask::Take(0),
+        Ask::Rebirth(3),
+    ];
+    assert!(rt; agree(rt.alloc(), &asks) == Some(true));
+    Ok(())
+}
+
+#[test]
 fn one_merge_of_two_topics(rt: HostRuntime) -> Result<(), Fail> {
     let live = (Some((1, LOBBY, "u1")), Some((2, ATTIC, "u1")));
     let change = (Some((4, ATTIC, "u2")), Some((5, "room:c", "u3")));
