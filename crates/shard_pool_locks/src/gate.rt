@@ -1,3 +1,4 @@
+//! What happens before, inside and after a lock.
 /// What is called around each seated call, with the numbers of the seat and of the shard.
 pub trait Gate {
     /// Before the lock is asked for.

@@ -8,6 +8,7 @@
 
 mod due;
 mod gate;
+mod locking;
 mod seated;
 mod unseated;
 

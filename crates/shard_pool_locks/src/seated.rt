@@ -1,3 +1,4 @@
+//! A seated call between lock and unlock.
 ghost use Rattle.std.specs.Prelude.{◌≡◌, ◌+◌, ◌≤◌, ◌^◌, Some, IsTrue};
 ghost use Rattle.presence_journal.specs.History.{last_number};
 ghost use Rattle.presence_journal.specs.Limits.{is_payload, is_take_limit};
@@ -9,6 +10,7 @@ ghost use Rattle.shard_pool_lent.specs.Lines.{IsOfShard};
 ghost use Rattle.shard_pool_locks.specs.Seated.{Called, always, finds};
 
 use crate::gate::Gate;
+use crate::locking::lock_of;
 use presence_base::{Dot, Json, Key, Meta, Row, Topic};
 use presence_journal::{Item, SharedRows, Step};
 use shard_pool_lent::{
@@ -42,7 +44,7 @@ pub fn locked_track<G: Gate, L: Lane, R: Wait>(
 {
     gate.before(part.seat(), part.shard());
     let room = part.make_room();
-    let mut guard = shard.lock(rt);
+    let mut guard = lock_of(rt, shard);
     gate.inside(part.seat(), part.shard());
     let _journal = guard.journal();
     let answer = match room {
@@ -74,7 +76,7 @@ pub fn locked_update<G: Gate, L: Lane, R: Wait>(
 {
     gate.before(part.seat(), part.shard());
     let room = part.make_room();
-    let mut guard = shard.lock(rt);
+    let mut guard = lock_of(rt, shard);
     gate.inside(part.seat(), part.shard());
     let _journal = guard.journal();
     let answer = match room {
@@ -104,7 +106,7 @@ pub fn locked_untrack<G: Gate, L: Lane, R: Wait>(
 {
     gate.before(part.seat(), part.shard());
     let room = part.make_room();
-    let mut guard = shard.lock(rt);
+    let mut guard = lock_of(rt, shard);
     gate.inside(part.seat(), part.shard());
     let _journal = guard.journal();
     let answer = match room {
@@ -133,7 +135,7 @@ pub fn locked_untrack_all<G: Gate, L: Lane, R: Wait>(
 {
     gate.before(part.seat(), part.shard());
     let room = part.make_room();
-    let mut guard = shard.lock(rt);
+    let mut guard = lock_of(rt, shard);
     gate.inside(part.seat(), part.shard());
     let _journal = guard.journal();
     let answer = match room {
@@ -161,7 +163,7 @@ pub fn locked_list<G: Gate, L: Lane, R: Wait>(
 {
     gate.before(part.seat(), part.shard());
     let room = part.make_room();
-    let mut guard = shard.lock(rt);
+    let mut guard = lock_of(rt, shard);
     gate.inside(part.seat(), part.shard());
     let _journal = guard.journal();
     let answer = match room {
@@ -190,7 +192,7 @@ pub fn locked_get<G: Gate, L: Lane, R: Wait>(
 {
     gate.before(part.seat(), part.shard());
     let room = part.make_room();
-    let mut guard = shard.lock(rt);
+    let mut guard = lock_of(rt, shard);
     gate.inside(part.seat(), part.shard());
     let _journal = guard.journal();
     let answer = match room {
@@ -218,7 +220,7 @@ pub fn locked_subscribe<G: Gate, L: Lane, R: Wait>(
 {
     gate.before(part.seat(), part.shard());
     let room = part.make_room();
-    let mut guard = shard.lock(rt);
+    let mut guard = lock_of(rt, shard);
     gate.inside(part.seat(), part.shard());
     let _journal = guard.journal();
     let answer = match room {
@@ -248,7 +250,7 @@ pub fn locked_take<G: Gate, L: Lane, R: Wait>(
 {
     gate.before(part.seat(), part.shard());
     let room = part.make_room();
-    let mut guard = shard.lock(rt);
+    let mut guard = lock_of(rt, shard);
     gate.inside(part.seat(), part.shard());
     let _journal = guard.journal();
     let answer = match room {
@@ -276,7 +278,7 @@ pub fn locked_unsubscribe<G: Gate, L: Lane, R: Wait>(
 {
     gate.before(part.seat(), part.shard());
     let room = part.make_room();
-    let mut guard = shard.lock(rt);
+    let mut guard = lock_of(rt, shard);
     gate.inside(part.seat(), part.shard());
     let _journal = guard.journal();
     let answer = match room {
@@ -304,7 +306,7 @@ pub fn locked_shout<G: Gate, L: Lane, R: Wait>(
 {
     gate.before(part.seat(), part.shard());
     let room = part.make_room();
-    let mut guard = shard.lock(rt);
+    let mut guard = lock_of(rt, shard);
     gate.inside(part.seat(), part.shard());
     let _journal = guard.journal();
     let answer = match room {

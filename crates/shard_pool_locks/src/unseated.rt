@@ -14,6 +14,7 @@ ghost use Rattle.shard_pool_locks.specs.Unseated.{IsOf, IsBehindOf, IsMade, IsCu
 ghost use Rattle.shard_pool_locks.specs.Unseated.{IsMadeWhereFull, IsMadeWhereQuiet, IsRebornMade};
 
 use crate::due::{DueFrom, is_due};
+use crate::locking::lock_of;
 use delta_range::Delta;
 use orswot_core_told::{Form, Told};
 use presence_base::{Dot, Replica};
@@ -31,7 +32,7 @@ pub fn locked_journal<L: Lane, R: Wait>(
     ensures journal { IfOk result (λ j. IsOf L.node j × IsOfLane L.begins j) }
     ensures err { IfErr result (λ e. e ≡ OutOfMemory) }
 {
-    let guard = shard.lock(rt);
+    let guard = lock_of(rt, shard);
     match guard.journal().clone() {
         Ok(journal) => Ok(journal),
         Err(_) => Err(PoolFault::OutOfMemory),
@@ -49,7 +50,7 @@ pub fn locked_heard<L: Lane, R: Wait>(
 ) -> Result<(), PoolFault>
     ensures { IsBehindOf (IsOfShard L.node L.begins) (λ h. IsMade h (Step.Heard replica now) result) }
 {
-    let mut guard = shard.lock(rt);
+    let mut guard = lock_of(rt, shard);
     let _journal = guard.journal();
     guard.heard(alloc, replica, now)
 }
@@ -64,7 +65,7 @@ pub fn locked_tick<L: Lane, R: Wait>(
 ) -> Result<(), PoolFault>
     ensures { IsBehindOf (IsOfShard L.node L.begins) (λ h. IsMade h (Step.Tick now) result) }
 {
-    let mut guard = shard.lock(rt);
+    let mut guard = lock_of(rt, shard);
     let _journal = guard.journal();
     guard.tick(alloc, now)
 }
@@ -79,7 +80,7 @@ pub fn locked_permdown<L: Lane, R: Wait>(
 ) -> Result<(), PoolFault>
     ensures { IsBehindOf (IsOfShard L.node L.begins) (λ h. IsMade h (Step.PermDown replica) result) }
 {
-    let mut guard = shard.lock(rt);
+    let mut guard = lock_of(rt, shard);
     let _journal = guard.journal();
     guard.permdown(alloc, replica)
 }
@@ -93,7 +94,7 @@ pub fn locked_cut<L: Lane, R: Wait>(
 ) -> Result<Delta, PoolFault>
     ensures { IsBehindOf (IsOfShard L.node L.begins) (λ h. IsCutMade h result) }
 {
-    let mut guard = shard.lock(rt);
+    let mut guard = lock_of(rt, shard);
     let _journal = guard.journal();
     guard.cut(alloc)
 }
@@ -108,7 +109,7 @@ pub fn locked_merge<L: Lane, R: Wait>(
 ) -> Result<(), PoolFault>
     ensures { IsBehindOf (IsOfShard L.node L.begins) (λ h. IsMade h (Step.Merge told.now) result) }
 {
-    let mut guard = shard.lock(rt);
+    let mut guard = lock_of(rt, shard);
     let _journal = guard.journal();
     guard.merge(alloc, told)
 }
@@ -123,7 +124,7 @@ pub fn locked_rebirth<L: Lane, R: Wait>(
 ) -> Result<Vec<(Dot, Dot)>, PoolFault>
     ensures { IsBehindOf (IsOfShard L.node L.begins) (λ h. IsRebornMade h incarnation result) }
 {
-    let mut guard = shard.lock(rt);
+    let mut guard = lock_of(rt, shard);
     let _journal = guard.journal();
     guard.rebirth(alloc, incarnation)
 }
@@ -133,7 +134,7 @@ pub fn locked_rebirth<L: Lane, R: Wait>(
 pub fn locked_incarnation<L: Lane, R: Wait>(rt: &R, shard: &Mutex<Locked<L>>) -> u64
     ensures { IsBehindOf (IsOfShard L.node L.begins) (λ h. result ≡ (own h).incarnation) }
 {
-    let guard = shard.lock(rt);
+    let guard = lock_of(rt, shard);
     let _journal = guard.journal();
     guard.incarnation()
 }
@@ -149,7 +150,7 @@ pub fn locked_full<L: Lane, R: Wait>(
     ensures full { IfOk result (λ t. IsBehindOf (IsOfShard L.node L.begins) (λ h. IsFullOf form h t)) }
     ensures err { IfErr result (λ e. e ≡ OutOfMemory) }
 {
-    let guard = shard.lock(rt);
+    let guard = lock_of(rt, shard);
     let _journal = guard.journal();
     match guard.full(alloc, form) {
         Ok(told) => Ok(told),
@@ -169,7 +170,7 @@ pub fn locked_told_from<L: Lane, R: Wait>(
     ensures told { IfOk result (λ t. IsBehindOf (IsOfShard L.node L.begins) (λ h. IsToldFrom form h count t)) }
     ensures err { IfErr result (λ e. e ≡ OutOfMemory) }
 {
-    let mut guard = shard.lock(rt);
+    let mut guard = lock_of(rt, shard);
     let _journal = guard.journal();
     match guard.told_from(alloc, count, form) {
         Ok(told) => Ok(told),
@@ -189,7 +190,7 @@ pub fn locked_fitting<L: Lane, R: Wait>(
     ensures told { IfOk result (λ o. IsBehindOf (IsOfShard L.node L.begins) (λ h. WhereItFits form (TellsFrom form h from) o)) }
     ensures err { IfErr result (λ e. e ≡ OutOfMemory) }
 {
-    let mut guard = shard.lock(rt);
+    let mut guard = lock_of(rt, shard);
     let _journal = guard.journal();
     match guard.fitting(alloc, from, form) {
         Ok(told) => Ok(told),
@@ -209,7 +210,7 @@ pub fn locked_part<L: Lane, R: Wait>(
     ensures part { IfOk result (λ o. IsBehindOf (IsOfShard L.node L.begins) (λ h. IsPartWhereItFits h count o)) }
     ensures err { IfErr result (λ e. e ≡ OutOfMemory) }
 {
-    let mut guard = shard.lock(rt);
+    let mut guard = lock_of(rt, shard);
     let _journal = guard.journal();
     match guard.part(alloc, count) {
         Ok(part) => Ok(part),
@@ -222,7 +223,7 @@ pub fn locked_part<L: Lane, R: Wait>(
 pub fn locked_top<L: Lane, R: Wait>(rt: &R, shard: &Mutex<Locked<L>>, replica: &Replica) -> u64
     ensures { IsBehindOf (IsOfShard L.node L.begins) (λ h. IsTop h replica.now result) }
 {
-    let guard = shard.lock(rt);
+    let guard = lock_of(rt, shard);
     let _journal = guard.journal();
     guard.top(replica)
 }
@@ -236,7 +237,7 @@ pub fn locked_status<L: Lane, R: Wait>(
 ) -> Status
     ensures { IsBehindOf (IsOfShard L.node L.begins) (λ h. result ≡ status h replica.now) }
 {
-    let guard = shard.lock(rt);
+    let guard = lock_of(rt, shard);
     let _journal = guard.journal();
     guard.status(replica)
 }
@@ -250,7 +251,7 @@ pub fn locked_waits<L: Lane, R: Wait>(
 ) -> Result<bool, PoolFault>
     ensures { IsBehindOf (IsOfShard L.node L.begins) (λ h. TellsWaiting h sub.now result) }
 {
-    let guard = shard.lock(rt);
+    let guard = lock_of(rt, shard);
     let _journal = guard.journal();
     guard.waits(sub)
 }
@@ -264,7 +265,7 @@ pub fn locked_checkpoint<L: Lane, R: Wait>(
 ) -> Result<(), PoolFault>
     ensures { IsBehindOf (IsOfShard L.node L.begins) (λ h. IsCheckpointed h result) }
 {
-    let mut guard = shard.lock(rt);
+    let mut guard = lock_of(rt, shard);
     let _journal = guard.journal();
     guard.checkpoint(alloc)
 }
@@ -279,7 +280,7 @@ pub fn locked_checkpoint_where_full<L: Lane, R: Wait>(
 ) -> Result<bool, PoolFault>
     ensures { IsBehindOf (IsOfShard L.node L.begins) (λ h. IsMadeWhereFull h result) }
 {
-    let mut guard = shard.lock(rt);
+    let mut guard = lock_of(rt, shard);
     if !guard.journal().is_full() {
         return Ok(false);
     }
@@ -298,7 +299,7 @@ pub fn locked_checkpoint_where_quiet<L: Lane, R: Wait>(
 ) -> Result<bool, PoolFault>
     ensures { IsBehindOf (IsOfShard L.node L.begins) (λ h. IsMadeWhereQuiet due h result) }
 {
-    let mut guard = shard.lock(rt);
+    let mut guard = lock_of(rt, shard);
     let _journal = guard.journal();
     if !is_due(&guard, due) {
         return Ok(false);
@@ -315,7 +316,7 @@ pub fn locked_checkpoint_where_quiet<L: Lane, R: Wait>(
 pub fn locked_entry_count<L: Lane, R: Wait>(rt: &R, shard: &Mutex<Locked<L>>) -> u64
     ensures { IsBehindOf (IsOfShard L.node L.begins) (λ h. result ≡ entry_count h) }
 {
-    let guard = shard.lock(rt);
+    let guard = lock_of(rt, shard);
     let _journal = guard.journal();
     guard.entry_count()
 }
@@ -325,14 +326,14 @@ pub fn locked_entry_count<L: Lane, R: Wait>(rt: &R, shard: &Mutex<Locked<L>>) ->
 pub fn locked_text_bytes<L: Lane, R: Wait>(rt: &R, shard: &Mutex<Locked<L>>) -> u64
     ensures { IsBehindOf (IsOfShard L.node L.begins) (λ h. result ≡ min (text_bytes h) (2 ^ 64 - 1)) }
 {
-    let guard = shard.lock(rt);
+    let guard = lock_of(rt, shard);
     let _journal = guard.journal();
     guard.text_bytes()
 }
 
 /// How many rows the shard shows, and how many topics have a subscriber. No contract speaks of it.
 pub fn locked_row_counts<L: Lane, R: Wait>(rt: &R, shard: &Mutex<Locked<L>>) -> RowCounts {
-    let guard = shard.lock(rt);
+    let guard = lock_of(rt, shard);
     guard.row_counts()
 }
 
@@ -341,7 +342,7 @@ pub fn locked_row_counts<L: Lane, R: Wait>(rt: &R, shard: &Mutex<Locked<L>>) -> 
 pub fn locked_start_of<L: Lane, R: Wait>(rt: &R, shard: &Mutex<Locked<L>>) -> u64
     ensures { IsBehindOf (IsOfShard L.node L.begins) (λ h. result ≡ (start_of h).number) }
 {
-    let guard = shard.lock(rt);
+    let guard = lock_of(rt, shard);
     let journal = guard.journal();
     journal.start().number
 }
