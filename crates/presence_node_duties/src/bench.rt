@@ -431,20 +431,30 @@ impl<A: Lane, B: Lane, C: Lane, D: Lane> Bench<A, B, C, D> {
         self.noted_in(rt, server, served)
     }
 
-    // Lets the workers that follow them know which topics may have something new, this one too. Of topics that it follows
-    // from now on it is told from now on: what came before is found in the next turn, which a connection that has joined a
-    // topic takes.
-    fn tell<R: Wait, H>(
+    // The topics that may have something new, of what was noted. Of those that this worker follows from now on it is told
+    // from now on: what came before is found in the next turn, which a connection that has joined a topic takes.
+    fn follow<R: Wait, H>(
         &self,
         rt: &R,
         server: &Server<'_, H, A, B, C, D>,
         own: usize,
         noted: Noted,
-    ) {
+    ) -> Topics {
         let Noted { changed, followed } = noted;
         if !followed.is_empty() {
             server.follow(rt, own, followed);
         }
+        changed
+    }
+
+    // Lets the workers that follow them know which topics may have something new, this one too.
+    fn tell<R: Wait, H>(
+        &self,
+        rt: &R,
+        server: &Server<'_, H, A, B, C, D>,
+        own: usize,
+        changed: Topics,
+    ) {
         if changed.is_empty() {
             return;
         }
@@ -453,15 +463,15 @@ impl<A: Lane, B: Lane, C: Lane, D: Lane> Bench<A, B, C, D> {
         }
     }
 
-    // Serves each connection that is ready, and tells what may have changed.
+    // Serves each connection that is ready: which topics may have something new.
     fn turn<R: Wait, H: PresenceHooks>(
         &mut self,
         rt: &R,
         server: &Server<'_, H, A, B, C, D>,
         own: usize,
-    ) {
+    ) -> Topics {
         let noted = self.serve(rt, server);
-        self.tell(rt, server, own, noted);
+        self.follow(rt, server, own, noted)
     }
 
     // From time to time: where a journal is nearly full, all workers are to read nothing until this one has made a
@@ -521,7 +531,8 @@ impl<A: Lane, B: Lane, C: Lane, D: Lane> Bench<A, B, C, D> {
         own: usize,
     ) {
         let noted = self.deliver(rt, server);
-        self.tell(rt, server, own, noted);
+        let changed = self.follow(rt, server, own, noted);
+        self.tell(rt, server, own, changed);
         self.send(&server.counts, false);
         if let Some(mailbox) = server.mailboxes.get(own) {
             mailbox.has_drained();
@@ -636,18 +647,37 @@ impl<A: Lane, B: Lane, C: Lane, D: Lane> Bench<A, B, C, D> {
     }
 
     // Serves what is ready, and once more where a message came, so that its reply goes out in this round where it was the
-    // last; looks at what the workers told, and sends what waits.
+    // last: which topics may have something new behind each of the two turns.
+    fn turns<R: Wait, H: PresenceHooks>(
+        &mut self,
+        rt: &R,
+        server: &Server<'_, H, A, B, C, D>,
+        own: usize,
+    ) -> (Topics, Topics) {
+        let first = self.turn(rt, server, own);
+        if self.is_busy() {
+            (first, self.turn(rt, server, own))
+        } else {
+            (first, Topics::new(server.alloc))
+        }
+    }
+
+    // Serves what is ready, tells what may have changed, looks at what the workers told, and sends what waits. Where nobody
+    // has more to say, what was answered goes out before the other workers are told: they wake, and what they deliver to
+    // many would come before the answer to the one.
     fn go_on<R: Wait, H: PresenceHooks>(
         &mut self,
         rt: &R,
         server: &Server<'_, H, A, B, C, D>,
         own: usize,
     ) {
-        self.turn(rt, server, own);
-        if self.is_busy() {
-            self.turn(rt, server, own);
-        }
+        let (first, second) = self.turns(rt, server, own);
         let mut busy = self.is_busy();
+        if !busy && !first.is_empty() {
+            self.send(&server.counts, false);
+        }
+        self.tell(rt, server, own, first);
+        self.tell(rt, server, own, second);
         if self.gathers_for(busy) == 0 && self.hear(rt, server, own) {
             busy = self.is_busy();
         }

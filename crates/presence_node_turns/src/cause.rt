@@ -1,3 +1,4 @@
+//! Why a connection ends.
 ghost use Rattle.std.specs.Prelude.{◌≡◌, option_map};
 ghost use Rattle.websocket.specs.CloseCode.{close_code_of};
 ghost use Rattle.presence_node_turns.specs.Causes.{cause_of as cause_in, code_of, fault_code, refusal_code};

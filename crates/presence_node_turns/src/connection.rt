@@ -1,3 +1,4 @@
+//! A connection, and its turn.
 ghost use Rattle.std.specs.Prelude.{is_ok, Some, ◌≡◌, ◌+◌, ◌≤◌, ◌^◌, [], leb, false, map, string_bytes, None, IfOk};
 ghost use Rattle.phx_message.specs.Reading.{decoded};
 ghost use Rattle.tungstenite.specs.Socket.{Flushed};
@@ -22,8 +23,8 @@ pub const MAX_SILENCE: u64 = 60_000;
 /// most that a take may give.)
 pub const MAX_DEALT: u32 = 16;
 
-/// How many bytes one read of a stream asks for. Each connection keeps twice as many.
-const READ_BYTES: usize = 1_024;
+/// How many bytes one read of a stream asks for: most texts of a client are shorter. Each connection keeps twice as many.
+const READ_BYTES: usize = 256;
 
 /// How many bytes of output gather before they go to the stream by themselves.
 const WRITE_BYTES: usize = 1_048_576;

@@ -1,3 +1,4 @@
+//! What was read.
 ghost use Rattle.presence_node_turns.specs.Hearing.{Hears, heard_of_error as heard_in_error, is_message};
 ghost use Rattle.std.specs.Prelude.{◌≡◌};
 

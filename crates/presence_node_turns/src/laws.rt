@@ -7,7 +7,7 @@ ghost use Rattle.presence_node_turns.specs.declared.connection.TheConstants.{MAX
 pub fn limits_are_these()
     ensures silence { MAX_SILENCE ≡ 60000 }
     ensures dealt { MAX_DEALT ≡ 16 }
-    ensures read { READ_BYTES ≡ 1024 }
+    ensures read { READ_BYTES ≡ 256 }
     ensures gathered { WRITE_BYTES ≡ 1048576 }
     ensures waiting { MAX_WRITE_BYTES ≡ 16777216 + WRITE_BYTES }
 {}
