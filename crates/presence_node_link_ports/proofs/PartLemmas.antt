@@ -9,19 +9,20 @@ use Rattle.presence_base.specs.Names.{guarded}
 use Rattle.orswot_core_told.specs.declared.form.Form.{Form}
 use Rattle.orswot_core_told.specs.declared.form.Form.TheVariants.{Two}
 use Rattle.orswot_core_told.specs.Telling.{ToldValue, Range, run_ranges}
-use Rattle.orswot_core_told.specs.Checks.{is_too_many_in}
+use Rattle.orswot_core_told.specs.Checks.{is_too_many_in, WhereItFits}
 use Rattle.delta_range.specs.Deltas.{DeltaValue, telling_in, own_dots, IsDelta}
 use Rattle.delta_range.specs.Fitting.{fits_line}
 use Rattle.presence_journal.specs.History.{History}
 use Rattle.presence_journal_cuts.specs.ToldParts.{IsPartWhereItFits}
 use Rattle.presence_journal_cuts.specs.Parting.{is_up_to, up_to}
 use Rattle.presence_journal_cuts.proofs.CutShort.{short_sound, parts_cut_short}
+use Rattle.shard_pool.specs.KeptDeltas.{TellsFrom}
 use Rattle.shard_pool.specs.Unseated.{IsBehindOf}
 use Rattle.shard_pool.specs.ShardFault.{ShardFault}
 use Rattle.shard_pool.specs.ShardFault.TheVariants as faults
 use Rattle.node_links_acts.specs.declared.port.ActFault.{ActFault}
 use Rattle.presence_node_link_ports.specs.Asking.{act_fault, told_of, TellsSince}
-use Rattle.presence_node_link_ports.specs.Parts.{IsShortened, IsUpTo, IsPartOnLine, IsOneTooLong, GoesNowhere, TellsPart, is_long}
+use Rattle.presence_node_link_ports.specs.Parts.{IsShortened, IsUpTo, IsPartOnLine, IsOneTooLong, GoesNowhere, TellsPart, FitsNoLine, HasNoLine, is_long}
 
 -- ---- no more than before
 
@@ -102,11 +103,22 @@ told_behind Here shard n part d o is b short = record {
 pub none_behind : (Here : History → Type 0) (shard n : ℕ) → IsBehindOf Here (λ h. IsPartWhereItFits h n None) → IsBehindOf Here (λ h. TellsPart shard h n None)
 none_behind Here shard n b = record { history = b.history; legal = b.legal; here = b.here; is = inl b.is }
 
--- as a link is told it
-pub told_in_part : (Here : History → Type 0) (shard n : ℕ) (form : Form) (r : Result (Option ToldValue) ShardFault) (a : Result (Option ToldValue) ActFault) → a ≡ told_of r → form ≡ Two → IfOk r (λ o. IsBehindOf Here (λ h. TellsPart shard h n o)) → IfErr r (λ e. e ≡ faults.OutOfMemory)
-    → TellsSince Here shard form n a
-told_in_part Here shard n form r a is two behind err = subst (TellsSince Here shard form n) (sym is) (go r behind err)
+-- ---- as a link is told it
+
+-- what a shard answered with has no line
+pub no_line_behind : (Here : History → Type 0) (shard n : ℕ) (form : Form) (r : Result (Option ToldValue) ShardFault) → form ≡ Two → HasNoLine shard r
+    → IfOk r (λ o. IsBehindOf Here (λ h. WhereItFits form (TellsFrom form h (Some n)) o)) → IsBehindOf Here (λ h. FitsNoLine shard h n)
+no_line_behind Here shard n form r two none behind = go r none (subst (λ f. IfOk r (λ o. IsBehindOf Here (λ h. WhereItFits f (TellsFrom f h (Some n)) o))) two behind)
+  where
+    go : (x : Result (Option ToldValue) ShardFault) → HasNoLine shard x → IfOk x (λ o. IsBehindOf Here (λ h. WhereItFits Two (TellsFrom Two h (Some n)) o)) → IsBehindOf Here (λ h. FitsNoLine shard h n)
+    go (Ok None) l b = record { history = b.history; legal = b.legal; here = b.here; is = inl b.is }
+    go (Ok (Some t)) l b = record { history = b.history; legal = b.legal; here = b.here; is = inr (t, b.is, l) }
+    go (Err f) l b = absurd l
+
+pub told_in_part : (Here : History → Type 0) (shard n : ℕ) (form : Form) (r : Result (Option ToldValue) ShardFault) (a : Result (Option ToldValue) ActFault) → a ≡ told_of r → form ≡ Two → IsBehindOf Here (λ h. FitsNoLine shard h n)
+    → IfOk r (λ o. IsBehindOf Here (λ h. TellsPart shard h n o)) → IfErr r (λ e. e ≡ faults.OutOfMemory) → TellsSince Here shard form n a
+told_in_part Here shard n form r a is two none behind err = subst (TellsSince Here shard form n) (sym is) (go r behind err)
   where
     go : (x : Result (Option ToldValue) ShardFault) → IfOk x (λ o. IsBehindOf Here (λ h. TellsPart shard h n o)) → IfErr x (λ e. e ≡ faults.OutOfMemory) → TellsSince Here shard form n (told_of x)
-    go (Ok o) b e = inr (two, b)
+    go (Ok o) b e = inr (two, none, b)
     go (Err f) b e = ap act_fault e

@@ -1,5 +1,5 @@
 -- What is told in parts, where a kept delta, or all that a shard knows, is more than a line takes.
-use Rattle.std.specs.Prelude.{◌≡◌, ◌⊎◌, ◌<◌, ◌≤◌, ℕ, suc, Bool, true, false, nat_lt, length, Option, Some, None, Result, Ok, Err}
+use Rattle.std.specs.Prelude.{◌≡◌, ◌⊎◌, ◌<◌, ◌≤◌, ℕ, suc, Bool, true, false, nat_lt, length, Option, Some, None, Result, Ok, Err, ⊤}
 use Rattle.orswot_core_told.specs.declared.form.Form.{Form}
 use Rattle.orswot_core_told.specs.declared.form.Form.TheVariants.{Two}
 use Rattle.orswot_core_told.specs.Telling.{ToldValue}
@@ -7,6 +7,8 @@ use Rattle.orswot_core_told.specs.Checks.{is_too_many_in, WhereItFits}
 use Rattle.delta_range.specs.Deltas.{DeltaValue, telling_in, IsDelta}
 use Rattle.presence_journal.specs.History.{History}
 use Rattle.presence_journal_cuts.specs.Parting.{up_to}
+use Rattle.shard_pool.specs.KeptDeltas.{TellsFrom}
+use Rattle.shard_pool.specs.ShardFault.{ShardFault}
 use Rattle.shard_pool.specs.ToldParts.{IsPart, IsLargestPart, HasNoPart}
 use Rattle.node_links_lines.specs.declared.lines.Line.{Line}
 use Rattle.node_links_lines.specs.declared.lines.Line.TheVariants as lines
@@ -20,6 +22,18 @@ told_line shard t = lines.Told shard (record { form = Two; told = t })
 -- it has more bytes than a line may have
 abbrev pub is_long : ℕ → ToldValue → Bool
 is_long shard t = nat_lt MAX_LINE_BYTES (length (text_of (told_line shard t)))
+
+-- no line has room for what is told, or there is more of it than a node takes in
+abbrev pub FitsNoLine : ℕ → History → ℕ → Type 0
+FitsNoLine shard h n =
+    WhereItFits Two (TellsFrom Two h (Some n)) None
+    ⊎ ((t : ToldValue) × WhereItFits Two (TellsFrom Two h (Some n)) (Some t) × (is_long shard t ≡ true))
+
+-- the same of a shard's reply
+abbrev pub HasNoLine : ℕ → Result (Option ToldValue) ShardFault → Type 0
+HasNoLine shard (Ok None) = ⊤
+HasNoLine shard (Ok (Some t)) = is_long shard t ≡ true
+HasNoLine shard (Err fault) = ⊥
 
 -- the delta up to a count, where a line takes it
 abbrev pub IsUpTo : ℕ → ℕ → DeltaValue → Option ToldValue → Type 0

@@ -1,3 +1,4 @@
+//! What a link is told of a refusal.
 ghost use Rattle.std.specs.Prelude.{◌≡◌, true, false, Err};
 ghost use Rattle.shard_pool.specs.ShardFault.TheVariants.{JournalFull};
 ghost use Rattle.presence_node_link_ports.specs.Asking.{act_fault, told_of};

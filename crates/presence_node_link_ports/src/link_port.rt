@@ -1,3 +1,4 @@
+//! The pool as the port of a link.
 ghost use Rattle.std.specs.Prelude.{◌≡◌, true, Err};
 ghost use Rattle.shard_pool.specs.ShardFault.TheVariants.{JournalFull};
 
@@ -212,7 +213,7 @@ impl<'a, R: Wait, G: Gate, A: Lane, B: Lane, C: Lane, D: Lane> LinkPort
             return Err(ActFault::ShardFull);
         }
         let whole = self.pool.fitting(self.rt, alloc, shard, Some(from), form);
-        if is_told_in_parts(form, &whole) {
+        if is_told_in_parts(shard, form, &whole) {
             return told(part_on_line(self.rt, alloc, self.pool, shard, from));
         }
         told(whole)

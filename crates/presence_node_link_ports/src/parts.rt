@@ -1,39 +1,44 @@
 //! What is told in parts where it has more than a line takes.
-ghost use Rattle.std.specs.Prelude.{◌≡◌, ◌<◌, ℕ, not, true, Some, IfOk, IfErr};
+ghost use Rattle.std.specs.Prelude.{◌≡◌, ◌<◌, not, true, IfOk, IfErr};
 ghost use Rattle.presence_base.specs.Names.{guarded};
 ghost use Rattle.orswot_core_told.specs.declared.form.Form.TheVariants.{Two};
-ghost use Rattle.node_links_members.specs.declared.hearer.Telling.{Telling};
-ghost use Rattle.node_links_lines.specs.declared.lines.Line.TheVariants as lines;
 ghost use Rattle.delta_range.specs.Deltas.{IsDelta};
 ghost use Rattle.shard_pool.specs.Seats.{IsBehindAt};
 ghost use Rattle.shard_pool.specs.ShardFault.TheVariants.{OutOfMemory};
-ghost use Rattle.presence_node_link_ports.specs.Parts.{IsShortened, IsUpTo, TellsPart, is_long};
+ghost use Rattle.presence_node_link_ports.specs.Parts.{HasNoLine, IsShortened, IsUpTo, TellsPart, is_long};
 
-use crate::lengths::{delta_ranges_bytes, row_bytes, told_bytes};
+use crate::lengths::{delta_ranges_bytes, line_bytes, row_bytes};
 use delta_range::Delta;
-use node_links_lines::{Line, LinkFault, MAX_LINE_BYTES, Telling, encode_line};
+use node_links_lines::MAX_LINE_BYTES;
 use orswot_core_told::{Form, Told};
 use presence_journal_cuts::up_to;
 use shard_pool::{Gate, Lane, Pool, PoolFault};
 use std::alloc::{AllocError, Global};
 use std::sync::Wait;
 
-// What a told line has beside its ranges and its rows: `["told",9,[[],[]]]`, with the shard's digits.
+// What a told line has at most beside its ranges and its rows: `["told",9,[[],[]]]`, with the shard's digits.
 const FRAME_BYTES: usize = 32;
 
-// Whether a told value of the second form is short enough for a line.
-fn is_short(told: &Told) -> bool {
-    told_bytes(told) <= MAX_LINE_BYTES - FRAME_BYTES
+// Whether a told value of the second form has more bytes than a line may have.
+fn is_too_long(shard: u32, told: &Told) -> bool
+    ensures { result ≡ is_long shard told.now }
+{
+    line_bytes(shard, told) > MAX_LINE_BYTES
 }
 
-/// Whether a part is told in place of this, which no line takes: in the second form alone.
-pub(crate) fn is_told_in_parts(form: Form, whole: &Result<Option<Told>, PoolFault>) -> bool
-    ensures { result ≡ true → form ≡ Two }
+/// Whether a part is told in place of this, for which no line has room: in the second form alone.
+pub(crate) fn is_told_in_parts(
+    shard: u32,
+    form: Form,
+    whole: &Result<Option<Told>, PoolFault>,
+) -> bool
+    ensures two { result ≡ true → form ≡ Two }
+    ensures no_line { result ≡ true → HasNoLine shard whole.now }
 {
     match form {
         Form::One => false,
         Form::Two => match whole {
-            Ok(Some(told)) => !is_short(told),
+            Ok(Some(told)) => is_too_long(shard, told),
             Ok(None) => true,
             Err(_) => false,
         },
@@ -55,29 +60,14 @@ fn end_on_line(part: &Delta) -> u64
     part.to()
 }
 
-// What a told line tells.
-fn told_of(line: Line) -> Option<Told>
-    ensures { (shard : ℕ) (told : Telling) → line ≡ lines.Told shard told → result ≡ Some told.told }
-{
-    match line {
-        Line::Told { told, .. } => Some(told.told),
-        _ => None,
-    }
-}
-
 // The told value, where its line is no longer than a line may be.
-fn on_line(alloc: Global, shard: u32, told: Told) -> Result<Option<Told>, AllocError>
-    ensures { IfOk result (λ o. o ≡ guarded (not (is_long shard told)) told) }
+fn on_line(shard: u32, told: Told) -> Option<Told>
+    ensures { result ≡ guarded (not (is_long shard told)) told }
 {
-    let form = Form::Two;
-    let line = Line::Told {
-        shard,
-        told: Telling { form, told },
-    };
-    match encode_line(alloc, &line) {
-        Ok(_) => Ok(told_of(line)),
-        Err(LinkFault::LineTooLong) => Ok(None),
-        Err(_) => Err(AllocError),
+    if is_too_long(shard, &told) {
+        None
+    } else {
+        Some(told)
     }
 }
 
@@ -87,7 +77,7 @@ fn part_up_to(alloc: Global, shard: u32, part: &Delta, to: u64) -> Result<Option
     ensures { IfOk result (IsUpTo shard to part.now) }
 {
     let told = up_to(alloc, part, to)?.told(alloc, Form::Two)?;
-    on_line(alloc, shard, told)
+    Ok(on_line(shard, told))
 }
 
 // The part up to the last row for which a line has room, or by one count where it seems to have none, where a line takes that.
