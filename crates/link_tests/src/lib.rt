@@ -1,11 +1,13 @@
 //! Tests of links: which text is which line, what streams do, and what each line of an exchange asks for, over a port that
-//! notes its calls and a stream that fails; and the lives of a node.
+//! notes its calls and a stream that fails; the lives of a node; and the clerk that its links ask.
 #![tactic(auto)]
 
 #[cfg(test)]
 mod accepting;
 #[cfg(test)]
 mod actions;
+#[cfg(test)]
+mod clerk;
 #[cfg(test)]
 mod counted;
 #[cfg(test)]

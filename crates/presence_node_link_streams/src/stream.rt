@@ -1,9 +1,14 @@
 //! The stream of a link: a socket that is given up after a silence, where a line takes too long, or once the link is to end.
+ghost use Rattle.std.specs.Prelude.{◌≡◌};
+ghost use Rattle.presence_node_link_streams.specs.Lines.{is_long_line};
+
+use crate::clerk::Clerk;
 use crate::stopping::{Stopping, time_behind};
 use std::alloc::Global;
 use std::io;
 use std::io::{BufReader, ErrorKind, Read, Write};
 use std::net::TcpStream;
+use std::sync::Wait;
 use std::sync::atomic::{AtomicU64, Ordering};
 use std::time::{Clock, Duration};
 
@@ -21,6 +26,16 @@ pub const MAX_HELLO_BYTES: usize = 4_096;
 
 /// How long any other line may take, in milliseconds, from the end of the one before it.
 pub const LINE_MILLISECONDS: u64 = 30_000;
+
+/// A line of more bytes is a long one, its line feed among them. An answer to a line that was written has so many at most.
+pub const LONG_LINE_BYTES: usize = 65_536;
+
+/// Whether a line of so many bytes is a long one.
+pub fn is_long(bytes: usize) -> bool
+    ensures { result ≡ is_long_line bytes }
+{
+    bytes > LONG_LINE_BYTES
+}
 
 /// The number of the link that came last from a node, and that of a link which ends once another one came.
 #[derive(Clone, Copy)]
@@ -45,8 +60,12 @@ struct Patient<'a, R: Clock> {
     newest: Option<Newest<'a>>,
 }
 
+// Whether a look found nothing, or was interrupted.
 fn is_silence(kind: ErrorKind) -> bool {
-    matches!(kind, ErrorKind::WouldBlock | ErrorKind::TimedOut)
+    matches!(
+        kind,
+        ErrorKind::WouldBlock | ErrorKind::TimedOut | ErrorKind::Interrupted
+    )
 }
 
 impl<R: Clock> Patient<'_, R> {
@@ -81,6 +100,27 @@ impl<R: Clock> Patient<'_, R> {
     // Whether the line under way is late. Where the clock can't be read it is not.
     fn is_late(&self) -> bool {
         time_behind(self.rt, 0) >= self.deadline
+    }
+
+    // Asks as long as a read would wait: whether it could.
+    fn asks<Q: Drop, A: Drop>(&mut self, clerk: &Clerk<Q, A>, question: Q) -> bool
+    where
+        R: Wait,
+    {
+        let mut question = question;
+        for _ in 0..MAX_LOOKS {
+            if self.is_late() {
+                break;
+            }
+            match clerk.ask(self.rt, question, LOOK_MILLISECONDS) {
+                Ok(()) => return true,
+                Err(back) => question = back,
+            }
+            if self.gives_up() {
+                break;
+            }
+        }
+        false
     }
 }
 
@@ -191,6 +231,42 @@ impl<'a, R: Clock> LinkStream<'a, R> {
         self.reader.get_mut().begins(LINE_MILLISECONDS);
     }
 
+    // The line that is read next answers one that was written: no answer is long.
+    fn awaits_answer(&mut self) {
+        self.awaits_line();
+        self.left = LONG_LINE_BYTES;
+    }
+
+    /// The bytes of the next line up to its line feed, which is the last of them, or up to so many, or to the end.
+    pub fn line(&mut self, alloc: Global, most: usize) -> io::Result<Vec<u8>> {
+        let mut line = Vec::new(alloc);
+        let mut byte = [0u8; 1];
+        for _ in 0..most {
+            if self.read(&mut byte)? == 0 {
+                break;
+            }
+            line.push(byte[0])?;
+            if byte[0] == b'\n' {
+                break;
+            }
+        }
+        Ok(line)
+    }
+
+    /// What the clerk answers of the line that was read. Where it could not be asked within the time that the line may take,
+    /// nothing. Who asks waits for others that do, so it holds no lock.
+    pub fn asks<Q: Drop, A: Drop>(&mut self, clerk: &Clerk<Q, A>, question: Q) -> Option<A>
+    where
+        R: Wait,
+    {
+        let patient = self.reader.get_mut();
+        if patient.asks(clerk, question) {
+            clerk.take(patient.rt)
+        } else {
+            None
+        }
+    }
+
     /// The link has this number, and ends once the newest one has a higher.
     pub fn ends_behind(&mut self, newest: &'a AtomicU64, number: u64) {
         self.reader.get_mut().newest = Some(Newest { newest, number });
@@ -200,7 +276,7 @@ impl<'a, R: Clock> LinkStream<'a, R> {
 impl<R: Clock> Read for LinkStream<'_, R> {
     fn read(&mut self, buf: &mut [u8]) -> io::Result<usize> {
         if self.is_writing {
-            self.awaits_line();
+            self.awaits_answer();
         }
         if self.left == 0 {
             return Err(io::Error::from(ErrorKind::InvalidData));

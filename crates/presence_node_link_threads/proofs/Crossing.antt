@@ -10,7 +10,13 @@ use Rattle.presence_base.specs.contracts.names.NodeName as NodeName
 use Rattle.presence_base.specs.contracts.dots.Replica as Replica
 use Rattle.presence_base.specs.contracts.dots.Dot as Dot
 use Rattle.orswot_core_told.specs.contracts.form.Form as Form
+use Rattle.orswot_core_told.specs.contracts.told.Told as Told
+use Rattle.orswot_core_told.specs.contracts.told.ToldFault as ToldFault
 use Rattle.delta_range.specs.contracts.delta.Delta as Delta
+use Rattle.node_links_members.specs.contracts.fault.LinkFault as LinkFault
+use Rattle.node_links_members.specs.contracts.hearer.Hearer as Hearer
+use Rattle.node_links_members.specs.contracts.hearer.Telling as Telling
+use Rattle.node_links_lines.specs.contracts.lines.Line as Line
 use Rattle.presence_node_sockets.specs.contracts.watch.Bell as Bell
 use Rattle.presence_node_sockets.specs.contracts.watch.Watch as Watch
 use Rattle.presence_node_link_words.specs.contracts.end.LinkEnd as LinkEnd
@@ -23,6 +29,7 @@ use Rattle.presence_node_link_threads.specs.contracts.dialling.Dialler as Dialle
 use Rattle.presence_node_link_threads.specs.contracts.incoming.LinkDoor as LinkDoor
 use Rattle.presence_node_link_threads.specs.contracts.incoming.Waiting as Waiting
 use Rattle.presence_node_link_threads.specs.contracts.links.Links as Links
+use Rattle.presence_node_link_threads.specs.contracts.reading.LineBytes as LineBytes
 use Rattle.presence_node_link_streams.specs.contracts.stopping.Stopping as Stopping
 use Rattle.presence_node_link_threads.specs.contracts.tallies.Tallies as Tallies
 use Rattle.presence_node_link_threads.specs.contracts.tasks.LinkTask as LinkTask
@@ -77,8 +84,34 @@ delta_send = search (row_send, dot_send, replica_send, heap.crosses, sendable) d
 delta_sync : IsSync (Delta.the_field).row
 delta_sync = search (row_sync, dot_sync, replica_sync, heap.crosses, sendable) depth 60 fits 20000
 
+form_send : IsSend (Form.the_field).row
+form_send = search sendable depth 60 fits 20000
+
 form_sync : IsSync (Form.the_field).row
 form_sync = search sendable depth 60 fits 20000
+
+-- ---- what the reader of long lines is given, and what it gives
+
+told_send : IsSend (Told.the_field).row
+told_send = search (row_send, dot_send, replica_send, heap.crosses, sendable) depth 60 fits 20000
+
+telling_send : IsSend (Telling.the_field).row
+telling_send = search (form_send, told_send, sendable) depth 60 fits 20000
+
+line_send : IsSend (Line.the_field).row
+line_send = search (replica_send, telling_send, sendable) depth 60 fits 20000
+
+told_fault_send : IsSend (ToldFault.the_field).row
+told_fault_send = search sendable depth 60 fits 20000
+
+fault_send : IsSend (LinkFault.the_field).row
+fault_send = search (told_fault_send, sendable) depth 60 fits 20000
+
+hearer_send : IsSend (Hearer.the_field).row
+hearer_send = search (form_send, sendable) depth 60 fits 20000
+
+bytes_send : IsSend (LineBytes.the_field).row
+bytes_send = search (hearer_send, heap.crosses, sendable) depth 60 fits 20000
 
 -- ---- what is shared
 
@@ -119,7 +152,7 @@ tallies_sync : IsSync (Tallies.the_field).row
 tallies_sync = search (heap.crosses, sendable) depth 60 fits 20000
 
 pub links_sync : IsSync (Links.the_field).row
-links_sync = search (delta_send, delta_sync, form_sync, waiting_sync, book_send, name_sync, stopping_sync, bell_sync, tallies_sync, life_send, heap.crosses, sendable) depth 60 fits 20000
+links_sync = search (delta_send, delta_sync, form_sync, waiting_sync, book_send, name_sync, stopping_sync, bell_sync, tallies_sync, life_send, line_send, fault_send, bytes_send, heap.crosses, sendable) depth 60 fits 20000
 
 -- ---- what is given
 

@@ -3,7 +3,7 @@ use Rattle.std.specs.Prelude.{◌≡◌, ◌+◌, ℕ, zero, suc, List, [], ◌�
 use Rattle.presence_node_link_threads.specs.declared.dialling.Dialler.{Dialler}
 use Rattle.presence_node_link_threads.specs.declared.incoming.LinkDoor.{LinkDoor}
 use Rattle.presence_node_link_threads.specs.declared.tasks.LinkTask.{LinkTask}
-use Rattle.presence_node_link_threads.specs.declared.tasks.LinkTask.TheVariants.{Tick, Attend, Serve, Dial}
+use Rattle.presence_node_link_threads.specs.declared.tasks.LinkTask.TheVariants.{Tick, Attend, Read, Serve, Dial}
 use Rattle.presence_node_link_threads.specs.declared.tasks.LinkTasks.{LinkTasks}
 
 -- so many threads serve links that came in
@@ -11,10 +11,10 @@ abbrev pub serving : ℕ → List LinkTask
 serving zero = []
 serving (suc n) = Serve ∷ serving n
 
--- one makes the beats, one takes the links that come in, and so many serve those
+-- one makes the beats, one takes the links that come in, one reads their long lines, and so many serve them
 pub record AreFirst (n : ℕ) (tasks : List LinkTask) : Type 0 where
   pub door : LinkDoor
-  pub are : tasks ≡ Tick ∷ Attend door ∷ serving n
+  pub are : tasks ≡ Tick ∷ Attend door ∷ Read ∷ serving n
 
 -- One thread more dials the node of this name, at this host and port. It has a mailbox of its own, in the next place.
 pub record Dials (name host : List ℕ) (port : ℕ) (old new : LinkTasks) : Type 0 where

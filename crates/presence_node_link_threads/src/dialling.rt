@@ -107,12 +107,20 @@ where
     TcpStream::connect_timeout(rt, &address, time)
 }
 
+// A host without the brackets in which an IPv6 address may stand.
+fn bare(host: &str) -> &str {
+    match host.strip_prefix('[') {
+        Some(rest) => rest.strip_suffix(']').unwrap_or(host),
+        None => host,
+    }
+}
+
 // A socket at the first of the host's addresses where somebody answers.
 fn reach<R>(rt: &R, dialler: &Dialler) -> Result<TcpStream, LinkEnd>
 where
     R: Net<Listener = TcpListener, Stream = TcpStream>,
 {
-    let place = (dialler.host.as_str(), dialler.port);
+    let place = (bare(dialler.host.as_str()), dialler.port);
     let addresses = match place.to_socket_addrs(rt) {
         Ok(addresses) => addresses,
         Err(error) => return Err(unreached(&error)),

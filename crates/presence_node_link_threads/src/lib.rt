@@ -1,5 +1,5 @@
 //! The threads of links between nodes: one that makes the beats, one for each node that is dialled, one where links come
-//! in, and those that serve them.
+//! in, those that serve them, and one that reads their long lines.
 //!
 //! Of what they tell each other, and of what goes over a socket, no contract speaks. What each exchange does is
 //! `node_links`', and what it asks of the shards `presence_node_link_ports`'.
@@ -16,6 +16,7 @@ mod incoming;
 pub mod laws;
 mod links;
 mod lives;
+mod reading;
 mod serving;
 mod tallies;
 mod tasks;

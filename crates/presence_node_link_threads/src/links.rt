@@ -3,6 +3,7 @@ ghost use Rattle.std.specs.Prelude.{◌≤◌};
 
 use crate::book::{Begun, Book};
 use crate::incoming::Waiting;
+use crate::reading::Reader;
 use crate::tallies::{LinkTallies, Tallies};
 use delta_range::Delta;
 use node_links::begins_anew;
@@ -51,6 +52,8 @@ pub struct Links {
     /// Whether the last hello from each of these was of the second form.
     pub(crate) speak_two: Vec<AtomicBool>,
     pub(crate) waiting: Waiting,
+    /// Who reads the long lines of links that came in.
+    pub(crate) reader: Reader,
     pub(crate) book: Mutex<Book>,
     /// The time that was handed in last, in milliseconds.
     pub(crate) time: AtomicU64,
@@ -74,6 +77,7 @@ impl Drop for Links {
             newest,
             speak_two,
             waiting,
+            reader,
             book,
             time,
             bell,
@@ -87,6 +91,7 @@ impl Drop for Links {
         drop(newest);
         drop(speak_two);
         drop(waiting);
+        drop(reader);
         drop(book);
         drop(time);
         drop(bell);
@@ -119,6 +124,7 @@ impl Links {
     pub fn stop<R: Wait>(&self, rt: &R) {
         self.stopping.stop(rt);
         self.waiting.end(rt);
+        self.reader.end(rt);
         self.bell.ring();
         for mailbox in self.mailboxes.iter() {
             mailbox.ring();

@@ -5,7 +5,8 @@ use crate::dialling::STANDING_MILLISECONDS;
 use crate::incoming::ANYBODY;
 use crate::links::{Links, Place, Wakes};
 use crate::lives::owning;
-use node_links::{DialFault, End, Line, LinkFault, LinkPort, Peer, answer_line, read_line};
+use crate::reading::next_line;
+use node_links::{DialFault, End, Line, LinkFault, LinkPort, Peer, answer_line};
 use presence_base::Replica;
 use presence_node_link_ports::{Gate, Lane, Pool, PoolLinkPort};
 use presence_node_link_streams::{LinkStream, time_behind};
@@ -264,7 +265,7 @@ impl<'a, R: Clock> Incoming<'a, R> {
         } else {
             self.stream.awaits_hello();
         }
-        match read_line(links.alloc, &mut self.stream, self.peer.hearer()) {
+        match next_line(links, &mut self.stream, self.peer.hearer()) {
             Ok(Some(line)) => Ok(line),
             Ok(None) => Err(LinkEnd::Closed),
             Err(fault) => Err(self.unread(rt, links, fault)),

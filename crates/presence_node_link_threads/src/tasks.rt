@@ -8,13 +8,14 @@ use crate::book::Book;
 use crate::dialling::{Dialler, dial_one};
 use crate::incoming::{LISTENER, LinkDoor, Waiting};
 use crate::links::{Links, Wakes};
+use crate::reading::read_long;
 use crate::serving::serve_links;
 use crate::tallies::Tallies;
 use crate::ticking::tick;
 use node_links::form_told;
 use presence_base::{NodeName, Replica};
 use presence_node_link_ports::{Gate, Lane, Pool};
-use presence_node_link_streams::Stopping;
+use presence_node_link_streams::{Clerk, Stopping};
 use presence_node_link_words::{Life, MAX_LINKS};
 use presence_node_mailboxes::Mailbox;
 use presence_node_sockets::{Bell, Watch};
@@ -31,6 +32,8 @@ pub enum LinkTask {
     Tick,
     /// Takes the links that come in.
     Attend(LinkDoor),
+    /// Reads the long lines of links that came in.
+    Read,
     /// Serves links that came in.
     Serve,
     /// Dials another node.
@@ -40,7 +43,7 @@ pub enum LinkTask {
 impl Drop for LinkTask {
     fn drop(self) {
         match self {
-            LinkTask::Tick | LinkTask::Serve => {}
+            LinkTask::Tick | LinkTask::Read | LinkTask::Serve => {}
             LinkTask::Attend(door) => drop(door),
             LinkTask::Dial(dialler) => drop(dialler),
         }
@@ -72,6 +75,7 @@ impl LinkTask {
                 let mut door = door;
                 door.attend(rt, links);
             }
+            LinkTask::Read => read_long(rt, links),
             LinkTask::Serve => serve_links(rt, links, pool, wakes),
             LinkTask::Dial(dialler) => dial_one(rt, links, pool, wakes, &dialler),
         }
@@ -151,13 +155,15 @@ fn door_at<R: Net>(net: &R, alloc: Global, listener: TcpListener) -> io::Result<
     Ok((LinkDoor::new(listener, watch), bell))
 }
 
-// What the first threads do, of which one takes the links that come in at this door.
+// What the first threads do, of which one takes the links that come in at this door. The one that reads long lines is begun
+// before those that wait for it.
 fn first_tasks(alloc: Global, door: LinkDoor) -> Result<Vec<LinkTask>, AllocError>
     ensures { IfOk result (λ tasks. AreFirst MAX_LINKS tasks.items) }
 {
     let mut tasks = Vec::new(alloc);
     tasks.push(LinkTask::Tick)?;
     tasks.push(LinkTask::Attend(door))?;
+    tasks.push(LinkTask::Read)?;
     for _ in 0..MAX_LINKS {
         tasks.push(LinkTask::Serve)?;
     }
@@ -199,6 +205,7 @@ pub fn tasks_for<R: Net>(
         newest: Vec::new(alloc),
         speak_two: Vec::new(alloc),
         waiting: Waiting::new(alloc, MAX_LINKS),
+        reader: Clerk::new(),
         book: Mutex::new(Book::new(alloc)),
         time: AtomicU64::new(0),
         bell,
