@@ -35,7 +35,7 @@ use Rattle.channel_session_rules.specs.Script.{Script, done, ask, Plays}
 use Rattle.channel_session_laws.specs.Local.{LocalStep}
 use Rattle.channel_session.specs.Ending.{Played, Ended, Leaving, then_rows, ends_topic, ends_topics, left_with, then_topics, staying, ended_as, ends_cut_short}
 use Rattle.channel_session.specs.LeftBehind.{is_named, StandsOn, IsOver, LeavesNothing, EndLeavesNothing}
-use Rattle.presence_journal.specs.Walk.{is_reborn}
+use Rattle.presence_journal.specs.Walk.{is_rebirth}
 
 -- ---- one step that adds no row
 
@@ -43,7 +43,7 @@ cond_some : (b : Bool) (o : Option Row) (r : Row) → cond b None o ≡ Some r �
 cond_some true o r e = absurd (cc)
 cond_some false o r e = (refl, e)
 
-module _ (h : History) (s : Step) (lasts : is_reborn s ≡ false) where
+module _ (h : History) (s : Step) (lasts : is_rebirth s ≡ false) where
   own_after : own (after h s None) ≡ own h
   unfolding after
   own_after = go (accepted h s)

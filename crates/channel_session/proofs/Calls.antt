@@ -23,7 +23,7 @@ use Rattle.channel_session_rules.specs.Asks.{Ask, Answer, track, update, untrack
 use Rattle.channel_session_laws.specs.Local.{LocalStep, IsNew}
 use Rattle.channel_session.proofs.Behind.{AddsNone, was_there, mine_after, mine_is_named, is_accepted, either, untracked_is, untrack_adds, unsubscribe_adds, same_some, no_row, or_true}
 use Rattle.presence_journal.proofs.HistoryLemmas.{callers_plain}
-use Rattle.presence_journal.specs.Walk.{is_reborn}
+use Rattle.presence_journal.specs.Walk.{is_rebirth}
 
 -- each own row of the pid that is present stands on one of these topics
 abbrev pub On : (List ℕ → Bool) → ℕ → History → Type 0
@@ -116,7 +116,7 @@ module _ (leave : OnlyNamedLeave) (pid : ℕ) (f : List ℕ → Bool) (old new :
   refused s Gives OutOfMemory l c m g = same m
 
   -- a step that may add a row on this topic, and concerns no other
-  added : (s : Step) (u : List ℕ) → ((t : List ℕ) → concerns s t ≡ same_text u t) → is_step s ≡ true → is_reborn s ≡ false → Made old new None s → Kept pid (and_at u f) new
+  added : (s : Step) (u : List ℕ) → ((t : List ℕ) → concerns s t ≡ same_text u t) → is_step s ≡ true → is_rebirth s ≡ false → Made old new None s → Kept pid (and_at u f) new
   added s u concerned limits lasts m = subst (λ h. Kept pid (and_at u f) h) (sym m.journal) (record { legal = stays_legal old k.legal s None limits; rows = there })
     where
       there : On (and_at u f) pid (after old s None)

@@ -1,3 +1,4 @@
+//! Session events, matched once.
 ghost use Rattle.std.specs.Prelude.{◌≡◌, ◌≤◌, ◌^◌, ◌-◌, length, None, Some, IsTrue, IfOk, OnErr, option_map};
 ghost use Rattle.presence_journal.specs.Limits.{is_payload};
 ghost use Rattle.channel_session_rules.specs.InForce.{joined_of};

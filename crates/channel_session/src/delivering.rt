@@ -1,3 +1,4 @@
+//! What waits for the joined topics, as texts and notices.
 ghost use Rattle.std.specs.Prelude.{◌≡◌, drop, true, false, if◌then◌else◌, IsTrue, Err};
 ghost use Rattle.presence_journal.specs.Limits.{is_take_limit};
 ghost use Rattle.channel_session.specs.Delivery.{delivers, DealsBehind, DeliveredBy, failing};

@@ -1,3 +1,4 @@
+//! The end of a session, topic by topic.
 ghost use Rattle.std.specs.Prelude.{◌≡◌, [], OnOk, take, drop};
 ghost use Rattle.channel_session.specs.Ending.{Played, Gone, Keeps, EndedBy, Leaving, ends_topics, ends, fault_of_refusal as fault_in, topics_named};
 ghost use Rattle.channel_session_rules.specs.InForce.{joined_in};

@@ -1,3 +1,4 @@
+//! Why a text or a delivery left off.
 ghost use Rattle.std.specs.Prelude.{◌≡◌};
 ghost use Rattle.channel_session.specs.Ran.{fault_of};
 

@@ -1,3 +1,4 @@
+//! The session.
 use crate::joined::JoinedTopics;
 use channel_session_rules::Topics;
 use presence_base::Topic;

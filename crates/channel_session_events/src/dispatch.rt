@@ -1,3 +1,4 @@
+//! Topic events, matched once.
 ghost use Rattle.std.specs.Prelude.{◌≤◌, ◌^◌, IsTrue, None, false, codes};
 ghost use Rattle.presence_journal.specs.Limits.{is_payload};
 ghost use Rattle.channel_session_rules.specs.Replies.{RunsBy, RepliesWith};

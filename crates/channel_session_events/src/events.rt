@@ -1,3 +1,4 @@
+//! Each event's function.
 ghost use Rattle.std.specs.Prelude.{◌≡◌, ◌∷◌, [], ◌≤◌, ◌^◌, IfOk, IsTrue, is_ok, option_map, codes, true, false};
 ghost use Rattle.presence_journal.specs.Limits.{is_payload};
 ghost use Rattle.channel_session_rules.specs.Seen.{seen_by};

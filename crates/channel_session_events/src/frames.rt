@@ -1,3 +1,4 @@
+//! Items as frames and notices.
 ghost use Rattle.std.specs.Prelude.{◌≡◌, ◌∷◌, [], true, false, map, codes, string_bytes, IfOk};
 ghost use Rattle.serde_json.specs.Written.{has_float};
 ghost use Rattle.phx_message.specs.Making.{push_of, broadcast_of};

@@ -1,3 +1,4 @@
+//! Joins and their ends.
 ghost use Rattle.std.specs.Prelude.{◌≡◌, ◌++◌, ◌≤◌, ◌^◌, ℕ, List, [], ◌∷◌, IfOk, IfErr, option_map, is_ok, false, true, Some};
 ghost use Rattle.serde_json.specs.Written.{has_float as float_within};
 ghost use Rattle.serde_json.specs.Data.{Data};

@@ -1,3 +1,4 @@
+//! A port that is lent one shard.
 use channel_session_rules::{Port, Shard, ShardFault, Sub};
 use presence_base::{Dot, Json, Key, Meta, Row, Topic};
 use presence_journal::{Item, SharedRows};

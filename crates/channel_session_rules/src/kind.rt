@@ -1,3 +1,4 @@
+//! Events by name.
 ghost use Rattle.std.specs.Prelude.{◌≡◌};
 ghost use Rattle.channel_session_rules.specs.Rules.{kind_of as kind_of_text, topic_event_of as topic_event_of_text, is_phoenix as is_phoenix_text};
 

@@ -1,3 +1,4 @@
+//! The limit of topics.
 ghost use Rattle.channel_session_rules.specs.Limits.{LimitOfTopics};
 
 /// How many topics a session may join.

@@ -1,3 +1,4 @@
+//! The port: what a session asks of a shard.
 use presence_base::{Dot, Json, Key, Meta, Row, Topic};
 use presence_journal::{Item, SharedRows};
 use std::alloc::Global;

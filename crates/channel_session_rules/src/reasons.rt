@@ -1,3 +1,4 @@
+//! Refusals as reasons.
 ghost use Rattle.std.specs.Prelude.{◌≡◌, option_map, false};
 ghost use Rattle.channel_session_rules.specs.Outcome.{Stops, GivesEnd};
 ghost use Rattle.channel_session_rules.specs.Rules.{unsaid, full_reason as full_reason_of, track_reason as track_reason_of, update_reason as update_reason_of};

@@ -1,3 +1,4 @@
+//! Replies, each with its text.
 ghost use Rattle.std.specs.Prelude.{◌≡◌, IfOk, string_bytes, false};
 ghost use Rattle.serde_json.specs.Written.{compact_text, has_float as float_within};
 ghost use Rattle.phx_message.specs.Making.{closing, ok_reply};

@@ -1,3 +1,4 @@
+//! Why a rule was left.
 ghost use Rattle.std.specs.Prelude.{◌≡◌, true, IfOk, IfErr, Ok};
 ghost use Rattle.channel_session_rules.specs.declared.stop.StopKind.TheVariants.{OutOfMemory};
 ghost use Rattle.channel_session_rules.specs.Rules.{End};

@@ -1,3 +1,4 @@
+//! The topics in force.
 use indexmap::IndexMap;
 use phx_message::MsgRef;
 use presence_base::Topic;

@@ -1,3 +1,4 @@
+//! Deltas.
 ghost use Rattle.std.specs.Prelude.{◌≡◌, ◌++◌, ◌∷◌, [], false, nat_le, IfOk, IfErr, Ok, None};
 ghost use Rattle.std.specs.List.{list_all};
 ghost use Rattle.presence_base.specs.Names.{guarded};

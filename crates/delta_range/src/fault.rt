@@ -1,3 +1,4 @@
+//! Why two aren't joined.
 use std::alloc::AllocError;
 use std::fmt;
 use thiserror::Error;

@@ -1,3 +1,4 @@
+//! The kept deltas.
 ghost use Rattle.std.specs.Prelude.{◌≡◌, true, None, is_some, IfOk, IfErr, OnOk, OnErr, option_copied};
 ghost use Rattle.delta_range.specs.Planning.{was, becomes};
 ghost use Rattle.delta_range.specs.Keeping.{Kept, AreKept, is_nothing, alone, grown, pushed, IsNext, GoesOnFrom, IsDeltaIfSome, begun, from_count};

@@ -1,3 +1,4 @@
+//! The laws of joined deltas, and the limits of the kept ones.
 ghost use Rattle.delta_range.specs.Caps.{AreCaps};
 ghost use Rattle.delta_range.specs.Laws.{TellsInTurn, IsNoLarger, StaysInOrder, OlderInOrder, CoversTheSame, FormsTellTheSame, DeltasAreInOrder};
 

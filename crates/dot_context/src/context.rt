@@ -1,3 +1,4 @@
+//! The set of dots.
 ghost use Rattle.std.specs.Prelude.{◌≡◌, ◌≤◌, ◌+◌, false, OnOk, OnErr, IfOk, IfErr};
 ghost use Rattle.std.specs.FinSet as set;
 ghost use Rattle.dot_context.specs.Sets.{DotSet, HasUpTo, TellsIfAny, range, others_dots};

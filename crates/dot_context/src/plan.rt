@@ -1,3 +1,4 @@
+//! A context with room.
 ghost use Rattle.std.specs.Prelude.{◌≡◌, IfOk, IfErr};
 ghost use Rattle.std.specs.FinSet as set;
 ghost use Rattle.dot_context.specs.Sets.{set_of, IsCompact};

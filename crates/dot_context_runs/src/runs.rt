@@ -1,3 +1,4 @@
+//! Runs of one replica.
 ghost use Rattle.std.specs.Prelude.{◌≡◌, ◌≤◌, ◌<◌, ◌&&◌, ◌==◌, ℕ, IfSome, IfNone, IsSome, IsTrue, nat_lt, OnOk, OnErr, true, false, None, Some, [], length};
 ghost use Rattle.std.specs.Bool.{MatchBool};
 ghost use Rattle.std.specs.BTreeMap.{get, IsUnchanged};

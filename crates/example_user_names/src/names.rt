@@ -1,3 +1,4 @@
+//! The table of names.
 use hook_registry::Extra;
 use presence_base::Key;
 use serde_json::json;

@@ -1,3 +1,4 @@
+//! Members beside metas.
 ghost use Rattle.std.specs.Prelude.{◌≡◌, IfOk, map, length};
 ghost use Rattle.serde_json.specs.View.{view, members_view};
 ghost use Rattle.hook_registry.specs.Extras.{given_member, is_extra_member, are_extra_members, has_name, names_differ, are_extra, gathered};

@@ -1,3 +1,4 @@
+//! Notices.
 use presence_base::Text;
 use std::alloc::{AllocError, Global};
 use std::marker::Model;

@@ -1,3 +1,4 @@
+//! The notices of a diff.
 ghost use Rattle.std.specs.Prelude.{◌≡◌, true, false, [], IfOk};
 ghost use Rattle.hook_registry.specs.Noted.{Noticed, NoticesOf};
 

@@ -1,3 +1,4 @@
+//! `accept_one`: an exchange as the end that was dialled.
 ghost use Rattle.node_links.specs.Talking.{WritesAnswer, Accepts, AnswersLine, lent};
 
 use crate::dialling::write_told;

@@ -1,3 +1,4 @@
+//! `dial`: an exchange as the end that dials.
 ghost use Rattle.std.specs.Prelude.{◌≡◌};
 ghost use Rattle.node_links.specs.Talking.{bare as bare_of, outcome_of as outcome, outcome_without as without, beside_in, untold, uncounted as uncounted_of, sent as sent_of, told_in};
 ghost use Rattle.node_links.specs.Talking.{WritesBare, WritesGiven, AsksForAll, WritesTold, Tells, TellsWanted};

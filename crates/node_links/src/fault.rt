@@ -1,3 +1,4 @@
+//! Why an exchange broke off: the link, or the shards.
 use node_links_acts::ActFault;
 use node_links_lines::LinkFault;
 use thiserror::Error;

@@ -1,3 +1,4 @@
+//! What an exchange came to.
 /// How much a told value has that fits no line.
 #[derive(Clone, Copy, PartialEq, Eq, Debug)]
 pub struct UntoldSize {

@@ -1,3 +1,4 @@
+//! `act`: the actions of a line, each a call of the port.
 ghost use Rattle.std.specs.Prelude.{◌≡◌};
 ghost use Rattle.node_links_acts.specs.Acting.{Acts, Does, Downs, IsAsked};
 

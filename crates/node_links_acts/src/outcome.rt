@@ -1,3 +1,4 @@
+//! What the actions of a line come to.
 use node_links_lines::Line;
 
 /// What the actions of a line come to: the line that is answered, where one is; whether this node's own

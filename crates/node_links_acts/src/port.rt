@@ -1,3 +1,4 @@
+//! The port of a link: what it asks of shards, and how they refuse.
 use orswot_core::{Form, Told};
 use presence_base::Replica;
 use replica_status::Status;

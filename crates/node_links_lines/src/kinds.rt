@@ -1,3 +1,4 @@
+//! Kinds of lines.
 ghost use Rattle.std.specs.Prelude.{◌≡◌};
 ghost use Rattle.serde_json.specs.View.{view, items_view};
 ghost use Rattle.node_links_lines.specs.Kinds.{kind_named, kind_first, kind_of_all, kind_in};

@@ -1,3 +1,4 @@
+//! The lines, and their limits.
 use node_links_members::Telling;
 use presence_base::Replica;
 

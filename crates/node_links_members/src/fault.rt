@@ -1,3 +1,4 @@
+//! Why a link ends.
 use orswot_core::ToldFault;
 use thiserror::Error;
 

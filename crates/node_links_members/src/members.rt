@@ -1,3 +1,4 @@
+//! Numbers, names, replicas, dots.
 ghost use Rattle.std.specs.Prelude.{◌≡◌, option_map, string_bytes};
 ghost use Rattle.serde_json.specs.View.{view};
 ghost use Rattle.node_links_members.specs.Members.{whole_in, number_in, count_in, bound_in, text_in, name_in, replica_in, dot_in};

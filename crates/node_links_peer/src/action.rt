@@ -1,3 +1,4 @@
+//! What a line may ask for.
 use node_links_lines::Line;
 use orswot_core::{Form, Told};
 use presence_base::Replica;

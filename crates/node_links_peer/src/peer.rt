@@ -1,3 +1,4 @@
+//! One end of a link.
 ghost use Rattle.std.specs.Prelude.{◌≡◌, ◌≤◌, None, Some, OnOk, OnErr};
 ghost use Rattle.node_links_lines.specs.Results.{Gives};
 ghost use Rattle.node_links_peer.specs.Exchanges.{at_first, actions_of, after, who, link_form, hearer_of, hello_of};

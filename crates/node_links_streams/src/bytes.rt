@@ -1,3 +1,4 @@
+//! Bytes of a line.
 ghost use Rattle.std.specs.Prelude.{IfErr};
 ghost use Rattle.node_links_streams.specs.Bytes.{TakesByte, IsPatient, TakesText, WritesAll};
 

@@ -1,3 +1,4 @@
+//! Reading and writing a line.
 ghost use Rattle.std.specs.Prelude.{◌≡◌, ◌≤◌, IfErr, string_bytes};
 ghost use Rattle.node_links_lines.specs.Reading.{IsTextFault};
 ghost use Rattle.node_links_lines.specs.Results.{Answers};

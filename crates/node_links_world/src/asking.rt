@@ -1,3 +1,4 @@
+//! What is asked.
 ghost use Rattle.std.specs.Prelude.{◌≡◌, IfOk, Decides, slice_get, option_copied};
 ghost use Rattle.std.specs.FinMap as map;
 ghost use Rattle.presence_journal.specs.History.{count};

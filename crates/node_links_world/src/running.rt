@@ -1,3 +1,4 @@
+//! A run of events from the first world on.
 ghost use Rattle.std.specs.Prelude.{◌≡◌, true, false, IfOk, OnOk};
 ghost use Rattle.std.specs.List.{list_all};
 ghost use Rattle.presence_base.specs.Names.{is_node_name};

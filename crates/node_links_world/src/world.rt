@@ -1,3 +1,4 @@
+//! Nodes of one shard each, all their lives, and all that they ever told.
 ghost use Rattle.std.specs.Prelude.{◌≡◌, ◌++◌, ◌∷◌, [], false, IfOk, OnOk, OnErr, Decides, length};
 ghost use Rattle.std.specs.FinMap as map;
 ghost use Rattle.presence_base.specs.Order.{same_text};

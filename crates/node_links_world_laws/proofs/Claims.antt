@@ -20,7 +20,7 @@ use Rattle.presence_journal_data.specs.declared.entry.Outcome.TheVariants as out
 use Rattle.presence_journal.specs.Steps.{Step, Outcome, Entry, Start}
 use Rattle.presence_journal.specs.History.{History, Begin, Then, own, count, last_number, time, time_of, standing, standing_after, status, is_up, is_gone, next_dot, dot_removed, told_removed, known, removed, row, live, shown}
 use Rattle.presence_journal.specs.Table.{accepted, after, next_entry, outcome_of}
-use Rattle.presence_journal.specs.Walk.{is_reborn}
+use Rattle.presence_journal.specs.Walk.{is_rebirth}
 use Rattle.presence_journal.proofs.Same.{same_replica-true}
 use Rattle.presence_journal.proofs.PresentLemmas.{shown-row}
 use Rattle.presence_journal.proofs.HistoryLemmas.{after-accepted, known_from, up-own, own-then, own_again}
@@ -98,9 +98,9 @@ not_both status_is.Gone u g = absurd (cc)
 
 -- nobody goes on as a replica that is gone
 still_other : (h : History) (e : Entry) (q : Replica) → outcome_of h e.step ≡ Some e.outcome → is_gone (status h q) ≡ true → same_replica q (own (Then h e)) ≡ false
-still_other h e q made f = go (is_reborn e.step) refl
+still_other h e q made f = go (is_rebirth e.step) refl
   where
-    go : (b : Bool) → is_reborn e.step ≡ b → same_replica q (own (Then h e)) ≡ false
+    go : (b : Bool) → is_rebirth e.step ≡ b → same_replica q (own (Then h e)) ≡ false
     go false n = ap (same_replica q) (own-then h e n) ∙ not_own h q f
     go true n = at (same_replica q (own (Then h e))) refl
       where

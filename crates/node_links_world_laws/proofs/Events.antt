@@ -20,7 +20,7 @@ use Rattle.presence_journal_data.specs.declared.step.Step.TheVariants as steps_a
 use Rattle.presence_journal_data.specs.declared.entry.Outcome.TheVariants as outcomes_are
 use Rattle.presence_journal.specs.Steps.{Step, Outcome, Entry, Start}
 use Rattle.presence_journal.specs.History.{History, Begin, Then, begun, own, last_number, first_some, row_made, row_added, has_dot, row}
-use Rattle.presence_journal.specs.Walk.{row_at, is_reborn}
+use Rattle.presence_journal.specs.Walk.{row_at, is_rebirth}
 use Rattle.presence_journal.specs.Table.{accepted, after, is_step, next_entry, IsLegal}
 use Rattle.presence_journal.proofs.Same.{same_replica-true, same_dot-true}
 use Rattle.presence_journal.proofs.HistoryLemmas.{after-accepted, own-then, first_none}
@@ -98,7 +98,7 @@ pub record GoesOnTrue (deeds : AllDeeds) (r : Replica) (l : LifeValue) : Type 0 
 abbrev pub TellsNoLie : AllDeeds → Step → Type 0
 TellsNoLie deeds s = (t : ToldValue) → s ≡ steps_are.Merge t → TellsTrue deeds t
 
-pub step_true : (deeds : AllDeeds) (r : Replica) (l : LifeValue) (s : Step) → ((q : Replica) → AreDeeds (deeds q)) → IsTrueLife deeds r l → is_step s ≡ true → is_reborn s ≡ false → TellsNoLie deeds s → GoesOnTrue deeds r (stepped s l)
+pub step_true : (deeds : AllDeeds) (r : Replica) (l : LifeValue) (s : Step) → ((q : Replica) → AreDeeds (deeds q)) → IsTrueLife deeds r l → is_step s ≡ true → is_rebirth s ≡ false → TellsNoLie deeds s → GoesOnTrue deeds r (stepped s l)
 step_true deeds r l s are k limits lasts hears = go (accepted l.history s) refl
   where
     h : History
@@ -158,7 +158,7 @@ pub put_on : (w : WorldValue) (n : ℕ) (x : Replica × LifeValue) (l : LifeValu
 put_on w n x l deeds iv k g =
     put_true w deeds g.new iv x.0 l g.more g.are g.others g.is w.present (same_present w deeds g.new iv x.0 l g.more g.are g.others g.is x.1 k.lives)
 
-pub acts_true : (w : WorldValue) → IsTrueWorld w → (n : ℕ) (s : Step) → is_step s ≡ true → is_reborn s ≡ false → ((deeds : AllDeeds) → IsTrueBy deeds w → TellsNoLie deeds s) → IsTrueWorld (acts w n s)
+pub acts_true : (w : WorldValue) → IsTrueWorld w → (n : ℕ) (s : Step) → is_step s ≡ true → is_rebirth s ≡ false → ((deeds : AllDeeds) → IsTrueBy deeds w → TellsNoLie deeds s) → IsTrueWorld (acts w n s)
 acts_true w iw n s limits lasts hears = go (life_at w n) refl
   where
     go : (o : Option (Replica × LifeValue)) → life_at w n ≡ o → IsTrueWorld (acted w s o)
@@ -448,7 +448,7 @@ quiet : (s : Step) → is_client s ≡ true → (deeds : AllDeeds) → TellsNoLi
 quiet (steps_are.Merge t) f deeds u m = absurd (cc)
 quiet _ f deeds u m = absurd (cc)
 
-lasting : (s : Step) → is_client s ≡ true → is_reborn s ≡ false
+lasting : (s : Step) → is_client s ≡ true → is_rebirth s ≡ false
 lasting (steps_are.Rebirth i) f = absurd (cc)
 lasting _ f = refl
 

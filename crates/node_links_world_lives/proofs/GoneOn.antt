@@ -12,7 +12,7 @@ use Rattle.presence_journal_data.specs.declared.entry.Outcome.TheVariants as out
 use Rattle.presence_journal.specs.Steps.{Step, Outcome, Entry}
 use Rattle.presence_journal.specs.History.{History, Then, own, reborn, is_full, is_gone, status, removed, row, live}
 use Rattle.presence_journal.specs.Table.{IsLegal, accepted, after, next_entry, own_dots, reborn_from, reborn_rows, can_be_reborn, outcome_of}
-use Rattle.presence_journal.specs.Walk.{pairs_in, is_again}
+use Rattle.presence_journal.specs.Walk.{pairs_in, is_reborn}
 use Rattle.presence_journal.proofs.HistoryLemmas.{after-accepted, legal_knows, own_again, again_unknown, removed_again, status-own}
 use Rattle.presence_journal.proofs.FoldOthers.{accepted_is}
 use Rattle.presence_journal.proofs.Reborn.{IsAgain, again_of}
@@ -127,12 +127,12 @@ module _ (A : Type 0) (l : LifeValue) (h new : History) (i : ℕ) (legal : IsLeg
 
   -- ---- where it doesn't
 
-  outcome_again : (o : Outcome) → outcome_of h s ≡ Some o → is_again o ≡ true
+  outcome_again : (o : Outcome) → outcome_of h s ≡ Some o → is_reborn o ≡ true
   unfolding outcome_of
   outcome_again o e = go (can_be_reborn h i) e
     where
-      go : (b : Bool) → reborn_rows b (reborn (own h) i) (own_dots h) ≡ Some o → is_again o ≡ true
-      go true k = ap is_again (sym (same_Some (outcomes_are.Reborn (reborn_from (reborn (own h) i) 0 (own_dots h))) o k))
+      go : (b : Bool) → reborn_rows b (reborn (own h) i) (own_dots h) ≡ Some o → is_reborn o ≡ true
+      go true k = ap is_reborn (sym (same_Some (outcomes_are.Reborn (reborn_from (reborn (own h) i) 0 (own_dots h))) o k))
       go false k = absurd (cc)
 
   refused : (f : ShardFault) → (f ≡ OutOfMemory → ⊥) → AnswersPairs {A = A} h i (Err f) → IsDue {A = Vec (Dot × Dot) A} (Err f) (refusal true h s) → accepted h s ≡ None

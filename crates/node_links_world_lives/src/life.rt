@@ -1,3 +1,4 @@
+//! One life of a node, with each row that it made.
 ghost use Rattle.std.specs.Prelude.{◌≡◌, true, IfOk, OnOk, OnErr};
 ghost use Rattle.presence_base.specs.Refs.{IsCount};
 ghost use Rattle.presence_journal.specs.Table.{accepted, is_step, IsLegal};

@@ -1,3 +1,4 @@
+//! Which refusals are entries.
 ghost use Rattle.std.specs.Prelude.{◌≡◌, Some, None, IfOk, OnErr};
 ghost use Rattle.node_links_world_lives.specs.Taken.{taken};
 

@@ -1,3 +1,4 @@
+//! The row that a step adds.
 ghost use Rattle.std.specs.Prelude.{◌≡◌, IfOk};
 ghost use Rattle.presence_journal.specs.History.{row_made};
 ghost use Rattle.node_links_world_laws.specs.World.{under, added};

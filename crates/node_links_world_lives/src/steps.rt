@@ -1,3 +1,4 @@
+//! Any step.
 ghost use Rattle.std.specs.Prelude.{◌≡◌, true, IfOk, OnErr};
 ghost use Rattle.presence_journal.specs.Table.{is_step};
 ghost use Rattle.node_links_world_lives.specs.Taken.{Took};

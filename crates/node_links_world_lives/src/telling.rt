@@ -1,3 +1,4 @@
+//! What a node told once.
 ghost use Rattle.std.specs.Prelude.{◌≡◌, true, IfOk};
 ghost use Rattle.std.specs.List.{list_all};
 ghost use Rattle.orswot_core_told.specs.Limits.{are_texts};

@@ -1,3 +1,4 @@
+//! The laws of joins: any order, removed stays removed, told stays known.
 ghost use Rattle.orswot_core.specs.Laws.{Idempotent, Commutative, Associative, RemovalsAreHeard, RemovedStays, Learns, JoinsKeepKnown, StepsKeepKnown, KnownChangesNothing, OldChangesNothing, OneFull, FormsTellTheSame, FullsAreInOrder};
 
 /// Sets join in any order and number: with itself a set stays as it is, two of them join to the

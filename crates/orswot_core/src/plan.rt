@@ -1,3 +1,4 @@
+//! A join with its memory.
 ghost use Rattle.std.specs.Prelude.{◌≡◌, IfOk, IfErr};
 ghost use Rattle.orswot_core.specs.Sets.{rows_of, seen, IsSound, IsJoinWith, AreNeeded};
 

@@ -1,3 +1,4 @@
+//! The limit of told rows; what a cut told value tells.
 ghost use Rattle.orswot_core_told.specs.Checks.{LimitOfRows};
 ghost use Rattle.orswot_core_told.specs.Telling.{CutTellsOfSome};
 

@@ -1,3 +1,4 @@
+//! Limits of dots, rows and ranges.
 ghost use Rattle.std.specs.Prelude.{◌≡◌, Option};
 ghost use Rattle.std.specs.List.{list_all};
 ghost use Rattle.presence_base.specs.declared.dots.Dot.{Dot as DotValue};

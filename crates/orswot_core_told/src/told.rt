@@ -1,3 +1,4 @@
+//! Told values and their check.
 ghost use Rattle.std.specs.Prelude.{◌≡◌, ◌≤◌, true, Err, IfOk, OnOk, nat_lt};
 ghost use Rattle.std.specs.List.{list_all};
 ghost use Rattle.std.specs.FinSet as set;

@@ -1,3 +1,4 @@
+//! Message to text.
 ghost use Rattle.std.specs.Prelude.{◌≡◌, ◌≤◌, length, true, false, Ok, IfOk, string_bytes};
 ghost use Rattle.serde_json.specs.Written.{has_float as float_within, compact_text};
 ghost use Rattle.serde_json.specs.View.{view};

@@ -1,3 +1,4 @@
+//! Replies, pushes, broadcasts, closes.
 ghost use Rattle.std.specs.Prelude.{◌≡◌, IfOk};
 ghost use Rattle.serde_json.specs.Data.{object, no_members};
 ghost use Rattle.phx_message.specs.Making.{status_text, reply_value, reason_value, reply_of, ok_reply, error_reply, push_of, broadcast_of, closing};

@@ -1,3 +1,4 @@
+//! The message, its limits and faults.
 use presence_base::{Json, Text, Topic};
 use std::alloc::AllocError;
 use thiserror::Error;

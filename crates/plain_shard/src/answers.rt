@@ -1,3 +1,4 @@
+//! Parts of the answers.
 ghost use Rattle.std.specs.Prelude.{◌≡◌, [], ◌∷◌, IfOk};
 ghost use Rattle.presence_journal_walks.specs.Pending.{waiting_of};
 ghost use Rattle.presence_journal.specs.Present.{listed};

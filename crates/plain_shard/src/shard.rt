@@ -1,3 +1,4 @@
+//! The shard's calls, by walking.
 use crate::answers::{cut_outcome, first_dot_of, given_items, replaced, taken_outcome};
 use delta_range::Delta;
 use orswot_core::{Form, Told};

@@ -1,3 +1,4 @@
+//! A JSON value as its compact text.
 use serde_json::Value;
 use std::alloc::{AllocError, Global};
 use std::marker::Model;

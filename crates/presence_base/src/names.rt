@@ -1,3 +1,4 @@
+//! Node names, topics, keys, a topic's shard.
 ghost use Rattle.std.specs.Prelude.{◌≡◌, ◌≤◌, ◌%◌, sum, IfOk, false};
 ghost use Rattle.std.specs.List.{list_all};
 ghost use Rattle.presence_base.specs.Names.{is_node_name, is_name_byte, is_short_text, guarded};

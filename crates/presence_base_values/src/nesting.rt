@@ -1,3 +1,4 @@
+//! How deep one nests.
 ghost use Rattle.std.specs.Prelude.{◌≡◌, nat_le};
 ghost use Rattle.serde_json.specs.Data.{depth, items_depth, members_depth};
 ghost use Rattle.serde_json.specs.View.{view, items_view, members_view};

@@ -22,7 +22,7 @@ use Rattle.presence_journal.specs.History.{History, Then, own, reborn, count, is
 use Rattle.presence_journal.specs.Present.{dots}
 use Rattle.presence_journal.specs.Table.{IsLegal, own_shown, put_rows, own_dots, reborn_from}
 use Rattle.presence_journal.specs.Laws.{dots_from, new_dots_in, old_dots_in, RebirthLosesNoRow}
-use Rattle.presence_journal.specs.Walk.{is_reborn, is_again, pairs_in}
+use Rattle.presence_journal.specs.Walk.{is_rebirth, is_reborn, pairs_in}
 use Rattle.presence_journal.proofs.Same.{same_replica-true, same_replica-refl}
 use Rattle.presence_journal.proofs.PresentLemmas.{shown-row}
 use Rattle.presence_journal.proofs.Reborn.{IsAgain, again_of, own_dot, own_dots_has, again_parts, lookup_among}
@@ -52,7 +52,7 @@ stands : (h : History) (e : Entry) (r : Replica) → standing (Then h e) r ≡ s
 unfolding standing
 stands h e r = refl
 
-stands_again : (o : Replica) (s : Step) (t : ℕ) (r : Replica) (x : Standing) → is_reborn s ≡ true → standing_after o s t r x ≡ cond (same_replica r o) (put_down x) x
+stands_again : (o : Replica) (s : Step) (t : ℕ) (r : Replica) (x : Standing) → is_rebirth s ≡ true → standing_after o s t r x ≡ cond (same_replica r o) (put_down x) x
 stands_again o (steps_are.Rebirth i) t r x n = refl
 stands_again o _ t r x n = absurd (cc)
 
@@ -65,7 +65,7 @@ down_is Gone = refl
 standing_again : (h : History) (e : Entry) (r : Replica) → IsAgain h e.step e.outcome → standing (Then h e) r ≡ cond (same_replica r (own h)) Gone (standing h r)
 standing_again h e r w =
     stands h e r
-    ∙ (stands_again (own h) e.step (max (time h) (time_of e.step)) r (standing h r) (ap is_reborn w.step)
+    ∙ (stands_again (own h) e.step (max (time h) (time_of e.step)) r (standing h r) (ap is_rebirth w.step)
     ∙ ap (λ x. cond (same_replica r (own h)) x (standing h r)) (down_is (standing h r)))
 
 -- the old one is gone
@@ -235,10 +235,10 @@ news_are : (r : Replica) (n : ℕ) (ds : List Dot) → new_dots_in (reborn_from 
 news_are r n [] = refl
 news_are r n (d ∷ ds) = ap (λ xs. record { replica = r; count = n + 1 } ∷ xs) (news_are r (n + 1) ds)
 
-pub step_reborn : (h : History) (e : Entry) → IsLegal (Then h e) → is_again e.outcome ≡ true → is_reborn e.step ≡ true
-step_reborn h e l a = go (is_reborn e.step) refl
+pub step_reborn : (h : History) (e : Entry) → IsLegal (Then h e) → is_reborn e.outcome ≡ true → is_rebirth e.step ≡ true
+step_reborn h e l a = go (is_rebirth e.step) refl
   where
-    go : (b : Bool) → is_reborn e.step ≡ b → b ≡ true
+    go : (b : Bool) → is_rebirth e.step ≡ b → b ≡ true
     go true f = refl
     go false f = let g : false ≡ true = sym (kind_plain h e.step e.outcome (kind_of h e.step e.outcome f l.1)) ∙ a in absurd (cc)
 
@@ -254,7 +254,7 @@ rebirth_loses_no_row h e pairs l is = record {
 }
   where
     w : IsAgain h e.step e.outcome
-    w = again_of h e.step e.outcome (step_reborn h e l (ap is_again is)) l.1
+    w = again_of h e.step e.outcome (step_reborn h e l (ap is_reborn is)) l.1
 
     r : Replica
     r = reborn (own h) w.incarnation

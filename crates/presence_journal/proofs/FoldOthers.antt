@@ -17,7 +17,7 @@ use Rattle.presence_journal.specs.History.{History, Then, count, next_dot, is_fu
 use Rattle.presence_journal.specs.Present.{of_topic, present, listed, in_order, dots_of}
 use Rattle.presence_journal.specs.Queue.{Behind, Queued, shout_item, items_made, topic_of, queue}
 use Rattle.presence_journal.specs.Table.{IsLegal, AreWithinLimits, is_mine, has_key, rows_of_pid, rows_of_key, counting, tracked, updated, untracked, for_present, take_outcome, outcome_of, next_entry, with_outcome, accepted, after}
-use Rattle.presence_journal.specs.Walk.{tells, is_again}
+use Rattle.presence_journal.specs.Walk.{tells, is_reborn}
 use Rattle.presence_journal.specs.Laws.{is_callers, concerns, reaches, OthersStay, OthersHearNothing, RefusedStays, StaysLegal, StaysKept}
 use Rattle.presence_journal.proofs.HistoryLemmas.{kind_of, kind_plain, callers_plain, legal_knows, live_untold, shown_then, status_stays, shown-next, within_step}
 use Rattle.presence_journal.proofs.ToldLemmas.{none_told_row, none_told_removed, callers_tell_none}
@@ -122,7 +122,7 @@ added_elsewhere s t n (outcomes_are.Replaced new old) d = go (same_dot d new)
     go false = refl
 added_elsewhere s t n _ d = refl
 
-live_elsewhere : (h : History) (e : Entry) (t : List ℕ) (d : Dot) → is_again e.outcome ≡ false → tells e.step ≡ false → (dot_removed e.outcome (next_dot h) d ≡ true → of_topic t (shown h d) ≡ None) → of_topic t (row_added e.step e.outcome d) ≡ None → is_callers e.step ≡ true → of_topic t (shown (Then h e) d) ≡ of_topic t (shown h d)
+live_elsewhere : (h : History) (e : Entry) (t : List ℕ) (d : Dot) → is_reborn e.outcome ≡ false → tells e.step ≡ false → (dot_removed e.outcome (next_dot h) d ≡ true → of_topic t (shown h d) ≡ None) → of_topic t (row_added e.step e.outcome d) ≡ None → is_callers e.step ≡ true → of_topic t (shown (Then h e) d) ≡ of_topic t (shown h d)
 unfolding shown live
 live_elsewhere h e t d a none spared added c =
     ap (of_topic t) (shown_then h e d (status_stays h e d.replica c) ∙ ap (λ o. cond (is_up (status h d.replica)) o None) (live_untold h e d a (none_told_row h e.step d none) (none_told_removed h e.step d none)))
@@ -135,7 +135,7 @@ live_elsewhere h e t d a none spared added c =
     go true false false (Some r) f = refl
     go false a b o f = refl
 
-shown_elsewhere : (h : History) (e : Entry) (t : List ℕ) (d : Dot) → is_again e.outcome ≡ false → is_callers e.step ≡ true → (dot_removed e.outcome (next_dot h) d ≡ true → of_topic t (shown h d) ≡ None) → of_topic t (row_added e.step e.outcome d) ≡ None → of_topic t (shown (Then h e) d) ≡ of_topic t (shown h d)
+shown_elsewhere : (h : History) (e : Entry) (t : List ℕ) (d : Dot) → is_reborn e.outcome ≡ false → is_callers e.step ≡ true → (dot_removed e.outcome (next_dot h) d ≡ true → of_topic t (shown h d) ≡ None) → of_topic t (row_added e.step e.outcome d) ≡ None → of_topic t (shown (Then h e) d) ≡ of_topic t (shown h d)
 shown_elsewhere h e t d a c spared added = live_elsewhere h e t d a (callers_tell_none e.step c) spared added c
 
 -- a step that doesn't concern a topic changes no status, and tells nothing

@@ -15,7 +15,7 @@ use Rattle.presence_journal.specs.Steps.{Step, Outcome, Entry, Start}
 use Rattle.presence_journal.specs.History.{History, Begin, Then, own, reborn, is_full, count, counts_used, next_dot, known, told_row, row_again, row_brought, row, has_dot, first_some, row_made, row_added, shown}
 use Rattle.presence_journal.specs.Present.{of_topic, present, dots_added, dots_taken}
 use Rattle.presence_journal.specs.Table.{IsStart, IsLegal, own_dots, reborn_from, outcome_of, next_entry}
-use Rattle.presence_journal.specs.Walk.{keyed, shown_of, is_reborn}
+use Rattle.presence_journal.specs.Walk.{keyed, shown_of, is_rebirth}
 use Rattle.presence_journal.specs.Laws.{NewIsUnknown, NewIsCounted, RowsAreKnown, RefsAreDistinct, OnlyNamedLeave, is_callers}
 use Rattle.presence_journal.proofs.Same.{same_dot-true}
 use Rattle.presence_journal.proofs.PresentLemmas.{get-present}
@@ -33,7 +33,7 @@ quiet_added (outcomes_are.Reborn ps) q = cc
 quiet_added _ q = refl
 
 -- the dot that an outcome adds is the next one
-added_is : (h : History) (s : Step) (o : Outcome) (d : Dot) → is_reborn s ≡ false → outcome_of h s ≡ Some o → has_dot (dots_added o) d ≡ true → (d ≡ next_dot h) × (counts_used o ≡ 1)
+added_is : (h : History) (s : Step) (o : Outcome) (d : Dot) → is_rebirth s ≡ false → outcome_of h s ≡ Some o → has_dot (dots_added o) d ≡ true → (d ≡ next_dot h) × (counts_used o ≡ 1)
 added_is h s o d n e a = go (kind_of h s o n e)
   where
     one : (b : Bool) → same_dot d (next_dot h) ≡ b → (b || false) ≡ true → d ≡ next_dot h
@@ -51,19 +51,19 @@ some_old : (h : History) (s : Step) (o : Outcome) (d : Dot) (w : IsAgain h s o) 
 some_old h s o d w a = lookup_among (reborn_from (reborn (own h) w.incarnation) 0 (own_dots h)) d ∙ (sym (ap (λ x. has_dot (dots_added x) d) w.outcome) ∙ a)
 
 pub new_is_unknown : NewIsUnknown
-new_is_unknown h legal s o e d a = go (known h d) refl (is_reborn s) refl
+new_is_unknown h legal s o e d a = go (known h d) refl (is_rebirth s) refl
   where
     again : (w : IsAgain h s o) (p : Option Dot) → lookup (same_dot d) (reborn_from (reborn (own h) w.incarnation) 0 (own_dots h)) ≡ p → is_some p ≡ true → known h d ≡ true → ⊥
     again w None f g k = absurd (cc)
     again w (Some old) f g k = again_unknown h d w.incarnation w.fresh (again_parts (reborn (own h) w.incarnation) 0 (own_dots h) d old f).0 k
 
-    go : (b : Bool) → known h d ≡ b → (c : Bool) → is_reborn s ≡ c → b ≡ false
+    go : (b : Bool) → known h d ≡ b → (c : Bool) → is_rebirth s ≡ c → b ≡ false
     go true p false n = let is : d ≡ next_dot h = (added_is h s o d n (accepted_is h s o e).1 a).0 in absurd (next_unknown h (legal_knows h legal) (ap (known h) (sym is) ∙ p))
     go true p true n = let w = again_of h s o n (accepted_is h s o e).1 in absurd (again w _ refl (some_old h s o d w a) p)
     go false p c n = refl
 
 pub new_is_counted : NewIsCounted
-new_is_counted h legal s seat o e d a = ap (λ g. known g d) (after-accepted h s seat o p.1 p.0) ∙ go (is_reborn s) refl
+new_is_counted h legal s seat o e d a = ap (λ g. known g d) (after-accepted h s seat o p.1 p.0) ∙ go (is_rebirth s) refl
   where
     p : (is_full h ≡ false) × (outcome_of h s ≡ Some o)
     p = accepted_is h s o e
@@ -72,7 +72,7 @@ new_is_counted h legal s seat o e d a = ap (λ g. known g d) (after-accepted h s
     again w None f g = absurd (cc)
     again w (Some old) f g = again_known h (next_entry h s seat o) d old w f
 
-    go : (c : Bool) → is_reborn s ≡ c → known (Then h (next_entry h s seat o)) d ≡ true
+    go : (c : Bool) → is_rebirth s ≡ c → known (Then h (next_entry h s seat o)) d ≡ true
     go false n = let is = added_is h s o d n p.1 a in next_known h (next_entry h s seat o) d n is.0 is.1
     go true n = let w = again_of h s o n p.1 in again w _ refl (some_old h s o d w a)
 
@@ -93,9 +93,9 @@ reborn_is r i is l m = record { name = is.name; incarnation = (omega (arith, l),
 
 pub own_is : (h : History) → IsLegal h → IsReplica (own h)
 own_is (Begin s) l = own_start s l
-own_is (Then h e) l = go (is_reborn e.step) refl (own_is h l.0)
+own_is (Then h e) l = go (is_rebirth e.step) refl (own_is h l.0)
   where
-    go : (b : Bool) → is_reborn e.step ≡ b → IsReplica (own h) → IsReplica (own (Then h e))
+    go : (b : Bool) → is_rebirth e.step ≡ b → IsReplica (own h) → IsReplica (own (Then h e))
     go false n is = subst IsReplica (sym (own-then h e n)) is
     go true n is = let w = again_of h e.step e.outcome n l.1 in subst IsReplica (sym (own_again h e w)) (reborn_is (own h) w.incarnation is w.above w.most)
 
@@ -127,7 +127,7 @@ unfolding row
 rows_have_dots (Begin s) legal d r f = live_row_dot s.content d r legal.content f
 rows_have_dots (Then h e) legal d r f = go (row h d) (row_added e.step e.outcome d) refl refl f (rows_have_dots h legal.0 d)
   where
-    brought : (b : Bool) → is_reborn e.step ≡ b → row_brought e.outcome (row h) (told_row h e.step d) d ≡ Some r → IsDot d
+    brought : (b : Bool) → is_rebirth e.step ≡ b → row_brought e.outcome (row h) (told_row h e.step d) d ≡ Some r → IsDot d
     brought false n g = row_told_dot h e.step d r legal.4 (sym (brought_told e.outcome (row h) (told_row h e.step d) d (kind_plain h e.step e.outcome (kind_of h e.step e.outcome n legal.1))) ∙ g)
     brought true n g = again_dot h e d r legal (again_of h e.step e.outcome n legal.1) g
 
@@ -137,7 +137,7 @@ rows_have_dots (Then h e) legal d r f = go (row h d) (row_added e.step e.outcome
         let kind = kind_of h e.step e.outcome (added_plain e.step e.outcome d q added) legal.1 in
         let one = one_added h e d q kind added in
         subst IsDot (sym one.0) (next_is_dot h legal.0 (omega (arith, one.1, count-then h e (kind_plain h e.step e.outcome kind), count-limit (Then h e) legal)))
-    go None None is added g ih = brought (is_reborn e.step) refl g
+    go None None is added g ih = brought (is_rebirth e.step) refl g
 
 pub refs_are_distinct : RefsAreDistinct
 refs_are_distinct h legal d e r s f g same = one_dot d e (rows_have_dots h legal d r f) (rows_have_dots h legal e s g) same

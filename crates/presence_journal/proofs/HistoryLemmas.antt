@@ -25,7 +25,7 @@ use Rattle.presence_journal.specs.Queue.{Waiting, Behind, Queued, queue, topic_o
 use Rattle.presence_journal.specs.Table.{rows_of_pid, rows_of_key, listed_key, counting, tracked, updated, untracked, take_outcome, for_present, outcome_of, next_entry, accepted, after, is_step, IsStart, IsLegal, AreWithinLimits}
 use Rattle.presence_journal_data.specs.StepLimits.{is_row_made, is_within_limits}
 use Rattle.presence_journal.specs.Present.{dots_taken}
-use Rattle.presence_journal.specs.Walk.{tells, is_reborn, is_again}
+use Rattle.presence_journal.specs.Walk.{tells, is_rebirth, is_reborn}
 use Rattle.presence_journal.specs.Laws.{is_callers}
 use Rattle.presence_journal.specs.Merges.{is_of_rows}
 use Rattle.presence_journal.proofs.Same.{same_dot-true, same_replica-true, same_replica-refl}
@@ -72,33 +72,33 @@ counted_from r n d p l m = and_from (same_replica d.replica r) (nat_lt 0 d.count
 pub is_own : (h : History) (d : Dot) → d.replica ≡ own h → same_replica d.replica (own h) ≡ true
 is_own h d o = ap (λ q. same_replica q (own h)) o ∙ same_replica-refl (own h)
 
-pub own_same : (s : Step) (r : Replica) → is_reborn s ≡ false → own_after s r ≡ r
+pub own_same : (s : Step) (r : Replica) → is_rebirth s ≡ false → own_after s r ≡ r
 own_same (steps_are.Rebirth i) r f = absurd (cc)
 own_same _ r f = refl
 
 -- a rebirth alone changes the own replica
-pub own-then : (h : History) (e : Entry) → is_reborn e.step ≡ false → own (Then h e) ≡ own h
+pub own-then : (h : History) (e : Entry) → is_rebirth e.step ≡ false → own (Then h e) ≡ own h
 unfolding own
 own-then h e f = own_same e.step (own h) f
 
-pub count_same : (o : Outcome) (n : ℕ) → is_again o ≡ false → count_after o n ≡ n + counts_used o
+pub count_same : (o : Outcome) (n : ℕ) → is_reborn o ≡ false → count_after o n ≡ n + counts_used o
 count_same (outcomes_are.Reborn ps) n a = absurd (cc)
 count_same _ n a = refl
 
 -- and counts anew
-pub count-then : (h : History) (e : Entry) → is_again e.outcome ≡ false → count (Then h e) ≡ count h + counts_used e.outcome
+pub count-then : (h : History) (e : Entry) → is_reborn e.outcome ≡ false → count (Then h e) ≡ count h + counts_used e.outcome
 unfolding count
 count-then h e a = count_same e.outcome (count h) a
 
-pub brought_told : (o : Outcome) (f : Dot → Option Row) (r : Option Row) (d : Dot) → is_again o ≡ false → row_brought o f r d ≡ r
+pub brought_told : (o : Outcome) (f : Dot → Option Row) (r : Option Row) (d : Dot) → is_reborn o ≡ false → row_brought o f r d ≡ r
 brought_told (outcomes_are.Reborn ps) f r d a = absurd (cc)
 brought_told _ f r d a = refl
 
-pub callers_plain : (s : Step) → is_callers s ≡ true → is_reborn s ≡ false
+pub callers_plain : (s : Step) → is_callers s ≡ true → is_rebirth s ≡ false
 callers_plain (steps_are.Rebirth i) f = absurd (cc)
 callers_plain _ f = refl
 
-pub used_plain : (o : Outcome) → counts_used o ≡ 1 → is_again o ≡ false
+pub used_plain : (o : Outcome) → counts_used o ≡ 1 → is_reborn o ≡ false
 used_plain (outcomes_are.Reborn ps) u = absurd (omega (arith, u))
 used_plain _ u = refl
 
@@ -141,7 +141,7 @@ known_from (Begin s) legal d o l m = known_first s legal d o l m
 known_from (Then h e) legal d o l m = counted_known h e d (counted_from (own (Then h e)) (count (Then h e)) d o l m)
 
 -- the next dot is known once it is used
-pub next_known : (h : History) (e : Entry) (d : Dot) → is_reborn e.step ≡ false → d ≡ next_dot h → counts_used e.outcome ≡ 1 → known (Then h e) d ≡ true
+pub next_known : (h : History) (e : Entry) (d : Dot) → is_rebirth e.step ≡ false → d ≡ next_dot h → counts_used e.outcome ≡ 1 → known (Then h e) d ≡ true
 next_known h e d f p u =
     let c : d.count ≡ count h + 1 = ap (λ (z : Dot). z.count) p in
     let o : d.replica ≡ own (Then h e) = ap (λ (z : Dot). z.replica) p ∙ sym (own-then h e f) in
@@ -156,7 +156,7 @@ is_quiet (outcomes_are.Removed (d ∷ ds)) = false
 is_quiet (outcomes_are.Reborn ps) = false
 is_quiet _ = true
 
-pub quiet_plain : (o : Outcome) → is_quiet o ≡ true → is_again o ≡ false
+pub quiet_plain : (o : Outcome) → is_quiet o ≡ true → is_reborn o ≡ false
 quiet_plain (outcomes_are.Reborn ps) q = absurd (cc)
 quiet_plain _ q = refl
 
@@ -215,7 +215,7 @@ quiet_took n Behind = refl
 quiet_took n (Queued q) = refl
 
 -- what the table answers is of one of the four kinds
-pub kind_of : (h : History) (s : Step) (o : Outcome) → is_reborn s ≡ false → outcome_of h s ≡ Some o → Kind h s o
+pub kind_of : (h : History) (s : Step) (o : Outcome) → is_rebirth s ≡ false → outcome_of h s ≡ Some o → Kind h s o
 unfolding outcome_of
 kind_of h (steps_are.Rebirth i) o f e = absurd (cc)
 kind_of h (steps_are.Track pid topic key meta) o f e = kind_tracked h (steps_are.Track pid topic key meta) o _ (rows_of_key h pid topic key) refl e
@@ -235,10 +235,10 @@ kind_of h steps_are.Cut o f e = Quiet (ap is_quiet (same_Some o (outcomes_are.Cu
 kind_of h (steps_are.Merge told) o f e = Quiet (ap is_quiet (same_Some o outcomes_are.Merged (sym e)))
 
 -- of these none is a rebirth's
-pub kind_plain : (h : History) (s : Step) (o : Outcome) → Kind h s o → is_again o ≡ false
-kind_plain h s o (Adds r m p l) = ap is_again p
-kind_plain h s o (Replaces r old m p l w) = ap is_again p
-kind_plain h s o (Removes y ys p l a q) = ap is_again p
+pub kind_plain : (h : History) (s : Step) (o : Outcome) → Kind h s o → is_reborn o ≡ false
+kind_plain h s o (Adds r m p l) = ap is_reborn p
+kind_plain h s o (Replaces r old m p l w) = ap is_reborn p
+kind_plain h s o (Removes y ys p l a q) = ap is_reborn p
 kind_plain h s o (Quiet q) = quiet_plain o q
 
 -- a merge changes no own row
@@ -298,7 +298,7 @@ none_either true r e = absurd (cc)
 none_either false r e = absurd (cc)
 
 -- a row that is added is no rebirth's
-pub added_plain : (s : Step) (o : Outcome) (d : Dot) (r : Row) → row_added s o d ≡ Some r → is_reborn s ≡ false
+pub added_plain : (s : Step) (o : Outcome) (d : Dot) (r : Row) → row_added s o d ≡ Some r → is_rebirth s ≡ false
 added_plain (steps_are.Rebirth i) (outcomes_are.Added new) d r e = absurd (none_either (same_dot d new) r e)
 added_plain (steps_are.Rebirth i) (outcomes_are.Replaced new old) d r e = absurd (none_either (same_dot d new) r e)
 added_plain (steps_are.Rebirth i) _ d r e = absurd (cc)
@@ -321,7 +321,7 @@ one_added h e d r (Quiet q) g = let f : None ≡ Some r = sym (quiet_row e.step 
 shown_known : (h : History) → KnowsItsDots h → (d : Dot) → IsOwnShown h d → known h d ≡ true
 shown_known h k d w = k.of_row d w.row (shown-row h d w.row w.shown).0
 
-removed_known : (h : History) (e : Entry) (d : Dot) → KnowsItsDots h → is_reborn e.step ≡ false → Kind h e.step e.outcome → dot_removed e.outcome (next_dot h) d ≡ true → known (Then h e) d ≡ true
+removed_known : (h : History) (e : Entry) (d : Dot) → KnowsItsDots h → is_rebirth e.step ≡ false → Kind h e.step e.outcome → dot_removed e.outcome (next_dot h) d ≡ true → known (Then h e) d ≡ true
 removed_known h e d k n (Adds x m o l) g = let f : false ≡ true = sym (ap (λ y. dot_removed y (next_dot h) d) o) ∙ g in cc
 removed_known h e d k n (Replaces x old m o l w) g =
     let f : same_dot d old ≡ true = sym (ap (λ y. dot_removed y (next_dot h) d) o) ∙ g in
@@ -333,7 +333,7 @@ removed_known h e d k n (Removes y ys o l a q) g = go (or_cases (same_dot d (nex
     go (inr f) = known_then h e d (shown_known h k d (all_has_dot (IsOwnShown h) (y ∷ ys) d a f))
 removed_known h e d k n (Quiet q) g = let f : false ≡ true = sym (quiet_removed e.outcome (next_dot h) d q) ∙ g in cc
 
-own_then_counted : (h : History) (e : Entry) (d : Dot) → KnowsItsDots h → is_reborn e.step ≡ false → is_again e.outcome ≡ false → d.replica ≡ own (Then h e) → known (Then h e) d ≡ true → (0 < d.count) × (d.count ≤ count (Then h e))
+own_then_counted : (h : History) (e : Entry) (d : Dot) → KnowsItsDots h → is_rebirth e.step ≡ false → is_reborn e.outcome ≡ false → d.replica ≡ own (Then h e) → known (Then h e) d ≡ true → (0 < d.count) × (d.count ≤ count (Then h e))
 own_then_counted h e d k n a o f = go (known_cases h e d f)
   where
     here : d.replica ≡ own h
@@ -344,7 +344,7 @@ own_then_counted h e d k n a o f = go (known_cases h e d f)
     go (inr (inl g)) = let p = counted_parts (own (Then h e)) (count (Then h e)) d g in (p.1, p.2)
     go (inr (inr g)) = let w : true ≡ false = sym (is_own h d here) ∙ told_other h e.step d g in absurd (cc)
 
-pub knows_then : (h : History) (e : Entry) → KnowsItsDots h → is_reborn e.step ≡ false → Kind h e.step e.outcome → is_step e.step ≡ true → KnowsItsDots (Then h e)
+pub knows_then : (h : History) (e : Entry) → KnowsItsDots h → is_rebirth e.step ≡ false → Kind h e.step e.outcome → is_step e.step ≡ true → KnowsItsDots (Then h e)
 unfolding row removed
 knows_then h e k n kind limits =
     record {
@@ -353,7 +353,7 @@ knows_then h e k n kind limits =
       of_own = λ d o f. own_then_counted h e d k n plain o f;
     }
   where
-    plain : is_again e.outcome ≡ false
+    plain : is_reborn e.outcome ≡ false
     plain = kind_plain h e.step e.outcome kind
 
     at_row : (d : Dot) (r : Row) (o p : Option Row) → row h d ≡ o → row_added e.step e.outcome d ≡ p → first_some o (first_some p (row_brought e.outcome (row h) (told_row h e.step d) d)) ≡ Some r → known (Then h e) d ≡ true
@@ -427,9 +427,9 @@ again_most h e k w = omega (arith, count_again h e w, own_dots_most h (count h) 
 
 pub legal_knows : (h : History) → IsLegal h → KnowsItsDots h
 legal_knows (Begin s) l = begin_knows s l
-legal_knows (Then h e) l = go (is_reborn e.step) refl (legal_knows h l.0)
+legal_knows (Then h e) l = go (is_rebirth e.step) refl (legal_knows h l.0)
   where
-    go : (b : Bool) → is_reborn e.step ≡ b → KnowsItsDots h → KnowsItsDots (Then h e)
+    go : (b : Bool) → is_rebirth e.step ≡ b → KnowsItsDots h → KnowsItsDots (Then h e)
     go false f k = knows_then h e k f (kind_of h e.step e.outcome f l.1) l.4
     go true f k = knows_again h e k (again_of h e.step e.outcome f l.1)
 
@@ -438,7 +438,7 @@ pub known_parts : (h : History) → IsLegal h → (d : Dot) → d.replica ≡ ow
 known_parts h l d o k = (legal_knows h l).of_own d o k
 
 -- an entry that uses no count makes known what it tells
-pub known_quiet : (h : History) (e : Entry) (d : Dot) → IsLegal h → is_reborn e.step ≡ false → is_again e.outcome ≡ false → counts_used e.outcome ≡ 0 → known (Then h e) d ≡ (known h d || told_covers h e.step d)
+pub known_quiet : (h : History) (e : Entry) (d : Dot) → IsLegal h → is_rebirth e.step ≡ false → is_reborn e.outcome ≡ false → counts_used e.outcome ≡ 0 → known (Then h e) d ≡ (known h d || told_covers h e.step d)
 known_quiet h e d l n a u = known-then h e d ∙ go (known h d) (is_counted (own (Then h e)) (count (Then h e)) d) (λ f. counted_before (counted_parts (own (Then h e)) (count (Then h e)) d f))
   where
     counted_before : (d.replica ≡ own (Then h e)) × (0 < d.count) × (d.count ≤ count (Then h e)) → known h d ≡ true
@@ -514,7 +514,7 @@ first_none None = refl
 first_none (Some x) = refl
 
 -- what is live once an entry tells nothing of the dot
-pub live_untold : (h : History) (e : Entry) (d : Dot) → is_again e.outcome ≡ false → told_row h e.step d ≡ None → told_removed h e.step d ≡ false → live (Then h e) d ≡ cond (removed h d || dot_removed e.outcome (next_dot h) d) None (first_some (row h d) (row_added e.step e.outcome d))
+pub live_untold : (h : History) (e : Entry) (d : Dot) → is_reborn e.outcome ≡ false → told_row h e.step d ≡ None → told_removed h e.step d ≡ false → live (Then h e) d ≡ cond (removed h d || dot_removed e.outcome (next_dot h) d) None (first_some (row h d) (row_added e.step e.outcome d))
 unfolding live row removed
 live_untold h e d a p q =
     let brought : row_brought e.outcome (row h) (told_row h e.step d) d ≡ None = brought_told e.outcome (row h) (told_row h e.step d) d a ∙ p in

@@ -14,7 +14,7 @@ use Rattle.presence_journal.specs.History.{History, Begin, Then, own, reborn, wi
 use Rattle.presence_journal.specs.Present.{dots_added, dots_taken}
 use Rattle.presence_journal.specs.Table.{IsLegal, own_dots, reborn_from, is_step}
 use Rattle.presence_journal_data.specs.StepLimits.{is_heard}
-use Rattle.presence_journal.specs.Walk.{tells, is_reborn}
+use Rattle.presence_journal.specs.Walk.{tells, is_rebirth}
 use Rattle.presence_journal.specs.Merges.{RemovedIsKnown, KnownIsLiveOrRemoved, row_taken_in, MergeIsKnown, MergeIsLive, LiveStays, ShownStays, is_of_rows, OwnStepsAlone}
 use Rattle.presence_journal.proofs.Same.{same_dot-refl}
 use Rattle.presence_journal.proofs.ToldLemmas.{told_other, live_row_covered, rowless_told_removed, untold_row, untold_removed}
@@ -97,12 +97,12 @@ again_rows h e d w c f = go (again_found (reborn (own h) w.incarnation) 0 (own_d
 rowless_removed : (h : History) → IsLegal h → (d : Dot) → known h d ≡ true → row h d ≡ None → removed h d ≡ true
 unfolding removed row
 rowless_removed (Begin s) legal d k f = and_from (covers s.content d) (is_none (live_row s.content d)) (known_start s d k) (ap is_none f)
-rowless_removed (Then h e) legal d k f = either (is_reborn e.step) refl (rowless_removed h legal.0 d)
+rowless_removed (Then h e) legal d k f = either (is_rebirth e.step) refl (rowless_removed h legal.0 d)
   where
     none : (row h d ≡ None) × (row_added e.step e.outcome d ≡ None) × (row_brought e.outcome (row h) (told_row h e.step d) d ≡ None)
     none = none_first (row h d) (row_added e.step e.outcome d) (row_brought e.outcome (row h) (told_row h e.step d) d) f
 
-    go : is_reborn e.step ≡ false → Kind h e.step e.outcome → (known h d ≡ true → row h d ≡ None → removed h d ≡ true) → (known h d ≡ true) ⊎ ((is_counted (own (Then h e)) (count (Then h e)) d ≡ true) ⊎ (told_covers h e.step d ≡ true)) → removed_now h e d ≡ true
+    go : is_rebirth e.step ≡ false → Kind h e.step e.outcome → (known h d ≡ true → row h d ≡ None → removed h d ≡ true) → (known h d ≡ true) ⊎ ((is_counted (own (Then h e)) (count (Then h e)) d ≡ true) ⊎ (told_covers h e.step d ≡ true)) → removed_now h e d ≡ true
     go n kind ih (inl x) = or_left (removed h d) _ (ih x none.0)
     go n kind ih (inr (inl x)) = let c = counted_parts (own (Then h e)) (count (Then h e)) d x in removed_counted h e d legal.0 kind (λ y. ih y none.0) none.1 (c.0 ∙ own-then h e n) c.1 c.2
     go n kind ih (inr (inr x)) = removed_told h e d (sym (brought_told e.outcome (row h) (told_row h e.step d) d (kind_plain h e.step e.outcome kind)) ∙ none.2) x
@@ -112,7 +112,7 @@ rowless_removed (Then h e) legal d k f = either (is_reborn e.step) refl (rowless
     again w ih (inr (inl x)) = absurd (again_rows h e d w x none.2)
     again w ih (inr (inr x)) = let g : false ≡ true = sym (ap (λ s. told_covers h s d) w.step) ∙ x in absurd (cc)
 
-    either : (b : Bool) → is_reborn e.step ≡ b → (known h d ≡ true → row h d ≡ None → removed h d ≡ true) → removed_now h e d ≡ true
+    either : (b : Bool) → is_rebirth e.step ≡ b → (known h d ≡ true → row h d ≡ None → removed h d ≡ true) → removed_now h e d ≡ true
     either false n ih = go n (kind_of h e.step e.outcome n legal.1) ih (known_cases h e d k)
     either true n ih = again (again_of h e.step e.outcome n legal.1) ih (known_cases h e d k)
 
@@ -130,11 +130,11 @@ told_merge : (h : History) (e : Entry) (t : ToldValue) → e.step ≡ steps_are.
 told_merge h e t m = ap tells m
 
 quiet_merge : (h : History) (e : Entry) (t : ToldValue) → IsLegal (Then h e) → e.step ≡ steps_are.Merge t → is_quiet e.outcome ≡ true
-quiet_merge h e t l m = tells_quiet h e.step e.outcome (kind_of h e.step e.outcome (ap is_reborn m) l.1) (told_merge h e t m)
+quiet_merge h e t l m = tells_quiet h e.step e.outcome (kind_of h e.step e.outcome (ap is_rebirth m) l.1) (told_merge h e t m)
 
 pub merge_is_known : MergeIsKnown
 merge_is_known h e l t m d =
-    known_quiet h e d l.0 (ap is_reborn m) (quiet_plain e.outcome (quiet_merge h e t l m)) (quiet_uses_none e.outcome (quiet_merge h e t l m))
+    known_quiet h e d l.0 (ap is_rebirth m) (quiet_plain e.outcome (quiet_merge h e t l m)) (quiet_uses_none e.outcome (quiet_merge h e t l m))
     ∙ ap (λ s. known h d || told_covers h s d) m
 
 -- what is live after an entry that changes no own row
@@ -192,7 +192,7 @@ live_again h e d w a =
     none_of (Some x) f = absurd (cc)
 
 pub live_stays : LiveStays
-live_stays h e l d n = either (is_reborn e.step) refl
+live_stays h e l d n = either (is_rebirth e.step) refl
   where
     a : (has_dot (dots_added e.outcome) d ≡ false) × ((has_dot (dots_taken e.outcome) d || told_covers h e.step d) ≡ false)
     a = or_parts (has_dot (dots_added e.outcome) d) (has_dot (dots_taken e.outcome) d || told_covers h e.step d) n
@@ -204,7 +204,7 @@ live_stays h e l d n = either (is_reborn e.step) refl
     go kind false f = live_by h e d (legal_knows h l.0) kind f ∙ (λ i. first_some (not_added e.step e.outcome d a.0 i) (cond (b.0 i) None (live h d)))
     go kind true f = live_same h e d (tells_quiet h e.step e.outcome kind f) (untold_row h e.step d l.4 b.1) (untold_removed h e.step d b.1)
 
-    either : (c : Bool) → is_reborn e.step ≡ c → live (Then h e) d ≡ live h d
+    either : (c : Bool) → is_rebirth e.step ≡ c → live (Then h e) d ≡ live h d
     either false f = go (kind_of h e.step e.outcome f l.1) (tells e.step) refl
     either true f = live_again h e d (again_of h e.step e.outcome f l.1) a.0
 
@@ -235,7 +235,7 @@ own_untold h s d o = go (told_covers h s d) refl
     go false e = refl
     go true e = let f : true ≡ false = sym (is_own h d o) ∙ told_other h s d e in absurd (cc)
 
-same_known : (h : History) (e : Entry) (d : Dot) → IsLegal h → is_reborn e.step ≡ false → is_quiet e.outcome ≡ true → told_covers h e.step d ≡ false → known (Then h e) d ≡ known h d
+same_known : (h : History) (e : Entry) (d : Dot) → IsLegal h → is_rebirth e.step ≡ false → is_quiet e.outcome ≡ true → told_covers h e.step d ≡ false → known (Then h e) d ≡ known h d
 same_known h e d l n q f = known_quiet h e d l n (quiet_plain e.outcome q) (quiet_uses_none e.outcome q) ∙ (ap (λ b. known h d || b) f ∙ no_more (known h d))
 
 same_removed : (h : History) (e : Entry) (d : Dot) → is_quiet e.outcome ≡ true → told_removed h e.step d ≡ false → removed (Then h e) d ≡ removed h d
@@ -246,7 +246,7 @@ same_row : (h : History) (e : Entry) (d : Dot) → is_quiet e.outcome ≡ true �
 unfolding row
 same_row h e d q f = (λ i. first_some (row h d) (first_some (quiet_row e.step e.outcome d q i) ((brought_told e.outcome (row h) (told_row h e.step d) d (quiet_plain e.outcome q) ∙ f) i))) ∙ first_none (row h d)
 
-rows_plain : (s : Step) → is_of_rows s ≡ false → is_reborn s ≡ false
+rows_plain : (s : Step) → is_of_rows s ≡ false → is_rebirth s ≡ false
 rows_plain (steps_are.Rebirth i) f = absurd (cc)
 rows_plain _ f = refl
 

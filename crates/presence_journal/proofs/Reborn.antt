@@ -20,7 +20,7 @@ use Rattle.presence_journal.specs.Steps.{Step, Outcome}
 use Rattle.presence_journal.specs.History.{History, Begin, Then, own, reborn, count, has_dot, first_some, hears, is_counted, tells_of, told_of, told_covers, known, has_dots, status, shown}
 use Rattle.presence_journal.specs.Present.{dots}
 use Rattle.presence_journal.specs.Table.{own_shown, DotRows, put_row, put_rows, own_dots, reborn_from, reborn_rows, is_unheard, can_be_reborn, outcome_of}
-use Rattle.presence_journal.specs.Walk.{is_reborn}
+use Rattle.presence_journal.specs.Walk.{is_rebirth}
 use Rattle.presence_journal.proofs.PresentLemmas.{shown-row, row_in_dots}
 use Rattle.presence_journal.proofs.Same.{same_dot-true, same_dot-refl, same_replica-true, same_replica-refl, dot_total, replica_total, dot_cmp-IsAntisymmetric}
 
@@ -412,6 +412,6 @@ reborn_can h i pairs e = go (can_be_reborn h i) refl e
     go true p f = refl
     go false p f = absurd (cc)
 
-pub again_of : (h : History) (s : Step) (o : Outcome) → is_reborn s ≡ true → outcome_of h s ≡ Some o → IsAgain h s o
+pub again_of : (h : History) (s : Step) (o : Outcome) → is_rebirth s ≡ true → outcome_of h s ≡ Some o → IsAgain h s o
 again_of h (steps_are.Rebirth i) o f e = again_rebirth h i o e
 again_of h _ o f e = absurd (cc)

@@ -13,7 +13,7 @@ use Rattle.presence_journal.specs.Laws.{is_callers}
 use Rattle.presence_journal.specs.Present.{dots_taken}
 use Rattle.presence_journal.specs.Table.{after, IsLegal}
 use Rattle.presence_journal.proofs.HistoryLemmas.{legal_before, Kind, Adds, Replaces, Removes, Quiet, is_quiet, kind_of, kind_plain, callers_plain, legal_knows, again_most, count-then, shown_by, added_fresh}
-use Rattle.presence_journal.specs.Walk.{is_reborn}
+use Rattle.presence_journal.specs.Walk.{is_rebirth}
 use Rattle.presence_journal.proofs.Reborn.{again_of}
 
 -- after i entries of `whole`, P holds of the history that they make
@@ -78,9 +78,9 @@ first_count s l = l.count
 
 pub count-limit : (h : History) → IsLegal h → count h ≤ 2 ^ 62
 count-limit (Begin s) l = first_count s l
-count-limit (Then h e) l = go (is_reborn e.step) refl (count-limit h l.0)
+count-limit (Then h e) l = go (is_rebirth e.step) refl (count-limit h l.0)
   where
-    go : (b : Bool) → is_reborn e.step ≡ b → count h ≤ 2 ^ 62 → count (Then h e) ≤ 2 ^ 62
+    go : (b : Bool) → is_rebirth e.step ≡ b → count h ≤ 2 ^ 62 → count (Then h e) ≤ 2 ^ 62
     go false f ih =
         let kind = kind_of h e.step e.outcome f l.1 in
         omega (arith, used_when_counted h e.step e.outcome kind ih, count-then h e (kind_plain h e.step e.outcome kind))

@@ -60,27 +60,29 @@ abbrev pub newest_first : History → List Entry
 newest_first (Begin s) = []
 newest_first (Then h e) = e ∷ newest_first h
 
--- the replica that counts here
+-- the node of a replica under another incarnation
 abbrev pub reborn : Replica → ℕ → Replica
 reborn r i = record { name = r.name; incarnation = i }
 
--- a rebirth gives the replica another incarnation
+-- the own replica behind a step: a rebirth gives it another incarnation
 abbrev pub own_after : Step → Replica → Replica
 own_after (steps_are.Rebirth incarnation) r = reborn r incarnation
 own_after _ r = r
 
+-- the replica whose rows are tracked here, and whose counts these use
 unfoldable pub own : History → Replica
 own (Begin s) = s.own
 own (Then h e) = own_after e.step (own h)
 
--- how many counts an outcome uses: each row that is added or replaced, and each removal, has its own
+-- how many counts an outcome uses beyond those before it: each row that is added or replaced, and each removal, has its own;
+-- those of a rebirth begin anew
 abbrev pub counts_used : Outcome → ℕ
 counts_used (outcomes_are.Added d) = 1
 counts_used (outcomes_are.Replaced d old) = 1
 counts_used (outcomes_are.Removed (d ∷ ds)) = 1
 counts_used _ = 0
 
--- a rebirth counts its rows from 1
+-- the last count behind an outcome: a rebirth counts the rows that go on from 1
 abbrev pub count_after : Outcome → ℕ → ℕ
 count_after (outcomes_are.Reborn pairs) n = length pairs
 count_after o n = n + counts_used o

@@ -94,7 +94,8 @@ pairs_for h i = reborn_from (reborn (own h) i) 0 (own_dots h)
 abbrev pub reborn_rows : Bool → Replica → List Dot → Option Outcome
 reborn_rows can r ds = cond can (Some (outcomes_are.Reborn (reborn_from r 0 ds))) None
 
--- the incarnation is above the own one and at most 2^62, and of the replica nothing was heard or told
+-- the own replica can go on under the incarnation: it is above the own one and at most 2^62, and of that replica nothing was
+-- heard or told
 unfoldable pub can_be_reborn : History → ℕ → Bool
 can_be_reborn h i = nat_lt (own h).incarnation i && (nat_le i (2 ^ 62)
     && (is_unheard (status h (reborn (own h) i)) && not (has_dots h (reborn (own h) i))))

@@ -56,14 +56,14 @@ placed es [] = es
 placed es (x ∷ xs) = placed (insert_entry place_cmp es (place_of x.0 x.1) x.1) xs
 
 -- the step is a rebirth
-abbrev pub is_reborn : Step → Bool
-is_reborn (steps_are.Rebirth incarnation) = true
-is_reborn _ = false
+abbrev pub is_rebirth : Step → Bool
+is_rebirth (steps_are.Rebirth incarnation) = true
+is_rebirth _ = false
 
--- the outcome is a rebirth's
-abbrev pub is_again : Outcome → Bool
-is_again (outcomes_are.Reborn pairs) = true
-is_again _ = false
+-- the outcome tells rows that go on under new dots
+abbrev pub is_reborn : Outcome → Bool
+is_reborn (outcomes_are.Reborn pairs) = true
+is_reborn _ = false
 
 -- its pairs of a new and an old dot
 abbrev pub pairs_in : Outcome → List (Dot × Dot)

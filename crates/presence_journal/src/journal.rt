@@ -1,3 +1,4 @@
+//! The journal and `append`.
 ghost use Rattle.std.specs.Prelude.{◌≡◌};
 ghost use Rattle.presence_journal.specs.History.{Begin, onto, own, own_after};
 

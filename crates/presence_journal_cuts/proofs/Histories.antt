@@ -16,7 +16,7 @@ use Rattle.presence_journal.specs.History.{History, Begin, Then, onto, own, coun
 use Rattle.presence_journal.specs.Present.{dots_taken}
 use Rattle.presence_journal.specs.Queue.{Waiting, Behind, Queued, queue, topic_of}
 use Rattle.presence_journal.specs.Table.{IsLegal, rows_of_key, counting, tracked, updated, untracked, take_outcome, for_present, outcome_of}
-use Rattle.presence_journal.specs.Walk.{without_dots, tells, is_again}
+use Rattle.presence_journal.specs.Walk.{without_dots, tells, is_reborn}
 use Rattle.presence_journal.proofs.Reborn.{IsAgain, again_of}
 use Rattle.presence_journal_sets.proofs.OwnLemmas.{plain_step, reborn_step}
 use Rattle.presence_journal_sets.proofs.FrontLemmas.{front_next}
@@ -156,7 +156,7 @@ after_quiet : (s : Step) (o : Outcome) (d : Dot) (x : Option Row) → is_quiet o
 after_quiet s o d x q = λ i. first_some (quiet_none s o d q i) (cond (has_dot (quiet_taken o q i) d) None x)
 
 -- an own row after an entry
-own_live : (h : History) (e : Entry) (d : Dot) → IsLegal (Then h e) → is_again e.outcome ≡ false → d.replica ≡ own h → live (Then h e) d ≡ first_some (row_added e.step e.outcome d) (cond (has_dot (dots_taken e.outcome) d) None (live h d))
+own_live : (h : History) (e : Entry) (d : Dot) → IsLegal (Then h e) → is_reborn e.outcome ≡ false → d.replica ≡ own h → live (Then h e) d ≡ first_some (row_added e.step e.outcome d) (cond (has_dot (dots_taken e.outcome) d) None (live h d))
 own_live h e d l a o = go (tells e.step) refl
   where
     kind : Kind h e.step e.outcome
@@ -166,7 +166,7 @@ own_live h e d l a o = go (tells e.step) refl
     go false t = live_by h e d (legal_knows h l.0) kind t
     go true t = ((own_steps_alone h e l (tells_of_none e.step t)).1 d o).live ∙ sym (after_quiet e.step e.outcome d (live h d) (tells_quiet h e.step e.outcome kind t))
 
-pub own_shown : (h : History) (e : Entry) (d : Dot) → IsLegal (Then h e) → is_again e.outcome ≡ false → d.replica ≡ own h → shown (Then h e) d ≡ first_some (row_added e.step e.outcome d) (cond (has_dot (dots_taken e.outcome) d) None (shown h d))
+pub own_shown : (h : History) (e : Entry) (d : Dot) → IsLegal (Then h e) → is_reborn e.outcome ≡ false → d.replica ≡ own h → shown (Then h e) d ≡ first_some (row_added e.step e.outcome d) (cond (has_dot (dots_taken e.outcome) d) None (shown h d))
 own_shown h e d l a o =
     shown-live (Then h e) d (o ∙ sym (own-then h e (plain_step h e l a)))
     ∙ (own_live h e d l a o ∙ ap (λ x. first_some (row_added e.step e.outcome d) (cond (has_dot (dots_taken e.outcome) d) None x)) (sym (shown-live h d o)))
@@ -190,7 +190,7 @@ neither true = refl
 neither false = refl
 
 -- an entry that is no cut
-recent_same : (h : History) (e : Entry) (d : Dot) → IsLegal (Then h e) → is_again e.outcome ≡ false → cut_after e.outcome (last_cut h) ≡ last_cut h → recent (Then h e) d ≡ first_some (row_added e.step e.outcome d) (without_dots (dots_taken e.outcome) (recent h) d)
+recent_same : (h : History) (e : Entry) (d : Dot) → IsLegal (Then h e) → is_reborn e.outcome ≡ false → cut_after e.outcome (last_cut h) ≡ last_cut h → recent (Then h e) d ≡ first_some (row_added e.step e.outcome d) (without_dots (dots_taken e.outcome) (recent h) d)
 recent_same h e d l a same = by_own (same_replica d.replica (own h)) refl
   where
     knows : KnowsItsDots h
@@ -232,7 +232,7 @@ recent_same h e d l a same = by_own (same_replica d.replica (own h)) refl
         others_none (Then h e) d (ap (same_replica d.replica) (own-then h e (plain_step h e l a)) ∙ p)
         ∙ sym ((λ i. first_some (others_added h e d kind p i) (cond gone None (others_none h d p i))) ∙ neither gone)
 
-pub recent-then : (h : History) (e : Entry) (d : Dot) → IsLegal (Then h e) → is_again e.outcome ≡ false → recent (Then h e) d ≡ recent_after e (recent h) d
+pub recent-then : (h : History) (e : Entry) (d : Dot) → IsLegal (Then h e) → is_reborn e.outcome ≡ false → recent (Then h e) d ≡ recent_after e (recent h) d
 recent-then h e d l a = go e.outcome refl (cuts_here h e.step e.outcome l.1)
   where
     go : (o : Outcome) → e.outcome ≡ o → CutsHere h o → recent (Then h e) d ≡ unless_cut o (first_some (row_added e.step e.outcome d) (without_dots (dots_taken e.outcome) (recent h) d))
@@ -240,7 +240,7 @@ recent-then h e d l a = go e.outcome refl (cuts_here h e.step e.outcome l.1)
         recent_is (Then h e) d
         ∙ ((λ i. cond (in_range (own (Then h e)) ((last_cut-then h e ∙ (ap (λ o. cut_after o (last_cut h)) p ∙ c.1)) i) ((count-then h e a ∙ ap (λ o. count h + counts_used o) p) i) d) (shown (Then h e) d) None)
         ∙ ap (λ b. cond b (shown (Then h e) d) None) (none_above (same_replica d.replica (own (Then h e))) (count h) d.count))
-    go (outcomes_are.Reborn ps) p c = let f : true ≡ false = sym (ap is_again p) ∙ a in absurd (cc)
+    go (outcomes_are.Reborn ps) p c = let f : true ≡ false = sym (ap is_reborn p) ∙ a in absurd (cc)
     go _ p c = recent_same h e d l a (ap (λ o. cut_after o (last_cut h)) p)
 
 live-begin : (s : Start) (d : Dot) → live (Begin s) d ≡ live_row s.content d
@@ -268,7 +268,7 @@ recent-begin s d = recent_at-begin s d ∙ (go (is_recent s d) refl ∙ sym (rec
     go false e = refl
 
 -- one entry more
-pub recent-more : (f g : Dot → Option Row) (h : History) (e : Entry) → IsLegal (Then h e) → is_again e.outcome ≡ false → ((d : Dot) → g d ≡ recent_after e f d) → ((d : Dot) → f d ≡ recent h d) → (d : Dot) → g d ≡ recent (Then h e) d
+pub recent-more : (f g : Dot → Option Row) (h : History) (e : Entry) → IsLegal (Then h e) → is_reborn e.outcome ≡ false → ((d : Dot) → g d ≡ recent_after e f d) → ((d : Dot) → f d ≡ recent h d) → (d : Dot) → g d ≡ recent (Then h e) d
 recent-more f g h e l a after before d =
     after d
     ∙ (ap (λ o. unless_cut e.outcome (first_some (row_added e.step e.outcome d) (cond (has_dot (dots_taken e.outcome) d) None o))) (before d)
@@ -289,7 +289,7 @@ none_live h d k o b e = go b e (row h d) refl (removed h d)
         let f : false ≡ true = sym e ∙ counted_from (own h) (count h) d o p.0 p.1 in
         absurd (cc)
 
-pub recent_again : (h : History) (e : Entry) (d : Dot) → IsLegal (Then h e) → is_again e.outcome ≡ true → live_of_own (Then h e) d ≡ recent (Then h e) d
+pub recent_again : (h : History) (e : Entry) (d : Dot) → IsLegal (Then h e) → is_reborn e.outcome ≡ true → live_of_own (Then h e) d ≡ recent (Then h e) d
 recent_again h e d l a = by_own (same_replica d.replica (own (Then h e))) refl
   where
     w : IsAgain h e.step e.outcome
@@ -306,13 +306,13 @@ recent_again h e d l a = by_own (same_replica d.replica (own (Then h e))) refl
         ∙ sym (recent_is (Then h e) d))
     by_own false p = sym (others_none (Then h e) d p)
 
-pub next_again : (e : Entry) (h : History) (f g : Dot → Option Row) → IsLegal h → is_again e.outcome ≡ true → ((d : Dot) → g d ≡ live_of_own h d) → AreNextRecent e h f g
+pub next_again : (e : Entry) (h : History) (f g : Dot → Option Row) → IsLegal h → is_reborn e.outcome ≡ true → ((d : Dot) → g d ≡ live_of_own h d) → AreNextRecent e h f g
 next_again e h f g l a is before eq same d = is d ∙ (ap (λ k. live_of_own k d) eq ∙ (recent_again before e d (subst IsLegal eq l) a ∙ ap (λ k. recent k d) (sym eq)))
 
-pub next_plain : (e : Entry) (h : History) (f g : Dot → Option Row) → IsLegal h → is_again e.outcome ≡ false → ((d : Dot) → g d ≡ recent_after e f d) → AreNextRecent e h f g
+pub next_plain : (e : Entry) (h : History) (f g : Dot → Option Row) → IsLegal h → is_reborn e.outcome ≡ false → ((d : Dot) → g d ≡ recent_after e f d) → AreNextRecent e h f g
 next_plain e h f g l a after before eq same d = recent-more f g before e (subst IsLegal eq l) a after same d ∙ ap (λ k. recent k d) (sym eq)
 
-pub rest_is_plain : (o : Outcome) → ((ps : List (Dot × Dot)) → o ≡ outcomes_are.Reborn ps → ⊥) → is_again o ≡ false
+pub rest_is_plain : (o : Outcome) → ((ps : List (Dot × Dot)) → o ≡ outcomes_are.Reborn ps → ⊥) → is_reborn o ≡ false
 rest_is_plain (outcomes_are.Reborn ps) f = absurd (f ps refl)
 rest_is_plain _ f = refl
 

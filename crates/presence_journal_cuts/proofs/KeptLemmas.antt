@@ -19,7 +19,7 @@ use Rattle.delta_range.specs.Keeping.{Kept, pushed, IsNext}
 use Rattle.presence_journal_data.specs.declared.entry.Outcome.TheVariants as outcomes_are
 use Rattle.presence_journal.specs.Steps.{Start, Outcome, Entry}
 use Rattle.presence_journal.specs.History.{History, Begin, Then, own, last_cut, cut_after, nothing_kept}
-use Rattle.presence_journal.specs.Walk.{is_reborn, is_again}
+use Rattle.presence_journal.specs.Walk.{is_rebirth, is_reborn}
 use Rattle.presence_journal_sets.proofs.OwnLemmas.{plain_step}
 use Rattle.presence_journal.specs.Table.{IsLegal}
 use Rattle.presence_journal_cuts.specs.Cuts.{IsCut}
@@ -110,7 +110,7 @@ one_kept (Then h e) j k p q = once_after e.outcome (AreKeptOf h) h j k (one_kept
 abbrev NextGoesOn : Replica → ℕ → Kept → Type 0
 NextGoesOn r n k = (d : DeltaValue) → GoesOn r n d → IsNext k.last d
 
-goes_on_after : (h : History) (o : Outcome) (k : Kept) → is_again o ≡ false → CutsHere h o → ((j : Kept) → AreKeptOf h j → NextGoesOn (own h) (last_cut h) j) → KeepsAfter o (AreKeptOf h) h k → NextGoesOn (own h) (cut_after o (last_cut h)) k
+goes_on_after : (h : History) (o : Outcome) (k : Kept) → is_reborn o ≡ false → CutsHere h o → ((j : Kept) → AreKeptOf h j → NextGoesOn (own h) (last_cut h) j) → KeepsAfter o (AreKeptOf h) h k → NextGoesOn (own h) (cut_after o (last_cut h)) k
 goes_on_after h (outcomes_are.Reborn ps) k a here before p = absurd (cc)
 goes_on_after h (outcomes_are.CutAt from to) k a here before p =
     let owner : own h ≡ p.delta.owner = sym p.cut.owner in
@@ -122,20 +122,20 @@ begin_goes_on : (s : Start) (k : Kept) → NextGoesOn s.own s.last_cut s.kept �
 unfolding own last_cut
 begin_goes_on s k next of = subst (NextGoesOn s.own s.last_cut) (sym (begin-kept s k of)) next
 
-then_goes_on : (h : History) (e : Entry) (k : Kept) → is_reborn e.step ≡ false → NextGoesOn (own h) (cut_after e.outcome (last_cut h)) k → NextGoesOn (own (Then h e)) (last_cut (Then h e)) k
+then_goes_on : (h : History) (e : Entry) (k : Kept) → is_rebirth e.step ≡ false → NextGoesOn (own h) (cut_after e.outcome (last_cut h)) k → NextGoesOn (own (Then h e)) (last_cut (Then h e)) k
 unfolding last_cut
 then_goes_on h e k n next = subst (λ (r : Replica). NextGoesOn r (cut_after e.outcome (last_cut h)) k) (sym (own-then h e n)) next
 
-anew : (o : Outcome) (B : Kept → Type 0) (h : History) (k : Kept) → is_again o ≡ true → KeepsAfter o B h k → k ≡ nothing_kept
+anew : (o : Outcome) (B : Kept → Type 0) (h : History) (k : Kept) → is_reborn o ≡ true → KeepsAfter o B h k → k ≡ nothing_kept
 anew (outcomes_are.Reborn ps) B h k a of = of
 anew _ B h k a of = absurd (cc)
 
 -- what is cut next goes on from the kept deltas
 pub goes_on_from : (h : History) (k : Kept) → IsLegal h → AreKeptOf h k → (d : DeltaValue) → GoesOn (own h) (last_cut h) d → IsNext k.last d
 goes_on_from (Begin s) k l of = begin_goes_on s k l.kept of
-goes_on_from (Then h e) k l of = go (is_again e.outcome) refl (λ j p. goes_on_from h j l.0 p)
+goes_on_from (Then h e) k l of = go (is_reborn e.outcome) refl (λ j p. goes_on_from h j l.0 p)
   where
-    go : (b : Bool) → is_again e.outcome ≡ b → ((j : Kept) → AreKeptOf h j → NextGoesOn (own h) (last_cut h) j) → NextGoesOn (own (Then h e)) (last_cut (Then h e)) k
+    go : (b : Bool) → is_reborn e.outcome ≡ b → ((j : Kept) → AreKeptOf h j → NextGoesOn (own h) (last_cut h) j) → NextGoesOn (own (Then h e)) (last_cut (Then h e)) k
     go false a ih = then_goes_on h e k (plain_step h e l a) (goes_on_after h e.outcome k a (cuts_here h e.step e.outcome l.1) ih (then-kept h e k of))
     go true a ih = λ d next. subst (λ (j : Kept). IsNext j.last d) (sym (anew e.outcome (AreKeptOf h) h k a (then-kept h e k of))) tt
 

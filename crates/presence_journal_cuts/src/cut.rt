@@ -1,3 +1,4 @@
+//! The cut.
 ghost use Rattle.std.specs.Prelude.{IfOk};
 ghost use Rattle.presence_journal_cuts.specs.Cuts.{IsCut};
 

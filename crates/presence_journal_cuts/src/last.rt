@@ -1,3 +1,4 @@
+//! Where the last one ended.
 ghost use Rattle.std.specs.Prelude.{◌≡◌};
 ghost use Rattle.presence_journal.specs.History.{cut_after, last_cut};
 ghost use Rattle.presence_journal.specs.Present.{dots_taken};

@@ -1,3 +1,4 @@
+//! Outcomes, entries, a Start.
 use crate::step::Step;
 use delta_range::Generations;
 use orswot_core_told::Told;

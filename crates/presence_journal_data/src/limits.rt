@@ -1,3 +1,4 @@
+//! Payloads and take limits.
 use presence_base::{Json, JsonText};
 use std::alloc::{AllocError, Global};
 use std::marker::Model;

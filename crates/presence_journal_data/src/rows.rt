@@ -1,3 +1,4 @@
+//! Places, rows and items as lists.
 use crate::shared::{SharedDiff, SharedShout};
 use crate::shared_rows::SharedRows;
 use presence_base::{Dot, Key, Row};

@@ -1,3 +1,4 @@
+//! Steps.
 ghost use Rattle.std.specs.Prelude.{◌≡◌, true};
 ghost use Rattle.std.specs.List.{list_all};
 ghost use Rattle.orswot_core_told.specs.Limits.{are_texts};

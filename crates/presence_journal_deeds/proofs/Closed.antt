@@ -21,7 +21,7 @@ use Rattle.presence_journal_deeds.specs.Deeds.{Deeds, removes_by, with_entry}
 use Rattle.presence_journal_deeds.specs.Truth.{AreDeeds, IsOwners, IsShownAt, IsClosed}
 use Rattle.presence_journal_deeds.proofs.Effects.{Effects, effects}
 use Rattle.presence_journal_deeds.proofs.Entries.{at_own}
-use Rattle.presence_journal.specs.Walk.{is_reborn, is_again}
+use Rattle.presence_journal.specs.Walk.{is_rebirth, is_reborn}
 
 -- ---- what goes with dots
 
@@ -72,14 +72,14 @@ unreplaced (outcomes_are.Replaced a b) ch c n q = absurd (cc)
 unreplaced (outcomes_are.Reborn ps) ch c n q = absurd (cc)
 unreplaced _ ch c n q = refl
 
-module _ (x : Deeds) (h : History) (e : Entry) (are : AreDeeds x) (l : IsLegal (Then h e)) (lasts : is_reborn e.step ≡ false) (o : IsOwners x h) (c : IsClosed x h) where
+module _ (x : Deeds) (h : History) (e : Entry) (are : AreDeeds x) (l : IsLegal (Then h e)) (lasts : is_rebirth e.step ≡ false) (o : IsOwners x h) (c : IsClosed x h) where
   abbrev y : Deeds
   y = with_entry x h e
 
   kind : Kind h e.step e.outcome
   kind = kind_of h e.step e.outcome lasts l.1
 
-  plain : is_again e.outcome ≡ false
+  plain : is_reborn e.outcome ≡ false
   plain = kind_plain h e.step e.outcome kind
 
   did : Effects h e
@@ -261,7 +261,7 @@ module _ (x : Deeds) (h : History) (e : Entry) (are : AreDeeds x) (l : IsLegal (
       go outcomes_are.Sent q = older_uncut (ap renews_kept q)
       go outcomes_are.Noted q = older_uncut (ap renews_kept q)
       go outcomes_are.Merged q = older_uncut (ap renews_kept q)
-      go (outcomes_are.Reborn ps) q = let f : false ≡ true = sym plain ∙ ap is_again q in absurd (cc)
+      go (outcomes_are.Reborn ps) q = let f : false ≡ true = sym plain ∙ ap is_reborn q in absurd (cc)
 
   -- ---- chains
 

@@ -18,13 +18,13 @@ use Rattle.presence_journal_deeds.specs.Truth.{AreDeeds, IsHonest, IsOwners, IsT
 use Rattle.presence_journal_deeds.specs.Laws.{then_did, HearsTrue, EntriesAreDeeds}
 use Rattle.presence_journal_deeds.proofs.Effects.{Effects, effects, heard_covers, heard_removes, heard_row, removed_heard}
 use Rattle.presence_journal_deeds.proofs.More.{put_same, entries_go_on}
-use Rattle.presence_journal.specs.Walk.{is_reborn, is_again}
+use Rattle.presence_journal.specs.Walk.{is_rebirth, is_reborn}
 
 -- a dot of this replica, by its count
 pub at_own : (r : Replica) (d : Dot) → d.replica ≡ r → dot_of r d.count ≡ d
 at_own r d o = λ i. record { replica = sym o i; count = d.count }
 
-module _ (deeds : AllDeeds) (h : History) (e : Entry) (are : (r : Replica) → AreDeeds (deeds r)) (t : IsTrueOf deeds h) (l : IsLegal (Then h e)) (lasts : is_reborn e.step ≡ false) where
+module _ (deeds : AllDeeds) (h : History) (e : Entry) (are : (r : Replica) → AreDeeds (deeds r)) (t : IsTrueOf deeds h) (l : IsLegal (Then h e)) (lasts : is_rebirth e.step ≡ false) where
   abbrev x : Deeds
   x = deeds (own h)
 
@@ -34,7 +34,7 @@ module _ (deeds : AllDeeds) (h : History) (e : Entry) (are : (r : Replica) → A
   did : Effects h e
   did = effects h e (kind_of h e.step e.outcome lasts l.1)
 
-  plain : is_again e.outcome ≡ false
+  plain : is_reborn e.outcome ≡ false
   plain = kind_plain h e.step e.outcome (kind_of h e.step e.outcome lasts l.1)
 
   known_ways : (d : Dot) → known (Then h e) d ≡ true → (known h d ≡ true) ⊎ ((is_counted (own h) (count (Then h e)) d ≡ true) ⊎ (told_covers h e.step d ≡ true))

@@ -15,7 +15,7 @@ use Rattle.presence_journal.specs.History.{History, Then, own}
 use Rattle.presence_journal.specs.Present.{RowMap, of_topic, present, in_order}
 use Rattle.presence_journal.specs.Queue.{Waiting, Queued, topic_of, queue, queue_after, queued, made_for, push_items, items_made, shout_item, diff_item, diff_of}
 use Rattle.presence_journal.specs.Table.{IsLegal}
-use Rattle.presence_journal.specs.Walk.{is_again, shown_of, keyed, IsTableOf}
+use Rattle.presence_journal.specs.Walk.{is_reborn, shown_of, keyed, IsTableOf}
 use Rattle.presence_journal.proofs.Reborn.{IsAgain, again_of}
 use Rattle.presence_journal.proofs.AfterRebirth.{step_reborn, shown_of_old, shown_of_others, none_of_new}
 use Rattle.presence_journal.proofs.Diffs.{apart, diff_is}
@@ -104,4 +104,4 @@ rebirth_tells_once h e pairs l is = record {
 }
   where
     w : IsAgain h e.step e.outcome
-    w = again_of h e.step e.outcome (step_reborn h e l (ap is_again is)) l.1
+    w = again_of h e.step e.outcome (step_reborn h e l (ap is_reborn is)) l.1

@@ -11,7 +11,7 @@ use Rattle.presence_journal_data.specs.declared.entry.Outcome.TheVariants as out
 use Rattle.presence_journal.specs.Steps.{Outcome, Entry}
 use Rattle.presence_journal.specs.History.{History, Then, own, reborn, count, is_counted, last_cut, first_some, row_again, known, removed, row, nothing_kept}
 use Rattle.presence_journal.specs.Table.{IsLegal, own_dots, reborn_from}
-use Rattle.presence_journal.specs.Walk.{is_reborn, is_again}
+use Rattle.presence_journal.specs.Walk.{is_rebirth, is_reborn}
 use Rattle.presence_journal.proofs.Same.{same_replica-true, same_replica-refl}
 use Rattle.presence_journal.proofs.Reborn.{IsAgain, again_of, again_parts}
 use Rattle.presence_journal.proofs.HistoryLemmas.{legal_knows, counted_parts, own_again, again_unknown, removed_again, row_again-is}
@@ -29,7 +29,7 @@ first_none : (o : Option Row) → first_some o None ≡ o
 first_none None = refl
 first_none (Some r) = refl
 
-module _ (deeds : AllDeeds) (h : History) (e : Entry) (l : IsLegal (Then h e)) (n : is_reborn e.step ≡ true) where
+module _ (deeds : AllDeeds) (h : History) (e : Entry) (l : IsLegal (Then h e)) (n : is_rebirth e.step ≡ true) where
   w : IsAgain h e.step e.outcome
   w = again_of h e.step e.outcome n l.1
 
@@ -117,22 +117,22 @@ module _ (deeds : AllDeeds) (h : History) (e : Entry) (l : IsLegal (Then h e)) (
     chain_unused = λ b m u p. none_chained e.outcome (is_of e.outcome w.outcome) b m;
   }
     where
-      is_of : (o : Outcome) → o ≡ outcomes_are.Reborn (reborn_from (reborn (own h) w.incarnation) 0 (own_dots h)) → is_again o ≡ true
-      is_of o p = ap is_again p
+      is_of : (o : Outcome) → o ≡ outcomes_are.Reborn (reborn_from (reborn (own h) w.incarnation) 0 (own_dots h)) → is_reborn o ≡ true
+      is_of o p = ap is_reborn p
 
-      none_older : (o : Outcome) → is_again o ≡ true → (m : ℕ) → older_after o (last_cut h) (chain h) (older h) m ≡ false
+      none_older : (o : Outcome) → is_reborn o ≡ true → (m : ℕ) → older_after o (last_cut h) (chain h) (older h) m ≡ false
       none_older (outcomes_are.Reborn ps) a m = refl
       none_older _ a m = absurd (cc)
 
-      none_chained : (o : Outcome) → is_again o ≡ true → (b m : ℕ) → chain_after o (chain h) b m ≡ false
+      none_chained : (o : Outcome) → is_reborn o ≡ true → (b m : ℕ) → chain_after o (chain h) b m ≡ false
       none_chained (outcomes_are.Reborn ps) a b m = refl
       none_chained _ a b m = absurd (cc)
 
   kept_again : (k : Kept) → AreKeptOf (Then h e) k → AreTrueKept new k
   unfolding AreKeptOf
-  kept_again k f = subst (AreTrueKept new) (sym (is_nothing e.outcome (ap is_again w.outcome) f)) nothing_true
+  kept_again k f = subst (AreTrueKept new) (sym (is_nothing e.outcome (ap is_reborn w.outcome) f)) nothing_true
     where
-      is_nothing : (o : Outcome) → is_again o ≡ true → KeepsAfter o (AreKeptOf h) h k → k ≡ nothing_kept
+      is_nothing : (o : Outcome) → is_reborn o ≡ true → KeepsAfter o (AreKeptOf h) h k → k ≡ nothing_kept
       is_nothing (outcomes_are.Reborn ps) a f = f
       is_nothing _ a f = absurd (cc)
 

@@ -18,7 +18,7 @@ use Rattle.presence_journal_cuts.specs.ToldParts.{IsPart}
 use Rattle.presence_journal_starts.specs.Checkpoints.{IsCheckpoint}
 use Rattle.presence_journal_deeds.specs.Deeds.{AllDeeds, no_deeds, with_entry, put, Deeds}
 use Rattle.presence_journal_deeds.specs.Truth.{AreDeeds, TellsTrue, IsTrueOf, DoMore}
-use Rattle.presence_journal.specs.Walk.{is_reborn}
+use Rattle.presence_journal.specs.Walk.{is_rebirth}
 use Rattle.orswot_core.specs.Full.{dot_of}
 
 -- what each replica did, once this entry was made
@@ -32,11 +32,11 @@ HearsTrue deeds e = (t : ToldValue) → e.step ≡ steps_are.Merge t → TellsTr
 -- an entry but a rebirth: a client's step, a cut, a merge of what is true, a replica that is heard or put down, time that passes
 abbrev pub EntriesStayTrue : Type 0
 EntriesStayTrue = (deeds : AllDeeds) (h : History) (e : Entry) → ((r : Replica) → AreDeeds (deeds r)) → IsTrueOf deeds h
-    → IsLegal (Then h e) → is_reborn e.step ≡ false → HearsTrue deeds e → IsTrueOf (then_did deeds h e) (Then h e)
+    → IsLegal (Then h e) → is_rebirth e.step ≡ false → HearsTrue deeds e → IsTrueOf (then_did deeds h e) (Then h e)
 
 abbrev pub EntriesAreDeeds : Type 0
 EntriesAreDeeds = (deeds : AllDeeds) (h : History) (e : Entry) → ((r : Replica) → AreDeeds (deeds r)) → IsTrueOf deeds h
-    → IsLegal (Then h e) → is_reborn e.step ≡ false → (r : Replica) → AreDeeds (then_did deeds h e r)
+    → IsLegal (Then h e) → is_rebirth e.step ≡ false → (r : Replica) → AreDeeds (then_did deeds h e r)
 
 abbrev pub EntriesGoOn : Type 0
 EntriesGoOn = (deeds : AllDeeds) (h : History) (e : Entry) → IsTrueOf deeds h → DoMore deeds (then_did deeds h e)
@@ -56,11 +56,11 @@ reborn_did deeds h e = put (own (Then h e)) (reborn_deeds h e) deeds
 
 abbrev pub RebirthsStayTrue : Type 0
 RebirthsStayTrue = (deeds : AllDeeds) (h : History) (e : Entry) → IsTrueOf deeds h → IsLegal (Then h e)
-    → is_reborn e.step ≡ true → IsTrueOf (reborn_did deeds h e) (Then h e)
+    → is_rebirth e.step ≡ true → IsTrueOf (reborn_did deeds h e) (Then h e)
 
 abbrev pub RebirthsAreDeeds : Type 0
 RebirthsAreDeeds = (deeds : AllDeeds) (h : History) (e : Entry) → ((r : Replica) → AreDeeds (deeds r))
-    → IsLegal (Then h e) → is_reborn e.step ≡ true → (r : Replica) → AreDeeds (reborn_did deeds h e r)
+    → IsLegal (Then h e) → is_rebirth e.step ≡ true → (r : Replica) → AreDeeds (reborn_did deeds h e r)
 
 abbrev pub RebirthsGoOn : Type 0
 RebirthsGoOn = (deeds : AllDeeds) (h : History) (e : Entry) → deeds (own (Then h e)) ≡ no_deeds

@@ -1,3 +1,4 @@
+//! Runs, chains and subscribers of a Start.
 use presence_base::Topic;
 use std::alloc::AllocError;
 use std::marker::Model;

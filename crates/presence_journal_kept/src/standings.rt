@@ -1,3 +1,4 @@
+//! The replicas of a Start.
 use presence_base::Replica;
 use replica_status::Standing;
 use std::alloc::AllocError;

@@ -22,7 +22,7 @@ use Rattle.presence_journal_data.specs.declared.entry.Outcome.TheVariants as out
 use Rattle.presence_journal.specs.Steps.{Step, Outcome, Entry}
 use Rattle.presence_journal.specs.History.{History, Then, own, count, counts_used, is_counted, told_covers, known, next_dot, has_dot, first_some, row_made, row_added, live}
 use Rattle.presence_journal.specs.Present.{dots_taken}
-use Rattle.presence_journal.specs.Walk.{tells, is_reborn, is_again}
+use Rattle.presence_journal.specs.Walk.{tells, is_rebirth, is_reborn}
 use Rattle.presence_journal.proofs.Reborn.{again_of}
 use Rattle.presence_journal.proofs.Fresh.{own_is}
 use Rattle.presence_journal.specs.Table.{IsLegal, is_step}
@@ -48,22 +48,22 @@ same_next h d p q =
     ap (λ x. same_dot x (next_dot h)) is ∙ same_dot-refl (next_dot h)
 
 -- a step whose outcome is no rebirth's is none
-pub plain_step : (h : History) (e : Entry) → IsLegal (Then h e) → is_again e.outcome ≡ false → is_reborn e.step ≡ false
-plain_step h e l a = go (is_reborn e.step) refl
+pub plain_step : (h : History) (e : Entry) → IsLegal (Then h e) → is_reborn e.outcome ≡ false → is_rebirth e.step ≡ false
+plain_step h e l a = go (is_rebirth e.step) refl
   where
-    go : (b : Bool) → is_reborn e.step ≡ b → b ≡ false
+    go : (b : Bool) → is_rebirth e.step ≡ b → b ≡ false
     go false f = refl
-    go true f = let w = again_of h e.step e.outcome f l.1 in let g : true ≡ false = sym (ap is_again w.outcome) ∙ a in absurd (cc)
+    go true f = let w = again_of h e.step e.outcome f l.1 in let g : true ≡ false = sym (ap is_reborn w.outcome) ∙ a in absurd (cc)
 
-pub reborn_step : (h : History) (e : Entry) → IsLegal (Then h e) → is_again e.outcome ≡ true → is_reborn e.step ≡ true
-reborn_step h e l a = go (is_reborn e.step) refl
+pub reborn_step : (h : History) (e : Entry) → IsLegal (Then h e) → is_reborn e.outcome ≡ true → is_rebirth e.step ≡ true
+reborn_step h e l a = go (is_rebirth e.step) refl
   where
-    go : (b : Bool) → is_reborn e.step ≡ b → b ≡ true
+    go : (b : Bool) → is_rebirth e.step ≡ b → b ≡ true
     go true f = refl
     go false f = let g : false ≡ true = sym (kind_plain h e.step e.outcome (kind_of h e.step e.outcome f l.1)) ∙ a in absurd (cc)
 
 -- the next dot is known beside the known ones
-pub known_used : (h : History) (e : Entry) (d : Dot) → IsLegal h → is_reborn e.step ≡ false → counts_used e.outcome ≡ 1 → tells e.step ≡ false → known (Then h e) d ≡ (same_dot d (next_dot h) || known h d)
+pub known_used : (h : History) (e : Entry) (d : Dot) → IsLegal h → is_rebirth e.step ≡ false → counts_used e.outcome ≡ 1 → tells e.step ≡ false → known (Then h e) d ≡ (same_dot d (next_dot h) || known h d)
 known_used h e d legal n u t = both (known (Then h e) d) (same_dot d (next_dot h)) (known h d) (λ s. next_known h e d n (same_dot-true d (next_dot h) s) u) (known_then h e d) (λ k. go (known_cases h e d k))
   where
     at : d.replica ≡ own h → 0 < d.count → d.count ≤ count h + 1 → (b : Bool) → nat_le d.count (count h) ≡ b → (same_dot d (next_dot h) ≡ true) ⊎ (known h d ≡ true)
@@ -81,14 +81,14 @@ added h e new r s legal holds is next made t = record {
   known = λ d.
       set.contains-insert dot_total s.covered new d
       ∙ ((λ i. same_dot d (next i) || holds.known d i)
-      ∙ sym (known_used h e d legal.0 (plain_step h e legal (ap is_again is)) (ap counts_used is) t));
+      ∙ sym (known_used h e d legal.0 (plain_step h e legal (ap is_reborn is)) (ap counts_used is) t));
   live = λ d.
       map.get-insert dot_total s.live new r d
       ∙ (ap (λ o. cond (same_dot d new) (Some r) o) (holds.live d)
       ∙ (shape (same_dot d new) (live h d)
       ∙ ((λ i. first_some (cond (same_dot d new) (sym made i) None) (cond false None (live h d)))
       ∙ ((λ i. first_some (row_added e.step (sym is i) d) (cond (has_dot (dots_taken (sym is i)) d) None (live h d)))
-      ∙ sym (live_by h e d (legal_knows h legal.0) (kind_of h e.step e.outcome (plain_step h e legal (ap is_again is)) legal.1) t)))));
+      ∙ sym (live_by h e d (legal_knows h legal.0) (kind_of h e.step e.outcome (plain_step h e legal (ap is_reborn is)) legal.1) t)))));
 }
   where
     shape : (b : Bool) (o : Option Row) → cond b (Some r) o ≡ first_some (cond b (Some r) None) (cond false None o)
@@ -103,12 +103,12 @@ taken h e x xs s legal holds is knows t = record {
       ∙ (ap (λ b. same_dot d (next_dot h) || b) (set.contains-union dot_total s.covered (set.from_list (x ∷ xs)) d
       ∙ ((λ i. holds.known d i || set.contains-from_list dot_total (x ∷ xs) d i)
       ∙ within (known h d) (has_dot (x ∷ xs) d) (knows d)))
-      ∙ sym (known_used h e d legal.0 (plain_step h e legal (ap is_again is)) (ap counts_used is) t));
+      ∙ sym (known_used h e d legal.0 (plain_step h e legal (ap is_reborn is)) (ap counts_used is) t));
   live = λ d.
       without_rows_at s.live (x ∷ xs) d
       ∙ (ap (λ o. cond (has_dot (x ∷ xs) d) None o) (holds.live d)
       ∙ ((λ i. first_some (row_added e.step (sym is i) d) (cond (has_dot (dots_taken (sym is i)) d) None (live h d)))
-      ∙ sym (live_by h e d (legal_knows h legal.0) (kind_of h e.step e.outcome (plain_step h e legal (ap is_again is)) legal.1) t)));
+      ∙ sym (live_by h e d (legal_knows h legal.0) (kind_of h e.step e.outcome (plain_step h e legal (ap is_reborn is)) legal.1) t)));
 }
   where
     within : (k b : Bool) → (b ≡ true → k ≡ true) → (k || b) ≡ k
@@ -180,7 +180,7 @@ out_by h e x xs (Quiet q) is = let f : true ≡ false = sym q ∙ ap is_quiet is
 
 pub out : (h : History) (e : Entry) (ds : List Dot) → IsLegal (Then h e) → 1 ≤ length ds → e.outcome ≡ outcomes_are.Removed ds → AreOut h e ds
 out h e [] l some is = absurd (omega (arith, some))
-out h e (x ∷ xs) l some is = out_by h e x xs (kind_of h e.step e.outcome (plain_step h e l (ap is_again is)) l.1) is
+out h e (x ∷ xs) l some is = out_by h e x xs (kind_of h e.step e.outcome (plain_step h e l (ap is_reborn is)) l.1) is
 
 pub out_dots : (h : History) (e : Entry) (ds : List Dot) → IsLegal (Then h e) → AreOut h e ds → list_all is_dot ds ≡ true
 out_dots h e ds l o = all_dots h l.0 ds o.shown
@@ -216,7 +216,7 @@ in_by h e new (Removes y ys p l a q) is = let f : true ≡ false = ap is_removed
 in_by h e new (Quiet q) is = let f : true ≡ false = sym q ∙ ap is_quiet is in absurd (cc)
 
 pub is_in : (h : History) (e : Entry) (new : Dot) → IsLegal (Then h e) → e.outcome ≡ outcomes_are.Added new → IsIn h e new
-is_in h e new l is = in_by h e new (kind_of h e.step e.outcome (plain_step h e l (ap is_again is)) l.1) is
+is_in h e new l is = in_by h e new (kind_of h e.step e.outcome (plain_step h e l (ap is_reborn is)) l.1) is
 
 pub new_uncovered : (h : History) (new : Dot) (s : DotRows) → IsLegal h → Holds h s → new ≡ next_dot h → set.contains s.covered new ≡ false
 new_uncovered h new s legal holds p = holds.known new ∙ (ap (known h) p ∙ go (known h (next_dot h)) refl)
@@ -270,7 +270,7 @@ swap_by h e new old (Removes y ys p l a q) is = let f : true ≡ false = ap is_r
 swap_by h e new old (Quiet q) is = let f : true ≡ false = sym q ∙ ap is_quiet is in absurd (cc)
 
 pub is_swap : (h : History) (e : Entry) (new old : Dot) → IsLegal (Then h e) → e.outcome ≡ outcomes_are.Replaced new old → IsSwap h e new old
-is_swap h e new old l is = swap_by h e new old (kind_of h e.step e.outcome (plain_step h e l (ap is_again is)) l.1) is
+is_swap h e new old l is = swap_by h e new old (kind_of h e.step e.outcome (plain_step h e l (ap is_reborn is)) l.1) is
 
 pub old_dot : (h : History) (old : Dot) → IsLegal h → IsOwnShown h old → is_dot old ≡ true
 old_dot h old l w = known_dot h l old w.own (own_known h l old w)
@@ -284,14 +284,14 @@ swapped h e new old s legal holds is i = record {
       ∙ ap (λ k. (same_dot d new || k) || has_dot (old ∷ []) d) (holds.known d)))
       ∙ (within (same_dot d new) (known h d) (has_dot (old ∷ []) d) (all_known h legal.0 (old ∷ []) (i.shown, tt) d)
       ∙ (ap (λ x. same_dot d x || known h d) i.next
-      ∙ sym (known_used h e d legal.0 (plain_step h e legal (ap is_again is)) (ap counts_used is) i.alone))));
+      ∙ sym (known_used h e d legal.0 (plain_step h e legal (ap is_reborn is)) (ap counts_used is) i.alone))));
   live = λ d.
       without_rows_at (map.insert s.live new i.row) (old ∷ []) d
       ∙ (ap (λ o. cond (has_dot (old ∷ []) d) None o) (map.get-insert dot_total s.live new i.row d ∙ ap (λ o. cond (same_dot d new) (Some i.row) o) (holds.live d))
       ∙ (shape (same_dot d new) (has_dot (old ∷ []) d) i.row (live h d) (apart d)
       ∙ ((λ j. first_some (cond (same_dot d new) (sym i.made j) None) (cond (has_dot (old ∷ []) d) None (live h d)))
       ∙ ((λ j. first_some (row_added e.step (sym is j) d) (cond (has_dot (dots_taken (sym is j)) d) None (live h d)))
-      ∙ sym (live_by h e d (legal_knows h legal.0) (kind_of h e.step e.outcome (plain_step h e legal (ap is_again is)) legal.1) i.alone)))));
+      ∙ sym (live_by h e d (legal_knows h legal.0) (kind_of h e.step e.outcome (plain_step h e legal (ap is_reborn is)) legal.1) i.alone)))));
 }
   where
     within : (a k b : Bool) → (b ≡ true → k ≡ true) → (a || ((a || k) || b)) ≡ (a || k)

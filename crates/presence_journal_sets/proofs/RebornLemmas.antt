@@ -21,7 +21,7 @@ use Rattle.presence_journal_data.specs.declared.entry.Outcome.TheVariants as out
 use Rattle.presence_journal.specs.Steps.{Step, Outcome, Entry}
 use Rattle.presence_journal.specs.History.{History, Begin, Then, own, reborn, has_dots, count, is_counted, hears, told_covers, told_row, known, has_dot, with_prev, row_again, row_brought, row_added, row_made, next_dot, first_some, row, removed, live}
 use Rattle.presence_journal.specs.Table.{IsLegal, is_step, own_dots, reborn_from}
-use Rattle.presence_journal.specs.Walk.{is_reborn}
+use Rattle.presence_journal.specs.Walk.{is_rebirth}
 use Rattle.presence_journal.proofs.Same.{same_dot-true, same_dot-refl, same_replica-true, same_replica-refl}
 use Rattle.presence_journal.proofs.PresentLemmas.{shown-row}
 use Rattle.presence_journal.proofs.ToldLemmas.{live_row_limits}
@@ -70,14 +70,14 @@ row_limits (Then h e) l d r f = go (row h d) (row_added e.step e.outcome d) refl
     again w None found g ih = absurd (cc)
     again w (Some old) found g ih = again_limits (row h old) old r (ih old) (goes_on_is_dot h old l.0 (goes_on_dot h old (again_parts (reborn (own h) w.incarnation) 0 (own_dots h) d old found).3)) g
 
-    brought : (b : Bool) → is_reborn e.step ≡ b → row_brought e.outcome (row h) (told_row h e.step d) d ≡ Some r → ((x : Dot) (q : Row) → row h x ≡ Some q → is_row q ≡ true) → is_row r ≡ true
+    brought : (b : Bool) → is_rebirth e.step ≡ b → row_brought e.outcome (row h) (told_row h e.step d) d ≡ Some r → ((x : Dot) (q : Row) → row h x ≡ Some q → is_row q ≡ true) → is_row r ≡ true
     brought false n g ih = told_limits h e.step d r l.4 (sym (brought_told e.outcome (row h) (told_row h e.step d) d (kind_plain h e.step e.outcome (kind_of h e.step e.outcome n l.1))) ∙ g)
     brought true n g ih = let w = again_of h e.step e.outcome n l.1 in again w _ refl (sym (ap (λ o. row_brought o (row h) (told_row h e.step d) d) w.outcome) ∙ g) ih
 
     go : (o p : Option Row) → row h d ≡ o → row_added e.step e.outcome d ≡ p → first_some o (first_some p (row_brought e.outcome (row h) (told_row h e.step d) d)) ≡ Some r → ((x : Dot) (q : Row) → row h x ≡ Some q → is_row q ≡ true) → is_row r ≡ true
     go (Some q) p is added g ih = ap is_row (sym (same_Some q r g)) ∙ ih d q is
     go None (Some q) is added g ih = ap is_row (sym (same_Some q r g)) ∙ made_limits h e d q l added
-    go None None is added g ih = brought (is_reborn e.step) refl g ih
+    go None None is added g ih = brought (is_rebirth e.step) refl g ih
 
 -- the set once so many of the pairs are taken in, and these old dots are left
 
@@ -123,7 +123,7 @@ unknown_is_not_live h l d f = go (row h d) refl (removed h d)
     go None e false = refl
     go (Some r) e b = let g : false ≡ true = sym f ∙ (legal_knows h l).of_row d r e in absurd (cc)
 
-pub again_none : (h : History) (e : Entry) (ps : List (Dot × Dot)) (s : DotRows) → IsLegal (Then h e) → e.outcome ≡ outcomes_are.Reborn ps → is_reborn e.step ≡ true → Holds h s → AgainAt h e ps 0 s
+pub again_none : (h : History) (e : Entry) (ps : List (Dot × Dot)) (s : DotRows) → IsLegal (Then h e) → e.outcome ≡ outcomes_are.Reborn ps → is_rebirth e.step ≡ true → Holds h s → AgainAt h e ps 0 s
 again_none h e ps s l is n holds =
     let w = again_of h e.step e.outcome n l.1 in
     let same : ps ≡ reborn_from (reborn (own h) w.incarnation) 0 (own_dots h) = ap pairs_in (sym is ∙ w.outcome) in

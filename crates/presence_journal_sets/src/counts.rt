@@ -1,3 +1,4 @@
+//! The own count.
 ghost use Rattle.std.specs.Prelude.{◌≡◌, ◌≤◌, ◌^◌};
 ghost use Rattle.presence_journal.specs.History.{Begin, onto, count, counts_used, count_after};
 ghost use Rattle.presence_journal.specs.Table.{IsLegal};

@@ -1,3 +1,4 @@
+//! Covered dots and tops.
 ghost use Rattle.std.specs.Prelude.{◌≡◌};
 ghost use Rattle.presence_journal.specs.History.{Begin, onto, covered, IsTop};
 ghost use Rattle.presence_journal.specs.Table.{IsLegal};

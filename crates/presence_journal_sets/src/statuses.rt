@@ -1,3 +1,4 @@
+//! The status of a replica.
 ghost use Rattle.std.specs.Prelude.{◌≡◌, cond};
 ghost use Rattle.presence_base.specs.Order.{same_replica};
 ghost use Rattle.replica_status.specs.Boards.{standing_in};

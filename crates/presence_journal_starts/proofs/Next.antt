@@ -19,7 +19,7 @@ use Rattle.presence_journal.specs.Steps.{Step, Outcome, Entry}
 use Rattle.presence_journal.specs.History.{History, Then, own, reborn, with_prev, row_again, count, counts_used, time, time_of, standing, standing_after, status, is_gone, last_cut, cut_after, next_dot, is_counted, told_covers, known, covered, first_some, has_dot, row_added, removed, row, live, shown}
 use Rattle.presence_journal.specs.Present.{dots_taken}
 use Rattle.presence_journal.specs.Table.{IsLegal, own_dots, reborn_from}
-use Rattle.presence_journal.specs.Walk.{tells, is_reborn, is_again}
+use Rattle.presence_journal.specs.Walk.{tells, is_rebirth, is_reborn}
 use Rattle.presence_journal.specs.Merges.{is_of_rows, row_taken_in}
 use Rattle.presence_journal.proofs.PresentLemmas.{shown-row}
 use Rattle.presence_journal.proofs.Same.{same_replica-true}
@@ -90,7 +90,7 @@ module _ (g h : History) (a : IsLike g h) where
   chain_same _ c n low all e = e
 
 -- an own row that an entry brings is under the next dot
-comes_next : (h : History) (e : Entry) (d : Dot) (r : Row) → IsLegal (Then h e) → is_reborn e.step ≡ false → d.replica ≡ own h → shown h d ≡ None → shown (Then h e) d ≡ Some r → d ≡ next_dot h
+comes_next : (h : History) (e : Entry) (d : Dot) (r : Row) → IsLegal (Then h e) → is_rebirth e.step ≡ false → d.replica ≡ own h → shown h d ≡ None → shown (Then h e) d ≡ Some r → d ≡ next_dot h
 comes_next h e d r l n o none some = go (tells e.step) refl
   where
     before : live h d ≡ None
@@ -118,14 +118,14 @@ comes_next h e d r l n o none some = go (tells e.step) refl
 
 -- ---- one entry more of each
 
-module _ (g h : History) (e f : Entry) (a : IsLike g h) (lg : IsLegal (Then g e)) (lh : IsLegal (Then h f)) (p : e.step ≡ f.step) (q : e.outcome ≡ f.outcome) (n : is_reborn f.step ≡ false) where
-  ng : is_reborn e.step ≡ false
-  ng = ap is_reborn p ∙ n
+module _ (g h : History) (e f : Entry) (a : IsLike g h) (lg : IsLegal (Then g e)) (lh : IsLegal (Then h f)) (p : e.step ≡ f.step) (q : e.outcome ≡ f.outcome) (n : is_rebirth f.step ≡ false) where
+  ng : is_rebirth e.step ≡ false
+  ng = ap is_rebirth p ∙ n
 
-  plain_g : is_again e.outcome ≡ false
+  plain_g : is_reborn e.outcome ≡ false
   plain_g = kind_plain g e.step e.outcome (kind_of g e.step e.outcome ng lg.1)
 
-  plain_h : is_again f.outcome ≡ false
+  plain_h : is_reborn f.outcome ≡ false
   plain_h = kind_plain h f.step f.outcome (kind_of h f.step f.outcome n lh.1)
 
   own_next : own (Then g e) ≡ own (Then h f)
@@ -247,7 +247,7 @@ abbrev incarnation_of : Step → ℕ
 incarnation_of (steps_are.Rebirth i) = i
 incarnation_of _ = 0
 
-standing_down : (o : Replica) (s : Step) (t : ℕ) (r : Replica) (x : Standing) → is_reborn s ≡ true → same_replica r o ≡ true → standing_after o s t r x ≡ Gone
+standing_down : (o : Replica) (s : Step) (t : ℕ) (r : Replica) (x : Standing) → is_rebirth s ≡ true → same_replica r o ≡ true → standing_after o s t r x ≡ Gone
 standing_down o (steps_are.Rebirth i) t r x n f = ap (λ b. cond b (put_down x) x) f ∙ down x
   where
     down : (x : Standing) → put_down x ≡ Gone
@@ -322,8 +322,8 @@ module _ (g h : History) (e f : Entry) (a : IsLike g h) (lg : IsLegal (Then g e)
       go : (b : Bool) → same_replica r (own h) ≡ b → standing_after (own g) e.step (max (time g) (time_of e.step)) r (standing g r) ≡ standing_after (own h) f.step (max (time h) (time_of f.step)) r (standing h r)
       go false o = λ i. standing_after (a.own i) (p i) (max (a.time i) (time_of (p i))) r (a.standings r o i)
       go true o =
-          standing_down (own g) e.step (max (time g) (time_of e.step)) r (standing g r) (ap is_reborn v.step) (ap (same_replica r) a.own ∙ o)
-          ∙ sym (standing_down (own h) f.step (max (time h) (time_of f.step)) r (standing h r) (ap is_reborn w.step) o)
+          standing_down (own g) e.step (max (time g) (time_of e.step)) r (standing g r) (ap is_rebirth v.step) (ap (same_replica r) a.own ∙ o)
+          ∙ sym (standing_down (own h) f.step (max (time h) (time_of f.step)) r (standing h r) (ap is_rebirth w.step) o)
 
   status_anew : (r : Replica) → status (Then g e) r ≡ status (Then h f) r
   status_anew = status_from (Then g e) (Then h f) own_anew standing_anew
@@ -403,8 +403,8 @@ module _ (g h : History) (e f : Entry) (a : IsLike g h) (lg : IsLegal (Then g e)
   }
 
 pub alike_next : (g h : History) (e f : Entry) → IsLike g h → IsLegal (Then g e) → IsLegal (Then h f) → e.step ≡ f.step → e.outcome ≡ f.outcome → IsLike (Then g e) (Then h f)
-alike_next g h e f a lg lh p q = go (is_reborn f.step) refl
+alike_next g h e f a lg lh p q = go (is_rebirth f.step) refl
   where
-    go : (b : Bool) → is_reborn f.step ≡ b → IsLike (Then g e) (Then h f)
+    go : (b : Bool) → is_rebirth f.step ≡ b → IsLike (Then g e) (Then h f)
     go false n = alike_plain g h e f a lg lh p q n
-    go true n = alike_anew g h e f a lg lh p q (again_of g e.step e.outcome (ap is_reborn p ∙ n) lg.1) (again_of h f.step f.outcome n lh.1)
+    go true n = alike_anew g h e f a lg lh p q (again_of g e.step e.outcome (ap is_rebirth p ∙ n) lg.1) (again_of h f.step f.outcome n lh.1)

@@ -11,7 +11,7 @@ use Rattle.presence_journal.specs.Steps.{Step, Outcome, Entry}
 use Rattle.presence_journal.specs.History.{History, Then, own, time, time_of, standing, standing_after, status, is_gone, last_cut, cut_after, known, first_some, has_dot, live}
 use Rattle.presence_journal.specs.Queue.{Waiting, Behind, Queued, queue, topic_of}
 use Rattle.presence_journal.specs.Table.{IsLegal, take_outcome, for_present, outcome_of}
-use Rattle.presence_journal.specs.Walk.{tells, is_reborn}
+use Rattle.presence_journal.specs.Walk.{tells, is_rebirth}
 use Rattle.presence_journal.specs.Laws.{is_callers}
 use Rattle.presence_journal.proofs.HistoryLemmas.{is_quiet, quiet_plain, callers_plain, quiet_row, quiet_taken, kind_of, legal_knows, known_quiet, live_by, status_stays, own-then, count-then, no_more}
 use Rattle.presence_journal.proofs.ToldLemmas.{none_told_covers}
@@ -115,7 +115,7 @@ module _ (h : History) (e : Entry) (l : IsLegal (Then h e)) (of : is_of_subscrib
   quiet_here : is_quiet e.outcome ≡ true
   quiet_here = quiet e.outcome silent_here
 
-  plain_here : is_reborn e.step ≡ false
+  plain_here : is_rebirth e.step ≡ false
   plain_here = callers_plain e.step (callers e.step of)
 
   known_here : (d : Dot) → known (Then h e) d ≡ known h d

@@ -15,7 +15,7 @@ use Rattle.presence_journal.proofs.HistoryLemmas.{Kind, Adds, Replaces, Removes,
 use Rattle.replica_status.specs.declared.status.Status.{Status}
 use Rattle.replica_status.specs.declared.status.Status.TheVariants as status_is
 use Rattle.presence_journal.specs.Table.{IsLegal, is_unheard}
-use Rattle.presence_journal.specs.Walk.{is_reborn}
+use Rattle.presence_journal.specs.Walk.{is_rebirth}
 use Rattle.presence_journal.proofs.Same.{same_replica-true}
 use Rattle.presence_journal.proofs.Reborn.{again_of}
 use Rattle.presence_journal_sets.proofs.StatusLemmas.{status_up, status_other}
@@ -67,9 +67,9 @@ unheard_there status_is.Down f g = absurd (cc)
 unheard_there status_is.Gone f g = absurd (cc)
 
 other_later : (h : History) (e : Entry) (r : Replica) → IsLegal (Then h e) → is_gone (status h r) ≡ true → same_replica r (own (Then h e)) ≡ false
-other_later h e r l g = go (same_replica r (own (Then h e))) (is_reborn e.step) refl refl
+other_later h e r l g = go (same_replica r (own (Then h e))) (is_rebirth e.step) refl refl
   where
-    go : (b c : Bool) → same_replica r (own (Then h e)) ≡ b → is_reborn e.step ≡ c → b ≡ false
+    go : (b c : Bool) → same_replica r (own (Then h e)) ≡ b → is_rebirth e.step ≡ c → b ≡ false
     go false c f n = refl
     go true false f n = let w : false ≡ true = ap is_gone (status_up h r (ap (same_replica r) (sym (own-then h e n)) ∙ f)) ∙ g in absurd (cc)
     go true true f n =

@@ -19,7 +19,7 @@ use Rattle.presence_journal.specs.History.{History, Begin, Then, own, reborn, ha
 use Rattle.presence_journal.specs.Present.{of_topic}
 use Rattle.presence_journal.specs.Queue.{diff_item, diff_of}
 use Rattle.presence_journal.specs.Table.{IsLegal, own_dots, reborn_from, is_unheard}
-use Rattle.presence_journal.specs.Walk.{shown_of, is_reborn, is_again}
+use Rattle.presence_journal.specs.Walk.{shown_of, is_rebirth, is_reborn}
 use Rattle.presence_journal.proofs.Same.{same_text-refl, same_dot-true, same_dot-refl, same_replica-true, same_replica-refl}
 use Rattle.presence_journal.proofs.PresentLemmas.{shown-row, of_topic-some}
 use Rattle.presence_journal.proofs.Reborn.{IsAgain, again_of, own_dot, own_dots_has, again_parts}
@@ -32,7 +32,7 @@ use Rattle.presence_journal_waits.proofs.ChangesLemmas.{no_diff, one_changed, go
 
 -- the topic of an own row, from the newest entry back
 
-dot_same : (o : Outcome) (d : Dot) → is_again o ≡ false → dot_before o d ≡ Some d
+dot_same : (o : Outcome) (d : Dot) → is_reborn o ≡ false → dot_before o d ≡ Some d
 dot_same (outcomes_are.Reborn ps) d a = absurd (cc)
 dot_same _ d a = refl
 
@@ -56,12 +56,12 @@ topic_prev old (Some r) = refl
 pub topic_back_is : (h : History) (d : Dot) → IsLegal h → d.replica ≡ own h → topic_back h d ≡ topic_in (row h d)
 unfolding topic_back row
 topic_back_is (Begin s) d l o = refl
-topic_back_is (Then h e) d l o = go (is_again e.outcome) refl (topic_back_is h)
+topic_back_is (Then h e) d l o = go (is_reborn e.outcome) refl (topic_back_is h)
   where
-    fresh : is_reborn e.step ≡ false → (r : Row) → row_added e.step e.outcome d ≡ Some r → row h d ≡ None
+    fresh : is_rebirth e.step ≡ false → (r : Row) → row_added e.step e.outcome d ≡ Some r → row h d ≡ None
     fresh n r f = ap (row h) (one_added h e d r (kind_of h e.step e.outcome n l.1) f).0 ∙ row-next h (legal_knows h l.0)
 
-    plain : is_again e.outcome ≡ false → ((q : Dot) → IsLegal h → q.replica ≡ own h → topic_back h q ≡ topic_in (row h q)) → first_some (topic_in (row_added e.step e.outcome d)) (topic_again (topic_back h) (dot_before e.outcome d)) ≡ topic_in (first_some (row h d) (first_some (row_added e.step e.outcome d) (row_brought e.outcome (row h) (told_row h e.step d) d)))
+    plain : is_reborn e.outcome ≡ false → ((q : Dot) → IsLegal h → q.replica ≡ own h → topic_back h q ≡ topic_in (row h q)) → first_some (topic_in (row_added e.step e.outcome d)) (topic_again (topic_back h) (dot_before e.outcome d)) ≡ topic_in (first_some (row h d) (first_some (row_added e.step e.outcome d) (row_brought e.outcome (row h) (told_row h e.step d) d)))
     plain a ih =
         let n = plain_step h e l a in
         let mine : d.replica ≡ own h = o ∙ own-then h e n in
@@ -83,7 +83,7 @@ topic_back_is (Then h e) d l o = go (is_again e.outcome) refl (topic_back_is h)
         ∙ ((λ i. topic_in (first_some (sym none i) (row_again (row h) (lookup (same_dot d) (reborn_from (reborn (own h) w.incarnation) 0 (own_dots h))))))
         ∙ ap topic_in (sym (row_again-is h e d w))))
 
-    go : (b : Bool) → is_again e.outcome ≡ b → ((q : Dot) → IsLegal h → q.replica ≡ own h → topic_back h q ≡ topic_in (row h q)) → first_some (topic_in (row_added e.step e.outcome d)) (topic_again (topic_back h) (dot_before e.outcome d)) ≡ topic_in (row (Then h e) d)
+    go : (b : Bool) → is_reborn e.outcome ≡ b → ((q : Dot) → IsLegal h → q.replica ≡ own h → topic_back h q ≡ topic_in (row h q)) → first_some (topic_in (row_added e.step e.outcome d)) (topic_again (topic_back h) (dot_before e.outcome d)) ≡ topic_in (row (Then h e) d)
     go false a ih = plain a ih
     go true a ih = again (again_of h e.step e.outcome (reborn_step h e l a) l.1) ih
 
@@ -132,8 +132,8 @@ apart h e w = go (same_replica (own h) (own (Then h e))) refl
         let n : (own h).incarnation ≡ w.incarnation = ap (λ (r : Replica). r.incarnation) q in
         absurd (omega (arith, n, w.above))
 
-reborn_is : (h : History) (e : Entry) → IsAgain h e.step e.outcome → is_reborn e.step ≡ true
-reborn_is h e w = ap is_reborn w.step
+reborn_is : (h : History) (e : Entry) → IsAgain h e.step e.outcome → is_rebirth e.step ≡ true
+reborn_is h e w = ap is_rebirth w.step
 
 old_gone : (h : History) (e : Entry) → IsAgain h e.step e.outcome → is_gone (status (Then h e) (own h)) ≡ true
 old_gone h e w =
@@ -141,7 +141,7 @@ old_gone h e w =
     ∙ (ap (λ x. is_gone (status_of x)) (standing-then h e (own h))
     ∙ own_goes (own h) e.step (max (time h) (time_of e.step)) (own h) (standing h (own h)) (reborn_is h e w) (same_replica-refl (own h)))
 
-stands_same : (o : Replica) (s : Step) (t : ℕ) (r : Replica) (x : Standing) → is_reborn s ≡ true → same_replica r o ≡ false → standing_after o s t r x ≡ x
+stands_same : (o : Replica) (s : Step) (t : ℕ) (r : Replica) (x : Standing) → is_rebirth s ≡ true → same_replica r o ≡ false → standing_after o s t r x ≡ x
 stands_same o (steps_are.Rebirth i) t r x n f = ap (λ b. cond b (put_down x) x) f
 stands_same o _ t r x n f = absurd (cc)
 

@@ -15,7 +15,7 @@ use Rattle.presence_journal.specs.History.{History, Then, count, next_dot, first
 use Rattle.presence_journal.specs.Present.{of_topic, present, dots_of, dots_taken}
 use Rattle.presence_journal.specs.Queue.{diff_item, shout_item, diff_of, items_made}
 use Rattle.presence_journal.specs.Table.{IsLegal, rows_of_pid, rows_of_key, counting, tracked, updated, untracked, outcome_of, after}
-use Rattle.presence_journal.specs.Walk.{shown_of, is_reborn, is_again}
+use Rattle.presence_journal.specs.Walk.{shown_of, is_rebirth, is_reborn}
 use Rattle.presence_journal.specs.Laws.{is_callers, concerns}
 use Rattle.presence_journal.proofs.Same.{same_text-true, same_text-refl, same_dot-refl}
 use Rattle.presence_journal.proofs.PresentLemmas.{IsListed, IsOwnListed, own_rows, own_rows_of_key}
@@ -167,7 +167,7 @@ no_shout : (s : Step) (t : List ℕ) → is_callers s ≡ false → shout_item s
 no_shout (steps_are.Shout topic payload) t f = absurd (cc)
 no_shout _ t f = refl
 
-rest_count : (h : History) (e : Entry) (t : List ℕ) → IsLegal (Then h e) → is_callers e.step ≡ false → is_reborn e.step ≡ false → length (items_made h e t) ≡ cond (changes_on h (Then h e) t) 1 0
+rest_count : (h : History) (e : Entry) (t : List ℕ) → IsLegal (Then h e) → is_callers e.step ≡ false → is_rebirth e.step ≡ false → length (items_made h e t) ≡ cond (changes_on h (Then h e) t) 1 0
 unfolding items_made
 rest_count h e t legal c n =
     ap (λ (is : List Item). length (diff_item (diff_of h e t) ++ is)) (no_shout e.step t c)
@@ -186,10 +186,10 @@ reborn_count h e t legal c w =
 pub items_count : (h : History) (e : Entry) (t : List ℕ) → IsLegal (Then h e) → length (items_made h e t) ≡ cond (makes_on h (Then h e) e t) 1 0
 items_count h e t legal = go (is_callers e.step) refl
   where
-    rest : is_callers e.step ≡ false → (b : Bool) → is_again e.outcome ≡ b → length (items_made h e t) ≡ cond (cond b (goes_on h t e.outcome) (changes_on h (Then h e) t)) 1 0
+    rest : is_callers e.step ≡ false → (b : Bool) → is_reborn e.outcome ≡ b → length (items_made h e t) ≡ cond (cond b (goes_on h t e.outcome) (changes_on h (Then h e) t)) 1 0
     rest c true a = reborn_count h e t legal c (again_of h e.step e.outcome (reborn_step h e legal a) legal.1)
     rest c false a = rest_count h e t legal c (plain_step h e legal a)
 
-    go : (b : Bool) → is_callers e.step ≡ b → length (items_made h e t) ≡ cond (cond b (is_news e.outcome && is_on e.step t) (cond (is_again e.outcome) (goes_on h t e.outcome) (changes_on h (Then h e) t))) 1 0
+    go : (b : Bool) → is_callers e.step ≡ b → length (items_made h e t) ≡ cond (cond b (is_news e.outcome && is_on e.step t) (cond (is_reborn e.outcome) (goes_on h t e.outcome) (changes_on h (Then h e) t))) 1 0
     go true c = callers_count h e t legal c
-    go false c = rest c (is_again e.outcome) refl
+    go false c = rest c (is_reborn e.outcome) refl

@@ -19,7 +19,7 @@ use Rattle.presence_journal.specs.Queue.{is_empty, diff_item, diff_of, with_rows
 use Rattle.presence_journal.specs.Table.{IsLegal}
 use Rattle.presence_journal.specs.Laws.{is_callers}
 use Rattle.presence_journal.specs.Merges.{is_of_rows}
-use Rattle.presence_journal.specs.Walk.{keyed, shown_of, is_reborn}
+use Rattle.presence_journal.specs.Walk.{keyed, shown_of, is_rebirth}
 use Rattle.replica_status.specs.declared.status.Status.{Status}
 use Rattle.replica_status.specs.declared.status.Status.TheVariants as status_is
 use Rattle.presence_journal.proofs.Same.{same_text-refl, same_dot-true, same_replica-true}
@@ -130,7 +130,7 @@ told_none p (Then h e) d r f g = go (first_told h d) refl g (told_none p h d)
 
 -- the dots of the own replica
 
-quiet_rows : (s : Step) → is_callers s ≡ false → is_reborn s ≡ false → is_of_rows s ≡ false
+quiet_rows : (s : Step) → is_callers s ≡ false → is_rebirth s ≡ false → is_of_rows s ≡ false
 quiet_rows (steps_are.Heard replica now) f n = refl
 quiet_rows (steps_are.Tick now) f n = refl
 quiet_rows (steps_are.PermDown replica) f n = refl
@@ -138,7 +138,7 @@ quiet_rows (steps_are.Merge told) f n = refl
 quiet_rows (steps_are.Rebirth i) f n = absurd (cc)
 quiet_rows _ f n = absurd (cc)
 
-own_stays : (h : History) (e : Entry) (t : List ℕ) (d : Dot) → IsLegal (Then h e) → is_callers e.step ≡ false → is_reborn e.step ≡ false → same_replica d.replica (own h) ≡ true → shown_of (Then h e) t d ≡ shown_of h t d
+own_stays : (h : History) (e : Entry) (t : List ℕ) (d : Dot) → IsLegal (Then h e) → is_callers e.step ≡ false → is_rebirth e.step ≡ false → same_replica d.replica (own h) ≡ true → shown_of (Then h e) t d ≡ shown_of h t d
 own_stays h e t d l c n o =
     let is = same_replica-true d.replica (own h) o in
     let same = (own_steps_alone h e l (quiet_rows e.step c n)).1 d is in
@@ -155,7 +155,7 @@ same_shown h e t d f = go (shown_of h t d) (shown_of (Then h e) t d) refl refl f
     go (Some r) None a b g = absurd (cc)
     go None (Some s) a b g = absurd (cc)
 
-differs_is : (h : History) (e : Entry) (t : List ℕ) (d : Dot) → IsLegal (Then h e) → is_reborn e.step ≡ false → same_replica d.replica (own h) ≡ false → differs h (Then h e) t d ≡ cond (is_some (shown_of h t d)) (not (is_some (shown_of (Then h e) t d))) (is_some (shown_of (Then h e) t d))
+differs_is : (h : History) (e : Entry) (t : List ℕ) (d : Dot) → IsLegal (Then h e) → is_rebirth e.step ≡ false → same_replica d.replica (own h) ≡ false → differs h (Then h e) t d ≡ cond (is_some (shown_of h t d)) (not (is_some (shown_of (Then h e) t d))) (is_some (shown_of (Then h e) t d))
 differs_is h e t d l n f =
     let before = shows_other h t d l.0 f in
     let later = shows_other (Then h e) t d l (ap (same_replica d.replica) (own-then h e n) ∙ f) in
@@ -189,7 +189,7 @@ first_stays : (h : History) (e : Entry) (d : Dot) (r : Row) → first_told h d �
 unfolding first_told
 first_stays h e d r f = ap (λ o. first_some o (told_row h e.step d)) f
 
-other_stays : (h : History) (e : Entry) (t : List ℕ) (d : Dot) → IsLegal (Then h e) → is_reborn e.step ≡ false → changes_on h (Then h e) t ≡ false → same_replica d.replica (own h) ≡ false → shown_of (Then h e) t d ≡ shown_of h t d
+other_stays : (h : History) (e : Entry) (t : List ℕ) (d : Dot) → IsLegal (Then h e) → is_rebirth e.step ≡ false → changes_on h (Then h e) t ≡ false → same_replica d.replica (own h) ≡ false → shown_of (Then h e) t d ≡ shown_of h t d
 other_stays h e t d l n none f = either (is_gone (status (Then h e) d.replica)) refl
   where
     later : same_replica d.replica (own (Then h e)) ≡ false
@@ -211,7 +211,7 @@ other_stays h e t d l n none f = either (is_gone (status (Then h e) d.replica)) 
     either false x = go x (row (Then h e) d) refl
     either true x = down (is_gone (status h d.replica)) refl (row h d) refl x
 
-changed : (h : History) (e : Entry) (t : List ℕ) → IsLegal (Then h e) → is_reborn e.step ≡ false → changes_on h (Then h e) t ≡ true → length (diff_item (diff_of h e t)) ≡ 1
+changed : (h : History) (e : Entry) (t : List ℕ) → IsLegal (Then h e) → is_rebirth e.step ≡ false → changes_on h (Then h e) t ≡ true → length (diff_item (diff_of h e t)) ≡ 1
 changed h e t l n some = let x = told_one (differs h (Then h e) t) (Then h e) some in go x.0 x.1 (same_replica x.0.replica (own h)) refl
   where
     go : (d : Dot) → differs h (Then h e) t d ≡ true → (b : Bool) → same_replica d.replica (own h) ≡ b → length (diff_item (diff_of h e t)) ≡ 1
@@ -222,14 +222,14 @@ changed h e t l n some = let x = told_one (differs h (Then h e) t) (Then h e) so
         absurd (cc)
     go d f false o = one_changed h e t d (sym (differs_is h e t d l n o) ∙ f)
 
-stayed : (h : History) (e : Entry) (t : List ℕ) → IsLegal (Then h e) → is_callers e.step ≡ false → is_reborn e.step ≡ false → changes_on h (Then h e) t ≡ false → diff_item (diff_of h e t) ≡ []
+stayed : (h : History) (e : Entry) (t : List ℕ) → IsLegal (Then h e) → is_callers e.step ≡ false → is_rebirth e.step ≡ false → changes_on h (Then h e) t ≡ false → diff_item (diff_of h e t) ≡ []
 stayed h e t l c n none = no_diff h e t (same_present (Then h e) h t (λ d. go d (same_replica d.replica (own h)) refl))
   where
     go : (d : Dot) (b : Bool) → same_replica d.replica (own h) ≡ b → shown_of (Then h e) t d ≡ shown_of h t d
     go d true o = own_stays h e t d l c n o
     go d false o = other_stays h e t d l n none o
 
-pub others_count : (h : History) (e : Entry) (t : List ℕ) → IsLegal (Then h e) → is_callers e.step ≡ false → is_reborn e.step ≡ false → length (diff_item (diff_of h e t)) ≡ cond (changes_on h (Then h e) t) 1 0
+pub others_count : (h : History) (e : Entry) (t : List ℕ) → IsLegal (Then h e) → is_callers e.step ≡ false → is_rebirth e.step ≡ false → length (diff_item (diff_of h e t)) ≡ cond (changes_on h (Then h e) t) 1 0
 others_count h e t l c n = go (changes_on h (Then h e) t) refl
   where
     go : (b : Bool) → changes_on h (Then h e) t ≡ b → length (diff_item (diff_of h e t)) ≡ cond b 1 0

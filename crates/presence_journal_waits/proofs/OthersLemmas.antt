@@ -20,7 +20,7 @@ use Rattle.presence_journal.specs.Steps.{Step, Outcome, Entry}
 use Rattle.presence_journal.specs.History.{History, Begin, Then, own, reborn, next_dot, has_dot, first_some, row_added, row_brought, row_again, dot_removed, told_row, told_removed, time, time_of, standing, standing_after, is_up, is_gone, status, known, removed, row, live, shown}
 use Rattle.presence_journal.specs.Present.{of_topic}
 use Rattle.presence_journal.specs.Table.{IsLegal, own_dots, reborn_from}
-use Rattle.presence_journal.specs.Walk.{shown_of, is_reborn, is_again}
+use Rattle.presence_journal.specs.Walk.{shown_of, is_rebirth, is_reborn}
 use Rattle.presence_journal.proofs.Same.{same_dot-true, same_replica-true}
 use Rattle.presence_journal.proofs.ToldLemmas.{live_row_covered, row_told_covers}
 use Rattle.presence_journal.proofs.Reborn.{IsAgain, again_of, again_parts}
@@ -62,7 +62,7 @@ removed_own h s o d (Removes y ys is l a q) g = go (or_cases (same_dot d (next_d
     go (inr f) = own_among h (y ∷ ys) d a f
 removed_own h s o d (Quiet q) g = let f : false ≡ true = sym (quiet_removed o (next_dot h) d q) ∙ g in absurd (cc)
 
-removed_plain : (o : Outcome) (n d : Dot) → dot_removed o n d ≡ true → is_again o ≡ false
+removed_plain : (o : Outcome) (n d : Dot) → dot_removed o n d ≡ true → is_reborn o ≡ false
 removed_plain (outcomes_are.Reborn ps) n d e = absurd (cc)
 removed_plain _ n d e = refl
 
@@ -105,7 +105,7 @@ down_is_gone (Up heard) = refl
 down_is_gone (Down heard) = refl
 down_is_gone Gone = refl
 
-pub own_goes : (o : Replica) (s : Step) (t : ℕ) (r : Replica) (x : Standing) → is_reborn s ≡ true → same_replica r o ≡ true → is_gone (status_of (standing_after o s t r x)) ≡ true
+pub own_goes : (o : Replica) (s : Step) (t : ℕ) (r : Replica) (x : Standing) → is_rebirth s ≡ true → same_replica r o ≡ true → is_gone (status_of (standing_after o s t r x)) ≡ true
 own_goes o (steps_are.Rebirth i) t r x n e = ap (λ b. is_gone (status_of (cond b (put_down x) x))) e ∙ down_is_gone x
 own_goes o _ t r x n e = absurd (cc)
 
@@ -127,13 +127,13 @@ not_gone_before h e r f g = (other, still)
     now : is_gone (status_of (standing_after (own h) e.step (max (time h) (time_of e.step)) r (standing h r))) ≡ false
     now = sym (ap (λ x. is_gone x) (status-other (Then h e) r f) ∙ ap (λ x. is_gone (status_of x)) (standing-then h e r)) ∙ g
 
-    go : (b c : Bool) → same_replica r (own h) ≡ b → is_reborn e.step ≡ c → b ≡ false
+    go : (b c : Bool) → same_replica r (own h) ≡ b → is_rebirth e.step ≡ c → b ≡ false
     go false c p n = refl
     go true true p n = absurd (not_both _ _ refl (own_goes (own h) e.step (max (time h) (time_of e.step)) r (standing h r) n p) now)
     go true false p n = absurd (not_both _ _ refl (ap (same_replica r) (own-then h e n) ∙ p) f)
 
     other : same_replica r (own h) ≡ false
-    other = go (same_replica r (own h)) (is_reborn e.step) refl refl
+    other = go (same_replica r (own h)) (is_rebirth e.step) refl refl
 
     so : (b : Bool) → is_gone (status_of (standing h r)) ≡ b → b ≡ false
     so false p = refl
@@ -143,13 +143,13 @@ not_gone_before h e r f g = (other, still)
     still = ap is_gone (status-other h r other) ∙ so (is_gone (status_of (standing h r))) refl
 
 brought_other : (h : History) (e : Entry) (d : Dot) → IsLegal (Then h e) → same_replica d.replica (own (Then h e)) ≡ false → row_brought e.outcome (row h) (told_row h e.step d) d ≡ told_row h e.step d
-brought_other h e d l f = go (is_again e.outcome) refl
+brought_other h e d l f = go (is_reborn e.outcome) refl
   where
     none : (w : IsAgain h e.step e.outcome) (o : Option Dot) → lookup (same_dot d) (reborn_from (reborn (own h) w.incarnation) 0 (own_dots h)) ≡ o → row_again (row h) o ≡ None
     none w None g = refl
     none w (Some old) g = absurd (other_is (Then h e) d f ((again_parts (reborn (own h) w.incarnation) 0 (own_dots h) d old g).0 ∙ sym (own_again h e w)))
 
-    go : (b : Bool) → is_again e.outcome ≡ b → row_brought e.outcome (row h) (told_row h e.step d) d ≡ told_row h e.step d
+    go : (b : Bool) → is_reborn e.outcome ≡ b → row_brought e.outcome (row h) (told_row h e.step d) d ≡ told_row h e.step d
     go false a = brought_told e.outcome (row h) (told_row h e.step d) d a
     go true a =
         let w = again_of h e.step e.outcome (reborn_step h e l a) l.1 in
@@ -241,13 +241,13 @@ first_known (Then h e) d r l f = go (first_told h d) refl f (first_known h d)
 own_first : (h : History) (d : Dot) → IsLegal h → same_replica d.replica (own h) ≡ true → first_told h d ≡ None
 unfolding first_told
 own_first (Begin s) d l o = ap (λ b. cond b None (live_row s.content d)) (ap (same_replica d.replica) (sym (own-begin s)) ∙ o)
-own_first (Then h e) d l o = go (is_reborn e.step) refl (own_first h d l.0)
+own_first (Then h e) d l o = go (is_rebirth e.step) refl (own_first h d l.0)
   where
     new : (w : IsAgain h e.step e.outcome) (x : Option Row) → first_told h d ≡ x → first_some x (told_row h e.step d) ≡ None
     new w None is = ap (λ s. told_row h s d) w.step
     new w (Some r) is = absurd (again_unknown h d w.incarnation w.fresh (same_replica-true d.replica (own (Then h e)) o ∙ own_again h e w) (first_known h d r l.0 is))
 
-    go : (b : Bool) → is_reborn e.step ≡ b → (same_replica d.replica (own h) ≡ true → first_told h d ≡ None) → first_some (first_told h d) (told_row h e.step d) ≡ None
+    go : (b : Bool) → is_rebirth e.step ≡ b → (same_replica d.replica (own h) ≡ true → first_told h d ≡ None) → first_some (first_told h d) (told_row h e.step d) ≡ None
     go false n ih =
         let mine : same_replica d.replica (own h) ≡ true = ap (same_replica d.replica) (sym (own-then h e n)) ∙ o in
         λ i. first_some (ih mine i) (own_told h e.step d mine i)

@@ -9,7 +9,7 @@ use Rattle.presence_journal.specs.Steps.{Step, Outcome, Entry}
 use Rattle.presence_journal.specs.History.{History}
 use Rattle.presence_journal.specs.Queue.{Waiting, Behind, Queued, most_waiting}
 use Rattle.presence_journal.specs.Laws.{is_callers}
-use Rattle.presence_journal.specs.Walk.{is_again}
+use Rattle.presence_journal.specs.Walk.{is_reborn}
 use Rattle.presence_journal_waits.specs.Changes.{changes_on, goes_on}
 
 -- the step is of the own replica alone, and may change rows of the topic or shouts on it
@@ -32,7 +32,7 @@ is_news _ = false
 -- an entry between these two histories makes an item for the subscribers of the topic
 abbrev pub makes_on : History → History → Entry → List ℕ → Bool
 makes_on g h e t = cond (is_callers e.step) (is_news e.outcome && is_on e.step t)
-    (cond (is_again e.outcome) (goes_on g t e.outcome) (changes_on g h t))
+    (cond (is_reborn e.outcome) (goes_on g t e.outcome) (changes_on g h t))
 
 abbrev pub makes_one : History → History → Entry → Option (List ℕ) → Bool
 makes_one g h e None = false

@@ -1,3 +1,4 @@
+//! A subscriber's topic.
 ghost use Rattle.std.specs.Prelude.{◌≡◌, option_copied};
 ghost use Rattle.presence_journal.specs.Queue.{topic_at, topic_of, topic_after};
 

@@ -1,3 +1,4 @@
+//! What an entry changes.
 ghost use Rattle.std.specs.Prelude.{◌≡◌, ◌+◌, ◌<◌, IfOk};
 ghost use Rattle.std.specs.BTreeMap.{get};
 ghost use Rattle.presence_base.specs.Order.{dot_cmp};

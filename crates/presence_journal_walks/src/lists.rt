@@ -1,3 +1,4 @@
+//! The rows of a topic, a key, a session.
 ghost use Rattle.std.specs.Prelude.{◌≡◌, ◌&&◌, nat_eq, IfOk};
 ghost use Rattle.std.specs.BTreeMap.{get};
 ghost use Rattle.presence_base.specs.Order.{dot_cmp, same_replica};

@@ -1,3 +1,4 @@
+//! What waits.
 ghost use Rattle.std.specs.Prelude.{◌≡◌, ◌++◌, [], cond, Some, IfOk, OnOk};
 ghost use Rattle.std.specs.BTreeMap.{get};
 ghost use Rattle.presence_base.specs.Order.{dot_cmp};

@@ -1,3 +1,4 @@
+//! Reading frames.
 ghost use Rattle.std.specs.Prelude.{◌≡◌, [], false, option_map};
 ghost use Rattle.serde_json.specs.View.{view, items_view, members_view};
 ghost use Rattle.presence_metas.specs.declared.frame.FrameFault.TheVariants.{BadShape, OutOfMemory};

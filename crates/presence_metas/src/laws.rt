@@ -1,3 +1,4 @@
+//! The laws of lists, objects and frames, key by key.
 ghost use Rattle.presence_metas.specs.Laws.{RowsByKey, StatesByKey, StatesAreRead, DiffsAreRead, StatesReadBack, DiffsReadBack};
 
 /// The lists and the state of rows have at each key the metas of its rows, and no other key.

@@ -1,3 +1,4 @@
+//! Members of objects.
 ghost use Rattle.std.specs.Prelude.{◌≡◌, OnOk, string_bytes};
 ghost use Rattle.serde_json.specs.View.{view, members_view};
 ghost use Rattle.presence_metas.specs.Rows.{members_in, IsPut};

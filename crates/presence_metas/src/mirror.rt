@@ -1,3 +1,4 @@
+//! The client's lists.
 ghost use Rattle.std.specs.Prelude.{◌≡◌, [], IfOk, OnOk, OnErr, List, ℕ};
 ghost use Rattle.serde_json.specs.View.{view};
 ghost use Rattle.presence_metas.specs.Fold.{meta_at, folded, after_frame, fold_frame};

@@ -1,3 +1,4 @@
+//! A meta with its reference.
 ghost use Rattle.std.specs.Prelude.{◌≡◌, IsTrue, IfOk, OnOk};
 ghost use Rattle.serde_json.specs.View.{members_view};
 ghost use Rattle.presence_base.specs.Metas.{is_meta};

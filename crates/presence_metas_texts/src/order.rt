@@ -1,3 +1,4 @@
+//! Whether rows are in order of their keys.
 ghost use Rattle.std.specs.Prelude.{◌≡◌, true};
 ghost use Rattle.presence_metas_texts.specs.KeyOrder.{AreInKeyOrder};
 

@@ -1,3 +1,4 @@
+//! References.
 ghost use Rattle.std.specs.Prelude.{◌≡◌, ◌++◌, OnOk, string_bytes};
 ghost use Rattle.json.specs.Print.{quoted as quoted_text};
 ghost use Rattle.presence_base.specs.Refs.{ref_of};

@@ -1,3 +1,4 @@
+//! A row behind others.
 ghost use Rattle.std.specs.Prelude.{◌≡◌, ◌++◌, Some, OnOk, option_copied, string_bytes};
 ghost use Rattle.presence_metas_texts.specs.Texts.{key_text, row_text, between, ending};
 

@@ -1,3 +1,4 @@
+//! States and diffs.
 ghost use Rattle.std.specs.Prelude.{◌≡◌, ◌++◌, None, IfOk, OnOk, string_bytes};
 ghost use Rattle.serde_json.specs.Written.{compact_text};
 ghost use Rattle.presence_metas.specs.Values.{state_of, diff_of};

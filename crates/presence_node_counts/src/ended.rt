@@ -1,3 +1,4 @@
+//! How a session ended.
 /// How a session ended: by the code of the close frame that the server sent, or without one.
 #[derive(Clone, Copy, PartialEq, Eq, Debug)]
 pub enum Ended {

@@ -1,3 +1,4 @@
+//! Faults.
 use phx_message::MessageFault;
 use presence_metas::FrameFault;
 use presence_node_lines::ReadFault;

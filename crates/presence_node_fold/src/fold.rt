@@ -1,3 +1,4 @@
+//! The fold.
 ghost use Rattle.std.specs.Prelude.{◌≡◌, false, IfSome};
 ghost use Rattle.serde_json.specs.Written.{has_float};
 ghost use Rattle.presence_node_fold.specs.Mirrors.{mirrors_value};

@@ -1,3 +1,4 @@
+//! Numbers and statuses.
 ghost use Rattle.std.specs.Prelude.{◌≡◌, IfOk, option_map, string_bytes, codes};
 ghost use Rattle.presence_node_lines.specs.Told.{told_line};
 ghost use Rattle.presence_node_fold.specs.Told.{frame_number, told_of_fold, fold_status_number};

@@ -1,3 +1,4 @@
+//! Faults of streams.
 use thiserror::Error;
 
 /// Why a stream went no further.

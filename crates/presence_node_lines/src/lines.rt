@@ -1,3 +1,4 @@
+//! Reading and writing.
 ghost use Rattle.std.specs.Prelude.{◌<◌, ◌^◌, IfErr, MatchResult};
 ghost use Rattle.std.specs.Io.KnownBytes.{Appends};
 ghost use Rattle.presence_node_lines.specs.Bytes.{TakesByte, IsPatient, AsksEnd, TakesNext, AppendsFront};

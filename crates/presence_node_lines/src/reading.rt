@@ -1,3 +1,4 @@
+//! The message of a line.
 ghost use Rattle.std.specs.Prelude.{◌≡◌, Some, IfOk, IfErr, Err};
 ghost use Rattle.phx_message.specs.declared.message.MessageFault.{MessageFault as Fault};
 ghost use Rattle.phx_message.specs.Reading.{Answers, decoded};

@@ -1,3 +1,4 @@
+//! Numbers of refusals.
 ghost use Rattle.std.specs.Prelude.{◌≡◌, IfOk, string_bytes, codes};
 ghost use Rattle.presence_node_lines.specs.Told.{fault_number, told_line};
 

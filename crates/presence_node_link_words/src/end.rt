@@ -1,3 +1,4 @@
+//! Why a link went.
 ghost use Rattle.std.specs.Prelude.{◌≡◌};
 ghost use Rattle.presence_node_link_words.specs.Words.{leaves_stream as leaves};
 

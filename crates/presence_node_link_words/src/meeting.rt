@@ -1,3 +1,4 @@
+//! Who may be there.
 ghost use Rattle.std.specs.Prelude.{◌≡◌};
 ghost use Rattle.presence_base.specs.Order.{same_text, same_replica};
 ghost use Rattle.presence_node_link_words.specs.Words.{met, met_name, is_among, is_welcome as may_link};

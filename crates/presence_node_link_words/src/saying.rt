@@ -1,3 +1,4 @@
+//! What was said of a place already.
 ghost use Rattle.std.specs.Prelude.{◌≡◌, true, false, None, [], Some};
 ghost use Rattle.presence_node_link_words.specs.Saying.{is_other, comes_up};
 

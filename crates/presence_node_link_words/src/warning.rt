@@ -1,3 +1,4 @@
+//! What is odd about a link, and its lines.
 use node_links::Untold;
 
 /// What is odd about a link that goes on.

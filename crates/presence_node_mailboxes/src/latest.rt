@@ -1,3 +1,4 @@
+//! The last value of each shard.
 ghost use Rattle.std.specs.Prelude.{◌≡◌, ◌==◌, ◌++◌, ◌∷◌, [], vec_len, OnOk, OnErr};
 ghost use Rattle.presence_node_mailboxes.specs.Latest.{others};
 

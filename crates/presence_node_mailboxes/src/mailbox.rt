@@ -1,3 +1,4 @@
+//! The last value of each shard under a lock, with a bell.
 use crate::latest::Latest;
 use std::alloc::Global;
 use std::sync::{Condvar, CondvarTimeouts, Mutex, Wait};

@@ -1,3 +1,4 @@
+//! Standard error as a writer.
 use std::io::ErrorKind;
 use std::{io, str};
 

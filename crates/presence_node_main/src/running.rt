@@ -1,3 +1,4 @@
+//! The program over the standard streams.
 use crate::ending::{
     Ending, Stream, fold_ending, help_ending, serve_ending, silent, stdio_ending, stopped_ending,
     usage_ending,

@@ -1,3 +1,4 @@
+//! The words of the command line.
 ghost use Rattle.std.specs.Prelude.{◌≡◌, IfOk, map, string_bytes};
 
 use std::alloc::{AllocError, Global};

@@ -1,3 +1,4 @@
+//! Notices of references.
 ghost use Rattle.std.specs.Prelude.{◌≡◌, ◌≤◌, IfOk, length, string_bytes};
 ghost use Rattle.presence_base.specs.Refs.{ref_of};
 ghost use Rattle.presence_node_notices.specs.Notes.{note};

@@ -1,3 +1,4 @@
+//! The words.
 ghost use Rattle.std.specs.Prelude.{◌≡◌, ◌≤◌, false, IfOk, IfErr, OnOk, codes, map, option_map, string_bytes, unwrap_or, vec_len};
 ghost use Rattle.std.specs.Option.{ForSome};
 ghost use Rattle.presence_base.specs.Refs.{IsCount};

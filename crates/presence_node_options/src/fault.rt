@@ -1,3 +1,4 @@
+//! What is wrong with the words.
 use hook_registry::RouteFault;
 use thiserror::Error;
 

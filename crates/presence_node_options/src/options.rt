@@ -1,3 +1,4 @@
+//! Options.
 ghost use Rattle.std.specs.Prelude.{◌<◌, ◌≤◌, vec_len};
 ghost use Rattle.std.specs.Option.{ForSome};
 ghost use Rattle.presence_base.specs.Refs.{IsCount};

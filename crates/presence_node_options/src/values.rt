@@ -1,3 +1,4 @@
+//! Names and incarnations as they are given.
 ghost use Rattle.std.specs.Prelude.{◌≡◌, ◌≤◌, ◌<◌, ◌++◌, [], ◌∷◌, false, option_map, IfOk, IfErr, OnOk, IsTrue, length, map, Some, string_bytes, vec_len};
 ghost use Rattle.presence_base.specs.Names.{is_node_name};
 ghost use Rattle.presence_base.specs.Refs.{IsCount};

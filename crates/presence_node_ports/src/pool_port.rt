@@ -1,3 +1,4 @@
+//! The pool as the port of a session, through a seat.
 ghost use Rattle.std.specs.Prelude.{◌≡◌, true, Err};
 ghost use Rattle.channel_session_rules.specs.Seen.{seen_by};
 ghost use Rattle.channel_session_rules.specs.ShardFault.TheVariants.{JournalFull};

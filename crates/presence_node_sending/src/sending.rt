@@ -1,3 +1,4 @@
+//! `send_all`: texts to a client in their order.
 ghost use Rattle.std.specs.Prelude.{◌≡◌, ◌<◌, [], ◌∷◌, false, length, map, string_bytes, OnOk, IfErr};
 ghost use Rattle.presence_node_sending.specs.Passing.{passes as passes_in, is_passing as passing_in};
 ghost use Rattle.presence_node_sending.specs.Sending.{SentAll, Stops};

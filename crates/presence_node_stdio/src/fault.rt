@@ -1,3 +1,4 @@
+//! Faults.
 use channel_session::SessionFault;
 use phx_message::MessageFault;
 use presence_node_lines::ReadFault;

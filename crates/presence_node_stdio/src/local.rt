@@ -1,3 +1,4 @@
+//! One session over one shard.
 ghost use Rattle.std.specs.Prelude.{◌≡◌, ◌++◌, [], map, string_bytes, false, IfOk, Err, None, Some};
 ghost use Rattle.presence_node_stdio.specs.Session.{printed, voice_of, Answered, Dealt};
 

@@ -1,3 +1,4 @@
+//! The run.
 ghost use Rattle.std.specs.Prelude.{◌≡◌, ◌≤◌, ℕ, List, IfSome};
 ghost use Rattle.presence_node_stdio.specs.Mirrored.{MirroredBehindLines};
 ghost use Rattle.presence_node_stdio.specs.Session.{start, voice_of};

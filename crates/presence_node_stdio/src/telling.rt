@@ -1,3 +1,4 @@
+//! Numbers and statuses.
 ghost use Rattle.std.specs.Prelude.{◌≡◌, IfOk, option_map, string_bytes, codes};
 ghost use Rattle.presence_node_lines.specs.Told.{told_line as told_line_of};
 ghost use Rattle.presence_node_stdio.specs.Told.{session_number, told_of, status_number};

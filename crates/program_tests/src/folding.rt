@@ -1,3 +1,4 @@
+//! `fold` at its limits, and where a read or a write fails.
 use crate::support::{Sink, Source};
 use presence_node_fold::{FoldFault, fold_lines, run_fold};
 use presence_node_lines::ReadFault;

@@ -1,3 +1,4 @@
+//! The board.
 ghost use Rattle.std.specs.Prelude.{◌≡◌, ◌≤◌, [], IfOk, OnOk, OnErr, length, map, true};
 ghost use Rattle.replica_status.specs.declared.status.Status.TheVariants.{Unheard};
 ghost use Rattle.replica_status.specs.Table.{ticked_at};

@@ -1,3 +1,4 @@
+//! What a tick changed.
 ghost use Rattle.std.specs.Prelude.{◌≡◌};
 ghost use Rattle.replica_status.specs.Boards.{change_between};
 

@@ -1,3 +1,4 @@
+//! A replica as a board finds it.
 use presence_base::Replica;
 use std::hash::{Hash, Hasher};
 use std::marker::Model;

@@ -1,3 +1,4 @@
+//! Standings and the limits of silence.
 ghost use Rattle.std.specs.Prelude.{◌≡◌};
 ghost use Rattle.replica_status.specs.Table.{is_over, status_of, heard_at, ticked_at};
 

@@ -1,3 +1,4 @@
+//! Statuses.
 ghost use Rattle.std.specs.Prelude.{◌≡◌};
 
 /// What a node holds of a replica. Rows are shown of a replica that is `Up`; one that is `Gone` never returns.

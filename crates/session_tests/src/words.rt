@@ -1,3 +1,4 @@
+//! What faults say.
 use phx_message::MessageFault;
 use session_desk::SessionFault;
 use std::test::Fail;

@@ -1,3 +1,4 @@
+//! The pool and its start.
 ghost use Rattle.std.specs.Prelude.{◌≡◌, ◌+◌, ◌<◌, ◌≤◌, IfOk, IfErr};
 ghost use Rattle.presence_base.specs.Refs.{IsCount};
 ghost use Rattle.presence_journal.specs.History.{begun};

@@ -1,3 +1,4 @@
+//! A seat: the receipts of a caller.
 ghost use Rattle.std.specs.Prelude.{◌≡◌, IfOk};
 
 use shard_pool_locks::{Lane, Part};

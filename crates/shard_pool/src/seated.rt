@@ -1,3 +1,4 @@
+//! The calls of seats.
 ghost use Rattle.std.specs.Prelude.{◌≡◌, ◌+◌, ◌≤◌, ◌^◌, Some, IsTrue};
 ghost use Rattle.presence_journal.specs.History.{last_number};
 ghost use Rattle.presence_journal.specs.Limits.{is_payload, is_take_limit};

@@ -1,3 +1,4 @@
+//! `settle`: whether receipts and journals agree.
 ghost use Rattle.std.specs.Prelude.{◌≡◌, All, List, [], ◌∷◌, ◌++◌, ℕ, ◌+◌, ◌<◌, ◌≤◌, cond, length, map, take, IfOk, IfErr, OnOk, true, false, ◌⊎◌};
 ghost use Rattle.presence_journal.specs.History.{History};
 ghost use Rattle.shard_pool_settled.specs.Seated.{one_if};

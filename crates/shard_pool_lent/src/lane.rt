@@ -1,3 +1,4 @@
+//! Which ledger and node.
 use std::marker::Brand;
 use std::sync::ledger::Ledger;
 

@@ -1,3 +1,4 @@
+//! The calls with the guard lent.
 ghost use Rattle.std.specs.Prelude.{◌≡◌, ◌+◌, ◌≤◌, ◌^◌, true, Some, IsTrue};
 ghost use Rattle.presence_journal.specs.History.{last_number};
 ghost use Rattle.presence_journal.specs.Limits.{is_payload, is_take_limit};

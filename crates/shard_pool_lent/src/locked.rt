@@ -1,3 +1,4 @@
+//! A shard with its count, and its steps.
 ghost use Rattle.std.specs.Prelude.{◌≡◌, ◌+◌, ◌-◌, ◌≤◌, ◌^◌, min, true, false, Some, None, IfOk, IfErr, OnOk, OnErr, IsTrue};
 ghost use Rattle.presence_base.specs.Refs.{IsCount};
 ghost use Rattle.presence_journal.specs.History.{begun, own, entry_count, is_full, last_number, status, IsTop};

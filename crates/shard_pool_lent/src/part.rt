@@ -1,3 +1,4 @@
+//! A seat's part.
 use crate::lane::Lane;
 use shard_pool_settled::Receipt;
 use std::alloc::AllocError;

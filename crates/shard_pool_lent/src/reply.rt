@@ -1,3 +1,4 @@
+//! Replies.
 ghost use Rattle.std.specs.Prelude.{◌≡◌};
 ghost use Rattle.shard_pool_lent.specs.Lent.{reply_of};
 

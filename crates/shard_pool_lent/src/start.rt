@@ -1,3 +1,4 @@
+//! Where a seat meets a shard for the first time.
 ghost use Rattle.std.specs.Prelude.{◌≡◌, IfOk, IfErr};
 ghost use Rattle.presence_base.specs.Refs.{IsCount};
 ghost use Rattle.presence_journal.specs.History.{begun};

@@ -1,3 +1,4 @@
+//! Why receipts don't agree.
 use std::alloc::AllocError;
 use thiserror::Error;
 

@@ -1,3 +1,4 @@
+//! Receipts.
 use presence_journal::{Outcome, Step};
 use std::alloc::AllocError;
 

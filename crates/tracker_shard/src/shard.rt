@@ -1,3 +1,4 @@
+//! The shard's calls.
 use crate::answers::{cut_outcome, note, own_dot, removal, replaced, write};
 use crate::fault::ShardFault;
 use crate::foreseen::foreseen;

@@ -26,7 +26,7 @@ use Rattle.tracker_shard_cuts.specs.Untold.{HasChains, HasUnused, AreBelow, AreS
 use Rattle.presence_journal_cuts.specs.KeptDeltas.{renews_kept}
 use Rattle.tracker_shard_cuts.specs.Changes.{told_in, is_counted, IsLinkOf, linked, IsLinked, LosesChains}
 use Rattle.tracker_shard_cuts.proofs.FreshLemmas.{counted, added_next, added_stays, replaced_parts, taken_shown}
-use Rattle.presence_journal.specs.Walk.{is_again}
+use Rattle.presence_journal.specs.Walk.{is_reborn}
 use Rattle.presence_journal_sets.proofs.OwnLemmas.{plain_step}
 
 abbrev Runs : Type 0
@@ -108,13 +108,13 @@ other_one false x y e f = f
 above_new : (h : History) (e : Entry) (new old : Dot) (c : ℕ) → IsLegal (Then h e) → e.outcome ≡ outcomes_are.Replaced new old → count (Then h e) < c → nat_eq c new.count ≡ false
 above_new h e new old c l is above =
     let next : new.count ≡ count h + 1 = ap (λ (d : Dot). d.count) (replaced_parts h e new old l is).0 in
-    let most : count (Then h e) ≡ count h + 1 = count-then h e (ap is_again is) ∙ ap (λ o. count h + counts_used o) is in
+    let most : count (Then h e) ≡ count h + 1 = count-then h e (ap is_reborn is) ∙ ap (λ o. count h + counts_used o) is in
     over_next c new.count (omega (arith, above, next, most))
 
-before : (h : History) (e : Entry) (c : ℕ) → is_again e.outcome ≡ false → count (Then h e) < c → count h < c
+before : (h : History) (e : Entry) (c : ℕ) → is_reborn e.outcome ≡ false → count (Then h e) < c → count h < c
 before h e c a above = let most = count-then h e a in omega (arith, above, most)
 
-pub few_then : (h : History) (e : Entry) (unsettled : ℕ) (f g : ℕ → ℕ → Bool) → IsLegal (Then h e) → is_again e.outcome ≡ false → AreBelow (count h) unsettled f → Hands e.outcome f g → AreBelow (count (Then h e)) unsettled g
+pub few_then : (h : History) (e : Entry) (unsettled : ℕ) (f g : ℕ → ℕ → Bool) → IsLegal (Then h e) → is_reborn e.outcome ≡ false → AreBelow (count h) unsettled f → Hands e.outcome f g → AreBelow (count (Then h e)) unsettled g
 few_then h e unsettled f g l a few hands c n low above over = hands c n low ∙ unless (is_counted (dots_taken e.outcome) c) (handed e.outcome f c n) (go e.outcome refl)
   where
     go : (o : Outcome) → e.outcome ≡ o → handed o f c n ≡ false
@@ -131,7 +131,7 @@ left : (b x : Bool) → b ≡ false → x ≡ cond b false x
 left true x e = let g : true ≡ false = e in absurd (cc)
 left false x e = refl
 
-same_handed : (o : Outcome) (f g : ℕ → ℕ → Bool) (c n : ℕ) → is_again o ≡ false → f c n ≡ g c n → AllByRecursion (λ (x : Dot). f x.count n ≡ g x.count n) (dots_taken o) → is_counted (dots_taken o) c ≡ false → handed o f c n ≡ chain_after o g c n
+same_handed : (o : Outcome) (f g : ℕ → ℕ → Bool) (c n : ℕ) → is_reborn o ≡ false → f c n ≡ g c n → AllByRecursion (λ (x : Dot). f x.count n ≡ g x.count n) (dots_taken o) → is_counted (dots_taken o) c ≡ false → handed o f c n ≡ chain_after o g c n
 same_handed (outcomes_are.Replaced new old) f g c n plain here olds none =
     (λ i. cond (nat_eq c new.count) (nat_eq n old.count || olds.0 i) (here i))
     ∙ ap (cond (nat_eq c new.count) (stands_for g old.count n)) (left (nat_eq c old.count) (g c n) (or_parts (nat_eq c old.count) false none).0)
@@ -163,19 +163,19 @@ none_above h (x ∷ xs) c l a above =
     or_from (nat_eq c x.count) (is_counted xs c) (over_next c x.count (omega (arith, low, above))) (none_above h xs c l a.1 above)
 
 -- a count that neither goes nor is new keeps its chain
-keeps : (h : History) (e : Entry) (m v : Chains) (c n : ℕ) → IsLegal (Then h e) → is_again e.outcome ≡ false → HasChains h m → Hands e.outcome (has m) (has v) → 1 ≤ n → has m c n ≡ chain h c n → is_counted (dots_taken e.outcome) c ≡ false → has v c n ≡ chain (Then h e) c n
+keeps : (h : History) (e : Entry) (m v : Chains) (c n : ℕ) → IsLegal (Then h e) → is_reborn e.outcome ≡ false → HasChains h m → Hands e.outcome (has m) (has v) → 1 ≤ n → has m c n ≡ chain h c n → is_counted (dots_taken e.outcome) c ≡ false → has v c n ≡ chain (Then h e) c n
 keeps h e m v c n l plain has_chains hands low here none =
     hands c n low
     ∙ (ap (λ b. cond b false (handed e.outcome (has m) c n)) none
     ∙ (same_handed e.outcome (has m) (chain h) c n plain here (taken_have h m n (dots_taken e.outcome) has_chains low (taken_shown h e l)) none
     ∙ sym (chain-then h e c n)))
 
-pub unused_then : (h : History) (e : Entry) (m v : Chains) → IsLegal (Then h e) → is_again e.outcome ≡ false → HasChains h m → HasUnused h m → Hands e.outcome (has m) (has v) → HasUnused (Then h e) v
+pub unused_then : (h : History) (e : Entry) (m v : Chains) → IsLegal (Then h e) → is_reborn e.outcome ≡ false → HasChains h m → HasUnused h m → Hands e.outcome (has m) (has v) → HasUnused (Then h e) v
 unused_then h e m v l a has_chains unused hands c n low above =
     let over = before h e c a above in
     keeps h e m v c n l a has_chains hands low (unused c n low over) (none_above h (dots_taken e.outcome) c l.0 (taken_shown h e l) over)
 
-pub chains_then : (h : History) (e : Entry) (m v : Chains) → IsLegal (Then h e) → is_again e.outcome ≡ false → HasChains h m → HasUnused h m → Hands e.outcome (has m) (has v) → HasChains (Then h e) v
+pub chains_then : (h : History) (e : Entry) (m v : Chains) → IsLegal (Then h e) → is_reborn e.outcome ≡ false → HasChains h m → HasUnused h m → Hands e.outcome (has m) (has v) → HasChains (Then h e) v
 chains_then h e m v l a has_chains unused hands d r mine there n low =
     let parts = go (row_added e.step e.outcome d) refl (sym (own_shown h e d l a own_one) ∙ there) in
     keeps h e m v d.count n l a has_chains hands low parts.1 (none_counted h (dots_taken e.outcome) d (taken_shown h e l) own_one parts.0)

@@ -11,7 +11,7 @@ use Rattle.presence_journal.specs.Steps.{Outcome, Entry}
 use Rattle.presence_journal.specs.History.{History, Then, own, count, last_cut, next_dot, has_dot, row_added, shown}
 use Rattle.presence_journal.specs.Present.{dots_taken}
 use Rattle.presence_journal.specs.Table.{IsLegal}
-use Rattle.presence_journal.specs.Walk.{row_at, is_reborn, is_again}
+use Rattle.presence_journal.specs.Walk.{row_at, is_rebirth, is_reborn}
 use Rattle.presence_journal.proofs.Same.{same_dot-refl, same_dot-true}
 use Rattle.presence_journal.proofs.PresentLemmas.{shown-row}
 use Rattle.presence_journal.proofs.HistoryLemmas.{IsOwnShown, Kind, Adds, Replaces, Removes, Quiet, kind_of, legal_knows, one_added, quiet_taken, added_plain}
@@ -41,7 +41,7 @@ counted h d l w = let knows = legal_knows h l in (knows.of_own d w.own (knows.of
 
 -- an update's new row has the next count, and its old one was shown
 pub replaced_parts : (h : History) (e : Entry) (new old : Dot) → IsLegal (Then h e) → e.outcome ≡ outcomes_are.Replaced new old → (new ≡ next_dot h) × IsOwnShown h old
-replaced_parts h e new old l is = go (kind_of h e.step e.outcome (plain_step h e l (ap is_again is)) l.1)
+replaced_parts h e new old l is = go (kind_of h e.step e.outcome (plain_step h e l (ap is_reborn is)) l.1)
   where
     parts : (o : Outcome) → Dot × Dot
     parts (outcomes_are.Replaced x y) = (x, y)
@@ -57,7 +57,7 @@ replaced_parts h e new old l is = go (kind_of h e.step e.outcome (plain_step h e
 
 -- the rows that an entry takes out were shown
 pub taken_shown : (h : History) (e : Entry) → IsLegal (Then h e) → AllByRecursion (IsOwnShown h) (dots_taken e.outcome)
-taken_shown h e l = by (is_reborn e.step) refl
+taken_shown h e l = by (is_rebirth e.step) refl
   where
     none : IsAgain h e.step e.outcome → AllByRecursion (IsOwnShown h) (dots_taken e.outcome)
     none w = subst (λ y. AllByRecursion (IsOwnShown h) (dots_taken y)) (sym w.outcome) tt
@@ -68,7 +68,7 @@ taken_shown h e l = by (is_reborn e.step) refl
     go (Removes x xs o r a q) = subst (λ y. AllByRecursion (IsOwnShown h) (dots_taken y)) (sym o) a
     go (Quiet q) = subst (AllByRecursion (IsOwnShown h)) (sym (quiet_taken e.outcome q)) tt
 
-    by : (b : Bool) → is_reborn e.step ≡ b → AllByRecursion (IsOwnShown h) (dots_taken e.outcome)
+    by : (b : Bool) → is_rebirth e.step ≡ b → AllByRecursion (IsOwnShown h) (dots_taken e.outcome)
     by true f = none (again_of h e.step e.outcome f l.1)
     by false f = go (kind_of h e.step e.outcome f l.1)
 

@@ -18,7 +18,7 @@ use Rattle.delta_range.specs.Keeping.{Kept}
 use Rattle.presence_journal_data.specs.declared.entry.Outcome.TheVariants as outcomes_are
 use Rattle.presence_journal.specs.Steps.{Outcome}
 use Rattle.presence_journal.specs.History.{History, cut_after, last_cut, first_some, nothing_kept}
-use Rattle.presence_journal.specs.Walk.{is_again, row_at}
+use Rattle.presence_journal.specs.Walk.{is_reborn, row_at}
 use Rattle.presence_journal.proofs.Same.{dot_total}
 use Rattle.presence_journal_cuts.specs.Cuts.{chain_after, chain, older_after, older}
 use Rattle.presence_journal_sets.specs.ByDot.{Alike}
@@ -62,19 +62,19 @@ all_copied es f a d = sym (a.here d)
 
 -- a rebirth
 
-chain_again : (o : Outcome) (f : ℕ → ℕ → Bool) (c n : ℕ) → is_again o ≡ true → chain_after o f c n ≡ false
+chain_again : (o : Outcome) (f : ℕ → ℕ → Bool) (c n : ℕ) → is_reborn o ≡ true → chain_after o f c n ≡ false
 chain_again (outcomes_are.Reborn ps) f c n a = refl
 chain_again _ f c n a = absurd (cc)
 
-older_again : (o : Outcome) (last : ℕ) (f : ℕ → ℕ → Bool) (g : ℕ → Bool) (n : ℕ) → is_again o ≡ true → older_after o last f g n ≡ false
+older_again : (o : Outcome) (last : ℕ) (f : ℕ → ℕ → Bool) (g : ℕ → Bool) (n : ℕ) → is_reborn o ≡ true → older_after o last f g n ≡ false
 older_again (outcomes_are.Reborn ps) last f g n a = refl
 older_again _ last f g n a = absurd (cc)
 
-cut_again : (o : Outcome) (n : ℕ) → is_again o ≡ true → cut_after o n ≡ 0
+cut_again : (o : Outcome) (n : ℕ) → is_reborn o ≡ true → cut_after o n ≡ 0
 cut_again (outcomes_are.Reborn ps) n a = refl
 cut_again _ n a = absurd (cc)
 
-kept_again : (o : Outcome) (Before : Kept → Type 0) (h : History) → is_again o ≡ true → KeepsAfter o Before h nothing_kept
+kept_again : (o : Outcome) (Before : Kept → Type 0) (h : History) → is_reborn o ≡ true → KeepsAfter o Before h nothing_kept
 kept_again (outcomes_are.Reborn ps) Before h a = refl
 kept_again _ Before h a = absurd (cc)
 

@@ -35,7 +35,7 @@ use Rattle.tracker_shard_cuts.specs.declared.untold.Untold.{Untold}
 use Rattle.tracker_shard_cuts.specs.Untold.{HasChains, HasUnused, AreBelow, AreSettled, IsUntoldOf, IsKeptFrom, IsOfOne, CanFollow, Follows, Stays}
 use Rattle.tracker_shard_cuts.specs.Changes.{is_counted, SameChains, with_kept, KeepsCut, IsToldTo}
 use Rattle.tracker_shard_cuts.proofs.ChainLemmas.{Hands, handed, chains_then, unused_then, few_then}
-use Rattle.presence_journal.specs.Walk.{is_again}
+use Rattle.presence_journal.specs.Walk.{is_reborn}
 use Rattle.presence_journal_sets.proofs.OwnLemmas.{plain_step}
 
 abbrev Rows : Type 0
@@ -108,16 +108,16 @@ pub record Takes (h : History) (u : Untold) (e : Entry) (v : Untold) : Type 0 wh
   pub count : v.count ≡ u.count + counts_used e.outcome
 
 -- an entry that is no cut is no rebirth
-pub uncut_plain : (o : Outcome) → renews_kept o ≡ false → is_again o ≡ false
+pub uncut_plain : (o : Outcome) → renews_kept o ≡ false → is_reborn o ≡ false
 uncut_plain (outcomes_are.Reborn ps) f = absurd (cc)
 uncut_plain _ f = refl
 
-pub rest_uncut : (o : Outcome) → ((from to : ℕ) → o ≡ outcomes_are.CutAt from to → ⊥) → is_again o ≡ false → renews_kept o ≡ false
+pub rest_uncut : (o : Outcome) → ((from to : ℕ) → o ≡ outcomes_are.CutAt from to → ⊥) → is_reborn o ≡ false → renews_kept o ≡ false
 rest_uncut (outcomes_are.CutAt from to) f a = absurd (f from to refl)
 rest_uncut (outcomes_are.Reborn ps) f a = absurd (cc)
 rest_uncut _ f a = refl
 
-pub taken : (u v : Untold) (e : Entry) (h : History) → IsLegal (Then h e) → is_again e.outcome ≡ false → IsUntoldOf h u → Takes h u e v → IsUntoldOf (Then h e) v
+pub taken : (u v : Untold) (e : Entry) (h : History) → IsLegal (Then h e) → is_reborn e.outcome ≡ false → IsUntoldOf h u → Takes h u e v → IsUntoldOf (Then h e) v
 taken u v e h l a k t = record {
   chains = t.chains;
   long = t.long;
@@ -150,11 +150,11 @@ pub told_to : (u v : Untold) (deltas : KeptDeltas) (e : Entry) (from to : ℕ) �
 told_to u v deltas e from to is push t h l k =
     let hands : Hands e.outcome (has u.chains) (has v.chains) = none_lost u.chains v.chains e.outcome from to is t.chains in
     let opened : u.unsettled ≤ v.unsettled = t.unsettled in
-    taken u v e h l (ap is_again is) k (record {
-      chains = chains_then h e u.chains v.chains l (ap is_again is) k.chains k.unused hands;
-      unused = unused_then h e u.chains v.chains l (ap is_again is) k.chains k.unused hands;
+    taken u v e h l (ap is_reborn is) k (record {
+      chains = chains_then h e u.chains v.chains l (ap is_reborn is) k.chains k.unused hands;
+      unused = unused_then h e u.chains v.chains l (ap is_reborn is) k.chains k.unused hands;
       long = subst AreChains (sym t.chains) k.long;
-      few = λ c n low above over. few_then h e u.unsettled (has u.chains) (has v.chains) l (ap is_again is) k.few hands c n low above (omega (arith, over, opened));
+      few = λ c n low above over. few_then h e u.unsettled (has u.chains) (has v.chains) l (ap is_reborn is) k.few hands c n low above (omega (arith, over, opened));
       settled = λ c n low within above f.
           let is_to : to ≡ count h = to_count h e from to l is in
           let over : count h < c = omega (arith, above, t.above, is_to) in
@@ -230,7 +230,7 @@ stays u v owns counts last opens_same chains older rows deltas h k = record {
     same_has c n = ap (λ (o : Option (List (ℕ × ℕ))). holds (listed o) n) (chains c)
 
 -- a count is left
-pub count_room : (u : Untold) (e : Entry) → is_again e.outcome ≡ false → CanFollow u e → u.count + counts_used e.outcome ≤ 2 ^ 62
+pub count_room : (u : Untold) (e : Entry) → is_reborn e.outcome ≡ false → CanFollow u e → u.count + counts_used e.outcome ≤ 2 ^ 62
 count_room u e a can =
     let h = can.before in
     let after = count-limit (Then h e) can.legal in

@@ -19,7 +19,7 @@ use Rattle.presence_journal_cuts.specs.KeptDeltas.{AreKeptOf}
 use Rattle.tracker_shard_cuts.specs.declared.untold.Untold.{Untold}
 use Rattle.std.specs.Map.{lookup}
 use Rattle.presence_base.specs.declared.dots.Replica.{Replica}
-use Rattle.presence_journal.specs.Walk.{is_again}
+use Rattle.presence_journal.specs.Walk.{is_reborn}
 use Rattle.presence_journal_cuts.specs.Reborn.{own_live}
 
 -- each own row that is shown has its chain
@@ -73,7 +73,7 @@ Follows u e v = (h : History) → IsLegal (Then h e) → IsUntoldOf h u → IsUn
 
 -- after a rebirth under this replica, with so many counts and these rows, and no others, it is that of the history
 abbrev pub BeginsAgain : Replica → ℕ → List (Dot × Row) → Untold → Type 0
-BeginsAgain o n rows u = (h : History) (e : Entry) → IsLegal (Then h e) → is_again e.outcome ≡ true → o ≡ own (Then h e)
+BeginsAgain o n rows u = (h : History) (e : Entry) → IsLegal (Then h e) → is_reborn e.outcome ≡ true → o ≡ own (Then h e)
     → n ≡ count (Then h e) → ((d : Dot) → lookup (same_dot d) rows ≡ own_live (Then h e) d) → IsUntoldOf (Then h e) u
 
 -- what is told of the kept deltas from a count on, where one of them begins at or below it

@@ -1,3 +1,4 @@
+//! What is not told yet, and the cut.
 ghost use Rattle.std.specs.Prelude.{◌≡◌, ◌++◌, ◌∷◌, [], IfOk, OnOk};
 ghost use Rattle.std.specs.List.Sorted.{IsStrictlySortedBy};
 ghost use Rattle.std.specs.Map.{keys_of};
@@ -82,7 +83,7 @@ impl Untold {
     ghost use Rattle.std.specs.Prelude.{◌≡◌, false, IfOk, OnOk, OnErr};
     ghost use Rattle.presence_journal.specs.History.{History, Begin, begun, last_cut as cut_in};
     ghost use Rattle.presence_journal.specs.Table.{IsLegal};
-    ghost use Rattle.presence_journal.specs.Walk.{is_again};
+    ghost use Rattle.presence_journal.specs.Walk.{is_reborn};
     ghost use Rattle.presence_journal_cuts.specs.Cuts.{IsCut};
     ghost use Rattle.presence_journal_cuts.specs.KeptDeltas.{renews_kept, AreKeptOf};
     ghost use Rattle.tracker_shard_cuts.specs.Untold.{IsUntoldOf, IsKeptFrom, IsOfOne, BeginsAgain, CanFollow, Follows, Stays};
@@ -215,7 +216,7 @@ impl Untold {
     /// the kept deltas.
     pub fn apply(&mut self, alloc: Global, entry: &Entry) -> Result<(), AllocError>
         requires follows { CanFollow self.old entry.now }
-        requires plain { is_again entry.now.outcome ≡ false }
+        requires plain { is_reborn entry.now.outcome ≡ false }
         ensures ok { OnOk result (Follows self.old entry.now self.new) }
         ensures err { OnErr result (Stays self.old self.new) }
     {

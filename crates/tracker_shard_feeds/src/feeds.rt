@@ -1,3 +1,4 @@
+//! The subscribers and what waits for them.
 ghost use Rattle.std.specs.Prelude.{◌≡◌, ◌<◌, ◌^◌, false, nat_eq, [], map as each, None, Some, option_copied, option_map, IfOk, OnOk, OnErr};
 ghost use Rattle.tracker_shard_feeds.specs.Fed.{found, topic_at, waits_at, is_followed, newcomer, left_with, items_of, items_for};
 ghost use Rattle.tracker_shard_feeds.specs.Fed.{SameFed, IsChanged, IsDelivered};

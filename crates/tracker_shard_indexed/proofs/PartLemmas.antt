@@ -8,7 +8,7 @@ use Rattle.presence_base.specs.Order.{same_dot, same_replica}
 use Rattle.presence_journal_data.specs.declared.entry.Outcome.TheVariants as outcomes_are
 use Rattle.presence_journal.specs.Steps.{Outcome, Entry}
 use Rattle.presence_journal.specs.History.{History, Then, begun, own, own_after, live}
-use Rattle.presence_journal.specs.Walk.{is_again}
+use Rattle.presence_journal.specs.Walk.{is_reborn}
 use Rattle.presence_journal.proofs.Same.{same_replica-true}
 use Rattle.tracker_shard_cuts.specs.Reborn.{own_live}
 use Rattle.tracker_shard_known.proofs.SetLemmas.{not_gone_own}
@@ -107,7 +107,7 @@ finished e p q before follows same seen fed to h legal at =
     })
 
 -- what is untold was made anew behind a rebirth
-pub finished_again : (e : Entry) (p q : Parts) → p.stage ≡ Learned → is_again e.outcome ≡ true → IsUntoldAgain p.known q.untold → q.known ≡ p.known → q.shown ≡ p.shown → q.feeds ≡ p.feeds → q.stage ≡ Done → GoesOn e p q
+pub finished_again : (e : Entry) (p q : Parts) → p.stage ≡ Learned → is_reborn e.outcome ≡ true → IsUntoldAgain p.known q.untold → q.known ≡ p.known → q.shown ≡ p.shown → q.feeds ≡ p.feeds → q.stage ≡ Done → GoesOn e p q
 finished_again e p q before again untold same seen fed to h legal at =
     let l : IsLearned h e p = subst (λ s. IsAt s (Then h e) p) before at in
     subst (λ s. IsAt s (Then h e) q) (sym to) (record {
@@ -135,7 +135,7 @@ known_of_one p e c before =
     record { history = Then c.before e; legal = c.legal; known = l.known }
 
 -- any outcome but a rebirth's
-pub rest_is_plain : (o : Outcome) → ((ps : List (Dot × Dot)) → o ≡ outcomes_are.Reborn ps → ⊥) → is_again o ≡ false
+pub rest_is_plain : (o : Outcome) → ((ps : List (Dot × Dot)) → o ≡ outcomes_are.Reborn ps → ⊥) → is_reborn o ≡ false
 rest_is_plain (outcomes_are.Reborn ps) f = absurd (f ps refl)
 rest_is_plain _ f = refl
 

@@ -6,7 +6,7 @@ use Rattle.presence_journal.specs.History.{History, Begin, Then, own, own_after}
 use Rattle.presence_journal.specs.Table.{IsLegal, IsKept}
 use Rattle.tracker_shard_turns.specs.declared.turn.Turn.{Turn}
 use Rattle.tracker_shard_turns.specs.Turns.{IsTurn}
-use Rattle.presence_journal.specs.Walk.{is_again}
+use Rattle.presence_journal.specs.Walk.{is_reborn}
 use Rattle.tracker_shard_known.specs.declared.known.Known.{Known}
 use Rattle.tracker_shard_known.specs.Known.{IsKnownOf}
 use Rattle.tracker_shard_shown.specs.Kept.{IsShownOf, IsBetween}
@@ -87,7 +87,7 @@ OwnAfter k e o = (h : History) → IsKnownOf h k → o ≡ own_after e.step (own
 
 -- what is untold after a rebirth, where k is known after it
 abbrev pub IsUntoldAgain : Known → Untold → Type 0
-IsUntoldAgain k u = (h : History) (e : Entry) → IsLegal (Then h e) → is_again e.outcome ≡ true → IsKnownOf (Then h e) k
+IsUntoldAgain k u = (h : History) (e : Entry) → IsLegal (Then h e) → is_reborn e.outcome ≡ true → IsKnownOf (Then h e) k
     → IsUntoldOf (Then h e) u
 
 -- the feeds after an entry of this turn

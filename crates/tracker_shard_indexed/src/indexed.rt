@@ -1,3 +1,4 @@
+//! A journal with its parts.
 ghost use Rattle.std.specs.Prelude.{◌≡◌, ◌<◌, ◌^◌, true, IfOk};
 ghost use Rattle.presence_journal.specs.History.{last_number};
 ghost use Rattle.presence_journal.specs.Table.{IsLegal as IsLegalHistory};

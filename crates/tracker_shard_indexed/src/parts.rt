@@ -87,7 +87,7 @@ fn untold_again(alloc: Global, known: &Known) -> Result<Untold, AllocError>
 impl Parts {
     ghost use Rattle.std.specs.Prelude.{◌≡◌, true, false, OnOk};
     ghost use Rattle.presence_journal.specs.History.{begun};
-    ghost use Rattle.presence_journal.specs.Walk.{is_again};
+    ghost use Rattle.presence_journal.specs.Walk.{is_reborn};
     ghost use Rattle.tracker_shard_indexed.specs.Parts.{IsAt, CanGoOn, GoesOn};
     ghost use Rattle.tracker_shard_indexed.specs.declared.parts.Stage.TheVariants.{Done, Begun, Delivered, Learned};
 
@@ -141,7 +141,7 @@ impl Parts {
     fn finish_again(&mut self, alloc: Global, entry: &Entry) -> Result<(), AllocError>
         requires follows { CanGoOn self.old entry.now }
         requires stage { self.old.stage ≡ Learned }
-        requires again { is_again entry.now.outcome ≡ true }
+        requires again { is_reborn entry.now.outcome ≡ true }
         ensures kept { GoesOn entry.now self.old self.new }
         ensures stage { OnOk result (self.new.stage ≡ Done) }
     {
@@ -154,7 +154,7 @@ impl Parts {
     fn finish_plain(&mut self, alloc: Global, entry: &Entry) -> Result<(), AllocError>
         requires follows { CanGoOn self.old entry.now }
         requires stage { self.old.stage ≡ Learned }
-        requires plain { is_again entry.now.outcome ≡ false }
+        requires plain { is_reborn entry.now.outcome ≡ false }
         ensures kept { GoesOn entry.now self.old self.new }
         ensures stage { OnOk result (self.new.stage ≡ Done) }
     {

@@ -1,3 +1,4 @@
+//! An item for one subscriber more.
 ghost use Rattle.std.specs.Prelude.{◌≡◌, IfOk};
 
 use presence_journal_data::Item;

@@ -1,3 +1,4 @@
+//! What an entry makes.
 ghost use Rattle.std.specs.Prelude.{◌≡◌, IfOk, OnOk};
 ghost use Rattle.tracker_shard_items.specs.Making.{MakesDiffs, MakesItems, MakesShout};
 

@@ -25,7 +25,7 @@ use Rattle.presence_journal_data.specs.declared.step.Step.TheVariants as steps_a
 use Rattle.presence_journal.specs.Steps.{Entry}
 use Rattle.presence_journal.specs.History.{History, Then, own, reborn, count, own_after, is_counted, has_dot, with_prev, row_again, is_gone, status, known, removed, covered, row, live, shown}
 use Rattle.presence_journal.specs.Table.{IsLegal, own_dots, reborn_from, pairs_for, can_be_reborn}
-use Rattle.presence_journal.specs.Walk.{is_reborn, pairs_in}
+use Rattle.presence_journal.specs.Walk.{is_rebirth, pairs_in}
 use Rattle.presence_journal.proofs.Same.{same_dot-refl, same_replica-true, same_replica-refl}
 use Rattle.presence_journal.proofs.PresentLemmas.{shown-row}
 use Rattle.presence_journal.proofs.Reborn.{IsAgain, again_of, own_dot, again_parts, length_reborn}
@@ -323,7 +323,7 @@ told_made s r ps can none ranges extras live empty pushed bare is =
 -- what is known after a rebirth
 
 again_in : (h : History) (e : Entry) (i : ℕ) → e.step ≡ steps_are.Rebirth i → IsLegal (Then h e) → IsAgain h e.step e.outcome
-again_in h e i is l = again_of h e.step e.outcome (ap is_reborn is) l.1
+again_in h e i is l = again_of h e.step e.outcome (ap is_rebirth is) l.1
 
 pub can_rejoin : (k : Known) (e : Entry) (i : ℕ) (new : Replica) (ps : List (Dot × Dot)) → e.step ≡ steps_are.Rebirth i → new ≡ own_after e.step k.others.own → ps ≡ pairs_in e.outcome → CanFollow k e → CanBeReborn k.set new ps
 can_rejoin k e i new ps is new_is pairs can = record {
@@ -332,7 +332,7 @@ can_rejoin k e i new ps is new_is pairs can = record {
   legal = can.legal;
   holds = can.known.set;
   new = new_is ∙ (ap (own_after e.step) can.known.others.own ∙ sym (own-is can.before e));
-  step = ap is_reborn is;
+  step = ap is_rebirth is;
   pairs_are = pairs;
 }
 
@@ -430,7 +430,7 @@ stays_reborn k l e i new ps mid is new_is pairs can takes left others counts g k
         go true p = sym (none_live d p)
         go false p = ap (λ o. joined_row (map.get k.set.live d) (set.contains k.set.covered d) o false) (no_row p) ∙ unheard (map.get k.set.live d) (set.contains k.set.covered d)
 
-pub turn_reborn : (k : Known) (e : Entry) (t : Turn) (ps : List (Dot × Dot)) → is_reborn e.step ≡ true → ps ≡ pairs_in e.outcome → t.joins.items ≡ rows_again (map.get k.set.live) ps → IsListOf (picked k.set.live (of_replica k.others.own)) t.leaves.items → TurnsEntry k e t
+pub turn_reborn : (k : Known) (e : Entry) (t : Turn) (ps : List (Dot × Dot)) → is_rebirth e.step ≡ true → ps ≡ pairs_in e.outcome → t.joins.items ≡ rows_again (map.get k.set.live) ps → IsListOf (picked k.set.live (of_replica k.others.own)) t.leaves.items → TurnsEntry k e t
 turn_reborn k e t ps n pairs joins leaves h l known = record {
   joins = list_like (λ d. row_again (map.get k.set.live) (lookup (same_dot d) ps)) (joins_at h e) t.joins.items
       (λ d. ap (λ qs. row_again (map.get k.set.live) (lookup (same_dot d) qs)) same ∙ joins_again h e w l k.set known.set d)

@@ -20,7 +20,7 @@ use Rattle.presence_journal.specs.Steps.{Step, Entry}
 use Rattle.presence_journal.specs.History.{History, Then, own, counts_used, time, time_of, known, live, standing, standing_after, status, is_gone, has_dot, first_some, row_added, own_after}
 use Rattle.presence_journal.specs.Present.{dots_taken}
 use Rattle.presence_journal.specs.Table.{IsLegal, outcome_of}
-use Rattle.presence_journal.specs.Walk.{tells, is_again}
+use Rattle.presence_journal.specs.Walk.{tells, is_reborn}
 use Rattle.presence_journal.proofs.Same.{same_replica-true, dot_cmp-IsAntisymmetric}
 use Rattle.presence_journal.proofs.ToldLemmas.{none_told_covers}
 use Rattle.presence_journal.proofs.HistoryLemmas.{kind_of, legal_knows, known_quiet, no_more, live_by}
@@ -55,9 +55,9 @@ pub record LeavesRows (h : History) (e : Entry) : Type 0 where
 
 pub noted_leaves : (h : History) (e : Entry) → IsLegal (Then h e) → e.outcome ≡ outcomes_are.Noted → tells e.step ≡ false → LeavesRows h e
 noted_leaves h e l is t = record {
-  known = λ d. known_quiet h e d l.0 (plain_step h e l (ap is_again is)) (ap is_again is) (ap counts_used is) ∙ (ap (λ b. known h d || b) (none_told_covers h e.step d t) ∙ no_more (known h d));
+  known = λ d. known_quiet h e d l.0 (plain_step h e l (ap is_reborn is)) (ap is_reborn is) (ap counts_used is) ∙ (ap (λ b. known h d || b) (none_told_covers h e.step d t) ∙ no_more (known h d));
   live = λ d.
-      live_by h e d (legal_knows h l.0) (kind_of h e.step e.outcome (plain_step h e l (ap is_again is)) l.1) t
+      live_by h e d (legal_knows h l.0) (kind_of h e.step e.outcome (plain_step h e l (ap is_reborn is)) l.1) t
       ∙ (λ i. first_some (row_added e.step (is i) d) (cond (has_dot (dots_taken (is i)) d) None (live h d)));
 }
 

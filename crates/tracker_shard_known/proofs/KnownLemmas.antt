@@ -24,7 +24,7 @@ use Rattle.presence_journal.specs.Steps.{Step, Entry}
 use Rattle.presence_journal.specs.History.{History, Then, begun, count, counts_used, known, removed, row, live, status, is_gone, next_dot, IsTop}
 use Rattle.presence_journal.specs.Laws.{is_callers}
 use Rattle.presence_journal.specs.Table.{IsLegal}
-use Rattle.presence_journal.specs.Walk.{tells, is_again, is_reborn}
+use Rattle.presence_journal.specs.Walk.{tells, is_reborn, is_rebirth}
 use Rattle.presence_journal.proofs.HistoryLemmas.{count-then, kind_of, tells_quiet, callers_plain, kind_plain}
 use Rattle.presence_journal.proofs.Walking.{count-limit, quiet_uses_none}
 use Rattle.presence_journal_sets.specs.LeftOut.{HoldsCovered}
@@ -108,7 +108,7 @@ full_of form h k t full known = (k.set, known.set, full)
 -- entries that are noted
 
 count_stays : (h : History) (e : Entry) → e.outcome ≡ outcomes_are.Noted → count (Then h e) ≡ count h
-count_stays h e is = count-then h e (ap is_again is) ∙ (ap (λ o. count h + counts_used o) is ∙ more (count h))
+count_stays h e is = count-then h e (ap is_reborn is) ∙ (ap (λ o. count h + counts_used o) is ∙ more (count h))
   where
     more : (n : ℕ) → n + 0 ≡ n
     more n = omega arith
@@ -144,13 +144,13 @@ follows_down k l r mine own_is losing others counts h e is legal known =
 -- a merge
 
 merged_outcome : (h : History) (e : Entry) (t : ToldValue) → e.step ≡ steps_are.Merge t → IsLegal (Then h e) → counts_used e.outcome ≡ 0
-merged_outcome h e t is legal = quiet_uses_none e.outcome (tells_quiet h e.step e.outcome (kind_of h e.step e.outcome (ap is_reborn is) legal.1) (ap tells is))
+merged_outcome h e t is legal = quiet_uses_none e.outcome (tells_quiet h e.step e.outcome (kind_of h e.step e.outcome (ap is_rebirth is) legal.1) (ap tells is))
 
 pub follows_merge : (k l : Known) (t : ToldValue) → TakesMerge k.set k.others t l.set → l.others ≡ k.others → l.count ≡ k.count → FollowsStep k (steps_are.Merge t) l
 follows_merge k l t takes same counts h e is legal known = record {
   set = takes h e legal is known.others known.set;
   others = subst (AreOthersOf (Then h e)) (sym same) (others_merge h e t k.others is known.others);
-  count = counts ∙ (known.count ∙ (sym (more (count h)) ∙ (ap (λ n. count h + n) (sym (merged_outcome h e t is legal)) ∙ sym (count-then h e (kind_plain h e.step e.outcome (kind_of h e.step e.outcome (ap is_reborn is) legal.1))))));
+  count = counts ∙ (known.count ∙ (sym (more (count h)) ∙ (ap (λ n. count h + n) (sym (merged_outcome h e t is legal)) ∙ sym (count-then h e (kind_plain h e.step e.outcome (kind_of h e.step e.outcome (ap is_rebirth is) legal.1))))));
 }
   where
     more : (n : ℕ) → n + 0 ≡ n

@@ -30,7 +30,7 @@ use Rattle.presence_journal.specs.Laws.{is_callers}
 use Rattle.presence_journal.proofs.Same.{same_dot-refl, same_dot-true}
 use Rattle.presence_journal.proofs.ToldLemmas.{none_told_covers, callers_tell_none}
 use Rattle.presence_journal.proofs.Merges.{merge_is_known, merge_is_live}
-use Rattle.presence_journal.specs.Walk.{is_again}
+use Rattle.presence_journal.specs.Walk.{is_reborn}
 use Rattle.presence_journal.proofs.Walking.{quiet_uses_none}
 use Rattle.presence_journal.proofs.PresentLemmas.{shown-row}
 use Rattle.presence_journal.proofs.HistoryLemmas.{IsOwnShown, is_quiet, kind_of, legal_knows, one_added, next_unknown, known_quiet, no_more, status-own, status_stays, live_by, live-next, quiet_row, quiet_taken, callers_plain, kind_plain}
@@ -174,7 +174,7 @@ takes_rest e next s c f g k h l counts holds = takes_quiet e next s c (rest_is_q
   where
     again : (ps : List (Dot × Dot)) → e.outcome ≡ outcomes_are.Reborn ps → ⊥
     again ps p =
-        let no : false ≡ true = sym (kind_plain h e.step e.outcome (kind_of h e.step e.outcome (callers_plain e.step c) l.1)) ∙ ap is_again p in
+        let no : false ≡ true = sym (kind_plain h e.step e.outcome (kind_of h e.step e.outcome (callers_plain e.step c) l.1)) ∙ ap is_reborn p in
         absurd (cc)
 
 pub takes_none : (e : Entry) (next : Dot) (ds : List Dot) (s : DotRows) → is_callers e.step ≡ true → e.outcome ≡ outcomes_are.Removed ds → length ds ≡ 0 → Takes next s e s

@@ -14,7 +14,7 @@ use Rattle.presence_journal_data.specs.declared.step.Step.TheVariants as steps_a
 use Rattle.presence_journal.specs.Steps.{Entry}
 use Rattle.presence_journal.specs.History.{History, Then, own, next_dot, is_gone}
 use Rattle.presence_journal.specs.Table.{IsLegal}
-use Rattle.presence_journal.specs.Walk.{is_reborn, pairs_in}
+use Rattle.presence_journal.specs.Walk.{is_rebirth, pairs_in}
 use Rattle.presence_journal_sets.specs.LeftOut.{HoldsCovered}
 use Rattle.tracker_shard_known_turns.specs.Again.{rows_again}
 use Rattle.tracker_shard_known_others.specs.declared.others.Others.{Others}
@@ -51,7 +51,7 @@ pub record CanBeReborn (s : DotRows) (r : Replica) (pairs : List (Dot × Dot)) :
   pub legal : IsLegal (Then before entry)
   pub holds : HoldsCovered before s
   pub new : r ≡ own (Then before entry)
-  pub step : is_reborn entry.step ≡ true
+  pub step : is_rebirth entry.step ≡ true
   pub pairs_are : pairs ≡ pairs_in entry.outcome
 
 -- u is s without the dots and rows of the replicas that pass the test

@@ -1,9 +1,10 @@
+//! What is known.
 ghost use Rattle.std.specs.Prelude.{◌≡◌, ℕ, IfOk, OnOk, OnErr, option_copied, true};
 ghost use Rattle.presence_journal_data.specs.StepLimits.{is_heard};
 ghost use Rattle.presence_journal.specs.History.{History, Begin, begun, own, covered, count as counted, status, time as time_in, IsTop};
 ghost use Rattle.presence_journal.specs.Laws.{is_callers};
 ghost use Rattle.orswot_core_told.specs.declared.form.Form.TheVariants.{Two};
-ghost use Rattle.presence_journal.specs.Walk.{is_reborn};
+ghost use Rattle.presence_journal.specs.Walk.{is_rebirth};
 ghost use Rattle.presence_journal.specs.Table.{can_be_reborn, pairs_for};
 ghost use Rattle.orswot_core_told.specs.Checks.{WhereItFits};
 ghost use Rattle.presence_journal_sets.specs.Full.{IsFullOf};
@@ -361,7 +362,7 @@ impl Known {
 
     // The own replica goes on under another incarnation: the rows of the old one leave, and join under the new dots.
     fn turn_of_reborn(&self, alloc: Global, entry: &Entry) -> Result<Turn, AllocError>
-        requires { is_reborn entry.now.step ≡ true }
+        requires { is_rebirth entry.now.step ≡ true }
         ensures { IfOk result (TurnsEntry self.now entry.now) }
     {
         let pairs = reborn_pairs(&entry.outcome);

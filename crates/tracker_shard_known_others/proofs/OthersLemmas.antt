@@ -16,7 +16,7 @@ use Rattle.presence_journal.specs.History.{History, Then, begun, own, reborn, ti
 use Rattle.presence_journal.specs.Laws.{is_callers}
 use Rattle.orswot_core_told.specs.Telling.{ToldValue}
 use Rattle.presence_journal.proofs.Same.{same_replica-true, same_replica-refl}
-use Rattle.presence_journal.specs.Walk.{is_reborn}
+use Rattle.presence_journal.specs.Walk.{is_rebirth}
 use Rattle.presence_journal.specs.Table.{is_unheard}
 use Rattle.presence_journal.proofs.Reborn.{IsAgain, again_of}
 use Rattle.presence_journal.proofs.HistoryLemmas.{own-then, own_again, callers_plain}
@@ -58,7 +58,7 @@ same_flip r q = by (same_replica r q) (same_replica q r) (λ f. ap (λ x. same_r
     by false false f g = refl
 
 -- after a step that makes f of the standing of a replica that is not the own one
-pub others_put : (h : History) (e : Entry) (f : Standing → Standing) (r : Replica) (o p : Others) → is_reborn e.step ≡ false → same_replica r o.own ≡ false → p.own ≡ o.own → p.time ≡ max o.time (time_of e.step) → Puts o.standings p.standings r (f (standing_at o.standings r))
+pub others_put : (h : History) (e : Entry) (f : Standing → Standing) (r : Replica) (o p : Others) → is_rebirth e.step ≡ false → same_replica r o.own ≡ false → p.own ≡ o.own → p.time ≡ max o.time (time_of e.step) → Puts o.standings p.standings r (f (standing_at o.standings r))
     → ((q : Replica) → standing (Then h e) q ≡ cond (same_replica q r) (f (standing h q)) (standing h q)) → AreOthersOf h o → AreOthersOf (Then h e) p
 others_put h e f r o p n other mine later puts step a = record {
   own = mine ∙ (a.own ∙ sym (own-then h e n));
@@ -86,7 +86,7 @@ others_put h e f r o p n other mine later puts step a = record {
         absurd (cc)
 
 -- after a step that leaves the standings of the others
-pub others_pass : (h : History) (e : Entry) (o p : Others) → is_reborn e.step ≡ false → p.own ≡ o.own → p.time ≡ max o.time (time_of e.step) → ((q : Replica) → standing_at p.standings q ≡ standing_at o.standings q)
+pub others_pass : (h : History) (e : Entry) (o p : Others) → is_rebirth e.step ≡ false → p.own ≡ o.own → p.time ≡ max o.time (time_of e.step) → ((q : Replica) → standing_at p.standings q ≡ standing_at o.standings q)
     → ((q : Replica) → same_replica q (own h) ≡ false → standing (Then h e) q ≡ standing h q) → AreOthersOf h o → AreOthersOf (Then h e) p
 others_pass h e o p n mine later same step a = record {
   own = mine ∙ (a.own ∙ sym (own-then h e n));
@@ -109,12 +109,12 @@ heard-step h e r now q is = standing-then h e q ∙ ap (λ s. standing_after (ow
 
 pub heard_other : (r : Replica) (now : ℕ) (o p : Others) → same_replica r o.own ≡ false → p.own ≡ o.own → p.time ≡ max o.time now → Puts o.standings p.standings r (heard_at (max o.time now) (standing_at o.standings r)) → OthersFollow o (steps_are.Heard r now) p
 heard_other r now o p other mine later puts h e is a =
-    others_put h e (heard_at (max o.time now)) r o p (ap is_reborn is) other mine (later ∙ ap (λ s. max o.time (time_of s)) (sym is)) puts
+    others_put h e (heard_at (max o.time now)) r o p (ap is_rebirth is) other mine (later ∙ ap (λ s. max o.time (time_of s)) (sym is)) puts
     (λ q. heard-step h e r now q is ∙ ap (λ n. cond (same_replica q r) (heard_at (max n now) (standing h q)) (standing h q)) (sym a.time)) a
 
 pub heard_own : (r : Replica) (now : ℕ) (o p : Others) → same_replica r o.own ≡ true → p.own ≡ o.own → p.time ≡ max o.time now → p.standings ≡ o.standings → OthersFollow o (steps_are.Heard r now) p
 heard_own r now o p own_is mine later same h e is a =
-    others_pass h e o p (ap is_reborn is) mine (later ∙ ap (λ s. max o.time (time_of s)) (sym is)) (λ q. ap (λ m. standing_at m q) same)
+    others_pass h e o p (ap is_rebirth is) mine (later ∙ ap (λ s. max o.time (time_of s)) (sym is)) (λ q. ap (λ m. standing_at m q) same)
     (λ q other. heard-step h e r now q is ∙ ap (λ b. cond b (heard_at (max (time h) now) (standing h q)) (standing h q)) (apart_from_own h r q (ap (same_replica r) (sym a.own) ∙ own_is) other (same_replica q r) refl)) a
 
 -- putting down
@@ -133,13 +133,13 @@ put_down-is Gone = refl
 
 pub down_other : (r : Replica) (o p : Others) → same_replica r o.own ≡ false → p.own ≡ o.own → p.time ≡ o.time → Puts o.standings p.standings r Gone → OthersFollow o (steps_are.PermDown r) p
 down_other r o p other mine same puts h e is a =
-    others_put h e put_down r o p (ap is_reborn is) other mine (same ∙ (sym (none_later o.time) ∙ ap (λ s. max o.time (time_of s)) (sym is)))
+    others_put h e put_down r o p (ap is_rebirth is) other mine (same ∙ (sym (none_later o.time) ∙ ap (λ s. max o.time (time_of s)) (sym is)))
     (λ q. puts q ∙ ap (λ x. cond (same_replica r q) x (standing_at o.standings q)) (sym (put_down-is (standing_at o.standings r))))
     (λ q. down-step h e r q is) a
 
 pub down_own : (r : Replica) (o : Others) → same_replica r o.own ≡ true → OthersFollow o (steps_are.PermDown r) o
 down_own r o own_is h e is a =
-    others_pass h e o o (ap is_reborn is) refl (sym (none_later o.time) ∙ ap (λ s. max o.time (time_of s)) (sym is)) (λ q. refl)
+    others_pass h e o o (ap is_rebirth is) refl (sym (none_later o.time) ∙ ap (λ s. max o.time (time_of s)) (sym is)) (λ q. refl)
     (λ q other. down-step h e r q is ∙ ap (λ b. cond b (put_down (standing h q)) (standing h q)) (apart_from_own h r q (ap (same_replica r) (sym a.own) ∙ own_is) other (same_replica q r) refl)) a
 
 -- time
@@ -162,15 +162,15 @@ ticked_map m n t q is =
 
 pub ticked : (now : ℕ) (o p : Others) → p.own ≡ o.own → p.time ≡ max o.time now → p.standings.entries ≡ each_ticked (max o.time now) o.standings.entries → OthersFollow o (steps_are.Tick now) p
 ticked now o p mine later is h e step a = record {
-  own = mine ∙ (a.own ∙ sym (own-then h e (ap is_reborn step)));
+  own = mine ∙ (a.own ∙ sym (own-then h e (ap is_rebirth step)));
   time = later ∙ ((λ i. max (a.time i) (time_of (sym step i))) ∙ sym (time-then h e));
   standing = λ q none.
       ticked_map o.standings p.standings (max o.time now) q is
-      ∙ ((λ i. ticked_at (max (a.time i) now) (a.standing q (ap (same_replica q) (sym (own-then h e (ap is_reborn step))) ∙ none) i))
+      ∙ ((λ i. ticked_at (max (a.time i) now) (a.standing q (ap (same_replica q) (sym (own-then h e (ap is_rebirth step))) ∙ none) i))
       ∙ sym (tick-step h e now q step));
   none_own = λ q same.
       ticked_map o.standings p.standings (max o.time now) q is
-      ∙ ap (ticked_at (max o.time now)) (a.none_own q (ap (same_replica q) (sym (own-then h e (ap is_reborn step))) ∙ same));
+      ∙ ap (ticked_at (max o.time now)) (a.none_own q (ap (same_replica q) (sym (own-then h e (ap is_rebirth step))) ∙ same));
 }
 
 -- the others of a new shard
@@ -200,7 +200,7 @@ callers_quiet o (steps_are.PermDown replica) t r x c = absurd (cc)
 callers_quiet o (steps_are.Rebirth i) t r x c = absurd (cc)
 callers_quiet o _ t r x c = (refl, refl)
 
-pub others_quiet : (h : History) (e : Entry) (o : Others) → is_reborn e.step ≡ false → ((t : ℕ) (r : Replica) (x : Standing) → (time_of e.step ≡ 0) × (standing_after (own h) e.step t r x ≡ x)) → AreOthersOf h o → AreOthersOf (Then h e) o
+pub others_quiet : (h : History) (e : Entry) (o : Others) → is_rebirth e.step ≡ false → ((t : ℕ) (r : Replica) (x : Standing) → (time_of e.step ≡ 0) × (standing_after (own h) e.step t r x ≡ x)) → AreOthersOf h o → AreOthersOf (Then h e) o
 others_quiet h e o n quiet a =
     others_pass h e o o n refl (sym (none_later o.time) ∙ ap (λ n. max o.time n) (sym (quiet 0 (own h) Unheard).0)) (λ q. refl)
     (λ q other. standing-then h e q ∙ (quiet (max (time h) (time_of e.step)) q (standing h q)).1) a
@@ -209,7 +209,7 @@ pub others_callers : (h : History) (e : Entry) (o : Others) → is_callers e.ste
 others_callers h e o c a = others_quiet h e o (callers_plain e.step c) (λ t r x. callers_quiet (own h) e.step t r x c) a
 
 pub others_merge : (h : History) (e : Entry) (t : ToldValue) (o : Others) → e.step ≡ steps_are.Merge t → AreOthersOf h o → AreOthersOf (Then h e) o
-others_merge h e t o is a = others_quiet h e o (ap is_reborn is) (λ n r x. (ap time_of is, ap (λ s. standing_after (own h) s n r x) is)) a
+others_merge h e t o is a = others_quiet h e o (ap is_rebirth is) (λ n r x. (ap time_of is, ap (λ s. standing_after (own h) s n r x) is)) a
 
 abbrev incarnation_of : Step → ℕ
 incarnation_of (steps_are.Rebirth i) = i
@@ -244,7 +244,7 @@ others_reborn i o p mine later puts h e l is a = record {
 }
   where
     w : IsAgain h e.step e.outcome
-    w = again_of h e.step e.outcome (ap is_reborn is) l.1
+    w = again_of h e.step e.outcome (ap is_rebirth is) l.1
 
     same : w.incarnation ≡ i
     same = ap incarnation_of (sym w.step ∙ is)

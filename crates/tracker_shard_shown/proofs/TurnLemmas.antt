@@ -18,7 +18,7 @@ use Rattle.presence_journal_data.specs.declared.rows.Place.{Place}
 use Rattle.presence_journal.specs.Steps.{Entry}
 use Rattle.presence_journal.specs.History.{History, Then, own, shown}
 use Rattle.presence_journal.specs.Present.{of_topic}
-use Rattle.presence_journal.specs.Walk.{keyed, is_reborn}
+use Rattle.presence_journal.specs.Walk.{keyed, is_rebirth}
 use Rattle.presence_journal.proofs.Same.{dot_total, same_dot-true, same_dot-refl, same_dot-sym}
 use Rattle.presence_journal.proofs.HistoryLemmas.{own-then}
 use Rattle.presence_journal.proofs.PresentLemmas.{get-present, shown-row, row-stays, all_weaker}
@@ -229,9 +229,9 @@ shown_agrees g e d r s f h = same_Some r s (sym (row-stays g e d r (shown-row g 
 -- an own row that is shown before an entry and after it is held by the same sessions
 same_holders : (g : History) (e : Entry) → IsLegal (Then g e) → (d : Dot) (r s : Row) → shown g d ≡ Some r → shown (Then g e) d ≡ Some s → (w : Holder) (y : Row) → is_for (own g) w d y ≡ is_for (own (Then g e)) w d y
 same_holders g e l d r s f h Room y = refl
-same_holders g e l d r s f h (Session pid) y = go (is_reborn e.step) refl
+same_holders g e l d r s f h (Session pid) y = go (is_rebirth e.step) refl
   where
-    go : (b : Bool) → is_reborn e.step ≡ b → (same_replica d.replica (own g) && nat_eq y.pid pid) ≡ (same_replica d.replica (own (Then g e)) && nat_eq y.pid pid)
+    go : (b : Bool) → is_rebirth e.step ≡ b → (same_replica d.replica (own g) && nat_eq y.pid pid) ≡ (same_replica d.replica (own (Then g e)) && nat_eq y.pid pid)
     go false n = ap (λ o. same_replica d.replica o && nat_eq y.pid pid) (sym (own-then g e n))
     go true n = ap (λ b. b && nat_eq y.pid pid) (old (same_replica d.replica (own g)) refl ∙ sym (new (same_replica d.replica (own (Then g e))) refl))
       where

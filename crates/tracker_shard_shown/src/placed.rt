@@ -1,3 +1,4 @@
+//! Some rows by topic, key and dot.
 ghost use Rattle.std.specs.Prelude.{OnOk};
 ghost use Rattle.tracker_shard_shown.specs.Placing.{PlacesAll};
 

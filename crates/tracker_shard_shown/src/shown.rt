@@ -1,3 +1,4 @@
+//! The rows that are shown.
 ghost use Rattle.std.specs.Prelude.{◌≡◌};
 
 use crate::bringing::{put_all, take_all};

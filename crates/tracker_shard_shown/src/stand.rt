@@ -1,3 +1,4 @@
+//! Where a row is kept.
 use presence_base::{Dot, Key, Topic};
 
 /// A value in an order with two ends: before all values, at one, or after all.

@@ -1,3 +1,4 @@
+//! The rows by where they are kept.
 use crate::stand::Stand;
 use presence_base::{Replica, Row};
 use std::alloc::Global;

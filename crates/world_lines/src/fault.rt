@@ -1,3 +1,4 @@
+//! Why a line does nothing.
 use std::alloc::AllocError;
 use thiserror::Error;
 

@@ -1,3 +1,4 @@
+//! What a line says.
 use node_links_world::Event;
 use orswot_core_told::Form;
 use presence_base::{NodeName, Replica, Topic};

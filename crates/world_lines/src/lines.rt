@@ -1,3 +1,4 @@
+//! Lines played in turn over one world.
 use crate::answers::{number_text, rows_text, yes_or_no};
 use crate::fault::LineFault;
 use crate::line::Line;

@@ -1,3 +1,4 @@
+//! Members of an extra, and their limits.
 use hook_registry::{Extra, Notice};
 use serde_json::Value;
 use std::alloc::Global;

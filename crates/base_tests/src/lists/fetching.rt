@@ -1,3 +1,4 @@
+//! Closures and structs that add members.
 use super::folding::{folds, holds};
 use super::rows::{lobby, rows_of, tracked, update};
 use hook_registry::{

@@ -1,3 +1,4 @@
+//! What a client makes of rendered states and diffs.
 use super::rows::{rows_of, tracked, updated};
 use phx_message::{Limits, decode};
 use presence_base::{Dot, Row, Text};

@@ -1,3 +1,4 @@
+//! States and diffs as frames, read back.
 use phx_message::{Limits, decode};
 use presence_metas::{FrameFault, read_frame};
 use std::alloc::Global;

@@ -1,3 +1,4 @@
+//! The notices of a diff.
 use super::rows::{lobby, update};
 use hook_registry::{Extra, Fetch, Hooks, NoHooks, Notice, PresenceHooks, Tell, notices};
 use presence_base::{Dot, Key, Topic, ref_text};

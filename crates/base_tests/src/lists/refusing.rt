@@ -1,3 +1,4 @@
+//! Closures that refuse memory.
 use super::fetching::user_member;
 use super::noting::note;
 use super::rows::{lobby, rows_of};

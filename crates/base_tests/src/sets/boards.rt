@@ -1,3 +1,4 @@
+//! The board of replicas.
 use super::rows::named;
 use presence_base::Replica;
 use replica_status::{Board, Change, Status};

@@ -1,3 +1,4 @@
+//! Sets of dots as their runs.
 ghost use Rattle.std.specs.Prelude.{◌≡◌};
 
 use super::rows::replica;

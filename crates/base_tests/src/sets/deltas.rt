@@ -1,3 +1,4 @@
+//! Deltas, joined and kept.
 ghost use Rattle.std.specs.Prelude.{◌≡◌, codes, IfSome, IfOk, ◌∷◌, []};
 
 use super::rows::{named, replica};

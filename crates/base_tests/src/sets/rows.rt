@@ -1,3 +1,4 @@
+//! Rows in a range, and sets that are told.
 ghost use Rattle.std.specs.Prelude.{◌≡◌, ◌≤◌, ◌^◌, true, IfOk};
 ghost use Rattle.orswot_core.specs.Limits.{is_dot, is_row};
 

@@ -1,3 +1,4 @@
+//! What is timed of a session.
 use crate::making::{ROOM, meta, numbered, replica, topic};
 use channel_session::{LocalPort, Session, SessionFault, deliver, run_text};
 use hook_registry::{NoHooks, RouteFault, Routes};

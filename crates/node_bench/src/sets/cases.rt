@@ -1,3 +1,4 @@
+//! What is timed of the sets.
 use crate::making::{ROOM, raw_row, replica};
 use dot_context::Context;
 use orswot_core::{Form, Orswot, RawRow, RawTold, Told, ToldFault};

@@ -1,3 +1,4 @@
+//! Clones of told values.
 use super::Told;
 use std::alloc::AllocError;
 

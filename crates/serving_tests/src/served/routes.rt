@@ -1,3 +1,4 @@
+//! What a connection meets, for both: routes.
 use hook_registry::Routes;
 use std::alloc::Global;
 

@@ -1,12 +1,12 @@
 use Rattle.std.proofs.Common.{ap}
 use Rattle.presence_journal.specs.History.{Begin, onto}
-use Rattle.presence_journal.specs.Walk.{is_again}
+use Rattle.presence_journal.specs.Walk.{is_reborn}
 use Rattle.presence_journal_sets.proofs.OwnLemmas.{reborn_step}
 use Rattle.presence_journal_sets.proofs.RebornLemmas.{again_none, pair_at, pair_free, pair_dot, pair_row, again_next, again_holds}
 use Rattle.presence_journal_sets.proofs.walked.take_reborn.Goals as goal
 
 pub loop-pair-init : goal.loop-pair-init
-loop-pair-init c = again_none (onto (Begin c.args.start.now) c.args.entries.now) c.args.entry.now c.args.pairs.now c.args.set.now c.requires.legal c.requires.outcome (reborn_step (onto (Begin c.args.start.now) c.args.entries.now) c.args.entry.now c.requires.legal (ap is_again c.requires.outcome)) c.requires.holds
+loop-pair-init c = again_none (onto (Begin c.args.start.now) c.args.entries.now) c.args.entry.now c.args.pairs.now c.args.set.now c.requires.legal c.requires.outcome (reborn_step (onto (Begin c.args.start.now) c.args.entries.now) c.args.entry.now c.requires.legal (ap is_reborn c.requires.outcome)) c.requires.holds
 
 pub add_again-requires-clause-new : goal.add_again-requires-clause-new
 add_again-requires-clause-new c =
