@@ -14,12 +14,13 @@ use presence_node_queue::Taker;
 use presence_node_rations::{RationedPort, Rations};
 use presence_node_sockets::{Watch, number_of};
 use presence_node_tallies::CountingPort;
+use presence_node_web_sockets::WebSocket;
 use shard_pool::{Lane, NoGate, Seat};
 use std::alloc::Global;
 use std::sync::{Arc, Wait};
 use std::thread;
 use std::time::{Clock, Duration};
-use tungstenite::{NoMask, WebSocket};
+use tungstenite::NoMask;
 
 /// So many rounds, of two turns each, may pass before what waits is sent, while clients have further messages.
 const MAX_HELD: u32 = 8;

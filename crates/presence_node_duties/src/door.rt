@@ -12,6 +12,7 @@ use presence_node_leaving::{ClientSocket, ClientStream, socket_config};
 use presence_node_link_threads::time_behind;
 use presence_node_queue::{Giver, MAX_QUEUED};
 use presence_node_sockets::{LAST_TOKEN, Watch, number_of};
+use presence_node_web_sockets::WebSocket;
 use presence_node_workers::MAX_CONNECTIONS;
 use shard_pool::Lane;
 use std::alloc::{AllocError, Global};
@@ -19,7 +20,7 @@ use std::net::{IpAddr, TcpListener, TcpStream};
 use std::sync::Wait;
 use std::thread;
 use std::time::{Clock, Duration};
-use tungstenite::{NoMask, WebSocket};
+use tungstenite::NoMask;
 
 /// How many connections one turn takes.
 const MAX_ACCEPTED: usize = 256;

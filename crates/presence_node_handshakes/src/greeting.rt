@@ -6,10 +6,11 @@ ghost use Rattle.presence_node_requests.specs.Heads.{HasRequest};
 use crate::front::{Front, Tells};
 use crate::seating::{Standing, seated};
 use presence_node_requests::{Answer, Parsed, Reply, Request, answer_of, read_request, reply_of};
+use presence_node_web_sockets::WebSocket;
 use std::alloc::{AllocError, Global};
 use std::io::{ErrorKind, Read, Write};
 use thiserror::Error;
-use tungstenite::{NoMask, Role, WebSocket, WebSocketConfig};
+use tungstenite::{NoMask, Role, WebSocketConfig};
 
 /// After so many looks that end with nothing more to read a handshake is given up.
 pub const MAX_EMPTY_READS: u32 = 200;
@@ -237,13 +238,9 @@ impl<S: Read + Write + Drop> Greeting<S> {
         match write_on(&mut stream, &mut reply) {
             Written::Waits => Greeting::waiting(stream, config, Stage::Writes(reply), empty_reads),
             Written::Ends => Greeted::GivenUp(GivenUp::Failed),
-            Written::All if reply.opens() => Greeted::Open(WebSocket::from_raw_socket(
-                alloc,
-                stream,
-                NoMask,
-                Role::Server,
-                Some(config),
-            )),
+            Written::All if reply.opens() => {
+                Greeted::Open(WebSocket::new(alloc, stream, NoMask, Role::Server, config))
+            }
             Written::All => Greeted::GivenUp(GivenUp::Answered),
         }
     }

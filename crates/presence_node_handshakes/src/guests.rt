@@ -6,9 +6,10 @@ ghost use Rattle.presence_node_handshakes.specs.Guests.{Admits, Fits, Looks, Loo
 use crate::front::{Front, Tells};
 use crate::greeting::{Greeted, Greeting};
 use crate::seating::Standing;
+use presence_node_web_sockets::WebSocket;
 use std::alloc::{AllocError, Global};
 use std::io::{Read, Write};
-use tungstenite::{NoMask, WebSocket, WebSocketConfig};
+use tungstenite::{NoMask, WebSocketConfig};
 
 /// How many handshakes may be under way.
 pub const MAX_HANDSHAKES: usize = 1_024;

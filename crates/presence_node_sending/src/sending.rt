@@ -3,8 +3,9 @@ ghost use Rattle.std.specs.Prelude.{◌≡◌, ◌<◌, [], ◌∷◌, false, le
 ghost use Rattle.presence_node_sending.specs.Passing.{passes as passes_in, is_passing as passing_in};
 ghost use Rattle.presence_node_sending.specs.Sending.{SentAll, Stops};
 
+use presence_node_web_sockets::WebSocket;
 use std::io::{ErrorKind, Read, Write};
-use tungstenite::{Error, MaskKeys, Message, Utf8Bytes, WebSocket};
+use tungstenite::{Error, MaskKeys, Message, Utf8Bytes};
 
 fn passes(kind: ErrorKind) -> bool
     ensures { result ≡ passes_in kind }

@@ -12,9 +12,10 @@ use channel_session::{Delivery, Port, Session, SessionFault, deliver, end, run_t
 use hook_registry::{PresenceHooks, Routes};
 use phx_message::Limits;
 use presence_node_sending::{is_passing, queue_all};
+use presence_node_web_sockets::WebSocket;
 use std::alloc::Global;
 use std::io::{Read, Write};
-use tungstenite::{CloseFrame, Error, MaskKeys, Utf8Bytes, WebSocket, WebSocketConfig};
+use tungstenite::{CloseFrame, Error, MaskKeys, Utf8Bytes, WebSocketConfig};
 
 /// How long a connection may be without a message, in milliseconds.
 pub const MAX_SILENCE: u64 = 60_000;

@@ -4,8 +4,9 @@ ghost use Rattle.std.specs.Prelude.{◌≡◌};
 
 use crate::cause::{Cause, cause_of};
 use presence_node_sending::is_passing;
+use presence_node_web_sockets::WebSocket;
 use std::io::{Read, Write};
-use tungstenite::{Error, MaskKeys, Message, Utf8Bytes, WebSocket};
+use tungstenite::{Error, MaskKeys, Message, Utf8Bytes};
 
 /// What one read of a connection gave.
 #[derive(Drop)]

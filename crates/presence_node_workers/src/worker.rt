@@ -13,11 +13,12 @@ use crate::resting::Resting;
 use hook_registry::{PresenceHooks, Routes};
 use presence_node_queue::{NoneWaits, Numbered, Taker};
 use presence_node_turns::{Connection, Port};
+use presence_node_web_sockets::WebSocket;
 use slab::Slab;
 use std::alloc::{AllocError, Global};
 use std::io::{Read, Write};
 use std::sync::Wait;
-use tungstenite::{NoMask, WebSocket};
+use tungstenite::NoMask;
 
 /// How many connections a worker serves at most.
 pub const MAX_CONNECTIONS: usize = 1_024;

@@ -7,12 +7,13 @@ use presence_node_duties::{
 use presence_node_options::ServeOptions;
 use presence_node_queue::Giver;
 use presence_node_sockets::{Bell, Watch};
+use presence_node_web_sockets::WebSocket;
 use shard_pool::{Lane, Seat};
 use std::alloc::Global;
 use std::io;
 use std::net::{Net, TcpListener};
 use std::sync::atomic::{AtomicBool, AtomicU64};
-use tungstenite::{NoMask, WebSocket};
+use tungstenite::NoMask;
 
 /// The end of the queue that the door gives connections to.
 type Waiting = Giver<WebSocket<ClientSocket, NoMask>>;

@@ -3,11 +3,12 @@
 use crate::served::{Connection, Progress, Wire, add_frame, rooms, socket_config, wire_of};
 use hook_registry::NoHooks;
 use presence_node_client_streams::ClientStream;
+use presence_node_web_sockets::WebSocket;
 use session_desk::TestPort;
 use std::alloc::{AllocError, Global};
 use std::io::{ErrorKind, Read, Write};
 use std::test::Fail;
-use tungstenite::{NoMask, Role, WebSocket};
+use tungstenite::{NoMask, Role};
 
 // The first 30,000 frames of a message that doesn't end, of 6 bytes each.
 fn without_end(alloc: Global) -> Result<Vec<u8>, AllocError> {
@@ -28,13 +29,7 @@ fn a_turn_reads_so_much(rt: HostRuntime) -> Result<(), Fail> {
         return Err(Fail::new("none was given"));
     };
     let stream = ClientStream::new(wire_of(alloc, &sent));
-    let socket = WebSocket::from_raw_socket(
-        alloc,
-        stream,
-        NoMask,
-        Role::Server,
-        Some(socket_config()),
-    );
+    let socket = WebSocket::new(alloc, stream, NoMask, Role::Server, socket_config());
     let mut connection = Connection::new(alloc, socket, 1, 0);
     for (left, put_off) in [(114_464, true), (48_928, true), (0, false)] {
         let progress = connection.turn(alloc, &mut port, &routes, &NoHooks, 0);

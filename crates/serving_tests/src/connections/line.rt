@@ -2,9 +2,10 @@
 
 use crate::served::{Connection, Progress, Wire, rooms, socket_config, socket_over};
 use hook_registry::{NoHooks, Routes};
+use presence_node_web_sockets::WebSocket;
 use session_desk::TestPort;
 use std::alloc::Global;
-use tungstenite::{NoMask, Role, WebSocket};
+use tungstenite::{NoMask, Role};
 
 // A connection of number 1 to a shard of `a.1`, with the route `room:*`.
 pub(super) struct Line<'a> {
@@ -46,7 +47,7 @@ pub(super) fn line_over<'a>(alloc: Global, wire: Wire<'a>) -> Option<Line<'a>> {
 // The same, where so many bytes may wait to be sent.
 pub(super) fn line_within<'a>(alloc: Global, wire: Wire<'a>, most: usize) -> Option<Line<'a>> {
     let config = socket_config().max_write_buffer_size(most);
-    let socket = WebSocket::from_raw_socket(alloc, wire, NoMask, Role::Server, Some(config));
+    let socket = WebSocket::new(alloc, wire, NoMask, Role::Server, config);
     line_at(alloc, socket)
 }
 

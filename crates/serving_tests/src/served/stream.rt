@@ -1,10 +1,11 @@
 //! A client's stream in memory, and the frames that it gives and takes.
 
+use presence_node_web_sockets::WebSocket;
 use presence_node_workers::socket_config;
 use std::alloc::{AllocError, Global};
 use std::io;
 use std::io::{ErrorKind, Read, Write};
-use tungstenite::{NoMask, Role, WebSocket};
+use tungstenite::{NoMask, Role};
 
 // Gives the rest, at most `step` bytes a call, and then has nothing; takes all that is written. The
 // read of number `fails_read` fails, and the write of number `fails_write`; so do all behind it,
@@ -96,7 +97,7 @@ pub fn wire_of(alloc: Global, bytes: &[u8]) -> Wire<'_> {
 
 // A server's socket over a stream whose handshake is done.
 pub fn socket_over<'a>(alloc: Global, wire: Wire<'a>) -> WebSocket<Wire<'a>, NoMask> {
-    WebSocket::from_raw_socket(alloc, wire, NoMask, Role::Server, Some(socket_config()))
+    WebSocket::new(alloc, wire, NoMask, Role::Server, socket_config())
 }
 
 // Adds a frame with this first byte. A client's frames are masked, here with zeros.

@@ -3,12 +3,13 @@
 use crate::served::{Wire, rooms, socket_over};
 use hook_registry::{NoHooks, Routes};
 use presence_node_queue::{GiveFault, Giver};
+use presence_node_web_sockets::WebSocket;
 use presence_node_workers::{NoMore, Worker};
 use session_desk::Port;
 use std::alloc::Global;
 use std::io::{Read, Write};
 use std::sync::Wait;
-use tungstenite::{NoMask, WebSocket};
+use tungstenite::NoMask;
 
 // A worker with both ends of its queue, and the port that it is lent. It serves `room:*`.
 pub(crate) struct Desk<'a, S: Read + Write + Drop, P> {

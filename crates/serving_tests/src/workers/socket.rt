@@ -7,6 +7,7 @@ use crate::front::look;
 use crate::served::{REPLIES, TEXTS, add_frame, close_frame, frames};
 use presence_node_handshakes::{Guests, Newcomer, Standing};
 use presence_node_sockets::{listen, next_stream};
+use presence_node_web_sockets::WebSocket;
 use presence_node_workers::socket_config;
 use session_desk::Port;
 use std::alloc::{AllocError, Global};
@@ -16,7 +17,7 @@ use std::sync::Wait;
 use std::test::Fail;
 use std::time::{Clock, Duration};
 use std::{io, thread};
-use tungstenite::{NoMask, WebSocket};
+use tungstenite::NoMask;
 
 // The request of RFC 6455, section 1.3.
 const REQUEST: &[u8] =

@@ -1,0 +1,9 @@
+-- How much memory a buffer keeps.
+use Rattle.std.specs.Prelude.{◌≡◌, ◌≤◌, ℕ, [], length, drop, Vec, vec_capacity}
+use Rattle.std.specs.Global.{Global}
+use Rattle.presence_node_web_sockets.specs.declared.buffer.TheConstants.{KEPT_BYTES}
+
+-- So many bytes are gone from the front of the buffer; where nothing waits in it, it holds little memory.
+abbrev pub IsKept : ℕ → Vec ℕ Global → Type 0
+IsKept gone bytes =
+    (gone ≤ length bytes.items) × (drop gone bytes.items ≡ [] → vec_capacity bytes ≤ KEPT_BYTES)
