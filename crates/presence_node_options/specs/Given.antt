@@ -12,6 +12,7 @@ use Rattle.presence_base.specs.Names.{is_node_name}
 use Rattle.presence_base.specs.Refs.{IsCount}
 use Rattle.presence_node_options.specs.CommandLine.{program}
 use Rattle.presence_node_options.specs.Limits.{numbered}
+use Rattle.presence_node_options.specs.Origins.{AreOrigins}
 use Rattle.presence_node_options.specs.declared.fault.UsageCause.{UsageCause}
 use Rattle.presence_node_options.specs.declared.fault.UsageCause.TheVariants.{Words, Name, Incarnation, Route, Port, LinkPort, Shards, Workers, LinkVersion, Peer, Origin, PerAddress, HandshakesPerSecond}
 use Rattle.presence_node_options.specs.declared.fault.UsageFault.{UsageFault}
@@ -208,9 +209,10 @@ pub record AreFewPatterns (patterns : List Text) : Type 0 where
   pub each : AllByRecursion (λ p. IsTrue (is_pattern p)) patterns
   pub few : length patterns ≤ MAX_ROUTES
 
--- there are no more origins than are allowed
-abbrev pub AreFewOrigins : List Text → Type 0
-AreFewOrigins origins = length origins ≤ MAX_ORIGINS
+-- all are origins, and there are no more than are allowed
+pub record AreFewOrigins (texts : List Text) : Type 0 where
+  pub each : AreOrigins texts
+  pub few : length texts ≤ MAX_ORIGINS
 
 abbrev pub HasCause : UsageCause → UsageFault → Type 0
 HasCause cause (Usage c text) = c ≡ cause

@@ -1,3 +1,4 @@
 pub mod CommandLine
 pub mod Limits
 pub mod Given
+pub mod Origins

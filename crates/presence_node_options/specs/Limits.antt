@@ -1,11 +1,12 @@
 -- What the options of a command line keep.
-use Rattle.std.specs.Prelude.{◌≡◌, ◌≤◌, ◌+◌, ℕ, List, [], ◌∷◌, length, map, IsTrue}
+use Rattle.std.specs.Prelude.{◌≡◌, ◌≤◌, ◌+◌, ℕ, List, [], ◌∷◌, length, map, string_bytes, IsTrue}
 use Rattle.std.specs.Option.{ForSome}
 use Rattle.std.specs.List.{AllByRecursion}
 use Rattle.presence_base.specs.Names.{is_node_name}
 use Rattle.presence_base.specs.Refs.{IsCount}
 use Rattle.hook_registry.specs.Patterns.{is_pattern}
 use Rattle.hook_registry.specs.declared.routes.TheConstants.{MAX_ROUTES}
+use Rattle.presence_node_options.specs.Origins.{AreOrigins}
 use Rattle.presence_node_options.specs.declared.options.StdioOptions.{StdioOptions}
 use Rattle.presence_node_options.specs.declared.options.ServeOptions.{ServeOptions}
 use Rattle.presence_base.specs.declared.names.TheConstants.{MAX_SHARDS}
@@ -37,8 +38,8 @@ pub record IsWithin (o : StdioOptions) : Type 0 where
 abbrev pub IsFrom1To : ℕ → ℕ → Type 0
 IsFrom1To high n = (1 ≤ n) × (n ≤ high)
 
--- the same for a server, with ports from 1 to 65535, shards, workers and origins as many as there may be, and a version of
--- links; its incarnation may be left to the clock, and what one address may have to the server
+-- the same for a server, with ports from 1 to 65535, shards, workers and origins as many as there may be, each origin one as
+-- browsers tell it, and a version of links; its incarnation may be left to the clock, and what one address may have to the server
 pub record IsServedWithin (o : ServeOptions) : Type 0 where
   pub name : IsTrue (is_node_name o.name)
   pub incarnation : ForSome o.incarnation IsCount
@@ -49,6 +50,7 @@ pub record IsServedWithin (o : ServeOptions) : Type 0 where
   pub workers : (1 ≤ o.workers) × (o.workers ≤ MAX_WORKERS)
   pub link_version : (1 ≤ o.link_version) × (o.link_version ≤ MAX_LINK_VERSION)
   pub origins : length o.origins.items ≤ MAX_ORIGINS
+  pub each_origin : AreOrigins (map string_bytes o.origins.items)
   pub per_address : ForSome o.per_address (IsFrom1To MAX_PER_ADDRESS)
   pub handshakes_per_second : ForSome o.handshakes_per_second (IsFrom1To MAX_HANDSHAKES_PER_SECOND)
 

@@ -7,6 +7,7 @@ ghost use Rattle.presence_node_options.specs.CommandLine.{flag_rule, option_rule
 ghost use Rattle.presence_node_options.specs.Given.{AskFor, Chooses, ChoosesNone, HasCause, Refused, IsHelpFor, IsNoHelp, IsGiven, IsServed, IsServedWrong, IsFor, IsLife, IsWrong, AreFewOrigins, AreFewPatterns, AreHandshakes, AllArePeers, ArePeers, IsPerAddress, flag_given, handshakes_given, life_given, number_in, per_address_given, origins_given, patterns_given, peers_given};
 ghost use Rattle.presence_node_options.specs.declared.options.TheConstants.{MAX_HANDSHAKES_PER_SECOND, MAX_ORIGINS, MAX_PER_ADDRESS};
 ghost use Rattle.presence_node_options.specs.Limits.{AreRoutes, IsFrom1To, IsWithin, IsServedWithin, AreWithin, numbered};
+ghost use Rattle.presence_node_options.specs.Origins.{AreOrigins};
 
 use crate::fault::{UsageCause, UsageFault};
 use crate::help::{
@@ -406,6 +407,7 @@ fn given_origins(alloc: Global, matches: &ArgMatches<'_>) -> Result<Vec<String>,
     ensures origins { IfOk result
         (λ origins. map string_bytes origins.items ≡ origins_given (rows_of (found_of matches.now))) }
     ensures few { IfOk result (λ origins. vec_len origins ≤ MAX_ORIGINS) }
+    ensures each { IfOk result (λ origins. AreOrigins (map string_bytes origins.items)) }
     ensures given { OnOk result (AreFewOrigins (origins_given (rows_of (found_of matches.now)))) }
     ensures cause { IfErr result (IsFor UsageCause.Origin
         (AreFewOrigins (origins_given (rows_of (found_of matches.now))) → ⊥)) }

@@ -25,7 +25,7 @@ pub enum UsageCause {
     LinkVersion,
     /// A peer is no name, host and port.
     Peer,
-    /// There are too many origins.
+    /// An origin is none as browsers tell it, or there are too many.
     Origin,
     /// The number of clients of one address is none from 1 to `MAX_PER_ADDRESS`.
     PerAddress,

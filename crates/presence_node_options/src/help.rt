@@ -53,7 +53,7 @@ pub(crate) const LINK_VERSION_HELP: &str =
 1 is for clusters that are upgraded node by node";
 
 pub(crate) const ORIGIN_HELP: &str = "Where pages may connect from; up to 64 times [default: any]
-As https://example.com; pages of other origins are refused";
+As https://example.com, without a slash; other pages are refused";
 
 pub(crate) const PER_ADDRESS_HELP: &str =
     "Clients that one address may have, 1 to 65536 [default: half of all]
@@ -61,6 +61,7 @@ Not given, this machine and private networks may have any number";
 
 pub(crate) const HANDSHAKES_HELP: &str =
     "Handshakes a second of one address, 1 to 1000 [default: 20]
+Whole milliseconds lie between two: 300 lets 333 in, 501 lets 1000
 Not given, this machine and private networks may make any number";
 
 pub(crate) const SHARDS_HELP: &str = "How many shards the topics are dealt to, 1 to 4 [default: 4]";
@@ -187,4 +188,5 @@ fold takes --explain;
 serve takes --name, --incarnation and --route as stdio, --port PORT and --link-port PORT, 1 to
 65535, --shards NUMBER, 1 to 4, --workers NUMBER, 1 to 64, --link-version NUMBER, 1 or 2, --peer
 NAME=HOST:PORT, as often as one likes, --listen ADDRESS, --link-listen ADDRESS, up to 64 times
---origin ORIGIN, --per-address NUMBER, 1 to 65536, and --handshakes NUMBER, 1 to 1000";
+--origin ORIGIN, scheme://host or scheme://host:port, --per-address NUMBER, 1 to 65536, and
+--handshakes NUMBER, 1 to 1000";

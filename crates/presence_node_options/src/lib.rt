@@ -1,7 +1,8 @@
 //! The program's command line.
 //!
 //! What its contracts cite: `CommandLine` has the commands as the parser reads them; `Given` says
-//! which options the words give and which words are refused; `Limits` says what options keep.
+//! which options the words give and which words are refused; `Limits` says what options keep, and `Origins` what an
+//! origin is.
 #![tactic(auto)]
 
 mod command_line;
@@ -9,6 +10,7 @@ mod fault;
 mod help;
 pub mod laws;
 mod options;
+mod origin;
 mod values;
 
 pub use command_line::options_of;

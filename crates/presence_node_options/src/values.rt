@@ -4,6 +4,7 @@ ghost use Rattle.presence_base.specs.Names.{is_node_name};
 ghost use Rattle.presence_base.specs.Refs.{IsCount};
 ghost use Rattle.presence_node_options.specs.Given.{number_in, AllArePeers, ArePeers, IsAddressIn, IsPeerIn, IsPeerText, IsIncarnation, IsIncarnationIn, IsNumberIn, IsNumberWithin, HasCause, IsFor, MayFollow, AreFewOrigins, AreFewPatterns};
 ghost use Rattle.presence_node_options.specs.Limits.{ArePatterns, AreRoutes, numbered};
+ghost use Rattle.presence_node_options.specs.Origins.{AreOrigins, is_origin};
 ghost use Rattle.presence_base.specs.declared.names.TheConstants.{MAX_SHARDS};
 ghost use Rattle.presence_node_options.specs.declared.options.TheConstants.{MAX_HANDSHAKES_PER_SECOND, MAX_LINK_VERSION, MAX_ORIGINS, MAX_PER_ADDRESS, MAX_WORKERS};
 
@@ -12,6 +13,7 @@ use crate::options::{
     MAX_HANDSHAKES_PER_SECOND, MAX_LINK_VERSION, MAX_ORIGINS, MAX_PER_ADDRESS, MAX_WORKERS,
     PeerOption,
 };
+use crate::origin::{flaw_of, is_origin};
 use hook_registry::{MAX_PATTERN_BYTES, MAX_ROUTES, RouteFault, Routes};
 use presence_base::{MAX_COUNT, MAX_SHARDS, NodeName};
 use std::alloc::{AllocError, Global};
@@ -349,11 +351,41 @@ fn copies_of(alloc: Global, texts: &[&str]) -> Result<Vec<String>, AllocError>
     Ok(copies)
 }
 
+// Whether the text is an origin, or what is wrong with it.
+fn origin_checked(alloc: Global, text: &str) -> Result<(), UsageFault>
+    ensures is { OnOk result (IsTrue (is_origin text.now)) }
+    ensures cause { IfErr result (IsFor UsageCause.Origin (is_origin text.now ≡ false)) }
+{
+    if is_origin(text.as_bytes()) {
+        return Ok(());
+    }
+    let flaw = flaw_of(text);
+    Err(usage_of(
+        UsageCause::Origin,
+        format!(in alloc;
+            "--origin '{text}': {flaw}; an origin is scheme://host or scheme://host:port, as https://example.com"
+        ),
+    ))
+}
+
+// Whether each of these texts is an origin, or what is wrong with the first that is none.
+#[tactic(auto, using(crate::proofs::Origins::wrong_origin))]
+fn origins_checked(alloc: Global, texts: &[&str]) -> Result<(), UsageFault>
+    ensures are { OnOk result (AreOrigins (map (λ t. t.now) texts.now)) }
+    ensures cause { IfErr result (IsFor UsageCause.Origin (AreOrigins (map (λ t. t.now) texts.now) → ⊥)) }
+{
+    for text in texts {
+        origin_checked(alloc, text)?;
+    }
+    Ok(())
+}
+
 /// The origins that these texts are, in their order.
-#[tactic(auto, using(crate::proofs::Origins::few_origins, crate::proofs::Origins::many_origins))]
+#[tactic(auto, using(crate::proofs::Origins::few_origins, crate::proofs::Origins::many_origins, crate::proofs::Origins::none_wrong, crate::proofs::Origins::copies_are))]
 pub(crate) fn origins_of(alloc: Global, texts: &[&str]) -> Result<Vec<String>, UsageFault>
     ensures origins { IfOk result (λ origins. map string_bytes origins.items ≡ map (λ t. t.now) texts.now) }
     ensures few { IfOk result (λ origins. vec_len origins ≤ MAX_ORIGINS) }
+    ensures each { IfOk result (λ origins. AreOrigins (map string_bytes origins.items)) }
     ensures given { OnOk result (AreFewOrigins (map (λ t. t.now) texts.now)) }
     ensures cause { IfErr result (IsFor UsageCause.Origin (AreFewOrigins (map (λ t. t.now) texts.now) → ⊥)) }
 {
@@ -363,6 +395,7 @@ pub(crate) fn origins_of(alloc: Global, texts: &[&str]) -> Result<Vec<String>, U
             format!(in alloc; "--origin: up to {MAX_ORIGINS} origins may be given"),
         ));
     }
+    origins_checked(alloc, texts)?;
     match copies_of(alloc, texts) {
         Ok(origins) => Ok(origins),
         Err(_) => Err(UsageFault::Memory),

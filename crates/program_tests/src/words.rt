@@ -107,6 +107,77 @@ fn a_server_with_a_life_and_origins(rt: HostRuntime) -> Result<(), Fail> {
     Ok(())
 }
 
+// Origins as browsers tell them.
+const ORIGINS: [&str; 8] = [
+    "https://rooms.example.org",
+    "HTTPS://Example.ORG",
+    "http://127.0.0.1:4000",
+    "http://[::1]:4000",
+    "https://[2001:db8::1]",
+    "http://localhost:65535",
+    "capacitor://my_app",
+    "null",
+];
+
+#[test]
+fn origins_of_browsers(rt: HostRuntime) -> Result<(), Fail> {
+    for origin in ORIGINS {
+        let words = ["p", "serve", "--origin", origin];
+        let Some(options) = served(rt.alloc(), words.as_slice()) else {
+            panic!(rt; "{origin} is refused");
+        };
+        assert_eq!(rt; options.origins.len(), 1);
+        assert_eq!(rt; options.origins[0].as_str(), origin);
+    }
+    Ok(())
+}
+
+// Texts that no browser tells as an origin.
+const NO_ORIGINS: [&str; 16] = [
+    "",
+    "*",
+    "example.org",
+    "//example.org",
+    "1http://example.org",
+    "http://",
+    "http://example.org/",
+    "http://example.org/room",
+    "http://example.org?room",
+    "http://ann@example.org",
+    "http://*.example.org",
+    "http://example.org:",
+    "http://example.org:0",
+    "http://example.org:65536",
+    "http://example.org:08",
+    "http://[::1",
+];
+
+#[test]
+fn texts_that_are_no_origins(rt: HostRuntime) {
+    for text in NO_ORIGINS {
+        let words = ["p", "serve", "--origin", text];
+        assert!(rt;
+            cause_for(rt.alloc(), words.as_slice()) == Some(UsageCause::Origin),
+            "{text}"
+        );
+    }
+}
+
+#[test]
+fn ports_of_schemes(rt: HostRuntime) {
+    for origin in ["http://a:80", "https://a:443"] {
+        let words = ["p", "serve", "--origin", origin];
+        assert!(rt;
+            cause_for(rt.alloc(), words.as_slice()) == Some(UsageCause::Origin),
+            "{origin}"
+        );
+    }
+    for origin in ["http://a:443", "https://a:80", "http://a:180"] {
+        let words = ["p", "serve", "--origin", origin];
+        assert!(rt; served(rt.alloc(), words.as_slice()).is_some(), "{origin}");
+    }
+}
+
 #[test]
 fn a_server_that_limits_addresses(rt: HostRuntime) -> Result<(), Fail> {
     let words = [
