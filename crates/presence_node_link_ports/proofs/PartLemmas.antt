@@ -22,7 +22,7 @@ use Rattle.shard_pool.specs.ShardFault.{ShardFault}
 use Rattle.shard_pool.specs.ShardFault.TheVariants as faults
 use Rattle.node_links_acts.specs.declared.port.ActFault.{ActFault}
 use Rattle.presence_node_link_ports.specs.Asking.{act_fault, told_of, TellsSince}
-use Rattle.presence_node_link_ports.specs.Parts.{IsShortened, IsUpTo, IsPartOnLine, IsOneTooLong, GoesNowhere, TellsPart, FitsNoLine, HasNoLine, is_long}
+use Rattle.presence_node_link_ports.specs.Parts.{HasALineIfOk, IsShortened, IsUpTo, IsPartOnLine, IsOneTooLong, GoesNowhere, TellsPart, FitsNoLine, HasNoLine, is_long}
 
 -- ---- no more than before
 
@@ -114,6 +114,15 @@ no_line_behind Here shard n form r two none behind = go r none (subst (λ f. IfO
     go (Ok None) l b = record { history = b.history; legal = b.legal; here = b.here; is = inl b.is }
     go (Ok (Some t)) l b = record { history = b.history; legal = b.legal; here = b.here; is = inr (t, b.is, l) }
     go (Err f) l b = absurd l
+
+-- a whole is told as it was answered with
+pub told_whole : (Here : History → Type 0) (shard n : ℕ) (form : Form) (r : Result (Option ToldValue) ShardFault) (a : Result (Option ToldValue) ActFault) → a ≡ told_of r → HasALineIfOk shard form r
+    → IfOk r (λ o. IsBehindOf Here (λ h. WhereItFits form (TellsFrom form h (Some n)) o)) → IfErr r (λ e. e ≡ faults.OutOfMemory) → TellsSince Here shard form n a
+told_whole Here shard n form r a is line behind err = subst (TellsSince Here shard form n) (sym is) (go r line behind err)
+  where
+    go : (x : Result (Option ToldValue) ShardFault) → HasALineIfOk shard form x → IfOk x (λ o. IsBehindOf Here (λ h. WhereItFits form (TellsFrom form h (Some n)) o)) → IfErr x (λ e. e ≡ faults.OutOfMemory) → TellsSince Here shard form n (told_of x)
+    go (Ok o) l b e = inl (b, l)
+    go (Err f) l b e = ap act_fault e
 
 pub told_in_part : (Here : History → Type 0) (shard n : ℕ) (form : Form) (r : Result (Option ToldValue) ShardFault) (a : Result (Option ToldValue) ActFault) → a ≡ told_of r → form ≡ Two → IsBehindOf Here (λ h. FitsNoLine shard h n)
     → IfOk r (λ o. IsBehindOf Here (λ h. TellsPart shard h n o)) → IfErr r (λ e. e ≡ faults.OutOfMemory) → TellsSince Here shard form n a

@@ -19,7 +19,7 @@ use Rattle.shard_pool.specs.Unseated.{IsBehindOf, IsMade, IsMadeWhereFull}
 use Rattle.node_links_members.specs.declared.hearer.Telling.{Telling}
 use Rattle.node_links_lines.specs.declared.lines.Line.{Line}
 use Rattle.node_links_lines.specs.declared.lines.Line.TheVariants as lines
-use Rattle.presence_node_link_ports.specs.Parts.{FitsNoLine, TellsPart}
+use Rattle.presence_node_link_ports.specs.Parts.{FitsNoLine, HasALine, TellsPart}
 use Rattle.node_links_acts.specs.Asks.{Ask, Answer, status, heard, merge, permdown, top, told_from, full}
 use Rattle.node_links_acts.specs.declared.port.ActFault.{ActFault}
 use Rattle.node_links_acts.specs.declared.port.ActFault.TheVariants as acts
@@ -60,10 +60,11 @@ abbrev pub Tells : (History → Type 0) → Form → Option ℕ → Result (Opti
 Tells Here form from (Ok told) = IsBehindOf Here (λ h. WhereItFits form (TellsFrom form h from) told)
 Tells Here form from (Err fault) = fault ≡ acts.OutOfMemory
 
--- the same from a count on, or in the second form, where that fits no line at some history of the shard, a part
+-- the same from a count on, which in the second form has a line that is no longer than a line may be; or in the second form,
+-- where that fits no line at some history of the shard, a part
 abbrev pub TellsSince : (History → Type 0) → ℕ → Form → ℕ → Result (Option ToldValue) ActFault → Type 0
 TellsSince Here shard form from (Ok told) =
-    Tells Here form (Some from) (Ok told)
+    (Tells Here form (Some from) (Ok told) × HasALine shard form told)
     ⊎ ((form ≡ Two) × IsBehindOf Here (λ h. FitsNoLine shard h from) × IsBehindOf Here (λ h. TellsPart shard h from told))
 TellsSince Here shard form from (Err fault) = fault ≡ acts.OutOfMemory
 

@@ -1,7 +1,7 @@
 -- What is told in parts, where a kept delta, or all that a shard knows, is more than a line takes.
 use Rattle.std.specs.Prelude.{◌≡◌, ◌⊎◌, ◌<◌, ◌≤◌, ℕ, suc, Bool, true, false, nat_lt, length, Option, Some, None, Result, Ok, Err, ⊤}
 use Rattle.orswot_core_told.specs.declared.form.Form.{Form}
-use Rattle.orswot_core_told.specs.declared.form.Form.TheVariants.{Two}
+use Rattle.orswot_core_told.specs.declared.form.Form.TheVariants.{One, Two}
 use Rattle.orswot_core_told.specs.Telling.{ToldValue}
 use Rattle.orswot_core_told.specs.Checks.{is_too_many_in, WhereItFits}
 use Rattle.delta_range.specs.Deltas.{DeltaValue, telling_in, IsDelta}
@@ -34,6 +34,17 @@ abbrev pub HasNoLine : ℕ → Result (Option ToldValue) ShardFault → Type 0
 HasNoLine shard (Ok None) = ⊤
 HasNoLine shard (Ok (Some t)) = is_long shard t ≡ true
 HasNoLine shard (Err fault) = ⊥
+
+-- a whole that is told: of the second form there is one, and its line has no more bytes than a line may have
+abbrev pub HasALine : ℕ → Form → Option ToldValue → Type 0
+HasALine shard One told = ⊤
+HasALine shard Two None = ⊥
+HasALine shard Two (Some t) = is_long shard t ≡ false
+
+-- the same of a shard's reply
+abbrev pub HasALineIfOk : ℕ → Form → Result (Option ToldValue) ShardFault → Type 0
+HasALineIfOk shard form (Ok told) = HasALine shard form told
+HasALineIfOk shard form (Err fault) = ⊤
 
 -- the delta up to a count, where a line takes it
 abbrev pub IsUpTo : ℕ → ℕ → DeltaValue → Option ToldValue → Type 0

@@ -1,11 +1,11 @@
 //! What is told in parts where it has more than a line takes.
-ghost use Rattle.std.specs.Prelude.{◌≡◌, ◌<◌, not, true, IfOk, IfErr};
+ghost use Rattle.std.specs.Prelude.{◌≡◌, ◌<◌, not, false, true, IfOk, IfErr};
 ghost use Rattle.presence_base.specs.Names.{guarded};
 ghost use Rattle.orswot_core_told.specs.declared.form.Form.TheVariants.{Two};
 ghost use Rattle.delta_range.specs.Deltas.{IsDelta};
 ghost use Rattle.shard_pool.specs.Seats.{IsBehindAt};
 ghost use Rattle.shard_pool.specs.ShardFault.TheVariants.{OutOfMemory};
-ghost use Rattle.presence_node_link_ports.specs.Parts.{HasNoLine, IsShortened, IsUpTo, TellsPart, is_long};
+ghost use Rattle.presence_node_link_ports.specs.Parts.{HasALineIfOk, HasNoLine, IsShortened, IsUpTo, TellsPart, is_long};
 
 use crate::lengths::{delta_ranges_bytes, line_bytes, row_bytes};
 use delta_range::Delta;
@@ -34,6 +34,7 @@ pub(crate) fn is_told_in_parts(
 ) -> bool
     ensures two { result ≡ true → form ≡ Two }
     ensures no_line { result ≡ true → HasNoLine shard whole.now }
+    ensures a_line { result ≡ false → HasALineIfOk shard form whole.now }
 {
     match form {
         Form::One => false,
