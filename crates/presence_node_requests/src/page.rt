@@ -59,12 +59,13 @@ function fold(have, diff) {
   }
 }
 
-// One line a name. Somebody who is here twice, in two tabs, has two metas.
+// One line a name. Somebody who is here twice, in two tabs, has two metas. A meta of another client may tell no time.
 function draw() {
   show("people").replaceChildren(...[...people.keys()].sort().map(key => {
     const metas = people.get(key);
     const line = document.createElement("li");
-    line.textContent = key + (key === name ? " (you)" : "") + ", since " + metas.map(meta => meta.since).join(", ");
+    const since = metas.map(meta => meta.since).filter(time => time).join(", ");
+    line.textContent = key + (key === name ? " (you)" : "") + (since ? ", since " + since : "");
     line.className = key === name ? "me" : "";
     const status = document.createElement("span");
     status.className = "status";
