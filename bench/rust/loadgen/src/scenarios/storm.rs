@@ -1,5 +1,6 @@
 //! The storm: all clients join at once, tracked, until each list is whole; then half of them hang up at once, until the
-//! lists of the other half say so. Behind both the lists are compared, member by member, with what they must be.
+//! lists of the other half say so. Behind both the lists are compared, member by member, with what they must be. At the end
+//! the others hang up too, and what the server keeps is looked at.
 
 use crate::client::Client;
 use crate::crew::{with_herds, Crew, Meeting};
@@ -8,13 +9,17 @@ use crate::fold::Fold;
 use crate::herd::Herd;
 use crate::messages::Event;
 use crate::options::Options;
+use crate::process::memory_kb;
 use serde_json::{json, Value};
+use std::thread::sleep;
 use std::time::{Duration, Instant};
 
 /// So many joins are written before what came back is read.
 const SLICE: usize = 64;
 /// Between the joins and the comparison of the lists what still comes is read for so long.
 const SETTLING: Duration = Duration::from_millis(300);
+/// Behind the last one who leaves the server has so long until its memory is looked at.
+const EMPTYING: Duration = Duration::from_secs(3);
 
 /// What one thread saw.
 struct Part {
@@ -24,6 +29,8 @@ struct Part {
     bytes: u64,
     leave_seconds: f64,
     wrong_after_leave: usize,
+    /// The server's memory once all have gone, in kB.
+    memory: u64,
 }
 
 pub fn run(options: &Options) -> Value {
@@ -41,7 +48,11 @@ pub fn run(options: &Options) -> Value {
         let leave_seconds = leave(herd, options, meeting.moment(thread));
         let wrong_after_leave =
             staying(herd, options).filter(|client| !is_right(client, options, |id| stays(options, id))).count();
-        Part { arrivals, wrong, messages, bytes, leave_seconds, wrong_after_leave }
+        hang_up_all(herd);
+        meeting.moment(thread);
+        sleep(EMPTYING);
+        let memory = memory_kb(options.pid);
+        Part { arrivals, wrong, messages, bytes, leave_seconds, wrong_after_leave, memory }
     });
     line(options, &crew, &meeting)
 }
@@ -147,6 +158,14 @@ fn leave(herd: &mut Herd, options: &Options, begun: Instant) -> f64 {
     seconds
 }
 
+fn hang_up_all(herd: &mut Herd) {
+    for index in 0..herd.clients.len() {
+        if !herd.clients[index].gone {
+            herd.hang_up(index);
+        }
+    }
+}
+
 /// The line; a time that ended with wrong or missing lists is null.
 fn line(options: &Options, crew: &Crew<Part>, meeting: &Meeting) -> Value {
     let parts = &crew.parts;
@@ -158,6 +177,7 @@ fn line(options: &Options, crew: &Crew<Part>, meeting: &Meeting) -> Value {
     let mut replies: Vec<f64> = parts.iter().flat_map(|part| part.arrivals.replies.iter().copied()).collect();
     let all_whole = (missing == 0).then(|| percentile(&mut whole, 1.0));
     let leave = parts.iter().map(|part| part.leave_seconds).fold(0.0, f64::max);
+    let emptied = parts.iter().map(|part| part.memory).max().unwrap_or(0);
     let updates = options.clients * (options.clients / options.rooms);
     json!({
         "clients": options.clients,
@@ -180,6 +200,8 @@ fn line(options: &Options, crew: &Crew<Part>, meeting: &Meeting) -> Value {
         "errors": crew.errors,
         "dead": crew.hung_up,
         "server_cpu_s": rounded(meeting.processor_seconds()),
-        "rss_mb": [crew.memory[0] / 1024, crew.memory[1] / 1024, meeting.memory_kb() / 1024],
+        "rss_mb": [crew.memory[0] / 1024, crew.memory[1] / 1024],
+        "whole_mb": meeting.memory_kb() / 1024,
+        "emptied_mb": emptied / 1024,
     })
 }
