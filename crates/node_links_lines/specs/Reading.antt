@@ -1,7 +1,11 @@
 -- Which line a text is, or the first thing that is wrong with it.
 use Rattle.std.specs.Prelude.{◌≡◌, ◌≤◌, ◌<◌, ℕ, List, length, true, nat_lt, if◌then◌else◌, Option, Some, None, Result, Ok, Err}
+use Rattle.json.specs.Json as json
+use Rattle.json.specs.Token.{Token}
 use Rattle.serde_json.specs.Data.{Data, array, Items, no_items, item}
 use Rattle.serde_json.specs.Read.{read}
+use Rattle.json_parts.specs.Outline.{shallow}
+use Rattle.json_parts.specs.Places.{items_data, AtItems}
 use Rattle.presence_base.specs.Names.{guarded}
 use Rattle.node_links_lines.specs.declared.lines.Line.{Line}
 use Rattle.node_links_lines.specs.declared.lines.Line.TheVariants as lines_are
@@ -12,11 +16,12 @@ use Rattle.node_links_lines.specs.declared.lines.TheConstants.{MAX_LINE_BYTES}
 use Rattle.node_links_lines.specs.declared.kinds.Kind.{Kind}
 use Rattle.node_links_lines.specs.declared.kinds.Kind.TheVariants as kinds_are
 use Rattle.node_links_members.specs.declared.hearer.Hearer.{Hearer}
+use Rattle.node_links_members.specs.declared.telling.TheConstants.{MOST}
 use Rattle.node_links_members.specs.Arrays.{three_in, Four, four_in, Five, five_in, six_in}
 use Rattle.node_links_lines.specs.Limits.{is_within}
 use Rattle.node_links_lines.specs.Kinds.{kind_in}
 use Rattle.node_links_members.specs.Members.{whole_in, number_in, count_in, bound_in, replica_in}
-use Rattle.node_links_members.specs.Results.{◌>>=◌, or_bad}
+use Rattle.node_links_members.specs.Results.{◌>>=◌, Answers, or_bad}
 use Rattle.node_links_members.specs.Told.{told_in, delta_in}
 use Rattle.node_links_lines.specs.Values.{value_of}
 
@@ -106,12 +111,21 @@ line_of_kind h d kinds_are.Ok = ok_in d
 abbrev pub line_in : Hearer → Data → Result Line LinkFault
 line_in h d = or_bad (kind_in d) >>= line_of_kind h d
 
+-- in the array in which a reader stands, and that was seen without what is in its members, this is what is read
+abbrev pub AnswersArray : List Token → Data → (Data → Result Line LinkFault) → Result Line LinkFault → Type 0
+AnswersArray ts seen reading result = (js : json.Items) (rest : List Token) → AtItems ts js rest
+    → seen ≡ shallow MOST (array (items_data js)) → Answers result (reading (array (items_data js)))
+
 abbrev pub found_value : Option Data → Result Data LinkFault
 found_value None = Err NotJson
 found_value (Some d) = Ok d
 
 abbrev pub value_in : List ℕ → Result Data LinkFault
 value_in s = if nat_lt MAX_LINE_BYTES (length s) then Err LineTooLong else found_value (read s)
+
+-- the line that a text of any length is to a hearer
+abbrev pub line_in_text : Hearer → List ℕ → Result Line LinkFault
+line_in_text h s = found_value (read s) >>= line_in h
 
 -- a fault that a text can have
 abbrev pub IsTextFault : List ℕ → LinkFault → Type 0

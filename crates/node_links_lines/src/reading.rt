@@ -1,14 +1,20 @@
-// The lines, read from JSON values.
-ghost use Rattle.std.specs.Prelude.{◌≡◌, ◌≤◌};
+//! The lines, read from JSON texts.
+ghost use Rattle.std.specs.Prelude.{◌≡◌, ◌≤◌, Some, Ok};
+ghost use Rattle.serde_json.specs.Data.{Data};
+ghost use Rattle.serde_json.specs.Read.{read};
 ghost use Rattle.serde_json.specs.View.{view, items_view};
-ghost use Rattle.node_links_lines.specs.Reading.{shard_in, hello_with as with_version, hello_in, beat_in, want_in, told_line_in, permdown_in, gone_in, ok_items, ok_in, line_of_kind, line_in};
-ghost use Rattle.node_links_members.specs.Results.{Answers, or_bad as found_or_bad};
+ghost use Rattle.json_parts.specs.Outline.{shallow as shallow_data};
+ghost use Rattle.node_links_members.specs.declared.telling.TheConstants.{MOST};
+ghost use Rattle.node_links_lines.specs.Reading.{shard_in, hello_with as with_version, hello_in, beat_in, want_in, told_line_in, permdown_in, gone_in, ok_items, ok_in, line_of_kind, line_in, AnswersArray};
+ghost use Rattle.node_links_members.specs.Results.{Answers, Gives, or_bad as found_or_bad};
 
 use crate::kinds::{Kind, kind_of};
 use crate::lines::Line;
+use json::{Reader, Scratch};
+use json_parts::{few_items, shallow};
 use node_links_members::{
-    Hearer, LinkFault, bound_of, delta_of, five_of, four_of, number_of, replica_of, take_six,
-    take_three, three_of, told_of, whole_of,
+    Hearer, LinkFault, MOST, bound_of, five_of, four_of, next_delta, next_told, number_of,
+    replica_of, six_of, three_of, whole_of,
 };
 use presence_base::{MAX_COUNT, MAX_SHARDS};
 use serde_json::Value;
@@ -71,17 +77,24 @@ fn hello_of(alloc: Global, value: &Value) -> Result<Line, LinkFault>
     hello_with(alloc, name, incarnation, shards, Some(version))
 }
 
-fn beat_of(alloc: Global, value: Value, hearer: Hearer) -> Result<Line, LinkFault>
+// The beat whose line is the value, without what is in its members, and in whose array the reader stands.
+fn beat_of(
+    alloc: Global,
+    reader: &mut Reader<'_>,
+    value: &Value,
+    hearer: Hearer,
+) -> Result<Line, LinkFault>
     requires { 1 ≤ hearer.shards }
-    ensures { Answers result (beat_in hearer (view value)) }
+    ensures { AnswersArray reader.old (view value.now) (beat_in hearer) result }
 {
-    let Some((_, shard, name, incarnation, count, delta)) = take_six(value) else {
+    let Some((_, shard, name, incarnation, count, _)) = six_of(value) else {
         return Err(LinkFault::BadLine);
     };
-    let shard = shard_of(&shard, hearer.shards)?;
-    let replica = or_bad(replica_of(alloc, &name, &incarnation))?;
-    let count = or_bad(bound_of(&count))?;
-    let delta = delta_of(alloc, delta, shard, hearer, &replica)?;
+    let shard = shard_of(shard, hearer.shards)?;
+    let replica = or_bad(replica_of(alloc, name, incarnation))?;
+    let count = or_bad(bound_of(count))?;
+    few_items(alloc, reader, 5)?;
+    let delta = next_delta(alloc, reader, shard, hearer, &replica)?;
     Ok(Line::Beat {
         shard,
         replica,
@@ -106,15 +119,22 @@ fn want_of(alloc: Global, value: &Value, shards: u32) -> Result<Line, LinkFault>
     })
 }
 
-fn told_line_of(alloc: Global, value: Value, hearer: Hearer) -> Result<Line, LinkFault>
+// The same of what is told.
+fn told_line_of(
+    alloc: Global,
+    reader: &mut Reader<'_>,
+    value: &Value,
+    hearer: Hearer,
+) -> Result<Line, LinkFault>
     requires { 1 ≤ hearer.shards }
-    ensures { Answers result (told_line_in hearer (view value)) }
+    ensures { AnswersArray reader.old (view value.now) (told_line_in hearer) result }
 {
-    let Some((_, shard, told)) = take_three(value) else {
+    let Some((_, shard, _)) = three_of(value) else {
         return Err(LinkFault::BadLine);
     };
-    let shard = shard_of(&shard, hearer.shards)?;
-    let told = told_of(alloc, told, shard, hearer)?;
+    let shard = shard_of(shard, hearer.shards)?;
+    few_items(alloc, reader, 2)?;
+    let told = next_told(alloc, reader, shard, hearer)?;
     Ok(Line::Told { shard, told })
 }
 
@@ -156,27 +176,54 @@ fn ok_of(value: &Value) -> Result<Line, LinkFault>
     }
 }
 
-// The line of this kind that the value is.
-fn line_of(alloc: Global, kind: Kind, value: Value, hearer: Hearer) -> Result<Line, LinkFault>
+// The line of this kind in whose array the reader stands, and that the value is without what is in its members.
+fn line_of(
+    alloc: Global,
+    reader: &mut Reader<'_>,
+    kind: Kind,
+    value: &Value,
+    hearer: Hearer,
+) -> Result<Line, LinkFault>
     requires { 1 ≤ hearer.shards }
-    ensures { Answers result (line_of_kind hearer (view value) kind) }
+    ensures { AnswersArray reader.old (view value.now) (λ d. line_of_kind hearer d kind) result }
 {
     match kind {
-        Kind::Hello => hello_of(alloc, &value),
-        Kind::Beat => beat_of(alloc, value, hearer),
-        Kind::Want => want_of(alloc, &value, hearer.shards),
-        Kind::Told => told_line_of(alloc, value, hearer),
-        Kind::PermDown => permdown_of(alloc, &value),
-        Kind::Gone => gone_of(alloc, &value),
-        Kind::Ok => ok_of(&value),
+        Kind::Hello => hello_of(alloc, value),
+        Kind::Beat => beat_of(alloc, reader, value, hearer),
+        Kind::Want => want_of(alloc, value, hearer.shards),
+        Kind::Told => told_line_of(alloc, reader, value, hearer),
+        Kind::PermDown => permdown_of(alloc, value),
+        Kind::Gone => gone_of(alloc, value),
+        Kind::Ok => ok_of(value),
     }
 }
 
-// The line that the value is.
-pub(crate) fn line_of_value(alloc: Global, value: Value, hearer: Hearer) -> Result<Line, LinkFault>
-    requires { 1 ≤ hearer.shards }
-    ensures { Answers result (line_in hearer (view value)) }
+// The value that the JSON text is, without what is in its members.
+fn outline_of(alloc: Global, text: &str, scratch: &mut Scratch) -> Result<Value, LinkFault>
+    ensures { (d : Data) → read text.now ≡ Some d → Gives view result (Ok (shallow_data MOST d)) }
 {
+    let Ok(mut reader) = Reader::new(text, scratch) else {
+        return Err(LinkFault::OutOfMemory);
+    };
+    Ok(shallow(alloc, &mut reader, MOST)?)
+}
+
+// The line that the JSON text is.
+pub(crate) fn line_of_json(
+    alloc: Global,
+    text: &str,
+    scratch: &mut Scratch,
+    hearer: Hearer,
+) -> Result<Line, LinkFault>
+    requires { 1 ≤ hearer.shards }
+    ensures { (d : Data) → read text.now ≡ Some d → Answers result (line_in hearer d) }
+{
+    let value = outline_of(alloc, text, scratch)?;
     let kind = or_bad(kind_of(&value))?;
-    line_of(alloc, kind, value, hearer)
+    let Ok(mut reader) = Reader::new(text, scratch) else {
+        return Err(LinkFault::OutOfMemory);
+    };
+    // A line that has a kind is an array: behind its bracket stand its members.
+    reader.next();
+    line_of(alloc, &mut reader, kind, &value, hearer)
 }

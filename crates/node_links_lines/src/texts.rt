@@ -7,34 +7,29 @@ ghost use Rattle.node_links_members.specs.declared.hearer.Hearer.{Hearer as Hear
 ghost use Rattle.node_links_members.specs.declared.fault.LinkFault.TheVariants.{LineTooLong};
 ghost use Rattle.node_links_lines.specs.declared.lines.TheConstants.{MAX_LINE_BYTES};
 ghost use Rattle.node_links_lines.specs.Limits.{is_within};
-ghost use Rattle.node_links_lines.specs.Reading.{IsLine, IsTextFault, value_in, decoded};
+ghost use Rattle.node_links_lines.specs.Reading.{IsLine, IsTextFault, line_in_text, decoded};
 ghost use Rattle.node_links_members.specs.Results.{Answers, Gives};
 ghost use Rattle.node_links_lines.specs.Values.{value_of};
 ghost use Rattle.node_links_lines.specs.Writing.{text_of, encoded};
 
 use crate::lines::{Line, MAX_LINE_BYTES};
-use crate::reading::line_of_value;
+use crate::reading::line_of_json;
 use crate::values::value_of_line;
+use json::Scratch;
+use json_parts::is_json;
 use node_links_members::{Hearer, LinkFault};
-use serde_json::{Category, Value};
 use std::alloc::{AllocError, Global};
 
-// The JSON value that the text is.
-fn value_of_text(alloc: Global, text: &str) -> Result<Value, LinkFault>
-    ensures value { Gives view result (value_in text.now) }
-    ensures long { MAX_LINE_BYTES < length text.now → result ≡ Err LineTooLong }
+// The line that the text is to a hearer: first whether it's JSON, with nothing kept of it, then its parts one by one.
+fn line_of_text(alloc: Global, text: &str, hearer: Hearer) -> Result<Line, LinkFault>
+    requires { 1 ≤ hearer.shards }
+    ensures { Answers result (line_in_text hearer text.now) }
 {
-    if text.len() > MAX_LINE_BYTES {
-        return Err(LinkFault::LineTooLong);
-    }
-    match Value::from_str(alloc, text) {
-        Ok(value) => Ok(value),
-        Err(e) => match e.classify() {
-            Category::Memory => Err(LinkFault::OutOfMemory),
-            Category::Syntax | Category::Eof | Category::Data | Category::Io => Err(
-                LinkFault::NotJson,
-            ),
-        },
+    let mut scratch = Scratch::new(alloc);
+    match is_json(text, &mut scratch) {
+        Ok(true) => line_of_json(alloc, text, &mut scratch, hearer),
+        Ok(false) => Err(LinkFault::NotJson),
+        Err(_) => Err(LinkFault::OutOfMemory),
     }
 }
 
@@ -43,8 +38,10 @@ fn decode_exactly(alloc: Global, text: &str, hearer: Hearer) -> Result<Line, Lin
     ensures exact { Answers result (decoded hearer text.now) }
     ensures long { MAX_LINE_BYTES < length text.now → result ≡ Err LineTooLong }
 {
-    let value = value_of_text(alloc, text)?;
-    line_of_value(alloc, value, hearer)
+    if text.len() > MAX_LINE_BYTES {
+        return Err(LinkFault::LineTooLong);
+    }
+    line_of_text(alloc, text, hearer)
 }
 
 /// The line that a text is to a hearer, or the first thing that is wrong with the text. What is told in another form than

@@ -1,4 +1,4 @@
-// The JSON values that lines are written as.
+//! The JSON values that lines are written as.
 ghost use Rattle.std.specs.Prelude.{◌≡◌, map, true, IfOk};
 ghost use Rattle.serde_json.specs.View.{view};
 ghost use Rattle.orswot_core_told.specs.declared.form.Form.TheVariants.{One, Two};

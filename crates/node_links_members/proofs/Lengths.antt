@@ -1,6 +1,6 @@
 -- What the length of an array says of its members.
-use Rattle.std.proofs.Common.{◌≡◌, ◌≢◌, [], ◌∷◌, List, length, None, refl}
-use Rattle.serde_json.specs.View.{items_view}
+use Rattle.std.proofs.Common.{◌≡◌, ◌≢◌, [], ◌∷◌, List, length, slice_index_or, Some, None, refl, arith}
+use Rattle.serde_json.specs.View.{view, items_view}
 use Rattle.serde_json.specs.declared.value.Value.{Value}
 use Rattle.node_links_members.specs.Arrays.{two_items, three_items, four_items, five_items, six_items, eight_items}
 
@@ -55,3 +55,21 @@ not_eight (a ∷ b ∷ c ∷ d ∷ e ∷ f ∷ []) h = refl
 not_eight (a ∷ b ∷ c ∷ d ∷ e ∷ f ∷ g ∷ []) h = refl
 not_eight (a ∷ b ∷ c ∷ d ∷ e ∷ f ∷ g ∷ i ∷ []) h = absurd (h refl)
 not_eight (a ∷ b ∷ c ∷ d ∷ e ∷ f ∷ g ∷ i ∷ j ∷ vs) h = refl
+
+pub six_of_list : (vs : List Value) (a b c d e f : Value) → length vs ≡ 6 → a ≡ slice_index_or vs 0 a → b ≡ slice_index_or vs 1 b → c ≡ slice_index_or vs 2 c
+    → d ≡ slice_index_or vs 3 d → e ≡ slice_index_or vs 4 e → f ≡ slice_index_or vs 5 f → Some (view a, view b, view c, view d, view e, view f) ≡ six_items (items_view vs)
+six_of_list [] a b c d e f h i j k l m n = absurd (omega (arith, h))
+six_of_list (p ∷ []) a b c d e f h i j k l m n = absurd (omega (arith, h))
+six_of_list (p ∷ q ∷ []) a b c d e f h i j k l m n = absurd (omega (arith, h))
+six_of_list (p ∷ q ∷ r ∷ []) a b c d e f h i j k l m n = absurd (omega (arith, h))
+six_of_list (p ∷ q ∷ r ∷ s ∷ []) a b c d e f h i j k l m n = absurd (omega (arith, h))
+six_of_list (p ∷ q ∷ r ∷ s ∷ t ∷ []) a b c d e f h i j k l m n = absurd (omega (arith, h))
+six_of_list (p ∷ q ∷ r ∷ s ∷ t ∷ u ∷ []) a b c d e f h i j k l m n =
+    let x : a ≡ p = i in
+    let y : b ≡ q = j in
+    let z : c ≡ r = k in
+    let v : d ≡ s = l in
+    let w : e ≡ t = m in
+    let o : f ≡ u = n in
+    rw (x, y, z, v, w, o)
+six_of_list (p ∷ q ∷ r ∷ s ∷ t ∷ u ∷ o ∷ vs) a b c d e f h i j k l m n = absurd (omega (arith, h))

@@ -26,3 +26,17 @@ pub enum LinkFault {
     #[error("the end came within a line")]
     CutLine,
 }
+
+impl From<json::Error> for LinkFault {
+    ghost use Rattle.std.specs.Prelude.{◌≡◌};
+    ghost use Rattle.node_links_members.specs.Reading.{reading_fault};
+
+    ghost from_gives = { λ e f. f ≡ reading_fault e };
+
+    fn from(e: json::Error) -> LinkFault {
+        match e {
+            json::Error::OutOfMemory => LinkFault::OutOfMemory,
+            _ => LinkFault::NotJson,
+        }
+    }
+}

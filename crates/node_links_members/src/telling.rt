@@ -1,16 +1,28 @@
-// The parts of a told value, read from JSON values.
-ghost use Rattle.std.specs.Prelude.{◌≡◌, option_map};
+//! The parts of a told value: ranges, dots and rows, and the lists of these, read one by one.
+ghost use Rattle.std.specs.Prelude.{◌≡◌, ◌<◌, List, length, OnOk, IfOk, IfSome, option_map, unwrap_or};
+ghost use Rattle.json.specs.Json.{Items as JsonItems};
+ghost use Rattle.json.specs.Token.{Token};
+ghost use Rattle.serde_json.specs.Data.{null, array};
 ghost use Rattle.serde_json.specs.View.{view, items_view};
-ghost use Rattle.node_links_members.specs.Results.{Adds, Gives, or_bad};
-ghost use Rattle.node_links_members.specs.Telling.{range_in, extra_in, prev_in, object_in, row_of as row_read, row_in, each_in, list_in};
+ghost use Rattle.json_parts.specs.Places.{items_data, AtItems};
+ghost use Rattle.node_links_members.specs.Reading.{Found, FoundNext, IsNextRow};
+ghost use Rattle.node_links_members.specs.Results.{Adds, or_bad};
+ghost use Rattle.node_links_members.specs.Rows.{front_in, entry_in, kept_row_in, raw_row_in};
+ghost use Rattle.node_links_members.specs.Taken.{front_view};
+ghost use Rattle.node_links_members.specs.Telling.{range_in, extra_in, prev_in, each_in, list_in};
 
-use crate::arrays::{RowMembers, four_of, take_eight, three_of};
+use crate::arrays::{four_of, take_six_items, three_of};
 use crate::fault::LinkFault;
 use crate::members::{bound_of, dot_of, replica_of, text_of, whole_of};
+use json::Reader;
+use json_parts::{Begun, begin, few_items, next_meta, next_shallow};
 use orswot_core::RawRow;
-use presence_base::{Dot, Replica};
+use presence_base::{Dot, Meta, Replica};
 use serde_json::Value;
 use std::alloc::Global;
+
+/// How many items of an array are read: more than any array of a line has that is no list.
+pub const MOST: usize = 9;
 
 // The range that the value is: a replica, and the counts that it begins above and ends at.
 fn range_of(alloc: Global, value: &Value) -> Option<(Replica, u64, u64)>
@@ -23,12 +35,25 @@ fn range_of(alloc: Global, value: &Value) -> Option<(Replica, u64, u64)>
     Some((replica, from, to))
 }
 
+// The same of a value that isn't needed any more.
+fn range_from(alloc: Global, value: Value) -> Option<(Replica, u64, u64)>
+    ensures { result ≡ range_in (view value) }
+{
+    range_of(alloc, &value)
+}
+
 // The dot that the value is.
 fn extra_of(alloc: Global, value: &Value) -> Option<Dot>
     ensures { result ≡ extra_in (view value.now) }
 {
     let (name, incarnation, count) = three_of(value)?;
     dot_of(alloc, name, incarnation, count)
+}
+
+fn extra_from(alloc: Global, value: Value) -> Option<Dot>
+    ensures { result ≡ extra_in (view value) }
+{
+    extra_of(alloc, &value)
 }
 
 // The dot that the value is, or none where it is null.
@@ -44,29 +69,20 @@ fn prev_of(alloc: Global, value: &Value) -> Option<Option<Dot>>
     }
 }
 
-fn object_of(value: Value) -> Option<Value>
-    ensures { option_map view result ≡ object_in (view value) }
-{
-    match value {
-        Value::Object(members) => Some(Value::Object(members)),
-        _ => None,
-    }
-}
-
+// The row of these members, with its meta where it has one.
 fn raw_row_of(
     alloc: Global,
     topic: Value,
     key: Value,
     pid: &Value,
-    meta: Value,
+    meta: Option<Meta>,
     prev: &Value,
 ) -> Option<RawRow>
-    ensures { result ≡ row_read (view topic) (view key) (view pid.now) (view meta) (view prev.now) }
+    ensures { result ≡ raw_row_in (view topic) (view key) (view pid.now) (unwrap_or meta null) (view prev.now) }
 {
     let topic = text_of(topic)?;
     let key = text_of(key)?;
     let pid = whole_of(pid)?;
-    let meta = object_of(meta)?;
     let prev = prev_of(alloc, prev)?;
     Some(RawRow {
         topic,
@@ -77,31 +93,76 @@ fn raw_row_of(
     })
 }
 
-// The row that the value is, with its dot.
-fn row_of(alloc: Global, value: Value) -> Option<(Dot, RawRow)>
-    ensures { result ≡ row_in (view value) }
+// What is read of a row before its meta.
+#[derive(Drop)]
+struct Front {
+    dot: Dot,
+    topic: Value,
+    key: Value,
+    pid: Value,
+}
+
+// The dot of a row, its topic, its key and its pid, where there are as many members.
+fn front_of(alloc: Global, items: Vec<Value>) -> Option<Front>
+    ensures { option_map front_view result ≡ front_in (items_view items.items) }
 {
-    let RowMembers {
-        name,
-        incarnation,
-        count,
+    let (name, incarnation, count, topic, key, pid) = take_six_items(items)?;
+    let dot = dot_of(alloc, &name, &incarnation, &count)?;
+    Some(Front {
+        dot,
         topic,
         key,
         pid,
-        meta,
-        prev,
-    } = take_eight(value)?;
-    let dot = dot_of(alloc, &name, &incarnation, &count)?;
+    })
+}
+
+// The row of what was read of it, with its dot.
+fn row_from(alloc: Global, front: Front, meta: Option<Meta>, prev: Value) -> Option<(Dot, RawRow)>
+    ensures { result ≡ entry_in (front_view front) (unwrap_or meta null) (view prev) }
+{
+    let Front {
+        dot,
+        topic,
+        key,
+        pid,
+    } = front;
     let row = raw_row_of(alloc, topic, key, &pid, meta, &prev)?;
     Some((dot, row))
 }
 
-fn ranges_of_items(alloc: Global, items: &[Value]) -> Result<Vec<(Replica, u64, u64)>, LinkFault>
-    ensures { Gives (λ v. v.items) result (or_bad (each_in range_in (items_view items.now))) }
+// The row in whose array the reader stands, with its dot.
+fn row_of(alloc: Global, reader: &mut Reader<'_>) -> Result<(Dot, RawRow), LinkFault>
+    ensures row { (js : JsonItems) (rest : List Token) → AtItems reader.old js rest
+        → Found (λ x. x) reader.new rest result (or_bad (kept_row_in (array (items_data js)))) }
+    ensures shorter { OnOk result (length reader.new < length reader.old) }
+{
+    let items = few_items(alloc, reader, 6)?;
+    let Some(front) = front_of(alloc, items) else {
+        return Err(LinkFault::BadLine);
+    };
+    let Some(meta) = next_meta(alloc, reader)? else {
+        return Err(LinkFault::BadLine);
+    };
+    let Some(prev) = next_shallow(alloc, reader, MOST)? else {
+        return Err(LinkFault::BadLine);
+    };
+    if !reader.take_end_array() {
+        return Err(LinkFault::BadLine);
+    }
+    let Some(row) = row_from(alloc, front, meta, prev) else {
+        return Err(LinkFault::BadLine);
+    };
+    Ok(row)
+}
+
+// The ranges in whose list the reader stands.
+fn ranges_in(alloc: Global, reader: &mut Reader<'_>) -> Result<Vec<(Replica, u64, u64)>, LinkFault>
+    ensures { (js : JsonItems) (rest : List Token) → AtItems reader.old js rest
+        → Found (λ v. v.items) reader.new rest result (or_bad (each_in range_in (items_data js))) }
 {
     let mut ranges = Vec::new(alloc);
-    for item in items {
-        let Some(range) = range_of(alloc, item) else {
+    while let Some(item) = next_shallow(alloc, reader, MOST)? {
+        let Some(range) = range_from(alloc, item) else {
             return Err(LinkFault::BadLine);
         };
         push(&mut ranges, range)?;
@@ -109,22 +170,28 @@ fn ranges_of_items(alloc: Global, items: &[Value]) -> Result<Vec<(Replica, u64, 
     Ok(ranges)
 }
 
-// The ranges that the list is.
-pub(crate) fn ranges_of(alloc: Global, value: &Value) -> Result<Vec<(Replica, u64, u64)>, LinkFault>
-    ensures { Gives (λ v. v.items) result (or_bad (list_in range_in (view value.now))) }
+// The list of ranges that is next.
+pub(crate) fn next_ranges(
+    alloc: Global,
+    reader: &mut Reader<'_>,
+) -> Result<Vec<(Replica, u64, u64)>, LinkFault>
+    ensures { (js : JsonItems) (rest : List Token) → AtItems reader.old js rest
+        → FoundNext (λ v. v.items) (list_in range_in) js rest reader.new result }
 {
-    match value {
-        Value::Array(items) => ranges_of_items(alloc, items),
+    match begin(reader) {
+        Begun::Array => ranges_in(alloc, reader),
         _ => Err(LinkFault::BadLine),
     }
 }
 
-fn extras_of_items(alloc: Global, items: &[Value]) -> Result<Vec<Dot>, LinkFault>
-    ensures { Gives (λ v. v.items) result (or_bad (each_in extra_in (items_view items.now))) }
+// The dots in whose list the reader stands.
+fn extras_in(alloc: Global, reader: &mut Reader<'_>) -> Result<Vec<Dot>, LinkFault>
+    ensures { (js : JsonItems) (rest : List Token) → AtItems reader.old js rest
+        → Found (λ v. v.items) reader.new rest result (or_bad (each_in extra_in (items_data js))) }
 {
     let mut dots = Vec::new(alloc);
-    for item in items {
-        let Some(dot) = extra_of(alloc, item) else {
+    while let Some(item) = next_shallow(alloc, reader, MOST)? {
+        let Some(dot) = extra_from(alloc, item) else {
             return Err(LinkFault::BadLine);
         };
         push(&mut dots, dot)?;
@@ -132,35 +199,52 @@ fn extras_of_items(alloc: Global, items: &[Value]) -> Result<Vec<Dot>, LinkFault
     Ok(dots)
 }
 
-// The dots that the list is.
-pub(crate) fn extras_of(alloc: Global, value: &Value) -> Result<Vec<Dot>, LinkFault>
-    ensures { Gives (λ v. v.items) result (or_bad (list_in extra_in (view value.now))) }
+// The list of dots that is next.
+pub(crate) fn next_extras(alloc: Global, reader: &mut Reader<'_>) -> Result<Vec<Dot>, LinkFault>
+    ensures { (js : JsonItems) (rest : List Token) → AtItems reader.old js rest
+        → FoundNext (λ v. v.items) (list_in extra_in) js rest reader.new result }
 {
-    match value {
-        Value::Array(items) => extras_of_items(alloc, items),
+    match begin(reader) {
+        Begun::Array => extras_in(alloc, reader),
         _ => Err(LinkFault::BadLine),
     }
 }
 
-fn rows_of_items(alloc: Global, items: Vec<Value>) -> Result<Vec<(Dot, RawRow)>, LinkFault>
-    ensures { Gives (λ v. v.items) result (or_bad (each_in row_in (items_view items.items))) }
+// The next row of a list, or none at its end.
+fn next_row(alloc: Global, reader: &mut Reader<'_>) -> Result<Option<(Dot, RawRow)>, LinkFault>
+    ensures row { (js : JsonItems) (rest : List Token) → AtItems reader.old js rest
+        → IsNextRow js rest reader.new result }
+    ensures shorter { IfOk result (λ o. IfSome o (λ _. length reader.new < length reader.old)) }
+{
+    match begin(reader) {
+        Begun::End => Ok(None),
+        Begun::Array => Ok(Some(row_of(alloc, reader)?)),
+        _ => Err(LinkFault::BadLine),
+    }
+}
+
+// The rows in whose list the reader stands, each with its dot.
+fn rows_in(alloc: Global, reader: &mut Reader<'_>) -> Result<Vec<(Dot, RawRow)>, LinkFault>
+    ensures { (js : JsonItems) (rest : List Token) → AtItems reader.old js rest
+        → Found (λ v. v.items) reader.new rest result (or_bad (each_in kept_row_in (items_data js))) }
 {
     let mut rows = Vec::new(alloc);
-    for item in items {
-        let Some(row) = row_of(alloc, item) else {
-            return Err(LinkFault::BadLine);
-        };
+    while let Some(row) = next_row(alloc, reader)? {
         push_row(&mut rows, row)?;
     }
     Ok(rows)
 }
 
-// The rows that the list is, each with its dot.
-pub(crate) fn rows_of(alloc: Global, value: Value) -> Result<Vec<(Dot, RawRow)>, LinkFault>
-    ensures { Gives (λ v. v.items) result (or_bad (list_in row_in (view value))) }
+// The list of rows that is next.
+pub(crate) fn next_rows(
+    alloc: Global,
+    reader: &mut Reader<'_>,
+) -> Result<Vec<(Dot, RawRow)>, LinkFault>
+    ensures { (js : JsonItems) (rest : List Token) → AtItems reader.old js rest
+        → FoundNext (λ v. v.items) (list_in kept_row_in) js rest reader.new result }
 {
-    match value {
-        Value::Array(items) => rows_of_items(alloc, items),
+    match begin(reader) {
+        Begun::Array => rows_in(alloc, reader),
         _ => Err(LinkFault::BadLine),
     }
 }

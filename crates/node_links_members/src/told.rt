@@ -1,34 +1,48 @@
-// Told values, read from JSON values and checked.
-ghost use Rattle.std.specs.Prelude.{◌≡◌, ◌≤◌, IfOk};
+//! Told values, read from a text and checked.
+ghost use Rattle.std.specs.Prelude.{◌≡◌, ◌≤◌, List, IfOk};
 ghost use Rattle.std.specs.List.{list_all};
-ghost use Rattle.serde_json.specs.View.{view};
+ghost use Rattle.json.specs.Json.{Json, Items as JsonItems, item};
+ghost use Rattle.json.specs.Token.{Token};
+ghost use Rattle.serde_json.specs.Data.{array};
 ghost use Rattle.presence_base.specs.Order.{same_replica as is_replica};
 ghost use Rattle.orswot_core.specs.Checks.{raw_value};
 ghost use Rattle.orswot_core_told.specs.declared.form.Form.TheVariants.{One, Two};
+ghost use Rattle.json_parts.specs.Places.{data_of, items_data, AtItems};
+ghost use Rattle.node_links_members.specs.Reading.{Found, kept_told_in, none_left};
 ghost use Rattle.node_links_members.specs.Results.{Answers, Gives};
-ghost use Rattle.node_links_members.specs.Told.{raw_told_in, sound, told_as, told_in, are_own_ranges, is_delta_of, own_delta, delta_as, delta_in};
+ghost use Rattle.node_links_members.specs.Told.{sound, told_in, are_own_ranges, is_delta_of, own_delta, delta_in};
 
-use crate::arrays::{take_three, take_two};
 use crate::fault::LinkFault;
 use crate::hearer::{Hearer, Telling};
-use crate::telling::{extras_of, ranges_of, rows_of};
+use crate::telling::{next_extras, next_ranges, next_rows};
+use json::Reader;
+use json_parts::{Begun, begin};
 use orswot_core::{Form, RawRow, RawTold, Told, ToldFault};
 use presence_base::{Dot, Replica};
-use serde_json::Value;
 use std::alloc::Global;
 
-// The value of the first form that the JSON value is, not checked yet.
-#[tactic(auto, unfolding(crate::specs::Told::raw_told_in))]
-fn raw_with_extras(alloc: Global, value: Value) -> Result<RawTold, LinkFault>
-    ensures value { Gives raw_value result (raw_told_in One (view value)) }
+// The end of an array whose members were all read.
+fn ended(reader: &mut Reader<'_>) -> Result<(), LinkFault>
+    ensures { (js : JsonItems) (rest : List Token) → AtItems reader.old js rest
+        → Found (λ u. u) reader.new rest result (none_left (items_data js)) }
+{
+    if reader.take_end_array() {
+        Ok(())
+    } else {
+        Err(LinkFault::BadLine)
+    }
+}
+
+// The value of the first form in whose array the reader stands, not checked yet.
+fn raw_with_extras(alloc: Global, reader: &mut Reader<'_>) -> Result<RawTold, LinkFault>
+    ensures value { (js : JsonItems) (rest : List Token) → AtItems reader.old js rest
+        → Found raw_value reader.new rest result (kept_told_in One (array (items_data js))) }
     ensures form { IfOk result (λ raw. raw.form ≡ One) }
 {
-    let Some((ranges, extras, live)) = take_three(value) else {
-        return Err(LinkFault::BadLine);
-    };
-    let ranges = ranges_of(alloc, &ranges)?;
-    let extras = extras_of(alloc, &extras)?;
-    let live = rows_of(alloc, live)?;
+    let ranges = next_ranges(alloc, reader)?;
+    let extras = next_extras(alloc, reader)?;
+    let live = next_rows(alloc, reader)?;
+    ended(reader)?;
     Ok(RawTold {
         form: Form::One,
         ranges,
@@ -37,17 +51,15 @@ fn raw_with_extras(alloc: Global, value: Value) -> Result<RawTold, LinkFault>
     })
 }
 
-// The value of the second form that the JSON value is, not checked yet.
-#[tactic(auto, unfolding(crate::specs::Told::raw_told_in))]
-fn raw_in_ranges(alloc: Global, value: Value) -> Result<RawTold, LinkFault>
-    ensures value { Gives raw_value result (raw_told_in Two (view value)) }
+// The value of the second form in whose array the reader stands, not checked yet.
+fn raw_in_ranges(alloc: Global, reader: &mut Reader<'_>) -> Result<RawTold, LinkFault>
+    ensures value { (js : JsonItems) (rest : List Token) → AtItems reader.old js rest
+        → Found raw_value reader.new rest result (kept_told_in Two (array (items_data js))) }
     ensures form { IfOk result (λ raw. raw.form ≡ Two) }
 {
-    let Some((ranges, live)) = take_two(value) else {
-        return Err(LinkFault::BadLine);
-    };
-    let ranges = ranges_of(alloc, &ranges)?;
-    let live = rows_of(alloc, live)?;
+    let ranges = next_ranges(alloc, reader)?;
+    let live = next_rows(alloc, reader)?;
+    ended(reader)?;
     Ok(RawTold {
         form: Form::Two,
         ranges,
@@ -56,14 +68,15 @@ fn raw_in_ranges(alloc: Global, value: Value) -> Result<RawTold, LinkFault>
     })
 }
 
-// The value of this form that the JSON value is, not checked yet.
-fn raw_told_of(alloc: Global, value: Value, form: Form) -> Result<RawTold, LinkFault>
-    ensures value { Gives raw_value result (raw_told_in form (view value)) }
+// The value of this form in whose array the reader stands, not checked yet.
+fn raw_told_of(alloc: Global, reader: &mut Reader<'_>, form: Form) -> Result<RawTold, LinkFault>
+    ensures value { (js : JsonItems) (rest : List Token) → AtItems reader.old js rest
+        → Found raw_value reader.new rest result (kept_told_in form (array (items_data js))) }
     ensures form { IfOk result (λ raw. raw.form ≡ form) }
 {
     match form {
-        Form::One => raw_with_extras(alloc, value),
-        Form::Two => raw_in_ranges(alloc, value),
+        Form::One => raw_with_extras(alloc, reader),
+        Form::Two => raw_in_ranges(alloc, reader),
     }
 }
 
@@ -86,20 +99,24 @@ fn checked(
     }
 }
 
-// What a hearer is told by the value.
-pub fn told_of(
+// What a hearer is told by the value that is next in an array.
+pub fn next_told(
     alloc: Global,
-    value: Value,
+    reader: &mut Reader<'_>,
     shard: u32,
     hearer: Hearer,
 ) -> Result<Telling, LinkFault>
     requires { 1 ≤ hearer.shards }
-    ensures { Answers result (told_in shard hearer (view value)) }
+    ensures { (j : Json) (more : JsonItems) (rest : List Token) → AtItems reader.old (item j more) rest
+        → Answers result (told_in shard hearer (data_of j)) }
 {
     let Some(form) = hearer.form else {
         return Err(LinkFault::BadLine);
     };
-    let raw = raw_told_of(alloc, value, form)?;
+    let Begun::Array = begin(reader) else {
+        return Err(LinkFault::BadLine);
+    };
+    let raw = raw_told_of(alloc, reader, form)?;
     let told = checked(alloc, raw, form, shard, hearer.shards)?;
     Ok(Telling { form, told })
 }
@@ -159,25 +176,42 @@ fn only_of(raw: RawTold, form: Form, replica: &Replica) -> Result<RawTold, LinkF
     }
 }
 
-// What a hearer is told of this replica by the value, or nothing where it is null.
-pub fn delta_of(
+// What a hearer is told of this replica by the value in whose array the reader stands.
+fn delta_of(
     alloc: Global,
-    value: Value,
+    reader: &mut Reader<'_>,
     shard: u32,
     hearer: Hearer,
     replica: &Replica,
 ) -> Result<Option<Telling>, LinkFault>
     requires { 1 ≤ hearer.shards }
-    ensures { Answers result (delta_in shard hearer replica.now (view value)) }
+    ensures { (js : JsonItems) (rest : List Token) → AtItems reader.old js rest
+        → Answers result (delta_in shard hearer replica.now (array (items_data js))) }
 {
-    if value.is_null() {
-        return Ok(None);
-    }
     let Some(form) = hearer.form else {
         return Err(LinkFault::BadLine);
     };
-    let raw = raw_told_of(alloc, value, form)?;
-    let raw = only_of(raw, form, replica)?;
-    let told = checked(alloc, raw, form, shard, hearer.shards)?;
+    let raw = raw_told_of(alloc, reader, form)?;
+    let own = only_of(raw, form, replica)?;
+    let told = checked(alloc, own, form, shard, hearer.shards)?;
     Ok(Some(Telling { form, told }))
+}
+
+// What a hearer is told of this replica by the value that is next in an array, or nothing where it is null.
+pub fn next_delta(
+    alloc: Global,
+    reader: &mut Reader<'_>,
+    shard: u32,
+    hearer: Hearer,
+    replica: &Replica,
+) -> Result<Option<Telling>, LinkFault>
+    requires { 1 ≤ hearer.shards }
+    ensures { (j : Json) (more : JsonItems) (rest : List Token) → AtItems reader.old (item j more) rest
+        → Answers result (delta_in shard hearer replica.now (data_of j)) }
+{
+    match begin(reader) {
+        Begun::Null => Ok(None),
+        Begun::Array => delta_of(alloc, reader, shard, hearer, replica),
+        _ => Err(LinkFault::BadLine),
+    }
 }

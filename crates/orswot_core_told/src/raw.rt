@@ -9,23 +9,22 @@ use crate::form::Form;
 use crate::limits::{is_dot_within, is_row_within};
 use crate::told::ToldFault;
 use presence_base::{Dot, Key, Meta, Replica, Row, Topic, shard_of};
-use serde_json::Value;
 use std::alloc::{AllocError, Global};
 use std::marker::Model;
 
-/// A row as it was told, before its limits are checked.
+/// A row as it was told, before its limits are checked. It has no meta where what was told is none.
 #[derive(Drop)]
 pub struct RawRow {
     pub topic: String,
     pub key: String,
     pub pid: u64,
-    pub meta: Value,
+    pub meta: Option<Meta>,
     pub prev: Option<Dot>,
 }
 
 impl Model for RawRow {
-    ghost use Rattle.std.specs.Prelude.{string_bytes};
-    ghost use Rattle.serde_json.specs.View.{view as data_of};
+    ghost use Rattle.std.specs.Prelude.{string_bytes, unwrap_or};
+    ghost use Rattle.serde_json.specs.Data.{null};
     ghost use Rattle.presence_base.specs.declared.row.Row.{Row as RowValue};
     ghost use Rattle.presence_base.specs.Codes.{row_code};
 
@@ -37,7 +36,7 @@ impl Model for RawRow {
       topic = string_bytes r.topic;
       key = string_bytes r.key;
       pid = r.pid;
-      meta = data_of r.meta;
+      meta = unwrap_or r.meta null;
       prev = r.prev;
     } };
 }
@@ -69,9 +68,10 @@ fn checked_row(alloc: Global, raw: RawRow) -> Result<Option<Row>, AllocError>
     let Some(key) = Key::new(alloc, key.as_str())? else {
         return Ok(None);
     };
-    let Some(meta) = Meta::new(alloc, meta)? else {
+    let Some(meta) = meta else {
         return Ok(None);
     };
+    let _within_limits = meta.text();
     let row = Row {
         topic,
         key,

@@ -1,7 +1,7 @@
 // The check of told values: each refusal at its limit and one past it, and their order.
 use super::rows::{empty, named, raw_row, replica};
 use orswot_core::{Form, MAX_ROWS, RawRow, RawTold, Told, ToldFault};
-use presence_base::{Dot, MAX_COUNT, Replica};
+use presence_base::{Dot, MAX_COUNT, Meta, Replica};
 use serde_json::Value;
 use std::alloc::{AllocError, Global};
 use std::test::Fail;
@@ -105,7 +105,7 @@ fn meta_fault(alloc: Global, meta: &str) -> Result<Option<ToldFault>, AllocError
         return Err(AllocError);
     };
     let mut row = plain_row(alloc)?;
-    row.meta = meta;
+    row.meta = Meta::new(alloc, meta)?;
     row_fault(alloc, row)
 }
 

@@ -4,7 +4,7 @@ ghost use Rattle.std.specs.Prelude.{◌≡◌, codes, IfSome, IfOk, ◌∷◌, [
 use super::rows::{named, replica};
 use delta_range::{Delta, DeltaFault, Generations};
 use orswot_core::{Form, Orswot, RawRow, RawTold, Told};
-use presence_base::{Dot, Replica};
+use presence_base::{Dot, Meta, Replica};
 use serde_json::{Map, Value};
 use std::alloc::{AllocError, Global};
 
@@ -13,7 +13,7 @@ fn raw_row(alloc: Global) -> Result<RawRow, AllocError> {
         topic: String::from_str(alloc, "room:a")?,
         key: String::from_str(alloc, "u2")?,
         pid: 5,
-        meta: Value::Object(Map::new(alloc)),
+        meta: Meta::new(alloc, Value::Object(Map::new(alloc)))?,
         prev: None,
     })
 }

@@ -42,7 +42,7 @@ pub(super) fn raw_row(alloc: Global, count: u64, key: &str) -> Result<(Dot, RawR
         topic: String::from_str(alloc, "room:a")?,
         key: String::from_str(alloc, key)?,
         pid: 5,
-        meta: Value::Object(Map::new(alloc)),
+        meta: Meta::new(alloc, Value::Object(Map::new(alloc)))?,
         prev: None,
     };
     Ok((Dot { replica, count }, raw))

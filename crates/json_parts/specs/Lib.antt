@@ -1,0 +1,4 @@
+pub mod Items
+pub mod Outline
+pub mod Places
+pub mod Small
