@@ -1,4 +1,5 @@
 pub mod Seats
+pub mod Calls
 pub mod Codes
 pub mod Settling
 pub use Rattle.shard_pool_locks.specs.Reply

@@ -1,9 +1,9 @@
 //! Up to four shards, each behind a lock of its own, and seats that keep receipts of their calls.
 //!
-//! Its public contracts cite `specs/Seats`: a seat at all shards, and what a call does to it, and
-//! `specs/Settling`: the seats by number and the journals handed back. Those stand on `Seated` and `Unseated`
-//! of shard_pool_locks: what stands behind a call's answer; on `Hands`, `Steps`, `KeptDeltas`, `Full` and `Quiet`, which
-//! it gives out; and on `Settled` of shard_pool_settled.
+//! Its public contracts cite `specs/Calls`: what each call of a seat does, over `specs/Seats`: a seat at all shards, and what
+//! a call does to it, and `specs/Settling`: the seats by number and the journals handed back. Those stand on `Seated` and
+//! `Unseated` of shard_pool_locks: what stands behind a call's answer; on `Hands`, `Steps`, `KeptDeltas`, `Full` and
+//! `Quiet`, which it gives out; and on `Settled` of shard_pool_settled.
 //!
 //! What no contract says of a pool call: that the history behind its answer, one of that shard, is the one that its
 //! lock held, and that a call without a seat makes its step. That is for tests with threads to say.

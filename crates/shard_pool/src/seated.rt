@@ -1,30 +1,56 @@
 //! The calls of seats.
-ghost use Rattle.std.specs.Prelude.{◌≡◌, ◌+◌, ◌≤◌, ◌^◌, Some, IsTrue};
-ghost use Rattle.presence_journal.specs.History.{last_number};
+ghost use Rattle.std.specs.Prelude.{◌≤◌, ◌^◌, IsTrue};
 ghost use Rattle.presence_journal.specs.Limits.{is_payload, is_take_limit};
-ghost use Rattle.presence_journal.specs.Present.{listed, dots_of};
-ghost use Rattle.presence_journal.specs.Queue.{items_given};
-ghost use Rattle.presence_journal.specs.Table.{outcome_of, rows_of_key, rows_of_pid, listed_key};
-ghost use Rattle.shard_pool_locks.specs.Steps.{new_dot, slot_of};
-ghost use Rattle.shard_pool_locks.specs.Seated.{always, finds};
 ghost use Rattle.shard_pool.specs.Seats.{CalledAt, IsOfShardAt, shard_of};
+ghost use Rattle.shard_pool.specs.Calls.{Tracks, Updates, Untracks, UntracksAll, Lists, Fetches};
+ghost use Rattle.shard_pool.specs.Calls.{Subscribes, Takes, Unsubscribes, Shouts};
 
 use crate::pool::Pool;
 use crate::seat::Seat;
 use presence_base::{Dot, Json, Key, Meta, Row, Topic, shard_of};
-use presence_journal::{Item, SharedRows, Step};
+use presence_journal::{Item, SharedRows};
 use shard_pool_locks::{
-    Gate, Lane, PoolFault, Reply, Sub, locked_get, locked_list, locked_shout, locked_subscribe,
-    locked_take, locked_track, locked_unsubscribe, locked_untrack, locked_untrack_all,
-    locked_update,
+    Call, Gate, Get, Lane, List, PoolFault, Reply, Shout, Sub, Subscribe, Take, Track, Unsubscribe,
+    Untrack, UntrackAll, Update, locked_call,
 };
 use std::alloc::Global;
 use std::sync::Wait;
 
-// Each picks the topic's shard, and with it the seat's part there.
 impl<G: Gate, A: Lane, B: Lane, C: Lane, D: Lane> Pool<G, A, B, C, D> {
-    /// Tracks the pid under the key on the topic, and answers the dot of the new row.
+    // Makes a call through a seat: picks the topic's shard, and with it the seat's part there.
     #[tactic(auto, using(crate::proofs::Calling::calling))]
+    fn call<R: Wait, Q: Call>(
+        &self,
+        rt: &R,
+        alloc: Global,
+        seat: &mut Seat<A, B, C, D>,
+        topic: &Topic,
+        call: &Q,
+    ) -> Result<Reply<Q::Answer>, PoolFault>
+        ensures { CalledAt (IsOfShardAt self.now.own.name A.begins B.begins C.begins D.begins) (Q.there call.now)
+            seat.old seat.new (shard_of topic.now self.now.shards) (Q.step call.now) (Q.gives call.now) result }
+    {
+        let shard = shard_of(topic, self.shards);
+        let Seat {
+            number: _,
+            first,
+            second,
+            third,
+            fourth,
+        } = seat;
+        if shard == 0 {
+            return locked_call(rt, alloc, &self.gate, &self.first, first, call);
+        }
+        if shard == 1 {
+            return locked_call(rt, alloc, &self.gate, &self.second, second, call);
+        }
+        if shard == 2 {
+            return locked_call(rt, alloc, &self.gate, &self.third, third, call);
+        }
+        locked_call(rt, alloc, &self.gate, &self.fourth, fourth, call)
+    }
+
+    /// Tracks the pid under the key on the topic, and answers the dot of the new row.
     pub fn track<R: Wait>(
         &self,
         rt: &R,
@@ -36,73 +62,24 @@ impl<G: Gate, A: Lane, B: Lane, C: Lane, D: Lane> Pool<G, A, B, C, D> {
         meta: &Meta,
     ) -> Result<Reply<Dot>, PoolFault>
         requires pid { pid ≤ 2 ^ 62 }
-        ensures { CalledAt (IsOfShardAt self.now.own.name A.begins B.begins C.begins D.begins) always
-            seat.old seat.new (shard_of topic.now self.now.shards)
-            (Step.Track pid topic.now key.now meta.now)
-            (λ h d. new_dot (outcome_of h (Step.Track pid topic.now key.now meta.now)) ≡ Some d) result }
+        ensures { Tracks (IsOfShardAt self.now.own.name A.begins B.begins C.begins D.begins)
+            self.now.shards seat.old seat.new pid topic.now key.now meta.now result }
     {
-        let shard = shard_of(topic, self.shards);
-        let Seat {
-            number: _,
-            first,
-            second,
-            third,
-            fourth,
-        } = seat;
-        if shard == 0 {
-            return locked_track(
-                rt,
-                alloc,
-                &self.gate,
-                &self.first,
-                first,
-                pid,
-                topic,
-                key,
-                meta,
-            );
-        }
-        if shard == 1 {
-            return locked_track(
-                rt,
-                alloc,
-                &self.gate,
-                &self.second,
-                second,
-                pid,
-                topic,
-                key,
-                meta,
-            );
-        }
-        if shard == 2 {
-            return locked_track(
-                rt,
-                alloc,
-                &self.gate,
-                &self.third,
-                third,
-                pid,
-                topic,
-                key,
-                meta,
-            );
-        }
-        locked_track(
+        self.call(
             rt,
             alloc,
-            &self.gate,
-            &self.fourth,
-            fourth,
-            pid,
+            seat,
             topic,
-            key,
-            meta,
+            &Track {
+                pid,
+                topic,
+                key,
+                meta,
+            },
         )
     }
 
     /// Replaces what the pid tells under the key on the topic, and answers the dot of the new row.
-    #[tactic(auto, using(crate::proofs::Calling::calling))]
     pub fn update<R: Wait>(
         &self,
         rt: &R,
@@ -114,73 +91,24 @@ impl<G: Gate, A: Lane, B: Lane, C: Lane, D: Lane> Pool<G, A, B, C, D> {
         meta: &Meta,
     ) -> Result<Reply<Dot>, PoolFault>
         requires pid { pid ≤ 2 ^ 62 }
-        ensures { CalledAt (IsOfShardAt self.now.own.name A.begins B.begins C.begins D.begins) always
-            seat.old seat.new (shard_of topic.now self.now.shards)
-            (Step.Update pid topic.now key.now meta.now)
-            (λ h d. new_dot (outcome_of h (Step.Update pid topic.now key.now meta.now)) ≡ Some d) result }
+        ensures { Updates (IsOfShardAt self.now.own.name A.begins B.begins C.begins D.begins)
+            self.now.shards seat.old seat.new pid topic.now key.now meta.now result }
     {
-        let shard = shard_of(topic, self.shards);
-        let Seat {
-            number: _,
-            first,
-            second,
-            third,
-            fourth,
-        } = seat;
-        if shard == 0 {
-            return locked_update(
-                rt,
-                alloc,
-                &self.gate,
-                &self.first,
-                first,
-                pid,
-                topic,
-                key,
-                meta,
-            );
-        }
-        if shard == 1 {
-            return locked_update(
-                rt,
-                alloc,
-                &self.gate,
-                &self.second,
-                second,
-                pid,
-                topic,
-                key,
-                meta,
-            );
-        }
-        if shard == 2 {
-            return locked_update(
-                rt,
-                alloc,
-                &self.gate,
-                &self.third,
-                third,
-                pid,
-                topic,
-                key,
-                meta,
-            );
-        }
-        locked_update(
+        self.call(
             rt,
             alloc,
-            &self.gate,
-            &self.fourth,
-            fourth,
-            pid,
+            seat,
             topic,
-            key,
-            meta,
+            &Update {
+                pid,
+                topic,
+                key,
+                meta,
+            },
         )
     }
 
     /// Takes out the pid's row under the key on the topic, and answers its dot, or none.
-    #[tactic(auto, using(crate::proofs::Calling::calling))]
     pub fn untrack<R: Wait>(
         &self,
         rt: &R,
@@ -190,33 +118,13 @@ impl<G: Gate, A: Lane, B: Lane, C: Lane, D: Lane> Pool<G, A, B, C, D> {
         topic: &Topic,
         key: &Key,
     ) -> Result<Reply<Vec<Dot>>, PoolFault>
-        ensures { CalledAt (IsOfShardAt self.now.own.name A.begins B.begins C.begins D.begins) always
-            seat.old seat.new (shard_of topic.now self.now.shards)
-            (Step.Untrack pid topic.now key.now)
-            (λ h dots. dots.items ≡ dots_of (rows_of_key h pid topic.now key.now)) result }
+        ensures { Untracks (IsOfShardAt self.now.own.name A.begins B.begins C.begins D.begins)
+            self.now.shards seat.old seat.new pid topic.now key.now result }
     {
-        let shard = shard_of(topic, self.shards);
-        let Seat {
-            number: _,
-            first,
-            second,
-            third,
-            fourth,
-        } = seat;
-        if shard == 0 {
-            return locked_untrack(rt, alloc, &self.gate, &self.first, first, pid, topic, key);
-        }
-        if shard == 1 {
-            return locked_untrack(rt, alloc, &self.gate, &self.second, second, pid, topic, key);
-        }
-        if shard == 2 {
-            return locked_untrack(rt, alloc, &self.gate, &self.third, third, pid, topic, key);
-        }
-        locked_untrack(rt, alloc, &self.gate, &self.fourth, fourth, pid, topic, key)
+        self.call(rt, alloc, seat, topic, &Untrack { pid, topic, key })
     }
 
     /// Takes out each row of the pid on the topic, and answers their dots in order of key and then dot.
-    #[tactic(auto, using(crate::proofs::Calling::calling))]
     pub fn untrack_all<R: Wait>(
         &self,
         rt: &R,
@@ -225,33 +133,13 @@ impl<G: Gate, A: Lane, B: Lane, C: Lane, D: Lane> Pool<G, A, B, C, D> {
         pid: u64,
         topic: &Topic,
     ) -> Result<Reply<Vec<Dot>>, PoolFault>
-        ensures { CalledAt (IsOfShardAt self.now.own.name A.begins B.begins C.begins D.begins) always
-            seat.old seat.new (shard_of topic.now self.now.shards)
-            (Step.UntrackAll pid topic.now)
-            (λ h dots. dots.items ≡ dots_of (rows_of_pid h pid topic.now)) result }
+        ensures { UntracksAll (IsOfShardAt self.now.own.name A.begins B.begins C.begins D.begins)
+            self.now.shards seat.old seat.new pid topic.now result }
     {
-        let shard = shard_of(topic, self.shards);
-        let Seat {
-            number: _,
-            first,
-            second,
-            third,
-            fourth,
-        } = seat;
-        if shard == 0 {
-            return locked_untrack_all(rt, alloc, &self.gate, &self.first, first, pid, topic);
-        }
-        if shard == 1 {
-            return locked_untrack_all(rt, alloc, &self.gate, &self.second, second, pid, topic);
-        }
-        if shard == 2 {
-            return locked_untrack_all(rt, alloc, &self.gate, &self.third, third, pid, topic);
-        }
-        locked_untrack_all(rt, alloc, &self.gate, &self.fourth, fourth, pid, topic)
+        self.call(rt, alloc, seat, topic, &UntrackAll { pid, topic })
     }
 
     /// The rows that are present on the topic, in order of key and then dot.
-    #[tactic(auto, using(crate::proofs::Calling::calling))]
     pub fn list<R: Wait>(
         &self,
         rt: &R,
@@ -259,33 +147,13 @@ impl<G: Gate, A: Lane, B: Lane, C: Lane, D: Lane> Pool<G, A, B, C, D> {
         seat: &mut Seat<A, B, C, D>,
         topic: &Topic,
     ) -> Result<Reply<SharedRows>, PoolFault>
-        ensures { CalledAt (IsOfShardAt self.now.own.name A.begins B.begins C.begins D.begins) always
-            seat.old seat.new (shard_of topic.now self.now.shards)
-            (Step.List topic.now)
-            (λ h rows. rows ≡ listed h topic.now) result }
+        ensures { Lists (IsOfShardAt self.now.own.name A.begins B.begins C.begins D.begins)
+            self.now.shards seat.old seat.new topic.now result }
     {
-        let shard = shard_of(topic, self.shards);
-        let Seat {
-            number: _,
-            first,
-            second,
-            third,
-            fourth,
-        } = seat;
-        if shard == 0 {
-            return locked_list(rt, alloc, &self.gate, &self.first, first, topic);
-        }
-        if shard == 1 {
-            return locked_list(rt, alloc, &self.gate, &self.second, second, topic);
-        }
-        if shard == 2 {
-            return locked_list(rt, alloc, &self.gate, &self.third, third, topic);
-        }
-        locked_list(rt, alloc, &self.gate, &self.fourth, fourth, topic)
+        self.call(rt, alloc, seat, topic, &List { topic })
     }
 
     /// The rows that are present under the key on the topic, in order of dot.
-    #[tactic(auto, using(crate::proofs::Calling::calling))]
     pub fn get<R: Wait>(
         &self,
         rt: &R,
@@ -294,33 +162,13 @@ impl<G: Gate, A: Lane, B: Lane, C: Lane, D: Lane> Pool<G, A, B, C, D> {
         topic: &Topic,
         key: &Key,
     ) -> Result<Reply<Vec<(Dot, Row)>>, PoolFault>
-        ensures { CalledAt (IsOfShardAt self.now.own.name A.begins B.begins C.begins D.begins) always
-            seat.old seat.new (shard_of topic.now self.now.shards)
-            (Step.Get topic.now key.now)
-            (λ h rows. rows.items ≡ listed_key h topic.now key.now) result }
+        ensures { Fetches (IsOfShardAt self.now.own.name A.begins B.begins C.begins D.begins)
+            self.now.shards seat.old seat.new topic.now key.now result }
     {
-        let shard = shard_of(topic, self.shards);
-        let Seat {
-            number: _,
-            first,
-            second,
-            third,
-            fourth,
-        } = seat;
-        if shard == 0 {
-            return locked_get(rt, alloc, &self.gate, &self.first, first, topic, key);
-        }
-        if shard == 1 {
-            return locked_get(rt, alloc, &self.gate, &self.second, second, topic, key);
-        }
-        if shard == 2 {
-            return locked_get(rt, alloc, &self.gate, &self.third, third, topic, key);
-        }
-        locked_get(rt, alloc, &self.gate, &self.fourth, fourth, topic, key)
+        self.call(rt, alloc, seat, topic, &Get { topic, key })
     }
 
     /// A new subscriber of the topic.
-    #[tactic(auto, using(crate::proofs::Calling::calling))]
     pub fn subscribe<R: Wait>(
         &self,
         rt: &R,
@@ -328,33 +176,13 @@ impl<G: Gate, A: Lane, B: Lane, C: Lane, D: Lane> Pool<G, A, B, C, D> {
         seat: &mut Seat<A, B, C, D>,
         topic: &Topic,
     ) -> Result<Reply<Sub>, PoolFault>
-        ensures { CalledAt (IsOfShardAt self.now.own.name A.begins B.begins C.begins D.begins) always
-            seat.old seat.new (shard_of topic.now self.now.shards)
-            (Step.Subscribe topic.now)
-            (λ h sub. (sub.number ≡ last_number h + 1) × (sub.slot ≡ slot_of sub.number)) result }
+        ensures { Subscribes (IsOfShardAt self.now.own.name A.begins B.begins C.begins D.begins)
+            self.now.shards seat.old seat.new topic.now result }
     {
-        let shard = shard_of(topic, self.shards);
-        let Seat {
-            number: _,
-            first,
-            second,
-            third,
-            fourth,
-        } = seat;
-        if shard == 0 {
-            return locked_subscribe(rt, alloc, &self.gate, &self.first, first, topic);
-        }
-        if shard == 1 {
-            return locked_subscribe(rt, alloc, &self.gate, &self.second, second, topic);
-        }
-        if shard == 2 {
-            return locked_subscribe(rt, alloc, &self.gate, &self.third, third, topic);
-        }
-        locked_subscribe(rt, alloc, &self.gate, &self.fourth, fourth, topic)
+        self.call(rt, alloc, seat, topic, &Subscribe { topic })
     }
 
     /// Up to `max` of the items that wait for a subscriber of the topic, or the topic's state where it is behind.
-    #[tactic(auto, using(crate::proofs::Calling::calling))]
     pub fn take<R: Wait>(
         &self,
         rt: &R,
@@ -365,33 +193,13 @@ impl<G: Gate, A: Lane, B: Lane, C: Lane, D: Lane> Pool<G, A, B, C, D> {
         max: u32,
     ) -> Result<Reply<Vec<Item>>, PoolFault>
         requires limit { IsTrue (is_take_limit max) }
-        ensures { CalledAt (IsOfShardAt self.now.own.name A.begins B.begins C.begins D.begins) (finds sub.now)
-            seat.old seat.new (shard_of topic.now self.now.shards)
-            (Step.Take sub.now.number max)
-            (λ h items. items.items ≡ items_given h sub.now.number max) result }
+        ensures { Takes (IsOfShardAt self.now.own.name A.begins B.begins C.begins D.begins)
+            self.now.shards seat.old seat.new topic.now sub.now max result }
     {
-        let shard = shard_of(topic, self.shards);
-        let Seat {
-            number: _,
-            first,
-            second,
-            third,
-            fourth,
-        } = seat;
-        if shard == 0 {
-            return locked_take(rt, alloc, &self.gate, &self.first, first, sub, max);
-        }
-        if shard == 1 {
-            return locked_take(rt, alloc, &self.gate, &self.second, second, sub, max);
-        }
-        if shard == 2 {
-            return locked_take(rt, alloc, &self.gate, &self.third, third, sub, max);
-        }
-        locked_take(rt, alloc, &self.gate, &self.fourth, fourth, sub, max)
+        self.call(rt, alloc, seat, topic, &Take { sub: *sub, max })
     }
 
     /// Ends a subscriber of the topic.
-    #[tactic(auto, using(crate::proofs::Calling::calling))]
     pub fn unsubscribe<R: Wait>(
         &self,
         rt: &R,
@@ -400,33 +208,13 @@ impl<G: Gate, A: Lane, B: Lane, C: Lane, D: Lane> Pool<G, A, B, C, D> {
         topic: &Topic,
         sub: &Sub,
     ) -> Result<Reply<()>, PoolFault>
-        ensures { CalledAt (IsOfShardAt self.now.own.name A.begins B.begins C.begins D.begins) (finds sub.now)
-            seat.old seat.new (shard_of topic.now self.now.shards)
-            (Step.Unsubscribe sub.now.number)
-            (λ h _. Unit {0}) result }
+        ensures { Unsubscribes (IsOfShardAt self.now.own.name A.begins B.begins C.begins D.begins)
+            self.now.shards seat.old seat.new topic.now sub.now result }
     {
-        let shard = shard_of(topic, self.shards);
-        let Seat {
-            number: _,
-            first,
-            second,
-            third,
-            fourth,
-        } = seat;
-        if shard == 0 {
-            return locked_unsubscribe(rt, alloc, &self.gate, &self.first, first, sub);
-        }
-        if shard == 1 {
-            return locked_unsubscribe(rt, alloc, &self.gate, &self.second, second, sub);
-        }
-        if shard == 2 {
-            return locked_unsubscribe(rt, alloc, &self.gate, &self.third, third, sub);
-        }
-        locked_unsubscribe(rt, alloc, &self.gate, &self.fourth, fourth, sub)
+        self.call(rt, alloc, seat, topic, &Unsubscribe { sub: *sub })
     }
 
     /// Sends the payload to each subscriber of the topic.
-    #[tactic(auto, using(crate::proofs::Calling::calling))]
     pub fn shout<R: Wait>(
         &self,
         rt: &R,
@@ -436,28 +224,9 @@ impl<G: Gate, A: Lane, B: Lane, C: Lane, D: Lane> Pool<G, A, B, C, D> {
         payload: &Json,
     ) -> Result<Reply<()>, PoolFault>
         requires payload { IsTrue (is_payload payload.now) }
-        ensures { CalledAt (IsOfShardAt self.now.own.name A.begins B.begins C.begins D.begins) always
-            seat.old seat.new (shard_of topic.now self.now.shards)
-            (Step.Shout topic.now payload.now)
-            (λ h _. Unit {0}) result }
+        ensures { Shouts (IsOfShardAt self.now.own.name A.begins B.begins C.begins D.begins)
+            self.now.shards seat.old seat.new topic.now payload.now result }
     {
-        let shard = shard_of(topic, self.shards);
-        let Seat {
-            number: _,
-            first,
-            second,
-            third,
-            fourth,
-        } = seat;
-        if shard == 0 {
-            return locked_shout(rt, alloc, &self.gate, &self.first, first, topic, payload);
-        }
-        if shard == 1 {
-            return locked_shout(rt, alloc, &self.gate, &self.second, second, topic, payload);
-        }
-        if shard == 2 {
-            return locked_shout(rt, alloc, &self.gate, &self.third, third, topic, payload);
-        }
-        locked_shout(rt, alloc, &self.gate, &self.fourth, fourth, topic, payload)
+        self.call(rt, alloc, seat, topic, &Shout { topic, payload })
     }
 }

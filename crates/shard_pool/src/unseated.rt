@@ -31,6 +31,30 @@ use shard_pool_locks::{
 use std::alloc::Global;
 use std::sync::Wait;
 
+// A call at the shard of a number, whose lock it names.
+macro_rules! at {
+    ($pool:ident, $shard:ident, $lock:ident => $call:expr) => {
+        match $shard {
+            0 => {
+                let $lock = &$pool.first;
+                $call
+            }
+            1 => {
+                let $lock = &$pool.second;
+                $call
+            }
+            2 => {
+                let $lock = &$pool.third;
+                $call
+            }
+            _ => {
+                let $lock = &$pool.fourth;
+                $call
+            }
+        }
+    };
+}
+
 impl<G: Gate, A: Lane, B: Lane, C: Lane, D: Lane> Pool<G, A, B, C, D> {
     /// The number of the shard that has a topic.
     pub fn shard_of(&self, topic: &Topic) -> u32
@@ -48,12 +72,7 @@ impl<G: Gate, A: Lane, B: Lane, C: Lane, D: Lane> Pool<G, A, B, C, D> {
         ensures lane { IfOk result (IsOfLane (begins_at A.begins B.begins C.begins D.begins shard)) }
         ensures err { IfErr result (λ e. e ≡ OutOfMemory) }
     {
-        match shard {
-            0 => locked_journal(rt, &self.first),
-            1 => locked_journal(rt, &self.second),
-            2 => locked_journal(rt, &self.third),
-            _ => locked_journal(rt, &self.fourth),
-        }
+        at!(self, shard, lock => locked_journal(rt, lock))
     }
 
     /// Notes at a shard that a replica was heard.
@@ -71,12 +90,7 @@ impl<G: Gate, A: Lane, B: Lane, C: Lane, D: Lane> Pool<G, A, B, C, D> {
         ensures lane { IsBehindAt A.begins B.begins C.begins D.begins shard self.now.own.name
             (λ h. IsMade h (Step.Heard replica now) result) }
     {
-        match shard {
-            0 => locked_heard(rt, alloc, &self.first, replica, now),
-            1 => locked_heard(rt, alloc, &self.second, replica, now),
-            2 => locked_heard(rt, alloc, &self.third, replica, now),
-            _ => locked_heard(rt, alloc, &self.fourth, replica, now),
-        }
+        at!(self, shard, lock => locked_heard(rt, alloc, lock, replica, now))
     }
 
     /// Lets time pass at a shard.
@@ -93,12 +107,7 @@ impl<G: Gate, A: Lane, B: Lane, C: Lane, D: Lane> Pool<G, A, B, C, D> {
         ensures lane { IsBehindAt A.begins B.begins C.begins D.begins shard self.now.own.name
             (λ h. IsMade h (Step.Tick now) result) }
     {
-        match shard {
-            0 => locked_tick(rt, alloc, &self.first, now),
-            1 => locked_tick(rt, alloc, &self.second, now),
-            2 => locked_tick(rt, alloc, &self.third, now),
-            _ => locked_tick(rt, alloc, &self.fourth, now),
-        }
+        at!(self, shard, lock => locked_tick(rt, alloc, lock, now))
     }
 
     /// Notes at a shard that a replica is gone for good.
@@ -115,12 +124,7 @@ impl<G: Gate, A: Lane, B: Lane, C: Lane, D: Lane> Pool<G, A, B, C, D> {
         ensures lane { IsBehindAt A.begins B.begins C.begins D.begins shard self.now.own.name
             (λ h. IsMade h (Step.PermDown replica) result) }
     {
-        match shard {
-            0 => locked_permdown(rt, alloc, &self.first, replica),
-            1 => locked_permdown(rt, alloc, &self.second, replica),
-            2 => locked_permdown(rt, alloc, &self.third, replica),
-            _ => locked_permdown(rt, alloc, &self.fourth, replica),
-        }
+        at!(self, shard, lock => locked_permdown(rt, alloc, lock, replica))
     }
 
     /// Makes a shard go on under a higher incarnation: its own rows stand under new dots from then on, each of which is
@@ -139,12 +143,7 @@ impl<G: Gate, A: Lane, B: Lane, C: Lane, D: Lane> Pool<G, A, B, C, D> {
         ensures lane { IsBehindAt A.begins B.begins C.begins D.begins shard self.now.own.name
             (λ h. IsRebornMade h incarnation result) }
     {
-        match shard {
-            0 => locked_rebirth(rt, alloc, &self.first, incarnation),
-            1 => locked_rebirth(rt, alloc, &self.second, incarnation),
-            2 => locked_rebirth(rt, alloc, &self.third, incarnation),
-            _ => locked_rebirth(rt, alloc, &self.fourth, incarnation),
-        }
+        at!(self, shard, lock => locked_rebirth(rt, alloc, lock, incarnation))
     }
 
     /// The incarnation under which a shard goes on.
@@ -155,12 +154,7 @@ impl<G: Gate, A: Lane, B: Lane, C: Lane, D: Lane> Pool<G, A, B, C, D> {
         ensures lane { IsBehindAt A.begins B.begins C.begins D.begins shard self.now.own.name
             (λ h. result ≡ (own h).incarnation) }
     {
-        match shard {
-            0 => locked_incarnation(rt, &self.first),
-            1 => locked_incarnation(rt, &self.second),
-            2 => locked_incarnation(rt, &self.third),
-            _ => locked_incarnation(rt, &self.fourth),
-        }
+        at!(self, shard, lock => locked_incarnation(rt, lock))
     }
 
     /// What the own replica did at a shard since the last cut there.
@@ -171,12 +165,7 @@ impl<G: Gate, A: Lane, B: Lane, C: Lane, D: Lane> Pool<G, A, B, C, D> {
         ensures lane { IsBehindAt A.begins B.begins C.begins D.begins shard self.now.own.name
             (λ h. IsCutMade h result) }
     {
-        match shard {
-            0 => locked_cut(rt, alloc, &self.first),
-            1 => locked_cut(rt, alloc, &self.second),
-            2 => locked_cut(rt, alloc, &self.third),
-            _ => locked_cut(rt, alloc, &self.fourth),
-        }
+        at!(self, shard, lock => locked_cut(rt, alloc, lock))
     }
 
     /// Takes in at a shard what another node told.
@@ -193,12 +182,7 @@ impl<G: Gate, A: Lane, B: Lane, C: Lane, D: Lane> Pool<G, A, B, C, D> {
         ensures lane { IsBehindAt A.begins B.begins C.begins D.begins shard self.now.own.name
             (λ h. IsMade h (Step.Merge told.now) result) }
     {
-        match shard {
-            0 => locked_merge(rt, alloc, &self.first, told),
-            1 => locked_merge(rt, alloc, &self.second, told),
-            2 => locked_merge(rt, alloc, &self.third, told),
-            _ => locked_merge(rt, alloc, &self.fourth, told),
-        }
+        at!(self, shard, lock => locked_merge(rt, alloc, lock, told))
     }
 
     /// All that a shard knows, in the form. It is no step, and refuses with `OutOfMemory` alone.
@@ -216,12 +200,7 @@ impl<G: Gate, A: Lane, B: Lane, C: Lane, D: Lane> Pool<G, A, B, C, D> {
             (λ h. IsFullOf form h t)) }
         ensures err { IfErr result (λ e. e ≡ OutOfMemory) }
     {
-        match shard {
-            0 => locked_full(rt, alloc, &self.first, form),
-            1 => locked_full(rt, alloc, &self.second, form),
-            2 => locked_full(rt, alloc, &self.third, form),
-            _ => locked_full(rt, alloc, &self.fourth, form),
-        }
+        at!(self, shard, lock => locked_full(rt, alloc, lock, form))
     }
 
     /// What a node is told that knows the shard's own dots up to a count: of the kept deltas that begin at or below it the
@@ -241,12 +220,7 @@ impl<G: Gate, A: Lane, B: Lane, C: Lane, D: Lane> Pool<G, A, B, C, D> {
             (λ h. IsToldFrom form h count t)) }
         ensures err { IfErr result (λ e. e ≡ OutOfMemory) }
     {
-        match shard {
-            0 => locked_told_from(rt, alloc, &self.first, count, form),
-            1 => locked_told_from(rt, alloc, &self.second, count, form),
-            2 => locked_told_from(rt, alloc, &self.third, count, form),
-            _ => locked_told_from(rt, alloc, &self.fourth, count, form),
-        }
+        at!(self, shard, lock => locked_told_from(rt, alloc, lock, count, form))
     }
 
     /// The same for a line of a link: what a node is told that knows the shard's own dots up to a count, or without a count all that
@@ -266,12 +240,7 @@ impl<G: Gate, A: Lane, B: Lane, C: Lane, D: Lane> Pool<G, A, B, C, D> {
             (λ h. WhereItFits form (TellsFrom form h from) o)) }
         ensures err { IfErr result (λ e. e ≡ OutOfMemory) }
     {
-        match shard {
-            0 => locked_fitting(rt, alloc, &self.first, from, form),
-            1 => locked_fitting(rt, alloc, &self.second, from, form),
-            2 => locked_fitting(rt, alloc, &self.third, from, form),
-            _ => locked_fitting(rt, alloc, &self.fourth, from, form),
-        }
+        at!(self, shard, lock => locked_fitting(rt, alloc, lock, from, form))
     }
 
     /// A part of the shard's own rows, for a node that knows its dots up to a count, where neither what it missed nor all that the
@@ -290,12 +259,7 @@ impl<G: Gate, A: Lane, B: Lane, C: Lane, D: Lane> Pool<G, A, B, C, D> {
             (λ h. IsPartWhereItFits h count o)) }
         ensures err { IfErr result (λ e. e ≡ OutOfMemory) }
     {
-        match shard {
-            0 => locked_part(rt, alloc, &self.first, count),
-            1 => locked_part(rt, alloc, &self.second, count),
-            2 => locked_part(rt, alloc, &self.third, count),
-            _ => locked_part(rt, alloc, &self.fourth, count),
-        }
+        at!(self, shard, lock => locked_part(rt, alloc, lock, count))
     }
 
     /// The count up to which a shard covers all of a replica's dots. It is no step.
@@ -306,12 +270,7 @@ impl<G: Gate, A: Lane, B: Lane, C: Lane, D: Lane> Pool<G, A, B, C, D> {
         ensures lane { IsBehindAt A.begins B.begins C.begins D.begins shard self.now.own.name
             (λ h. IsTop h replica.now result) }
     {
-        match shard {
-            0 => locked_top(rt, &self.first, replica),
-            1 => locked_top(rt, &self.second, replica),
-            2 => locked_top(rt, &self.third, replica),
-            _ => locked_top(rt, &self.fourth, replica),
-        }
+        at!(self, shard, lock => locked_top(rt, lock, replica))
     }
 
     /// The status of a replica at a shard. It is no step.
@@ -322,12 +281,7 @@ impl<G: Gate, A: Lane, B: Lane, C: Lane, D: Lane> Pool<G, A, B, C, D> {
         ensures lane { IsBehindAt A.begins B.begins C.begins D.begins shard self.now.own.name
             (λ h. result ≡ status h replica.now) }
     {
-        match shard {
-            0 => locked_status(rt, &self.first, replica),
-            1 => locked_status(rt, &self.second, replica),
-            2 => locked_status(rt, &self.third, replica),
-            _ => locked_status(rt, &self.fourth, replica),
-        }
+        at!(self, shard, lock => locked_status(rt, lock, replica))
     }
 
     /// Whether a subscriber of a shard is behind or has something waiting. It is no step.
@@ -338,12 +292,7 @@ impl<G: Gate, A: Lane, B: Lane, C: Lane, D: Lane> Pool<G, A, B, C, D> {
         ensures lane { IsBehindAt A.begins B.begins C.begins D.begins shard self.now.own.name
             (λ h. TellsWaiting h sub.now result) }
     {
-        match shard {
-            0 => locked_waits(rt, &self.first, sub),
-            1 => locked_waits(rt, &self.second, sub),
-            2 => locked_waits(rt, &self.third, sub),
-            _ => locked_waits(rt, &self.fourth, sub),
-        }
+        at!(self, shard, lock => locked_waits(rt, lock, sub))
     }
 
     /// Puts a Start in the place of a shard's journal, which makes room: the entries go, and all that later ones depend
@@ -358,12 +307,7 @@ impl<G: Gate, A: Lane, B: Lane, C: Lane, D: Lane> Pool<G, A, B, C, D> {
         ensures lane { IsBehindAt A.begins B.begins C.begins D.begins shard self.now.own.name
             (λ h. IsCheckpointed h result) }
     {
-        match shard {
-            0 => locked_checkpoint(rt, alloc, &self.first),
-            1 => locked_checkpoint(rt, alloc, &self.second),
-            2 => locked_checkpoint(rt, alloc, &self.third),
-            _ => locked_checkpoint(rt, alloc, &self.fourth),
-        }
+        at!(self, shard, lock => locked_checkpoint(rt, alloc, lock))
     }
 
     /// Makes a checkpoint of a shard where its journal is full once its lock is had, so that of two who found it full one
@@ -380,12 +324,7 @@ impl<G: Gate, A: Lane, B: Lane, C: Lane, D: Lane> Pool<G, A, B, C, D> {
         ensures lane { IsBehindAt A.begins B.begins C.begins D.begins shard self.now.own.name
             (λ h. IsMadeWhereFull h result) }
     {
-        match shard {
-            0 => locked_checkpoint_where_full(rt, alloc, &self.first),
-            1 => locked_checkpoint_where_full(rt, alloc, &self.second),
-            2 => locked_checkpoint_where_full(rt, alloc, &self.third),
-            _ => locked_checkpoint_where_full(rt, alloc, &self.fourth),
-        }
+        at!(self, shard, lock => locked_checkpoint_where_full(rt, alloc, lock))
     }
 
     /// Makes a checkpoint of a shard where its journal is due once its lock is had, and no item waits for a subscriber that
@@ -404,12 +343,7 @@ impl<G: Gate, A: Lane, B: Lane, C: Lane, D: Lane> Pool<G, A, B, C, D> {
         ensures lane { IsBehindAt A.begins B.begins C.begins D.begins shard self.now.own.name
             (λ h. IsMadeWhereQuiet due h result) }
     {
-        match shard {
-            0 => locked_checkpoint_where_quiet(rt, alloc, &self.first, due),
-            1 => locked_checkpoint_where_quiet(rt, alloc, &self.second, due),
-            2 => locked_checkpoint_where_quiet(rt, alloc, &self.third, due),
-            _ => locked_checkpoint_where_quiet(rt, alloc, &self.fourth, due),
-        }
+        at!(self, shard, lock => locked_checkpoint_where_quiet(rt, alloc, lock, due))
     }
 
     /// How many entries a shard's journal has, its Start counted. It is no step, and takes a moment under the lock.
@@ -420,12 +354,7 @@ impl<G: Gate, A: Lane, B: Lane, C: Lane, D: Lane> Pool<G, A, B, C, D> {
         ensures lane { IsBehindAt A.begins B.begins C.begins D.begins shard self.now.own.name
             (λ h. result ≡ entry_count h) }
     {
-        match shard {
-            0 => locked_entry_count(rt, &self.first),
-            1 => locked_entry_count(rt, &self.second),
-            2 => locked_entry_count(rt, &self.third),
-            _ => locked_entry_count(rt, &self.fourth),
-        }
+        at!(self, shard, lock => locked_entry_count(rt, lock))
     }
 
     /// The bytes of the texts of a shard's entries, or the most that a count of 64 bits tells: what a checkpoint may give
@@ -437,12 +366,7 @@ impl<G: Gate, A: Lane, B: Lane, C: Lane, D: Lane> Pool<G, A, B, C, D> {
         ensures lane { IsBehindAt A.begins B.begins C.begins D.begins shard self.now.own.name
             (λ h. result ≡ min (text_bytes h) (2 ^ 64 - 1)) }
     {
-        match shard {
-            0 => locked_text_bytes(rt, &self.first),
-            1 => locked_text_bytes(rt, &self.second),
-            2 => locked_text_bytes(rt, &self.third),
-            _ => locked_text_bytes(rt, &self.fourth),
-        }
+        at!(self, shard, lock => locked_text_bytes(rt, lock))
     }
 
     /// How many rows a shard shows, its own ones and those of others, and how many of its topics have a subscriber, as
@@ -450,12 +374,7 @@ impl<G: Gate, A: Lane, B: Lane, C: Lane, D: Lane> Pool<G, A, B, C, D> {
     pub fn row_counts<R: Wait>(&self, rt: &R, shard: u32) -> RowCounts
         requires { shard < self.now.shards }
     {
-        match shard {
-            0 => locked_row_counts(rt, &self.first),
-            1 => locked_row_counts(rt, &self.second),
-            2 => locked_row_counts(rt, &self.third),
-            _ => locked_row_counts(rt, &self.fourth),
-        }
+        at!(self, shard, lock => locked_row_counts(rt, lock))
     }
 
     /// The number of the Start of a shard's journal. It is no step.
@@ -466,12 +385,7 @@ impl<G: Gate, A: Lane, B: Lane, C: Lane, D: Lane> Pool<G, A, B, C, D> {
         ensures lane { IsBehindAt A.begins B.begins C.begins D.begins shard self.now.own.name
             (λ h. result ≡ (start_of h).number) }
     {
-        match shard {
-            0 => locked_start_of(rt, &self.first),
-            1 => locked_start_of(rt, &self.second),
-            2 => locked_start_of(rt, &self.third),
-            _ => locked_start_of(rt, &self.fourth),
-        }
+        at!(self, shard, lock => locked_start_of(rt, lock))
     }
 
     /// Drops a seat's receipts up to the Start of each shard: those that have no entry any more.

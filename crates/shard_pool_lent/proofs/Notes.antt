@@ -1,18 +1,20 @@
 -- What an answer of the shard becomes as the answer of a lent step.
-use Rattle.std.proofs.Common.{◌≡◌, ℕ, ◌+◌, Bool, true, false, List, [], ◌∷◌, ◌++◌, Option, Some, None, refl, sym, ap, ◌∙◌}
-use Rattle.std.specs.Prelude.{Result, Ok, Err, is_some, cond}
+use Rattle.std.proofs.Common.{◌≡◌, ℕ, ◌+◌, Bool, true, [], ◌∷◌, ◌++◌, Option, refl, sym, ap, subst, ◌∙◌}
+use Rattle.std.specs.Prelude.{Result, Ok, Err}
 use Rattle.presence_journal_data.specs.declared.step.Step.{Step}
 use Rattle.presence_journal_data.specs.declared.entry.Outcome.{Outcome}
-use Rattle.presence_journal.specs.History.{History, last_number, is_full}
-use Rattle.presence_journal.specs.Table.{accepted, outcome_of}
+use Rattle.presence_journal.specs.History.{History, last_number}
+use Rattle.presence_journal.specs.Table.{outcome_of}
 use Rattle.tracker_shard.specs.declared.fault.ShardFault.{ShardFault}
 use Rattle.tracker_shard.specs.declared.fault.ShardFault.TheVariants.{AlreadyTracked, NoPresence, ClockFull, JournalFull, NoSub, BadIncarnation, OutOfMemory}
-use Rattle.presence_journal_data.specs.declared.step.Step.TheVariants as steps_are
-use Rattle.tracker_shard.specs.Steps.{Stepped, Answers, IsDue, MayRunOut, refusal, cause}
+use Rattle.tracker_shard.specs.declared.call.Found.{Found}
+use Rattle.tracker_shard.specs.Calls.{AnswersMade, IsAdmitted, Looks}
+use Rattle.tracker_shard.specs.Steps.{Made, Stepped, Answers, IsDue, refusal}
+use Rattle.tracker_shard.proofs.Doors.{made_steps, made_answers, made_due, refused_steps, refused_answers, refused_due, unmade_due, unmade_steps}
 use Rattle.shard_pool_settled.specs.declared.receipt.Receipt.{Receipt}
 use Rattle.shard_pool_lent.specs.declared.reply.Reply.{Reply}
 use Rattle.shard_pool_lent.specs.Hands.{Hand, receipt, with_call}
-use Rattle.shard_pool_lent.specs.Lent.{is_step, counted, NotedIf, Notes, kept_receipts, reply_of, Replies}
+use Rattle.shard_pool_lent.specs.Lent.{is_step, counted, Noted, NotedIf, Notes, reply_of, Replies}
 
 step_of_reply : {A : Type 0} (old new : History) (seat : Option ℕ) (s : Step) (shard n : ℕ) (r : Result A ShardFault) → Stepped old new seat s r → Stepped old new seat s (reply_of shard n r)
 step_of_reply old new seat s shard n (Ok x) m = m
@@ -53,33 +55,6 @@ due_of_reply stands shard n (Err OutOfMemory) d = d
 pub replied_due : {A : Type 0} (stands : Option ShardFault) (shard n : ℕ) (r : Result A ShardFault) (x : Result (Reply A) ShardFault) → x ≡ reply_of shard n r → IsDue r stands → IsDue x stands
 replied_due stands shard n r x is d = rw is (due_of_reply stands shard n r d)
 
--- what stands against a step is known before memory is asked for
-
-pub no_sub_stands : (found : Bool) (h : History) (s : Step) → found ≡ false → refusal found h s ≡ Some NoSub
-no_sub_stands found h s missing = rw missing refl
-
-full_stands_by : (found full : Bool) (o : Option ShardFault) → found ≡ true → full ≡ true
-    → cond found (cond full (Some JournalFull) o) (Some NoSub) ≡ Some JournalFull
-full_stands_by found full o there is = rw (there, is) refl
-
-pub full_stands : (found : Bool) (h : History) (s : Step) → found ≡ true → is_full h ≡ true → refusal found h s ≡ Some JournalFull
-full_stands found h s there full = full_stands_by found (is_full h) _ there full
-
--- any cause gives way to want of memory
-cause_may : (s : Step) → MayRunOut (Some (cause s))
-cause_may (steps_are.Rebirth incarnation) = tt
-cause_may _ = tt
-
-memory_may_by : (s : Step) (found full some : Bool) → found ≡ true → full ≡ false
-    → MayRunOut (cond found (cond full (Some JournalFull) (cond some None (Some (cause s)))) (Some NoSub))
-memory_may_by s true false true there room = tt
-memory_may_by s true false false there room = cause_may s
-memory_may_by s true true some there room = absurd (cc)
-memory_may_by s false full some there room = absurd (cc)
-
-pub memory_may : (found : Bool) (h : History) (s : Step) → found ≡ true → is_full h ≡ false → MayRunOut (refusal found h s)
-memory_may found h s there room = memory_may_by s found (is_full h) (is_some (outcome_of h s)) there room
-
 step_is_step : {A : Type 0} (shard n : ℕ) (r : Result A ShardFault) → is_step (reply_of shard n r) ≡ is_step r
 step_is_step shard n (Ok x) = refl
 step_is_step shard n (Err AlreadyTracked) = refl
@@ -90,45 +65,80 @@ step_is_step shard n (Err NoSub) = refl
 step_is_step shard n (Err BadIncarnation) = refl
 step_is_step shard n (Err OutOfMemory) = refl
 
-pub replied_counts : {A : Type 0} (shard n : ℕ) (r : Result A ShardFault) (x : Result (Reply A) ShardFault) (k m : ℕ) → x ≡ reply_of shard n r → k ≡ counted m (is_step r) → k ≡ counted m (is_step x)
-replied_counts shard n r x k m is c = c ∙ ap (counted m) (sym (ap is_step is ∙ step_is_step shard n r))
-
-some_outcome : (full : Bool) (o : Option Outcome) → is_some (cond full None o) ≡ true → is_some o ≡ true
-some_outcome true o e = absurd (cc)
-some_outcome false o e = e
-
-table_has : (h : History) (s : Step) → is_some (accepted h s) ≡ true → is_some (outcome_of h s) ≡ true
-unfolding accepted
-table_has h s e = some_outcome (is_full h) (outcome_of h s) e
-
-made_accepts : {A : Type 0} (h new : History) (seat : Option ℕ) (s : Step) (r : Result A ShardFault) → Stepped h new seat s r → is_step r ≡ true → is_some (outcome_of h s) ≡ true
-made_accepts h new seat s (Ok x) m e = table_has h s m.accepted
-made_accepts h new seat s (Err AlreadyTracked) m e = table_has h s m.accepted
-made_accepts h new seat s (Err NoPresence) m e = table_has h s m.accepted
-made_accepts h new seat s (Err ClockFull) m e = absurd (cc)
-made_accepts h new seat s (Err JournalFull) m e = absurd (cc)
-made_accepts h new seat s (Err NoSub) m e = absurd (cc)
-made_accepts h new seat s (Err BadIncarnation) m e = absurd (cc)
-made_accepts h new seat s (Err OutOfMemory) m e = absurd (cc)
-
 hand_is : (p q : Hand) (r : Receipt) → q.seat ≡ p.seat → q.shard ≡ p.shard → q.receipts ≡ p.receipts ++ r ∷ [] → q.share ≡ p.share + 1 → q ≡ with_call p r
 hand_is p q r a b c d = λ i. record { seat = a i; shard = b i; receipts = c i; share = d i }
 
 same_hand : (p q : Hand) → q.seat ≡ p.seat → q.shard ≡ p.shard → q.receipts ≡ p.receipts → q.share ≡ p.share → q ≡ p
 same_hand p q a b c d = λ i. record { seat = a i; shard = b i; receipts = c i; share = d i }
 
-not_kept : (rs : List Receipt) (s n : ℕ) (step : Step) (o : Option Outcome) → kept_receipts rs s n step o false ≡ rs
-not_kept rs s n step (Some o) = refl
-not_kept rs s n step None = refl
+-- what is found has its entry, and is answered
 
-noted_by : (h : History) (p q : Hand) (s : Step) (o : Option Outcome) (n : ℕ) (made : Bool) → (made ≡ true → is_some o ≡ true) → o ≡ outcome_of h s → n ≡ last_number h + 1 → q.seat ≡ p.seat → q.shard ≡ p.shard → q.receipts ≡ kept_receipts p.receipts p.shard n s o made → q.share ≡ counted p.share made → NotedIf made h p q s
-noted_by h p q s o n false some table number a b c d = same_hand p q a b (c ∙ not_kept p.receipts p.shard n s o) d
-noted_by h p q s None n true some table number a b c d = let e = some refl in absurd (cc)
-noted_by h p q s (Some o) n true some table number a b c d =
-    record { outcome = o; table = sym table; hand = hand_is p q (receipt p.shard (last_number h + 1) s o) a b (c ∙ ap (λ k. p.receipts ++ receipt p.shard k s o ∷ []) number) d }
+pub entered_step : {A : Type 0} (Gives : A → Type 0) (there : Bool) (old new : History) (seat : Option ℕ) (s : Step) (f : Found A) (shard n : ℕ) (x : Result (Reply A) ShardFault) → x ≡ reply_of shard n f.answer → IsAdmitted Gives there old s f → Made old new seat f.step → Stepped old new seat s x
+entered_step Gives there old new seat s f shard n x is found made =
+    replied_step old new seat s shard n f.answer x is (made_steps Gives there old new seat s f found made)
 
-pub noted : {A : Type 0} (h new : History) (p q : Hand) (seat : Option ℕ) (s : Step) (o : Option Outcome) (n shard : ℕ) (r : Result A ShardFault) (x : Result (Reply A) ShardFault) → x ≡ reply_of shard n r → Stepped h new seat s r → o ≡ outcome_of h s → n ≡ last_number h + 1 → q.seat ≡ p.seat → q.shard ≡ p.shard → q.receipts ≡ kept_receipts p.receipts p.shard n s o (is_step r) → q.share ≡ counted p.share (is_step r) → Notes h p q s x
-noted h new p q seat s o n shard r x is m table number a b c d =
-    rw (is, step_is_step shard n r) (noted_by h p q s o n (is_step r) (λ e. ap is_some table ∙ made_accepts h new seat s r m e) table number a b c d)
+pub entered_answer : {A : Type 0} (Gives : A → Type 0) (there : Bool) (h : History) (s : Step) (f : Found A) (shard n : ℕ) (x : Result (Reply A) ShardFault) → x ≡ reply_of shard n f.answer → n ≡ last_number h + 1 → IsAdmitted Gives there h s f → Replies shard h s Gives x
+entered_answer Gives there h s f shard n x is number found =
+    replied_answer h s Gives shard n f.answer x is number (made_answers Gives there h s f found)
 
-pub ruleset notes = (no_sub_stands, full_stands, memory_may, replied_step, replied_answer, replied_due, replied_counts, noted)
+pub entered_due : {A : Type 0} (Gives : A → Type 0) (there : Bool) (h : History) (s : Step) (f : Found A) (shard n : ℕ) (x : Result (Reply A) ShardFault) → x ≡ reply_of shard n f.answer → IsAdmitted Gives there h s f → IsDue x (refusal there h s)
+entered_due Gives there h s f shard n x is found =
+    replied_due (refusal there h s) shard n f.answer x is (made_due Gives there h s f found)
+
+answer_is_step : {A : Type 0} (Gives : A → Type 0) (o : Outcome) (r : Result A ShardFault) → AnswersMade Gives o r → is_step r ≡ true
+answer_is_step Gives o (Ok x) answer = refl
+answer_is_step Gives o (Err AlreadyTracked) answer = refl
+answer_is_step Gives o (Err NoPresence) answer = refl
+answer_is_step Gives o (Err ClockFull) answer = absurd answer
+answer_is_step Gives o (Err JournalFull) answer = absurd answer
+answer_is_step Gives o (Err NoSub) answer = absurd answer
+answer_is_step Gives o (Err BadIncarnation) answer = absurd answer
+answer_is_step Gives o (Err OutOfMemory) answer = absurd answer
+
+entered_is_step : {A : Type 0} (Gives : A → Type 0) (there : Bool) (h : History) (s : Step) (f : Found A) (shard n : ℕ) (x : Result (Reply A) ShardFault) → x ≡ reply_of shard n f.answer → IsAdmitted Gives there h s f → is_step x ≡ true
+entered_is_step Gives there h s f shard n x is found =
+    ap is_step is ∙ (step_is_step shard n f.answer ∙ answer_is_step Gives f.outcome f.answer found.is.answer)
+
+pub entered_total : {A : Type 0} (Gives : A → Type 0) (there : Bool) (h : History) (s : Step) (f : Found A) (shard n k m : ℕ) (x : Result (Reply A) ShardFault) → x ≡ reply_of shard n f.answer → IsAdmitted Gives there h s f → k ≡ m + 1 → k ≡ counted m (is_step x)
+entered_total Gives there h s f shard n k m x is found count =
+    count ∙ ap (counted m) (sym (entered_is_step Gives there h s f shard n x is found))
+
+pub entered_notes : {A : Type 0} (Gives : A → Type 0) (there : Bool) (h : History) (p q : Hand) (s : Step) (f : Found A) (r : Receipt) (n : ℕ) (x : Result (Reply A) ShardFault) → x ≡ reply_of p.shard n f.answer → IsAdmitted Gives there h s f → n ≡ last_number h + 1
+    → r ≡ receipt p.shard n f.step f.outcome → q.seat ≡ p.seat → q.shard ≡ p.shard → q.receipts ≡ p.receipts ++ r ∷ [] → q.share ≡ p.share + 1 → Notes h p q s x
+entered_notes Gives there h p q s f r n x is found number kept a b c d =
+    let same : r ≡ receipt p.shard (last_number h + 1) s f.outcome = kept ∙ (λ i. receipt p.shard (number i) (found.is.step i) f.outcome) in
+    let noted : Noted h p q s = record { outcome = f.outcome; table = found.is.table; hand = hand_is p q _ a b (c ∙ ap (λ y. p.receipts ++ y ∷ []) same) d } in
+    subst (λ made. NotedIf made h p q s) (sym (entered_is_step Gives there h s f p.shard n x is found)) noted
+
+-- what is refused leaves all as it was
+
+pub refused_notes : {A : Type 0} (Gives : A → Type 0) (there : Bool) (h : History) (p q : Hand) (s : Step) (f : ShardFault) → Looks Gives there h s (Err f) → q.seat ≡ p.seat → q.shard ≡ p.shard → q.receipts ≡ p.receipts → q.share ≡ p.share → Notes {A = A} h p q s (Err f)
+refused_notes Gives there h p q s AlreadyTracked looks a b c d = absurd looks
+refused_notes Gives there h p q s NoPresence looks a b c d = absurd looks
+refused_notes Gives there h p q s ClockFull looks a b c d = same_hand p q a b c d
+refused_notes Gives there h p q s JournalFull looks a b c d = same_hand p q a b c d
+refused_notes Gives there h p q s NoSub looks a b c d = same_hand p q a b c d
+refused_notes Gives there h p q s BadIncarnation looks a b c d = same_hand p q a b c d
+refused_notes Gives there h p q s OutOfMemory looks a b c d = same_hand p q a b c d
+
+pub refused_total : {A : Type 0} (Gives : A → Type 0) (there : Bool) (h : History) (s : Step) (f : ShardFault) (k m : ℕ) → Looks Gives there h s (Err f) → k ≡ m → k ≡ counted m (is_step {A = A} (Err f))
+refused_total Gives there h s AlreadyTracked k m looks same = absurd looks
+refused_total Gives there h s NoPresence k m looks same = absurd looks
+refused_total Gives there h s ClockFull k m looks same = same
+refused_total Gives there h s JournalFull k m looks same = same
+refused_total Gives there h s NoSub k m looks same = same
+refused_total Gives there h s BadIncarnation k m looks same = same
+refused_total Gives there h s OutOfMemory k m looks same = same
+
+-- memory was wanting for the entry
+
+pub unmade_notes : (h : History) (p q : Hand) (s : Step) (f : ShardFault) → f ≡ OutOfMemory → q.seat ≡ p.seat → q.shard ≡ p.shard → q.receipts ≡ p.receipts → q.share ≡ counted p.share (is_step {A = Unit {0}} (Err f)) → Notes {A = Unit {0}} h p q s (Err f)
+unmade_notes h p q s AlreadyTracked is a b c d = absurd (cc)
+unmade_notes h p q s NoPresence is a b c d = absurd (cc)
+unmade_notes h p q s ClockFull is a b c d = same_hand p q a b c d
+unmade_notes h p q s JournalFull is a b c d = same_hand p q a b c d
+unmade_notes h p q s NoSub is a b c d = same_hand p q a b c d
+unmade_notes h p q s BadIncarnation is a b c d = same_hand p q a b c d
+unmade_notes h p q s OutOfMemory is a b c d = same_hand p q a b c d
+
+pub ruleset notes = (entered_step, entered_answer, entered_due, entered_total, entered_notes, refused_steps, refused_answers, refused_due, refused_notes, refused_total, unmade_due, unmade_steps, unmade_notes)

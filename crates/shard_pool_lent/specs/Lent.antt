@@ -1,13 +1,13 @@
 -- What a call of a seat does to its part and to the shard that is lent to it.
-use Rattle.std.specs.Prelude.{◌≡◌, ◌+◌, ℕ, Bool, true, false, List, [], ◌∷◌, ◌++◌, Option, Some, None, Result, Ok, Err}
+use Rattle.std.specs.Prelude.{◌≡◌, ◌+◌, ℕ, Bool, true, false, Some, Result, Ok, Err}
+use Rattle.presence_base.specs.declared.dots.Dot.{Dot}
 use Rattle.presence_journal_data.specs.declared.step.Step.{Step}
 use Rattle.presence_journal_data.specs.declared.entry.Outcome.{Outcome}
 use Rattle.presence_journal.specs.History.{History, last_number}
 use Rattle.presence_journal.specs.Table.{outcome_of}
 use Rattle.tracker_shard.specs.declared.fault.ShardFault.{ShardFault}
 use Rattle.tracker_shard.specs.declared.fault.ShardFault.TheVariants.{AlreadyTracked, NoPresence, ClockFull, JournalFull, NoSub, BadIncarnation, OutOfMemory}
-use Rattle.tracker_shard.specs.Steps.{Answers}
-use Rattle.shard_pool_settled.specs.declared.receipt.Receipt.{Receipt}
+use Rattle.tracker_shard.specs.Steps.{Answers, new_dot}
 use Rattle.shard_pool_lent.specs.declared.reply.Reply.{Reply}
 use Rattle.shard_pool_lent.specs.Hands.{Hand, receipt, with_call}
 
@@ -41,12 +41,6 @@ NotedIf false h old new step = new ≡ old
 abbrev pub Notes : {A : Type 0} → History → Hand → Hand → Step → Result A ShardFault → Type 0
 Notes h old new step r = NotedIf (is_step r) h old new step
 
--- the receipts with that of a step that was made
-abbrev pub kept_receipts : List Receipt → ℕ → ℕ → Step → Option Outcome → Bool → List Receipt
-kept_receipts rs s n step (Some o) true = rs ++ receipt s n step o ∷ []
-kept_receipts rs s n step (Some o) false = rs
-kept_receipts rs s n step None made = rs
-
 -- the answer is the shard's, with the shard and the number of the entry
 abbrev pub reply_of : {A : Type 0} → ℕ → ℕ → Result A ShardFault → Result (Reply A) ShardFault
 reply_of s n (Ok x) = Ok (record { shard = s; number = n; value = x })
@@ -56,3 +50,7 @@ reply_of s n (Err f) = Err f
 abbrev pub Replies : {A : Type 0} → ℕ → History → Step → (A → Type 0) → Result (Reply A) ShardFault → Type 0
 Replies s h step Gives r =
     Answers (λ x. (x.shard ≡ s) × (x.number ≡ last_number h + 1) × Gives x.value) (outcome_of h step) r
+
+-- the same of a step whose outcome names the new dot that is answered
+abbrev pub RepliesDot : ℕ → History → Step → Result (Reply Dot) ShardFault → Type 0
+RepliesDot s h step r = Replies s h step (λ d. new_dot (outcome_of h step) ≡ Some d) r

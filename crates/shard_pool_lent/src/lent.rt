@@ -1,25 +1,81 @@
 //! The calls with the guard lent.
-ghost use Rattle.std.specs.Prelude.{◌≡◌, ◌+◌, ◌≤◌, ◌^◌, true, Some, IsTrue};
+ghost use Rattle.std.specs.Prelude.{◌≡◌, ◌+◌, ◌≤◌, ◌^◌, true, Some, IfOk, IsTrue};
 ghost use Rattle.presence_journal.specs.History.{last_number};
 ghost use Rattle.presence_journal.specs.Limits.{is_payload, is_take_limit};
 ghost use Rattle.presence_journal.specs.Present.{listed, dots_of};
 ghost use Rattle.presence_journal.specs.Queue.{items_given};
-ghost use Rattle.presence_journal.specs.Table.{outcome_of, rows_of_key, rows_of_pid, listed_key};
-ghost use Rattle.tracker_shard.specs.Steps.{IsDue, Stepped, refusal, refusal_at, new_dot, slot_of};
-ghost use Rattle.shard_pool_lent.specs.Lent.{is_step, counted, Notes, Replies};
+ghost use Rattle.presence_journal.specs.Table.{rows_of_key, rows_of_pid, listed_key};
+ghost use Rattle.tracker_shard.specs.Steps.{IsDue, Stepped, refusal, refusal_at, slot_of};
+ghost use Rattle.shard_pool_lent.specs.Hands.{receipt};
+ghost use Rattle.shard_pool_lent.specs.Lent.{is_step, counted, Notes, Replies, RepliesDot};
 
 use crate::lane::Lane;
 use crate::locked::Locked;
-use crate::noting::{is_made, keep_receipt};
 use crate::part::Part;
 use crate::reply::{PoolFault, Reply, reply_to};
 use presence_base::{Dot, Json, Key, Meta, Row, Topic};
-use presence_journal::{Item, Payload, SharedRows, Step};
-use std::alloc::Global;
-use tracker_shard::Sub;
+use presence_journal::{Item, Outcome, SharedRows, Step};
+use shard_pool_settled::Receipt;
+use std::alloc::{AllocError, Global};
+use tracker_shard::{
+    Call, Found, Get, List, Shout, Sub, Subscribe, Take, Track, Unsubscribe, Untrack, UntrackAll,
+    Update,
+};
+
+// The receipt of a step at the shard's end, made ready before the step, so that nothing can be wanting once it is made.
+fn receipt_of(
+    shard: u32,
+    number: u64,
+    step: &Step,
+    outcome: &Outcome,
+) -> Result<Receipt, AllocError>
+    ensures { IfOk result (λ r. r ≡ receipt shard number step.now outcome.now) }
+{
+    let step = step.clone()?;
+    let outcome = outcome.clone()?;
+    Ok(Receipt {
+        shard,
+        number,
+        step,
+        outcome,
+    })
+}
+
+/// A call with the guard lent: looks up what it comes to, makes its step, and leaves its receipt with the seat.
+#[tactic(auto, using(crate::proofs::Notes::notes))]
+pub fn lent_call<L: Lane, C: Call>(
+    alloc: Global,
+    locked: &mut Locked<L>,
+    part: &mut Part<L>,
+    call: &C,
+) -> Result<Reply<C::Answer>, PoolFault>
+    ensures step { Stepped locked.old.shard locked.new.shard (Some part.old.seat) (C.step call.now) result }
+    ensures answer { Replies part.old.shard locked.old.shard (C.step call.now)
+        (C.gives call.now locked.old.shard) result }
+    ensures due { IsDue result (refusal (C.there call.now locked.old.shard) locked.old.shard (C.step call.now)) }
+    ensures notes { Notes locked.old.shard part.old part.new (C.step call.now) result }
+    ensures total { locked.new.calls.total ≡ counted locked.old.calls.total (is_step result) }
+{
+    let Part {
+        seat,
+        shard,
+        receipts,
+        share,
+    } = part;
+    let Found {
+        step,
+        outcome,
+        answer,
+    } = locked.look(alloc, call)?;
+    receipts.reserve(1)?;
+    let number = locked.next_number();
+    let receipt = receipt_of(*shard, number, &step, &outcome)?;
+    locked.enter(alloc, share, *seat, step, outcome)?;
+    receipts.push_reserved(receipt);
+    reply_to(*shard, number, answer)
+}
 
 /// A track with the guard lent.
-#[tactic(auto, using(crate::proofs::Notes::notes))]
 pub fn lent_track<L: Lane>(
     alloc: Global,
     locked: &mut Locked<L>,
@@ -32,35 +88,25 @@ pub fn lent_track<L: Lane>(
     requires pid { pid ≤ 2 ^ 62 }
     ensures step { Stepped locked.old.shard locked.new.shard (Some part.old.seat)
         (Step.Track pid topic.now key.now meta.now) result }
-    ensures answer { Replies part.old.shard locked.old.shard
-        (Step.Track pid topic.now key.now meta.now)
-        (λ d. new_dot (outcome_of locked.old.shard (Step.Track pid topic.now key.now meta.now)) ≡ Some d) result }
+    ensures answer { RepliesDot part.old.shard locked.old.shard (Step.Track pid topic.now key.now meta.now) result }
     ensures due { IsDue result (refusal true locked.old.shard (Step.Track pid topic.now key.now meta.now)) }
     ensures notes { Notes locked.old.shard part.old part.new (Step.Track pid topic.now key.now meta.now) result }
     ensures total { locked.new.calls.total ≡ counted locked.old.calls.total (is_step result) }
 {
-    let Part {
-        seat,
-        shard,
-        receipts,
-        share,
-    } = part;
-    if locked.is_full() {
-        return Err(PoolFault::JournalFull);
-    }
-    if receipts.reserve(1).is_err() {
-        return Err(PoolFault::OutOfMemory);
-    }
-    let number = locked.next_number();
-    let step = Step::track(pid, topic, key, meta)?;
-    let outcome = locked.foresee(alloc, &step)?;
-    let answer = locked.track(alloc, share, *seat, pid, topic, key, meta);
-    keep_receipt(receipts, *shard, number, step, outcome, is_made(&answer));
-    reply_to(*shard, number, answer)
+    lent_call(
+        alloc,
+        locked,
+        part,
+        &Track {
+            pid,
+            topic,
+            key,
+            meta,
+        },
+    )
 }
 
 /// An update with the guard lent.
-#[tactic(auto, using(crate::proofs::Notes::notes))]
 pub fn lent_update<L: Lane>(
     alloc: Global,
     locked: &mut Locked<L>,
@@ -73,35 +119,25 @@ pub fn lent_update<L: Lane>(
     requires pid { pid ≤ 2 ^ 62 }
     ensures step { Stepped locked.old.shard locked.new.shard (Some part.old.seat)
         (Step.Update pid topic.now key.now meta.now) result }
-    ensures answer { Replies part.old.shard locked.old.shard
-        (Step.Update pid topic.now key.now meta.now)
-        (λ d. new_dot (outcome_of locked.old.shard (Step.Update pid topic.now key.now meta.now)) ≡ Some d) result }
+    ensures answer { RepliesDot part.old.shard locked.old.shard (Step.Update pid topic.now key.now meta.now) result }
     ensures due { IsDue result (refusal true locked.old.shard (Step.Update pid topic.now key.now meta.now)) }
     ensures notes { Notes locked.old.shard part.old part.new (Step.Update pid topic.now key.now meta.now) result }
     ensures total { locked.new.calls.total ≡ counted locked.old.calls.total (is_step result) }
 {
-    let Part {
-        seat,
-        shard,
-        receipts,
-        share,
-    } = part;
-    if locked.is_full() {
-        return Err(PoolFault::JournalFull);
-    }
-    if receipts.reserve(1).is_err() {
-        return Err(PoolFault::OutOfMemory);
-    }
-    let number = locked.next_number();
-    let step = Step::update(pid, topic, key, meta)?;
-    let outcome = locked.foresee(alloc, &step)?;
-    let answer = locked.update(alloc, share, *seat, pid, topic, key, meta);
-    keep_receipt(receipts, *shard, number, step, outcome, is_made(&answer));
-    reply_to(*shard, number, answer)
+    lent_call(
+        alloc,
+        locked,
+        part,
+        &Update {
+            pid,
+            topic,
+            key,
+            meta,
+        },
+    )
 }
 
 /// An untrack with the guard lent.
-#[tactic(auto, using(crate::proofs::Notes::notes))]
 pub fn lent_untrack<L: Lane>(
     alloc: Global,
     locked: &mut Locked<L>,
@@ -119,28 +155,10 @@ pub fn lent_untrack<L: Lane>(
     ensures notes { Notes locked.old.shard part.old part.new (Step.Untrack pid topic.now key.now) result }
     ensures total { locked.new.calls.total ≡ counted locked.old.calls.total (is_step result) }
 {
-    let Part {
-        seat,
-        shard,
-        receipts,
-        share,
-    } = part;
-    if locked.is_full() {
-        return Err(PoolFault::JournalFull);
-    }
-    if receipts.reserve(1).is_err() {
-        return Err(PoolFault::OutOfMemory);
-    }
-    let number = locked.next_number();
-    let step = Step::untrack(pid, topic, key)?;
-    let outcome = locked.foresee(alloc, &step)?;
-    let answer = locked.untrack(alloc, share, *seat, pid, topic, key);
-    keep_receipt(receipts, *shard, number, step, outcome, is_made(&answer));
-    reply_to(*shard, number, answer)
+    lent_call(alloc, locked, part, &Untrack { pid, topic, key })
 }
 
 /// An untrack of all keys with the guard lent.
-#[tactic(auto, using(crate::proofs::Notes::notes))]
 pub fn lent_untrack_all<L: Lane>(
     alloc: Global,
     locked: &mut Locked<L>,
@@ -157,28 +175,10 @@ pub fn lent_untrack_all<L: Lane>(
     ensures notes { Notes locked.old.shard part.old part.new (Step.UntrackAll pid topic.now) result }
     ensures total { locked.new.calls.total ≡ counted locked.old.calls.total (is_step result) }
 {
-    let Part {
-        seat,
-        shard,
-        receipts,
-        share,
-    } = part;
-    if locked.is_full() {
-        return Err(PoolFault::JournalFull);
-    }
-    if receipts.reserve(1).is_err() {
-        return Err(PoolFault::OutOfMemory);
-    }
-    let number = locked.next_number();
-    let step = Step::untrack_all(pid, topic)?;
-    let outcome = locked.foresee(alloc, &step)?;
-    let answer = locked.untrack_all(alloc, share, *seat, pid, topic);
-    keep_receipt(receipts, *shard, number, step, outcome, is_made(&answer));
-    reply_to(*shard, number, answer)
+    lent_call(alloc, locked, part, &UntrackAll { pid, topic })
 }
 
 /// A list with the guard lent.
-#[tactic(auto, using(crate::proofs::Notes::notes))]
 pub fn lent_list<L: Lane>(
     alloc: Global,
     locked: &mut Locked<L>,
@@ -193,28 +193,10 @@ pub fn lent_list<L: Lane>(
     ensures notes { Notes locked.old.shard part.old part.new (Step.List topic.now) result }
     ensures total { locked.new.calls.total ≡ counted locked.old.calls.total (is_step result) }
 {
-    let Part {
-        seat,
-        shard,
-        receipts,
-        share,
-    } = part;
-    if locked.is_full() {
-        return Err(PoolFault::JournalFull);
-    }
-    if receipts.reserve(1).is_err() {
-        return Err(PoolFault::OutOfMemory);
-    }
-    let number = locked.next_number();
-    let step = Step::list(topic)?;
-    let outcome = locked.foresee(alloc, &step)?;
-    let answer = locked.list(alloc, share, *seat, topic);
-    keep_receipt(receipts, *shard, number, step, outcome, is_made(&answer));
-    reply_to(*shard, number, answer)
+    lent_call(alloc, locked, part, &List { topic })
 }
 
 /// A get with the guard lent.
-#[tactic(auto, using(crate::proofs::Notes::notes))]
 pub fn lent_get<L: Lane>(
     alloc: Global,
     locked: &mut Locked<L>,
@@ -230,28 +212,10 @@ pub fn lent_get<L: Lane>(
     ensures notes { Notes locked.old.shard part.old part.new (Step.Get topic.now key.now) result }
     ensures total { locked.new.calls.total ≡ counted locked.old.calls.total (is_step result) }
 {
-    let Part {
-        seat,
-        shard,
-        receipts,
-        share,
-    } = part;
-    if locked.is_full() {
-        return Err(PoolFault::JournalFull);
-    }
-    if receipts.reserve(1).is_err() {
-        return Err(PoolFault::OutOfMemory);
-    }
-    let number = locked.next_number();
-    let step = Step::get(topic, key)?;
-    let outcome = locked.foresee(alloc, &step)?;
-    let answer = locked.get(alloc, share, *seat, topic, key);
-    keep_receipt(receipts, *shard, number, step, outcome, is_made(&answer));
-    reply_to(*shard, number, answer)
+    lent_call(alloc, locked, part, &Get { topic, key })
 }
 
 /// A subscribe with the guard lent.
-#[tactic(auto, using(crate::proofs::Notes::notes))]
 pub fn lent_subscribe<L: Lane>(
     alloc: Global,
     locked: &mut Locked<L>,
@@ -266,28 +230,10 @@ pub fn lent_subscribe<L: Lane>(
     ensures notes { Notes locked.old.shard part.old part.new (Step.Subscribe topic.now) result }
     ensures total { locked.new.calls.total ≡ counted locked.old.calls.total (is_step result) }
 {
-    let Part {
-        seat,
-        shard,
-        receipts,
-        share,
-    } = part;
-    if locked.is_full() {
-        return Err(PoolFault::JournalFull);
-    }
-    if receipts.reserve(1).is_err() {
-        return Err(PoolFault::OutOfMemory);
-    }
-    let number = locked.next_number();
-    let step = Step::subscribe(topic)?;
-    let outcome = locked.foresee(alloc, &step)?;
-    let answer = locked.subscribe(alloc, share, *seat, topic);
-    keep_receipt(receipts, *shard, number, step, outcome, is_made(&answer));
-    reply_to(*shard, number, answer)
+    lent_call(alloc, locked, part, &Subscribe { topic })
 }
 
 /// A take with the guard lent.
-#[tactic(auto, using(crate::proofs::Notes::notes))]
 pub fn lent_take<L: Lane>(
     alloc: Global,
     locked: &mut Locked<L>,
@@ -306,31 +252,10 @@ pub fn lent_take<L: Lane>(
     ensures notes { Notes locked.old.shard part.old part.new (Step.Take sub.now.number max) result }
     ensures total { locked.new.calls.total ≡ counted locked.old.calls.total (is_step result) }
 {
-    let Part {
-        seat,
-        shard,
-        receipts,
-        share,
-    } = part;
-    if !locked.has(sub) {
-        return Err(PoolFault::NoSub);
-    }
-    if locked.is_full() {
-        return Err(PoolFault::JournalFull);
-    }
-    if receipts.reserve(1).is_err() {
-        return Err(PoolFault::OutOfMemory);
-    }
-    let number = locked.next_number();
-    let step = Step::take(sub.number, max);
-    let outcome = locked.foresee(alloc, &step)?;
-    let answer = locked.take(alloc, share, *seat, sub, max);
-    keep_receipt(receipts, *shard, number, step, outcome, is_made(&answer));
-    reply_to(*shard, number, answer)
+    lent_call(alloc, locked, part, &Take { sub: *sub, max })
 }
 
 /// An unsubscribe with the guard lent.
-#[tactic(auto, using(crate::proofs::Notes::notes))]
 pub fn lent_unsubscribe<L: Lane>(
     alloc: Global,
     locked: &mut Locked<L>,
@@ -345,33 +270,10 @@ pub fn lent_unsubscribe<L: Lane>(
     ensures notes { Notes locked.old.shard part.old part.new (Step.Unsubscribe sub.now.number) result }
     ensures total { locked.new.calls.total ≡ counted locked.old.calls.total (is_step result) }
 {
-    let Part {
-        seat,
-        shard,
-        receipts,
-        share,
-    } = part;
-    if !locked.has(sub) {
-        return Err(PoolFault::NoSub);
-    }
-    if locked.is_full() {
-        return Err(PoolFault::JournalFull);
-    }
-    if receipts.reserve(1).is_err() {
-        return Err(PoolFault::OutOfMemory);
-    }
-    let number = locked.next_number();
-    let step = Step::Unsubscribe {
-        subscriber: sub.number,
-    };
-    let outcome = locked.foresee(alloc, &step)?;
-    let answer = locked.unsubscribe(alloc, share, *seat, sub);
-    keep_receipt(receipts, *shard, number, step, outcome, is_made(&answer));
-    reply_to(*shard, number, answer)
+    lent_call(alloc, locked, part, &Unsubscribe { sub: *sub })
 }
 
 /// A shout with the guard lent.
-#[tactic(auto, using(crate::proofs::Notes::notes))]
 pub fn lent_shout<L: Lane>(
     alloc: Global,
     locked: &mut Locked<L>,
@@ -387,23 +289,5 @@ pub fn lent_shout<L: Lane>(
     ensures notes { Notes locked.old.shard part.old part.new (Step.Shout topic.now payload.now) result }
     ensures total { locked.new.calls.total ≡ counted locked.old.calls.total (is_step result) }
 {
-    let Part {
-        seat,
-        shard,
-        receipts,
-        share,
-    } = part;
-    if locked.is_full() {
-        return Err(PoolFault::JournalFull);
-    }
-    if receipts.reserve(1).is_err() {
-        return Err(PoolFault::OutOfMemory);
-    }
-    let number = locked.next_number();
-    let payload = Payload::new(alloc, payload)?;
-    let step = Step::shout_shared(topic, &payload)?;
-    let outcome = locked.foresee(alloc, &step)?;
-    let answer = locked.shout(alloc, share, *seat, topic, &payload);
-    keep_receipt(receipts, *shard, number, step, outcome, is_made(&answer));
-    reply_to(*shard, number, answer)
+    lent_call(alloc, locked, part, &Shout { topic, payload })
 }

@@ -1,8 +1,8 @@
 //! The steps of a pool with the guard lent: a call of a shard that leaves a receipt with its seat.
 //!
 //! Its public contracts cite `specs/Hands`: a seat at one shard, and `specs/Lent`: what a call does to it and
-//! to the shard. Those stand on tracker_shard's `Steps` and on the receipts of shard_pool_settled. Steps without a seat
-//! cite `Cuts`, `KeptDeltas`, `Full`, `Starting` and `Quiet` too, which tracker_shard gives out.
+//! to the shard. Those stand on tracker_shard's `Steps` and `Calls`, and on the receipts of shard_pool_settled. Steps without
+//! a seat cite `Cuts`, `KeptDeltas`, `Full`, `Starting` and `Quiet` too, which tracker_shard gives out.
 #![tactic(auto)]
 
 mod lane;
@@ -15,11 +15,14 @@ mod start;
 
 pub use lane::Lane;
 pub use lent::{
-    lent_get, lent_list, lent_shout, lent_subscribe, lent_take, lent_track, lent_unsubscribe,
-    lent_untrack, lent_untrack_all, lent_update,
+    lent_call, lent_get, lent_list, lent_shout, lent_subscribe, lent_take, lent_track,
+    lent_unsubscribe, lent_untrack, lent_untrack_all, lent_update,
 };
 pub use locked::Locked;
 pub use part::Part;
 pub use reply::{PoolFault, Reply};
 pub use start::lent_start;
-pub use tracker_shard::{RowCounts, ShardFault, Sub};
+pub use tracker_shard::{
+    Call, Get, List, RowCounts, ShardFault, Shout, Sub, Subscribe, Take, Track, Unsubscribe,
+    Untrack, UntrackAll, Update,
+};

@@ -1,9 +1,9 @@
 //! A shard with its count, and its steps.
-ghost use Rattle.std.specs.Prelude.{◌≡◌, ◌+◌, ◌-◌, ◌≤◌, ◌^◌, min, true, false, Some, None, IfOk, IfErr, OnOk, OnErr, IsTrue};
+ghost use Rattle.std.specs.Prelude.{◌≡◌, ◌+◌, ◌-◌, ◌≤◌, ◌^◌, min, true, false, Some, None, IfOk, IfErr, OnOk, OnErr};
 ghost use Rattle.presence_base.specs.Refs.{IsCount};
 ghost use Rattle.presence_journal.specs.History.{begun, own, entry_count, is_full, last_number, status, IsTop};
 ghost use Rattle.presence_journal.specs.TextBytes.{text_bytes};
-ghost use Rattle.presence_journal.specs.Limits.{is_take_limit};
+ghost use Rattle.presence_journal.specs.Limits.{is_within_limits};
 ghost use Rattle.presence_journal.specs.Queue.{queue, is_waiting};
 ghost use Rattle.presence_journal.specs.Table.{IsLegal, outcome_of};
 ghost use Rattle.tracker_shard.specs.Full.{IsFullOf};
@@ -12,10 +12,9 @@ ghost use Rattle.tracker_shard.specs.Cuts.{IsCut};
 ghost use Rattle.orswot_core_told.specs.Checks.{WhereItFits};
 ghost use Rattle.tracker_shard.specs.KeptDeltas.{IsToldFrom, TellsFrom};
 ghost use Rattle.tracker_shard.specs.ToldParts.{IsPartWhereItFits};
-ghost use Rattle.tracker_shard.specs.Steps.{Stepped, Answers, AnswersDot, IsDue, refusal, refusal_at, is_found};
-ghost use Rattle.tracker_shard.specs.Steps.{AnswersRowsOfKey, AnswersRowsOfPid, AnswersListed, AnswersListedKey};
-ghost use Rattle.tracker_shard.specs.Steps.{AnswersItems, AnswersSub, RefusesForRoom, checkpoint_refusal};
-ghost use Rattle.tracker_shard.specs.Steps.{AnswersPairs, KeepsRows};
+ghost use Rattle.tracker_shard.specs.Calls.{Looks};
+ghost use Rattle.tracker_shard.specs.Steps.{Stepped, Answers, IsDue, refusal, is_found};
+ghost use Rattle.tracker_shard.specs.Steps.{RefusesForRoom, checkpoint_refusal, AnswersPairs, KeepsRows};
 ghost use Rattle.tracker_shard.specs.Starting.{seats, IsBegunAgain};
 ghost use Rattle.shard_pool_lent.specs.Lent.{is_step, counted};
 ghost use Rattle.shard_pool_lent.specs.Lines.{IsOfLane};
@@ -24,12 +23,12 @@ use crate::lane::Lane;
 use crate::noting::{count_call, is_made};
 use delta_range::Delta;
 use orswot_core_told::{Form, Told};
-use presence_base::{Dot, Key, Meta, Replica, Row, Topic};
-use presence_journal::{Item, Journal, Outcome, Payload, SharedRows, Step};
+use presence_base::{Dot, Replica};
+use presence_journal::{Journal, Outcome, Step};
 use replica_status::Status;
 use std::alloc::{AllocError, Global};
 use std::sync::ledger::{Book, Share};
-use tracker_shard::{RowCounts, Shard, ShardFault, Sub};
+use tracker_shard::{Call, Found, RowCounts, Shard, ShardFault, Sub};
 
 /// A shard with the count of its seated calls: what stands behind a lock of the pool.
 pub struct Locked<L: Lane> {
@@ -94,33 +93,6 @@ impl<L: Lane> Locked<L> {
         self.shard.row_counts()
     }
 
-    // What a step would come to, without making it.
-    pub(crate) fn foresee(
-        &mut self,
-        alloc: Global,
-        step: &Step,
-    ) -> Result<Option<Outcome>, AllocError>
-        ensures same { self.new.shard ≡ self.old.shard }
-        ensures calls { self.new.calls ≡ self.old.calls }
-        ensures outcome { IfOk result (λ o. o ≡ outcome_of self.old.shard step.now) }
-    {
-        self.shard.foresee(alloc, step)
-    }
-
-    // Whether no entry can follow.
-    pub(crate) fn is_full(&self) -> bool
-        ensures { result ≡ is_full self.now.shard }
-    {
-        self.shard.journal().is_full()
-    }
-
-    // Whether there is this subscriber.
-    pub(crate) fn has(&self, sub: &Sub) -> bool
-        ensures { result ≡ is_found self.now.shard sub.now.slot sub.now.number }
-    {
-        self.shard.waits(sub).is_ok()
-    }
-
     // The number that the next entry gets.
     pub(crate) fn next_number(&self) -> u64
         ensures { result ≡ last_number self.now.shard + 1 }
@@ -128,251 +100,42 @@ impl<L: Lane> Locked<L> {
         self.shard.journal().last_number() + 1
     }
 
-    // A track, counted where it made an entry.
-    #[tactic(auto, using(crate::proofs::Counts::counts))]
-    pub(crate) fn track(
+    // What a call comes to, without making its step.
+    pub(crate) fn look<C: Call>(
         &mut self,
         alloc: Global,
-        share: &mut Share<L>,
-        seat: u32,
-        pid: u64,
-        topic: &Topic,
-        key: &Key,
-        meta: &Meta,
-    ) -> Result<Dot, ShardFault>
-        requires pid { pid ≤ 2 ^ 62 }
-        requires share { share.old.parts ≡ 1 }
-        ensures step { Stepped self.old.shard self.new.shard (Some seat)
-            (Step.Track pid topic.now key.now meta.now) result }
-        ensures answer { AnswersDot self.old.shard (Step.Track pid topic.now key.now meta.now) result }
-        ensures due { IsDue result (refusal true self.old.shard (Step.Track pid topic.now key.now meta.now)) }
-        ensures total { self.new.calls.total ≡ counted self.old.calls.total (is_step result) }
-        ensures amount { share.new.amount ≡ counted share.old.amount (is_step result) }
-        ensures parts { share.new.parts ≡ share.old.parts }
+        call: &C,
+    ) -> Result<Found<C::Answer>, ShardFault>
+        ensures same { self.new.shard ≡ self.old.shard }
+        ensures calls { self.new.calls ≡ self.old.calls }
+        ensures found { Looks (C.gives call.now self.old.shard) (C.there call.now self.old.shard) self.old.shard
+            (C.step call.now) result }
     {
-        let Locked { shard, calls } = self;
-        let answer = shard.track(alloc, Some(seat), pid, topic, key, meta);
-        count_call(calls, share, is_made(&answer));
-        answer
+        self.shard.look(alloc, call)
     }
 
-    // An update, counted where it made an entry.
+    // Makes the step that a call was found to come to, and counts it.
     #[tactic(auto, using(crate::proofs::Counts::counts))]
-    pub(crate) fn update(
+    pub(crate) fn enter(
         &mut self,
         alloc: Global,
         share: &mut Share<L>,
         seat: u32,
-        pid: u64,
-        topic: &Topic,
-        key: &Key,
-        meta: &Meta,
-    ) -> Result<Dot, ShardFault>
-        requires pid { pid ≤ 2 ^ 62 }
-        requires share { share.old.parts ≡ 1 }
-        ensures step { Stepped self.old.shard self.new.shard (Some seat)
-            (Step.Update pid topic.now key.now meta.now) result }
-        ensures answer { AnswersDot self.old.shard (Step.Update pid topic.now key.now meta.now) result }
-        ensures due { IsDue result (refusal true self.old.shard (Step.Update pid topic.now key.now meta.now)) }
-        ensures total { self.new.calls.total ≡ counted self.old.calls.total (is_step result) }
-        ensures amount { share.new.amount ≡ counted share.old.amount (is_step result) }
-        ensures parts { share.new.parts ≡ share.old.parts }
-    {
-        let Locked { shard, calls } = self;
-        let answer = shard.update(alloc, Some(seat), pid, topic, key, meta);
-        count_call(calls, share, is_made(&answer));
-        answer
-    }
-
-    // An untrack, counted where it made an entry.
-    #[tactic(auto, using(crate::proofs::Counts::counts))]
-    pub(crate) fn untrack(
-        &mut self,
-        alloc: Global,
-        share: &mut Share<L>,
-        seat: u32,
-        pid: u64,
-        topic: &Topic,
-        key: &Key,
-    ) -> Result<Vec<Dot>, ShardFault>
-        requires share { share.old.parts ≡ 1 }
-        ensures step { Stepped self.old.shard self.new.shard (Some seat) (Step.Untrack pid topic.now key.now) result }
-        ensures answer { AnswersRowsOfKey self.old.shard pid topic.now key.now result }
-        ensures due { IsDue result (refusal true self.old.shard (Step.Untrack pid topic.now key.now)) }
-        ensures total { self.new.calls.total ≡ counted self.old.calls.total (is_step result) }
-        ensures amount { share.new.amount ≡ counted share.old.amount (is_step result) }
-        ensures parts { share.new.parts ≡ share.old.parts }
-    {
-        let Locked { shard, calls } = self;
-        let answer = shard.untrack(alloc, Some(seat), pid, topic, key);
-        count_call(calls, share, is_made(&answer));
-        answer
-    }
-
-    // An untrack of all keys, counted where it made an entry.
-    #[tactic(auto, using(crate::proofs::Counts::counts))]
-    pub(crate) fn untrack_all(
-        &mut self,
-        alloc: Global,
-        share: &mut Share<L>,
-        seat: u32,
-        pid: u64,
-        topic: &Topic,
-    ) -> Result<Vec<Dot>, ShardFault>
-        requires share { share.old.parts ≡ 1 }
-        ensures step { Stepped self.old.shard self.new.shard (Some seat) (Step.UntrackAll pid topic.now) result }
-        ensures answer { AnswersRowsOfPid self.old.shard pid topic.now result }
-        ensures due { IsDue result (refusal true self.old.shard (Step.UntrackAll pid topic.now)) }
-        ensures total { self.new.calls.total ≡ counted self.old.calls.total (is_step result) }
-        ensures amount { share.new.amount ≡ counted share.old.amount (is_step result) }
-        ensures parts { share.new.parts ≡ share.old.parts }
-    {
-        let Locked { shard, calls } = self;
-        let answer = shard.untrack_all(alloc, Some(seat), pid, topic);
-        count_call(calls, share, is_made(&answer));
-        answer
-    }
-
-    // A list, counted where it made an entry.
-    #[tactic(auto, using(crate::proofs::Counts::counts))]
-    pub(crate) fn list(
-        &mut self,
-        alloc: Global,
-        share: &mut Share<L>,
-        seat: u32,
-        topic: &Topic,
-    ) -> Result<SharedRows, ShardFault>
-        requires share { share.old.parts ≡ 1 }
-        ensures step { Stepped self.old.shard self.new.shard (Some seat) (Step.List topic.now) result }
-        ensures answer { AnswersListed self.old.shard topic.now result }
-        ensures due { IsDue result (refusal true self.old.shard (Step.List topic.now)) }
-        ensures total { self.new.calls.total ≡ counted self.old.calls.total (is_step result) }
-        ensures amount { share.new.amount ≡ counted share.old.amount (is_step result) }
-        ensures parts { share.new.parts ≡ share.old.parts }
-    {
-        let Locked { shard, calls } = self;
-        let answer = shard.list(alloc, Some(seat), topic);
-        count_call(calls, share, is_made(&answer));
-        answer
-    }
-
-    // A get, counted where it made an entry.
-    #[tactic(auto, using(crate::proofs::Counts::counts))]
-    pub(crate) fn get(
-        &mut self,
-        alloc: Global,
-        share: &mut Share<L>,
-        seat: u32,
-        topic: &Topic,
-        key: &Key,
-    ) -> Result<Vec<(Dot, Row)>, ShardFault>
-        requires share { share.old.parts ≡ 1 }
-        ensures step { Stepped self.old.shard self.new.shard (Some seat) (Step.Get topic.now key.now) result }
-        ensures answer { AnswersListedKey self.old.shard topic.now key.now result }
-        ensures due { IsDue result (refusal true self.old.shard (Step.Get topic.now key.now)) }
-        ensures total { self.new.calls.total ≡ counted self.old.calls.total (is_step result) }
-        ensures amount { share.new.amount ≡ counted share.old.amount (is_step result) }
-        ensures parts { share.new.parts ≡ share.old.parts }
-    {
-        let Locked { shard, calls } = self;
-        let answer = shard.get(alloc, Some(seat), topic, key);
-        count_call(calls, share, is_made(&answer));
-        answer
-    }
-
-    // A subscribe, counted where it made an entry.
-    #[tactic(auto, using(crate::proofs::Counts::counts))]
-    pub(crate) fn subscribe(
-        &mut self,
-        alloc: Global,
-        share: &mut Share<L>,
-        seat: u32,
-        topic: &Topic,
-    ) -> Result<Sub, ShardFault>
-        requires share { share.old.parts ≡ 1 }
-        ensures step { Stepped self.old.shard self.new.shard (Some seat) (Step.Subscribe topic.now) result }
-        ensures answer { AnswersSub self.old.shard topic.now result }
-        ensures due { IsDue result (refusal true self.old.shard (Step.Subscribe topic.now)) }
-        ensures total { self.new.calls.total ≡ counted self.old.calls.total (is_step result) }
-        ensures amount { share.new.amount ≡ counted share.old.amount (is_step result) }
-        ensures parts { share.new.parts ≡ share.old.parts }
-    {
-        let Locked { shard, calls } = self;
-        let answer = shard.subscribe(alloc, Some(seat), topic);
-        count_call(calls, share, is_made(&answer));
-        answer
-    }
-
-    // A take, counted where it made an entry.
-    #[tactic(auto, using(crate::proofs::Counts::counts))]
-    pub(crate) fn take(
-        &mut self,
-        alloc: Global,
-        share: &mut Share<L>,
-        seat: u32,
-        sub: &Sub,
-        max: u32,
-    ) -> Result<Vec<Item>, ShardFault>
-        requires limit { IsTrue (is_take_limit max) }
-        requires share { share.old.parts ≡ 1 }
-        ensures step { Stepped self.old.shard self.new.shard (Some seat) (Step.Take sub.now.number max) result }
-        ensures answer { AnswersItems self.old.shard sub.now.number max result }
-        ensures due { IsDue result (refusal_at sub.now.slot sub.now.number self.old.shard
-            (Step.Take sub.now.number max)) }
-        ensures total { self.new.calls.total ≡ counted self.old.calls.total (is_step result) }
-        ensures amount { share.new.amount ≡ counted share.old.amount (is_step result) }
-        ensures parts { share.new.parts ≡ share.old.parts }
-    {
-        let Locked { shard, calls } = self;
-        let answer = shard.take(alloc, Some(seat), sub, max);
-        count_call(calls, share, is_made(&answer));
-        answer
-    }
-
-    // An unsubscribe, counted where it made an entry.
-    #[tactic(auto, using(crate::proofs::Counts::counts))]
-    pub(crate) fn unsubscribe(
-        &mut self,
-        alloc: Global,
-        share: &mut Share<L>,
-        seat: u32,
-        sub: &Sub,
+        step: Step,
+        outcome: Outcome,
     ) -> Result<(), ShardFault>
+        requires table { outcome_of self.old.shard step ≡ Some outcome }
+        requires room { is_full self.old.shard ≡ false }
+        requires limits { is_within_limits step ≡ true }
         requires share { share.old.parts ≡ 1 }
-        ensures step { Stepped self.old.shard self.new.shard (Some seat) (Step.Unsubscribe sub.now.number) result }
-        ensures answer { Answers (λ _. Unit {0}) (outcome_of self.old.shard (Step.Unsubscribe sub.now.number)) result }
-        ensures due { IsDue result (refusal_at sub.now.slot sub.now.number self.old.shard
-            (Step.Unsubscribe sub.now.number)) }
+        ensures step { Stepped self.old.shard self.new.shard (Some seat) step result }
+        ensures memory { IfErr result (λ e. e ≡ ShardFault.OutOfMemory) }
         ensures total { self.new.calls.total ≡ counted self.old.calls.total (is_step result) }
         ensures amount { share.new.amount ≡ counted share.old.amount (is_step result) }
         ensures parts { share.new.parts ≡ share.old.parts }
     {
         let Locked { shard, calls } = self;
-        let answer = shard.unsubscribe(alloc, Some(seat), sub);
-        count_call(calls, share, is_made(&answer));
-        answer
-    }
-
-    // A shout, counted where it made an entry.
-    #[tactic(auto, using(crate::proofs::Counts::counts))]
-    pub(crate) fn shout(
-        &mut self,
-        alloc: Global,
-        share: &mut Share<L>,
-        seat: u32,
-        topic: &Topic,
-        payload: &Payload,
-    ) -> Result<(), ShardFault>
-        requires share { share.old.parts ≡ 1 }
-        ensures step { Stepped self.old.shard self.new.shard (Some seat) (Step.Shout topic.now payload.now) result }
-        ensures answer { Answers (λ _. Unit {0}) (outcome_of self.old.shard (Step.Shout topic.now payload.now)) result }
-        ensures due { IsDue result (refusal true self.old.shard (Step.Shout topic.now payload.now)) }
-        ensures total { self.new.calls.total ≡ counted self.old.calls.total (is_step result) }
-        ensures amount { share.new.amount ≡ counted share.old.amount (is_step result) }
-        ensures parts { share.new.parts ≡ share.old.parts }
-    {
-        let Locked { shard, calls } = self;
-        let answer = shard.shout_shared(alloc, Some(seat), topic, payload);
+        let answer = shard.enter(alloc, Some(seat), step, outcome);
         count_call(calls, share, is_made(&answer));
         answer
     }

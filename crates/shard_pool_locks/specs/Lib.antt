@@ -7,6 +7,7 @@ pub use Rattle.shard_pool_lent.specs.Hands
 pub use Rattle.shard_pool_lent.specs.Codes
 pub use Rattle.shard_pool_lent.specs.Lines
 pub use Rattle.shard_pool_lent.specs.Steps
+pub use Rattle.shard_pool_lent.specs.Sub
 pub use Rattle.shard_pool_lent.specs.ShardFault
 pub use Rattle.shard_pool_lent.specs.Full
 pub use Rattle.shard_pool_lent.specs.KeptDeltas

@@ -1,23 +1,15 @@
 -- What a seated call leaves, once it has let the lock go.
-use Rattle.std.specs.Prelude.{◌≡◌, Bool, true, Option, Some, None, Result, Ok, Err}
+use Rattle.std.specs.Prelude.{◌≡◌, Bool, Option, Some, None, Result, Ok, Err}
 use Rattle.presence_journal_data.specs.declared.step.Step.{Step}
 use Rattle.presence_journal.specs.History.{History}
 use Rattle.presence_journal.specs.Table.{IsLegal}
-use Rattle.shard_pool_lent.specs.Sub.{Sub}
 use Rattle.shard_pool_lent.specs.ShardFault.{ShardFault}
 use Rattle.shard_pool_lent.specs.ShardFault.TheVariants.{AlreadyTracked, NoPresence, ClockFull, JournalFull, NoSub, BadIncarnation, OutOfMemory}
-use Rattle.shard_pool_lent.specs.Steps.{Stepped, refusal, is_found}
+use Rattle.shard_pool_lent.specs.Steps.{Stepped, refusal}
 use Rattle.shard_pool_lent.specs.declared.reply.Reply.{Reply}
 use Rattle.shard_pool_lent.specs.Hands.{Hand}
 use Rattle.shard_pool_lent.specs.Lent.{Notes, Replies}
-
--- a call that names no subscriber
-abbrev pub always : History → Bool
-always h = true
-
--- one that names this subscriber
-abbrev pub finds : Sub → History → Bool
-finds sub h = is_found h sub.slot sub.number
+pub use Rattle.shard_pool_lent.specs.Calls.{always, finds}
 
 -- Each refusal is given where it is the one that stands. Want of memory for the receipt goes before all others.
 abbrev pub IsDueOnceNoted : {A : Type 0} → Result A ShardFault → Option ShardFault → Type 0

@@ -1,9 +1,9 @@
 //! What a call of the pool does behind the lock of one shard, with the gate around each seated call.
 //!
-//! Its public contracts cite `specs/Seated`: what a seated call leaves, `specs/Unseated`: what stands
-//! behind the answer of a call without a seat, and `specs/Due`: whether a journal is due for a checkpoint. The first two name a history behind the answer at most, since the lock
-//! is let go. They stand on shard_pool_lent's `Hands`, and on `Steps`, `Cuts`, `KeptDeltas`, `Full` and `Quiet`,
-//! which it gives out.
+//! Its public contracts cite `specs/Seated`: what a seated call leaves, `specs/Unseated`: what stands behind the answer of
+//! a call without a seat, and `specs/Due`: whether a journal is due for a checkpoint. The first two name a history behind
+//! the answer at most, since the lock is let go. They stand on shard_pool_lent's `Hands`, and on `Steps`, `Calls`, `Cuts`,
+//! `KeptDeltas`, `Full` and `Quiet`, which it gives out.
 #![tactic(auto)]
 
 mod due;
@@ -14,12 +14,10 @@ mod unseated;
 
 pub use due::DueFrom;
 pub use gate::{Gate, NoGate};
-pub use seated::{
-    locked_get, locked_list, locked_shout, locked_subscribe, locked_take, locked_track,
-    locked_unsubscribe, locked_untrack, locked_untrack_all, locked_update,
-};
+pub use seated::locked_call;
 pub use shard_pool_lent::{
-    Lane, Locked, Part, PoolFault, Reply, RowCounts, Sub, lent_get, lent_list, lent_shout,
+    Call, Get, Lane, List, Locked, Part, PoolFault, Reply, RowCounts, Shout, Sub, Subscribe, Take,
+    Track, Unsubscribe, Untrack, UntrackAll, Update, lent_call, lent_get, lent_list, lent_shout,
     lent_start, lent_subscribe, lent_take, lent_track, lent_unsubscribe, lent_untrack,
     lent_untrack_all, lent_update,
 };

@@ -1,16 +1,22 @@
 //! A shard: one table of presences. Each of its calls is one step of its journal, but for those that only ask what
 //! is told of it, and for the one that begins the journal again.
 //!
-//! Its public contracts cite `specs/Steps`: what a call answers and leaves, and when it refuses; presence_journal's
-//! `History`, `Table`, `Present`, `Queue` and `Limits`; and what tracker_shard_indexed gives out: `Cuts`, `KeptDeltas`,
-//! `Full`, `Starting`, `Resuming` and `Quiet`.
+//! Its public contracts cite `specs/Steps`: what a call answers and leaves, and when it refuses; `specs/Calls`: what it
+//! comes to before its step is made; presence_journal's `History`, `Table`, `Present`, `Queue` and `Limits`; and what
+//! tracker_shard_indexed gives out: `Cuts`, `KeptDeltas`, `Full`, `Starting`, `Resuming` and `Quiet`.
 #![tactic(auto)]
 
 mod answers;
+mod call;
+mod calls;
 mod fault;
 mod foreseen;
 mod shard;
 
+pub use call::{Call, Found};
+pub use calls::{
+    Get, List, Shout, Subscribe, Take, Track, Unsubscribe, Untrack, UntrackAll, Update,
+};
 pub use fault::ShardFault;
 pub use shard::{Shard, Sub};
 pub use tracker_shard_indexed::RowCounts;

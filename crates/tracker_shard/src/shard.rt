@@ -1,11 +1,15 @@
 //! The shard's calls.
-use crate::answers::{cut_outcome, note, own_dot, removal, replaced, write};
+use crate::answers::{cut_outcome, note, write};
+use crate::call::{Call, Found};
+use crate::calls::{
+    Get, List, Shout, Subscribe, Take, Track, Unsubscribe, Untrack, UntrackAll, Update,
+};
 use crate::fault::ShardFault;
 use crate::foreseen::foreseen;
 use delta_range::Delta;
 use orswot_core::{Form, Told};
 use presence_base::{Dot, Json, Key, MAX_COUNT, Meta, Replica, Row, Topic};
-use presence_journal::{Dots, Item, Journal, Outcome, Payload, SharedRows, Step, dots_of_rows};
+use presence_journal::{Item, Journal, Outcome, Payload, SharedRows, Step};
 use replica_status::Status;
 use std::alloc::{AllocError, Global};
 use std::marker::Model;
@@ -16,6 +20,22 @@ use tracker_shard_indexed::{Indexed, RowCounts};
 pub struct Sub {
     pub slot: u64,
     pub number: u64,
+}
+
+impl Sub {
+    ghost use Rattle.std.specs.Prelude.{◌≡◌};
+    ghost use Rattle.tracker_shard.specs.Steps.{is_found};
+
+    // Whether it is there.
+    #[tactic(auto, using(crate::proofs::Doors::subscribers))]
+    pub(crate) fn is_there(&self, table: &Indexed) -> bool
+        ensures { result ≡ is_found table.now.history self.now.slot self.now.number }
+    {
+        match table.topic_of(self.number) {
+            Some(_) => self.slot == 0,
+            None => false,
+        }
+    }
 }
 
 /// One shard's table of presences, seen by contracts as its journal's history.
@@ -46,10 +66,10 @@ impl Model for Shard {
 }
 
 impl Shard {
-    ghost use Rattle.std.specs.Prelude.{◌≡◌, ◌≤◌, ◌^◌, true, false, Some, None, option_copied, IfOk, IfErr, OnOk, OnErr, IsTrue};
+    ghost use Rattle.std.specs.Prelude.{◌≡◌, ◌≤◌, ◌^◌, true, false, Some, None, IfOk, IfErr, OnOk, OnErr, IsTrue};
     ghost use Rattle.presence_base.specs.Refs.{IsCount};
-    ghost use Rattle.presence_journal.specs.History.{begun, own, status, IsTop};
-    ghost use Rattle.presence_journal.specs.Limits.{is_payload, is_take_limit};
+    ghost use Rattle.presence_journal.specs.History.{begun, is_full, own, status, IsTop};
+    ghost use Rattle.presence_journal.specs.Limits.{is_payload, is_take_limit, is_within_limits};
     ghost use Rattle.presence_journal.specs.Queue.{queue, is_waiting};
     ghost use Rattle.presence_journal.specs.Table.{IsLegal, AreWithinLimits, outcome_of};
     ghost use Rattle.tracker_shard_indexed.specs.Cuts.{IsCut};
@@ -58,10 +78,11 @@ impl Shard {
     ghost use Rattle.tracker_shard_indexed.specs.ToldParts.{IsPartWhereItFits};
     ghost use Rattle.tracker_shard_indexed.specs.Full.{IsFullOf};
     ghost use Rattle.tracker_shard_indexed.specs.Quiet.{TellsQuiet};
-    ghost use Rattle.tracker_shard.specs.Steps.{Stepped, Answers, IsDue, RefusesForRoom, refusal, refusal_at, is_found};
+    ghost use Rattle.tracker_shard.specs.Calls.{Looks};
+    ghost use Rattle.tracker_shard.specs.Steps.{Stepped, Answers, IsDue, RefusesForRoom, refusal, refusal_at};
     ghost use Rattle.tracker_shard.specs.Steps.{AnswersDot, AnswersRowsOfKey, AnswersRowsOfPid, AnswersListed};
     ghost use Rattle.tracker_shard.specs.Steps.{AnswersListedKey, AnswersItems, AnswersSub};
-    ghost use Rattle.tracker_shard.specs.Steps.{found_topic, checkpoint_refusal, AnswersPairs, KeepsRows};
+    ghost use Rattle.tracker_shard.specs.Steps.{is_found, checkpoint_refusal, AnswersPairs, KeepsRows};
     ghost use Rattle.tracker_shard_indexed.specs.Starting.{IsBegunAgain};
     ghost use Rattle.tracker_shard_indexed.specs.Resuming.{resumed};
 
@@ -110,16 +131,6 @@ impl Shard {
         table.into_journal()
     }
 
-    // The topic of a subscriber, `None` where no present subscriber has this slot and number.
-    fn topic_of_sub(&self, sub: &Sub) -> Option<&Topic>
-        ensures { option_copied result ≡ found_topic self.now sub.now.slot sub.now.number }
-    {
-        if sub.slot != 0 {
-            return None;
-        }
-        self.table.topic_of(sub.number)
-    }
-
     /// What a step would come to, `None` where it needs a count and none is left, or names a subscriber that isn't there. It
     /// is no step, and costs what the step's call looks up.
     pub fn foresee(&mut self, alloc: Global, step: &Step) -> Result<Option<Outcome>, AllocError>
@@ -130,11 +141,72 @@ impl Shard {
         foreseen(&mut self.table, alloc, step)
     }
 
+    /// What a call comes to. It is no step. What is found can be entered as long as the shard stays as it is.
+    ///
+    /// It refuses as the call does, but for what the table itself refuses by an entry, which is found.
+    #[tactic(auto, using(crate::proofs::Doors::looking))]
+    pub fn look<C: Call>(&mut self, alloc: Global, call: &C) -> Result<Found<C::Answer>, ShardFault>
+        ensures same { self.new ≡ self.old }
+        ensures found { Looks (C.gives call.now self.old) (C.there call.now self.old) self.old
+            (C.step call.now) result }
+    {
+        if !call.is_there(&self.table) {
+            return Err(ShardFault::NoSub);
+        }
+        if self.table.journal().is_full() {
+            return Err(ShardFault::JournalFull);
+        }
+        self.table.ready(alloc)?;
+        call.find(alloc, &mut self.table)
+    }
+
+    /// Makes the step that a call was found to come to. It refuses with `OutOfMemory` alone.
+    #[tactic(auto, using(crate::proofs::Doors::entered))]
+    pub fn enter(
+        &mut self,
+        alloc: Global,
+        seat: Option<u32>,
+        step: Step,
+        outcome: Outcome,
+    ) -> Result<(), ShardFault>
+        requires table { outcome_of self.old step ≡ Some outcome }
+        requires room { is_full self.old ≡ false }
+        requires limits { is_within_limits step ≡ true }
+        ensures step { Stepped self.old self.new seat step result }
+        ensures memory { IfErr result (λ e. e ≡ ShardFault.OutOfMemory) }
+    {
+        self.table.ready(alloc)?;
+        write(&mut self.table, alloc, seat, step, outcome)
+    }
+
+    /// Makes a call: looks up what it comes to, and makes its step.
+    ///
+    /// It refuses in this order: `NoSub`, `JournalFull`; what the table refuses; `OutOfMemory` in place of any answer but the
+    /// first two.
+    #[tactic(auto, using(crate::proofs::Doors::performed))]
+    pub fn perform<C: Call>(
+        &mut self,
+        alloc: Global,
+        seat: Option<u32>,
+        call: &C,
+    ) -> Result<C::Answer, ShardFault>
+        ensures step { Stepped self.old self.new seat (C.step call.now) result }
+        ensures answer { Answers (C.gives call.now self.old) (outcome_of self.old (C.step call.now)) result }
+        ensures due { IsDue result (refusal (C.there call.now self.old) self.old (C.step call.now)) }
+    {
+        let Found {
+            step,
+            outcome,
+            answer,
+        } = self.look(alloc, call)?;
+        self.enter(alloc, seat, step, outcome)?;
+        answer
+    }
+
     /// Tracks the pid under the key on the topic, and answers the dot of the new row.
     ///
     /// It refuses in this order: `JournalFull`; `AlreadyTracked`, which makes an entry; `ClockFull`;
     /// `OutOfMemory` in place of any answer but the first.
-    #[tactic(auto, using(crate::proofs::Tables::tables))]
     pub fn track(
         &mut self,
         alloc: Global,
@@ -149,28 +221,22 @@ impl Shard {
         ensures answer { AnswersDot self.old (Step.Track pid topic.now key.now meta.now) result }
         ensures due { IsDue result (refusal true self.old (Step.Track pid topic.now key.now meta.now)) }
     {
-        if self.table.journal().is_full() {
-            return Err(ShardFault::JournalFull);
-        }
-        self.table.ready(alloc)?;
-        if own_dot(&self.table, alloc, pid, topic, key)?.is_some() {
-            let step = Step::track(pid, topic, key, meta)?;
-            write(&mut self.table, alloc, seat, step, Outcome::AlreadyTracked)?;
-            return Err(ShardFault::AlreadyTracked);
-        }
-        let Some(dot) = self.table.next_dot() else {
-            return Err(ShardFault::ClockFull);
-        };
-        let step = Step::track(pid, topic, key, meta)?;
-        write(&mut self.table, alloc, seat, step, Outcome::Added(dot))?;
-        Ok(dot)
+        self.perform(
+            alloc,
+            seat,
+            &Track {
+                pid,
+                topic,
+                key,
+                meta,
+            },
+        )
     }
 
     /// Replaces what the pid tells under the key on the topic, and answers the dot of the new row.
     ///
     /// It refuses in this order: `JournalFull`; `NoPresence`, which makes an entry; `ClockFull`;
     /// `OutOfMemory` in place of any answer but the first.
-    #[tactic(auto, using(crate::proofs::Tables::tables))]
     pub fn update(
         &mut self,
         alloc: Global,
@@ -185,28 +251,22 @@ impl Shard {
         ensures answer { AnswersDot self.old (Step.Update pid topic.now key.now meta.now) result }
         ensures due { IsDue result (refusal true self.old (Step.Update pid topic.now key.now meta.now)) }
     {
-        if self.table.journal().is_full() {
-            return Err(ShardFault::JournalFull);
-        }
-        self.table.ready(alloc)?;
-        let Some(old) = own_dot(&self.table, alloc, pid, topic, key)? else {
-            let step = Step::update(pid, topic, key, meta)?;
-            write(&mut self.table, alloc, seat, step, Outcome::NoPresence)?;
-            return Err(ShardFault::NoPresence);
-        };
-        let Some(dot) = self.table.next_dot() else {
-            return Err(ShardFault::ClockFull);
-        };
-        let step = Step::update(pid, topic, key, meta)?;
-        write(&mut self.table, alloc, seat, step, replaced(&dot, &old))?;
-        Ok(dot)
+        self.perform(
+            alloc,
+            seat,
+            &Update {
+                pid,
+                topic,
+                key,
+                meta,
+            },
+        )
     }
 
     /// Takes out the pid's row under the key on the topic, and answers its dot, or none where there is no such row.
     ///
     /// It refuses in this order: `JournalFull`; `ClockFull`, where a row would go; `OutOfMemory` in
     /// place of any answer but the first.
-    #[tactic(auto, using(crate::proofs::Tables::tables))]
     pub fn untrack(
         &mut self,
         alloc: Global,
@@ -219,25 +279,13 @@ impl Shard {
         ensures answer { AnswersRowsOfKey self.old pid topic.now key.now result }
         ensures due { IsDue result (refusal true self.old (Step.Untrack pid topic.now key.now)) }
     {
-        if self.table.journal().is_full() {
-            return Err(ShardFault::JournalFull);
-        }
-        self.table.ready(alloc)?;
-        let rows = self.table.rows_of_key(alloc, pid, topic, key)?;
-        let Some(outcome) = removal(&self.table, alloc, &rows)? else {
-            return Err(ShardFault::ClockFull);
-        };
-        let dots = dots_of_rows(alloc, &rows)?;
-        let step = Step::untrack(pid, topic, key)?;
-        write(&mut self.table, alloc, seat, step, outcome)?;
-        Ok(dots)
+        self.perform(alloc, seat, &Untrack { pid, topic, key })
     }
 
     /// Takes out each row of the pid on the topic, and answers their dots in order of key and then dot.
     ///
     /// It refuses in this order: `JournalFull`; `ClockFull`, where a row would go; `OutOfMemory` in
     /// place of any answer but the first.
-    #[tactic(auto, using(crate::proofs::Tables::tables))]
     pub fn untrack_all(
         &mut self,
         alloc: Global,
@@ -249,24 +297,12 @@ impl Shard {
         ensures answer { AnswersRowsOfPid self.old pid topic.now result }
         ensures due { IsDue result (refusal true self.old (Step.UntrackAll pid topic.now)) }
     {
-        if self.table.journal().is_full() {
-            return Err(ShardFault::JournalFull);
-        }
-        self.table.ready(alloc)?;
-        let rows = self.table.rows_of_pid(alloc, pid, topic)?;
-        let Some(outcome) = removal(&self.table, alloc, &rows)? else {
-            return Err(ShardFault::ClockFull);
-        };
-        let dots = dots_of_rows(alloc, &rows)?;
-        let step = Step::untrack_all(pid, topic)?;
-        write(&mut self.table, alloc, seat, step, outcome)?;
-        Ok(dots)
+        self.perform(alloc, seat, &UntrackAll { pid, topic })
     }
 
     /// The rows that are present on the topic, in order of key and then dot.
     ///
     /// It refuses with `JournalFull`, else with `OutOfMemory`.
-    #[tactic(auto, using(crate::proofs::Tables::tables))]
     pub fn list(
         &mut self,
         alloc: Global,
@@ -277,21 +313,12 @@ impl Shard {
         ensures answer { AnswersListed self.old topic.now result }
         ensures due { IsDue result (refusal true self.old (Step.List topic.now)) }
     {
-        if self.table.journal().is_full() {
-            return Err(ShardFault::JournalFull);
-        }
-        self.table.ready(alloc)?;
-        let rows = self.table.state(alloc, topic)?;
-        let dots = rows.dots()?;
-        let step = Step::list(topic)?;
-        write(&mut self.table, alloc, seat, step, Outcome::Shown(dots))?;
-        Ok(rows)
+        self.perform(alloc, seat, &List { topic })
     }
 
     /// The rows that are present under the key on the topic, in order of dot.
     ///
     /// It refuses with `JournalFull`, else with `OutOfMemory`.
-    #[tactic(auto, using(crate::proofs::Tables::tables))]
     pub fn get(
         &mut self,
         alloc: Global,
@@ -303,27 +330,12 @@ impl Shard {
         ensures answer { AnswersListedKey self.old topic.now key.now result }
         ensures due { IsDue result (refusal true self.old (Step.Get topic.now key.now)) }
     {
-        if self.table.journal().is_full() {
-            return Err(ShardFault::JournalFull);
-        }
-        self.table.ready(alloc)?;
-        let rows = self.table.listed_key(alloc, topic, key)?;
-        let dots = dots_of_rows(alloc, &rows)?;
-        let step = Step::get(topic, key)?;
-        write(
-            &mut self.table,
-            alloc,
-            seat,
-            step,
-            Outcome::Shown(Dots::new(dots)),
-        )?;
-        Ok(rows)
+        self.perform(alloc, seat, &Get { topic, key })
     }
 
     /// Sends the payload to each subscriber of the topic.
     ///
     /// It refuses with `JournalFull`, else with `OutOfMemory`.
-    #[tactic(auto, using(crate::proofs::Tables::tables))]
     pub fn shout(
         &mut self,
         alloc: Global,
@@ -336,11 +348,7 @@ impl Shard {
         ensures answer { Answers (λ _. Unit {0}) (outcome_of self.old (Step.Shout topic.now payload.now)) result }
         ensures due { IsDue result (refusal true self.old (Step.Shout topic.now payload.now)) }
     {
-        if self.table.journal().is_full() {
-            return Err(ShardFault::JournalFull);
-        }
-        let payload = Payload::new(alloc, payload)?;
-        self.shout_shared(alloc, seat, topic, &payload)
+        self.perform(alloc, seat, &Shout { topic, payload })
     }
 
     /// Shouts as `shout` does what was made a payload before, whose text the entry and the items share.
@@ -367,7 +375,6 @@ impl Shard {
     /// A new subscriber of the topic. It is behind: its first take gives the whole state.
     ///
     /// It refuses with `JournalFull`, else with `OutOfMemory`.
-    #[tactic(auto, using(crate::proofs::Tables::tables))]
     pub fn subscribe(
         &mut self,
         alloc: Global,
@@ -378,26 +385,12 @@ impl Shard {
         ensures answer { AnswersSub self.old topic.now result }
         ensures due { IsDue result (refusal true self.old (Step.Subscribe topic.now)) }
     {
-        if self.table.journal().is_full() {
-            return Err(ShardFault::JournalFull);
-        }
-        self.table.ready(alloc)?;
-        let number = self.table.journal().last_number() + 1;
-        let step = Step::subscribe(topic)?;
-        write(
-            &mut self.table,
-            alloc,
-            seat,
-            step,
-            Outcome::Subscribed(number),
-        )?;
-        Ok(Sub { slot: 0, number })
+        self.perform(alloc, seat, &Subscribe { topic })
     }
 
     /// Ends a subscriber: what waited for it is dropped.
     ///
     /// It refuses in this order: `NoSub`, `JournalFull`, `OutOfMemory`.
-    #[tactic(auto, using(crate::proofs::Tables::tables))]
     pub fn unsubscribe(
         &mut self,
         alloc: Global,
@@ -408,25 +401,13 @@ impl Shard {
         ensures answer { Answers (λ _. Unit {0}) (outcome_of self.old (Step.Unsubscribe sub.now.number)) result }
         ensures due { IsDue result (refusal_at sub.now.slot sub.now.number self.old (Step.Unsubscribe sub.now.number)) }
     {
-        let shard = &*self;
-        let Some(_) = shard.topic_of_sub(sub) else {
-            return Err(ShardFault::NoSub);
-        };
-        if shard.table.journal().is_full() {
-            return Err(ShardFault::JournalFull);
-        }
-        self.table.ready(alloc)?;
-        let step = Step::Unsubscribe {
-            subscriber: sub.number,
-        };
-        write(&mut self.table, alloc, seat, step, Outcome::Ended)
+        self.perform(alloc, seat, &Unsubscribe { sub: *sub })
     }
 
     /// Up to `max` of the items that wait for a subscriber, the oldest first, or its topic's whole
     /// state as the one item where it is behind.
     ///
     /// It refuses in this order: `NoSub`, `JournalFull`, `OutOfMemory`.
-    #[tactic(auto, using(crate::proofs::Tables::tables))]
     pub fn take(
         &mut self,
         alloc: Global,
@@ -439,19 +420,7 @@ impl Shard {
         ensures answer { AnswersItems self.old sub.now.number max result }
         ensures due { IsDue result (refusal_at sub.now.slot sub.now.number self.old (Step.Take sub.now.number max)) }
     {
-        let shard = &*self;
-        let Some(topic) = shard.topic_of_sub(sub) else {
-            return Err(ShardFault::NoSub);
-        };
-        if shard.table.journal().is_full() {
-            return Err(ShardFault::JournalFull);
-        }
-        let topic = topic.clone()?;
-        self.table.ready(alloc)?;
-        let (items, outcome) = self.table.given(alloc, sub.number, &topic, max)?;
-        let step = Step::take(sub.number, max);
-        write(&mut self.table, alloc, seat, step, outcome)?;
-        Ok(items)
+        self.perform(alloc, seat, &Take { sub: *sub, max })
     }
 
     /// Notes that a replica was heard at a time in milliseconds: it is up from then on, unless it is gone. A time before the
