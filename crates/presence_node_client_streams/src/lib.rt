@@ -1,7 +1,8 @@
 //! The streams of clients: each turn reads a bounded number of bytes, and a stream remembers whether its client takes what
 //! is sent, and who is counted while it lasts.
 //!
-//! What its contracts cite: `specs/Budget` says how much a turn may still read behind a read.
+//! What its contracts cite: `specs/Budget` says how much a turn may still read behind a read, `specs/Stalls` since when
+//! writes have taken nothing.
 #![tactic(auto)]
 
 pub mod laws;
@@ -9,4 +10,4 @@ mod stream;
 mod tally;
 
 pub use stream::{ClientSocket, ClientStream, TURN_BYTES};
-pub use tally::{Tally, Ticket};
+pub use tally::{Ticket, TicketCount};

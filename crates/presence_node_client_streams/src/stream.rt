@@ -1,6 +1,7 @@
 //! A client's stream.
-ghost use Rattle.std.specs.Prelude.{◌≡◌, ◌≤◌, true, false, None};
+ghost use Rattle.std.specs.Prelude.{◌≡◌, ◌≤◌, true, false, None, IfOk};
 ghost use Rattle.presence_node_client_streams.specs.Budget.{Spends};
+ghost use Rattle.presence_node_client_streams.specs.Stalls.{Takes, since_when};
 ghost use Rattle.presence_node_client_streams.specs.declared.stream.TheConstants.{TURN_BYTES};
 
 use crate::tally::Ticket;
@@ -24,6 +25,15 @@ enum News {
     Nothing,
 }
 
+/// What is noted of a stream whose writes find no room.
+#[derive(Clone, Copy)]
+struct Stall {
+    /// Since when they take nothing, in milliseconds.
+    since: u64,
+    /// How many bytes they had taken by then.
+    taken: u64,
+}
+
 /// A client's stream. It gives `TURN_BYTES` at most, and then, once, it answers that it would block, so that the turn that
 /// reads it ends; it remembers whether the last write found no room, and, where it is told when something comes, it doesn't
 /// ask for what can't be there.
@@ -35,8 +45,10 @@ pub struct ClientStream<S> {
     put_off: bool,
     /// Whether the last write found no room.
     blocked: bool,
-    /// Since when writes have found none, in milliseconds, if that was noted.
-    stalled: Cell<Option<u64>>,
+    /// How many bytes writes have taken, up to 2^64 - 1.
+    taken: u64,
+    /// What was noted of it when writes found no room.
+    stalled: Cell<Option<Stall>>,
     /// Whether a read has to ask the system.
     news: Cell<News>,
     /// Among the clients of its address.
@@ -58,6 +70,7 @@ impl<S: Drop> Drop for ClientStream<S> {
             left: _,
             put_off: _,
             blocked: _,
+            taken: _,
             stalled: _,
             news: _,
             neighbour,
@@ -76,6 +89,18 @@ fn would_block(error: &io::Error) -> bool {
     matches!(error.kind(), ErrorKind::WouldBlock)
 }
 
+// What is noted at this time, where writes have taken so much and this was noted before.
+fn stall_at(noted: Option<Stall>, taken: u64, now: u64) -> Stall
+    ensures since { result.since ≡ since_when noted taken now }
+    ensures taken { result.taken ≡ taken }
+{
+    let since = match noted {
+        Some(before) if before.taken == taken => before.since,
+        _ => now,
+    };
+    Stall { since, taken }
+}
+
 impl<S> ClientStream<S> {
     /// A stream of which nothing was read or written yet.
     pub fn new(stream: S) -> ClientStream<S>
@@ -83,12 +108,14 @@ impl<S> ClientStream<S> {
         ensures left { result.left ≡ TURN_BYTES }
         ensures waits { result.put_off ≡ false }
         ensures room { result.blocked ≡ false }
+        ensures taken { result.taken ≡ 0 }
     {
         ClientStream {
             stream,
             left: TURN_BYTES,
             put_off: false,
             blocked: false,
+            taken: 0,
             stalled: Cell::new(None),
             news: Cell::new(News::Untold),
             neighbour: None,
@@ -154,7 +181,7 @@ impl<S> ClientStream<S> {
         self.blocked
     }
 
-    /// Since when writes have found no room, as far as it was asked, which it is at this time. It is none where the last
+    /// Since when writes have taken nothing, as far as it was asked, which it is at this time. It is none where the last
     /// one found room.
     pub fn stalled_since(&self, now: u64) -> Option<u64>
         ensures { self.now.blocked ≡ false → result ≡ None }
@@ -162,9 +189,9 @@ impl<S> ClientStream<S> {
         if !self.blocked {
             return None;
         }
-        let since = self.stalled.get().unwrap_or(now);
-        self.stalled.set(Some(since));
-        Some(since)
+        let stall = stall_at(self.stalled.get(), self.taken, now);
+        self.stalled.set(Some(stall));
+        Some(stall.since)
     }
 
     /// Whether writes find room again, since it was told that they found none. It says so once.
@@ -235,14 +262,25 @@ impl<S: Read> Read for ClientStream<S> {
 }
 
 impl<S: Write> Write for ClientStream<S> {
+    ghost use Rattle.std.specs.Io.{WritesAtMost};
+    ghost use Rattle.std.specs.Io.KnownBytes.{WriteAppends};
+
     ghost contents = { λ s. S.contents s.stream };
 
-    fn write(&mut self, buf: &[u8]) -> io::Result<usize> {
+    fn write(&mut self, buf: &[u8]) -> io::Result<usize>
+        ensures bound { WritesAtMost result buf.now }
+        ensures bytes { WriteAppends (S.contents self.old.stream) (S.contents self.new.stream) result buf.now }
+        ensures takes { Takes self.old.taken self.new.taken result }
+        ensures room { IfOk result (λ _. self.new.blocked ≡ false) }
+    {
         let written = self.stream.write(buf);
-        self.blocked = match &written {
-            Ok(_) => false,
-            Err(error) => would_block(error),
-        };
+        match &written {
+            Ok(count) => {
+                self.blocked = false;
+                self.taken = self.taken.saturating_add(*count as u64);
+            }
+            Err(error) => self.blocked = would_block(error),
+        }
         written
     }
 

@@ -5,7 +5,7 @@ use std::sync::atomic::{AtomicU64, Ordering};
 
 /// How many tickets there are. What several threads hold is counted too, so no contract says how many.
 #[derive(Drop)]
-pub struct Tally {
+pub struct TicketCount {
     count: Arc<AtomicU64>,
 }
 
@@ -22,10 +22,10 @@ impl Drop for Ticket {
     }
 }
 
-impl Tally {
+impl TicketCount {
     /// There is none.
-    pub fn new(alloc: Global) -> Result<Tally, AllocError> {
-        Ok(Tally {
+    pub fn new(alloc: Global) -> Result<TicketCount, AllocError> {
+        Ok(TicketCount {
             count: Arc::new(alloc, AtomicU64::new(0))?,
         })
     }

@@ -15,12 +15,12 @@ use Rattle.hook_registry.specs.contracts.routes.Routes as Routes
 use Rattle.presence_node_counts.specs.contracts.counts.Counts as Counts
 use Rattle.presence_node_duties.specs.contracts.bench.Bench as Bench
 use Rattle.presence_node_duties.specs.contracts.place.Workplace as Workplace
-use Rattle.presence_node_duties.specs.contracts.server.Mailbox as Mailbox
+use Rattle.presence_node_duties.specs.contracts.server.WorkerMailbox as WorkerMailbox
 pub use Rattle.presence_node_link_threads.proofs.Crossing.{links_sync, task_row_send}
 
 -- ---- what is shared
 
-pub mailbox_sync : IsSync (Mailbox.the_field).row
+pub mailbox_sync : IsSync (WorkerMailbox.the_field).row
 mailbox_sync = search (maps.crosses, heap.crosses, sendable) depth 60 fits 20000
 
 pub routes_sync : IsSync (Routes.the_field).row

@@ -188,33 +188,6 @@ fn served_by<R: Wait, A: Lane, B: Lane, C: Lane, D: Lane>(
     }
 }
 
-// Serves each connection that is ready, through the seat, within its rations.
-fn serve_ready<R: Wait, H: PresenceHooks, A: Lane, B: Lane, C: Lane, D: Lane>(
-    rt: &R,
-    server: &Server<'_, H, A, B, C, D>,
-    seat: &mut Seat<A, B, C, D>,
-    rations: &mut Rations,
-    worker: &mut Worker<ClientSocket>,
-    now: u64,
-) -> Served {
-    let mut port = port_at(rt, server, seat, rations);
-    worker.turn(server.alloc, &mut port, server.routes, server.hooks, now);
-    served_by(&server.counts, port)
-}
-
-// The same, where nothing is read.
-fn deliver_ready<R: Wait, H: PresenceHooks, A: Lane, B: Lane, C: Lane, D: Lane>(
-    rt: &R,
-    server: &Server<'_, H, A, B, C, D>,
-    seat: &mut Seat<A, B, C, D>,
-    rations: &mut Rations,
-    worker: &mut Worker<ClientSocket>,
-) -> Served {
-    let mut port = port_at(rt, server, seat, rations);
-    worker.deliver(server.alloc, &mut port, server.hooks);
-    served_by(&server.counts, port)
-}
-
 /// What a worker has of its own.
 pub struct Bench<A: Lane, B: Lane, C: Lane, D: Lane> {
     seat: Seat<A, B, C, D>,
@@ -395,6 +368,30 @@ impl<A: Lane, B: Lane, C: Lane, D: Lane> Bench<A, B, C, D> {
         noted
     }
 
+    // Serves each connection that is ready, through the seat, within its rations.
+    fn serve_ready<R: Wait, H: PresenceHooks>(
+        &mut self,
+        rt: &R,
+        server: &Server<'_, H, A, B, C, D>,
+    ) -> Served {
+        let mut port = port_at(rt, server, &mut self.seat, &mut self.rations);
+        let (routes, hooks) = (server.routes, server.hooks);
+        self.worker
+            .turn(server.alloc, &mut port, routes, hooks, self.now);
+        served_by(&server.counts, port)
+    }
+
+    // The same, where nothing is read.
+    fn deliver_ready<R: Wait, H: PresenceHooks>(
+        &mut self,
+        rt: &R,
+        server: &Server<'_, H, A, B, C, D>,
+    ) -> Served {
+        let mut port = port_at(rt, server, &mut self.seat, &mut self.rations);
+        self.worker.deliver(server.alloc, &mut port, server.hooks);
+        served_by(&server.counts, port)
+    }
+
     // Serves each connection that is ready, but for those whose clients take nothing: what was noted.
     fn serve<R: Wait, H: PresenceHooks>(
         &mut self,
@@ -402,14 +399,7 @@ impl<A: Lane, B: Lane, C: Lane, D: Lane> Bench<A, B, C, D> {
         server: &Server<'_, H, A, B, C, D>,
     ) -> Noted {
         self.stalls |= hold_stalled(&mut self.worker, self.now);
-        let served = serve_ready(
-            rt,
-            server,
-            &mut self.seat,
-            &mut self.rations,
-            &mut self.worker,
-            self.now,
-        );
+        let served = self.serve_ready(rt, server);
         mark_put_off(&mut self.worker);
         self.noted_in(rt, server, served)
     }
@@ -422,13 +412,7 @@ impl<A: Lane, B: Lane, C: Lane, D: Lane> Bench<A, B, C, D> {
     ) -> Noted {
         self.worker.mark_all();
         self.stalls |= hold_stalled(&mut self.worker, self.now);
-        let served = deliver_ready(
-            rt,
-            server,
-            &mut self.seat,
-            &mut self.rations,
-            &mut self.worker,
-        );
+        let served = self.deliver_ready(rt, server);
         self.noted_in(rt, server, served)
     }
 

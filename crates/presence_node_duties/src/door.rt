@@ -5,7 +5,7 @@ use crate::caller::{Caller, next_caller};
 use crate::neighbours::{AddressLimits, Neighbours};
 use crate::pulse::Pulse;
 use crate::server::Server;
-use presence_node_client_streams::{Tally, Ticket};
+use presence_node_client_streams::{Ticket, TicketCount};
 use presence_node_counts::{Counts, Dropped};
 use presence_node_handshakes::{Front, Guests, Newcomer};
 use presence_node_leaving::{ClientSocket, ClientStream, socket_config};
@@ -47,9 +47,9 @@ pub struct Door {
     /// How many clients there may be.
     places: u64,
     /// Those that have a place.
-    seated: Tally,
+    seated: TicketCount,
     /// Those of them that wait for a worker.
-    queued: Tally,
+    queued: TicketCount,
     /// Those that wait for room in the queue.
     waiting: Vec<WebSocket<ClientSocket, NoMask>>,
     /// Whether it was said that no further file can be opened.
@@ -95,16 +95,16 @@ impl Drop for Door {
 
 /// How many clients there may be in all, and how many of one address.
 #[derive(Clone, Copy, PartialEq, Eq, Debug)]
-pub struct Limits {
+pub struct DoorLimits {
     pub places: u64,
     pub addresses: AddressLimits,
 }
 
-impl Limits {
+impl DoorLimits {
     /// Each of so many workers has as many clients as it may.
-    pub fn of_workers(workers: usize, addresses: AddressLimits) -> Limits {
+    pub fn of_workers(workers: usize, addresses: AddressLimits) -> DoorLimits {
         let each = MAX_CONNECTIONS as u64;
-        Limits {
+        DoorLimits {
             places: (workers as u64).saturating_mul(each),
             addresses,
         }
@@ -141,7 +141,7 @@ impl Door {
         listener: TcpListener,
         giver: Giver<WebSocket<ClientSocket, NoMask>>,
         watch: Watch,
-        limits: Limits,
+        limits: DoorLimits,
     ) -> Result<Door, AllocError> {
         Ok(Door {
             listener,
@@ -150,8 +150,8 @@ impl Door {
             guests: Guests::new(alloc),
             neighbours: Neighbours::new(alloc, limits.addresses, limits.places),
             places: limits.places,
-            seated: Tally::new(alloc)?,
-            queued: Tally::new(alloc)?,
+            seated: TicketCount::new(alloc)?,
+            queued: TicketCount::new(alloc)?,
             waiting: Vec::new(alloc),
             has_no_file: false,
             number: LISTENER,

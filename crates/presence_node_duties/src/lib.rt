@@ -16,7 +16,7 @@ mod pulse;
 mod server;
 
 pub use bench::Bench;
-pub use door::{Door, LISTENER, Limits};
+pub use door::{Door, DoorLimits, LISTENER};
 pub use neighbours::AddressLimits;
 pub use place::{Workplace, seats_of};
 // What threads are begun with, beside their duties.
@@ -24,4 +24,4 @@ pub use presence_node_counts::Counts;
 pub use presence_node_hints::Inbox;
 pub use presence_node_leaving::ClientSocket;
 pub use presence_node_link_threads::{LinkNode, LinkTask, LinkTasks, tasks_for};
-pub use server::{Mailbox, Server};
+pub use server::{Server, WorkerMailbox};

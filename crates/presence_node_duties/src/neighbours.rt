@@ -1,11 +1,17 @@
 //! The clients of each address: how many there are, and how often they come.
-use presence_node_client_streams::{Tally, Ticket};
-use presence_node_handshakes::{Pace, Standing};
+use presence_node_client_streams::{Ticket, TicketCount};
+use presence_node_handshakes::{Admission, Pace};
 use std::alloc::{AllocError, Global};
 use std::net::IpAddr;
 
 /// How many handshakes a second clients of one address have beyond a burst, where nothing else is asked for.
 const HANDSHAKES_PER_SECOND: u64 = 20;
+
+/// How many microseconds a second has.
+const SECOND: u64 = 1_000_000;
+
+/// How many microseconds a millisecond has.
+const MILLISECOND: u64 = 1_000;
 
 /// One address may have this part of the places, where nothing else is asked for.
 const SHARE: u64 = 2;
@@ -23,7 +29,7 @@ pub struct AddressLimits {
 #[derive(Drop)]
 struct Neighbourhood {
     address: IpAddr,
-    here: Tally,
+    here: TicketCount,
     pace: Pace,
 }
 
@@ -46,14 +52,14 @@ fn may_be_proxy(address: &IpAddr) -> bool {
 
 impl Neighbourhood {
     // How a further client stands, where so many may be here.
-    fn standing(&mut self, most: u64, now: u64) -> Standing {
+    fn standing(&mut self, most: u64, now: u64) -> Admission {
         if self.here.count() >= most {
-            return Standing::OneTooMany;
+            return Admission::OneTooMany;
         }
-        if self.pace.comes(now) {
-            Standing::Welcome
+        if self.pace.comes(now.saturating_mul(MILLISECOND)) {
+            Admission::Welcome
         } else {
-            Standing::TooSoon
+            Admission::TooSoon
         }
     }
 }
@@ -77,12 +83,12 @@ impl Neighbours {
         }
     }
 
-    // How many milliseconds lie between two handshakes of an address.
+    // How many microseconds lie between two handshakes of an address.
     fn between_at(&self, address: &IpAddr) -> u64 {
         match self.limits.per_second {
-            Some(per_second) => 1_000 / per_second.max(1),
+            Some(per_second) => SECOND / per_second.max(1),
             None if may_be_proxy(address) => 0,
-            None => 1_000 / HANDSHAKES_PER_SECOND,
+            None => SECOND / HANDSHAKES_PER_SECOND,
         }
     }
 
@@ -103,7 +109,7 @@ impl Neighbours {
         }
         let place = self.all.len();
         let pace = Pace::new(self.between_at(&address));
-        let here = Tally::new(alloc)?;
+        let here = TicketCount::new(alloc)?;
         self.all.push(Neighbourhood {
             address,
             here,
@@ -118,7 +124,7 @@ impl Neighbours {
         alloc: Global,
         address: IpAddr,
         now: u64,
-    ) -> Result<(Standing, Ticket), AllocError> {
+    ) -> Result<(Admission, Ticket), AllocError> {
         let most = self.most_at(&address);
         let place = self.place_of(alloc, address)?;
         match self.all.get_mut(place) {
@@ -132,6 +138,7 @@ impl Neighbours {
 
     /// Addresses are forgotten that have no client, and had none for a while.
     pub(crate) fn forget(&mut self, now: u64) {
+        let now = now.saturating_mul(MILLISECOND);
         self.all
             .retain(|one| one.here.count() > 0 || !one.pace.is_at_rest(now));
     }

@@ -17,7 +17,7 @@ use std::sync::{Arc, Wait};
 use std::time::Clock;
 
 /// What the workers and the links tell a worker, and what wakes it.
-pub struct Mailbox {
+pub struct WorkerMailbox {
     pub inbox: Inbox,
     /// Whether each connection is to be looked at: a link may have changed any topic.
     pub looks: AtomicBool,
@@ -26,9 +26,9 @@ pub struct Mailbox {
     pub bell: Bell,
 }
 
-impl Drop for Mailbox {
+impl Drop for WorkerMailbox {
     fn drop(self) {
-        let Mailbox {
+        let WorkerMailbox {
             inbox,
             looks,
             drained,
@@ -41,7 +41,7 @@ impl Drop for Mailbox {
     }
 }
 
-impl Mailbox {
+impl WorkerMailbox {
     /// Lets each connection be looked at, and wakes the worker.
     fn look(&self) {
         self.looks.store(true, Ordering::SeqCst);
@@ -74,7 +74,7 @@ pub struct Server<'a, H, A: Lane, B: Lane, C: Lane, D: Lane> {
     pub origins: &'a [String],
     pub counts: Counts,
     /// One of each worker, in their order.
-    pub mailboxes: Vec<Mailbox>,
+    pub mailboxes: Vec<WorkerMailbox>,
     pub door_bell: Bell,
     pub links: Links,
     pub stopped: AtomicBool,

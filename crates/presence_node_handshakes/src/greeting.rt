@@ -4,7 +4,7 @@ ghost use Rattle.presence_node_handshakes.specs.declared.greeting.TheConstants.{
 ghost use Rattle.presence_node_requests.specs.Heads.{HasRequest};
 
 use crate::front::{Front, Tells};
-use crate::seating::{Standing, seated};
+use crate::seating::{Admission, seated};
 use presence_node_requests::{Answer, Parsed, Reply, Request, answer_of, read_request, reply_of};
 use presence_node_web_sockets::WebSocket;
 use std::alloc::{AllocError, Global};
@@ -36,7 +36,7 @@ pub enum GivenUp {
 #[derive(Drop)]
 enum Stage {
     /// The request's bytes so far, and how the client stands.
-    Reads(Vec<u8>, Standing),
+    Reads(Vec<u8>, Admission),
     /// What is sent for it.
     Writes(Reply),
 }
@@ -95,7 +95,7 @@ enum Written {
 // What a request for a WebSocket is answered by: how its client stands, and the places that are left.
 #[derive(Drop)]
 struct Seats<'p> {
-    standing: Standing,
+    standing: Admission,
     places: &'p mut u64,
 }
 
@@ -193,7 +193,12 @@ impl<S: Read + Write + Drop> Greeting<S> {
     ghost use Rattle.presence_node_handshakes.specs.Greeting.{Follows, GoesOn};
 
     /// A handshake on this stream, which gives a socket of this configuration, if the client may have one.
-    pub fn new(alloc: Global, stream: S, config: WebSocketConfig, standing: Standing) -> Greeting<S>
+    pub fn new(
+        alloc: Global,
+        stream: S,
+        config: WebSocketConfig,
+        standing: Admission,
+    ) -> Greeting<S>
         ensures reads { result.empty_reads ≡ 0 }
         ensures config { result.config ≡ config }
     {

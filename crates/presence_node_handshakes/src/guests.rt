@@ -5,7 +5,7 @@ ghost use Rattle.presence_node_handshakes.specs.Guests.{Admits, Fits, Looks, Loo
 
 use crate::front::{Front, Tells};
 use crate::greeting::{Greeted, Greeting};
-use crate::seating::Standing;
+use crate::seating::Admission;
 use presence_node_web_sockets::WebSocket;
 use std::alloc::{AllocError, Global};
 use std::io::{Read, Write};
@@ -38,7 +38,7 @@ impl<S: Read + Write + Drop> Drop for Guest<S> {
 pub struct Newcomer<S: Drop> {
     pub number: u64,
     pub stream: S,
-    pub standing: Standing,
+    pub standing: Admission,
 }
 
 impl<S: Drop> Drop for Newcomer<S> {

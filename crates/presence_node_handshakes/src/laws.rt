@@ -2,13 +2,13 @@
 ghost use Rattle.std.specs.Prelude.{◌≡◌};
 ghost use Rattle.presence_node_handshakes.specs.declared.greeting.TheConstants.{MAX_EMPTY_READS, MAX_HEAD_BYTES};
 ghost use Rattle.presence_node_handshakes.specs.declared.guests.TheConstants.{MAX_HANDSHAKES};
-ghost use Rattle.presence_node_handshakes.specs.declared.pace.TheConstants.{BURST_MILLISECONDS};
+ghost use Rattle.presence_node_handshakes.specs.declared.pace.TheConstants.{BURST_MICROSECONDS};
 
 /// How many handshakes go on at most, how often one may read nothing, how long its head may be, and the handshakes of how
-/// many milliseconds may come at once.
+/// many microseconds may come at once.
 pub fn limits_are_these()
     ensures handshakes { MAX_HANDSHAKES ≡ 1024 }
     ensures empty { MAX_EMPTY_READS ≡ 200 }
     ensures head { MAX_HEAD_BYTES ≡ 8192 }
-    ensures burst { BURST_MILLISECONDS ≡ 10000 }
+    ensures burst { BURST_MICROSECONDS ≡ 10000000 }
 {}

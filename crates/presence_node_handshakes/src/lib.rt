@@ -14,7 +14,7 @@ mod seating;
 pub use front::{Front, Tells};
 pub use greeting::{GivenUp, Greeted, Greeting, MAX_EMPTY_READS, MAX_HEAD_BYTES};
 pub use guests::{Guests, MAX_HANDSHAKES, Newcomer, Opened};
-pub use pace::{BURST_MILLISECONDS, Pace};
-pub use seating::{Standing, seated};
+pub use pace::{BURST_MICROSECONDS, Pace};
+pub use seating::{Admission, seated};
 // What is told of requests.
 pub use presence_node_requests::Answer;

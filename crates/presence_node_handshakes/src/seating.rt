@@ -6,7 +6,7 @@ use presence_node_requests::Answer;
 
 /// How a client stands among those of its address.
 #[derive(Clone, Copy, PartialEq, Eq, Debug)]
-pub enum Standing {
+pub enum Admission {
     /// It may have a place, if there is one.
     Welcome,
     /// As many clients of its address are here as may be.
@@ -17,7 +17,7 @@ pub enum Standing {
 
 /// What a client gets to whom a request is answered so, where it stands so and there are so many places: a WebSocket takes one
 /// of them, and without one there is none.
-pub fn seated(answer: Answer, standing: Standing, places: &mut u64) -> Answer
+pub fn seated(answer: Answer, standing: Admission, places: &mut u64) -> Answer
     ensures answer { result ≡ seated_in standing places.old answer }
     ensures places { places.new ≡ places_behind standing places.old answer }
     ensures fewer { places.new ≤ places.old }
@@ -26,10 +26,10 @@ pub fn seated(answer: Answer, standing: Standing, places: &mut u64) -> Answer
         return answer;
     };
     match standing {
-        Standing::OneTooMany => Answer::Crowded,
-        Standing::TooSoon => Answer::Hasty,
-        Standing::Welcome if *places == 0 => Answer::Full,
-        Standing::Welcome => {
+        Admission::OneTooMany => Answer::Crowded,
+        Admission::TooSoon => Answer::Hasty,
+        Admission::Welcome if *places == 0 => Answer::Full,
+        Admission::Welcome => {
             *places -= 1;
             answer
         }

@@ -1,16 +1,17 @@
 -- Origins as browsers tell them: RFC 6454, section 6.2.
 use Rattle.std.specs.Prelude.{ℕ, ◌+◌, ◌*◌, ◌-◌, List, [], ◌∷◌, length, drop, slice_index, codes, Bool, cond, not, ◌&&◌, ◌||◌, ◌==◌, nat_le, nat_lt, bytes_eq, IsTrue}
-use Rattle.std.specs.Char.{is_ascii_alphabetic, is_ascii_alphanumeric, is_ascii_digit, is_ascii_hexdigit}
+use Rattle.std.specs.Char.{is_ascii_alphanumeric, is_ascii_digit, is_ascii_hexdigit, is_ascii_lowercase}
 use Rattle.std.specs.List.{AllByRecursion, starts_with, ends_with}
 use Rattle.presence_node_options.specs.declared.origin.Part.{Part}
 use Rattle.presence_node_options.specs.declared.origin.Part.TheVariants.{Scheme, Host, Address}
 
--- what may stand in a part: in a scheme letters, digits, `+`, `-` and `.` (RFC 3986), in a host's name letters, digits, `-`,
--- `.` and `_`, in an IPv6 address hexadecimal digits, `:` and `.`
+-- what may stand in a part: in a scheme small letters, digits, `+`, `-` and `.` (RFC 3986; browsers write it in lower case),
+-- in a host's name letters, digits, `-`, `.` and `_`, in an IPv6 address hexadecimal digits and `:` (browsers write its last
+-- 32 bits so too)
 abbrev pub may_be_in : Part → ℕ → Bool
-may_be_in Scheme b = is_ascii_alphanumeric b || b == 43 || b == 45 || b == 46
+may_be_in Scheme b = is_ascii_lowercase b || is_ascii_digit b || b == 43 || b == 45 || b == 46
 may_be_in Host b = is_ascii_alphanumeric b || b == 45 || b == 46 || b == 95
-may_be_in Address b = is_ascii_hexdigit b || b == 58 || b == 46
+may_be_in Address b = is_ascii_hexdigit b || b == 58
 
 -- what stands behind the bytes that may stand in the part
 abbrev pub behind : Part → List ℕ → List ℕ
@@ -48,6 +49,10 @@ is_bracketed place =
 abbrev pub is_place : List ℕ → Bool
 is_place place = cond (begins_with (codes "[") place) (is_bracketed (drop 1 place)) (is_named place)
 
+-- the scheme is one of WebSockets, which no page has
+abbrev pub is_of_sockets : List ℕ → Bool
+is_of_sockets text = begins_with (codes "ws://") text || begins_with (codes "wss://") text
+
 -- the port is the scheme's own, which browsers leave out
 abbrev pub is_port_of_scheme : List ℕ → Bool
 is_port_of_scheme text =
@@ -58,14 +63,20 @@ is_port_of_scheme text =
 abbrev pub is_behind_scheme : List ℕ → Bool
 is_behind_scheme text = begins_with (codes "://") text && is_place (drop 3 text)
 
--- `scheme://host` or `scheme://host:port`, where the scheme begins with a letter
+-- `scheme://host` or `scheme://host:port`, where the scheme begins with a small letter
 abbrev pub is_of_host : List ℕ → Bool
 is_of_host text =
-    is_ascii_alphabetic (slice_index text 0) && is_behind_scheme (behind Scheme text) && not (is_port_of_scheme text)
+    is_ascii_lowercase (slice_index text 0) && is_behind_scheme (behind Scheme text) && not (is_of_sockets text)
+    && not (is_port_of_scheme text)
 
--- such a text, or `null`, which pages tell that have no host, as those of files
+-- what pages without a host tell: those of files `file://` in some browsers, and `null` in the others, as do pages in
+-- sandboxed frames
+abbrev pub is_without_host : List ℕ → Bool
+is_without_host text = bytes_eq text (codes "null") || bytes_eq text (codes "file://")
+
+-- a text of either kind
 unfoldable pub is_origin : List ℕ → Bool
-is_origin text = bytes_eq text (codes "null") || is_of_host text
+is_origin text = is_without_host text || is_of_host text
 
 -- all are origins
 abbrev pub AreOrigins : List (List ℕ) → Type 0

@@ -53,7 +53,8 @@ pub(crate) const LINK_VERSION_HELP: &str =
 1 is for clusters that are upgraded node by node";
 
 pub(crate) const ORIGIN_HELP: &str = "Where pages may connect from; up to 64 times [default: any]
-As https://example.com, without a slash; other pages are refused";
+As https://example.com, without a slash; other pages are refused
+Pages of files tell file:// or null, as their browser is";
 
 pub(crate) const PER_ADDRESS_HELP: &str =
     "Clients that one address may have, 1 to 65536 [default: half of all]
@@ -61,7 +62,7 @@ Not given, this machine and private networks may have any number";
 
 pub(crate) const HANDSHAKES_HELP: &str =
     "Handshakes a second of one address, 1 to 1000 [default: 20]
-Whole milliseconds lie between two: 300 lets 333 in, 501 lets 1000
+Beyond a burst of ten seconds' worth, which may come at once
 Not given, this machine and private networks may make any number";
 
 pub(crate) const SHARDS_HELP: &str = "How many shards the topics are dealt to, 1 to 4 [default: 4]";

@@ -1,7 +1,7 @@
 //! What an origin is: whose pages may connect.
 ghost use Rattle.std.specs.Prelude.{◌≡◌, slice_index};
-ghost use Rattle.std.specs.Char.{is_ascii_alphabetic};
-ghost use Rattle.presence_node_options.specs.Origins.{behind, is_behind_scheme, is_bracketed, is_end, is_named, is_of_host, is_origin, is_place, is_port, is_port_of_scheme, may_be_in};
+ghost use Rattle.std.specs.Char.{is_ascii_lowercase};
+ghost use Rattle.presence_node_options.specs.Origins.{behind, is_behind_scheme, is_bracketed, is_end, is_named, is_of_host, is_of_sockets, is_origin, is_place, is_port, is_port_of_scheme, is_without_host, may_be_in};
 
 /// The parts of an origin that may have more than one byte.
 #[derive(Clone, Copy, PartialEq, Eq, Debug)]
@@ -18,10 +18,14 @@ fn may_be_in(part: Part, byte: u8) -> bool
 {
     match part {
         Part::Scheme => {
-            byte.is_ascii_alphanumeric() || byte == b'+' || byte == b'-' || byte == b'.'
+            byte.is_ascii_lowercase()
+                || byte.is_ascii_digit()
+                || byte == b'+'
+                || byte == b'-'
+                || byte == b'.'
         }
         Part::Host => byte.is_ascii_alphanumeric() || byte == b'-' || byte == b'.' || byte == b'_',
-        Part::Address => byte.is_ascii_hexdigit() || byte == b':' || byte == b'.',
+        Part::Address => byte.is_ascii_hexdigit() || byte == b':',
     }
 }
 
@@ -88,6 +92,13 @@ fn is_place(place: &[u8]) -> bool
     }
 }
 
+// Whether the scheme is one of WebSockets, which no page has.
+fn is_of_sockets(text: &[u8]) -> bool
+    ensures { result ≡ is_of_sockets text.now }
+{
+    text.starts_with(b"ws://") || text.starts_with(b"wss://")
+}
+
 // Whether the port is the scheme's own, which browsers leave out.
 fn is_port_of_scheme(text: &[u8]) -> bool
     ensures { result ≡ is_port_of_scheme text.now }
@@ -96,11 +107,11 @@ fn is_port_of_scheme(text: &[u8]) -> bool
         || text.starts_with(b"https://") && text.ends_with(b":443")
 }
 
-// Whether the text begins with a letter.
+// Whether the text begins with a small letter.
 fn begins_with_a_letter(text: &[u8]) -> bool
-    ensures { result ≡ is_ascii_alphabetic (slice_index text.now 0) }
+    ensures { result ≡ is_ascii_lowercase (slice_index text.now 0) }
 {
-    !text.is_empty() && text[0].is_ascii_alphabetic()
+    !text.is_empty() && text[0].is_ascii_lowercase()
 }
 
 // Whether the text is what stands behind a scheme.
@@ -116,7 +127,15 @@ fn is_of_host(text: &[u8]) -> bool
 {
     begins_with_a_letter(text)
         && is_behind_scheme(behind(Part::Scheme, text))
+        && !is_of_sockets(text)
         && !is_port_of_scheme(text)
+}
+
+// Whether the text is what pages without a host tell.
+fn is_without_host(text: &[u8]) -> bool
+    ensures { result ≡ is_without_host text.now }
+{
+    text == b"null".as_slice() || text == b"file://".as_slice()
 }
 
 /// Whether the text is an origin as browsers tell it.
@@ -124,7 +143,15 @@ fn is_of_host(text: &[u8]) -> bool
 pub(crate) fn is_origin(text: &[u8]) -> bool
     ensures { result ≡ is_origin text.now }
 {
-    text == b"null".as_slice() || is_of_host(text)
+    is_without_host(text) || is_of_host(text)
+}
+
+// Whether the scheme has a capital.
+fn has_capital_in_scheme(text: &[u8]) -> bool {
+    match behind(Part::Scheme, text).first() {
+        Some(byte) => byte.is_ascii_uppercase(),
+        None => false,
+    }
 }
 
 /// What is wrong with a text that is no origin.
@@ -135,6 +162,10 @@ pub(crate) fn flaw_of(text: &str) -> &'static str {
         "it ends in a slash"
     } else if !text.contains("://") {
         "it has no scheme"
+    } else if has_capital_in_scheme(text.as_bytes()) {
+        "browsers tell a scheme in lower case"
+    } else if is_of_sockets(text.as_bytes()) {
+        "a page has no such scheme: write http or https"
     } else if is_port_of_scheme(text.as_bytes()) {
         "browsers leave out a port that is the scheme's own"
     } else {
