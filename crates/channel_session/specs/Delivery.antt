@@ -1,7 +1,9 @@
 -- What a delivery did: the calls, what was said by which texts and notices, and what is left after a fault.
 use Rattle.std.specs.Prelude.{◌≡◌, ℕ, List, true, if◌then◌else◌, Result, Ok, Err, IfOk}
 use Rattle.phx_message.specs.declared.message.Message.{Message}
+use Rattle.hook_registry.specs.declared.hooks.PresenceHooks.{Ghosts}
 use Rattle.channel_session_events.specs.Carrying.{Carries}
+use Rattle.channel_session_events.specs.Wording.{worded_by, noted_by}
 pub use Rattle.channel_session_events.specs.declared.frames.Delivery.{Delivery}
 use Rattle.channel_session_rules.specs.Asks.{Ask, Answer}
 use Rattle.channel_session_rules.specs.Outcome.{Follows, seen}
@@ -11,7 +13,7 @@ use Rattle.channel_session_rules.specs.Script.{Script}
 use Rattle.channel_session_rules.specs.declared.stop.Stop.{Stop}
 use Rattle.channel_session.specs.Ran.{fault_of, said_by}
 use Rattle.channel_session.specs.declared.fault.SessionFault.{SessionFault}
-pub use Rattle.channel_session_rules.specs.InForce.{InForce}
+pub use Rattle.channel_session_rules.specs.InForce.{InForce, Joined}
 pub use Rattle.channel_session_rules.specs.Delivering.{then_told, then_take, delivers, delivery}
 
 -- the session, which has failed
@@ -54,3 +56,17 @@ abbrev pub DealsBehind : {P : Type 0} → (Said → Message → Type 0) → (Sai
     → Result Delivery Stop → Type 0
 DealsBehind W N step script old new before result = (said : List Said) (s : InForce) → Carries W N said before
     → DealsBy W N step (script said s) old new s result
+
+-- ---- by the messages and notices of these hooks
+
+-- the deliveries of these topics, whatever was said before them
+abbrev pub DealsFrom : {H P : Type 0} → Ghosts H → H → (P → (q : Ask) → Answer q → P → Type 0) → ℕ → List Joined
+    → P → P → Delivery → Result Delivery Stop → Type 0
+DealsFrom G hooks step max js old new before result =
+    DealsBehind (worded_by G hooks) (noted_by G hooks) step (λ said s. delivers max s js said) old new before result
+
+-- the delivery to a session that lives
+abbrev pub DeliveredTo : {H P : Type 0} → Ghosts H → H → (P → (q : Ask) → Answer q → P → Type 0) → ℕ → InForce → P
+    → P → InForce → Result Delivery SessionFault → Type 0
+DeliveredTo G hooks step max s old new after result =
+    DeliveredBy (worded_by G hooks) (noted_by G hooks) step max s old new after result

@@ -51,6 +51,12 @@ abbrev pub ends_topics : ℕ → Leaving → List Joined → Script Ended
 ends_topics pid leaving [] = done (leaving [] (Ok tt))
 ends_topics pid leaving (j ∷ js) = ends_topic pid j.topic j.sub (λ r. ends_topics pid (staying j r leaving) js)
 
+-- These topics were ended, these of them stay, and this was answered; whatever comes of it.
+abbrev pub EndsTopics : {P : Type 0} → (P → (q : Ask) → Answer q → P → Type 0) → ℕ → List Joined → List Joined → P → P
+    → Result (Unit {0}) ShardFault → Type 0
+EndsTopics step pid js staying old new r =
+    (leaving : Leaving) → Played step (ends_topics pid leaving js) old new (leaving staying r)
+
 -- Both calls for a topic: whatever follows them is made from here on.
 abbrev pub Gone : {P : Type 0} → (P → (q : Ask) → Answer q → P → Type 0) → ℕ → List ℕ → Sub → P → P
     → Result (Unit {0}) ShardFault → Type 0

@@ -12,6 +12,7 @@ pub use Rattle.channel_session_rules.specs.Said
 pub use Rattle.channel_session_rules.specs.Outcome
 pub use Rattle.channel_session_rules.specs.Frames
 pub use Rattle.channel_session_events.specs.Carrying
+pub use Rattle.channel_session_events.specs.Wording
 pub use Rattle.channel_session_laws.specs.Local
 pub use Rattle.channel_session_laws.specs.Mirrors
 pub use Rattle.channel_session_laws.specs.Keeping

@@ -1,8 +1,12 @@
 -- What a text did: the calls, what was said by which texts, and what is left after a fault.
 use Rattle.std.specs.Prelude.{◌≡◌, ◌⊎◌, ℕ, List, map, true, false, Option, None, Some, Result, Ok, Err, IfOk, if◌then◌else◌, String, string_bytes, Vec}
 use Rattle.std.specs.Global.{Global}
+use Rattle.hook_registry.specs.declared.hooks.PresenceHooks.{Ghosts}
+use Rattle.phx_message.specs.Reading.{decoded}
+use Rattle.phx_message.specs.declared.message.TheConstants.Limits as the_limits
 use Rattle.phx_message.specs.declared.message.Message.{Message}
 use Rattle.phx_message.specs.declared.message.MessageFault.{MessageFault}
+use Rattle.channel_session_events.specs.Wording.{worded_by}
 use Rattle.channel_session_rules.specs.Asks.{Ask, Answer}
 use Rattle.channel_session_rules.specs.Script.{Script}
 use Rattle.channel_session_rules.specs.Rules.{InForce, Joined, End, answers, find, rules}
@@ -97,3 +101,9 @@ pub record RanBy {P : Type 0} (W : Said → Message → Type 0) (step : P → (q
   pub said : List Said
   pub writes : WritesSaid W said result
   pub ended : EndedSo step routes s reading old new after (said_by said result)
+
+-- What a text of a client does, by the messages of these hooks.
+abbrev pub TextRan : {H P : Type 0} → Ghosts H → H → (P → (q : Ask) → Answer q → P → Type 0) → List (List ℕ × ℕ)
+    → List ℕ → InForce → P → P → InForce → Result (Vec (String Global) Global) SessionFault → Type 0
+TextRan G hooks step routes text s old new after result =
+    RanBy (worded_by G hooks) step routes s (decoded the_limits.CLIENT text) old new after result

@@ -1,32 +1,37 @@
 //! What waits for the joined topics, as texts and notices.
 ghost use Rattle.std.specs.Prelude.{◌≡◌, drop, true, false, if◌then◌else◌, IsTrue, Err};
 ghost use Rattle.presence_journal.specs.Limits.{is_take_limit};
-ghost use Rattle.channel_session.specs.Delivery.{delivers, DealsBehind, DeliveredBy, failing};
+ghost use Rattle.channel_session.specs.Delivery.{DealsFrom, DeliveredTo, failing};
 ghost use Rattle.channel_session.specs.Ran.{fault_of};
 ghost use Rattle.channel_session_rules.specs.InForce.{joined_in};
-ghost use Rattle.channel_session_rules.specs.Said.{Worded, Noted};
 
 use crate::fault::{SessionFault, fault_of_stop};
 use crate::session::Session;
-use channel_session_events::{Delivery, add_items};
+use channel_session_events::Delivery;
 use channel_session_rules::{Port, Stop, Topics, spoil, spoiling, stop_of};
 use hook_registry::PresenceHooks;
 use std::alloc::Global;
 
+// How items are taken and told.
+#[derive_where(Clone, Copy)]
+struct Dealing<'a, H> {
+    alloc: Global,
+    hooks: &'a H,
+    // The most that one take gives.
+    max: u32,
+}
+
 // The deliveries of the topics from this place on, behind what was told before them.
 fn deliver_from<P: Port, H: PresenceHooks>(
-    alloc: Global,
-    hooks: &H,
+    dealing: Dealing<'_, H>,
     topics: &Topics,
     index: usize,
     port: &mut P,
-    max: u32,
     before: Delivery,
 ) -> Result<Delivery, Stop>
-    requires { IsTrue (is_take_limit max) }
-    ensures { DealsBehind (Worded (H.fetched hooks.now) (H.plain hooks.now))
-        (Noted (H.joined hooks.now) (H.left hooks.now) (H.quiet hooks.now)) P.step
-        (λ said s. delivers max s (drop index (joined_in topics.now)) said) port.old port.new before result }
+    requires { IsTrue (is_take_limit dealing.max) }
+    ensures { DealsFrom H.PresenceHooks dealing.entry.hooks.now P.step dealing.entry.max
+        (drop index (joined_in topics.now)) port.old port.new before result }
 {
     if index >= topics.len() {
         return Ok(before);
@@ -34,18 +39,21 @@ fn deliver_from<P: Port, H: PresenceHooks>(
     let Some((topic, join)) = topics.at(index) else {
         return Ok(before);
     };
+    let alloc = dealing.alloc;
     match port.waits(topic, &join.sub) {
         Err(fault) => Err(stop_of(fault, false)),
-        Ok(false) => deliver_from(alloc, hooks, topics, index + 1, port, max, before),
-        Ok(true) => match port.take(alloc, topic, &join.sub, max) {
+        Ok(false) => deliver_from(dealing, topics, index + 1, port, before),
+        Ok(true) => match port.take(alloc, topic, &join.sub, dealing.max) {
             Err(fault) => Err(stop_of(fault, false)),
-            Ok(items) => match spoiling(add_items(alloc, hooks, topic, join, &items, before)) {
-                Err(stop) => Err(stop),
-                Ok(told) => {
-                    let rest = deliver_from(alloc, hooks, topics, index + 1, port, max, told);
-                    spoil(rest)
+            Ok(items) => {
+                match spoiling(before.add_items(alloc, dealing.hooks, topic, join, &items)) {
+                    Err(stop) => Err(stop),
+                    Ok(told) => {
+                        let rest = deliver_from(dealing, topics, index + 1, port, told);
+                        spoil(rest)
+                    }
                 }
-            },
+            }
         },
     }
 }
@@ -70,15 +78,14 @@ fn deliver_all<P: Port, H: PresenceHooks>(
     max: u32,
 ) -> Result<Delivery, SessionFault>
     requires { IsTrue (is_take_limit max) }
-    ensures { DeliveredBy (Worded (H.fetched hooks.now) (H.plain hooks.now))
-        (Noted (H.joined hooks.now) (H.left hooks.now) (H.quiet hooks.now))
-        P.step max session.old port.old port.new session.new result }
+    ensures { DeliveredTo H.PresenceHooks hooks.now P.step max session.old port.old port.new session.new result }
 {
     let nothing = Delivery {
         texts: Vec::new(alloc),
         notices: Vec::new(alloc),
     };
-    match deliver_from(alloc, hooks, &session.topics, 0, port, max, nothing) {
+    let dealing = Dealing { alloc, hooks, max };
+    match deliver_from(dealing, &session.topics, 0, port, nothing) {
         Ok(delivery) => Ok(delivery),
         Err(stop) => Err(leave_behind(session, &stop)),
     }
@@ -100,9 +107,7 @@ pub fn deliver<P: Port, H: PresenceHooks>(
     ensures failed { session.old.failed ≡ true
         → (result ≡ Err SessionFault.Failed) × (session.new ≡ session.old) × (port.new ≡ port.old) }
     ensures delivered { session.old.failed ≡ false
-        → DeliveredBy (Worded (H.fetched hooks.now) (H.plain hooks.now))
-        (Noted (H.joined hooks.now) (H.left hooks.now) (H.quiet hooks.now))
-        P.step max session.old port.old port.new session.new result }
+        → DeliveredTo H.PresenceHooks hooks.now P.step max session.old port.old port.new session.new result }
 {
     if session.failed {
         return Err(SessionFault::Failed);

@@ -1,6 +1,6 @@
 //! The end of a session, topic by topic.
 ghost use Rattle.std.specs.Prelude.{◌≡◌, [], OnOk, take, drop};
-ghost use Rattle.channel_session.specs.Ending.{Played, Gone, Keeps, EndedBy, Leaving, ends_topics, ends, fault_of_refusal as fault_in, topics_named};
+ghost use Rattle.channel_session.specs.Ending.{Played, Gone, Keeps, EndedBy, EndsTopics, ends, fault_of_refusal as fault_in, topics_named};
 ghost use Rattle.channel_session_rules.specs.InForce.{joined_in};
 
 use crate::fault::SessionFault;
@@ -37,9 +37,8 @@ fn end_topics<P: Port>(
 ) -> Result<(), ShardFault>
     ensures before { take index (joined_in topics.new) ≡ take index (joined_in topics.old) }
     ensures empty { OnOk result (drop index (joined_in topics.new) ≡ []) }
-    ensures played { (leaving : Leaving) → Played P.step
-        (ends_topics pid leaving (drop index (joined_in topics.old))) port.old port.new
-        (leaving (drop index (joined_in topics.new)) result) }
+    ensures played { EndsTopics P.step pid (drop index (joined_in topics.old))
+        (drop index (joined_in topics.new)) port.old port.new result }
 {
     if index >= topics.len() {
         return Ok(());
@@ -78,8 +77,8 @@ fn fault_of_refusal(fault: ShardFault) -> SessionFault
 fn end_joined<P: Port>(alloc: Global, session: &mut Session, port: &mut P) -> Result<(), ShardFault>
     ensures empty { OnOk result (session.new.joined ≡ []) }
     ensures kept { Keeps session.old session.new result }
-    ensures played { (leaving : Leaving) → Played P.step
-        (ends_topics session.old.pid leaving session.old.joined) port.old port.new (leaving session.new.joined result) }
+    ensures played { EndsTopics P.step session.old.pid session.old.joined session.new.joined
+        port.old port.new result }
 {
     match end_topics(alloc, session.pid, &mut session.topics, 0, port) {
         Ok(()) => Ok(()),

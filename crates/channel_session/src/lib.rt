@@ -10,6 +10,7 @@
 #![tactic(auto)]
 
 mod acting;
+mod channels;
 mod delivering;
 pub mod ended;
 mod ending;
@@ -21,6 +22,7 @@ mod session;
 pub use channel_session_events::Delivery;
 pub use channel_session_laws::{LocalPort, laws};
 pub use channel_session_rules::{MAX_TOPICS, Port, Shard, ShardFault, Sub};
+pub use channels::Channels;
 pub use delivering::deliver;
 pub use ending::end;
 pub use fault::SessionFault;

@@ -1,18 +1,18 @@
 //! A text of a client, answered.
 ghost use Rattle.std.specs.Prelude.{◌≡◌, [], ◌<◌, ◌≤◌, length, map, vec_capacity, false, Err, IsTrue, if◌then◌else◌};
 ghost use Rattle.presence_journal.specs.Limits.{is_payload};
-ghost use Rattle.phx_message.specs.Reading.{decoded};
 ghost use Rattle.phx_message.specs.declared.message.MessageFault.TheVariants.{TooLong};
 ghost use Rattle.channel_session_rules.specs.Replies.{messages_of};
-ghost use Rattle.channel_session_rules.specs.Said.{Worded, text_of};
+ghost use Rattle.channel_session_rules.specs.Said.{text_of};
+ghost use Rattle.channel_session_events.specs.Wording.{worded_by};
 ghost use Rattle.channel_session.specs.declared.fault.SessionFault.TheVariants.{BadMessage};
-ghost use Rattle.channel_session.specs.Ran.{MessageRanBy, RanBy, failed_at, fault_of, texts_in};
+ghost use Rattle.channel_session.specs.Ran.{MessageRanBy, TextRan, failed_at, fault_of, texts_in};
 
-use crate::acting::act;
+use crate::channels::Channels;
 use crate::fault::{SessionFault, fault_of_stop};
 use crate::session::Session;
 use channel_session_rules::{Port, Reply, Stop};
-use hook_registry::{PresenceHooks, Routes};
+use hook_registry::PresenceHooks;
 use phx_message::{Limits, Message, MessageFault, decode};
 use presence_base::Topic;
 use std::alloc::Global;
@@ -41,47 +41,48 @@ fn list_texts(mut texts: Vec<String>, reply: Reply) -> Vec<String>
     }
 }
 
-// Leaves a session behind in which a fault left something of this topic.
-fn fail(session: &mut Session, topic: Topic)
-    ensures { session.new ≡ failed_at session.old topic }
-{
-    let known = session.topics.find(&topic).is_some();
-    session.failed = true;
-    if !known {
-        session.cut_short = Some(topic);
+impl Session {
+    // Leaves a session behind in which a fault left something of this topic.
+    fn fail(&mut self, topic: Topic)
+        ensures { self.new ≡ failed_at self.old topic }
+    {
+        let known = self.topics.find(&topic).is_some();
+        self.failed = true;
+        if !known {
+            self.cut_short = Some(topic);
+        }
     }
-}
 
-// What a fault leaves.
-fn leave_behind(session: &mut Session, topic: Topic, stop: &Stop) -> SessionFault
-    ensures after { session.new ≡ (if stop.now.spoiled then failed_at session.old topic else session.old) }
-    ensures fault { result ≡ fault_of stop.now.kind }
-{
-    if stop.spoiled {
-        fail(session, topic);
+    // What a fault leaves.
+    fn leave_behind(&mut self, topic: Topic, stop: &Stop) -> SessionFault
+        ensures after { self.new ≡ (if stop.now.spoiled then failed_at self.old topic else self.old) }
+        ensures fault { result ≡ fault_of stop.now.kind }
+    {
+        if stop.spoiled {
+            self.fail(topic);
+        }
+        fault_of_stop(stop)
     }
-    fault_of_stop(stop)
-}
 
-// Answers a message.
-fn run_message<P: Port, H: PresenceHooks>(
-    alloc: Global,
-    session: &mut Session,
-    port: &mut P,
-    routes: &Routes,
-    hooks: &H,
-    message: Message,
-    texts: Vec<String>,
-) -> Result<Vec<String>, SessionFault>
-    requires payload { IsTrue (is_payload message.payload) }
-    requires empty { texts.items ≡ [] }
-    requires room { 2 ≤ vec_capacity texts }
-    ensures { MessageRanBy (Worded (H.fetched hooks.now) (H.plain hooks.now)) P.step
-        routes.now session.old message port.old port.new session.new result }
-{
-    match act(alloc, session, port, routes, hooks, &message) {
-        Ok(reply) => Ok(list_texts(texts, reply)),
-        Err(stop) => Err(leave_behind(session, message.topic, &stop)),
+    // Answers a message.
+    fn run_message<P: Port, H: PresenceHooks>(
+        &mut self,
+        alloc: Global,
+        port: &mut P,
+        channels: Channels<'_, H>,
+        message: Message,
+        texts: Vec<String>,
+    ) -> Result<Vec<String>, SessionFault>
+        requires payload { IsTrue (is_payload message.payload) }
+        requires empty { texts.items ≡ [] }
+        requires room { 2 ≤ vec_capacity texts }
+        ensures { MessageRanBy (worded_by H.PresenceHooks channels.entry.hooks.now) P.step
+            channels.entry.routes.now self.old message port.old port.new self.new result }
+    {
+        match self.act(alloc, port, channels, &message) {
+            Ok(reply) => Ok(list_texts(texts, reply)),
+            Err(stop) => Err(self.leave_behind(message.topic, &stop)),
+        }
     }
 }
 
@@ -98,12 +99,11 @@ pub fn run_text<P: Port, H: PresenceHooks>(
     alloc: Global,
     session: &mut Session,
     port: &mut P,
-    routes: &Routes,
-    hooks: &H,
+    channels: Channels<'_, H>,
     text: &str,
 ) -> Result<Vec<String>, SessionFault>
-    ensures ran { RanBy (Worded (H.fetched hooks.now) (H.plain hooks.now)) P.step
-        routes.now session.old (decoded Limits.CLIENT text.now) port.old port.new session.new result }
+    ensures ran { TextRan H.PresenceHooks channels.entry.hooks.now P.step channels.entry.routes.now text.now
+        session.old port.old port.new session.new result }
     ensures long { session.old.failed ≡ false → Limits.CLIENT.bytes < length text.now
         → result ≡ Err (BadMessage TooLong) }
 {
@@ -118,5 +118,5 @@ pub fn run_text<P: Port, H: PresenceHooks>(
     let Ok(texts) = Vec::with_capacity(alloc, 2) else {
         return Err(SessionFault::OutOfMemory);
     };
-    run_message(alloc, session, port, routes, hooks, message, texts)
+    session.run_message(alloc, port, channels, message, texts)
 }

@@ -1,7 +1,11 @@
 -- What the texts and notices of a delivery are of.
 use Rattle.std.specs.Prelude.{ℕ, List, ◌++◌, map, string_bytes, Result, IfOk}
+use Rattle.hook_registry.specs.declared.hooks.PresenceHooks.{Ghosts}
 use Rattle.phx_message.specs.declared.message.Message.{Message}
-use Rattle.channel_session_rules.specs.Said.{Said, WritesAll, NotesAll}
+use Rattle.presence_journal.specs.declared.Item.{Item}
+use Rattle.channel_session_rules.specs.InForce.{Joined}
+use Rattle.channel_session_rules.specs.Said.{Said, told, WritesAll, NotesAll}
+use Rattle.channel_session_events.specs.Wording.{worded_by, noted_by}
 use Rattle.channel_session_events.specs.declared.frames.Delivery.{Delivery}
 
 -- The texts are of messages that tell what is said, and the notices note it.
@@ -15,3 +19,7 @@ abbrev pub AddsTo : {E : Type 0} → (Said → Message → Type 0) → (Said →
     → Result Delivery E → Type 0
 AddsTo W N d more result = (before : List Said) → Carries W N before d
     → IfOk result (λ e. Carries W N (before ++ more) e)
+
+-- these items too, to the join of their topic, as these hooks word and note them
+abbrev pub AddsItems : {H E : Type 0} → Ghosts H → H → Joined → Delivery → List Item → Result Delivery E → Type 0
+AddsItems G hooks j d items result = AddsTo (worded_by G hooks) (noted_by G hooks) d (map (told j) items) result

@@ -1,13 +1,19 @@
 -- The two calls that end a join, and what a join gives back.
-use Rattle.std.specs.Prelude.{ℕ, List, [], ◌∷◌, ◌++◌, Bool, Option, None, Some, Result, Ok, Err}
+use Rattle.std.specs.Prelude.{◌≡◌, ℕ, List, [], ◌∷◌, ◌++◌, Bool, true, Option, None, Some, Result, Ok, Err, is_ok}
 use Rattle.phx_message.specs.Making.{closing}
 use Rattle.phx_message.specs.declared.message.Message.{Message}
 use Rattle.channel_session_rules.specs.Sub.{Sub}
 use Rattle.channel_session_rules.specs.Asks.{Ask, Answer}
 use Rattle.channel_session_rules.specs.Script.{Script}
-use Rattle.channel_session_rules.specs.Rules.{Joined, InForce, End, answers, ended, joins, ok, empty}
+use Rattle.serde_json.specs.Data.{Data}
+use Rattle.channel_session_rules.specs.ShardFault.{ShardFault}
+use Rattle.channel_session_rules.specs.Asked.{asked}
+use Rattle.channel_session_rules.specs.Replies.{Acts}
+use Rattle.channel_session_rules.specs.Rules.{Joined, InForce, End, after_subscribe, answers, ended, join_asked, join_ref_of, joins, left, ok, on_leave, rejoins, empty}
 use Rattle.channel_session_rules.specs.Said.{Said, message}
 use Rattle.channel_session_rules.specs.Outcome.{Follows, GivesEnd, seen, spoilt}
+use Rattle.channel_session_rules.specs.declared.asked.Asked.{Asked}
+use Rattle.channel_session_rules.specs.declared.replies.Reply.{Reply}
 use Rattle.channel_session_rules.specs.declared.stop.Stop.{Stop}
 use Rattle.channel_session_events.specs.declared.joins.JoinReply.{JoinReply}
 use Rattle.channel_session_events.specs.declared.joins.RejoinReply.{RejoinReply}
@@ -50,3 +56,41 @@ RejoinRuns step rule m old new result = (kind : ℕ) (s : InForce)
 -- the reply to a leave, and the close behind it
 abbrev pub leave_end : Joined → Message → InForce → End
 leave_end j m s = answers (message (ok j.join_ref m empty) ∷ message (closing j.join_ref m.topic) ∷ []) s
+
+-- ---- whole joins and leaves
+
+-- Where the reply tells this response, the answer to the subscription leads to it or to a refusal.
+abbrev pub Subscribed : Bool → Message → Message → Result Sub ShardFault → Result JoinReply Stop → Type 0
+Subscribed first m reply answer result = (response : Data) → reply ≡ ok (join_ref_of m) m response
+    → JoinRepliesWith (λ before kind s. after_subscribe first before kind s m response answer) (is_ok answer) m result
+
+-- a join that asks this, by a session with this pid that has joined so many topics, whose calls may be the first
+abbrev pub JoinsAsked : {P : Type 0} → (P → (q : Ask) → Answer q → P → Type 0) → ℕ → ℕ → Bool → Message → Asked → P → P
+    → Result JoinReply Stop → Type 0
+JoinsAsked step pid count first m a old new result =
+    JoinRuns step (λ before kind s. join_asked pid count first before kind s m a) m old new result
+
+-- a first join, before which nothing is said, by a session with this pid that has joined so many topics
+abbrev pub Joins : {P : Type 0} → (P → (q : Ask) → Answer q → P → Type 0) → ℕ → ℕ → Message → P → P
+    → Result JoinReply Stop → Type 0
+Joins step pid count m old new result = (kind : ℕ) (s : InForce)
+    → Follows step (join_asked pid count true [] kind s m (asked m.payload)) old new
+    (seen (join_end [] kind s m) result)
+
+-- a join behind the close of the old one
+abbrev pub JoinsBehind : {P : Type 0} → (P → (q : Ask) → Answer q → P → Type 0) → ℕ → ℕ → Bool → Message → Message
+    → Asked → P → P → Result RejoinReply Stop → Type 0
+JoinsBehind step pid count first close m a old new result =
+    RejoinRuns step (λ kind s. join_asked pid count first (message close ∷ []) kind s m a) m old new result
+
+-- the end of this join, and then the new one
+abbrev pub Rejoins : {P : Type 0} → (P → (q : Ask) → Answer q → P → Type 0) → ℕ → ℕ → Joined → Message → P → P
+    → Result RejoinReply Stop → Type 0
+Rejoins step pid count j m old new result =
+    RejoinRuns step (λ kind s. rejoins pid count j kind s m (asked m.payload)) m old new result
+
+-- a leave of this join, whatever is in force
+abbrev pub Leaves : {P : Type 0} → (P → (q : Ask) → Answer q → P → Type 0) → ℕ → Joined → Message → P → P
+    → Result Reply Stop → Type 0
+Leaves step pid j m old new result = (s after : InForce) → after ≡ left s m.topic
+    → Acts step (on_leave pid s (Some j) m) old new after result

@@ -1,2 +1,4 @@
 pub mod Joining
+pub mod Under
+pub mod Wording
 pub mod Carrying

@@ -2,41 +2,41 @@
 ghost use Rattle.std.specs.Prelude.{◌≤◌, ◌^◌, IsTrue, None, false, codes};
 ghost use Rattle.presence_journal.specs.Limits.{is_payload};
 ghost use Rattle.channel_session_rules.specs.Replies.{RunsBy, RepliesWith};
-ghost use Rattle.channel_session_rules.specs.Said.{Worded};
-ghost use Rattle.channel_session_rules.specs.Rules.{says_ok, says_error, on_event, empty as empty_of};
+ghost use Rattle.channel_session_rules.specs.Rules.{says_ok, says_error, empty as empty_of};
+ghost use Rattle.channel_session_events.specs.Wording.{worded_by};
+ghost use Rattle.channel_session_events.specs.Under.{event_under};
 
+use crate::asking::{Caller, Incoming};
 use crate::events::{get, list, ping, shout, track, unknown, untrack, update};
-use channel_session_rules::{
-    Join, Port, Reply, Stop, TopicEvent, empty_object, write_error, write_ok,
-};
+use channel_session_rules::{Port, Reply, Stop, TopicEvent, empty_object, write_error, write_ok};
 use hook_registry::PresenceHooks;
 use phx_message::Message;
 use std::alloc::Global;
 
 /// An event of a joined topic. Rows are told with what a fetch adds.
 pub fn topic_event<P: Port, H: PresenceHooks>(
-    alloc: Global,
+    caller: Caller,
     hooks: &H,
-    pid: u64,
-    join: &Join,
+    incoming: Incoming<'_>,
     port: &mut P,
-    message: &Message,
     event: TopicEvent,
 ) -> Result<Reply, Stop>
-    requires limit { pid ≤ 2 ^ 62 }
-    requires payload { IsTrue (is_payload message.now.payload) }
-    ensures { RunsBy (Worded (H.fetched hooks.now) (H.plain hooks.now)) P.step
-        (λ s. on_event pid join.now.kind s join.now.join_ref message.now event) port.old port.new result }
+    requires limit { caller.pid ≤ 2 ^ 62 }
+    requires payload { IsTrue (is_payload incoming.message.now.payload) }
+    ensures { RunsBy (worded_by H.PresenceHooks hooks.now) P.step
+        (event_under caller.pid incoming.entry.join.now incoming.entry.message.now event) port.old port.new result }
 {
+    let alloc = caller.alloc;
+    let Incoming { join, message } = incoming;
     let join_ref = &join.join_ref;
     match event {
         TopicEvent::Ping => ping(alloc, join_ref, port, message),
         TopicEvent::Shout => shout(alloc, join_ref, port, message),
-        TopicEvent::Track => track(alloc, pid, join_ref, port, message),
-        TopicEvent::Update => update(alloc, pid, join_ref, port, message),
-        TopicEvent::Untrack => untrack(alloc, pid, join_ref, port, message),
-        TopicEvent::List => list(alloc, hooks, join, port, message),
-        TopicEvent::Get => get(alloc, hooks, join, port, message),
+        TopicEvent::Track => track(caller, join_ref, port, message),
+        TopicEvent::Update => update(caller, join_ref, port, message),
+        TopicEvent::Untrack => untrack(caller, join_ref, port, message),
+        TopicEvent::List => list(alloc, hooks, incoming, port),
+        TopicEvent::Get => get(alloc, hooks, incoming, port),
         TopicEvent::Unknown => unknown(alloc, join_ref, port, message),
     }
 }

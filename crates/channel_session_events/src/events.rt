@@ -1,16 +1,18 @@
 //! Each event's function.
-ghost use Rattle.std.specs.Prelude.{◌≡◌, ◌∷◌, [], ◌≤◌, ◌^◌, IfOk, IsTrue, is_ok, option_map, codes, true, false};
+ghost use Rattle.std.specs.Prelude.{◌≡◌, ◌≤◌, ◌^◌, IfOk, IsTrue, is_ok, option_map, codes, true, false};
 ghost use Rattle.presence_journal.specs.Limits.{is_payload};
 ghost use Rattle.channel_session_rules.specs.Seen.{seen_by};
 ghost use Rattle.channel_session_rules.specs.Asked.{asked as asked_of, key_asked};
-ghost use Rattle.channel_session_rules.specs.Rules.{said, says_ok, says_error, after_shout, after_track, after_update, after_untrack, after_list, ok as ok_message, on_ping, on_shout, on_track, on_update, on_untrack, on_list, on_get, on_unknown, told_ref, empty as empty_of};
-ghost use Rattle.channel_session_rules.specs.Replies.{Runs, RunsBy, RepliesWith, RepliesBy, messages_of};
-ghost use Rattle.channel_session_rules.specs.Said.{listed, EachBy, Worded};
+ghost use Rattle.channel_session_rules.specs.Rules.{said, says_ok, says_error, after_shout, after_track, after_update, after_untrack, ok as ok_message, on_ping, on_shout, on_track, on_update, on_untrack, on_unknown, told_ref, empty as empty_of};
+ghost use Rattle.channel_session_rules.specs.Replies.{Runs, RunsBy, RepliesWith};
+ghost use Rattle.channel_session_events.specs.Wording.{worded_by, ListsRows, TellsRows};
+ghost use Rattle.channel_session_events.specs.Under.{listed_under, list_under, get_under, gets_under};
 
+use crate::asking::{Caller, Incoming};
 use channel_session_rules::{
-    Asked, Join, Port, Reply, ShardFault, Stop, Written, empty_object, full_reason, read_asked,
-    read_key, ref_response, spoiling, stop_of, track_reason, update_reason, write_error,
-    write_listed, write_ok,
+    Asked, Port, Reply, ShardFault, Stop, Written, empty_object, full_reason, read_asked, read_key,
+    ref_response, spoiling, stop_of, track_reason, update_reason, write_error, write_listed,
+    write_ok,
 };
 use hook_registry::{PresenceHooks, render_state};
 use phx_message::{Message, MsgRef};
@@ -153,75 +155,71 @@ fn updated(
 }
 
 fn track_asked<P: Port>(
-    alloc: Global,
-    pid: u64,
+    caller: Caller,
     join_ref: &Option<MsgRef>,
     port: &mut P,
     message: &Message,
     asked: Asked,
 ) -> Result<Reply, Stop>
-    requires { pid ≤ 2 ^ 62 }
-    ensures { Runs P.step (λ s. on_track pid s join_ref.now message.now asked) port.old port.new result }
+    requires { caller.pid ≤ 2 ^ 62 }
+    ensures { Runs P.step (λ s. on_track caller.pid s join_ref.now message.now asked) port.old port.new result }
 {
     match asked {
         Asked::Wants(key, meta) => {
-            let answer = port.track(alloc, pid, &message.topic, &key, &meta);
-            tracked(alloc, join_ref, message, answer)
+            let answer = port.track(caller.alloc, caller.pid, &message.topic, &key, &meta);
+            tracked(caller.alloc, join_ref, message, answer)
         }
-        Asked::Nothing => bad_payload(alloc, join_ref, message),
-        Asked::Bad => bad_payload(alloc, join_ref, message),
+        Asked::Nothing => bad_payload(caller.alloc, join_ref, message),
+        Asked::Bad => bad_payload(caller.alloc, join_ref, message),
     }
 }
 
 pub(crate) fn track<P: Port>(
-    alloc: Global,
-    pid: u64,
+    caller: Caller,
     join_ref: &Option<MsgRef>,
     port: &mut P,
     message: &Message,
 ) -> Result<Reply, Stop>
-    requires { pid ≤ 2 ^ 62 }
-    ensures { Runs P.step (λ s. on_track pid s join_ref.now message.now (asked_of message.now.payload))
+    requires { caller.pid ≤ 2 ^ 62 }
+    ensures { Runs P.step (λ s. on_track caller.pid s join_ref.now message.now (asked_of message.now.payload))
         port.old port.new result }
 {
-    let asked = read_asked(alloc, message.payload.as_value())?;
-    track_asked(alloc, pid, join_ref, port, message, asked)
+    let asked = read_asked(caller.alloc, message.payload.as_value())?;
+    track_asked(caller, join_ref, port, message, asked)
 }
 
 fn update_asked<P: Port>(
-    alloc: Global,
-    pid: u64,
+    caller: Caller,
     join_ref: &Option<MsgRef>,
     port: &mut P,
     message: &Message,
     asked: Asked,
 ) -> Result<Reply, Stop>
-    requires { pid ≤ 2 ^ 62 }
-    ensures { Runs P.step (λ s. on_update pid s join_ref.now message.now asked) port.old port.new result }
+    requires { caller.pid ≤ 2 ^ 62 }
+    ensures { Runs P.step (λ s. on_update caller.pid s join_ref.now message.now asked) port.old port.new result }
 {
     match asked {
         Asked::Wants(key, meta) => {
-            let answer = port.update(alloc, pid, &message.topic, &key, &meta);
-            updated(alloc, join_ref, message, answer)
+            let answer = port.update(caller.alloc, caller.pid, &message.topic, &key, &meta);
+            updated(caller.alloc, join_ref, message, answer)
         }
-        Asked::Nothing => bad_payload(alloc, join_ref, message),
-        Asked::Bad => bad_payload(alloc, join_ref, message),
+        Asked::Nothing => bad_payload(caller.alloc, join_ref, message),
+        Asked::Bad => bad_payload(caller.alloc, join_ref, message),
     }
 }
 
 pub(crate) fn update<P: Port>(
-    alloc: Global,
-    pid: u64,
+    caller: Caller,
     join_ref: &Option<MsgRef>,
     port: &mut P,
     message: &Message,
 ) -> Result<Reply, Stop>
-    requires { pid ≤ 2 ^ 62 }
-    ensures { Runs P.step (λ s. on_update pid s join_ref.now message.now (asked_of message.now.payload))
+    requires { caller.pid ≤ 2 ^ 62 }
+    ensures { Runs P.step (λ s. on_update caller.pid s join_ref.now message.now (asked_of message.now.payload))
         port.old port.new result }
 {
-    let asked = read_asked(alloc, message.payload.as_value())?;
-    update_asked(alloc, pid, join_ref, port, message, asked)
+    let asked = read_asked(caller.alloc, message.payload.as_value())?;
+    update_asked(caller, join_ref, port, message, asked)
 }
 
 // The reply that a message went well and tells nothing.
@@ -255,49 +253,47 @@ fn untracked(
 }
 
 fn untrack_asked<P: Port>(
-    alloc: Global,
-    pid: u64,
+    caller: Caller,
     join_ref: &Option<MsgRef>,
     port: &mut P,
     message: &Message,
     key: Option<Key>,
 ) -> Result<Reply, Stop>
-    ensures { Runs P.step (λ s. on_untrack pid s join_ref.now message.now key) port.old port.new result }
+    ensures { Runs P.step (λ s. on_untrack caller.pid s join_ref.now message.now key) port.old port.new result }
 {
     match key {
         Some(key) => {
-            let answer = port.untrack(alloc, pid, &message.topic, &key);
-            untracked(alloc, join_ref, message, answer)
+            let answer = port.untrack(caller.alloc, caller.pid, &message.topic, &key);
+            untracked(caller.alloc, join_ref, message, answer)
         }
-        None => bad_payload(alloc, join_ref, message),
+        None => bad_payload(caller.alloc, join_ref, message),
     }
 }
 
 pub(crate) fn untrack<P: Port>(
-    alloc: Global,
-    pid: u64,
+    caller: Caller,
     join_ref: &Option<MsgRef>,
     port: &mut P,
     message: &Message,
 ) -> Result<Reply, Stop>
-    ensures { Runs P.step (λ s. on_untrack pid s join_ref.now message.now (key_asked message.now.payload))
+    ensures { Runs P.step (λ s. on_untrack caller.pid s join_ref.now message.now (key_asked message.now.payload))
         port.old port.new result }
 {
-    let key = read_key(alloc, message.payload.as_value())?;
-    untrack_asked(alloc, pid, join_ref, port, message, key)
+    let key = read_key(caller.alloc, message.payload.as_value())?;
+    untrack_asked(caller, join_ref, port, message, key)
 }
 
 // The reply that tells rows, with what the fetch adds.
 fn fetched_rows<H: PresenceHooks>(
     alloc: Global,
     hooks: &H,
-    join: &Join,
-    message: &Message,
+    incoming: Incoming<'_>,
     rows: &[(Dot, Row)],
 ) -> Result<Written, AllocError>
-    ensures { IfOk result (λ w. Worded (H.fetched hooks.now) (H.plain hooks.now)
-        (listed join.now.kind join.now.join_ref message.now rows.now) w.message) }
+    ensures { IfOk result (λ w. worded_by H.PresenceHooks hooks.now
+        (listed_under incoming.entry.join.now incoming.entry.message.now rows.now) w.message) }
 {
+    let Incoming { join, message } = incoming;
     let state = render_state(alloc, hooks, join.kind, &message.topic, rows)?;
     write_ok(alloc, &join.join_ref, message, Json::new(state))
 }
@@ -306,18 +302,17 @@ fn fetched_rows<H: PresenceHooks>(
 fn rows_reply<H: PresenceHooks>(
     alloc: Global,
     hooks: &H,
-    join: &Join,
-    message: &Message,
+    incoming: Incoming<'_>,
     rows: SharedRows,
 ) -> Result<Reply, AllocError>
-    ensures { IfOk result (λ r. EachBy (Worded (H.fetched hooks.now) (H.plain hooks.now))
-        (listed join.now.kind join.now.join_ref message.now rows ∷ []) (messages_of r)) }
+    ensures { IfOk result (λ r. ListsRows H.PresenceHooks hooks.now incoming.entry.join.now
+        incoming.entry.message.now rows r) }
 {
     if hooks.is_plain() {
-        let reply = write_listed(alloc, &join.join_ref, message, rows)?;
+        let reply = write_listed(alloc, &incoming.join.join_ref, incoming.message, rows)?;
         return Ok(Reply::Listed(reply));
     }
-    let reply = fetched_rows(alloc, hooks, join, message, rows.as_slice())?;
+    let reply = fetched_rows(alloc, hooks, incoming, rows.as_slice())?;
     Ok(Reply::One(reply))
 }
 
@@ -325,15 +320,14 @@ fn rows_reply<H: PresenceHooks>(
 fn told_rows<H: PresenceHooks>(
     alloc: Global,
     hooks: &H,
-    join: &Join,
-    message: &Message,
+    incoming: Incoming<'_>,
     answer: Result<SharedRows, ShardFault>,
 ) -> Result<Reply, Stop>
-    ensures { RepliesBy (Worded (H.fetched hooks.now) (H.plain hooks.now))
-        (λ s. after_list join.now.kind s join.now.join_ref message.now answer) (is_ok answer) result }
+    ensures { TellsRows H.PresenceHooks hooks.now incoming.entry.join.now incoming.entry.message.now answer result }
 {
+    let Incoming { join, message } = incoming;
     match answer {
-        Ok(rows) => spoiling(rows_reply(alloc, hooks, join, message, rows)),
+        Ok(rows) => spoiling(rows_reply(alloc, hooks, incoming, rows)),
         Err(fault) => refused(
             alloc,
             &join.join_ref,
@@ -347,46 +341,43 @@ fn told_rows<H: PresenceHooks>(
 pub(crate) fn list<P: Port, H: PresenceHooks>(
     alloc: Global,
     hooks: &H,
-    join: &Join,
+    incoming: Incoming<'_>,
     port: &mut P,
-    message: &Message,
 ) -> Result<Reply, Stop>
-    ensures { RunsBy (Worded (H.fetched hooks.now) (H.plain hooks.now)) P.step
-        (λ s. on_list join.now.kind s join.now.join_ref message.now) port.old port.new result }
+    ensures { RunsBy (worded_by H.PresenceHooks hooks.now) P.step
+        (list_under incoming.entry.join.now incoming.entry.message.now) port.old port.new result }
 {
-    let answer = port.list(alloc, &message.topic);
-    told_rows(alloc, hooks, join, message, answer)
+    let answer = port.list(alloc, &incoming.message.topic);
+    told_rows(alloc, hooks, incoming, answer)
 }
 
 // The reply to a get.
 fn got_reply<H: PresenceHooks>(
     alloc: Global,
     hooks: &H,
-    join: &Join,
-    message: &Message,
+    incoming: Incoming<'_>,
     rows: Vec<(Dot, Row)>,
 ) -> Result<Reply, AllocError>
-    ensures { IfOk result (λ r. EachBy (Worded (H.fetched hooks.now) (H.plain hooks.now))
-        (listed join.now.kind join.now.join_ref message.now rows.items ∷ []) (messages_of r)) }
+    ensures { IfOk result (λ r. ListsRows H.PresenceHooks hooks.now incoming.entry.join.now
+        incoming.entry.message.now rows.items r) }
 {
     let rows = SharedRows::new(alloc, rows)?;
-    rows_reply(alloc, hooks, join, message, rows)
+    rows_reply(alloc, hooks, incoming, rows)
 }
 
 // What the port's answer to a get leads to.
 fn told_got<H: PresenceHooks>(
     alloc: Global,
     hooks: &H,
-    join: &Join,
-    message: &Message,
+    incoming: Incoming<'_>,
     answer: Result<Vec<(Dot, Row)>, ShardFault>,
 ) -> Result<Reply, Stop>
-    ensures { RepliesBy (Worded (H.fetched hooks.now) (H.plain hooks.now))
-        (λ s. after_list join.now.kind s join.now.join_ref message.now (seen_by (λ v. v.items) answer))
-        (is_ok (seen_by (λ v. v.items) answer)) result }
+    ensures { TellsRows H.PresenceHooks hooks.now incoming.entry.join.now incoming.entry.message.now
+        (seen_by (λ v. v.items) answer) result }
 {
+    let Incoming { join, message } = incoming;
     match answer {
-        Ok(rows) => spoiling(got_reply(alloc, hooks, join, message, rows)),
+        Ok(rows) => spoiling(got_reply(alloc, hooks, incoming, rows)),
         Err(fault) => refused(
             alloc,
             &join.join_ref,
@@ -400,34 +391,31 @@ fn told_got<H: PresenceHooks>(
 fn get_asked<P: Port, H: PresenceHooks>(
     alloc: Global,
     hooks: &H,
-    join: &Join,
+    incoming: Incoming<'_>,
     port: &mut P,
-    message: &Message,
     key: Option<Key>,
 ) -> Result<Reply, Stop>
-    ensures { RunsBy (Worded (H.fetched hooks.now) (H.plain hooks.now)) P.step
-        (λ s. on_get join.now.kind s join.now.join_ref message.now key) port.old port.new result }
+    ensures { RunsBy (worded_by H.PresenceHooks hooks.now) P.step
+        (get_under incoming.entry.join.now incoming.entry.message.now key) port.old port.new result }
 {
     match key {
         Some(key) => {
-            let answer = port.get(alloc, &message.topic, &key);
-            told_got(alloc, hooks, join, message, answer)
+            let answer = port.get(alloc, &incoming.message.topic, &key);
+            told_got(alloc, hooks, incoming, answer)
         }
-        None => bad_payload(alloc, &join.join_ref, message),
+        None => bad_payload(alloc, &incoming.join.join_ref, incoming.message),
     }
 }
 
 pub(crate) fn get<P: Port, H: PresenceHooks>(
     alloc: Global,
     hooks: &H,
-    join: &Join,
+    incoming: Incoming<'_>,
     port: &mut P,
-    message: &Message,
 ) -> Result<Reply, Stop>
-    ensures { RunsBy (Worded (H.fetched hooks.now) (H.plain hooks.now)) P.step
-        (λ s. on_get join.now.kind s join.now.join_ref message.now (key_asked message.now.payload))
-        port.old port.new result }
+    ensures { RunsBy (worded_by H.PresenceHooks hooks.now) P.step
+        (gets_under incoming.entry.join.now incoming.entry.message.now) port.old port.new result }
 {
-    let key = read_key(alloc, message.payload.as_value())?;
-    get_asked(alloc, hooks, join, port, message, key)
+    let key = read_key(alloc, incoming.message.payload.as_value())?;
+    get_asked(alloc, hooks, incoming, port, key)
 }

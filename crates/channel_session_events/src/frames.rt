@@ -1,11 +1,12 @@
 //! Items as frames and notices.
-ghost use Rattle.std.specs.Prelude.{◌≡◌, ◌∷◌, [], true, false, map, codes, string_bytes, IfOk};
+ghost use Rattle.std.specs.Prelude.{◌≡◌, ◌∷◌, [], true, false, codes, string_bytes, IfOk};
 ghost use Rattle.serde_json.specs.Written.{has_float};
 ghost use Rattle.phx_message.specs.Making.{push_of, broadcast_of};
 ghost use Rattle.presence_metas.specs.Values.{state_of, diff_of};
 ghost use Rattle.channel_session_rules.specs.InForce.{joined_of};
-ghost use Rattle.channel_session_rules.specs.Said.{told, text_of, Worded, Writes, Noted};
-ghost use Rattle.channel_session_events.specs.Carrying.{AddsTo};
+ghost use Rattle.channel_session_rules.specs.Said.{told, text_of};
+ghost use Rattle.channel_session_events.specs.Wording.{Frames, noted_by, worded_by};
+ghost use Rattle.channel_session_events.specs.Carrying.{AddsItems};
 
 use channel_session_rules::Join;
 use hook_registry::{Notice, PresenceHooks, notices, render_diff, render_state};
@@ -32,7 +33,7 @@ fn state_message<H: PresenceHooks>(
     join: &Join,
     rows: &SharedRows,
 ) -> Result<Message, AllocError>
-    ensures worded { IfOk result (λ m. Worded (H.fetched hooks.now) (H.plain hooks.now)
+    ensures worded { IfOk result (λ m. worded_by H.PresenceHooks hooks.now
         (told (joined_of (topic.now, join.now)) (Item.State rows.now)) m) }
     ensures whole { IfOk result (λ m. has_float m.payload ≡ false) }
 {
@@ -54,7 +55,7 @@ fn diff_message<H: PresenceHooks>(
     join: &Join,
     diff: &SharedDiff,
 ) -> Result<Message, AllocError>
-    ensures worded { IfOk result (λ m. Worded (H.fetched hooks.now) (H.plain hooks.now)
+    ensures worded { IfOk result (λ m. worded_by H.PresenceHooks hooks.now
         (told (joined_of (topic.now, join.now)) (Item.Diff diff.now)) m) }
     ensures whole { IfOk result (λ m. has_float m.payload ≡ false) }
 {
@@ -103,8 +104,8 @@ fn state_frame<H: PresenceHooks>(
     join: &Join,
     rows: &SharedRows,
 ) -> Result<String, AllocError>
-    ensures { IfOk result (λ t. Writes (Worded (H.fetched hooks.now) (H.plain hooks.now))
-        (told (joined_of (topic.now, join.now)) (Item.State rows.now)) (string_bytes t)) }
+    ensures { IfOk result (λ t. Frames H.PresenceHooks hooks.now (joined_of (topic.now, join.now))
+        (Item.State rows.now) (string_bytes t)) }
 {
     if hooks.is_plain() {
         return plain_state_frame(alloc, topic, join, rows);
@@ -121,8 +122,8 @@ fn diff_frame<H: PresenceHooks>(
     join: &Join,
     diff: &SharedDiff,
 ) -> Result<String, AllocError>
-    ensures { IfOk result (λ t. Writes (Worded (H.fetched hooks.now) (H.plain hooks.now))
-        (told (joined_of (topic.now, join.now)) (Item.Diff diff.now)) (string_bytes t)) }
+    ensures { IfOk result (λ t. Frames H.PresenceHooks hooks.now (joined_of (topic.now, join.now))
+        (Item.Diff diff.now) (string_bytes t)) }
 {
     if hooks.is_plain() {
         return plain_diff_frame(alloc, topic, diff);
@@ -148,8 +149,8 @@ fn item_frame<H: PresenceHooks>(
     join: &Join,
     item: &Item,
 ) -> Result<String, AllocError>
-    ensures { IfOk result (λ t. Writes (Worded (H.fetched hooks.now) (H.plain hooks.now))
-        (told (joined_of (topic.now, join.now)) item.now) (string_bytes t)) }
+    ensures { IfOk result (λ t. Frames H.PresenceHooks hooks.now (joined_of (topic.now, join.now))
+        item.now (string_bytes t)) }
 {
     match item {
         Item::State(rows) => state_frame(alloc, hooks, topic, join, rows),
@@ -166,7 +167,7 @@ fn item_notices<H: PresenceHooks>(
     join: &Join,
     item: &Item,
 ) -> Result<Vec<Notice>, AllocError>
-    ensures { IfOk result (λ v. Noted (H.joined hooks.now) (H.left hooks.now) (H.quiet hooks.now)
+    ensures { IfOk result (λ v. noted_by H.PresenceHooks hooks.now
         (told (joined_of (topic.now, join.now)) item.now) v.items) }
 {
     match item {
@@ -175,42 +176,41 @@ fn item_notices<H: PresenceHooks>(
     }
 }
 
-// What was told, with one item more.
-fn add_item<H: PresenceHooks>(
-    alloc: Global,
-    hooks: &H,
-    topic: &Topic,
-    join: &Join,
-    item: &Item,
-    mut delivery: Delivery,
-) -> Result<Delivery, AllocError>
-    ensures { AddsTo (Worded (H.fetched hooks.now) (H.plain hooks.now))
-        (Noted (H.joined hooks.now) (H.left hooks.now) (H.quiet hooks.now)) delivery
-        (told (joined_of (topic.now, join.now)) item.now ∷ []) result }
-{
-    let frame = item_frame(alloc, hooks, topic, join, item)?;
-    let mut noted = item_notices(alloc, hooks, topic, join, item)?;
-    delivery.texts.push(frame)?;
-    delivery.notices.append(&mut noted)?;
-    Ok(delivery)
-}
-
-/// What was told, followed by the items of a topic as its join is told of them.
-pub fn add_items<H: PresenceHooks>(
-    alloc: Global,
-    hooks: &H,
-    topic: &Topic,
-    join: &Join,
-    items: &[Item],
-    delivery: Delivery,
-) -> Result<Delivery, AllocError>
-    ensures { AddsTo (Worded (H.fetched hooks.now) (H.plain hooks.now))
-        (Noted (H.joined hooks.now) (H.left hooks.now) (H.quiet hooks.now)) delivery
-        (map (told (joined_of (topic.now, join.now))) items.now) result }
-{
-    let mut delivery = delivery;
-    for item in items {
-        delivery = add_item(alloc, hooks, topic, join, item, delivery)?;
+impl Delivery {
+    // What was told, with one item more.
+    fn add_item<H: PresenceHooks>(
+        self,
+        alloc: Global,
+        hooks: &H,
+        topic: &Topic,
+        join: &Join,
+        item: &Item,
+    ) -> Result<Delivery, AllocError>
+        ensures { AddsItems H.PresenceHooks hooks.now (joined_of (topic.now, join.now)) self (item.now ∷ []) result }
+    {
+        let frame = item_frame(alloc, hooks, topic, join, item)?;
+        let mut noted = item_notices(alloc, hooks, topic, join, item)?;
+        let mut delivery = self;
+        delivery.texts.push(frame)?;
+        delivery.notices.append(&mut noted)?;
+        Ok(delivery)
     }
-    Ok(delivery)
+
+    /// What was told, followed by the items of a topic as its join is told of them.
+    pub fn add_items<H: PresenceHooks>(
+        self,
+        alloc: Global,
+        hooks: &H,
+        topic: &Topic,
+        join: &Join,
+        items: &[Item],
+    ) -> Result<Delivery, AllocError>
+        ensures { AddsItems H.PresenceHooks hooks.now (joined_of (topic.now, join.now)) self items.now result }
+    {
+        let mut delivery = self;
+        for item in items {
+            delivery = delivery.add_item(alloc, hooks, topic, join, item)?;
+        }
+        Ok(delivery)
+    }
 }

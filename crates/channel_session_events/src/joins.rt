@@ -1,15 +1,12 @@
 //! Joins and their ends.
-ghost use Rattle.std.specs.Prelude.{◌≡◌, ◌++◌, ◌≤◌, ◌^◌, ℕ, List, [], ◌∷◌, IfOk, IfErr, option_map, is_ok, false, true, Some};
+ghost use Rattle.std.specs.Prelude.{◌≡◌, ◌≤◌, ◌^◌, IfOk, IfErr, option_map, is_ok, false};
 ghost use Rattle.serde_json.specs.Written.{has_float as float_within};
-ghost use Rattle.serde_json.specs.Data.{Data};
-ghost use Rattle.channel_session_rules.specs.Asked.{asked as asked_of};
 ghost use Rattle.channel_session_rules.specs.InForce.{joined_of};
-ghost use Rattle.channel_session_events.specs.Joining.{Leads, JoinRuns, JoinRepliesWith, RejoinRuns, join_end, leave_end};
-ghost use Rattle.channel_session_rules.specs.Outcome.{Follows, seen};
-ghost use Rattle.channel_session_rules.specs.Said.{message as say};
-ghost use Rattle.channel_session_rules.specs.Replies.{Acts, RepliesWith, reply_end};
-ghost use Rattle.channel_session_rules.specs.Rules.{InForce, said, refuses, after_subscribe, subscribes, tracks, join_asked as join_asked_rule, join_ref_of as join_ref_in, told_ref, empty as empty_of, ok as ok_message, on_leave, rejoins, says_ok, left};
+ghost use Rattle.channel_session_events.specs.Joining.{Joins, JoinsAsked, JoinsBehind, Leads, Leaves, JoinRuns, JoinRepliesWith, Rejoins, Subscribed, leave_end};
+ghost use Rattle.channel_session_rules.specs.Replies.{RepliesWith, reply_end};
+ghost use Rattle.channel_session_rules.specs.Rules.{InForce, said, refuses, subscribes, tracks, join_ref_of as join_ref_in, told_ref, empty as empty_of, says_ok};
 
+use crate::asking::Caller;
 use channel_session_rules::{
     Asked, Join, MAX_TOPICS, Port, Reply, ShardFault, Stop, Sub, Written, empty_object,
     full_reason, read_asked, ref_response, spoil, stop_of, track_reason, write_close, write_error,
@@ -20,18 +17,12 @@ use presence_base::{Dot, Json, Key, Meta, Topic};
 use std::alloc::{AllocError, Global};
 
 // The calls that end a join.
-fn end_join<P: Port>(
-    alloc: Global,
-    pid: u64,
-    topic: &Topic,
-    join: &Join,
-    port: &mut P,
-) -> Result<(), Stop>
-    ensures { Leads P.step pid topic.now join.now.sub port.old port.new result }
+fn end_join<P: Port>(caller: Caller, topic: &Topic, join: &Join, port: &mut P) -> Result<(), Stop>
+    ensures { Leads P.step caller.pid topic.now join.now.sub port.old port.new result }
 {
-    match port.unsubscribe(alloc, topic, &join.sub) {
+    match port.unsubscribe(caller.alloc, topic, &join.sub) {
         Err(fault) => Err(stop_of(fault, true)),
-        Ok(()) => match port.untrack_all(alloc, pid, topic) {
+        Ok(()) => match port.untrack_all(caller.alloc, caller.pid, topic) {
             Err(fault) => Err(stop_of(fault, true)),
             Ok(()) => Ok(()),
         },
@@ -89,11 +80,7 @@ fn subscribed(
     reply: Written,
     answer: Result<Sub, ShardFault>,
 ) -> Result<JoinReply, Stop>
-    ensures gives { (response : Data)
-        → reply.message ≡ ok_message (join_ref_in message.now) message.now response
-        → JoinRepliesWith
-        (λ before kind s. after_subscribe first before kind s message.now response answer)
-        (is_ok answer) message.now result }
+    ensures gives { Subscribed first message.now reply.message answer result }
     ensures heeds { IfErr result (λ _. is_ok answer ≡ false) }
 {
     match answer {
@@ -151,21 +138,29 @@ fn subscribe_told<P: Port>(
     subscribe_with(alloc, false, port, message, response)
 }
 
-fn track_then_subscribe<P: Port>(
-    alloc: Global,
-    pid: u64,
+// Who joins: a session that has joined `count` topics, and whether the join's calls are its text's first.
+#[derive(Clone, Copy)]
+struct Joiner {
+    caller: Caller,
+    count: usize,
     first: bool,
+}
+
+fn track_then_subscribe<P: Port>(
+    joiner: Joiner,
     port: &mut P,
     message: &Message,
     key: &Key,
     meta: &Meta,
 ) -> Result<JoinReply, Stop>
-    requires { pid ≤ 2 ^ 62 }
+    requires { joiner.caller.pid ≤ 2 ^ 62 }
     ensures { JoinRuns P.step
-        (λ before kind s. tracks pid first before kind s message.now key.now meta.now)
+        (λ before kind s. tracks joiner.caller.pid joiner.first before kind s message.now key.now meta.now)
         message.now port.old port.new result }
 {
-    match port.track(alloc, pid, &message.topic, key, meta) {
+    let Joiner { caller, first, .. } = joiner;
+    let alloc = caller.alloc;
+    match port.track(alloc, caller.pid, &message.topic, key, meta) {
         Ok(dot) => {
             let rest = subscribe_told(alloc, port, message, &dot);
             spoil(rest)
@@ -174,21 +169,22 @@ fn track_then_subscribe<P: Port>(
     }
 }
 
-// A join by a session that has joined `count` topics.
 fn join_asked<P: Port>(
-    alloc: Global,
-    pid: u64,
-    count: usize,
-    first: bool,
+    joiner: Joiner,
     port: &mut P,
     message: &Message,
     asked: Asked,
 ) -> Result<JoinReply, Stop>
-    requires { pid ≤ 2 ^ 62 }
-    ensures { JoinRuns P.step
-        (λ before kind s. join_asked_rule pid count first before kind s message.now asked)
-        message.now port.old port.new result }
+    requires { joiner.caller.pid ≤ 2 ^ 62 }
+    ensures { JoinsAsked P.step joiner.caller.pid joiner.count joiner.first message.now asked
+        port.old port.new result }
 {
+    let Joiner {
+        caller,
+        count,
+        first,
+    } = joiner;
+    let alloc = caller.alloc;
     match asked {
         Asked::Bad => refusing(alloc, message, "bad payload"),
         Asked::Nothing => {
@@ -202,27 +198,29 @@ fn join_asked<P: Port>(
             if count >= MAX_TOPICS {
                 refusing(alloc, message, "too many topics")
             } else {
-                track_then_subscribe(alloc, pid, first, port, message, &key, &meta)
+                track_then_subscribe(joiner, port, message, &key, &meta)
             }
         }
     }
 }
 
-/// A first join.
+/// A first join, by a session that has joined `count` topics.
 pub fn join<P: Port>(
-    alloc: Global,
-    pid: u64,
+    caller: Caller,
     count: usize,
     port: &mut P,
     message: &Message,
 ) -> Result<JoinReply, Stop>
-    requires { pid ≤ 2 ^ 62 }
-    ensures { (kind : ℕ) (s : InForce) → Follows P.step
-        (join_asked_rule pid count true [] kind s message.now (asked_of message.now.payload))
-        port.old port.new (seen (join_end [] kind s message.now) result) }
+    requires { caller.pid ≤ 2 ^ 62 }
+    ensures { Joins P.step caller.pid count message.now port.old port.new result }
 {
-    let asked = read_asked(alloc, message.payload.as_value())?;
-    join_asked(alloc, pid, count, true, port, message, asked)
+    let asked = read_asked(caller.alloc, message.payload.as_value())?;
+    let joiner = Joiner {
+        caller,
+        count,
+        first: true,
+    };
+    join_asked(joiner, port, message, asked)
 }
 
 /// What a second join answers, behind the close of the first.
@@ -234,20 +232,17 @@ pub struct RejoinReply {
 
 // The new join, behind the close of the old one.
 fn join_behind<P: Port>(
-    alloc: Global,
-    pid: u64,
-    count: usize,
+    joiner: Joiner,
     port: &mut P,
     message: &Message,
     asked: Asked,
     close: Written,
 ) -> Result<RejoinReply, Stop>
-    requires { pid ≤ 2 ^ 62 }
-    ensures { RejoinRuns P.step
-        (λ kind s. join_asked_rule pid count false (say close.message ∷ []) kind s message.now asked)
-        message.now port.old port.new result }
+    requires { joiner.caller.pid ≤ 2 ^ 62 }
+    ensures { JoinsBehind P.step joiner.caller.pid joiner.count joiner.first
+        close.message message.now asked port.old port.new result }
 {
-    match join_asked(alloc, pid, count, false, port, message, asked) {
+    match join_asked(joiner, port, message, asked) {
         Ok(join) => Ok(RejoinReply { close, join }),
         Err(stop) => Err(stop),
     }
@@ -255,24 +250,26 @@ fn join_behind<P: Port>(
 
 /// A second join. `count` is the number of the other topics that are joined.
 pub fn rejoin<P: Port>(
-    alloc: Global,
-    pid: u64,
+    caller: Caller,
     count: usize,
     join: &Join,
     port: &mut P,
     message: &Message,
 ) -> Result<RejoinReply, Stop>
-    requires { pid ≤ 2 ^ 62 }
-    ensures { RejoinRuns P.step
-        (λ kind s. rejoins pid count (joined_of (message.now.topic, join.now)) kind s message.now
-        (asked_of message.now.payload))
-        message.now port.old port.new result }
+    requires { caller.pid ≤ 2 ^ 62 }
+    ensures { Rejoins P.step caller.pid count (joined_of (message.now.topic, join.now)) message.now
+        port.old port.new result }
 {
-    let close = write_close(alloc, &join.join_ref, &message.topic)?;
-    let asked = read_asked(alloc, message.payload.as_value())?;
-    match end_join(alloc, pid, &message.topic, join, port) {
+    let close = write_close(caller.alloc, &join.join_ref, &message.topic)?;
+    let asked = read_asked(caller.alloc, message.payload.as_value())?;
+    let joiner = Joiner {
+        caller,
+        count,
+        first: false,
+    };
+    match end_join(caller, &message.topic, join, port) {
         Ok(()) => {
-            let rest = join_behind(alloc, pid, count, port, message, asked, close);
+            let rest = join_behind(joiner, port, message, asked, close);
             spoil(rest)
         }
         Err(stop) => Err(stop),
@@ -292,18 +289,16 @@ fn leave_reply(alloc: Global, join: &Join, message: &Message) -> Result<Reply, A
 
 /// A leave of a joined topic. Its texts are written before the calls.
 pub fn leave<P: Port>(
-    alloc: Global,
-    pid: u64,
+    caller: Caller,
     join: &Join,
     port: &mut P,
     message: &Message,
 ) -> Result<Reply, Stop>
-    ensures { (s after : InForce) → after ≡ left s message.now.topic → Acts P.step
-        (on_leave pid s (Some (joined_of (message.now.topic, join.now))) message.now)
-        port.old port.new after result }
+    ensures { Leaves P.step caller.pid (joined_of (message.now.topic, join.now)) message.now
+        port.old port.new result }
 {
-    let reply = leave_reply(alloc, join, message)?;
-    match end_join(alloc, pid, &message.topic, join, port) {
+    let reply = leave_reply(caller.alloc, join, message)?;
+    match end_join(caller, &message.topic, join, port) {
         Ok(()) => Ok(reply),
         Err(stop) => Err(stop),
     }

@@ -153,7 +153,7 @@ fn is_refused_first(alloc: Global, text: &str, fault: LinkFault) -> bool {
         return false;
     };
     desk.accepts(alloc) == Err(DialFault::Link(fault))
-        && desk.peer.other().is_none()
+        && desk.link.peer.other().is_none()
         && desk.wrote("")
         && desk.asked(&[])
 }
@@ -237,7 +237,7 @@ fn is_failing(alloc: Global, fails: usize, wanted: Result<bool, DialFault>, call
     let Some(mut desk) = at_a(alloc, RUN.as_bytes()) else {
         return false;
     };
-    desk.wire.fails = fails;
+    desk.link.stream.fails = fails;
     let end = match desk.accepts(alloc) {
         Ok(true) => desk.accepts(alloc),
         end => end,

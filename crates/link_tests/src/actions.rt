@@ -292,7 +292,7 @@ fn a_refusal_leaves_the_peer(rt: HostRuntime) {
     let shards = desk.refusal(alloc, r#"["hello","c",9,3]"#);
     assert!(rt; shards == Some(LinkFault::OtherShards));
     assert!(rt; desk.refusal(alloc, r#"["ok"]"#) == Some(LinkFault::BadLine));
-    assert!(rt; desk.peer.other().is_none());
+    assert!(rt; desk.link.peer.other().is_none());
     let hello = r#"["hello","b",1,2]"#;
     assert!(rt; is_asking(alloc, &mut desk, hello, &[Asks::Hello(a, 2)]));
 }

@@ -2,8 +2,8 @@
 use crate::port::{Call, Much, TestPort};
 use crate::wire::Wire;
 use node_links::{
-    ActFault, DialFault, End, Hearer, Line, LinkAction, LinkFault, Peer, accept_one, decode_line,
-    dial,
+    ActFault, DialFault, End, Hearer, Line, Link, LinkAction, LinkFault, Peer, accept_one,
+    decode_line, dial,
 };
 use orswot_core::Form;
 use presence_base::{NodeName, Replica};
@@ -35,24 +35,28 @@ pub(super) fn replica(alloc: Global, name: &str, incarnation: u64) -> Option<Rep
 }
 
 pub(super) struct Desk<'a> {
-    pub peer: Peer,
+    pub link: Link<Wire<'a>>,
     pub port: TestPort,
-    pub wire: Wire<'a>,
 }
 
 impl Drop for Desk<'_> {
     fn drop(self) {
-        let Desk { peer, port, wire } = self;
-        drop(peer);
+        let Desk { link, port } = self;
+        drop(link);
         drop(port);
-        drop(wire);
     }
 }
 
 // A node with two shards, which is this peer at its end of a link that gives these bytes.
 fn seated(alloc: Global, peer: Peer, bytes: &[u8]) -> Desk<'_> {
+    let wire = Wire {
+        rest: bytes,
+        taken: Vec::new(alloc),
+        calls: 0,
+        fails: NEVER,
+    };
     Desk {
-        peer,
+        link: Link { stream: wire, peer },
         port: TestPort {
             shards: 2,
             status: Status::Up,
@@ -63,23 +67,17 @@ fn seated(alloc: Global, peer: Peer, bytes: &[u8]) -> Desk<'_> {
             refused: NEVER,
             fault: ActFault::ShardFull,
         },
-        wire: Wire {
-            rest: bytes,
-            taken: Vec::new(alloc),
-            calls: 0,
-            fails: NEVER,
-        },
     }
 }
 
 impl<'a> Desk<'a> {
     // Lets these bytes come from here on.
     pub fn give(&mut self, bytes: &'a [u8]) {
-        self.wire.give(bytes);
+        self.link.stream.give(bytes);
     }
 
     pub fn accepts(&mut self, alloc: Global) -> Result<bool, DialFault> {
-        accept_one(alloc, &mut self.wire, &mut self.peer, &mut self.port, NOW)
+        accept_one(alloc, &mut self.link, &mut self.port, NOW)
     }
 
     // Whether so many lines are accepted.
@@ -93,14 +91,7 @@ impl<'a> Desk<'a> {
     }
 
     pub fn dials(&mut self, alloc: Global, line: &Line) -> Result<bool, DialFault> {
-        dial(
-            alloc,
-            &mut self.wire,
-            &mut self.peer,
-            &mut self.port,
-            line,
-            NOW,
-        )
+        dial(alloc, &mut self.link, &mut self.port, line, NOW)
     }
 
     // How a turn with the line that this text is ends, none where it is no line.
@@ -113,7 +104,7 @@ impl<'a> Desk<'a> {
 
     // What a line asks the peer for.
     pub fn hears_line(&mut self, alloc: Global, line: Line) -> Result<Vec<LinkAction>, LinkFault> {
-        self.peer.on_line(alloc, line, NOW)
+        self.link.peer.on_line(alloc, line, NOW)
     }
 
     // What the line that this text is asks the peer for.
@@ -140,14 +131,14 @@ impl<'a> Desk<'a> {
     // Whether this replica is known to be at the other end.
     pub fn knows(&self, alloc: Global, name: &str, incarnation: u64) -> bool {
         match replica(alloc, name, incarnation) {
-            Some(other) => self.peer.other() == Some(other),
+            Some(other) => self.link.peer.other() == Some(other),
             None => false,
         }
     }
 
     // Whether these are the bytes that went out, and no others.
     pub fn wrote(&self, text: &str) -> bool {
-        self.wire.taken.as_slice() == text.as_bytes()
+        self.link.stream.taken.as_slice() == text.as_bytes()
     }
 
     pub fn asked(&self, calls: &[Call]) -> bool {
@@ -161,7 +152,7 @@ impl<'a> Desk<'a> {
 
     // How many bytes are still to come.
     pub fn rest(&self) -> usize {
-        self.wire.rest.len()
+        self.link.stream.rest.len()
     }
 }
 

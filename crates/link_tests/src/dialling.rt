@@ -155,7 +155,7 @@ fn a_port_that_refuses(rt: HostRuntime) {
 // How the beat ends, with a want and an ok to come, where the call of the stream of this number fails.
 fn failing(alloc: Global, fails: usize) -> Option<Result<bool, DialFault>> {
     let mut desk = greeted(alloc, WANT)?;
-    desk.wire.fails = fails;
+    desk.link.stream.fails = fails;
     desk.dials_text(alloc, BEAT)
 }
 

@@ -139,7 +139,7 @@ fn lines_of(alloc: Global, parts: &[Part], comes: bool) -> Result<String, AllocE
 
 // Whether this is left, and the other end is known once its hello, the first line that comes, is whole.
 fn is_left(alloc: Global, desk: &Desk<'_>, left: &Left, other: &str) -> bool {
-    desk.wire.taken.as_slice() == left.out.as_slice()
+    desk.link.stream.taken.as_slice() == left.out.as_slice()
         && desk.calls() == left.port_calls
         && desk.knows(alloc, other, 1) == (left.lines > 0)
 }
@@ -174,7 +174,7 @@ fn is_accepted_up_to(alloc: Global, fails: usize) -> Result<bool, AllocError> {
     let out = lines_of(alloc, &ACCEPTED, false)?;
     let bytes = lines.as_bytes();
     let mut desk = at_a(alloc, bytes).ok_or(AllocError)?;
-    desk.wire.fails = fails;
+    desk.link.stream.fails = fails;
     let end = accepts_on(alloc, &mut desk);
     let Some(left) = left_at(alloc, &ACCEPTED, fails)? else {
         return Ok(end == Ok(false) && desk.wrote(out.as_str()) && desk.calls() == 8);
@@ -194,7 +194,7 @@ fn is_accepted_up_to(alloc: Global, fails: usize) -> Result<bool, AllocError> {
 fn is_dialled_up_to(alloc: Global, fails: usize) -> Result<bool, AllocError> {
     let lines = lines_of(alloc, &DIALLED, true)?;
     let mut desk = at_b(alloc, lines.as_bytes()).ok_or(AllocError)?;
-    desk.wire.fails = fails;
+    desk.link.stream.fails = fails;
     let end = dials_on(alloc, &mut desk);
     let Some(left) = left_at(alloc, &DIALLED, fails)? else {
         let out = lines_of(alloc, &DIALLED, false)?;

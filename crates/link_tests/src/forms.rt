@@ -187,7 +187,7 @@ fn hellos_of_a_dialling_end(rt: HostRuntime) {
     let Some(desk) = at_a(alloc, b"") else {
         return assert!(rt; false);
     };
-    let hello = encode_line(alloc, &desk.peer.hello()).ok();
+    let hello = encode_line(alloc, &desk.link.peer.hello()).ok();
     let wanted = Some(r#"["hello","a",1,2,2]"#);
     assert!(rt; hello.as_ref().map(|text| text.as_str()) == wanted);
     assert!(rt; next_form(Form::Two, Form::Two) == Form::One);

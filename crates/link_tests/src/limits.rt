@@ -162,7 +162,7 @@ fn goes_out(alloc: Global, from: Much, all: Much, calls: &[Call]) -> Option<usiz
     if desk.dials_text(alloc, BEAT) != Some(Ok(false)) || !desk.asked(calls) {
         return None;
     }
-    desk.wire.taken.len().checked_sub(SENT.len())
+    desk.link.stream.taken.len().checked_sub(SENT.len())
 }
 
 const FROM: [Call; 1] = [Call::ToldFrom(0, 1)];
@@ -210,7 +210,7 @@ fn goes_out_of_all(alloc: Global, all: Much) -> Option<(usize, usize)> {
     if desk.dials_text(alloc, BEAT) != Some(Ok(false)) {
         return None;
     }
-    let bytes = desk.wire.taken.len().checked_sub(SENT.len())?;
+    let bytes = desk.link.stream.taken.len().checked_sub(SENT.len())?;
     Some((bytes, desk.rest()))
 }
 
@@ -231,7 +231,7 @@ fn beat_goes_out(alloc: Global, things: u64) -> Option<(Result<bool, DialFault>,
     }
     let beat = beat_line(alloc, 2, counted_told(alloc, things, Form::One))?;
     let end = desk.dials(alloc, &beat);
-    Some((end, desk.wire.taken.len()))
+    Some((end, desk.link.stream.taken.len()))
 }
 
 #[test]

@@ -2,7 +2,7 @@
 use crate::counted::{counted_told, rows_told};
 use node_links::{ActFault, Hearer, Line, LinkPort, decode_line};
 use orswot_core::{Form, RawRow, RawTold, Told};
-use presence_base::{Dot, NodeName, Replica};
+use presence_base::{Dot, Meta, NodeName, Replica};
 use replica_status::Status;
 use serde_json::Value;
 use std::alloc::{AllocError, Global};
@@ -96,6 +96,9 @@ fn long_row(alloc: Global, replica: &Replica, count: u64, meta: &str) -> Option<
         return None;
     };
     let Ok(meta) = Value::from_str(alloc, meta) else {
+        return None;
+    };
+    let Ok(meta) = Meta::new(alloc, meta) else {
         return None;
     };
     let row = RawRow {

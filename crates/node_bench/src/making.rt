@@ -50,7 +50,7 @@ pub fn raw_row(alloc: Global, topic: &str, key: &str) -> Result<RawRow, AllocErr
         topic,
         key,
         pid: 5,
-        meta: Value::Object(Map::new(alloc)),
+        meta: Some(meta(alloc)?),
         prev: None,
     })
 }

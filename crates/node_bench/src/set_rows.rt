@@ -14,7 +14,7 @@ use contexts::ContextCall;
 use deltas::{DeltaCall, Joined};
 use dot_context::Context;
 use generations::Pushed;
-use making::{DeltaOf, Tells};
+use making::{DeltaOf, ToldOf};
 use orswot_core::Orswot;
 use playing::play_all;
 use sets::SetCall;
@@ -69,8 +69,8 @@ fn join_contexts<R: Print + AllocGlobal>(rt: &R) -> io::Result<()> {
 }
 
 // What a node tells of its rows 1 and 2.
-fn first_two() -> Tells {
-    Tells {
+fn first_two() -> ToldOf {
+    ToldOf {
         ranges: &[(0, 2)],
         extras: &[],
         live: &[(0, 2)],
@@ -78,8 +78,8 @@ fn first_two() -> Tells {
 }
 
 // What it tells of the removal of row 1, by its count 3.
-fn removal() -> Tells {
-    Tells {
+fn removal() -> ToldOf {
+    ToldOf {
         ranges: &[(2, 3)],
         extras: &[1],
         live: &[],
@@ -87,8 +87,8 @@ fn removal() -> Tells {
 }
 
 // All that is told of a set which heard both.
-fn after_both() -> Tells {
-    Tells {
+fn after_both() -> ToldOf {
+    ToldOf {
         ranges: &[(0, 3)],
         extras: &[],
         live: &[(1, 2)],
@@ -162,7 +162,7 @@ fn told(
     extras: &'static [u64],
     live: &'static [(u64, u64)],
 ) -> SetCall {
-    SetCall::Join(Tells {
+    SetCall::Join(ToldOf {
         ranges,
         extras,
         live,

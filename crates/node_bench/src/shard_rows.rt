@@ -10,14 +10,14 @@ mod texts;
 
 use crate::making::{ROOM, replica};
 use calls::Call;
-use making::Tells;
+use making::ToldOf;
 use playing::{play, play_told_from};
 use std::io;
 use tracker_shard::Shard;
 
 // The rows 1 and 2 of `b`.
-fn first_two() -> Tells {
-    Tells {
+fn first_two() -> ToldOf {
+    ToldOf {
         from: 0,
         to: 2,
         extras: &[],
@@ -26,8 +26,8 @@ fn first_two() -> Tells {
 }
 
 // The removal of the row 1, by the count 3.
-fn removal() -> Tells {
-    Tells {
+fn removal() -> ToldOf {
+    ToldOf {
         from: 2,
         to: 3,
         extras: &[1],
@@ -36,8 +36,8 @@ fn removal() -> Tells {
 }
 
 // The row 2 goes, and rows of two topics come above a gap.
-fn of_two_topics() -> Tells {
-    Tells {
+fn of_two_topics() -> ToldOf {
+    ToldOf {
         from: 4,
         to: 6,
         extras: &[2],

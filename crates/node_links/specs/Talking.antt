@@ -16,9 +16,10 @@ use Rattle.node_links_acts.specs.declared.outcome.Act.{Act}
 use Rattle.node_links_acts.specs.declared.port.ActFault.{ActFault}
 use Rattle.node_links_acts.specs.Asks.{Answer, full}
 use Rattle.node_links_acts.specs.Acting.{Steps, Acts}
-use Rattle.node_links.specs.declared.outcome.Outcome.{Outcome}
-use Rattle.node_links.specs.declared.outcome.Outcome.TheVariants.{Done, GivenUp, Untold}
+use Rattle.node_links.specs.declared.outcome.Exchanged.{Exchanged}
+use Rattle.node_links.specs.declared.outcome.Exchanged.TheVariants.{Done, GivenUp, Untold}
 use Rattle.node_links.specs.declared.outcome.Untold.{Untold as UntoldValue}
+use Rattle.node_links.specs.declared.link.Link.{Link}
 use Rattle.node_links.specs.declared.fault.DialFault.{DialFault}
 use Rattle.node_links.specs.declared.fault.DialFault.TheVariants as faults_are
 
@@ -30,6 +31,9 @@ pub record Lent (S P : Type 0) : Type 0 where
 
 abbrev pub lent : {S P : Type 0} → S → PeerValue → P → Lent S P
 lent s p q = record { stream = s; peer = p; port = q }
+
+abbrev pub over : {S P : Type 0} → Link S → P → Lent S P
+over link port = lent link.stream link.peer port
 
 -- the same peer and port with this stream
 abbrev pub at : {S P : Type 0} → S → Lent S P → Lent S P
@@ -184,18 +188,18 @@ WritesGiven {S} out line s s' r = (mid : S) × (w : Result Unit LinkFault) × Wr
     × WritesAgain out line w mid s' r
 
 -- whether the own incarnation is gone at the other end
-abbrev pub outcome_of : Bool → Outcome
+abbrev pub outcome_of : Bool → Exchanged
 outcome_of true = GivenUp
 outcome_of false = Done
 
-abbrev pub ends_with : Result (Option Act) DialFault → Result Outcome DialFault
+abbrev pub ends_with : Result (Option Act) DialFault → Result Exchanged DialFault
 ends_with (Ok None) = Ok Done
 ends_with (Ok (Some act)) = Ok (outcome_of act.given_up)
 ends_with (Err f) = Err f
 
 -- behind a told line that went out one line more is read and heard
 abbrev pub TakesMore : {S P : Type 0} → (S → Known) → Steps P → (P → ℕ) → ℕ → Result (Option UntoldValue) DialFault
-    → Lent S P → Lent S P → Result Outcome DialFault → Type 0
+    → Lent S P → Lent S P → Result Exchanged DialFault → Type 0
 TakesMore left step shards now (Ok None) old new r = (taken : Result (Option Act) DialFault)
     × Takes left step shards now old new taken × (r ≡ ends_with taken)
 TakesMore left step shards now (Ok (Some u)) old new r = (new ≡ old) × (r ≡ Ok (Untold u))
@@ -203,7 +207,7 @@ TakesMore left step shards now (Err f) old new r = (new ≡ old) × (r ≡ Err f
 
 -- this told value goes out, or what stands in its place
 abbrev pub Tells : {S P : Type 0} → (left out : S → Known) → Steps P → (P → ℕ) → ℕ → ℕ × Telling → Lent S P
-    → Lent S P → Result Outcome DialFault → Type 0
+    → Lent S P → Result Exchanged DialFault → Type 0
 Tells {S} {P} left out step shards now told old new r = (s : S) × (q : P) × (w : Result (Option UntoldValue) DialFault)
     × WritesTold out step told.0 told.1 old.stream s old.port q w
     × TakesMore left step shards now w (lent s old.peer q) new r
@@ -218,25 +222,29 @@ told_in None = None
 told_in (Some line) = if_told line
 
 -- where nothing is told: nothing was wanted, or nothing that a line takes
-abbrev pub outcome_without : Bool → Option ℕ → Outcome
+abbrev pub outcome_without : Bool → Option ℕ → Exchanged
 outcome_without true untold = GivenUp
 outcome_without false (Some k) = Untold (uncounted k)
 outcome_without false None = Done
 
-abbrev pub TellsWanted : {S P : Type 0} → (left out : S → Known) → Steps P → (P → ℕ) → ℕ → Outcome
-    → Option (ℕ × Telling) → Lent S P → Lent S P → Result Outcome DialFault → Type 0
+abbrev pub TellsWanted : {S P : Type 0} → (left out : S → Known) → Steps P → (P → ℕ) → ℕ → Exchanged
+    → Option (ℕ × Telling) → Lent S P → Lent S P → Result Exchanged DialFault → Type 0
 TellsWanted left out step shards now else None old new r = (new ≡ old) × (r ≡ Ok else)
 TellsWanted left out step shards now else (Some told) old new r = Tells left out step shards now told old new r
 
-abbrev pub TellsTaken : {S P : Type 0} → (left out : S → Known) → Steps P → (P → ℕ) → ℕ → Result (Option Act) DialFault
-    → Lent S P → Lent S P → Result Outcome DialFault → Type 0
-TellsTaken left out step shards now (Ok None) old new r = (new ≡ old) × (r ≡ Ok Done)
-TellsTaken left out step shards now (Ok (Some act)) old new r =
+abbrev pub TellsAct : {S P : Type 0} → (left out : S → Known) → Steps P → (P → ℕ) → ℕ → Act → Lent S P → Lent S P
+    → Result Exchanged DialFault → Type 0
+TellsAct left out step shards now act old new r =
     TellsWanted left out step shards now (outcome_without act.given_up act.untold) (told_in act.answer) old new r
+
+abbrev pub TellsTaken : {S P : Type 0} → (left out : S → Known) → Steps P → (P → ℕ) → ℕ → Result (Option Act) DialFault
+    → Lent S P → Lent S P → Result Exchanged DialFault → Type 0
+TellsTaken left out step shards now (Ok None) old new r = (new ≡ old) × (r ≡ Ok Done)
+TellsTaken left out step shards now (Ok (Some act)) old new r = TellsAct left out step shards now act old new r
 TellsTaken left out step shards now (Err f) old new r = (new ≡ old) × (r ≡ Err f)
 
 abbrev pub GoesOn : {S P : Type 0} → (left out : S → Known) → Steps P → (P → ℕ) → ℕ → Result Unit LinkFault → Lent S P
-    → Lent S P → Result Outcome DialFault → Type 0
+    → Lent S P → Result Exchanged DialFault → Type 0
 GoesOn {S} {P} left out step shards now (Ok done) old new r = (mid : Lent S P)
     × (taken : Result (Option Act) DialFault)
     × Takes left step shards now old mid taken × TellsTaken left out step shards now taken mid new r
@@ -245,21 +253,21 @@ GoesOn left out step shards now (Err e) old new r = (new ≡ old) × (r ≡ Err 
 -- At the dialling end: the given line goes out, one line is read and acted upon, and where a told value is wanted that
 -- goes out, or all of the shard where that alone fits a line, and one line more is read and acted upon.
 abbrev pub Exchanges : {S P : Type 0} → (left out : S → Known) → Steps P → (P → ℕ) → ℕ → Line → Lent S P → Lent S P
-    → Result Outcome DialFault → Type 0
+    → Result Exchanged DialFault → Type 0
 Exchanges {S} left out step shards now line old new r = (s : S) × (w : Result Unit LinkFault)
     × WritesGiven out line old.stream s w × GoesOn left out step shards now w (at s old) new r
 
 -- whether an exchange came to the own incarnation being gone at the other end
-abbrev pub gives_up : Outcome → Bool
+abbrev pub gives_up : Exchanged → Bool
 gives_up GivenUp = true
 gives_up _ = false
 
-abbrev pub gave_up : Result Outcome DialFault → Result Bool DialFault
+abbrev pub gave_up : Result Exchanged DialFault → Result Bool DialFault
 gave_up (Ok o) = Ok (gives_up o)
 gave_up (Err f) = Err f
 
 -- the same, of which only that is told
 abbrev pub Dials : {S P : Type 0} → (left out : S → Known) → Steps P → (P → ℕ) → ℕ → Line → Lent S P → Lent S P
     → Result Bool DialFault → Type 0
-Dials left out step shards now line old new r = (o : Result Outcome DialFault)
+Dials left out step shards now line old new r = (o : Result Exchanged DialFault)
     × Exchanges left out step shards now line old new o × (r ≡ gave_up o)

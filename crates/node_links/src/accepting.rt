@@ -1,12 +1,12 @@
 //! `accept_one`: an exchange as the end that was dialled.
-ghost use Rattle.node_links.specs.Talking.{WritesAnswer, Accepts, AnswersLine, lent};
+ghost use Rattle.node_links.specs.Talking.{WritesAnswer, Accepts, AnswersLine, over};
 
 use crate::dialling::write_told;
 use crate::fault::DialFault;
 use crate::hearing::{hear, take_one};
+use crate::link::Link;
 use node_links_acts::LinkPort;
 use node_links_lines::Line;
-use node_links_peer::Peer;
 use node_links_streams::write_line;
 use std::alloc::Global;
 use std::io::{Read, Write};
@@ -41,17 +41,16 @@ fn answer<W: Write, P: LinkPort>(
 /// it came of writing, all calls stand, and a part of the answer may have gone out.
 pub fn accept_one<S: Read + Write, P: LinkPort>(
     alloc: Global,
-    stream: &mut S,
-    peer: &mut Peer,
+    link: &mut Link<S>,
     port: &mut P,
     now: u64,
 ) -> Result<bool, DialFault>
     ensures { Accepts S.remaining S.contents P.step P.shard_count now
-        (lent stream.old peer.old port.old) (lent stream.new peer.new port.new) result }
+        (over link.old port.old) (over link.new port.new) result }
 {
-    match take_one(alloc, stream, peer, port, now)? {
+    match take_one(alloc, link, port, now)? {
         Some(act) => {
-            answer(alloc, stream, port, act.answer)?;
+            answer(alloc, &mut link.stream, port, act.answer)?;
             Ok(true)
         },
         None => Ok(false),
@@ -62,15 +61,14 @@ pub fn accept_one<S: Read + Write, P: LinkPort>(
 /// is answered. After a fault the link is to be closed, as behind `accept_one`.
 pub fn answer_line<W: Write, P: LinkPort>(
     alloc: Global,
-    writer: &mut W,
-    peer: &mut Peer,
+    link: &mut Link<W>,
     port: &mut P,
     line: Line,
     now: u64,
 ) -> Result<(), DialFault>
     ensures { AnswersLine W.contents P.step P.shard_count now line
-        (lent writer.old peer.old port.old) (lent writer.new peer.new port.new) result }
+        (over link.old port.old) (over link.new port.new) result }
 {
-    let act = hear(alloc, peer, port, line, now)?;
-    answer(alloc, writer, port, act.answer)
+    let act = hear(alloc, &mut link.peer, port, line, now)?;
+    answer(alloc, &mut link.stream, port, act.answer)
 }

@@ -1,15 +1,15 @@
 //! `dial`: an exchange as the end that dials.
 ghost use Rattle.std.specs.Prelude.{◌≡◌};
 ghost use Rattle.node_links.specs.Talking.{bare as bare_of, outcome_of as outcome, outcome_without as without, beside_in, untold, uncounted as uncounted_of, sent as sent_of, told_in};
-ghost use Rattle.node_links.specs.Talking.{WritesBare, WritesGiven, AsksForAll, WritesTold, Tells, TellsWanted};
-ghost use Rattle.node_links.specs.Talking.{Exchanges, Dials, lent};
+ghost use Rattle.node_links.specs.Talking.{WritesBare, WritesGiven, AsksForAll, WritesTold, Tells, TellsAct};
+ghost use Rattle.node_links.specs.Talking.{Exchanges, Dials, over};
 
 use crate::fault::DialFault;
 use crate::hearing::take_one;
-use crate::outcome::{Outcome, Untold, UntoldSize};
+use crate::link::Link;
+use crate::outcome::{Exchanged, Untold, UntoldSize};
 use node_links_acts::{Act, LinkPort};
 use node_links_lines::{Line, LinkFault, Telling};
-use node_links_peer::Peer;
 use node_links_streams::write_line;
 use orswot_core::{Form, Told};
 use std::alloc::Global;
@@ -64,22 +64,22 @@ fn told_of(answer: Option<Line>) -> Option<(u32, Telling)>
     }
 }
 
-fn outcome_of(given_up: bool) -> Outcome
+fn outcome_of(given_up: bool) -> Exchanged
     ensures { result ≡ outcome given_up }
 {
     if given_up {
-        Outcome::GivenUp
+        Exchanged::GivenUp
     } else {
-        Outcome::Done
+        Exchanged::Done
     }
 }
 
 // Where nothing is told: nothing was wanted, or nothing that a line takes.
-fn outcome_without(given_up: bool, untold: Option<u32>) -> Outcome
+fn outcome_without(given_up: bool, untold: Option<u32>) -> Exchanged
     ensures { result ≡ without given_up untold }
 {
     match untold {
-        Some(shard) if !given_up => Outcome::Untold(uncounted(shard)),
+        Some(shard) if !given_up => Exchanged::Untold(uncounted(shard)),
         _ => outcome_of(given_up),
     }
 }
@@ -168,36 +168,34 @@ pub(crate) fn write_told<W: Write, P: LinkPort>(
 // What is told goes out, and behind it one line more is read and heard.
 fn tell<S: Read + Write, P: LinkPort>(
     alloc: Global,
-    stream: &mut S,
-    peer: &mut Peer,
+    link: &mut Link<S>,
     port: &mut P,
     told: (u32, Telling),
     now: u64,
-) -> Result<Outcome, DialFault>
+) -> Result<Exchanged, DialFault>
     ensures { Tells S.remaining S.contents P.step P.shard_count now told
-        (lent stream.old peer.old port.old) (lent stream.new peer.new port.new) result }
+        (over link.old port.old) (over link.new port.new) result }
 {
     let (shard, told) = told;
-    if let Some(untold) = write_told(alloc, stream, port, shard, told)? {
-        return Ok(Outcome::Untold(untold));
+    if let Some(untold) = write_told(alloc, &mut link.stream, port, shard, told)? {
+        return Ok(Exchanged::Untold(untold));
     }
-    match take_one(alloc, stream, peer, port, now)? {
+    match take_one(alloc, link, port, now)? {
         Some(act) => Ok(outcome_of(act.given_up)),
-        None => Ok(Outcome::Done),
+        None => Ok(Exchanged::Done),
     }
 }
 
 // Of what would be answered a told value alone goes out.
 fn follow<S: Read + Write, P: LinkPort>(
     alloc: Global,
-    stream: &mut S,
-    peer: &mut Peer,
+    link: &mut Link<S>,
     port: &mut P,
     act: Act,
     now: u64,
-) -> Result<Outcome, DialFault>
-    ensures { TellsWanted S.remaining S.contents P.step P.shard_count now (without act.given_up act.untold)
-        (told_in act.answer) (lent stream.old peer.old port.old) (lent stream.new peer.new port.new) result }
+) -> Result<Exchanged, DialFault>
+    ensures { TellsAct S.remaining S.contents P.step P.shard_count now act
+        (over link.old port.old) (over link.new port.new) result }
 {
     let Act {
         answer,
@@ -205,7 +203,7 @@ fn follow<S: Read + Write, P: LinkPort>(
         untold,
     } = act;
     match told_of(answer) {
-        Some(told) => tell(alloc, stream, peer, port, told, now),
+        Some(told) => tell(alloc, link, port, told, now),
         None => Ok(outcome_without(given_up, untold)),
     }
 }
@@ -223,19 +221,18 @@ fn follow<S: Read + Write, P: LinkPort>(
 /// is whole lines, and behind a failed write a part of the last one.
 pub fn exchange<S: Read + Write, P: LinkPort>(
     alloc: Global,
-    stream: &mut S,
-    peer: &mut Peer,
+    link: &mut Link<S>,
     port: &mut P,
     line: &Line,
     now: u64,
-) -> Result<Outcome, DialFault>
+) -> Result<Exchanged, DialFault>
     ensures { Exchanges S.remaining S.contents P.step P.shard_count now line.now
-        (lent stream.old peer.old port.old) (lent stream.new peer.new port.new) result }
+        (over link.old port.old) (over link.new port.new) result }
 {
-    write_given(alloc, stream, line)?;
-    match take_one(alloc, stream, peer, port, now)? {
-        Some(act) => follow(alloc, stream, peer, port, act, now),
-        None => Ok(Outcome::Done),
+    write_given(alloc, &mut link.stream, line)?;
+    match take_one(alloc, link, port, now)? {
+        Some(act) => follow(alloc, link, port, act, now),
+        None => Ok(Exchanged::Done),
     }
 }
 
@@ -243,17 +240,16 @@ pub fn exchange<S: Read + Write, P: LinkPort>(
 /// end.
 pub fn dial<S: Read + Write, P: LinkPort>(
     alloc: Global,
-    stream: &mut S,
-    peer: &mut Peer,
+    link: &mut Link<S>,
     port: &mut P,
     line: &Line,
     now: u64,
 ) -> Result<bool, DialFault>
     ensures { Dials S.remaining S.contents P.step P.shard_count now line.now
-        (lent stream.old peer.old port.old) (lent stream.new peer.new port.new) result }
+        (over link.old port.old) (over link.new port.new) result }
 {
-    match exchange(alloc, stream, peer, port, line, now) {
-        Ok(outcome) => Ok(matches!(outcome, Outcome::GivenUp)),
+    match exchange(alloc, link, port, line, now) {
+        Ok(outcome) => Ok(matches!(outcome, Exchanged::GivenUp)),
         Err(fault) => Err(fault),
     }
 }

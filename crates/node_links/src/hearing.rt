@@ -1,7 +1,8 @@
 // Lines that are read and heard.
-ghost use Rattle.node_links.specs.Talking.{Hears, Takes, lent};
+ghost use Rattle.node_links.specs.Talking.{Hears, Takes, over};
 
 use crate::fault::DialFault;
+use crate::link::Link;
 use node_links_acts::{Act, LinkPort, act};
 use node_links_lines::Line;
 use node_links_peer::Peer;
@@ -26,16 +27,15 @@ pub(crate) fn hear<P: LinkPort>(
 // One line is read and heard, or none at an end between lines.
 pub(crate) fn take_one<S: Read, P: LinkPort>(
     alloc: Global,
-    stream: &mut S,
-    peer: &mut Peer,
+    link: &mut Link<S>,
     port: &mut P,
     now: u64,
 ) -> Result<Option<Act>, DialFault>
     ensures { Takes S.remaining P.step P.shard_count now
-        (lent stream.old peer.old port.old) (lent stream.new peer.new port.new) result }
+        (over link.old port.old) (over link.new port.new) result }
 {
-    let Some(line) = read_line(alloc, stream, peer.hearer())? else {
+    let Some(line) = read_line(alloc, &mut link.stream, link.peer.hearer())? else {
         return Ok(None);
     };
-    Ok(Some(hear(alloc, peer, port, line, now)?))
+    Ok(Some(hear(alloc, &mut link.peer, port, line, now)?))
 }

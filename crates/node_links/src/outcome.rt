@@ -17,7 +17,7 @@ pub struct Untold {
 
 /// What an exchange at the end that dialled comes to.
 #[derive(Clone, Copy, PartialEq, Eq, Debug)]
-pub enum Outcome {
+pub enum Exchanged {
     Done,
     /// This node's own incarnation is gone at the other end.
     GivenUp,

@@ -1,6 +1,7 @@
 //! What the tests give the pool.
 ghost use Rattle.std.specs.Prelude.{◌≡◌, IfSome};
 
+use crate::scene::Scene;
 use presence_base::{Key, Meta, NodeName, Replica, Topic};
 use serde_json::Value;
 use shard_pool::{Gate, Lane, Pool, Seat};
@@ -36,13 +37,12 @@ pub fn replica(alloc: Global, name: &str) -> Option<Replica>
 
 /// Tracks a key of session 1 on a topic: the shard, and the number of the entry.
 pub fn track<G: Gate, A: Lane, B: Lane, C: Lane, D: Lane, R: Wait>(
-    rt: &R,
-    alloc: Global,
-    pool: &Pool<G, A, B, C, D>,
+    scene: Scene<'_, R, G, A, B, C, D>,
     seat: &mut Seat<A, B, C, D>,
     room: &str,
     name: &str,
 ) -> Option<(u32, u64)> {
+    let Scene { rt, alloc, pool } = scene;
     let topic = topic(alloc, room)?;
     let key = key(alloc, name)?;
     let meta = meta(alloc)?;
@@ -59,6 +59,7 @@ pub fn tracked_at<G: Gate, A: Lane, B: Lane, C: Lane, D: Lane, R: Wait>(
     room: &str,
 ) -> Option<u32> {
     let mut seat = seat;
-    let (shard, _number) = track(rt, alloc, pool, &mut seat, room, "u1")?;
+    let scene = Scene { rt, alloc, pool };
+    let (shard, _number) = track(scene, &mut seat, room, "u1")?;
     Some(shard)
 }

@@ -3,8 +3,10 @@
 
 mod desk;
 mod gate;
+mod scene;
 mod tellings;
 
 pub use desk::{key, meta, replica, topic, track, tracked_at};
 pub use gate::Crossing;
+pub use scene::{Blanks, Scene};
 pub use tellings::{first_removed, two_rows};

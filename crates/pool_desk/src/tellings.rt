@@ -1,6 +1,6 @@
 //! What another node tells the pool.
 use orswot_core_told::{Form, RawRow, RawTold, Told};
-use presence_base::{Dot, Replica};
+use presence_base::{Dot, Meta, Replica};
 use serde_json::{Map, Value};
 use std::alloc::Global;
 
@@ -12,7 +12,7 @@ fn raw_row(alloc: Global, room: &str, key: &str) -> Option<RawRow> {
         topic,
         key,
         pid: 5,
-        meta: Value::Object(Map::new(alloc)),
+        meta: Meta::new(alloc, Value::Object(Map::new(alloc))).ok()?,
         prev: None,
     })
 }

@@ -2,7 +2,7 @@
 ghost use Rattle.std.specs.Prelude.{◌<◌, IfSome};
 
 use orswot_core_told::Form;
-use pool_desk::{topic, track, two_rows};
+use pool_desk::{Scene, topic, track, two_rows};
 use presence_base::Replica;
 use replica_status::Status;
 use shard_pool::{Gate, Lane, Pool, PoolFault, Seat};
@@ -43,27 +43,25 @@ fn shard_of_room<G: Gate, A: Lane, B: Lane, C: Lane, D: Lane>(
 }
 
 fn subscribed<G: Gate, A: Lane, B: Lane, C: Lane, D: Lane, R: Wait>(
-    rt: &R,
-    alloc: Global,
-    pool: &Pool<G, A, B, C, D>,
+    scene: Scene<'_, R, G, A, B, C, D>,
     seat: &mut Seat<A, B, C, D>,
     room: &str,
 ) -> Option<Sub> {
+    let Scene { rt, alloc, pool } = scene;
     let topic = topic(alloc, room)?;
     let reply = pool.subscribe(rt, alloc, seat, &topic).ok()?;
     Some(reply.value)
 }
 
 fn side_of<G: Gate, A: Lane, B: Lane, C: Lane, D: Lane, R: Wait>(
-    rt: &R,
-    alloc: Global,
-    pool: &Pool<G, A, B, C, D>,
+    scene: Scene<'_, R, G, A, B, C, D>,
     shard: u32,
     other: &Replica,
     sub: &Sub,
 ) -> Option<Side>
-    requires { shard < pool.now.shards }
+    requires { shard < scene.pool.now.shards }
 {
+    let Scene { rt, alloc, pool } = scene;
     let live = pool.full(rt, alloc, shard, Form::One).ok()?.live().len();
     let told = pool
         .told_from(rt, alloc, shard, 0, Form::One)
@@ -84,14 +82,13 @@ fn side_of<G: Gate, A: Lane, B: Lane, C: Lane, D: Lane, R: Wait>(
 
 // Makes these calls at a shard.
 fn call_at<G: Gate, A: Lane, B: Lane, C: Lane, D: Lane, R: Wait>(
-    rt: &R,
-    alloc: Global,
-    pool: &Pool<G, A, B, C, D>,
+    scene: Scene<'_, R, G, A, B, C, D>,
     shard: u32,
     other: &Replica,
 ) -> Option<()>
-    requires { shard < pool.now.shards }
+    requires { shard < scene.pool.now.shards }
 {
+    let Scene { rt, alloc, pool } = scene;
     pool.heard(rt, alloc, shard, *other, 0).ok()?;
     pool.tick(rt, alloc, shard, 1).ok()?;
     let rows = two_rows(alloc, other, "room:lobby")?;
@@ -102,29 +99,28 @@ fn call_at<G: Gate, A: Lane, B: Lane, C: Lane, D: Lane, R: Wait>(
 
 // A track in one room, and calls at the shard of another, in which there is a subscriber.
 pub(crate) fn called_apart<G: Gate, A: Lane, B: Lane, C: Lane, D: Lane, R: Wait>(
-    rt: &R,
-    alloc: Global,
-    pool: &Pool<G, A, B, C, D>,
+    scene: Scene<'_, R, G, A, B, C, D>,
     seat: &mut Seat<A, B, C, D>,
     other: &Replica,
     tracked: &str,
     called: &str,
 ) -> Option<Sides> {
+    let Scene { rt, alloc, pool } = scene;
     let silent = shard_of_room(alloc, pool, tracked)?;
     let shard = shard_of_room(alloc, pool, called)?;
-    track(rt, alloc, pool, seat, tracked, "u1")?;
-    let sub = subscribed(rt, alloc, pool, seat, called)?;
-    call_at(rt, alloc, pool, shard, other)?;
+    track(scene, seat, tracked, "u1")?;
+    let sub = subscribed(scene, seat, called)?;
+    call_at(scene, shard, other)?;
     let before = [
-        side_of(rt, alloc, pool, silent, other, &sub)?,
-        side_of(rt, alloc, pool, shard, other, &sub)?,
+        side_of(scene, silent, other, &sub)?,
+        side_of(scene, shard, other, &sub)?,
     ];
     pool.checkpoint(rt, alloc, shard).ok()?;
     pool.permdown(rt, alloc, shard, *other).ok()?;
     pool.trim(rt, seat);
     let after = [
-        side_of(rt, alloc, pool, silent, other, &sub)?,
-        side_of(rt, alloc, pool, shard, other, &sub)?,
+        side_of(scene, silent, other, &sub)?,
+        side_of(scene, shard, other, &sub)?,
     ];
     let receipts = seat.receipts(alloc).ok()?.len();
     Some(Sides {

@@ -4,7 +4,7 @@ ghost use Rattle.presence_journal.specs.Limits.{is_payload};
 
 use crate::answers::{Answered, Called};
 use crate::writing::Written;
-use pool_desk::{key, meta, topic};
+use pool_desk::{Scene, key, meta, topic};
 use presence_base::{Json, Key, Meta, Topic, has_float, is_within_depth};
 use presence_journal::MAX_PAYLOAD_DEPTH;
 use serde_json::Value;
@@ -13,8 +13,9 @@ use std::alloc::Global;
 use std::sync::Wait;
 use tracker_shard::Sub;
 
-// What all calls are made with.
-pub(crate) struct Asking {
+// What all calls are made with, and where.
+struct Asking<'a, R, G: Gate, A: Lane, B: Lane, C: Lane, D: Lane> {
+    scene: Scene<'a, R, G, A, B, C, D>,
     pid: u32,
     topic: Topic,
     key: Key,
@@ -23,9 +24,10 @@ pub(crate) struct Asking {
     ghost sent: { IsTrue (is_payload payload) },
 }
 
-impl Drop for Asking {
+impl<R, G: Gate, A: Lane, B: Lane, C: Lane, D: Lane> Drop for Asking<'_, R, G, A, B, C, D> {
     fn drop(self) {
         let Asking {
+            scene: _,
             pid: _,
             topic,
             key,
@@ -49,11 +51,18 @@ pub(crate) fn payload(alloc: Global) -> Option<Json>
     Some(Json::new(value))
 }
 
-fn asked_with(alloc: Global, pid: u32, name: &str) -> Option<Asking> {
+// Calls of this session, for a key of its own.
+fn asked_with<'a, G: Gate, A: Lane, B: Lane, C: Lane, D: Lane, R>(
+    scene: Scene<'a, R, G, A, B, C, D>,
+    pid: u32,
+) -> Option<Asking<'a, R, G, A, B, C, D>> {
+    let alloc = scene.alloc;
+    let name = format!(in alloc; "u{pid}").ok()?;
     Some(Asking {
+        scene,
         pid,
         topic: topic(alloc, "room:a")?,
-        key: key(alloc, name)?,
+        key: key(alloc, name.as_str())?,
         meta: meta(alloc)?,
         payload: payload(alloc)?,
     })
@@ -82,14 +91,12 @@ fn noted<T: Written + Drop>(
 
 // One of the calls that need no subscriber.
 fn call<G: Gate, A: Lane, B: Lane, C: Lane, D: Lane, R: Wait>(
-    rt: &R,
-    alloc: Global,
-    pool: &Pool<G, A, B, C, D>,
+    asking: &Asking<'_, R, G, A, B, C, D>,
     seat: &mut Seat<A, B, C, D>,
-    asking: &Asking,
     turn: u32,
     answers: &mut Vec<Answered>,
 ) -> Option<()> {
+    let Scene { rt, alloc, pool } = asking.scene;
     let (pid, topic, key) = (u64::from(asking.pid), &asking.topic, &asking.key);
     match turn {
         0 => noted(
@@ -124,14 +131,12 @@ fn call<G: Gate, A: Lane, B: Lane, C: Lane, D: Lane, R: Wait>(
 
 // A take of up to so many items as a round's own calls and those of some others make.
 fn take<G: Gate, A: Lane, B: Lane, C: Lane, D: Lane, R: Wait>(
-    rt: &R,
-    alloc: Global,
-    pool: &Pool<G, A, B, C, D>,
+    asking: &Asking<'_, R, G, A, B, C, D>,
     seat: &mut Seat<A, B, C, D>,
-    asking: &Asking,
     sub: &Sub,
     answers: &mut Vec<Answered>,
 ) -> Option<()> {
+    let Scene { rt, alloc, pool } = asking.scene;
     noted(
         alloc,
         answers,
@@ -142,25 +147,23 @@ fn take<G: Gate, A: Lane, B: Lane, C: Lane, D: Lane, R: Wait>(
 // Ten calls: a subscriber takes the state, and once there are a new row, an update and a shout what waits for it.
 // `twice` has a second track, which is refused, in place of the untrack of one key, and a list in place of a get.
 fn round<G: Gate, A: Lane, B: Lane, C: Lane, D: Lane, R: Wait>(
-    rt: &R,
-    alloc: Global,
-    pool: &Pool<G, A, B, C, D>,
+    asking: &Asking<'_, R, G, A, B, C, D>,
     seat: &mut Seat<A, B, C, D>,
-    asking: &Asking,
     twice: bool,
     answers: &mut Vec<Answered>,
 ) -> Option<()> {
+    let Scene { rt, alloc, pool } = asking.scene;
     let reply = pool.subscribe(rt, alloc, seat, &asking.topic).ok()?;
     let sub: Sub = reply.value;
     noted(alloc, answers, Ok(reply))?;
-    take(rt, alloc, pool, seat, asking, &sub, answers)?;
+    take(asking, seat, &sub, answers)?;
     let (shown, last) = if twice { (2, 0) } else { (3, 5) };
     for turn in [0, 1, shown, 4] {
-        call(rt, alloc, pool, seat, asking, turn, answers)?;
+        call(asking, seat, turn, answers)?;
     }
-    take(rt, alloc, pool, seat, asking, &sub, answers)?;
-    call(rt, alloc, pool, seat, asking, last, answers)?;
-    call(rt, alloc, pool, seat, asking, 6, answers)?;
+    take(asking, seat, &sub, answers)?;
+    call(asking, seat, last, answers)?;
+    call(asking, seat, 6, answers)?;
     noted(
         alloc,
         answers,
@@ -168,33 +171,30 @@ fn round<G: Gate, A: Lane, B: Lane, C: Lane, D: Lane, R: Wait>(
     )
 }
 
-// Two hundred calls, with what came of them and the seat.
+// Two hundred calls of a session, with what came of them and the seat.
 pub(crate) fn calls<G: Gate, A: Lane, B: Lane, C: Lane, D: Lane, R: Wait>(
     rt: &R,
     alloc: Global,
     pool: &Pool<G, A, B, C, D>,
     seat: Seat<A, B, C, D>,
     pid: u32,
-    name: &str,
 ) -> (Option<Called>, Seat<A, B, C, D>) {
     let mut seat = seat;
-    let called = all_called(rt, alloc, pool, &mut seat, pid, name);
+    let called = all_called(Scene { rt, alloc, pool }, &mut seat, pid);
     (called, seat)
 }
 
 fn all_called<G: Gate, A: Lane, B: Lane, C: Lane, D: Lane, R: Wait>(
-    rt: &R,
-    alloc: Global,
-    pool: &Pool<G, A, B, C, D>,
+    scene: Scene<'_, R, G, A, B, C, D>,
     seat: &mut Seat<A, B, C, D>,
     pid: u32,
-    name: &str,
 ) -> Option<Called> {
-    let asking = asked_with(alloc, pid, name)?;
+    let alloc = scene.alloc;
+    let asking = asked_with(scene, pid)?;
     let mut answers = Vec::new(alloc);
     for turn in 0..20 {
         let twice = turn % 2 == 1;
-        round(rt, alloc, pool, seat, &asking, twice, &mut answers)?;
+        round(&asking, seat, twice, &mut answers)?;
     }
     let receipts = seat.receipts(alloc).ok()?;
     Some(Called { answers, receipts })

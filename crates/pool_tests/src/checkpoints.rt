@@ -1,10 +1,9 @@
 //! A checkpoint through the pool: the numbers around it, the receipts from before, and a subscriber from before.
 ghost use Rattle.std.specs.Prelude.{◌<◌};
 
-use pool_desk::{topic, track};
+use pool_desk::{Scene, topic, track};
 use presence_journal::Item;
-use shard_pool::{Lane, NoGate, Pool, Seat, SettleFault, check_receipts};
-use std::alloc::Global;
+use shard_pool::{Lane, NoGate, Seat, SettleFault, check_receipts};
 use std::sync::Wait;
 
 // How the receipts and the journal agree, and how many receipts there are.
@@ -26,13 +25,12 @@ pub(crate) struct Behind {
 
 // How the seat's receipts agree with the journal now.
 fn look_at_receipts<A: Lane, B: Lane, C: Lane, D: Lane, R: Wait>(
-    rt: &R,
-    alloc: Global,
-    pool: &Pool<NoGate, A, B, C, D>,
+    scene: Scene<'_, R, NoGate, A, B, C, D>,
     seat: &Seat<A, B, C, D>,
 ) -> Option<Agreed>
-    requires { 0 < pool.now.shards }
+    requires { 0 < scene.pool.now.shards }
 {
+    let Scene { rt, alloc, pool } = scene;
     let mut journals = Vec::new(alloc);
     journals.push(pool.journal(rt, alloc, 0).ok()?).ok()?;
     let mut all = Vec::new(alloc);
@@ -55,23 +53,22 @@ fn rows_of_state(items: &[Item]) -> Option<usize> {
 
 // A subscription, a take and a track; a checkpoint; a track; and a take.
 pub(crate) fn checkpointed<A: Lane, B: Lane, C: Lane, D: Lane, R: Wait>(
-    rt: &R,
-    alloc: Global,
-    pool: &Pool<NoGate, A, B, C, D>,
+    scene: Scene<'_, R, NoGate, A, B, C, D>,
     seat: &mut Seat<A, B, C, D>,
 ) -> Option<Behind>
-    requires { 0 < pool.now.shards }
+    requires { 0 < scene.pool.now.shards }
 {
+    let Scene { rt, alloc, pool } = scene;
     let topic = topic(alloc, "room:a")?;
     let sub = pool.subscribe(rt, alloc, seat, &topic).ok()?.value;
     pool.take(rt, alloc, seat, &topic, &sub, 256).ok()?;
-    track(rt, alloc, pool, seat, "room:a", "u1")?;
+    track(scene, seat, "room:a", "u1")?;
     pool.checkpoint(rt, alloc, 0).ok()?;
     let start = pool.start_of(rt, 0);
-    let (_shard, number) = track(rt, alloc, pool, seat, "room:a", "u2")?;
-    let before = look_at_receipts(rt, alloc, pool, seat)?;
+    let (_shard, number) = track(scene, seat, "room:a", "u2")?;
+    let before = look_at_receipts(scene, seat)?;
     pool.trim(rt, seat);
-    let trimmed = look_at_receipts(rt, alloc, pool, seat)?;
+    let trimmed = look_at_receipts(scene, seat)?;
     let items = pool.take(rt, alloc, seat, &topic, &sub, 256).ok()?.value;
     Some(Behind {
         start,

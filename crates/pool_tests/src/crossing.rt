@@ -3,13 +3,12 @@ ghost use Rattle.presence_journal.specs.History.{begun};
 ghost use Rattle.std.specs.Prelude.{◌≡◌};
 ghost use Rattle.presence_base.specs.Refs.{IsCount};
 
-use pool_desk::{Crossing, replica, tracked_at};
+use pool_desk::{Blanks, Crossing, replica, tracked_at};
 use presence_base::Replica;
 use shard_pool::{Gate, Lane, Pool};
 use std::alloc::Global;
 use std::marker::Brand;
 use std::sync::Wait;
-use std::sync::ledger::Blank;
 use std::test::Fail;
 use std::thread;
 use std::thread::Threads;
@@ -22,24 +21,25 @@ fn two_shards<
     C: Lane + Send + Sync,
     D: Lane + Send + Sync,
     R: Threads + Wait + Sync,
->(
-    rt: &R,
-    alloc: Global,
-    own: Replica,
-    gate: G,
-    first: Blank,
-    second: Blank,
-    third: Blank,
-    fourth: Blank,
-) -> Option<(u32, u32)>
+>(rt: &R, alloc: Global, own: Replica, gate: G, blanks: Blanks) -> Option<(u32, u32)>
     requires count { IsCount own.incarnation }
-    requires first { (first.name ≡ A.name) × (first.parts ≡ A.parts) × (first.parts ≡ 2) × (own.name ≡ A.node) }
-    requires second { (second.name ≡ B.name) × (second.parts ≡ B.parts) × (second.parts ≡ 2) × (own.name ≡ B.node) }
-    requires third { (third.name ≡ C.name) × (third.parts ≡ C.parts) × (third.parts ≡ 2) × (own.name ≡ C.node) }
-    requires fourth { (fourth.name ≡ D.name) × (fourth.parts ≡ D.parts) × (fourth.parts ≡ 2) × (own.name ≡ D.node) }
+    requires first { (blanks.first.name ≡ A.name) × (blanks.first.parts ≡ A.parts) × (blanks.first.parts ≡ 2)
+        × (own.name ≡ A.node) }
+    requires second { (blanks.second.name ≡ B.name) × (blanks.second.parts ≡ B.parts) × (blanks.second.parts ≡ 2)
+        × (own.name ≡ B.node) }
+    requires third { (blanks.third.name ≡ C.name) × (blanks.third.parts ≡ C.parts) × (blanks.third.parts ≡ 2)
+        × (own.name ≡ C.node) }
+    requires fourth { (blanks.fourth.name ≡ D.name) × (blanks.fourth.parts ≡ D.parts) × (blanks.fourth.parts ≡ 2)
+        × (own.name ≡ D.node) }
     requires begins { (A.begins (begun own)) × (B.begins (begun own)) × (C.begins (begun own))
         × (D.begins (begun own)) }
 {
+    let Blanks {
+        first,
+        second,
+        third,
+        fourth,
+    } = blanks;
     let started = Pool::<G, A, B, C, D>::start(
         alloc, own, 2, 2, gate, first, second, third, fourth,
     );
@@ -63,16 +63,7 @@ fn crossed<G: Gate + Drop + Sync, R: Threads + Wait + Sync>(
     gate: G,
 ) -> Option<(u32, u32)> {
     let own = replica(alloc, "a")?;
-    two_shards::<G, Brand, Brand, Brand, Brand, R>(
-        rt,
-        alloc,
-        own,
-        gate,
-        Blank::new(2),
-        Blank::new(2),
-        Blank::new(2),
-        Blank::new(2),
-    )
+    two_shards::<G, Brand, Brand, Brand, Brand, R>(rt, alloc, own, gate, Blanks::new(2))
 }
 
 #[test]

@@ -1,10 +1,9 @@
 //! What a subscriber of the pool is told of the rows of another node that is heard, silent, heard again and gone.
 
-use pool_desk::{first_removed, topic, two_rows};
+use pool_desk::{Scene, first_removed, topic, two_rows};
 use presence_base::{Dot, Replica, Row, Topic};
 use presence_journal::Item;
-use shard_pool::{Gate, Lane, Pool, Seat};
-use std::alloc::Global;
+use shard_pool::{Gate, Lane, Seat};
 use std::sync::Wait;
 use tracker_shard::Sub;
 
@@ -65,12 +64,11 @@ fn given_by(items: &[Item]) -> Given {
 }
 
 fn act_on<G: Gate, A: Lane, B: Lane, C: Lane, D: Lane, R: Wait>(
-    rt: &R,
-    alloc: Global,
-    pool: &Pool<G, A, B, C, D>,
+    scene: Scene<'_, R, G, A, B, C, D>,
     other: &Replica,
     act: Act,
 ) -> Option<()> {
+    let Scene { rt, alloc, pool } = scene;
     match act {
         Act::Heard(now) => pool.heard(rt, alloc, 0, *other, now).ok(),
         Act::Tick(now) => pool.tick(rt, alloc, 0, now).ok(),
@@ -87,13 +85,12 @@ fn act_on<G: Gate, A: Lane, B: Lane, C: Lane, D: Lane, R: Wait>(
 }
 
 fn take<G: Gate, A: Lane, B: Lane, C: Lane, D: Lane, R: Wait>(
-    rt: &R,
-    alloc: Global,
-    pool: &Pool<G, A, B, C, D>,
+    scene: Scene<'_, R, G, A, B, C, D>,
     seat: &mut Seat<A, B, C, D>,
     topic: &Topic,
     sub: &Sub,
 ) -> Option<Given> {
+    let Scene { rt, alloc, pool } = scene;
     let items = pool.take(rt, alloc, seat, topic, sub, 256).ok()?.value;
     Some(given_by(items.as_slice()))
 }
@@ -103,22 +100,21 @@ pub(crate) type Told = &'static [(Act, Given)];
 
 // How many of these go as they say, behind a subscription and a take of the state without rows.
 pub(crate) fn told<G: Gate, A: Lane, B: Lane, C: Lane, D: Lane, R: Wait>(
-    rt: &R,
-    alloc: Global,
-    pool: &Pool<G, A, B, C, D>,
+    scene: Scene<'_, R, G, A, B, C, D>,
     seat: &mut Seat<A, B, C, D>,
     other: &Replica,
     acts: Told,
 ) -> Option<usize> {
+    let Scene { rt, alloc, pool } = scene;
     let topic = topic(alloc, "room:lobby")?;
     let sub = pool.subscribe(rt, alloc, seat, &topic).ok()?.value;
-    if take(rt, alloc, pool, seat, &topic, &sub)? != Given::State(NO_ROW) {
+    if take(scene, seat, &topic, &sub)? != Given::State(NO_ROW) {
         return None;
     }
     let mut count: usize = 0;
     for (act, want) in acts {
-        act_on(rt, alloc, pool, other, *act)?;
-        if take(rt, alloc, pool, seat, &topic, &sub)? != *want {
+        act_on(scene, other, *act)?;
+        if take(scene, seat, &topic, &sub)? != *want {
             return Some(count);
         }
         count = count.saturating_add(1);

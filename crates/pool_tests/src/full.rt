@@ -4,12 +4,12 @@ ghost use Rattle.std.specs.Prelude.{◌≡◌, ◌<◌};
 use channel_session_rules::Port;
 use node_links::LinkPort;
 use orswot_core_told::Form;
-use pool_desk::{key, meta, replica, topic, track, two_rows};
+use pool_desk::{Scene, key, meta, replica, topic, track, two_rows};
 use presence_base::{Replica, Topic};
 use presence_node_link_ports::{PoolLinkPort, cut_off, go_on, let_pass};
 use presence_node_ports::PoolPort;
 use replica_status::Status;
-use shard_pool::{Lane, NoGate, Pool, PoolFault, Seat};
+use shard_pool::{Lane, NoGate, PoolFault, Seat};
 use std::alloc::Global;
 use std::sync::Wait;
 
@@ -64,13 +64,12 @@ pub(crate) const fn wanted_behind(shard: usize, asked: Asked) -> Filled {
 
 // How many entries find room in a shard's journal.
 fn fill<R: Wait, A: Lane, B: Lane, C: Lane, D: Lane>(
-    rt: &R,
-    alloc: Global,
-    pool: &Pool<NoGate, A, B, C, D>,
+    scene: Scene<'_, R, NoGate, A, B, C, D>,
     shard: u32,
 ) -> Option<u64>
-    requires { shard < pool.now.shards }
+    requires { shard < scene.pool.now.shards }
 {
+    let Scene { rt, alloc, pool } = scene;
     for count in 0..MANY {
         match pool.tick(rt, alloc, shard, NOW) {
             Ok(()) => {}
@@ -151,14 +150,13 @@ const fn knows(status: Status, other_top: u64, rows: usize) -> Seen {
 
 // A call of a link's port, and what the shards say behind it: the row of this node and what is known of the other one.
 fn ask_by_link<R: Wait, A: Lane, B: Lane, C: Lane, D: Lane>(
-    rt: &R,
-    alloc: Global,
-    pool: &Pool<NoGate, A, B, C, D>,
+    scene: Scene<'_, R, NoGate, A, B, C, D>,
     shard: u32,
     asked: Asked,
 ) -> Option<()>
-    requires { pool.now.shards ≡ 4 }
+    requires { scene.pool.now.shards ≡ 4 }
 {
+    let Scene { rt, alloc, pool } = scene;
     let other = replica(alloc, "b")?;
     let mut port = PoolLinkPort::new(rt, pool, 4);
     let wanted = match asked {
@@ -182,12 +180,11 @@ fn ask_by_link<R: Wait, A: Lane, B: Lane, C: Lane, D: Lane>(
 
 // A call of a session's port, which makes room.
 fn ask_by_session<R: Wait, A: Lane, B: Lane, C: Lane, D: Lane>(
-    rt: &R,
-    alloc: Global,
-    pool: &Pool<NoGate, A, B, C, D>,
+    scene: Scene<'_, R, NoGate, A, B, C, D>,
     seat: &mut Seat<A, B, C, D>,
     asked: (&Topic, Asked),
 ) -> Option<()> {
+    let Scene { rt, alloc, pool } = scene;
     let mut port = PoolPort::new(rt, pool, seat);
     match asked.1 {
         Asked::Track => {
@@ -214,18 +211,17 @@ fn ask_by_session<R: Wait, A: Lane, B: Lane, C: Lane, D: Lane>(
 
 // Asks this of the shard that has the topic.
 fn ask<R: Wait, A: Lane, B: Lane, C: Lane, D: Lane>(
-    rt: &R,
-    alloc: Global,
-    pool: &Pool<NoGate, A, B, C, D>,
+    scene: Scene<'_, R, NoGate, A, B, C, D>,
     seat: &mut Seat<A, B, C, D>,
     asked: (&Topic, Asked),
 ) -> Option<()>
-    requires { pool.now.shards ≡ 4 }
+    requires { scene.pool.now.shards ≡ 4 }
 {
+    let Scene { rt, alloc, pool } = scene;
     let shard = pool.shard_of(asked.0);
     match asked.1 {
         Asked::Heard | Asked::Merge | Asked::PermDown | Asked::Tell => {
-            ask_by_link(rt, alloc, pool, shard, asked.1)
+            ask_by_link(scene, shard, asked.1)
         }
         Asked::Tick => let_pass(rt, alloc, pool, shard, NOW).ok(),
         Asked::Cut => {
@@ -240,29 +236,26 @@ fn ask<R: Wait, A: Lane, B: Lane, C: Lane, D: Lane>(
                 None
             }
         }
-        Asked::List | Asked::Track | Asked::Subscribe => {
-            ask_by_session(rt, alloc, pool, seat, asked)
-        }
+        Asked::List | Asked::Track | Asked::Subscribe => { ask_by_session(scene, seat, asked) }
     }
 }
 
 // Fills the shard that has the room, where a row is and another node was heard, and asks this of it.
 pub(crate) fn ask_when_full<R: Wait, A: Lane, B: Lane, C: Lane, D: Lane>(
-    rt: &R,
-    alloc: Global,
-    pool: &Pool<NoGate, A, B, C, D>,
+    scene: Scene<'_, R, NoGate, A, B, C, D>,
     seat: &mut Seat<A, B, C, D>,
     asked: (&'static str, Asked),
 ) -> Option<Filled>
-    requires { pool.now.shards ≡ 4 }
+    requires { scene.pool.now.shards ≡ 4 }
 {
+    let Scene { rt, alloc, pool } = scene;
     let topic = topic(alloc, asked.0)?;
     let shard = pool.shard_of(&topic);
-    track(rt, alloc, pool, seat, asked.0, "u1")?;
+    track(scene, seat, asked.0, "u1")?;
     pool.heard(rt, alloc, shard, replica(alloc, "b")?, NOW)
         .ok()?;
-    let entries = fill(rt, alloc, pool, shard)?;
-    ask(rt, alloc, pool, seat, (&topic, asked.1))?;
+    let entries = fill(scene, shard)?;
+    ask(scene, seat, (&topic, asked.1))?;
     let starts = [
         pool.start_of(rt, 0),
         pool.start_of(rt, 1),

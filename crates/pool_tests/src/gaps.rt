@@ -1,11 +1,10 @@
 //! What another node tells late or in order, through the pool, and what the own node then tells.
 
 use orswot_core_told::{Form, Told};
-use pool_desk::{first_removed, topic, track, two_rows};
+use pool_desk::{Scene, first_removed, topic, track, two_rows};
 use presence_base::{Dot, Replica, Row};
 use replica_status::Status;
-use shard_pool::{Gate, Lane, Pool, Seat};
-use std::alloc::Global;
+use shard_pool::{Gate, Lane, Seat};
 use std::sync::Wait;
 
 // Up to which count the other node is covered, and the rows of the lobby: how many, and the first one's count.
@@ -52,12 +51,11 @@ pub(crate) struct Played {
 
 // What the pool shows now.
 fn look<G: Gate, A: Lane, B: Lane, C: Lane, D: Lane, R: Wait>(
-    rt: &R,
-    alloc: Global,
-    pool: &Pool<G, A, B, C, D>,
+    scene: Scene<'_, R, G, A, B, C, D>,
     seat: &mut Seat<A, B, C, D>,
     other: &Replica,
 ) -> Option<Shown> {
+    let Scene { rt, alloc, pool } = scene;
     let topic = topic(alloc, "room:lobby")?;
     let rows = pool.list(rt, alloc, seat, &topic).ok()?.value;
     let first = match rows.as_slice().first() {
@@ -85,11 +83,10 @@ fn live_of(rows: &[(Dot, Row)], other: &Replica) -> Live {
 
 // Cuts a delta of the own node.
 fn cut<G: Gate, A: Lane, B: Lane, C: Lane, D: Lane, R: Wait>(
-    rt: &R,
-    alloc: Global,
-    pool: &Pool<G, A, B, C, D>,
+    scene: Scene<'_, R, G, A, B, C, D>,
     other: &Replica,
 ) -> Option<Own> {
+    let Scene { rt, alloc, pool } = scene;
     let delta = pool.cut(rt, alloc, 0).ok()?;
     Some(Own {
         from: delta.from(),
@@ -100,75 +97,71 @@ fn cut<G: Gate, A: Lane, B: Lane, C: Lane, D: Lane, R: Wait>(
 
 // Takes in these in turn, and looks behind each.
 fn merge_both<G: Gate, A: Lane, B: Lane, C: Lane, D: Lane, R: Wait>(
-    rt: &R,
-    alloc: Global,
-    pool: &Pool<G, A, B, C, D>,
+    scene: Scene<'_, R, G, A, B, C, D>,
     seat: &mut Seat<A, B, C, D>,
     other: &Replica,
     first: &Told,
     second: &Told,
 ) -> Option<[Shown; 2]> {
+    let Scene { rt, alloc, pool } = scene;
     pool.merge(rt, alloc, 0, first).ok()?;
-    let before = look(rt, alloc, pool, seat, other)?;
+    let before = look(scene, seat, other)?;
     pool.merge(rt, alloc, 0, second).ok()?;
-    let after = look(rt, alloc, pool, seat, other)?;
+    let after = look(scene, seat, other)?;
     Some([before, after])
 }
 
 // Takes in both tellings of the other node, once it is heard, the second one first where it is late.
 fn tell<G: Gate, A: Lane, B: Lane, C: Lane, D: Lane, R: Wait>(
-    rt: &R,
-    alloc: Global,
-    pool: &Pool<G, A, B, C, D>,
+    scene: Scene<'_, R, G, A, B, C, D>,
     seat: &mut Seat<A, B, C, D>,
     other: &Replica,
     late: bool,
 ) -> Option<[Shown; 2]> {
+    let Scene { rt, alloc, pool } = scene;
     pool.heard(rt, alloc, 0, *other, 0).ok()?;
     let rows = two_rows(alloc, other, "room:lobby")?;
     let removal = first_removed(alloc, other)?;
     if late {
-        merge_both(rt, alloc, pool, seat, other, &removal, &rows)
+        merge_both(scene, seat, other, &removal, &rows)
     } else {
-        merge_both(rt, alloc, pool, seat, other, &rows, &removal)
+        merge_both(scene, seat, other, &rows, &removal)
     }
 }
 
 // Which live rows a full value of the pool has.
 fn live_rows<G: Gate, A: Lane, B: Lane, C: Lane, D: Lane, R: Wait>(
-    rt: &R,
-    alloc: Global,
-    pool: &Pool<G, A, B, C, D>,
+    scene: Scene<'_, R, G, A, B, C, D>,
     other: &Replica,
 ) -> Option<Live> {
+    let Scene { rt, alloc, pool } = scene;
     let told = pool.full(rt, alloc, 0, Form::One).ok()?;
     Some(live_of(told.live(), other))
 }
 
 // Tells both, and looks on while the other node is gone for good and the own one tracks a row.
 pub(crate) fn watch<G: Gate, A: Lane, B: Lane, C: Lane, D: Lane, R: Wait>(
-    rt: &R,
-    alloc: Global,
-    pool: &Pool<G, A, B, C, D>,
+    scene: Scene<'_, R, G, A, B, C, D>,
     seat: &mut Seat<A, B, C, D>,
     other: &Replica,
     late: bool,
 ) -> Option<Played> {
-    let told = tell(rt, alloc, pool, seat, other, late)?;
-    let live = live_rows(rt, alloc, pool, other)?;
-    let before = cut(rt, alloc, pool, other)?;
+    let Scene { rt, alloc, pool } = scene;
+    let told = tell(scene, seat, other, late)?;
+    let live = live_rows(scene, other)?;
+    let before = cut(scene, other)?;
     pool.permdown(rt, alloc, 0, *other).ok()?;
     let status = pool.status(rt, 0, other);
-    let gone = look(rt, alloc, pool, seat, other)?;
-    track(rt, alloc, pool, seat, "room:lobby", "u1")?;
+    let gone = look(scene, seat, other)?;
+    track(scene, seat, "room:lobby", "u1")?;
     Some(Played {
         told,
         live,
         before,
         status,
         gone,
-        tracked: cut(rt, alloc, pool, other)?,
-        again: cut(rt, alloc, pool, other)?,
+        tracked: cut(scene, other)?,
+        again: cut(scene, other)?,
     })
 }
 

@@ -3,9 +3,9 @@ ghost use Rattle.std.specs.Prelude.{◌<◌};
 
 use node_links::{Line, encode_line};
 use orswot_core_told::{Form, Told};
-use pool_desk::{key, topic, track};
+use pool_desk::{Scene, key, topic, track};
 use presence_node_link_ports::{beat_of, fitting_beat};
-use shard_pool::{Lane, NoGate, Pool, Seat};
+use shard_pool::{Lane, NoGate, Seat};
 use std::alloc::Global;
 use std::sync::Wait;
 
@@ -19,13 +19,12 @@ struct Tells {
 
 // What is told from a count on, where it has one range.
 fn told_from<A: Lane, B: Lane, C: Lane, D: Lane, R: Wait>(
-    rt: &R,
-    alloc: Global,
-    pool: &Pool<NoGate, A, B, C, D>,
+    scene: Scene<'_, R, NoGate, A, B, C, D>,
     count: u64,
 ) -> Option<Tells>
-    requires { 0 < pool.now.shards }
+    requires { 0 < scene.pool.now.shards }
 {
+    let Scene { rt, alloc, pool } = scene;
     let told = pool.told_from(rt, alloc, 0, count, Form::One).ok()?;
     match told.ranges() {
         [range] => Some(Tells {
@@ -38,12 +37,11 @@ fn told_from<A: Lane, B: Lane, C: Lane, D: Lane, R: Wait>(
 }
 
 fn untrack<A: Lane, B: Lane, C: Lane, D: Lane, R: Wait>(
-    rt: &R,
-    alloc: Global,
-    pool: &Pool<NoGate, A, B, C, D>,
+    scene: Scene<'_, R, NoGate, A, B, C, D>,
     seat: &mut Seat<A, B, C, D>,
     name: &str,
 ) -> Option<()> {
+    let Scene { rt, alloc, pool } = scene;
     let topic = topic(alloc, "room:a")?;
     let key = key(alloc, name)?;
     pool.untrack(rt, alloc, seat, 1, &topic, &key).ok()?;
@@ -61,12 +59,11 @@ fn is_range(told: &Told, from: u64, to: u64) -> bool {
 
 // Whether both cuts are told in the second form as one range: from a count on, in full, and where a line takes it.
 fn are_told_in_two<A: Lane, B: Lane, C: Lane, D: Lane, R: Wait>(
-    rt: &R,
-    alloc: Global,
-    pool: &Pool<NoGate, A, B, C, D>,
+    scene: Scene<'_, R, NoGate, A, B, C, D>,
 ) -> Option<bool>
-    requires { 0 < pool.now.shards }
+    requires { 0 < scene.pool.now.shards }
 {
+    let Scene { rt, alloc, pool } = scene;
     let form = Form::Two;
     let later = pool.told_from(rt, alloc, 0, 1, form).ok()?;
     let full = pool.full(rt, alloc, 0, form).ok()?;
@@ -99,29 +96,28 @@ pub(crate) struct WhatIsKept {
 
 // A track and a cut, its untrack and a cut, and then a track that no cut told.
 pub(crate) fn kept<A: Lane, B: Lane, C: Lane, D: Lane, R: Wait>(
-    rt: &R,
-    alloc: Global,
-    pool: &Pool<NoGate, A, B, C, D>,
+    scene: Scene<'_, R, NoGate, A, B, C, D>,
     seat: &mut Seat<A, B, C, D>,
 ) -> Option<WhatIsKept>
-    requires { 0 < pool.now.shards }
+    requires { 0 < scene.pool.now.shards }
 {
-    track(rt, alloc, pool, seat, "room:a", "u2")?;
-    let uncut = told_from(rt, alloc, pool, 0)?;
+    let Scene { rt, alloc, pool } = scene;
+    track(scene, seat, "room:a", "u2")?;
+    let uncut = told_from(scene, 0)?;
     pool.cut(rt, alloc, 0).ok()?;
-    untrack(rt, alloc, pool, seat, "u2")?;
+    untrack(scene, seat, "u2")?;
     let cut = pool.cut(rt, alloc, 0).ok()?;
     let beat = beat_of(alloc, 0, &cut, Form::Two).ok()?;
     let fitting = fitting_beat(alloc, 0, &cut, Form::Two).ok()?;
-    let is_so_in_two = are_told_in_two(rt, alloc, pool)?
+    let is_so_in_two = are_told_in_two(scene)?
         && is_worked(alloc, &beat)
         && is_worked(alloc, &fitting);
-    track(rt, alloc, pool, seat, "room:a", "u3")?;
-    let later = told_from(rt, alloc, pool, 1)?;
-    let whole = told_from(rt, alloc, pool, 0)?;
+    track(scene, seat, "room:a", "u3")?;
+    let later = told_from(scene, 1)?;
+    let whole = told_from(scene, 0)?;
     pool.checkpoint(rt, alloc, 0).ok()?;
     pool.trim(rt, seat);
-    let again = told_from(rt, alloc, pool, 1)?;
+    let again = told_from(scene, 1)?;
     Some(WhatIsKept {
         told: [uncut, later, whole, again],
         is_so_in_two,

@@ -4,7 +4,7 @@ ghost use Rattle.std.specs.Prelude.{◌≡◌};
 ghost use Rattle.presence_base.specs.Refs.{IsCount};
 
 use crate::calls::payload;
-use crate::threads::checked;
+use crate::threads::{Flaw, checked};
 use pool_desk::{key, meta, replica, topic};
 use presence_base::{Key, Meta, Replica, Topic};
 use presence_journal::{Item, Journal};
@@ -205,9 +205,9 @@ fn seen_of<L: Lane>(
     Some(Seen {
         came,
         receipts: [a.len(), b.len()],
-        whole: checked(alloc, all, a, b, None, false)?,
-        renumbered: checked(alloc, all, a, b, Some(9), false),
-        removed: checked(alloc, all, a, b, None, true),
+        whole: checked(alloc, all, a, b, None)?,
+        renumbered: checked(alloc, all, a, b, Some(Flaw::Renumbered(9))),
+        removed: checked(alloc, all, a, b, Some(Flaw::Removed)),
         entries,
     })
 }

@@ -3,13 +3,12 @@ ghost use Rattle.std.specs.Prelude.{◌≡◌, ◌<◌, ◌≤◌};
 ghost use Rattle.presence_base.specs.Refs.{IsCount};
 ghost use Rattle.presence_journal.specs.History.{begun};
 
-use pool_desk::{replica, topic};
+use pool_desk::{Blanks, replica, topic};
 use presence_base::{Replica, Topic};
 use shard_pool::{Lane, NoGate, Pool, Seat};
 use std::alloc::Global;
 use std::marker::Brand;
 use std::sync::Wait;
-use std::sync::ledger::Blank;
 use std::test::Fail;
 
 // A list by each seat.
@@ -32,20 +31,27 @@ fn listed_by<A: Lane, B: Lane, C: Lane, D: Lane, R: Wait>(
     alloc: Global,
     own: Replica,
     seats: u32,
-    first: Blank,
-    second: Blank,
-    third: Blank,
-    fourth: Blank,
+    blanks: Blanks,
 ) -> Option<usize>
     requires seats { seats ≤ 64 }
     requires count { IsCount own.incarnation }
-    requires first { (first.name ≡ A.name) × (first.parts ≡ A.parts) × (first.parts ≡ seats) × (own.name ≡ A.node) }
-    requires second { (second.name ≡ B.name) × (second.parts ≡ B.parts) × (second.parts ≡ seats) × (own.name ≡ B.node) }
-    requires third { (third.name ≡ C.name) × (third.parts ≡ C.parts) × (third.parts ≡ seats) × (own.name ≡ C.node) }
-    requires fourth { (fourth.name ≡ D.name) × (fourth.parts ≡ D.parts) × (fourth.parts ≡ seats) × (own.name ≡ D.node) }
+    requires first { (blanks.first.name ≡ A.name) × (blanks.first.parts ≡ A.parts) × (blanks.first.parts ≡ seats)
+        × (own.name ≡ A.node) }
+    requires second { (blanks.second.name ≡ B.name) × (blanks.second.parts ≡ B.parts) × (blanks.second.parts ≡ seats)
+        × (own.name ≡ B.node) }
+    requires third { (blanks.third.name ≡ C.name) × (blanks.third.parts ≡ C.parts) × (blanks.third.parts ≡ seats)
+        × (own.name ≡ C.node) }
+    requires fourth { (blanks.fourth.name ≡ D.name) × (blanks.fourth.parts ≡ D.parts) × (blanks.fourth.parts ≡ seats)
+        × (own.name ≡ D.node) }
     requires begins { (A.begins (begun own)) × (B.begins (begun own)) × (C.begins (begun own))
         × (D.begins (begun own)) }
 {
+    let Blanks {
+        first,
+        second,
+        third,
+        fourth,
+    } = blanks;
     let started = Pool::<NoGate, A, B, C, D>::start(
         alloc, own, 1, seats, NoGate, first, second, third, fourth,
     );
@@ -65,17 +71,7 @@ fn entries_of<R: Wait>(rt: &R, alloc: Global, seats: u32) -> Option<usize>
     requires { seats ≤ 64 }
 {
     let own = replica(alloc, "a")?;
-    let parts = u64::from(seats);
-    listed_by::<Brand, Brand, Brand, Brand, R>(
-        rt,
-        alloc,
-        own,
-        seats,
-        Blank::new(parts),
-        Blank::new(parts),
-        Blank::new(parts),
-        Blank::new(parts),
-    )
+    listed_by::<Brand, Brand, Brand, Brand, R>(rt, alloc, own, seats, Blanks::new(u64::from(seats)))
 }
 
 #[test]

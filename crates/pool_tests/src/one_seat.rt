@@ -13,14 +13,13 @@ use crate::kept_deltas::{WANTED as WANTED_KEPT, WhatIsKept, kept};
 use crate::quiet::{Due, asked_in_turn, wanted as wanted_due};
 use crate::rebirths::{WANTED as WANTED_REBORN, WANTED_REFUSALS, WentOn, reborn, refusals};
 use crate::statuses::{WANTED as WANTED_STATUSES, statuses};
-use pool_desk::{replica, track};
+use pool_desk::{Blanks, Scene, replica, track};
 use presence_base::Replica;
 use replica_status::Status;
 use shard_pool::{Lane, NoGate, Pool, Seat};
 use std::alloc::Global;
 use std::marker::Brand;
 use std::sync::Wait;
-use std::sync::ledger::Blank;
 use std::test::Fail;
 
 // What is done over a pool.
@@ -46,6 +45,13 @@ enum Run {
     Refusals,
 }
 
+// A run, over so many shards.
+#[derive(Clone, Copy)]
+struct Case {
+    shards: u32,
+    run: Run,
+}
+
 // What came of it: the shard of the track.
 #[derive(Clone, Copy, Debug, PartialEq)]
 enum Came {
@@ -64,41 +70,37 @@ enum Came {
 }
 
 fn run_over<A: Lane, B: Lane, C: Lane, D: Lane, R: Wait>(
-    rt: &R,
-    alloc: Global,
-    pool: &Pool<NoGate, A, B, C, D>,
+    scene: Scene<'_, R, NoGate, A, B, C, D>,
     seat: &mut Seat<A, B, C, D>,
     other: &Replica,
-    shards: u32,
-    run: Run,
+    case: Case,
 ) -> Option<Came>
-    requires some { 0 < shards }
-    requires all { shards ≡ pool.now.shards }
+    requires some { 0 < case.shards }
+    requires all { case.shards ≡ scene.pool.now.shards }
 {
+    let Case { shards, run } = case;
     match run {
         Run::Track(room) => {
-            let (shard, _number) = track(rt, alloc, pool, seat, room, "u1")?;
+            let (shard, _number) = track(scene, seat, room, "u1")?;
             Some(Came::Shard(shard))
         }
-        Run::Statuses => Some(Came::Statuses(statuses(rt, alloc, pool, other)?)),
-        Run::Told(acts) => Some(Came::Told(told(rt, alloc, pool, seat, other, acts)?)),
-        Run::Tellings(late) => Some(Came::Tellings(watch(rt, alloc, pool, seat, other, late)?)),
-        Run::Checkpoint => Some(Came::Checkpoint(checkpointed(rt, alloc, pool, seat)?)),
-        Run::Kept => Some(Came::Kept(kept(rt, alloc, pool, seat)?)),
+        Run::Statuses => Some(Came::Statuses(statuses(scene, other)?)),
+        Run::Told(acts) => Some(Came::Told(told(scene, seat, other, acts)?)),
+        Run::Tellings(late) => Some(Came::Tellings(watch(scene, seat, other, late)?)),
+        Run::Checkpoint => Some(Came::Checkpoint(checkpointed(scene, seat)?)),
+        Run::Kept => Some(Came::Kept(kept(scene, seat)?)),
         Run::Apart(tracked, called) => Some(Came::Apart(called_apart(
-            rt, alloc, pool, seat, other, tracked, called,
+            scene, seat, other, tracked, called,
         )?)),
         Run::Fill(room, asked) if shards == 4 => Some(Came::Filled(ask_when_full(
-            rt,
-            alloc,
-            pool,
+            scene,
             seat,
             (room, asked),
         )?)),
         Run::Fill(..) => None,
-        Run::Due => Some(Came::Due(asked_in_turn(rt, alloc, pool, seat)?)),
-        Run::Rebirth if shards == 4 => Some(Came::Rebirth(reborn(rt, alloc, pool, seat)?)),
-        Run::Refusals if shards == 4 => Some(Came::Refusals(refusals(rt, alloc, pool)?)),
+        Run::Due => Some(Came::Due(asked_in_turn(scene, seat)?)),
+        Run::Rebirth if shards == 4 => Some(Came::Rebirth(reborn(scene, seat)?)),
+        Run::Refusals if shards == 4 => Some(Came::Refusals(refusals(scene)?)),
         Run::Rebirth | Run::Refusals => None,
     }
 }
@@ -108,31 +110,50 @@ fn settled_run<A: Lane, B: Lane, C: Lane, D: Lane, R: Wait>(
     rt: &R,
     alloc: Global,
     own: Replica,
-    other: Replica,
-    shards: u32,
-    run: Run,
-    first: Blank,
-    second: Blank,
-    third: Blank,
-    fourth: Blank,
+    case: Case,
+    blanks: Blanks,
 ) -> Option<Came>
-    requires shards { (0 < shards) × (shards ≤ 4) }
+    requires shards { (0 < case.shards) × (case.shards ≤ 4) }
     requires count { IsCount own.incarnation }
-    requires first { (first.name ≡ A.name) × (first.parts ≡ A.parts) × (first.parts ≡ 1) × (own.name ≡ A.node) }
-    requires second { (second.name ≡ B.name) × (second.parts ≡ B.parts) × (second.parts ≡ 1) × (own.name ≡ B.node) }
-    requires third { (third.name ≡ C.name) × (third.parts ≡ C.parts) × (third.parts ≡ 1) × (own.name ≡ C.node) }
-    requires fourth { (fourth.name ≡ D.name) × (fourth.parts ≡ D.parts) × (fourth.parts ≡ 1) × (own.name ≡ D.node) }
+    requires first { (blanks.first.name ≡ A.name) × (blanks.first.parts ≡ A.parts) × (blanks.first.parts ≡ 1)
+        × (own.name ≡ A.node) }
+    requires second { (blanks.second.name ≡ B.name) × (blanks.second.parts ≡ B.parts) × (blanks.second.parts ≡ 1)
+        × (own.name ≡ B.node) }
+    requires third { (blanks.third.name ≡ C.name) × (blanks.third.parts ≡ C.parts) × (blanks.third.parts ≡ 1)
+        × (own.name ≡ C.node) }
+    requires fourth { (blanks.fourth.name ≡ D.name) × (blanks.fourth.parts ≡ D.parts) × (blanks.fourth.parts ≡ 1)
+        × (own.name ≡ D.node) }
     requires begins { (A.begins (begun own)) × (B.begins (begun own)) × (C.begins (begun own))
         × (D.begins (begun own)) }
 {
+    let Blanks {
+        first,
+        second,
+        third,
+        fourth,
+    } = blanks;
     let started = Pool::<NoGate, A, B, C, D>::start(
-        alloc, own, shards, 1, NoGate, first, second, third, fourth,
+        alloc,
+        own,
+        case.shards,
+        1,
+        NoGate,
+        first,
+        second,
+        third,
+        fourth,
     );
     let Ok((pool, mut seats)) = started else {
         return None;
     };
     let mut seat = seats.pop()?;
-    let came = run_over(rt, alloc, &pool, &mut seat, &other, shards, run)?;
+    let other = replica(alloc, "b")?;
+    let scene = Scene {
+        rt,
+        alloc,
+        pool: &pool,
+    };
+    let came = run_over(scene, &mut seat, &other, case)?;
     seats.push(seat).ok()?;
     if pool.settle(rt, alloc, seats).is_err() {
         return None;
@@ -144,19 +165,8 @@ fn outcome_of<R: Wait>(rt: &R, alloc: Global, shards: u32, run: Run) -> Option<C
     requires { (0 < shards) × (shards ≤ 4) }
 {
     let own = replica(alloc, "a")?;
-    let other = replica(alloc, "b")?;
-    settled_run::<Brand, Brand, Brand, Brand, R>(
-        rt,
-        alloc,
-        own,
-        other,
-        shards,
-        run,
-        Blank::new(1),
-        Blank::new(1),
-        Blank::new(1),
-        Blank::new(1),
-    )
+    let case = Case { shards, run };
+    settled_run::<Brand, Brand, Brand, Brand, R>(rt, alloc, own, case, Blanks::new(1))
 }
 
 #[test]

@@ -2,9 +2,8 @@
 //! where the journal is full.
 ghost use Rattle.std.specs.Prelude.{◌<◌};
 
-use pool_desk::{topic, track};
-use shard_pool::{DueFrom, Lane, NoGate, Pool, PoolFault, Seat};
-use std::alloc::Global;
+use pool_desk::{Scene, topic, track};
+use shard_pool::{DueFrom, Lane, NoGate, PoolFault, Seat};
 use std::sync::Wait;
 
 // What was answered, and how many entries the journal had behind it, and bytes of their texts.
@@ -17,13 +16,12 @@ pub(crate) struct Due {
 
 // What is asked for: a checkpoint where so many entries are there, or where the journal is full.
 fn ask<A: Lane, B: Lane, C: Lane, D: Lane, R: Wait>(
-    rt: &R,
-    alloc: Global,
-    pool: &Pool<NoGate, A, B, C, D>,
+    scene: Scene<'_, R, NoGate, A, B, C, D>,
     entries: Option<u64>,
 ) -> Due
-    requires { 0 < pool.now.shards }
+    requires { 0 < scene.pool.now.shards }
 {
+    let Scene { rt, alloc, pool } = scene;
     let made = match entries {
         Some(entries) => pool.checkpoint_where_quiet(
             rt,
@@ -45,24 +43,23 @@ fn ask<A: Lane, B: Lane, C: Lane, D: Lane, R: Wait>(
 
 // A subscription; a take and a track; and a take.
 pub(crate) fn asked_in_turn<A: Lane, B: Lane, C: Lane, D: Lane, R: Wait>(
-    rt: &R,
-    alloc: Global,
-    pool: &Pool<NoGate, A, B, C, D>,
+    scene: Scene<'_, R, NoGate, A, B, C, D>,
     seat: &mut Seat<A, B, C, D>,
 ) -> Option<[Due; 6]>
-    requires { 0 < pool.now.shards }
+    requires { 0 < scene.pool.now.shards }
 {
+    let Scene { rt, alloc, pool } = scene;
     let topic = topic(alloc, "room:a")?;
     let sub = pool.subscribe(rt, alloc, seat, &topic).ok()?.value;
-    let too_few = ask(rt, alloc, pool, Some(3));
-    let behind = ask(rt, alloc, pool, Some(2));
+    let too_few = ask(scene, Some(3));
+    let behind = ask(scene, Some(2));
     pool.take(rt, alloc, seat, &topic, &sub, 256).ok()?;
-    track(rt, alloc, pool, seat, "room:a", "u1")?;
-    let waiting = ask(rt, alloc, pool, Some(1));
-    let not_full = ask(rt, alloc, pool, None);
+    track(scene, seat, "room:a", "u1")?;
+    let waiting = ask(scene, Some(1));
+    let not_full = ask(scene, None);
     pool.take(rt, alloc, seat, &topic, &sub, 256).ok()?;
-    let taken = ask(rt, alloc, pool, Some(4));
-    let begun = ask(rt, alloc, pool, Some(2));
+    let taken = ask(scene, Some(4));
+    let begun = ask(scene, Some(2));
     pool.trim(rt, seat);
     Some([too_few, behind, waiting, not_full, taken, begun])
 }

@@ -1,10 +1,10 @@
 //! Shards of a pool that go on under a higher incarnation, and those that don't.
 ghost use Rattle.std.specs.Prelude.{◌<◌};
 
-use pool_desk::{replica, topic, track};
+use pool_desk::{Scene, replica, topic, track};
 use presence_base::{Dot, Replica, ref_text};
 use presence_journal::Item;
-use shard_pool::{Gate, Lane, Pool, PoolFault, Seat};
+use shard_pool::{Gate, Lane, PoolFault, Seat};
 use std::alloc::Global;
 use std::sync::Wait;
 
@@ -58,17 +58,16 @@ fn is_replaced(items: &[Item], pairs: &[(Dot, Dot)]) -> bool {
 
 // A row is tracked at shard 0, which then goes on as the second incarnation, before the eyes of a subscriber.
 pub(crate) fn reborn<G: Gate, A: Lane, B: Lane, C: Lane, D: Lane, R: Wait>(
-    rt: &R,
-    alloc: Global,
-    pool: &Pool<G, A, B, C, D>,
+    scene: Scene<'_, R, G, A, B, C, D>,
     seat: &mut Seat<A, B, C, D>,
 ) -> Option<WentOn>
-    requires { 1 < pool.now.shards }
+    requires { 1 < scene.pool.now.shards }
 {
+    let Scene { rt, alloc, pool } = scene;
     let topic = topic(alloc, "room:a")?;
     let own = replica(alloc, "a")?;
     let sub = pool.subscribe(rt, alloc, seat, &topic).ok()?.value;
-    track(rt, alloc, pool, seat, "room:a", "u1")?;
+    track(scene, seat, "room:a", "u1")?;
     let _state = pool.take(rt, alloc, seat, &topic, &sub, 256).ok()?;
     let before = pool.incarnation(rt, 0);
     let pairs = pool.rebirth(rt, alloc, 0, 2).ok()?;
@@ -83,13 +82,12 @@ pub(crate) fn reborn<G: Gate, A: Lane, B: Lane, C: Lane, D: Lane, R: Wait>(
 
 // Whether shard 1 can't go on under this incarnation.
 fn is_refused<G: Gate, A: Lane, B: Lane, C: Lane, D: Lane, R: Wait>(
-    rt: &R,
-    alloc: Global,
-    pool: &Pool<G, A, B, C, D>,
+    scene: Scene<'_, R, G, A, B, C, D>,
     incarnation: u64,
 ) -> Option<bool>
-    requires { 1 < pool.now.shards }
+    requires { 1 < scene.pool.now.shards }
 {
+    let Scene { rt, alloc, pool } = scene;
     match pool.rebirth(rt, alloc, 1, incarnation) {
         Ok(_) => Some(false),
         Err(PoolFault::BadIncarnation) => Some(true),
@@ -101,22 +99,21 @@ fn is_refused<G: Gate, A: Lane, B: Lane, C: Lane, D: Lane, R: Wait>(
 pub(crate) const WANTED_REFUSALS: [bool; 5] = [true, true, true, false, true];
 
 pub(crate) fn refusals<G: Gate, A: Lane, B: Lane, C: Lane, D: Lane, R: Wait>(
-    rt: &R,
-    alloc: Global,
-    pool: &Pool<G, A, B, C, D>,
+    scene: Scene<'_, R, G, A, B, C, D>,
 ) -> Option<[bool; 5]>
-    requires { 1 < pool.now.shards }
+    requires { 1 < scene.pool.now.shards }
 {
+    let Scene { rt, alloc, pool } = scene;
     let name = replica(alloc, "a")?.name;
-    let own = is_refused(rt, alloc, pool, 1)?;
-    let too_high = is_refused(rt, alloc, pool, TOO_HIGH)?;
+    let own = is_refused(scene, 1)?;
+    let too_high = is_refused(scene, TOO_HIGH)?;
     let second = Replica {
         name,
         incarnation: 2,
     };
     pool.heard(rt, alloc, 1, second, 0).ok()?;
-    let heard = is_refused(rt, alloc, pool, 2)?;
-    let next = is_refused(rt, alloc, pool, 3)?;
-    let again = is_refused(rt, alloc, pool, 3)?;
+    let heard = is_refused(scene, 2)?;
+    let next = is_refused(scene, 3)?;
+    let again = is_refused(scene, 3)?;
     Some([own, too_high, heard, next, again])
 }

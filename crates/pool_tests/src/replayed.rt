@@ -7,14 +7,13 @@ use crate::answers::Called;
 use crate::calls::calls;
 use crate::replaying::{Counts, seen_of};
 use orswot_core_told::Form;
-use pool_desk::{first_removed, replica, two_rows};
+use pool_desk::{Blanks, first_removed, replica, two_rows};
 use presence_base::Replica;
 use replica_status::Status;
 use shard_pool::{Gate, Lane, NoGate, Pool, Seat};
 use std::alloc::Global;
 use std::marker::Brand;
 use std::sync::Wait;
-use std::sync::ledger::Blank;
 use std::test::Fail;
 use std::thread;
 use std::thread::Threads;
@@ -77,7 +76,7 @@ fn told_beside<
 ) -> (Done<A, B, C, D>, Option<bool>) {
     thread::join(
         rt,
-        move || calls(rt, alloc, pool, seat, 3, "u3"),
+        move || calls(rt, alloc, pool, seat, 3),
         move || tell(rt, alloc, pool, other),
     )
 }
@@ -94,13 +93,13 @@ fn two_beside<
     rt: &R,
     alloc: Global,
     pool: &Pool<G, A, B, C, D>,
-    second: Seat<A, B, C, D>,
-    third: Seat<A, B, C, D>,
+    seats: (Seat<A, B, C, D>, Seat<A, B, C, D>),
     other: &Replica,
 ) -> (Done<A, B, C, D>, (Done<A, B, C, D>, Option<bool>)) {
+    let (second, third) = seats;
     thread::join(
         rt,
-        move || calls(rt, alloc, pool, second, 2, "u2"),
+        move || calls(rt, alloc, pool, second, 2),
         move || told_beside(rt, alloc, pool, third, other),
     )
 }
@@ -122,15 +121,15 @@ fn at_once<
     rt: &R,
     alloc: Global,
     pool: &Pool<G, A, B, C, D>,
-    first: Seat<A, B, C, D>,
-    second: Seat<A, B, C, D>,
-    third: Seat<A, B, C, D>,
+    seats: (Seat<A, B, C, D>, Seat<A, B, C, D>, Seat<A, B, C, D>),
     other: &Replica,
 ) -> AllDone<A, B, C, D> {
+    let (first, second, third) = seats;
+    let others = (second, third);
     thread::join(
         rt,
-        move || calls(rt, alloc, pool, first, 1, "u1"),
-        move || two_beside(rt, alloc, pool, second, third, other),
+        move || calls(rt, alloc, pool, first, 1),
+        move || two_beside(rt, alloc, pool, others, other),
     )
 }
 
@@ -168,25 +167,26 @@ fn three_threads<
     C: Lane + Send + Sync,
     D: Lane + Send + Sync,
     R: Threads + Wait + Sync,
->(
-    rt: &R,
-    alloc: Global,
-    own: Replica,
-    other: Replica,
-    first: Blank,
-    second: Blank,
-    third: Blank,
-    fourth: Blank,
-) -> Option<Counts>
+>(rt: &R, alloc: Global, own: Replica, other: Replica, blanks: Blanks) -> Option<Counts>
     requires count { IsCount own.incarnation }
-    requires first { (first.name ≡ A.name) × (first.parts ≡ A.parts) × (first.parts ≡ 3) × (own.name ≡ A.node) }
-    requires second { (second.name ≡ B.name) × (second.parts ≡ B.parts) × (second.parts ≡ 3) × (own.name ≡ B.node) }
-    requires third { (third.name ≡ C.name) × (third.parts ≡ C.parts) × (third.parts ≡ 3) × (own.name ≡ C.node) }
-    requires fourth { (fourth.name ≡ D.name) × (fourth.parts ≡ D.parts) × (fourth.parts ≡ 3) × (own.name ≡ D.node) }
+    requires first { (blanks.first.name ≡ A.name) × (blanks.first.parts ≡ A.parts) × (blanks.first.parts ≡ 3)
+        × (own.name ≡ A.node) }
+    requires second { (blanks.second.name ≡ B.name) × (blanks.second.parts ≡ B.parts) × (blanks.second.parts ≡ 3)
+        × (own.name ≡ B.node) }
+    requires third { (blanks.third.name ≡ C.name) × (blanks.third.parts ≡ C.parts) × (blanks.third.parts ≡ 3)
+        × (own.name ≡ C.node) }
+    requires fourth { (blanks.fourth.name ≡ D.name) × (blanks.fourth.parts ≡ D.parts) × (blanks.fourth.parts ≡ 3)
+        × (own.name ≡ D.node) }
     requires begins { (A.begins (begun own)) × (B.begins (begun own)) × (C.begins (begun own))
         × (D.begins (begun own)) }
 {
     let again = own;
+    let Blanks {
+        first,
+        second,
+        third,
+        fourth,
+    } = blanks;
     let started = Pool::<NoGate, A, B, C, D>::start(
         alloc, own, 1, 3, NoGate, first, second, third, fourth,
     );
@@ -197,7 +197,7 @@ fn three_threads<
         return None;
     };
     let mut called = Vec::new(alloc);
-    let all = at_once(rt, alloc, &pool, a, b, c, &other);
+    let all = at_once(rt, alloc, &pool, (a, b, c), &other);
     if !keep_all(all, &mut called, &mut seats) {
         return None;
     }
@@ -208,16 +208,7 @@ fn three_threads<
 fn outcome<R: Threads + Wait + Sync>(rt: &R, alloc: Global) -> Option<Counts> {
     let own = replica(alloc, "a")?;
     let other = replica(alloc, "b")?;
-    three_threads::<Brand, Brand, Brand, Brand, R>(
-        rt,
-        alloc,
-        own,
-        other,
-        Blank::new(3),
-        Blank::new(3),
-        Blank::new(3),
-        Blank::new(3),
-    )
+    three_threads::<Brand, Brand, Brand, Brand, R>(rt, alloc, own, other, Blanks::new(3))
 }
 
 // Three times twenty rounds of ten calls, of which each second round has one that is answered by a refusal, and four

@@ -1,9 +1,9 @@
 //! What a pool holds of another replica.
 
+use pool_desk::Scene;
 use presence_base::Replica;
 use replica_status::Status;
-use shard_pool::{Gate, Lane, Pool};
-use std::alloc::Global;
+use shard_pool::{Gate, Lane};
 use std::sync::Wait;
 
 // Heard, silent, silent for too long, heard again, silent for good.
@@ -17,11 +17,10 @@ pub(crate) const WANTED: [Status; 5] = [
 
 // The statuses of another replica after each of these calls.
 pub(crate) fn statuses<G: Gate, A: Lane, B: Lane, C: Lane, D: Lane, R: Wait>(
-    rt: &R,
-    alloc: Global,
-    pool: &Pool<G, A, B, C, D>,
+    scene: Scene<'_, R, G, A, B, C, D>,
     other: &Replica,
 ) -> Option<[Status; 5]> {
+    let Scene { rt, alloc, pool } = scene;
     pool.heard(rt, alloc, 0, *other, 0).ok()?;
     let heard = pool.status(rt, 0, other);
     pool.tick(rt, alloc, 0, 30_000).ok()?;

@@ -3,14 +3,13 @@ ghost use Rattle.presence_journal.specs.History.{begun};
 ghost use Rattle.std.specs.Prelude.{◌≡◌, ◌<◌};
 ghost use Rattle.presence_base.specs.Refs.{IsCount};
 
-use pool_desk::{replica, topic, track};
+use pool_desk::{Blanks, Scene, replica, topic, track};
 use presence_base::Replica;
 use presence_journal::Journal;
 use shard_pool::{Gate, Lane, NoGate, Pool, Receipt, Seat, SettleFault, check_receipts};
 use std::alloc::Global;
 use std::marker::Brand;
 use std::sync::Wait;
-use std::sync::ledger::Blank;
 use std::test::Fail;
 use std::thread;
 use std::thread::Threads;
@@ -28,13 +27,12 @@ struct Seen {
 
 // Tracks a key and lists: whether the list has the key's row.
 fn track_and_list<G: Gate, A: Lane, B: Lane, C: Lane, D: Lane, R: Wait>(
-    rt: &R,
-    alloc: Global,
-    pool: &Pool<G, A, B, C, D>,
+    scene: Scene<'_, R, G, A, B, C, D>,
     seat: &mut Seat<A, B, C, D>,
     name: &str,
 ) -> Option<bool> {
-    track(rt, alloc, pool, seat, "room:a", name)?;
+    let Scene { rt, alloc, pool } = scene;
+    track(scene, seat, "room:a", name)?;
     let topic = topic(alloc, "room:a")?;
     let rows = pool.list(rt, alloc, seat, &topic).ok()?.value;
     Some(rows.as_slice().iter().any(|row| row.1.key.as_str() == name))
@@ -49,7 +47,8 @@ fn work<G: Gate, A: Lane, B: Lane, C: Lane, D: Lane, R: Wait>(
     name: &str,
 ) -> (bool, Seat<A, B, C, D>) {
     let mut seat = seat;
-    let own_row = track_and_list(rt, alloc, pool, &mut seat, name) == Some(true);
+    let scene = Scene { rt, alloc, pool };
+    let own_row = track_and_list(scene, &mut seat, name) == Some(true);
     (own_row, seat)
 }
 
@@ -75,20 +74,27 @@ fn work_both<
     )
 }
 
-// The receipts of both seats, where the second's first one has this number.
+// What is wrong with the receipts of the second seat: the first one has this number, or the last one is missing.
+#[derive(Clone, Copy)]
+pub(crate) enum Flaw {
+    Renumbered(u64),
+    Removed,
+}
+
+// The receipts of both seats, with this flaw.
 fn both(
+    alloc: Global,
     first: Vec<Receipt>,
     second: Vec<Receipt>,
-    alloc: Global,
-    renumbered: Option<u64>,
-    removed: bool,
+    flaw: Option<Flaw>,
 ) -> Option<Vec<Vec<Receipt>>> {
     let mut second = second;
-    if let Some(number) = renumbered {
-        second.first_mut()?.number = number;
-    }
-    if removed {
-        let _ = second.pop()?;
+    match flaw {
+        Some(Flaw::Renumbered(number)) => second.first_mut()?.number = number,
+        Some(Flaw::Removed) => {
+            let _ = second.pop()?;
+        }
+        None => {}
     }
     let mut all = Vec::new(alloc);
     all.push(first).ok()?;
@@ -101,12 +107,11 @@ pub(crate) fn checked(
     journals: &[Journal],
     first: &[Receipt],
     second: &[Receipt],
-    renumbered: Option<u64>,
-    removed: bool,
+    flaw: Option<Flaw>,
 ) -> Option<Result<(), SettleFault>> {
     let first = first.to_vec(alloc).ok()?;
     let second = second.to_vec(alloc).ok()?;
-    let all = both(first, second, alloc, renumbered, removed)?;
+    let all = both(alloc, first, second, flaw)?;
     Some(check_receipts(alloc, journals, all.as_slice()))
 }
 
@@ -168,9 +173,9 @@ fn seen_of(alloc: Global, own_rows: bool, journal: &Journal, copies: &Copies) ->
     let (journals, first, second) = (&copies.journals, &copies.first, &copies.second);
     Some(Seen {
         own_rows,
-        whole: checked(alloc, journals, first, second, None, false)?,
-        renumbered: checked(alloc, journals, first, second, Some(9), false)?,
-        removed: checked(alloc, journals, first, second, None, true)?,
+        whole: checked(alloc, journals, first, second, None)?,
+        renumbered: checked(alloc, journals, first, second, Some(Flaw::Renumbered(9)))?,
+        removed: checked(alloc, journals, first, second, Some(Flaw::Removed))?,
         entries: journal.entries().len(),
         seated: journal
             .entries()
@@ -192,19 +197,26 @@ fn two_threads<
     alloc: Global,
     own: Replica,
     leave_out: bool,
-    first: Blank,
-    second: Blank,
-    third: Blank,
-    fourth: Blank,
+    blanks: Blanks,
 ) -> Option<Result<Seen, SettleFault>>
     requires count { IsCount own.incarnation }
-    requires first { (first.name ≡ A.name) × (first.parts ≡ A.parts) × (first.parts ≡ 2) × (own.name ≡ A.node) }
-    requires second { (second.name ≡ B.name) × (second.parts ≡ B.parts) × (second.parts ≡ 2) × (own.name ≡ B.node) }
-    requires third { (third.name ≡ C.name) × (third.parts ≡ C.parts) × (third.parts ≡ 2) × (own.name ≡ C.node) }
-    requires fourth { (fourth.name ≡ D.name) × (fourth.parts ≡ D.parts) × (fourth.parts ≡ 2) × (own.name ≡ D.node) }
+    requires first { (blanks.first.name ≡ A.name) × (blanks.first.parts ≡ A.parts) × (blanks.first.parts ≡ 2)
+        × (own.name ≡ A.node) }
+    requires second { (blanks.second.name ≡ B.name) × (blanks.second.parts ≡ B.parts) × (blanks.second.parts ≡ 2)
+        × (own.name ≡ B.node) }
+    requires third { (blanks.third.name ≡ C.name) × (blanks.third.parts ≡ C.parts) × (blanks.third.parts ≡ 2)
+        × (own.name ≡ C.node) }
+    requires fourth { (blanks.fourth.name ≡ D.name) × (blanks.fourth.parts ≡ D.parts) × (blanks.fourth.parts ≡ 2)
+        × (own.name ≡ D.node) }
     requires begins { (A.begins (begun own)) × (B.begins (begun own)) × (C.begins (begun own))
         × (D.begins (begun own)) }
 {
+    let Blanks {
+        first,
+        second,
+        third,
+        fourth,
+    } = blanks;
     let started = Pool::<NoGate, A, B, C, D>::start(
         alloc, own, 1, 2, NoGate, first, second, third, fourth,
     );
@@ -229,16 +241,7 @@ fn settled<R: Threads + Wait + Sync>(
     leave_out: bool,
 ) -> Option<Result<Seen, SettleFault>> {
     let own = replica(alloc, "a")?;
-    two_threads::<Brand, Brand, Brand, Brand, R>(
-        rt,
-        alloc,
-        own,
-        leave_out,
-        Blank::new(2),
-        Blank::new(2),
-        Blank::new(2),
-        Blank::new(2),
-    )
+    two_threads::<Brand, Brand, Brand, Brand, R>(rt, alloc, own, leave_out, Blanks::new(2))
 }
 
 // A seat that is left out is missing.

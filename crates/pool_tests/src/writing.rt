@@ -119,19 +119,6 @@ fn told_text(alloc: Global, told: &Told) -> Result<String, AllocError> {
     format!(in alloc; "merge {ranges:?} {extras:?} {live}")
 }
 
-// A track or an update, which this word names.
-fn claim_text(
-    alloc: Global,
-    word: &str,
-    pid: u64,
-    topic: &Topic,
-    key: &Key,
-    meta: &Meta,
-) -> Result<String, AllocError> {
-    let (topic, key, meta) = (topic.as_str(), key.as_str(), meta.text());
-    format!(in alloc; "{word} {pid} {topic:?} {key:?} {meta}")
-}
-
 // A step that names a topic and a key at most, which this word names.
 fn place_text(
     alloc: Global,
@@ -146,6 +133,12 @@ fn place_text(
         None => "",
     };
     format!(in alloc; "{word} {pid:?} {topic:?} {key:?}")
+}
+
+// A track or an update, which has a meta behind its place.
+fn claim_text(alloc: Global, place: &String, meta: &Meta) -> Result<String, AllocError> {
+    let meta = meta.text();
+    format!(in alloc; "{place} {meta}")
 }
 
 fn shout_text(alloc: Global, topic: &Topic, payload: &Payload) -> Result<String, AllocError> {
@@ -177,13 +170,19 @@ fn step_text(alloc: Global, step: &Step) -> Result<String, AllocError> {
             topic,
             key,
             meta,
-        } => claim_text(alloc, "track", *pid, topic, key, meta),
+        } => {
+            let place = place_text(alloc, "track", Some(*pid), topic, Some(key))?;
+            claim_text(alloc, &place, meta)
+        }
         Step::Update {
             pid,
             topic,
             key,
             meta,
-        } => claim_text(alloc, "update", *pid, topic, key, meta),
+        } => {
+            let place = place_text(alloc, "update", Some(*pid), topic, Some(key))?;
+            claim_text(alloc, &place, meta)
+        }
         Step::Shout { topic, payload } => shout_text(alloc, topic, payload),
         Step::Merge { told } => told_text(alloc, told),
         other => plain_step_text(alloc, other),

@@ -4,7 +4,7 @@ use Rattle.presence_node_counts.specs.declared.told.AnswersTold.{AnswersTold}
 use Rattle.presence_node_counts.specs.declared.told.EndsTold.{EndsTold}
 use Rattle.presence_node_counts.specs.declared.told.LinksTold.{LinksTold}
 use Rattle.presence_node_counts.specs.declared.told.ShardsTold.{ShardsTold}
-use Rattle.presence_node_counts.specs.declared.told.Told.{Told}
+use Rattle.presence_node_counts.specs.declared.told.ServerTold.{ServerTold}
 use Rattle.presence_node_counts.specs.Lines.{Naming, with_count, with_named, with_numbered}
 use Rattle.presence_node_tallies.specs.declared.tally.Tally.{Tally}
 
@@ -202,17 +202,17 @@ WANTS = record {
 
 -- Each of these is a text that had `text` already.
 
-abbrev pub taken_behind : List ℕ → Told → List ℕ
+abbrev pub taken_behind : List ℕ → ServerTold → List ℕ
 taken_behind text t =
     with_named (with_count text CONNECTIONS t.connections) DROPPED (
     (codes "handshakes", t.no_room) ∷ (codes "watch", t.unwatched) ∷ (codes "queue", t.queue_full) ∷ [])
 
-abbrev pub waiting_behind : List ℕ → Told → List ℕ
+abbrev pub waiting_behind : List ℕ → ServerTold → List ℕ
 waiting_behind text t =
     with_named (with_count text UNDER_WAY t.under_way)
     GIVEN_UP ((codes "failed", t.failed) ∷ (codes "silent", t.silent) ∷ [])
 
-abbrev pub connections_behind : List ℕ → Told → List ℕ
+abbrev pub connections_behind : List ℕ → ServerTold → List ℕ
 connections_behind text t = waiting_behind (taken_behind text t) t
 
 abbrev pub requests_behind : List ℕ → AnswersTold → List ℕ
@@ -237,16 +237,16 @@ calls_behind text c =
     with_named (with_count (accepted_behind text c) REFUSED c.refused)
     DELIVERIES ((codes "state", c.states) ∷ (codes "diff", c.diffs) ∷ (codes "shout", c.shouts_told) ∷ [])
 
-abbrev pub open_behind : List ℕ → Told → List ℕ
+abbrev pub open_behind : List ℕ → ServerTold → List ℕ
 open_behind text t = with_count (with_count (with_count text SOCKETS t.handed_on) SESSIONS t.sessions) BEGUN t.begun
 
-abbrev pub sessions_behind : List ℕ → Told → List ℕ
+abbrev pub sessions_behind : List ℕ → ServerTold → List ℕ
 sessions_behind text t = calls_behind (with_count (ends_behind (open_behind text t) t.ends) PLACES t.places) t.calls
 
-abbrev pub clients_behind : List ℕ → Told → List ℕ
+abbrev pub clients_behind : List ℕ → ServerTold → List ℕ
 clients_behind text t = sessions_behind (requests_behind (connections_behind text t) t.answers) t
 
-abbrev pub checkpoints_behind : List ℕ → Told → List ℕ
+abbrev pub checkpoints_behind : List ℕ → ServerTold → List ℕ
 checkpoints_behind text t =
     with_named text CHECKPOINTS ((codes "due", t.due_checkpoints) ∷ (codes "full", t.full_checkpoints) ∷ [])
 
@@ -256,7 +256,7 @@ links_up_behind text l = with_count (with_count (with_count text LINKS l.up) CAM
 abbrev pub links_behind : List ℕ → LinksTold → List ℕ
 links_behind text l = with_count (with_count (links_up_behind text l) BEATS l.beats) WANTS l.wants
 
-abbrev pub server_behind : List ℕ → Told → List ℕ
+abbrev pub server_behind : List ℕ → ServerTold → List ℕ
 server_behind text t = checkpoints_behind (clients_behind text t) t
 
 abbrev pub entries_behind : List ℕ → ShardsTold → List ℕ
@@ -290,5 +290,5 @@ abbrev pub nodes_behind : List ℕ → ShardsTold → LinksTold → List ℕ
 nodes_behind text s l = links_behind (shards_behind text s) l
 
 -- all that is told
-abbrev pub metrics_lines : Told → ShardsTold → LinksTold → List ℕ
+abbrev pub metrics_lines : ServerTold → ShardsTold → LinksTold → List ℕ
 metrics_lines t s l = nodes_behind (server_behind [] t) s l

@@ -2,7 +2,7 @@
 use crate::count::Count;
 use crate::ended::Ended;
 use crate::kinds::{Answers, Calls, Ends};
-use crate::told::{EndsTold, Told};
+use crate::told::{EndsTold, ServerTold};
 use presence_node_handshakes::{Answer, GivenUp};
 use presence_node_tallies::Tally;
 
@@ -147,11 +147,11 @@ impl Counts {
     }
 
     /// What was counted. Ends are looked at before what began, so that there are never more of them.
-    pub fn told(&self) -> Told {
+    pub fn told(&self) -> ServerTold {
         let ends = self.ends.told();
         let begun = self.begun.get();
         let calls = self.calls.told();
-        Told {
+        ServerTold {
             connections: self.connections.get(),
             under_way: self.under_way.get(),
             handed_on: self.handed_on.get(),

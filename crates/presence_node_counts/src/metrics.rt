@@ -5,12 +5,12 @@ ghost use Rattle.presence_node_counts.specs.Metrics.{accepted_behind, bytes_behi
 
 use crate::families::*;
 use crate::text::{count_text, named_text, numbered_text};
-use crate::told::{AnswersTold, EndsTold, LinksTold, ShardsTold, Told};
+use crate::told::{AnswersTold, EndsTold, LinksTold, ServerTold, ShardsTold};
 use presence_node_tallies::Tally;
 use std::alloc::{AllocError, Global};
 
 // The connections, and those that were dropped.
-fn taken_text(alloc: Global, text: &mut String, told: &Told) -> Result<(), AllocError>
+fn taken_text(alloc: Global, text: &mut String, told: &ServerTold) -> Result<(), AllocError>
     ensures { Leaves (string_bytes text.new) (taken_behind (string_bytes text.old) told.now) result }
 {
     count_text(alloc, text, &CONNECTIONS, told.connections)?;
@@ -27,7 +27,7 @@ fn taken_text(alloc: Global, text: &mut String, told: &Told) -> Result<(), Alloc
 }
 
 // The requests that have no answer, or none yet.
-fn waiting_text(alloc: Global, text: &mut String, told: &Told) -> Result<(), AllocError>
+fn waiting_text(alloc: Global, text: &mut String, told: &ServerTold) -> Result<(), AllocError>
     ensures { Leaves (string_bytes text.new) (waiting_behind (string_bytes text.old) told.now) result }
 {
     count_text(alloc, text, &UNDER_WAY, told.under_way)?;
@@ -40,7 +40,7 @@ fn waiting_text(alloc: Global, text: &mut String, told: &Told) -> Result<(), All
 }
 
 // The connections, and what became of them.
-fn connections_text(alloc: Global, text: &mut String, told: &Told) -> Result<(), AllocError>
+fn connections_text(alloc: Global, text: &mut String, told: &ServerTold) -> Result<(), AllocError>
     ensures { Leaves (string_bytes text.new) (connections_behind (string_bytes text.old) told.now) result }
 {
     taken_text(alloc, text, told)?;
@@ -132,7 +132,7 @@ fn calls_text(alloc: Global, text: &mut String, calls: &Tally) -> Result<(), All
 }
 
 // The sessions that there are and were.
-fn open_text(alloc: Global, text: &mut String, told: &Told) -> Result<(), AllocError>
+fn open_text(alloc: Global, text: &mut String, told: &ServerTold) -> Result<(), AllocError>
     ensures { Leaves (string_bytes text.new) (open_behind (string_bytes text.old) told.now) result }
 {
     count_text(alloc, text, &SOCKETS, told.handed_on)?;
@@ -141,7 +141,7 @@ fn open_text(alloc: Global, text: &mut String, told: &Told) -> Result<(), AllocE
 }
 
 // The sessions, and what they did.
-fn sessions_text(alloc: Global, text: &mut String, told: &Told) -> Result<(), AllocError>
+fn sessions_text(alloc: Global, text: &mut String, told: &ServerTold) -> Result<(), AllocError>
     ensures { Leaves (string_bytes text.new) (sessions_behind (string_bytes text.old) told.now) result }
 {
     open_text(alloc, text, told)?;
@@ -151,7 +151,7 @@ fn sessions_text(alloc: Global, text: &mut String, told: &Told) -> Result<(), Al
 }
 
 // The clients.
-fn clients_text(alloc: Global, text: &mut String, told: &Told) -> Result<(), AllocError>
+fn clients_text(alloc: Global, text: &mut String, told: &ServerTold) -> Result<(), AllocError>
     ensures { Leaves (string_bytes text.new) (clients_behind (string_bytes text.old) told.now) result }
 {
     connections_text(alloc, text, told)?;
@@ -160,7 +160,7 @@ fn clients_text(alloc: Global, text: &mut String, told: &Told) -> Result<(), All
 }
 
 // The checkpoints, by why they were made.
-fn checkpoints_text(alloc: Global, text: &mut String, told: &Told) -> Result<(), AllocError>
+fn checkpoints_text(alloc: Global, text: &mut String, told: &ServerTold) -> Result<(), AllocError>
     ensures { Leaves (string_bytes text.new) (checkpoints_behind (string_bytes text.old) told.now) result }
 {
     named_text(
@@ -193,7 +193,7 @@ fn links_text(alloc: Global, text: &mut String, links: &LinksTold) -> Result<(),
 }
 
 // The clients, and the checkpoints.
-fn server_text(alloc: Global, text: &mut String, told: &Told) -> Result<(), AllocError>
+fn server_text(alloc: Global, text: &mut String, told: &ServerTold) -> Result<(), AllocError>
     ensures { Leaves (string_bytes text.new) (server_behind (string_bytes text.old) told.now) result }
 {
     clients_text(alloc, text, told)?;
@@ -283,7 +283,7 @@ fn nodes_text(
 /// All of it in Prometheus's text form: its version 0.0.4.
 pub fn metrics_text(
     alloc: Global,
-    told: &Told,
+    told: &ServerTold,
     shards: &ShardsTold,
     links: &LinksTold,
 ) -> Result<String, AllocError>

@@ -32,7 +32,7 @@ pub struct EndsTold {
 
 /// What the server has counted.
 #[derive(Clone, Copy, PartialEq, Eq, Debug)]
-pub struct Told {
+pub struct ServerTold {
     pub connections: u64,
     pub under_way: u64,
     pub handed_on: u64,

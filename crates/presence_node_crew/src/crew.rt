@@ -37,7 +37,7 @@ pub trait Crew<R, T: Tools, D, K> {
 }
 
 /// What the caller's own thread waits for. It crosses to no other thread.
-pub trait Ending<R> {
+pub trait AwaitEnd<R> {
     /// Waits for the end: whether it has come. Where it will never come, the threads go on.
     fn await_end(&self, rt: &R) -> bool;
 }
@@ -157,7 +157,7 @@ pub fn run_crew<R, C, E, T, D, K>(
 where
     R: Threads + Wait + Sync,
     C: Crew<R, T, D, K> + Sync,
-    E: Ending<R>,
+    E: AwaitEnd<R>,
     T: Tools + Send + Drop,
     D: Send + Drop,
     K: Send + Drop,

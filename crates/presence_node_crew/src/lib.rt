@@ -8,5 +8,5 @@
 mod crew;
 mod tools;
 
-pub use crew::{Crew, CrewFault, Ending, Posts, run_crew};
+pub use crew::{AwaitEnd, Crew, CrewFault, Posts, run_crew};
 pub use tools::Tools;

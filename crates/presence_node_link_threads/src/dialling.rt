@@ -5,7 +5,9 @@ use crate::links::{Cuts, Links, Place, Wakes};
 use crate::lives::{given_up, owning};
 use crate::serving::{coming_from, end_of};
 use delta_range::Delta;
-use node_links::{DialFault, End, Line, LinkFault, Outcome, Peer, Untold, exchange, next_form};
+use node_links::{
+    DialFault, End, Exchanged, Line, Link, LinkFault, Peer, Untold, exchange, next_form,
+};
 use orswot_core_told::Form;
 use presence_base::{NodeName, Replica};
 use presence_node_link_ports::{Gate, Lane, Pool, PoolLinkPort, bare_beat, fitting_beat};
@@ -64,10 +66,18 @@ impl Dialler {
     }
 }
 
+// This node, as the threads of its links have it.
+#[derive_where(Clone, Copy)]
+struct Node<'a, R, G: Gate, A: Lane, B: Lane, C: Lane, D: Lane, W> {
+    rt: &'a R,
+    links: &'a Links,
+    pool: &'a Pool<G, A, B, C, D>,
+    wakes: &'a W,
+}
+
 // A link that was dialled.
 struct Dialled<'a, R: Clock> {
-    stream: LinkStream<'a, R>,
-    peer: Peer,
+    link: Link<LinkStream<'a, R>>,
     // The turn of the links in which it was begun.
     turn: u64,
     // When it came up.
@@ -78,14 +88,12 @@ struct Dialled<'a, R: Clock> {
 impl<R: Clock> Drop for Dialled<'_, R> {
     fn drop(self) {
         let Dialled {
-            stream,
-            peer,
+            link,
             turn: _,
             since: _,
             has_stood: _,
         } = self;
-        drop(stream);
-        drop(peer);
+        drop(link);
     }
 }
 
@@ -137,11 +145,8 @@ where
 
 // One exchange: the line goes out, and what comes is done. What the other node stays without is given.
 fn say<R, G, A, B, C, D, W>(
-    rt: &R,
-    links: &Links,
-    pool: &Pool<G, A, B, C, D>,
-    wakes: &W,
-    link: &mut Dialled<'_, R>,
+    node: Node<'_, R, G, A, B, C, D, W>,
+    dialled: &mut Dialled<'_, R>,
     place: Place<'_>,
     line: &Line,
 ) -> Result<Option<Untold>, LinkEnd>
@@ -153,14 +158,19 @@ where
     C: Lane,
     D: Lane,
     W: Wakes,
-    requires { links.now.shards ≡ pool.now.shards }
+    requires { node.links.now.shards ≡ node.pool.now.shards }
 {
+    let Node {
+        rt,
+        links,
+        pool,
+        wakes,
+    } = node;
     let mut port = PoolLinkPort::new(rt, pool, links.shards);
-    port.looks_for(link.peer.own());
+    port.looks_for(dialled.link.peer.own());
     let done = exchange(
         links.alloc,
-        &mut link.stream,
-        &mut link.peer,
+        &mut dialled.link,
         &mut port,
         line,
         links.time(),
@@ -175,10 +185,13 @@ where
         links.tell_odd(rt, place, LinkWarning::OwnCounts);
     }
     match done {
-        Ok(Outcome::Untold(untold)) => Ok(Some(untold)),
-        Ok(Outcome::GivenUp) => Err(given_up(rt, links, pool, wakes, &link.peer.own())),
-        Ok(Outcome::Done) if link.stream.is_ended() => Err(LinkEnd::Closed),
-        Ok(Outcome::Done) => Ok(None),
+        Ok(Exchanged::Untold(untold)) => Ok(Some(untold)),
+        Ok(Exchanged::GivenUp) => {
+            let own = dialled.link.peer.own();
+            Err(given_up(rt, links, pool, wakes, &own))
+        }
+        Ok(Exchanged::Done) if dialled.link.stream.is_ended() => Err(LinkEnd::Closed),
+        Ok(Exchanged::Done) => Ok(None),
         Err(fault) => Err(end_of(links, fault)),
     }
 }
@@ -186,10 +199,7 @@ where
 // A link to the node that is dialled, behind its hello and the first line of this node's life, and who is there. The form is
 // that of this node's hello, and then that of its next one.
 fn link_to<'a, R, G, A, B, C, D, W>(
-    rt: &'a R,
-    links: &'a Links,
-    pool: &Pool<G, A, B, C, D>,
-    wakes: &W,
+    node: Node<'a, R, G, A, B, C, D, W>,
     dialler: &Dialler,
     form: &mut Form,
 ) -> Result<(Dialled<'a, R>, Replica), LinkEnd>
@@ -201,8 +211,9 @@ where
     C: Lane,
     D: Lane,
     W: Wakes,
-    requires { links.now.shards ≡ pool.now.shards }
+    requires { node.links.now.shards ≡ node.pool.now.shards }
 {
+    let (rt, links) = (node.rt, node.links);
     let socket = match reach(rt, dialler) {
         Ok(socket) => socket,
         Err(end) => {
@@ -217,24 +228,24 @@ where
     *form = next_form(links.speaks, speaks);
     let life = links.life(rt);
     let peer = Peer::new(life.own, links.shards, End::Dialling, speaks);
-    let mut link = Dialled {
-        stream,
-        peer: owning(rt, links, pool, peer),
+    let peer = owning(rt, links, node.pool, peer);
+    let mut dialled = Dialled {
+        link: Link { stream, peer },
         turn: life.turn,
         since: time_behind(rt, 0),
         has_stood: false,
     };
-    let hello = link.peer.hello();
-    say(rt, links, pool, wakes, &mut link, dialler.place(), &hello)?;
-    let Some(other) = link.peer.other() else {
+    let hello = dialled.link.peer.hello();
+    say(node, &mut dialled, dialler.place(), &hello)?;
+    let Some(other) = dialled.link.peer.other() else {
         return Err(LinkEnd::Closed);
     };
     *form = links.speaks;
     greeted(&life.own, Some(dialler.name), &other)?;
     if let Some(line) = life.first_line() {
-        let _untold = say(rt, links, pool, wakes, &mut link, dialler.place(), &line)?;
+        let _untold = say(node, &mut dialled, dialler.place(), &line)?;
     }
-    Ok((link, other))
+    Ok((dialled, other))
 }
 
 // Why a link is to end, and the last shard whose beat didn't get through.
@@ -255,11 +266,8 @@ fn beat_for(links: &Links, peer: &Peer, shard: u32, cut: &Delta) -> Line {
 
 // Sends the beats: each goes out whatever came of the one before, as far as the stream stands.
 fn send_all<R, G, A, B, C, D, W>(
-    rt: &R,
-    links: &Links,
-    pool: &Pool<G, A, B, C, D>,
-    wakes: &W,
-    link: &mut Dialled<'_, R>,
+    node: Node<'_, R, G, A, B, C, D, W>,
+    dialled: &mut Dialled<'_, R>,
     place: Place<'_>,
     cuts: &[(u32, Arc<Delta>)],
 ) -> Result<(), Broken>
@@ -271,16 +279,17 @@ where
     C: Lane,
     D: Lane,
     W: Wakes,
-    requires { links.now.shards ≡ pool.now.shards }
+    requires { node.links.now.shards ≡ node.pool.now.shards }
 {
+    let links = node.links;
     let mut broken = None;
     for (shard, cut) in cuts {
-        let beat = beat_for(links, &link.peer, *shard, &**cut);
-        match say(rt, links, pool, wakes, link, place, &beat) {
+        let beat = beat_for(links, &dialled.link.peer, *shard, &**cut);
+        match say(node, dialled, place, &beat) {
             Ok(None) => links.tallies.count_beat(),
             Ok(Some(untold)) => {
                 links.tallies.count_beat();
-                links.tell_odd(rt, place, LinkWarning::Untold(untold));
+                links.tell_odd(node.rt, place, LinkWarning::Untold(untold));
             }
             Err(end) => {
                 broken = Some(behind(broken, end, *shard));
@@ -309,7 +318,7 @@ fn behind(broken: Option<Broken>, end: LinkEnd, shard: u32) -> Broken {
 
 // A link that may be up.
 struct State<'a, R: Clock> {
-    link: Option<Dialled<'a, R>>,
+    dialled: Option<Dialled<'a, R>>,
     // The form of the next hello.
     form: Form,
     // The shard whose beat goes first: the one behind the last that didn't get through.
@@ -321,12 +330,12 @@ struct State<'a, R: Clock> {
 impl<R: Clock> Drop for State<'_, R> {
     fn drop(self) {
         let State {
-            link,
+            dialled,
             form: _,
             first: _,
             was_cut: _,
         } = self;
-        drop(link);
+        drop(dialled);
     }
 }
 
@@ -337,13 +346,13 @@ impl<'a, R: Clock> State<'a, R> {
         R: Wait + Eprint,
     {
         self.was_cut = end == LinkEnd::Stopped;
-        if let Some(link) = &self.link {
+        if let Some(dialled) = &self.dialled {
             links.tallies.count_down();
             if self.was_cut {
-                self.form = link.peer.form().unwrap_or(self.form);
+                self.form = dialled.link.peer.form().unwrap_or(self.form);
             }
         }
-        self.link = None;
+        self.dialled = None;
         links.tell_down(rt, dialler.place(), end);
     }
 
@@ -352,8 +361,8 @@ impl<'a, R: Clock> State<'a, R> {
     where
         R: Wait + Eprint,
     {
-        let is_old = match &self.link {
-            Some(link) => !links.life(rt).is_of(link.turn),
+        let is_old = match &self.dialled {
+            Some(dialled) => !links.life(rt).is_of(dialled.turn),
             None => false,
         };
         if is_old {
@@ -364,15 +373,15 @@ impl<'a, R: Clock> State<'a, R> {
 
     // A link of the first form ends where the other node speaks the second, as this one does: it is dialled in that.
     fn ends_lower(&mut self, links: &Links, dialler: &Dialler) {
-        let Some(link) = &self.link else {
+        let Some(dialled) = &self.dialled else {
             return;
         };
-        let Some(form) = link.peer.form() else {
+        let Some(form) = dialled.link.peer.form() else {
             return;
         };
         if links.dials_higher(dialler.number, form) {
             links.tallies.count_down();
-            self.link = None;
+            self.dialled = None;
             self.form = links.speaks;
         }
     }
@@ -382,15 +391,15 @@ impl<'a, R: Clock> State<'a, R> {
     where
         R: Wait + Eprint,
     {
-        let Some(link) = &mut self.link else {
+        let Some(dialled) = &mut self.dialled else {
             return;
         };
-        let stood = time_behind(rt, link.since).saturating_sub(link.since);
-        if link.has_stood || stood < STANDING_MILLISECONDS {
+        let stood = time_behind(rt, dialled.since).saturating_sub(dialled.since);
+        if dialled.has_stood || stood < STANDING_MILLISECONDS {
             return;
         }
-        link.has_stood = true;
-        let Some(other) = link.peer.other() else {
+        dialled.has_stood = true;
+        let Some(other) = dialled.link.peer.other() else {
             return;
         };
         links.tell_up(rt, dialler.place(), &other, true);
@@ -400,14 +409,7 @@ impl<'a, R: Clock> State<'a, R> {
     }
 
     // The link comes up, if it is not.
-    fn comes<G, A, B, C, D, W>(
-        &mut self,
-        rt: &'a R,
-        links: &'a Links,
-        pool: &Pool<G, A, B, C, D>,
-        wakes: &W,
-        dialler: &Dialler,
-    )
+    fn comes<G, A, B, C, D, W>(&mut self, node: Node<'a, R, G, A, B, C, D, W>, dialler: &Dialler)
     where
         R: Net<Listener = TcpListener, Stream = TcpStream> + Wait + Clock + Print + Eprint,
         G: Gate,
@@ -416,14 +418,15 @@ impl<'a, R: Clock> State<'a, R> {
         C: Lane,
         D: Lane,
         W: Wakes,
-        requires { links.now.shards ≡ pool.now.shards }
+        requires { node.links.now.shards ≡ node.pool.now.shards }
     {
-        if self.link.is_some() {
+        if self.dialled.is_some() {
             return;
         }
-        match link_to(rt, links, pool, wakes, dialler, &mut self.form) {
-            Ok((link, other)) => {
-                self.link = Some(link);
+        let (rt, links) = (node.rt, node.links);
+        match link_to(node, dialler, &mut self.form) {
+            Ok((dialled, other)) => {
+                self.dialled = Some(dialled);
                 links.tallies.count_up();
                 links.tell_up(rt, dialler.place(), &other, false);
             }
@@ -434,10 +437,7 @@ impl<'a, R: Clock> State<'a, R> {
     // The lines go out, if the link is up.
     fn sends<G, A, B, C, D, W>(
         &mut self,
-        rt: &R,
-        links: &Links,
-        pool: &Pool<G, A, B, C, D>,
-        wakes: &W,
+        node: Node<'_, R, G, A, B, C, D, W>,
         dialler: &Dialler,
         cuts: &[(u32, Arc<Delta>)],
     )
@@ -449,24 +449,21 @@ impl<'a, R: Clock> State<'a, R> {
         C: Lane,
         D: Lane,
         W: Wakes,
-        requires { links.now.shards ≡ pool.now.shards }
+        requires { node.links.now.shards ≡ node.pool.now.shards }
     {
-        let Some(link) = &mut self.link else {
+        let Some(dialled) = &mut self.dialled else {
             return;
         };
-        if let Err(broken) = send_all(rt, links, pool, wakes, link, dialler.place(), cuts) {
+        if let Err(broken) = send_all(node, dialled, dialler.place(), cuts) {
             self.first = broken.shard.saturating_add(1);
-            self.goes(rt, links, dialler, broken.end);
+            self.goes(node.rt, node.links, dialler, broken.end);
         }
     }
 
     // The beats of a period go out, first those of the shards that come behind the one that didn't get through last.
     fn beats<G, A, B, C, D, W>(
         &mut self,
-        rt: &'a R,
-        links: &'a Links,
-        pool: &Pool<G, A, B, C, D>,
-        wakes: &W,
+        node: Node<'a, R, G, A, B, C, D, W>,
         dialler: &Dialler,
         cuts: &[(u32, Arc<Delta>)],
     )
@@ -478,29 +475,23 @@ impl<'a, R: Clock> State<'a, R> {
         C: Lane,
         D: Lane,
         W: Wakes,
-        requires { links.now.shards ≡ pool.now.shards }
+        requires { node.links.now.shards ≡ node.pool.now.shards }
     {
+        let (rt, links) = (node.rt, node.links);
         let first = self.first;
         let at = cuts.iter().position(|cut| cut.0 >= first).unwrap_or(0);
         let (later, sooner) = cuts.split_at(at);
         let _ended = self.ends_old(rt, links, dialler);
         self.ends_lower(links, dialler);
-        self.comes(rt, links, pool, wakes, dialler);
-        self.sends(rt, links, pool, wakes, dialler, sooner);
-        self.sends(rt, links, pool, wakes, dialler, later);
+        self.comes(node, dialler);
+        self.sends(node, dialler, sooner);
+        self.sends(node, dialler, later);
         self.stands(rt, links, dialler);
     }
 
     // This node says that it has ended, if the link is up. One that was cut since it stops, or is of an earlier turn, is
     // dialled once more for that.
-    fn leaves<G, A, B, C, D, W>(
-        &mut self,
-        rt: &'a R,
-        links: &'a Links,
-        pool: &Pool<G, A, B, C, D>,
-        wakes: &W,
-        dialler: &Dialler,
-    )
+    fn leaves<G, A, B, C, D, W>(&mut self, node: Node<'a, R, G, A, B, C, D, W>, dialler: &Dialler)
     where
         R: Net<Listener = TcpListener, Stream = TcpStream> + Wait + Clock + Print + Eprint,
         G: Gate,
@@ -509,29 +500,27 @@ impl<'a, R: Clock> State<'a, R> {
         C: Lane,
         D: Lane,
         W: Wakes,
-        requires { links.now.shards ≡ pool.now.shards }
+        requires { node.links.now.shards ≡ node.pool.now.shards }
     {
+        let (rt, links) = (node.rt, node.links);
         let is_old = self.ends_old(rt, links, dialler);
         if self.was_cut || is_old {
-            self.comes(rt, links, pool, wakes, dialler);
+            self.comes(node, dialler);
         }
-        let Some(link) = &mut self.link else {
+        let Some(dialled) = &mut self.dialled else {
             return;
         };
         let line = Line::PermDown {
-            replica: link.peer.own(),
+            replica: dialled.link.peer.own(),
         };
-        let _told = say(rt, links, pool, wakes, link, dialler.place(), &line);
+        let _told = say(node, dialled, dialler.place(), &line);
         self.goes(rt, links, dialler, LinkEnd::Stopped);
     }
 }
 
 // Sends the beats that are posted for the node that is dialled. The link is dialled where it is not up.
-fn send_posted<'a, R, G, A, B, C, D, W>(
-    rt: &'a R,
-    links: &'a Links,
-    pool: &Pool<G, A, B, C, D>,
-    wakes: &W,
+fn send_posted<R, G, A, B, C, D, W>(
+    node: Node<'_, R, G, A, B, C, D, W>,
     dialler: &Dialler,
     mailbox: &Cuts,
 )
@@ -543,10 +532,11 @@ where
     C: Lane,
     D: Lane,
     W: Wakes,
-    requires { links.now.shards ≡ pool.now.shards }
+    requires { node.links.now.shards ≡ node.pool.now.shards }
 {
+    let (rt, links) = (node.rt, node.links);
     let mut state = State {
-        link: None,
+        dialled: None,
         form: links.speaks,
         first: 0,
         was_cut: false,
@@ -557,10 +547,10 @@ where
             break;
         }
         if !cuts.is_empty() {
-            state.beats(rt, links, pool, wakes, dialler, cuts.as_slice());
+            state.beats(node, dialler, cuts.as_slice());
         }
     }
-    state.leaves(rt, links, pool, wakes, dialler);
+    state.leaves(node, dialler);
 }
 
 /// Dials a node and sends it the beats, until the links are to end.
@@ -582,6 +572,12 @@ where
     requires { links.now.shards ≡ pool.now.shards }
 {
     if let Some(mailbox) = links.mailboxes.get(dialler.number) {
-        send_posted(rt, links, pool, wakes, dialler, mailbox);
+        let node = Node {
+            rt,
+            links,
+            pool,
+            wakes,
+        };
+        send_posted(node, dialler, mailbox);
     }
 }

@@ -13,8 +13,8 @@ use std::time::Clock;
 /// How reading a line ends.
 pub(crate) type LineRead = Result<Option<Line>, LinkFault>;
 
-/// Who reads long lines, one at a time. A line may take more than a hundred times its bytes while it is read, and a thread
-/// keeps the memory that it once took, for what it does next: so one does it for all links.
+/// Who reads long lines, one at a time. A line may take a dozen times its bytes while it is read, and a thread keeps the
+/// memory that it once took, for what it does next: so one does it for all links.
 pub(crate) type Reader = Clerk<LineBytes, LineRead>;
 
 /// The bytes of a line as they came, and who hears it.

@@ -6,7 +6,7 @@ use crate::incoming::ANYBODY;
 use crate::links::{Links, Place, Wakes};
 use crate::lives::owning;
 use crate::reading::next_line;
-use node_links::{DialFault, End, Line, LinkFault, LinkPort, Peer, answer_line};
+use node_links::{DialFault, End, Line, Link, LinkFault, LinkPort, Peer, answer_line};
 use presence_base::Replica;
 use presence_node_link_ports::{Gate, Lane, Pool, PoolLinkPort};
 use presence_node_link_streams::{LinkStream, time_behind};
@@ -83,8 +83,7 @@ pub(crate) fn end_of(links: &Links, fault: DialFault) -> LinkEnd {
 
 // A link that came in.
 struct Incoming<'a, R: Clock> {
-    stream: LinkStream<'a, R>,
-    peer: Peer,
+    link: Link<LinkStream<'a, R>>,
     // The turn of the links in which it was begun.
     turn: u64,
     origin: Origin,
@@ -102,8 +101,7 @@ struct Incoming<'a, R: Clock> {
 impl<R: Clock> Drop for Incoming<'_, R> {
     fn drop(self) {
         let Incoming {
-            stream,
-            peer,
+            link,
             turn: _,
             origin,
             is_up: _,
@@ -113,8 +111,7 @@ impl<R: Clock> Drop for Incoming<'_, R> {
             has_stood: _,
             shards,
         } = self;
-        drop(stream);
-        drop(peer);
+        drop(link);
         drop(origin);
         drop(shards);
     }
@@ -126,12 +123,12 @@ impl<'a, R: Clock> Incoming<'a, R> {
     where
         R: Wait + Eprint,
     {
-        greeted(&self.peer.own(), None, other)?;
+        greeted(&self.link.peer.own(), None, other)?;
         if !is_welcome(links.dialled.as_slice(), &other.name) {
             self.names(links, other);
             return Err(LinkEnd::NotAPeer);
         }
-        if let Some(form) = self.peer.form() {
+        if let Some(form) = self.link.peer.form() {
             links.note_form(other.name, form);
         }
         self.begins(rt, links, other);
@@ -168,7 +165,7 @@ impl<'a, R: Clock> Incoming<'a, R> {
         self.number = begun.number;
         self.are_two = begun.are_two;
         if let Some(newest) = links.newest_of(other.name) {
-            self.stream.ends_behind(newest, begun.number);
+            self.link.stream.ends_behind(newest, begun.number);
         }
     }
 
@@ -211,7 +208,7 @@ impl<'a, R: Clock> Incoming<'a, R> {
     where
         R: Wait + Eprint,
     {
-        let Some(other) = self.peer.other() else {
+        let Some(other) = self.link.peer.other() else {
             return Ok(());
         };
         if self.is_up {
@@ -226,7 +223,7 @@ impl<'a, R: Clock> Incoming<'a, R> {
     where
         R: Wait,
     {
-        match self.peer.other() {
+        match self.link.peer.other() {
             Some(other) if self.is_up && links.has_newer(rt, other.name, self.number) => {
                 LinkEnd::Replaced
             }
@@ -245,7 +242,7 @@ impl<'a, R: Clock> Incoming<'a, R> {
         else {
             return false;
         };
-        if self.peer.other() != Some(*replica) || self.shards.contains(shard) {
+        if self.link.peer.other() != Some(*replica) || self.shards.contains(shard) {
             return false;
         }
         let _lost = self.shards.push(*shard);
@@ -261,11 +258,12 @@ impl<'a, R: Clock> Incoming<'a, R> {
         R: Wait,
     {
         if self.is_up {
-            self.stream.awaits_line();
+            self.link.stream.awaits_line();
         } else {
-            self.stream.awaits_hello();
+            self.link.stream.awaits_hello();
         }
-        match next_line(links, &mut self.stream, self.peer.hearer()) {
+        let link = &mut self.link;
+        match next_line(links, &mut link.stream, link.peer.hearer()) {
             Ok(Some(line)) => Ok(line),
             Ok(None) => Err(LinkEnd::Closed),
             Err(fault) => Err(self.unread(rt, links, fault)),
@@ -295,18 +293,11 @@ impl<'a, R: Clock> Incoming<'a, R> {
             return Err(LinkEnd::Reborn);
         }
         let mut port = PoolLinkPort::new(rt, pool, links.shards);
-        port.looks_for(self.peer.own());
+        port.looks_for(self.link.peer.own());
         if self.counts_below(links.alloc, &mut port, &line) {
             links.tell_odd(rt, self.origin.place(), LinkWarning::CountsBelow);
         }
-        let done = answer_line(
-            links.alloc,
-            &mut self.stream,
-            &mut self.peer,
-            &mut port,
-            line,
-            links.time(),
-        );
+        let done = answer_line(links.alloc, &mut self.link, &mut port, line, links.time());
         if port.has_changed() {
             wakes.look();
         }
@@ -362,9 +353,9 @@ where
     };
     let life = links.life(rt);
     let peer = Peer::new(life.own, links.shards, End::Accepting, links.speaks);
+    let peer = owning(rt, links, pool, peer);
     Some(Incoming {
-        stream,
-        peer: owning(rt, links, pool, peer),
+        link: Link { stream, peer },
         turn: life.turn,
         origin,
         is_up: false,

@@ -9,6 +9,10 @@ HaveParts blanks parts =
     (blanks.first.parts ≡ parts) × (blanks.second.parts ≡ parts)
     × (blanks.third.parts ≡ parts) × (blanks.fourth.parts ≡ parts)
 
+-- the name is that of each of the nodes
+abbrev pub IsNameOfAll : (name first second third fourth : List ℕ) → Type 0
+IsNameOfAll name first second third fourth = (name ≡ first) × (name ≡ second) × (name ≡ third) × (name ≡ fourth)
+
 -- each shard may begin as a new one of the replica does
 abbrev pub AreBegun : (First Second Third Fourth : History → Type 0) → List ℕ → ℕ → Type 0
 AreBegun First Second Third Fourth name incarnation =

@@ -17,6 +17,6 @@ pub use ending::{
 };
 // What an ending is of.
 pub use presence_node_stdio::{
-    LocalSession, SessionFault, StdioFault, run_lines, run_stdio, status_of, told_line,
+    LocalSession, Outlets, SessionFault, StdioFault, run_stdio, status_of, told_line,
 };
 pub use running::{run_program, run_program_with, run_with, serve_with};

@@ -13,7 +13,7 @@ use presence_node_notices::ReferenceNotices;
 use presence_node_options::{
     FoldOptions, Options, ServeOptions, StdioOptions, UsageFault, options_of,
 };
-use presence_node_stdio::{run_stdio, status_of};
+use presence_node_stdio::{Outlets, run_stdio, status_of};
 use std::env::Env;
 use std::io;
 use std::io::BufReader;
@@ -31,9 +31,11 @@ fn serve_stdio<R: Input + Print + Eprint + AllocGlobal, H: PresenceHooks>(
 ) -> io::Result<Ending> {
     let alloc = rt.alloc();
     let mut reader = BufReader::new(alloc, rt.reader())?;
-    let mut writer = io::writer(rt);
-    let mut notes = ErrorStream { to: rt };
-    let end = run_stdio(alloc, &mut reader, &mut writer, &mut notes, hooks, options);
+    let mut out = Outlets {
+        texts: io::writer(rt),
+        notes: ErrorStream { to: rt },
+    };
+    let end = run_stdio(alloc, &mut reader, &mut out, hooks, options);
     match stdio_ending(alloc, &end, options.explain) {
         Ok(ending) => Ok(ending),
         Err(_) => Ok(silent(end.err().map_or(2, |fault| status_of(&fault)))),

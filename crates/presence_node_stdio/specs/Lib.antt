@@ -1,4 +1,5 @@
 pub mod Mirrored
 pub mod Run
+pub mod Outlets
 pub mod Session
 pub mod Told

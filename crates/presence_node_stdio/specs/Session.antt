@@ -13,9 +13,10 @@ use Rattle.channel_session.specs.Ran.{RanBy}
 use Rattle.channel_session.specs.Delivery.{Delivery}
 use Rattle.channel_session.specs.declared.fault.SessionFault.{SessionFault}
 use Rattle.channel_session.specs.InForce.{InForce}
-use Rattle.channel_session.specs.Said.{Said, Worded, WritesAll, Noted, NotesAll}
+use Rattle.channel_session.specs.Said.{Said, WritesAll, NotesAll}
 use Rattle.channel_session.specs.Local.{LocalStep, played}
 use Rattle.channel_session.specs.Rules.{End, answers, full, memory, rules}
+use Rattle.channel_session.specs.Wording.{worded_by, noted_by}
 use Rattle.channel_session.specs.declared.fault.SessionFault.TheVariants.{ShardFull, Failed}
 use Rattle.presence_node_lines.specs.Reading.{line_message}
 use Rattle.presence_node_stdio.specs.declared.fault.LineFault.{LineFault}
@@ -51,10 +52,7 @@ pub record Voice : Type 1 where
 
 -- the voice of hooks, by what their closures may answer
 abbrev pub voice_of : {S : Type 0} → Ghosts S → S → Voice
-voice_of H hooks = record {
-  worded = Worded (H.fetched hooks) (H.plain hooks);
-  noted = Noted (H.joined hooks) (H.left hooks) (H.quiet hooks);
-}
+voice_of H hooks = record { worded = worded_by H hooks; noted = noted_by H hooks }
 
 -- what is said to the client, and what of it a delivery said
 pub record Speech : Type 0 where
@@ -142,6 +140,11 @@ abbrev pub Answered : Voice → List (List ℕ × ℕ) → List ℕ → InForce 
     → Result (Vec (String Global) Global) SessionFault → Type 0
 Answered v routes text s old new after r =
     RanBy v.worded LocalStep routes s (decoded the_limits.CLIENT text) old new after r
+
+-- by the voice of these hooks
+abbrev pub AnsweredBy : {S : Type 0} → Ghosts S → S → List (List ℕ × ℕ) → List ℕ → InForce → History → History → InForce
+    → Result (Vec (String Global) Global) SessionFault → Type 0
+AnsweredBy H hooks routes text s old new after r = Answered (voice_of H hooks) routes text s old new after r
 
 -- and one delivery
 abbrev pub Dealt : Voice → InForce → History → History → InForce → Result Delivery SessionFault → Type 0

@@ -1,9 +1,11 @@
 //! One session over one shard.
 ghost use Rattle.std.specs.Prelude.{◌≡◌, ◌++◌, [], map, string_bytes, false, IfOk, Err, None, Some};
-ghost use Rattle.presence_node_stdio.specs.Session.{printed, voice_of, Answered, Dealt};
+ghost use Rattle.presence_node_stdio.specs.Session.{printed, voice_of, AnsweredBy, Dealt};
 
 use crate::fault::LineFault;
-use channel_session::{Delivery, LocalPort, Session, SessionFault, Shard, deliver, run_text};
+use channel_session::{
+    Channels, Delivery, LocalPort, Session, SessionFault, Shard, deliver, run_text,
+};
 use hook_registry::{Notice, PresenceHooks, Routes};
 use phx_message::Limits;
 use presence_base::Replica;
@@ -74,15 +76,14 @@ fn run_port<H: PresenceHooks>(
     alloc: Global,
     session: &mut Session,
     port: &mut LocalPort<'_>,
-    routes: &Routes,
-    hooks: &H,
+    channels: Channels<'_, H>,
     text: &str,
 ) -> Result<Vec<String>, SessionFault>
     ensures same_reference { port.new.shard.ghost_name ≡ port.old.shard.ghost_name }
-    ensures answered { Answered (voice_of H.PresenceHooks hooks.now) routes.now text.now
+    ensures answered { AnsweredBy H.PresenceHooks channels.entry.hooks.now channels.entry.routes.now text.now
         session.old port.old.shard.now port.new.shard.now session.new result }
 {
-    run_text(alloc, session, port, routes, hooks, text)
+    run_text(alloc, session, port, channels, text)
 }
 
 // Answers a text over the shard.
@@ -90,15 +91,14 @@ fn run_over<H: PresenceHooks>(
     alloc: Global,
     session: &mut Session,
     shard: &mut Shard,
-    routes: &Routes,
-    hooks: &H,
+    channels: Channels<'_, H>,
     text: &str,
 ) -> Result<Vec<String>, SessionFault>
-    ensures { Answered (voice_of H.PresenceHooks hooks.now) routes.now text.now
+    ensures { AnsweredBy H.PresenceHooks channels.entry.hooks.now channels.entry.routes.now text.now
         session.old shard.old shard.new session.new result }
 {
     let mut port = LocalPort::new(shard);
-    run_port(alloc, session, &mut port, routes, hooks, text)
+    run_port(alloc, session, &mut port, channels, text)
 }
 
 // Delivers what waits, over a port that holds the shard.
@@ -202,14 +202,11 @@ impl LocalSession {
             (answer_to self.old (decoded Limits.CLIENT text.now)) self.new o) }
         ensures refused { IfOk result (λ o. Keeps o.fault self.old self.new) }
     {
-        match run_over(
-            alloc,
-            &mut self.session,
-            &mut self.shard,
-            &self.routes,
+        let channels = Channels {
+            routes: &self.routes,
             hooks,
-            text,
-        ) {
+        };
+        match run_over(alloc, &mut self.session, &mut self.shard, channels, text) {
             Ok(texts) => self.tell(alloc, hooks, &texts),
             Err(SessionFault::BadMessage(fault)) => Ok(refusing(alloc, LineFault::Message(fault))),
             Err(SessionFault::ShardFull) => {

@@ -1,12 +1,14 @@
 //! The run.
-ghost use Rattle.std.specs.Prelude.{◌≡◌, ◌≤◌, ℕ, List, IfSome};
+ghost use Rattle.std.specs.Prelude.{◌≡◌, ◌≤◌, ℕ, List};
 ghost use Rattle.presence_node_stdio.specs.Mirrored.{MirroredBehindLines};
 ghost use Rattle.presence_node_stdio.specs.Session.{start, voice_of};
-ghost use Rattle.presence_node_stdio.specs.Run.{outs, Tells, TellsInput, AnswerOf, TurnOf, Writes};
+ghost use Rattle.presence_node_stdio.specs.Run.{AnswerOf, Writes};
+ghost use Rattle.presence_node_stdio.specs.Outlets.{held, Runs, RunsKnown, Turns};
 
 use crate::fault::{LineFault, StdioFault};
 use crate::laws::joined_topics_are_mirrored;
 use crate::local::{LocalSession, Output};
+use crate::outlets::Outlets;
 use hook_registry::PresenceHooks;
 use phx_message::Limits;
 use presence_node_lines::{MAX_LINES, ReadFault, StreamFault, is_at_end, read_line, write_bytes};
@@ -16,101 +18,94 @@ use std::io::{Read, Write};
 
 // Writes what goes out for a line: the texts, and then the notices.
 fn write_output<W: Write, N: Write>(
-    writer: &mut W,
-    notes: &mut N,
+    out: &mut Outlets<W, N>,
     output: &Output,
 ) -> Result<(), StdioFault>
-    ensures { Writes (outs (W.contents writer.old) (N.contents notes.old))
-        (outs (W.contents writer.new) (N.contents notes.new)) output.now.text.items output.now.notes.items result }
+    ensures { Writes (held W.contents N.contents out.old) (held W.contents N.contents out.new)
+        output.now.text.items output.now.notes.items result }
 {
-    if write_bytes(writer, output.text.as_slice()).is_err() {
+    if write_bytes(&mut out.texts, output.text.as_slice()).is_err() {
         return Err(StdioFault::Write);
     }
-    match write_bytes(notes, output.notes.as_slice()) {
+    match write_bytes(&mut out.notes, output.notes.as_slice()) {
         Ok(()) => Ok(()),
         Err(_) => Err(StdioFault::Write),
     }
 }
 
-// Answers one line, the nth. All that goes out for it is made before the first byte is written.
-fn answer_line<H: PresenceHooks, W: Write, N: Write>(
-    alloc: Global,
-    local: &mut LocalSession,
-    hooks: &H,
-    writer: &mut W,
-    notes: &mut N,
-    line: &[u8],
-    n: u64,
-) -> Result<(), StdioFault>
-    ensures { AnswerOf (voice_of H.PresenceHooks hooks.now) n local.old local.new
-        (outs (W.contents writer.old) (N.contents notes.old))
-        (outs (W.contents writer.new) (N.contents notes.new)) line.now result }
-{
-    let output = match local.answer(alloc, hooks, line) {
-        Ok(output) => output,
-        Err(_) => return Err(StdioFault::Memory),
-    };
-    write_output(writer, notes, &output)?;
-    match output.fault {
-        None => Ok(()),
-        Some(LineFault::Message(refusal)) => Err(StdioFault::Line(n, refusal)),
-        Some(LineFault::Session(stop)) => Err(StdioFault::Session(n, stop)),
-    }
-}
-
-// Reads the nth line and answers it, if there is one.
-fn turn<R: Read, H: PresenceHooks, W: Write, N: Write>(
-    alloc: Global,
-    local: &mut LocalSession,
-    hooks: &H,
-    reader: &mut R,
-    writer: &mut W,
-    notes: &mut N,
-    n: u64,
-) -> Result<bool, StdioFault>
-    ensures { TurnOf (voice_of H.PresenceHooks hooks.now) n local.old local.new
-        (R.remaining reader.old) (R.remaining reader.new)
-        (outs (W.contents writer.old) (N.contents notes.old))
-        (outs (W.contents writer.new) (N.contents notes.new)) result }
-{
-    let line = match read_line(alloc, reader, Limits::CLIENT.bytes) {
-        Ok(Some(line)) => line,
-        Ok(None) => return Ok(false),
-        Err(StreamFault::Memory) => return Err(StdioFault::Memory),
-        Err(_) => return Err(StdioFault::Read(ReadFault::Failed)),
-    };
-    match answer_line(alloc, local, hooks, writer, notes, line.as_slice(), n) {
-        Ok(()) => Ok(true),
-        Err(fault) => Err(fault),
-    }
-}
-
-/// Answers each line of the input, of which at most `max` are read.
-pub fn run_lines<R: Read, H: PresenceHooks, W: Write, N: Write>(
-    alloc: Global,
-    local: &mut LocalSession,
-    hooks: &H,
-    reader: &mut R,
-    writer: &mut W,
-    notes: &mut N,
-    max: u64,
-) -> Result<u64, StdioFault>
-    ensures { Tells (voice_of H.PresenceHooks hooks.now) max local.old
-        (R.remaining reader.old) (R.remaining reader.new)
-        (outs (W.contents writer.old) (N.contents notes.old))
-        (outs (W.contents writer.new) (N.contents notes.new)) result }
-{
-    for n in 0..max {
-        match turn(alloc, local, hooks, reader, writer, notes, n + 1) {
-            Ok(true) => {}
-            Ok(false) => return Ok(n),
-            Err(fault) => return Err(fault),
+impl LocalSession {
+    // Answers one line, the nth. All that goes out for it is made before the first byte is written.
+    fn answer_line<H: PresenceHooks, W: Write, N: Write>(
+        &mut self,
+        alloc: Global,
+        hooks: &H,
+        out: &mut Outlets<W, N>,
+        line: &[u8],
+        n: u64,
+    ) -> Result<(), StdioFault>
+        ensures { AnswerOf (voice_of H.PresenceHooks hooks.now) n self.old self.new
+            (held W.contents N.contents out.old) (held W.contents N.contents out.new) line.now result }
+    {
+        let output = match self.answer(alloc, hooks, line) {
+            Ok(output) => output,
+            Err(_) => return Err(StdioFault::Memory),
+        };
+        write_output(out, &output)?;
+        match output.fault {
+            None => Ok(()),
+            Some(LineFault::Message(refusal)) => Err(StdioFault::Line(n, refusal)),
+            Some(LineFault::Session(stop)) => Err(StdioFault::Session(n, stop)),
         }
     }
-    match is_at_end(reader) {
-        Ok(true) => Ok(max),
-        Ok(false) => Err(StdioFault::Read(ReadFault::TooManyLines)),
-        Err(_) => Err(StdioFault::Read(ReadFault::Failed)),
+
+    // Reads the nth line and answers it, if there is one.
+    fn turn<R: Read, H: PresenceHooks, W: Write, N: Write>(
+        &mut self,
+        alloc: Global,
+        hooks: &H,
+        reader: &mut R,
+        out: &mut Outlets<W, N>,
+        n: u64,
+    ) -> Result<bool, StdioFault>
+        ensures { Turns (voice_of H.PresenceHooks hooks.now) (held W.contents N.contents) R.remaining n
+            self.old self.new reader.old reader.new out.old out.new result }
+    {
+        let line = match read_line(alloc, reader, Limits::CLIENT.bytes) {
+            Ok(Some(line)) => line,
+            Ok(None) => return Ok(false),
+            Err(StreamFault::Memory) => return Err(StdioFault::Memory),
+            Err(_) => return Err(StdioFault::Read(ReadFault::Failed)),
+        };
+        match self.answer_line(alloc, hooks, out, line.as_slice(), n) {
+            Ok(()) => Ok(true),
+            Err(fault) => Err(fault),
+        }
+    }
+
+    /// Answers each line of the input, of which at most `max` are read.
+    pub fn run_lines<R: Read, H: PresenceHooks, W: Write, N: Write>(
+        &mut self,
+        alloc: Global,
+        hooks: &H,
+        reader: &mut R,
+        out: &mut Outlets<W, N>,
+        max: u64,
+    ) -> Result<u64, StdioFault>
+        ensures { Runs (voice_of H.PresenceHooks hooks.now) (held W.contents N.contents) R.remaining max
+            self.old reader.old reader.new out.old out.new result }
+    {
+        for n in 0..max {
+            match self.turn(alloc, hooks, reader, out, n + 1) {
+                Ok(true) => {}
+                Ok(false) => return Ok(n),
+                Err(fault) => return Err(fault),
+            }
+        }
+        match is_at_end(reader) {
+            Ok(true) => Ok(max),
+            Ok(false) => Err(StdioFault::Read(ReadFault::TooManyLines)),
+            Err(_) => Err(StdioFault::Read(ReadFault::Failed)),
+        }
     }
 }
 
@@ -124,27 +119,21 @@ fn mirrored<H: PresenceHooks>(hooks: &H, options: &StdioOptions)
 
 /// Answers each line of the input up to its end, to the first line that is refused or to a fault,
 /// and says how many lines there were. What a line is answered, and what is delivered behind it, is
-/// written before the next one is read; so are the notices of what was delivered, a line each, to
-/// `notes`.
+/// written before the next one is read; so are the notices of what was delivered.
 ///
 /// A stored closure that wants memory ends the run as want of memory does, and nothing goes out for
 /// its line.
 pub fn run_stdio<R: Read, W: Write, N: Write, H: PresenceHooks>(
     alloc: Global,
     reader: &mut R,
-    writer: &mut W,
-    notes: &mut N,
+    out: &mut Outlets<W, N>,
     hooks: &H,
     options: &StdioOptions,
 ) -> Result<u64, StdioFault>
-    ensures input { IfSome (R.remaining reader.old) (λ input.
-        TellsInput (voice_of H.PresenceHooks hooks.now) MAX_LINES (start options.now)
-        (outs (W.contents writer.old) (N.contents notes.old))
-        (outs (W.contents writer.new) (N.contents notes.new)) input result) }
-    ensures lines { Tells (voice_of H.PresenceHooks hooks.now) MAX_LINES (start options.now)
-        (R.remaining reader.old) (R.remaining reader.new)
-        (outs (W.contents writer.old) (N.contents notes.old))
-        (outs (W.contents writer.new) (N.contents notes.new)) result }
+    ensures input { RunsKnown (voice_of H.PresenceHooks hooks.now) (held W.contents N.contents) MAX_LINES
+        (start options.now) (R.remaining reader.old) out.old out.new result }
+    ensures lines { Runs (voice_of H.PresenceHooks hooks.now) (held W.contents N.contents) R.remaining MAX_LINES
+        (start options.now) reader.old reader.new out.old out.new result }
     ensures mirrors { MirroredBehindLines H.PresenceHooks hooks.now options.now }
 {
     mirrored(hooks, options);
@@ -152,5 +141,5 @@ pub fn run_stdio<R: Read, W: Write, N: Write, H: PresenceHooks>(
         Ok(local) => local,
         Err(_) => return Err(StdioFault::Memory),
     };
-    run_lines(alloc, &mut local, hooks, reader, writer, notes, MAX_LINES)
+    local.run_lines(alloc, hooks, reader, out, MAX_LINES)
 }

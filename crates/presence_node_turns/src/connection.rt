@@ -8,7 +8,7 @@ ghost use Rattle.presence_node_turns.specs.Turning.{around, AnswersText, ClosesB
 
 use crate::cause::{Cause, cause_of, close_code};
 use crate::hearing::{Heard, hear};
-use channel_session::{Delivery, Port, Session, SessionFault, deliver, end, run_text};
+use channel_session::{Channels, Delivery, Port, Session, SessionFault, deliver, end, run_text};
 use hook_registry::{PresenceHooks, Routes};
 use phx_message::Limits;
 use presence_node_sending::{is_passing, queue_all};
@@ -24,7 +24,8 @@ pub const MAX_SILENCE: u64 = 60_000;
 /// most that a take may give.)
 pub const MAX_DEALT: u32 = 16;
 
-/// How many bytes one read of a stream asks for: most texts of a client are shorter. Each connection keeps twice as many.
+/// How many bytes one read of a stream asks for: most texts of a client are shorter. Each connection keeps room for so many,
+/// and a buffer for what was read, which holds 4,096 at most while nothing waits in it.
 const READ_BYTES: usize = 256;
 
 /// How many bytes of output gather before they go to the stream by themselves.
@@ -142,7 +143,8 @@ impl<S: Read + Write + Drop, K: MaskKeys + Drop> Connection<S, K> {
         ensures { AnswersText (around S.remaining S.contents P.step H.PresenceHooks hooks.now)
             routes.now text.now self.old self.new port.old port.new result }
     {
-        match run_text(alloc, &mut self.session, port, routes, hooks, text) {
+        let channels = Channels { routes, hooks };
+        match run_text(alloc, &mut self.session, port, channels, text) {
             Ok(texts) => self.send(texts),
             Err(fault) => Err(Cause::Fault(fault)),
         }

@@ -1,3 +1,4 @@
 pub mod Working
 pub mod Places
 pub mod Resting
+pub mod Serving

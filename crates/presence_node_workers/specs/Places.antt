@@ -4,7 +4,8 @@ use mathlib.Core.HLevel.{×_prop}
 use denote.Struct.Props as logic
 use Rattle.slab.specs.Slab.{Slab, get}
 use Rattle.presence_node_workers.specs.declared.client.Client.{Client}
-use Rattle.presence_node_workers.specs.Working.{goes_on}
+use Rattle.presence_node_turns.specs.Turning.{Around}
+use Rattle.presence_node_workers.specs.Working.{goes_on, DeliversAll, ServesAll}
 
 module _ {S : Type 0} where
   -- what is at a key stands before the others
@@ -46,3 +47,15 @@ module _ {S : Type 0} where
   abbrev pub AreLeft : Slab (Client S) → Slab (Client S) → List ℕ → Type 0
   AreLeft old new [] = Unit {0}
   AreLeft old new (k ∷ ks) = (get new k ≡ left (get old k)) × AreLeft old new ks
+
+-- ---- those at these keys
+
+module _ {S P : Type 0} (w : Around S P) where
+  -- each ready one takes its turn, in their order
+  abbrev pub ServesKeys : List (List ℕ × ℕ) → ℕ → List ℕ → Slab (Client S) → Slab (Client S) → P → P → Type 0
+  ServesKeys routes now keys old new before after =
+      ServesAll w routes now (served old keys) (served new keys) before after
+
+  -- each ready one has what waits delivered, in their order
+  abbrev pub DeliversKeys : List ℕ → Slab (Client S) → Slab (Client S) → P → P → Type 0
+  DeliversKeys keys old new before after = DeliversAll w (served old keys) (served new keys) before after

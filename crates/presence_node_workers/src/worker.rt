@@ -4,7 +4,7 @@ ghost use Rattle.crossbeam_queue.specs.Passes.{view};
 ghost use Rattle.slab.specs.Slab.{get};
 ghost use Rattle.presence_node_turns.specs.Turning.{around};
 ghost use Rattle.presence_node_workers.specs.declared.worker.TheConstants.{MAX_CONNECTIONS};
-ghost use Rattle.presence_node_workers.specs.Places.{AreKept, AreLeft, kept_prop, served};
+ghost use Rattle.presence_node_workers.specs.Places.{AreKept, AreLeft, DeliversKeys, ServesKeys, kept_prop, served};
 ghost use Rattle.presence_node_workers.specs.Resting.{AreAtRest, FindsDue, is_noted, rest_prop, rests_at};
 ghost use Rattle.presence_node_workers.specs.Working.{DeliversAll, EndsAt, NoneLost, Pairwise, RisesBetween, Sends, SendsAll, Serves, ServesAll, StopsAll, TakesIn, TakesOne, ended_at, goes_on, held, marked, readied, rises_prop};
 
@@ -61,28 +61,40 @@ impl<S: Read + Write + Drop> Drop for Worker<S> {
     }
 }
 
+// The keys of connections, in order of their numbers, and which of them are at rest.
+#[derive(Clone, Copy)]
+struct Keys<'a> {
+    order: &'a [usize],
+    resting: &'a Resting,
+}
+
+// A round of turns: by which routes and hooks, at what time, and where its memory comes from.
+#[derive_where(Clone, Copy)]
+struct Round<'a, H> {
+    alloc: Global,
+    routes: &'a Routes,
+    hooks: &'a H,
+    now: u64,
+}
+
 // The connection at each key takes its turn, one behind the other over the same port.
 fn serve_all<S: Read + Write + Drop, P: Port, H: PresenceHooks>(
-    alloc: Global,
     clients: &mut Slab<Client<S>>,
-    order: &[usize],
-    resting: &Resting,
+    keys: Keys<'_>,
     port: &mut P,
-    routes: &Routes,
-    hooks: &H,
-    now: u64,
+    round: Round<'_, H>,
 )
-    requires kept { AreKept clients.old order.now }
-    requires at_rest { AreAtRest clients.old resting.now.notes.items order.now }
-    ensures kept { AreKept clients.new order.now }
-    ensures at_rest { AreAtRest clients.new resting.now.notes.items order.now }
-    ensures serves { ServesAll (around S.remaining S.contents P.step H.PresenceHooks hooks.now)
-        routes.now now (served clients.old order.now) (served clients.new order.now) port.old port.new }
+    requires kept { AreKept clients.old keys.order.now }
+    requires at_rest { AreAtRest clients.old keys.resting.now.notes.items keys.order.now }
+    ensures kept { AreKept clients.new keys.entry.order.now }
+    ensures at_rest { AreAtRest clients.new keys.entry.resting.now.notes.items keys.entry.order.now }
+    ensures serves { ServesKeys (around S.remaining S.contents P.step H.PresenceHooks round.entry.hooks.now)
+        round.entry.routes.now round.entry.now keys.entry.order.now clients.old clients.new port.old port.new }
 {
-    for key in order {
-        if !resting.is_noted(*key) {
+    for key in keys.order {
+        if !keys.resting.is_noted(*key) {
             if let Some(client) = clients.get_mut(*key) {
-                client.turn(alloc, port, routes, hooks, now);
+                client.turn(round.alloc, port, round.routes, round.hooks, round.now);
             }
         }
     }
@@ -92,20 +104,19 @@ fn serve_all<S: Read + Write + Drop, P: Port, H: PresenceHooks>(
 fn deliver_all<S: Read + Write + Drop, P: Port, H: PresenceHooks>(
     alloc: Global,
     clients: &mut Slab<Client<S>>,
-    order: &[usize],
-    resting: &Resting,
+    keys: Keys<'_>,
     port: &mut P,
     hooks: &H,
 )
-    requires kept { AreKept clients.old order.now }
-    requires at_rest { AreAtRest clients.old resting.now.notes.items order.now }
-    ensures kept { AreKept clients.new order.now }
-    ensures at_rest { AreAtRest clients.new resting.now.notes.items order.now }
-    ensures delivers { DeliversAll (around S.remaining S.contents P.step H.PresenceHooks hooks.now)
-        (served clients.old order.now) (served clients.new order.now) port.old port.new }
+    requires kept { AreKept clients.old keys.order.now }
+    requires at_rest { AreAtRest clients.old keys.resting.now.notes.items keys.order.now }
+    ensures kept { AreKept clients.new keys.entry.order.now }
+    ensures at_rest { AreAtRest clients.new keys.entry.resting.now.notes.items keys.entry.order.now }
+    ensures delivers { DeliversKeys (around S.remaining S.contents P.step H.PresenceHooks hooks.now)
+        keys.entry.order.now clients.old clients.new port.old port.new }
 {
-    for key in order {
-        if !resting.is_noted(*key) {
+    for key in keys.order {
+        if !keys.resting.is_noted(*key) {
             if let Some(client) = clients.get_mut(*key) {
                 client.deliver(alloc, port, hooks);
             }
@@ -263,9 +274,11 @@ fn settle<S: Read + Write + Drop>(clients: &Slab<Client<S>>, order: &[usize], re
 }
 
 impl<S: Read + Write + Drop> Worker<S> {
+    ghost use Rattle.presence_node_workers.specs.Serving.{served_by};
+
     /// A worker at this end of the queue that serves nobody yet.
     pub fn new(alloc: Global, taker: Taker<WebSocket<S, NoMask>>) -> Worker<S>
-        ensures { served result.clients result.order.items ≡ [] }
+        ensures { served_by result ≡ [] }
     {
         Worker {
             clients: Slab::new(alloc),
@@ -277,14 +290,14 @@ impl<S: Read + Write + Drop> Worker<S> {
 
     /// How many connections it serves.
     pub fn len(&self) -> usize
-        ensures { result ≡ length (served self.now.clients self.now.order.items) }
+        ensures { result ≡ length (served_by self.now) }
     {
         self.order.len()
     }
 
     /// The connection at this place, of all in order of their numbers.
     pub fn at(&self, place: usize) -> Option<&Client<S>>
-        ensures { option_copied result ≡ slice_get (served self.now.clients self.now.order.items) place }
+        ensures { option_copied result ≡ slice_get (served_by self.now) place }
     {
         self.clients.get(*self.order.get(place)?)
     }
@@ -292,7 +305,7 @@ impl<S: Read + Write + Drop> Worker<S> {
     /// The connection at this place, of all in order of their numbers, unless it has nothing to do: it takes no turn,
     /// nothing of it waits to be sent, and it hasn't ended.
     pub fn due_at(&self, place: usize) -> Option<&Client<S>>
-        ensures { FindsDue (slice_get (served self.now.clients self.now.order.items) place) (option_copied result) }
+        ensures { FindsDue (slice_get (served_by self.now) place) (option_copied result) }
     {
         let key = *self.order.get(place)?;
         if self.resting.is_noted(key) {
@@ -310,8 +323,8 @@ impl<S: Read + Write + Drop> Worker<S> {
 
     /// The connection of this token takes the next turn, if one of this worker's has it.
     pub fn mark(&mut self, token: usize)
-        ensures { served self.new.clients self.new.order.items
-            ≡ map (marked token) (served self.old.clients self.old.order.items) }
+        ensures { served_by self.new
+            ≡ map (marked token) (served_by self.old) }
     {
         if let Some(client) = self.clients.get_mut(token) {
             client.get_ready();
@@ -322,8 +335,8 @@ impl<S: Read + Write + Drop> Worker<S> {
     /// The connection of this token takes no turn until it is marked, if one of this worker's has it: nothing is read of
     /// it, and nothing taken for it.
     pub fn hold(&mut self, token: usize)
-        ensures { served self.new.clients self.new.order.items
-            ≡ map (held token) (served self.old.clients self.old.order.items) }
+        ensures { served_by self.new
+            ≡ map (held token) (served_by self.old) }
     {
         if let Some(client) = self.clients.get_mut(token) {
             client.hold();
@@ -333,8 +346,8 @@ impl<S: Read + Write + Drop> Worker<S> {
 
     /// Each connection takes the next turn.
     pub fn mark_all(&mut self)
-        ensures { served self.new.clients self.new.order.items
-            ≡ map readied (served self.old.clients self.old.order.items) }
+        ensures { served_by self.new
+            ≡ map readied (served_by self.old) }
     {
         mark_each(&mut self.clients, self.order.as_slice(), &mut self.resting);
     }
@@ -342,8 +355,7 @@ impl<S: Read + Write + Drop> Worker<S> {
     /// Ends each connection since the server stops: its client is told so at the next flush, and its
     /// session's end is asked for in each turn from the next one on, until it is accepted.
     pub fn stop_all(&mut self)
-        ensures { StopsAll S.contents (served self.old.clients self.old.order.items)
-            (served self.new.clients self.new.order.items) }
+        ensures { StopsAll S.contents (served_by self.old) (served_by self.new) }
     {
         stop_each(&mut self.clients, self.order.as_slice(), &mut self.resting);
     }
@@ -358,43 +370,38 @@ impl<S: Read + Write + Drop> Worker<S> {
         hooks: &H,
         now: u64,
     )
-        ensures { ServesAll (around S.remaining S.contents P.step H.PresenceHooks hooks.now) routes.now now
-            (served self.old.clients self.old.order.items) (served self.new.clients self.new.order.items)
-            port.old port.new }
+        ensures { ServesAll (around S.remaining S.contents P.step H.PresenceHooks hooks.now)
+            routes.now now (served_by self.old) (served_by self.new) port.old port.new }
     {
-        serve_all(
+        let keys = Keys {
+            order: self.order.as_slice(),
+            resting: &self.resting,
+        };
+        let round = Round {
             alloc,
-            &mut self.clients,
-            self.order.as_slice(),
-            &self.resting,
-            port,
             routes,
             hooks,
             now,
-        );
+        };
+        serve_all(&mut self.clients, keys, port, round);
     }
 
     /// A turn in which nothing is read: each connection that is ready, in order of its number, has what waits for its
     /// session delivered, and stays ready.
     pub fn deliver<P: Port, H: PresenceHooks>(&mut self, alloc: Global, port: &mut P, hooks: &H)
         ensures { DeliversAll (around S.remaining S.contents P.step H.PresenceHooks hooks.now)
-            (served self.old.clients self.old.order.items) (served self.new.clients self.new.order.items)
-            port.old port.new }
+            (served_by self.old) (served_by self.new) port.old port.new }
     {
-        deliver_all(
-            alloc,
-            &mut self.clients,
-            self.order.as_slice(),
-            &self.resting,
-            port,
-            hooks,
-        );
+        let keys = Keys {
+            order: self.order.as_slice(),
+            resting: &self.resting,
+        };
+        deliver_all(alloc, &mut self.clients, keys, port, hooks);
     }
 
     /// Hands what waits to be sent to the streams, and gives up the connections that have ended.
     pub fn flush(&mut self)
-        ensures { Sends S.contents (served self.old.clients self.old.order.items)
-            (served self.new.clients self.new.order.items) }
+        ensures { Sends S.contents (served_by self.old) (served_by self.new) }
     {
         send_all(&mut self.clients, self.order.as_slice(), &self.resting);
         drop_ended(&mut self.clients, &mut self.order, &self.resting);
@@ -408,10 +415,9 @@ impl<S: Read + Write + Drop> Worker<S> {
         alloc: Global,
         now: u64,
     ) -> Result<Option<NoMore>, AllocError>
-        ensures takes { TakesOne now (served self.old.clients self.old.order.items)
-            (served self.new.clients self.new.order.items) result }
+        ensures takes { TakesOne now (served_by self.old) (served_by self.new) result }
         ensures none_lost { NoneLost (view self.old.taker.pass).pops (view self.new.taker.pass).pops
-            (served self.old.clients self.old.order.items) (served self.new.clients self.new.order.items) }
+            (served_by self.old) (served_by self.new) }
     {
         if self.order.len() >= MAX_CONNECTIONS {
             return Ok(Some(NoMore::Full));
@@ -443,11 +449,10 @@ impl<S: Read + Write + Drop> Worker<S> {
         alloc: Global,
         now: u64,
     ) -> Result<NoMore, AllocError>
-        ensures takes { TakesIn now (served self.old.clients self.old.order.items)
-            (served self.new.clients self.new.order.items) }
+        ensures takes { TakesIn now (served_by self.old) (served_by self.new) }
         ensures none_lost { NoneLost (view self.old.taker.pass).pops (view self.new.taker.pass).pops
-            (served self.old.clients self.old.order.items) (served self.new.clients self.new.order.items) }
-        ensures ends { IfOk result (EndsAt (served self.new.clients self.new.order.items)) }
+            (served_by self.old) (served_by self.new) }
+        ensures ends { IfOk result (EndsAt (served_by self.new)) }
     {
         for _ in 0..MAX_CONNECTIONS {
             if let Some(no_more) = self.take_one(rt, alloc, now)? {

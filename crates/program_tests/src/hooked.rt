@@ -4,7 +4,7 @@
 use crate::support::{Sink, lines_in, options_for, plain_options};
 use hook_registry::{Extra, NoHooks, Notice, PresenceHooks};
 use presence_base::{Dot, Key, Topic};
-use presence_node_main::{StdioFault, run_stdio};
+use presence_node_main::{Outlets, StdioFault, run_stdio};
 use presence_node_notices::ReferenceNotices;
 use presence_node_options::StdioOptions;
 use serde_json::json;
@@ -163,10 +163,13 @@ impl Drop for Ran {
 fn run_ann(alloc: Global, words: &[&str], refused: u32) -> Option<Ran> {
     let options = options_for(alloc, words)?;
     let mut reader = LINES.as_bytes();
-    let mut texts = Vec::new(alloc);
-    let mut notes = Vec::new(alloc);
+    let mut out = Outlets {
+        texts: Vec::new(alloc),
+        notes: Vec::new(alloc),
+    };
     let hooks = Ann::new(refused);
-    let end = run_stdio(alloc, &mut reader, &mut texts, &mut notes, &hooks, &options);
+    let end = run_stdio(alloc, &mut reader, &mut out, &hooks, &options);
+    let Outlets { texts, notes } = out;
     Some(Ran { end, texts, notes })
 }
 
@@ -226,19 +229,22 @@ fn noted_into<H: PresenceHooks>(
     so: Option<ErrorKind>,
 ) -> Ran {
     let mut reader = LINES.as_bytes();
-    let mut texts = Vec::new(alloc);
-    let mut sink = Sink {
-        taken: Vec::new(alloc),
-        step: 1,
-        calls: 0,
-        fails,
-        so,
+    let mut out = Outlets {
+        texts: Vec::new(alloc),
+        notes: Sink {
+            taken: Vec::new(alloc),
+            step: 1,
+            calls: 0,
+            fails,
+            so,
+        },
     };
-    let end = run_stdio(alloc, &mut reader, &mut texts, &mut sink, hooks, options);
+    let end = run_stdio(alloc, &mut reader, &mut out, hooks, options);
+    let Outlets { texts, notes } = out;
     Ran {
         end,
         texts,
-        notes: sink.taken,
+        notes: notes.taken,
     }
 }
 

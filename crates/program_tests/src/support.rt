@@ -1,7 +1,7 @@
 //! The first run, readers and writers that fail, and runs without hooks.
 
 use hook_registry::NoHooks;
-use presence_node_main::{LocalSession, StdioFault, run_lines, run_stdio};
+use presence_node_main::{LocalSession, Outlets, StdioFault, run_stdio};
 use presence_node_options::{Options, StdioOptions, options_of};
 use std::alloc::Global;
 use std::io;
@@ -102,8 +102,11 @@ pub(crate) fn run_plainly<R: Read, W: Write>(
     writer: &mut W,
     options: &StdioOptions,
 ) -> Result<u64, StdioFault> {
-    let mut notes = Vec::new(alloc);
-    run_stdio(alloc, reader, writer, &mut notes, &NoHooks, options)
+    let mut out = Outlets {
+        texts: writer,
+        notes: Vec::new(alloc),
+    };
+    run_stdio(alloc, reader, &mut out, &NoHooks, options)
 }
 
 // The same from where a session stands, over at most so many lines.
@@ -114,6 +117,9 @@ pub(crate) fn go_plainly<R: Read, W: Write>(
     writer: &mut W,
     max: u64,
 ) -> Result<u64, StdioFault> {
-    let mut notes = Vec::new(alloc);
-    run_lines(alloc, local, &NoHooks, reader, writer, &mut notes, max)
+    let mut out = Outlets {
+        texts: writer,
+        notes: Vec::new(alloc),
+    };
+    local.run_lines(alloc, &NoHooks, reader, &mut out, max)
 }

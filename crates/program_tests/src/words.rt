@@ -108,14 +108,15 @@ fn a_server_with_a_life_and_origins(rt: HostRuntime) -> Result<(), Fail> {
 }
 
 // Origins as browsers tell them.
-const ORIGINS: [&str; 8] = [
+const ORIGINS: [&str; 9] = [
     "https://rooms.example.org",
-    "HTTPS://Example.ORG",
+    "https://Example.ORG",
     "http://127.0.0.1:4000",
     "http://[::1]:4000",
     "https://[2001:db8::1]",
     "http://localhost:65535",
     "capacitor://my_app",
+    "file://",
     "null",
 ];
 
@@ -133,7 +134,7 @@ fn origins_of_browsers(rt: HostRuntime) -> Result<(), Fail> {
 }
 
 // Texts that no browser tells as an origin.
-const NO_ORIGINS: [&str; 16] = [
+const NO_ORIGINS: [&str; 22] = [
     "",
     "*",
     "example.org",
@@ -150,6 +151,12 @@ const NO_ORIGINS: [&str; 16] = [
     "http://example.org:65536",
     "http://example.org:08",
     "http://[::1",
+    "http://[::ffff:192.0.2.1]",
+    "HTTPS://example.org",
+    "httpS://example.org:443",
+    "ws://example.org",
+    "wss://example.org",
+    "file:///",
 ];
 
 #[test]

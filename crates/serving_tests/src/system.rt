@@ -2,4 +2,5 @@
 
 mod crew;
 mod handshakes;
+mod pace;
 mod sockets;

@@ -2,7 +2,9 @@
 
 use crate::port::TestPort;
 use crate::texts::{JOIN, JOINED, error_reply, message, ok_reply};
-use channel_session::{Delivery, Session, SessionFault, ShardFault, deliver, end, run_text};
+use channel_session::{
+    Channels, Delivery, Session, SessionFault, ShardFault, deliver, end, run_text,
+};
 use hook_registry::{NoHooks, Routes};
 use std::alloc::{AllocError, Global};
 
@@ -74,14 +76,11 @@ pub fn fault_for(fault: ShardFault) -> SessionFault {
 impl Desk {
     // What the text is answered.
     fn ask(&mut self, alloc: Global, text: &str) -> Result<Vec<String>, SessionFault> {
-        run_text(
-            alloc,
-            &mut self.session,
-            &mut self.port,
-            &self.routes,
-            &NoHooks,
-            text,
-        )
+        let channels = Channels {
+            routes: &self.routes,
+            hooks: &NoHooks,
+        };
+        run_text(alloc, &mut self.session, &mut self.port, channels, text)
     }
 
     // What waits.

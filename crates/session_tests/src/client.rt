@@ -3,8 +3,8 @@
 use hook_registry::{Notice, PresenceHooks, Routes};
 use presence_base::{NodeName, Replica};
 use session_desk::{
-    Delivery, LocalPort, Session, SessionFault, Shard, ShardFault, TestPort, are_texts, deliver,
-    end, run_text,
+    Channels, Delivery, LocalPort, Session, SessionFault, Shard, ShardFault, TestPort, are_texts,
+    deliver, end, run_text,
 };
 use std::alloc::Global;
 
@@ -92,12 +92,11 @@ fn ask<H: PresenceHooks>(
     alloc: Global,
     session: &mut Session,
     shard: &mut Shard,
-    routes: &Routes,
-    hooks: &H,
+    channels: Channels<'_, H>,
     text: &str,
 ) -> Result<Vec<String>, SessionFault> {
     let mut port = LocalPort::new(shard);
-    run_text(alloc, session, &mut port, routes, hooks, text)
+    run_text(alloc, session, &mut port, channels, text)
 }
 
 // Takes what waits in the shard.
@@ -153,14 +152,11 @@ impl<H: Drop> Client<H> {
 
 impl<H: PresenceHooks> Client<H> {
     fn run(&mut self, alloc: Global, text: &str) -> Result<Vec<String>, SessionFault> {
-        ask(
-            alloc,
-            &mut self.session,
-            &mut self.shard,
-            &self.routes,
-            &self.hooks,
-            text,
-        )
+        let channels = Channels {
+            routes: &self.routes,
+            hooks: &self.hooks,
+        };
+        ask(alloc, &mut self.session, &mut self.shard, channels, text)
     }
 
     fn take(&mut self, alloc: Global) -> Result<Delivery, SessionFault> {

@@ -3,7 +3,7 @@
 use hook_registry::{NoHooks, Routes};
 use presence_base::Topic;
 use presence_node_hints::{Followed, HintingPort, Inbox, Noted, Topics, follows};
-use session_desk::{JOIN, LATE, LEAVE, Session, TestPort, run_text};
+use session_desk::{Channels, JOIN, LATE, LEAVE, Session, TestPort, run_text};
 use std::alloc::Global;
 use std::collections::BTreeSet;
 use std::sync::{Arc, Wait};
@@ -121,9 +121,13 @@ fn known_behind(alloc: Global, texts: &[&str]) -> Option<Known> {
     if routes.add(alloc, "room:*", 0).is_err() {
         return None;
     }
+    let channels = Channels {
+        routes: &routes,
+        hooks: &NoHooks,
+    };
     let mut session = Session::new(alloc, 1);
     for text in texts {
-        let _texts = run_text(alloc, &mut session, &mut port, &routes, &NoHooks, text).ok()?;
+        let _texts = run_text(alloc, &mut session, &mut port, channels, text).ok()?;
     }
     known_of(alloc, &session, &port.into_noted())
 }

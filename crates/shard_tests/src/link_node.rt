@@ -2,7 +2,7 @@
 use crate::desk::{shard_of, topic};
 use crate::link_wire::Wire;
 use crate::merge_desk::replica;
-use node_links::{ActFault, DialFault, End, LinkPort, Peer, accept_one};
+use node_links::{ActFault, DialFault, End, Link, LinkPort, Peer, accept_one};
 use orswot_core::{Form, Told};
 use presence_base::Replica;
 use replica_status::Status;
@@ -130,17 +130,15 @@ pub(super) fn shards_of(alloc: Global, name: &str) -> Option<Shards> {
 
 // A node that was dialled, with its shards and the lines that come.
 pub(super) struct Node<'a> {
-    pub peer: Peer,
+    pub link: Link<Wire<'a>>,
     pub shards: Shards,
-    pub wire: Wire<'a>,
 }
 
 impl Drop for Node<'_> {
     fn drop(self) {
-        let Node { peer, shards, wire } = self;
-        drop(peer);
+        let Node { link, shards } = self;
+        drop(link);
         drop(shards);
-        drop(wire);
     }
 }
 
@@ -153,19 +151,19 @@ pub(super) fn at_a<'a>(alloc: Global, lines: &'a str) -> Option<Node<'a>> {
 pub(super) fn at_a_of<'a>(alloc: Global, speaks: Form, lines: &'a str) -> Option<Node<'a>> {
     let own = replica(alloc, "a").ok()?;
     let shards = shards_of(alloc, "a")?;
-    Some(Node {
-        peer: Peer::new(own, 2, End::Accepting, speaks),
-        shards,
-        wire: Wire {
+    let link = Link {
+        stream: Wire {
             rest: lines.as_bytes(),
             taken: Vec::new(alloc),
         },
-    })
+        peer: Peer::new(own, 2, End::Accepting, speaks),
+    };
+    Some(Node { link, shards })
 }
 
 impl Node<'_> {
     pub fn accepts(&mut self, alloc: Global) -> Result<bool, DialFault> {
-        accept_one(alloc, &mut self.wire, &mut self.peer, &mut self.shards, NOW)
+        accept_one(alloc, &mut self.link, &mut self.shards, NOW)
     }
 
     // Whether so many lines are accepted.
@@ -180,6 +178,6 @@ impl Node<'_> {
 
     // Whether these lines went out, and no others.
     pub fn wrote(&self, lines: &str) -> bool {
-        self.wire.taken.as_slice() == lines.as_bytes()
+        self.link.stream.taken.as_slice() == lines.as_bytes()
     }
 }

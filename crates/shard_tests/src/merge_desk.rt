@@ -2,7 +2,7 @@
 ghost use Rattle.std.specs.Prelude.{◌≡◌, IfOk};
 
 use orswot_core::{Form, RawRow, RawTold, Told};
-use presence_base::{Dot, NodeName, Replica};
+use presence_base::{Dot, Meta, NodeName, Replica};
 use serde_json::{Map, Value};
 use std::alloc::{AllocError, Global};
 
@@ -37,7 +37,7 @@ fn raw_row(alloc: Global, live: &Live) -> Result<RawRow, AllocError> {
         topic,
         key,
         pid: 5,
-        meta: Value::Object(Map::new(alloc)),
+        meta: Meta::new(alloc, Value::Object(Map::new(alloc)))?,
         prev: None,
     })
 }

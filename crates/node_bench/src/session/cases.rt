@@ -1,6 +1,6 @@
 //! What is timed of a session.
 use crate::making::{ROOM, meta, numbered, replica, topic};
-use channel_session::{LocalPort, Session, SessionFault, deliver, run_text};
+use channel_session::{Channels, LocalPort, Session, SessionFault, deliver, run_text};
 use hook_registry::{NoHooks, RouteFault, Routes};
 use presence_base::Topic;
 use std::alloc::{AllocError, Global};
@@ -71,7 +71,11 @@ fn answer(
     text: &str,
 ) -> Result<Vec<String>, SessionFault> {
     let mut port = LocalPort::new(shard);
-    run_text(alloc, session, &mut port, routes, &NoHooks, text)
+    let channels = Channels {
+        routes,
+        hooks: &NoHooks,
+    };
+    run_text(alloc, session, &mut port, channels, text)
 }
 
 // Takes what waits.

@@ -11,7 +11,7 @@ use std::alloc::{AllocError, Global};
 
 /// What `b` tells: ranges above one count, up to another, extras, and the live rows of such ranges.
 #[derive(Clone, Copy)]
-pub struct Tells {
+pub struct ToldOf {
     pub ranges: &'static [(u64, u64)],
     pub extras: &'static [u64],
     pub live: &'static [(u64, u64)],
@@ -129,7 +129,7 @@ fn checked(alloc: Global, raw: RawTold) -> Result<Told, Fault>
 }
 
 /// The told value, where it passes the check.
-pub fn told_of(alloc: Global, tells: &Tells) -> Result<Told, Fault> {
+pub fn told_of(alloc: Global, tells: &ToldOf) -> Result<Told, Fault> {
     let ranges = ranges_of(alloc, tells.ranges)?;
     let extras = extras_of(alloc, "b", tells.extras)?;
     let live = rows_of(alloc, "b", tells.live)?;

@@ -1,5 +1,5 @@
 // Rows of sets.
-use super::making::{Tells, row, set_dot, told_of};
+use super::making::{ToldOf, row, set_dot, told_of};
 use super::playing::{Fault, Played};
 use crate::making::replica;
 use crate::texts::push_told;
@@ -12,9 +12,9 @@ pub enum SetCall {
     Add(u64),
     /// The row of a count, by the count of its removal.
     Remove(u64, u64),
-    Join(Tells),
+    Join(ToldOf),
     /// With the set that heard this alone.
-    JoinAll(Tells),
+    JoinAll(ToldOf),
     Forget,
 }
 
@@ -34,13 +34,13 @@ fn remove(set: &mut Orswot, alloc: Global, count: u64, event: u64) -> Result<(),
     Ok(())
 }
 
-fn join(set: &mut Orswot, alloc: Global, tells: &Tells) -> Result<(), Fault> {
+fn join(set: &mut Orswot, alloc: Global, tells: &ToldOf) -> Result<(), Fault> {
     let told = told_of(alloc, tells)?;
     set.join(alloc, &told)?;
     Ok(())
 }
 
-fn join_all(set: &mut Orswot, alloc: Global, tells: &Tells) -> Result<(), Fault> {
+fn join_all(set: &mut Orswot, alloc: Global, tells: &ToldOf) -> Result<(), Fault> {
     let mut other = Orswot::new(alloc);
     join(&mut other, alloc, tells)?;
     set.join_all(alloc, &other)?;

@@ -78,16 +78,16 @@ pub fn name_of(call: Call) -> &'static str {
 }
 
 /// What a call is given.
-pub struct Given {
+pub struct Arguments {
     key: Key,
     told: Told,
     sub: Sub,
     now: u64,
 }
 
-impl Drop for Given {
+impl Drop for Arguments {
     fn drop(self) {
-        let Given {
+        let Arguments {
             key,
             told,
             sub: _,
@@ -124,9 +124,9 @@ fn lead_up(alloc: Global, room: &mut Room, call: Call, n: u64) -> Result<Sub, Sh
 }
 
 /// Makes what the call is given.
-pub fn ready(alloc: Global, room: &mut Room, call: Call, n: u64) -> Result<Given, ShardFault> {
+pub fn ready(alloc: Global, room: &mut Room, call: Call, n: u64) -> Result<Arguments, ShardFault> {
     let sub = lead_up(alloc, room, call, n)?;
-    Ok(Given {
+    Ok(Arguments {
         key: numbered(alloc, name_of(call), n)?,
         told: told(alloc, &room.other, n)?,
         sub,
@@ -206,7 +206,12 @@ fn go_on(alloc: Global, shard: &mut Shard) -> Result<(), ShardFault> {
 }
 
 /// Makes the call.
-pub fn make(alloc: Global, room: &mut Room, call: Call, given: &Given) -> Result<(), ShardFault> {
+pub fn make(
+    alloc: Global,
+    room: &mut Room,
+    call: Call,
+    given: &Arguments,
+) -> Result<(), ShardFault> {
     match call {
         Call::Track | Call::Update | Call::Untrack | Call::Get | Call::List => {
             make_own(alloc, room, call, &given.key)

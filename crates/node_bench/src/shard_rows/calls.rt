@@ -1,5 +1,5 @@
 // The calls of a shard, made.
-use super::making::{Tells, other_replica, told};
+use super::making::{ToldOf, other_replica, told};
 use crate::making::{ROOM, key, meta, topic};
 use std::alloc::Global;
 use tracker_shard::{Shard, ShardFault, Sub};
@@ -15,7 +15,7 @@ pub enum Call {
     Heard(u64),
     Tick(u64),
     PermDown,
-    Merge(Tells),
+    Merge(ToldOf),
     Cut,
     Checkpoint,
 }
@@ -59,7 +59,7 @@ fn untrack(shard: &mut Shard, alloc: Global, name: &str) -> Result<(), ShardFaul
     Ok(())
 }
 
-fn merge(shard: &mut Shard, alloc: Global, tells: &Tells) -> Result<(), ShardFault> {
+fn merge(shard: &mut Shard, alloc: Global, tells: &ToldOf) -> Result<(), ShardFault> {
     let told = told(alloc, tells)?;
     shard.merge(alloc, &told)
 }

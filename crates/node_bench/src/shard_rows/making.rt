@@ -9,7 +9,7 @@ pub type Live = (u64, &'static str, &'static str);
 
 /// What `b` tells: its counts above the first up to the second, older counts, and its live rows.
 #[derive(Clone, Copy)]
-pub struct Tells {
+pub struct ToldOf {
     pub from: u64,
     pub to: u64,
     pub extras: &'static [u64],
@@ -60,7 +60,7 @@ fn ranges_of(
 }
 
 /// The told value, which passes the check.
-pub fn told(alloc: Global, tells: &Tells) -> Result<Told, AllocError> {
+pub fn told(alloc: Global, tells: &ToldOf) -> Result<Told, AllocError> {
     let replica = other_replica(alloc)?;
     let ranges = ranges_of(alloc, &replica, tells.from, tells.to)?;
     let extras = dots_of(alloc, &replica, tells.extras)?;

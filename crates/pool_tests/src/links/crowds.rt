@@ -5,11 +5,11 @@ use super::desk::track;
 use super::node::NOW;
 use node_links::{Line, LinkPort};
 use orswot_core_told::{Form, RawRow, RawTold, Told};
-use pool_desk::replica;
-use presence_base::{Dot, Replica};
+use pool_desk::{Scene, replica};
+use presence_base::{Dot, Meta, Replica};
 use presence_node_link_ports::{PoolLinkPort, cut_off, fitting_beat};
 use serde_json::{Map, Value};
-use shard_pool::{Lane, NoGate, Pool, Seat};
+use shard_pool::{Lane, NoGate, Seat};
 use std::alloc::Global;
 use std::sync::Wait;
 
@@ -27,15 +27,14 @@ pub(crate) const SAYING_TOO_MANY: SayingCrowd = ([None, None], 65_537);
 
 // Tracks so many rows of the first shard's room.
 fn track_many<R: Wait, A: Lane, B: Lane, C: Lane, D: Lane>(
-    rt: &R,
-    alloc: Global,
-    pool: &Pool<NoGate, A, B, C, D>,
+    scene: Scene<'_, R, NoGate, A, B, C, D>,
     seat: &mut Seat<A, B, C, D>,
     rows: u32,
 ) -> Option<()> {
+    let Scene { alloc, .. } = scene;
     for number in 0..rows {
         let name = format!(in alloc; "k{number}").ok()?;
-        track(rt, alloc, pool, seat, name.as_str())?;
+        track(scene, seat, name.as_str())?;
     }
     Some(())
 }
@@ -52,15 +51,14 @@ fn rows_along(beat: Line) -> Option<usize> {
 }
 
 pub(crate) fn say_crowd<R: Wait, A: Lane, B: Lane, C: Lane, D: Lane>(
-    rt: &R,
-    alloc: Global,
-    pool: &Pool<NoGate, A, B, C, D>,
+    scene: Scene<'_, R, NoGate, A, B, C, D>,
     seat: &mut Seat<A, B, C, D>,
     rows: u32,
 ) -> Option<SayingCrowd>
-    requires { pool.now.shards ≡ 2 }
+    requires { scene.pool.now.shards ≡ 2 }
 {
-    track_many(rt, alloc, pool, seat, rows)?;
+    let Scene { rt, alloc, pool } = scene;
+    track_many(scene, seat, rows)?;
     let cut = cut_off(rt, alloc, pool, 0).ok()?;
     let one = fitting_beat(alloc, 0, &cut, Form::One).ok()?;
     let two = fitting_beat(alloc, 0, &cut, Form::Two).ok()?;
@@ -82,7 +80,7 @@ fn raw_row(alloc: Global, number: u32) -> Option<RawRow> {
         topic,
         key,
         pid: 5,
-        meta: Value::Object(Map::new(alloc)),
+        meta: Meta::new(alloc, Value::Object(Map::new(alloc))).ok()?,
         prev: None,
     })
 }
@@ -108,13 +106,12 @@ fn crowd_of(alloc: Global, replica: &Replica, rows: u32) -> Option<Told> {
 }
 
 pub(crate) fn hear_crowd<R: Wait, A: Lane, B: Lane, C: Lane, D: Lane>(
-    rt: &R,
-    alloc: Global,
-    pool: &Pool<NoGate, A, B, C, D>,
+    scene: Scene<'_, R, NoGate, A, B, C, D>,
     rows: u32,
 ) -> Option<HearingCrowd>
-    requires { pool.now.shards ≡ 2 }
+    requires { scene.pool.now.shards ≡ 2 }
 {
+    let Scene { rt, alloc, pool } = scene;
     let other = replica(alloc, "c")?;
     let told = crowd_of(alloc, &other, rows)?;
     let mut port = PoolLinkPort::new(rt, pool, 2);

@@ -3,10 +3,9 @@ ghost use Rattle.std.specs.Prelude.{◌≡◌};
 
 use super::node::{Dialogue, node_over};
 use node_links::End;
-use pool_desk::topic;
+use pool_desk::{Scene, topic};
 use presence_base::Replica;
-use shard_pool::{Lane, NoGate, Pool, Seat};
-use std::alloc::Global;
+use shard_pool::{Lane, NoGate, Seat};
 use std::sync::Wait;
 
 // The count of the first row that is listed behind each line, 0 where none is; whether more lines come; and whether it
@@ -26,11 +25,10 @@ pub(crate) const HEARING_OUTGROWN: Hearing = (
 
 // The count of the first row of the room, or 0.
 fn first_row<R: Wait, A: Lane, B: Lane, C: Lane, D: Lane>(
-    rt: &R,
-    alloc: Global,
-    pool: &Pool<NoGate, A, B, C, D>,
+    scene: Scene<'_, R, NoGate, A, B, C, D>,
     seat: &mut Seat<A, B, C, D>,
 ) -> Option<u64> {
+    let Scene { rt, alloc, pool } = scene;
     let topic = topic(alloc, "room:a")?;
     let rows = pool.list(rt, alloc, seat, &topic).ok()?.value;
     match rows.as_slice().first() {
@@ -40,20 +38,19 @@ fn first_row<R: Wait, A: Lane, B: Lane, C: Lane, D: Lane>(
 }
 
 pub(crate) fn hear<R: Wait, A: Lane, B: Lane, C: Lane, D: Lane>(
-    rt: &R,
-    alloc: Global,
-    pool: &Pool<NoGate, A, B, C, D>,
+    scene: Scene<'_, R, NoGate, A, B, C, D>,
     seat: &mut Seat<A, B, C, D>,
     own: Replica,
     dialogue: Dialogue,
 ) -> Option<Hearing>
-    requires { pool.now.shards ≡ 2 }
+    requires { scene.pool.now.shards ≡ 2 }
 {
-    let mut node = node_over(rt, alloc, pool, own, End::Accepting, dialogue.said);
+    let Scene { alloc, .. } = scene;
+    let mut node = node_over(scene, own, End::Accepting, dialogue.said);
     let mut rows = [0; 6];
     for row in &mut rows {
         node.accepts(alloc)?;
-        *row = first_row(rt, alloc, pool, seat)?;
+        *row = first_row(scene, seat)?;
     }
     let more = node.accepts(alloc);
     Some((rows, more, node.wrote(dialogue.answered)))

@@ -3,13 +3,12 @@ ghost use Rattle.std.specs.Prelude.{◌≡◌};
 
 use super::node::NOW;
 use super::saying::{comes, goes_unheard, next_beat};
-use node_links::{End, Line, Peer, accept_one, dial};
+use node_links::{End, Line, Link, Peer, accept_one, dial};
 use orswot_core_told::Form;
-use pool_desk::topic;
+use pool_desk::{Scene, topic};
 use presence_base::Replica;
 use presence_node_link_ports::PoolLinkPort;
-use shard_pool::{Lane, NoGate, Pool, Seat};
-use std::alloc::Global;
+use shard_pool::{Lane, NoGate, Seat};
 use std::io;
 use std::io::{Read, Write};
 use std::net::{Net, TcpListener, TcpStream};
@@ -17,18 +16,16 @@ use std::sync::Wait;
 use std::time::Duration;
 
 // One period of the first shard, whose beat goes out: whether this node is told that it is gone.
-fn beats_over<R: Wait, A: Lane, B: Lane, C: Lane, D: Lane, S: Read + Write>(
-    rt: &R,
-    alloc: Global,
-    pool: &Pool<NoGate, A, B, C, D>,
+fn beats_over<R: Wait, A: Lane, B: Lane, C: Lane, D: Lane, S: Read + Write + Drop>(
+    scene: Scene<'_, R, NoGate, A, B, C, D>,
     port: &mut PoolLinkPort<'_, R, NoGate, A, B, C, D>,
-    peer: &mut Peer,
-    stream: &mut S,
+    link: &mut Link<S>,
 ) -> Option<bool>
-    requires { pool.now.shards ≡ 2 }
+    requires { scene.pool.now.shards ≡ 2 }
 {
-    let beat = next_beat(rt, alloc, pool)?;
-    dial(alloc, stream, peer, port, &beat, NOW).ok()
+    let Scene { alloc, .. } = scene;
+    let beat = next_beat(scene)?;
+    dial(alloc, link, port, &beat, NOW).ok()
 }
 
 // Whether the dialling node is told that it is gone, at its hello and its two beats.
@@ -37,28 +34,28 @@ pub(crate) type Dialled = [bool; 3];
 pub(crate) const DIALLED: Dialled = [false, false, false];
 
 // A hello; a row, and a beat of it; and a beat behind one that was lost, which had the row's removal.
-pub(crate) fn dial_over<R: Wait, A: Lane, B: Lane, C: Lane, D: Lane, S: Read + Write>(
-    rt: &R,
-    alloc: Global,
-    pool: &Pool<NoGate, A, B, C, D>,
+pub(crate) fn dial_over<R: Wait, A: Lane, B: Lane, C: Lane, D: Lane, S: Read + Write + Drop>(
+    scene: Scene<'_, R, NoGate, A, B, C, D>,
     seat: &mut Seat<A, B, C, D>,
     own: &Replica,
-    stream: &mut S,
+    stream: S,
 ) -> Option<Dialled>
-    requires { pool.now.shards ≡ 2 }
+    requires { scene.pool.now.shards ≡ 2 }
 {
+    let Scene { rt, alloc, pool } = scene;
     let mut port = PoolLinkPort::new(rt, pool, 2);
-    let mut peer = Peer::new(*own, 2, End::Dialling, Form::One);
+    let peer = Peer::new(*own, 2, End::Dialling, Form::One);
+    let mut link = Link { stream, peer };
     let hello = Line::Hello {
         replica: *own,
         shards: 2,
         version: None,
     };
-    let met = dial(alloc, stream, &mut peer, &mut port, &hello, NOW).ok()?;
-    comes(rt, alloc, pool, seat)?;
-    let came = beats_over(rt, alloc, pool, &mut port, &mut peer, stream)?;
-    goes_unheard(rt, alloc, pool, seat)?;
-    let went = beats_over(rt, alloc, pool, &mut port, &mut peer, stream)?;
+    let met = dial(alloc, &mut link, &mut port, &hello, NOW).ok()?;
+    comes(scene, seat)?;
+    let came = beats_over(scene, &mut port, &mut link)?;
+    goes_unheard(scene, seat)?;
+    let went = beats_over(scene, &mut port, &mut link)?;
     Some([met, came, went])
 }
 
@@ -82,11 +79,10 @@ pub(crate) const ACCEPTED: Accepted = [
 ];
 
 fn listed<R: Wait, A: Lane, B: Lane, C: Lane, D: Lane>(
-    rt: &R,
-    alloc: Global,
-    pool: &Pool<NoGate, A, B, C, D>,
+    scene: Scene<'_, R, NoGate, A, B, C, D>,
     seat: &mut Seat<A, B, C, D>,
 ) -> Option<Listed> {
+    let Scene { rt, alloc, pool } = scene;
     let topic = topic(alloc, "room:a")?;
     let rows = pool.list(rt, alloc, seat, &topic).ok()?.value;
     let is_told = rows.as_slice().first().is_some_and(|(dot, row)| {
@@ -95,22 +91,22 @@ fn listed<R: Wait, A: Lane, B: Lane, C: Lane, D: Lane>(
     Some((rows.as_slice().len(), is_told))
 }
 
-pub(crate) fn accept_over<R: Wait, A: Lane, B: Lane, C: Lane, D: Lane, S: Read + Write>(
-    rt: &R,
-    alloc: Global,
-    pool: &Pool<NoGate, A, B, C, D>,
+pub(crate) fn accept_over<R: Wait, A: Lane, B: Lane, C: Lane, D: Lane, S: Read + Write + Drop>(
+    scene: Scene<'_, R, NoGate, A, B, C, D>,
     seat: &mut Seat<A, B, C, D>,
     own: &Replica,
-    stream: &mut S,
+    stream: S,
 ) -> Option<Accepted>
-    requires { pool.now.shards ≡ 2 }
+    requires { scene.pool.now.shards ≡ 2 }
 {
+    let Scene { rt, alloc, pool } = scene;
     let mut port = PoolLinkPort::new(rt, pool, 2);
-    let mut peer = Peer::new(*own, 2, End::Accepting, Form::One);
+    let peer = Peer::new(*own, 2, End::Accepting, Form::One);
+    let mut link = Link { stream, peer };
     let mut behind = [(false, EMPTY); 5];
     for line in &mut behind {
-        let came = accept_one(alloc, stream, &mut peer, &mut port, NOW).ok()?;
-        *line = (came, listed(rt, alloc, pool, seat)?);
+        let came = accept_one(alloc, &mut link, &mut port, NOW).ok()?;
+        *line = (came, listed(scene, seat)?);
     }
     Some(behind)
 }

@@ -6,11 +6,10 @@ use super::desk::track;
 use super::node::{Dialogue, node_over};
 use super::saying::next_beat;
 use node_links::{End, Line};
-use pool_desk::{key, meta, topic};
+use pool_desk::{Scene, key, meta, topic};
 use presence_base::Replica;
 use presence_node_link_ports::cut_off;
-use shard_pool::{Lane, NoGate, Pool, Seat};
-use std::alloc::Global;
+use shard_pool::{Lane, NoGate, Seat};
 use std::sync::Wait;
 
 // Two cuts are told as one, without the row that came behind them, and without that of node c.
@@ -59,14 +58,13 @@ const OTHER: &str = r#"["hello","c",1,2]
 const CROWD: u32 = 10_001;
 
 fn hears_another<R: Wait, A: Lane, B: Lane, C: Lane, D: Lane>(
-    rt: &R,
-    alloc: Global,
-    pool: &Pool<NoGate, A, B, C, D>,
+    scene: Scene<'_, R, NoGate, A, B, C, D>,
     own: &Replica,
 ) -> Option<()>
-    requires { pool.now.shards ≡ 2 }
+    requires { scene.pool.now.shards ≡ 2 }
 {
-    let mut node = node_over(rt, alloc, pool, *own, End::Accepting, OTHER);
+    let Scene { alloc, .. } = scene;
+    let mut node = node_over(scene, *own, End::Accepting, OTHER);
     node.accepts(alloc)?;
     node.accepts(alloc)?;
     Some(())
@@ -74,19 +72,18 @@ fn hears_another<R: Wait, A: Lane, B: Lane, C: Lane, D: Lane>(
 
 // A row, and behind a cut another one and an update of the first. Neither cut goes out.
 fn is_cut_twice<R: Wait, A: Lane, B: Lane, C: Lane, D: Lane>(
-    rt: &R,
-    alloc: Global,
-    pool: &Pool<NoGate, A, B, C, D>,
+    scene: Scene<'_, R, NoGate, A, B, C, D>,
     seat: &mut Seat<A, B, C, D>,
 ) -> Option<()>
-    requires { pool.now.shards ≡ 2 }
+    requires { scene.pool.now.shards ≡ 2 }
 {
+    let Scene { rt, alloc, pool } = scene;
     let topic = topic(alloc, "room:a")?;
     let key = key(alloc, "u2")?;
     let meta = meta(alloc)?;
-    track(rt, alloc, pool, seat, "u2")?;
+    track(scene, seat, "u2")?;
     cut_off(rt, alloc, pool, 0).ok()?;
-    track(rt, alloc, pool, seat, "u4")?;
+    track(scene, seat, "u4")?;
     pool.update(rt, alloc, seat, 5, &topic, &key, &meta).ok()?;
     cut_off(rt, alloc, pool, 0).ok()?;
     Some(())
@@ -94,16 +91,15 @@ fn is_cut_twice<R: Wait, A: Lane, B: Lane, C: Lane, D: Lane>(
 
 // Many rows come, and all go behind a cut. Neither that cut nor the one behind it goes out.
 fn is_outgrown<R: Wait, A: Lane, B: Lane, C: Lane, D: Lane>(
-    rt: &R,
-    alloc: Global,
-    pool: &Pool<NoGate, A, B, C, D>,
+    scene: Scene<'_, R, NoGate, A, B, C, D>,
     seat: &mut Seat<A, B, C, D>,
 ) -> Option<()>
-    requires { pool.now.shards ≡ 2 }
+    requires { scene.pool.now.shards ≡ 2 }
 {
+    let Scene { rt, alloc, pool } = scene;
     for number in 0..CROWD {
         let name = format!(in alloc; "k{number}").ok()?;
-        track(rt, alloc, pool, seat, name.as_str())?;
+        track(scene, seat, name.as_str())?;
     }
     cut_off(rt, alloc, pool, 0).ok()?;
     let topic = topic(alloc, "room:a")?;
@@ -113,21 +109,20 @@ fn is_outgrown<R: Wait, A: Lane, B: Lane, C: Lane, D: Lane>(
 }
 
 pub(crate) fn say_lost<'a, R: Wait, A: Lane, B: Lane, C: Lane, D: Lane>(
-    rt: &'a R,
-    alloc: Global,
-    pool: &'a Pool<NoGate, A, B, C, D>,
+    scene: Scene<'a, R, NoGate, A, B, C, D>,
     seat: &mut Seat<A, B, C, D>,
     own: &Replica,
     lost: Lost,
 ) -> Option<SayingLost>
-    requires { pool.now.shards ≡ 2 }
+    requires { scene.pool.now.shards ≡ 2 }
 {
-    hears_another(rt, alloc, pool, own)?;
+    let Scene { alloc, .. } = scene;
+    hears_another(scene, own)?;
     let dialogue = match lost {
         Lost::Kept => KEPT,
         Lost::Outgrown => OUTGROWN,
     };
-    let mut node = node_over(rt, alloc, pool, *own, End::Dialling, dialogue.answered);
+    let mut node = node_over(scene, *own, End::Dialling, dialogue.answered);
     let hello = Line::Hello {
         replica: *own,
         shards: 2,
@@ -135,11 +130,11 @@ pub(crate) fn say_lost<'a, R: Wait, A: Lane, B: Lane, C: Lane, D: Lane>(
     };
     let met = node.dials(alloc, &hello)?;
     match lost {
-        Lost::Kept => is_cut_twice(rt, alloc, pool, seat)?,
-        Lost::Outgrown => is_outgrown(rt, alloc, pool, seat)?,
+        Lost::Kept => is_cut_twice(scene, seat)?,
+        Lost::Outgrown => is_outgrown(scene, seat)?,
     }
-    let beat = next_beat(rt, alloc, pool)?;
-    track(rt, alloc, pool, seat, "u3")?;
+    let beat = next_beat(scene)?;
+    track(scene, seat, "u3")?;
     let told = node.dials(alloc, &beat)?;
     Some(([met, told], node.wrote(dialogue.said)))
 }

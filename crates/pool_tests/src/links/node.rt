@@ -2,11 +2,12 @@
 ghost use Rattle.std.specs.Prelude.{◌≡◌};
 
 use super::wire::Wire;
-use node_links::{End, Line, Peer, accept_one, dial};
+use node_links::{End, Line, Link, Peer, accept_one, dial};
 use orswot_core_told::Form;
+use pool_desk::Scene;
 use presence_base::Replica;
 use presence_node_link_ports::PoolLinkPort;
-use shard_pool::{Lane, NoGate, Pool};
+use shard_pool::{Lane, NoGate};
 use std::alloc::Global;
 use std::sync::Wait;
 
@@ -22,36 +23,35 @@ pub(crate) struct Dialogue {
 
 pub(crate) struct Node<'a, R: Wait, A: Lane, B: Lane, C: Lane, D: Lane> {
     pub port: PoolLinkPort<'a, R, NoGate, A, B, C, D>,
-    pub peer: Peer,
-    pub wire: Wire<'a>,
+    pub link: Link<Wire<'a>>,
 }
 
 impl<R: Wait, A: Lane, B: Lane, C: Lane, D: Lane> Drop for Node<'_, R, A, B, C, D> {
     fn drop(self) {
-        let Node { port, peer, wire } = self;
+        let Node { port, link } = self;
         drop(port);
-        drop(peer);
-        drop(wire);
+        drop(link);
     }
 }
 
 // The end of a link of this node, which is told these lines.
 pub(crate) fn node_over<'a, R: Wait, A: Lane, B: Lane, C: Lane, D: Lane>(
-    rt: &'a R,
-    alloc: Global,
-    pool: &'a Pool<NoGate, A, B, C, D>,
+    scene: Scene<'a, R, NoGate, A, B, C, D>,
     own: Replica,
     end: End,
     lines: &'a str,
 ) -> Node<'a, R, A, B, C, D>
-    requires { pool.now.shards ≡ 2 }
+    requires { scene.pool.now.shards ≡ 2 }
 {
+    let Scene { rt, alloc, pool } = scene;
     Node {
         port: PoolLinkPort::new(rt, pool, 2),
-        peer: Peer::new(own, 2, end, Form::One),
-        wire: Wire {
-            rest: lines.as_bytes(),
-            taken: Vec::new(alloc),
+        link: Link {
+            stream: Wire {
+                rest: lines.as_bytes(),
+                taken: Vec::new(alloc),
+            },
+            peer: Peer::new(own, 2, end, Form::One),
         },
     }
 }
@@ -59,24 +59,16 @@ pub(crate) fn node_over<'a, R: Wait, A: Lane, B: Lane, C: Lane, D: Lane>(
 impl<R: Wait, A: Lane, B: Lane, C: Lane, D: Lane> Node<'_, R, A, B, C, D> {
     // Whether the other end says that this node is gone there, behind this line.
     pub fn dials(&mut self, alloc: Global, line: &Line) -> Option<bool> {
-        dial(
-            alloc,
-            &mut self.wire,
-            &mut self.peer,
-            &mut self.port,
-            line,
-            NOW,
-        )
-        .ok()
+        dial(alloc, &mut self.link, &mut self.port, line, NOW).ok()
     }
 
     // Whether a line came.
     pub fn accepts(&mut self, alloc: Global) -> Option<bool> {
-        accept_one(alloc, &mut self.wire, &mut self.peer, &mut self.port, NOW).ok()
+        accept_one(alloc, &mut self.link, &mut self.port, NOW).ok()
     }
 
     // Whether it wrote these lines, and no others.
     pub fn wrote(&self, lines: &str) -> bool {
-        self.wire.taken.as_slice() == lines.as_bytes()
+        self.link.stream.taken.as_slice() == lines.as_bytes()
     }
 }

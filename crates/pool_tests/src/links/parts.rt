@@ -3,11 +3,11 @@ ghost use Rattle.std.specs.Prelude.{◌≡◌};
 
 use node_links::LinkPort;
 use orswot_core_told::Form;
-use pool_desk::{key, topic};
+use pool_desk::{Scene, key, topic};
 use presence_base::Meta;
 use presence_node_link_ports::PoolLinkPort;
 use serde_json::Value;
-use shard_pool::{Lane, NoGate, Pool, Seat};
+use shard_pool::{Lane, NoGate, Seat};
 use std::alloc::Global;
 use std::sync::Wait;
 
@@ -56,12 +56,11 @@ fn heavy_meta(alloc: Global, bytes: u32) -> Option<Meta> {
 
 // Tracks the rows in the first shard's room.
 fn track_heavy<R: Wait, A: Lane, B: Lane, C: Lane, D: Lane>(
-    rt: &R,
-    alloc: Global,
-    pool: &Pool<NoGate, A, B, C, D>,
+    scene: Scene<'_, R, NoGate, A, B, C, D>,
     seat: &mut Seat<A, B, C, D>,
     heavy: Heavy,
 ) -> Option<()> {
+    let Scene { rt, alloc, pool } = scene;
     let topic = topic(alloc, "room:a")?;
     let meta = heavy_meta(alloc, heavy.bytes)?;
     for number in 0..heavy.rows {
@@ -80,15 +79,14 @@ fn part_from<P: LinkPort>(port: &mut P, alloc: Global, from: u64) -> Option<(usi
 }
 
 pub(crate) fn say_parts<R: Wait, A: Lane, B: Lane, C: Lane, D: Lane>(
-    rt: &R,
-    alloc: Global,
-    pool: &Pool<NoGate, A, B, C, D>,
+    scene: Scene<'_, R, NoGate, A, B, C, D>,
     seat: &mut Seat<A, B, C, D>,
     heavy: Heavy,
 ) -> Option<SayingParts>
-    requires { pool.now.shards ≡ 2 }
+    requires { scene.pool.now.shards ≡ 2 }
 {
-    track_heavy(rt, alloc, pool, seat, heavy)?;
+    let Scene { rt, alloc, pool } = scene;
+    track_heavy(scene, seat, heavy)?;
     let mut port = PoolLinkPort::new(rt, pool, 2);
     let first = part_from(&mut port, alloc, 0)?;
     let second = part_from(&mut port, alloc, first.1)?;

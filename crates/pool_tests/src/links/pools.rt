@@ -16,14 +16,13 @@ use super::parts::{
     say_parts,
 };
 use super::saying::{FIRST, SAYING, Saying, say};
-use pool_desk::replica;
+use pool_desk::{Blanks, Scene, replica};
 use presence_base::Replica;
 use shard_pool::{Lane, NoGate, Pool, Seat};
 use std::alloc::Global;
 use std::marker::Brand;
 use std::net::TcpStream;
 use std::sync::Wait;
-use std::sync::ledger::Blank;
 use std::test::Fail;
 use std::thread;
 
@@ -56,38 +55,22 @@ enum Came {
 }
 
 fn run_over<A: Lane, B: Lane, C: Lane, D: Lane, R: Wait>(
-    rt: &R,
-    alloc: Global,
-    pool: &Pool<NoGate, A, B, C, D>,
+    scene: Scene<'_, R, NoGate, A, B, C, D>,
     seat: &mut Seat<A, B, C, D>,
     own: &Replica,
     run: Run,
 ) -> Option<Came>
-    requires { pool.now.shards ≡ 2 }
+    requires { scene.pool.now.shards ≡ 2 }
 {
     match run {
-        Run::Say => Some(Came::Said(say(rt, alloc, pool, seat, own)?)),
-        Run::SayLost(lost) => Some(Came::SaidLost(say_lost(rt, alloc, pool, seat, own, lost)?)),
-        Run::Hear(dialogue) => Some(Came::Heard(hear(rt, alloc, pool, seat, *own, dialogue)?)),
-        Run::SayCrowd(rows) => Some(Came::SaidCrowd(say_crowd(rt, alloc, pool, seat, rows)?)),
-        Run::HearCrowd(rows) => Some(Came::HeardCrowd(hear_crowd(rt, alloc, pool, rows)?)),
-        Run::SayParts(heavy) => Some(Came::SaidParts(say_parts(rt, alloc, pool, seat, heavy)?)),
-        Run::Dial(mut stream) => Some(Came::Dialled(dial_over(
-            rt,
-            alloc,
-            pool,
-            seat,
-            own,
-            &mut stream,
-        )?)),
-        Run::Accept(mut stream) => Some(Came::Accepted(accept_over(
-            rt,
-            alloc,
-            pool,
-            seat,
-            own,
-            &mut stream,
-        )?)),
+        Run::Say => Some(Came::Said(say(scene, seat, own)?)),
+        Run::SayLost(lost) => Some(Came::SaidLost(say_lost(scene, seat, own, lost)?)),
+        Run::Hear(dialogue) => Some(Came::Heard(hear(scene, seat, *own, dialogue)?)),
+        Run::SayCrowd(rows) => Some(Came::SaidCrowd(say_crowd(scene, seat, rows)?)),
+        Run::HearCrowd(rows) => Some(Came::HeardCrowd(hear_crowd(scene, rows)?)),
+        Run::SayParts(heavy) => Some(Came::SaidParts(say_parts(scene, seat, heavy)?)),
+        Run::Dial(stream) => Some(Came::Dialled(dial_over(scene, seat, own, stream)?)),
+        Run::Accept(stream) => Some(Came::Accepted(accept_over(scene, seat, own, stream)?)),
     }
 }
 
@@ -97,19 +80,26 @@ fn settled_run<A: Lane, B: Lane, C: Lane, D: Lane, R: Wait>(
     alloc: Global,
     own: Replica,
     run: Run,
-    first: Blank,
-    second: Blank,
-    third: Blank,
-    fourth: Blank,
+    blanks: Blanks,
 ) -> Option<Came>
     requires count { IsCount own.incarnation }
-    requires first { (first.name ≡ A.name) × (first.parts ≡ A.parts) × (first.parts ≡ 1) × (own.name ≡ A.node) }
-    requires second { (second.name ≡ B.name) × (second.parts ≡ B.parts) × (second.parts ≡ 1) × (own.name ≡ B.node) }
-    requires third { (third.name ≡ C.name) × (third.parts ≡ C.parts) × (third.parts ≡ 1) × (own.name ≡ C.node) }
-    requires fourth { (fourth.name ≡ D.name) × (fourth.parts ≡ D.parts) × (fourth.parts ≡ 1) × (own.name ≡ D.node) }
+    requires first { (blanks.first.name ≡ A.name) × (blanks.first.parts ≡ A.parts) × (blanks.first.parts ≡ 1)
+        × (own.name ≡ A.node) }
+    requires second { (blanks.second.name ≡ B.name) × (blanks.second.parts ≡ B.parts) × (blanks.second.parts ≡ 1)
+        × (own.name ≡ B.node) }
+    requires third { (blanks.third.name ≡ C.name) × (blanks.third.parts ≡ C.parts) × (blanks.third.parts ≡ 1)
+        × (own.name ≡ C.node) }
+    requires fourth { (blanks.fourth.name ≡ D.name) × (blanks.fourth.parts ≡ D.parts) × (blanks.fourth.parts ≡ 1)
+        × (own.name ≡ D.node) }
     requires begins { (A.begins (begun own)) × (B.begins (begun own)) × (C.begins (begun own))
         × (D.begins (begun own)) }
 {
+    let Blanks {
+        first,
+        second,
+        third,
+        fourth,
+    } = blanks;
     let started = Pool::<NoGate, A, B, C, D>::start(
         alloc, own, 2, 1, NoGate, first, second, third, fourth,
     );
@@ -117,7 +107,12 @@ fn settled_run<A: Lane, B: Lane, C: Lane, D: Lane, R: Wait>(
         return None;
     };
     let mut seat = seats.pop()?;
-    let came = run_over(rt, alloc, &pool, &mut seat, &own, run)?;
+    let scene = Scene {
+        rt,
+        alloc,
+        pool: &pool,
+    };
+    let came = run_over(scene, &mut seat, &own, run)?;
     pool.trim(rt, &mut seat);
     seats.push(seat).ok()?;
     if pool.settle(rt, alloc, seats).is_err() {
@@ -129,16 +124,7 @@ fn settled_run<A: Lane, B: Lane, C: Lane, D: Lane, R: Wait>(
 // What comes of a run over a new pool of the node of this name.
 fn came_of<R: Wait>(rt: &R, alloc: Global, name: &str, run: Run) -> Option<Came> {
     let own = replica(alloc, name)?;
-    settled_run::<Brand, Brand, Brand, Brand, R>(
-        rt,
-        alloc,
-        own,
-        run,
-        Blank::new(1),
-        Blank::new(1),
-        Blank::new(1),
-        Blank::new(1),
-    )
+    settled_run::<Brand, Brand, Brand, Brand, R>(rt, alloc, own, run, Blanks::new(1))
 }
 
 // Node a shows the row that node b tracked, until it asks for what it missed; and node b is gone there once it said so.

@@ -5,11 +5,10 @@ use super::desk::track;
 use super::node::{Dialogue, NOW, Node, node_over};
 use node_links::{End, Line};
 use orswot_core_told::Form;
-use pool_desk::{key, topic};
+use pool_desk::{Scene, key, topic};
 use presence_base::Replica;
 use presence_node_link_ports::{beat_of, cut_off, let_pass};
-use shard_pool::{Lane, NoGate, Pool, Seat};
-use std::alloc::Global;
+use shard_pool::{Lane, NoGate, Seat};
 use std::sync::Wait;
 
 const SAID: &str = r#"["hello","b",1,2]
@@ -41,12 +40,11 @@ pub(crate) const SAYING: Saying = ([false, false, false, false, true], true);
 
 // The beat of one period of the first shard.
 pub(crate) fn next_beat<R: Wait, A: Lane, B: Lane, C: Lane, D: Lane>(
-    rt: &R,
-    alloc: Global,
-    pool: &Pool<NoGate, A, B, C, D>,
+    scene: Scene<'_, R, NoGate, A, B, C, D>,
 ) -> Option<Line>
-    requires { pool.now.shards ≡ 2 }
+    requires { scene.pool.now.shards ≡ 2 }
 {
+    let Scene { rt, alloc, pool } = scene;
     let_pass(rt, alloc, pool, 0, NOW).ok()?;
     let cut = cut_off(rt, alloc, pool, 0).ok()?;
     beat_of(alloc, 0, &cut, Form::One).ok()
@@ -54,35 +52,31 @@ pub(crate) fn next_beat<R: Wait, A: Lane, B: Lane, C: Lane, D: Lane>(
 
 // One period of the first shard, whose beat goes out.
 fn beats<R: Wait, A: Lane, B: Lane, C: Lane, D: Lane>(
-    rt: &R,
-    alloc: Global,
-    pool: &Pool<NoGate, A, B, C, D>,
+    scene: Scene<'_, R, NoGate, A, B, C, D>,
     node: &mut Node<'_, R, A, B, C, D>,
 ) -> Option<bool>
-    requires { pool.now.shards ≡ 2 }
+    requires { scene.pool.now.shards ≡ 2 }
 {
-    let beat = next_beat(rt, alloc, pool)?;
+    let Scene { alloc, .. } = scene;
+    let beat = next_beat(scene)?;
     node.dials(alloc, &beat)
 }
 
 pub(crate) fn comes<R: Wait, A: Lane, B: Lane, C: Lane, D: Lane>(
-    rt: &R,
-    alloc: Global,
-    pool: &Pool<NoGate, A, B, C, D>,
+    scene: Scene<'_, R, NoGate, A, B, C, D>,
     seat: &mut Seat<A, B, C, D>,
 ) -> Option<()> {
-    track(rt, alloc, pool, seat, "u2")
+    track(scene, seat, "u2")
 }
 
 // The row goes, and the beat that would say so is lost.
 pub(crate) fn goes_unheard<R: Wait, A: Lane, B: Lane, C: Lane, D: Lane>(
-    rt: &R,
-    alloc: Global,
-    pool: &Pool<NoGate, A, B, C, D>,
+    scene: Scene<'_, R, NoGate, A, B, C, D>,
     seat: &mut Seat<A, B, C, D>,
 ) -> Option<()>
-    requires { pool.now.shards ≡ 2 }
+    requires { scene.pool.now.shards ≡ 2 }
 {
+    let Scene { rt, alloc, pool } = scene;
     let topic = topic(alloc, "room:a")?;
     let key = key(alloc, "u2")?;
     pool.untrack(rt, alloc, seat, 5, &topic, &key).ok()?;
@@ -91,26 +85,25 @@ pub(crate) fn goes_unheard<R: Wait, A: Lane, B: Lane, C: Lane, D: Lane>(
 }
 
 pub(crate) fn say<'a, R: Wait, A: Lane, B: Lane, C: Lane, D: Lane>(
-    rt: &'a R,
-    alloc: Global,
-    pool: &'a Pool<NoGate, A, B, C, D>,
+    scene: Scene<'a, R, NoGate, A, B, C, D>,
     seat: &mut Seat<A, B, C, D>,
     own: &Replica,
 ) -> Option<Saying>
-    requires { pool.now.shards ≡ 2 }
+    requires { scene.pool.now.shards ≡ 2 }
 {
-    let mut node = node_over(rt, alloc, pool, *own, End::Dialling, ANSWERED);
+    let Scene { alloc, .. } = scene;
+    let mut node = node_over(scene, *own, End::Dialling, ANSWERED);
     let hello = Line::Hello {
         replica: *own,
         shards: 2,
         version: None,
     };
     let met = node.dials(alloc, &hello)?;
-    comes(rt, alloc, pool, seat)?;
-    let came = beats(rt, alloc, pool, &mut node)?;
-    goes_unheard(rt, alloc, pool, seat)?;
-    let went = beats(rt, alloc, pool, &mut node)?;
+    comes(scene, seat)?;
+    let came = beats(scene, &mut node)?;
+    goes_unheard(scene, seat)?;
+    let went = beats(scene, &mut node)?;
     let ended = node.dials(alloc, &Line::PermDown { replica: *own })?;
-    let gone = beats(rt, alloc, pool, &mut node)?;
+    let gone = beats(scene, &mut node)?;
     Some(([met, came, went, ended, gone], node.wrote(SAID)))
 }

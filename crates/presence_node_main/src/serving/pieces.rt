@@ -2,7 +2,8 @@
 use super::fault::BeginFault;
 use presence_node_crew::Posts;
 use presence_node_duties::{
-    AddressLimits, Bench, ClientSocket, Door, Inbox, LISTENER, Limits, LinkTask, Mailbox, Workplace,
+    AddressLimits, Bench, ClientSocket, Door, DoorLimits, Inbox, LISTENER, LinkTask, WorkerMailbox,
+    Workplace,
 };
 use presence_node_options::ServeOptions;
 use presence_node_queue::Giver;
@@ -22,23 +23,23 @@ type Waiting = Giver<WebSocket<ClientSocket, NoMask>>;
 #[derive(Drop)]
 pub(crate) struct Entrance {
     pub listener: TcpListener,
-    pub limits: Limits,
+    pub limits: DoorLimits,
 }
 
 /// How many clients are let in by these options.
-pub(crate) fn limits_of(options: &ServeOptions) -> Limits {
+pub(crate) fn limits_of(options: &ServeOptions) -> DoorLimits {
     let addresses = AddressLimits {
         at_once: options.per_address,
         per_second: options.handshakes_per_second,
     };
-    Limits::of_workers(options.workers as usize, addresses)
+    DoorLimits::of_workers(options.workers as usize, addresses)
 }
 
 /// What the threads are given, and what wakes each of them.
 pub(crate) struct Stations<A: Lane, B: Lane, C: Lane, D: Lane> {
     pub posts: Posts<Workplace<A, B, C, D>, Door, LinkTask>,
     /// One of each worker, in their order.
-    pub mailboxes: Vec<Mailbox>,
+    pub mailboxes: Vec<WorkerMailbox>,
     pub door_bell: Bell,
 }
 
@@ -46,7 +47,7 @@ pub(crate) struct Stations<A: Lane, B: Lane, C: Lane, D: Lane> {
 #[derive(Drop)]
 struct Places<A: Lane, B: Lane, C: Lane, D: Lane> {
     places: Vec<Workplace<A, B, C, D>>,
-    mailboxes: Vec<Mailbox>,
+    mailboxes: Vec<WorkerMailbox>,
 }
 
 impl<A: Lane, B: Lane, C: Lane, D: Lane> Places<A, B, C, D> {
@@ -68,9 +69,9 @@ impl<A: Lane, B: Lane, C: Lane, D: Lane> Places<A, B, C, D> {
 }
 
 // What the others tell the worker of this watch, and wake it by.
-fn mailbox_of(alloc: Global, watch: &Watch) -> io::Result<Mailbox> {
+fn mailbox_of(alloc: Global, watch: &Watch) -> io::Result<WorkerMailbox> {
     let bell = watch.bell()?;
-    Ok(Mailbox {
+    Ok(WorkerMailbox {
         inbox: Inbox::new(alloc),
         looks: AtomicBool::new(false),
         drained: AtomicU64::new(0),

@@ -4,7 +4,7 @@ ghost use Rattle.presence_base.specs.Refs.{IsCount};
 ghost use Rattle.shard_pool.specs.Seats.{Hands};
 ghost use Rattle.presence_node_ends.specs.Ends.{Settles};
 ghost use Rattle.presence_node_main.specs.Ends.{IsEndFor};
-ghost use Rattle.presence_node_main.specs.Ledgers.{AreBegun, HaveParts};
+ghost use Rattle.presence_node_main.specs.Ledgers.{AreBegun, HaveParts, IsNameOfAll};
 
 use super::fault::BeginFault;
 use super::pieces::{Entrance, Stations, limits_of, stations_for};
@@ -305,9 +305,9 @@ where
     requires ledgers { (blanks.first.parts ≡ A.parts) × (blanks.second.parts ≡ B.parts)
         × (blanks.third.parts ≡ C.parts) × (blanks.fourth.parts ≡ D.parts) }
     requires parts { HaveParts blanks setting.now.options.now.workers }
-    requires node { (setting.now.options.now.name ≡ A.node) × (setting.now.options.now.name ≡ B.node)
-        × (setting.now.options.now.name ≡ C.node) × (setting.now.options.now.name ≡ D.node) }
-    requires begins { AreBegun A.begins B.begins C.begins D.begins setting.now.options.now.name setting.now.incarnation }
+    requires node { IsNameOfAll setting.now.options.now.name A.node B.node C.node D.node }
+    requires begins { AreBegun A.begins B.begins C.begins D.begins
+        setting.now.options.now.name setting.now.incarnation }
     ensures { IsEndFor setting.now.options.now result }
 {
     let options = setting.options;

@@ -1,5 +1,5 @@
 //! Waiting for the line that stops the server.
-use presence_node_crew::Ending;
+use presence_node_crew::AwaitEnd;
 use presence_node_lines::read_line;
 use std::alloc::Global;
 use std::io::{Input, Print, Read};
@@ -28,7 +28,7 @@ pub(crate) struct StopLine {
     pub alloc: Global,
 }
 
-impl<R: Input + Print> Ending<R> for StopLine {
+impl<R: Input + Print> AwaitEnd<R> for StopLine {
     // The server is told to be ready first. Where nobody can be told, it ends.
     fn await_end(&self, rt: &R) -> bool {
         rt.println("ready").is_err() || await_stop(self.alloc, &mut rt.reader())

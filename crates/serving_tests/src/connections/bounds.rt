@@ -6,6 +6,7 @@ use presence_node_client_streams::ClientStream;
 use presence_node_web_sockets::WebSocket;
 use session_desk::TestPort;
 use std::alloc::{AllocError, Global};
+use std::io;
 use std::io::{ErrorKind, Read, Write};
 use std::test::Fail;
 use tungstenite::{NoMask, Role};
@@ -63,6 +64,43 @@ fn a_stream_tells_since_when_it_finds_no_room(rt: HostRuntime) -> Result<(), Fai
     assert!(rt; !stream.has_recovered());
     assert_eq!(rt; stream.stream().taken.as_slice(), b"ab".as_slice());
     Ok(())
+}
+
+// A stream that takes one byte, and then has no room, by turns.
+#[derive(Drop)]
+struct Drip {
+    has_room: bool,
+}
+
+impl Write for Drip {
+    fn write(&mut self, buf: &[u8]) -> io::Result<usize> {
+        let had_room = self.has_room;
+        self.has_room = !had_room;
+        if had_room {
+            Ok(buf.len().min(1))
+        } else {
+            Err(io::Error::from(ErrorKind::WouldBlock))
+        }
+    }
+
+    fn flush(&mut self) -> io::Result<()> {
+        Ok(())
+    }
+}
+
+// A client that takes a byte a minute has stalled since the last one alone.
+#[test]
+fn a_stream_that_takes_some_stalls_anew(rt: HostRuntime) {
+    let mut stream = ClientStream::new(Drip { has_room: true });
+    for now in [1, 60_001, 120_001_u64] {
+        assert!(rt; matches!(stream.write(b"abc"), Ok(1)));
+        assert!(rt; stream.write(b"bc").is_err());
+        assert_eq!(rt; stream.stalled_since(now), Some(now));
+        assert_eq!(rt; stream.stalled_since(now.saturating_add(59_999)), Some(now));
+        assert!(rt; !stream.has_recovered());
+    }
+    assert!(rt; stream.write(b"d").is_ok());
+    assert!(rt; stream.has_recovered());
 }
 
 // Whether a read finds nothing, and how many reads have asked the stream inside by then.

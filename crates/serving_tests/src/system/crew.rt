@@ -1,7 +1,7 @@
 //! The threads of a server: each worker has one of its own, and hands back what it was given.
 ghost use Rattle.std.specs.Prelude.{◌≡◌, ◌/◌};
 
-use presence_node_crew::{Crew, Ending, Posts, Tools, run_crew};
+use presence_node_crew::{AwaitEnd, Crew, Posts, Tools, run_crew};
 use std::sync::Wait;
 use std::sync::atomic::{AtomicBool, AtomicU64, Ordering};
 use std::test::Fail;
@@ -98,7 +98,7 @@ impl<R: Wait + Clock> Crew<R, Load, u32, u64> for Halvers {
     }
 }
 
-impl<R: Clock> Ending<R> for Halvers {
+impl<R: Clock> AwaitEnd<R> for Halvers {
     fn await_end(&self, rt: &R) -> bool {
         self.look_for(rt, &self.attended);
         self.ends

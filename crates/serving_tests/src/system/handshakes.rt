@@ -1,7 +1,7 @@
 //! Handshakes over streams that give their bytes in pieces, and have nothing in between.
 
 use crate::front::look;
-use presence_node_handshakes::{Guests, Newcomer, Standing};
+use presence_node_handshakes::{Admission, Guests, Newcomer};
 use std::alloc::Global;
 use std::io;
 use std::io::{ErrorKind, Read, Write};
@@ -77,7 +77,7 @@ fn admit(
     let newcomer = Newcomer {
         number,
         stream,
-        standing: Standing::Welcome,
+        standing: Admission::Welcome,
     };
     let _gave_way = guests.admit(alloc, newcomer, WebSocketConfig::default())?;
     Ok(())

@@ -5,14 +5,13 @@ ghost use Rattle.presence_base.specs.Refs.{IsCount};
 
 use super::run::{Run, own_replica, play};
 use super::script::{Part, Says, Turn};
-use pool_desk::Crossing;
+use pool_desk::{Blanks, Crossing};
 use presence_base::Replica;
 use presence_node_ports::PoolPort;
 use shard_pool::{Gate, Lane, Pool, Seat};
 use std::alloc::Global;
 use std::marker::Brand;
 use std::sync::Wait;
-use std::sync::ledger::Blank;
 use std::test::Fail;
 use std::thread;
 use std::thread::Threads;
@@ -67,24 +66,25 @@ fn two_workers<
     C: Lane + Send + Sync,
     D: Lane + Send + Sync,
     R: Threads + Wait + Clock + Sync,
->(
-    rt: &R,
-    alloc: Global,
-    own: Replica,
-    gate: G,
-    first: Blank,
-    second: Blank,
-    third: Blank,
-    fourth: Blank,
-) -> Option<(usize, usize)>
+>(rt: &R, alloc: Global, own: Replica, gate: G, blanks: Blanks) -> Option<(usize, usize)>
     requires count { IsCount own.incarnation }
-    requires first { (first.name ≡ A.name) × (first.parts ≡ A.parts) × (first.parts ≡ 2) × (own.name ≡ A.node) }
-    requires second { (second.name ≡ B.name) × (second.parts ≡ B.parts) × (second.parts ≡ 2) × (own.name ≡ B.node) }
-    requires third { (third.name ≡ C.name) × (third.parts ≡ C.parts) × (third.parts ≡ 2) × (own.name ≡ C.node) }
-    requires fourth { (fourth.name ≡ D.name) × (fourth.parts ≡ D.parts) × (fourth.parts ≡ 2) × (own.name ≡ D.node) }
+    requires first { (blanks.first.name ≡ A.name) × (blanks.first.parts ≡ A.parts) × (blanks.first.parts ≡ 2)
+        × (own.name ≡ A.node) }
+    requires second { (blanks.second.name ≡ B.name) × (blanks.second.parts ≡ B.parts) × (blanks.second.parts ≡ 2)
+        × (own.name ≡ B.node) }
+    requires third { (blanks.third.name ≡ C.name) × (blanks.third.parts ≡ C.parts) × (blanks.third.parts ≡ 2)
+        × (own.name ≡ C.node) }
+    requires fourth { (blanks.fourth.name ≡ D.name) × (blanks.fourth.parts ≡ D.parts) × (blanks.fourth.parts ≡ 2)
+        × (own.name ≡ D.node) }
     requires begins { (A.begins (begun own)) × (B.begins (begun own)) × (C.begins (begun own))
         × (D.begins (begun own)) }
 {
+    let Blanks {
+        first,
+        second,
+        third,
+        fourth,
+    } = blanks;
     let started = Pool::<G, A, B, C, D>::start(
         alloc, own, 2, 2, gate, first, second, third, fourth,
     );
@@ -108,16 +108,7 @@ fn crossed<G: Gate + Drop + Sync, R: Threads + Wait + Clock + Sync>(
     gate: G,
 ) -> Option<(usize, usize)> {
     let own = own_replica(alloc)?;
-    two_workers::<G, Brand, Brand, Brand, Brand, R>(
-        rt,
-        alloc,
-        own,
-        gate,
-        Blank::new(2),
-        Blank::new(2),
-        Blank::new(2),
-        Blank::new(2),
-    )
+    two_workers::<G, Brand, Brand, Brand, Brand, R>(rt, alloc, own, gate, Blanks::new(2))
 }
 
 #[test]

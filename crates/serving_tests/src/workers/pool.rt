@@ -4,14 +4,21 @@ ghost use Rattle.std.specs.Prelude.{◌≡◌};
 ghost use Rattle.presence_base.specs.Refs.{IsCount};
 
 use super::run::{Run, own_replica, play};
+use pool_desk::Blanks;
 use presence_base::Replica;
 use presence_node_ports::PoolPort;
 use shard_pool::{Lane, NoGate, Pool, Seat, SettleFault};
 use std::alloc::Global;
 use std::marker::Brand;
 use std::sync::Wait;
-use std::sync::ledger::Blank;
 use std::time::Clock;
+
+// A run, and whether the second seat is left out where the pool settles.
+#[derive(Clone, Copy)]
+struct Served<'a> {
+    run: Run<'a>,
+    leave_out: bool,
+}
 
 // How much comes of a run at the first seat.
 fn run_at_first<A: Lane, B: Lane, C: Lane, D: Lane, R: Wait + Clock>(
@@ -43,27 +50,34 @@ fn settled_run<A: Lane, B: Lane, C: Lane, D: Lane, R: Wait + Clock>(
     rt: &R,
     alloc: Global,
     own: Replica,
-    run: Run<'_>,
-    leave_out: bool,
-    first: Blank,
-    second: Blank,
-    third: Blank,
-    fourth: Blank,
+    served: Served<'_>,
+    blanks: Blanks,
 ) -> Option<(usize, Result<u64, SettleFault>)>
     requires count { IsCount own.incarnation }
-    requires first { (first.name ≡ A.name) × (first.parts ≡ A.parts) × (first.parts ≡ 2) × (own.name ≡ A.node) }
-    requires second { (second.name ≡ B.name) × (second.parts ≡ B.parts) × (second.parts ≡ 2) × (own.name ≡ B.node) }
-    requires third { (third.name ≡ C.name) × (third.parts ≡ C.parts) × (third.parts ≡ 2) × (own.name ≡ C.node) }
-    requires fourth { (fourth.name ≡ D.name) × (fourth.parts ≡ D.parts) × (fourth.parts ≡ 2) × (own.name ≡ D.node) }
+    requires first { (blanks.first.name ≡ A.name) × (blanks.first.parts ≡ A.parts) × (blanks.first.parts ≡ 2)
+        × (own.name ≡ A.node) }
+    requires second { (blanks.second.name ≡ B.name) × (blanks.second.parts ≡ B.parts) × (blanks.second.parts ≡ 2)
+        × (own.name ≡ B.node) }
+    requires third { (blanks.third.name ≡ C.name) × (blanks.third.parts ≡ C.parts) × (blanks.third.parts ≡ 2)
+        × (own.name ≡ C.node) }
+    requires fourth { (blanks.fourth.name ≡ D.name) × (blanks.fourth.parts ≡ D.parts) × (blanks.fourth.parts ≡ 2)
+        × (own.name ≡ D.node) }
     requires begins { (A.begins (begun own)) × (B.begins (begun own)) × (C.begins (begun own))
         × (D.begins (begun own)) }
 {
+    let Blanks {
+        first,
+        second,
+        third,
+        fourth,
+    } = blanks;
     let started = Pool::<NoGate, A, B, C, D>::start(
         alloc, own, 4, 2, NoGate, first, second, third, fourth,
     );
     let Ok((pool, mut seats)) = started else {
         return None;
     };
+    let Served { run, leave_out } = served;
     let came = run_at_first(rt, alloc, &pool, &mut seats, run);
     if leave_out {
         let _second = seats.pop();
@@ -101,11 +115,7 @@ pub(crate) fn over_pool<R: Wait + Clock>(
         rt,
         alloc,
         own,
-        run,
-        leave_out,
-        Blank::new(2),
-        Blank::new(2),
-        Blank::new(2),
-        Blank::new(2),
+        Served { run, leave_out },
+        Blanks::new(2),
     )
 }

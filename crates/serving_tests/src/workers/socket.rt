@@ -5,7 +5,7 @@ use super::pool::over_pool;
 use super::run::Run;
 use crate::front::look;
 use crate::served::{REPLIES, TEXTS, add_frame, close_frame, frames};
-use presence_node_handshakes::{Guests, Newcomer, Standing};
+use presence_node_handshakes::{Admission, Guests, Newcomer};
 use presence_node_sockets::{listen, next_stream};
 use presence_node_web_sockets::WebSocket;
 use presence_node_workers::socket_config;
@@ -117,7 +117,7 @@ fn greet<R: Clock>(
             let newcomer = Newcomer {
                 number: 1,
                 stream,
-                standing: Standing::Welcome,
+                standing: Admission::Welcome,
             };
             guests.admit(alloc, newcomer, socket_config()).ok()?;
         }

@@ -90,7 +90,7 @@ fn raw_row(alloc: Global, live: &Live) -> Option<RawRow> {
         topic,
         key,
         pid: 5,
-        meta: Value::Object(Map::new(alloc)),
+        meta: Meta::new(alloc, Value::Object(Map::new(alloc))).ok()?,
         prev: None,
     })
 }

@@ -7,7 +7,7 @@ use Rattle.channel_session_events.proofs.events.told_got.Goals as goal
 pub returns-in-Ok : goal.returns-in-Ok
 returns-in-Ok g c =
     made_after (Worded (g.H.PresenceHooks.fetched c.args.hooks.now) (g.H.PresenceHooks.plain c.args.hooks.now)) _ _
-    (listed c.args.join.now.kind c.args.join.now.join_ref c.args.message.now c.in-Ok.rows.items ∷ []) c.got_reply.result c.spoiling.result
+    (listed c.args.incoming.join.now.kind c.args.incoming.join.now.join_ref c.args.incoming.message.now c.in-Ok.rows.items ∷ []) c.got_reply.result c.spoiling.result
     c.got_reply.ensures (λ s. search rules) (search rules) c.spoiling.ensures.ok c.spoiling.ensures.err
 
 pub returns-in-Err : goal.returns-in-Err

@@ -7,7 +7,7 @@ use Rattle.presence_node_workers.proofs.worker.deliver_all.Given as goal
 
 abbrev pub invariant-loop-key : goal.invariant-loop-key
 invariant-loop-key g l =
-    (AreKept l.clients l.fn.order
+    (AreKept l.clients l.fn.keys.order.now
     × ChainedTo (Delivers (around g.S.Read.remaining g.S.Write.contents g.P.Port.step g.H.PresenceHooks l.fn.hooks))
-    (served l.fn.clients l.fn.order) (served l.clients l.fn.order) l.key-index l.fn.port l.port)
-    × AreAtRest l.clients l.fn.resting.notes.items l.fn.order
+    (served l.fn.clients l.fn.keys.order.now) (served l.clients l.fn.keys.order.now) l.key-index l.fn.port l.port)
+    × AreAtRest l.clients l.fn.keys.resting.now.notes.items l.fn.keys.order.now

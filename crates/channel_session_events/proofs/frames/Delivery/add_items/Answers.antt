@@ -3,7 +3,7 @@ use Rattle.presence_journal.proofs.Walking.{drop_next}
 use Rattle.channel_session_rules.specs.InForce.{joined_of}
 use Rattle.channel_session_rules.specs.Said.{told, Worded, Noted}
 use Rattle.channel_session_events.proofs.Carried.{told_next, told_last}
-use Rattle.channel_session_events.proofs.frames.add_items.Goals as goal
+use Rattle.channel_session_events.proofs.frames.Delivery.add_items.Goals as goal
 
 pub loop-item-preserved : goal.loop-item-preserved
 loop-item-preserved g c = λ before h.

@@ -3,11 +3,11 @@ use Rattle.channel_session_rules.specs.InForce.{joined_of}
 use Rattle.channel_session_rules.specs.Said.{Said, told, Worded, Noted}
 use Rattle.channel_session_events.specs.Carrying.{Carries}
 use Rattle.channel_session_events.proofs.Carried.{Told}
-use Rattle.channel_session_events.proofs.frames.add_items.Given as goal
+use Rattle.channel_session_events.proofs.frames.Delivery.add_items.Given as goal
 
 -- what was told, followed by what is left
 abbrev pub invariant-loop-item : goal.invariant-loop-item
 invariant-loop-item g l =
-    (before : List Said) → Carries (Worded (g.H.PresenceHooks.fetched l.hooks) (g.H.PresenceHooks.plain l.hooks)) (Noted (g.H.PresenceHooks.joined l.hooks) (g.H.PresenceHooks.left l.hooks) (g.H.PresenceHooks.quiet l.hooks)) before l.fn.delivery
+    (before : List Said) → Carries (Worded (g.H.PresenceHooks.fetched l.hooks) (g.H.PresenceHooks.plain l.hooks)) (Noted (g.H.PresenceHooks.joined l.hooks) (g.H.PresenceHooks.left l.hooks) (g.H.PresenceHooks.quiet l.hooks)) before l.fn.self
     → Told (Worded (g.H.PresenceHooks.fetched l.hooks) (g.H.PresenceHooks.plain l.hooks)) (Noted (g.H.PresenceHooks.joined l.hooks) (g.H.PresenceHooks.left l.hooks) (g.H.PresenceHooks.quiet l.hooks))
     (before ++ map (told (joined_of (l.topic, l.join))) l.items) (map (told (joined_of (l.topic, l.join))) (drop l.item-index l.items)) l.delivery
