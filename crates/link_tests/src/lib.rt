@@ -27,6 +27,8 @@ mod limits;
 #[cfg(test)]
 mod lives;
 #[cfg(test)]
+mod metas;
+#[cfg(test)]
 mod port;
 #[cfg(test)]
 mod streams;
