@@ -1,5 +1,5 @@
 //! A text of a client, answered.
-ghost use Rattle.std.specs.Prelude.{◌≡◌, [], ◌<◌, ◌≤◌, length, map, vec_capacity, false, Err, IsTrue, if◌then◌else◌};
+ghost use Rattle.std.specs.Prelude.{◌≡◌, [], ◌<◌, ◌≤◌, length, map, vec_capacity, false, Err, IsTrue, IfOk, if◌then◌else◌};
 ghost use Rattle.presence_journal.specs.Limits.{is_payload};
 ghost use Rattle.phx_message.specs.declared.message.MessageFault.TheVariants.{TooLong};
 ghost use Rattle.channel_session_rules.specs.Replies.{messages_of};
@@ -15,7 +15,7 @@ use channel_session_rules::{Port, Reply, Stop};
 use hook_registry::PresenceHooks;
 use phx_message::{Limits, Message, MessageFault, decode};
 use presence_base::Topic;
-use std::alloc::Global;
+use std::alloc::{AllocError, Global};
 
 // The texts of a reply, in the list that was made for them.
 fn list_texts(mut texts: Vec<String>, reply: Reply) -> Vec<String>
@@ -62,6 +62,27 @@ impl Session {
             self.fail(topic);
         }
         fault_of_stop(stop)
+    }
+
+    // The message with a topic whose clones share its bytes: that of the session, where it is joined.
+    fn with_shared_topic(&self, message: Message) -> Result<Message, AllocError>
+        ensures { IfOk result (λ m. m ≡ message) }
+    {
+        let topic = self.topics.kept(&message.topic).clone()?;
+        let Message {
+            join_ref,
+            msg_ref,
+            topic: _topic,
+            event,
+            payload,
+        } = message;
+        Ok(Message {
+            join_ref,
+            msg_ref,
+            topic,
+            event,
+            payload,
+        })
     }
 
     // Answers a message.
@@ -116,6 +137,9 @@ pub fn run_text<P: Port, H: PresenceHooks>(
         Err(fault) => return Err(SessionFault::BadMessage(fault)),
     };
     let Ok(texts) = Vec::with_capacity(alloc, 2) else {
+        return Err(SessionFault::OutOfMemory);
+    };
+    let Ok(message) = session.with_shared_topic(message) else {
         return Err(SessionFault::OutOfMemory);
     };
     session.run_message(alloc, port, channels, message, texts)

@@ -1,13 +1,13 @@
 -- The topics in force as a map.
 use Rattle.std.proofs.Common.{◌≡◌, ℕ, List, [], ◌∷◌, ◌++◌, Bool, true, false, cond, map, Option, Some, None, option_map, refl, sym, ap, ◌∙◌, rules}
 use Rattle.std.specs.Borrow.{Bor}
-use Rattle.std.specs.Option.{option_copied}
+use Rattle.std.specs.Option.{option_copied, unwrap_or}
 use Rattle.std.specs.Cmp.Rules.{comparing}
 use Rattle.std.specs.Cmp.Lexicographic.{pointwise}
 use Rattle.std.specs.Prelude.{nat_eq, Result, Ok, Err, IsOk, OnOk}
 use Rattle.indexmap.specs.IndexMap.{IndexMap, insert_entry}
 use Rattle.indexmap.proofs.CallerLemmas.{insert_entry-new}
-use Rattle.std.specs.Map.{keys_of, lookup, remove_entry}
+use Rattle.std.specs.Map.{keys_of, lookup, lookup_key, remove_entry}
 use Rattle.presence_base.specs.Order.{same_text}
 use Rattle.presence_journal.proofs.Same.{same_text-true}
 use Rattle.channel_session_rules.specs.InForce.{Joined, joined_of, find, without_topic}
@@ -20,6 +20,11 @@ found_at : (t k : List ℕ) (join : Join) (b : Bool) (rest : Option Join) (other
     → option_map (λ s. joined_of (t, s)) (cond b (Some join) rest) ≡ cond b (Some (joined_of (k, join))) others
 found_at t k join true rest others same h = ap (λ (x : List ℕ). Some (joined_of (x, join))) (same refl)
 found_at t k join false rest others same h = h
+
+key_at : (t : List ℕ) (b : Bool) (found : List ℕ) (rest : Option (List ℕ)) (k : List ℕ) → (b ≡ true → found ≡ t) → (rest ≡ Some k → k ≡ t)
+    → cond b (Some found) rest ≡ Some k → k ≡ t
+key_at t true found rest k first others h = sym (ap (λ (o : Option (List ℕ)). unwrap_or o found) h) ∙ first refl
+key_at t false found rest k first others h = others h
 
 gone_at : (b : Bool) (e : List ℕ × Join) (es rest : List (List ℕ × Join)) (others : List Joined) → map joined_of rest ≡ others
     → map joined_of (cond b es (e ∷ rest)) ≡ cond b (map joined_of es) (joined_of e ∷ others)
@@ -41,6 +46,11 @@ module _ (t : List ℕ) (test : List ℕ → Bool) (is : (k : List ℕ) → test
 
   pub find-none : (es : List (List ℕ × Join)) → lookup test es ≡ None → find t (map joined_of es) ≡ None
   find-none es h = sym (find-lookup es) ∙ ap (option_map (λ (s : Join). joined_of (t, s))) h
+
+  -- a key that is found is the topic
+  pub key-is : (es : List (List ℕ × Join)) (k : List ℕ) → lookup_key test es ≡ Some k → k ≡ t
+  key-is [] k h = absurd (cc)
+  key-is (e ∷ es) k h = key_at t (test e.0) e.0 (lookup_key test es) k (λ yes. sym (same_text-true t e.0 (sym (is e.0) ∙ yes))) (key-is es k) h
 
   none_of : (o : Option Join) → option_map (λ s. joined_of (t, s)) o ≡ None → o ≡ None
   none_of None h = refl

@@ -65,6 +65,16 @@ impl Topics {
         self.joins.get(topic)
     }
 
+    /// The topic as the session keeps it, where it is joined, and else as it is.
+    pub fn kept<'a>(&'a self, topic: &'a Topic) -> &'a Topic
+        ensures { result.now ≡ topic.now }
+    {
+        match self.joins.get_key_value(topic) {
+            Some((kept, _join)) => kept,
+            None => topic,
+        }
+    }
+
     /// The topic of this place in the order of joining, with its present join.
     pub fn at(&self, index: usize) -> Option<(&Topic, &Join)>
         ensures { option_map (λ e. joined_of (e.0.now, e.1.now)) result ≡ slice_get (joined_in self.now) index }
