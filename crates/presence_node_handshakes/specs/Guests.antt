@@ -28,8 +28,8 @@ module _ {S : Type 0} {reads : ReadGhosts S} {writes : WriteGhosts S} where
   pub record IsNew (number : ℕ) (config : WebSocketConfig) (g : Guest S reads writes) : Type 0 where
     pub greeting : Greeting S reads writes
     pub new : g ≡ record { number = number; ready = true; greeting = Some greeting }
-    pub config_is : greeting.config ≡ config
-    pub no_looks : greeting.empty_reads ≡ 0
+    pub config_is : greeting.party.config ≡ config
+    pub no_looks : greeting.party.empty_reads ≡ 0
 
   -- The oldest gives way to one too many, and nobody else goes.
   abbrev pub Fits : List (Guest S reads writes) → Bool → List (Guest S reads writes) → Type 0

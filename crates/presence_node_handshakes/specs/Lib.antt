@@ -1,3 +1,4 @@
+pub mod Addresses
 pub mod Greeting
 pub mod Guests
 pub mod Seating

@@ -1,25 +1,29 @@
 //! One client's handshake.
-ghost use Rattle.std.specs.Prelude.{◌≡◌, ◌<◌};
-ghost use Rattle.presence_node_handshakes.specs.declared.greeting.TheConstants.{MAX_EMPTY_READS};
+ghost use Rattle.std.specs.Prelude.{◌≡◌, ◌⊎◌};
+ghost use Rattle.presence_node_handshakes.specs.Greeting.{while_well_in};
 ghost use Rattle.presence_node_requests.specs.Heads.{HasRequest};
 
-use crate::front::{Front, Tells};
-use crate::seating::{Admission, seated};
-use presence_node_requests::{Answer, Parsed, Reply, Request, answer_of, read_request, reply_of};
+use crate::front::{Front, Keeper, Tells};
+use crate::party::{MAX_EMPTY_READS, Party};
+use crate::seating::seated;
+use presence_node_requests::{
+    Answer, Parsed, Reply, Request, answer_of, plain, read_request, reply_of,
+};
 use presence_node_web_sockets::WebSocket;
 use std::alloc::{AllocError, Global};
 use std::io::{ErrorKind, Read, Write};
+use std::net::IpAddr;
 use thiserror::Error;
-use tungstenite::{NoMask, Role, WebSocketConfig};
-
-/// After so many looks that end with nothing more to read a handshake is given up.
-pub const MAX_EMPTY_READS: u32 = 200;
+use tungstenite::{NoMask, Role};
 
 /// How many bytes a request's head has at most.
 pub const MAX_HEAD_BYTES: usize = 8_192;
 
 // How many bytes one read asks for.
 const PIECE_BYTES: usize = 2_048;
+
+/// How many bytes are read behind an answer and thrown away, until the client ends its side.
+const MAX_CLOSING_BYTES: usize = 1_048_576;
 
 /// Why a connection ends without a WebSocket.
 #[derive(Clone, Copy, PartialEq, Eq, Debug, Error)]
@@ -35,31 +39,24 @@ pub enum GivenUp {
 // What is done of a handshake.
 #[derive(Drop)]
 enum Stage {
-    /// The request's bytes so far, and how the client stands.
-    Reads(Vec<u8>, Admission),
+    /// The request's bytes so far.
+    Reads(Vec<u8>),
     /// What is sent for it.
     Writes(Reply),
+    /// It was answered without a WebSocket, and the server's side is ended. So many bytes more are thrown away.
+    Closes(usize),
 }
 
 /// A handshake that has begun and is not over.
 pub struct Greeting<S: Read + Write + Drop> {
-    stream: S,
-    config: WebSocketConfig,
+    party: Party<S>,
     stage: Stage,
-    empty_reads: u32,
-    ghost patient: { empty_reads < MAX_EMPTY_READS },
 }
 
 impl<S: Read + Write + Drop> Drop for Greeting<S> {
     fn drop(self) {
-        let Greeting {
-            stream,
-            config,
-            stage,
-            empty_reads: _,
-        } = self;
-        drop(stream);
-        drop(config);
+        let Greeting { party, stage } = self;
+        drop(party);
         drop(stage);
     }
 }
@@ -71,7 +68,8 @@ pub enum Greeted<S: Read + Write + Drop> {
     Open(WebSocket<S, NoMask>),
     /// The stream had nothing more.
     Waits(Greeting<S>),
-    GivenUp(GivenUp),
+    /// The connection ends, which was of this address.
+    GivenUp(GivenUp, IpAddr),
 }
 
 // What came of reading.
@@ -92,29 +90,50 @@ enum Written {
     Ends,
 }
 
-// What a request for a WebSocket is answered by: how its client stands, and the places that are left.
-#[derive(Drop)]
-struct Seats<'p> {
-    standing: Admission,
-    places: &'p mut u64,
+// What a request gets while the program is well, or isn't.
+fn while_well(answer: Answer, is_well: bool) -> Answer
+    ensures { result ≡ while_well_in is_well answer }
+{
+    if answer == Answer::Health && !is_well {
+        Answer::Unwell
+    } else {
+        answer
+    }
 }
 
-// What is sent for a request, if anything is.
-fn reply_for<T: Tells>(
+// What the request gets that a client sends by this head.
+fn answer_for<S: Read + Write + Drop, T: Tells, K: Keeper<S>>(
     alloc: Global,
     head: &[u8],
     request: &Request<'_>,
-    seats: &mut Seats<'_>,
-    front: &Front<'_, T>,
+    party: &mut Party<S>,
+    front: &mut Front<'_, T, K>,
+) -> Answer
+    ensures config { party.new.config ≡ party.old.config }
+    ensures reads { party.new.empty_reads ≡ party.old.empty_reads }
+{
+    let answer = while_well(answer_of(request, &front.site), front.tells.is_well());
+    if !matches!(answer, Answer::Socket(_)) {
+        return answer;
+    }
+    let standing = party.standing_by(alloc, head, front);
+    seated(answer, standing, &mut front.places)
+}
+
+// What is sent for a request, if anything is.
+fn reply_for<S: Read + Write + Drop, T: Tells, K: Keeper<S>>(
+    alloc: Global,
+    head: &[u8],
+    request: &Request<'_>,
+    party: &mut Party<S>,
+    front: &mut Front<'_, T, K>,
 ) -> Result<Option<Reply>, AllocError>
     requires { HasRequest head.now request.now }
+    ensures config { party.new.config ≡ party.old.config }
+    ensures reads { party.new.empty_reads ≡ party.old.empty_reads }
 {
-    let answer = seated(
-        answer_of(request, front.origins),
-        seats.standing,
-        seats.places,
-    );
-    front.tells.answered(answer);
+    let answer = answer_for(alloc, head, request, party, front);
+    front.tells.answered(answer, &party.address);
     if answer == Answer::Metrics {
         let metrics = front.tells.metrics(alloc)?;
         return reply_of(alloc, head, request, answer, metrics.as_str());
@@ -122,17 +141,30 @@ fn reply_for<T: Tells>(
     reply_of(alloc, head, request, answer, "")
 }
 
+// What is sent where a request's head is longer than one may be.
+fn too_long<T: Tells, K>(alloc: Global, address: &IpAddr, front: &Front<'_, T, K>) -> Heard {
+    front.tells.answered(Answer::LongHead, address);
+    match plain(alloc, Answer::LongHead, "", true) {
+        Ok(reply) => Heard::Whole(reply),
+        Err(_) => Heard::Ends,
+    }
+}
+
 // What these bytes of a client are answered by. Bytes that may become a request wait for more.
-fn look_at<T: Tells>(
+fn look_at<S: Read + Write + Drop, T: Tells, K: Keeper<S>>(
     alloc: Global,
     head: &[u8],
-    seats: &mut Seats<'_>,
-    front: &Front<'_, T>,
-) -> Heard {
+    party: &mut Party<S>,
+    front: &mut Front<'_, T, K>,
+) -> Heard
+    ensures config { party.new.config ≡ party.old.config }
+    ensures reads { party.new.empty_reads ≡ party.old.empty_reads }
+{
     match read_request(head) {
-        Parsed::Partial => Heard::Waits,
+        Parsed::Partial if head.len() < MAX_HEAD_BYTES => Heard::Waits,
+        Parsed::Partial | Parsed::Long => too_long(alloc, &party.address, front),
         Parsed::Junk => Heard::Ends,
-        Parsed::Whole(request) => match reply_for(alloc, head, &request, seats, front) {
+        Parsed::Whole(request) => match reply_for(alloc, head, &request, party, front) {
             Ok(Some(reply)) => Heard::Whole(reply),
             Ok(None) | Err(_) => Heard::Ends,
         },
@@ -140,25 +172,28 @@ fn look_at<T: Tells>(
 }
 
 // Reads on until the request is whole or the stream has nothing more.
-fn read_on<S: Read, T: Tells>(
+fn read_on<S: Read + Write + Drop, T: Tells, K: Keeper<S>>(
     alloc: Global,
-    stream: &mut S,
     head: &mut Vec<u8>,
-    seats: &mut Seats<'_>,
-    front: &Front<'_, T>,
-) -> Heard {
+    party: &mut Party<S>,
+    front: &mut Front<'_, T, K>,
+) -> Heard
+    ensures config { party.new.config ≡ party.old.config }
+    ensures reads { party.new.empty_reads ≡ party.old.empty_reads }
+{
     let mut piece = [0; PIECE_BYTES];
-    for _ in 0..MAX_HEAD_BYTES {
-        let count = match stream.read(&mut piece) {
+    for _ in 0..=MAX_HEAD_BYTES {
+        let most = PIECE_BYTES.min(MAX_HEAD_BYTES.saturating_sub(head.len()));
+        let count = match party.stream.read(&mut piece[..most]) {
             Ok(0) => return Heard::Ends,
             Ok(count) => count,
             Err(e) if e.kind() == ErrorKind::WouldBlock => return Heard::Waits,
             Err(_) => return Heard::Ends,
         };
-        if head.len() + count > MAX_HEAD_BYTES || head.extend_from_slice(&piece[..count]).is_err() {
+        if head.extend_from_slice(&piece[..count]).is_err() {
             return Heard::Ends;
         }
-        match look_at(alloc, head.as_slice(), seats, front) {
+        match look_at(alloc, head.as_slice(), party, front) {
             Heard::Waits => {}
             ended => return ended,
         }
@@ -188,66 +223,107 @@ fn write_on<S: Write>(stream: &mut S, reply: &mut Reply) -> Written
     }
 }
 
+// Throws away what comes, up to so many bytes: how many may still come, or none where the client has ended its side.
+fn throw_away<S: Read>(stream: &mut S, most: usize) -> Option<usize> {
+    let mut left = most;
+    let mut piece = [0; PIECE_BYTES];
+    while left > 0 {
+        let asked = PIECE_BYTES.min(left);
+        match stream.read(&mut piece[..asked]) {
+            Ok(0) => return None,
+            Ok(count) => left -= count,
+            Err(e) if e.kind() == ErrorKind::WouldBlock => return Some(left),
+            Err(_) => return None,
+        }
+    }
+    None
+}
+
+// Why a handshake is given up that was looked at so often.
+fn late(stage: &Stage) -> GivenUp
+    ensures { (result ≡ GivenUp.Answered) ⊎ (result ≡ GivenUp.Silent) }
+{
+    match stage {
+        Stage::Closes(_) => GivenUp::Answered,
+        _ => GivenUp::Silent,
+    }
+}
+
 impl<S: Read + Write + Drop> Greeting<S> {
-    ghost use Rattle.std.specs.Prelude.{◌≡◌, ◌<◌};
+    ghost use Rattle.std.specs.Prelude.{◌≡◌};
+    ghost use Rattle.tungstenite.specs.Heads.{Heard};
     ghost use Rattle.presence_node_handshakes.specs.Greeting.{Follows, GoesOn};
 
-    /// A handshake on this stream, which gives a socket of this configuration, if the client may have one.
-    pub fn new(
-        alloc: Global,
-        stream: S,
-        config: WebSocketConfig,
-        standing: Admission,
-    ) -> Greeting<S>
-        ensures reads { result.empty_reads ≡ 0 }
-        ensures config { result.config ≡ config }
+    /// A handshake with this party, of which nothing was read yet.
+    pub(crate) fn new(alloc: Global, party: Party<S>) -> Greeting<S>
+        ensures { result.party ≡ party }
     {
         Greeting {
-            stream,
-            config,
-            stage: Stage::Reads(Vec::new(alloc), standing),
-            empty_reads: 0,
+            party,
+            stage: Stage::Reads(Vec::new(alloc)),
         }
     }
 
     // A handshake that has this left to do once the stream is ready again. After too many such looks it is given up.
-    fn waiting(stream: S, config: WebSocketConfig, stage: Stage, empty_reads: u32) -> Greeted<S>
-        requires { empty_reads < MAX_EMPTY_READS }
-        ensures { Follows config empty_reads result }
+    fn waiting(party: Party<S>, stage: Stage) -> Greeted<S>
+        ensures { Follows party.config party.empty_reads result }
     {
-        let empty_reads = empty_reads + 1;
+        let mut party = party;
+        let empty_reads = party.empty_reads + 1;
         if empty_reads >= MAX_EMPTY_READS {
-            return Greeted::GivenUp(GivenUp::Silent);
+            return Greeted::GivenUp(late(&stage), party.address);
         }
-        Greeted::Waits(Greeting {
-            stream,
-            config,
-            stage,
-            empty_reads,
-        })
+        party.empty_reads = empty_reads;
+        Greeted::Waits(Greeting { party, stage })
     }
 
-    // Sends a reply, or what is left of it. Behind one that opens a WebSocket it is open.
-    fn sending(
-        alloc: Global,
-        stream: S,
-        config: WebSocketConfig,
-        reply: Reply,
-        empty_reads: u32,
-    ) -> Greeted<S>
-        requires { empty_reads < MAX_EMPTY_READS }
-        ensures { Follows config empty_reads result }
+    // Throws away what comes behind an answer, so that the answer isn't reset by it.
+    fn closing(party: Party<S>, most: usize) -> Greeted<S>
+        ensures { Follows party.config party.empty_reads result }
     {
-        let mut stream = stream;
-        let mut reply = reply;
-        match write_on(&mut stream, &mut reply) {
-            Written::Waits => Greeting::waiting(stream, config, Stage::Writes(reply), empty_reads),
-            Written::Ends => Greeted::GivenUp(GivenUp::Failed),
-            Written::All if reply.opens() => {
-                Greeted::Open(WebSocket::new(alloc, stream, NoMask, Role::Server, config))
-            }
-            Written::All => Greeted::GivenUp(GivenUp::Answered),
+        let mut party = party;
+        match throw_away(&mut party.stream, most) {
+            Some(left) => Greeting::waiting(party, Stage::Closes(left)),
+            None => Greeted::GivenUp(GivenUp::Answered, party.address),
         }
+    }
+
+    // Sends a reply, or what is left of it. Behind one that opens a WebSocket it is open, and behind another one the
+    // server's side is ended.
+    fn sending<T, K: Keeper<S>>(
+        alloc: Global,
+        party: Party<S>,
+        reply: Reply,
+        front: &mut Front<'_, T, K>,
+    ) -> Greeted<S>
+        ensures { Follows party.config party.empty_reads result }
+    {
+        let mut party = party;
+        let mut reply = reply;
+        match write_on(&mut party.stream, &mut reply) {
+            Written::Waits => Greeting::waiting(party, Stage::Writes(reply)),
+            Written::Ends => Greeted::GivenUp(GivenUp::Failed, party.address),
+            Written::All if reply.opens() => Greeting::open(alloc, party),
+            Written::All => {
+                front.keeper.hang_up(&mut party.stream);
+                Greeting::closing(party, MAX_CLOSING_BYTES)
+            }
+        }
+    }
+
+    // The WebSocket with this party.
+    fn open(alloc: Global, party: Party<S>) -> Greeted<S>
+        requires { Heard }
+        ensures { Follows party.config party.empty_reads result }
+    {
+        let Party {
+            stream,
+            address: _,
+            standing: _,
+            config,
+            empty_reads: _,
+        } = party;
+        Greeted::Open(WebSocket::new(alloc, stream, NoMask, Role::Server, config))
     }
 
     /// Whether the client is being told that a WebSocket follows.
@@ -258,41 +334,24 @@ impl<S: Read + Write + Drop> Greeting<S> {
     /// Goes on with the handshake until it is done, the request is answered otherwise, or the stream has nothing more.
     /// One that is answered by a WebSocket takes one of the places.
     /// When a look fails, and so gives it up at once, is only tested.
-    pub fn go_on<T: Tells>(
+    pub fn go_on<T: Tells, K: Keeper<S>>(
         self,
         alloc: Global,
-        front: &Front<'_, T>,
-        places: &mut u64,
+        front: &mut Front<'_, T, K>,
     ) -> Greeted<S>
         ensures { GoesOn self result }
     {
-        let Greeting {
-            stream,
-            config,
-            stage,
-            empty_reads,
-        } = self;
-        let mut stream = stream;
-        let (mut head, standing) = match stage {
-            Stage::Reads(head, standing) => (head, standing),
-            Stage::Writes(reply) => return Greeting::sending(
-                alloc,
-                stream,
-                config,
-                reply,
-                empty_reads,
-            ),
+        let Greeting { party, stage } = self;
+        let mut party = party;
+        let mut head = match stage {
+            Stage::Reads(head) => head,
+            Stage::Writes(reply) => return Greeting::sending(alloc, party, reply, front),
+            Stage::Closes(left) => return Greeting::closing(party, left),
         };
-        let mut seats = Seats { standing, places };
-        match read_on(alloc, &mut stream, &mut head, &mut seats, front) {
-            Heard::Waits => Greeting::waiting(
-                stream,
-                config,
-                Stage::Reads(head, standing),
-                empty_reads,
-            ),
-            Heard::Whole(reply) => Greeting::sending(alloc, stream, config, reply, empty_reads),
-            Heard::Ends => Greeted::GivenUp(GivenUp::Failed),
+        match read_on(alloc, &mut head, &mut party, front) {
+            Heard::Waits => Greeting::waiting(party, Stage::Reads(head)),
+            Heard::Whole(reply) => Greeting::sending(alloc, party, reply, front),
+            Heard::Ends => Greeted::GivenUp(GivenUp::Failed, party.address),
         }
     }
 }

@@ -3,12 +3,14 @@ ghost use Rattle.std.specs.Prelude.{◌≡◌, ◌≤◌, ◌+◌, ◌==◌, [],
 ghost use Rattle.presence_node_handshakes.specs.declared.guests.TheConstants.{MAX_HANDSHAKES};
 ghost use Rattle.presence_node_handshakes.specs.Guests.{Admits, Fits, Looks, LooksAll, LooksInto, Turns, is_under_way, marked, readied};
 
-use crate::front::{Front, Tells};
+use crate::front::{Front, Keeper, Tells};
 use crate::greeting::{Greeted, Greeting};
+use crate::party::Party;
 use crate::seating::Admission;
 use presence_node_web_sockets::WebSocket;
 use std::alloc::{AllocError, Global};
 use std::io::{Read, Write};
+use std::net::IpAddr;
 use tungstenite::{NoMask, WebSocketConfig};
 
 /// How many handshakes may be under way.
@@ -34,11 +36,13 @@ impl<S: Read + Write + Drop> Drop for Guest<S> {
     }
 }
 
-/// A client that has come: its number, its stream, and how it stands.
+/// A client that has come: its number, its stream, whose address that is, and how it stands, or none where that is a proxy
+/// which tells of it.
 pub struct Newcomer<S: Drop> {
     pub number: u64,
     pub stream: S,
-    pub standing: Admission,
+    pub address: IpAddr,
+    pub standing: Option<Admission>,
 }
 
 impl<S: Drop> Drop for Newcomer<S> {
@@ -46,6 +50,7 @@ impl<S: Drop> Drop for Newcomer<S> {
         let Newcomer {
             number: _,
             stream,
+            address: _,
             standing: _,
         } = self;
         drop(stream);
@@ -56,15 +61,23 @@ impl<S: Read + Write + Drop> Newcomer<S> {
     // Its number, and its handshake, which begins.
     fn greeted(self, alloc: Global, config: WebSocketConfig) -> (u64, Greeting<S>)
         ensures number { result.0 ≡ self.number }
-        ensures reads { result.1.empty_reads ≡ 0 }
-        ensures config { result.1.config ≡ config }
+        ensures reads { result.1.party.empty_reads ≡ 0 }
+        ensures config { result.1.party.config ≡ config }
     {
         let Newcomer {
             number,
             stream,
+            address,
             standing,
         } = self;
-        (number, Greeting::new(alloc, stream, config, standing))
+        let party = Party {
+            stream,
+            address,
+            standing,
+            config,
+            empty_reads: 0,
+        };
+        (number, Greeting::new(alloc, party))
     }
 }
 
@@ -100,11 +113,10 @@ impl<S: Read + Write + Drop> Guest<S> {
     }
 
     // Goes on with the handshake, if the client is ready: the socket, if it is done.
-    fn look<T: Tells>(
+    fn look<T: Tells, K: Keeper<S>>(
         &mut self,
         alloc: Global,
-        front: &Front<'_, T>,
-        places: &mut u64,
+        front: &mut Front<'_, T, K>,
     ) -> Option<WebSocket<S, NoMask>>
         ensures { Looks self.old self.new result }
     {
@@ -112,25 +124,24 @@ impl<S: Read + Write + Drop> Guest<S> {
             return None;
         }
         self.ready = false;
-        match self.greeting.take()?.go_on(alloc, front, places) {
+        match self.greeting.take()?.go_on(alloc, front) {
             Greeted::Open(socket) => Some(socket),
             Greeted::Waits(greeting) => {
                 self.greeting = Some(greeting);
                 None
             }
-            Greeted::GivenUp(cause) => {
-                front.tells.gave_up(cause);
+            Greeted::GivenUp(cause, address) => {
+                front.tells.gave_up(cause, &address);
                 None
             }
         }
     }
 
     // Goes on with the handshake, and puts its socket behind the others, if it is done.
-    fn look_into<T: Tells>(
+    fn look_into<T: Tells, K: Keeper<S>>(
         &mut self,
         alloc: Global,
-        front: &Front<'_, T>,
-        places: &mut u64,
+        front: &mut Front<'_, T, K>,
         opened: &mut Vec<Opened<S>>,
     ) -> Result<(), AllocError>
         ensures looked { OnOk result (LooksInto self.old self.new opened.old.items opened.new.items) }
@@ -139,7 +150,7 @@ impl<S: Read + Write + Drop> Guest<S> {
         ensures full { OnErr result (vec_capacity opened.old ≤ vec_len opened.old) }
     {
         let number = self.number;
-        if let Some(socket) = self.look(alloc, front, places) {
+        if let Some(socket) = self.look(alloc, front) {
             opened.push((number, socket))?;
         }
         Ok(())
@@ -231,18 +242,17 @@ impl<S: Read + Write + Drop> Guests<S> {
     }
 
     // Goes on with each handshake that is ready: the sockets of those that are done.
-    fn look_at_all<T: Tells>(
+    fn look_at_all<T: Tells, K: Keeper<S>>(
         &mut self,
         alloc: Global,
-        front: &Front<'_, T>,
-        places: &mut u64,
+        front: &mut Front<'_, T, K>,
     ) -> Result<Vec<Opened<S>>, AllocError>
         ensures looked { IfOk result (λ opened. LooksAll self.old.guests.items self.new.guests.items opened.items) }
         ensures no_room { OnErr result (self.new ≡ self.old) }
     {
         let mut opened = Vec::with_capacity(alloc, self.guests.len())?;
         for guest in self.guests.iter_mut() {
-            guest.look_into(alloc, front, places, &mut opened)?;
+            guest.look_into(alloc, front, &mut opened)?;
         }
         Ok(opened)
     }
@@ -255,18 +265,16 @@ impl<S: Read + Write + Drop> Guests<S> {
     }
 
     /// Goes on with each handshake that is ready: the sockets of those that are done, in the order of their clients.
-    /// Clients whose handshakes are over go, and so do those whose requests were answered otherwise, from `front`, as all are who ask for a WebSocket where so many were promised one as there are places. Where memory for all that may be done is wanting, nothing is done.
-    pub fn turn<T: Tells>(
+    /// Clients whose handshakes are over go, and so do those whose requests were answered otherwise, from `front`, as all are who ask for a WebSocket where none of its places is left. Where memory for all that may be done is wanting, nothing is done.
+    pub fn turn<T: Tells, K: Keeper<S>>(
         &mut self,
         alloc: Global,
-        front: &Front<'_, T>,
-        places: u64,
+        front: &mut Front<'_, T, K>,
     ) -> Result<Vec<Opened<S>>, AllocError>
         ensures turned { IfOk result (λ opened. Turns self.old.guests.items self.new.guests.items opened.items) }
         ensures no_room { OnErr result (self.new.guests.items ≡ self.old.guests.items) }
     {
-        let mut places = places;
-        let opened = self.look_at_all(alloc, front, &mut places)?;
+        let opened = self.look_at_all(alloc, front)?;
         self.give_up();
         Ok(opened)
     }

@@ -5,3 +5,4 @@ pub mod Asking
 pub mod Peers
 pub mod Origins
 pub mod Serving
+pub mod Written

@@ -1,12 +1,12 @@
 -- What routes are that were added one after another.
-use Rattle.std.proofs.Common.{◌≡◌, ◌<◌, ◌≤◌, ◌+◌, ◌++◌, ℕ, List, [], ◌∷◌, length, map, Bool, true, false, cond, nat_le, IsTrue, Some, None, Err, refl, sym, subst, ◌∙◌, arith}
+use Rattle.std.proofs.Common.{◌≡◌, ◌<◌, ◌≤◌, ◌+◌, ◌++◌, ℕ, suc, ap, List, [], ◌∷◌, length, map, Bool, true, false, cond, nat_le, IsTrue, Some, None, Err, refl, sym, subst, ◌∙◌, arith}
 use Rattle.std.specs.List.{AllByRecursion}
 use Rattle.std.proofs.lemmas.Bool.Decides.{nat_tests}
 use Rattle.hook_registry.specs.Patterns.{is_pattern}
 use Rattle.hook_registry.specs.declared.routes.TheConstants.{MAX_ROUTES}
 use Rattle.hook_registry.specs.Routes.{Answers, refusal}
 use Rattle.hook_registry.specs.declared.routes.RouteFault.{RouteFault}
-use Rattle.presence_node_options.specs.Given.{MayFollow}
+use Rattle.presence_node_options.specs.Given.{AreFewPatterns, MayFollow}
 use Rattle.presence_node_options.specs.Limits.{numbered, ArePatterns, AreRoutes}
 use Rattle.hook_registry.specs.declared.routes.RouteFault.TheVariants.{BadPattern, TooMany, OutOfMemory}
 
@@ -67,3 +67,18 @@ may_not_follow routes pattern TooMany a other m = some_differs TooMany (sym a �
 -- what is left of few patterns is, with the routes so far, no more than are allowed
 abbrev pub StillFew : ℕ → List (List ℕ) → Type 0
 StillFew n rest = AllByRecursion (λ p. IsTrue (is_pattern p)) rest × (n + length rest ≤ MAX_ROUTES)
+
+-- patterns whose routes are within their limits are few patterns
+patterns_each : (n : ℕ) (ps : List (List ℕ)) → ArePatterns (numbered n ps) → AllByRecursion (λ p. IsTrue (is_pattern p)) ps
+patterns_each n [] all = tt
+patterns_each n (p ∷ ps) all = (all.0, patterns_each (n + 1) ps all.1)
+
+numbered_length : (n : ℕ) (ps : List (List ℕ)) → length (numbered n ps) ≡ length ps
+numbered_length n [] = refl
+numbered_length n (p ∷ ps) = ap suc (numbered_length (n + 1) ps)
+
+pub few_patterns : (routes : List (List ℕ × ℕ)) (ps : List (List ℕ)) → routes ≡ numbered 0 ps → AreRoutes routes → AreFewPatterns ps
+few_patterns routes ps h within = record {
+  each = patterns_each 0 ps (subst ArePatterns h within.patterns);
+  few = subst (λ n. n ≤ MAX_ROUTES) (ap length h ∙ numbered_length 0 ps) within.few;
+}

@@ -1,8 +1,11 @@
 -- Why a server's options are refused, from what was looked at before.
-use Rattle.std.proofs.Common.{List}
+use Rattle.std.proofs.Common.{◌≡◌, ◌⊎◌, inl, inr, ℕ, List, IsTrue, false, subst, sym}
 use Rattle.clap.specs.Words.{Row}
-use Rattle.presence_node_options.specs.Given.{AllArePeers, AreFewOrigins, AreHandshakes, ArePorts, AreShards, AreWorkers, IsFor, IsLinkVersion, IsNamed, IsPerAddress, IsServedWrong, origins_given, peers_given}
-use Rattle.presence_node_options.specs.declared.fault.UsageCause.TheVariants.{HandshakesPerSecond, PerAddress}
+use Rattle.presence_node_options.specs.Given.{AllArePeers, AreFewOrigins, AreFewPatterns, AreHandshakes, AreOtherPeers, ArePeers, ArePorts, AreShards, AreWorkers, IsEdgeWrong, IsFor, IsLinkVersion, IsNamed, IsNode, IsPerAddress, IsServedWrong, name_given, origins_given, patterns_given, peers_given}
+use Rattle.presence_node_options.specs.declared.fault.UsageCause.TheVariants.{Words, Name, Incarnation, Route, Port, LinkPort, Shards, Workers, LinkVersion, Peer, Origin, PerAddress, HandshakesPerSecond, PeerName, Proxy, LinkFrom, MemoryLimit, TopicRows, TopicBytes, Log, LogFormat, MetricsPort}
+use Rattle.presence_node_options.specs.Limits.{AreRoutes, are_others, numbered}
+use Rattle.presence_node_options.specs.declared.options.PeerOption.{PeerOption}
+use Rattle.presence_node_options.proofs.Patterns.{few_patterns}
 use Rattle.presence_node_options.specs.declared.fault.UsageFault.{UsageFault}
 use Rattle.presence_node_options.specs.declared.fault.UsageFault.TheVariants.{Usage, Memory}
 
@@ -19,3 +22,55 @@ pub too_hasty : (rows : List Row) (fault : UsageFault) → IsNamed rows → AreP
 too_hasty rows (Usage cause text) named ports shards workers version peers origins clients hasty =
     rw hasty.0 (named, ports, shards, workers, version, peers, origins, clients, hasty.1)
 too_hasty rows Memory named ports shards workers version peers origins clients hasty = tt
+
+-- what was looked at of the node itself
+pub node_of : (rows : List Row) (routes : List (List ℕ × ℕ)) → IsNamed rows → ArePorts rows → AreShards rows → AreWorkers rows
+    → IsLinkVersion rows → AllArePeers (peers_given rows) → AreFewOrigins (origins_given rows) → IsPerAddress rows
+    → AreHandshakes rows → routes ≡ numbered 0 (patterns_given rows) → AreRoutes routes → IsNode rows
+node_of rows routes named ports shards workers version peers origins clients handshakes is within = record {
+  named = named; ports = ports; shards = shards; workers = workers; version = version; peers = peers; origins = origins;
+  per_address = clients; handshakes = handshakes; patterns = few_patterns routes (patterns_given rows) is within;
+}
+
+-- the names of peers are their own, or one is told twice
+pub others_of : (rows : List Row) (name : List ℕ) (peers : List PeerOption) → name ≡ name_given rows
+    → ArePeers (peers_given rows) peers → IsTrue (are_others name peers) → AreOtherPeers rows
+others_of rows name peers is are others = (peers, are, subst (λ n. IsTrue (are_others n peers)) is others)
+
+pub named_twice : (rows : List Row) (name : List ℕ) (peers : List PeerOption) (fault : UsageFault) → IsNode rows
+    → name ≡ name_given rows → ArePeers (peers_given rows) peers → IsFor PeerName (are_others name peers ≡ false) fault
+    → IsServedWrong rows fault
+named_twice rows name peers (Usage cause text) node is are twice =
+    rw twice.0 (node, peers, are, subst (λ n. are_others n peers ≡ false) is twice.1)
+named_twice rows name peers Memory node is are twice = tt
+
+-- what stands beside the node itself is wrong for a cause of its own
+none_of : {A : Type 0} → (⊥ ⊎ (A × ⊥)) → ⊥
+none_of (inl h) = h
+none_of (inr h) = h.1
+
+pub edge_wrong : (rows : List Row) (fault : UsageFault) → IsNode rows → AreOtherPeers rows → IsEdgeWrong rows fault
+    → IsServedWrong rows fault
+edge_wrong rows (Usage Words text) node others wrong = absurd (none_of wrong.2)
+edge_wrong rows (Usage Name text) node others wrong = absurd (none_of wrong.2)
+edge_wrong rows (Usage Incarnation text) node others wrong = absurd (none_of wrong.2)
+edge_wrong rows (Usage Route text) node others wrong = absurd (none_of wrong.2)
+edge_wrong rows (Usage Port text) node others wrong = absurd (none_of wrong.2)
+edge_wrong rows (Usage LinkPort text) node others wrong = absurd (none_of wrong.2)
+edge_wrong rows (Usage Shards text) node others wrong = absurd (none_of wrong.2)
+edge_wrong rows (Usage Workers text) node others wrong = absurd (none_of wrong.2)
+edge_wrong rows (Usage LinkVersion text) node others wrong = absurd (none_of wrong.2)
+edge_wrong rows (Usage Peer text) node others wrong = absurd (none_of wrong.2)
+edge_wrong rows (Usage Origin text) node others wrong = absurd (none_of wrong.2)
+edge_wrong rows (Usage PerAddress text) node others wrong = absurd (none_of wrong.2)
+edge_wrong rows (Usage HandshakesPerSecond text) node others wrong = absurd (none_of wrong.2)
+edge_wrong rows (Usage PeerName text) node others wrong = absurd (none_of wrong.2)
+edge_wrong rows (Usage Proxy text) node others wrong = (node, others, wrong)
+edge_wrong rows (Usage LinkFrom text) node others wrong = (node, others, wrong)
+edge_wrong rows (Usage MemoryLimit text) node others wrong = (node, others, wrong)
+edge_wrong rows (Usage TopicRows text) node others wrong = (node, others, wrong)
+edge_wrong rows (Usage TopicBytes text) node others wrong = (node, others, wrong)
+edge_wrong rows (Usage Log text) node others wrong = (node, others, wrong)
+edge_wrong rows (Usage LogFormat text) node others wrong = (node, others, wrong)
+edge_wrong rows (Usage MetricsPort text) node others wrong = (node, others, wrong)
+edge_wrong rows Memory node others wrong = tt

@@ -38,8 +38,8 @@ served_app =
     (option_rule (codes "link-version") Set)
 
 -- and those of its topics, of links and of addresses
-abbrev pub serve_app : App
-serve_app =
+abbrev pub linked_app : App
+linked_app =
     with_rule (with_rule (with_rule (with_rule (with_rule (with_rule (with_rule served_app
     (option_rule (codes "route") Append))
     (option_rule (codes "peer") Append))
@@ -48,6 +48,19 @@ serve_app =
     (option_rule (codes "origin") Append))
     (option_rule (codes "per-address") Set))
     (option_rule (codes "handshakes") Set)
+
+-- and those of proxies, of what everybody together may take, and of what an operator is told
+abbrev pub serve_app : App
+serve_app =
+    with_rule (with_rule (with_rule (with_rule (with_rule (with_rule (with_rule (with_rule linked_app
+    (option_rule (codes "proxy") Append))
+    (option_rule (codes "link-from") Append))
+    (option_rule (codes "memory") Set))
+    (option_rule (codes "topic-rows") Set))
+    (option_rule (codes "topic-bytes") Set))
+    (option_rule (codes "log") Set))
+    (option_rule (codes "log-format") Set))
+    (option_rule (codes "metrics-port") Set)
 
 -- the program itself, which is nothing without a command, and has a version
 abbrev pub top_app : App

@@ -1,7 +1,10 @@
 -- Which options the words of a command line give, and which words are refused.
-use Rattle.std.specs.Prelude.{◌≡◌, ◌⊎◌, ◌≤◌, ◌<◌, ℕ, List, [], ◌∷◌, ◌++◌, Bool, false, IsTrue, length, codes, string_bytes, unwrap_or, map, option_map, Option, Some, None}
+use Rattle.std.specs.Prelude.{◌≡◌, ◌⊎◌, ◌≤◌, ◌<◌, ℕ, List, [], ◌∷◌, ◌++◌, Bool, false, true, cond, is_some, IsTrue, length, codes, string_bytes, unwrap_or, map, option_map, Option, Some, None}
 use Rattle.std.specs.List.{AllByRecursion}
+use Rattle.std.specs.Net.Addr.{IsCanonicalOf, MatchIp}
+use Rattle.std.specs.Net.Grammar.{IsIpText}
 use Rattle.std.specs.Str.{bytes_eq}
+use Rattle.std.specs.declared.net.ip_addr.IpAddr.{IpAddr}
 use Rattle.std.specs.Str.Parse.{IsNumeral, digits_value, without_leading_plus}
 use Rattle.clap.specs.Words.{Row, Text, IsAmong, all_of, fault_of, first_of, subcommand_of}
 use Rattle.clap.specs.declared.error.kind.ErrorKind.{ErrorKind}
@@ -11,19 +14,26 @@ use Rattle.hook_registry.specs.declared.routes.TheConstants.{MAX_ROUTES}
 use Rattle.presence_base.specs.Names.{is_node_name}
 use Rattle.presence_base.specs.Refs.{IsCount}
 use Rattle.presence_node_options.specs.CommandLine.{program}
-use Rattle.presence_node_options.specs.Limits.{numbered}
+use Rattle.presence_node_options.specs.Limits.{are_others, numbered}
 use Rattle.presence_node_options.specs.Origins.{AreOrigins}
+use Rattle.presence_node_options.specs.declared.command_line.Edge.{Edge}
 use Rattle.presence_node_options.specs.declared.fault.UsageCause.{UsageCause}
-use Rattle.presence_node_options.specs.declared.fault.UsageCause.TheVariants.{Words, Name, Incarnation, Route, Port, LinkPort, Shards, Workers, LinkVersion, Peer, Origin, PerAddress, HandshakesPerSecond}
+use Rattle.presence_node_options.specs.declared.fault.UsageCause.TheVariants.{Words, Name, Incarnation, Route, Port, LinkPort, Shards, Workers, LinkVersion, Peer, Origin, PerAddress, HandshakesPerSecond, PeerName, Proxy, LinkFrom, MemoryLimit, TopicRows, TopicBytes, Log, LogFormat, MetricsPort}
 use Rattle.presence_node_options.specs.declared.fault.UsageFault.{UsageFault}
 use Rattle.presence_node_options.specs.declared.fault.UsageFault.TheVariants.{Usage, Memory}
 use Rattle.presence_node_options.specs.declared.options.Options.{Options}
 use Rattle.presence_node_options.specs.declared.options.Options.TheVariants.{Help, Version, Bare, Stdio, Fold, Serve}
+use Rattle.presence_node_options.specs.declared.options.Budgets.{Budgets}
+use Rattle.presence_node_options.specs.declared.options.LineFormat.{LineFormat}
+use Rattle.presence_node_options.specs.declared.options.LineFormat.TheVariants.{Plain, Json}
+use Rattle.presence_node_options.specs.declared.options.Logged.{Logged}
+use Rattle.presence_node_options.specs.declared.options.Logged.TheVariants.{Refusals, Everything, Nothing}
 use Rattle.presence_node_options.specs.declared.options.PeerOption.{PeerOption}
+use Rattle.presence_node_options.specs.declared.options.Reports.{Reports}
 use Rattle.presence_node_options.specs.declared.options.ServeOptions.{ServeOptions}
 use Rattle.presence_node_options.specs.declared.options.StdioOptions.{StdioOptions}
 use Rattle.presence_base.specs.declared.names.TheConstants.{MAX_SHARDS}
-use Rattle.presence_node_options.specs.declared.options.TheConstants.{MAX_HANDSHAKES_PER_SECOND, MAX_LINK_VERSION, MAX_ORIGINS, MAX_PER_ADDRESS, MAX_WORKERS}
+use Rattle.presence_node_options.specs.declared.options.TheConstants.{LINK_PORT, MAX_HANDSHAKES_PER_SECOND, MAX_LINK_FROM, MAX_LINK_VERSION, MAX_MEMORY, MAX_ORIGINS, MAX_PER_ADDRESS, MAX_PROXIES, MAX_TOPIC_BYTES, MAX_TOPIC_ROWS, MAX_WORKERS, MIN_MEMORY, MIN_TOPIC_BYTES, TOPIC_BYTES, TOPIC_ROWS}
 
 -- the number that a text's digits write
 abbrev pub number_in : Text → ℕ
@@ -45,13 +55,10 @@ life_given rows = first_of (codes "incarnation") rows
 abbrev pub patterns_given : List Row → List Text
 patterns_given rows = unwrap_or (all_of (codes "route") rows) (codes "room:*" ∷ [])
 
--- the texts of the ports, of the number of shards, of that of workers and of the version of links that are given, or their
+-- the texts of the port of clients, of the number of shards, of that of workers and of the version of links that are given, or their
 -- defaults
 abbrev pub port_given : List Row → Text
 port_given rows = unwrap_or (first_of (codes "port") rows) (codes "4000")
-
-abbrev pub link_port_given : List Row → Text
-link_port_given rows = unwrap_or (first_of (codes "link-port") rows) (codes "4001")
 
 abbrev pub shards_given : List Row → Text
 shards_given rows = unwrap_or (first_of (codes "shards") rows) (codes "4")
@@ -66,12 +73,30 @@ link_version_given rows = unwrap_or (first_of (codes "link-version") rows) (code
 abbrev pub peers_given : List Row → List Text
 peers_given rows = unwrap_or (all_of (codes "peer") rows) []
 
+-- the text of the port of links, if it is given
+abbrev pub link_port_given : List Row → Option Text
+link_port_given rows = first_of (codes "link-port") rows
+
+-- where none is given there is a port of links only if peers are named
+abbrev pub link_port_among : Option Text → Option (List Text) → Option ℕ
+link_port_among (Some text) peers = Some (number_in text)
+link_port_among None None = None
+link_port_among None (Some peers) = Some LINK_PORT
+
+abbrev pub link_port_in : List Row → Option ℕ
+link_port_in rows = link_port_among (link_port_given rows) (all_of (codes "peer") rows)
+
 -- the addresses of clients and of links that are given, or this machine's own
 abbrev pub listen_given : List Row → Text
 listen_given rows = unwrap_or (first_of (codes "listen") rows) (codes "127.0.0.1")
 
 abbrev pub link_listen_given : List Row → Text
 link_listen_given rows = unwrap_or (first_of (codes "link-listen") rows) (codes "127.0.0.1")
+
+-- the address that a text names, which may stand between brackets
+abbrev pub NamesAddress : Text → Text → Type 0
+NamesAddress text address = (text ≡ 91 ∷ (address ++ 93 ∷ []))
+    ⊎ ((address ≡ text) × ((inner : Text) → text ≡ 91 ∷ (inner ++ 93 ∷ []) → ⊥))
 
 -- the origins that are given, in their order
 abbrev pub origins_given : List Row → List Text
@@ -83,6 +108,47 @@ per_address_given rows = first_of (codes "per-address") rows
 
 abbrev pub handshakes_given : List Row → Option Text
 handshakes_given rows = first_of (codes "handshakes") rows
+
+-- the texts of the proxies, and of the addresses that links may come from, in their order
+abbrev pub proxies_given : List Row → List Text
+proxies_given rows = unwrap_or (all_of (codes "proxy") rows) []
+
+abbrev pub link_from_given : List Row → List Text
+link_from_given rows = unwrap_or (all_of (codes "link-from") rows) []
+
+-- the texts of the memory, and of the rows and bytes of a topic, if they are given
+abbrev pub memory_given : List Row → Option Text
+memory_given rows = first_of (codes "memory") rows
+
+abbrev pub topic_rows_given : List Row → Option Text
+topic_rows_given rows = first_of (codes "topic-rows") rows
+
+abbrev pub topic_bytes_given : List Row → Option Text
+topic_bytes_given rows = first_of (codes "topic-bytes") rows
+
+-- the number that is given, or this one
+abbrev pub number_or : ℕ → Option Text → ℕ
+number_or otherwise given = unwrap_or (option_map number_in given) otherwise
+
+-- the words for what is logged, and as what, or their defaults
+abbrev pub log_given : List Row → Text
+log_given rows = unwrap_or (first_of (codes "log") rows) (codes "refused")
+
+abbrev pub log_format_given : List Row → Text
+log_format_given rows = unwrap_or (first_of (codes "log-format") rows) (codes "text")
+
+abbrev pub logged_in : Text → Option Logged
+logged_in text =
+    cond (bytes_eq text (codes "refused")) (Some Refusals)
+    (cond (bytes_eq text (codes "all")) (Some Everything)
+    (cond (bytes_eq text (codes "none")) (Some Nothing) None))
+
+abbrev pub format_in : Text → Option LineFormat
+format_in text = cond (bytes_eq text (codes "text")) (Some Plain) (cond (bytes_eq text (codes "json")) (Some Json) None)
+
+-- the text of the port of metrics, if it is given
+abbrev pub metrics_port_given : List Row → Option Text
+metrics_port_given rows = first_of (codes "metrics-port") rows
 
 abbrev pub is_yes : Option Text → Bool
 is_yes None = false
@@ -146,6 +212,35 @@ ArePeers _ _ = ⊥
 abbrev pub AllArePeers : List Text → Type 0
 AllArePeers texts = AllByRecursion IsPeerText texts
 
+-- ---- addresses
+
+-- an address as it counts: one of IPv6 that maps one of IPv4 is that
+abbrev pub CountsAs : IpAddr → IpAddr → Type 0
+CountsAs written address = MatchIp written (λ _. address ≡ written) (λ ip. IsCanonicalOf ip address)
+
+-- the address that a text writes
+pub record WritesAddress (text : Text) (address : IpAddr) : Type 0 where
+  pub written : IpAddr
+  pub is : IsIpText text written
+  pub counts : CountsAs written address
+
+-- these texts write these addresses, in order
+abbrev pub WriteAddresses : List Text → List IpAddr → Type 0
+WriteAddresses [] [] = Unit {0}
+WriteAddresses (t ∷ ts) (a ∷ as) = WritesAddress t a × WriteAddresses ts as
+WriteAddresses _ _ = ⊥
+
+abbrev pub IsAddressText : Text → Type 0
+IsAddressText text = (address : IpAddr) × IsIpText text address
+
+abbrev pub AreAddressTexts : List Text → Type 0
+AreAddressTexts texts = AllByRecursion IsAddressText texts
+
+-- all are addresses, and there are no more than this
+pub record AreFewAddresses (most : ℕ) (texts : List Text) : Type 0 where
+  pub each : AreAddressTexts texts
+  pub few : length texts ≤ most
+
 -- the options are those that were given, each route with its position as its kind
 pub record IsGiven (rows : List Row) (o : StdioOptions) : Type 0 where
   pub name : o.name ≡ name_given rows
@@ -154,22 +249,38 @@ pub record IsGiven (rows : List Row) (o : StdioOptions) : Type 0 where
   pub notices : o.notices ≡ notices_given rows
   pub explain : o.explain ≡ explain_given rows
 
+-- what everybody together may take is what is given, and else the default
+pub record AreBudgetsGiven (rows : List Row) (b : Budgets) : Type 0 where
+  pub memory : b.memory ≡ option_map number_in (memory_given rows)
+  pub topic_rows : b.topic_rows ≡ number_or TOPIC_ROWS (topic_rows_given rows)
+  pub topic_bytes : b.topic_bytes ≡ number_or TOPIC_BYTES (topic_bytes_given rows)
+
+-- and so is what an operator is told
+pub record AreReportsGiven (rows : List Row) (r : Reports) : Type 0 where
+  pub logged : logged_in (log_given rows) ≡ Some r.logged
+  pub format : format_in (log_format_given rows) ≡ Some r.format
+  pub metrics_port : r.metrics_port ≡ option_map number_in (metrics_port_given rows)
+
 -- the same for a server
 pub record IsServed (rows : List Row) (o : ServeOptions) : Type 0 where
   pub name : o.name ≡ name_given rows
   pub incarnation : o.incarnation ≡ option_map number_in (life_given rows)
   pub routes : o.routes ≡ numbered 0 (patterns_given rows)
   pub port : o.port ≡ number_in (port_given rows)
-  pub link_port : o.link_port ≡ number_in (link_port_given rows)
+  pub link_port : o.link_port ≡ link_port_in rows
   pub shards : o.shards ≡ number_in (shards_given rows)
   pub workers : o.workers ≡ number_in (workers_given rows)
   pub link_version : o.link_version ≡ number_in (link_version_given rows)
   pub peers : ArePeers (peers_given rows) o.peers.items
-  pub listen : string_bytes o.listen ≡ listen_given rows
-  pub link_listen : string_bytes o.link_listen ≡ link_listen_given rows
+  pub listen : NamesAddress (listen_given rows) (string_bytes o.listen)
+  pub link_listen : NamesAddress (link_listen_given rows) (string_bytes o.link_listen)
   pub origins : map string_bytes o.origins.items ≡ origins_given rows
   pub per_address : o.per_address ≡ option_map number_in (per_address_given rows)
   pub handshakes_per_second : o.handshakes_per_second ≡ option_map number_in (handshakes_given rows)
+  pub proxies : WriteAddresses (proxies_given rows) o.proxies.items
+  pub link_from : WriteAddresses (link_from_given rows) o.link_from.items
+  pub budgets : AreBudgetsGiven rows o.budgets
+  pub reports : AreReportsGiven rows o.reports
 
 -- the words name this command, with these options
 abbrev pub Calls : List Text → Text → List Row → Type 0
@@ -240,6 +351,15 @@ Refuses rows Peer = ⊥
 Refuses rows Origin = ⊥
 Refuses rows PerAddress = ⊥
 Refuses rows HandshakesPerSecond = ⊥
+Refuses rows PeerName = ⊥
+Refuses rows Proxy = ⊥
+Refuses rows LinkFrom = ⊥
+Refuses rows MemoryLimit = ⊥
+Refuses rows TopicRows = ⊥
+Refuses rows TopicBytes = ⊥
+Refuses rows Log = ⊥
+Refuses rows LogFormat = ⊥
+Refuses rows MetricsPort = ⊥
 
 -- an incarnation, if one is given
 abbrev pub IsLife : Option Text → Type 0
@@ -254,8 +374,17 @@ IsNamed rows = IsTrue (is_node_name (name_given rows)) × IsLife (life_given row
 abbrev pub IsPort : List Row → Type 0
 IsPort rows = IsNumberWithin 1 65535 (port_given rows)
 
+-- a number from this one to that one, if one is given
+abbrev pub IsBetween : ℕ → ℕ → Option Text → Type 0
+IsBetween low high None = Unit {0}
+IsBetween low high (Some text) = IsNumberWithin low high text
+
+-- a number from 1 to this one, if one is given
+abbrev pub IsUpTo : ℕ → Option Text → Type 0
+IsUpTo high given = IsBetween 1 high given
+
 abbrev pub IsLinkPort : List Row → Type 0
-IsLinkPort rows = IsNumberWithin 1 65535 (link_port_given rows)
+IsLinkPort rows = IsUpTo 65535 (link_port_given rows)
 
 abbrev pub ArePorts : List Row → Type 0
 ArePorts rows = IsPort rows × IsLinkPort rows
@@ -269,20 +398,112 @@ AreWorkers rows = IsNumberWithin 1 MAX_WORKERS (workers_given rows)
 abbrev pub IsLinkVersion : List Row → Type 0
 IsLinkVersion rows = IsNumberWithin 1 MAX_LINK_VERSION (link_version_given rows)
 
--- a number from 1 to this one, if one is given
-abbrev pub IsUpTo : ℕ → Option Text → Type 0
-IsUpTo high None = Unit {0}
-IsUpTo high (Some text) = IsNumberWithin 1 high text
-
 abbrev pub IsPerAddress : List Row → Type 0
 IsPerAddress rows = IsUpTo MAX_PER_ADDRESS (per_address_given rows)
 
 abbrev pub AreHandshakes : List Row → Type 0
 AreHandshakes rows = IsUpTo MAX_HANDSHAKES_PER_SECOND (handshakes_given rows)
 
+-- the peers' names are their own, or one is that of the node itself or of another
+abbrev pub AreOtherPeers : List Row → Type 0
+AreOtherPeers rows = (peers : List PeerOption) × ArePeers (peers_given rows) peers
+    × IsTrue (are_others (name_given rows) peers)
+
+abbrev pub IsNamedTwice : List Row → Type 0
+IsNamedTwice rows = (peers : List PeerOption) × ArePeers (peers_given rows) peers
+    × (are_others (name_given rows) peers ≡ false)
+
+-- the proxies, the addresses of links, and what everybody together may take
+abbrev pub AreProxies : List Row → Type 0
+AreProxies rows = AreFewAddresses MAX_PROXIES (proxies_given rows)
+
+abbrev pub AreLinkFrom : List Row → Type 0
+AreLinkFrom rows = AreFewAddresses MAX_LINK_FROM (link_from_given rows)
+
+abbrev pub IsMemory : List Row → Type 0
+IsMemory rows = IsBetween MIN_MEMORY MAX_MEMORY (memory_given rows)
+
+abbrev pub AreTopicRows : List Row → Type 0
+AreTopicRows rows = IsUpTo MAX_TOPIC_ROWS (topic_rows_given rows)
+
+abbrev pub AreTopicBytes : List Row → Type 0
+AreTopicBytes rows = IsBetween MIN_TOPIC_BYTES MAX_TOPIC_BYTES (topic_bytes_given rows)
+
+-- and what an operator is told
+abbrev pub IsLog : List Row → Type 0
+IsLog rows = IsTrue (is_some (logged_in (log_given rows)))
+
+abbrev pub IsLogFormat : List Row → Type 0
+IsLogFormat rows = IsTrue (is_some (format_in (log_format_given rows)))
+
+abbrev pub IsMetricsPort : List Row → Type 0
+IsMetricsPort rows = IsUpTo 65535 (metrics_port_given rows)
+
+-- what everybody together may take is within its limits, or why it isn't: the memory is looked at first, then the rows of a
+-- topic, and their bytes
+abbrev pub IsFrugal : List Row → Type 0
+IsFrugal rows = IsMemory rows × AreTopicRows rows × AreTopicBytes rows
+
+abbrev pub WastefulFor : List Row → UsageCause → Type 0
+WastefulFor rows MemoryLimit = IsMemory rows → ⊥
+WastefulFor rows TopicRows = IsMemory rows × (AreTopicRows rows → ⊥)
+WastefulFor rows TopicBytes = IsMemory rows × AreTopicRows rows × (AreTopicBytes rows → ⊥)
+WastefulFor rows cause = ⊥
+
+abbrev pub IsWasteful : List Row → UsageFault → Type 0
+IsWasteful rows (Usage cause text) = WastefulFor rows cause
+IsWasteful rows Memory = Unit {0}
+
+-- what an operator is told is one of what there is, or why it isn't: what is logged is looked at first, then as what, and the
+-- port of metrics
+abbrev pub IsTold : List Row → Type 0
+IsTold rows = IsLog rows × IsLogFormat rows × IsMetricsPort rows
+
+abbrev pub UntoldFor : List Row → UsageCause → Type 0
+UntoldFor rows Log = IsLog rows → ⊥
+UntoldFor rows LogFormat = IsLog rows × (IsLogFormat rows → ⊥)
+UntoldFor rows MetricsPort = IsLog rows × IsLogFormat rows × (IsMetricsPort rows → ⊥)
+UntoldFor rows cause = ⊥
+
+abbrev pub IsUntold : List Row → UsageFault → Type 0
+IsUntold rows (Usage cause text) = UntoldFor rows cause
+IsUntold rows Memory = Unit {0}
+
+-- why what stands beside the node itself is refused: the proxies are looked at first, then the addresses of links, what
+-- everybody together may take, and what an operator is told
+abbrev pub EdgeRefuses : List Row → UsageCause → Type 0
+EdgeRefuses rows Proxy = AreProxies rows → ⊥
+EdgeRefuses rows LinkFrom = AreProxies rows × (AreLinkFrom rows → ⊥)
+EdgeRefuses rows cause = AreProxies rows × AreLinkFrom rows
+    × (WastefulFor rows cause ⊎ (IsFrugal rows × UntoldFor rows cause))
+
+abbrev pub IsEdgeWrong : List Row → UsageFault → Type 0
+IsEdgeWrong rows (Usage cause text) = EdgeRefuses rows cause
+IsEdgeWrong rows Memory = Unit {0}
+
+-- it is what was given
+pub record IsEdge (rows : List Row) (e : Edge) : Type 0 where
+  pub proxies : WriteAddresses (proxies_given rows) e.proxies.items
+  pub link_from : WriteAddresses (link_from_given rows) e.link_from.items
+  pub budgets : AreBudgetsGiven rows e.budgets
+  pub reports : AreReportsGiven rows e.reports
+
+-- the node itself, its peers and its addresses are within their limits
+pub record IsNode (rows : List Row) : Type 0 where
+  pub named : IsNamed rows
+  pub ports : ArePorts rows
+  pub shards : AreShards rows
+  pub workers : AreWorkers rows
+  pub version : IsLinkVersion rows
+  pub peers : AllArePeers (peers_given rows)
+  pub origins : AreFewOrigins (origins_given rows)
+  pub per_address : IsPerAddress rows
+  pub handshakes : AreHandshakes rows
+  pub patterns : AreFewPatterns (patterns_given rows)
+
 -- why the options of `serve` are refused: the name is looked at first, then the incarnation, the port, that of links, the
 -- shards, the workers, the version of links, the peers, the origins, how many clients and handshakes one address may have,
--- and the routes
+-- the routes, the peers' names, and what stands beside the node itself
 abbrev pub ServeRefuses : List Row → UsageCause → Type 0
 ServeRefuses rows Incarnation = IsTrue (is_node_name (name_given rows)) × (IsLife (life_given rows) → ⊥)
 ServeRefuses rows Port = IsNamed rows × (IsPort rows → ⊥)
@@ -303,7 +524,10 @@ ServeRefuses rows PerAddress = IsNamed rows × ArePorts rows × AreShards rows �
     × AllArePeers (peers_given rows) × AreFewOrigins (origins_given rows) × (IsPerAddress rows → ⊥)
 ServeRefuses rows HandshakesPerSecond = IsNamed rows × ArePorts rows × AreShards rows × AreWorkers rows × IsLinkVersion rows
     × AllArePeers (peers_given rows) × AreFewOrigins (origins_given rows) × IsPerAddress rows × (AreHandshakes rows → ⊥)
-ServeRefuses rows cause = Refuses rows cause
+ServeRefuses rows Name = is_node_name (name_given rows) ≡ false
+ServeRefuses rows Words = ⊥
+ServeRefuses rows PeerName = IsNode rows × IsNamedTwice rows
+ServeRefuses rows cause = IsNode rows × AreOtherPeers rows × EdgeRefuses rows cause
 
 abbrev pub IsWrong : List Row → UsageFault → Type 0
 IsWrong rows (Usage cause text) = Refuses rows cause

@@ -1,221 +1,44 @@
 //! The words.
-ghost use Rattle.std.specs.Prelude.{◌≡◌, ◌≤◌, false, IfOk, IfErr, OnOk, codes, map, option_map, string_bytes, unwrap_or, vec_len};
+ghost use Rattle.std.specs.Prelude.{◌≡◌, IfOk, IfErr, OnOk, map, option_map};
 ghost use Rattle.std.specs.Option.{ForSome};
-ghost use Rattle.presence_base.specs.Refs.{IsCount};
-ghost use Rattle.clap.specs.Words.{app_of, first_of, found_of, kind_of, rows_of, rule_of, subcommand_rows_of};
-ghost use Rattle.presence_node_options.specs.CommandLine.{flag_rule, option_rule, stdio_app, fold_app, serve_app, served_app, program};
-ghost use Rattle.presence_node_options.specs.Given.{AskFor, Chooses, ChoosesNone, HasCause, Refused, IsHelpFor, IsNoHelp, IsGiven, IsServed, IsServedWrong, IsFor, IsLife, IsWrong, AreFewOrigins, AreFewPatterns, AreHandshakes, AllArePeers, ArePeers, IsPerAddress, flag_given, handshakes_given, life_given, number_in, per_address_given, origins_given, patterns_given, peers_given};
-ghost use Rattle.presence_node_options.specs.declared.options.TheConstants.{MAX_HANDSHAKES_PER_SECOND, MAX_ORIGINS, MAX_PER_ADDRESS};
-ghost use Rattle.presence_node_options.specs.Limits.{AreRoutes, IsFrom1To, IsWithin, IsServedWithin, AreWithin, numbered};
-ghost use Rattle.presence_node_options.specs.Origins.{AreOrigins};
+ghost use Rattle.clap.specs.Words.{app_of, found_of, kind_of, rows_of, subcommand_rows_of};
+ghost use Rattle.presence_node_options.specs.CommandLine.{stdio_app, fold_app, linked_app, serve_app, served_app, program};
+ghost use Rattle.presence_node_options.specs.Given.{AreBudgetsGiven, AreReportsGiven, AskFor, Chooses, ChoosesNone, HasCause, IsEdge, IsEdgeWrong, IsFor, IsFrugal, IsGiven, IsHelpFor, IsNoHelp, IsServed, IsServedWrong, IsTold, IsUntold, IsWasteful, IsWrong, Refused};
+ghost use Rattle.presence_node_options.specs.Limits.{AreBudgets, AreWithin, IsEdgeWithin, IsFrom1To, IsServedWithin, IsWithin};
 
-use crate::fault::{UsageCause, UsageFault};
-use crate::help::{
-    ALL_OPTIONS, ALLOWED, EXPLAIN_HELP, FOLD_REFUSALS, FOLD_USAGE, HANDSHAKES_HELP,
-    INCARNATION_HELP, LINK_LISTEN_HELP, LINK_PORT_HELP, LINK_VERSION_HELP, LISTEN_HELP, NAME_HELP,
-    NOTICES_HELP, ORIGIN_HELP, PEER_HELP, PER_ADDRESS_HELP, PORT_HELP, ROUTE_HELP, SERVE_ENDS,
-    SERVE_USAGE, SERVED_INCARNATION_HELP, SHARDS_HELP, STDIO_REFUSALS, STDIO_USAGE, TO_TRY, USAGES,
-    VERSION, WORKERS_HELP,
+use crate::addresses::{AddressRule, listen_of};
+use crate::arguments::{
+    explain_flag, handshakes_option, incarnation_option, link_from_option, link_listen_option,
+    link_port_option, link_version_option, listen_option, log_format_option, log_option,
+    memory_option, metrics_port_option, name_option, notices_flag, origin_option, peer_option,
+    per_address_option, port_option, proxy_option, route_option, shards_option, topic_bytes_option,
+    topic_rows_option, workers_option,
 };
-use crate::options::{FoldOptions, Options, PeerOption, ServeOptions, StdioOptions};
+use crate::fault::{UsageCause, UsageFault};
+use crate::found::{
+    given_addresses, given_handshakes, given_life, given_link_port, given_metrics_port,
+    given_number, given_origins, given_peers, given_per_address, given_routes, is_flagged,
+    text_given,
+};
+use crate::help::{
+    ALL_OPTIONS, FOLD_REFUSALS, FOLD_TAKES, FOLD_USAGE, INCARNATION_HELP, SERVE_ENDS, SERVE_TAKES,
+    SERVE_USAGE, SERVED_INCARNATION_HELP, STDIO_REFUSALS, STDIO_TAKES, STDIO_USAGE, TO_TRY, USAGES,
+    VERSION,
+};
+use crate::options::{
+    Budgets, FoldOptions, MAX_LINK_FROM, MAX_MEMORY, MAX_PROXIES, MAX_TOPIC_BYTES, MAX_TOPIC_ROWS,
+    MIN_MEMORY, MIN_TOPIC_BYTES, Options, Reports, ServeOptions, StdioOptions, TOPIC_BYTES,
+    TOPIC_ROWS,
+};
+use crate::peer_names::names_checked;
+use crate::reports::{format_of, logged_of};
 use crate::values::{
-    address_of, handshakes_of, incarnation_of, link_port_of, link_version_of, name_of, origins_of,
-    peers_of, per_address_of, port_of, routes_of, shards_of, usage_of, workers_of,
+    NumberRule, incarnation_of, link_version_of, name_of, port_of, shards_of, usage_of, workers_of,
 };
 use clap::error::ErrorKind;
-use clap::{Arg, ArgAction, ArgMatches, Command, Error};
-use hook_registry::Routes;
+use clap::{ArgMatches, Command, Error};
 use std::alloc::{AllocError, Global};
-
-// `--explain`.
-fn explain_flag<'a>(alloc: Global) -> Arg<'a>
-    ensures rule { rule_of result ≡ flag_rule (codes "explain") }
-    ensures local { result.global ≡ false }
-{
-    Arg::new(alloc, "explain")
-        .long("explain")
-        .action(ArgAction::SetTrue)
-        .help(EXPLAIN_HELP)
-}
-
-// `--notices`.
-fn notices_flag<'a>(alloc: Global) -> Arg<'a>
-    ensures rule { rule_of result ≡ flag_rule (codes "notices") }
-    ensures local { result.global ≡ false }
-{
-    Arg::new(alloc, "notices")
-        .long("notices")
-        .action(ArgAction::SetTrue)
-        .help(NOTICES_HELP)
-}
-
-// `--name NAME`.
-fn name_option<'a>(alloc: Global) -> Arg<'a>
-    ensures rule { rule_of result ≡ option_rule (codes "name") ArgAction.Set }
-    ensures local { result.global ≡ false }
-{
-    Arg::new(alloc, "name")
-        .long("name")
-        .value_name("NAME")
-        .action(ArgAction::Set)
-        .help(NAME_HELP)
-}
-
-// `--incarnation NUMBER`, with this help.
-fn incarnation_option<'a>(alloc: Global, help: &'a str) -> Arg<'a>
-    ensures rule { rule_of result ≡ option_rule (codes "incarnation") ArgAction.Set }
-    ensures local { result.global ≡ false }
-{
-    Arg::new(alloc, "incarnation")
-        .long("incarnation")
-        .value_name("NUMBER")
-        .action(ArgAction::Set)
-        .help(help)
-}
-
-// `--route PATTERN`, as often as one likes.
-fn route_option<'a>(alloc: Global) -> Arg<'a>
-    ensures rule { rule_of result ≡ option_rule (codes "route") ArgAction.Append }
-    ensures local { result.global ≡ false }
-{
-    Arg::new(alloc, "route")
-        .long("route")
-        .value_name("PATTERN")
-        .action(ArgAction::Append)
-        .help(ROUTE_HELP)
-}
-
-// `--port PORT`.
-fn port_option<'a>(alloc: Global) -> Arg<'a>
-    ensures rule { rule_of result ≡ option_rule (codes "port") ArgAction.Set }
-    ensures local { result.global ≡ false }
-{
-    Arg::new(alloc, "port")
-        .long("port")
-        .value_name("PORT")
-        .action(ArgAction::Set)
-        .help(PORT_HELP)
-}
-
-// `--link-port PORT`.
-fn link_port_option<'a>(alloc: Global) -> Arg<'a>
-    ensures rule { rule_of result ≡ option_rule (codes "link-port") ArgAction.Set }
-    ensures local { result.global ≡ false }
-{
-    Arg::new(alloc, "link-port")
-        .long("link-port")
-        .value_name("PORT")
-        .action(ArgAction::Set)
-        .help(LINK_PORT_HELP)
-}
-
-// `--link-version NUMBER`.
-fn link_version_option<'a>(alloc: Global) -> Arg<'a>
-    ensures rule { rule_of result ≡ option_rule (codes "link-version") ArgAction.Set }
-    ensures local { result.global ≡ false }
-{
-    Arg::new(alloc, "link-version")
-        .long("link-version")
-        .value_name("NUMBER")
-        .action(ArgAction::Set)
-        .help(LINK_VERSION_HELP)
-}
-
-// `--shards NUMBER`.
-fn shards_option<'a>(alloc: Global) -> Arg<'a>
-    ensures rule { rule_of result ≡ option_rule (codes "shards") ArgAction.Set }
-    ensures local { result.global ≡ false }
-{
-    Arg::new(alloc, "shards")
-        .long("shards")
-        .value_name("NUMBER")
-        .action(ArgAction::Set)
-        .help(SHARDS_HELP)
-}
-
-// `--workers NUMBER`.
-fn workers_option<'a>(alloc: Global) -> Arg<'a>
-    ensures rule { rule_of result ≡ option_rule (codes "workers") ArgAction.Set }
-    ensures local { result.global ≡ false }
-{
-    Arg::new(alloc, "workers")
-        .long("workers")
-        .value_name("NUMBER")
-        .action(ArgAction::Set)
-        .help(WORKERS_HELP)
-}
-
-// `--peer NAME=HOST:PORT`, as often as one likes.
-fn peer_option<'a>(alloc: Global) -> Arg<'a>
-    ensures rule { rule_of result ≡ option_rule (codes "peer") ArgAction.Append }
-    ensures local { result.global ≡ false }
-{
-    Arg::new(alloc, "peer")
-        .long("peer")
-        .value_name("NAME=HOST:PORT")
-        .action(ArgAction::Append)
-        .help(PEER_HELP)
-}
-
-// `--listen ADDRESS`.
-fn listen_option<'a>(alloc: Global) -> Arg<'a>
-    ensures rule { rule_of result ≡ option_rule (codes "listen") ArgAction.Set }
-    ensures local { result.global ≡ false }
-{
-    Arg::new(alloc, "listen")
-        .long("listen")
-        .value_name("ADDRESS")
-        .action(ArgAction::Set)
-        .help(LISTEN_HELP)
-}
-
-// `--link-listen ADDRESS`.
-fn link_listen_option<'a>(alloc: Global) -> Arg<'a>
-    ensures rule { rule_of result ≡ option_rule (codes "link-listen") ArgAction.Set }
-    ensures local { result.global ≡ false }
-{
-    Arg::new(alloc, "link-listen")
-        .long("link-listen")
-        .value_name("ADDRESS")
-        .action(ArgAction::Set)
-        .help(LINK_LISTEN_HELP)
-}
-
-// `--origin ORIGIN`, as often as one likes.
-fn origin_option<'a>(alloc: Global) -> Arg<'a>
-    ensures rule { rule_of result ≡ option_rule (codes "origin") ArgAction.Append }
-    ensures local { result.global ≡ false }
-{
-    Arg::new(alloc, "origin")
-        .long("origin")
-        .value_name("ORIGIN")
-        .action(ArgAction::Append)
-        .help(ORIGIN_HELP)
-}
-
-// `--per-address NUMBER`.
-fn per_address_option<'a>(alloc: Global) -> Arg<'a>
-    ensures rule { rule_of result ≡ option_rule (codes "per-address") ArgAction.Set }
-    ensures local { result.global ≡ false }
-{
-    Arg::new(alloc, "per-address")
-        .long("per-address")
-        .value_name("NUMBER")
-        .action(ArgAction::Set)
-        .help(PER_ADDRESS_HELP)
-}
-
-// `--handshakes NUMBER`.
-fn handshakes_option<'a>(alloc: Global) -> Arg<'a>
-    ensures rule { rule_of result ≡ option_rule (codes "handshakes") ArgAction.Set }
-    ensures local { result.global ≡ false }
-{
-    Arg::new(alloc, "handshakes")
-        .long("handshakes")
-        .value_name("NUMBER")
-        .action(ArgAction::Set)
-        .help(HANDSHAKES_HELP)
-}
+use std::net::IpAddr;
 
 // The command `stdio` with its options.
 fn stdio_command<'a>(alloc: Global) -> Result<Command<'a>, AllocError>
@@ -260,9 +83,9 @@ fn served_command<'a>(alloc: Global) -> Result<Command<'a>, AllocError>
         .arg(link_version_option(alloc))
 }
 
-// The command `serve` with all of its options.
-fn serve_command<'a>(alloc: Global) -> Result<Command<'a>, AllocError>
-    ensures { IfOk result (λ c. app_of c ≡ serve_app) }
+// The command `serve` with those of its topics, of links and of addresses too.
+fn linked_command<'a>(alloc: Global) -> Result<Command<'a>, AllocError>
+    ensures { IfOk result (λ c. app_of c ≡ linked_app) }
 {
     served_command(alloc)?
         .arg(route_option(alloc))?
@@ -272,6 +95,21 @@ fn serve_command<'a>(alloc: Global) -> Result<Command<'a>, AllocError>
         .arg(origin_option(alloc))?
         .arg(per_address_option(alloc))?
         .arg(handshakes_option(alloc))
+}
+
+// The command `serve` with all of its options.
+fn serve_command<'a>(alloc: Global) -> Result<Command<'a>, AllocError>
+    ensures { IfOk result (λ c. app_of c ≡ serve_app) }
+{
+    linked_command(alloc)?
+        .arg(proxy_option(alloc))?
+        .arg(link_from_option(alloc))?
+        .arg(memory_option(alloc))?
+        .arg(topic_rows_option(alloc))?
+        .arg(topic_bytes_option(alloc))?
+        .arg(log_option(alloc))?
+        .arg(log_format_option(alloc))?
+        .arg(metrics_port_option(alloc))
 }
 
 // The whole command line.
@@ -298,12 +136,25 @@ fn text_of(alloc: Global, e: &Error) -> Result<String, AllocError> {
     String::from_str(alloc, text.as_str().trim_end())
 }
 
+// What the command of these words takes, or what each does where they name none.
+fn taken_by(alloc: Global, words: &[&str]) -> Result<String, AllocError> {
+    match words.get(1).copied() {
+        Some("stdio") => String::from_str(alloc, STDIO_TAKES),
+        Some("fold") => String::from_str(alloc, FOLD_TAKES),
+        Some("serve") => String::from_str(alloc, SERVE_TAKES),
+        _ => format!(in alloc; "{STDIO_TAKES}\n{FOLD_TAKES}\n{SERVE_TAKES}"),
+    }
+}
+
 // What the parser says is wrong, and what is allowed where that helps.
-fn wrong_words(alloc: Global, e: &Error) -> Result<String, AllocError> {
+fn wrong_words(alloc: Global, words: &[&str], e: &Error) -> Result<String, AllocError> {
     let text = text_of(alloc, e)?;
     match e.kind() {
         ErrorKind::ArgumentConflict | ErrorKind::TooManyValues => Ok(text),
-        _ => format!(in alloc; "{text}\n\n{ALLOWED}"),
+        _ => {
+            let allowed = taken_by(alloc, words)?;
+            format!(in alloc; "{text}\n\n{allowed}")
+        }
     }
 }
 
@@ -352,7 +203,7 @@ fn bare_of(alloc: Global, e: &Error) -> Result<Options, UsageFault>
 }
 
 // The text that was asked for, or what is wrong with the words.
-fn refusal_of(alloc: Global, e: Error) -> Result<Options, UsageFault>
+fn refusal_of(alloc: Global, words: &[&str], e: Error) -> Result<Options, UsageFault>
     ensures help { IfOk result (IsHelpFor (kind_of e)) }
     ensures refusal { IfErr result (IsFor UsageCause.Words (IsNoHelp (kind_of e))) }
 {
@@ -361,126 +212,7 @@ fn refusal_of(alloc: Global, e: Error) -> Result<Options, UsageFault>
         ErrorKind::DisplayHelp => help_of(alloc, &e),
         ErrorKind::DisplayVersion => version_of(alloc, &e),
         ErrorKind::MissingSubcommand => bare_of(alloc, &e),
-        _ => Err(usage_of(UsageCause::Words, wrong_words(alloc, &e))),
-    }
-}
-
-// The value that an option was given, or else this text.
-#[tactic(auto, using(crate::proofs::Rows::first_read))]
-fn text_given<'a>(matches: &ArgMatches<'a>, id: &str, otherwise: &'a str) -> &'a str
-    ensures { result.now ≡ unwrap_or (first_of id.now (rows_of (found_of matches.now))) otherwise.now }
-{
-    matches.get_str(id).unwrap_or(otherwise)
-}
-
-// The routes of the patterns that are given, or the default.
-#[tactic(auto, using(crate::proofs::Rows::all_read))]
-fn given_routes(alloc: Global, matches: &ArgMatches<'_>) -> Result<Routes, UsageFault>
-    ensures routes { IfOk result (λ routes. routes ≡ numbered 0 (patterns_given (rows_of (found_of matches.now)))) }
-    ensures within { IfOk result AreRoutes }
-    ensures cause { IfErr result (IsFor UsageCause.Route
-        (AreFewPatterns (patterns_given (rows_of (found_of matches.now))) → ⊥)) }
-{
-    match matches.get_strs("route") {
-        Some(patterns) => routes_of(alloc, patterns),
-        None => routes_of(alloc, &["room:*"]),
-    }
-}
-
-// The peers that are given.
-#[tactic(auto, using(crate::proofs::Rows::all_read))]
-fn given_peers(alloc: Global, matches: &ArgMatches<'_>) -> Result<Vec<PeerOption>, UsageFault>
-    ensures peers { IfOk result (λ peers. ArePeers (peers_given (rows_of (found_of matches.now))) peers.items) }
-    ensures all { OnOk result (AllArePeers (peers_given (rows_of (found_of matches.now)))) }
-    ensures cause { IfErr result (IsFor UsageCause.Peer
-        (AllArePeers (peers_given (rows_of (found_of matches.now))) → ⊥)) }
-{
-    match matches.get_strs("peer") {
-        Some(texts) => peers_of(alloc, texts),
-        None => peers_of(alloc, &[]),
-    }
-}
-
-// The origins that are given.
-#[tactic(auto, using(crate::proofs::Rows::all_read))]
-fn given_origins(alloc: Global, matches: &ArgMatches<'_>) -> Result<Vec<String>, UsageFault>
-    ensures origins { IfOk result
-        (λ origins. map string_bytes origins.items ≡ origins_given (rows_of (found_of matches.now))) }
-    ensures few { IfOk result (λ origins. vec_len origins ≤ MAX_ORIGINS) }
-    ensures each { IfOk result (λ origins. AreOrigins (map string_bytes origins.items)) }
-    ensures given { OnOk result (AreFewOrigins (origins_given (rows_of (found_of matches.now)))) }
-    ensures cause { IfErr result (IsFor UsageCause.Origin
-        (AreFewOrigins (origins_given (rows_of (found_of matches.now))) → ⊥)) }
-{
-    match matches.get_strs("origin") {
-        Some(texts) => origins_of(alloc, texts),
-        None => origins_of(alloc, &[]),
-    }
-}
-
-// The incarnation that is given, if one is.
-#[tactic(auto, using(crate::proofs::Rows::first_read))]
-fn given_life(alloc: Global, matches: &ArgMatches<'_>) -> Result<Option<u64>, UsageFault>
-    ensures number { IfOk result (λ n. n ≡ option_map number_in (life_given (rows_of (found_of matches.now)))) }
-    ensures limits { IfOk result (λ n. ForSome n IsCount) }
-    ensures life { OnOk result (IsLife (life_given (rows_of (found_of matches.now)))) }
-    ensures cause { IfErr result (IsFor UsageCause.Incarnation
-        (IsLife (life_given (rows_of (found_of matches.now))) → ⊥)) }
-{
-    let Some(text) = matches.get_str("incarnation") else {
-        return Ok(None);
-    };
-    match incarnation_of(alloc, text) {
-        Ok(incarnation) => Ok(Some(incarnation)),
-        Err(fault) => Err(fault),
-    }
-}
-
-// How many clients one address may have, if that is given.
-#[tactic(auto, using(crate::proofs::Rows::first_read))]
-fn given_per_address(alloc: Global, matches: &ArgMatches<'_>) -> Result<Option<u64>, UsageFault>
-    ensures number { IfOk result
-        (λ n. n ≡ option_map number_in (per_address_given (rows_of (found_of matches.now)))) }
-    ensures limits { IfOk result (λ n. ForSome n (IsFrom1To MAX_PER_ADDRESS)) }
-    ensures given { OnOk result (IsPerAddress (rows_of (found_of matches.now))) }
-    ensures cause { IfErr result (IsFor UsageCause.PerAddress (IsPerAddress (rows_of (found_of matches.now)) → ⊥)) }
-{
-    let Some(text) = matches.get_str("per-address") else {
-        return Ok(None);
-    };
-    match per_address_of(alloc, text) {
-        Ok(clients) => Ok(Some(clients)),
-        Err(fault) => Err(fault),
-    }
-}
-
-// How many handshakes a second one address may have, if that is given.
-#[tactic(auto, using(crate::proofs::Rows::first_read))]
-fn given_handshakes(alloc: Global, matches: &ArgMatches<'_>) -> Result<Option<u64>, UsageFault>
-    ensures number { IfOk result
-        (λ n. n ≡ option_map number_in (handshakes_given (rows_of (found_of matches.now)))) }
-    ensures limits { IfOk result (λ n. ForSome n (IsFrom1To MAX_HANDSHAKES_PER_SECOND)) }
-    ensures given { OnOk result (AreHandshakes (rows_of (found_of matches.now))) }
-    ensures cause { IfErr result
-        (IsFor UsageCause.HandshakesPerSecond (AreHandshakes (rows_of (found_of matches.now)) → ⊥)) }
-{
-    let Some(text) = matches.get_str("handshakes") else {
-        return Ok(None);
-    };
-    match handshakes_of(alloc, text) {
-        Ok(handshakes) => Ok(Some(handshakes)),
-        Err(fault) => Err(fault),
-    }
-}
-
-// Whether the flag is given.
-#[tactic(auto, using(crate::proofs::Rows::first_read))]
-fn is_flagged(matches: &ArgMatches<'_>, id: &str) -> bool
-    ensures { result ≡ flag_given id.now (rows_of (found_of matches.now)) }
-{
-    match matches.get_str(id) {
-        Some(text) => text == "true",
-        None => false,
+        _ => Err(usage_of(UsageCause::Words, wrong_words(alloc, words, &e))),
     }
 }
 
@@ -502,6 +234,102 @@ fn stdio_options(alloc: Global, matches: &ArgMatches<'_>) -> Result<StdioOptions
     })
 }
 
+// What stands beside the node itself: proxies, the addresses of links, what everybody together may take, and what an
+// operator is told.
+#[derive(Drop)]
+struct Edge {
+    proxies: Vec<IpAddr>,
+    link_from: Vec<IpAddr>,
+    budgets: Budgets,
+    reports: Reports,
+}
+
+// The rules of the options that are numbers or addresses.
+const PROXIES: AddressRule<'static> = AddressRule {
+    cause: UsageCause::Proxy,
+    option: "proxy",
+    most: MAX_PROXIES,
+};
+
+const LINKS_FROM: AddressRule<'static> = AddressRule {
+    cause: UsageCause::LinkFrom,
+    option: "link-from",
+    most: MAX_LINK_FROM,
+};
+
+const MEMORY: NumberRule<'static> = NumberRule {
+    cause: UsageCause::MemoryLimit,
+    option: "memory",
+    low: MIN_MEMORY,
+    high: MAX_MEMORY,
+};
+
+const ROWS: NumberRule<'static> = NumberRule {
+    cause: UsageCause::TopicRows,
+    option: "topic-rows",
+    low: 1,
+    high: MAX_TOPIC_ROWS,
+};
+
+const BYTES: NumberRule<'static> = NumberRule {
+    cause: UsageCause::TopicBytes,
+    option: "topic-bytes",
+    low: MIN_TOPIC_BYTES,
+    high: MAX_TOPIC_BYTES,
+};
+
+// What everybody together may take.
+fn budgets_of(alloc: Global, matches: &ArgMatches<'_>) -> Result<Budgets, UsageFault>
+    ensures given { IfOk result (AreBudgetsGiven (rows_of (found_of matches.now))) }
+    ensures limits { IfOk result AreBudgets }
+    ensures within { OnOk result (IsFrugal (rows_of (found_of matches.now))) }
+    ensures cause { IfErr result (IsWasteful (rows_of (found_of matches.now))) }
+{
+    let memory = given_number(alloc, matches, MEMORY)?;
+    let topic_rows = given_number(alloc, matches, ROWS)?;
+    let topic_bytes = given_number(alloc, matches, BYTES)?;
+    Ok(Budgets {
+        memory,
+        topic_rows: topic_rows.unwrap_or(TOPIC_ROWS),
+        topic_bytes: topic_bytes.unwrap_or(TOPIC_BYTES),
+    })
+}
+
+// What an operator is told.
+fn reports_of(alloc: Global, matches: &ArgMatches<'_>) -> Result<Reports, UsageFault>
+    ensures given { IfOk result (AreReportsGiven (rows_of (found_of matches.now))) }
+    ensures limits { IfOk result (λ r. ForSome r.metrics_port (IsFrom1To 65535)) }
+    ensures within { OnOk result (IsTold (rows_of (found_of matches.now))) }
+    ensures cause { IfErr result (IsUntold (rows_of (found_of matches.now))) }
+{
+    let logged = logged_of(alloc, text_given(matches, "log", "refused"))?;
+    let format = format_of(alloc, text_given(matches, "log-format", "text"))?;
+    let metrics_port = given_metrics_port(alloc, matches)?;
+    Ok(Reports {
+        logged,
+        format,
+        metrics_port,
+    })
+}
+
+// What stands beside the node itself.
+fn edge_of(alloc: Global, matches: &ArgMatches<'_>) -> Result<Edge, UsageFault>
+    ensures given { IfOk result (IsEdge (rows_of (found_of matches.now))) }
+    ensures limits { IfOk result IsEdgeWithin }
+    ensures cause { IfErr result (IsEdgeWrong (rows_of (found_of matches.now))) }
+{
+    let proxies = given_addresses(alloc, matches, PROXIES)?;
+    let link_from = given_addresses(alloc, matches, LINKS_FROM)?;
+    let budgets = budgets_of(alloc, matches)?;
+    let reports = reports_of(alloc, matches)?;
+    Ok(Edge {
+        proxies,
+        link_from,
+        budgets,
+        reports,
+    })
+}
+
 // The options of the words behind `serve`.
 #[tactic(auto, using(crate::proofs::Serving::too_crowded, crate::proofs::Serving::too_hasty))]
 fn serve_options(alloc: Global, matches: &ArgMatches<'_>) -> Result<ServeOptions, UsageFault>
@@ -512,7 +340,7 @@ fn serve_options(alloc: Global, matches: &ArgMatches<'_>) -> Result<ServeOptions
     let name = name_of(alloc, text_given(matches, "name", "a"))?;
     let incarnation = given_life(alloc, matches)?;
     let port = port_of(alloc, text_given(matches, "port", "4000"))?;
-    let link_port = link_port_of(alloc, text_given(matches, "link-port", "4001"))?;
+    let link_port = given_link_port(alloc, matches)?;
     let shards = shards_of(alloc, text_given(matches, "shards", "4"))?;
     let workers = workers_of(alloc, text_given(matches, "workers", "4"))?;
     let link_version = link_version_of(alloc, text_given(matches, "link-version", "2"))?;
@@ -521,8 +349,15 @@ fn serve_options(alloc: Global, matches: &ArgMatches<'_>) -> Result<ServeOptions
     let per_address = given_per_address(alloc, matches)?;
     let handshakes_per_second = given_handshakes(alloc, matches)?;
     let routes = given_routes(alloc, matches)?;
-    let listen = address_of(alloc, text_given(matches, "listen", "127.0.0.1"))?;
-    let link_listen = address_of(alloc, text_given(matches, "link-listen", "127.0.0.1"))?;
+    names_checked(alloc, &name, peers.as_slice())?;
+    let Edge {
+        proxies,
+        link_from,
+        budgets,
+        reports,
+    } = edge_of(alloc, matches)?;
+    let listen = listen_of(alloc, text_given(matches, "listen", "127.0.0.1"))?;
+    let link_listen = listen_of(alloc, text_given(matches, "link-listen", "127.0.0.1"))?;
     Ok(ServeOptions {
         name,
         incarnation,
@@ -538,6 +373,10 @@ fn serve_options(alloc: Global, matches: &ArgMatches<'_>) -> Result<ServeOptions
         origins,
         per_address,
         handshakes_per_second,
+        proxies,
+        link_from,
+        budgets,
+        reports,
     })
 }
 
@@ -601,7 +440,7 @@ pub fn options_of<'a>(alloc: Global, words: &'a [&'a str]) -> Result<Options, Us
     };
     let matches = match command.try_get_matches_from(words) {
         Ok(matches) => matches,
-        Err(e) => return refusal_of(alloc, e),
+        Err(e) => return refusal_of(alloc, words, e),
     };
     match command_met(&matches) {
         Some((name, inner)) => chosen(alloc, name, inner),

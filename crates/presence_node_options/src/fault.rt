@@ -31,6 +31,24 @@ pub enum UsageCause {
     PerAddress,
     /// The number of handshakes is none from 1 to `MAX_HANDSHAKES_PER_SECOND`.
     HandshakesPerSecond,
+    /// A peer has the name of the node itself, or that of another peer.
+    PeerName,
+    /// A proxy is no address, or there are too many.
+    Proxy,
+    /// An address that links may come from is none, or there are too many.
+    LinkFrom,
+    /// The memory is no number from `MIN_MEMORY` to `MAX_MEMORY`.
+    MemoryLimit,
+    /// The rows of a topic are no number from 1 to `MAX_TOPIC_ROWS`.
+    TopicRows,
+    /// The bytes of a topic are no number from `MIN_TOPIC_BYTES` to `MAX_TOPIC_BYTES`.
+    TopicBytes,
+    /// What is logged is none of the words for it.
+    Log,
+    /// How it is logged is none of the words for it.
+    LogFormat,
+    /// The port of metrics is no number from 1 to 65535.
+    MetricsPort,
 }
 
 /// Why a command line was not taken: a cause with a text for the user, or want of memory.

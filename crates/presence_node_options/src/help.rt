@@ -39,10 +39,10 @@ A line each; nothing is said of a state";
 pub(crate) const PORT_HELP: &str = "The port of clients, 1 to 65535 [default: 4000]";
 
 pub(crate) const LINK_PORT_HELP: &str =
-    "The port of other nodes' links, 1 to 65535 [default: 4001]";
+    "The port of other nodes' links, 1 to 65535 [default: 4001 with --peer, or else none]";
 
 pub(crate) const PEER_HELP: &str = "Another node to link to, as b=10.0.0.2:4001
-Its name, its host and its link port; as often as one likes";
+Its name, its host and its link port; as often as one likes, each with a name of its own";
 
 pub(crate) const LISTEN_HELP: &str = "The address of the port of clients [default: 127.0.0.1]";
 
@@ -65,6 +65,35 @@ pub(crate) const HANDSHAKES_HELP: &str =
 Beyond a burst of ten seconds' worth, which may come at once
 Not given, this machine and private networks may make any number";
 
+pub(crate) const PROXY_HELP: &str =
+    "The address of a proxy that is believed; up to 16 times [default: none]
+What it tells by X-Forwarded-For, or by the first line of the PROXY protocol, is its client's
+address, by which the limits of addresses then count";
+
+pub(crate) const LINK_FROM_HELP: &str =
+    "An address that links may come from; up to 64 times [default: any]";
+
+pub(crate) const MEMORY_HELP: &str =
+    "Megabytes that the server may take, from 32 [default: half of what there is]
+Beyond nine tenths of them nobody gets in any more, and what would make more is refused as full";
+
+pub(crate) const TOPIC_ROWS_HELP: &str =
+    "Rows that a topic may have at this node, 1 to 1048576 [default: 65536]";
+
+pub(crate) const TOPIC_BYTES_HELP: &str =
+    "Bytes of text that they may have, 1024 to 1073741824 [default: 8388608]";
+
+pub(crate) const LOG_HELP: &str =
+    "Which clients standard error has lines of: refused, all or none [default: refused]
+Of those that are refused, dropped or closed for cause, or of those that come and go too";
+
+pub(crate) const LOG_FORMAT_HELP: &str =
+    "As what these lines are written, text or json [default: text]";
+
+pub(crate) const METRICS_PORT_HELP: &str =
+    "A port for /metrics alone, 1 to 65535 [default: at --port]
+It is at the address of --link-listen, and /metrics then isn't at the port of clients";
+
 pub(crate) const SHARDS_HELP: &str = "How many shards the topics are dealt to, 1 to 4 [default: 4]";
 
 pub(crate) const WORKERS_HELP: &str = "How many threads answer clients, 1 to 64 [default: 4]
@@ -84,13 +113,21 @@ Options of serve:
       --port <PORT>            The port of clients, 1 to 65535 [default: 4000]
       --listen <ADDRESS>       The address of the port of clients [default: 127.0.0.1]
       --origin <ORIGIN>        Where pages may connect from; up to 64 times [default: any]
+      --proxy <ADDRESS>        A proxy that is believed; up to 16 times [default: none]
       --per-address <NUMBER>   Clients that one address may have, 1 to 65536 [default: half of all]
       --handshakes <NUMBER>    Handshakes a second of one address, 1 to 1000 [default: 20]
       --shards <NUMBER>        How many shards the topics are dealt to, 1 to 4 [default: 4]
       --workers <NUMBER>       How many threads answer clients, 1 to 64 [default: 4]
+      --memory <MB>            Megabytes that it may take, from 32 [default: half of what there is]
+      --topic-rows <NUMBER>    Rows of a topic at this node, 1 to 1048576 [default: 65536]
+      --topic-bytes <NUMBER>   Bytes of their text, 1024 to 1073741824 [default: 8388608]
+      --log <WORD>             Lines of which clients: refused, all or none [default: refused]
+      --log-format <WORD>      As what, text or json [default: text]
+      --metrics-port <PORT>    A port for /metrics alone, 1 to 65535 [default: at --port]
       --peer <NAME=HOST:PORT>  Another node to link to, as b=10.0.0.2:4001
-      --link-port <PORT>       The port of other nodes' links, 1 to 65535 [default: 4001]
+      --link-port <PORT>       The port of other nodes' links [default: 4001 with --peer, or none]
       --link-listen <ADDRESS>  The address of the port of links [default: 127.0.0.1]
+      --link-from <ADDRESS>    Where links may come from; up to 64 times [default: anywhere]
       --link-version <NUMBER>  Up to which version links are spoken, 1 or 2 [default: 2]
 
 Options of stdio:
@@ -181,13 +218,20 @@ A link is closed for these reasons:
   N9  the end came within a line";
 
 /// What each command takes.
-pub(crate) const ALLOWED: &str =
+pub(crate) const STDIO_TAKES: &str =
     "stdio takes --name NAME, 1 to 32 characters of a-z, 0-9, --incarnation NUMBER, 1 to
 4611686018427387904, up to 64 times --route PATTERN, a topic or the front of topics with one *
-behind it, of 1 to 255 bytes, --notices and --explain;
-fold takes --explain;
-serve takes --name, --incarnation and --route as stdio, --port PORT and --link-port PORT, 1 to
-65535, --shards NUMBER, 1 to 4, --workers NUMBER, 1 to 64, --link-version NUMBER, 1 or 2, --peer
+behind it, of 1 to 255 bytes, --notices and --explain;";
+
+pub(crate) const FOLD_TAKES: &str = "fold takes --explain;";
+
+pub(crate) const SERVE_TAKES: &str =
+    "serve takes --name NAME, 1 to 32 characters of a-z, 0-9, --incarnation NUMBER, 1 to
+4611686018427387904, up to 64 times --route PATTERN, a topic or the front of topics with one *
+behind it, of 1 to 255 bytes, --port PORT, --link-port PORT and --metrics-port PORT, 1 to 65535,
+--shards NUMBER, 1 to 4, --workers NUMBER, 1 to 64, --link-version NUMBER, 1 or 2, --peer
 NAME=HOST:PORT, as often as one likes, --listen ADDRESS, --link-listen ADDRESS, up to 64 times
---origin ORIGIN, scheme://host or scheme://host:port, --per-address NUMBER, 1 to 65536, and
---handshakes NUMBER, 1 to 1000";
+--link-from ADDRESS, up to 16 times --proxy ADDRESS, up to 64 times --origin ORIGIN, scheme://host
+or scheme://host:port, --per-address NUMBER, 1 to 65536, --handshakes NUMBER, 1 to 1000, --memory
+MB, 32 to 16777216, --topic-rows NUMBER, 1 to 1048576, --topic-bytes NUMBER, 1024 to 1073741824,
+--log refused, all or none, and --log-format text or json";

@@ -5,18 +5,25 @@
 //! origin is.
 #![tactic(auto)]
 
+mod addresses;
+mod arguments;
 mod command_line;
 mod fault;
+mod found;
 mod help;
 pub mod laws;
 mod options;
 mod origin;
+mod peer_names;
+mod reports;
 mod values;
 
 pub use command_line::options_of;
 pub use fault::{UsageCause, UsageFault};
 pub use help::{ALL_OPTIONS, FOLD_REFUSALS, SERVE_ENDS, STDIO_REFUSALS, TO_TRY, VERSION};
 pub use options::{
-    FoldOptions, MAX_HANDSHAKES_PER_SECOND, MAX_LINK_VERSION, MAX_ORIGINS, MAX_PER_ADDRESS,
-    MAX_WORKERS, Options, PeerOption, ServeOptions, StdioOptions,
+    Budgets, FoldOptions, LINK_PORT, LineFormat, Logged, MAX_HANDSHAKES_PER_SECOND, MAX_LINK_FROM,
+    MAX_LINK_VERSION, MAX_MEMORY, MAX_ORIGINS, MAX_PER_ADDRESS, MAX_PROXIES, MAX_TOPIC_BYTES,
+    MAX_TOPIC_ROWS, MAX_WORKERS, MIN_MEMORY, MIN_TOPIC_BYTES, Options, PeerOption, Reports,
+    ServeOptions, StdioOptions, TOPIC_BYTES, TOPIC_ROWS,
 };

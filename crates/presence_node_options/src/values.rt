@@ -104,17 +104,52 @@ pub(crate) fn port_of(alloc: Global, text: &str) -> Result<u16, UsageFault>
     }
 }
 
-/// The port of links that a text is.
-pub(crate) fn link_port_of(alloc: Global, text: &str) -> Result<u16, UsageFault>
+/// The port that a text is, of this option and for this cause.
+pub(crate) fn further_port_of(
+    alloc: Global,
+    text: &str,
+    cause: UsageCause,
+    option: &str,
+) -> Result<u16, UsageFault>
     ensures number { IfOk result (λ n. n ≡ number_in text.now) }
     ensures limits { IfOk result (λ n. IsNumberWithin 1 65535 text.now) }
-    ensures cause { IfErr result (IsFor UsageCause.LinkPort (IsNumberWithin 1 65535 text.now → ⊥)) }
+    ensures cause { IfErr result (IsFor cause (IsNumberWithin 1 65535 text.now → ⊥)) }
 {
     match port_in(text) {
         Some(port) => Ok(port),
         None => Err(usage_of(
-            UsageCause::LinkPort,
-            format!(in alloc; "--link-port '{text}': a port is 1 to 65535"),
+            cause,
+            format!(in alloc; "--{option} '{text}': a port is 1 to 65535"),
+        )),
+    }
+}
+
+/// Which number an option is given: of what, by which option, and from what to what.
+#[derive(Clone, Copy)]
+pub(crate) struct NumberRule<'a> {
+    pub cause: UsageCause,
+    pub option: &'a str,
+    pub low: u64,
+    pub high: u64,
+}
+
+/// The number that a text is.
+pub(crate) fn number_of(alloc: Global, text: &str, rule: NumberRule<'_>) -> Result<u64, UsageFault>
+    ensures number { IfOk result (λ n. n ≡ number_in text.now) }
+    ensures limits { IfOk result (λ n. IsNumberWithin rule.low rule.high text.now) }
+    ensures cause { IfErr result (IsFor rule.cause (IsNumberWithin rule.low rule.high text.now → ⊥)) }
+{
+    let NumberRule {
+        cause,
+        option,
+        low,
+        high,
+    } = rule;
+    match number_within(text, low, high) {
+        Some(number) => Ok(number),
+        None => Err(usage_of(
+            cause,
+            format!(in alloc; "--{option} '{text}': a number from {low} to {high} is wanted"),
         )),
     }
 }
@@ -326,17 +361,6 @@ pub(crate) fn peers_of(alloc: Global, texts: &[&str]) -> Result<Vec<PeerOption>,
         }
     }
     Ok(peers)
-}
-
-/// The text of an address.
-pub(crate) fn address_of(alloc: Global, text: &str) -> Result<String, UsageFault>
-    ensures text { IfOk result (λ address. string_bytes address ≡ text.now) }
-    ensures cause { IfErr result (λ fault. fault ≡ UsageFault.Memory) }
-{
-    match String::from_str(alloc, text) {
-        Ok(address) => Ok(address),
-        Err(_) => Err(UsageFault::Memory),
-    }
 }
 
 // Copies of these texts.

@@ -1,25 +1,44 @@
 -- What is looked at of a request's head, and which bytes open a WebSocket.
-use Rattle.std.specs.Prelude.{◌≡◌, ◌≤◌, ℕ, Bool, true, false, List, [], ◌++◌, length, take, codes, decimal, is_some, option_map, IfSome}
+use Rattle.std.specs.Prelude.{◌≡◌, ◌≤◌, ℕ, Bool, true, false, List, [], ◌++◌, length, take, codes, decimal, option_map, IfSome, Option, None, Some, Result, Ok, Err}
 use denote.Ref.{Bor}
-use Rattle.httparse.specs.Spans.{IsRequestOf, span_bytes}
+use Rattle.httparse.specs.Grammar.{HasNoRequest, MayBecomeRequest, NeverHasRequest}
+use Rattle.httparse.specs.Spans.{IsRequestOf, RequestExceeds, RequestOverflows, span_bytes}
 use Rattle.httparse.specs.declared.spans.HeaderSpan.{HeaderSpan}
 use Rattle.httparse.specs.declared.spans.RequestSpans.{RequestSpans}
 use Rattle.tungstenite.specs.Heads.{IsAccepted}
-use Rattle.websocket.specs.Headers.{field_line, fields_of, header_value, crlf}
+use Rattle.websocket.specs.declared.handshake.failure.HandshakeError.{HandshakeError}
+use Rattle.websocket.specs.Handshake.{IsValidKey, accept_key_of, requested_key}
+use Rattle.websocket.specs.Headers.{Fields, field_line, fields_of, header_value, crlf}
+use Rattle.presence_node_requests.specs.Fields.{has_host, is_long_body, lists}
+use Rattle.presence_node_requests.specs.declared.head.TheConstants.{MAX_FIELDS}
 use Rattle.presence_node_requests.specs.declared.head.Parsed.{Parsed}
-use Rattle.presence_node_requests.specs.declared.head.Parsed.TheVariants.{Partial, Whole, Junk}
+use Rattle.presence_node_requests.specs.declared.head.Parsed.TheVariants.{Partial, Whole, Long, Junk}
 use Rattle.presence_node_requests.specs.declared.head.Request.{Request}
+
+-- what answers the key that a head asks for a WebSocket with, if it asks as it must
+abbrev pub IsAcceptOf : Result (List ℕ) HandshakeError → Option (List ℕ) → Type 0
+IsAcceptOf (Ok key) (Some accept) = IsValidKey key × (accept ≡ accept_key_of key)
+IsAcceptOf (Ok key) None = ¬ (IsValidKey key)
+IsAcceptOf (Err e) accept = accept ≡ None
+
+-- the fields that these spans cover
+abbrev pub fields_at : List ℕ → List HeaderSpan → RequestSpans → Fields
+fields_at head spans found = fields_of head (take found.headers spans)
 
 -- what is looked at of the head that these spans cover
 pub record IsHeadOf (head : List ℕ) (spans : List HeaderSpan) (found : RequestSpans) (r : Request) : Type 0 where
   pub method : r.method.now ≡ span_bytes head found.method
   pub target : r.target.now ≡ span_bytes head found.path
-  pub upgrades : r.upgrades ≡ is_some (header_value (fields_of head (take found.headers spans)) (codes "Upgrade"))
+  pub has_host : r.has_host ≡ has_host found.version (fields_at head spans found)
+  pub has_long_body : r.has_long_body ≡ is_long_body (header_value (fields_at head spans found) (codes "Content-Length"))
+  pub upgrades : r.upgrades
+      ≡ lists (header_value (fields_at head spans found) (codes "Upgrade")) (codes "websocket")
   pub origin : option_map (λ (v : Bor (List ℕ)). v.now) r.origin
-      ≡ header_value (fields_of head (take found.headers spans)) (codes "Origin")
+      ≡ header_value (fields_at head spans found) (codes "Origin")
   pub protocols : option_map (λ (v : Bor (List ℕ)). v.now) r.protocols
-      ≡ header_value (fields_of head (take found.headers spans)) (codes "Sec-WebSocket-Protocol")
-  pub accept : IfSome r.accept (λ key. IsAccepted head)
+      ≡ header_value (fields_at head spans found) (codes "Sec-WebSocket-Protocol")
+  pub accept : IsAcceptOf (requested_key (span_bytes head found.method) found.version (fields_at head spans found)) r.accept
+  pub accepted : IfSome r.accept (λ key. IsAccepted head)
   pub bytes : r.bytes ≡ found.len
   pub within : r.bytes ≤ length head
 
@@ -28,11 +47,13 @@ abbrev pub HasRequest : List ℕ → Request → Type 0
 HasRequest head r = (spans : List HeaderSpan) × (found : RequestSpans)
     × IsRequestOf head spans found × IsHeadOf head spans found r
 
--- what bytes are
+-- What bytes are: they begin with no head yet, but may become one; with one; with what has more fields than are allowed,
+-- whatever follows; or with nothing that is one, whatever follows.
 abbrev pub IsParsed : List ℕ → Parsed → Type 0
-IsParsed head Partial = Unit {0}
+IsParsed head Partial = HasNoRequest head × MayBecomeRequest head
 IsParsed head (Whole r) = HasRequest head r
-IsParsed head Junk = Unit {0}
+IsParsed head Long = RequestExceeds MAX_FIELDS head × RequestOverflows MAX_FIELDS head
+IsParsed head Junk = NeverHasRequest head
 
 -- the field that tells the subprotocol, where it is told
 abbrev pub protocol_line : Bool → List ℕ
@@ -52,8 +73,13 @@ opening_bytes accept has_protocol =
 abbrev pub Opens : List ℕ → Bool → List ℕ × Bool → Type 0
 Opens accept has_protocol reply = reply ≡ (opening_bytes accept has_protocol, true)
 
--- an answer without a WebSocket: a text of this kind, with which the connection ends
-abbrev pub plain_bytes : List ℕ → List ℕ → List ℕ → List ℕ
-plain_bytes status kind body =
+-- an answer without a WebSocket, of this kind, with which the connection ends: its length is that of the body, also where
+-- the body isn't sent
+abbrev pub plain_bytes : List ℕ → List ℕ → List ℕ → List ℕ → List ℕ
+plain_bytes status kind body sent =
     codes "HTTP/1.1 " ++ (status ++ (codes "\r\ncontent-type: " ++ (kind ++ (codes "\r\ncontent-length: "
-    ++ (decimal (length body) ++ (codes "\r\ncache-control: no-store\r\nconnection: close\r\n\r\n" ++ body))))))
+    ++ (decimal (length body) ++ (codes "\r\ncache-control: no-store\r\nconnection: close\r\n\r\n" ++ sent))))))
+
+-- and one without a body
+abbrev pub bare_bytes : List ℕ → List ℕ
+bare_bytes status = codes "HTTP/1.1 " ++ (status ++ codes "\r\ncache-control: no-store\r\nconnection: close\r\n\r\n")

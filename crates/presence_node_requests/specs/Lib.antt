@@ -1,3 +1,5 @@
 pub mod Answers
+pub mod Clients
+pub mod Fields
 pub mod Heads
 pub mod Replies

@@ -1,8 +1,8 @@
 -- What is sent for an answer.
-use Rattle.std.specs.Prelude.{◌≡◌, ℕ, Bool, false, List, codes, Some}
-use Rattle.presence_node_requests.specs.Heads.{Opens, plain_bytes}
+use Rattle.std.specs.Prelude.{◌≡◌, ℕ, Bool, false, cond, not, List, [], bytes_eq, codes, Some}
+use Rattle.presence_node_requests.specs.Heads.{Opens, bare_bytes, plain_bytes}
 use Rattle.presence_node_requests.specs.declared.answer.Answer.{Answer}
-use Rattle.presence_node_requests.specs.declared.answer.Answer.TheVariants.{Socket, Page, Health, Metrics, BadRequest, Forbidden, NotFound, NotAllowed, Full, Crowded, Hasty}
+use Rattle.presence_node_requests.specs.declared.answer.Answer.TheVariants.{Socket, Page, Health, Metrics, BadRequest, Forbidden, NotFound, NotAllowed, Options, NoHost, LongHead, LongBody, Elsewhere, Unwell, Full, Crowded, Hasty}
 use Rattle.presence_node_requests.specs.declared.head.Request.{Request}
 use Rattle.presence_node_requests.specs.declared.page.TheConstants.{PAGE}
 
@@ -15,7 +15,13 @@ status_in Metrics = codes "200 OK"
 status_in BadRequest = codes "400 Bad Request"
 status_in Forbidden = codes "403 Forbidden"
 status_in NotFound = codes "404 Not Found"
-status_in NotAllowed = codes "405 Method Not Allowed\r\nallow: GET"
+status_in NotAllowed = codes "405 Method Not Allowed\r\nallow: GET, HEAD, OPTIONS"
+status_in Options = codes "204 No Content\r\nallow: GET, HEAD, OPTIONS"
+status_in NoHost = codes "400 Bad Request"
+status_in LongHead = codes "431 Request Header Fields Too Large"
+status_in LongBody = codes "413 Content Too Large"
+status_in Elsewhere = codes "404 Not Found"
+status_in Unwell = codes "503 Service Unavailable"
 status_in Full = codes "503 Service Unavailable\r\nretry-after: 5"
 status_in Crowded = codes "503 Service Unavailable\r\nretry-after: 5"
 status_in Hasty = codes "429 Too Many Requests\r\nretry-after: 5"
@@ -27,14 +33,26 @@ Says metrics Health body = body ≡ codes "ok\n"
 Says metrics Metrics body = body ≡ metrics
 Says metrics answer body = Unit {0}
 
--- a text of some kind with the answer's status
-abbrev pub IsPlainReply : List ℕ → Answer → List ℕ × Bool → Type 0
-IsPlainReply metrics answer reply =
-    (kind : List ℕ) × (body : List ℕ) × Says metrics answer body
-    × (reply ≡ (plain_bytes (status_in answer) kind body, false))
+-- as which kind an answer is told
+abbrev pub kind_in : Answer → List ℕ
+kind_in Page = codes "text/html; charset=utf-8"
+kind_in Metrics = codes "text/plain; version=0.0.4; charset=utf-8"
+kind_in answer = codes "text/plain; charset=utf-8"
 
--- a WebSocket is opened by what answers the request's key
+-- a text of the answer's kind with its status, which is sent, or left out
+abbrev pub IsTextReply : List ℕ → Answer → Bool → List ℕ × Bool → Type 0
+IsTextReply metrics answer is_sent reply =
+    (body : List ℕ) × Says metrics answer body
+    × (reply ≡ (plain_bytes (status_in answer) (kind_in answer) body (cond is_sent body []), false))
+
+-- that, or nothing but the methods that there are
+abbrev pub IsPlainReply : List ℕ → Answer → Bool → List ℕ × Bool → Type 0
+IsPlainReply metrics Options is_sent reply = reply ≡ (bare_bytes (status_in Options), false)
+IsPlainReply metrics answer is_sent reply = IsTextReply metrics answer is_sent reply
+
+-- A WebSocket is opened by what answers the request's key. To a HEAD no body is sent: RFC 9110, section 9.3.2.
 abbrev pub IsReplyTo : Request → List ℕ → Answer → List ℕ × Bool → Type 0
 IsReplyTo request metrics (Socket has_protocol) reply =
     (accept : List ℕ) × (request.accept ≡ Some accept) × Opens accept has_protocol reply
-IsReplyTo request metrics answer reply = IsPlainReply metrics answer reply
+IsReplyTo request metrics answer reply =
+    IsPlainReply metrics answer (not (bytes_eq request.method.now (codes "HEAD"))) reply

@@ -1,10 +1,13 @@
 //! What clients ask for at their port by HTTP: a request's head, which answer it gets, and the bytes of that.
 //!
-//! What its contracts cite: `specs/Answers` is the table of answers, `specs/Heads` says what is looked at of a head, and
-//! which bytes open a WebSocket, and `specs/Replies` what is sent for an answer.
+//! What its contracts cite: `specs/Answers` is the table of answers, `specs/Fields` says what stands in the fields of a head,
+//! `specs/Heads` what is looked at of a head, and which bytes open a WebSocket, `specs/Clients` whom a request is from, and
+//! `specs/Replies` what is sent for an answer.
 #![tactic(auto)]
 
 mod answer;
+mod client;
+mod fields;
 mod head;
 pub mod laws;
 mod page;
@@ -12,8 +15,10 @@ mod reply;
 mod replying;
 mod writing;
 
-pub use answer::{Answer, answer_of};
+pub use answer::{Answer, Site, answer_of};
+pub use client::{client_of, is_proxy};
+pub use fields::MAX_BODY_BYTES;
 pub use head::{MAX_FIELDS, Parsed, Request, read_request};
 pub use page::PAGE;
 pub use reply::Reply;
-pub use replying::reply_of;
+pub use replying::{plain, reply_of};

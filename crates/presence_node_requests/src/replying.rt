@@ -1,13 +1,13 @@
 //! What is sent for an answer.
 ghost use Rattle.std.specs.Prelude.{◌≡◌, IfOk, IfSome};
 ghost use Rattle.presence_node_requests.specs.Heads.{HasRequest};
-ghost use Rattle.presence_node_requests.specs.Replies.{IsPlainReply, IsReplyTo, Says, status_in};
+ghost use Rattle.presence_node_requests.specs.Replies.{IsPlainReply, IsReplyTo, Says, kind_in, status_in};
 
 use crate::answer::Answer;
 use crate::head::Request;
 use crate::page::PAGE;
 use crate::reply::Reply;
-use crate::writing::{METRICS_KIND, PAGE_KIND, TEXT_KIND, opening, plain_reply};
+use crate::writing::{METRICS_KIND, PAGE_KIND, TEXT_KIND, bare_reply, opening, plain_reply};
 use std::alloc::{AllocError, Global};
 
 // The status of an answer, with the fields that go with it. (A WebSocket's is written with its key.)
@@ -17,17 +17,23 @@ fn status_of(answer: Answer) -> &'static str
     match answer {
         Answer::Socket(_) => "101 Switching Protocols",
         Answer::Page | Answer::Health | Answer::Metrics => "200 OK",
-        Answer::BadRequest => "400 Bad Request",
+        Answer::Options => "204 No Content\r\nallow: GET, HEAD, OPTIONS",
+        Answer::BadRequest | Answer::NoHost => "400 Bad Request",
         Answer::Forbidden => "403 Forbidden",
-        Answer::NotFound => "404 Not Found",
-        Answer::NotAllowed => "405 Method Not Allowed\r\nallow: GET",
-        Answer::Full | Answer::Crowded => "503 Service Unavailable\r\nretry-after: 5",
+        Answer::NotFound | Answer::Elsewhere => "404 Not Found",
+        Answer::NotAllowed => "405 Method Not Allowed\r\nallow: GET, HEAD, OPTIONS",
+        Answer::LongBody => "413 Content Too Large",
         Answer::Hasty => "429 Too Many Requests\r\nretry-after: 5",
+        Answer::LongHead => "431 Request Header Fields Too Large",
+        Answer::Full | Answer::Crowded => "503 Service Unavailable\r\nretry-after: 5",
+        Answer::Unwell => "503 Service Unavailable",
     }
 }
 
 // As which kind an answer is told.
-fn kind_of(answer: Answer) -> &'static str {
+fn kind_of(answer: Answer) -> &'static str
+    ensures { result.now ≡ kind_in answer }
+{
     match answer {
         Answer::Page => PAGE_KIND,
         Answer::Metrics => METRICS_KIND,
@@ -43,9 +49,14 @@ fn body_of(answer: Answer, metrics: &str) -> &str
         Answer::Page => PAGE,
         Answer::Metrics => metrics,
         Answer::Health => "ok\n",
+        Answer::Unwell => "calls fail\n",
         Answer::BadRequest => "this is no request for a WebSocket of version 13\n",
+        Answer::NoHost => "a request tells its host once, by the field Host\n",
         Answer::Forbidden => "pages of this origin are not let in\n",
-        Answer::NotAllowed => "GET alone is answered\n",
+        Answer::NotAllowed => "GET, HEAD and OPTIONS are answered\n",
+        Answer::LongHead => "a request has at most 8192 bytes and 124 fields\n",
+        Answer::LongBody => "a request has a body of at most 65536 bytes\n",
+        Answer::Elsewhere => "this is at another port\n",
         Answer::Full => "no place is free\n",
         Answer::Crowded => "no further client of this address is taken\n",
         Answer::Hasty => "clients of this address come too fast\n",
@@ -53,12 +64,20 @@ fn body_of(answer: Answer, metrics: &str) -> &str
     }
 }
 
-// An answer without a WebSocket.
-fn plain(alloc: Global, answer: Answer, metrics: &str) -> Result<Reply, AllocError>
-    ensures { IfOk result (IsPlainReply metrics.now answer) }
+/// An answer without a WebSocket, whose body is sent but where it is left out.
+pub fn plain(
+    alloc: Global,
+    answer: Answer,
+    metrics: &str,
+    is_sent: bool,
+) -> Result<Reply, AllocError>
+    ensures { IfOk result (IsPlainReply metrics.now answer is_sent) }
 {
+    if answer == Answer::Options {
+        return bare_reply(alloc, status_of(answer));
+    }
     let body = body_of(answer, metrics);
-    plain_reply(alloc, status_of(answer), kind_of(answer), body)
+    plain_reply(alloc, status_of(answer), kind_of(answer), body, is_sent)
 }
 
 /// What is sent for this answer to the request that these bytes begin with. Nothing is where a WebSocket is asked for and
@@ -74,7 +93,8 @@ pub fn reply_of(
     ensures { IfOk result (λ reply. IfSome reply (IsReplyTo request.now metrics.now answer)) }
 {
     let Answer::Socket(has_protocol) = answer else {
-        return Ok(Some(plain(alloc, answer, metrics)?));
+        let is_sent = request.method != b"HEAD".as_slice();
+        return Ok(Some(plain(alloc, answer, metrics, is_sent)?));
     };
     if request.bytes != head.len() {
         return Ok(None);

@@ -1,8 +1,8 @@
 //! The bytes of answers.
-ghost use Rattle.std.specs.Prelude.{◌≡◌, IfOk, false};
+ghost use Rattle.std.specs.Prelude.{◌≡◌, [], IfOk, cond, false};
 ghost use Rattle.tungstenite.specs.Heads.{IsAccepted};
 ghost use Rattle.websocket.specs.Handshake.{response_bytes};
-ghost use Rattle.presence_node_requests.specs.Heads.{Opens, opening_bytes, plain_bytes};
+ghost use Rattle.presence_node_requests.specs.Heads.{Opens, bare_bytes, opening_bytes, plain_bytes};
 
 use crate::answer::PROTOCOL;
 use crate::reply::Reply;
@@ -56,13 +56,31 @@ pub fn opening(
     Ok(Reply::new(bytes, true))
 }
 
-/// An answer with this status, and this text as its body, of this kind. The connection ends with it.
-pub fn plain_reply(alloc: Global, status: &str, kind: &str, body: &str) -> Result<Reply, AllocError>
-    ensures { IfOk result (λ reply. reply ≡ (plain_bytes status.now kind.now body.now, false)) }
+/// An answer with this status, whose body is this text of this kind, which is sent, or left out. The connection ends with it.
+pub fn plain_reply(
+    alloc: Global,
+    status: &str,
+    kind: &str,
+    body: &str,
+    is_sent: bool,
+) -> Result<Reply, AllocError>
+    ensures { IfOk result (λ reply.
+        reply ≡ (plain_bytes status.now kind.now body.now (cond is_sent body.now []), false)) }
 {
     let count = body.len();
+    let sent = if is_sent { body } else { "" };
     let text = format!(in alloc;
-        "HTTP/1.1 {status}\r\ncontent-type: {kind}\r\ncontent-length: {count}\r\ncache-control: no-store\r\nconnection: close\r\n\r\n{body}"
+        "HTTP/1.1 {status}\r\ncontent-type: {kind}\r\ncontent-length: {count}\r\ncache-control: no-store\r\nconnection: close\r\n\r\n{sent}"
+    )?;
+    Ok(Reply::new(text.into_bytes(), false))
+}
+
+/// An answer with this status, which has no body. The connection ends with it.
+pub fn bare_reply(alloc: Global, status: &str) -> Result<Reply, AllocError>
+    ensures { IfOk result (λ reply. reply ≡ (bare_bytes status.now, false)) }
+{
+    let text = format!(in alloc;
+        "HTTP/1.1 {status}\r\ncache-control: no-store\r\nconnection: close\r\n\r\n"
     )?;
     Ok(Reply::new(text.into_bytes(), false))
 }

@@ -1,12 +1,28 @@
-use Rattle.std.proofs.Common.{◌∙◌, ap, false}
+use Rattle.std.proofs.Common.{◌≡◌, ◌∙◌, ℕ, Bool, List, Option, ap, cond, false, refl, [], Result, IfOk}
 use Rattle.std.proofs.lemmas.Result.{IfOk-weaker}
 use Rattle.presence_node_requests.specs.Heads.{plain_bytes}
+use Rattle.presence_node_requests.specs.Replies.{IsPlainReply, IsTextReply, kind_in, status_in}
+use Rattle.presence_node_requests.specs.declared.answer.Answer.{Answer}
+use Rattle.presence_node_requests.specs.declared.answer.Answer.TheVariants.{Socket, Page, Health, Metrics, BadRequest, Forbidden, NotFound, NotAllowed, Options, NoHost, LongHead, LongBody, Elsewhere, Unwell, Full, Crowded, Hasty}
 use Rattle.presence_node_requests.proofs.replying.plain.Goals as goal
 
-pub returns : goal.returns
-returns c =
-    let kind = c.kind_of.result.now in
-    let body = c.body_of-body.result.now in
-    IfOk-weaker c.plain_reply.result _ _
-    (λ r a. (kind, body, c.body_of-body.ensures, a ∙ ap (λ status. (plain_bytes status kind body, false)) c.status_of.ensures))
-    c.plain_reply.ensures
+-- a text is the reply, where it isn't the methods that are told
+text_is : (metrics : List ℕ) (answer : Answer) (is_sent : Bool) (reply : List ℕ × Bool) → (answer ≡ Options → ⊥)
+    → IsTextReply metrics answer is_sent reply → IsPlainReply metrics answer is_sent reply
+text_is metrics Options is_sent reply other h = absurd (other refl)
+text_is metrics (Socket p) is_sent reply other h = h
+text_is metrics Page is_sent reply other h = h
+text_is metrics Health is_sent reply other h = h
+text_is metrics Metrics is_sent reply other h = h
+text_is metrics BadRequest is_sent reply other h = h
+text_is metrics Forbidden is_sent reply other h = h
+text_is metrics NotFound is_sent reply other h = h
+text_is metrics NotAllowed is_sent reply other h = h
+text_is metrics NoHost is_sent reply other h = h
+text_is metrics LongHead is_sent reply other h = h
+text_is metrics LongBody is_sent reply other h = h
+text_is metrics Elsewhere is_sent reply other h = h
+text_is metrics Unwell is_sent reply other h = h
+text_is metrics Full is_sent reply other h = h
+text_is metrics Crowded is_sent reply other h = h
+text_is metrics Hasty is_sent reply other h = h

@@ -1,7 +1,7 @@
 use Rattle.std.proofs.lemmas.Bool.Decides.{same_from_decides}
 use Rattle.std.proofs.lemmas.Slice.Eq.{bytes_eq-Decides}
 use Rattle.websocket.specs.Headers.{eq_ignore_case}
-use Rattle.presence_node_requests.proofs.head.same_but_for_case.Goals as goal
+use Rattle.presence_node_requests.proofs.fields.same_but_for_case.Goals as goal
 
 pub returns : goal.returns
 unfolding eq_ignore_case

@@ -1,6 +1,6 @@
 use Rattle.std.proofs.Common.{◌≡◌, drop}
 use Rattle.websocket.specs.Headers.{fields_of, header_value}
-use Rattle.presence_node_requests.proofs.head.field.Given as goal
+use Rattle.presence_node_requests.proofs.fields.field.Given as goal
 
 -- the field that is looked for is among those that are left
 abbrev pub invariant-loop-span : goal.invariant-loop-span
