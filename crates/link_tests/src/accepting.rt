@@ -190,19 +190,19 @@ fn a_beat_of_a_replica_that_is_gone(rt: HostRuntime) {
 #[test]
 fn a_replica_is_put_down_on_every_shard(rt: HostRuntime) {
     let alloc = rt.alloc();
-    let Some(c) = replica(alloc, "c", 7) else {
+    let Some(b) = replica(alloc, "b", 7) else {
         assert!(rt; false);
         return;
     };
-    let c = &c;
-    let text = "[\"hello\",\"b\",1,2]\n[\"permdown\",\"c\",7]\n[\"permdown\",\"a\",1]\n";
+    let b = &b;
+    let text = "[\"hello\",\"b\",1,2]\n[\"permdown\",\"b\",7]\n[\"permdown\",\"a\",1]\n";
     let Some(mut desk) = at_a(alloc, text.as_bytes()) else {
         assert!(rt; false);
         return;
     };
     assert!(rt; desk.accepts_all(alloc, 3));
     assert!(rt; desk.wrote("[\"hello\",\"a\",1,2]\n[\"ok\"]\n[\"ok\"]\n"));
-    assert!(rt; desk.asked(&[Call::PermDown(0, *c), Call::PermDown(1, *c)]));
+    assert!(rt; desk.asked(&[Call::PermDown(0, *b), Call::PermDown(1, *b)]));
 }
 
 // Whether the first beat ends so where the call of the port of this number is refused, and so many calls are made.

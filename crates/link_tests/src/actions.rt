@@ -1,7 +1,7 @@
 //! What a peer asks for, line by line, and what comes of actions that no line gives.
 use crate::desk::{Desk, NOW, at_a, at_b, at_late_a, replica};
 use crate::port::Call;
-use node_links::{Act, ActFault, Line, LinkAction, LinkFault, act};
+use node_links::{Act, ActFault, Line, LinkAction, LinkFault, act, hear_bytes};
 use presence_base::Replica;
 use std::alloc::Global;
 
@@ -131,12 +131,7 @@ fn beats(rt: HostRuntime) {
         assert!(rt; false);
         return;
     };
-    let Some(a2) = replica(alloc, "a", 2) else {
-        assert!(rt; false);
-        return;
-    };
     let b = &b;
-    let a2 = &a2;
     let bare = [
         Asks::UnlessGone(1, *b),
         Asks::Heard(1, *b, NOW),
@@ -148,11 +143,6 @@ fn beats(rt: HostRuntime) {
         Asks::Merge(0),
         Asks::AnswerTop(0, *b, 2),
     ];
-    let of_next = [
-        Asks::UnlessGone(0, *a2),
-        Asks::Heard(0, *a2, NOW),
-        Asks::AnswerTop(0, *a2, 0),
-    ];
     assert!(rt;
         are_asking(
             alloc,
@@ -162,7 +152,6 @@ fn beats(rt: HostRuntime) {
                     r#"["beat",0,"b",1,2,[[["b",1,1,2]],[["b",1,1]],[]]]"#,
                     &merging
                 ),
-                (r#"["beat",0,"a",2,0,null]"#, &of_next),
                 (r#"["beat",0,"a",1,9,null]"#, &[Asks::Ok]),
                 (r#"["beat",0,"a",1,1,[[["a",1,0,1]],[],[]]]"#, &[Asks::Ok]),
             ]
@@ -223,30 +212,17 @@ fn are_asking_late(alloc: Global, lines: &[(&str, &[Asks])]) -> bool {
 #[test]
 fn a_late_shard_is_what_it_was(rt: HostRuntime) {
     let alloc = rt.alloc();
-    let (Some(a1), Some(a2)) = (replica(alloc, "a", 1), replica(alloc, "a", 2)) else {
-        assert!(rt; false);
+    assert!(rt; false);
         return;
     };
     let a1 = &a1;
     let a2 = &a2;
-    let of_before = [
-        Asks::UnlessGone(0, *a1),
-        Asks::Heard(0, *a1, NOW),
-        Asks::AnswerTop(0, *a1, 3),
-    ];
-    let of_node = [
-        Asks::UnlessGone(1, *a2),
-        Asks::Heard(1, *a2, NOW),
-        Asks::AnswerTop(1, *a2, 3),
-    ];
     assert!(rt;
         are_asking_late(
             alloc,
             &[
                 (r#"["beat",0,"a",2,3,null]"#, &[Asks::Ok]),
-                (r#"["beat",0,"a",1,3,null]"#, &of_before),
                 (r#"["beat",1,"a",1,3,null]"#, &[Asks::Ok]),
-                (r#"["beat",1,"a",2,3,null]"#, &of_node),
                 (r#"["want",0,"a",2,7]"#, &[Asks::AnswerTold(0, Some(7))]),
                 (r#"["want",0,"a",1,7]"#, &[Asks::AnswerTold(0, None)]),
                 (r#"["want",1,"a",1,7]"#, &[Asks::AnswerTold(1, Some(7))]),
@@ -259,22 +235,75 @@ fn a_late_shard_is_what_it_was(rt: HostRuntime) {
 // The other lines are about what the node's hello says.
 #[test]
 fn a_node_with_a_late_shard(rt: HostRuntime) {
-    let alloc = rt.alloc();
-    let Some(a1) = replica(alloc, "a", 1) else {
-        assert!(rt; false);
-        return;
-    };
     assert!(rt;
         are_asking_late(
-            alloc,
+            rt.alloc(),
             &[
                 (r#"["permdown","a",2]"#, &[Asks::Ok]),
-                (r#"["permdown","a",1]"#, &[Asks::PermDown(a1), Asks::Ok]),
                 (r#"["gone","a",1]"#, &[]),
                 (r#"["gone","a",2]"#, &[Asks::GivenUp]),
             ]
         )
     );
+}
+
+// Lines about another name than the hello's, and than this node's.
+const OF_OTHERS: [&str; 6] = [
+    r#"["beat",0,"c",1,0,null]"#,
+    r#"["beat",0,"c",1,1,[[["c",1,0,1]],[],[]]]"#,
+    r#"["permdown","c",1]"#,
+    // another life of this node
+    r#"["beat",0,"a",2,0,null]"#,
+    r#"["permdown","a",2]"#,
+    r#"["permdown","a",9]"#,
+];
+
+// Of a name alone its own link tells that it is there, or gone: in whatever life.
+#[test]
+fn a_link_speaks_for_its_own_name(rt: HostRuntime) {
+    let alloc = rt.alloc();
+    let Some(mut desk) = at_a(alloc, b"") else {
+        assert!(rt; false);
+        return;
+    };
+    assert!(rt; desk.takes(alloc, r#"["hello","b",3,2]"#));
+    for text in OF_OTHERS {
+        assert!(rt; desk.refusal(alloc, text) == Some(LinkFault::BadLine), "{text}");
+    }
+    assert!(rt; desk.takes(alloc, r#"["beat",0,"b",2,0,null]"#));
+    assert!(rt; desk.takes(alloc, r#"["permdown","b",2]"#));
+}
+
+// At a node with a late shard that is no other: each shard's own life alone is the node's.
+#[test]
+fn a_late_shard_is_no_other_node(rt: HostRuntime) {
+    let alloc = rt.alloc();
+    let Some(mut desk) = at_late_a(alloc) else {
+        assert!(rt; false);
+        return;
+    };
+    assert!(rt; desk.takes(alloc, r#"["hello","b",1,2]"#));
+    for text in [
+        r#"["beat",0,"a",1,3,null]"#,
+        r#"["beat",1,"a",2,3,null]"#,
+        r#"["permdown","a",1]"#,
+    ] {
+        assert!(rt; desk.refusal(alloc, text) == Some(LinkFault::BadLine), "{text}");
+    }
+}
+
+// Whatever comes of a line is heard at each shard, for who said hello.
+#[test]
+fn bytes_of_a_line_are_heard(rt: HostRuntime) {
+    let alloc = rt.alloc();
+    let (Some(mut desk), Some(b)) = (at_a(alloc, b""), replica(alloc, "b", 3)) else {
+        assert!(rt; false);
+        return;
+    };
+    assert!(rt; desk.link.peer.on_bytes(alloc, 0, NOW).is_ok_and(|actions| actions.is_empty()));
+    assert!(rt; desk.takes(alloc, r#"["hello","b",3,2]"#));
+    assert!(rt; hear_bytes(alloc, &desk.link.peer, &mut desk.port, 1, NOW).is_ok());
+    assert!(rt; desk.asked(&[Call::Status(1, b), Call::Heard(1, b, NOW)]));
 }
 
 // A peer that refuses a line takes the same one that it took before.

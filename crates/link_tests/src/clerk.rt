@@ -24,7 +24,7 @@ fn ask_all<R: Wait + Clock>(rt: &R, clerk: &Clerk<u64, u64>, from: u64, count: u
     for number in from..from.saturating_add(count) {
         for _ in 0..1_000 {
             if clerk.ask(rt, number, 200).is_ok() {
-                if clerk.take(rt) == Some(number.saturating_mul(2)) {
+                if clerk.take(rt, 30_000) == Some(number.saturating_mul(2)) {
                     well = well.saturating_add(1);
                 }
                 break;
@@ -60,9 +60,10 @@ fn one_question_is_open_at_a_time(rt: HostRuntime) {
     assert!(rt; clerk.ask(&rt, 2, 0) == Err(2));
     assert!(rt; clerk.next(&rt) == Some(1));
     assert!(rt; clerk.ask(&rt, 2, 30) == Err(2));
+    assert!(rt; clerk.take(&rt, 30) == None);
     clerk.answer(&rt, 11);
     assert!(rt; clerk.ask(&rt, 2, 30) == Err(2));
-    assert!(rt; clerk.take(&rt) == Some(11));
+    assert!(rt; clerk.take(&rt, 30) == Some(11));
     assert!(rt; clerk.ask(&rt, 2, 0) == Ok(()));
 }
 
@@ -75,7 +76,7 @@ fn what_was_asked_is_answered_at_the_end(rt: HostRuntime) {
     assert!(rt; clerk.next(&rt) == Some(1));
     clerk.answer(&rt, 11);
     assert!(rt; clerk.next(&rt) == None);
-    assert!(rt; clerk.take(&rt) == Some(11));
+    assert!(rt; clerk.take(&rt, 0) == Some(11));
     assert!(rt; clerk.ask(&rt, 2, 30_000) == Err(2));
     assert!(rt; clerk.next(&rt) == None);
 }

@@ -71,7 +71,7 @@ const ENDS: [(&str, Result<bool, DialFault>, &str, usize); 13] = [
     ("", Ok(false), "\n", 0),
     ("[\"gone\",\"b\",1]\n", Ok(true), "\n", 0),
     ("[\"gone\",\"b\",2]\n", Ok(false), "\n", 0),
-    ("[\"permdown\",\"c\",1]\n", Ok(false), "\n", 2),
+    ("[\"permdown\",\"a\",1]\n", Ok(false), "\n", 2),
     ("[\"want\",0,\"b\",1,1]\n[\"ok\"]\n", Ok(false), TOLD, 1),
     ("[\"want\",0,\"c\",1,1]\n[\"ok\"]\n", Ok(false), TOLD, 1),
     ("[\"want\",0,\"b\",1,1]\n", Ok(false), TOLD, 1),

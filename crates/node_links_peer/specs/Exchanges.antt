@@ -1,7 +1,7 @@
 -- The exchanges of a link: what a node does for each line that comes.
 use Rattle.std.specs.Prelude.{ℕ, Bool, true, false, nat_le, cond, ◌==◌, List, [], ◌∷◌, ◌++◌, slice_index_or, Option, Some, None, Result, Ok, Err}
 use Rattle.presence_base.specs.declared.dots.Replica.{Replica}
-use Rattle.presence_base.specs.Order.{same_replica}
+use Rattle.presence_base.specs.Order.{same_replica, same_text}
 use Rattle.orswot_core_told.specs.declared.form.Form.{Form}
 use Rattle.orswot_core_told.specs.declared.form.Form.TheVariants.{One, Two}
 use Rattle.node_links_members.specs.declared.hearer.Hearer.{Hearer}
@@ -103,6 +103,15 @@ at_first p _ = Err BadLine
 abbrev pub heard : ℕ → ℕ → Replica → Actions
 heard now k r = actions_are.UnlessGone k r ∷ actions_are.Heard k r now ∷ []
 
+-- What counts as heard beside a beat: whatever comes of a line over a link behind its hello, be the line of any kind, whole or not yet,
+-- read or waiting to be. It counts for the replica that the hello named, at each shard, and for nobody else.
+abbrev pub heard_by : Option (Replica × Form) → ℕ → ℕ → Actions
+heard_by None now k = []
+heard_by (Some x) now k = heard now k x.0
+
+abbrev pub on_bytes : PeerValue → ℕ → ℕ → Actions
+on_bytes p now k = heard_by p.other now k
+
 abbrev pub merge : ℕ → Option Telling → Actions
 merge k None = []
 merge k (Some t) = actions_are.Merge k t.told ∷ []
@@ -118,28 +127,36 @@ on_want own form k r top = actions_are.AnswerTold k (cond (same_replica r own) (
 abbrev pub on_told : ℕ → Telling → Actions
 on_told k t = actions_are.Merge k t.told ∷ ok
 
-abbrev pub on_permdown : Replica → Replica → Actions
-on_permdown own r = cond (same_replica r own) ok (actions_are.PermDown r ∷ ok)
+-- a beat and a permdown are of the node at the other end, in whatever life, or of this node itself
+abbrev pub is_theirs : Replica → Replica → Bool
+is_theirs other r = same_text r.name other.name
+
+-- what a line about a replica asks for: nothing where that is the node itself; a name that isn't the one at the other end is refused
+abbrev pub of_theirs : (own other r : Replica) → Actions → Result Actions LinkFault
+of_theirs own other r actions = cond (same_replica r own) (Ok ok) (cond (is_theirs other r) (Ok actions) (Err BadLine))
+
+abbrev pub on_permdown : Replica → Actions
+on_permdown r = actions_are.PermDown r ∷ ok
 
 abbrev pub on_gone : Replica → Replica → Actions
 on_gone own r = cond (same_replica r own) (actions_are.GivenUp ∷ []) []
 
--- A line behind the hello, at the node that is this replica, and at its shards those, on a link of this form. A beat and a want are
--- of a shard, and so about what that shard is; the others are about the node. What is told in the other form is refused before
--- it is looked at whom the line is about.
-abbrev pub later : Replica → Option (List Replica) → Form → ℕ → Line → Result Actions LinkFault
-later own owns form now (lines_are.Hello r n v) = Err BadLine
-later own owns form now (lines_are.Beat k r c t) =
-    cond (is_told_in form t) (Ok (cond (same_replica r (own_at own owns k)) ok (on_beat now k r c t))) (Err BadLine)
-later own owns form now (lines_are.Want k r top) = Ok (on_want (own_at own owns k) form k r top)
-later own owns form now (lines_are.Told k t) = cond (is_told_in form (Some t)) (Ok (on_told k t)) (Err BadLine)
-later own owns form now (lines_are.PermDown r) = Ok (on_permdown own r)
-later own owns form now (lines_are.Gone r) = Ok (on_gone own r)
-later own owns form now lines_are.Ok = Ok []
+-- A line behind the hello, at the node that is this replica, and at its shards those, where this is at the other end, on a link of
+-- this form. A beat and a want are of a shard, and so about what that shard is; the others are about the node. What is told in the
+-- other form is refused before it is looked at whom the line is about.
+abbrev pub later : Replica → Option (List Replica) → Replica × Form → ℕ → Line → Result Actions LinkFault
+later own owns x now (lines_are.Hello r n v) = Err BadLine
+later own owns x now (lines_are.Beat k r c t) =
+    cond (is_told_in x.1 t) (of_theirs (own_at own owns k) x.0 r (on_beat now k r c t)) (Err BadLine)
+later own owns x now (lines_are.Want k r top) = Ok (on_want (own_at own owns k) x.1 k r top)
+later own owns x now (lines_are.Told k t) = cond (is_told_in x.1 (Some t)) (Ok (on_told k t)) (Err BadLine)
+later own owns x now (lines_are.PermDown r) = of_theirs own x.0 r (on_permdown r)
+later own owns x now (lines_are.Gone r) = Ok (on_gone own r)
+later own owns x now lines_are.Ok = Ok []
 
 abbrev pub actions_by : PeerValue → ℕ → Line → Option (Replica × Form) → Result Actions LinkFault
 actions_by p now line None = at_first p line
-actions_by p now line (Some x) = later p.own p.owns x.1 now line
+actions_by p now line (Some x) = later p.own p.owns x now line
 
 -- what a line asks for at this time, or why it is refused
 abbrev pub actions_of : PeerValue → ℕ → Line → Result Actions LinkFault

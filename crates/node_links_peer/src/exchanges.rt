@@ -4,7 +4,7 @@ ghost use Rattle.presence_base.specs.Order.{same_replica};
 ghost use Rattle.node_links_members.specs.declared.fault.LinkFault.TheVariants.{OutOfMemory};
 ghost use Rattle.node_links_lines.specs.declared.lines.Line.TheVariants as lines_are;
 ghost use Rattle.node_links_lines.specs.Results.{Adds, Gives};
-ghost use Rattle.node_links_peer.specs.Exchanges.{answer as answer_of, greeting_by as greeting_of, heard as heard_of, merge as merge_of, is_told_in as is_told_in_form, on_beat as on_beat_of, on_told as on_told_of, on_permdown as on_permdown_of, on_gone as on_gone_of, later as later_of};
+ghost use Rattle.node_links_peer.specs.Exchanges.{answer as answer_of, greeting_by as greeting_of, heard as heard_of, merge as merge_of, is_told_in as is_told_in_form, is_theirs as is_of_theirs, on_beat as on_beat_of, on_told as on_told_of, of_theirs, on_permdown as on_permdown_of, on_gone as on_gone_of, later as later_of};
 
 use crate::action::LinkAction;
 use crate::forms::version_of;
@@ -19,6 +19,13 @@ fn is_same(a: &Replica, b: &Replica) -> bool
     ensures { result ≡ same_replica a.now b.now }
 {
     a.cmp(b).is_eq()
+}
+
+// Whether a replica is a life of the node at the other end.
+fn is_theirs(other: &Replica, replica: &Replica) -> bool
+    ensures { result ≡ is_of_theirs other.now replica.now }
+{
+    replica.name.cmp(&other.name).is_eq()
 }
 
 // Whether nothing is told, or in the link's form.
@@ -107,7 +114,7 @@ fn push_merge(
 }
 
 // The replica was heard, unless it is gone.
-fn heard(
+pub(crate) fn heard(
     alloc: Global,
     shard: u32,
     replica: &Replica,
@@ -156,22 +163,26 @@ fn on_beat(alloc: Global, beat: Beat, now: u64) -> Result<Vec<LinkAction>, LinkF
     Ok(actions)
 }
 
-// A beat of another replica, or of the shard's own.
+// A beat of the node at the other end, or of the shard's own replica.
 fn on_any_beat(
     alloc: Global,
     owns: &Owns,
-    form: Form,
+    other: (Replica, Form),
     beat: Beat,
     now: u64,
 ) -> Result<Vec<LinkAction>, LinkFault>
-    ensures { Gives (λ v. v.items) result (later_of owns.now.node (option_map (λ v. v.items) owns.now.shards) form now
+    ensures { Gives (λ v. v.items) result (later_of owns.now.node (option_map (λ v. v.items) owns.now.shards) other now
         (lines_are.Beat beat.shard beat.replica beat.count beat.delta)) }
 {
+    let (theirs, form) = other;
     if !is_told_in(form, &beat.delta) {
         return Err(LinkFault::BadLine);
     }
     if is_same(&beat.replica, &owns.at(beat.shard)) {
         return answer(alloc, Line::Ok);
+    }
+    if !is_theirs(&theirs, &beat.replica) {
+        return Err(LinkFault::BadLine);
     }
     on_beat(alloc, beat, now)
 }
@@ -197,11 +208,19 @@ fn on_told(alloc: Global, shard: u32, telling: Telling) -> Result<Vec<LinkAction
     two(alloc, merge, LinkAction::Answer(Line::Ok))
 }
 
-fn on_permdown(alloc: Global, own: &Replica, replica: Replica) -> Result<Vec<LinkAction>, LinkFault>
-    ensures { Gives (λ v. v.items) result (Ok (on_permdown_of own.now replica)) }
+fn on_permdown(
+    alloc: Global,
+    own: &Replica,
+    other: &Replica,
+    replica: Replica,
+) -> Result<Vec<LinkAction>, LinkFault>
+    ensures { Gives (λ v. v.items) result (of_theirs own.now other.now replica (on_permdown_of replica)) }
 {
     if is_same(&replica, own) {
         return answer(alloc, Line::Ok);
+    }
+    if !is_theirs(other, &replica) {
+        return Err(LinkFault::BadLine);
     }
     let permdown = LinkAction::PermDown { replica };
     two(alloc, permdown, LinkAction::Answer(Line::Ok))
@@ -216,17 +235,18 @@ fn on_gone(alloc: Global, own: &Replica, replica: &Replica) -> Result<Vec<LinkAc
     Ok(Vec::new(alloc))
 }
 
-// A line behind the hello, at the node that is this, on a link of this form.
+// A line behind the hello, at the node that is this, where that one is at the other end of a link of that form.
 pub(crate) fn later(
     alloc: Global,
     owns: &Owns,
-    form: Form,
+    other: (Replica, Form),
     line: Line,
     now: u64,
 ) -> Result<Vec<LinkAction>, LinkFault>
     ensures { Gives (λ v. v.items) result
-        (later_of owns.now.node (option_map (λ v. v.items) owns.now.shards) form now line) }
+        (later_of owns.now.node (option_map (λ v. v.items) owns.now.shards) other now line) }
 {
+    let (theirs, form) = other;
     match line {
         Line::Hello { .. } => Err(LinkFault::BadLine),
         Line::Beat {
@@ -241,7 +261,7 @@ pub(crate) fn later(
                 count,
                 delta,
             };
-            on_any_beat(alloc, owns, form, beat, now)
+            on_any_beat(alloc, owns, other, beat, now)
         },
         Line::Want {
             shard,
@@ -257,7 +277,7 @@ pub(crate) fn later(
             }
             on_told(alloc, shard, told)
         },
-        Line::PermDown { replica } => on_permdown(alloc, &owns.node, replica),
+        Line::PermDown { replica } => on_permdown(alloc, &owns.node, &theirs, replica),
         Line::Gone { replica } => on_gone(alloc, &owns.node, &replica),
         Line::Ok => Ok(Vec::new(alloc)),
     }

@@ -1,10 +1,10 @@
 //! One end of a link.
-ghost use Rattle.std.specs.Prelude.{◌≡◌, ◌≤◌, None, Some, OnOk, OnErr};
+ghost use Rattle.std.specs.Prelude.{◌≡◌, ◌≤◌, None, Some, Ok, OnOk, OnErr};
 ghost use Rattle.node_links_lines.specs.Results.{Gives};
-ghost use Rattle.node_links_peer.specs.Exchanges.{at_first, actions_of, after, who, link_form, hearer_of, hello_of};
+ghost use Rattle.node_links_peer.specs.Exchanges.{at_first, actions_of, after, who, link_form, hearer_of, hello_of, on_bytes as heard_of};
 
 use crate::action::LinkAction;
-use crate::exchanges::{greeting, later};
+use crate::exchanges::{greeting, heard, later};
 use crate::forms::{form_told, lesser, version_of};
 use crate::owns::Owns;
 use node_links_lines::{Hearer, Line, LinkFault};
@@ -143,7 +143,8 @@ impl Peer {
     /// What a line that came at this time (in milliseconds) asks for, in order.
     ///
     /// The first line is to be a hello, and none behind it is one (`BadLine`); a hello names as many
-    /// shards as this node has (`OtherShards`). A peer that refuses a line, or wants memory, is as it was.
+    /// shards as this node has (`OtherShards`). A beat or permdown of another name than the hello's is refused
+    /// (`BadLine`), unless it is of this node itself. A peer that refuses a line, or wants memory, is as it was.
     pub fn on_line(
         &mut self,
         alloc: Global,
@@ -155,8 +156,24 @@ impl Peer {
         ensures err { OnErr result (self.new ≡ self.old) }
     {
         match self.other {
-            Some((_, form)) => later(alloc, &self.owns, form, line, now),
+            Some(other) => later(alloc, &self.owns, other, line, now),
             None => self.greeted(alloc, line),
+        }
+    }
+
+    /// What it asks of a shard that something of a line came at this time (in milliseconds), whatever it says: who said hello was
+    /// heard there, unless it is gone.
+    pub fn on_bytes(
+        &self,
+        alloc: Global,
+        shard: u32,
+        now: u64,
+    ) -> Result<Vec<LinkAction>, LinkFault>
+        ensures { Gives (λ v. v.items) result (Ok (heard_of self.now now shard)) }
+    {
+        match self.other {
+            Some((replica, _)) => heard(alloc, shard, &replica, now),
+            None => Ok(Vec::new(alloc)),
         }
     }
 
