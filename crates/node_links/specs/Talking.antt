@@ -11,7 +11,7 @@ use Rattle.node_links_members.specs.declared.fault.LinkFault.TheVariants.{LineTo
 use Rattle.node_links_lines.specs.Results.{Answers}
 use Rattle.node_links_streams.specs.Bytes.{Known}
 use Rattle.node_links_streams.specs.Streams.{ReadsLine, WritesLine}
-use Rattle.node_links_peer.specs.Exchanges.{PeerValue, hearer_of, Actions, actions_of, after}
+use Rattle.node_links_peer.specs.Exchanges.{PeerValue, hearer_of, Actions, actions_of, after, on_bytes}
 use Rattle.node_links_acts.specs.declared.outcome.Act.{Act}
 use Rattle.node_links_acts.specs.declared.port.ActFault.{ActFault}
 use Rattle.node_links_acts.specs.Asks.{Answer, full}
@@ -59,6 +59,16 @@ abbrev pub Hears : {P : Type 0} → Steps P → (P → ℕ) → ℕ → Line →
     → Type 0
 Hears step shards now line p p' q q' r = (asked : Result Actions LinkFault) × Answers asked (actions_of p now line)
     × DoesAsked step shards line asked p p' q q' r
+
+-- the actions are done, unless memory is wanting for them
+abbrev pub DoesActions : {P : Type 0} → Steps P → (P → ℕ) → Result Actions LinkFault → P → P → Result Act DialFault → Type 0
+DoesActions step shards (Ok xs) q q' r = (a : Result Act ActFault) × Acts step shards xs q q' a × (r ≡ acted a)
+DoesActions step shards (Err e) q q' r = (q' ≡ q) × (r ≡ Err (faults_are.Link e))
+
+-- something of a line came at this time, and a shard hears who is there
+abbrev pub HearsBytes : {P : Type 0} → Steps P → (P → ℕ) → ℕ → ℕ → PeerValue → P → P → Result Act DialFault → Type 0
+HearsBytes step shards now k p q q' r = (asked : Result Actions LinkFault) × Answers asked (Ok (on_bytes p now k))
+    × DoesActions step shards asked q q' r
 
 abbrev pub heard : Result Act DialFault → Result (Option Act) DialFault
 heard (Ok act) = Ok (Some act)

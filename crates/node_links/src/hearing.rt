@@ -1,5 +1,5 @@
 // Lines that are read and heard.
-ghost use Rattle.node_links.specs.Talking.{Hears, Takes, over};
+ghost use Rattle.node_links.specs.Talking.{Hears, HearsBytes, Takes, over};
 
 use crate::fault::DialFault;
 use crate::link::Link;
@@ -38,4 +38,19 @@ pub(crate) fn take_one<S: Read, P: LinkPort>(
         return Ok(None);
     };
     Ok(Some(hear(alloc, &mut link.peer, port, line, now)?))
+}
+
+/// Something of a line came over a link at this time (in milliseconds): a shard hears who is at the other end. What the shard would
+/// answer to one that is gone isn't told.
+pub fn hear_bytes<P: LinkPort>(
+    alloc: Global,
+    peer: &Peer,
+    port: &mut P,
+    shard: u32,
+    now: u64,
+) -> Result<Act, DialFault>
+    ensures { HearsBytes P.step P.shard_count now shard peer.now port.old port.new result }
+{
+    let actions = peer.on_bytes(alloc, shard, now)?;
+    Ok(act(alloc, port, actions)?)
 }

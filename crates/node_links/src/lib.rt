@@ -13,6 +13,7 @@ mod outcome;
 pub use accepting::{accept_one, answer_line};
 pub use dialling::{dial, exchange};
 pub use fault::DialFault;
+pub use hearing::hear_bytes;
 pub use link::Link;
 pub use node_links_acts::{Act, ActFault, LinkPort, act};
 pub use node_links_lines::{

@@ -1,5 +1,5 @@
 -- A part that is cut short for a line.
-use Rattle.std.proofs.Common.{◌≡◌, ℕ, ◌+◌, ◌<◌, ◌≤◌, suc, min, max, Bool, true, false, not, cond, nat_lt, List, [], ◌∷◌, ◌++◌, length, Option, Some, None, refl, sym, ◌∙◌, ap, subst, arith, inl, inr}
+use Rattle.std.proofs.Common.{◌≡◌, ℕ, ◌+◌, ◌<◌, ◌≤◌, suc, min, max, Bool, true, false, ◌||◌, not, cond, nat_lt, List, [], ◌∷◌, ◌++◌, length, Option, Some, None, refl, sym, ◌∙◌, ap, subst, arith, inl, inr}
 use Rattle.std.specs.Prelude.{◌⊎◌, Result, Ok, Err, IfOk, IfErr, is_some}
 use Rattle.std.specs.List.{filter}
 use Rattle.std.proofs.lemmas.Bool.Decides.{nat_tests}
@@ -22,7 +22,7 @@ use Rattle.shard_pool.specs.ShardFault.{ShardFault}
 use Rattle.shard_pool.specs.ShardFault.TheVariants as faults
 use Rattle.node_links_acts.specs.declared.port.ActFault.{ActFault}
 use Rattle.presence_node_link_ports.specs.Asking.{act_fault, told_of, TellsSince}
-use Rattle.presence_node_link_ports.specs.Parts.{HasALineIfOk, IsShortened, IsUpTo, IsPartOnLine, IsOneTooLong, GoesNowhere, TellsPart, FitsNoLine, HasNoLine, is_long}
+use Rattle.presence_node_link_ports.specs.Parts.{IsLargeIfOk, IsOneCount, IsOneTooLong, IsPartOnLine, IsPartUpTo, IsShortened, IsSmallIfOk, IsUpTo, GoesNowhere, TakesNoMore, TellsPart, is_long, is_no_part, is_over, shorter_reply}
 
 -- ---- no more than before
 
@@ -58,15 +58,34 @@ guarded_short shard t o m d is made = subst (IsUpTo shard m d) (sym made) (go (i
 pub nothing_more : (shard : ℕ) (d : DeltaValue) → d.to ≤ d.from → IsShortened shard d None
 nothing_more shard d none = inl none
 
-pub up_to_rows : (shard m : ℕ) (d : DeltaValue) (o : Option ToldValue) → IsDelta d → d.from < d.to → d.from < m → IsUpTo shard m d o → is_some o ≡ true → IsShortened shard d o
-up_to_rows shard m d None sound some above upto there = absurd (cc)
-up_to_rows shard m d (Some t) sound some above upto there = (m, sound, some, above, upto.0, upto.1)
+left_false : (a b : Bool) → (a || b) ≡ false → a ≡ false
+left_false true b e = absurd cc
+left_false false b e = refl
 
-pub by_one : (shard next : ℕ) (d : DeltaValue) (o : Option ToldValue) → IsDelta d → d.from < d.to → next ≡ suc d.from → IsUpTo shard next d o → IsShortened shard d o
-by_one shard next d None sound some is upto = inr (sound, some, ap (λ m. is_long shard (telling_in Two (up_to m d))) (sym is) ∙ upto)
-by_one shard next d (Some t) sound some is upto = (next, sound, some, omega (arith, is), upto.0, upto.1)
+pub up_to_rows : (shard m : ℕ) (d : DeltaValue) (o : Option ToldValue) → IsDelta d → d.from < d.to → d.from < m → TakesNoMore m d → IsPartUpTo shard m d o → is_some o ≡ true → IsShortened shard d o
+up_to_rows shard m d None sound some above full upto there = absurd (cc)
+up_to_rows shard m d (Some t) sound some above full upto there =
+    (m, sound, some, above, upto.0, ap (is_long shard) upto.0 ∙ left_false (is_long shard (telling_in Two (up_to m d))) (is_over (up_to m d).live) upto.1, inl (upto.1, full))
 
-pub ruleset shortening = (nothing_more, up_to_rows, by_one)
+one_count : (shard next : ℕ) (d : DeltaValue) (o : Option ToldValue) → IsDelta d → d.from < d.to → next ≡ suc d.from → IsOneCount shard next d → IsUpTo shard next d o → IsShortened shard d o
+one_count shard next d None sound some is one upto = inr (sound, some, ap (λ m. is_long shard (telling_in Two (up_to m d))) (sym is) ∙ upto)
+one_count shard next d (Some t) sound some is one upto = (next, sound, some, omega (arith, is), upto.0, upto.1, inr one)
+
+-- already the next one is the last for which a part has room
+pub by_one : (shard next end : ℕ) (d : DeltaValue) (o : Option ToldValue) → IsDelta d → d.from < d.to → next ≡ suc d.from → TakesNoMore end d → end ≤ next → IsUpTo shard next d o → IsShortened shard d o
+by_one shard next end d o sound some is full low upto =
+    one_count shard next d o sound some is (record { one = is; end = end; no_more = full; why = inl low }) upto
+
+no_part : (shard m : ℕ) (d : DeltaValue) (o : Option ToldValue) → IsPartUpTo shard m d o → is_some o ≡ false → is_no_part shard m d ≡ true
+no_part shard m d None upto none = upto
+no_part shard m d (Some t) upto none = absurd (cc)
+
+-- as many rows as a part has are none
+pub by_one_alone : (shard next end : ℕ) (d : DeltaValue) (o fuller : Option ToldValue) → IsDelta d → d.from < d.to → next ≡ suc d.from → TakesNoMore end d → IsPartUpTo shard end d fuller → is_some fuller ≡ false → IsUpTo shard next d o → IsShortened shard d o
+by_one_alone shard next end d o fuller sound some is full upto none one =
+    one_count shard next d o sound some is (record { one = is; end = end; no_more = full; why = inr (no_part shard end d fuller upto none) }) one
+
+pub ruleset shortening = (nothing_more, up_to_rows, by_one, by_one_alone)
 
 goes_further : (from m to : ℕ) → from < to → from < m → from < max from (min m to)
 goes_further from m to some above = omega (arith, some, above)
@@ -90,6 +109,11 @@ told_part shard n h d (Some t) part short = record {
   tells = short.4;
   few = ap (is_too_many_in Two) short.4 ∙ short_fits short.0 d part.fits;
   short = short.5;
+  largest = d;
+  is_largest = part;
+  end = short.0;
+  cut = refl;
+  filled = short.6;
 }
 
 pub told_behind : (Here : History → Type 0) (shard n : ℕ) (part : Option DeltaValue) (d : DeltaValue) (o : Option ToldValue) → part ≡ Some d → IsBehindOf Here (λ h. IsPartWhereItFits h n part) → IsShortened shard d o → IsBehindOf Here (λ h. TellsPart shard h n o)
@@ -105,29 +129,21 @@ none_behind Here shard n b = record { history = b.history; legal = b.legal; here
 
 -- ---- as a link is told it
 
--- what a shard answered with has no line
-pub no_line_behind : (Here : History → Type 0) (shard n : ℕ) (form : Form) (r : Result (Option ToldValue) ShardFault) → form ≡ Two → HasNoLine shard r
-    → IfOk r (λ o. IsBehindOf Here (λ h. WhereItFits form (TellsFrom form h (Some n)) o)) → IsBehindOf Here (λ h. FitsNoLine shard h n)
-no_line_behind Here shard n form r two none behind = go r none (subst (λ f. IfOk r (λ o. IsBehindOf Here (λ h. WhereItFits f (TellsFrom f h (Some n)) o))) two behind)
-  where
-    go : (x : Result (Option ToldValue) ShardFault) → HasNoLine shard x → IfOk x (λ o. IsBehindOf Here (λ h. WhereItFits Two (TellsFrom Two h (Some n)) o)) → IsBehindOf Here (λ h. FitsNoLine shard h n)
-    go (Ok None) l b = record { history = b.history; legal = b.legal; here = b.here; is = inl b.is }
-    go (Ok (Some t)) l b = record { history = b.history; legal = b.legal; here = b.here; is = inr (t, b.is, l) }
-    go (Err f) l b = absurd l
-
--- a whole is told as it was answered with
-pub told_whole : (Here : History → Type 0) (shard n : ℕ) (form : Form) (r : Result (Option ToldValue) ShardFault) (a : Result (Option ToldValue) ActFault) → a ≡ told_of r → HasALineIfOk shard form r
+pub told_whole : (Here : History → Type 0) (shard n : ℕ) (form : Form) (r : Result (Option ToldValue) ShardFault) (a : Result (Option ToldValue) ActFault) → a ≡ told_of r → IsSmallIfOk shard form r
     → IfOk r (λ o. IsBehindOf Here (λ h. WhereItFits form (TellsFrom form h (Some n)) o)) → IfErr r (λ e. e ≡ faults.OutOfMemory) → TellsSince Here shard form n a
-told_whole Here shard n form r a is line behind err = subst (TellsSince Here shard form n) (sym is) (go r line behind err)
+told_whole Here shard n form r a is small behind err = subst (TellsSince Here shard form n) (sym is) (go r small behind err)
   where
-    go : (x : Result (Option ToldValue) ShardFault) → HasALineIfOk shard form x → IfOk x (λ o. IsBehindOf Here (λ h. WhereItFits form (TellsFrom form h (Some n)) o)) → IfErr x (λ e. e ≡ faults.OutOfMemory) → TellsSince Here shard form n (told_of x)
+    go : (x : Result (Option ToldValue) ShardFault) → IsSmallIfOk shard form x → IfOk x (λ o. IsBehindOf Here (λ h. WhereItFits form (TellsFrom form h (Some n)) o)) → IfErr x (λ e. e ≡ faults.OutOfMemory) → TellsSince Here shard form n (told_of x)
     go (Ok o) l b e = inl (b, l)
     go (Err f) l b e = ap act_fault e
 
-pub told_in_part : (Here : History → Type 0) (shard n : ℕ) (form : Form) (r : Result (Option ToldValue) ShardFault) (a : Result (Option ToldValue) ActFault) → a ≡ told_of r → form ≡ Two → IsBehindOf Here (λ h. FitsNoLine shard h n)
-    → IfOk r (λ o. IsBehindOf Here (λ h. TellsPart shard h n o)) → IfErr r (λ e. e ≡ faults.OutOfMemory) → TellsSince Here shard form n a
-told_in_part Here shard n form r a is two none behind err = subst (TellsSince Here shard form n) (sym is) (go r behind err)
+-- the shorter one of a whole and a part
+pub told_in_parts : (Here : History → Type 0) (shard n : ℕ) (form : Form) (w p : Result (Option ToldValue) ShardFault) (a : Result (Option ToldValue) ActFault) → a ≡ told_of (shorter_reply shard w p) → form ≡ Two → IsLargeIfOk shard w
+    → IfOk w (λ o. IsBehindOf Here (λ h. WhereItFits form (TellsFrom form h (Some n)) o)) → IfOk p (λ o. IsBehindOf Here (λ h. TellsPart shard h n o)) → IfErr p (λ e. e ≡ faults.OutOfMemory) → TellsSince Here shard form n a
+told_in_parts Here shard n form w p a is two large behind parts err =
+    subst (TellsSince Here shard form n) (sym is) (go w p large (subst (λ f. IfOk w (λ o. IsBehindOf Here (λ h. WhereItFits f (TellsFrom f h (Some n)) o))) two behind) parts err)
   where
-    go : (x : Result (Option ToldValue) ShardFault) → IfOk x (λ o. IsBehindOf Here (λ h. TellsPart shard h n o)) → IfErr x (λ e. e ≡ faults.OutOfMemory) → TellsSince Here shard form n (told_of x)
-    go (Ok o) b e = inr (two, none, b)
-    go (Err f) b e = ap act_fault e
+    go : (x y : Result (Option ToldValue) ShardFault) → IsLargeIfOk shard x → IfOk x (λ o. IsBehindOf Here (λ h. WhereItFits Two (TellsFrom Two h (Some n)) o)) → IfOk y (λ o. IsBehindOf Here (λ h. TellsPart shard h n o)) → IfErr y (λ e. e ≡ faults.OutOfMemory) → TellsSince Here shard form n (told_of (shorter_reply shard x y))
+    go (Ok x) (Ok y) l b c e = inr (two, record { whole = x; tells = b; large = l; part = y; parts = c; is = refl })
+    go (Ok x) (Err f) l b c e = ap act_fault e
+    go (Err f) y l b c e = absurd l

@@ -19,7 +19,8 @@ use Rattle.shard_pool.specs.Unseated.{IsBehindOf, IsMade, IsMadeWhereFull}
 use Rattle.node_links_members.specs.declared.hearer.Telling.{Telling}
 use Rattle.node_links_lines.specs.declared.lines.Line.{Line}
 use Rattle.node_links_lines.specs.declared.lines.Line.TheVariants as lines
-use Rattle.presence_node_link_ports.specs.Parts.{FitsNoLine, HasALine, TellsPart}
+use Rattle.presence_node_link_ports.specs.Others.{of_others}
+use Rattle.presence_node_link_ports.specs.Parts.{IsLarge, IsSmall, TellsPart, shorter}
 use Rattle.node_links_acts.specs.Asks.{Ask, Answer, status, heard, merge, permdown, top, told_from, full}
 use Rattle.node_links_acts.specs.declared.port.ActFault.{ActFault}
 use Rattle.node_links_acts.specs.declared.port.ActFault.TheVariants as acts
@@ -60,23 +61,35 @@ abbrev pub Tells : (History → Type 0) → Form → Option ℕ → Result (Opti
 Tells Here form from (Ok told) = IsBehindOf Here (λ h. WhereItFits form (TellsFrom form h from) told)
 Tells Here form from (Err fault) = fault ≡ acts.OutOfMemory
 
--- the same from a count on, which in the second form has a line that is no longer than a line may be; or in the second form,
--- where that fits no line at some history of the shard, a part
+-- in the second form, where the whole that a shard tells from a count on has no short line: it, or a part, whichever is shorter
+pub record InParts (Here : History → Type 0) (shard from : ℕ) (told : Option ToldValue) : Type 0 where
+  pub whole : Option ToldValue
+  pub tells : IsBehindOf Here (λ h. WhereItFits Two (TellsFrom Two h (Some from)) whole)
+  pub large : IsLarge shard whole
+  pub part : Option ToldValue
+  pub parts : IsBehindOf Here (λ h. TellsPart shard h from part)
+  pub is : told ≡ shorter shard whole part
+
+-- what is told from a count on: whole, in the second form on a short line, or in that form in parts
 abbrev pub TellsSince : (History → Type 0) → ℕ → Form → ℕ → Result (Option ToldValue) ActFault → Type 0
 TellsSince Here shard form from (Ok told) =
-    (Tells Here form (Some from) (Ok told) × HasALine shard form told)
-    ⊎ ((form ≡ Two) × IsBehindOf Here (λ h. FitsNoLine shard h from) × IsBehindOf Here (λ h. TellsPart shard h from told))
+    (Tells Here form (Some from) (Ok told) × IsSmall shard form told) ⊎ ((form ≡ Two) × InParts Here shard from told)
 TellsSince Here shard form from (Err fault) = fault ≡ acts.OutOfMemory
 
--- what is answered at a shard that is there; `here` tells which histories are those of a shard's number
-abbrev pub Asked : (ℕ → History → Type 0) → (q : Ask) → Answer q → Type 0
-Asked here (status s r) a = Reads (here s) (λ h x. x ≡ status_in h r) a
-Asked here (heard s r now) a = Made (here s) (steps_are.Heard r now) a
-Asked here (merge s t) a = Made (here s) (steps_are.Merge t) a
-Asked here (permdown s r) a = Made (here s) (steps_are.PermDown r) a
-Asked here (top s r) a = Reads (here s) (λ h n. IsTop h r n) a
-Asked here (told_from s from form) a = TellsSince (here s) s form from a
-Asked here (full s form) a = Tells (here s) form None a
+-- what is told is merged as far as it is of other nodes; where there is no memory to tell that apart nothing is
+abbrev pub Merges : (History → Type 0) → Option Replica → ToldValue → Result (Unit {0}) ActFault → Type 0
+Merges Here own t a = (a ≡ Err acts.OutOfMemory) ⊎ Made Here (steps_are.Merge (of_others own t)) a
+
+-- what is answered at a shard that is there, of a node of which this is a life; `here` tells which histories are those of a shard's
+-- number
+abbrev pub Asked : (ℕ → History → Type 0) → Option Replica → (q : Ask) → Answer q → Type 0
+Asked here own (status s r) a = Reads (here s) (λ h x. x ≡ status_in h r) a
+Asked here own (heard s r now) a = Made (here s) (steps_are.Heard r now) a
+Asked here own (merge s t) a = Merges (here s) own t a
+Asked here own (permdown s r) a = Made (here s) (steps_are.PermDown r) a
+Asked here own (top s r) a = Reads (here s) (λ h n. IsTop h r n) a
+Asked here own (told_from s from form) a = TellsSince (here s) s form from a
+Asked here own (full s form) a = Tells (here s) form None a
 
 abbrev pub shard_in : Ask → ℕ
 shard_in (status s r) = s
@@ -88,8 +101,8 @@ shard_in (told_from s from form) = s
 shard_in (full s form) = s
 
 -- this was asked of the pool and this answered
-abbrev pub LinkStep : (ℕ → History → Type 0) → ℕ → (q : Ask) → Answer q → Type 0
-LinkStep here shards q a = HasNoShard shards (shard_in q) a ⊎ Asked here q a
+abbrev pub LinkStep : (ℕ → History → Type 0) → Option Replica → ℕ → (q : Ask) → Answer q → Type 0
+LinkStep here own shards q a = HasNoShard shards (shard_in q) a ⊎ Asked here own q a
 
 -- a range, or a dot, of this replica that goes above a count
 abbrev pub range_above : Replica → ℕ → Replica × ℕ × ℕ → Bool

@@ -1,4 +1,5 @@
 pub mod Asking
 pub mod Fitting
 pub mod Lengths
+pub mod Others
 pub mod Parts

@@ -1,5 +1,8 @@
 -- What is told in parts, where a kept delta, or all that a shard knows, is more than a line takes.
-use Rattle.std.specs.Prelude.{◌≡◌, ◌⊎◌, ◌<◌, ◌≤◌, ℕ, suc, Bool, true, false, nat_lt, length, Option, Some, None, Result, Ok, Err, ⊤}
+use Rattle.std.specs.Prelude.{◌≡◌, ◌⊎◌, ◌<◌, ◌≤◌, ◌||◌, ℕ, suc, Bool, true, false, not, cond, nat_le, nat_lt, List, length, map, Option, Some, None, Result, Ok, Err, ⊤, ⊥}
+use Rattle.presence_base.specs.declared.dots.Dot.{Dot}
+use Rattle.presence_base.specs.declared.row.Row.{Row}
+use Rattle.presence_base.specs.Names.{guarded}
 use Rattle.orswot_core_told.specs.declared.form.Form.{Form}
 use Rattle.orswot_core_told.specs.declared.form.Form.TheVariants.{One, Two}
 use Rattle.orswot_core_told.specs.Telling.{ToldValue}
@@ -13,7 +16,10 @@ use Rattle.shard_pool.specs.ToldParts.{IsPart, IsLargestPart, HasNoPart}
 use Rattle.node_links_lines.specs.declared.lines.Line.{Line}
 use Rattle.node_links_lines.specs.declared.lines.Line.TheVariants as lines
 use Rattle.node_links_lines.specs.declared.lines.TheConstants.{MAX_LINE_BYTES}
+use Rattle.node_links_lines.specs.Values.{row_value}
 use Rattle.node_links_lines.specs.Writing.{text_of}
+use Rattle.presence_node_link_ports.specs.declared.parts.TheConstants.{MAX_PART_BYTES}
+use Rattle.presence_node_link_ports.specs.Lengths.{counted, sizes}
 
 -- the line that a value of the second form is told on
 abbrev pub told_line : ℕ → ToldValue → Line
@@ -23,43 +29,89 @@ told_line shard t = lines.Told shard (record { form = Two; told = t })
 abbrev pub is_long : ℕ → ToldValue → Bool
 is_long shard t = nat_lt MAX_LINE_BYTES (length (text_of (told_line shard t)))
 
--- no line has room for what is told, or there is more of it than a node takes in
-abbrev pub FitsNoLine : ℕ → History → ℕ → Type 0
-FitsNoLine shard h n =
-    WhereItFits Two (TellsFrom Two h (Some n)) None
-    ⊎ ((t : ToldValue) × WhereItFits Two (TellsFrom Two h (Some n)) (Some t) × (is_long shard t ≡ true))
+-- its line is longer than what is told whole
+abbrev pub is_large : ℕ → ToldValue → Bool
+is_large shard t = nat_lt MAX_PART_BYTES (length (text_of (told_line shard t)))
+
+-- these rows, each with what stands behind it on a line, are more than a part has
+abbrev pub is_over : List (Dot × Row) → Bool
+is_over rows = nat_lt MAX_PART_BYTES (sizes (map row_value rows))
+
+-- what is told whole: in the second form what no long line is needed for
+abbrev pub IsSmall : ℕ → Form → Option ToldValue → Type 0
+IsSmall shard One told = ⊤
+IsSmall shard Two None = ⊥
+IsSmall shard Two (Some t) = is_large shard t ≡ false
+
+-- what is told in parts, where there is one: what has a long line, or more than a node takes in
+abbrev pub IsLarge : ℕ → Option ToldValue → Type 0
+IsLarge shard None = ⊤
+IsLarge shard (Some t) = is_large shard t ≡ true
 
 -- the same of a shard's reply
-abbrev pub HasNoLine : ℕ → Result (Option ToldValue) ShardFault → Type 0
-HasNoLine shard (Ok None) = ⊤
-HasNoLine shard (Ok (Some t)) = is_long shard t ≡ true
-HasNoLine shard (Err fault) = ⊥
+abbrev pub IsSmallIfOk : ℕ → Form → Result (Option ToldValue) ShardFault → Type 0
+IsSmallIfOk shard form (Ok told) = IsSmall shard form told
+IsSmallIfOk shard form (Err fault) = ⊤
 
--- a whole that is told: of the second form there is one, and its line has no more bytes than a line may have
-abbrev pub HasALine : ℕ → Form → Option ToldValue → Type 0
-HasALine shard One told = ⊤
-HasALine shard Two None = ⊥
-HasALine shard Two (Some t) = is_long shard t ≡ false
+abbrev pub IsLargeIfOk : ℕ → Result (Option ToldValue) ShardFault → Type 0
+IsLargeIfOk shard (Ok told) = IsLarge shard told
+IsLargeIfOk shard (Err fault) = ⊥
 
--- the same of a shard's reply
-abbrev pub HasALineIfOk : ℕ → Form → Result (Option ToldValue) ShardFault → Type 0
-HasALineIfOk shard form (Ok told) = HasALine shard form told
-HasALineIfOk shard form (Err fault) = ⊤
+abbrev pub bytes_on_line : ℕ → ToldValue → ℕ
+bytes_on_line shard t = counted (length (text_of (told_line shard t)))
+
+-- of a whole and a part the whole where its line is no longer, and in the place of no part a whole that has a line
+abbrev pub shorter : ℕ → (whole part : Option ToldValue) → Option ToldValue
+shorter shard None part = part
+shorter shard (Some t) None = guarded (not (is_long shard t)) t
+shorter shard (Some t) (Some p) = Some (cond (nat_le (bytes_on_line shard t) (bytes_on_line shard p)) t p)
+
+-- the same of a shard's replies
+abbrev pub shorter_reply : ℕ → (whole part : Result (Option ToldValue) ShardFault) → Result (Option ToldValue) ShardFault
+shorter_reply shard (Ok whole) (Ok part) = Ok (shorter shard whole part)
+shorter_reply shard (Ok whole) (Err fault) = Err fault
+shorter_reply shard (Err fault) part = Err fault
 
 -- the delta up to a count, where a line takes it
 abbrev pub IsUpTo : ℕ → ℕ → DeltaValue → Option ToldValue → Type 0
 IsUpTo shard m d None = is_long shard (telling_in Two (up_to m d)) ≡ true
 IsUpTo shard m d (Some t) = (t ≡ telling_in Two (up_to m d)) × (is_long shard t ≡ false)
 
--- the delta, which is sound, cut short by no less than one count, where a line takes it; none where it ends where it begins, or
--- already with one count more is too long for a line
+-- up to a count the delta has no line, or more rows than a part has
+abbrev pub is_no_part : ℕ → ℕ → DeltaValue → Bool
+is_no_part shard m d = is_long shard (telling_in Two (up_to m d)) || is_over (up_to m d).live
+
+-- the delta up to a count, where it is a part
+abbrev pub IsPartUpTo : ℕ → ℕ → DeltaValue → Option ToldValue → Type 0
+IsPartUpTo shard m d None = is_no_part shard m d ≡ true
+IsPartUpTo shard m d (Some t) = (t ≡ telling_in Two (up_to m d)) × (is_no_part shard m d ≡ false)
+
+-- up to this count there are as many rows as a part has: it is the delta's last one, or with the next one they are more
+abbrev pub TakesNoMore : ℕ → DeltaValue → Type 0
+TakesNoMore m d = (d.to ≤ m) ⊎ (is_over (up_to (suc m) d).live ≡ true)
+
+-- one count alone: as many rows as a part has end there, or are too many for a line beside the older runs
+pub record IsOneCount (shard m : ℕ) (d : DeltaValue) : Type 0 where
+  pub one : m ≡ suc d.from
+  pub end : ℕ
+  pub no_more : TakesNoMore end d
+  pub why : (end ≤ m) ⊎ (is_no_part shard end d ≡ true)
+
+-- the delta up to a count is as much of it as a part and its line hold
+abbrev pub IsFilled : ℕ → ℕ → DeltaValue → Type 0
+IsFilled shard m d = ((is_no_part shard m d ≡ false) × TakesNoMore m d) ⊎ IsOneCount shard m d
+
+-- the delta, which is sound, cut short by no less than one count, to as much as a part and its line hold; none where it ends where it
+-- begins, or already with one count more is too long for a line
 abbrev pub IsShortened : ℕ → DeltaValue → Option ToldValue → Type 0
 IsShortened shard d None =
     (d.to ≤ d.from) ⊎ (IsDelta d × (d.from < d.to) × (is_long shard (telling_in Two (up_to (suc d.from) d)) ≡ true))
 IsShortened shard d (Some t) =
     (m : ℕ) × IsDelta d × (d.from < d.to) × (d.from < m) × (t ≡ telling_in Two (up_to m d)) × (is_long shard t ≡ false)
+    × IsFilled shard m d
 
--- A part of what the history tells from a count on, on a line that a node takes in: who has it knows at least one count more.
+-- A part of what the history tells from a count on, on a line that a node takes in: who has it knows at least one count more. It is
+-- as much of the largest part as a part's bytes and its line hold.
 pub record IsPartOnLine (shard : ℕ) (h : History) (n : ℕ) (t : ToldValue) : Type 0 where
   pub delta : DeltaValue
   pub part : IsPart h n delta
@@ -68,6 +120,11 @@ pub record IsPartOnLine (shard : ℕ) (h : History) (n : ℕ) (t : ToldValue) : 
   pub tells : t ≡ telling_in Two delta
   pub few : is_too_many_in Two t ≡ false
   pub short : is_long shard t ≡ false
+  pub largest : DeltaValue
+  pub is_largest : IsLargestPart h n largest
+  pub end : ℕ
+  pub cut : delta ≡ up_to end largest
+  pub filled : IsFilled shard end largest
 
 -- the part that goes on by one count is more than a line takes
 pub record IsOneTooLong (shard : ℕ) (h : History) (n : ℕ) : Type 0 where

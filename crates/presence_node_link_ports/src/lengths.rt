@@ -6,7 +6,6 @@ ghost use Rattle.node_links_lines.specs.Writing.{text_of};
 ghost use Rattle.presence_node_link_ports.specs.Lengths.{counted, size_of, sizes};
 ghost use Rattle.presence_node_link_ports.specs.Parts.{told_line};
 
-use delta_range::Delta;
 use orswot_core_told::Told;
 use presence_base::{Dot, Replica, Row};
 
@@ -105,16 +104,6 @@ pub(crate) fn row_bytes(row: &(Dot, Row)) -> usize
         .saturating_add(6)
 }
 
-/// A delta's ranges: its older runs and its own.
-pub(crate) fn delta_ranges_bytes(delta: &Delta) -> usize {
-    let owner = delta.owner();
-    let mut bytes = range_bytes(&owner, delta.from(), delta.to());
-    for run in delta.older() {
-        bytes = bytes.saturating_add(range_bytes(&owner, run.0, run.1));
-    }
-    bytes
-}
-
 // Ranges, each with what stands behind it: a comma, or the end of their list.
 fn ranges_bytes(ranges: &[(Replica, u64, u64)]) -> usize
     ensures { result ≡ counted (sizes (map range_value ranges.now)) }
@@ -126,8 +115,8 @@ fn ranges_bytes(ranges: &[(Replica, u64, u64)]) -> usize
     bytes
 }
 
-// Rows, each with what stands behind it.
-fn rows_bytes(rows: &[(Dot, Row)]) -> usize
+/// Rows, each with what stands behind it.
+pub(crate) fn rows_bytes(rows: &[(Dot, Row)]) -> usize
     ensures { result ≡ counted (sizes (map row_value rows.now)) }
 {
     let mut bytes: usize = 0;

@@ -1,7 +1,8 @@
 //! What a link asks of a server's shards: a pool of shards, without a seat.
 //!
 //! What its contracts cite: `specs/Asking` has the pool's call for each question of a link, and what a period of the
-//! ticker asks of a shard; `specs/Fitting` what goes along with a beat; `specs/Parts` what is told in parts.
+//! ticker asks of a shard; `specs/Fitting` what goes along with a beat; `specs/Parts` what is told in parts;
+//! `specs/Others` what is heard of what is told.
 #![tactic(auto)]
 
 mod above;
@@ -11,6 +12,7 @@ mod fitting;
 mod going_on;
 mod lengths;
 mod link_port;
+mod others;
 mod parts;
 mod room;
 
@@ -18,4 +20,5 @@ pub use beats::{beat_of, cut_off, let_pass};
 pub use fitting::{bare_beat, fitting_beat};
 pub use going_on::go_on;
 pub use link_port::PoolLinkPort;
+pub use parts::MAX_PART_BYTES;
 pub use shard_pool::{Gate, Lane, Pool, PoolFault};

@@ -1,10 +1,11 @@
 //! The pool as the port of a link.
-ghost use Rattle.std.specs.Prelude.{◌≡◌, true, Err};
+ghost use Rattle.std.specs.Prelude.{◌≡◌, true, Err, Some};
 ghost use Rattle.shard_pool.specs.ShardFault.TheVariants.{JournalFull};
 
 use crate::above::tells_above;
 use crate::fault::told;
-use crate::parts::{is_told_in_parts, part_on_line};
+use crate::others::{cut_to_others, highest_life};
+use crate::parts::{is_there, is_told_in_parts, part_on_line, shorter_reply};
 use crate::room::room_made;
 use node_links_acts::{ActFault, LinkPort};
 use orswot_core_told::{Form, Told};
@@ -26,8 +27,12 @@ pub struct PoolLinkPort<'a, R: Wait, G: Gate, A: Lane, B: Lane, C: Lane, D: Lane
     has_changed: bool,
     /// Whether the other node was told something, or was to be.
     has_told: bool,
-    /// The node's own replica, where it is looked for in what is told.
+    /// Whether a part of what the other node wants was told.
+    has_part: bool,
+    /// The node's own replica, where it is looked for in what is told: what is told of its name isn't heard.
     own: Option<Replica>,
+    /// The highest incarnation of the node's own name that was told of, or 0.
+    own_life: u64,
     /// Whether something was told of the own replica that it never did.
     has_own_counts: bool,
     ghost all: { shards ≡ pool.now.shards },
@@ -70,7 +75,9 @@ impl<'a, R: Wait, G: Gate, A: Lane, B: Lane, C: Lane, D: Lane> PoolLinkPort<'a, 
             is_up: false,
             has_changed: false,
             has_told: false,
+            has_part: false,
             own: None,
+            own_life: 0,
             has_own_counts: false,
         }
     }
@@ -85,9 +92,20 @@ impl<'a, R: Wait, G: Gate, A: Lane, B: Lane, C: Lane, D: Lane> PoolLinkPort<'a, 
         self.has_told
     }
 
-    /// From now on what is told of this replica, the node's own, is looked at.
+    /// Whether a part of what the other node wants was told, behind which it may want more.
+    pub fn has_part(&self) -> bool {
+        self.has_part
+    }
+
+    /// The highest incarnation of this node's own name that the other node told of, or 0.
+    pub fn own_life(&self) -> u64 {
+        self.own_life
+    }
+
+    /// From now on what is told of this replica, the node's own, is looked at, and what is told of its name isn't heard.
     pub fn looks_for(&mut self, own: Replica)
         ensures pool { self.new.pool ≡ self.old.pool }
+        ensures own { self.new.own ≡ Some own }
     {
         self.own = Some(own);
     }
@@ -103,6 +121,17 @@ impl<'a, R: Wait, G: Gate, A: Lane, B: Lane, C: Lane, D: Lane> PoolLinkPort<'a, 
         }
     }
 
+    // What is told of the node's own name is looked at.
+    fn looks_at(&mut self, shard: u32, told: &Told)
+        ensures pool { self.new.pool ≡ self.old.pool }
+        ensures own { self.new.own ≡ self.old.own }
+    {
+        self.has_own_counts = self.has_own_counts || self.tells_own(shard, told);
+        if let Some(own) = &self.own {
+            self.own_life = highest_life(own, told).max(self.own_life);
+        }
+    }
+
     /// Whether the other node told of counts of this node's own incarnation that it never made.
     pub fn has_own_counts(&self) -> bool {
         self.has_own_counts
@@ -112,6 +141,7 @@ impl<'a, R: Wait, G: Gate, A: Lane, B: Lane, C: Lane, D: Lane> PoolLinkPort<'a, 
     fn makes_room<T>(&mut self, alloc: Global, shard: u32, reply: &Result<T, PoolFault>) -> bool
         requires { shard < self.old.shards }
         ensures pool { self.new.pool ≡ self.old.pool }
+        ensures own { self.new.own ≡ self.old.own }
         ensures full { result ≡ true → reply.now ≡ Err JournalFull }
         ensures room { result ≡ true → HasRoom (IsOfShardAt self.old.pool.now.own.name
             A.begins B.begins C.begins D.begins shard) }
@@ -132,7 +162,7 @@ impl<'a, R: Wait, G: Gate, A: Lane, B: Lane, C: Lane, D: Lane> LinkPort
     ghost use Rattle.shard_pool.specs.Seats.{IsOfShardAt};
     ghost use Rattle.presence_node_link_ports.specs.Asking.{LinkStep};
 
-    ghost step = { λ old q a new. (new.pool ≡ old.pool) × LinkStep (IsOfShardAt old.pool.now.own.name A.begins B.begins C.begins D.begins) old.pool.now.shards q a };
+    ghost step = { λ old q a new. (new.pool ≡ old.pool) × (new.own ≡ old.own) × LinkStep (IsOfShardAt old.pool.now.own.name A.begins B.begins C.begins D.begins) old.own old.pool.now.shards q a };
 
     ghost shard_count = { λ p. p.pool.now.shards };
 
@@ -173,8 +203,11 @@ impl<'a, R: Wait, G: Gate, A: Lane, B: Lane, C: Lane, D: Lane> LinkPort
 
     fn merge(&mut self, alloc: Global, shard: u32, told: &Told) -> Result<(), ActFault> {
         self.has_changed = true;
-        self.has_own_counts = self.has_own_counts || self.tells_own(shard, told);
-        let news = told;
+        self.looks_at(shard, told);
+        let Ok(cut) = cut_to_others(alloc, &self.own, told) else {
+            return Err(ActFault::OutOfMemory);
+        };
+        let news = cut.as_ref().unwrap_or(told);
         tried!(
             self,
             alloc,
@@ -214,7 +247,9 @@ impl<'a, R: Wait, G: Gate, A: Lane, B: Lane, C: Lane, D: Lane> LinkPort
         }
         let whole = self.pool.fitting(self.rt, alloc, shard, Some(from), form);
         if is_told_in_parts(shard, form, &whole) {
-            return told(part_on_line(self.rt, alloc, self.pool, shard, from));
+            let part = part_on_line(self.rt, alloc, self.pool, shard, from);
+            self.has_part = is_there(&part);
+            return told(shorter_reply(shard, whole, part));
         }
         told(whole)
     }

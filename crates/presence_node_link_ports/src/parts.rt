@@ -1,13 +1,14 @@
 //! What is told in parts where it has more than a line takes.
-ghost use Rattle.std.specs.Prelude.{◌≡◌, ◌<◌, not, false, true, IfOk, IfErr};
+ghost use Rattle.std.specs.Prelude.{◌≡◌, ◌<◌, ◌||◌, not, false, true, IfOk, IfErr};
 ghost use Rattle.presence_base.specs.Names.{guarded};
 ghost use Rattle.orswot_core_told.specs.declared.form.Form.TheVariants.{Two};
 ghost use Rattle.delta_range.specs.Deltas.{IsDelta};
 ghost use Rattle.shard_pool.specs.Seats.{IsBehindAt};
 ghost use Rattle.shard_pool.specs.ShardFault.TheVariants.{OutOfMemory};
-ghost use Rattle.presence_node_link_ports.specs.Parts.{HasALineIfOk, HasNoLine, IsShortened, IsUpTo, TellsPart, is_long};
+ghost use Rattle.presence_node_link_ports.specs.Parts.{IsLargeIfOk, IsPartUpTo, IsShortened, IsSmallIfOk, IsUpTo, TakesNoMore, TellsPart};
+ghost use Rattle.presence_node_link_ports.specs.Parts.{is_large as is_larger_than_part, is_long, is_over, shorter as shorter_of, shorter_reply as shorter_reply_of};
 
-use crate::lengths::{delta_ranges_bytes, line_bytes, row_bytes};
+use crate::lengths::{line_bytes, row_bytes, rows_bytes};
 use delta_range::Delta;
 use node_links_lines::MAX_LINE_BYTES;
 use orswot_core_told::{Form, Told};
@@ -16,8 +17,8 @@ use shard_pool::{Gate, Lane, Pool, PoolFault};
 use std::alloc::{AllocError, Global};
 use std::sync::Wait;
 
-// What a told line has at most beside its ranges and its rows: `["told",9,[[],[]]]`, with the shard's digits.
-const FRAME_BYTES: usize = 32;
+/// A part has rows of so many bytes at most, as a line has them, or one count. What is told on no longer a line is told whole.
+pub const MAX_PART_BYTES: usize = 262_144;
 
 // Whether a told value of the second form has more bytes than a line may have.
 fn is_too_long(shard: u32, told: &Told) -> bool
@@ -26,35 +27,86 @@ fn is_too_long(shard: u32, told: &Told) -> bool
     line_bytes(shard, told) > MAX_LINE_BYTES
 }
 
-/// Whether a part is told in place of this, for which no line has room: in the second form alone.
+/// Whether a told value of the second form has a longer line than what is told whole.
+pub(crate) fn is_large(shard: u32, told: &Told) -> bool
+    ensures { result ≡ is_larger_than_part shard told.now }
+{
+    line_bytes(shard, told) > MAX_PART_BYTES
+}
+
+/// Whether a part is looked for in place of this, which no line or only a long one has room for: in the second form alone.
 pub(crate) fn is_told_in_parts(
     shard: u32,
     form: Form,
     whole: &Result<Option<Told>, PoolFault>,
 ) -> bool
     ensures two { result ≡ true → form ≡ Two }
-    ensures no_line { result ≡ true → HasNoLine shard whole.now }
-    ensures a_line { result ≡ false → HasALineIfOk shard form whole.now }
+    ensures large { result ≡ true → IsLargeIfOk shard whole.now }
+    ensures small { result ≡ false → IsSmallIfOk shard form whole.now }
 {
     match form {
         Form::One => false,
         Form::Two => match whole {
-            Ok(Some(told)) => is_too_long(shard, told),
+            Ok(Some(told)) => is_large(shard, told),
             Ok(None) => true,
             Err(_) => false,
         },
     }
 }
 
-// The count up to which a part's rows are short enough for a line beside its ranges.
-fn end_on_line(part: &Delta) -> u64
-    ensures { IsDelta part.now }
+// Of a whole and a part of it that which is told: the whole where its line is no longer than the part's, and in the place of no
+/// part a whole that has a line.
+fn shorter(shard: u32, whole: Option<Told>, part: Option<Told>) -> Option<Told>
+    ensures { result ≡ shorter_of shard whole part }
 {
-    let mut left = (MAX_LINE_BYTES - FRAME_BYTES).saturating_sub(delta_ranges_bytes(part));
+    let Some(whole) = whole else {
+        return part;
+    };
+    match part {
+        None => on_line(shard, whole),
+        Some(part) => {
+            if line_bytes(shard, &whole) <= line_bytes(shard, &part) {
+                Some(whole)
+            } else {
+                Some(part)
+            }
+        }
+    }
+}
+
+/// Of the replies with a whole and with a part of it that with what is told. A refusal of either is told.
+pub(crate) fn shorter_reply(
+    shard: u32,
+    whole: Result<Option<Told>, PoolFault>,
+    part: Result<Option<Told>, PoolFault>,
+) -> Result<Option<Told>, PoolFault>
+    ensures { result ≡ shorter_reply_of shard whole part }
+{
+    match (whole, part) {
+        (Ok(whole), Ok(part)) => Ok(shorter(shard, whole, part)),
+        (Ok(_), Err(fault)) => Err(fault),
+        (Err(fault), _) => Err(fault),
+    }
+}
+
+/// Whether there is a part.
+pub(crate) fn is_there(part: &Result<Option<Told>, PoolFault>) -> bool {
+    matches!(part, Ok(Some(_)))
+}
+
+// The count up to which a part's rows are no more than a part has.
+#[tactic(auto, using(crate::proofs::PartRows::row_past, crate::proofs::PartRows::row_more))]
+fn end_of_part(part: &Delta) -> u64
+    ensures sound { IsDelta part.now }
+    ensures end { TakesNoMore result part.now }
+{
+    let mut left = MAX_PART_BYTES;
+    let mut last: u64 = 0;
     for row in part.live() {
+        last = last.max(row.0.count);
         let bytes = row_bytes(row);
         if left < bytes {
-            return row.0.count.saturating_sub(1);
+            return last.saturating_sub(1);
         }
         left -= bytes;
     }
@@ -81,7 +133,30 @@ fn part_up_to(alloc: Global, shard: u32, part: &Delta, to: u64) -> Result<Option
     Ok(on_line(shard, told))
 }
 
-// The part up to the last row for which a line has room, or by one count where it seems to have none, where a line takes that.
+// Whether it is no part: its line is too long, or its rows are more than a part has.
+fn is_no_part(shard: u32, told: &Told) -> bool
+    ensures { result ≡ (is_long shard told.now || is_over told.now.live) }
+{
+    is_too_long(shard, told) || rows_bytes(told.live()) > MAX_PART_BYTES
+}
+
+// The part up to a count, where its rows are no more than a part has, and a line takes it.
+fn full_part_up_to(
+    alloc: Global,
+    shard: u32,
+    part: &Delta,
+    to: u64,
+) -> Result<Option<Told>, AllocError>
+    ensures { IfOk result (IsPartUpTo shard to part.now) }
+{
+    let told = up_to(alloc, part, to)?.told(alloc, Form::Two)?;
+    if is_no_part(shard, &told) {
+        return Ok(None);
+    }
+    Ok(Some(told))
+}
+
+// The part with as many rows as a part has, or by one count where it has room for none or no line has, where a line takes that.
 #[tactic(auto, using(crate::proofs::PartLemmas::shortening))]
 fn shortened(alloc: Global, shard: u32, part: &Delta) -> Result<Option<Told>, AllocError>
     ensures { IfOk result (IsShortened shard part.now) }
@@ -90,9 +165,9 @@ fn shortened(alloc: Global, shard: u32, part: &Delta) -> Result<Option<Told>, Al
         return Ok(None);
     }
     let next = part.from() + 1;
-    let to = end_on_line(part);
+    let to = end_of_part(part);
     if next < to {
-        let told = part_up_to(alloc, shard, part, to)?;
+        let told = full_part_up_to(alloc, shard, part, to)?;
         if told.is_some() {
             return Ok(told);
         }

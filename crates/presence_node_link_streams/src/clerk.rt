@@ -80,19 +80,26 @@ impl<Q: Drop, A: Drop> Clerk<Q, A> {
         Ok(())
     }
 
-    /// Waits for the answer to what was asked, and takes it. From then on others may ask.
-    pub fn take<R: Wait>(&self, rt: &R) -> Option<A> {
+    /// Waits for the answer to what was asked, for so many milliseconds, and takes it. From then on others may ask.
+    pub fn take<R: Wait + Clock>(&self, rt: &R, milliseconds: u64) -> Option<A> {
         let first = self.desk.lock(rt);
-        let mut guard = self
+        let time = Duration::from_millis(milliseconds);
+        let (woken, _) = self
             .bell
-            .wait_while(rt, first, |desk| !desk.work.is_answer());
+            .wait_timeout_while(rt, first, time, |desk| !desk.work.is_answer());
+        let mut guard = woken;
         let desk = &mut *guard;
-        let Work::Answer(answer) = mem::replace(&mut desk.work, Work::Nothing) else {
-            return None;
-        };
-        drop(guard);
-        self.bell.notify_all();
-        Some(answer)
+        match mem::replace(&mut desk.work, Work::Nothing) {
+            Work::Answer(answer) => {
+                drop(guard);
+                self.bell.notify_all();
+                Some(answer)
+            }
+            work => {
+                desk.work = work;
+                None
+            }
+        }
     }
 
     /// The next question, which the clerk is to answer, or none once it is to end and nobody waits for an answer.

@@ -15,6 +15,7 @@ mod ticker;
 pub use clerk::Clerk;
 pub use stopping::{Stopping, time_behind};
 pub use stream::{
-    HELLO_MILLISECONDS, LINE_MILLISECONDS, LONG_LINE_BYTES, LinkStream, MAX_HELLO_BYTES, is_long,
+    Asking, HELLO_MILLISECONDS, LINE_MILLISECONDS, LONG_LINE_BYTES, LinkStream, MAX_HELLO_BYTES,
+    MAX_LOOKS, is_long,
 };
 pub use ticker::Ticker;

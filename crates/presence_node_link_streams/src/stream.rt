@@ -16,7 +16,7 @@ use std::time::{Clock, Duration};
 const LOOK_MILLISECONDS: u64 = 200;
 
 /// After so many looks that find nothing a link is given up: 30,000 milliseconds.
-const MAX_LOOKS: u32 = 150;
+pub const MAX_LOOKS: u32 = 150;
 
 /// How long the first line of a link that came in may take, in milliseconds.
 pub const HELLO_MILLISECONDS: u64 = 5_000;
@@ -102,32 +102,16 @@ impl<R: Clock> Patient<'_, R> {
         time_behind(self.rt, 0) >= self.deadline
     }
 
-    // Asks as long as a read would wait: whether it could.
-    fn asks<Q: Drop, A: Drop>(&mut self, clerk: &Clerk<Q, A>, question: Q) -> bool
-    where
-        R: Wait,
-    {
-        let mut question = question;
-        for _ in 0..MAX_LOOKS {
-            if self.is_late() {
-                break;
-            }
-            match clerk.ask(self.rt, question, LOOK_MILLISECONDS) {
-                Ok(()) => return true,
-                Err(back) => question = back,
-            }
-            if self.gives_up() {
-                break;
-            }
-        }
-        false
+    // Whether nothing more is read or asked: the line under way is late, or a link of the same node came in behind this one.
+    fn is_over(&self) -> bool {
+        self.is_late() || self.is_replaced()
     }
 }
 
 impl<R: Clock> Read for Patient<'_, R> {
     fn read(&mut self, buf: &mut [u8]) -> io::Result<usize> {
         for _ in 0..MAX_LOOKS {
-            if self.is_late() {
+            if self.is_over() {
                 break;
             }
             match self.socket.read(buf) {
@@ -168,6 +152,17 @@ impl<R: Clock> Write for Patient<'_, R> {
     fn flush(&mut self) -> io::Result<()> {
         self.socket.flush()
     }
+}
+
+/// What became of a question.
+#[derive(Drop)]
+pub enum Asking<Q> {
+    /// The clerk has it.
+    Asked,
+    /// The clerk has another one.
+    Waits(Q),
+    /// It isn't asked any more.
+    GivenUp,
 }
 
 /// The stream of a link. Each line that is read or written is to be whole within a time, however it trickles.
@@ -237,34 +232,53 @@ impl<'a, R: Clock> LinkStream<'a, R> {
         self.left = LONG_LINE_BYTES;
     }
 
-    /// The bytes of the next line up to its line feed, which is the last of them, or up to so many, or to the end.
-    pub fn line(&mut self, alloc: Global, most: usize) -> io::Result<Vec<u8>> {
-        let mut line = Vec::new(alloc);
+    /// Reads on: what a read brings of the next line, up to its line feed, which is the last of its bytes, or up to so many in
+    /// all, or to the end. Whether nothing more of it comes.
+    pub fn reads_on(&mut self, line: &mut Vec<u8>, most: usize) -> io::Result<bool> {
         let mut byte = [0u8; 1];
-        for _ in 0..most {
+        for _ in line.len()..most {
             if self.read(&mut byte)? == 0 {
-                break;
+                return Ok(true);
             }
             line.push(byte[0])?;
             if byte[0] == b'\n' {
-                break;
+                return Ok(true);
+            }
+            if self.reader.buffer().is_empty() {
+                return Ok(false);
             }
         }
-        Ok(line)
+        Ok(true)
     }
 
-    /// What the clerk answers of the line that was read. Where it could not be asked within the time that the line may take,
-    /// nothing. Who asks waits for others that do, so it holds no lock.
-    pub fn asks<Q: Drop, A: Drop>(&mut self, clerk: &Clerk<Q, A>, question: Q) -> Option<A>
+    /// Asks the clerk about the line that was read, if it has nothing else to do within a look. Who asks waits for others that
+    /// do, so it holds no lock. A link that was replaced asks nothing, nor does one whose line is late.
+    pub fn asks<Q: Drop, A: Drop>(&mut self, clerk: &Clerk<Q, A>, question: Q) -> Asking<Q>
     where
         R: Wait,
     {
         let patient = self.reader.get_mut();
-        if patient.asks(clerk, question) {
-            clerk.take(patient.rt)
-        } else {
-            None
+        if patient.is_over() {
+            return Asking::GivenUp;
         }
+        match clerk.ask(patient.rt, question, LOOK_MILLISECONDS) {
+            Ok(()) => Asking::Asked,
+            Err(_) if patient.gives_up() => Asking::GivenUp,
+            Err(question) => Asking::Waits(question),
+        }
+    }
+
+    /// The clerk's answer to what was asked, if it comes within a look.
+    pub fn takes<Q: Drop, A: Drop>(&mut self, clerk: &Clerk<Q, A>) -> Option<A>
+    where
+        R: Wait,
+    {
+        clerk.take(self.reader.get_ref().rt, LOOK_MILLISECONDS)
+    }
+
+    /// Whether a newer link of the same node came in.
+    pub fn is_replaced(&self) -> bool {
+        self.reader.get_ref().is_replaced()
     }
 
     /// The link has this number, and ends once the newest one has a higher.

@@ -1,6 +1,6 @@
 //! The time that a node goes by.
 ghost use Rattle.std.specs.Prelude.{◌≡◌};
-ghost use Rattle.presence_node_link_streams.specs.Ticker.{stepped as step_of};
+ghost use Rattle.presence_node_link_streams.specs.Ticker.{GoesBy, stepped as step_of};
 
 use crate::stopping::time_behind;
 use std::time::Clock;
@@ -36,6 +36,7 @@ impl Ticker {
     pub fn next<R: Clock>(&mut self, rt: &R) -> u64
         ensures period { self.new.period ≡ self.old.period }
         ensures time { result ≡ self.new.time }
+        ensures clock { GoesBy self.old.time self.old.period result }
     {
         self.time = stepped(self.time, time_behind(rt, self.time), self.period);
         self.time

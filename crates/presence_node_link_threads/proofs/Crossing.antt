@@ -21,6 +21,7 @@ use Rattle.presence_node_sockets.specs.contracts.watch.Bell as Bell
 use Rattle.presence_node_sockets.specs.contracts.watch.Watch as Watch
 use Rattle.presence_node_link_words.specs.contracts.end.LinkEnd as LinkEnd
 use Rattle.presence_node_link_words.specs.contracts.lives.Life as Life
+use Rattle.presence_node_link_words.specs.contracts.rebirths.Rebirths as Rebirths
 use Rattle.presence_node_link_words.specs.contracts.warning.LinkWarning as LinkWarning
 use Rattle.presence_node_link_words.specs.contracts.saying.Saying as Saying
 use Rattle.presence_node_link_threads.specs.contracts.book.Book as Book
@@ -145,8 +146,11 @@ newest_send = search (name_send, sendable) depth 60 fits 20000
 book_send : IsSend (Book.the_field).row
 book_send = search (saying_send, newest_send, heap.crosses, sendable) depth 60 fits 20000
 
+rebirths_send : IsSend (Rebirths.the_field).row
+rebirths_send = search sendable depth 60 fits 20000
+
 life_send : IsSend (Life.the_field).row
-life_send = search (replica_send, sendable) depth 60 fits 20000
+life_send = search (replica_send, rebirths_send, sendable) depth 60 fits 20000
 
 tallies_sync : IsSync (Tallies.the_field).row
 tallies_sync = search (heap.crosses, sendable) depth 60 fits 20000

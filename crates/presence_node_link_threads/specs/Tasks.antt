@@ -11,17 +11,19 @@ abbrev pub serving : ℕ → List LinkTask
 serving zero = []
 serving (suc n) = Serve ∷ serving n
 
--- one makes the beats, one takes the links that come in, one reads their long lines, and so many serve them
+-- one makes the beats, one takes the links that come in, one reads the long lines of nodes that aren't dialled, and so many serve them
 pub record AreFirst (n : ℕ) (tasks : List LinkTask) : Type 0 where
   pub door : LinkDoor
-  pub are : tasks ≡ Tick ∷ Attend door ∷ Read ∷ serving n
+  pub are : tasks ≡ Tick ∷ Attend door ∷ Read 0 ∷ serving n
 
--- One thread more dials the node of this name, at this host and port. It has a mailbox of its own, in the next place.
+-- One thread more reads the long lines that come from there, as the reader of the next number, and one dials the node of this name, at
+-- this host and port. It has a mailbox of its own, in the next place.
 pub record Dials (name host : List ℕ) (port : ℕ) (old new : LinkTasks) : Type 0 where
   pub dialler : Dialler
   pub its_name : dialler.name ≡ name
   pub its_host : string_bytes dialler.host ≡ host
   pub its_port : dialler.port ≡ port
   pub its_number : dialler.number ≡ length old.links.mailboxes.items
-  pub task : new.tasks.items ≡ old.tasks.items ++ Dial dialler ∷ []
+  pub tasks_are : new.tasks.items ≡ old.tasks.items ++ Read (length old.links.readers.items) ∷ Dial dialler ∷ []
+  pub reader : length new.links.readers.items ≡ length old.links.readers.items + 1
   pub mailbox : length new.links.mailboxes.items ≡ length old.links.mailboxes.items + 1

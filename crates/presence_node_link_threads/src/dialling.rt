@@ -3,7 +3,9 @@ ghost use Rattle.std.specs.Prelude.{◌≡◌};
 
 use crate::links::{Cuts, Links, Place, Wakes};
 use crate::lives::{given_up, owning};
+use crate::node::Node;
 use crate::serving::{coming_from, end_of};
+use crate::ticking::PERIOD_MILLISECONDS;
 use delta_range::Delta;
 use node_links::{
     DialFault, End, Exchanged, Line, Link, LinkFault, Peer, Untold, exchange, next_form,
@@ -13,6 +15,7 @@ use presence_base::{NodeName, Replica};
 use presence_node_link_ports::{Gate, Lane, Pool, PoolLinkPort, bare_beat, fitting_beat};
 use presence_node_link_streams::{LinkStream, time_behind};
 use presence_node_link_words::{LinkEnd, LinkWarning, greeted};
+use presence_node_mailboxes::{first_behind, from_shard};
 use presence_node_sockets::is_no_file;
 use std::io;
 use std::net::{Net, SocketAddr, TcpListener, TcpStream, ToSocketAddrs};
@@ -27,6 +30,9 @@ const CONNECT_MILLISECONDS: u64 = 1_000;
 
 /// How often the other node's answers are still looked for once the links are to end: for a second in all.
 const LAST_LOOKS: u32 = 5;
+
+/// How many parts of a shard follow the first one in a period: 4 MiB in all.
+const MAX_PARTS: u32 = 15;
 
 /// How long a link has to stand until it is said that it came back, in milliseconds.
 pub(crate) const STANDING_MILLISECONDS: u64 = 30_000;
@@ -66,15 +72,6 @@ impl Dialler {
     }
 }
 
-// This node, as the threads of its links have it.
-#[derive_where(Clone, Copy)]
-struct Node<'a, R, G: Gate, A: Lane, B: Lane, C: Lane, D: Lane, W> {
-    rt: &'a R,
-    links: &'a Links,
-    pool: &'a Pool<G, A, B, C, D>,
-    wakes: &'a W,
-}
-
 // A link that was dialled.
 struct Dialled<'a, R: Clock> {
     link: Link<LinkStream<'a, R>>,
@@ -83,6 +80,8 @@ struct Dialled<'a, R: Clock> {
     // When it came up.
     since: u64,
     has_stood: bool,
+    // The shards of which a part was told, and more may be wanted.
+    in_parts: Vec<u32>,
 }
 
 impl<R: Clock> Drop for Dialled<'_, R> {
@@ -92,9 +91,29 @@ impl<R: Clock> Drop for Dialled<'_, R> {
             turn: _,
             since: _,
             has_stood: _,
+            in_parts,
         } = self;
         drop(link);
+        drop(in_parts);
     }
+}
+
+impl<R: Clock> Dialled<'_, R> {
+    // Whether a part of the shard was told last, so that more may be wanted. Where there is no memory for that, the next beat
+    // brings it.
+    fn notes_part(&mut self, shard: u32, has_part: bool) {
+        self.in_parts.retain(|one| *one != shard);
+        if has_part {
+            let _lost = self.in_parts.push(shard);
+        }
+    }
+}
+
+// What came of an exchange: what the other node stays without, and whether it was told a part of what it wants.
+#[derive(Clone, Copy)]
+struct Said {
+    untold: Option<Untold>,
+    has_part: bool,
 }
 
 // Why no socket could be had.
@@ -143,13 +162,13 @@ where
     Err(why)
 }
 
-// One exchange: the line goes out, and what comes is done. What the other node stays without is given.
+// One exchange: the line goes out, and what comes is done.
 fn say<R, G, A, B, C, D, W>(
     node: Node<'_, R, G, A, B, C, D, W>,
     dialled: &mut Dialled<'_, R>,
     place: Place<'_>,
     line: &Line,
-) -> Result<Option<Untold>, LinkEnd>
+) -> Result<Said, LinkEnd>
 where
     R: Wait + Clock + Print + Eprint,
     G: Gate,
@@ -184,14 +203,20 @@ where
     if port.has_own_counts() {
         links.tell_odd(rt, place, LinkWarning::OwnCounts);
     }
+    let own = dialled.link.peer.own();
+    links.hears_of(rt, &own, port.own_life());
+    let has_part = port.has_part();
     match done {
-        Ok(Exchanged::Untold(untold)) => Ok(Some(untold)),
-        Ok(Exchanged::GivenUp) => {
-            let own = dialled.link.peer.own();
-            Err(given_up(rt, links, pool, wakes, &own))
-        }
+        Ok(Exchanged::Untold(untold)) => Ok(Said {
+            untold: Some(untold),
+            has_part,
+        }),
+        Ok(Exchanged::GivenUp) => Err(given_up(rt, links, pool, wakes, &own)),
         Ok(Exchanged::Done) if dialled.link.stream.is_ended() => Err(LinkEnd::Closed),
-        Ok(Exchanged::Done) => Ok(None),
+        Ok(Exchanged::Done) => Ok(Said {
+            untold: None,
+            has_part,
+        }),
         Err(fault) => Err(end_of(links, fault)),
     }
 }
@@ -234,16 +259,17 @@ where
         turn: life.turn,
         since: time_behind(rt, 0),
         has_stood: false,
+        in_parts: Vec::new(links.alloc),
     };
     let hello = dialled.link.peer.hello();
-    say(node, &mut dialled, dialler.place(), &hello)?;
+    let _said = say(node, &mut dialled, dialler.place(), &hello)?;
     let Some(other) = dialled.link.peer.other() else {
         return Err(LinkEnd::Closed);
     };
     *form = links.speaks;
     greeted(&life.own, Some(dialler.name), &other)?;
     if let Some(line) = life.first_line() {
-        let _untold = say(node, &mut dialled, dialler.place(), &line)?;
+        let _said = say(node, &mut dialled, dialler.place(), &line)?;
     }
     Ok((dialled, other))
 }
@@ -264,6 +290,34 @@ fn beat_for(links: &Links, peer: &Peer, shard: u32, cut: &Delta) -> Line {
     }
 }
 
+// Sends a beat of a shard. What the other node stays without is told once.
+fn send_beat<R, G, A, B, C, D, W>(
+    node: Node<'_, R, G, A, B, C, D, W>,
+    dialled: &mut Dialled<'_, R>,
+    place: Place<'_>,
+    shard: u32,
+    beat: &Line,
+) -> Result<(), LinkEnd>
+where
+    R: Wait + Clock + Print + Eprint,
+    G: Gate,
+    A: Lane,
+    B: Lane,
+    C: Lane,
+    D: Lane,
+    W: Wakes,
+    requires { node.links.now.shards ≡ node.pool.now.shards }
+{
+    let said = say(node, dialled, place, beat)?;
+    node.links.tallies.count_beat();
+    dialled.notes_part(shard, said.has_part);
+    if let Some(untold) = said.untold {
+        node.links
+            .tell_odd(node.rt, place, LinkWarning::Untold(untold));
+    }
+    Ok(())
+}
+
 // Sends the beats: each goes out whatever came of the one before, as far as the stream stands.
 fn send_all<R, G, A, B, C, D, W>(
     node: Node<'_, R, G, A, B, C, D, W>,
@@ -281,21 +335,13 @@ where
     W: Wakes,
     requires { node.links.now.shards ≡ node.pool.now.shards }
 {
-    let links = node.links;
     let mut broken = None;
     for (shard, cut) in cuts {
-        let beat = beat_for(links, &dialled.link.peer, *shard, &**cut);
-        match say(node, dialled, place, &beat) {
-            Ok(None) => links.tallies.count_beat(),
-            Ok(Some(untold)) => {
-                links.tallies.count_beat();
-                links.tell_odd(node.rt, place, LinkWarning::Untold(untold));
-            }
-            Err(end) => {
-                broken = Some(behind(broken, end, *shard));
-                if !end.leaves_stream() {
-                    break;
-                }
+        let beat = beat_for(node.links, &dialled.link.peer, *shard, &**cut);
+        if let Err(end) = send_beat(node, dialled, place, *shard, &beat) {
+            broken = Some(behind(broken, end, *shard));
+            if !end.leaves_stream() {
+                break;
             }
         }
     }
@@ -303,6 +349,35 @@ where
         Some(broken) => Err(broken),
         None => Ok(()),
     }
+}
+
+// Sends the beats of those shards once more, bare, of which a part was told: what is still wanted is told too.
+fn send_more<R, G, A, B, C, D, W>(
+    node: Node<'_, R, G, A, B, C, D, W>,
+    dialled: &mut Dialled<'_, R>,
+    place: Place<'_>,
+    cuts: &[(u32, Arc<Delta>)],
+) -> Result<(), Broken>
+where
+    R: Wait + Clock + Print + Eprint,
+    G: Gate,
+    A: Lane,
+    B: Lane,
+    C: Lane,
+    D: Lane,
+    W: Wakes,
+    requires { node.links.now.shards ≡ node.pool.now.shards }
+{
+    for (shard, cut) in cuts {
+        if !dialled.in_parts.contains(shard) {
+            continue;
+        }
+        let beat = bare_beat(*shard, &**cut);
+        if let Err(end) = send_beat(node, dialled, place, *shard, &beat) {
+            return Err(Broken { end, shard: *shard });
+        }
+    }
+    Ok(())
 }
 
 // The reason that came first, and the shard that came last.
@@ -455,8 +530,41 @@ impl<'a, R: Clock> State<'a, R> {
             return;
         };
         if let Err(broken) = send_all(node, dialled, dialler.place(), cuts) {
-            self.first = broken.shard.saturating_add(1);
+            self.first = first_behind(broken.shard);
             self.goes(node.rt, node.links, dialler, broken.end);
+        }
+    }
+
+    // Where parts were told, more of them go out, as long as they are wanted and the period lasts.
+    fn sends_parts<G, A, B, C, D, W>(
+        &mut self,
+        node: Node<'_, R, G, A, B, C, D, W>,
+        dialler: &Dialler,
+        cuts: &[(u32, Arc<Delta>)],
+    )
+    where
+        R: Wait + Clock + Print + Eprint,
+        G: Gate,
+        A: Lane,
+        B: Lane,
+        C: Lane,
+        D: Lane,
+        W: Wakes,
+        requires { node.links.now.shards ≡ node.pool.now.shards }
+    {
+        let begun = time_behind(node.rt, 0);
+        for _ in 0..MAX_PARTS {
+            let Some(dialled) = &mut self.dialled else {
+                return;
+            };
+            let passed = time_behind(node.rt, begun).saturating_sub(begun);
+            if dialled.in_parts.is_empty() || passed >= PERIOD_MILLISECONDS {
+                return;
+            }
+            if let Err(broken) = send_more(node, dialled, dialler.place(), cuts) {
+                self.first = first_behind(broken.shard);
+                self.goes(node.rt, node.links, dialler, broken.end);
+            }
         }
     }
 
@@ -478,14 +586,13 @@ impl<'a, R: Clock> State<'a, R> {
         requires { node.links.now.shards ≡ node.pool.now.shards }
     {
         let (rt, links) = (node.rt, node.links);
-        let first = self.first;
-        let at = cuts.iter().position(|cut| cut.0 >= first).unwrap_or(0);
-        let (later, sooner) = cuts.split_at(at);
+        let (first, last) = from_shard(cuts, self.first);
         let _ended = self.ends_old(rt, links, dialler);
         self.ends_lower(links, dialler);
         self.comes(node, dialler);
-        self.sends(node, dialler, sooner);
-        self.sends(node, dialler, later);
+        self.sends(node, dialler, first);
+        self.sends(node, dialler, last);
+        self.sends_parts(node, dialler, cuts);
         self.stands(rt, links, dialler);
     }
 
@@ -513,7 +620,7 @@ impl<'a, R: Clock> State<'a, R> {
         let line = Line::PermDown {
             replica: dialled.link.peer.own(),
         };
-        let _told = say(node, dialled, dialler.place(), &line);
+        let _said = say(node, dialled, dialler.place(), &line);
         self.goes(rt, links, dialler, LinkEnd::Stopped);
     }
 }

@@ -1,9 +1,10 @@
 //! The sockets of links that came in, and the thread where they do.
 use crate::links::{Links, Place};
-use presence_node_link_words::LinkEnd;
+use crate::origin::Origin;
+use presence_node_link_words::{LinkEnd, is_admitted};
 use presence_node_sockets::{Watch, next_stream};
 use std::alloc::Global;
-use std::net::{TcpListener, TcpStream};
+use std::net::{IpAddr, TcpListener, TcpStream};
 use std::sync::{Condvar, Mutex, Wait};
 use std::thread;
 use std::time::{Clock, Duration};
@@ -114,20 +115,47 @@ impl Waiting {
 pub struct LinkDoor {
     listener: TcpListener,
     watch: Watch,
+    /// The addresses from which links are taken: where there are none, from any.
+    from: Vec<IpAddr>,
 }
 
 impl Drop for LinkDoor {
     fn drop(self) {
-        let LinkDoor { listener, watch } = self;
+        let LinkDoor {
+            listener,
+            watch,
+            from,
+        } = self;
         drop(listener);
         drop(watch);
+        drop(from);
     }
 }
 
 impl LinkDoor {
     /// The listening socket is watched as `LISTENER`.
-    pub(crate) fn new(listener: TcpListener, watch: Watch) -> LinkDoor {
-        LinkDoor { listener, watch }
+    pub(crate) fn new(listener: TcpListener, watch: Watch, from: Vec<IpAddr>) -> LinkDoor {
+        LinkDoor {
+            listener,
+            watch,
+            from,
+        }
+    }
+
+    // Whether a link may come from where this socket does. Where that can't be told it may from anywhere alone.
+    fn admits(&self, socket: &TcpStream) -> bool {
+        match socket.peer_addr() {
+            Ok(address) => is_admitted(self.from.as_slice(), &address.ip()),
+            Err(_) => self.from.is_empty(),
+        }
+    }
+
+    // A link is refused for the address that it comes from, which is told once.
+    fn refuses<R: Wait + Eprint>(&self, rt: &R, links: &Links, socket: &TcpStream) {
+        links.tallies.count_refused();
+        if let Ok(origin) = Origin::of(links.alloc, socket) {
+            links.tell_down(rt, origin.place(), LinkEnd::OtherAddress);
+        }
     }
 
     // Takes one link, if one waits: whether there may be another.
@@ -135,6 +163,10 @@ impl LinkDoor {
         let Some(socket) = next_stream(&self.listener) else {
             return false;
         };
+        if !self.admits(&socket) {
+            self.refuses(rt, links, &socket);
+            return true;
+        }
         if !links.waiting.give(rt, socket) {
             let place = Place {
                 words: ANYBODY,

@@ -1,6 +1,7 @@
 //! The threads of links between nodes: one that makes the beats, one for each node that is dialled, one where links come
-//! in, those that serve them, and one that reads their long lines.
+//! in, those that serve them, and those that read their long lines.
 //!
+//! Each node that is dialled has a reader of its own for the long lines that come from there; all others have one together.
 //! Of what they tell each other, and of what goes over a socket, no contract speaks. What each exchange does is
 //! `node_links`', and what it asks of the shards `presence_node_link_ports`'.
 //!
@@ -16,6 +17,8 @@ mod incoming;
 pub mod laws;
 mod links;
 mod lives;
+mod node;
+mod origin;
 mod reading;
 mod serving;
 mod tallies;

@@ -52,8 +52,9 @@ pub struct Links {
     /// Whether the last hello from each of these was of the second form.
     pub(crate) speak_two: Vec<AtomicBool>,
     pub(crate) waiting: Waiting,
-    /// Who reads the long lines of links that came in.
-    pub(crate) reader: Reader,
+    /// Who reads the long lines of links that came in: the first those of nodes that aren't dialled, and one more for each node
+    /// that is dialled, in their order.
+    pub(crate) readers: Vec<Reader>,
     pub(crate) book: Mutex<Book>,
     /// The time that was handed in last, in milliseconds.
     pub(crate) time: AtomicU64,
@@ -77,7 +78,7 @@ impl Drop for Links {
             newest,
             speak_two,
             waiting,
-            reader,
+            readers,
             book,
             time,
             bell,
@@ -91,7 +92,7 @@ impl Drop for Links {
         drop(newest);
         drop(speak_two);
         drop(waiting);
-        drop(reader);
+        drop(readers);
         drop(book);
         drop(time);
         drop(bell);
@@ -124,7 +125,9 @@ impl Links {
     pub fn stop<R: Wait>(&self, rt: &R) {
         self.stopping.stop(rt);
         self.waiting.end(rt);
-        self.reader.end(rt);
+        for reader in self.readers.iter() {
+            reader.end(rt);
+        }
         self.bell.ring();
         for mailbox in self.mailboxes.iter() {
             mailbox.ring();
@@ -135,6 +138,15 @@ impl Links {
     pub(crate) fn life<R: Wait>(&self, rt: &R) -> Life {
         let life = self.life.lock(rt);
         *life
+    }
+
+    /// A link told of a life of this node's name, where it is above the node's own: the next one goes above it.
+    pub(crate) fn hears_of<R: Wait>(&self, rt: &R, own: &Replica, incarnation: u64) {
+        if incarnation <= own.incarnation {
+            return;
+        }
+        let mut life = self.life.lock(rt);
+        *life = life.hears_of(incarnation);
     }
 
     /// Beats that were posted and not taken are never sent.
@@ -171,9 +183,22 @@ impl Links {
         self.time.store(time, Ordering::SeqCst);
     }
 
+    // The place of a node among those that are dialled.
+    fn place_of(&self, name: NodeName) -> Option<usize> {
+        self.dialled.iter().position(|dialled| *dialled == name)
+    }
+
+    /// Which reader has the long lines of a node.
+    pub(crate) fn reader_of(&self, name: NodeName) -> usize {
+        match self.place_of(name) {
+            Some(at) => at.saturating_add(1),
+            None => 0,
+        }
+    }
+
     /// Where the number of the newest link from a node stands that this one dials.
     pub(crate) fn newest_of(&self, name: NodeName) -> Option<&AtomicU64> {
-        match self.dialled.iter().position(|dialled| *dialled == name) {
+        match self.place_of(name) {
             Some(at) => self.newest.get(at),
             None => None,
         }
@@ -181,7 +206,7 @@ impl Links {
 
     /// A node that may be one of those that are dialled said hello in this form.
     pub(crate) fn note_form(&self, name: NodeName, form: Form) {
-        let Some(at) = self.dialled.iter().position(|dialled| *dialled == name) else {
+        let Some(at) = self.place_of(name) else {
             return;
         };
         if let Some(speaks_two) = self.speak_two.get(at) {

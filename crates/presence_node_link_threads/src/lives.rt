@@ -7,6 +7,7 @@ use crate::links::{Links, Wakes};
 use node_links::Peer;
 use presence_base::Replica;
 use presence_node_link_ports::{Gate, Lane, Pool, PoolFault, go_on};
+use presence_node_link_streams::time_behind;
 use presence_node_link_words::{Came, Coming, Course, Life, LinkEnd, is_due};
 use std::sync::Wait;
 use std::time::Clock;
@@ -87,8 +88,8 @@ where
     wakes.look();
 }
 
-/// A link that said hello as this replica was told that it is gone: the node goes on under the next incarnation, unless it
-/// has since. Why the link ends.
+/// A link that said hello as this replica was told that it is gone: the node goes on under the next incarnation that it wasn't
+/// told of, unless it has since, or did so three times of late. Why the link ends.
 pub(crate) fn given_up<R, G, A, B, C, D, W>(
     rt: &R,
     links: &Links,
@@ -107,20 +108,22 @@ where
     requires { links.now.shards ≡ pool.now.shards }
 {
     let mut life = links.life.lock(rt);
-    let incarnation = match life.course(hello) {
+    let now = time_behind(rt, 0);
+    let incarnation = match life.course(hello, now) {
         Course::HasGoneOn => return LinkEnd::Reborn,
+        Course::Waits => return LinkEnd::GoesOnLater,
         Course::StaysGone => return LinkEnd::GivenUp,
         Course::GoesOn(incarnation) => incarnation,
     };
     let came = go_on_all(rt, links, pool, incarnation);
-    let next = life.behind(incarnation, came);
+    let next = life.behind(incarnation, came, now);
     if !next.is_of(life.turn) {
         begin_anew(rt, links, pool, wakes);
     }
     *life = next;
     drop(life);
     if came.has_refused {
-        return LinkEnd::GivenUp;
+        return LinkEnd::GoesOnLater;
     }
     let _told = println!(rt; "reborn {incarnation}");
     LinkEnd::Reborn

@@ -1,20 +1,20 @@
-//! The lines of links that came in, of which one thread reads the long ones.
+//! The lines of links that came in, of which other threads read the long ones.
 ghost use Rattle.std.specs.Prelude.{◌≤◌};
 
 use crate::links::Links;
-use node_links::{Hearer, Line, LinkFault, MAX_LINE_BYTES, read_line};
-use presence_node_link_streams::{Clerk, LinkStream, is_long};
+use node_links::{Hearer, Line, LinkFault, read_line};
+use presence_node_link_streams::{Clerk, is_long};
 use std::alloc::Global;
 use std::io;
 use std::io::ErrorKind;
 use std::sync::Wait;
-use std::time::Clock;
 
 /// How reading a line ends.
 pub(crate) type LineRead = Result<Option<Line>, LinkFault>;
 
-/// Who reads long lines, one at a time. A line may take a dozen times its bytes while it is read, and a thread keeps the
-/// memory that it once took, for what it does next: so one does it for all links.
+/// Who reads long lines, one at a time. A line may take a dozen times its bytes while it is read, and a thread keeps the memory
+/// that it once took, for what it does next: so one does it for all links of a node that is dialled, and one for those of all
+/// others.
 pub(crate) type Reader = Clerk<LineBytes, LineRead>;
 
 /// The bytes of a line as they came, and who hears it.
@@ -32,14 +32,27 @@ impl Drop for LineBytes {
 }
 
 impl LineBytes {
-    fn read(&self, alloc: Global) -> LineRead {
+    /// Such a line for this hearer.
+    pub(crate) fn new(bytes: Vec<u8>, hearer: Hearer) -> LineBytes
+        requires { 1 ≤ hearer.shards }
+    {
+        LineBytes { bytes, hearer }
+    }
+
+    /// Whether a reader is asked for it.
+    pub(crate) fn is_long(&self) -> bool {
+        is_long(self.bytes.len())
+    }
+
+    /// Reads it.
+    pub(crate) fn read(&self, alloc: Global) -> LineRead {
         let mut bytes = self.bytes.as_slice();
         read_line(alloc, &mut bytes, self.hearer)
     }
 }
 
-// Why the bytes of a line could not be had.
-fn unread(error: &io::Error) -> LinkFault {
+/// Why the bytes of a line could not be had.
+pub(crate) fn unread(error: &io::Error) -> LinkFault {
     if error.kind() == ErrorKind::OutOfMemory {
         LinkFault::OutOfMemory
     } else {
@@ -47,34 +60,15 @@ fn unread(error: &io::Error) -> LinkFault {
     }
 }
 
-/// The next line of a link, or none at an end between lines. For a long one it waits for its turn, under no lock.
-pub(crate) fn next_line<R: Wait + Clock>(
-    links: &Links,
-    stream: &mut LinkStream<'_, R>,
-    hearer: Hearer,
-) -> LineRead
-    requires { 1 ≤ hearer.shards }
-{
-    let bytes = match stream.line(links.alloc, MAX_LINE_BYTES.saturating_add(1)) {
-        Ok(bytes) => bytes,
-        Err(error) => return Err(unread(&error)),
+/// Reads the long lines of one reader, one at a time, until the links are to end.
+pub(crate) fn read_long<R: Wait>(rt: &R, links: &Links, number: usize) {
+    let Some(reader) = links.readers.get(number) else {
+        return;
     };
-    let line = LineBytes { bytes, hearer };
-    if !is_long(line.bytes.len()) {
-        return line.read(links.alloc);
-    }
-    match stream.asks(&links.reader, line) {
-        Some(read) => read,
-        None => Err(LinkFault::ReadFailed),
-    }
-}
-
-/// Reads long lines, one at a time, until the links are to end.
-pub(crate) fn read_long<R: Wait>(rt: &R, links: &Links) {
     for _ in rt.forever() {
-        let Some(line) = links.reader.next(rt) else {
+        let Some(line) = reader.next(rt) else {
             break;
         };
-        links.reader.answer(rt, line.read(links.alloc));
+        reader.answer(rt, line.read(links.alloc));
     }
 }

@@ -2,62 +2,22 @@
 ghost use Rattle.std.specs.Prelude.{◌≡◌};
 
 use crate::dialling::STANDING_MILLISECONDS;
-use crate::incoming::ANYBODY;
 use crate::links::{Links, Place, Wakes};
 use crate::lives::owning;
-use crate::reading::next_line;
-use node_links::{DialFault, End, Line, Link, LinkFault, LinkPort, Peer, answer_line};
+use crate::node::Node;
+use crate::origin::Origin;
+use crate::reading::{LineBytes, LineRead, Reader, unread};
+use node_links::{
+    DialFault, End, Line, Link, LinkFault, LinkPort, MAX_LINE_BYTES, Peer, answer_line, hear_bytes,
+};
 use presence_base::Replica;
 use presence_node_link_ports::{Gate, Lane, Pool, PoolLinkPort};
-use presence_node_link_streams::{LinkStream, time_behind};
-use presence_node_link_words::{LinkEnd, LinkWarning, greeted, is_welcome};
+use presence_node_link_streams::{Asking, LinkStream, MAX_LOOKS, time_behind};
+use presence_node_link_words::{LinkEnd, LinkWarning, greeted, is_heard_anew, is_welcome};
 use std::alloc::{AllocError, Global};
 use std::net::TcpStream;
 use std::sync::Wait;
 use std::time::Clock;
-
-// Where a link comes from, as it is told, and as what was said of it is kept.
-struct Origin {
-    words: String,
-    page: String,
-}
-
-impl Drop for Origin {
-    fn drop(self) {
-        let Origin { words, page } = self;
-        drop(words);
-        drop(page);
-    }
-}
-
-impl Origin {
-    fn of(alloc: Global, socket: &TcpStream) -> Result<Origin, AllocError> {
-        let Ok(address) = socket.peer_addr() else {
-            let words = String::from_str(alloc, ANYBODY)?;
-            let page = String::from_str(alloc, ANYBODY)?;
-            return Ok(Origin { words, page });
-        };
-        let words = format!(in alloc; "from {address}")?;
-        let host = address.ip();
-        let page = format!(in alloc; "from {host}")?;
-        Ok(Origin { words, page })
-    }
-
-    // How it is told with the node that is there, once that said which it is.
-    fn words_with(&self, alloc: Global, other: &Replica) -> Result<String, AllocError> {
-        let place = self.words.as_str();
-        let name = other.name.as_str();
-        let incarnation = other.incarnation;
-        format!(in alloc; "{place}, {name}.{incarnation}")
-    }
-
-    fn place(&self) -> Place<'_> {
-        Place {
-            words: self.words.as_str(),
-            page: self.page.as_str(),
-        }
-    }
-}
 
 // Under which place is kept what was said of links that came from a node.
 fn page_of(alloc: Global, other: &Replica) -> Result<String, AllocError> {
@@ -96,6 +56,10 @@ struct Incoming<'a, R: Clock> {
     has_stood: bool,
     // The shards of which a beat has come.
     shards: Vec<u32>,
+    // Which reader has its long lines.
+    reader: usize,
+    // When each shard was told last that the other end was heard.
+    heard: Vec<u64>,
 }
 
 impl<R: Clock> Drop for Incoming<'_, R> {
@@ -110,10 +74,13 @@ impl<R: Clock> Drop for Incoming<'_, R> {
             are_two: _,
             has_stood: _,
             shards,
+            reader: _,
+            heard,
         } = self;
         drop(link);
         drop(origin);
         drop(shards);
+        drop(heard);
     }
 }
 
@@ -159,8 +126,13 @@ impl<'a, R: Clock> Incoming<'a, R> {
         R: Wait,
     {
         self.is_up = true;
+        self.reader = links.reader_of(other.name);
         links.tallies.count_up();
         self.since = time_behind(rt, 0);
+        self.heard.clear();
+        for _ in 0..links.shards {
+            let _lost = self.heard.push(self.since);
+        }
         let begun = links.begins(rt, other.name, self.since);
         self.number = begun.number;
         self.are_two = begun.are_two;
@@ -219,7 +191,7 @@ impl<'a, R: Clock> Incoming<'a, R> {
     }
 
     // Why a line didn't come: the link was cut since a newer one came in, or this fault.
-    fn unread(&self, rt: &R, links: &Links, fault: LinkFault) -> LinkEnd
+    fn end_without(&self, rt: &R, links: &Links, fault: LinkFault) -> LinkEnd
     where
         R: Wait,
     {
@@ -252,31 +224,191 @@ impl<'a, R: Clock> Incoming<'a, R> {
         }
     }
 
-    // The next line, or why there is none.
-    fn next_line(&mut self, rt: &R, links: &Links) -> Result<Line, LinkEnd>
+    // A shard was told at this time that the other end was heard.
+    fn notes_heard(&mut self, shard: u32, now: u64) {
+        if let Some(last) = self.heard.get_mut(shard as usize) {
+            *last = now;
+        }
+    }
+
+    // Tells a shard that the other end was heard.
+    fn heard_at<G, A, B, C, D, W>(&mut self, node: Node<'a, R, G, A, B, C, D, W>, shard: u32)
     where
         R: Wait,
+        G: Gate,
+        A: Lane,
+        B: Lane,
+        C: Lane,
+        D: Lane,
+        W: Wakes,
+        requires { node.links.now.shards ≡ node.pool.now.shards }
     {
+        let (rt, links) = (node.rt, node.links);
+        let mut port = PoolLinkPort::new(rt, node.pool, links.shards);
+        let peer = &self.link.peer;
+        let _later = hear_bytes(links.alloc, peer, &mut port, shard, links.time());
+        if port.has_changed() {
+            node.wakes.look();
+        }
+    }
+
+    // Something of a line came: each shard hears of it that wasn't told so for a while, unless the link was replaced.
+    fn hears<G, A, B, C, D, W>(&mut self, node: Node<'a, R, G, A, B, C, D, W>)
+    where
+        R: Wait,
+        G: Gate,
+        A: Lane,
+        B: Lane,
+        C: Lane,
+        D: Lane,
+        W: Wakes,
+        requires { node.links.now.shards ≡ node.pool.now.shards }
+    {
+        if !self.is_up || self.link.stream.is_replaced() {
+            return;
+        }
+        let now = time_behind(node.rt, 0);
+        for shard in 0..node.links.shards {
+            let last = self.heard.get(shard as usize).copied().unwrap_or(now);
+            if is_heard_anew(last, now) {
+                self.notes_heard(shard, now);
+                self.heard_at(node, shard);
+            }
+        }
+    }
+
+    // The bytes of the next line. What comes of it is heard, whole or not.
+    fn bytes<G, A, B, C, D, W>(
+        &mut self,
+        node: Node<'a, R, G, A, B, C, D, W>,
+    ) -> Result<Vec<u8>, LinkFault>
+    where
+        R: Wait,
+        G: Gate,
+        A: Lane,
+        B: Lane,
+        C: Lane,
+        D: Lane,
+        W: Wakes,
+        requires { node.links.now.shards ≡ node.pool.now.shards }
+    {
+        let mut bytes = Vec::new(node.links.alloc);
+        for _ in node.rt.forever() {
+            let whole = self
+                .link
+                .stream
+                .reads_on(&mut bytes, MAX_LINE_BYTES.saturating_add(1));
+            match whole {
+                Ok(true) => break,
+                Ok(false) => self.hears(node),
+                Err(error) => return Err(unread(&error)),
+            }
+        }
+        Ok(bytes)
+    }
+
+    // Asks a reader for a long line, once it has no other: whether it could.
+    fn asks<G, A, B, C, D, W>(
+        &mut self,
+        node: Node<'a, R, G, A, B, C, D, W>,
+        reader: &Reader,
+        line: LineBytes,
+    ) -> bool
+    where
+        R: Wait,
+        G: Gate,
+        A: Lane,
+        B: Lane,
+        C: Lane,
+        D: Lane,
+        W: Wakes,
+        requires { node.links.now.shards ≡ node.pool.now.shards }
+    {
+        let mut line = line;
+        for _ in 0..MAX_LOOKS {
+            match self.link.stream.asks(reader, line) {
+                Asking::Asked => return true,
+                Asking::GivenUp => return false,
+                Asking::Waits(back) => line = back,
+            }
+            self.hears(node);
+        }
+        false
+    }
+
+    // A line as it is read: a long one by the reader of its node, while its link is heard.
+    fn read<G, A, B, C, D, W>(
+        &mut self,
+        node: Node<'a, R, G, A, B, C, D, W>,
+        line: LineBytes,
+    ) -> LineRead
+    where
+        R: Wait,
+        G: Gate,
+        A: Lane,
+        B: Lane,
+        C: Lane,
+        D: Lane,
+        W: Wakes,
+        requires { node.links.now.shards ≡ node.pool.now.shards }
+    {
+        if !line.is_long() {
+            return line.read(node.links.alloc);
+        }
+        let Some(reader) = node.links.readers.get(self.reader) else {
+            return Err(LinkFault::ReadFailed);
+        };
+        if !self.asks(node, reader, line) {
+            return Err(LinkFault::ReadFailed);
+        }
+        for _ in node.rt.forever() {
+            if let Some(read) = self.link.stream.takes(reader) {
+                return read;
+            }
+            self.hears(node);
+        }
+        Err(LinkFault::ReadFailed)
+    }
+
+    // The next line, or why there is none. That of a link which was replaced meanwhile is dropped.
+    fn next_line<G, A, B, C, D, W>(
+        &mut self,
+        node: Node<'a, R, G, A, B, C, D, W>,
+    ) -> Result<Line, LinkEnd>
+    where
+        R: Wait,
+        G: Gate,
+        A: Lane,
+        B: Lane,
+        C: Lane,
+        D: Lane,
+        W: Wakes,
+        requires { node.links.now.shards ≡ node.pool.now.shards }
+    {
+        let (rt, links) = (node.rt, node.links);
         if self.is_up {
             self.link.stream.awaits_line();
         } else {
             self.link.stream.awaits_hello();
         }
-        let link = &mut self.link;
-        match next_line(links, &mut link.stream, link.peer.hearer()) {
+        let bytes = match self.bytes(node) {
+            Ok(bytes) => bytes,
+            Err(fault) => return Err(self.end_without(rt, links, fault)),
+        };
+        let line = LineBytes::new(bytes, self.link.peer.hearer());
+        match self.read(node, line) {
+            Ok(_) if self.link.stream.is_replaced() => Err(LinkEnd::Replaced),
             Ok(Some(line)) => Ok(line),
             Ok(None) => Err(LinkEnd::Closed),
-            Err(fault) => Err(self.unread(rt, links, fault)),
+            Err(fault) => Err(self.end_without(rt, links, fault)),
         }
     }
 
-    // One exchange, unless the links began anew since this one was begun.
-    fn exchange<G, A, B, C, D, W>(
+    // What a line asks for is done, and what is odd about that told.
+    fn answers<G, A, B, C, D, W>(
         &mut self,
-        rt: &R,
-        links: &'a Links,
-        pool: &Pool<G, A, B, C, D>,
-        wakes: &W,
+        node: Node<'a, R, G, A, B, C, D, W>,
+        line: Line,
     ) -> Result<(), LinkEnd>
     where
         R: Wait + Eprint,
@@ -286,20 +418,18 @@ impl<'a, R: Clock> Incoming<'a, R> {
         C: Lane,
         D: Lane,
         W: Wakes,
-        requires { links.now.shards ≡ pool.now.shards }
+        requires { node.links.now.shards ≡ node.pool.now.shards }
     {
-        let line = self.next_line(rt, links)?;
-        if !links.life(rt).is_of(self.turn) {
-            return Err(LinkEnd::Reborn);
-        }
-        let mut port = PoolLinkPort::new(rt, pool, links.shards);
-        port.looks_for(self.link.peer.own());
+        let (rt, links) = (node.rt, node.links);
+        let own = self.link.peer.own();
+        let mut port = PoolLinkPort::new(rt, node.pool, links.shards);
+        port.looks_for(own);
         if self.counts_below(links.alloc, &mut port, &line) {
             links.tell_odd(rt, self.origin.place(), LinkWarning::CountsBelow);
         }
         let done = answer_line(links.alloc, &mut self.link, &mut port, line, links.time());
         if port.has_changed() {
-            wakes.look();
+            node.wakes.look();
         }
         if port.has_told() {
             links.tallies.count_want();
@@ -307,10 +437,47 @@ impl<'a, R: Clock> Incoming<'a, R> {
         if port.has_own_counts() {
             links.tell_odd(rt, self.origin.place(), LinkWarning::OwnCounts);
         }
+        links.hears_of(rt, &own, port.own_life());
         match done {
-            Ok(()) => self.goes_on(rt, links),
+            Ok(()) => Ok(()),
             Err(fault) => Err(end_of(links, fault)),
         }
+    }
+
+    // One exchange, unless the links began anew since this one was begun. Its line is heard, by its shard where it is a beat.
+    fn exchange<G, A, B, C, D, W>(
+        &mut self,
+        node: Node<'a, R, G, A, B, C, D, W>,
+    ) -> Result<(), LinkEnd>
+    where
+        R: Wait + Eprint,
+        G: Gate,
+        A: Lane,
+        B: Lane,
+        C: Lane,
+        D: Lane,
+        W: Wakes,
+        requires { node.links.now.shards ≡ node.pool.now.shards }
+    {
+        let line = self.next_line(node)?;
+        if !node.links.life(node.rt).is_of(self.turn) {
+            return Err(LinkEnd::Reborn);
+        }
+        let beaten = beaten_shard(&line);
+        self.answers(node, line)?;
+        if let Some(shard) = beaten {
+            self.notes_heard(shard, time_behind(node.rt, 0));
+        }
+        self.hears(node);
+        self.goes_on(node.rt, node.links)
+    }
+}
+
+// The shard of a beat.
+fn beaten_shard(line: &Line) -> Option<u32> {
+    match line {
+        Line::Beat { shard, .. } => Some(*shard),
+        _ => None,
     }
 }
 
@@ -328,10 +495,8 @@ impl<R: Wait + Clock + Eprint> Incoming<'_, R> {
 }
 
 // The link of this socket, unless there is no memory or the system refuses it.
-fn incoming_of<'a, R, G, A, B, C, D>(
-    rt: &'a R,
-    links: &'a Links,
-    pool: &Pool<G, A, B, C, D>,
+fn incoming_of<'a, R, G, A, B, C, D, W>(
+    node: Node<'a, R, G, A, B, C, D, W>,
     socket: TcpStream,
 ) -> Option<Incoming<'a, R>>
 where
@@ -341,8 +506,10 @@ where
     B: Lane,
     C: Lane,
     D: Lane,
-    requires { links.now.shards ≡ pool.now.shards }
+    W: Wakes,
+    requires { node.links.now.shards ≡ node.pool.now.shards }
 {
+    let (rt, links) = (node.rt, node.links);
     let Ok(origin) = Origin::of(links.alloc, &socket) else {
         return None;
     };
@@ -353,7 +520,7 @@ where
     };
     let life = links.life(rt);
     let peer = Peer::new(life.own, links.shards, End::Accepting, links.speaks);
-    let peer = owning(rt, links, pool, peer);
+    let peer = owning(rt, links, node.pool, peer);
     Some(Incoming {
         link: Link { stream, peer },
         turn: life.turn,
@@ -364,15 +531,14 @@ where
         are_two: false,
         has_stood: false,
         shards: Vec::new(links.alloc),
+        reader: 0,
+        heard: Vec::new(links.alloc),
     })
 }
 
 // Serves one link until it ends: why it did.
 fn serve_one<'a, R, G, A, B, C, D, W>(
-    rt: &R,
-    links: &'a Links,
-    pool: &Pool<G, A, B, C, D>,
-    wakes: &W,
+    node: Node<'a, R, G, A, B, C, D, W>,
     incoming: &mut Incoming<'a, R>,
 ) -> LinkEnd
 where
@@ -383,13 +549,13 @@ where
     C: Lane,
     D: Lane,
     W: Wakes,
-    requires { links.now.shards ≡ pool.now.shards }
+    requires { node.links.now.shards ≡ node.pool.now.shards }
 {
-    for _ in rt.forever() {
-        if let Err(end) = incoming.exchange(rt, links, pool, wakes) {
+    for _ in node.rt.forever() {
+        if let Err(end) = incoming.exchange(node) {
             return end;
         }
-        if links.is_stopped() {
+        if node.links.is_stopped() {
             break;
         }
     }
@@ -413,12 +579,18 @@ where
     W: Wakes,
     requires { links.now.shards ≡ pool.now.shards }
 {
+    let node = Node {
+        rt,
+        links,
+        pool,
+        wakes,
+    };
     for _ in rt.forever() {
         let Some(socket) = links.waiting.take(rt) else {
             break;
         };
-        if let Some(mut incoming) = incoming_of(rt, links, pool, socket) {
-            let end = serve_one(rt, links, pool, wakes, &mut incoming);
+        if let Some(mut incoming) = incoming_of(node, socket) {
+            let end = serve_one(node, &mut incoming);
             incoming.ends(rt, links, end);
         }
         links.waiting.give_back(rt);

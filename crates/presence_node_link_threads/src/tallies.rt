@@ -15,6 +15,8 @@ pub struct LinkTallies {
     /// How often another node asked to be told what it lacks, at either end. Each such exchange counts once, whether the
     /// answer went out or not.
     pub wants: u64,
+    /// How many links were refused for the address that they came from.
+    pub refused: u64,
 }
 
 /// What is counted of the links.
@@ -23,6 +25,7 @@ pub(crate) struct Tallies {
     went_down: AtomicU64,
     beats: AtomicU64,
     wants: AtomicU64,
+    refused: AtomicU64,
 }
 
 impl Drop for Tallies {
@@ -32,11 +35,13 @@ impl Drop for Tallies {
             went_down,
             beats,
             wants,
+            refused,
         } = self;
         drop(came_up);
         drop(went_down);
         drop(beats);
         drop(wants);
+        drop(refused);
     }
 }
 
@@ -51,6 +56,7 @@ impl Tallies {
             went_down: AtomicU64::new(0),
             beats: AtomicU64::new(0),
             wants: AtomicU64::new(0),
+            refused: AtomicU64::new(0),
         }
     }
 
@@ -70,6 +76,10 @@ impl Tallies {
         count(&self.wants);
     }
 
+    pub(crate) fn count_refused(&self) {
+        count(&self.refused);
+    }
+
     /// What was counted so far. What went down is read first, so that no link is missed among those that are up.
     pub(crate) fn read(&self) -> LinkTallies {
         let went_down = self.went_down.load(Ordering::SeqCst);
@@ -80,6 +90,7 @@ impl Tallies {
             went_down,
             beats: self.beats.load(Ordering::SeqCst),
             wants: self.wants.load(Ordering::SeqCst),
+            refused: self.refused.load(Ordering::SeqCst),
         }
     }
 }

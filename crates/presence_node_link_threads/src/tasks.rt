@@ -21,7 +21,7 @@ use presence_node_mailboxes::Mailbox;
 use presence_node_sockets::{Bell, Watch};
 use std::alloc::{AllocError, Global};
 use std::io;
-use std::net::{Net, TcpListener, TcpStream};
+use std::net::{IpAddr, Net, TcpListener, TcpStream};
 use std::sync::atomic::{AtomicBool, AtomicU64};
 use std::sync::{Mutex, Wait};
 use std::time::Clock;
@@ -32,8 +32,8 @@ pub enum LinkTask {
     Tick,
     /// Takes the links that come in.
     Attend(LinkDoor),
-    /// Reads the long lines of links that came in.
-    Read,
+    /// Reads long lines of links that came in, as the reader of this number.
+    Read(usize),
     /// Serves links that came in.
     Serve,
     /// Dials another node.
@@ -43,7 +43,7 @@ pub enum LinkTask {
 impl Drop for LinkTask {
     fn drop(self) {
         match self {
-            LinkTask::Tick | LinkTask::Read | LinkTask::Serve => {}
+            LinkTask::Tick | LinkTask::Read(_) | LinkTask::Serve => {}
             LinkTask::Attend(door) => drop(door),
             LinkTask::Dial(dialler) => drop(dialler),
         }
@@ -75,7 +75,7 @@ impl LinkTask {
                 let mut door = door;
                 door.attend(rt, links);
             }
-            LinkTask::Read => read_long(rt, links),
+            LinkTask::Read(number) => read_long(rt, links, number),
             LinkTask::Serve => serve_links(rt, links, pool, wakes),
             LinkTask::Dial(dialler) => dial_one(rt, links, pool, wakes, &dialler),
         }
@@ -126,7 +126,7 @@ impl LinkTasks {
         (links, tasks)
     }
 
-    /// Dials the node of this name too, at this host and port.
+    /// Dials the node of this name too, at this host and port. Its long lines are read by a thread of their own.
     pub fn dial(
         &mut self,
         alloc: Global,
@@ -138,7 +138,9 @@ impl LinkTasks {
         ensures dials { OnOk result (Dials name host.now port self.old self.new) }
     {
         let dialler = dialler_of(alloc, self.links.mailboxes.len(), name, host, port)?;
+        self.tasks.push(LinkTask::Read(self.links.readers.len()))?;
         self.tasks.push(LinkTask::Dial(dialler))?;
+        self.links.readers.push(Clerk::new())?;
         self.links.mailboxes.push(Mailbox::new(alloc))?;
         self.links.newest.push(AtomicU64::new(0))?;
         self.links.speak_two.push(AtomicBool::new(false))?;
@@ -148,11 +150,16 @@ impl LinkTasks {
 }
 
 // The thread where links come in, and what wakes it.
-fn door_at<R: Net>(net: &R, alloc: Global, listener: TcpListener) -> io::Result<(LinkDoor, Bell)> {
+fn door_at<R: Net>(
+    net: &R,
+    alloc: Global,
+    listener: TcpListener,
+    from: Vec<IpAddr>,
+) -> io::Result<(LinkDoor, Bell)> {
     let watch = Watch::new(net, alloc)?;
     watch.add(&listener, LISTENER)?;
     let bell = watch.bell()?;
-    Ok((LinkDoor::new(listener, watch), bell))
+    Ok((LinkDoor::new(listener, watch, from), bell))
 }
 
 // What the first threads do, of which one takes the links that come in at this door. The one that reads long lines is begun
@@ -163,7 +170,7 @@ fn first_tasks(alloc: Global, door: LinkDoor) -> Result<Vec<LinkTask>, AllocErro
     let mut tasks = Vec::new(alloc);
     tasks.push(LinkTask::Tick)?;
     tasks.push(LinkTask::Attend(door))?;
-    tasks.push(LinkTask::Read)?;
+    tasks.push(LinkTask::Read(0))?;
     for _ in 0..MAX_LINKS {
         tasks.push(LinkTask::Serve)?;
     }
@@ -179,22 +186,26 @@ pub struct LinkNode {
     pub version: u32,
 }
 
-/// What the threads of links of this node share, and what each of them does: links come in at this listening socket, and
-/// no node is dialled yet.
+/// What the threads of links of this node share, and what each of them does: links come in at this listening socket from these
+/// addresses, or where there are none from any, and no node is dialled yet.
 pub fn tasks_for<R: Net>(
     net: &R,
     alloc: Global,
     node: LinkNode,
     listener: TcpListener,
+    from: Vec<IpAddr>,
 ) -> io::Result<LinkTasks>
     requires { 1 ≤ node.shards }
     ensures shards { IfOk result (λ t. t.links.shards ≡ node.shards) }
     ensures speaks { IfOk result (λ t. t.links.speaks ≡ form_of_version (Some node.version)) }
     ensures tasks { IfOk result (λ t. AreFirst MAX_LINKS t.tasks.items) }
     ensures dialled { IfOk result (λ t. t.links.mailboxes.items ≡ []) }
+    ensures reader { IfOk result (λ t. vec_len t.links.readers ≡ 1) }
 {
-    let (door, bell) = door_at(net, alloc, listener)?;
+    let (door, bell) = door_at(net, alloc, listener, from)?;
     let tasks = first_tasks(alloc, door)?;
+    let mut readers = Vec::new(alloc);
+    readers.push(Clerk::new())?;
     let links = Links {
         alloc,
         life: Mutex::new(Life::first(node.own)),
@@ -205,7 +216,7 @@ pub fn tasks_for<R: Net>(
         newest: Vec::new(alloc),
         speak_two: Vec::new(alloc),
         waiting: Waiting::new(alloc, MAX_LINKS),
-        reader: Clerk::new(),
+        readers,
         book: Mutex::new(Book::new(alloc)),
         time: AtomicU64::new(0),
         bell,

@@ -1,40 +1,47 @@
 -- A node goes on once for each of its lives.
-use Rattle.std.proofs.Common.{◌≡◌, ℕ, Bool, true, false, ◌+◌, nat_lt, cond, refl, sym, ap, ◌∙◌, arith}
-use Rattle.std.specs.Cmp.{eq_by_cmp_equiv}
+use Rattle.std.proofs.Common.{◌≡◌, ℕ, Bool, true, false, ◌+◌, ◌<◌, max, nat_lt, cond, refl, ap, ◌∙◌, arith}
 use Rattle.presence_base.specs.declared.dots.Replica.{Replica}
 use Rattle.presence_base.specs.declared.dots.TheConstants.{MAX_COUNT}
 use Rattle.presence_base.specs.Order.{same_replica}
-use Rattle.orswot_core_told.proofs.OrderFacts.{replica_total, replicas_equal}
+use Rattle.orswot_core_told.proofs.OrderFacts.{replicas_equal}
 use Rattle.presence_node_link_words.specs.declared.lives.Life.{Life}
 use Rattle.presence_node_link_words.specs.declared.lives.Coming.{Coming}
 use Rattle.presence_node_link_words.specs.declared.lives.Course.{Course}
-use Rattle.presence_node_link_words.specs.declared.lives.Course.TheVariants.{HasGoneOn, GoesOn, StaysGone}
-use Rattle.presence_node_link_words.specs.Lives.{course_of, course_behind, life_after, life_behind, life_refused, named_anew, GoesOnOnce}
+use Rattle.presence_node_link_words.specs.declared.lives.Course.TheVariants.{HasGoneOn, GoesOn, Waits, StaysGone}
+use Rattle.presence_node_link_words.specs.Lives.{course_of, course_behind, life_behind, life_refused, named_anew, GoesAbove, GoesOnOnce}
+use Rattle.presence_node_link_words.specs.Rebirths.{are_many}
 
 -- the incarnation under which a node goes on
 abbrev under : Course → ℕ
 under (GoesOn i) = i
 under _ = 0
 
-is_next : (n i : ℕ) (b : Bool) → cond b (GoesOn (n + 1)) StaysGone ≡ GoesOn i → n ≡ i → ⊥
-is_next n i true h e = let next : n + 1 ≡ i = ap under h in omega (arith, next, e)
-is_next n i false h e = cc
+is_next : (n i : ℕ) (b : Bool) → cond b (GoesOn (n + 1)) StaysGone ≡ GoesOn i → n < i
+is_next n i true h = let next : n + 1 ≡ i = ap under h in omega (arith, next)
+is_next n i false h = absurd cc
 
--- one that goes on is told so of itself
-of_itself : (life : Life) (i : ℕ) → course_of life life.own ≡ GoesOn i → course_behind life.own.incarnation ≡ GoesOn i
-of_itself life i h =
-    let same : same_replica life.own life.own ≡ true = (eq_by_cmp_equiv replica_total).refl life.own in
-    sym (ap (λ b. cond b (course_behind life.own.incarnation) HasGoneOn) same) ∙ h
+-- one that goes on is told so of itself, and not of late
+is_above : (life : Life) (now i : ℕ) (same many : Bool)
+    → cond same (cond many Waits (course_behind (max life.own.incarnation life.told))) HasGoneOn ≡ GoesOn i → max life.own.incarnation life.told < i
+is_above life now i true false h = is_next (max life.own.incarnation life.told) i (nat_lt (max life.own.incarnation life.told) MAX_COUNT) h
+is_above life now i true true h = absurd cc
+is_above life now i false many h = absurd cc
 
-is_another : (life : Life) (i : ℕ) → course_of life life.own ≡ GoesOn i → same_replica life.own (named_anew life.own i) ≡ false
-is_another life i h = go (same_replica life.own (named_anew life.own i)) refl
+pub goes_above : GoesAbove
+goes_above life hello now i h =
+    let above = is_above life now i (same_replica hello life.own) (are_many life.rebirths now) h in (omega (arith, above), omega (arith, above))
+
+is_another : (life : Life) (now i : ℕ) → course_of life life.own now ≡ GoesOn i → same_replica life.own (named_anew life.own i) ≡ false
+is_another life now i h = go (same_replica life.own (named_anew life.own i)) refl
   where
+    above : life.own.incarnation < i
+    above = (goes_above life life.own now i h).0
     go : (b : Bool) → same_replica life.own (named_anew life.own i) ≡ b → b ≡ false
-    go true e = absurd (is_next life.own.incarnation i (nat_lt life.own.incarnation MAX_COUNT) (of_itself life i h)
-        (ap (λ r. r.incarnation) (replicas_equal life.own (named_anew life.own i) e)))
+    go true e = let same : life.own.incarnation ≡ i = ap (λ r. r.incarnation) (replicas_equal life.own (named_anew life.own i) e) in
+        absurd (omega (arith, above, same))
     go false e = refl
 
 pub goes_on_once : GoesOnOnce
-goes_on_once life i came accepted h =
-    ap (λ b. course_of (cond b (life_refused life came) (life_behind life i came)) life.own) accepted
-    ∙ ap (λ b. cond b (course_behind i) HasGoneOn) (is_another life i h)
+goes_on_once life i came now later accepted h =
+    ap (λ b. course_of (cond b (life_refused life i came now) (life_behind life i came now)) life.own later) accepted
+    ∙ ap (λ b. cond b (cond (are_many (life_behind life i came now).rebirths later) Waits (course_behind (max i life.told))) HasGoneOn) (is_another life now i h)

@@ -2,3 +2,5 @@ pub mod Words
 pub mod Saying
 pub mod Warnings
 pub mod Lives
+pub mod Rebirths
+pub mod Hearing

@@ -10,7 +10,7 @@ use Rattle.node_links_members.specs.declared.fault.LinkFault.TheVariants as faul
 use Rattle.orswot_core_told.specs.declared.told.ToldFault.{ToldFault}
 use Rattle.orswot_core_told.specs.declared.told.ToldFault.TheVariants as tolds
 use Rattle.presence_node_link_words.specs.declared.end.LinkEnd.{LinkEnd}
-use Rattle.presence_node_link_words.specs.declared.end.LinkEnd.TheVariants.{Fault, Closed, GivenUp, Reborn, OwnReplica, OwnName, OtherName, NotAPeer, Replaced, NotReached, NoFile, TooMany, Stopped}
+use Rattle.presence_node_link_words.specs.declared.end.LinkEnd.TheVariants.{Fault, Closed, GivenUp, GoesOnLater, Reborn, OwnReplica, OwnName, OtherName, NotAPeer, OtherAddress, Replaced, NotReached, NoFile, TooMany, Stopped}
 
 -- another name than the one that is wanted is refused, where one is
 abbrev pub met_name : Option (List ℕ) → List ℕ → Result (Unit {0}) LinkEnd
@@ -80,11 +80,13 @@ end_words (Fault (dials.Act acts.ShardFull)) = codes "a shard takes nothing more
 end_words (Fault (dials.Act acts.OutOfMemory)) = codes "out of memory"
 end_words Closed = codes "the other node closed it"
 end_words GivenUp = codes "this incarnation is gone at the other node, and this node can't go on under the next: start it with a higher --incarnation"
+end_words GoesOnLater = codes "this incarnation is gone at the other node, and this node goes on under a higher one a little later"
 end_words Reborn = codes "this node goes on under a higher incarnation"
 end_words OwnReplica = codes "the other node has this node's own name and incarnation: was it started twice, or does a --peer lead back here?"
 end_words OwnName = codes "the other node has this node's own name"
 end_words OtherName = codes "the other node has another name than --peer says"
 end_words NotAPeer = codes "no --peer of this node has its name"
+end_words OtherAddress = codes "no --link-from of this node has its address"
 end_words Replaced = codes "a newer link of that node came in"
 end_words NotReached = codes "nobody answers there"
 end_words NoFile = codes "as many files are open as may be: raise with ulimit -n"
@@ -119,4 +121,5 @@ abbrev pub leaves_stream : LinkEnd → Bool
 leaves_stream (Fault (dials.Act fault)) = true
 leaves_stream (Fault (dials.Link fault)) = leaves_between fault
 leaves_stream GivenUp = true
+leaves_stream GoesOnLater = true
 leaves_stream _ = false

@@ -13,6 +13,8 @@ pub enum LinkEnd {
     Closed,
     /// This node's own incarnation is gone at the other end, and it can't go on under the next one.
     GivenUp,
+    /// It is gone there, and this node goes on later, since it did so often of late or a shard knows of that incarnation.
+    GoesOnLater,
     /// This node has gone on under a higher incarnation since the link was begun.
     Reborn,
     /// The other end has this node's own name and incarnation.
@@ -23,6 +25,8 @@ pub enum LinkEnd {
     OtherName,
     /// It came from a node that no `--peer` names.
     NotAPeer,
+    /// It came from an address that no `--link-from` has.
+    OtherAddress,
     /// A newer link of the same node came in.
     Replaced,
     /// Nobody answers there.
@@ -41,7 +45,7 @@ impl LinkEnd {
         ensures { result ≡ leaves self }
     {
         match self {
-            LinkEnd::Fault(DialFault::Act(_)) | LinkEnd::GivenUp => true,
+            LinkEnd::Fault(DialFault::Act(_)) | LinkEnd::GivenUp | LinkEnd::GoesOnLater => true,
             LinkEnd::Fault(DialFault::Link(fault)) => matches!(
                 fault,
                 LinkFault::NotJson

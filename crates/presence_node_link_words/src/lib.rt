@@ -6,20 +6,26 @@
 //! - `specs/Warnings`: what is said of what is odd about a link
 //! - `specs/Saying`: when it is said that a link is up
 //! - `specs/Lives`: the lives of a node, and which links are of which
+//! - `specs/Hearing`: when a shard is told that a node was heard
+//! - `specs/Rebirths`: how often a node goes on under a higher incarnation
 #![tactic(auto)]
 
 mod end;
+mod hearing;
 pub mod laws;
 mod lives;
 mod meeting;
+mod rebirths;
 mod saying;
 mod warning;
 mod warnings;
 mod words;
 
 pub use end::LinkEnd;
-pub use lives::{Came, Coming, Course, Life, is_due};
-pub use meeting::{greeted, is_welcome};
+pub use hearing::{HEARD_MILLISECONDS, is_heard_anew};
+pub use lives::{Came, Coming, Course, Life, MOST_AHEAD, is_due};
+pub use meeting::{greeted, is_admitted, is_welcome};
+pub use rebirths::{REBIRTH_MILLISECONDS, Rebirths};
 pub use saying::Saying;
 pub use warning::LinkWarning;
 pub use warnings::warning_line;

@@ -102,6 +102,9 @@ fn end_words(end: LinkEnd) -> &'static str
         LinkEnd::GivenUp => {
             "this incarnation is gone at the other node, and this node can't go on under the next: start it with a higher --incarnation"
         }
+        LinkEnd::GoesOnLater => {
+            "this incarnation is gone at the other node, and this node goes on under a higher one a little later"
+        }
         LinkEnd::Reborn => "this node goes on under a higher incarnation",
         LinkEnd::OwnReplica => {
             "the other node has this node's own name and incarnation: was it started twice, or does a --peer lead back here?"
@@ -109,6 +112,7 @@ fn end_words(end: LinkEnd) -> &'static str
         LinkEnd::OwnName => "the other node has this node's own name",
         LinkEnd::OtherName => "the other node has another name than --peer says",
         LinkEnd::NotAPeer => "no --peer of this node has its name",
+        LinkEnd::OtherAddress => "no --link-from of this node has its address",
         LinkEnd::Replaced => "a newer link of that node came in",
         LinkEnd::NotReached => "nobody answers there",
         LinkEnd::NoFile => "as many files are open as may be: raise with ulimit -n",

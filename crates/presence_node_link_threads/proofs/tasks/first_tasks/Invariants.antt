@@ -4,4 +4,4 @@ use Rattle.presence_node_link_threads.specs.declared.tasks.LinkTask.TheVariants.
 use Rattle.presence_node_link_threads.proofs.tasks.first_tasks.Given as goal
 
 abbrev pub invariant-loop : goal.invariant-loop
-invariant-loop l = l.tasks.items ≡ Tick ∷ Attend l.fn.door ∷ Read ∷ serving l.counter
+invariant-loop l = l.tasks.items ≡ Tick ∷ Attend l.fn.door ∷ Read 0 ∷ serving l.counter

@@ -9,6 +9,7 @@ returns-clause-dials c =
       its_host = c.in_ok-dialler.ensures.host;
       its_port = c.in_ok-dialler.ensures.port;
       its_number = search rules;
-      task = c.in_ok-push.ensures.items;
+      tasks_are = c.in_ok-push-2.ensures.items ∙ ap (λ ts. ts ++ Dial c.in_ok-dialler.dialler ∷ []) c.in_ok-push.ensures.items ∙ append_assoc _ _ _;
+      reader = search rules;
       mailbox = search rules;
     }

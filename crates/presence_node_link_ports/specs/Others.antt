@@ -1,0 +1,30 @@
+-- What is told of other nodes: of its own lives nobody but the node itself tells it anything.
+use Rattle.std.specs.Prelude.{Bool, not, ◌||◌, Option, Some, None}
+use Rattle.std.specs.List.{list_any}
+use Rattle.presence_base.specs.declared.dots.Replica.{Replica}
+use Rattle.presence_base.specs.Order.{same_text}
+use Rattle.orswot_core_told.specs.Telling.{ToldValue, cut_to}
+
+-- it is a life of this node: of its name
+abbrev pub is_life_of : Replica → Replica → Bool
+is_life_of own r = same_text r.name own.name
+
+abbrev pub is_other : Replica → Replica → Bool
+is_other own r = not (is_life_of own r)
+
+-- a life of the node is told of
+abbrev pub tells_of : Replica → ToldValue → Bool
+tells_of own t =
+    list_any (λ g. is_life_of own g.0) t.ranges
+    || list_any (λ d. is_life_of own d.replica) t.extras
+    || list_any (λ x. is_life_of own x.0.replica) t.live
+
+-- what is heard of what is told: what is of other nodes than this one, where it is known which that is
+abbrev pub of_others : Option Replica → ToldValue → ToldValue
+of_others None t = t
+of_others (Some own) t = cut_to (is_other own) t
+
+-- the value in the place of this one, where there is one
+abbrev pub of_others_else : ToldValue → Option ToldValue → ToldValue
+of_others_else t None = t
+of_others_else t (Some cut) = cut
