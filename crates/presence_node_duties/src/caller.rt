@@ -6,7 +6,7 @@ use std::net::{IpAddr, TcpListener, TcpStream};
 /// Who waits at a listening socket.
 #[derive(Drop)]
 pub(crate) enum Caller {
-    /// A connection, ready to be served without waiting, and the address that it is from.
+    /// A connection, ready to be served without waiting, and the address that it is from: that of IPv4, where it is mapped.
     Came(TcpStream, IpAddr),
     /// One came, and went.
     Went,
@@ -28,7 +28,7 @@ pub(crate) fn next_caller(listener: &TcpListener) -> Caller {
             if prepare(&stream).is_err() {
                 return Caller::Went;
             }
-            Caller::Came(stream, address.ip())
+            Caller::Came(stream, address.ip().to_canonical())
         }
         Err(error) if is_no_file(&error) => Caller::NoFile,
         Err(_) => Caller::Nobody,

@@ -6,8 +6,10 @@ use crate::neighbours::{AddressLimits, Neighbours};
 use crate::pulse::Pulse;
 use crate::server::Server;
 use presence_node_client_streams::{Ticket, TicketCount};
-use presence_node_counts::{Counts, Dropped};
-use presence_node_handshakes::{Front, Guests, Newcomer};
+use presence_node_counts::Dropped;
+use presence_node_handshakes::{
+    Admission, Front, Guests, Keeper, Newcomer, Opened, Site, is_proxy,
+};
 use presence_node_leaving::{ClientSocket, ClientStream, socket_config};
 use presence_node_link_threads::time_behind;
 use presence_node_queue::{Giver, MAX_QUEUED};
@@ -16,7 +18,8 @@ use presence_node_web_sockets::WebSocket;
 use presence_node_workers::MAX_CONNECTIONS;
 use shard_pool::Lane;
 use std::alloc::{AllocError, Global};
-use std::net::{IpAddr, TcpListener, TcpStream};
+use std::collections::VecDeque;
+use std::net::{IpAddr, Shutdown, TcpListener, TcpStream};
 use std::sync::Wait;
 use std::thread;
 use std::time::{Clock, Duration};
@@ -34,15 +37,84 @@ const QUEUE_MILLISECONDS: u64 = 1;
 /// How long one wait lasts while none is.
 const IDLE_MILLISECONDS: u64 = 1_000;
 
-/// The number of the listening socket. Clients have the numbers above it.
+/// The number of the listening socket of clients.
 pub const LISTENER: u64 = 0;
+
+/// The number of the listening socket of those who ask for metrics alone. Connections have the numbers above it.
+pub const METRICS_LISTENER: u64 = 1;
+
+/// Where connections come in.
+pub struct Entries {
+    /// Of clients.
+    pub clients: TcpListener,
+    /// Of those who ask for metrics alone, where these are at a port of their own.
+    pub metrics: Option<TcpListener>,
+}
+
+impl Drop for Entries {
+    fn drop(self) {
+        let Entries { clients, metrics } = self;
+        drop(clients);
+        drop(metrics);
+    }
+}
+
+// A connection that was taken, and the address that it is from.
+struct Arrival {
+    stream: TcpStream,
+    address: IpAddr,
+    /// How it stands, where that is known before its address is.
+    standing: Option<Admission>,
+}
+
+impl Drop for Arrival {
+    fn drop(self) {
+        let Arrival {
+            stream,
+            address: _,
+            standing: _,
+        } = self;
+        drop(stream);
+    }
+}
+
+// Who knows the clients of each address, at this time.
+struct Reception<'n> {
+    neighbours: &'n mut Neighbours,
+    now: u64,
+}
+
+impl Keeper<ClientSocket> for Reception<'_> {
+    fn standing_of(
+        &mut self,
+        alloc: Global,
+        stream: &mut ClientSocket,
+        address: IpAddr,
+    ) -> Admission {
+        match self.neighbours.comes(alloc, &address, self.now) {
+            Ok((standing, ticket)) => {
+                stream.be_neighbour(ticket);
+                standing
+            }
+            Err(_) => Admission::NoRoom,
+        }
+    }
+
+    fn hang_up(&mut self, stream: &mut ClientSocket) {
+        let _lost = stream.stream().shutdown(Shutdown::Write);
+    }
+}
 
 /// What the thread at the door has of its own.
 pub struct Door {
-    listener: TcpListener,
+    entries: Entries,
+    /// Held open, so that there is a file for who comes when no further one can be opened.
+    spare: Option<TcpListener>,
     giver: Giver<WebSocket<ClientSocket, NoMask>>,
     watch: Watch,
     guests: Guests<ClientSocket>,
+    /// Those at the port of metrics.
+    observers: Guests<ClientSocket>,
     neighbours: Neighbours,
     /// How many clients there may be.
     places: u64,
@@ -50,8 +122,8 @@ pub struct Door {
     seated: TicketCount,
     /// Those of them that wait for a worker.
     queued: TicketCount,
-    /// Those that wait for room in the queue.
-    waiting: Vec<WebSocket<ClientSocket, NoMask>>,
+    /// Those that wait for room in the queue, the first first.
+    waiting: VecDeque<WebSocket<ClientSocket, NoMask>>,
     /// Whether it was said that no further file can be opened.
     has_no_file: bool,
     /// The number of the client that came last.
@@ -67,10 +139,12 @@ pub struct Door {
 impl Drop for Door {
     fn drop(self) {
         let Door {
-            listener,
+            entries,
+            spare,
             giver,
             watch,
             guests,
+            observers,
             neighbours,
             places: _,
             seated,
@@ -82,10 +156,12 @@ impl Drop for Door {
             looked: _,
             more: _,
         } = self;
-        drop(listener);
+        drop(entries);
+        drop(spare);
         drop(giver);
         drop(watch);
         drop(guests);
+        drop(observers);
         drop(neighbours);
         drop(seated);
         drop(queued);
@@ -118,10 +194,15 @@ const NO_FILE: &str =
 const FILES_AGAIN: &str = "files: nobody waits for one any more";
 
 // The handshakes that were ready at the last wait go on.
-fn mark_ready(watch: &Watch, guests: &mut Guests<ClientSocket>) {
+fn mark_ready(
+    watch: &Watch,
+    guests: &mut Guests<ClientSocket>,
+    observers: &mut Guests<ClientSocket>,
+) {
     for event in watch.events() {
         if let Some(number) = number_of(event) {
             guests.mark(number);
+            observers.mark(number);
         }
     }
 }
@@ -135,30 +216,63 @@ fn next_of(worker: usize, workers: usize) -> usize
 }
 
 impl Door {
-    /// The listening socket is watched as `LISTENER`.
+    /// The listening sockets are watched as `LISTENER` and `METRICS_LISTENER`.
     pub fn new(
         alloc: Global,
-        listener: TcpListener,
+        entries: Entries,
         giver: Giver<WebSocket<ClientSocket, NoMask>>,
         watch: Watch,
         limits: DoorLimits,
     ) -> Result<Door, AllocError> {
+        let spare = entries.clients.try_clone().ok();
         Ok(Door {
-            listener,
+            entries,
+            spare,
             giver,
             watch,
             guests: Guests::new(alloc),
+            observers: Guests::new(alloc),
             neighbours: Neighbours::new(alloc, limits.addresses, limits.places),
             places: limits.places,
             seated: TicketCount::new(alloc)?,
             queued: TicketCount::new(alloc)?,
-            waiting: Vec::new(alloc),
+            waiting: VecDeque::new(alloc),
             has_no_file: false,
-            number: LISTENER,
+            number: METRICS_LISTENER,
             next: 0,
             looked: 0,
             more: true,
         })
+    }
+
+    // How a connection from this address stands; none where that is a proxy which tells of its client.
+    fn standing_at(
+        &mut self,
+        alloc: Global,
+        stream: &mut ClientSocket,
+        address: IpAddr,
+        proxies: &[IpAddr],
+    ) -> Option<Admission> {
+        if is_proxy(proxies, &address) {
+            return None;
+        }
+        let mut reception = Reception {
+            neighbours: &mut self.neighbours,
+            now: self.looked,
+        };
+        Some(reception.standing_of(alloc, stream, address))
+    }
+
+    // Watches a connection that was taken: its number.
+    fn watched(&mut self, stream: &TcpStream) -> Result<u64, Dropped> {
+        if self.number >= LAST_TOKEN {
+            return Err(Dropped::Handshakes);
+        }
+        self.number += 1;
+        match self.watch.add(stream, self.number) {
+            Ok(()) => Ok(self.number),
+            Err(_) => Err(Dropped::Watch),
+        }
     }
 
     // Watches a connection that was taken, and begins its handshake: whether another one had to give way, or why it is
@@ -166,24 +280,24 @@ impl Door {
     fn admit(
         &mut self,
         alloc: Global,
-        stream: TcpStream,
-        address: IpAddr,
+        arrival: Arrival,
+        proxies: &[IpAddr],
     ) -> Result<bool, Dropped> {
-        if self.number >= LAST_TOKEN {
-            return Err(Dropped::Handshakes);
-        }
-        let Ok((standing, ticket)) = self.neighbours.comes(alloc, address, self.looked) else {
-            return Err(Dropped::Handshakes);
-        };
-        self.number += 1;
-        if self.watch.add(&stream, self.number).is_err() {
-            return Err(Dropped::Watch);
-        }
-        let mut stream = ClientStream::new(stream);
-        stream.be_neighbour(ticket);
-        let newcomer = Newcomer {
-            number: self.number,
+        let Arrival {
             stream,
+            address,
+            standing,
+        } = arrival;
+        let number = self.watched(&stream)?;
+        let mut stream = ClientStream::new(stream);
+        let standing = match standing {
+            Some(standing) => Some(standing),
+            None => self.standing_at(alloc, &mut stream, address, proxies),
+        };
+        let newcomer = Newcomer {
+            number,
+            stream,
+            address,
             standing,
         };
         let admitted = self.guests.admit(alloc, newcomer, socket_config());
@@ -192,13 +306,31 @@ impl Door {
 
     // Begins the handshake of a connection. One that can't be watched, or for which there is no memory, is dropped, and
     // so is the oldest where as many are under way as may be.
-    fn let_in(&mut self, alloc: Global, counts: &Counts, stream: TcpStream, address: IpAddr) {
-        counts.took();
-        match self.admit(alloc, stream, address) {
+    fn let_in<H, A: Lane, B: Lane, C: Lane, D: Lane>(
+        &mut self,
+        server: &Server<'_, H, A, B, C, D>,
+        arrival: Arrival,
+    ) {
+        server.counts.took();
+        match self.admit(server.alloc, arrival, server.proxies) {
             Ok(false) => {}
-            Ok(true) => counts.dropped(Dropped::Handshakes),
-            Err(why) => counts.dropped(why),
+            Ok(true) => server.counts.dropped(Dropped::Handshakes),
+            Err(why) => server.counts.dropped(why),
         }
+    }
+
+    // Begins to answer who asks for metrics alone. One that can't be watched is dropped.
+    fn let_in_observer(&mut self, alloc: Global, stream: TcpStream, address: IpAddr) {
+        let Ok(number) = self.watched(&stream) else {
+            return;
+        };
+        let newcomer = Newcomer {
+            number,
+            stream: ClientStream::new(stream),
+            address,
+            standing: Some(Admission::NoRoom),
+        };
+        let _gave_way = self.observers.admit(alloc, newcomer, socket_config());
     }
 
     // Says, once, that no further file can be opened, or that it is over.
@@ -210,11 +342,43 @@ impl Door {
         }
     }
 
+    // Takes one connection in the file that is held open for it. There is no place for it: it is told so.
+    fn take_in_spare<H, A: Lane, B: Lane, C: Lane, D: Lane>(
+        &mut self,
+        server: &Server<'_, H, A, B, C, D>,
+    ) {
+        let Some(spare) = self.spare.take() else {
+            return;
+        };
+        drop(spare);
+        if let Caller::Came(stream, address) = next_caller(&self.entries.clients) {
+            self.let_in(
+                server,
+                Arrival {
+                    stream,
+                    address,
+                    standing: Some(Admission::NoRoom),
+                },
+            );
+        }
+    }
+
     // Takes one connection, if one waits: whether there may be another.
-    fn take_one<R: Eprint>(&mut self, rt: &R, alloc: Global, counts: &Counts) -> bool {
-        match next_caller(&self.listener) {
+    fn take_one<R: Eprint, H, A: Lane, B: Lane, C: Lane, D: Lane>(
+        &mut self,
+        rt: &R,
+        server: &Server<'_, H, A, B, C, D>,
+    ) -> bool {
+        match next_caller(&self.entries.clients) {
             Caller::Came(stream, address) => {
-                self.let_in(alloc, counts, stream, address);
+                self.let_in(
+                    server,
+                    Arrival {
+                        stream,
+                        address,
+                        standing: None,
+                    },
+                );
                 true
             }
             Caller::Went => true,
@@ -224,16 +388,42 @@ impl Door {
             }
             Caller::NoFile => {
                 self.tell_of_files(rt, true);
+                self.take_in_spare(server);
                 false
             }
         }
     }
 
-    // Takes the connections that wait, as many as a turn may.
-    fn take_in<R: Eprint>(&mut self, rt: &R, alloc: Global, counts: &Counts) {
-        self.more = true;
+    // Holds a file open again, for who comes when no further one can be opened. Where that isn't so yet nobody is taken.
+    fn hold_spare(&mut self) -> bool {
+        if self.spare.is_none() {
+            self.spare = self.entries.clients.try_clone().ok();
+        }
+        self.spare.is_some()
+    }
+
+    // Takes who waits at the port of metrics, if there is one.
+    fn take_observers(&mut self, alloc: Global) {
         for _ in 0..MAX_ACCEPTED {
-            if !self.take_one(rt, alloc, counts) {
+            let Some(listener) = &self.entries.metrics else {
+                break;
+            };
+            let Caller::Came(stream, address) = next_caller(listener) else {
+                break;
+            };
+            self.let_in_observer(alloc, stream, address);
+        }
+    }
+
+    // Takes the connections that wait, as many as a turn may.
+    fn take_in<R: Eprint, H, A: Lane, B: Lane, C: Lane, D: Lane>(
+        &mut self,
+        rt: &R,
+        server: &Server<'_, H, A, B, C, D>,
+    ) {
+        self.more = self.hold_spare();
+        for _ in 0..MAX_ACCEPTED {
+            if !self.more || !self.take_one(rt, server) {
                 self.more = false;
                 break;
             }
@@ -244,7 +434,7 @@ impl Door {
     fn seat(&mut self, socket: WebSocket<ClientSocket, NoMask>) -> Result<(), AllocError> {
         let mut socket = socket;
         socket.get_mut().take_place(self.seated.ticket()?);
-        self.waiting.push(socket)?;
+        self.waiting.push_back(socket)?;
         Ok(())
     }
 
@@ -274,6 +464,54 @@ impl Door {
         self.next = next_of(self.next, server.mailboxes.len());
     }
 
+    // Goes on with the handshakes, and answers what else is asked for: the sockets of those that are done.
+    fn opened<R: Wait, H, A: Lane, B: Lane, C: Lane, D: Lane>(
+        &mut self,
+        rt: &R,
+        server: &Server<'_, H, A, B, C, D>,
+    ) -> Result<Vec<Opened<ClientSocket>>, AllocError> {
+        let pulse = Pulse { rt, server };
+        let mut front = Front {
+            site: Site {
+                origins: server.origins,
+                has_clients: true,
+                has_metrics: self.entries.metrics.is_none(),
+            },
+            proxies: server.proxies,
+            places: self.places_left(),
+            tells: &pulse,
+            keeper: &mut Reception {
+                neighbours: &mut self.neighbours,
+                now: self.looked,
+            },
+        };
+        self.guests.turn(server.alloc, &mut front)
+    }
+
+    // Answers who asks for metrics alone.
+    fn answer_observers<R: Wait, H, A: Lane, B: Lane, C: Lane, D: Lane>(
+        &mut self,
+        rt: &R,
+        server: &Server<'_, H, A, B, C, D>,
+    ) {
+        let pulse = Pulse { rt, server };
+        let mut front = Front {
+            site: Site {
+                origins: &[],
+                has_clients: false,
+                has_metrics: true,
+            },
+            proxies: &[],
+            places: 0,
+            tells: &pulse,
+            keeper: &mut Reception {
+                neighbours: &mut self.neighbours,
+                now: self.looked,
+            },
+        };
+        let _opened = self.observers.turn(server.alloc, &mut front);
+    }
+
     // Goes on with the handshakes, answers what else is asked for, and hands the connections on whose handshakes are
     // done.
     fn greet<R: Wait, H, A: Lane, B: Lane, C: Lane, D: Lane>(
@@ -281,14 +519,9 @@ impl Door {
         rt: &R,
         server: &Server<'_, H, A, B, C, D>,
     ) {
-        let pulse = Pulse { rt, server };
-        let front = Front {
-            origins: server.origins,
-            tells: &pulse,
-        };
         server.counts.has_under_way(self.guests.len());
-        let places = self.places_left();
-        let Ok(opened) = self.guests.turn(server.alloc, &front, places) else {
+        self.answer_observers(rt, server);
+        let Ok(opened) = self.opened(rt, server) else {
             return;
         };
         for (_, socket) in opened {
@@ -316,7 +549,7 @@ impl Door {
             let Some(ticket) = self.queue_ticket() else {
                 break;
             };
-            let Some(mut socket) = self.waiting.pop() else {
+            let Some(mut socket) = self.waiting.pop_front() else {
                 break;
             };
             socket.get_mut().wait_for_reader(ticket);
@@ -331,7 +564,7 @@ impl Door {
             0
         } else if !self.waiting.is_empty() {
             QUEUE_MILLISECONDS
-        } else if self.guests.is_empty() {
+        } else if self.guests.is_empty() && self.observers.is_empty() {
             IDLE_MILLISECONDS
         } else {
             LOOK_MILLISECONDS
@@ -339,11 +572,12 @@ impl Door {
         if self.watch.wait(wait).is_err() {
             thread::sleep(rt, Duration::from_millis(LOOK_MILLISECONDS));
         }
-        mark_ready(&self.watch, &mut self.guests);
+        mark_ready(&self.watch, &mut self.guests, &mut self.observers);
         let now = time_behind(rt, self.looked);
         if now.saturating_sub(self.looked) >= LOOK_MILLISECONDS {
             self.looked = now;
             self.guests.mark_all();
+            self.observers.mark_all();
             self.neighbours.forget(now);
         }
     }
@@ -358,7 +592,8 @@ impl Door {
             if server.is_stopped() {
                 break;
             }
-            self.take_in(rt, server.alloc, &server.counts);
+            self.take_in(rt, server);
+            self.take_observers(server.alloc);
             self.greet(rt, server);
             self.hand_on(rt, server);
             self.pause(rt);

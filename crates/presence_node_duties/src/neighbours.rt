@@ -1,6 +1,6 @@
 //! The clients of each address: how many there are, and how often they come.
 use presence_node_client_streams::{Ticket, TicketCount};
-use presence_node_handshakes::{Admission, Pace};
+use presence_node_handshakes::{Admission, Pace, counted_by, is_near};
 use std::alloc::{AllocError, Global};
 use std::net::IpAddr;
 
@@ -25,9 +25,10 @@ pub struct AddressLimits {
     pub per_second: Option<u64>,
 }
 
-// The clients of an address.
+// The clients of an address, or of a network of IPv6.
 #[derive(Drop)]
 struct Neighbourhood {
+    /// What they are counted by.
     address: IpAddr,
     here: TicketCount,
     pace: Pace,
@@ -40,14 +41,6 @@ pub(crate) struct Neighbours {
     limits: AddressLimits,
     /// How many places there are for all clients.
     places: u64,
-}
-
-// Whether an address is of this machine or of a private network, so that a proxy may stand there for many clients.
-fn may_be_proxy(address: &IpAddr) -> bool {
-    match address {
-        IpAddr::V4(address) => address.is_loopback() || address.is_private(),
-        IpAddr::V6(address) => address.is_loopback() || address.is_unique_local(),
-    }
 }
 
 impl Neighbourhood {
@@ -78,7 +71,7 @@ impl Neighbours {
     fn most_at(&self, address: &IpAddr) -> u64 {
         match self.limits.at_once {
             Some(most) => most,
-            None if may_be_proxy(address) => u64::MAX,
+            None if is_near(address) => u64::MAX,
             None => self.places / SHARE,
         }
     }
@@ -87,12 +80,12 @@ impl Neighbours {
     fn between_at(&self, address: &IpAddr) -> u64 {
         match self.limits.per_second {
             Some(per_second) => SECOND / per_second.max(1),
-            None if may_be_proxy(address) => 0,
+            None if is_near(address) => 0,
             None => SECOND / HANDSHAKES_PER_SECOND,
         }
     }
 
-    // The place of an address among them, if it is there.
+    // The place among them of those that are counted by this, if they are there.
     fn found(&self, address: &IpAddr) -> Option<usize> {
         for (place, neighbourhood) in self.all.iter().enumerate() {
             if neighbourhood.address == *address {
@@ -102,16 +95,17 @@ impl Neighbours {
         None
     }
 
-    // The place of an address among them.
-    fn place_of(&mut self, alloc: Global, address: IpAddr) -> Result<usize, AllocError> {
-        if let Some(place) = self.found(&address) {
+    // The place among them of the clients of an address.
+    fn place_of(&mut self, alloc: Global, address: &IpAddr) -> Result<usize, AllocError> {
+        let by = counted_by(address);
+        if let Some(place) = self.found(&by) {
             return Ok(place);
         }
         let place = self.all.len();
-        let pace = Pace::new(self.between_at(&address));
+        let pace = Pace::new(self.between_at(address));
         let here = TicketCount::new(alloc)?;
         self.all.push(Neighbourhood {
-            address,
+            address: by,
             here,
             pace,
         })?;
@@ -122,10 +116,10 @@ impl Neighbours {
     pub(crate) fn comes(
         &mut self,
         alloc: Global,
-        address: IpAddr,
+        address: &IpAddr,
         now: u64,
     ) -> Result<(Admission, Ticket), AllocError> {
-        let most = self.most_at(&address);
+        let most = self.most_at(address);
         let place = self.place_of(alloc, address)?;
         match self.all.get_mut(place) {
             Some(neighbourhood) => {

@@ -7,7 +7,7 @@ use Rattle.shard_pool.specs.Settled.{Agree, CountsDiffer, are_told}
 use Rattle.shard_pool.specs.SettleFault.{SettleFault}
 use Rattle.shard_pool.specs.SettleFault.TheVariants as faults
 use Rattle.presence_node_ends.specs.declared.end.ServeEnd.{ServeEnd}
-use Rattle.presence_node_ends.specs.declared.end.ServeEnd.TheVariants.{Stopped, NotSettled, PortTaken, NoPort, LinkPortTaken, NoLinkPort, NoThreads, Memory}
+use Rattle.presence_node_ends.specs.declared.end.ServeEnd.TheVariants.{Stopped, NotSettled, PortTaken, NoPort, LinkPortTaken, NoLinkPort, MetricsPortTaken, NoMetricsPort, NoThreads, Memory}
 
 -- the number of a refusal to settle
 abbrev pub settle_number : SettleFault → ℕ
@@ -23,6 +23,8 @@ serve_status (PortTaken port) = 1
 serve_status (NoPort port) = 1
 serve_status (LinkPortTaken port) = 1
 serve_status (NoLinkPort port) = 1
+serve_status (MetricsPortTaken port) = 1
+serve_status (NoMetricsPort port) = 1
 serve_status NoThreads = 1
 serve_status Memory = 2
 
@@ -42,6 +44,8 @@ TellsEnd (PortTaken port) line = Names port line
 TellsEnd (NoPort port) line = Names port line
 TellsEnd (LinkPortTaken port) line = Names port line
 TellsEnd (NoLinkPort port) line = Names port line
+TellsEnd (MetricsPortTaken port) line = Names port line
+TellsEnd (NoMetricsPort port) line = Names port line
 TellsEnd NoThreads line = HasWords line
 TellsEnd Memory line = line ≡ None
 
@@ -76,5 +80,7 @@ Settles node shards count hs (PortTaken port) = ⊥
 Settles node shards count hs (NoPort port) = ⊥
 Settles node shards count hs (LinkPortTaken port) = ⊥
 Settles node shards count hs (NoLinkPort port) = ⊥
+Settles node shards count hs (MetricsPortTaken port) = ⊥
+Settles node shards count hs (NoMetricsPort port) = ⊥
 Settles node shards count hs NoThreads = ⊥
 Settles node shards count hs Memory = Unit {0}

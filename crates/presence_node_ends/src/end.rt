@@ -20,6 +20,10 @@ pub enum ServeEnd {
     LinkPortTaken(u16),
     /// The port of links can't be had for another reason.
     NoLinkPort(u16),
+    /// The port of metrics is in use.
+    MetricsPortTaken(u16),
+    /// The port of metrics can't be had for another reason.
+    NoMetricsPort(u16),
     /// The system gives no thread or nothing to wait on.
     NoThreads,
     Memory,
@@ -48,6 +52,8 @@ pub fn serve_status_of(end: ServeEnd) -> u8
         | ServeEnd::NoPort(_)
         | ServeEnd::LinkPortTaken(_)
         | ServeEnd::NoLinkPort(_)
+        | ServeEnd::MetricsPortTaken(_)
+        | ServeEnd::NoMetricsPort(_)
         | ServeEnd::NoThreads => 1,
         ServeEnd::Memory => 2,
     }
@@ -97,6 +103,24 @@ fn no_link_port(alloc: Global, port: u16) -> Result<String, AllocError>
     Ok(line)
 }
 
+// What is told of a port of metrics that is in use.
+fn metrics_port_taken(alloc: Global, port: u16) -> Result<String, AllocError>
+    ensures { IfOk result (λ s. Names port (Some (string_bytes s))) }
+{
+    let line = format!(in alloc; "presence_node: --metrics-port {port}: this port is in use")?;
+    Ok(line)
+}
+
+// What is told of a port of metrics that can't be had.
+fn no_metrics_port(alloc: Global, port: u16) -> Result<String, AllocError>
+    ensures { IfOk result (λ s. Names port (Some (string_bytes s))) }
+{
+    let line = format!(in alloc;
+        "presence_node: --metrics-port {port}: the system doesn't give this port at --link-listen"
+    )?;
+    Ok(line)
+}
+
 // The line that tells how it ended, if one does.
 fn serve_line(alloc: Global, end: ServeEnd) -> Result<Option<String>, AllocError>
     ensures { IfOk result (λ line. TellsEnd end (option_map string_bytes line)) }
@@ -108,6 +132,8 @@ fn serve_line(alloc: Global, end: ServeEnd) -> Result<Option<String>, AllocError
         ServeEnd::NoPort(port) => no_port(alloc, port)?,
         ServeEnd::LinkPortTaken(port) => link_port_taken(alloc, port)?,
         ServeEnd::NoLinkPort(port) => no_link_port(alloc, port)?,
+        ServeEnd::MetricsPortTaken(port) => metrics_port_taken(alloc, port)?,
+        ServeEnd::NoMetricsPort(port) => no_metrics_port(alloc, port)?,
         ServeEnd::NoThreads => {
             String::from_str(
                 alloc,

@@ -3,7 +3,7 @@ use Rattle.std.specs.Prelude.{ℕ, cond, ◌==◌, ◌-◌}
 use Rattle.presence_node_requests.specs.declared.answer.Answer.{Answer}
 use Rattle.presence_node_requests.specs.declared.answer.Answer.TheVariants.{Socket, Full, Crowded, Hasty}
 use Rattle.presence_node_handshakes.specs.declared.seating.Admission.{Admission}
-use Rattle.presence_node_handshakes.specs.declared.seating.Admission.TheVariants.{Welcome, OneTooMany, TooSoon}
+use Rattle.presence_node_handshakes.specs.declared.seating.Admission.TheVariants.{Welcome, OneTooMany, TooSoon, NoRoom}
 
 -- Who asks for a WebSocket gets it where it is welcome and there is a place, and else it is told why not. Another request gets
 -- what it gets.
@@ -11,6 +11,7 @@ abbrev pub seated_in : Admission → ℕ → Answer → Answer
 seated_in Welcome places (Socket has_protocol) = cond (places == 0) Full (Socket has_protocol)
 seated_in OneTooMany places (Socket has_protocol) = Crowded
 seated_in TooSoon places (Socket has_protocol) = Hasty
+seated_in NoRoom places (Socket has_protocol) = Full
 seated_in standing places answer = answer
 
 -- the places that are left behind it

@@ -13,6 +13,8 @@ pub enum Admission {
     OneTooMany,
     /// Clients of its address come too fast.
     TooSoon,
+    /// There is no file or no memory for a place.
+    NoRoom,
 }
 
 /// What a client gets to whom a request is answered so, where it stands so and there are so many places: a WebSocket takes one
@@ -28,6 +30,7 @@ pub fn seated(answer: Answer, standing: Admission, places: &mut u64) -> Answer
     match standing {
         Admission::OneTooMany => Answer::Crowded,
         Admission::TooSoon => Answer::Hasty,
+        Admission::NoRoom => Answer::Full,
         Admission::Welcome if *places == 0 => Answer::Full,
         Admission::Welcome => {
             *places -= 1;

@@ -4,12 +4,13 @@ use Rattle.std.specs.declared.io.ErrorKind.{ErrorKind}
 use Rattle.std.specs.declared.io.ErrorKind.TheVariants.{OutOfMemory, InvalidData}
 use Rattle.presence_node_options.specs.declared.fault.UsageFault.{UsageFault}
 use Rattle.presence_node_options.specs.declared.fault.UsageFault.TheVariants.{Usage, Memory}
+use Rattle.presence_node_options.specs.declared.options.ServeOptions.{ServeOptions}
 use Rattle.presence_node_fold.specs.Told.{told_of_fold, fold_status_number}
 use Rattle.presence_node_fold.specs.declared.fault.FoldFault.{FoldFault}
 use Rattle.presence_node_ends.specs.Ends.{TellsEnd, serve_status}
 use Rattle.presence_node_ends.specs.declared.end.ServeEnd.{ServeEnd}
 use Rattle.presence_node_ends.specs.declared.end.ServeEnd.TheVariants as ends
-use Rattle.presence_node_ends.specs.declared.end.ServeEnd.TheVariants.{Stopped, NotSettled, PortTaken, NoPort, LinkPortTaken, NoLinkPort, NoThreads}
+use Rattle.presence_node_ends.specs.declared.end.ServeEnd.TheVariants.{Stopped, NotSettled, PortTaken, NoPort, LinkPortTaken, NoLinkPort, MetricsPortTaken, NoMetricsPort, NoThreads}
 use Rattle.presence_node_stdio.specs.Told.{told_of, status_number}
 use Rattle.presence_node_stdio.specs.declared.fault.StdioFault.{StdioFault}
 use Rattle.presence_node_main.specs.declared.ending.Ending.{Ending}
@@ -60,6 +61,8 @@ serve_stream (PortTaken port) = Error
 serve_stream (NoPort port) = Error
 serve_stream (LinkPortTaken port) = Error
 serve_stream (NoLinkPort port) = Error
+serve_stream (MetricsPortTaken port) = Error
+serve_stream (NoMetricsPort port) = Error
 serve_stream NoThreads = Error
 serve_stream ends.Memory = Error
 
@@ -67,6 +70,17 @@ pub record EndsServe (end : ServeEnd) (e : Ending) : Type 0 where
   pub stream_is : e.stream ≡ serve_stream end
   pub status_is : e.status ≡ serve_status end
   pub line : TellsEnd end (option_map string_bytes e.line)
+
+-- the line shows this text
+abbrev pub Shows : List ℕ → Option (List ℕ) → Type 0
+Shows text line = (front back : List ℕ) × (line ≡ Some (front ++ (text ++ back)))
+
+-- where a port can't be had, the line shows at which address
+abbrev pub ShowsAddress : ServeOptions → ServeEnd → Option (List ℕ) → Type 0
+ShowsAddress options (NoPort port) line = Shows (string_bytes options.listen) line
+ShowsAddress options (NoLinkPort port) line = Shows (string_bytes options.link_listen) line
+ShowsAddress options (NoMetricsPort port) line = Shows (string_bytes options.link_listen) line
+ShowsAddress options end line = Unit {0}
 
 -- why the words can't be read or help can't be written; of want of memory nothing is said
 abbrev pub stopped_words : ErrorKind → Option (List ℕ)

@@ -1,3 +1,4 @@
 pub mod Ending
 pub mod Ends
 pub mod Ledgers
+pub mod Place

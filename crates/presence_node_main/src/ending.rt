@@ -1,10 +1,11 @@
 //! What is said at the end.
 ghost use Rattle.std.specs.Prelude.{◌≡◌, ◌++◌, ◌∷◌, IfOk, Some, None, option_map, string_bytes};
-ghost use Rattle.presence_node_main.specs.Ending.{EndsFold, EndsServe, EndsStdio, EndsUsage, IsSilent, Prints, Says, serve_stream as serve_stream_in, stopped_status, stopped_words};
+ghost use Rattle.presence_node_ends.specs.Ends.{Names, TellsEnd};
+ghost use Rattle.presence_node_main.specs.Ending.{EndsFold, EndsServe, EndsStdio, EndsUsage, IsSilent, Prints, Says, Shows, ShowsAddress, serve_stream as serve_stream_in, stopped_status, stopped_words};
 
-use presence_node_ends::{ServeEnd, end_of};
+use presence_node_ends::{ServeEnd, end_of, serve_status_of};
 use presence_node_fold::{FoldFault, fold_status_of, fold_told_line, fold_words};
-use presence_node_options::UsageFault;
+use presence_node_options::{ServeOptions, UsageFault};
 use presence_node_stdio::{StdioFault, status_of, told_line, told_words};
 use std::alloc::{AllocError, Global};
 use std::io::ErrorKind;
@@ -105,15 +106,53 @@ fn serve_stream(end: ServeEnd) -> Stream
     }
 }
 
-/// How a run of the server that ended so is told.
-pub fn serve_ending(alloc: Global, end: ServeEnd) -> Result<Ending, AllocError>
-    ensures { IfOk result (EndsServe end) }
+// What is told of a port that can't be had at the address of an option.
+fn no_port_at(alloc: Global, option: &str, address: &str, port: u16) -> Result<String, AllocError>
+    ensures port { IfOk result (λ line. Names port (Some (string_bytes line))) }
+    ensures address { IfOk result (λ line. Shows address.now (Some (string_bytes line))) }
 {
-    let (line, status) = end_of(alloc, &end)?;
+    let line = format!(in alloc;
+        "presence_node: --{option} '{address}': the system gives no port {port} there; an address of this machine is wanted, as 127.0.0.1, 0.0.0.0 or ::1"
+    )?;
+    Ok(line)
+}
+
+// What is told of the end of a run of these options.
+fn serve_line(
+    alloc: Global,
+    end: ServeEnd,
+    options: &ServeOptions,
+) -> Result<Option<String>, AllocError>
+    ensures line { IfOk result (λ line. TellsEnd end (option_map string_bytes line)) }
+    ensures address { IfOk result (λ line. ShowsAddress options.now end (option_map string_bytes line)) }
+{
+    let links = options.link_listen.as_str();
+    let line = match end {
+        ServeEnd::NoPort(port) => no_port_at(alloc, "listen", options.listen.as_str(), port)?,
+        ServeEnd::NoLinkPort(port) => no_port_at(alloc, "link-listen", links, port)?,
+        ServeEnd::NoMetricsPort(port) => no_port_at(alloc, "link-listen", links, port)?,
+        _ => {
+            let (line, _) = end_of(alloc, &end)?;
+            return Ok(line);
+        }
+    };
+    Ok(Some(line))
+}
+
+/// How a run of the server with these options that ended so is told.
+pub fn serve_ending(
+    alloc: Global,
+    end: ServeEnd,
+    options: &ServeOptions,
+) -> Result<Ending, AllocError>
+    ensures ends { IfOk result (EndsServe end) }
+    ensures address { IfOk result (λ e. ShowsAddress options.now end (option_map string_bytes e.line)) }
+{
+    let line = serve_line(alloc, end, options)?;
     Ok(Ending {
         stream: serve_stream(end),
         line,
-        status,
+        status: serve_status_of(end),
     })
 }
 

@@ -70,7 +70,7 @@ where
 {
     let alloc = rt.alloc();
     let end = serve(rt, alloc, hooks, options);
-    match serve_ending(alloc, end) {
+    match serve_ending(alloc, end, options) {
         Ok(ending) => Ok(ending),
         Err(_) => Ok(silent(serve_status_of(end))),
     }

@@ -2,6 +2,7 @@
 
 mod fault;
 mod pieces;
+mod place;
 mod running;
 mod stopping;
 

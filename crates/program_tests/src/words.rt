@@ -1,12 +1,15 @@
 //! What a run doesn't show of the words of a command line: the cause of a refusal, and what a server
 //! is asked for.
 
-use presence_node_options::{Options, ServeOptions, UsageCause, UsageFault, options_of};
+use presence_node_options::{
+    LineFormat, Logged, Options, ServeOptions, UsageCause, UsageFault, options_of,
+};
 use std::alloc::Global;
+use std::net::IpAddr;
 use std::test::Fail;
 
 // A command, an option with a value, and why these words are wrong.
-const WRONG: [(&str, &str, &str, UsageCause); 25] = [
+const WRONG: [(&str, &str, &str, UsageCause); 45] = [
     ("stdio", "--name", "A!", UsageCause::Name),
     ("stdio", "--incarnation", "0", UsageCause::Incarnation),
     ("stdio", "--route", "a*b", UsageCause::Route),
@@ -42,6 +45,31 @@ const WRONG: [(&str, &str, &str, UsageCause); 25] = [
         "1001",
         UsageCause::HandshakesPerSecond,
     ),
+    ("serve", "--peer", "a=host:1", UsageCause::PeerName),
+    ("serve", "--proxy", "proxy.example", UsageCause::Proxy),
+    ("serve", "--proxy", "10.0.0.0/8", UsageCause::Proxy),
+    ("serve", "--proxy", "256.1.1.1", UsageCause::Proxy),
+    ("serve", "--link-from", "10.0.0", UsageCause::LinkFrom),
+    ("serve", "--link-from", "", UsageCause::LinkFrom),
+    ("serve", "--memory", "31", UsageCause::MemoryLimit),
+    ("serve", "--memory", "1G", UsageCause::MemoryLimit),
+    ("serve", "--memory", "16777217", UsageCause::MemoryLimit),
+    ("serve", "--topic-rows", "0", UsageCause::TopicRows),
+    ("serve", "--topic-rows", "1048577", UsageCause::TopicRows),
+    ("serve", "--topic-bytes", "1023", UsageCause::TopicBytes),
+    (
+        "serve",
+        "--topic-bytes",
+        "1073741825",
+        UsageCause::TopicBytes,
+    ),
+    ("serve", "--log", "Refused", UsageCause::Log),
+    ("serve", "--log", "", UsageCause::Log),
+    ("serve", "--log-format", "JSON", UsageCause::LogFormat),
+    ("serve", "--metrics-port", "0", UsageCause::MetricsPort),
+    ("serve", "--metrics-port", "x", UsageCause::MetricsPort),
+    ("stdio", "--log", "all", UsageCause::Words),
+    ("stdio", "--proxy", "10.0.0.1", UsageCause::Words),
 ];
 
 // Why these words are wrong.
@@ -77,12 +105,93 @@ fn a_server_without_options(rt: HostRuntime) -> Result<(), Fail> {
     let Some(plain) = served(rt.alloc(), ["p", "serve"].as_slice()) else {
         panic!(rt; "no options");
     };
-    assert!(rt; (plain.port, plain.link_port, plain.shards, plain.workers) == (4000, 4001, 4, 4));
+    assert!(rt; (plain.port, plain.shards, plain.workers) == (4000, 4, 4));
     assert!(rt; plain.peers.is_empty());
     assert_eq!(rt; plain.listen.as_str(), "127.0.0.1");
     assert_eq!(rt; plain.link_listen.as_str(), "127.0.0.1");
     assert!(rt; plain.incarnation.is_none() && plain.origins.is_empty());
     assert!(rt; plain.per_address.is_none() && plain.handshakes_per_second.is_none());
+    assert!(rt; plain.link_port.is_none() && plain.proxies.is_empty() && plain.link_from.is_empty());
+    assert!(rt; plain.budgets.memory.is_none());
+    assert!(rt; (plain.budgets.topic_rows, plain.budgets.topic_bytes) == (65_536, 8_388_608));
+    assert!(rt; (plain.reports.logged, plain.reports.format) == (Logged::Refusals, LineFormat::Plain));
+    assert!(rt; plain.reports.metrics_port.is_none());
+    Ok(())
+}
+
+#[test]
+fn ports_of_links(rt: HostRuntime) -> Result<(), Fail> {
+    let Some(linked) = served(rt.alloc(), ["p", "serve", "--peer", "b=b:1"].as_slice()) else {
+        panic!(rt; "no options");
+    };
+    assert!(rt; linked.link_port == Some(4001));
+    let words = ["p", "serve", "--link-port", "4100"];
+    let Some(given) = served(rt.alloc(), words.as_slice()) else {
+        panic!(rt; "no options");
+    };
+    assert!(rt; given.link_port == Some(4100));
+    Ok(())
+}
+
+// Two peers of one name are none.
+#[test]
+fn peers_of_one_name(rt: HostRuntime) {
+    let words = ["p", "serve", "--peer", "b=b:1", "--peer", "c=c:1", "--peer", "b=d:1"];
+    assert!(rt; cause_for(rt.alloc(), words.as_slice()) == Some(UsageCause::PeerName));
+    let words = ["p", "serve", "--name", "b", "--peer", "a=a:1", "--peer", "b=b:1"];
+    assert!(rt; cause_for(rt.alloc(), words.as_slice()) == Some(UsageCause::PeerName));
+}
+
+// Addresses are taken as they count.
+#[test]
+fn addresses_of_proxies_and_links(rt: HostRuntime) -> Result<(), Fail> {
+    let words = [
+        "p",
+        "serve",
+        "--proxy",
+        "::ffff:10.0.0.5",
+        "--proxy",
+        "fd00::5",
+        "--link-from",
+        "10.0.0.6",
+        "--listen",
+        "[::1]",
+    ];
+    let Some(options) = served(rt.alloc(), words.as_slice()) else {
+        panic!(rt; "no options");
+    };
+    assert!(rt; options.proxies[0] == IpAddr::from([10_u8, 0, 0, 5]));
+    assert!(rt; options.proxies[1] == IpAddr::from([0xfd00_u16, 0, 0, 0, 0, 0, 0, 5]));
+    assert!(rt; options.link_from[0] == IpAddr::from([10_u8, 0, 0, 6]));
+    assert_eq!(rt; options.listen.as_str(), "::1");
+    Ok(())
+}
+
+#[test]
+fn budgets_and_reports(rt: HostRuntime) -> Result<(), Fail> {
+    let words = [
+        "p",
+        "serve",
+        "--memory",
+        "512",
+        "--topic-rows",
+        "1000",
+        "--topic-bytes",
+        "1024",
+        "--log",
+        "all",
+        "--log-format",
+        "json",
+        "--metrics-port",
+        "9100",
+    ];
+    let Some(options) = served(rt.alloc(), words.as_slice()) else {
+        panic!(rt; "no options");
+    };
+    assert!(rt; options.budgets.memory == Some(512));
+    assert!(rt; (options.budgets.topic_rows, options.budgets.topic_bytes) == (1_000, 1_024));
+    assert!(rt; (options.reports.logged, options.reports.format) == (Logged::Everything, LineFormat::Json));
+    assert!(rt; options.reports.metrics_port == Some(9_100));
     Ok(())
 }
 

@@ -1,7 +1,10 @@
 //! Handshakes of clients that are let in from anywhere.
-use presence_node_handshakes::{Answer, Front, GivenUp, Guests, Opened, Tells};
+use presence_node_handshakes::{
+    Admission, Answer, Front, GivenUp, Guests, Keeper, Opened, Site, Tells,
+};
 use std::alloc::{AllocError, Global};
 use std::io::{Read, Write};
+use std::net::IpAddr;
 
 // Tells nothing, and keeps nothing of what it is told.
 #[derive(Clone, Copy)]
@@ -12,9 +15,30 @@ impl Tells for Quiet {
         Ok(String::new(alloc))
     }
 
-    fn answered(&self, _answer: Answer) {}
+    fn is_well(&self) -> bool {
+        true
+    }
 
-    fn gave_up(&self, _cause: GivenUp) {}
+    fn answered(&self, _answer: Answer, _address: &IpAddr) {}
+
+    fn gave_up(&self, _cause: GivenUp, _address: &IpAddr) {}
+}
+
+// Welcomes everybody.
+#[derive(Clone, Copy)]
+struct Kind;
+
+impl<S> Keeper<S> for Kind {
+    fn standing_of(&mut self, _alloc: Global, _stream: &mut S, _address: IpAddr) -> Admission {
+        Admission::Welcome
+    }
+
+    fn hang_up(&mut self, _stream: &mut S) {}
+}
+
+/// The address that clients of tests have.
+pub(crate) fn here() -> IpAddr {
+    IpAddr::from([127_u8, 0, 0, 1])
 }
 
 // How many clients may be given a WebSocket.
@@ -26,9 +50,17 @@ pub(crate) fn look<S: Read + Write + Drop>(
     guests: &mut Guests<S>,
 ) -> Result<Vec<Opened<S>>, AllocError> {
     let quiet = Quiet;
-    let front = Front {
-        origins: &[],
+    let mut kind = Kind;
+    let mut front = Front {
+        site: Site {
+            origins: &[],
+            has_clients: true,
+            has_metrics: true,
+        },
+        proxies: &[],
+        places: PLACES,
         tells: &quiet,
+        keeper: &mut kind,
     };
-    guests.turn(alloc, &front, PLACES)
+    guests.turn(alloc, &mut front)
 }

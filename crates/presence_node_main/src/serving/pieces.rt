@@ -2,8 +2,8 @@
 use super::fault::BeginFault;
 use presence_node_crew::Posts;
 use presence_node_duties::{
-    AddressLimits, Bench, ClientSocket, Door, DoorLimits, Inbox, LISTENER, LinkTask, WorkerMailbox,
-    Workplace,
+    AddressLimits, Bench, ClientSocket, Door, DoorLimits, Entries, Inbox, LISTENER, LinkTask,
+    METRICS_LISTENER, WorkerMailbox, Workplace,
 };
 use presence_node_options::ServeOptions;
 use presence_node_queue::Giver;
@@ -12,17 +12,17 @@ use presence_node_web_sockets::WebSocket;
 use shard_pool::{Lane, Seat};
 use std::alloc::Global;
 use std::io;
-use std::net::{Net, TcpListener};
+use std::net::Net;
 use std::sync::atomic::{AtomicBool, AtomicU64};
 use tungstenite::NoMask;
 
 /// The end of the queue that the door gives connections to.
 type Waiting = Giver<WebSocket<ClientSocket, NoMask>>;
 
-/// Where clients come in, and how many are let in.
+/// Where clients come in, and those who ask for metrics alone, and how many are let in.
 #[derive(Drop)]
 pub(crate) struct Entrance {
-    pub listener: TcpListener,
+    pub entries: Entries,
     pub limits: DoorLimits,
 }
 
@@ -103,11 +103,14 @@ fn door_at<R: Net>(
     entrance: Entrance,
     waiting: Waiting,
 ) -> io::Result<(Door, Bell)> {
-    let Entrance { listener, limits } = entrance;
+    let Entrance { entries, limits } = entrance;
     let watch = Watch::new(net, alloc)?;
-    watch.add(&listener, LISTENER)?;
+    watch.add(&entries.clients, LISTENER)?;
+    if let Some(metrics) = &entries.metrics {
+        watch.add(metrics, METRICS_LISTENER)?;
+    }
     let bell = watch.bell()?;
-    Ok((Door::new(alloc, listener, waiting, watch, limits)?, bell))
+    Ok((Door::new(alloc, entries, waiting, watch, limits)?, bell))
 }
 
 /// A place for each seat, in their order, the door at this entrance, and the tasks of links.

@@ -3,17 +3,18 @@ ghost use Rattle.std.specs.Prelude.{◌≡◌, List, IfOk, IfErr, IfSome};
 ghost use Rattle.presence_base.specs.Refs.{IsCount};
 ghost use Rattle.shard_pool.specs.Seats.{Hands};
 ghost use Rattle.presence_node_ends.specs.Ends.{Settles};
-ghost use Rattle.presence_node_main.specs.Ends.{IsEndFor};
+ghost use Rattle.presence_node_main.specs.Ends.{IsEndFor, IsLinkEnd, IsMetricsEnd};
 ghost use Rattle.presence_node_main.specs.Ledgers.{AreBegun, HaveParts, IsNameOfAll};
 
 use super::fault::BeginFault;
 use super::pieces::{Entrance, Stations, limits_of, stations_for};
+use super::place::place_of;
 use super::stopping::StopLine;
 use hook_registry::PresenceHooks;
 use presence_base::{MAX_COUNT, Replica};
 use presence_node_crew::{Posts, run_crew};
 use presence_node_duties::{
-    Counts, Door, LinkNode, LinkTask, LinkTasks, Server, Workplace, seats_of, tasks_for,
+    Counts, Door, Entries, LinkNode, LinkTask, LinkTasks, Server, Workplace, seats_of, tasks_for,
 };
 use presence_node_ends::{ServeEnd, settled};
 use presence_node_options::{PeerOption, ServeOptions};
@@ -87,25 +88,35 @@ fn blanks_of(parts: u64) -> Blanks
     }
 }
 
-/// What listens for clients, and for links.
+/// What listens for clients, for links, and for who asks for metrics alone.
 struct Listeners {
     clients: TcpListener,
-    links: TcpListener,
+    links: Option<TcpListener>,
+    metrics: Option<TcpListener>,
 }
 
 impl Drop for Listeners {
     fn drop(self) {
-        let Listeners { clients, links } = self;
+        let Listeners {
+            clients,
+            links,
+            metrics,
+        } = self;
         drop(clients);
         drop(links);
+        drop(metrics);
     }
 }
 
 impl Listeners {
-    // What listens for clients, and what for links.
-    fn into_parts(self) -> (TcpListener, TcpListener) {
-        let Listeners { clients, links } = self;
-        (clients, links)
+    // What listens for clients and for who asks for metrics, and what for links.
+    fn into_parts(self) -> (Entries, Option<TcpListener>) {
+        let Listeners {
+            clients,
+            links,
+            metrics,
+        } = self;
+        (Entries { clients, metrics }, links)
     }
 }
 
@@ -122,10 +133,9 @@ fn port_refused(options: &ServeOptions, kind: ErrorKind) -> ServeEnd
 }
 
 // The end of a run whose port of links could not be had.
-fn link_port_refused(options: &ServeOptions, kind: ErrorKind) -> ServeEnd
-    ensures { IsEndFor options.now result }
+fn link_port_refused(port: u16, kind: ErrorKind) -> ServeEnd
+    ensures { IsLinkEnd port result }
 {
-    let port = options.link_port;
     match kind {
         ErrorKind::OutOfMemory => ServeEnd::Memory,
         ErrorKind::AddrInUse => ServeEnd::LinkPortTaken(port),
@@ -133,20 +143,73 @@ fn link_port_refused(options: &ServeOptions, kind: ErrorKind) -> ServeEnd
     }
 }
 
-// Both listening sockets, or the end of a run that can't have them.
+// The end of a run whose port of metrics could not be had.
+fn metrics_port_refused(port: u16, kind: ErrorKind) -> ServeEnd
+    ensures { IsMetricsEnd port result }
+{
+    match kind {
+        ErrorKind::OutOfMemory => ServeEnd::Memory,
+        ErrorKind::AddrInUse => ServeEnd::MetricsPortTaken(port),
+        _ => ServeEnd::NoMetricsPort(port),
+    }
+}
+
+// What listens for clients, or the end of a run that can't have it.
+fn clients_for<R>(rt: &R, options: &ServeOptions) -> Result<TcpListener, ServeEnd>
+where
+    R: Net<Listener = TcpListener, Stream = TcpStream>,
+    ensures { IfErr result (λ end. IsEndFor options.now end) }
+{
+    match listen(rt, options.listen.as_str(), options.port) {
+        Ok(clients) => Ok(clients),
+        Err(e) => Err(port_refused(options, e.kind())),
+    }
+}
+
+// What listens for links, if they have a port, or the end of a run that can't have it.
+fn links_at<R>(rt: &R, options: &ServeOptions) -> Result<Option<TcpListener>, ServeEnd>
+where
+    R: Net<Listener = TcpListener, Stream = TcpStream>,
+    ensures { IfErr result (λ end. IsEndFor options.now end) }
+{
+    let Some(port) = options.link_port else {
+        return Ok(None);
+    };
+    match listen(rt, options.link_listen.as_str(), port) {
+        Ok(links) => Ok(Some(links)),
+        Err(e) => Err(link_port_refused(port, e.kind())),
+    }
+}
+
+// What listens for who asks for metrics alone, if these have a port, or the end of a run that can't have it.
+fn metrics_at<R>(rt: &R, options: &ServeOptions) -> Result<Option<TcpListener>, ServeEnd>
+where
+    R: Net<Listener = TcpListener, Stream = TcpStream>,
+    ensures { IfErr result (λ end. IsEndFor options.now end) }
+{
+    let Some(port) = options.reports.metrics_port else {
+        return Ok(None);
+    };
+    match listen(rt, options.link_listen.as_str(), port) {
+        Ok(metrics) => Ok(Some(metrics)),
+        Err(e) => Err(metrics_port_refused(port, e.kind())),
+    }
+}
+
+// All listening sockets, or the end of a run that can't have them.
 fn listeners_for<R>(rt: &R, options: &ServeOptions) -> Result<Listeners, ServeEnd>
 where
     R: Net<Listener = TcpListener, Stream = TcpStream>,
     ensures { IfErr result (λ end. IsEndFor options.now end) }
 {
-    let clients = match listen(rt, options.listen.as_str(), options.port) {
-        Ok(clients) => clients,
-        Err(e) => return Err(port_refused(options, e.kind())),
-    };
-    match listen(rt, options.link_listen.as_str(), options.link_port) {
-        Ok(links) => Ok(Listeners { clients, links }),
-        Err(e) => Err(link_port_refused(options, e.kind())),
-    }
+    let clients = clients_for(rt, options)?;
+    let links = links_at(rt, options)?;
+    let metrics = metrics_at(rt, options)?;
+    Ok(Listeners {
+        clients,
+        links,
+        metrics,
+    })
 }
 
 // Dials each of these nodes.
@@ -163,7 +226,7 @@ fn dial_all(alloc: Global, peers: &[PeerOption], tasks: &mut LinkTasks) -> Resul
 fn links_for<R: Net, H>(
     rt: &R,
     setting: &Setting<'_, H>,
-    listener: TcpListener,
+    listener: Option<TcpListener>,
 ) -> Result<LinkTasks, BeginFault>
     ensures { IfOk result (λ tasks. tasks.links.shards ≡ setting.now.options.now.shards) }
 {
@@ -194,11 +257,12 @@ fn trim_all<R: Wait, A: Lane, B: Lane, C: Lane, D: Lane>(
     }
 }
 
-// Runs the threads of this server until it is stopped, and settles.
+// Runs the threads of this server until it is stopped, and settles. Standard error is told the place before it is ready.
 fn run_server<R, H, A, B, C, D>(
     rt: &R,
     server: Server<'_, H, A, B, C, D>,
     posts: Posts<Workplace<A, B, C, D>, Door, LinkTask>,
+    place: &str,
 ) -> Result<ServeEnd, BeginFault>
 where
     R: Net<Listener = TcpListener, Stream = TcpStream>
@@ -218,7 +282,7 @@ where
         × Settles server.entry.pool.own.name server.entry.pool.shards server.entry.pool.seats hs end) }
 {
     let alloc = server.alloc;
-    let places = run_crew(rt, alloc, &server, &StopLine { alloc }, posts)?;
+    let places = run_crew(rt, alloc, &server, &StopLine { alloc, place }, posts)?;
     let mut seats = seats_of(alloc, places)?;
     let pool = server.into_pool();
     trim_all(rt, &pool, &mut seats);
@@ -252,9 +316,9 @@ where
 {
     let alloc = setting.alloc;
     let options = setting.options;
-    let (clients, links) = listeners.into_parts();
+    let (entries, links) = listeners.into_parts();
     let entrance = Entrance {
-        listener: clients,
+        entries,
         limits: limits_of(options),
     };
     let (links, tasks) = links_for(rt, setting, links)?.into_parts();
@@ -269,13 +333,15 @@ where
         routes: &options.routes,
         hooks: setting.hooks,
         origins: options.origins.as_slice(),
+        proxies: options.proxies.as_slice(),
         counts: Counts::new(),
         mailboxes,
         door_bell,
         links,
         stopped: AtomicBool::new(false),
     };
-    run_server(rt, server, posts)
+    let place = place_of(alloc, options)?;
+    run_server(rt, server, posts, place.as_str())
 }
 
 // Starts a pool over these ledgers, runs the threads over it, and settles.

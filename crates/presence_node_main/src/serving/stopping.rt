@@ -22,15 +22,18 @@ fn await_stop<R: Read>(alloc: Global, reader: &mut R) -> bool {
     false
 }
 
-/// The line that stops the server, on standard input.
+/// The line that stops the server, on standard input, and where it listens.
 #[derive(Clone, Copy)]
-pub(crate) struct StopLine {
+pub(crate) struct StopLine<'a> {
     pub alloc: Global,
+    /// What standard error is told before the server is ready.
+    pub place: &'a str,
 }
 
-impl<R: Input + Print> AwaitEnd<R> for StopLine {
+impl<R: Input + Print + Eprint> AwaitEnd<R> for StopLine<'_> {
     // The server is told to be ready first. Where nobody can be told, it ends.
     fn await_end(&self, rt: &R) -> bool {
+        let _told = rt.eprintln(self.place);
         rt.println("ready").is_err() || await_stop(self.alloc, &mut rt.reader())
     }
 }

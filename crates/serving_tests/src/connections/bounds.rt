@@ -21,7 +21,7 @@ fn without_end(alloc: Global) -> Result<Vec<u8>, AllocError> {
     Ok(bytes)
 }
 
-// Each turn reads 65,536 of the 180,000 bytes, and the last one the rest.
+// Each turn reads 4,096 of the 180,000 bytes, and one behind a turn that was told to go on 65,536.
 #[test]
 fn a_turn_reads_so_much(rt: HostRuntime) -> Result<(), Fail> {
     let alloc = rt.alloc();
@@ -32,12 +32,16 @@ fn a_turn_reads_so_much(rt: HostRuntime) -> Result<(), Fail> {
     let stream = ClientStream::new(wire_of(alloc, &sent));
     let socket = WebSocket::new(alloc, stream, NoMask, Role::Server, socket_config());
     let mut connection = Connection::new(alloc, socket, 1, 0);
-    for (left, put_off) in [(114_464, true), (48_928, true), (0, false)] {
+    let turns = [(175_904, true), (171_808, false), (106_272, false), (102_176, true), (36_640, true)];
+    for (left, goes_on) in turns {
+        if goes_on {
+            connection.socket.get_ref().go_on();
+        }
         let progress = connection.turn(alloc, &mut port, &routes, &NoHooks, 0);
         assert_eq!(rt; progress, Progress::Idle);
         let stream = connection.socket.get_ref();
         assert_eq!(rt; stream.stream().rest.len(), left);
-        assert_eq!(rt; stream.is_put_off(), put_off);
+        assert!(rt; stream.is_put_off());
     }
     Ok(())
 }
@@ -50,25 +54,27 @@ fn a_stream_tells_since_when_it_finds_no_room(rt: HostRuntime) -> Result<(), Fai
     wire.so = ErrorKind::WouldBlock;
     let mut stream = ClientStream::new(wire);
     assert!(rt; stream.write(b"a").is_ok());
-    assert_eq!(rt; stream.stalled_since(3), None);
+    assert_eq!(rt; stream.behind_since(), None);
     assert!(rt; !stream.has_recovered());
     assert!(rt; stream.write(b"b").is_err());
     assert!(rt; stream.is_blocked());
-    assert_eq!(rt; stream.stalled_since(5), Some(5));
-    assert_eq!(rt; stream.stalled_since(9), Some(5));
+    assert_eq!(rt; stream.behind_since(), None);
+    stream.note_behind(1, 5);
+    assert_eq!(rt; stream.behind_since(), Some(5));
     assert!(rt; !stream.has_recovered());
     assert!(rt; stream.write(b"b").is_ok());
     assert!(rt; !stream.is_blocked());
-    assert_eq!(rt; stream.stalled_since(11), None);
+    assert_eq!(rt; stream.behind_since(), None);
     assert!(rt; stream.has_recovered());
     assert!(rt; !stream.has_recovered());
     assert_eq!(rt; stream.stream().taken.as_slice(), b"ab".as_slice());
     Ok(())
 }
 
-// A stream that takes one byte, and then has no room, by turns.
+// A stream that takes so many bytes, and then has no room, by turns.
 #[derive(Drop)]
 struct Drip {
+    takes: usize,
     has_room: bool,
 }
 
@@ -77,7 +83,7 @@ impl Write for Drip {
         let had_room = self.has_room;
         self.has_room = !had_room;
         if had_room {
-            Ok(buf.len().min(1))
+            Ok(buf.len().min(self.takes))
         } else {
             Err(io::Error::from(ErrorKind::WouldBlock))
         }
@@ -88,19 +94,58 @@ impl Write for Drip {
     }
 }
 
-// A client that takes a byte a minute has stalled since the last one alone.
-#[test]
-fn a_stream_that_takes_some_stalls_anew(rt: HostRuntime) {
-    let mut stream = ClientStream::new(Drip { has_room: true });
-    for now in [1, 60_001, 120_001_u64] {
-        assert!(rt; matches!(stream.write(b"abc"), Ok(1)));
-        assert!(rt; stream.write(b"bc").is_err());
-        assert_eq!(rt; stream.stalled_since(now), Some(now));
-        assert_eq!(rt; stream.stalled_since(now.saturating_add(59_999)), Some(now));
-        assert!(rt; !stream.has_recovered());
+// A stream that has taken so many bytes by turns, and has no room for more.
+fn dripping(takes: usize) -> ClientStream<Drip> {
+    ClientStream::new(Drip {
+        takes,
+        has_room: true,
+    })
+}
+
+// The client takes what it takes once more: whether the stream has no room behind that.
+fn drips(stream: &mut ClientStream<Drip>, bytes: &[u8]) -> bool {
+    stream.write(bytes).is_ok() && stream.write(bytes).is_err()
+}
+
+// Whether a client keeps pace that takes so many bytes twice, where so many were to go of the first frame in between.
+fn keeps_pace(alloc: Global, takes: usize, front: u64) -> Option<bool> {
+    let bytes = "x".repeat(alloc, takes).ok()?;
+    let mut stream = dripping(takes);
+    if !drips(&mut stream, bytes.as_bytes()) {
+        return None;
     }
-    assert!(rt; stream.write(b"d").is_ok());
+    stream.note_behind(front, 1_000);
+    if stream.behind_since() != Some(1_000) || !drips(&mut stream, bytes.as_bytes()) {
+        return None;
+    }
+    Some(stream.behind_since().is_none())
+}
+
+// It keeps pace that takes 64 KiB, and the frame that was first; less of either is too little.
+#[test]
+fn a_client_keeps_pace(rt: HostRuntime) {
+    let alloc = rt.alloc();
+    for (takes, front, keeps) in [
+        (65_536, 1, true),
+        (65_535, 1, false),
+        (70_000, 70_000, true),
+        (70_000, 70_001, false),
+        (1, 1, false),
+    ] {
+        assert_eq!(rt; keeps_pace(alloc, takes, front), Some(keeps));
+    }
+}
+
+// Once it has taken all, what comes later is judged anew.
+#[test]
+fn a_client_that_took_all_is_judged_anew(rt: HostRuntime) {
+    let mut stream = dripping(1);
+    assert!(rt; drips(&mut stream, b"ab"));
+    stream.note_behind(1, 1);
+    assert!(rt; stream.write(b"b").is_ok());
     assert!(rt; stream.has_recovered());
+    assert!(rt; stream.write(b"c").is_err());
+    assert_eq!(rt; stream.behind_since(), None);
 }
 
 // Whether a read finds nothing, and how many reads have asked the stream inside by then.

@@ -79,18 +79,48 @@ fn close_of_the_client(rt: HostRuntime) -> Result<(), Fail> {
     Ok(())
 }
 
+// Who was silent for 30 s is sent one ping, and told behind 60 s why its connection ends.
 #[test]
 fn silence(rt: HostRuntime) -> Result<(), Fail> {
     let alloc = rt.alloc();
     let Some(mut line) = line_over(alloc, wire_of(alloc, b"")) else {
         return Err(Fail::new("none was given"));
     };
-    line.now = 59_999;
+    line.now = 29_999;
     assert_eq!(rt; line.turn(alloc), Progress::Idle);
+    assert!(rt; line.got().is_empty());
+    for now in [30_000, 30_001, 59_999] {
+        line.now = now;
+        assert_eq!(rt; line.turn(alloc), Progress::Idle);
+        assert_eq!(rt; line.got(), b"\x89\x00".as_slice());
+    }
     line.now = 60_000;
     assert_eq!(rt; line.turn(alloc), Progress::Over);
     assert_eq!(rt; line.connection.stage, Stage::Over(Cause::Silent));
-    assert_eq!(rt; line.got(), close_frame(1000).as_slice());
+    assert_eq!(rt; line.got(), b"\x89\x00\x88\x11\x03\xE8silent for 60 s".as_slice());
+    Ok(())
+}
+
+// A pong behind the ping is a sign: the next silence begins with it, and is sent a ping of its own.
+#[test]
+fn answered_pings(rt: HostRuntime) -> Result<(), Fail> {
+    let alloc = rt.alloc();
+    let pong = frame(alloc, 0x8A, b"")?;
+    let Some(mut line) = line_over(alloc, wire_of(alloc, b"")) else {
+        return Err(Fail::new("none was given"));
+    };
+    line.now = 30_000;
+    assert_eq!(rt; line.turn(alloc), Progress::Idle);
+    line.connection.socket.get_mut().rest = pong.as_slice();
+    line.now = 31_000;
+    assert_eq!(rt; line.turn(alloc), Progress::Busy);
+    line.now = 60_999;
+    assert_eq!(rt; line.turn(alloc), Progress::Idle);
+    assert_eq!(rt; line.got(), b"\x89\x00".as_slice());
+    line.now = 61_000;
+    assert_eq!(rt; line.turn(alloc), Progress::Idle);
+    assert_eq!(rt; line.got(), b"\x89\x00\x89\x00".as_slice());
+    assert_eq!(rt; line.connection.stage, Stage::Open);
     Ok(())
 }
 

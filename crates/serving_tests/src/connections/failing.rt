@@ -1,10 +1,17 @@
 //! Streams that fail at each read and each write, and ones without room for a text.
 
-use super::line::{Line, line_over, line_within};
-use crate::served::{Cause, Progress, REPLIES, Stage, TEXTS, close_frame, frames, wire_of};
+use super::line::{Line, line_over};
+use crate::served::{
+    Cause, Connection, Progress, REPLIES, Stage, TEXTS, frames, rooms, socket_config, wire_of,
+};
+use hook_registry::NoHooks;
+use presence_node_web_sockets::{MAX_WAITING, WebSocket};
+use session_desk::TestPort;
 use std::alloc::Global;
-use std::io::ErrorKind;
+use std::io;
+use std::io::{ErrorKind, Read, Write};
 use std::test::Fail;
+use tungstenite::{Message, NoMask, Role, Utf8Bytes};
 
 // The first run over a stream that gives 7 bytes a call and fails so at this read and this write.
 fn run<'a>(
@@ -123,16 +130,54 @@ fn passing_failures_lose_nothing(rt: HostRuntime) -> Result<(), Fail> {
     Ok(())
 }
 
-// A text that is longer than what may wait isn't sent, and its client is told so by the close code.
+// A client that takes nothing.
+#[derive(Drop)]
+struct Deaf<'a> {
+    sent: &'a [u8],
+}
+
+impl Read for Deaf<'_> {
+    fn read(&mut self, buf: &mut [u8]) -> io::Result<usize> {
+        if self.sent.is_empty() {
+            return Err(io::Error::from(ErrorKind::WouldBlock));
+        }
+        let n = buf.len().min(self.sent.len());
+        buf[..n].copy_from_slice(&self.sent[..n]);
+        self.sent = &self.sent[n..];
+        Ok(n)
+    }
+}
+
+impl Write for Deaf<'_> {
+    fn write(&mut self, _buf: &[u8]) -> io::Result<usize> {
+        Err(io::Error::from(ErrorKind::WouldBlock))
+    }
+
+    fn flush(&mut self) -> io::Result<()> {
+        Ok(())
+    }
+}
+
+// How a connection stands behind a turn in which it answers a heartbeat, with 62 bytes, where so many bytes wait already.
+fn stage_behind(alloc: Global, sent: &[u8], waiting: usize) -> Option<Stage> {
+    let (mut port, routes) = (TestPort::new(alloc)?, rooms(alloc)?);
+    let socket = WebSocket::new(alloc, Deaf { sent }, NoMask, Role::Server, socket_config());
+    let mut connection = Connection::new(alloc, socket, 1, 0);
+    let text = "x".repeat(alloc, waiting).ok()?;
+    let words = Utf8Bytes::from_string(text).ok()?;
+    let _blocked = connection.socket.write(Message::Text(words));
+    let _progress = connection.turn(alloc, &mut port, &routes, &NoHooks, 0);
+    Some(connection.stage)
+}
+
+// A text with which more than 17 MiB would wait isn't sent, and its connection ends. The frame of the text that waits has 10
+// bytes more than the text, and one whose text would end exactly there has its place.
 #[test]
-fn a_text_without_room_is_told(rt: HostRuntime) -> Result<(), Fail> {
+fn a_text_without_room_ends_it(rt: HostRuntime) -> Result<(), Fail> {
     let alloc = rt.alloc();
-    let sent = frames(alloc, true, TEXTS)?;
-    let Some(mut line) = line_within(alloc, wire_of(alloc, &sent), 40) else {
-        return Err(Fail::new("none was given"));
-    };
-    assert_eq!(rt; line.turns(alloc, 9), Progress::Over);
-    assert_eq!(rt; line.connection.stage, Stage::Over(Cause::Full));
-    assert_eq!(rt; line.got(), close_frame(1011).as_slice());
+    let sent = frames(alloc, true, "[null,\"1\",\"phoenix\",\"heartbeat\",{}]\n")?;
+    let room = MAX_WAITING.saturating_sub(10 + 62);
+    assert_eq!(rt; stage_behind(alloc, &sent, room), Some(Stage::Open));
+    assert_eq!(rt; stage_behind(alloc, &sent, room + 1), Some(Stage::Over(Cause::Full)));
     Ok(())
 }

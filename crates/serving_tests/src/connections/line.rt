@@ -1,11 +1,11 @@
 //! A connection over a stream in memory, and its turns.
 
-use crate::served::{Connection, Progress, Wire, rooms, socket_config, socket_over};
+use crate::served::{Connection, Progress, Wire, rooms, socket_over};
 use hook_registry::{NoHooks, Routes};
 use presence_node_web_sockets::WebSocket;
 use session_desk::TestPort;
 use std::alloc::Global;
-use tungstenite::{NoMask, Role};
+use tungstenite::NoMask;
 
 // A connection of number 1 to a shard of `a.1`, with the route `room:*`.
 pub(super) struct Line<'a> {
@@ -42,13 +42,6 @@ fn line_at<'a>(alloc: Global, socket: WebSocket<Wire<'a>, NoMask>) -> Option<Lin
 
 pub(super) fn line_over<'a>(alloc: Global, wire: Wire<'a>) -> Option<Line<'a>> {
     line_at(alloc, socket_over(alloc, wire))
-}
-
-// The same, where so many bytes may wait to be sent.
-pub(super) fn line_within<'a>(alloc: Global, wire: Wire<'a>, most: usize) -> Option<Line<'a>> {
-    let config = socket_config().max_write_buffer_size(most);
-    let socket = WebSocket::new(alloc, wire, NoMask, Role::Server, config);
-    line_at(alloc, socket)
 }
 
 impl Line<'_> {

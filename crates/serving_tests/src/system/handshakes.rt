@@ -1,6 +1,6 @@
 //! Handshakes over streams that give their bytes in pieces, and have nothing in between.
 
-use crate::front::look;
+use crate::front::{here, look};
 use presence_node_handshakes::{Admission, Guests, Newcomer};
 use std::alloc::Global;
 use std::io;
@@ -77,7 +77,8 @@ fn admit(
     let newcomer = Newcomer {
         number,
         stream,
-        standing: Admission::Welcome,
+        address: here(),
+        standing: Some(Admission::Welcome),
     };
     let _gave_way = guests.admit(alloc, newcomer, WebSocketConfig::default())?;
     Ok(())

@@ -3,7 +3,7 @@
 use super::desk::{Desk, desk_over};
 use super::pool::over_pool;
 use super::run::Run;
-use crate::front::look;
+use crate::front::{here, look};
 use crate::served::{REPLIES, TEXTS, add_frame, close_frame, frames};
 use presence_node_handshakes::{Admission, Guests, Newcomer};
 use presence_node_sockets::{listen, next_stream};
@@ -117,7 +117,8 @@ fn greet<R: Clock>(
             let newcomer = Newcomer {
                 number: 1,
                 stream,
-                standing: Admission::Welcome,
+                address: here(),
+                standing: Some(Admission::Welcome),
             };
             guests.admit(alloc, newcomer, socket_config()).ok()?;
         }

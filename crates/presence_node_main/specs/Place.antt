@@ -1,0 +1,35 @@
+-- Where a server listens, as standard error is told.
+use Rattle.std.specs.Prelude.{ℕ, Bool, false, true, cond, ◌==◌, List, [], ◌∷◌, ◌++◌, Option, None, Some, codes, decimal, string_bytes}
+use Rattle.presence_node_options.specs.declared.options.ServeOptions.{ServeOptions}
+
+-- a colon is among the bytes
+abbrev pub has_colon : List ℕ → Bool
+has_colon [] = false
+has_colon (b ∷ bs) = cond (b == 58) true (has_colon bs)
+
+-- an address as it stands in front of a port: one of IPv6 between brackets (RFC 3986, section 3.2.2)
+abbrev pub host_text : List ℕ → List ℕ
+host_text address = cond (has_colon address) (codes "[" ++ (address ++ codes "]")) address
+
+-- what is told of the port of links, if there is one
+abbrev pub links_at : List ℕ → Option ℕ → List ℕ
+links_at address None = []
+links_at address (Some port) = codes ", for links at " ++ (host_text address ++ (codes ":" ++ decimal port))
+
+abbrev pub links_text : ServeOptions → List ℕ
+links_text options = links_at (string_bytes options.link_listen) options.link_port
+
+-- and of that of metrics
+abbrev pub metrics_at : List ℕ → Option ℕ → List ℕ
+metrics_at address None = []
+metrics_at address (Some port) =
+    codes ", for metrics at http://" ++ (host_text address ++ (codes ":" ++ (decimal port ++ codes "/metrics")))
+
+abbrev pub metrics_text : ServeOptions → List ℕ
+metrics_text options = metrics_at (string_bytes options.link_listen) options.reports.metrics_port
+
+-- all of it
+abbrev pub place_text : ServeOptions → List ℕ
+place_text options =
+    codes "listening at http://" ++ (host_text (string_bytes options.listen)
+    ++ (codes ":" ++ (decimal options.port ++ (codes "/" ++ (links_text options ++ metrics_text options)))))
