@@ -171,6 +171,23 @@ fn look_at<S: Read + Write + Drop, T: Tells, K: Keeper<S>>(
     }
 }
 
+// What these bytes of a client are answered by, behind what a proxy may have written before them.
+fn look_behind<S: Read + Write + Drop, T: Tells, K: Keeper<S>>(
+    alloc: Global,
+    bytes: &mut Vec<u8>,
+    party: &mut Party<S>,
+    front: &mut Front<'_, T, K>,
+) -> Heard
+    ensures config { party.new.config ≡ party.old.config }
+    ensures reads { party.new.empty_reads ≡ party.old.empty_reads }
+{
+    match party.introduce(alloc, bytes) {
+        Ok(true) => look_at(alloc, bytes.as_slice(), party, front),
+        Ok(false) => Heard::Waits,
+        Err(_) => Heard::Ends,
+    }
+}
+
 // Reads on until the request is whole or the stream has nothing more.
 fn read_on<S: Read + Write + Drop, T: Tells, K: Keeper<S>>(
     alloc: Global,
@@ -193,7 +210,7 @@ fn read_on<S: Read + Write + Drop, T: Tells, K: Keeper<S>>(
         if head.extend_from_slice(&piece[..count]).is_err() {
             return Heard::Ends;
         }
-        match look_at(alloc, head.as_slice(), party, front) {
+        match look_behind(alloc, head, party, front) {
             Heard::Waits => {}
             ended => return ended,
         }
@@ -316,13 +333,7 @@ impl<S: Read + Write + Drop> Greeting<S> {
         requires { Heard }
         ensures { Follows party.config party.empty_reads result }
     {
-        let Party {
-            stream,
-            address: _,
-            standing: _,
-            config,
-            empty_reads: _,
-        } = party;
+        let (stream, config) = party.into_parts();
         Greeted::Open(WebSocket::new(alloc, stream, NoMask, Role::Server, config))
     }
 

@@ -74,6 +74,7 @@ impl<S: Read + Write + Drop> Newcomer<S> {
             stream,
             address,
             standing,
+            is_introduced: standing.is_some(),
             config,
             empty_reads: 0,
         };

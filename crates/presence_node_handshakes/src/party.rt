@@ -4,8 +4,8 @@ ghost use Rattle.presence_node_handshakes.specs.declared.party.TheConstants.{MAX
 
 use crate::front::{Front, Keeper, Tells};
 use crate::seating::Admission;
-use presence_node_requests::client_of;
-use std::alloc::Global;
+use presence_node_requests::{Introduced, client_of, introduction_of};
+use std::alloc::{AllocError, Global};
 use std::io::{Read, Write};
 use std::net::IpAddr;
 use tungstenite::WebSocketConfig;
@@ -20,6 +20,8 @@ pub struct Party<S: Read + Write + Drop> {
     pub address: IpAddr,
     /// How the client stands; none where a proxy tells of it that is believed.
     pub standing: Option<Admission>,
+    /// Whether the line is past that a proxy may write before all else, which isn't looked at from anybody else.
+    pub is_introduced: bool,
     pub config: WebSocketConfig,
     pub empty_reads: u32,
     ghost patient: { empty_reads < MAX_EMPTY_READS },
@@ -31,6 +33,7 @@ impl<S: Read + Write + Drop> Drop for Party<S> {
             stream,
             address: _,
             standing: _,
+            is_introduced: _,
             config,
             empty_reads: _,
         } = self;
@@ -41,6 +44,21 @@ impl<S: Read + Write + Drop> Drop for Party<S> {
 
 impl<S: Read + Write + Drop> Party<S> {
     ghost use Rattle.std.specs.Prelude.{◌≡◌};
+
+    /// Its stream, and how what follows is done.
+    pub(crate) fn into_parts(self) -> (S, WebSocketConfig)
+        ensures { result.1 ≡ self.config }
+    {
+        let Party {
+            stream,
+            address: _,
+            standing: _,
+            is_introduced: _,
+            config,
+            empty_reads: _,
+        } = self;
+        (stream, config)
+    }
 
     /// How the client stands that sends this head.
     pub(crate) fn standing_by<T: Tells, K: Keeper<S>>(
@@ -61,5 +79,31 @@ impl<S: Read + Write + Drop> Party<S> {
             .standing_of(alloc, &mut self.stream, self.address);
         self.standing = Some(standing);
         standing
+    }
+
+    /// Takes the line from the front of these bytes that a proxy may write before all else: whether they are a request's.
+    pub(crate) fn introduce(
+        &mut self,
+        alloc: Global,
+        bytes: &mut Vec<u8>,
+    ) -> Result<bool, AllocError>
+        ensures config { self.new.config ≡ self.old.config }
+        ensures reads { self.new.empty_reads ≡ self.old.empty_reads }
+    {
+        if self.is_introduced {
+            return Ok(true);
+        }
+        match introduction_of(bytes.as_slice()) {
+            Introduced::Partial => return Ok(false),
+            Introduced::Nothing => {}
+            Introduced::Line(end, told) => {
+                let mut rest = Vec::new(alloc);
+                rest.extend_from_slice(&bytes[end..])?;
+                *bytes = rest;
+                self.address = told.unwrap_or(self.address);
+            }
+        }
+        self.is_introduced = true;
+        Ok(true)
     }
 }

@@ -1,8 +1,8 @@
 //! Texts for the user that stand in the help and behind what is wrong with the words. No line is longer than 100
 //! characters; an option's help has its default at the end of its first line.
 
-/// The version of the program.
-pub const VERSION: &str = "0.1.0";
+/// The version of the program, and the day of its sources: the year, the month and the day.
+pub const VERSION: &str = "0.1.0+20261129";
 
 /// How the program is called.
 pub(crate) const USAGES: &str = "presence_node serve [OPTIONS]

@@ -46,8 +46,8 @@ fn farther(proxies: &[IpAddr], hop: IpAddr, before: Option<IpAddr>) -> IpAddr
     }
 }
 
-// The address that a text writes, as it counts.
-fn address_in(text: &[u8]) -> Option<IpAddr>
+/// The address that a text writes, as it counts.
+pub(crate) fn address_in(text: &[u8]) -> Option<IpAddr>
     ensures { MatchOption result ((a : IpAddr) → IsIpText text.now a → ⊥) (Writes text.now) }
 {
     match IpAddr::parse_ascii(text) {
