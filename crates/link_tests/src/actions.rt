@@ -212,11 +212,6 @@ fn are_asking_late(alloc: Global, lines: &[(&str, &[Asks])]) -> bool {
 #[test]
 fn a_late_shard_is_what_it_was(rt: HostRuntime) {
     let alloc = rt.alloc();
-    assert!(rt; false);
-        return;
-    };
-    let a1 = &a1;
-    let a2 = &a2;
     assert!(rt;
         are_asking_late(
             alloc,
@@ -268,7 +263,10 @@ fn a_link_speaks_for_its_own_name(rt: HostRuntime) {
     };
     assert!(rt; desk.takes(alloc, r#"["hello","b",3,2]"#));
     for text in OF_OTHERS {
-        assert!(rt; desk.refusal(alloc, text) == Some(LinkFault::BadLine), "{text}");
+        assert!(rt;
+            desk.refusal(alloc, text) == Some(LinkFault::BadLine),
+            "{text}"
+        );
     }
     assert!(rt; desk.takes(alloc, r#"["beat",0,"b",2,0,null]"#));
     assert!(rt; desk.takes(alloc, r#"["permdown","b",2]"#));
@@ -288,7 +286,10 @@ fn a_late_shard_is_no_other_node(rt: HostRuntime) {
         r#"["beat",1,"a",2,3,null]"#,
         r#"["permdown","a",1]"#,
     ] {
-        assert!(rt; desk.refusal(alloc, text) == Some(LinkFault::BadLine), "{text}");
+        assert!(rt;
+            desk.refusal(alloc, text) == Some(LinkFault::BadLine),
+            "{text}"
+        );
     }
 }
 
@@ -300,7 +301,12 @@ fn bytes_of_a_line_are_heard(rt: HostRuntime) {
         assert!(rt; false);
         return;
     };
-    assert!(rt; desk.link.peer.on_bytes(alloc, 0, NOW).is_ok_and(|actions| actions.is_empty()));
+    assert!(rt;
+        desk.link
+            .peer
+            .on_bytes(alloc, 0, NOW)
+            .is_ok_and(|actions| actions.is_empty())
+    );
     assert!(rt; desk.takes(alloc, r#"["hello","b",3,2]"#));
     assert!(rt; hear_bytes(alloc, &desk.link.peer, &mut desk.port, 1, NOW).is_ok());
     assert!(rt; desk.asked(&[Call::Status(1, b), Call::Heard(1, b, NOW)]));
