@@ -1,5 +1,6 @@
 -- A call of the pool, as the port tells its answer.
 use Rattle.std.proofs.Common.{◌≡◌, ℕ, Bool, true, false, cond, List, Vec, Global, refl, sym, ap, subst, ◌∙◌}
+use Rattle.std.proofs.lemmas.Bool.{false≢true}
 use Rattle.std.specs.Prelude.{◌==◌, Result, Ok, Err}
 use Rattle.presence_journal_data.specs.declared.step.Step.{Step}
 use Rattle.presence_journal.specs.History.{History}
@@ -8,7 +9,7 @@ use Rattle.channel_session_rules.specs.ShardFault.TheVariants.{AlreadyTracked, N
 use Rattle.shard_pool.specs.Reply.{Reply}
 use Rattle.shard_pool.specs.Seats.{Hands, CalledAt, hand_at, shard_of, with_hand}
 use Rattle.channel_session_rules.specs.Seen.{seen_by}
-use Rattle.presence_node_ports.specs.Asking.{Asked, value_of}
+use Rattle.presence_node_ports.specs.Asking.{Asked, value_of, lacks_room}
 
 -- a reply, its value seen otherwise
 abbrev seen : {A B : Type 0} → (A → B) → Result (Reply A) ShardFault → Result (Reply B) ShardFault
@@ -51,7 +52,7 @@ module _ (here : ℕ → History → Type 0) (there : History → Bool) (n : ℕ
       let f : A → Unit {0} = λ _. tt {0} in
       record { reply = seen f r; called = seen_call f here there old new (shard_of t n) step Gives (λ h _. Unit {0}) (λ h v e. tt {0}) r c; told = seen_value f r }
 
--- a call that found the journal full left the seat as it was
+-- a call that found the journal full, or no memory, left the seat as it was
 
 same_hands : (h : Hands) (s : ℕ) → with_hand h s (hand_at h s) ≡ h
 same_hands h s = go (s == 0) (s == 1) (s == 2)
@@ -66,16 +67,21 @@ same_hands h s = go (s == 0) (s == 1) (s == 2)
     go false false true = refl
     go false false false = refl
 
-pub full_keeps : {A : Type 0} (here : ℕ → History → Type 0) (there : History → Bool) (old new : Hands) (s : ℕ) (step : Step) (Gives : History → A → Type 0) (r : Result (Reply A) ShardFault) → r ≡ Err JournalFull → CalledAt here there old new s step Gives r → new ≡ old
-full_keeps here there old new s step Gives r full c =
-    let called = subst (λ (x : Result (Reply _) ShardFault). CalledAt here there old new s step Gives x) full c in
-    called.others ∙ (ap (with_hand old s) called.call.notes ∙ same_hands old s)
+pub lack_keeps : {A : Type 0} (here : ℕ → History → Type 0) (there : History → Bool) (old new : Hands) (s : ℕ) (step : Step) (Gives : History → A → Type 0) (r : Result (Reply A) ShardFault) → lacks_room r ≡ true → CalledAt here there old new s step Gives r → new ≡ old
+lack_keeps here there old new s step Gives (Err JournalFull) e c = c.others ∙ (ap (with_hand old s) c.call.notes ∙ same_hands old s)
+lack_keeps here there old new s step Gives (Err OutOfMemory) e c = c.others ∙ (ap (with_hand old s) c.call.notes ∙ same_hands old s)
+lack_keeps here there old new s step Gives (Ok x) e c = absurd (false≢true e)
+lack_keeps here there old new s step Gives (Err AlreadyTracked) e c = absurd (false≢true e)
+lack_keeps here there old new s step Gives (Err NoPresence) e c = absurd (false≢true e)
+lack_keeps here there old new s step Gives (Err ClockFull) e c = absurd (false≢true e)
+lack_keeps here there old new s step Gives (Err NoSub) e c = absurd (false≢true e)
+lack_keeps here there old new s step Gives (Err BadIncarnation) e c = absurd (false≢true e)
 
 -- so the call that is made anew is one from the seat as it was first
-pub called_anew : {A : Type 0} (here : ℕ → History → Type 0) (there : History → Bool) (old mid left new : Hands) (s : ℕ) (step : Step) (Gives : History → A → Type 0) (r again : Result (Reply A) ShardFault) → r ≡ Err JournalFull → CalledAt here there old mid s step Gives r → left ≡ mid
+pub called_anew : {A : Type 0} (here : ℕ → History → Type 0) (there : History → Bool) (old mid left new : Hands) (s : ℕ) (step : Step) (Gives : History → A → Type 0) (r again : Result (Reply A) ShardFault) → lacks_room r ≡ true → CalledAt here there old mid s step Gives r → left ≡ mid
     → CalledAt here there left new s step Gives again → CalledAt here there old new s step Gives again
 called_anew here there old mid left new s step Gives r again full first same second =
-    subst (λ (h : Hands). CalledAt here there h new s step Gives again) (same ∙ full_keeps here there old mid s step Gives r full first) second
+    subst (λ (h : Hands). CalledAt here there h new s step Gives again) (same ∙ lack_keeps here there old mid s step Gives r full first) second
 
 module _ (here : ℕ → History → Type 0) (there : History → Bool) (n : ℕ) (old : Hands) (t : List ℕ) (step : Step) where
   -- the same where something is left between a call and its end
@@ -100,14 +106,14 @@ module _ (here : ℕ → History → Type 0) (there : History → Bool) (n : ℕ
       (subst (λ (x : ℕ). CalledAt name there left new (shard_of t x) step Gives again) many second))
 
   pub again_items : {X : Type 0} (items : History → List X) (mid left new : Hands) (name : ℕ → History → Type 0) (shards : ℕ) (r again : Result (Reply (Vec X Global)) ShardFault) (a : Result (Vec X Global) ShardFault)
-      → left ≡ mid → name ≡ here → shards ≡ n → r ≡ Err JournalFull → a ≡ value_of again
+      → left ≡ mid → name ≡ here → shards ≡ n → lacks_room r ≡ true → a ≡ value_of again
       → CalledAt here there old mid (shard_of t n) step (λ h v. v.items ≡ items h) r → CalledAt name there left new (shard_of t shards) step (λ h v. v.items ≡ items h) again
       → Asked here there n old new t step (λ h l. l ≡ items h) (seen_by (λ v. v.items) a)
   again_items items mid left new name shards r again a same named many full is first second =
       first_items items new new again a refl is (anew (λ h v. v.items ≡ items h) mid left new name shards r again same named many full first second)
 
   pub again_done : {A : Type 0} (Gives : History → A → Type 0) (mid left new : Hands) (name : ℕ → History → Type 0) (shards : ℕ) (r again : Result (Reply A) ShardFault) (a : Result (Unit {0}) ShardFault)
-      → left ≡ mid → name ≡ here → shards ≡ n → r ≡ Err JournalFull → a ≡ seen_by (λ _. tt {0}) (value_of again)
+      → left ≡ mid → name ≡ here → shards ≡ n → lacks_room r ≡ true → a ≡ seen_by (λ _. tt {0}) (value_of again)
       → CalledAt here there old mid (shard_of t n) step Gives r → CalledAt name there left new (shard_of t shards) step Gives again
       → Asked here there n old new t step (λ h _. Unit {0}) a
   again_done Gives mid left new name shards r again a same named many full is first second =

@@ -1,5 +1,5 @@
 -- A port over a pool and a seat: the call of the pool that each question of a session is.
-use Rattle.std.specs.Prelude.{◌≡◌, ◌+◌, ℕ, Bool, List, Some, Result, Ok, Err}
+use Rattle.std.specs.Prelude.{◌≡◌, ◌+◌, ℕ, Bool, true, false, List, Some, Result, Ok, Err}
 use Rattle.presence_journal_data.specs.declared.step.Step.{Step}
 use Rattle.presence_journal_data.specs.declared.step.Step.TheVariants as steps_are
 use Rattle.presence_journal.specs.History.{History, last_number}
@@ -8,6 +8,7 @@ use Rattle.presence_journal.specs.Queue.{items_given}
 use Rattle.presence_journal.specs.Table.{outcome_of, listed_key}
 use Rattle.channel_session_rules.specs.Steps.{new_dot, slot_of}
 use Rattle.channel_session_rules.specs.ShardFault.{ShardFault}
+use Rattle.channel_session_rules.specs.ShardFault.TheVariants.{JournalFull, OutOfMemory}
 use Rattle.channel_session_rules.specs.Asks.{Ask, track, update, untrack, untrack_all, list, get, subscribe, take, unsubscribe, waits, shout, Answer}
 use Rattle.shard_pool.specs.Reply.{Reply}
 use Rattle.shard_pool.specs.Unseated.{IsBehindOf, TellsWaiting}
@@ -18,6 +19,12 @@ use Rattle.shard_pool.specs.Seats.{Hands, CalledAt, shard_of}
 abbrev pub value_of : {A : Type 0} → Result (Reply A) ShardFault → Result A ShardFault
 value_of (Ok reply) = Ok reply.value
 value_of (Err fault) = Err fault
+
+-- A checkpoint may give what the call lacked: room in the journal, or memory.
+abbrev pub lacks_room : {A : Type 0} → Result (Reply A) ShardFault → Bool
+lacks_room (Err JournalFull) = true
+lacks_room (Err OutOfMemory) = true
+lacks_room _ = false
 
 -- the pool is the same, and the seat that is lent
 abbrev pub Keeps : {P N : Type 0} → P → P → N → N → Type 0

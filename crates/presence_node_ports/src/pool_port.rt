@@ -1,8 +1,7 @@
 //! The pool as the port of a session, through a seat.
-ghost use Rattle.std.specs.Prelude.{◌≡◌, true, Err};
+ghost use Rattle.std.specs.Prelude.{◌≡◌, true, is_some};
 ghost use Rattle.channel_session_rules.specs.Seen.{seen_by};
-ghost use Rattle.channel_session_rules.specs.ShardFault.TheVariants.{JournalFull};
-ghost use Rattle.presence_node_ports.specs.Asking.{value_of};
+ghost use Rattle.presence_node_ports.specs.Asking.{lacks_room, value_of};
 
 use channel_session_rules::{Port, ShardFault, Sub};
 use presence_base::{Dot, Json, Key, Meta, Row, Topic};
@@ -11,19 +10,24 @@ use shard_pool::{Gate, Lane, Pool, PoolFault, Reply, Seat};
 use std::alloc::Global;
 use std::sync::Wait;
 
+/// Where memory is wanting a checkpoint is tried of a journal with so many entries, which it gives back.
+const MIN_ENTRIES: u64 = 64;
+
 /// A port over a pool: each of its calls is that call of the pool, through the seat that it is lent.
 /// A call waits for the lock of its topic's shard. One that finds the shard's journal full makes room there by a
-/// checkpoint, if another one hasn't yet, and is tried once more.
+/// checkpoint, if another one hasn't yet, and is tried once more. So does one that finds no memory, once a port.
 #[derive(Drop)]
 pub struct PoolPort<'a, R: Wait, G: Gate, A: Lane, B: Lane, C: Lane, D: Lane> {
     rt: &'a R,
     pool: &'a Pool<G, A, B, C, D>,
     seat: &'a mut Seat<A, B, C, D>,
     has_made_room: bool,
+    /// Whether a call found no memory, so that its shard was to give some back.
+    has_lacked: bool,
 }
 
-// What is told of a call of the pool. One that finds the journal of its topic's shard full is made once more where a
-// checkpoint makes room.
+// What is told of a call of the pool. One that finds the journal of its topic's shard full, or no memory, is made once more
+// where a checkpoint makes room.
 macro_rules! tried {
     ($port:ident, $alloc:ident, $topic:ident, $tell:ident, $call:expr) => {{
         let reply = $call;
@@ -51,14 +55,22 @@ fn value<T: Drop>(reply: Result<Reply<T>, PoolFault>) -> Result<T, ShardFault>
     }
 }
 
-// Whether the shard's journal was full.
-fn is_full<T>(reply: &Result<Reply<T>, PoolFault>) -> bool
-    ensures full { result ≡ true → reply.now ≡ Err JournalFull }
-    ensures told { reply.now ≡ Err JournalFull → result ≡ true }
+/// What a call lacked that a checkpoint gives.
+#[derive(Clone, Copy, PartialEq, Eq, Debug)]
+enum Lack {
+    /// Its shard's journal was full.
+    Room,
+    Memory,
+}
+
+// What the call lacked.
+fn lack_of<T>(reply: &Result<Reply<T>, PoolFault>) -> Option<Lack>
+    ensures { is_some result ≡ lacks_room reply.now }
 {
     match reply {
-        Err(PoolFault::JournalFull) => true,
-        _ => false,
+        Err(PoolFault::JournalFull) => Some(Lack::Room),
+        Err(PoolFault::OutOfMemory) => Some(Lack::Memory),
+        _ => None,
     }
 }
 
@@ -73,7 +85,7 @@ fn accepted<T: Drop>(reply: Result<Reply<T>, PoolFault>) -> Result<(), ShardFaul
 }
 
 impl<'a, R: Wait, G: Gate, A: Lane, B: Lane, C: Lane, D: Lane> PoolPort<'a, R, G, A, B, C, D> {
-    ghost use Rattle.std.specs.Prelude.{◌≡◌, ◌||◌, false};
+    ghost use Rattle.std.specs.Prelude.{◌≡◌, ◌<◌, ◌||◌, false};
 
     /// The port of a seat of this pool.
     pub fn new(
@@ -91,17 +103,28 @@ impl<'a, R: Wait, G: Gate, A: Lane, B: Lane, C: Lane, D: Lane> PoolPort<'a, R, G
             pool,
             seat,
             has_made_room: false,
+            has_lacked: false,
         }
     }
 
-    /// Whether a call found a shard's journal full, where there is room now, so that receipts from before have no entry any more.
+    /// Whether a call found a shard's journal full, or no memory, where there is room now, so that receipts from before have no
+    /// entry any more.
     pub fn has_made_room(&self) -> bool
         ensures { result ≡ self.now.has_made_room }
     {
         self.has_made_room
     }
 
-    // Whether the call found its topic's journal full and there is room now, so that it is worth another try.
+    // Whether a journal of some length gave its memory back, if none has been asked to yet.
+    fn gives_memory(&self, alloc: Global, shard: u32) -> bool
+        requires { shard < self.now.pool.now.shards }
+    {
+        !self.has_lacked
+            && self.pool.entry_count(self.rt, shard) >= MIN_ENTRIES
+            && self.pool.checkpoint(self.rt, alloc, shard).is_ok()
+    }
+
+    // Whether the call found its topic's journal full, or no memory, and there is room now, so that it is worth another try.
     fn makes_room<T>(
         &mut self,
         alloc: Global,
@@ -110,17 +133,21 @@ impl<'a, R: Wait, G: Gate, A: Lane, B: Lane, C: Lane, D: Lane> PoolPort<'a, R, G
     ) -> bool
         ensures pool { self.new.pool ≡ self.old.pool }
         ensures seat { self.new.seat ≡ self.old.seat }
-        ensures full { result ≡ true → reply.now ≡ Err JournalFull }
+        ensures lack { result ≡ true → lacks_room reply.now ≡ true }
         ensures room { self.new.has_made_room ≡ (self.old.has_made_room || result) }
     {
-        if !is_full(reply) {
+        let Some(lack) = lack_of(reply) else {
             return false;
-        }
+        };
         let shard = self.pool.shard_of(topic);
-        let has_room = self
-            .pool
-            .checkpoint_where_full(self.rt, alloc, shard)
-            .is_ok();
+        let has_room = match lack {
+            Lack::Room => self
+                .pool
+                .checkpoint_where_full(self.rt, alloc, shard)
+                .is_ok(),
+            Lack::Memory => self.gives_memory(alloc, shard),
+        };
+        self.has_lacked = self.has_lacked || lack == Lack::Memory;
         self.has_made_room = self.has_made_room || has_room;
         has_room
     }

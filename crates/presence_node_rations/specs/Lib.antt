@@ -1,1 +1,5 @@
-pub mod Rationing
+pub mod Amounts
+pub mod Connections
+pub mod Ledgers
+pub mod Memory
+pub mod Rows

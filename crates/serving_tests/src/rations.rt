@@ -246,7 +246,10 @@ fn a_topic_has_a_budget(rt: HostRuntime) -> Result<(), Fail> {
         (true, (Does::Track, 7), None),
         (true, (Does::Track, 8), Some(full)),
     ] {
-        assert_eq!(rt; refusal(alloc, &mut port, is_second, &lobby, row), Some(wanted));
+        assert_eq!(rt;
+            refusal(alloc, &mut port, is_second, &lobby, row),
+            Some(wanted)
+        );
     }
     assert!(rt; port.untrack_all(alloc, 2, &lobby.topic).is_ok());
     let (rows, bytes) = (5, 120);
@@ -285,7 +288,10 @@ fn a_topics_bytes_have_a_budget(rt: HostRuntime) -> Result<(), Fail> {
         (true, &small, (Does::Untrack, 9), None, 272),
         (true, &small, (Does::Untrack, 2), None, 148),
     ] {
-        assert_eq!(rt; refusal(alloc, &mut port, is_second, rows, row), Some(wanted));
+        assert_eq!(rt;
+            refusal(alloc, &mut port, is_second, rows, row),
+            Some(wanted)
+        );
         assert_eq!(rt; port.budgets().taken(&rows.topic).bytes, bytes);
     }
     Ok(())
@@ -325,13 +331,25 @@ fn workers_share_a_topics_budget(rt: HostRuntime) -> Result<(), Fail> {
     let refused = Some(ShardFault::JournalFull);
     let answer = refusal(alloc, &mut port, false, &small, (Does::Track, 1));
     assert_eq!(rt; answer, Some(None));
-    assert_eq!(rt; refusal(alloc, &mut port, false, &large, (Does::Track, 2)), Some(refused));
-    assert_eq!(rt; budgets.taken(&rt, &small.topic), Amount { rows: 1, bytes: 24 });
+    assert_eq!(rt;
+        refusal(alloc, &mut port, false, &large, (Does::Track, 2)),
+        Some(refused)
+    );
+    assert_eq!(rt;
+        budgets.taken(&rt, &small.topic),
+        Amount { rows: 1, bytes: 24 }
+    );
     let full = ShardFault::ClockFull;
     assert_eq!(rt; tracked(alloc, &mut beside, true, &small), Some((3, full)));
-    assert_eq!(rt; refusal(alloc, &mut port, false, &small, (Does::Track, 2)), Some(Some(full)));
+    assert_eq!(rt;
+        refusal(alloc, &mut port, false, &small, (Does::Track, 2)),
+        Some(Some(full))
+    );
     assert!(rt; beside.untrack_all(alloc, 2, &small.topic).is_ok());
-    assert_eq!(rt; budgets.taken(&rt, &small.topic), Amount { rows: 1, bytes: 24 });
+    assert_eq!(rt;
+        budgets.taken(&rt, &small.topic),
+        Amount { rows: 1, bytes: 24 }
+    );
     Ok(())
 }
 
@@ -396,17 +414,26 @@ fn tight_memory_takes_nothing_more(rt: HostRuntime) -> Result<(), Fail> {
         return Err(Fail::new("none was given"));
     };
     let mut ample = GuardedPort::new(inner, false);
-    assert_eq!(rt; fault_of(ample.track(alloc, 1, &rows.topic, &key, &rows.meta)), None);
+    assert_eq!(rt;
+        fault_of(ample.track(alloc, 1, &rows.topic, &key, &rows.meta)),
+        None
+    );
     let Ok(payload) = Value::from_str(alloc, "{}") else {
         return Err(Fail::new("none was given"));
     };
     let payload = Json::new(payload);
     let mut tight = GuardedPort::new(ample, true);
     let full = Some(ShardFault::ClockFull);
-    assert_eq!(rt; fault_of(tight.track(alloc, 2, &rows.topic, &key, &rows.meta)), full);
+    assert_eq!(rt;
+        fault_of(tight.track(alloc, 2, &rows.topic, &key, &rows.meta)),
+        full
+    );
     assert_eq!(rt; fault_of(tight.subscribe(alloc, &rows.topic)), full);
     assert_eq!(rt; fault_of(tight.shout(alloc, &rows.topic, &payload)), full);
-    assert_eq!(rt; fault_of(tight.update(alloc, 1, &rows.topic, &key, &rows.meta)), None);
+    assert_eq!(rt;
+        fault_of(tight.update(alloc, 1, &rows.topic, &key, &rows.meta)),
+        None
+    );
     assert_eq!(rt; fault_of(tight.list(alloc, &rows.topic)), None);
     assert_eq!(rt; fault_of(tight.untrack_all(alloc, 1, &rows.topic)), None);
     Ok(())

@@ -21,5 +21,5 @@ returns g c =
     let left = c.makes_room.new.self in
     let room = c.makes_room.ensures in (
       (room.pool, ap (λ s. s.ghost_name) room.seat),
-      again_items (IsOfShardAt old.pool.now.own.name g.A.Lane.begins g.B.Lane.begins g.C.Lane.begins g.D.Lane.begins) always old.pool.now.shards old.seat.now c.args.topic.now (steps_are.Get c.args.topic.now c.args.key.now) (λ (h : History). listed_key h c.args.topic.now c.args.key.now) c.get-reply.new.seat left.seat.now c.get-again.new.seat (IsOfShardAt left.pool.now.own.name g.A.Lane.begins g.B.Lane.begins g.C.Lane.begins g.D.Lane.begins) left.pool.now.shards c.get-reply.result c.get-again.result c.value-2.result (ap (λ s. s.now) room.seat) (ap (λ p. IsOfShardAt p.now.own.name g.A.Lane.begins g.B.Lane.begins g.C.Lane.begins g.D.Lane.begins) room.pool) (ap (λ p. p.now.shards) room.pool) (room.full c.if-not-makes_room.false) c.value-2.ensures c.get-reply.ensures c.get-again.ensures,
+      again_items (IsOfShardAt old.pool.now.own.name g.A.Lane.begins g.B.Lane.begins g.C.Lane.begins g.D.Lane.begins) always old.pool.now.shards old.seat.now c.args.topic.now (steps_are.Get c.args.topic.now c.args.key.now) (λ (h : History). listed_key h c.args.topic.now c.args.key.now) c.get-reply.new.seat left.seat.now c.get-again.new.seat (IsOfShardAt left.pool.now.own.name g.A.Lane.begins g.B.Lane.begins g.C.Lane.begins g.D.Lane.begins) left.pool.now.shards c.get-reply.result c.get-again.result c.value-2.result (ap (λ s. s.now) room.seat) (ap (λ p. IsOfShardAt p.now.own.name g.A.Lane.begins g.B.Lane.begins g.C.Lane.begins g.D.Lane.begins) room.pool) (ap (λ p. p.now.shards) room.pool) (room.lack c.if-not-makes_room.false) c.value-2.ensures c.get-reply.ensures c.get-again.ensures,
     )

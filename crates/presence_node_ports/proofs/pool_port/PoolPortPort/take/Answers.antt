@@ -21,5 +21,5 @@ returns g c =
     let left = c.makes_room.new.self in
     let room = c.makes_room.ensures in (
       (room.pool, ap (λ s. s.ghost_name) room.seat),
-      again_items (IsOfShardAt old.pool.now.own.name g.A.Lane.begins g.B.Lane.begins g.C.Lane.begins g.D.Lane.begins) (finds c.args.sub.now) old.pool.now.shards old.seat.now c.args.topic.now (steps_are.Take c.args.sub.now.number c.args.max) (λ (h : History). items_given h c.args.sub.now.number c.args.max) c.take-reply.new.seat left.seat.now c.take-again.new.seat (IsOfShardAt left.pool.now.own.name g.A.Lane.begins g.B.Lane.begins g.C.Lane.begins g.D.Lane.begins) left.pool.now.shards c.take-reply.result c.take-again.result c.value-2.result (ap (λ s. s.now) room.seat) (ap (λ p. IsOfShardAt p.now.own.name g.A.Lane.begins g.B.Lane.begins g.C.Lane.begins g.D.Lane.begins) room.pool) (ap (λ p. p.now.shards) room.pool) (room.full c.if-not-makes_room.false) c.value-2.ensures c.take-reply.ensures c.take-again.ensures,
+      again_items (IsOfShardAt old.pool.now.own.name g.A.Lane.begins g.B.Lane.begins g.C.Lane.begins g.D.Lane.begins) (finds c.args.sub.now) old.pool.now.shards old.seat.now c.args.topic.now (steps_are.Take c.args.sub.now.number c.args.max) (λ (h : History). items_given h c.args.sub.now.number c.args.max) c.take-reply.new.seat left.seat.now c.take-again.new.seat (IsOfShardAt left.pool.now.own.name g.A.Lane.begins g.B.Lane.begins g.C.Lane.begins g.D.Lane.begins) left.pool.now.shards c.take-reply.result c.take-again.result c.value-2.result (ap (λ s. s.now) room.seat) (ap (λ p. IsOfShardAt p.now.own.name g.A.Lane.begins g.B.Lane.begins g.C.Lane.begins g.D.Lane.begins) room.pool) (ap (λ p. p.now.shards) room.pool) (room.lack c.if-not-makes_room.false) c.value-2.ensures c.take-reply.ensures c.take-again.ensures,
     )

@@ -23,5 +23,5 @@ returns g c =
     let left = c.makes_room.new.self in
     let room = c.makes_room.ensures in (
       (room.pool, ap (λ s. s.ghost_name) room.seat),
-      again_done (IsOfShardAt old.pool.now.own.name g.A.Lane.begins g.B.Lane.begins g.C.Lane.begins g.D.Lane.begins) always old.pool.now.shards old.seat.now c.args.topic.now (steps_are.Untrack c.args.pid c.args.topic.now c.args.key.now) (λ (h : History) (dots : Vec Dot Global). dots.items ≡ dots_of (rows_of_key h c.args.pid c.args.topic.now c.args.key.now)) c.untrack-reply.new.seat left.seat.now c.untrack-again.new.seat (IsOfShardAt left.pool.now.own.name g.A.Lane.begins g.B.Lane.begins g.C.Lane.begins g.D.Lane.begins) left.pool.now.shards c.untrack-reply.result c.untrack-again.result c.accepted-2.result (ap (λ s. s.now) room.seat) (ap (λ p. IsOfShardAt p.now.own.name g.A.Lane.begins g.B.Lane.begins g.C.Lane.begins g.D.Lane.begins) room.pool) (ap (λ p. p.now.shards) room.pool) (room.full c.if-not-makes_room.false) c.accepted-2.ensures c.untrack-reply.ensures c.untrack-again.ensures,
+      again_done (IsOfShardAt old.pool.now.own.name g.A.Lane.begins g.B.Lane.begins g.C.Lane.begins g.D.Lane.begins) always old.pool.now.shards old.seat.now c.args.topic.now (steps_are.Untrack c.args.pid c.args.topic.now c.args.key.now) (λ (h : History) (dots : Vec Dot Global). dots.items ≡ dots_of (rows_of_key h c.args.pid c.args.topic.now c.args.key.now)) c.untrack-reply.new.seat left.seat.now c.untrack-again.new.seat (IsOfShardAt left.pool.now.own.name g.A.Lane.begins g.B.Lane.begins g.C.Lane.begins g.D.Lane.begins) left.pool.now.shards c.untrack-reply.result c.untrack-again.result c.accepted-2.result (ap (λ s. s.now) room.seat) (ap (λ p. IsOfShardAt p.now.own.name g.A.Lane.begins g.B.Lane.begins g.C.Lane.begins g.D.Lane.begins) room.pool) (ap (λ p. p.now.shards) room.pool) (room.lack c.if-not-makes_room.false) c.accepted-2.ensures c.untrack-reply.ensures c.untrack-again.ensures,
     )

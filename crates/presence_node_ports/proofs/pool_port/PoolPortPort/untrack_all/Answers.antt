@@ -23,5 +23,5 @@ returns g c =
     let left = c.makes_room.new.self in
     let room = c.makes_room.ensures in (
       (room.pool, ap (λ s. s.ghost_name) room.seat),
-      again_done (IsOfShardAt old.pool.now.own.name g.A.Lane.begins g.B.Lane.begins g.C.Lane.begins g.D.Lane.begins) always old.pool.now.shards old.seat.now c.args.topic.now (steps_are.UntrackAll c.args.pid c.args.topic.now) (λ (h : History) (dots : Vec Dot Global). dots.items ≡ dots_of (rows_of_pid h c.args.pid c.args.topic.now)) c.untrack_all-reply.new.seat left.seat.now c.untrack_all-again.new.seat (IsOfShardAt left.pool.now.own.name g.A.Lane.begins g.B.Lane.begins g.C.Lane.begins g.D.Lane.begins) left.pool.now.shards c.untrack_all-reply.result c.untrack_all-again.result c.accepted-2.result (ap (λ s. s.now) room.seat) (ap (λ p. IsOfShardAt p.now.own.name g.A.Lane.begins g.B.Lane.begins g.C.Lane.begins g.D.Lane.begins) room.pool) (ap (λ p. p.now.shards) room.pool) (room.full c.if-not-makes_room.false) c.accepted-2.ensures c.untrack_all-reply.ensures c.untrack_all-again.ensures,
+      again_done (IsOfShardAt old.pool.now.own.name g.A.Lane.begins g.B.Lane.begins g.C.Lane.begins g.D.Lane.begins) always old.pool.now.shards old.seat.now c.args.topic.now (steps_are.UntrackAll c.args.pid c.args.topic.now) (λ (h : History) (dots : Vec Dot Global). dots.items ≡ dots_of (rows_of_pid h c.args.pid c.args.topic.now)) c.untrack_all-reply.new.seat left.seat.now c.untrack_all-again.new.seat (IsOfShardAt left.pool.now.own.name g.A.Lane.begins g.B.Lane.begins g.C.Lane.begins g.D.Lane.begins) left.pool.now.shards c.untrack_all-reply.result c.untrack_all-again.result c.accepted-2.result (ap (λ s. s.now) room.seat) (ap (λ p. IsOfShardAt p.now.own.name g.A.Lane.begins g.B.Lane.begins g.C.Lane.begins g.D.Lane.begins) room.pool) (ap (λ p. p.now.shards) room.pool) (room.lack c.if-not-makes_room.false) c.accepted-2.ensures c.untrack_all-reply.ensures c.untrack_all-again.ensures,
     )

@@ -1,5 +1,5 @@
 use Rattle.std.proofs.Common.{◌≡◌, drop}
-use Rattle.presence_node_rations.specs.Rationing.{has_row}
+use Rattle.presence_node_rations.specs.Rows.{has_row}
 use Rattle.presence_node_rations.proofs.ration.Ration.has.Given as goal
 
 abbrev pub invariant-loop-row : goal.invariant-loop-row

@@ -1,5 +1,5 @@
 use Rattle.std.proofs.Common.{◌≡◌, Some, drop}
-use Rattle.presence_node_rations.specs.Rationing.{others_fit}
+use Rattle.presence_node_rations.specs.Rows.{others_fit}
 use Rattle.presence_node_rations.proofs.ration.Ration.others_fit.Given as goal
 
 abbrev pub invariant-loop-row : goal.invariant-loop-row
