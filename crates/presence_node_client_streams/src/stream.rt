@@ -1,8 +1,8 @@
 //! A client's stream.
 ghost use Rattle.std.specs.Prelude.{◌≡◌, ◌≤◌, true, false, None, IfOk};
-ghost use Rattle.presence_node_client_streams.specs.Budget.{Spends};
-ghost use Rattle.presence_node_client_streams.specs.Stalls.{Takes, since_when};
-ghost use Rattle.presence_node_client_streams.specs.declared.stream.TheConstants.{TURN_BYTES};
+ghost use Rattle.presence_node_client_streams.specs.Budget.{IsTurn, Spends};
+ghost use Rattle.presence_node_client_streams.specs.Stalls.{Takes, keeps_pace as keeps_pace_in, noted_at as noted_at_in};
+ghost use Rattle.presence_node_client_streams.specs.declared.stream.TheConstants.{LONG_TURN_BYTES, TURN_BYTES};
 
 use crate::tally::Ticket;
 use std::cell::Cell;
@@ -11,8 +11,15 @@ use std::io::{ErrorKind, Read, Write};
 use std::net::TcpStream;
 use std::os::fd::{AsRawFd, RawFd};
 
-/// How many bytes of a client are read before the others of its worker have their turns.
-pub const TURN_BYTES: usize = 65_536;
+/// How many bytes of a client are read before the others of its worker have their turns. A text of more is known to be
+/// long before it is whole.
+pub const TURN_BYTES: usize = 4_096;
+
+/// How many are read in a turn that is to end a long text.
+pub const LONG_TURN_BYTES: usize = 65_536;
+
+/// A client for which something waits keeps pace where it takes so many bytes, and the frame that was first, in its time.
+pub const PACE_BYTES: u64 = 65_536;
 
 /// What is known of the bytes that a stream has.
 #[derive(Clone, Copy, PartialEq, Eq, Debug)]
@@ -28,19 +35,23 @@ enum News {
 /// What is noted of a stream whose writes find no room.
 #[derive(Clone, Copy)]
 struct Stall {
-    /// Since when they take nothing, in milliseconds.
+    /// Since when its client hasn't kept pace, in milliseconds.
     since: u64,
-    /// How many bytes they had taken by then.
+    /// How many bytes writes had taken by then.
     taken: u64,
+    /// How many they will have taken once the frame has gone that was first by then.
+    goal: u64,
 }
 
-/// A client's stream. It gives `TURN_BYTES` at most, and then, once, it answers that it would block, so that the turn that
-/// reads it ends; it remembers whether the last write found no room, and, where it is told when something comes, it doesn't
-/// ask for what can't be there.
+/// A client's stream. It gives `TURN_BYTES` at most, or `LONG_TURN_BYTES` behind a turn that was told to go on with a long
+/// text, and then, once, it answers that it would block, so that the turn that reads it ends; it remembers whether the last
+/// write found no room, and, where it is told when something comes, it doesn't ask for what can't be there.
 pub struct ClientStream<S> {
     stream: S,
     /// How many bytes the turn that reads may still have.
     left: usize,
+    /// Whether the turn behind this one is to end a long text.
+    goes_on: Cell<bool>,
     /// Whether the last read was put off, though the stream may have more.
     put_off: bool,
     /// Whether the last write found no room.
@@ -57,7 +68,7 @@ pub struct ClientStream<S> {
     place: Option<Ticket>,
     /// Among those that wait for a worker, until one reads it.
     waiting: Option<Ticket>,
-    ghost bounded: { left ≤ TURN_BYTES },
+    ghost bounded: { left ≤ LONG_TURN_BYTES },
 }
 
 /// The stream of a client at a socket.
@@ -68,6 +79,7 @@ impl<S: Drop> Drop for ClientStream<S> {
         let ClientStream {
             stream,
             left: _,
+            goes_on: _,
             put_off: _,
             blocked: _,
             taken: _,
@@ -89,16 +101,22 @@ fn would_block(error: &io::Error) -> bool {
     matches!(error.kind(), ErrorKind::WouldBlock)
 }
 
-// What is noted at this time, where writes have taken so much and this was noted before.
-fn stall_at(noted: Option<Stall>, taken: u64, now: u64) -> Stall
-    ensures since { result.since ≡ since_when noted taken now }
-    ensures taken { result.taken ≡ taken }
+// Whether a client has kept pace since this was noted, where writes have taken so much.
+fn keeps_pace(noted: Stall, taken: u64) -> bool
+    ensures { result ≡ keeps_pace_in noted taken }
 {
-    let since = match noted {
-        Some(before) if before.taken == taken => before.since,
-        _ => now,
-    };
-    Stall { since, taken }
+    taken >= noted.goal && taken >= noted.taken.saturating_add(PACE_BYTES)
+}
+
+// What is noted at this time, where writes have taken so much, and so much is to go of the frame that is first.
+fn noted_at(taken: u64, front: u64, now: u64) -> Stall
+    ensures { result ≡ noted_at_in taken front now }
+{
+    Stall {
+        since: now,
+        taken,
+        goal: taken.saturating_add(front),
+    }
 }
 
 impl<S> ClientStream<S> {
@@ -113,6 +131,7 @@ impl<S> ClientStream<S> {
         ClientStream {
             stream,
             left: TURN_BYTES,
+            goes_on: Cell::new(false),
             put_off: false,
             blocked: false,
             taken: 0,
@@ -160,6 +179,11 @@ impl<S> ClientStream<S> {
         }
     }
 
+    /// Where the next turn is put off, the one behind it is to end a long text.
+    pub fn go_on(&self) {
+        self.goes_on.set(true);
+    }
+
     /// The stream inside.
     pub fn stream(&self) -> &S
         ensures { result.now ≡ self.now.stream }
@@ -181,20 +205,26 @@ impl<S> ClientStream<S> {
         self.blocked
     }
 
-    /// Since when writes have taken nothing, as far as it was asked, which it is at this time. It is none where the last
-    /// one found room.
-    pub fn stalled_since(&self, now: u64) -> Option<u64>
+    /// Since when its client hasn't kept pace, as was noted: since then it has taken less than `PACE_BYTES`, or not yet the
+    /// frame that was first. It is none where the last write found room, or the client has kept pace since then.
+    pub fn behind_since(&self) -> Option<u64>
         ensures { self.now.blocked ≡ false → result ≡ None }
     {
         if !self.blocked {
             return None;
         }
-        let stall = stall_at(self.stalled.get(), self.taken, now);
-        self.stalled.set(Some(stall));
-        Some(stall.since)
+        match self.stalled.get() {
+            Some(noted) if !keeps_pace(noted, self.taken) => Some(noted.since),
+            _ => None,
+        }
     }
 
-    /// Whether writes find room again, since it was told that they found none. It says so once.
+    /// Its client is to keep pace from this time on, where so much is to go of the frame that is first.
+    pub fn note_behind(&self, front: u64, now: u64) {
+        self.stalled.set(Some(noted_at(self.taken, front, now)));
+    }
+
+    /// Whether writes find room again, since it was noted that they found none. It says so once.
     pub fn has_recovered(&self) -> bool
         ensures { self.now.blocked ≡ true → result ≡ false }
     {
@@ -209,18 +239,23 @@ impl<S: Read> ClientStream<S> {
         ensures stream { self.new.stream ≡ self.old.stream }
     {
         self.left = TURN_BYTES;
+        self.goes_on.set(false);
         if self.news.get() == News::Some {
             self.news.set(News::Nothing);
         }
     }
 
-    // Ends the turn: the next one may have as much again.
+    // Ends the turn: the next one may have as much again, or what ends a long text.
     fn put_off(&mut self) -> io::Error
-        ensures left { self.new.left ≡ TURN_BYTES }
+        ensures left { IsTurn self.new.left }
         ensures put_off { self.new.put_off ≡ true }
         ensures stream { self.new.stream ≡ self.old.stream }
     {
-        self.left = TURN_BYTES;
+        self.left = if self.goes_on.replace(false) {
+            LONG_TURN_BYTES
+        } else {
+            TURN_BYTES
+        };
         self.put_off = true;
         io::Error::from(ErrorKind::WouldBlock)
     }
