@@ -66,7 +66,7 @@ enum Came {
     Filled(Filled),
     Due([Due; 6]),
     Rebirth(WentOn),
-    Refusals([bool; 5]),
+    Refusals([bool; 6]),
 }
 
 fn run_over<A: Lane, B: Lane, C: Lane, D: Lane, R: Wait>(

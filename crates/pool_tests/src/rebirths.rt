@@ -95,12 +95,13 @@ fn is_refused<G: Gate, A: Lane, B: Lane, C: Lane, D: Lane, R: Wait>(
     }
 }
 
-// The own incarnation, one that is too high and one that was heard are refused; the next one isn't, and then is.
-pub(crate) const WANTED_REFUSALS: [bool; 5] = [true, true, true, false, true];
+// The own incarnation, one that is too high and one that was heard are refused; the next one isn't, and then is. None of the
+// three behind it is.
+pub(crate) const WANTED_REFUSALS: [bool; 6] = [true, true, true, false, true, false];
 
 pub(crate) fn refusals<G: Gate, A: Lane, B: Lane, C: Lane, D: Lane, R: Wait>(
     scene: Scene<'_, R, G, A, B, C, D>,
-) -> Option<[bool; 5]>
+) -> Option<[bool; 6]>
     requires { 1 < scene.pool.now.shards }
 {
     let Scene { rt, alloc, pool } = scene;
@@ -115,5 +116,6 @@ pub(crate) fn refusals<G: Gate, A: Lane, B: Lane, C: Lane, D: Lane, R: Wait>(
     let heard = is_refused(scene, 2)?;
     let next = is_refused(scene, 3)?;
     let again = is_refused(scene, 3)?;
-    Some([own, too_high, heard, next, again])
+    let later = is_refused(scene, 4)? || is_refused(scene, 5)? || is_refused(scene, 6)?;
+    Some([own, too_high, heard, next, again, later])
 }

@@ -31,9 +31,12 @@ takes m x rest le = ap (λ b. sizes (map row_value (cond b (x ∷ filter (λ y. 
 -- a row for which there is room
 pub row_more : (left last bytes : ℕ) (x : Dot × Row) (rest all : List (Dot × Row)) → bytes ≡ counted (size_of (row_value x) + 1) → bytes ≤ left
     → AreLeft left last (x ∷ rest) all → AreLeft (left - bytes) (max last x.0.count) rest all
-row_more left last bytes x rest all is room before = (omega (arith, before.0), λ m le.
-    let exact : bytes ≡ size_of (row_value x) + 1 = omega (arith, is, room, before.0) in
-    omega (arith, exact, room, before.1 m (omega (arith, le)), takes m x rest (omega (arith, le))))
+row_more left last bytes x rest all is room before = (
+  omega (arith, before.0),
+  λ m le.
+      let exact : bytes ≡ size_of (row_value x) + 1 = omega (arith, is, room, before.0) in
+      omega (arith, exact, room, before.1 m (omega (arith, le)), takes m x rest (omega (arith, le))),
+)
 
 -- one for which there is none: with it they are more than a part has
 pub row_past : (left last bytes : ℕ) (x : Dot × Row) (rest all : List (Dot × Row)) → bytes ≡ counted (size_of (row_value x) + 1) → left < bytes

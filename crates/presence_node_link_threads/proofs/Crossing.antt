@@ -19,6 +19,7 @@ use Rattle.node_links_members.specs.contracts.hearer.Telling as Telling
 use Rattle.node_links_lines.specs.contracts.lines.Line as Line
 use Rattle.presence_node_sockets.specs.contracts.watch.Bell as Bell
 use Rattle.presence_node_sockets.specs.contracts.watch.Watch as Watch
+use Rattle.presence_node_log.specs.contracts.lines.LogFormat as LogFormat
 use Rattle.presence_node_link_words.specs.contracts.end.LinkEnd as LinkEnd
 use Rattle.presence_node_link_words.specs.contracts.lives.Life as Life
 use Rattle.presence_node_link_words.specs.contracts.rebirths.Rebirths as Rebirths
@@ -152,11 +153,14 @@ rebirths_send = search sendable depth 60 fits 20000
 life_send : IsSend (Life.the_field).row
 life_send = search (replica_send, rebirths_send, sendable) depth 60 fits 20000
 
+log_format_sync : IsSync (LogFormat.the_field).row
+log_format_sync = search sendable depth 60 fits 20000
+
 tallies_sync : IsSync (Tallies.the_field).row
 tallies_sync = search (heap.crosses, sendable) depth 60 fits 20000
 
 pub links_sync : IsSync (Links.the_field).row
-links_sync = search (delta_send, delta_sync, form_sync, waiting_sync, book_send, name_sync, stopping_sync, bell_sync, tallies_sync, life_send, line_send, fault_send, bytes_send, heap.crosses, sendable) depth 60 fits 20000
+links_sync = search (delta_send, delta_sync, form_sync, waiting_sync, book_send, name_sync, stopping_sync, bell_sync, tallies_sync, log_format_sync, life_send, line_send, fault_send, bytes_send, heap.crosses, sendable) depth 60 fits 20000
 
 -- ---- what is given
 

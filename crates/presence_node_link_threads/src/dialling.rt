@@ -5,7 +5,6 @@ use crate::links::{Cuts, Links, Place, Wakes};
 use crate::lives::{given_up, owning};
 use crate::node::Node;
 use crate::serving::{coming_from, end_of};
-use crate::ticking::PERIOD_MILLISECONDS;
 use delta_range::Delta;
 use node_links::{
     DialFault, End, Exchanged, Line, Link, LinkFault, Peer, Untold, exchange, next_form,
@@ -31,8 +30,11 @@ const CONNECT_MILLISECONDS: u64 = 1_000;
 /// How often the other node's answers are still looked for once the links are to end: for a second in all.
 const LAST_LOOKS: u32 = 5;
 
-/// How many parts of a shard follow the first one in a period: 4 MiB in all.
+/// How many parts of a shard follow the first one in a period at most: with it 4 MiB of rows.
 const MAX_PARTS: u32 = 15;
+
+/// For how long a period's further parts go out, in milliseconds: half of it.
+const PARTS_MILLISECONDS: u64 = 750;
 
 /// How long a link has to stand until it is said that it came back, in milliseconds.
 pub(crate) const STANDING_MILLISECONDS: u64 = 30_000;
@@ -179,14 +181,10 @@ where
     W: Wakes,
     requires { node.links.now.shards ≡ node.pool.now.shards }
 {
-    let Node {
-        rt,
-        links,
-        pool,
-        wakes,
-    } = node;
-    let mut port = PoolLinkPort::new(rt, pool, links.shards);
-    port.looks_for(dialled.link.peer.own());
+    let (rt, links) = (node.rt, node.links);
+    let own = dialled.link.peer.own();
+    let mut port = PoolLinkPort::new(rt, node.pool, links.shards);
+    port.looks_for(own);
     let done = exchange(
         links.alloc,
         &mut dialled.link,
@@ -194,24 +192,14 @@ where
         line,
         links.time(),
     );
-    if port.has_changed() {
-        wakes.look();
-    }
-    if port.has_told() {
-        links.tallies.count_want();
-    }
-    if port.has_own_counts() {
-        links.tell_odd(rt, place, LinkWarning::OwnCounts);
-    }
-    let own = dialled.link.peer.own();
-    links.hears_of(rt, &own, port.own_life());
+    node.notes(&port, place, &own);
     let has_part = port.has_part();
     match done {
         Ok(Exchanged::Untold(untold)) => Ok(Said {
             untold: Some(untold),
             has_part,
         }),
-        Ok(Exchanged::GivenUp) => Err(given_up(rt, links, pool, wakes, &own)),
+        Ok(Exchanged::GivenUp) => Err(given_up(rt, links, node.pool, node.wakes, &own)),
         Ok(Exchanged::Done) if dialled.link.stream.is_ended() => Err(LinkEnd::Closed),
         Ok(Exchanged::Done) => Ok(Said {
             untold: None,
@@ -535,7 +523,7 @@ impl<'a, R: Clock> State<'a, R> {
         }
     }
 
-    // Where parts were told, more of them go out, as long as they are wanted and the period lasts.
+    // Where parts were told, more of them go out, as long as they are wanted, for half a period.
     fn sends_parts<G, A, B, C, D, W>(
         &mut self,
         node: Node<'_, R, G, A, B, C, D, W>,
@@ -558,7 +546,7 @@ impl<'a, R: Clock> State<'a, R> {
                 return;
             };
             let passed = time_behind(node.rt, begun).saturating_sub(begun);
-            if dialled.in_parts.is_empty() || passed >= PERIOD_MILLISECONDS {
+            if dialled.in_parts.is_empty() || passed >= PARTS_MILLISECONDS {
                 return;
             }
             if let Err(broken) = send_more(node, dialled, dialler.place(), cuts) {

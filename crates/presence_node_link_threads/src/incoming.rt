@@ -151,7 +151,7 @@ impl LinkDoor {
     }
 
     // A link is refused for the address that it comes from, which is told once.
-    fn refuses<R: Wait + Eprint>(&self, rt: &R, links: &Links, socket: &TcpStream) {
+    fn refuses<R: Wait + Clock + Eprint>(&self, rt: &R, links: &Links, socket: &TcpStream) {
         links.tallies.count_refused();
         if let Ok(origin) = Origin::of(links.alloc, socket) {
             links.tell_down(rt, origin.place(), LinkEnd::OtherAddress);
@@ -159,7 +159,7 @@ impl LinkDoor {
     }
 
     // Takes one link, if one waits: whether there may be another.
-    fn take_one<R: Wait + Eprint>(&self, rt: &R, links: &Links) -> bool {
+    fn take_one<R: Wait + Clock + Eprint>(&self, rt: &R, links: &Links) -> bool {
         let Some(socket) = next_stream(&self.listener) else {
             return false;
         };
@@ -178,7 +178,7 @@ impl LinkDoor {
     }
 
     // Takes the links that wait, as many as a turn may: whether there may be more.
-    fn take_in<R: Wait + Eprint>(&self, rt: &R, links: &Links) -> bool {
+    fn take_in<R: Wait + Clock + Eprint>(&self, rt: &R, links: &Links) -> bool {
         for _ in 0..MAX_ACCEPTED {
             if !self.take_one(rt, links) {
                 return false;

@@ -11,6 +11,7 @@ use orswot_core_told::Form;
 use presence_base::{NodeName, Replica};
 use presence_node_link_streams::Stopping;
 use presence_node_link_words::{Life, LinkEnd, LinkWarning, down_line, up_line, warning_line};
+use presence_node_log::{Level, LogFormat, say_line};
 use presence_node_mailboxes::Mailbox;
 use presence_node_sockets::Bell;
 use std::alloc::Global;
@@ -37,6 +38,8 @@ pub(crate) struct Place<'a> {
 /// What the threads of links share.
 pub struct Links {
     pub(crate) alloc: Global,
+    /// In which format lines on standard error are.
+    pub(crate) format: LogFormat,
     /// The life of the node that its links speak of. No other lock but a shard's, a mailbox's and what wakes clients is taken
     /// under this one.
     pub(crate) life: Mutex<Life>,
@@ -70,6 +73,7 @@ impl Drop for Links {
     fn drop(self) {
         let Links {
             alloc: _,
+            format: _,
             life,
             shards: _,
             speaks: _,
@@ -255,8 +259,14 @@ impl Links {
         book.has_met(page)
     }
 
+    // Says a line, with its time and level.
+    fn say<R: Clock + Eprint>(&self, rt: &R, level: Level, line: &str) {
+        let words = line.strip_suffix('\n').unwrap_or(line);
+        say_line(rt, self.alloc, self.format, level, words);
+    }
+
     // Says that a link is up, or has stood for a while, unless that was said of this place.
-    pub(crate) fn tell_up<R: Wait + Eprint>(
+    pub(crate) fn tell_up<R: Wait + Clock + Eprint>(
         &self,
         rt: &R,
         place: Place<'_>,
@@ -271,12 +281,17 @@ impl Links {
             return;
         }
         if let Ok(line) = up_line(self.alloc, place.words, other) {
-            let _told = rt.eprint(line.as_str());
+            self.say(rt, Level::Info, line.as_str());
         }
     }
 
     // Says that a link went, or can't be had, unless that was said of this place.
-    pub(crate) fn tell_down<R: Wait + Eprint>(&self, rt: &R, place: Place<'_>, end: LinkEnd) {
+    pub(crate) fn tell_down<R: Wait + Clock + Eprint>(
+        &self,
+        rt: &R,
+        place: Place<'_>,
+        end: LinkEnd,
+    ) {
         let mut book = self.book.lock(rt);
         let is_news = book.goes(place.page, end);
         drop(book);
@@ -284,12 +299,12 @@ impl Links {
             return;
         }
         if let Ok(line) = down_line(self.alloc, place.words, end) {
-            let _told = rt.eprint(line.as_str());
+            self.say(rt, Level::Info, line.as_str());
         }
     }
 
     // Says what is odd about a link, unless that was said of this place.
-    pub(crate) fn tell_odd<R: Wait + Eprint>(
+    pub(crate) fn tell_odd<R: Wait + Clock + Eprint>(
         &self,
         rt: &R,
         place: Place<'_>,
@@ -302,7 +317,7 @@ impl Links {
             return;
         }
         if let Ok(line) = warning_line(self.alloc, place.words, warning) {
-            let _told = rt.eprint(line.as_str());
+            self.say(rt, Level::Warn, line.as_str());
         }
     }
 

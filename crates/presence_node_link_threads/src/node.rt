@@ -1,6 +1,10 @@
 //! This node, as the threads of its links have it.
-use crate::links::Links;
-use presence_node_link_ports::{Gate, Lane, Pool};
+use crate::links::{Links, Place, Wakes};
+use presence_base::Replica;
+use presence_node_link_ports::{Gate, Lane, Pool, PoolLinkPort};
+use presence_node_link_words::LinkWarning;
+use std::sync::Wait;
+use std::time::Clock;
 
 /// What each thread of links is lent.
 #[derive_where(Clone, Copy)]
@@ -9,4 +13,30 @@ pub(crate) struct Node<'a, R, G: Gate, A: Lane, B: Lane, C: Lane, D: Lane, W> {
     pub(crate) links: &'a Links,
     pub(crate) pool: &'a Pool<G, A, B, C, D>,
     pub(crate) wakes: &'a W,
+}
+
+impl<R, G: Gate, A: Lane, B: Lane, C: Lane, D: Lane, W> Node<'_, R, G, A, B, C, D, W> {
+    /// What came of a link's exchange beside its answer: clients are looked at, it is counted, and what is odd about the link is
+    /// told. The replica is the node as it said hello.
+    pub(crate) fn notes(
+        self,
+        port: &PoolLinkPort<'_, R, G, A, B, C, D>,
+        place: Place<'_>,
+        own: &Replica,
+    )
+    where
+        R: Wait + Clock + Eprint,
+        W: Wakes,
+    {
+        if port.has_changed() {
+            self.wakes.look();
+        }
+        if port.has_told() {
+            self.links.tallies.count_want();
+        }
+        if port.has_own_counts() {
+            self.links.tell_odd(self.rt, place, LinkWarning::OwnCounts);
+        }
+        self.links.hears_of(self.rt, own, port.own_life());
+    }
 }

@@ -428,16 +428,7 @@ impl<'a, R: Clock> Incoming<'a, R> {
             links.tell_odd(rt, self.origin.place(), LinkWarning::CountsBelow);
         }
         let done = answer_line(links.alloc, &mut self.link, &mut port, line, links.time());
-        if port.has_changed() {
-            node.wakes.look();
-        }
-        if port.has_told() {
-            links.tallies.count_want();
-        }
-        if port.has_own_counts() {
-            links.tell_odd(rt, self.origin.place(), LinkWarning::OwnCounts);
-        }
-        links.hears_of(rt, &own, port.own_life());
+        node.notes(&port, self.origin.place(), &own);
         match done {
             Ok(()) => Ok(()),
             Err(fault) => Err(end_of(links, fault)),

@@ -17,6 +17,7 @@ use presence_base::{NodeName, Replica};
 use presence_node_link_ports::{Gate, Lane, Pool};
 use presence_node_link_streams::{Clerk, Stopping};
 use presence_node_link_words::{Life, MAX_LINKS};
+use presence_node_log::LogFormat;
 use presence_node_mailboxes::Mailbox;
 use presence_node_sockets::{Bell, Watch};
 use std::alloc::{AllocError, Global};
@@ -184,6 +185,8 @@ pub struct LinkNode {
     pub shards: u32,
     /// The highest version of links that it speaks.
     pub version: u32,
+    /// In which format it says what becomes of links.
+    pub format: LogFormat,
 }
 
 /// What the threads of links of this node share, and what each of them does: links come in at this listening socket from these
@@ -208,6 +211,7 @@ pub fn tasks_for<R: Net>(
     readers.push(Clerk::new())?;
     let links = Links {
         alloc,
+        format: node.format,
         life: Mutex::new(Life::first(node.own)),
         shards: node.shards,
         speaks: form_told(Some(u64::from(node.version))),

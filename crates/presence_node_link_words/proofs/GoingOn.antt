@@ -1,11 +1,9 @@
 -- A node goes on once for each of its lives.
 use Rattle.std.proofs.Common.{◌≡◌, ℕ, Bool, true, false, ◌+◌, ◌<◌, max, nat_lt, cond, refl, ap, ◌∙◌, arith}
-use Rattle.presence_base.specs.declared.dots.Replica.{Replica}
 use Rattle.presence_base.specs.declared.dots.TheConstants.{MAX_COUNT}
 use Rattle.presence_base.specs.Order.{same_replica}
 use Rattle.orswot_core_told.proofs.OrderFacts.{replicas_equal}
 use Rattle.presence_node_link_words.specs.declared.lives.Life.{Life}
-use Rattle.presence_node_link_words.specs.declared.lives.Coming.{Coming}
 use Rattle.presence_node_link_words.specs.declared.lives.Course.{Course}
 use Rattle.presence_node_link_words.specs.declared.lives.Course.TheVariants.{HasGoneOn, GoesOn, Waits, StaysGone}
 use Rattle.presence_node_link_words.specs.Lives.{course_of, course_behind, life_behind, life_refused, named_anew, GoesAbove, GoesOnOnce}
@@ -36,6 +34,7 @@ is_another life now i h = go (same_replica life.own (named_anew life.own i)) ref
   where
     above : life.own.incarnation < i
     above = (goes_above life life.own now i h).0
+
     go : (b : Bool) → same_replica life.own (named_anew life.own i) ≡ b → b ≡ false
     go true e = let same : life.own.incarnation ≡ i = ap (λ r. r.incarnation) (replicas_equal life.own (named_anew life.own i) e) in
         absurd (omega (arith, above, same))

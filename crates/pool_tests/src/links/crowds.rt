@@ -121,3 +121,38 @@ pub(crate) fn hear_crowd<R: Wait, A: Lane, B: Lane, C: Lane, D: Lane>(
     let full = port.full(alloc, 0, Form::One).ok()??.live().len();
     Some((top, full))
 }
+
+// Up to which count this node's next life and another node are known behind what is told of both; which life was told of; and
+// whether the node can go on as that one.
+pub(crate) type HearingOwn = ([u64; 2], u64, bool);
+
+pub(crate) const HEARING_OWN: HearingOwn = ([0, 2], 3, true);
+
+// Two rows of the replica, in one range.
+fn told_of(alloc: Global, replica: &Replica) -> Option<Told> {
+    crowd_of(alloc, replica, 2)
+}
+
+pub(crate) fn hear_own<R: Wait, A: Lane, B: Lane, C: Lane, D: Lane>(
+    scene: Scene<'_, R, NoGate, A, B, C, D>,
+    own: &Replica,
+) -> Option<HearingOwn>
+    requires { scene.pool.now.shards ≡ 2 }
+{
+    let Scene { rt, alloc, pool } = scene;
+    let other = replica(alloc, "c")?;
+    let next = Replica {
+        name: own.name,
+        incarnation: 3,
+    };
+    let mut port = PoolLinkPort::new(rt, pool, 2);
+    port.looks_for(*own);
+    port.merge(alloc, 0, &told_of(alloc, &next)?).ok()?;
+    port.merge(alloc, 0, &told_of(alloc, &other)?).ok()?;
+    let tops = [
+        port.top(alloc, 0, &next).ok()?,
+        port.top(alloc, 0, &other).ok()?,
+    ];
+    let goes_on = pool.rebirth(rt, alloc, 0, 3).is_ok();
+    Some((tops, port.own_life(), goes_on))
+}

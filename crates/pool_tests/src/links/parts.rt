@@ -21,28 +21,27 @@ pub(crate) struct Heavy {
 // How many rows each of two parts tells, one behind the other, and up to which count the second goes.
 pub(crate) type SayingParts = (usize, usize, u64);
 
-// The rows of a line of 4,194,304 bytes: `["told",0,[[["b",1,0,17001]],[` with rows as
-// `["b",1,1,"room:a","k0",5,{"x":".."},null]`, counted by hand for each.
+// The rows of 262,144 bytes, as `["b",1,1,"room:a","k0",5,{"x":".."},null]` with the comma behind it, counted by hand for each.
 pub(crate) const LIGHT: Heavy = Heavy {
     rows: 30_000,
     bytes: 200,
 };
 
-pub(crate) const SAYING_LIGHT: SayingParts = (17_001, 12_999, 30_000);
+pub(crate) const SAYING_LIGHT: SayingParts = (1_074, 1_065, 2_139);
 
 pub(crate) const MIDDLING: Heavy = Heavy {
     rows: 4_500,
     bytes: 1_000,
 };
 
-pub(crate) const SAYING_MIDDLING: SayingParts = (4_011, 489, 4_500);
+pub(crate) const SAYING_MIDDLING: SayingParts = (251, 251, 502);
 
 pub(crate) const HEAVY: Heavy = Heavy {
     rows: 300,
     bytes: 16_000,
 };
 
-pub(crate) const SAYING_HEAVY: SayingParts = (261, 39, 300);
+pub(crate) const SAYING_HEAVY: SayingParts = (16, 16, 32);
 
 fn heavy_meta(alloc: Global, bytes: u32) -> Option<Meta> {
     let mut text = String::from_str(alloc, "{\"x\":\"").ok()?;

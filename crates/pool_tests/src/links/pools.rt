@@ -4,8 +4,8 @@ ghost use Rattle.std.specs.Prelude.{◌≡◌};
 ghost use Rattle.presence_base.specs.Refs.{IsCount};
 
 use super::crowds::{
-    HEARING_MOST, HearingCrowd, MOST, SAYING_MOST, SAYING_TOO_MANY, SayingCrowd, TOO_MANY,
-    hear_crowd, say_crowd,
+    HEARING_MOST, HEARING_OWN, HearingCrowd, HearingOwn, MOST, SAYING_MOST, SAYING_TOO_MANY,
+    SayingCrowd, TOO_MANY, hear_crowd, hear_own, say_crowd,
 };
 use super::hearing::{HEARING, HEARING_KEPT, HEARING_OUTGROWN, Hearing, hear};
 use super::loopback::{ACCEPTED, Accepted, DIALLED, Dialled, accept_over, both_ends, dial_over};
@@ -35,6 +35,7 @@ enum Run {
     // So many rows.
     SayCrowd(u32),
     HearCrowd(u32),
+    HearOwn,
     SayParts(Heavy),
     // At one end of a connection.
     Dial(TcpStream),
@@ -49,6 +50,7 @@ enum Came {
     Heard(Hearing),
     SaidCrowd(SayingCrowd),
     HeardCrowd(HearingCrowd),
+    HeardOwn(HearingOwn),
     SaidParts(SayingParts),
     Dialled(Dialled),
     Accepted(Accepted),
@@ -68,6 +70,7 @@ fn run_over<A: Lane, B: Lane, C: Lane, D: Lane, R: Wait>(
         Run::Hear(dialogue) => Some(Came::Heard(hear(scene, seat, *own, dialogue)?)),
         Run::SayCrowd(rows) => Some(Came::SaidCrowd(say_crowd(scene, seat, rows)?)),
         Run::HearCrowd(rows) => Some(Came::HeardCrowd(hear_crowd(scene, rows)?)),
+        Run::HearOwn => Some(Came::HeardOwn(hear_own(scene, own)?)),
         Run::SayParts(heavy) => Some(Came::SaidParts(say_parts(scene, seat, heavy)?)),
         Run::Dial(stream) => Some(Came::Dialled(dial_over(scene, seat, own, stream)?)),
         Run::Accept(stream) => Some(Came::Accepted(accept_over(scene, seat, own, stream)?)),
@@ -182,7 +185,14 @@ fn a_merge_of_65_536_rows(rt: HostRuntime) {
     assert!(rt; heard == Some(Came::HeardCrowd(HEARING_MOST)));
 }
 
-// What fits no line is told in as few parts as lines take.
+// What others tell of a node's own name isn't heard: so it can go on as whatever life they tell of.
+#[test]
+fn nobody_tells_a_node_of_its_next_life(rt: HostRuntime) {
+    let heard = came_of(&rt, rt.alloc(), "a", Run::HearOwn);
+    assert!(rt; heard == Some(Came::HeardOwn(HEARING_OWN)));
+}
+
+// What needs a long line is told in as few parts as may be.
 #[test]
 fn a_shard_is_told_in_parts(rt: HostRuntime) {
     let alloc = rt.alloc();

@@ -9,7 +9,7 @@ returns-clause-dials c =
       its_host = c.in_ok-dialler.ensures.host;
       its_port = c.in_ok-dialler.ensures.port;
       its_number = search rules;
-      tasks_are = c.in_ok-push-2.ensures.items ∙ ap (λ ts. ts ++ Dial c.in_ok-dialler.dialler ∷ []) c.in_ok-push.ensures.items ∙ append_assoc _ _ _;
+      tasks_are = two_more c.args.self.now.tasks.items c.push.self.items c.push-2.self.items (Read (length c.args.self.now.links.readers.items)) (Dial c.in_ok-dialler.dialler) c.in_ok-push.ensures.items c.in_ok-push-2.ensures.items;
       reader = search rules;
       mailbox = search rules;
     }
