@@ -1,8 +1,9 @@
 -- What `/metrics` tells: each family's lines, in their order.
-use Rattle.std.specs.Prelude.{ℕ, List, [], ◌∷◌, codes}
+use Rattle.std.specs.Prelude.{ℕ, List, [], ◌∷◌, codes, Bool, true, false}
 use Rattle.presence_node_counts.specs.declared.told.AnswersTold.{AnswersTold}
 use Rattle.presence_node_counts.specs.declared.told.EndsTold.{EndsTold}
 use Rattle.presence_node_counts.specs.declared.told.LinksTold.{LinksTold}
+use Rattle.presence_node_counts.specs.declared.told.ProcessTold.{ProcessTold}
 use Rattle.presence_node_counts.specs.declared.told.ShardsTold.{ShardsTold}
 use Rattle.presence_node_counts.specs.declared.told.ServerTold.{ServerTold}
 use Rattle.presence_node_counts.specs.Lines.{Naming, with_count, with_named, with_numbered}
@@ -83,7 +84,7 @@ ENDED = record {
 abbrev pub PLACES : Naming
 PLACES = record {
   name = codes "presence_node_places";
-  help = codes "Places of sessions on topics.";
+  help = codes "The same as presence_node_joined_topics, by the name that it had.";
   kind = codes "gauge";
   label = [];
 }
@@ -200,6 +201,142 @@ WANTS = record {
   label = [];
 }
 
+abbrev pub JOINED : Naming
+JOINED = record {
+  name = codes "presence_node_joined_topics";
+  help = codes "Topics that sessions have joined, those of each session counted.";
+  kind = codes "gauge";
+  label = [];
+}
+
+abbrev pub CLIENTS : Naming
+CLIENTS = record {
+  name = codes "presence_node_clients";
+  help = codes "Clients that have a place at a worker, or are promised one.";
+  kind = codes "gauge";
+  label = [];
+}
+
+abbrev pub CLIENTS_MAX : Naming
+CLIENTS_MAX = record {
+  name = codes "presence_node_clients_max";
+  help = codes "Clients that the workers have places for.";
+  kind = codes "gauge";
+  label = [];
+}
+
+abbrev pub MESSAGES : Naming
+MESSAGES = record {
+  name = codes "presence_node_received_messages_total";
+  help = codes "Texts that came from clients.";
+  kind = codes "counter";
+  label = [];
+}
+
+abbrev pub BYTES_IN : Naming
+BYTES_IN = record {
+  name = codes "presence_node_received_bytes_total";
+  help = codes "Bytes that came from clients behind their handshakes.";
+  kind = codes "counter";
+  label = [];
+}
+
+abbrev pub REFUSALS : Naming
+REFUSALS = record {
+  name = codes "presence_node_call_refusals_total";
+  help = codes "Calls of sessions that were refused, by why.";
+  kind = codes "counter";
+  label = codes "reason";
+}
+
+abbrev pub LINKS_REFUSED : Naming
+LINKS_REFUSED = record {
+  name = codes "presence_node_links_refused_total";
+  help = codes "Links that were refused for the address that they came from.";
+  kind = codes "counter";
+  label = [];
+}
+
+abbrev pub PEERS : Naming
+PEERS = record {
+  name = codes "presence_node_peers";
+  help = codes "Other nodes that this one is told to dial.";
+  kind = codes "gauge";
+  label = [];
+}
+
+abbrev pub PEERS_UP : Naming
+PEERS_UP = record {
+  name = codes "presence_node_peers_up";
+  help = codes "Those of them to which a link stands.";
+  kind = codes "gauge";
+  label = [];
+}
+
+abbrev pub REBIRTHS : Naming
+REBIRTHS = record {
+  name = codes "presence_node_rebirths_total";
+  help = codes "Times that this node went on under its next incarnation.";
+  kind = codes "counter";
+  label = [];
+}
+
+abbrev pub BUILD : Naming
+BUILD = record {
+  name = codes "presence_node_build_info";
+  help = codes "Always 1: which program it is.";
+  kind = codes "gauge";
+  label = codes "version";
+}
+
+abbrev pub STARTED : Naming
+STARTED = record {
+  name = codes "process_start_time_seconds";
+  help = codes "When the server started, in seconds since 1970.";
+  kind = codes "gauge";
+  label = [];
+}
+
+abbrev pub MEMORY : Naming
+MEMORY = record {
+  name = codes "process_resident_memory_bytes";
+  help = codes "Memory that the program has, or 0 where the system doesn't say.";
+  kind = codes "gauge";
+  label = [];
+}
+
+abbrev pub MEMORY_MAX : Naming
+MEMORY_MAX = record {
+  name = codes "presence_node_memory_max_bytes";
+  help = codes "Memory that the program may have, beyond nine tenths of which it takes nothing more in.";
+  kind = codes "gauge";
+  label = [];
+}
+
+abbrev pub MEMORY_TIGHT : Naming
+MEMORY_TIGHT = record {
+  name = codes "presence_node_memory_is_tight";
+  help = codes "1 while it takes nothing more in for want of memory, and else 0.";
+  kind = codes "gauge";
+  label = [];
+}
+
+abbrev pub FILES : Naming
+FILES = record {
+  name = codes "process_open_fds";
+  help = codes "Files that the program has open, or 0 where the system doesn't say.";
+  kind = codes "gauge";
+  label = [];
+}
+
+abbrev pub FILES_MAX : Naming
+FILES_MAX = record {
+  name = codes "process_max_fds";
+  help = codes "Files that it may have open, or 0 where the system doesn't say.";
+  kind = codes "gauge";
+  label = [];
+}
+
 -- Each of these is a text that had `text` already.
 
 abbrev pub taken_behind : List ℕ → ServerTold → List ℕ
@@ -220,6 +357,8 @@ requests_behind text a = with_named text REQUESTS (
     (codes "socket", a.sockets) ∷ (codes "page", a.pages) ∷ (codes "health", a.health)
     ∷ (codes "metrics", a.metrics) ∷ (codes "bad_request", a.bad_requests) ∷ (codes "forbidden", a.forbidden)
     ∷ (codes "not_found", a.not_found) ∷ (codes "not_allowed", a.not_allowed)
+    ∷ (codes "options", a.options) ∷ (codes "no_host", a.no_host) ∷ (codes "long_head", a.long_head)
+    ∷ (codes "long_body", a.long_body) ∷ (codes "elsewhere", a.elsewhere) ∷ (codes "unwell", a.unwell)
     ∷ (codes "full", a.full) ∷ (codes "crowded", a.crowded) ∷ (codes "hasty", a.hasty) ∷ [])
 
 abbrev pub ends_behind : List ℕ → EndsTold → List ℕ
@@ -232,19 +371,33 @@ accepted_behind text c = with_named text CALLS (
     (codes "join", c.joins) ∷ (codes "leave", c.leaves) ∷ (codes "track", c.tracks) ∷ (codes "update", c.updates)
     ∷ (codes "untrack", c.untracks) ∷ (codes "list", c.lists) ∷ (codes "get", c.gets) ∷ (codes "shout", c.shouts) ∷ [])
 
+abbrev pub refusals_behind : List ℕ → Tally → List ℕ
+refusals_behind text c = with_named (with_count text REFUSED c.refused) REFUSALS (
+    (codes "already_tracked", c.already_tracked) ∷ (codes "no_presence", c.no_presence) ∷ (codes "full", c.full)
+    ∷ (codes "journal_full", c.journal_full) ∷ (codes "no_memory", c.no_memory) ∷ (codes "others", c.others) ∷ [])
+
 abbrev pub calls_behind : List ℕ → Tally → List ℕ
-calls_behind text c =
-    with_named (with_count (accepted_behind text c) REFUSED c.refused)
+calls_behind text c = with_named (refusals_behind (accepted_behind text c) c)
     DELIVERIES ((codes "state", c.states) ∷ (codes "diff", c.diffs) ∷ (codes "shout", c.shouts_told) ∷ [])
 
 abbrev pub open_behind : List ℕ → ServerTold → List ℕ
 open_behind text t = with_count (with_count (with_count text SOCKETS t.handed_on) SESSIONS t.sessions) BEGUN t.begun
 
+abbrev pub joined_behind : List ℕ → ServerTold → List ℕ
+joined_behind text t = with_count (with_count text PLACES t.joined) JOINED t.joined
+
 abbrev pub sessions_behind : List ℕ → ServerTold → List ℕ
-sessions_behind text t = calls_behind (with_count (ends_behind (open_behind text t) t.ends) PLACES t.places) t.calls
+sessions_behind text t = calls_behind (joined_behind (ends_behind (open_behind text t) t.ends) t) t.calls
+
+abbrev pub seats_behind : List ℕ → ServerTold → List ℕ
+seats_behind text t = with_count (with_count text CLIENTS t.clients) CLIENTS_MAX t.clients_max
+
+abbrev pub received_behind : List ℕ → ServerTold → List ℕ
+received_behind text t = with_count (with_count text MESSAGES t.messages) BYTES_IN t.bytes
 
 abbrev pub clients_behind : List ℕ → ServerTold → List ℕ
-clients_behind text t = sessions_behind (requests_behind (connections_behind text t) t.answers) t
+clients_behind text t =
+    sessions_behind (received_behind (seats_behind (requests_behind (connections_behind text t) t.answers) t) t) t
 
 abbrev pub checkpoints_behind : List ℕ → ServerTold → List ℕ
 checkpoints_behind text t =
@@ -253,8 +406,14 @@ checkpoints_behind text t =
 abbrev pub links_up_behind : List ℕ → LinksTold → List ℕ
 links_up_behind text l = with_count (with_count (with_count text LINKS l.up) CAME_UP l.came_up) WENT_DOWN l.went_down
 
+abbrev pub link_words_behind : List ℕ → LinksTold → List ℕ
+link_words_behind text l = with_count (with_count (with_count text BEATS l.beats) WANTS l.wants) LINKS_REFUSED l.refused
+
+abbrev pub peers_behind : List ℕ → LinksTold → List ℕ
+peers_behind text l = with_count (with_count (with_count text PEERS l.peers) PEERS_UP l.peers_up) REBIRTHS l.rebirths
+
 abbrev pub links_behind : List ℕ → LinksTold → List ℕ
-links_behind text l = with_count (with_count (links_up_behind text l) BEATS l.beats) WANTS l.wants
+links_behind text l = peers_behind (link_words_behind (links_up_behind text l) l) l
 
 abbrev pub server_behind : List ℕ → ServerTold → List ℕ
 server_behind text t = checkpoints_behind (clients_behind text t) t
@@ -289,6 +448,24 @@ shards_behind text s = shown_behind (journals_behind text s) s
 abbrev pub nodes_behind : List ℕ → ShardsTold → LinksTold → List ℕ
 nodes_behind text s l = links_behind (shards_behind text s) l
 
+-- yes is 1
+abbrev pub told_flag : Bool → ℕ
+told_flag true = 1
+told_flag false = 0
+
+abbrev pub program_behind : List ℕ → ProcessTold → List ℕ
+program_behind text p = with_count (with_named text BUILD ((p.version.now, 1) ∷ [])) STARTED p.started
+
+abbrev pub memory_behind : List ℕ → ProcessTold → List ℕ
+memory_behind text p =
+    with_count (with_count (with_count text MEMORY p.memory) MEMORY_MAX p.memory_max) MEMORY_TIGHT (told_flag p.is_tight)
+
+abbrev pub files_behind : List ℕ → ProcessTold → List ℕ
+files_behind text p = with_count (with_count text FILES p.files) FILES_MAX p.files_max
+
+abbrev pub process_behind : List ℕ → ProcessTold → List ℕ
+process_behind text p = files_behind (memory_behind (program_behind text p) p) p
+
 -- all that is told
-abbrev pub metrics_lines : ServerTold → ShardsTold → LinksTold → List ℕ
-metrics_lines t s l = nodes_behind (server_behind [] t) s l
+abbrev pub metrics_lines : ServerTold → ShardsTold → LinksTold → ProcessTold → List ℕ
+metrics_lines t s l p = process_behind (nodes_behind (server_behind [] t) s l) p

@@ -62,6 +62,10 @@ pub struct Counts {
     full_checkpoints: Count,
     ends: Ends,
     calls: Calls,
+    clients: Count,
+    clients_max: Count,
+    messages: Count,
+    bytes: Count,
 }
 
 impl Counts {
@@ -82,6 +86,10 @@ impl Counts {
             full_checkpoints: Count::new(),
             ends: Ends::new(),
             calls: Calls::new(),
+            clients: Count::new(),
+            clients_max: Count::new(),
+            messages: Count::new(),
+            bytes: Count::new(),
         }
     }
 
@@ -93,6 +101,18 @@ impl Counts {
     /// So many requests are being waited for or answered.
     pub fn has_under_way(&self, requests: usize) {
         self.under_way.set(requests as u64);
+    }
+
+    /// So many clients have a place, or are promised one, of so many places that there are.
+    pub fn has_clients(&self, clients: u64, places: u64) {
+        self.clients.set(clients);
+        self.clients_max.set(places);
+    }
+
+    /// So many texts came from clients, and so many bytes.
+    pub fn received(&self, messages: u64, bytes: u64) {
+        self.messages.add(messages);
+        self.bytes.add(bytes);
     }
 
     /// A connection was handed to the workers.
@@ -165,7 +185,11 @@ impl Counts {
             sessions: begun.saturating_sub(all_ends(&ends)),
             ends,
             calls,
-            places: calls.joins.saturating_sub(calls.leaves),
+            joined: calls.joins.saturating_sub(calls.leaves),
+            clients: self.clients.get(),
+            clients_max: self.clients_max.get(),
+            messages: self.messages.get(),
+            bytes: self.bytes.get(),
             due_checkpoints: self.due_checkpoints.get(),
             full_checkpoints: self.full_checkpoints.get(),
         }

@@ -66,7 +66,7 @@ pub(crate) const ENDED: Family = Family {
 
 pub(crate) const PLACES: Family = Family {
     name: "presence_node_places",
-    help: "Places of sessions on topics.",
+    help: "The same as presence_node_joined_topics, by the name that it had.",
     kind: "gauge",
     label: "",
 };
@@ -166,5 +166,124 @@ pub(crate) const WANTS: Family = Family {
     name: "presence_node_link_wants_total",
     help: "Times that another node asked for what it lacks.",
     kind: "counter",
+    label: "",
+};
+
+pub(crate) const JOINED: Family = Family {
+    name: "presence_node_joined_topics",
+    help: "Topics that sessions have joined, those of each session counted.",
+    kind: "gauge",
+    label: "",
+};
+
+pub(crate) const CLIENTS: Family = Family {
+    name: "presence_node_clients",
+    help: "Clients that have a place at a worker, or are promised one.",
+    kind: "gauge",
+    label: "",
+};
+
+pub(crate) const CLIENTS_MAX: Family = Family {
+    name: "presence_node_clients_max",
+    help: "Clients that the workers have places for.",
+    kind: "gauge",
+    label: "",
+};
+
+pub(crate) const MESSAGES: Family = Family {
+    name: "presence_node_received_messages_total",
+    help: "Texts that came from clients.",
+    kind: "counter",
+    label: "",
+};
+
+pub(crate) const BYTES_IN: Family = Family {
+    name: "presence_node_received_bytes_total",
+    help: "Bytes that came from clients behind their handshakes.",
+    kind: "counter",
+    label: "",
+};
+
+pub(crate) const REFUSALS: Family = Family {
+    name: "presence_node_call_refusals_total",
+    help: "Calls of sessions that were refused, by why.",
+    kind: "counter",
+    label: "reason",
+};
+
+pub(crate) const LINKS_REFUSED: Family = Family {
+    name: "presence_node_links_refused_total",
+    help: "Links that were refused for the address that they came from.",
+    kind: "counter",
+    label: "",
+};
+
+pub(crate) const PEERS: Family = Family {
+    name: "presence_node_peers",
+    help: "Other nodes that this one is told to dial.",
+    kind: "gauge",
+    label: "",
+};
+
+pub(crate) const PEERS_UP: Family = Family {
+    name: "presence_node_peers_up",
+    help: "Those of them to which a link stands.",
+    kind: "gauge",
+    label: "",
+};
+
+pub(crate) const REBIRTHS: Family = Family {
+    name: "presence_node_rebirths_total",
+    help: "Times that this node went on under its next incarnation.",
+    kind: "counter",
+    label: "",
+};
+
+pub(crate) const BUILD: Family = Family {
+    name: "presence_node_build_info",
+    help: "Always 1: which program it is.",
+    kind: "gauge",
+    label: "version",
+};
+
+pub(crate) const STARTED: Family = Family {
+    name: "process_start_time_seconds",
+    help: "When the server started, in seconds since 1970.",
+    kind: "gauge",
+    label: "",
+};
+
+pub(crate) const MEMORY: Family = Family {
+    name: "process_resident_memory_bytes",
+    help: "Memory that the program has, or 0 where the system doesn't say.",
+    kind: "gauge",
+    label: "",
+};
+
+pub(crate) const MEMORY_MAX: Family = Family {
+    name: "presence_node_memory_max_bytes",
+    help: "Memory that the program may have, beyond nine tenths of which it takes nothing more in.",
+    kind: "gauge",
+    label: "",
+};
+
+pub(crate) const MEMORY_TIGHT: Family = Family {
+    name: "presence_node_memory_is_tight",
+    help: "1 while it takes nothing more in for want of memory, and else 0.",
+    kind: "gauge",
+    label: "",
+};
+
+pub(crate) const FILES: Family = Family {
+    name: "process_open_fds",
+    help: "Files that the program has open, or 0 where the system doesn't say.",
+    kind: "gauge",
+    label: "",
+};
+
+pub(crate) const FILES_MAX: Family = Family {
+    name: "process_max_fds",
+    help: "Files that it may have open, or 0 where the system doesn't say.",
+    kind: "gauge",
     label: "",
 };

@@ -16,6 +16,12 @@ pub(crate) struct Answers {
     forbidden: Count,
     not_found: Count,
     not_allowed: Count,
+    options: Count,
+    no_host: Count,
+    long_head: Count,
+    long_body: Count,
+    elsewhere: Count,
+    unwell: Count,
     full: Count,
     crowded: Count,
     hasty: Count,
@@ -32,6 +38,12 @@ impl Answers {
             forbidden: Count::new(),
             not_found: Count::new(),
             not_allowed: Count::new(),
+            options: Count::new(),
+            no_host: Count::new(),
+            long_head: Count::new(),
+            long_body: Count::new(),
+            elsewhere: Count::new(),
+            unwell: Count::new(),
             full: Count::new(),
             crowded: Count::new(),
             hasty: Count::new(),
@@ -49,6 +61,12 @@ impl Answers {
             Answer::Forbidden => &self.forbidden,
             Answer::NotFound => &self.not_found,
             Answer::NotAllowed => &self.not_allowed,
+            Answer::Options => &self.options,
+            Answer::NoHost => &self.no_host,
+            Answer::LongHead => &self.long_head,
+            Answer::LongBody => &self.long_body,
+            Answer::Elsewhere => &self.elsewhere,
+            Answer::Unwell => &self.unwell,
             Answer::Full => &self.full,
             Answer::Crowded => &self.crowded,
             Answer::Hasty => &self.hasty,
@@ -65,6 +83,12 @@ impl Answers {
             forbidden: self.forbidden.get(),
             not_found: self.not_found.get(),
             not_allowed: self.not_allowed.get(),
+            options: self.options.get(),
+            no_host: self.no_host.get(),
+            long_head: self.long_head.get(),
+            long_body: self.long_body.get(),
+            elsewhere: self.elsewhere.get(),
+            unwell: self.unwell.get(),
             full: self.full.get(),
             crowded: self.crowded.get(),
             hasty: self.hasty.get(),
@@ -139,6 +163,12 @@ pub(crate) struct Calls {
     gets: Count,
     shouts: Count,
     refused: Count,
+    already_tracked: Count,
+    no_presence: Count,
+    full: Count,
+    journal_full: Count,
+    no_memory: Count,
+    others: Count,
     states: Count,
     diffs: Count,
     shouts_told: Count,
@@ -156,6 +186,12 @@ impl Calls {
             gets: Count::new(),
             shouts: Count::new(),
             refused: Count::new(),
+            already_tracked: Count::new(),
+            no_presence: Count::new(),
+            full: Count::new(),
+            journal_full: Count::new(),
+            no_memory: Count::new(),
+            others: Count::new(),
             states: Count::new(),
             diffs: Count::new(),
             shouts_told: Count::new(),
@@ -173,6 +209,12 @@ impl Calls {
         self.gets.add(calls.gets);
         self.shouts.add(calls.shouts);
         self.refused.add(calls.refused);
+        self.already_tracked.add(calls.already_tracked);
+        self.no_presence.add(calls.no_presence);
+        self.full.add(calls.full);
+        self.journal_full.add(calls.journal_full);
+        self.no_memory.add(calls.no_memory);
+        self.others.add(calls.others);
         self.states.add(calls.states);
         self.diffs.add(calls.diffs);
         self.shouts_told.add(calls.shouts_told);
@@ -189,6 +231,12 @@ impl Calls {
             gets: self.gets.get(),
             shouts: self.shouts.get(),
             refused: self.refused.get(),
+            already_tracked: self.already_tracked.get(),
+            no_presence: self.no_presence.get(),
+            full: self.full.get(),
+            journal_full: self.journal_full.get(),
+            no_memory: self.no_memory.get(),
+            others: self.others.get(),
             states: self.states.get(),
             diffs: self.diffs.get(),
             shouts_told: self.shouts_told.get(),

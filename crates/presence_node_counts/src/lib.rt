@@ -16,4 +16,4 @@ mod told;
 pub use counts::{Checkpoint, Counts, Dropped};
 pub use ended::Ended;
 pub use metrics::metrics_text;
-pub use told::{AnswersTold, EndsTold, LinksTold, ServerTold, ShardsTold};
+pub use told::{AnswersTold, EndsTold, LinksTold, ProcessTold, ServerTold, ShardsTold};

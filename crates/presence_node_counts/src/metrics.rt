@@ -1,11 +1,11 @@
 //! All counts as a text.
 ghost use Rattle.std.specs.Prelude.{◌≡◌, IfOk, string_bytes};
 ghost use Rattle.presence_node_counts.specs.Lines.{Leaves};
-ghost use Rattle.presence_node_counts.specs.Metrics.{accepted_behind, bytes_behind, calls_behind, checkpoints_behind, clients_behind, connections_behind, ends_behind, entries_behind, journals_behind, links_behind, links_up_behind, metrics_lines, nodes_behind, open_behind, other_rows_behind, own_rows_behind, requests_behind, rows_behind, server_behind, sessions_behind, shards_behind, shown_behind, taken_behind, topics_behind, waiting_behind};
+ghost use Rattle.presence_node_counts.specs.Metrics.{accepted_behind, bytes_behind, calls_behind, checkpoints_behind, clients_behind, connections_behind, ends_behind, entries_behind, files_behind, joined_behind, journals_behind, link_words_behind, links_behind, links_up_behind, memory_behind, metrics_lines, nodes_behind, open_behind, other_rows_behind, own_rows_behind, peers_behind, process_behind, program_behind, received_behind, refusals_behind, requests_behind, rows_behind, seats_behind, server_behind, sessions_behind, shards_behind, shown_behind, taken_behind, topics_behind, waiting_behind};
 
 use crate::families::*;
 use crate::text::{count_text, named_text, numbered_text};
-use crate::told::{AnswersTold, EndsTold, LinksTold, ServerTold, ShardsTold};
+use crate::told::{AnswersTold, EndsTold, LinksTold, ProcessTold, ServerTold, ShardsTold};
 use presence_node_tallies::Tally;
 use std::alloc::{AllocError, Global};
 
@@ -64,6 +64,12 @@ fn requests_text(alloc: Global, text: &mut String, answers: &AnswersTold) -> Res
             ("forbidden", answers.forbidden),
             ("not_found", answers.not_found),
             ("not_allowed", answers.not_allowed),
+            ("options", answers.options),
+            ("no_host", answers.no_host),
+            ("long_head", answers.long_head),
+            ("long_body", answers.long_body),
+            ("elsewhere", answers.elsewhere),
+            ("unwell", answers.unwell),
             ("full", answers.full),
             ("crowded", answers.crowded),
             ("hasty", answers.hasty),
@@ -113,12 +119,32 @@ fn accepted_text(alloc: Global, text: &mut String, calls: &Tally) -> Result<(), 
     )
 }
 
+// The refused calls of sessions, by why.
+fn refusals_text(alloc: Global, text: &mut String, calls: &Tally) -> Result<(), AllocError>
+    ensures { Leaves (string_bytes text.new) (refusals_behind (string_bytes text.old) calls.now) result }
+{
+    count_text(alloc, text, &REFUSED, calls.refused)?;
+    named_text(
+        alloc,
+        text,
+        &REFUSALS,
+        &[
+            ("already_tracked", calls.already_tracked),
+            ("no_presence", calls.no_presence),
+            ("full", calls.full),
+            ("journal_full", calls.journal_full),
+            ("no_memory", calls.no_memory),
+            ("others", calls.others),
+        ],
+    )
+}
+
 // The calls of sessions, and what they were delivered.
 fn calls_text(alloc: Global, text: &mut String, calls: &Tally) -> Result<(), AllocError>
     ensures { Leaves (string_bytes text.new) (calls_behind (string_bytes text.old) calls.now) result }
 {
     accepted_text(alloc, text, calls)?;
-    count_text(alloc, text, &REFUSED, calls.refused)?;
+    refusals_text(alloc, text, calls)?;
     named_text(
         alloc,
         text,
@@ -140,14 +166,38 @@ fn open_text(alloc: Global, text: &mut String, told: &ServerTold) -> Result<(), 
     count_text(alloc, text, &BEGUN, told.begun)
 }
 
+// The topics that sessions have joined, by both names.
+fn joined_text(alloc: Global, text: &mut String, told: &ServerTold) -> Result<(), AllocError>
+    ensures { Leaves (string_bytes text.new) (joined_behind (string_bytes text.old) told.now) result }
+{
+    count_text(alloc, text, &PLACES, told.joined)?;
+    count_text(alloc, text, &JOINED, told.joined)
+}
+
 // The sessions, and what they did.
 fn sessions_text(alloc: Global, text: &mut String, told: &ServerTold) -> Result<(), AllocError>
     ensures { Leaves (string_bytes text.new) (sessions_behind (string_bytes text.old) told.now) result }
 {
     open_text(alloc, text, told)?;
     ends_text(alloc, text, &told.ends)?;
-    count_text(alloc, text, &PLACES, told.places)?;
+    joined_text(alloc, text, told)?;
     calls_text(alloc, text, &told.calls)
+}
+
+// The clients that there are, and may be.
+fn seats_text(alloc: Global, text: &mut String, told: &ServerTold) -> Result<(), AllocError>
+    ensures { Leaves (string_bytes text.new) (seats_behind (string_bytes text.old) told.now) result }
+{
+    count_text(alloc, text, &CLIENTS, told.clients)?;
+    count_text(alloc, text, &CLIENTS_MAX, told.clients_max)
+}
+
+// What came of them.
+fn received_text(alloc: Global, text: &mut String, told: &ServerTold) -> Result<(), AllocError>
+    ensures { Leaves (string_bytes text.new) (received_behind (string_bytes text.old) told.now) result }
+{
+    count_text(alloc, text, &MESSAGES, told.messages)?;
+    count_text(alloc, text, &BYTES_IN, told.bytes)
 }
 
 // The clients.
@@ -156,6 +206,8 @@ fn clients_text(alloc: Global, text: &mut String, told: &ServerTold) -> Result<(
 {
     connections_text(alloc, text, told)?;
     requests_text(alloc, text, &told.answers)?;
+    seats_text(alloc, text, told)?;
+    received_text(alloc, text, told)?;
     sessions_text(alloc, text, told)
 }
 
@@ -183,13 +235,31 @@ fn links_up_text(alloc: Global, text: &mut String, links: &LinksTold) -> Result<
     count_text(alloc, text, &WENT_DOWN, links.went_down)
 }
 
+// What went over links, and those that were refused.
+fn link_words_text(alloc: Global, text: &mut String, links: &LinksTold) -> Result<(), AllocError>
+    ensures { Leaves (string_bytes text.new) (link_words_behind (string_bytes text.old) links.now) result }
+{
+    count_text(alloc, text, &BEATS, links.beats)?;
+    count_text(alloc, text, &WANTS, links.wants)?;
+    count_text(alloc, text, &LINKS_REFUSED, links.refused)
+}
+
+// The other nodes that are to be dialled, and the lives of this one.
+fn peers_text(alloc: Global, text: &mut String, links: &LinksTold) -> Result<(), AllocError>
+    ensures { Leaves (string_bytes text.new) (peers_behind (string_bytes text.old) links.now) result }
+{
+    count_text(alloc, text, &PEERS, links.peers)?;
+    count_text(alloc, text, &PEERS_UP, links.peers_up)?;
+    count_text(alloc, text, &REBIRTHS, links.rebirths)
+}
+
 // The links, and what went over them.
 fn links_text(alloc: Global, text: &mut String, links: &LinksTold) -> Result<(), AllocError>
     ensures { Leaves (string_bytes text.new) (links_behind (string_bytes text.old) links.now) result }
 {
     links_up_text(alloc, text, links)?;
-    count_text(alloc, text, &BEATS, links.beats)?;
-    count_text(alloc, text, &WANTS, links.wants)
+    link_words_text(alloc, text, links)?;
+    peers_text(alloc, text, links)
 }
 
 // The clients, and the checkpoints.
@@ -280,17 +350,54 @@ fn nodes_text(
     links_text(alloc, text, links)
 }
 
+// Which program it is, and since when.
+fn program_text(alloc: Global, text: &mut String, process: &ProcessTold) -> Result<(), AllocError>
+    ensures { Leaves (string_bytes text.new) (program_behind (string_bytes text.old) process.now) result }
+{
+    named_text(alloc, text, &BUILD, &[(process.version, 1)])?;
+    count_text(alloc, text, &STARTED, process.started)
+}
+
+// Its memory.
+fn memory_text(alloc: Global, text: &mut String, process: &ProcessTold) -> Result<(), AllocError>
+    ensures { Leaves (string_bytes text.new) (memory_behind (string_bytes text.old) process.now) result }
+{
+    let is_tight = if process.is_tight { 1 } else { 0 };
+    count_text(alloc, text, &MEMORY, process.memory)?;
+    count_text(alloc, text, &MEMORY_MAX, process.memory_max)?;
+    count_text(alloc, text, &MEMORY_TIGHT, is_tight)
+}
+
+// Its files.
+fn files_text(alloc: Global, text: &mut String, process: &ProcessTold) -> Result<(), AllocError>
+    ensures { Leaves (string_bytes text.new) (files_behind (string_bytes text.old) process.now) result }
+{
+    count_text(alloc, text, &FILES, process.files)?;
+    count_text(alloc, text, &FILES_MAX, process.files_max)
+}
+
+// What the program is, and what it has of the machine.
+fn process_text(alloc: Global, text: &mut String, process: &ProcessTold) -> Result<(), AllocError>
+    ensures { Leaves (string_bytes text.new) (process_behind (string_bytes text.old) process.now) result }
+{
+    program_text(alloc, text, process)?;
+    memory_text(alloc, text, process)?;
+    files_text(alloc, text, process)
+}
+
 /// All of it in Prometheus's text form: its version 0.0.4.
 pub fn metrics_text(
     alloc: Global,
     told: &ServerTold,
     shards: &ShardsTold,
     links: &LinksTold,
+    process: &ProcessTold,
 ) -> Result<String, AllocError>
-    ensures { IfOk result (λ s. string_bytes s ≡ metrics_lines told.now shards.now links.now) }
+    ensures { IfOk result (λ s. string_bytes s ≡ metrics_lines told.now shards.now links.now process.now) }
 {
     let mut text = String::new(alloc);
     server_text(alloc, &mut text, told)?;
     nodes_text(alloc, &mut text, shards, links)?;
+    process_text(alloc, &mut text, process)?;
     Ok(text)
 }

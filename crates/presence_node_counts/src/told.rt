@@ -12,6 +12,12 @@ pub struct AnswersTold {
     pub forbidden: u64,
     pub not_found: u64,
     pub not_allowed: u64,
+    pub options: u64,
+    pub no_host: u64,
+    pub long_head: u64,
+    pub long_body: u64,
+    pub elsewhere: u64,
+    pub unwell: u64,
     pub full: u64,
     pub crowded: u64,
     pub hasty: u64,
@@ -47,8 +53,15 @@ pub struct ServerTold {
     pub sessions: u64,
     pub ends: EndsTold,
     pub calls: Tally,
-    /// How many places on topics sessions have.
-    pub places: u64,
+    /// How many topics sessions have joined, those of each counted.
+    pub joined: u64,
+    /// How many clients have a place, or are promised one.
+    pub clients: u64,
+    /// How many places there are.
+    pub clients_max: u64,
+    /// How many texts came from clients.
+    pub messages: u64,
+    pub bytes: u64,
     pub due_checkpoints: u64,
     pub full_checkpoints: u64,
 }
@@ -62,6 +75,31 @@ pub struct LinksTold {
     pub went_down: u64,
     pub beats: u64,
     pub wants: u64,
+    /// How many were refused for their address.
+    pub refused: u64,
+    /// How many other nodes are to be dialled.
+    pub peers: u64,
+    /// To how many of these a link stands.
+    pub peers_up: u64,
+    pub rebirths: u64,
+}
+
+/// What the program is, and what it has of the machine.
+#[derive(Clone, Copy, PartialEq, Eq, Debug)]
+pub struct ProcessTold {
+    pub version: &'static str,
+    /// When the server started, in seconds since 1970.
+    pub started: u64,
+    /// How many bytes of memory it has, or 0 where that isn't known, as of the others.
+    pub memory: u64,
+    /// How many it may have.
+    pub memory_max: u64,
+    /// Whether it takes nothing more in for want of memory.
+    pub is_tight: bool,
+    /// How many files it has open.
+    pub files: u64,
+    /// How many it may have.
+    pub files_max: u64,
 }
 
 /// What there is at each shard, in their order.

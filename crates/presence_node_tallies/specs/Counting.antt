@@ -1,7 +1,9 @@
 -- What a call adds to what is counted.
-use Rattle.std.specs.Prelude.{ℕ, ◌+◌, ◌%◌, ◌^◌, List, [], ◌∷◌, Bool, true, false, Result, Ok, Err, is_ok}
+use Rattle.std.specs.Prelude.{ℕ, ◌+◌, ◌%◌, ◌^◌, List, [], ◌∷◌, Result, Ok, Err, Option, Some, None}
 use Rattle.presence_journal_data.specs.declared.rows.Item.{Item}
 use Rattle.presence_journal_data.specs.declared.rows.Item.TheVariants.{State, Diff, Shout}
+use Rattle.channel_session_rules.specs.ShardFault.{ShardFault}
+use Rattle.channel_session_rules.specs.ShardFault.TheVariants as faults
 use Rattle.channel_session_rules.specs.Asks.{Ask, Answer, track, update, untrack, untrack_all, list, get, subscribe, take, unsubscribe, waits, shout}
 use Rattle.presence_node_tallies.specs.declared.tally.Tally.{Tally}
 use Rattle.presence_node_tallies.specs.declared.tally.Kind.{Kind}
@@ -22,10 +24,29 @@ accepted t kinds.List = record t { lists = one_more t.lists }
 accepted t kinds.Get = record t { gets = one_more t.gets }
 accepted t kinds.Shout = record t { shouts = one_more t.shouts }
 
--- behind a call of this kind that was accepted or refused
-abbrev pub called : Tally → Kind → Bool → Tally
-called t kind true = accepted t kind
-called t kind false = record t { refused = one_more t.refused }
+-- behind a call that was refused for this
+abbrev pub refused_for : Tally → ShardFault → Tally
+refused_for t faults.AlreadyTracked = record t { already_tracked = one_more t.already_tracked }
+refused_for t faults.NoPresence = record t { no_presence = one_more t.no_presence }
+refused_for t faults.ClockFull = record t { full = one_more t.full }
+refused_for t faults.JournalFull = record t { journal_full = one_more t.journal_full }
+refused_for t faults.NoSub = record t { others = one_more t.others }
+refused_for t faults.BadIncarnation = record t { others = one_more t.others }
+refused_for t faults.OutOfMemory = record t { no_memory = one_more t.no_memory }
+
+-- it counts among all refused ones too
+abbrev pub refusing : Tally → ShardFault → Tally
+refusing t fault = refused_for (record t { refused = one_more t.refused }) fault
+
+-- behind a call of this kind that was accepted, or refused for this
+abbrev pub called : Tally → Kind → Option ShardFault → Tally
+called t kind None = accepted t kind
+called t kind (Some fault) = refusing t fault
+
+-- why a call was refused that was answered so
+abbrev pub fault_of : {A : Type 0} → Result A ShardFault → Option ShardFault
+fault_of (Ok a) = None
+fault_of (Err fault) = Some fault
 
 abbrev pub with_item : Tally → Item → Tally
 with_item t (State rows) = record t { states = one_more t.states }
@@ -45,14 +66,14 @@ taken t (Err fault) = t
 -- Behind a call that was answered so. What takes the rows of a place away, and what only asks whether something waits, counts
 -- for nothing.
 abbrev pub counted : Tally → (q : Ask) → Answer q → Tally
-counted t (track pid topic key meta) a = called t kinds.Track (is_ok a)
-counted t (update pid topic key meta) a = called t kinds.Update (is_ok a)
-counted t (untrack pid topic key) a = called t kinds.Untrack (is_ok a)
+counted t (track pid topic key meta) a = called t kinds.Track (fault_of a)
+counted t (update pid topic key meta) a = called t kinds.Update (fault_of a)
+counted t (untrack pid topic key) a = called t kinds.Untrack (fault_of a)
 counted t (untrack_all pid topic) a = t
-counted t (list topic) a = called t kinds.List (is_ok a)
-counted t (get topic key) a = called t kinds.Get (is_ok a)
-counted t (subscribe topic) a = called t kinds.Join (is_ok a)
+counted t (list topic) a = called t kinds.List (fault_of a)
+counted t (get topic key) a = called t kinds.Get (fault_of a)
+counted t (subscribe topic) a = called t kinds.Join (fault_of a)
 counted t (take topic sub max) a = taken t a
-counted t (unsubscribe topic sub) a = called t kinds.Leave (is_ok a)
+counted t (unsubscribe topic sub) a = called t kinds.Leave (fault_of a)
 counted t (waits topic sub) a = t
-counted t (shout topic payload) a = called t kinds.Shout (is_ok a)
+counted t (shout topic payload) a = called t kinds.Shout (fault_of a)

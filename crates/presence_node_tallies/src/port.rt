@@ -2,7 +2,7 @@
 ghost use Rattle.std.specs.Prelude.{◌≡◌};
 ghost use Rattle.presence_node_tallies.specs.Counting.{counted};
 
-use crate::tally::{Kind, Tally};
+use crate::tally::{Kind, Tally, fault_in};
 use channel_session_rules::{Port, ShardFault, Sub};
 use presence_base::{Dot, Json, Key, Meta, Row, Topic};
 use presence_journal::{Item, SharedRows};
@@ -54,7 +54,7 @@ impl<P: Port + Drop> Port for CountingPort<P> {
         meta: &Meta,
     ) -> Result<Dot, ShardFault> {
         let answer = self.port.track(alloc, pid, topic, key, meta);
-        self.tally.add_call(Kind::Track, answer.is_ok());
+        self.tally.add_call(Kind::Track, fault_in(&answer));
         answer
     }
 
@@ -67,7 +67,7 @@ impl<P: Port + Drop> Port for CountingPort<P> {
         meta: &Meta,
     ) -> Result<Dot, ShardFault> {
         let answer = self.port.update(alloc, pid, topic, key, meta);
-        self.tally.add_call(Kind::Update, answer.is_ok());
+        self.tally.add_call(Kind::Update, fault_in(&answer));
         answer
     }
 
@@ -79,7 +79,7 @@ impl<P: Port + Drop> Port for CountingPort<P> {
         key: &Key,
     ) -> Result<(), ShardFault> {
         let answer = self.port.untrack(alloc, pid, topic, key);
-        self.tally.add_call(Kind::Untrack, answer.is_ok());
+        self.tally.add_call(Kind::Untrack, fault_in(&answer));
         answer
     }
 
@@ -89,7 +89,7 @@ impl<P: Port + Drop> Port for CountingPort<P> {
 
     fn list(&mut self, alloc: Global, topic: &Topic) -> Result<SharedRows, ShardFault> {
         let answer = self.port.list(alloc, topic);
-        self.tally.add_call(Kind::List, answer.is_ok());
+        self.tally.add_call(Kind::List, fault_in(&answer));
         answer
     }
 
@@ -100,13 +100,13 @@ impl<P: Port + Drop> Port for CountingPort<P> {
         key: &Key,
     ) -> Result<Vec<(Dot, Row)>, ShardFault> {
         let answer = self.port.get(alloc, topic, key);
-        self.tally.add_call(Kind::Get, answer.is_ok());
+        self.tally.add_call(Kind::Get, fault_in(&answer));
         answer
     }
 
     fn subscribe(&mut self, alloc: Global, topic: &Topic) -> Result<Sub, ShardFault> {
         let answer = self.port.subscribe(alloc, topic);
-        self.tally.add_call(Kind::Join, answer.is_ok());
+        self.tally.add_call(Kind::Join, fault_in(&answer));
         answer
     }
 
@@ -126,7 +126,7 @@ impl<P: Port + Drop> Port for CountingPort<P> {
 
     fn unsubscribe(&mut self, alloc: Global, topic: &Topic, sub: &Sub) -> Result<(), ShardFault> {
         let answer = self.port.unsubscribe(alloc, topic, sub);
-        self.tally.add_call(Kind::Leave, answer.is_ok());
+        self.tally.add_call(Kind::Leave, fault_in(&answer));
         answer
     }
 
@@ -136,7 +136,7 @@ impl<P: Port + Drop> Port for CountingPort<P> {
 
     fn shout(&mut self, alloc: Global, topic: &Topic, payload: &Json) -> Result<(), ShardFault> {
         let answer = self.port.shout(alloc, topic, payload);
-        self.tally.add_call(Kind::Shout, answer.is_ok());
+        self.tally.add_call(Kind::Shout, fault_in(&answer));
         answer
     }
 }
