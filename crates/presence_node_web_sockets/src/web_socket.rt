@@ -3,12 +3,12 @@ ghost use Rattle.std.specs.Prelude.{◌≡◌, ◌≤◌, ◌<◌, ◌⊎◌, []
 ghost use Rattle.std.specs.Io.KnownBytes.{Keeps, IsAtEnd};
 ghost use Rattle.tungstenite.specs.Config.{HasLimits};
 ghost use Rattle.tungstenite.specs.Failure.{IsIo, IsOutside, WriteFails, of_frame};
-ghost use Rattle.tungstenite.specs.Socket.{Socket, socket_code, Sent, Filled, Reads, Gives, Writes, Flushed, IsFresh, Waited, content_of, close_of};
+ghost use Rattle.tungstenite.specs.Socket.{Socket, socket_code, Sent, Filled, Reads, Gives, Writes, Flushed, IsFresh, Waited, byte_count, content_of, close_of};
 ghost use Rattle.tungstenite.specs.declared.error.Error.TheVariants.{WriteBufferFull, OutOfMemory};
 ghost use Rattle.websocket.specs.Connection.{read_step, write_step, close_step, end_error, can_read, failed_connection};
 ghost use Rattle.websocket.specs.Content.{IsReceivedInside, HasValidText, received_content};
 ghost use Rattle.websocket.specs.View.{Returns, ReadLeaves, KeepsRest, IfMessage, IfReceived, Leaves, GivesError};
-ghost use Rattle.presence_node_web_sockets.specs.Kept.{IsKept};
+ghost use Rattle.presence_node_web_sockets.specs.Kept.{HasNoRoom, IsKept};
 ghost use Rattle.presence_node_web_sockets.specs.declared.buffer.TheConstants.{KEPT_BYTES};
 
 use crate::buffer::give_back;
@@ -19,7 +19,14 @@ use std::marker::Model;
 use tungstenite::message::close_frame;
 use tungstenite::{CloseFrame, Error, MaskKeys, Message, Role, WebSocketConfig};
 use websocket::error::Error as FrameError;
-use websocket::protocol::{FrameStatus, Step, WebSocketConfig as FrameConfig, WebSocketContext};
+use websocket::protocol::frame::FrameHeader;
+use websocket::protocol::{
+    FrameStatus, Received, Step, WebSocketConfig as FrameConfig, WebSocketContext,
+};
+
+/// How many bytes may wait to be sent: a frame of 16 MiB, and 1 MiB before it. What would be more is refused, whatever a
+/// configuration says.
+pub const MAX_WAITING: usize = 17_825_792;
 
 /// A WebSocket on a stream. `K` gives a client's masking keys.
 #[derive(Drop)]
@@ -32,6 +39,8 @@ pub struct WebSocket<S, K> {
     // Bytes that were read, from `start` on.
     input: Vec<u8>,
     start: usize,
+    // How many bytes the fragments took that have come of a message.
+    fragments: usize,
     // Bytes to send, from `sent` on.
     output: Vec<u8>,
     sent: usize,
@@ -75,6 +84,17 @@ fn sized(chunk: &mut Vec<u8>, size: usize) -> Result<(), AllocError>
     Ok(())
 }
 
+// How many bytes the frame has that begins here.
+fn frame_bytes(bytes: Option<&[u8]>) -> usize {
+    let Some(bytes) = bytes else {
+        return 0;
+    };
+    match FrameHeader::parse(bytes) {
+        Ok(Some((header, size))) => header.len(size).saturating_add(size as usize),
+        Ok(None) | Err(_) => bytes.len(),
+    }
+}
+
 impl<S: Drop, K: Drop> WebSocket<S, K> {
     /// A WebSocket on a stream whose handshake is done.
     pub fn new(
@@ -95,6 +115,7 @@ impl<S: Drop, K: Drop> WebSocket<S, K> {
             config,
             input: Vec::new(alloc),
             start: 0,
+            fragments: 0,
             output: Vec::new(alloc),
             sent: 0,
             chunk: Vec::new(alloc),
@@ -120,11 +141,34 @@ impl<S: Drop, K: Drop> WebSocket<S, K> {
         self.output.capacity()
     }
 
+    /// How many bytes of memory hold what was read.
+    pub fn input_capacity(&self) -> usize {
+        self.input.capacity()
+    }
+
     /// How many bytes wait to be sent.
     pub fn waiting(&self) -> usize
         ensures { result ≡ length self.now.output }
     {
         self.output.len() - self.sent
+    }
+
+    /// How many bytes have come of a message that isn't whole yet, with the heads of its frames.
+    pub fn gathered(&self) -> usize {
+        (self.input.len() - self.start).saturating_add(self.fragments)
+    }
+
+    /// How many bytes have still to go of the frame that goes out first, or 0 where nothing waits. It looks at each frame
+    /// that has gone since the output was empty.
+    pub fn front_left(&self) -> usize {
+        let mut end: usize = 0;
+        for _ in 0..self.output.len() {
+            if end > self.sent {
+                break;
+            }
+            end = end.saturating_add(frame_bytes(self.output.get(end..)));
+        }
+        end.saturating_sub(self.sent)
     }
 
     // Whether more may be read.
@@ -175,17 +219,19 @@ impl<S: Read + Write + Drop, K: MaskKeys + Drop> WebSocket<S, K> {
         Err(Error::Io(io::Error::from(ErrorKind::TimedOut)))
     }
 
-    /// Puts a message in the output. Past `write_buffer_size`, the output goes to the stream.
+    /// Puts a message in the output. Past `write_buffer_size`, the output goes to the stream. Where more than
+    /// `MAX_WAITING` would wait it is `WriteBufferFull`.
     pub fn write(&mut self, message: Message) -> Result<(), Error>
         ensures wrote { OnOk result
             (Writes S.contents self.old self.new (write_step self.old.conn (content_of message))) }
         ensures failed { IfErr result (WriteFails (write_step self.old.conn (content_of message))) }
-        ensures full { IfErr result (λ e. e ≡ WriteBufferFull → self.new ≡ self.old) }
+        ensures full { IfErr result (λ e. e ≡ WriteBufferFull →
+            (self.new ≡ self.old) × HasNoRoom self.old.output (byte_count message)) }
         ensures stream_failed { IfErr result (λ e. IsIo e →
             Writes S.contents self.old self.new (write_step self.old.conn (content_of message))) }
         ensures memory { IfErr result (λ e. e ≡ OutOfMemory → self.new ≡ self.old) }
     {
-        if self.waiting().saturating_add(message.len()) > self.config.max_write_buffer_size {
+        if self.waiting().saturating_add(message.len()) > MAX_WAITING {
             return Err(Error::WriteBufferFull);
         }
         self.write_frame(&message)?;
@@ -276,6 +322,17 @@ impl<S: Read + Write + Drop, K: MaskKeys + Drop> WebSocket<S, K> {
         outcome
     }
 
+    // Counts the frame of a fragment, until the message is whole. A control frame between two is none.
+    fn count_fragments(&mut self, step: &Step)
+        ensures { self.new ≡ self.old }
+    {
+        match &step.message {
+            None => self.fragments = self.fragments.saturating_add(step.consumed),
+            Some(Received::Text(_) | Received::Binary(_)) => self.fragments = 0,
+            Some(_) => {}
+        }
+    }
+
     // What a frame gave, and the input without it.
     fn finish_frame(&mut self, step: Step) -> Option<Result<Message, AllocError>>
         requires consumed { step.consumed ≤ length self.old.input }
@@ -284,6 +341,7 @@ impl<S: Read + Write + Drop, K: MaskKeys + Drop> WebSocket<S, K> {
         ensures left { self.new ≡ record self.old { input = drop step.consumed self.old.input } }
         ensures gives { Gives self.old.input step.message result }
     {
+        self.count_fragments(&step);
         let message = match &step.message {
             Some(received) => {
                 let frame = received.message(&self.input[self.start..]);
@@ -300,7 +358,7 @@ impl<S: Read + Write + Drop, K: MaskKeys + Drop> WebSocket<S, K> {
     // it grow, so such a frame waits. Other frames are read.
     fn reply_has_no_room(&self) -> bool {
         let waiting = self.waiting();
-        if waiting == 0 || waiting < self.config.max_write_buffer_size {
+        if waiting < MAX_WAITING {
             return false;
         }
         match self.input.get(self.start) {
