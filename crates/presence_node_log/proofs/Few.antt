@@ -27,7 +27,7 @@ after false q second events n room same most few =
     let rest : lines_within (behind_if false q second) second events + n ≤ 5 = few (behind_if false q second) n same most in
     omega (arith, rest)
 
-pub few_lines : (second events : ℕ) → AreFew second events
+few_lines : (second events : ℕ) (q : Quota) (n : ℕ) → lines_in q second ≡ n → n ≤ 5 → lines_within q second events + n ≤ 5
 few_lines second zero q n same most = omega (arith, most)
 few_lines second (suc events) q n same most =
     after (has_room q second) q second events n refl same most (few_lines second events)

@@ -76,7 +76,9 @@ fn deed_members(alloc: Global, told: &Told<'_>) -> Result<String, AllocError>
     let level = told.level;
     let deed = told.deed;
     let words = quoted(alloc, told.words)?;
-    format!(in alloc; "\"time\":\"{time}\",\"level\":\"{level}\",\"client\":\"{deed}\",\"message\":{words}")
+    format!(in alloc;
+        "\"time\":\"{time}\",\"level\":\"{level}\",\"client\":\"{deed}\",\"message\":{words}"
+    )
 }
 
 fn fields_members(alloc: Global, told: &Told<'_>) -> Result<String, AllocError>

@@ -29,11 +29,7 @@ impl Quota {
         ensures quota { self.new ≡ behind self.old second }
         ensures line { result ≡ line_for self.old second }
     {
-        let lines = if second == self.second {
-            self.lines
-        } else {
-            0
-        };
+        let lines = if second == self.second { self.lines } else { 0 };
         let events = self.held.saturating_add(1);
         if lines >= LINES_A_SECOND {
             self.held = events;
