@@ -1,86 +1,64 @@
 -- How the walks that read what is small end.
-use Rattle.std.proofs.Common.{◌≡◌, ◌≤◌, ◌+◌, ℕ, suc, List, [], ◌∷◌, Bool, true, false, not, Option, Some, None, option_map, Result, Ok, Err, OnOk, IfSome, refl, sym, ap, ◌∙◌, subst, arith, add-one}
+use Rattle.std.proofs.Common.{◌≡◌, ◌≤◌, ◌+◌, ◌-◌, ℕ, suc, List, [], ◌∷◌, length, Bool, true, false, not, Option, Some, None, option_map, Result, Ok, Err, OnOk, IfSome, refl, sym, ap, ◌∙◌, subst, arith, add-one}
 use Rattle.json.specs.Token.{Token}
 use Rattle.json.specs.Json as json
 use Rattle.json.specs.declared.error.Error.{Error}
-use Rattle.serde_json.specs.Data.{Num, Data, array, object, Members, no_members, depth, members_depth}
+use Rattle.serde_json.specs.Data.{Num, Data, array, object, Members, no_members, depth, items_depth, members_depth}
 use Rattle.serde_json.specs.Read.{max_depth, number_of}
 use Rattle.serde_json.specs.View.{view, items_view}
+use Rattle.serde_json.specs.Written.{compact_text, items_text, members_text}
 use Rattle.serde_json.specs.declared.value.Value.{Value}
+use Rattle.presence_base.specs.Metas.{is_meta, is_plain}
 use Rattle.presence_base.specs.Names.{guarded}
 use Rattle.json_parts.specs.Outline.{brief}
-use Rattle.json_parts.specs.Places.{number_data, data_of, items_data, members_data, AtItems, Leaves, Gets}
-use Rattle.json_parts.specs.Small.{is_short, is_small, small, IsReleased, is_object, no_object_first}
-use Rattle.json_parts.proofs.Sizes.{parts, not_guarded, guarded_some, deep_enough}
-use Rattle.json_parts.proofs.Turns.{IsFlat, items_kept}
-use Rattle.json_parts.proofs.Walks.{items_before, items_led, items_stand}
+use Rattle.json_parts.specs.Places.{number_data, data_of, items_data, members_data, AtItems, Gets, Leaves}
+use Rattle.json_parts.specs.Small.{is_small, Part, IsPart, part_view, is_object, no_object_first}
+use Rattle.json_parts.specs.declared.small.Part as declared
+use Rattle.json_parts.proofs.Sizes.{Parts, never_small, total, text_all, total_members, members_all}
+use Rattle.json_parts.proofs.Turns.{IsFlat}
+use Rattle.json_parts.proofs.Walks.{items_before, before_none, items_led, items_stand}
 
--- what is not small with one more level is none
-pub is_none : (limit room : ℕ) (d : Data) → is_small (suc limit) room d ≡ false → None ≡ small (limit + 1) room d
-is_none limit room d large = sym (ap (λ n. small n room d) (add-one limit) ∙ not_guarded (is_small (suc limit) room d) d large)
+-- what isn't small with one more level
+pub one_deeper : (limit : ℕ) (d : Data) → is_small (suc limit) d ≡ false → is_small (limit + 1) d ≡ false
+one_deeper limit d large = ap (λ n. is_small n d) (add-one limit) ∙ large
 
 -- what is small nests no deeper than a text that is read
-pub nests : (limit room : ℕ) (d : Data) (o : Option Value) → limit ≤ 32 → option_map view o ≡ small limit room d → IfSome o (λ v. depth (view v) ≤ max_depth)
-nests limit room d None low same = tt
-nests limit room d (Some v) low same =
-    let is = guarded_some (is_small limit room d) d (view v) (sym same) in
-    let p = parts limit room d is.0 in
-    subst (λ e. depth e ≤ max_depth) is.1 (omega (arith, p.nests, low))
+pub nests : (limit : ℕ) (d : Data) (o : Option declared.Part) → limit ≤ 32 → IsPart limit d (option_map part_view o) → IfSome o (λ p. depth (view p.value) ≤ max_depth)
+nests limit d None low is = tt
+nests limit d (Some p) low is = subst (λ e. depth e ≤ max_depth) (sym is.0) (omega (arith, is.1, low))
 
-pub on_ok : (result : Result (Option Value) Error) (P : Type 0) → P → OnOk result P
-on_ok (Ok o) P p = p
-on_ok (Err e) P p = tt
+-- a value that is no array and no object
+pub flat_part : (limit : ℕ) (d v : Data) → IsFlat d → v ≡ brief d → IsPart limit d (Some (v, 0))
+flat_part limit d v flat seen = (seen ∙ flat.0, omega (arith, flat.1), omega arith)
 
--- the value that was made is the one that stood there, where it's short
-pub short_leaves : (limit room : ℕ) (d v : Data) (result : Result (Option Value) Error) (new rest : List Token)
-    → small limit room d ≡ guarded (is_short room v) v → new ≡ rest → Gets result (λ o. option_map view o ≡ guarded (is_short room v) v)
-    → Leaves new rest result (λ o. option_map view o ≡ small limit room d)
-short_leaves limit room d v (Ok o) new rest same end got = (got ∙ sym same, end)
-short_leaves limit room d v (Err e) new rest same end got = got
+pub array_part : (limit left : ℕ) (vs : List Value) (v : Data) (js all : json.Items)
+    → js ≡ json.no_items → items_before vs (items_data js) ≡ items_data all → items_depth (items_view vs) ≤ limit → 16384 ≤ left + total vs → v ≡ array (items_view vs)
+    → IsPart (limit + 1) (array (items_data all)) (Some (v, 16384 - left))
+array_part limit left vs v js all over was deep sum seen =
+    let same : items_view vs ≡ items_data all = sym (before_none vs) ∙ ap (λ l. items_before vs (items_data l)) (sym over) ∙ was in
+    subst (λ ds. IsPart (limit + 1) (array ds) (Some (v, 16384 - left))) same
+    (let text = text_all vs in (seen, omega (arith, deep), omega (arith, text, sum)))
 
-pub flat_leaves : (limit room : ℕ) (d v : Data) (result : Result (Option Value) Error) (new rest : List Token)
-    → IsFlat d → v ≡ brief d → new ≡ rest → Gets result (λ o. option_map view o ≡ guarded (is_short room v) v)
-    → Leaves new rest result (λ o. option_map view o ≡ small limit room d)
-flat_leaves limit room d v result new rest flat seen end got =
-    let whole : v ≡ d = seen ∙ flat.0 in
-    let shallow : depth d ≤ limit = omega (arith, flat.1) in
-    short_leaves limit room d v result new rest (deep_enough limit room d shallow ∙ ap (λ e. guarded (is_short room e) e) (sym whole)) end got
+pub object_part : (limit left : ℕ) (ms found : Members) (v : Data)
+    → found ≡ ms → members_depth ms ≤ limit → 16384 ≤ left + total_members ms → v ≡ object found
+    → IsPart (limit + 1) (object ms) (Some (v, 16384 - left))
+object_part limit left ms found v same deep sum seen =
+    let text = members_all false ms in
+    (seen ∙ ap object same, omega (arith, deep), omega (arith, text, sum))
 
-pub array_leaves : (limit room : ℕ) (vs : List Value) (v : Data) (js all : json.Items) (result : Result (Option Value) Error) (new rest : List Token)
-    → js ≡ json.no_items → items_before vs (items_data js) ≡ items_data all → depth (array (items_view vs)) ≤ suc limit → v ≡ array (items_view vs) → new ≡ rest
-    → Gets result (λ o. option_map view o ≡ guarded (is_short room v) v)
-    → Leaves new rest result (λ o. option_map view o ≡ small (limit + 1) room (array (items_data all)))
-array_leaves limit room vs v js all result new rest over was deep seen end got =
-    short_leaves (limit + 1) room (array (items_data all)) v result new rest
-    (ap (λ n. small n room (array (items_data all))) (add-one limit)
-    ∙ items_kept limit room vs js all over was (omega (arith, deep))
-    ∙ ap (λ e. guarded (is_short room e) e) (sym seen))
-    end got
-
-members_same : (left all : json.Members) (found : Members) → left ≡ json.no_members → members_data left found ≡ members_data all no_members → found ≡ members_data all no_members
+pub members_same : (left all : json.Members) (found : Members) → left ≡ json.no_members → members_data left found ≡ members_data all no_members → found ≡ members_data all no_members
 members_same left all found over was = sym (ap (λ m. members_data m found) over) ∙ was
 
--- an object whose members don't fit is none
-pub members_gone : (limit room : ℕ) (left all : json.Members) (found : Members) (o : Option Members)
-    → left ≡ json.no_members → members_data left found ≡ members_data all no_members → o ≡ None → IsReleased limit room found o
-    → None ≡ small (limit + 1) room (object (members_data all no_members))
-members_gone limit room left all found o over was none released =
-    let large : is_small (suc limit) room (object found) ≡ false = subst (IsReleased limit room found) none released in
-    is_none limit room (object (members_data all no_members)) (subst (λ m. is_small (suc limit) room (object m) ≡ false) (members_same left all found over was) large)
+pub any_ok : (result : Result (Option declared.Part) Error) (P : Type 0) → P → OnOk result P
+any_ok (Ok o) P p = p
+any_ok (Err e) P p = tt
 
-pub object_leaves : (limit room : ℕ) (left all : json.Members) (found ms : Members) (o : Option Members) (v : Data) (result : Result (Option Value) Error) (new rest : List Token)
-    → left ≡ json.no_members → members_data left found ≡ members_data all no_members → o ≡ Some ms → IsReleased limit room found o → v ≡ object ms → new ≡ rest
-    → Gets result (λ o. option_map view o ≡ guarded (is_short room v) v)
-    → Leaves new rest result (λ o. option_map view o ≡ small (limit + 1) room (object (members_data all no_members)))
-object_leaves limit room left all found ms o v result new rest over was some released seen end got =
-    let whole : (ms ≡ found) × (members_depth found ≤ limit) = subst (IsReleased limit room found) some released in
-    let same : object found ≡ v = sym (seen ∙ ap object whole.0) in
-    short_leaves (limit + 1) room (object (members_data all no_members)) v result new rest
-    (ap (λ n. small n room (object (members_data all no_members))) (add-one limit)
-    ∙ ap (λ m. small (suc limit) room (object m)) (sym (members_same left all found over was))
-    ∙ deep_enough (suc limit) room (object found) (omega (arith, whole.1))
-    ∙ ap (λ e. guarded (is_short room e) e) same)
-    end got
+-- the object that was made of what was held is the one that stood there
+pub object_leaves : (limit : ℕ) (found whole : Members) (result : Result (Option declared.Part) Error) (new rest : List Token)
+    → found ≡ whole → new ≡ rest → Gets result (λ o. IsPart (limit + 1) (object found) (option_map part_view o))
+    → Leaves new rest result (λ o. IsPart (limit + 1) (object whole) (option_map part_view o))
+object_leaves limit found whole (Ok o) new rest same end got = (subst (λ m. IsPart (limit + 1) (object m) (option_map part_view o)) same got, end)
+object_leaves limit found whole (Err e) new rest same end got = got
 
 -- ---- what is next in an array
 

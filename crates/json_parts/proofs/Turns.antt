@@ -1,155 +1,225 @@
 -- Turns of the walks that read what is small.
-use Rattle.std.proofs.Common.{◌≡◌, ◌≤◌, ◌<◌, ◌+◌, ◌-◌, ℕ, suc, List, [], ◌∷◌, ◌++◌, length, Bool, true, false, Option, Some, None, option_and_then, String, Global, string_bytes, string_cmp, refl, sym, ap, ap₂, ◌∙◌, subst, arith}
+use Rattle.std.proofs.Common.{◌≡◌, ◌≤◌, ◌<◌, ◌+◌, ◌-◌, ◌⊎◌, inl, inr, ℕ, suc, List, [], ◌∷◌, ◌++◌, length, Bool, true, false, Option, Some, None, Ordering, Less, Equal, Greater, String, Global, string_bytes, string_cmp, nat_cmp, refl, sym, ap, ◌∙◌, subst, arith}
+use Rattle.std.proofs.lemmas.Cmp.{nat_list_cmp_total}
 use Rattle.std.specs.BTreeMap.{insert_entry}
+use Rattle.std.specs.Cmp.Lexicographic.{slice_cmp}
+use Rattle.std.specs.List.{AllByRecursion}
 use Rattle.std.specs.List.Sorted.{IsStrictlySortedBy}
 use Rattle.std.specs.Map.{keys_of}
+use Rattle.std.specs.Ordering.{match_ordering, ordering_reverse}
 use Rattle.json.specs.Token.{Token}
 use Rattle.json.specs.Json as json
 use Rattle.json.specs.Json.{after_end_array, read_key}
 use Rattle.json.specs.Tree.{items_tokens, members_tokens}
+use Rattle.json.proofs.Found.{not_found}
 use Rattle.serde_json.specs.Read.{number_of}
 use Rattle.serde_json.specs.Data.{Num, Data, array, object, item, Members, no_members, member, put, depth, items_depth, members_depth}
 use Rattle.serde_json.specs.View.{view, items_view}
-use Rattle.serde_json.specs.Written.{has_float, compact_text}
+use Rattle.serde_json.specs.Written.{compact_text}
 use Rattle.serde_json.specs.declared.value.Value.{Value}
-use Rattle.presence_base.specs.Names.{guarded}
 use Rattle.json_parts.specs.Outline.{brief}
 use Rattle.json_parts.specs.Places.{number_data, data_of, items_data, members_data, At, AtItems, AtMembers}
-use Rattle.json_parts.specs.Small.{is_short, is_small, small, held_data, Entry, Keyed, keyed, smalls}
+use Rattle.json_parts.specs.Small.{is_small, Part, IsPart, IsTaken, part_in, Entry, HoldsAll}
 use Rattle.json_parts.specs.declared.small.Held.{Held}
 use Rattle.json_parts.proofs.Places.{led, items_next, members_next}
-use Rattle.json_parts.proofs.Sizes.{parts, turned, guarded_some, guarded_none, not_guarded, deep_enough, total, total_push, depth_push, item_too_large, join, join_push, count, count_smalls, count_keyed, count_data, too_many, one_more_held, put_last, total_members, total_join, depth_join, member_too_large, freed_none, freed_some, key_or, rest_of}
-use Rattle.json_parts.proofs.Walks.{items_before, before_none, before_push}
+use Rattle.json_parts.proofs.Sizes.{never_small, total, total_push, depth_push, item_too_large, items_too_long, join, join_push, count, count_data, too_many, total_members, total_join, depth_join, member_too_large, members_too_long}
+use Rattle.json_parts.proofs.Walks.{items_before, before_push}
+
+-- ---- what is taken of a part
+
+pub record Taken (limit left left2 : ℕ) (d v : Data) : Type 0 where
+  pub same : v ≡ d
+  pub nests : depth d ≤ limit
+  pub counted : left ≤ left2 + (length (compact_text d) + 1)
+  pub less : left2 ≤ left
+
+pub was_taken : (limit left left2 : ℕ) (d v : Data) (o : Option Part) (x : Option Data) → x ≡ Some v → IsPart limit d o → IsTaken o left left2 x → Taken limit left left2 d v
+was_taken limit left left2 d v None x some is took = absurd (not_found v (sym took ∙ some))
+was_taken limit left left2 d v (Some p) x some is took =
+    let taken = subst (IsTaken (Some p) left left2) some took in
+    record { same = sym taken.0 ∙ is.0; nests = is.1; counted = omega (arith, is.2, taken.1); less = omega (arith, taken.1) }
+
+pub wasnt_taken : (limit left left2 : ℕ) (d : Data) (o : Option Part) (x : Option Data) → x ≡ None → IsPart limit d o → IsTaken o left left2 x
+    → (is_small limit d ≡ false) ⊎ (left ≤ length (compact_text d))
+wasnt_taken limit left left2 d None x none is took = inl is
+wasnt_taken limit left left2 d (Some p) x none is took =
+    let long : left ≤ p.1 = subst (IsTaken (Some p) left left2) none took in
+    inr (omega (arith, is.2, long))
+
+pub never_more : (o : Option Part) (left left2 : ℕ) (v : Data) (x : Option Data) → x ≡ Some v → IsTaken o left left2 x → left2 ≤ left
+never_more None left left2 v x some took = absurd (not_found v (sym took ∙ some))
+never_more (Some p) left left2 v x some took =
+    let taken = subst (IsTaken (Some p) left left2) some took in
+    omega (arith, taken.1)
+
+-- ---- the items of an array
 
 -- one more item is small
-pub item_kept : (limit room left left2 : ℕ) (vs new : List Value) (v : Value) (ts r : List Token) (js all : json.Items) (rest : List Token)
-    → AtItems ts js rest → after_end_array ts ≡ None → items_before vs (items_data js) ≡ items_data all → left ≡ room - total vs → items_depth (items_view vs) ≤ limit
-    → new ≡ vs ++ v ∷ [] → ((j : json.Json) (more : List Token) → At ts j more → (Some (view v) ≡ small limit left (data_of j)) × (r ≡ more))
-    → (has_float (view v) ≡ false → left2 ≡ left - length (compact_text (view v)))
-    → (next : json.Items) × AtItems r next rest × (items_before new (items_data next) ≡ items_data all) × (left2 ≡ room - total new) × (items_depth (items_view new) ≤ limit)
-item_kept limit room left left2 vs new v ts r js all rest at going was sum deep step read less =
+pub item_kept : (limit left left2 : ℕ) (vs new : List Value) (v : Value) (o : Option Part) (x : Option Data) (ts r : List Token) (js all : json.Items) (rest : List Token)
+    → AtItems ts js rest → after_end_array ts ≡ None → items_before vs (items_data js) ≡ items_data all → 16384 ≤ left + total vs → items_depth (items_view vs) ≤ limit
+    → new ≡ vs ++ v ∷ [] → ((j : json.Json) (more : List Token) → At ts j more → IsPart limit (data_of j) o × (r ≡ more))
+    → x ≡ Some (view v) → IsTaken o left left2 x
+    → (next : json.Items) × AtItems r next rest × (items_before new (items_data next) ≡ items_data all) × (16384 ≤ left2 + total new) × (items_depth (items_view new) ≤ limit)
+item_kept limit left left2 vs new v o x ts r js all rest at going was sum deep step read some taken =
     let n = items_next ts js rest at going in
-    let took = read n.0 (items_tokens n.1 ++ rest) n.3 in
-    let is = guarded_some (is_small limit left (data_of n.0)) (data_of n.0) (view v) (sym took.0) in
-    let p = parts limit left (data_of n.0) is.0 in
-    let whole : has_float (view v) ≡ false = ap has_float (sym is.1) ∙ p.whole in
-    let shorter = less whole in
-    let sums : total new ≡ total vs + length (compact_text (view v)) = ap total step ∙ total_push vs v in
-    let deeper : depth (view v) ≤ limit = subst (λ d. depth d ≤ limit) is.1 p.nests in (
+    let got = read n.0 (items_tokens n.1 ++ rest) n.3 in
+    let t = was_taken limit left left2 (data_of n.0) (view v) o x some got.0 taken in
+    let sums : total new ≡ total vs + (length (compact_text (view v)) + 1) = ap total step ∙ total_push vs v in
+    let text : length (compact_text (view v)) ≡ length (compact_text (data_of n.0)) = ap (λ d. length (compact_text d)) t.same in
+    let deeper : depth (view v) ≤ limit = subst (λ d. depth d ≤ limit) (sym t.same) t.nests in (
       n.1,
-      (took.1, n.4),
+      (got.1, n.4),
       ap (λ l. items_before l (items_data n.1)) step ∙ sym (before_push vs v (items_data n.1))
-          ∙ ap (λ d. items_before vs (item d (items_data n.1))) (sym is.1)
+          ∙ ap (λ d. items_before vs (item d (items_data n.1))) t.same
           ∙ ap (λ l. items_before vs (items_data l)) (sym n.2) ∙ was,
-      omega (arith, shorter, sum, sums),
+      omega (arith, t.counted, sum, sums, text),
       subst (λ l. items_depth (items_view l) ≤ limit) (sym step) (depth_push vs v limit deep deeper),
     )
 
--- one isn't
-pub item_dropped : (limit room left : ℕ) (vs : List Value) (ts r : List Token) (js all : json.Items) (rest : List Token)
-    → AtItems ts js rest → after_end_array ts ≡ None → items_before vs (items_data js) ≡ items_data all → left ≡ room - total vs
-    → ((j : json.Json) (more : List Token) → At ts j more → (None ≡ small limit left (data_of j)) × (r ≡ more))
-    → (next : json.Items) × AtItems r next rest × (is_small (suc limit) room (array (items_data all)) ≡ false)
-item_dropped limit room left vs ts r js all rest at going was sum read =
+-- one isn't, or there are too many
+pub item_dropped : (limit left left2 : ℕ) (vs : List Value) (o : Option Part) (x : Option Data) (ts r : List Token) (js all : json.Items) (rest : List Token)
+    → AtItems ts js rest → after_end_array ts ≡ None → items_before vs (items_data js) ≡ items_data all → 16384 ≤ left + total vs
+    → ((j : json.Json) (more : List Token) → At ts j more → IsPart limit (data_of j) o × (r ≡ more))
+    → x ≡ None → IsTaken o left left2 x
+    → (next : json.Items) × AtItems r next rest × (is_small (suc limit) (array (items_data all)) ≡ false)
+item_dropped limit left left2 vs o x ts r js all rest at going was sum read none taken =
     let n = items_next ts js rest at going in
-    let took = read n.0 (items_tokens n.1 ++ rest) n.3 in
-    let large = guarded_none (is_small limit left (data_of n.0)) (data_of n.0) (sym took.0) in (
+    let got = read n.0 (items_tokens n.1 ++ rest) n.3 in
+    let whole : items_before vs (item (data_of n.0) (items_data n.1)) ≡ items_data all = ap (λ l. items_before vs (items_data l)) (sym n.2) ∙ was in (
       n.1,
-      (took.1, n.4),
-      item_too_large limit room left vs (data_of n.0) (items_data n.1) (items_data all) (ap (λ l. items_before vs (items_data l)) (sym n.2) ∙ was) sum large,
+      (got.1, n.4),
+      refused n.0 n.1 whole (wasnt_taken limit left left2 (data_of n.0) o x none got.0 taken),
     )
+  where
+    refused : (j : json.Json) (more : json.Items) → items_before vs (item (data_of j) (items_data more)) ≡ items_data all
+        → (is_small limit (data_of j) ≡ false) ⊎ (left ≤ length (compact_text (data_of j))) → is_small (suc limit) (array (items_data all)) ≡ false
+    refused j more whole (inl large) = item_too_large limit vs (data_of j) (items_data more) (items_data all) whole large
+    refused j more whole (inr long) = items_too_long limit vs (data_of j) (items_data more) (items_data all) whole (omega (arith, long, sum))
 
--- all are
-pub items_kept : (limit room : ℕ) (vs : List Value) (js all : json.Items) → js ≡ json.no_items → items_before vs (items_data js) ≡ items_data all → items_depth (items_view vs) ≤ limit
-    → small (suc limit) room (array (items_data all)) ≡ guarded (is_short room (array (items_view vs))) (array (items_view vs))
-items_kept limit room vs js all end was deep =
-    let same : items_view vs ≡ items_data all = sym (before_none vs) ∙ ap (λ l. items_before vs (items_data l)) (sym end) ∙ was in
-    ap (λ ds. small (suc limit) room (array ds)) (sym same) ∙ deep_enough (suc limit) room (array (items_view vs)) (omega (arith, deep))
+-- ---- the members of an object that are held
+
+by_order : (limit : ℕ) (o : Ordering) (a b c : List Entry) (x y z : Members) → HoldsAll limit a x → HoldsAll limit b y → HoldsAll limit c z
+    → HoldsAll limit (match_ordering o a b c) (match_ordering o x y z)
+by_order limit Less a b c x y z p q r = p
+by_order limit Equal a b c x y z p q r = q
+by_order limit Greater a b c x y z p q r = r
+
+holds_put : (limit : ℕ) (es : List Entry) (key : String Global) (h : Held) (d : Data) (found : Members) → HoldsAll limit es found → IsPart limit d (part_in h)
+    → HoldsAll limit (insert_entry string_cmp es key h) (put (string_bytes key) d found)
+holds_put limit [] key h d no_members all is = (refl, is, tt)
+holds_put limit [] key h d (member l x ms) all is = absurd all
+holds_put limit (e ∷ es) key h d no_members all is = absurd all
+holds_put limit (e ∷ es) key h d (member l x ms) all is =
+    let k = string_bytes e.0 in
+    subst (λ n. HoldsAll limit (insert_entry string_cmp (e ∷ es) key h) (put (string_bytes key) d (member n x ms))) all.0
+    (by_order limit (string_cmp key e.0) ((key, h) ∷ e ∷ es) ((e.0, h) ∷ es) (e ∷ insert_entry string_cmp es key h)
+    (member (string_bytes key) d (member k x ms)) (member k d ms) (member k x (put (string_bytes key) d ms))
+    (refl, is, (refl, all.1, all.2)) (refl, is, all.2) (refl, all.1, holds_put limit es key h d ms all.2 is))
+
+holds_count : (limit : ℕ) (es : List Entry) (found : Members) → HoldsAll limit es found → length es ≡ count found
+unfolding count
+holds_count limit [] no_members all = refl
+holds_count limit [] (member l x ms) all = absurd all
+holds_count limit (e ∷ es) no_members all = absurd all
+holds_count limit (e ∷ es) (member l x ms) all = ap (λ n. suc n) (holds_count limit es ms all.2)
 
 -- one more member is held
-pub member_held : (limit room : ℕ) (es new : List Entry) (key : String Global) (h : Held) (k : List ℕ) (ts s r : List Token) (ms all : json.Members) (rest : List Token) (found : Members)
-    → AtMembers ts ms rest → read_key ts ≡ Some (Some k, s) → members_data ms found ≡ members_data all no_members → keyed es ≡ smalls limit room found
-    → new ≡ insert_entry string_cmp es key h → string_bytes key ≡ k → ((j : json.Json) (more : List Token) → At s j more → (held_data h ≡ small limit room (data_of j)) × (r ≡ more))
-    → (found2 : Members) × (left : json.Members) × AtMembers r left rest × (members_data left found2 ≡ members_data all no_members) × (keyed new ≡ smalls limit room found2)
-member_held limit room es new key h k ts s r ms all rest found at named was same step copied read =
+pub member_held : (limit : ℕ) (es new : List Entry) (key : String Global) (h : Held) (k : List ℕ) (ts s r : List Token) (ms all : json.Members) (rest : List Token) (found : Members)
+    → AtMembers ts ms rest → read_key ts ≡ Some (Some k, s) → members_data ms found ≡ members_data all no_members → HoldsAll limit es found
+    → new ≡ insert_entry string_cmp es key h → string_bytes key ≡ k → ((j : json.Json) (more : List Token) → At s j more → IsPart limit (data_of j) (part_in h) × (r ≡ more))
+    → (found2 : Members) × (left : json.Members) × AtMembers r left rest × (members_data left found2 ≡ members_data all no_members) × HoldsAll limit new found2
+member_held limit es new key h k ts s r ms all rest found at named was same step copied read =
     let n = members_next ts s k ms rest at named in
-    let took = read n.0 (members_tokens n.1 ++ rest) n.3 in (
+    let took = read n.0 (members_tokens n.1 ++ rest) n.3 in
+    let held = holds_put limit es key h (data_of n.0) found same took.0 in (
       put k (data_of n.0) found,
       n.1,
       (took.1, n.4),
       ap (λ m. members_data m found) (sym n.2) ∙ was,
-      one_more_held limit room es new key h k (data_of n.0) found same step copied took.0,
+      subst (λ es2. HoldsAll limit es2 (put k (data_of n.0) found)) (sym step)
+          (subst (λ b. HoldsAll limit (insert_entry string_cmp es key h) (put b (data_of n.0) found)) copied held),
     )
 
-pub members_too_many : (limit room : ℕ) (es : List Entry) (ms all : json.Members) (found : Members) → room ≤ 16384 → 5462 ≤ length es
-    → members_data ms found ≡ members_data all no_members → keyed es ≡ smalls limit room found → is_small (suc limit) room (object (members_data all no_members)) ≡ false
-members_too_many limit room es ms all found h many was same =
-    let counted : length es ≡ count found = sym (count_keyed es) ∙ ap length same ∙ count_smalls limit room found in
+pub members_too_many : (limit : ℕ) (es : List Entry) (ms all : json.Members) (found : Members) → 5462 ≤ length es
+    → members_data ms found ≡ members_data all no_members → HoldsAll limit es found → is_small (suc limit) (object (members_data all no_members)) ≡ false
+members_too_many limit es ms all found many was same =
+    let counted : length es ≡ count found = holds_count limit es found same in
     let more : count found ≤ count (members_data all no_members) = subst (λ m. count found ≤ count m) was (count_data ms found) in
-    too_many limit room (members_data all no_members) h (omega (arith, many, counted, more))
+    too_many limit (members_data all no_members) (omega (arith, many, counted, more))
 
 -- ---- the members that are let go
 
 -- the next of the members that are held
-pub next_held : (limit room : ℕ) (e : Entry) (es : List Entry) (rest : Members) → keyed (e ∷ es) ≡ smalls limit room rest
-    → (d : Data) × (more : Members) × (rest ≡ member (string_bytes e.0) d more) × (held_data e.1 ≡ small limit room d) × (keyed es ≡ smalls limit room more)
-next_held limit room e es no_members same = absurd (cc)
-next_held limit room e es (member k d more) same =
-    let named : string_bytes e.0 ≡ k = ap (key_or k) same in
-    (d, more, ap (λ l. member l d more) (sym named), ap (data_or (held_data e.1)) same, ap rest_of same)
-  where
-    data_or : Option Data → List Keyed → Option Data
-    data_or o [] = o
-    data_or o (x ∷ xs) = x.1
+pub next_held : (limit : ℕ) (e : Entry) (es : List Entry) (rest : Members) → HoldsAll limit (e ∷ es) rest
+    → (d : Data) × (more : Members) × (rest ≡ member (string_bytes e.0) d more) × IsPart limit d (part_in e.1) × HoldsAll limit es more
+next_held limit e es no_members all = absurd all
+next_held limit e es (member k d more) all = (d, more, ap (λ l. member l d more) (sym all.0), all.1, all.2)
 
-pub none_held : (limit room : ℕ) (rest : Members) → keyed [] ≡ smalls limit room rest → rest ≡ no_members
-none_held limit room no_members same = refl
-none_held limit room (member k d more) same = absurd (cc)
+pub none_held : (limit : ℕ) (rest : Members) → HoldsAll limit [] rest → rest ≡ no_members
+none_held limit no_members all = refl
+none_held limit (member k d more) all = absurd all
 
-keyed-append : (a b : List Entry) → keyed (a ++ b) ≡ keyed a ++ keyed b
-keyed-append [] b = refl
-keyed-append (e ∷ es) b = ap (λ l. (string_bytes e.0, held_data e.1) ∷ l) (keyed-append es b)
-
-smalls_join : (limit room : ℕ) (a b : Members) → smalls limit room (join a b) ≡ smalls limit room a ++ smalls limit room b
+holds_push : (limit : ℕ) (es : List Entry) (e : Entry) (d : Data) (found : Members) → HoldsAll limit es found → IsPart limit d (part_in e.1)
+    → HoldsAll limit (es ++ e ∷ []) (join found (member (string_bytes e.0) d no_members))
 unfolding join
-smalls_join limit room no_members b = refl
-smalls_join limit room (member k d a) b = ap (λ l. (k, small limit room d) ∷ l) (smalls_join limit room a b)
+holds_push limit [] e d no_members all is = (refl, is, tt)
+holds_push limit [] e d (member l x ms) all is = absurd all
+holds_push limit (first ∷ es) e d no_members all is = absurd all
+holds_push limit (first ∷ es) e d (member l x ms) all is = (all.0, all.1, holds_push limit es e d ms all.2 is)
+
+below_middle : (first : Entry) (es : List Entry) (e : Entry) (more : List Entry) → AllByRecursion (λ y. string_cmp first.0 y ≡ Less) (keys_of (es ++ e ∷ more)) → string_cmp first.0 e.0 ≡ Less
+below_middle first [] e more h = h.0
+below_middle first (x ∷ es) e more h = below_middle first es e more h.1
+
+-- a key that is above those before it goes last
+put_last : (limit : ℕ) (es : List Entry) (e : Entry) (more : List Entry) (done : Members) (d : Data) → IsStrictlySortedBy string_cmp (keys_of (es ++ e ∷ more)) → HoldsAll limit es done
+    → put (string_bytes e.0) d done ≡ join done (member (string_bytes e.0) d no_members)
+unfolding IsStrictlySortedBy join
+put_last limit [] e more no_members d h same = refl
+put_last limit [] e more (member l x done) d h same = absurd same
+put_last limit (first ∷ es) e more no_members d h same = absurd same
+put_last limit (first ∷ es) e more (member l x done) d h same =
+    let above : slice_cmp nat_cmp (string_bytes e.0) (string_bytes first.0) ≡ Greater =
+    nat_list_cmp_total.antisymm (string_bytes e.0) (string_bytes first.0) ∙ ap ordering_reverse (below_middle first es e more h.0) in
+    let above_l : slice_cmp nat_cmp (string_bytes e.0) l ≡ Greater = subst (λ k. slice_cmp nat_cmp (string_bytes e.0) k ≡ Greater) same.0 above in
+    ap (λ o. match_ordering o (member (string_bytes e.0) d (member l x done)) (member l d done) (member l x (put (string_bytes e.0) d done))) above_l
+    ∙ ap (member l x) (put_last limit es e more done d h.1 same.2)
 
 -- one more was let go
-pub let_one_go : (limit room left left2 : ℕ) (done es : List Entry) (e : Entry) (front rest ms old new : Members) (v : Data)
-    → IsStrictlySortedBy string_cmp (keys_of (done ++ e ∷ es)) → join front rest ≡ ms → keyed done ≡ smalls limit room front → keyed (e ∷ es) ≡ smalls limit room rest
-    → old ≡ front → left ≡ room - total_members front → members_depth front ≤ limit
-    → new ≡ put (string_bytes e.0) v old → option_and_then (λ d. guarded (is_short left d) d) (held_data e.1) ≡ Some v
-    → (has_float v ≡ false → left2 ≡ left - length (compact_text v))
-    → (front2 : Members) × (rest2 : Members) × (join front2 rest2 ≡ ms) × (keyed (done ++ e ∷ []) ≡ smalls limit room front2) × (keyed es ≡ smalls limit room rest2)
-    × (new ≡ front2) × (left2 ≡ room - total_members front2) × (members_depth front2 ≤ limit)
-let_one_go limit room left left2 done es e front rest ms old new v sorted joined before behind was sum deep step freed less =
-    let n = next_held limit room e es rest behind in
+pub let_one_go : (limit left left2 : ℕ) (done es : List Entry) (e : Entry) (front rest ms old new : Members) (v : Data) (o : Option Part) (x : Option Data)
+    → IsStrictlySortedBy string_cmp (keys_of (done ++ e ∷ es)) → join front rest ≡ ms → HoldsAll limit done front → HoldsAll limit (e ∷ es) rest
+    → old ≡ front → 16384 ≤ left + total_members front → members_depth front ≤ limit
+    → new ≡ put (string_bytes e.0) v old → o ≡ part_in e.1 → x ≡ Some v → IsTaken o left left2 x
+    → (front2 : Members) × (rest2 : Members) × (join front2 rest2 ≡ ms) × HoldsAll limit (done ++ e ∷ []) front2 × HoldsAll limit es rest2
+    × (new ≡ front2) × (16384 ≤ left2 + total_members front2) × (members_depth front2 ≤ limit)
+let_one_go limit left left2 done es e front rest ms old new v o x sorted joined before behind was sum deep step held some taken =
+    let n = next_held limit e es rest behind in
     let k = string_bytes e.0 in
-    let some = freed_some limit room left n.0 v (held_data e.1) n.3 freed in
-    let whole : has_float v ≡ false = ap has_float (sym some.0) ∙ some.1.whole in
-    let shorter = less whole in
+    let t = was_taken limit left left2 n.0 v o x some (subst (IsPart limit n.0) (sym held) n.3) taken in
     let front2 = join front (member k n.0 no_members) in
-    let sums = total_join front k n.0 in
-    let text : length (compact_text v) ≡ length (compact_text n.0) = ap (λ d. length (compact_text d)) (sym some.0) in (
+    let sums = total_join front k n.0 in (
       front2,
       n.1,
       join_push front k n.0 n.1 ∙ ap (join front) (sym n.2) ∙ joined,
-      keyed-append done (e ∷ []) ∙ ap₂ (λ a o. a ++ (k, o) ∷ []) before n.3 ∙ sym (smalls_join limit room front (member k n.0 no_members)),
+      holds_push limit done e n.0 front before n.3,
       n.4,
-      step ∙ ap₂ (put k) (sym some.0) was ∙ put_last limit room done e es front n.0 sorted before,
-      omega (arith, shorter, sum, sums, text),
-      depth_join front k n.0 limit deep some.1.nests,
+      step ∙ ap (λ d. put k d old) t.same ∙ ap (put k n.0) was ∙ put_last limit done e es front n.0 sorted before,
+      omega (arith, t.counted, sum, sums),
+      depth_join front k n.0 limit deep t.nests,
     )
 
 -- one can't be
-pub one_stays : (limit room left : ℕ) (es : List Entry) (e : Entry) (front rest ms : Members)
-    → join front rest ≡ ms → keyed (e ∷ es) ≡ smalls limit room rest → left ≡ room - total_members front → left ≤ room
-    → option_and_then (λ d. guarded (is_short left d) d) (held_data e.1) ≡ None → is_small (suc limit) room (object ms) ≡ false
-one_stays limit room left es e front rest ms joined behind sum less none =
-    let n = next_held limit room e es rest behind in
-    let large = freed_none limit room left n.0 (held_data e.1) less n.3 none in
-    member_too_large limit room left front (string_bytes e.0) n.0 n.1 ms (ap (join front) (sym n.2) ∙ joined) sum large
+pub one_stays : (limit left left2 : ℕ) (es : List Entry) (e : Entry) (front rest ms : Members) (o : Option Part) (x : Option Data)
+    → join front rest ≡ ms → HoldsAll limit (e ∷ es) rest → 16384 ≤ left + total_members front
+    → o ≡ part_in e.1 → x ≡ None → IsTaken o left left2 x → is_small (suc limit) (object ms) ≡ false
+one_stays limit left left2 es e front rest ms o x joined behind sum held none taken =
+    let n = next_held limit e es rest behind in
+    refused n.0 n.1 (ap (join front) (sym n.2) ∙ joined) (wasnt_taken limit left left2 n.0 o x none (subst (IsPart limit n.0) (sym held) n.3) taken)
+  where
+    refused : (d : Data) (more : Members) → join front (member (string_bytes e.0) d more) ≡ ms → (is_small limit d ≡ false) ⊎ (left ≤ length (compact_text d))
+        → is_small (suc limit) (object ms) ≡ false
+    refused d more whole (inl large) = member_too_large limit front (string_bytes e.0) d more ms whole large
+    refused d more whole (inr long) = members_too_long limit front (string_bytes e.0) d more ms whole (omega (arith, long, sum))
 
 -- ---- one value
 
@@ -178,12 +248,6 @@ flat (Token.boolean b) ts j rest at e = subst (λ i. IsFlat (data_of i)) (sym (l
 flat Token.null ts j rest at e = subst (λ i. IsFlat (data_of i)) (sym (led Token.null ts j rest at).0) (refl, refl)
 flat Token.bad ts j rest at e = absurd (led Token.bad ts j rest at)
 
-pub flat_small : (limit room : ℕ) (d v : Data) (o : Option Data) → IsFlat d → v ≡ brief d → o ≡ guarded (is_short room v) v → o ≡ small limit room d
-flat_small limit room d v o f is found =
-    let same : v ≡ d = is ∙ f.0 in
-    found ∙ ap (λ e. guarded (is_short room e) e) same ∙ sym (deep_enough limit room d (omega (arith, f.1)))
-
 -- an array or an object has no room at depth 0
-pub too_deep : (limit room : ℕ) (d : Data) → limit ≡ 0 → 0 < depth d → None ≡ small limit room d
-too_deep limit room d none deep =
-    sym (ap (λ n. small n room d) none ∙ not_guarded (is_small 0 room d) d (turned false (is_small 0 room d) (λ all. let p = parts 0 room d all in absurd (omega (arith, p.nests, deep))) refl))
+pub too_deep : (limit : ℕ) (d : Data) → limit ≡ 0 → 0 < depth d → is_small limit d ≡ false
+too_deep limit d none deep = never_small limit d (λ p. omega (arith, p.nests, deep, none))

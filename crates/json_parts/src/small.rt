@@ -1,24 +1,23 @@
 //! Metas, read from a text of any length.
-ghost use Rattle.std.specs.Prelude.{◌≡◌, ◌≤◌, ◌<◌, ◌+◌, ◌++◌, ◌∷◌, [], ℕ, List, string_bytes, Some, false, length, OnOk, IfSome, option_map, option_and_then};
+ghost use Rattle.std.specs.Prelude.{◌≡◌, ◌≤◌, ◌<◌, ◌+◌, ◌++◌, ◌∷◌, [], ℕ, List, string_bytes, length, OnOk, IfSome, option_map};
 ghost use Rattle.json.specs.Json.{Items, Members};
 ghost use Rattle.json.specs.Token.{Token as TokenValue};
 ghost use Rattle.presence_base.specs.Metas.{is_meta};
 ghost use Rattle.presence_base.specs.Names.{guarded};
 ghost use Rattle.std.specs.BTreeMap.{insert_entry};
 ghost use Rattle.std.specs.String.{string_cmp};
-ghost use Rattle.presence_base.specs.declared.meta.TheConstants.{MAX_META_BYTES, MAX_META_DEPTH};
+ghost use Rattle.presence_base.specs.declared.meta.TheConstants.{MAX_META_DEPTH};
 ghost use Rattle.serde_json.specs.Data.{Data, depth, array, object, no_members, put, Members as DataMembers};
-ghost use Rattle.serde_json.specs.Read.{max_depth};
+ghost use Rattle.serde_json.specs.Read.{max_depth, read};
 ghost use Rattle.serde_json.specs.View.{view, members_view};
-ghost use Rattle.serde_json.specs.Written.{has_float as float_within, compact_text};
 ghost use Rattle.json_parts.specs.Places.{items_data, members_data, AtItems, AtMembers, Gets, Leaves, Reads};
-ghost use Rattle.json_parts.specs.Small.{IsNextMeta, IsReleased, held_data, is_short, keyed, small, smalls};
+ghost use Rattle.json_parts.specs.Small.{HoldsAll, IsNextMeta, IsPart, IsTaken, part_in, part_view};
 
 use crate::brief::{brief_of, skip_items, skip_members};
 use crate::items::push;
 use crate::whole::MAX_DEPTH;
 use json::{Error, Reader, Token};
-use presence_base::{MAX_META_BYTES, MAX_META_DEPTH, Meta, has_float};
+use presence_base::{MAX_META_BYTES, MAX_META_DEPTH, Meta};
 use serde_json::{Map, Value};
 use std::alloc::Global;
 use std::collections::BTreeMap;
@@ -26,46 +25,44 @@ use std::collections::BTreeMap;
 // An object of more members is too large for a meta: the text of each is of three bytes or more.
 const MAX_MEMBERS: usize = 5_462;
 
-// A member of an object that is being read: an array or an object is held as its text.
+// How many values an object's members hold as they were read. Of more some are replaced by later members of their
+// keys, or the object is too large: these are held as texts, so that memory stays in proportion to the text.
+const MAX_HELD: usize = 32_768;
+
+// A value that was read, and how many values are in it, itself not counted.
+#[derive(Drop)]
+struct Part {
+    value: Value,
+    values: usize,
+}
+
+// A member of an object that is being read: its value or the text of it, and how many values are in it.
 #[derive(Drop)]
 pub(crate) enum Held {
-    Plain(Value),
-    Text(String),
+    Plain(Value, usize),
+    Text(String, usize),
     TooLarge,
 }
 
-// How long the compact text of a value without floats is.
-fn written_len(alloc: Global, value: &Value) -> Result<usize, Error>
-    ensures { Gets result (λ n. float_within (view value.now) ≡ false → n ≡ length (compact_text (view value.now))) }
+// The value of a part, which is counted off the bytes that are left for it, or none where they don't do.
+fn take(part: Option<Part>, left: &mut usize) -> Option<Value>
+    ensures { IsTaken (option_map part_view part) left.old left.new (option_map view result) }
 {
-    let text = value.to_string(alloc)?;
-    Ok(text.len())
-}
-
-// The value, where it has no float and its text is of at most so many bytes.
-fn if_short(alloc: Global, value: Value, room: usize) -> Result<Option<Value>, Error>
-    ensures { Gets result (λ o. option_map view o ≡ guarded (is_short room (view value)) (view value)) }
-{
-    if has_float(&value) {
-        return Ok(None);
+    let Some(Part { value, values }) = part else {
+        return None;
+    };
+    if values >= *left {
+        return None;
     }
-    if written_len(alloc, &value)? > room {
-        return Ok(None);
-    }
-    Ok(Some(value))
+    *left -= values + 1;
+    Some(value)
 }
 
 // The next value, where it's small.
 #[cycle(small)]
-fn small_value(
-    alloc: Global,
-    reader: &mut Reader<'_>,
-    limit: u32,
-    room: usize,
-) -> Result<Option<Value>, Error>
+fn small_value(alloc: Global, reader: &mut Reader<'_>, limit: u32) -> Result<Option<Part>, Error>
     requires low { limit ≤ MAX_META_DEPTH }
-    requires few { room ≤ MAX_META_BYTES }
-    ensures read { Reads reader.old reader.new result (λ d o. option_map view o ≡ small limit room d) }
+    ensures read { Reads reader.old reader.new result (λ d o. IsPart limit d (option_map part_view o)) }
     ensures shorter { OnOk result (length reader.new < length reader.old) }
 {
     let token = reader.next().ok_or(Error::Invalid)?;
@@ -75,97 +72,105 @@ fn small_value(
                 skip_items(reader)?;
                 return Ok(None);
             }
-            small_items(alloc, reader, limit - 1, room)
+            small_items(alloc, reader, limit - 1)
         }
         Token::BeginObject => {
             if limit == 0 {
                 skip_members(reader)?;
                 return Ok(None);
             }
-            small_members(alloc, reader, limit - 1, room)
+            small_members(alloc, reader, limit - 1)
         }
         _ => {
             let value = brief_of(alloc, reader, token)?;
-            if_short(alloc, value, room)
+            Ok(Some(Part { value, values: 0 }))
         }
     }
 }
 
 // The array in which the reader stands, where it's small and its items nest at most so deep.
 #[cycle(small)]
-fn small_items(
-    alloc: Global,
-    reader: &mut Reader<'_>,
-    limit: u32,
-    room: usize,
-) -> Result<Option<Value>, Error>
+fn small_items(alloc: Global, reader: &mut Reader<'_>, limit: u32) -> Result<Option<Part>, Error>
     requires low { limit ≤ MAX_META_DEPTH }
-    requires few { room ≤ MAX_META_BYTES }
     ensures read { (js : Items) (rest : List TokenValue) → AtItems reader.old js rest
-        → Leaves reader.new rest result (λ o. option_map view o ≡ small (limit + 1) room (array (items_data js))) }
+        → Leaves reader.new rest result (λ o. IsPart (limit + 1) (array (items_data js)) (option_map part_view o)) }
     ensures shorter { OnOk result (length reader.new < length reader.old) }
 {
     let mut items = Vec::new(alloc);
-    let mut left = room;
+    let mut left = MAX_META_BYTES;
     while !reader.take_end_array() {
-        let Some(item) = small_value(alloc, reader, limit, left)? else {
+        let part = small_value(alloc, reader, limit)?;
+        let Some(item) = take(part, &mut left) else {
             skip_items(reader)?;
             return Ok(None);
         };
-        left = left.saturating_sub(written_len(alloc, &item)?);
         push(&mut items, item)?;
     }
-    if_short(alloc, Value::Array(items), room)
+    Ok(Some(Part {
+        value: Value::Array(items),
+        values: MAX_META_BYTES - left,
+    }))
 }
 
-// What is held of a member.
-fn hold(alloc: Global, member: Option<Value>) -> Result<Held, Error>
-    ensures { IfSome member (λ v. depth (view v) ≤ max_depth)
-        → Gets result (λ h. held_data h ≡ option_map view member) }
+// What is held of a member, as it was read where there is room for its values.
+fn hold(alloc: Global, part: Option<Part>, room: &mut usize) -> Result<Held, Error>
+    ensures { IfSome part (λ p. depth (view p.value) ≤ max_depth)
+        → Gets result (λ h. part_in h ≡ option_map part_view part) }
 {
-    match member {
-        Some(Value::Array(items)) => Ok(Held::Text(Value::Array(items).to_string(alloc)?)),
-        Some(Value::Object(members)) => Ok(Held::Text(Value::Object(members).to_string(alloc)?)),
-        Some(value) => Ok(Held::Plain(value)),
-        None => Ok(Held::TooLarge),
+    let Some(Part { value, values }) = part else {
+        return Ok(Held::TooLarge);
+    };
+    if values <= *room {
+        *room -= values;
+        return Ok(Held::Plain(value, values));
+    }
+    let text = value.to_string(alloc)?;
+    Ok(Held::Text(text, values))
+}
+
+// The value that a text is, with how many are in it.
+fn read_again(alloc: Global, text: &str, values: usize) -> Result<Option<Part>, Error>
+    ensures { Gets result (λ o. option_map part_view o ≡ option_map (λ d. (d, values)) (read text.now)) }
+{
+    match Value::from_str(alloc, text) {
+        Ok(value) => Ok(Some(Part { value, values })),
+        Err(error) => if error.is_memory() {
+            Err(Error::OutOfMemory)
+        } else {
+            Ok(None)
+        },
     }
 }
 
-// The value that is held of a member, where its text is of at most so many bytes.
-fn freed(alloc: Global, member: &Held, left: usize) -> Result<Option<Value>, Error>
-    ensures { Gets result (λ o. option_map view o
-        ≡ option_and_then (λ d. guarded (is_short left d) d) (held_data member.now)) }
+// The part that is held of a member.
+fn freed(alloc: Global, member: Held) -> Result<Option<Part>, Error>
+    ensures { Gets result (λ o. option_map part_view o ≡ part_in member) }
 {
     match member {
-        Held::Plain(value) => if_short(alloc, value.clone()?, left),
-        Held::Text(text) => match Value::from_str(alloc, text.as_str()) {
-            Ok(value) => if_short(alloc, value, left),
-            Err(_) => Err(Error::OutOfMemory),
-        },
+        Held::Plain(value, values) => Ok(Some(Part { value, values })),
+        Held::Text(text, values) => read_again(alloc, text.as_str(), values),
         Held::TooLarge => Ok(None),
     }
 }
 
-// The members that are held, where their texts together are of at most so many bytes.
-fn released(
-    alloc: Global,
-    held: &BTreeMap<String, Held>,
-    room: usize,
-) -> Result<Option<Map<String, Value>>, Error>
-    ensures { (limit : ℕ) (ms : DataMembers) → keyed held.now.entries ≡ smalls limit room ms
-        → Gets result (λ o. IsReleased limit room ms (option_map (λ m. members_view m.entries) o)) }
+// The object of the members that are held, where it's small.
+fn released(alloc: Global, held: BTreeMap<String, Held>) -> Result<Option<Part>, Error>
+    ensures { (limit : ℕ) (ms : DataMembers) → HoldsAll limit held.entries ms
+        → Gets result (λ o. IsPart (limit + 1) (object ms) (option_map part_view o)) }
 {
     let mut members = Map::new(alloc);
-    let mut left = room;
-    for (key, member) in held.iter() {
-        let Some(value) = freed(alloc, member, left)? else {
+    let mut left = MAX_META_BYTES;
+    for (key, member) in held {
+        let part = freed(alloc, member)?;
+        let Some(value) = take(part, &mut left) else {
             return Ok(None);
         };
-        left = left.saturating_sub(written_len(alloc, &value)?);
-        let key = key.clone()?;
         insert(&mut members, key, value)?;
     }
-    Ok(Some(members))
+    Ok(Some(Part {
+        value: Value::Object(members),
+        values: MAX_META_BYTES - left,
+    }))
 }
 
 fn insert(members: &mut Map<String, Value>, key: String, value: Value) -> Result<(), Error>
@@ -183,20 +188,15 @@ fn insert(members: &mut Map<String, Value>, key: String, value: Value) -> Result
 
 // The object in which the reader stands, where it's small and its members nest at most so deep.
 #[cycle(small)]
-fn small_members(
-    alloc: Global,
-    reader: &mut Reader<'_>,
-    limit: u32,
-    room: usize,
-) -> Result<Option<Value>, Error>
+fn small_members(alloc: Global, reader: &mut Reader<'_>, limit: u32) -> Result<Option<Part>, Error>
     requires low { limit ≤ MAX_META_DEPTH }
-    requires few { room ≤ MAX_META_BYTES }
     ensures read { (ms : Members) (rest : List TokenValue) → AtMembers reader.old ms rest
         → Leaves reader.new rest result
-        (λ o. option_map view o ≡ small (limit + 1) room (object (members_data ms no_members))) }
+        (λ o. IsPart (limit + 1) (object (members_data ms no_members)) (option_map part_view o)) }
     ensures shorter { OnOk result (length reader.new < length reader.old) }
 {
     let mut held = BTreeMap::new(alloc);
+    let mut room = MAX_HELD;
     while let Some(name) = reader.next_key()? {
         if held.len() >= MAX_MEMBERS {
             reader.skip_value(MAX_DEPTH)?;
@@ -204,13 +204,11 @@ fn small_members(
             return Ok(None);
         }
         let key = String::from_str(alloc, name)?;
-        let member = hold(alloc, small_value(alloc, reader, limit, room)?)?;
+        let part = small_value(alloc, reader, limit)?;
+        let member = hold(alloc, part, &mut room)?;
         keep(&mut held, key, member)?;
     }
-    let Some(members) = released(alloc, &held, room)? else {
-        return Ok(None);
-    };
-    if_short(alloc, Value::Object(members), room)
+    released(alloc, held)
 }
 
 fn keep(held: &mut BTreeMap<String, Held>, key: String, member: Held) -> Result<(), Error>
@@ -226,12 +224,12 @@ fn keep(held: &mut BTreeMap<String, Held>, key: String, member: Held) -> Result<
 }
 
 // The meta that the value is, where it is one.
-fn meta_of(alloc: Global, value: Option<Value>) -> Result<Option<Meta>, Error>
-    ensures { (d : Data) → option_map view value ≡ small MAX_META_DEPTH MAX_META_BYTES d
+fn meta_of(alloc: Global, part: Option<Part>) -> Result<Option<Meta>, Error>
+    ensures { (d : Data) → IsPart MAX_META_DEPTH d (option_map part_view part)
         → Gets result (λ m. m ≡ guarded (is_meta d) d) }
 {
-    match value {
-        Some(value) => Ok(Meta::new(alloc, value)?),
+    match part {
+        Some(Part { value, values: _ }) => Ok(Meta::new(alloc, value)?),
         None => Ok(None),
     }
 }
@@ -248,6 +246,6 @@ pub fn next_meta(alloc: Global, reader: &mut Reader<'_>) -> Result<Option<Option
     let Token::BeginObject = token else {
         return Ok(None);
     };
-    let value = small_members(alloc, reader, MAX_META_DEPTH - 1, MAX_META_BYTES)?;
-    Ok(Some(meta_of(alloc, value)?))
+    let part = small_members(alloc, reader, MAX_META_DEPTH - 1)?;
+    Ok(Some(meta_of(alloc, part)?))
 }

@@ -104,3 +104,47 @@ fn blanks_and_escapes_count_as_they_are_written_again(rt: HostRuntime) -> Result
     assert!(rt; is_outside(alloc, longer.as_str())?);
     Ok(())
 }
+
+// A meta of so many members, named `k100` and on.
+fn numbered(alloc: Global, members: usize) -> Result<String, AllocError> {
+    let mut text = String::from_str(alloc, "{")?;
+    for number in 0..members {
+        let parted = if number == 0 { "" } else { "," };
+        let name = 100 + number;
+        let member = format!(in alloc; "{parted}\"k{name}\":{number}")?;
+        text.push_str(member.as_str())?;
+    }
+    text.push('}')?;
+    Ok(text)
+}
+
+#[test]
+fn a_meta_has_as_many_members_as_fit(rt: HostRuntime) -> Result<(), Fail> {
+    let alloc = rt.alloc();
+    for members in [64, 65, 100, 800] {
+        let meta = numbered(alloc, members)?;
+        assert!(rt; is_taken(alloc, meta.as_str(), meta.as_str())?);
+    }
+    Ok(())
+}
+
+// An array of so many zeros.
+fn zeros(alloc: Global, count: usize) -> Result<String, AllocError> {
+    let others = "0,".repeat(alloc, count - 1)?;
+    format!(in alloc; "[{others}0]")
+}
+
+#[test]
+fn members_that_are_replaced_leave_room_for_others(rt: HostRuntime) -> Result<(), Fail> {
+    let alloc = rt.alloc();
+    let long = zeros(alloc, 8_000)?;
+    let before = format!(in alloc; "\"a\":{long},\"b\":{long},\"c\":{long},\"d\":{long}")?;
+    let meta = format!(in alloc;
+        "{{{before},\"e\":{long},\"f\":[{long}],\"f\":0,\"a\":1,\"b\":2,\"c\":3,\"d\":4}}"
+    )?;
+    let written = format!(in alloc; "{{\"a\":1,\"b\":2,\"c\":3,\"d\":4,\"e\":{long},\"f\":0}}")?;
+    assert!(rt; is_taken(alloc, meta.as_str(), written.as_str())?);
+    let crowded = format!(in alloc; "{{{before},\"a\":1,\"b\":2}}")?;
+    assert!(rt; is_outside(alloc, crowded.as_str())?);
+    Ok(())
+}

@@ -23,6 +23,10 @@ use Rattle.node_links_members.proofs.Lists.{is_array_begun}
 use Rattle.node_links_members.proofs.Kept.{sound_kept, own_kept}
 use Rattle.node_links_members.proofs.Memory.{fails_on}
 
+-- where nothing is left, nothing is next
+pub never_begun : (j : json.Json) (more : json.Items) → json.no_items ≡ json.item j more → ⊥
+never_begun j more e = cc
+
 ok_or : {A : Type 0} → A → Result A LinkFault → A
 ok_or a (Ok x) = x
 ok_or a (Err e) = a

@@ -1,13 +1,14 @@
 //! Told values, read from a text and checked.
-ghost use Rattle.std.specs.Prelude.{◌≡◌, ◌≤◌, List, IfOk};
+ghost use Rattle.std.specs.Prelude.{◌≡◌, ◌≤◌, List, Err, IfOk};
 ghost use Rattle.std.specs.List.{list_all};
-ghost use Rattle.json.specs.Json.{Json, Items as JsonItems, item};
+ghost use Rattle.json.specs.Json.{Json, Items as JsonItems, item, no_items};
 ghost use Rattle.json.specs.Token.{Token};
 ghost use Rattle.serde_json.specs.Data.{array};
 ghost use Rattle.presence_base.specs.Order.{same_replica as is_replica};
 ghost use Rattle.orswot_core.specs.Checks.{raw_value};
 ghost use Rattle.orswot_core_told.specs.declared.form.Form.TheVariants.{One, Two};
 ghost use Rattle.json_parts.specs.Places.{data_of, items_data, AtItems};
+ghost use Rattle.node_links_members.specs.declared.fault.LinkFault.TheVariants.{BadLine};
 ghost use Rattle.node_links_members.specs.Reading.{Found, kept_told_in, none_left};
 ghost use Rattle.node_links_members.specs.Results.{Answers, Gives};
 ghost use Rattle.node_links_members.specs.Told.{sound, told_in, are_own_ranges, is_delta_of, own_delta, delta_in};
@@ -99,7 +100,7 @@ fn checked(
     }
 }
 
-// What a hearer is told by the value that is next in an array.
+/// What a hearer is told by the value that is next in an array; where none is next, the line is a bad one.
 pub fn next_told(
     alloc: Global,
     reader: &mut Reader<'_>,
@@ -107,8 +108,9 @@ pub fn next_told(
     hearer: Hearer,
 ) -> Result<Telling, LinkFault>
     requires { 1 ≤ hearer.shards }
-    ensures { (j : Json) (more : JsonItems) (rest : List Token) → AtItems reader.old (item j more) rest
+    ensures told { (j : Json) (more : JsonItems) (rest : List Token) → AtItems reader.old (item j more) rest
         → Answers result (told_in shard hearer (data_of j)) }
+    ensures none { (rest : List Token) → AtItems reader.old no_items rest → result ≡ Err BadLine }
 {
     let Some(form) = hearer.form else {
         return Err(LinkFault::BadLine);
@@ -197,7 +199,8 @@ fn delta_of(
     Ok(Some(Telling { form, told }))
 }
 
-// What a hearer is told of this replica by the value that is next in an array, or nothing where it is null.
+/// What a hearer is told of this replica by the value that is next in an array, or nothing where it is null; where none is
+/// next, the line is a bad one.
 pub fn next_delta(
     alloc: Global,
     reader: &mut Reader<'_>,
@@ -206,8 +209,9 @@ pub fn next_delta(
     replica: &Replica,
 ) -> Result<Option<Telling>, LinkFault>
     requires { 1 ≤ hearer.shards }
-    ensures { (j : Json) (more : JsonItems) (rest : List Token) → AtItems reader.old (item j more) rest
+    ensures delta { (j : Json) (more : JsonItems) (rest : List Token) → AtItems reader.old (item j more) rest
         → Answers result (delta_in shard hearer replica.now (data_of j)) }
+    ensures none { (rest : List Token) → AtItems reader.old no_items rest → result ≡ Err BadLine }
 {
     match begin(reader) {
         Begun::Null => Ok(None),

@@ -22,18 +22,18 @@ returns-in_default-token-clause-next c = λ js rest at.
     let other : is_object_token (token_of c.in-Some.token) ≡ false = grind arith in
     no_object_next (token_of c.in-Some.token) c.args.reader.now c.next.new.self js rest at first other
 
-pub returns-in_err-value-clause-next : goal.returns-in_err-value-clause-next
-returns-in_err-value-clause-next c = λ js rest at.
+pub returns-in_err-part-clause-next : goal.returns-in_err-part-clause-next
+returns-in_err-part-clause-next c = λ js rest at.
     let first : c.args.reader.now ≡ Token.begin_object ∷ c.next.new.self = grind arith in
     let n = items_led Token.begin_object c.next.new.self js rest (subst (λ ts. AtItems ts js rest) first at) in
-    let memory = c.in_err-value.ensures.read n.4.0 (items_tokens n.1 ++ rest) n.4.2 in
+    let memory = c.in_err-part.ensures.read n.4.0 (items_tokens n.1 ++ rest) n.4.2 in
     grind (arith, memory)
 
 pub returns-in_err-meta_of-clause-next : goal.returns-in_err-meta_of-clause-next
 returns-in_err-meta_of-clause-next c = λ js rest at.
     let first : c.args.reader.now ≡ Token.begin_object ∷ c.next.new.self = grind arith in
     let n = items_led Token.begin_object c.next.new.self js rest (subst (λ ts. AtItems ts js rest) first at) in
-    let read = c.in_ok-value.ensures.read n.4.0 (items_tokens n.1 ++ rest) n.4.2 in
+    let read = c.in_ok-part.ensures.read n.4.0 (items_tokens n.1 ++ rest) n.4.2 in
     let memory = c.in_err-meta_of.ensures (object (members_data n.4.0 no_members)) read.0 in
     grind (arith, memory)
 
@@ -41,6 +41,6 @@ pub returns-clause-next : goal.returns-clause-next
 returns-clause-next c = λ js rest at.
     let first : c.args.reader.now ≡ Token.begin_object ∷ c.next.new.self = grind arith in
     let n = items_led Token.begin_object c.next.new.self js rest (subst (λ ts. AtItems ts js rest) first at) in
-    let read = c.in_ok-value.ensures.read n.4.0 (items_tokens n.1 ++ rest) n.4.2 in
+    let read = c.in_ok-part.ensures.read n.4.0 (items_tokens n.1 ++ rest) n.4.2 in
     let meta = c.in_ok-meta_of.ensures (object (members_data n.4.0 no_members)) read.0 in
     (n.0, n.1, n.2, ap (λ j. is_object (data_of j)) n.4.1, meta ∙ ap (λ j. guarded (is_meta (data_of j)) (data_of j)) (sym n.4.1), (read.1, n.3))

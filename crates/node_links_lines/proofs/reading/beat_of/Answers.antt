@@ -69,7 +69,7 @@ returns-in_err-delta c = λ js rest at seen.
     let e = c.in_err-delta.field-0.0 in
     let same : c.from_residual-in_err-delta.result ≡ Err e = grind arith in
     answers_fault c.from_residual-in_err-delta.result whole e same
-    (fails_on e (delta_in s c.args.hearer r (data_of l.0)) whole (c.in_err-delta.ensures l.0 json.no_items rest l.1) (λ g k. l.2 ∙ ap (λ q. q >>= (λ x. Ok (lines_are.Beat s r n x))) k))
+    (fails_on e (delta_in s c.args.hearer r (data_of l.0)) whole (c.in_err-delta.ensures.delta l.0 json.no_items rest l.1) (λ g k. l.2 ∙ ap (λ q. q >>= (λ x. Ok (lines_are.Beat s r n x))) k))
 
 pub returns : goal.returns
 returns c = λ js rest at seen.
@@ -82,4 +82,4 @@ returns c = λ js rest at seen.
     let read = c.in_ok-few_items.ensures.few js rest at in
     let l = beat_last c.args.hearer js (view c.args.value.now) seen (lent_six (c.in-Some.field-0-0, c.in-Some.shard, c.in-Some.name, c.in-Some.incarnation, c.in-Some.count, c.in-Some.field-0-5)) s r n c.in_ok-few_items.field-0.items c.few_items.new.reader rest
     (sym c.in-Some.ensures) right named count read.0 read.1.0 in
-    l.2 ∙ ap (λ q. q >>= (λ x. Ok (lines_are.Beat s r n x))) (c.in_ok-delta.ensures l.0 json.no_items rest l.1)
+    l.2 ∙ ap (λ q. q >>= (λ x. Ok (lines_are.Beat s r n x))) (c.in_ok-delta.ensures.delta l.0 json.no_items rest l.1)

@@ -42,7 +42,7 @@ returns-in_err-told c = λ js rest at seen.
     let e = c.in_err-told.field-0.0 in
     let same : c.from_residual-in_err-told.result ≡ Err e = grind arith in
     answers_fault c.from_residual-in_err-told.result whole e same
-    (fails_on e (told_in s c.args.hearer (data_of l.0)) whole (c.in_err-told.ensures l.0 json.no_items rest l.1) (λ g k. l.2 ∙ ap (λ q. q >>= (λ t. Ok (lines_are.Told s t))) k))
+    (fails_on e (told_in s c.args.hearer (data_of l.0)) whole (c.in_err-told.ensures.told l.0 json.no_items rest l.1) (λ g k. l.2 ∙ ap (λ q. q >>= (λ t. Ok (lines_are.Told s t))) k))
 
 pub returns : goal.returns
 returns c = λ js rest at seen.
@@ -51,4 +51,4 @@ returns c = λ js rest at seen.
     let read = c.in_ok-few_items.ensures.few js rest at in
     let l = told_last c.args.hearer js (view c.args.value.now) seen (lent_three (c.in-Some.field-0-0, c.in-Some.shard, c.in-Some.field-0-2)) s c.in_ok-few_items.field-0.items c.few_items.new.reader rest
     (sym c.in-Some.ensures) right read.0 read.1.0 in
-    l.2 ∙ ap (λ q. q >>= (λ t. Ok (lines_are.Told s t))) (c.in_ok-told.ensures l.0 json.no_items rest l.1)
+    l.2 ∙ ap (λ q. q >>= (λ t. Ok (lines_are.Told s t))) (c.in_ok-told.ensures.told l.0 json.no_items rest l.1)

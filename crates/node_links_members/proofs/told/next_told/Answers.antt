@@ -9,16 +9,16 @@ use Rattle.node_links_members.specs.Results.{Fails}
 use Rattle.node_links_members.specs.Told.{told_in}
 use Rattle.node_links_members.proofs.Lists.{not_array}
 use Rattle.node_links_members.proofs.Memory.{answers_fault}
-use Rattle.node_links_members.proofs.ToldParts.{begun_array, told_nothing, told_unread, told_unsound, told_sound}
+use Rattle.node_links_members.proofs.ToldParts.{never_begun, begun_array, told_nothing, told_unread, told_unsound, told_sound}
 use Rattle.node_links_members.proofs.told.next_told.Goals as goal
 
-pub returns-in_default-begin : goal.returns-in_default-begin
-returns-in_default-begin c = λ j more rest at.
+pub returns-in_default-begin-clause-told : goal.returns-in_default-begin-clause-told
+returns-in_default-begin-clause-told c = λ j more rest at.
     let other = not_array c.begin.result c.in_default-begin.not-Array in
     told_nothing c.args.shard c.args.hearer c.in-Some.form c.in-Some.is j more rest c.begin.new.reader c.begin.result (c.begin.ensures.begun (json.item j more) rest at) other
 
-pub returns-in_err-raw : goal.returns-in_err-raw
-returns-in_err-raw c = λ j more rest at.
+pub returns-in_err-raw-clause-told : goal.returns-in_err-raw-clause-told
+returns-in_err-raw-clause-told c = λ j more rest at.
     let b = subst (Begins (json.item j more) rest c.begin.new.reader) c.in-Array.is (c.begin.ensures.begun (json.item j more) rest at) in
     let e = c.in_err-raw.field-0.0 in
     let same : c.from_residual.result ≡ Err e = grind arith in
@@ -27,8 +27,8 @@ returns-in_err-raw c = λ j more rest at.
     (told_unread c.args.shard c.args.hearer c.in-Some.form c.in-Some.is (data_of j) e
     (subst (λ d. Fails e (kept_told_in c.in-Some.form d)) (sym (begun_array j more b.0 b.1 b.2)) fault))
 
-pub returns-in_err-told : goal.returns-in_err-told
-returns-in_err-told c = λ j more rest at.
+pub returns-in_err-told-clause-told : goal.returns-in_err-told-clause-told
+returns-in_err-told-clause-told c = λ j more rest at.
     let b = subst (Begins (json.item j more) rest c.begin.new.reader) c.in-Array.is (c.begin.ensures.begun (json.item j more) rest at) in
     let read = c.in_ok-raw.ensures.value b.0 (items_tokens b.1 ++ rest) b.3 in
     let e = c.in_err-told.field-0.0 in
@@ -37,9 +37,24 @@ returns-in_err-told c = λ j more rest at.
     (told_unsound c.args.shard c.args.hearer c.in-Some.form c.in-Some.is (data_of j) (raw_value c.in_ok-raw.raw) e
     (ap (kept_told_in c.in-Some.form) (begun_array j more b.0 b.1 b.2) ∙ read.0) c.in_err-told.ensures)
 
-pub returns : goal.returns
-returns c = λ j more rest at.
+pub returns-clause-told : goal.returns-clause-told
+returns-clause-told c = λ j more rest at.
     let b = subst (Begins (json.item j more) rest c.begin.new.reader) c.in-Array.is (c.begin.ensures.begun (json.item j more) rest at) in
     let read = c.in_ok-raw.ensures.value b.0 (items_tokens b.1 ++ rest) b.3 in
     told_sound c.args.shard c.args.hearer c.in-Some.form c.in-Some.is (data_of j) (raw_value c.in_ok-raw.raw) c.in_ok-told.told
     (ap (kept_told_in c.in-Some.form) (begun_array j more b.0 b.1 b.2) ∙ read.0) c.in_ok-told.ensures
+
+pub returns-in_err-raw-clause-none : goal.returns-in_err-raw-clause-none
+returns-in_err-raw-clause-none c = λ rest at.
+    let b = subst (Begins json.no_items rest c.begin.new.reader) c.in-Array.is (c.begin.ensures.begun json.no_items rest at) in
+    absurd (never_begun (json.array b.0) b.1 b.2)
+
+pub returns-in_err-told-clause-none : goal.returns-in_err-told-clause-none
+returns-in_err-told-clause-none c = λ rest at.
+    let b = subst (Begins json.no_items rest c.begin.new.reader) c.in-Array.is (c.begin.ensures.begun json.no_items rest at) in
+    absurd (never_begun (json.array b.0) b.1 b.2)
+
+pub returns-clause-none : goal.returns-clause-none
+returns-clause-none c = λ rest at.
+    let b = subst (Begins json.no_items rest c.begin.new.reader) c.in-Array.is (c.begin.ensures.begun json.no_items rest at) in
+    absurd (never_begun (json.array b.0) b.1 b.2)
