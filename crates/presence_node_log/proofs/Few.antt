@@ -1,5 +1,6 @@
 -- Lines of one reason within a second are few.
-use Rattle.std.proofs.Common.{◌≡◌, ℕ, zero, suc, ◌+◌, ◌<◌, ◌≤◌, Bool, true, false, if◌then◌else◌, nat_lt, ◌==◌, refl, sym, subst, arith, nat_tests}
+use Rattle.std.proofs.Common.{◌≡◌, ℕ, zero, suc, ◌+◌, ◌<◌, ◌≤◌, Bool, true, false, if◌then◌else◌, nat_lt, ◌==◌, refl, subst, arith}
+use Rattle.std.proofs.lemmas.Bool.Decides.{nat_tests}
 use Rattle.presence_node_log.specs.Counted.{behind_if, has_room, lines_in, lines_within}
 use Rattle.presence_node_log.specs.declared.quota.Quota.{Quota}
 use Rattle.presence_node_log.specs.declared.quota.TheConstants.{LINES_A_SECOND}

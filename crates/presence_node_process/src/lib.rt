@@ -1,5 +1,5 @@
-//! What the system says of this process, in its files under /proc: the memory that it has, and how many files, and the memory that there is for it. Where it says
-//! nothing nothing is known.
+//! What the system says of this process, in its files: the memory that it has and that there is for it, and how many files.
+//! Where it says nothing nothing is known.
 #![tactic(auto)]
 
 mod machine;
