@@ -8,7 +8,7 @@ use crate::tally::Ticket;
 use std::cell::Cell;
 use std::io;
 use std::io::{ErrorKind, Read, Write};
-use std::net::TcpStream;
+use std::net::{IpAddr, TcpStream};
 use std::os::fd::{AsRawFd, RawFd};
 
 /// How many bytes of a client are read before the others of its worker have their turns. A text of more is known to be
@@ -62,6 +62,10 @@ pub struct ClientStream<S> {
     stalled: Cell<Option<Stall>>,
     /// Whether a read has to ask the system.
     news: Cell<News>,
+    /// Where its client is.
+    address: Option<IpAddr>,
+    /// Whether its client is cut off, since it doesn't take what is sent.
+    is_given_up: Cell<bool>,
     /// Among the clients of its address.
     neighbour: Option<Ticket>,
     /// Among those that have a place.
@@ -85,6 +89,8 @@ impl<S: Drop> Drop for ClientStream<S> {
             taken: _,
             stalled: _,
             news: _,
+            address: _,
+            is_given_up: _,
             neighbour,
             place,
             waiting,
@@ -137,10 +143,35 @@ impl<S> ClientStream<S> {
             taken: 0,
             stalled: Cell::new(None),
             news: Cell::new(News::Untold),
+            address: None,
+            is_given_up: Cell::new(false),
             neighbour: None,
             place: None,
             waiting: None,
         }
+    }
+
+    /// Its client is at this address.
+    pub fn come_from(&mut self, address: IpAddr)
+        ensures stream { self.new.stream ≡ self.old.stream }
+        ensures left { self.new.left ≡ self.old.left }
+    {
+        self.address = Some(address);
+    }
+
+    /// Where its client is, if that was told.
+    pub fn address(&self) -> Option<IpAddr> {
+        self.address
+    }
+
+    /// Its client is cut off, since it doesn't take what is sent.
+    pub fn give_up(&self) {
+        self.is_given_up.set(true);
+    }
+
+    /// Whether its client was cut off.
+    pub fn is_given_up(&self) -> bool {
+        self.is_given_up.get()
     }
 
     /// It is counted among the clients of its address as long as it lasts.
