@@ -1,6 +1,6 @@
 -- What lines say.
 use Rattle.std.specs.Prelude.{ℕ, ◌/◌, ◌-◌, ◌^◌, List, [], ◌++◌, codes, decimal, unsigned_abs}
-use Rattle.core.specs.Fmt.{format_spec, styled_decimal}
+use Rattle.std.specs.Fmt.{format_spec, styled_decimal}
 use Rattle.jiff_core.specs.declared.civil.datetime.DateTime.{DateTime}
 use Rattle.json.specs.Print.{quoted}
 use Rattle.presence_node_log.specs.declared.lines.Told.{Told}

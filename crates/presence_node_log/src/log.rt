@@ -146,12 +146,18 @@ impl Log {
         }
     }
 
-    /// Tells how often what happened that has no line. It is called about once a second.
+    /// Tells how often what happened that has no line, once in each second in which it is called.
     pub fn catch_up<R: Wait + Clock + Eprint>(&self, rt: &R) {
         if self.shown == Shown::None {
             return;
         }
         let since = since_1970(rt);
+        let mut quotas = self.quotas.lock(rt);
+        let begins = quotas.begins(since.as_secs());
+        drop(quotas);
+        if !begins {
+            return;
+        }
         for reason in EACH_REASON {
             self.catch_up_on(rt, since, reason);
         }

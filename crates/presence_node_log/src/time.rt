@@ -1,6 +1,6 @@
 //! Times in words.
 ghost use Rattle.std.specs.Prelude.{◌≡◌, pos, IfOk, IfSome, string_bytes};
-ghost use Rattle.core.specs.Duration.{as_nanos};
+ghost use Rattle.std.specs.Duration.{as_nanos};
 ghost use Rattle.jiff_core.specs.DateTime.{civil_nanos};
 ghost use Rattle.presence_node_log.specs.Lines.{clock_text, date_text, time_text};
 
