@@ -5,25 +5,17 @@ use Rattle.presence_base.specs.declared.dots.Replica.{Replica}
 use Rattle.orswot_core_told.specs.Telling.{ToldValue, cut_to}
 use Rattle.presence_node_link_ports.specs.Others.{is_life_of, is_other, tells_of, of_others, of_others_else}
 
+kept : {A : Type 0} (b : Bool) (x : A) (xs ys : List A) (any : Bool) → (b || any) ≡ false → (any ≡ false → ys ≡ xs) → cond (not b) (x ∷ ys) ys ≡ x ∷ xs
+kept true x xs ys any e same = absurd cc
+kept false x xs ys any e same = ap (λ zs. x ∷ zs) (same e)
+
 none_left : {A : Type 0} (q : A → Bool) (xs : List A) → list_any q xs ≡ false → filter (λ x. not (q x)) xs ≡ xs
 none_left q [] e = refl
-none_left q (x ∷ xs) e = go (q x) e
-  where
-    go : (b : Bool) → (b || list_any q xs) ≡ false → cond (not b) (x ∷ filter (λ y. not (q y)) xs) (filter (λ y. not (q y)) xs) ≡ x ∷ xs
-    go true h = absurd cc
-    go false h = ap (λ ys. x ∷ ys) (none_left q xs h)
-
-left_of : (a b : Bool) → (a || b) ≡ false → a ≡ false
-left_of true b e = absurd cc
-left_of false b e = refl
-
-right_of : (a b : Bool) → (a || b) ≡ false → b ≡ false
-right_of true b e = absurd cc
-right_of false b e = e
+none_left q (x ∷ xs) e = kept (q x) x xs (filter (λ y. not (q y)) xs) (list_any q xs) e (λ h. none_left q xs h)
 
 whole : (own : Replica) (t : ToldValue) (gs ds xs : Bool) → list_any (λ g. is_life_of own g.0) t.ranges ≡ gs
     → list_any (λ d. is_life_of own d.replica) t.extras ≡ ds → list_any (λ x. is_life_of own x.0.replica) t.live ≡ xs
-    → (gs || ds || xs) ≡ false → cut_to (is_other own) t ≡ t
+    → (gs || (ds || xs)) ≡ false → cut_to (is_other own) t ≡ t
 whole own t false false false g d x e =
     ap (λ ranges. record { ranges = ranges; extras = (cut_to (is_other own) t).extras; live = (cut_to (is_other own) t).live }) (none_left (λ r. is_life_of own r.0) t.ranges g)
     ∙ ap (λ extras. record { ranges = t.ranges; extras = extras; live = (cut_to (is_other own) t).live }) (none_left (λ r. is_life_of own r.replica) t.extras d)

@@ -26,16 +26,16 @@ pub fn bare_beat(shard: u32, cut: &Delta) -> Line
 fn is_large_beat(form: Form, beat: &Line) -> bool
     ensures { result ≡ is_too_large form beat.now }
 {
-    match (form, beat) {
-        (
-            Form::Two,
+    match form {
+        Form::One => false,
+        Form::Two => match beat {
             Line::Beat {
                 shard,
                 delta: Some(delta),
                 ..
-            },
-        ) => is_large(*shard, &delta.told),
-        _ => false,
+            } => is_large(*shard, &delta.told),
+            _ => false,
+        },
     }
 }
 

@@ -55,9 +55,10 @@ macro_rules! tried {
 }
 
 impl<'a, R: Wait, G: Gate, A: Lane, B: Lane, C: Lane, D: Lane> PoolLinkPort<'a, R, G, A, B, C, D> {
-    ghost use Rattle.std.specs.Prelude.{◌≡◌, ◌<◌};
+    ghost use Rattle.std.specs.Prelude.{◌≡◌, ◌<◌, ◌⊎◌};
+    ghost use Rattle.presence_journal_data.specs.declared.step.Step.TheVariants.{Merge};
     ghost use Rattle.shard_pool.specs.Seats.{IsOfShardAt};
-    ghost use Rattle.presence_node_link_ports.specs.Asking.{HasRoom};
+    ghost use Rattle.presence_node_link_ports.specs.Asking.{HasNoShard, HasRoom, Made};
 
     /// The port of this pool, which has so many shards.
     pub fn new(
@@ -132,6 +133,23 @@ impl<'a, R: Wait, G: Gate, A: Lane, B: Lane, C: Lane, D: Lane> PoolLinkPort<'a, 
         }
     }
 
+    // The shard takes in what is told.
+    fn merges(&mut self, alloc: Global, shard: u32, news: &Told) -> Result<(), ActFault>
+        ensures pool { self.new.pool ≡ self.old.pool }
+        ensures own { self.new.own ≡ self.old.own }
+        ensures merged { HasNoShard self.old.pool.now.shards shard result
+            ⊎ Made (IsOfShardAt self.old.pool.now.own.name A.begins B.begins C.begins D.begins shard)
+            (Merge news.now) result }
+    {
+        self.has_changed = true;
+        tried!(
+            self,
+            alloc,
+            shard,
+            self.pool.merge(self.rt, alloc, shard, news)
+        )
+    }
+
     /// Whether the other node told of counts of this node's own incarnation that it never made.
     pub fn has_own_counts(&self) -> bool {
         self.has_own_counts
@@ -202,18 +220,14 @@ impl<'a, R: Wait, G: Gate, A: Lane, B: Lane, C: Lane, D: Lane> LinkPort
     }
 
     fn merge(&mut self, alloc: Global, shard: u32, told: &Told) -> Result<(), ActFault> {
-        self.has_changed = true;
         self.looks_at(shard, told);
         let Ok(cut) = cut_to_others(alloc, &self.own, told) else {
             return Err(ActFault::OutOfMemory);
         };
-        let news = cut.as_ref().unwrap_or(told);
-        tried!(
-            self,
-            alloc,
-            shard,
-            self.pool.merge(self.rt, alloc, shard, news)
-        )
+        match &cut {
+            Some(news) => self.merges(alloc, shard, news),
+            None => self.merges(alloc, shard, told),
+        }
     }
 
     fn permdown(&mut self, alloc: Global, shard: u32, replica: Replica) -> Result<(), ActFault> {

@@ -1,9 +1,10 @@
 //! What is told of other nodes than this one: nobody else tells of its own lives.
-ghost use Rattle.std.specs.Prelude.{◌≡◌, Ok, IfOk, option_map};
-ghost use Rattle.presence_node_link_ports.specs.Others.{is_life_of, is_other, of_others, of_others_else, tells_of as has_lives};
+ghost use Rattle.std.specs.Prelude.{◌≡◌, IfOk};
+ghost use Rattle.presence_node_link_ports.specs.Others.{is_in_dots, is_in_ranges, is_in_rows, is_life_of};
+ghost use Rattle.presence_node_link_ports.specs.Others.{of_others, of_others_else, tells_of as has_lives};
 
 use orswot_core_told::{ReplicaTest, Told};
-use presence_base::Replica;
+use presence_base::{Dot, Replica, Row};
 use std::alloc::{AllocError, Global};
 
 // Whether a replica is a life of this node.
@@ -29,13 +30,29 @@ impl ReplicaTest for OtherNodes {
     }
 }
 
+fn in_ranges(own: &Replica, ranges: &[(Replica, u64, u64)]) -> bool
+    ensures { result ≡ is_in_ranges own.now ranges.now }
+{
+    ranges.iter().any(|range| is_life(own, &range.0))
+}
+
+fn in_dots(own: &Replica, dots: &[Dot]) -> bool
+    ensures { result ≡ is_in_dots own.now dots.now }
+{
+    dots.iter().any(|dot| is_life(own, &dot.replica))
+}
+
+fn in_rows(own: &Replica, rows: &[(Dot, Row)]) -> bool
+    ensures { result ≡ is_in_rows own.now rows.now }
+{
+    rows.iter().any(|row| is_life(own, &row.0.replica))
+}
+
 // Whether a life of this node is told of.
 fn tells_of(own: &Replica, told: &Told) -> bool
     ensures { result ≡ has_lives own.now told.now }
 {
-    told.ranges().iter().any(|range| is_life(own, &range.0))
-        || told.extras().iter().any(|dot| is_life(own, &dot.replica))
-        || told.live().iter().any(|row| is_life(own, &row.0.replica))
+    in_ranges(own, told.ranges()) || in_dots(own, told.extras()) || in_rows(own, told.live())
 }
 
 /// What is told of other nodes, where something else is: none where all of it is of others, or no node is to be told apart.

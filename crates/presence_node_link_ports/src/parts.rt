@@ -95,7 +95,7 @@ pub(crate) fn is_there(part: &Result<Option<Told>, PoolFault>) -> bool {
 }
 
 // The count up to which a part's rows are no more than a part has.
-#[tactic(auto, using(crate::proofs::PartRows::row_past, crate::proofs::PartRows::row_more))]
+#[tactic(auto, using(crate::proofs::PartRows::row_past_at, crate::proofs::PartRows::row_more_at))]
 fn end_of_part(part: &Delta) -> u64
     ensures sound { IsDelta part.now }
     ensures end { TakesNoMore result part.now }

@@ -113,7 +113,8 @@ impl Waiting {
 
 /// What the thread where links come in has of its own.
 pub struct LinkDoor {
-    listener: TcpListener,
+    /// Where links come in, if any do.
+    listener: Option<TcpListener>,
     watch: Watch,
     /// The addresses from which links are taken: where there are none, from any.
     from: Vec<IpAddr>,
@@ -133,8 +134,8 @@ impl Drop for LinkDoor {
 }
 
 impl LinkDoor {
-    /// The listening socket is watched as `LISTENER`.
-    pub(crate) fn new(listener: TcpListener, watch: Watch, from: Vec<IpAddr>) -> LinkDoor {
+    /// The listening socket, where there is one, is watched as `LISTENER`.
+    pub(crate) fn new(listener: Option<TcpListener>, watch: Watch, from: Vec<IpAddr>) -> LinkDoor {
         LinkDoor {
             listener,
             watch,
@@ -160,7 +161,10 @@ impl LinkDoor {
 
     // Takes one link, if one waits: whether there may be another.
     fn take_one<R: Wait + Clock + Eprint>(&self, rt: &R, links: &Links) -> bool {
-        let Some(socket) = next_stream(&self.listener) else {
+        let Some(listener) = &self.listener else {
+            return false;
+        };
+        let Some(socket) = next_stream(listener) else {
             return false;
         };
         if !self.admits(&socket) {

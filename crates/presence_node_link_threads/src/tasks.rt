@@ -154,11 +154,13 @@ impl LinkTasks {
 fn door_at<R: Net>(
     net: &R,
     alloc: Global,
-    listener: TcpListener,
+    listener: Option<TcpListener>,
     from: Vec<IpAddr>,
 ) -> io::Result<(LinkDoor, Bell)> {
     let watch = Watch::new(net, alloc)?;
-    watch.add(&listener, LISTENER)?;
+    if let Some(listener) = &listener {
+        watch.add(listener, LISTENER)?;
+    }
     let bell = watch.bell()?;
     Ok((LinkDoor::new(listener, watch, from), bell))
 }
@@ -189,13 +191,13 @@ pub struct LinkNode {
     pub format: LogFormat,
 }
 
-/// What the threads of links of this node share, and what each of them does: links come in at this listening socket from these
-/// addresses, or where there are none from any, and no node is dialled yet.
+/// What the threads of links of this node share, and what each of them does: links come in at this listening socket, where
+/// there is one, from these addresses, or where there are none from any. No node is dialled yet.
 pub fn tasks_for<R: Net>(
     net: &R,
     alloc: Global,
     node: LinkNode,
-    listener: TcpListener,
+    listener: Option<TcpListener>,
     from: Vec<IpAddr>,
 ) -> io::Result<LinkTasks>
     requires { 1 ≤ node.shards }
