@@ -11,6 +11,7 @@ use Rattle.tungstenite.specs.declared.error.Error.{Error}
 use Rattle.tungstenite.specs.declared.error.Error.TheVariants as errors
 use Rattle.websocket.specs.Connection.{Connection, write_step}
 use Rattle.websocket.specs.Content.{text}
+use Rattle.presence_node_web_sockets.specs.Kept.{HasNoRoom}
 use Rattle.presence_node_sending.specs.Sending.{SentAll, Stops, IsWant}
 use Rattle.presence_node_sending.proofs.Sendings.{sent_nothing, sent_then, sent_flushed, wrote}
 
@@ -21,7 +22,8 @@ module _ {S : Type 0} (contents : S → Option (List ℕ)) where
   kept a b e full memory (inr no_room) = subst (λ x. SentAll contents a x []) (sym (full no_room)) (sent_nothing contents a)
 
   -- the one text was not written
-  pub stops_at : (a b : Socket S) (words : List ℕ) (e : Error) → WriteFails (write_step a.conn (text words)) e → (e ≡ errors.WriteBufferFull → b ≡ a)
+  pub stops_at : (a b : Socket S) (words : List ℕ) (e : Error) → WriteFails (write_step a.conn (text words)) e
+      → (e ≡ errors.WriteBufferFull → (b ≡ a) × HasNoRoom a.output (length words))
       → (IsIo e → Writes contents a b (write_step a.conn (text words))) → (e ≡ errors.OutOfMemory → b ≡ a) → Stops contents a b (words ∷ []) e
   stops_at a b words e fails full failed memory =
       record {
@@ -31,12 +33,18 @@ module _ {S : Type 0} (contents : S → Option (List ℕ)) where
         texts_are = refl;
         fails = fails;
         taken = λ io. wrote contents a b words (failed io);
-        kept = kept a b e full memory;
+        kept = kept a b e (λ is. (full is).0) memory;
+        full = λ is. subst (λ (x : Socket S). HasNoRoom x.output (length words)) (sym (full is).0) (full is).1;
       }
+
+  abbrev is_lack : Error → Type 0
+  is_lack errors.OutOfMemory = Unit {0}
+  is_lack _ = ⊥
 
   -- there was no memory for it
   pub stops_for_memory : (a : Socket S) (words : List ℕ) → Stops contents a a (words ∷ []) errors.OutOfMemory
-  stops_for_memory a words = stops_at a a words errors.OutOfMemory (inr (inl tt)) (λ e. refl) (λ e. absurd e) (λ e. refl)
+  stops_for_memory a words =
+      stops_at a a words errors.OutOfMemory (inr (inl tt)) (λ is. absurd (subst is_lack is tt)) (λ e. absurd e) (λ e. refl)
 
   -- a text behind others that were sent
   pub stops_behind : (a b d : Socket S) (xs : List (List ℕ)) (w : List ℕ) (rest all : List (List ℕ)) (e : Error) → SentAll contents a b xs → Stops contents b d (w ∷ []) e → all ≡ xs ++ w ∷ rest
@@ -54,6 +62,7 @@ module _ {S : Type 0} (contents : S → Option (List ℕ)) where
         fails = subst (λ (c : Connection). WriteFails (write_step c (text s.words)) e) h.conn s.fails;
         taken = λ io. subst (λ l. SentAll contents a d l) (sym (append_assoc xs s.front (s.words ∷ []))) (sent_then contents a b d xs (s.front ++ s.words ∷ []) h (s.taken io));
         kept = λ want. sent_then contents a b d xs s.front h (s.kept want);
+        full = s.full;
       }
 
   record Last (texts : List (List ℕ)) : Type 0 where
@@ -84,6 +93,7 @@ module _ {S : Type 0} (contents : S → Option (List ℕ)) where
         fails = inr (inl (io-outside e io));
         taken = λ _. subst (λ l. SentAll contents a d l) k.are (sent_flushed contents a b d texts h flushed);
         kept = λ want. absurd (not_want e io want);
+        full = λ is. absurd (not_want e io (inr is));
       }
 
 -- what the iterator of a vector has given is a front of its items

@@ -1,10 +1,11 @@
 -- What sending texts does to a socket.
-use Rattle.std.specs.Prelude.{◌≡◌, ◌⊎◌, ℕ, List, [], ◌∷◌, ◌++◌, Option, Some}
+use Rattle.std.specs.Prelude.{◌≡◌, ◌⊎◌, ℕ, List, [], ◌∷◌, ◌++◌, Option, Some, length}
 use Rattle.std.specs.Io.KnownBytes.{Appends}
 use Rattle.tungstenite.specs.Failure.{IsIo, WriteFails}
 use Rattle.tungstenite.specs.Socket.{Socket}
 use Rattle.tungstenite.specs.declared.error.Error.{Error}
 use Rattle.tungstenite.specs.declared.error.Error.TheVariants as errors
+use Rattle.presence_node_web_sockets.specs.Kept.{HasNoRoom}
 use Rattle.websocket.specs.Connection.{Outgoing, Sends, write_step}
 use Rattle.websocket.specs.Content.{text}
 use Rattle.websocket.specs.declared.protocol.config.Role.{Role}
@@ -35,7 +36,8 @@ module _ {S : Type 0} (contents : S → Option (List ℕ)) where
     pub input : new.input ≡ old.input
 
   -- One of the texts could not be written, and those behind it were not tried. Its own frame was
-  -- taken where the stream failed, and not for want of memory or room.
+  -- taken where the stream failed, and not for want of memory or room. Room is wanting only where
+  -- more would have waited than may.
   pub record Stops (old new : Socket S) (texts : List (List ℕ)) (e : Error) : Type 0 where
     pub front : List (List ℕ)
     pub words : List ℕ
@@ -44,3 +46,4 @@ module _ {S : Type 0} (contents : S → Option (List ℕ)) where
     pub fails : WriteFails (write_step old.conn (text words)) e
     pub taken : IsIo e → SentAll old new (front ++ words ∷ [])
     pub kept : IsWant e → SentAll old new front
+    pub full : e ≡ errors.WriteBufferFull → HasNoRoom new.output (length words)

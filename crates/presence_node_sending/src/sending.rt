@@ -64,8 +64,8 @@ pub fn queue_all<S: Read + Write + Drop, K: MaskKeys + Drop>(
 
 /// Sends texts in their order, each as one frame of RFC 6455.
 ///
-/// `WriteBufferFull` says that more would wait than the socket's configuration allows. After an
-/// error of kind `WouldBlock` all texts wait to be sent, and a later flush sends them.
+/// `WriteBufferFull` says that more would wait than may. After an error of kind `WouldBlock` all texts wait to be sent,
+/// and a later flush sends them.
 #[tactic(auto, using(crate::proofs::Sendings::sent_flushed))]
 pub fn send_all<S: Read + Write + Drop, K: MaskKeys + Drop>(
     socket: &mut WebSocket<S, K>,
