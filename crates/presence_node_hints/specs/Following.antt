@@ -1,9 +1,14 @@
--- Which topics are followed.
-use Rattle.std.specs.Prelude.{◌≡◌, ◌⊎◌, ◌||◌, ℕ, List, [], Bool, true, false, cond}
+-- Which topics are followed, and by whom.
+use Rattle.std.specs.Prelude.{◌≡◌, ◌⊎◌, ◌||◌, ℕ, List, [], Bool, true, false, cond, is_ok, leb, length, ◌++◌, ◌∷◌, Option, Some, None, Result, Ok, Err}
 use Rattle.std.specs.List.{list_any}
 use Rattle.std.specs.BTreeSet.{BTreeSet, contains}
 use Rattle.presence_base.specs.Order.{text_cmp, same_text}
+use Rattle.std.specs.BTreeMap.{BTreeMap, get}
+use Rattle.std.specs.List.{AllByRecursion}
+use Rattle.std.specs.Ordering.{nat_cmp, eq_by_cmp}
+use Rattle.channel_session.specs.Asks.{Ask, Answer, track, update, untrack, untrack_all, subscribe, shout}
 use Rattle.presence_node_hints.specs.declared.followed.Followed.{Followed}
+use Rattle.presence_node_hints.specs.declared.followers.Followers.{Followers}
 
 -- whether the topic counts as joined
 abbrev pub is_followed : Followed → List ℕ → Bool
@@ -44,3 +49,85 @@ FollowsAll f ts g = FollowsEach g ⊎ ((t : List ℕ) → is_followed g t ≡ (i
 -- what either follows and, unless each does, no other
 abbrev pub FollowsBoth : Followed → Followed → Followed → Type 0
 FollowsBoth f others g = FollowsEach g ⊎ ((t : List ℕ) → is_followed g t ≡ (is_followed f t || is_followed others t))
+
+-- ---- what a port notes
+
+-- the topic counts as joined too, where that is so
+abbrev pub AddsIf : Bool → Followed → List ℕ → Followed → Type 0
+AddsIf true f topic g = FollowsToo f topic g
+AddsIf false f topic g = g ≡ f
+
+-- An accepted call that may have changed a topic notes that one, and no other call notes any.
+abbrev pub NotesChange : (q : Ask) → Answer q → Followed → Followed → Type 0
+NotesChange (track pid topic key meta) a f g = AddsIf (is_ok a) f topic g
+NotesChange (update pid topic key meta) a f g = AddsIf (is_ok a) f topic g
+NotesChange (untrack pid topic key) a f g = AddsIf (is_ok a) f topic g
+NotesChange (untrack_all pid topic) a f g = AddsIf (is_ok a) f topic g
+NotesChange (shout topic payload) a f g = AddsIf (is_ok a) f topic g
+NotesChange q a f g = g ≡ f
+
+-- A new subscriber's topic is noted, and no other.
+abbrev pub NotesFollower : (q : Ask) → Answer q → Followed → Followed → Type 0
+NotesFollower (subscribe topic) a f g = AddsIf (is_ok a) f topic g
+NotesFollower q a f g = g ≡ f
+
+-- ---- what a worker is told
+
+-- Topics of which one is followed wait behind those that waited, and it is told whether they are the first, but for want of memory. Others don't wait.
+abbrev pub Tells : {T V E : Type 0} → (T → V) → Bool → V → List T → List T → Result Bool E → Type 0
+Tells {T} value true topics old new (Ok first) =
+    (told : T) × (value told ≡ topics) × (new ≡ old ++ told ∷ []) × (first ≡ leb (length old) 0)
+Tells value true topics old new (Err e) = new ≡ old
+Tells value false topics old new (Ok first) = (new ≡ old) × (first ≡ false)
+Tells value false topics old new (Err e) = ⊥
+
+-- ---- who follows
+
+abbrev pub Tokens : Type 0
+Tokens = BTreeMap (List ℕ) (BTreeSet ℕ)
+
+abbrev pub holds : Option (BTreeSet ℕ) → ℕ → Bool
+holds None token = false
+holds (Some tokens) token = contains nat_cmp tokens token
+
+-- whether this token is kept at this topic
+abbrev pub is_kept_at : Tokens → List ℕ → ℕ → Bool
+is_kept_at m t token = holds (get text_cmp m t) token
+
+-- whether the connection of this token counts as one that follows the topic
+abbrev pub is_follower : Followers → List ℕ → ℕ → Bool
+is_follower f t token = f.has_all || is_kept_at f.by_topic t token
+
+-- nobody follows anything
+abbrev pub HasNobody : Followers → Type 0
+HasNobody f = (t : List ℕ) (token : ℕ) → is_follower f t token ≡ false
+
+abbrev pub same_token : ℕ → ℕ → Bool
+same_token = eq_by_cmp nat_cmp
+
+-- this token is kept at this topic too, and no other at any
+abbrev pub GainsToken : Tokens → List ℕ → ℕ → Tokens → Type 0
+GainsToken m topic token n =
+    (t : List ℕ) (k : ℕ)
+    → is_kept_at n t k ≡ cond (same_text topic t) (cond (same_token token k) true (is_kept_at m t k)) (is_kept_at m t k)
+
+-- this token is held too
+abbrev pub HasToo : BTreeSet ℕ → ℕ → BTreeSet ℕ → Type 0
+HasToo old token new = (k : ℕ) → contains nat_cmp new k ≡ cond (same_token token k) true (contains nat_cmp old k)
+
+-- it holds this token and no other
+abbrev pub IsOnly : ℕ → BTreeSet ℕ → Type 0
+IsOnly token tokens = (k : ℕ) → contains nat_cmp tokens k ≡ cond (same_token token k) true false
+
+-- this one follows this topic too and, unless each follows each, no other any
+abbrev pub GainsFollower : Followers → List ℕ → ℕ → Followers → Type 0
+GainsFollower f topic token g =
+    (g.has_all ≡ true) ⊎ ((g.has_all ≡ f.has_all) × GainsToken f.by_topic topic token g.by_topic)
+
+-- who follows a topic goes on with it
+abbrev pub KeepsFollowers : Followers → Followers → Type 0
+KeepsFollowers f g = (t : List ℕ) (k : ℕ) → is_follower f t k ≡ true → is_follower g t k ≡ true
+
+-- this one follows all of these
+abbrev pub FollowsThese : Followers → List (List ℕ) → ℕ → Type 0
+FollowsThese f topics token = AllByRecursion (λ (t : List ℕ). is_follower f t token ≡ true) topics

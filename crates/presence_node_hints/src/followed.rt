@@ -1,7 +1,7 @@
 //! Which topics sessions have joined.
-ghost use Rattle.std.specs.Prelude.{◌≡◌, ◌↔◌, IsTrue};
+ghost use Rattle.std.specs.Prelude.{◌≡◌, ◌↔◌, IsTrue, false, IfSome};
 ghost use Rattle.presence_node_hints.specs.Following.{HasNone, FollowsNone, FollowsToo, FollowsAll, FollowsBoth};
-ghost use Rattle.presence_node_hints.specs.Following.{has_one_of};
+ghost use Rattle.presence_node_hints.specs.Following.{has_one_of, is_followed};
 ghost use Rattle.channel_session.specs.Ending.{topics_named};
 
 use crate::inbox::Topics;
@@ -34,6 +34,24 @@ impl Followed {
         ensures some { IsTrue result ↔ HasNone self.now }
     {
         self.topics.is_empty() && !self.has_all
+    }
+
+    /// Whether this one is.
+    pub fn contains(&self, topic: &Topic) -> bool
+        ensures { result ≡ is_followed self.now topic.now }
+    {
+        self.has_all || self.topics.contains(topic)
+    }
+
+    /// The topics, unless each counts as joined.
+    pub fn into_topics(self) -> Option<Topics>
+        ensures { IfSome result (λ topics. (topics ≡ self.topics) × (self.has_all ≡ false)) }
+    {
+        let Followed { topics, has_all } = self;
+        if has_all {
+            return None;
+        }
+        Some(topics)
     }
 
     /// Whether one of these is.

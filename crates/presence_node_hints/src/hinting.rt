@@ -1,21 +1,18 @@
 //! A port that notes which topics its calls may have changed, and which are followed from then on.
-ghost use Rattle.std.specs.Prelude.{◌≡◌, []};
-ghost use Rattle.presence_node_hints.specs.Following.{FollowsNone};
+ghost use Rattle.std.specs.Prelude.{◌≡◌, is_ok};
+ghost use Rattle.presence_node_hints.specs.Following.{AddsIf, FollowsNone, NotesChange, NotesFollower};
 
 use crate::followed::Followed;
-use crate::inbox::Topics;
 use channel_session::{Port, ShardFault, Sub};
 use presence_base::{Dot, Json, Key, Meta, Row, Topic};
 use presence_journal::{Item, SharedRows};
 use std::alloc::Global;
-use std::collections::BTreeSet;
-use std::mem;
 
 /// What a port has noted.
 #[derive(Drop)]
 pub struct Noted {
-    /// The topics that may have something new.
-    pub changed: Topics,
+    /// The topics that may have something new, or each where memory ran out.
+    pub changed: Followed,
     /// Those that have a new subscriber.
     pub followed: Followed,
 }
@@ -32,13 +29,13 @@ impl<P: Port + Drop> HintingPort<P> {
     /// A port that has noted nothing.
     pub fn new(alloc: Global, port: P) -> HintingPort<P>
         ensures port { result.port ≡ port }
-        ensures changed { result.noted.changed.keys ≡ [] }
+        ensures changed { FollowsNone result.noted.changed }
         ensures followed { FollowsNone result.noted.followed }
     {
         HintingPort {
             port,
             noted: Noted {
-                changed: BTreeSet::new(alloc),
+                changed: Followed::new(alloc),
                 followed: Followed::new(alloc),
             },
         }
@@ -59,20 +56,22 @@ impl<P: Port + Drop> HintingPort<P> {
         noted
     }
 
-    // Notes the topic of an accepted call. One for which there is no room is not noted.
+    // Notes the topic of an accepted call.
     fn note<T>(&mut self, topic: &Topic, answer: &Result<T, ShardFault>)
-        ensures { self.new.port ≡ self.old.port }
+        ensures changed { AddsIf (is_ok answer.now) self.old.noted.changed topic.now self.new.noted.changed }
+        ensures followed { self.new.noted.followed ≡ self.old.noted.followed }
+        ensures port { self.new.port ≡ self.old.port }
     {
-        if answer.is_ok() && !self.noted.changed.contains(topic) {
-            if let Ok(copy) = topic.clone() {
-                let _lost = self.noted.changed.insert(copy);
-            }
+        if answer.is_ok() {
+            self.noted.changed.add(topic);
         }
     }
 }
 
 impl<P: Port + Drop> Port for HintingPort<P> {
-    ghost step = { λ old q a new. P.step old.port q a new.port };
+    ghost step = { λ old q a new. P.step old.port q a new.port
+        × NotesChange q a old.noted.changed new.noted.changed
+        × NotesFollower q a old.noted.followed new.noted.followed };
 
     fn track(
         &mut self,

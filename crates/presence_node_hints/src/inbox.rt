@@ -1,7 +1,8 @@
 //! What the workers tell each other.
 ghost use Rattle.std.specs.Prelude.{◌≡◌};
+ghost use Rattle.std.specs.Arc.{arc_value};
 ghost use Rattle.channel_session.specs.Ending.{topics_named};
-ghost use Rattle.presence_node_hints.specs.Following.{names_one_of};
+ghost use Rattle.presence_node_hints.specs.Following.{FollowsBoth, Tells, has_one_of, names_one_of};
 
 use crate::followed::Followed;
 use channel_session::Session;
@@ -20,6 +21,30 @@ pub type Topics = BTreeSet<Topic>;
 struct Kept {
     waiting: Vec<Arc<Topics>>,
     followed: Followed,
+}
+
+impl Kept {
+    // These topics are followed too.
+    fn follow(&mut self, topics: Followed)
+        ensures followed { FollowsBoth self.old.followed topics self.new.followed }
+        ensures waiting { self.new.waiting ≡ self.old.waiting }
+    {
+        self.followed.add_all(topics);
+    }
+
+    // Tells of these topics, if one of them is followed: whether it is, and nothing else waited.
+    fn put(&mut self, topics: &Arc<Topics>) -> Result<bool, AllocError>
+        ensures told { Tells arc_value (has_one_of self.old.followed (arc_value topics.now)) (arc_value topics.now)
+            self.old.waiting.items self.new.waiting.items result }
+        ensures followed { self.new.followed ≡ self.old.followed }
+    {
+        if !self.followed.has_one_of(topics) {
+            return Ok(false);
+        }
+        let first = self.waiting.is_empty();
+        self.waiting.push(Arc::try_clone(topics)?)?;
+        Ok(first)
+    }
 }
 
 /// What other workers told a worker, and it hasn't looked at yet. It is told of the topics that its sessions follow alone.
@@ -63,7 +88,7 @@ impl Inbox {
     pub fn follow<R: Wait>(&self, rt: &R, topics: Followed) {
         let mut guard = self.kept.lock(rt);
         let kept = &mut *guard;
-        kept.followed.add_all(topics);
+        kept.follow(topics);
     }
 
     /// They follow these topics and no others.
@@ -77,12 +102,7 @@ impl Inbox {
     pub fn put<R: Wait>(&self, rt: &R, topics: &Arc<Topics>) -> Result<bool, AllocError> {
         let mut guard = self.kept.lock(rt);
         let kept = &mut *guard;
-        if !kept.followed.has_one_of(topics) {
-            return Ok(false);
-        }
-        let first = kept.waiting.is_empty();
-        kept.waiting.push(Arc::try_clone(topics)?)?;
-        Ok(first)
+        kept.put(topics)
     }
 
     /// All that waits.
