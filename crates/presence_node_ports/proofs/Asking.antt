@@ -98,7 +98,7 @@ module _ (here : ℕ → History → Type 0) (there : History → Bool) (n : ℕ
       (subst (λ (y : Result (Unit {0}) ShardFault). Asked here there n old mid t step (λ h _. Unit {0}) y) (sym is) (asked_done here there n old mid t step Gives r c))
 
   -- a call that is made anew, of the same pool
-  anew : {A : Type 0} (Gives : History → A → Type 0) (mid left new : Hands) (name : ℕ → History → Type 0) (shards : ℕ) (r again : Result (Reply A) ShardFault) → left ≡ mid → name ≡ here → shards ≡ n → r ≡ Err JournalFull
+  anew : {A : Type 0} (Gives : History → A → Type 0) (mid left new : Hands) (name : ℕ → History → Type 0) (shards : ℕ) (r again : Result (Reply A) ShardFault) → left ≡ mid → name ≡ here → shards ≡ n → lacks_room r ≡ true
       → CalledAt here there old mid (shard_of t n) step Gives r → CalledAt name there left new (shard_of t shards) step Gives again → CalledAt here there old new (shard_of t n) step Gives again
   anew Gives mid left new name shards r again same named many full first second =
       called_anew here there old mid left new (shard_of t n) step Gives r again full first same
@@ -118,3 +118,10 @@ module _ (here : ℕ → History → Type 0) (there : History → Bool) (n : ℕ
       → Asked here there n old new t step (λ h _. Unit {0}) a
   again_done Gives mid left new name shards r again a same named many full is first second =
       first_done Gives new new again a refl is (anew Gives mid left new name shards r again same named many full first second)
+
+  pub again_value : {A : Type 0} (Gives : History → A → Type 0) (mid left new : Hands) (name : ℕ → History → Type 0) (shards : ℕ) (r again : Result (Reply A) ShardFault) (a : Result A ShardFault)
+      → left ≡ mid → name ≡ here → shards ≡ n → lacks_room r ≡ true → a ≡ value_of again
+      → CalledAt here there old mid (shard_of t n) step Gives r → CalledAt name there left new (shard_of t shards) step Gives again
+      → Asked here there n old new t step Gives a
+  again_value Gives mid left new name shards r again a same named many lack is first second =
+      record { reply = again; called = anew Gives mid left new name shards r again same named many lack first second; told = is }

@@ -1,5 +1,5 @@
 -- A row that was counted and is taken back.
-use Rattle.std.proofs.Common.{◌≡◌, ℕ, zero, suc, ◌+◌, ◌-◌, Bool, true, false, cond, List, [], ◌∷◌, ◌++◌, length, take, refl, sym, ◌∙◌, ap, arith, length-append}
+use Rattle.std.proofs.Common.{◌≡◌, ℕ, ◌-◌, Bool, true, false, cond, List, [], ◌∷◌, ◌++◌, length, take, refl, ◌∙◌, ap, arith, length-append}
 use Rattle.presence_node_rations.specs.declared.ration.Kept.{Kept}
 use Rattle.presence_node_rations.specs.declared.rations.Rations.{Rations}
 use Rattle.presence_node_rations.specs.Connections.{IsNow, SameRows, all_but_last, rows_of, same_number}

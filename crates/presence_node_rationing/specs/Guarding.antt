@@ -1,5 +1,5 @@
 -- Which calls are refused where memory is tight.
-use Rattle.std.specs.Prelude.{◌≡◌, ℕ, Bool, true, false, ◌&&◌, Err}
+use Rattle.std.specs.Prelude.{◌≡◌, Bool, true, false, ◌&&◌, Err}
 use Rattle.channel_session_rules.specs.Asks.{Ask, Answer, track, subscribe, shout}
 use Rattle.channel_session_rules.specs.ShardFault.TheVariants.{ClockFull}
 

@@ -1,5 +1,5 @@
 -- Which rows count for a connection, what they take, and what has room beside them.
-use Rattle.std.specs.Prelude.{◌≡◌, ◌&&◌, ◌||◌, ◌+◌, ◌-◌, ◌^◌, ℕ, List, [], ◌∷◌, Bool, true, false, if◌then◌else◌, leb, nat_lt, nat_eq, not, map, sum_by, length, Option, None, Some}
+use Rattle.std.specs.Prelude.{◌&&◌, ◌||◌, ◌+◌, ◌-◌, ℕ, List, [], ◌∷◌, Bool, true, false, if◌then◌else◌, leb, nat_lt, nat_eq, not, map, sum_by, length, Option, None, Some}
 use Rattle.std.specs.List.{list_any}
 use Rattle.serde_json.specs.Data.{Data}
 use Rattle.serde_json.specs.Written.{compact_text}
