@@ -12,6 +12,7 @@ use presence_node_main::run_program_with;
 use std::alloc::{AllocError, Global};
 use std::env::Env;
 use std::net::{Net, TcpListener, TcpStream};
+use std::rt::Files;
 use std::process::ExitCode;
 use std::sync::Wait;
 use std::thread::Threads;
@@ -46,6 +47,7 @@ where
         + Input
         + Print
         + Eprint
+        + Files
         + AllocGlobal
         + Sync,
 {

@@ -1,22 +1,28 @@
 //! A worker's thread: it serves its connections in turns.
 use crate::draining::{Drain, Due, count_anew, have_all_delivered, is_due, make_due, set_draining};
-use crate::ends::ended_by;
+use crate::ends::{Ends, ended_by};
+use crate::following::{add_newcomers, followed_by, followers_of, joined_topics, mark_followers};
 use crate::server::Server;
 use hook_registry::PresenceHooks;
 use presence_node_counts::{Checkpoint, Counts};
-use presence_node_hints::{Followed, HintingPort, Noted, Topics, follows};
+use presence_node_hints::{Followed, Followers, HintingPort, Noted};
 use presence_node_leaving::{
-    Client, ClientSocket, Leavers, Stage, Worker, hold_stalled, mark_put_off, resume_recovered,
+    Client, ClientSocket, Leavers, LongTexts, Stage, Worker, hold_stalled, mark_put_off,
+    resume_recovered,
 };
 use presence_node_link_threads::{Wakes, time_behind};
+use presence_node_log::Level;
 use presence_node_ports::PoolPort;
+use presence_node_process::resident_bytes;
 use presence_node_queue::Taker;
-use presence_node_rations::{RationedPort, Rations};
+use presence_node_rationing::{GuardedPort, RationedPort};
+use presence_node_rations::{Rations, SharedBudgets};
 use presence_node_sockets::{Watch, number_of};
 use presence_node_tallies::CountingPort;
 use presence_node_web_sockets::WebSocket;
 use shard_pool::{Lane, NoGate, Seat};
 use std::alloc::Global;
+use std::rt::Files;
 use std::sync::{Arc, Wait};
 use std::thread;
 use std::time::{Clock, Duration};
@@ -24,6 +30,9 @@ use tungstenite::NoMask;
 
 /// So many rounds, of two turns each, may pass before what waits is sent, while clients have further messages.
 const MAX_HELD: u32 = 8;
+
+/// So long gathers at most before what waits is sent, in milliseconds: a round with long texts lasts longer than that alone.
+const HELD_MILLISECONDS: u64 = 5;
 
 /// How long one wait lasts where nothing is to be done, in milliseconds.
 const IDLE_MILLISECONDS: u64 = 1_000;
@@ -41,42 +50,21 @@ const DRAIN_MILLISECONDS: u64 = 1;
 /// After so long each connection is looked at, so that silence is noticed and no hint that was lost matters.
 const SWEEP_MILLISECONDS: u64 = 2_000;
 
+/// The memory of the process is looked at once in so long, in milliseconds.
+const WEIGH_MILLISECONDS: u64 = 1_000;
+
+/// What standard error says where memory gets tight, and where it isn't any more.
+const MEMORY_IS_TIGHT: &str =
+    "memory: nine tenths of --memory are taken: joins, tracks and shouts are refused";
+
+const MEMORY_IS_ENOUGH: &str =
+    "memory: fewer than eight tenths of --memory are taken: nothing is refused for it";
+
 /// A seat forgets the receipts that have no entry any more in each turn of such a number.
 const TRIM_TURNS: u64 = 1_024;
 
 /// So many turns are given to the sessions' ends where the server stops.
 const MAX_LAST_TURNS: u32 = 500;
-
-// The token of the connection at a place, if it has joined one of the topics and doesn't take the next turn anyway.
-fn follower(worker: &Worker<ClientSocket>, place: usize, topics: &Topics) -> Option<usize> {
-    let client = worker.at(place)?;
-    if !client.ready && follows(&client.connection.session, topics) {
-        Some(client.token)
-    } else {
-        None
-    }
-}
-
-// Adds topics to others, as far as there is memory.
-fn add_topics(all: &mut Topics, topics: &Topics) {
-    for topic in topics {
-        let Ok(topic) = topic.clone() else {
-            break;
-        };
-        if all.insert(topic).is_err() {
-            break;
-        }
-    }
-}
-
-// The topics of all of these lists.
-fn joined_topics(alloc: Global, told: &[Arc<Topics>]) -> Topics {
-    let mut all = Topics::new(alloc);
-    for topics in told {
-        add_topics(&mut all, topics);
-    }
-    all
-}
 
 // The stream of a client.
 fn stream_of(client: &Client<ClientSocket>) -> &ClientSocket {
@@ -140,17 +128,6 @@ fn outlook_of(client: &Client<ClientSocket>) -> Outlook {
     }
 }
 
-// The topics that the sessions of a worker have joined.
-fn followed_by(alloc: Global, worker: &Worker<ClientSocket>) -> Followed {
-    let mut followed = Followed::new(alloc);
-    for place in 0..worker.len() {
-        if let Some(client) = worker.at(place) {
-            followed.add_joined(&client.connection.session);
-        }
-    }
-    followed
-}
-
 // What came of a turn: what its port noted, and whether a journal was replaced by its Start.
 #[derive(Drop)]
 struct Served {
@@ -158,10 +135,12 @@ struct Served {
     has_made_room: bool,
 }
 
-// The port of a worker's turn: it keeps each connection within its rations, counts the calls, and notes what they may
-// have changed.
+// The port of a worker's turn: it keeps each connection within its rations and each topic within its budget, refuses what
+// takes memory that there isn't, counts the calls, and notes what they may have changed.
 type TurnPort<'a, R, A, B, C, D> = HintingPort<
-    CountingPort<RationedPort<'a, PoolPort<'a, R, NoGate, A, B, C, D>>>,
+    CountingPort<
+        GuardedPort<RationedPort<'a, PoolPort<'a, R, NoGate, A, B, C, D>, SharedBudgets<'a, R>>>,
+    >,
 >;
 
 // A port over the server's pool, through the seat.
@@ -171,17 +150,25 @@ fn port_at<'a, R: Wait, H, A: Lane, B: Lane, C: Lane, D: Lane>(
     seat: &'a mut Seat<A, B, C, D>,
     rations: &'a mut Rations,
 ) -> TurnPort<'a, R, A, B, C, D> {
-    let rationed = RationedPort::new(PoolPort::new(rt, &server.pool, seat), rations);
-    HintingPort::new(server.alloc, CountingPort::new(rationed))
+    let pool = PoolPort::new(rt, &server.pool, seat);
+    let budgets = SharedBudgets::new(rt, &server.budgets);
+    let rationed = RationedPort::new(pool, rations, budgets);
+    let guarded = GuardedPort::new(rationed, server.memory.is_tight());
+    HintingPort::new(server.alloc, CountingPort::new(guarded))
 }
 
-// Counts what went through a turn's port: what came of the turn.
-fn served_by<R: Wait, A: Lane, B: Lane, C: Lane, D: Lane>(
-    counts: &Counts,
+// Counts what went through a turn's port: what came of the turn, which was at this time.
+fn served_by<R: Wait, H, A: Lane, B: Lane, C: Lane, D: Lane>(
+    server: &Server<'_, H, A, B, C, D>,
     port: TurnPort<'_, R, A, B, C, D>,
+    now: u64,
 ) -> Served {
-    counts.called(&port.port().tally());
-    let has_made_room = port.port().port().port().has_made_room();
+    let tally = port.port().tally();
+    server.counts.called(&tally);
+    if tally.no_memory > 0 {
+        server.memory.note_lack(now);
+    }
+    let has_made_room = port.port().port().port().port().has_made_room();
     Served {
         noted: port.into_noted(),
         has_made_room,
@@ -196,8 +183,14 @@ pub struct Bench<A: Lane, B: Lane, C: Lane, D: Lane> {
     worker: Worker<ClientSocket>,
     watch: Watch,
     leavers: Leavers,
-    /// Whether a client took nothing of what was sent to it.
+    ends: Ends,
+    /// Which of its connections have joined which topics. Some of what was left may stand there still.
+    followers: Followers,
+    long_texts: LongTexts,
+    /// Whether something waits for a client that finds no room.
     stalls: bool,
+    /// When what waited was sent last.
+    sent: u64,
     /// How many rounds have passed since what waited was sent.
     held: u32,
     /// The time of this turn, in milliseconds.
@@ -208,6 +201,8 @@ pub struct Bench<A: Lane, B: Lane, C: Lane, D: Lane> {
     dealt: u64,
     /// Whether what was looked at then was told by several turns.
     crowded: bool,
+    /// When the memory of the process was looked at last.
+    weighed: u64,
     /// How many turns there were.
     turns: u64,
     drain: Drain,
@@ -221,12 +216,17 @@ impl<A: Lane, B: Lane, C: Lane, D: Lane> Drop for Bench<A, B, C, D> {
             worker,
             watch,
             leavers,
+            ends,
+            followers,
+            long_texts,
             stalls: _,
+            sent: _,
             held: _,
             now: _,
             swept: _,
             dealt: _,
             crowded: _,
+            weighed: _,
             turns: _,
             drain: _,
         } = self;
@@ -235,6 +235,9 @@ impl<A: Lane, B: Lane, C: Lane, D: Lane> Drop for Bench<A, B, C, D> {
         drop(worker);
         drop(watch);
         drop(leavers);
+        drop(ends);
+        drop(followers);
+        drop(long_texts);
     }
 }
 
@@ -256,12 +259,17 @@ impl<A: Lane, B: Lane, C: Lane, D: Lane> Bench<A, B, C, D> {
             worker: Worker::new(alloc, taker),
             watch,
             leavers: Leavers::new(alloc),
+            ends: Ends::new(alloc),
+            followers: Followers::new(alloc),
+            long_texts: LongTexts::new(alloc),
             stalls: false,
+            sent: 0,
             held: 0,
             now: 0,
             swept: 0,
             dealt: 0,
             crowded: false,
+            weighed: 0,
             turns: 0,
             drain: Drain::new(),
         }
@@ -277,12 +285,17 @@ impl<A: Lane, B: Lane, C: Lane, D: Lane> Bench<A, B, C, D> {
             worker,
             watch,
             leavers,
+            ends,
+            followers,
+            long_texts,
             stalls: _,
+            sent: _,
             held: _,
             now: _,
             swept: _,
             dealt: _,
             crowded: _,
+            weighed: _,
             turns: _,
             drain: _,
         } = self;
@@ -290,6 +303,9 @@ impl<A: Lane, B: Lane, C: Lane, D: Lane> Bench<A, B, C, D> {
         drop(worker);
         drop(watch);
         drop(leavers);
+        drop(ends);
+        drop(followers);
+        drop(long_texts);
         seat
     }
 
@@ -301,15 +317,6 @@ impl<A: Lane, B: Lane, C: Lane, D: Lane> Bench<A, B, C, D> {
             .counts
             .began(self.worker.len().saturating_sub(served));
         watch_from(&self.watch, &self.worker, served);
-    }
-
-    // The connections that have joined one of the topics take the next turn.
-    fn mark_followers(&mut self, topics: &Topics) {
-        for place in 0..self.worker.len() {
-            if let Some(token) = follower(&self.worker, place, topics) {
-                self.worker.mark(token);
-            }
-        }
     }
 
     // Looks at what the workers and the links told, all of it at once. What clients were told in this turn goes out before
@@ -331,7 +338,7 @@ impl<A: Lane, B: Lane, C: Lane, D: Lane> Bench<A, B, C, D> {
         self.crowded = told.len() > 1;
         self.send(&server.counts, false);
         let topics = joined_topics(server.alloc, told.as_slice());
-        self.mark_followers(&topics);
+        mark_followers(&mut self.worker, &self.followers, &topics);
         true
     }
 
@@ -378,7 +385,7 @@ impl<A: Lane, B: Lane, C: Lane, D: Lane> Bench<A, B, C, D> {
         let (routes, hooks) = (server.routes, server.hooks);
         self.worker
             .turn(server.alloc, &mut port, routes, hooks, self.now);
-        served_by(&server.counts, port)
+        served_by(server, port, self.now)
     }
 
     // The same, where nothing is read.
@@ -389,18 +396,21 @@ impl<A: Lane, B: Lane, C: Lane, D: Lane> Bench<A, B, C, D> {
     ) -> Served {
         let mut port = port_at(rt, server, &mut self.seat, &mut self.rations);
         self.worker.deliver(server.alloc, &mut port, server.hooks);
-        served_by(&server.counts, port)
+        served_by(server, port, self.now)
     }
 
-    // Serves each connection that is ready, but for those whose clients take nothing: what was noted.
+    // Serves each connection that is ready, but for those whose clients take nothing, and of those with long texts some:
+    // what was noted.
     fn serve<R: Wait, H: PresenceHooks>(
         &mut self,
         rt: &R,
         server: &Server<'_, H, A, B, C, D>,
     ) -> Noted {
         self.stalls |= hold_stalled(&mut self.worker, self.now);
+        self.long_texts.hold(&mut self.worker);
         let served = self.serve_ready(rt, server);
         mark_put_off(&mut self.worker);
+        self.long_texts.resume(&mut self.worker);
         self.noted_in(rt, server, served)
     }
 
@@ -419,32 +429,36 @@ impl<A: Lane, B: Lane, C: Lane, D: Lane> Bench<A, B, C, D> {
     // The topics that may have something new, of what was noted. Of those that this worker follows from now on it is told
     // from now on: what came before is found in the next turn, which a connection that has joined a topic takes.
     fn follow<R: Wait, H>(
-        &self,
+        &mut self,
         rt: &R,
         server: &Server<'_, H, A, B, C, D>,
         own: usize,
         noted: Noted,
-    ) -> Topics {
+    ) -> Followed {
         let Noted { changed, followed } = noted;
         if !followed.is_empty() {
+            add_newcomers(server.alloc, &mut self.followers, &self.worker, &followed);
             server.follow(rt, own, followed);
         }
         changed
     }
 
-    // Lets the workers that follow them know which topics may have something new, this one too.
+    // Lets the workers that follow them know which topics may have something new, this one too. Where memory ran out each
+    // looks at all.
     fn tell<R: Wait, H>(
         &self,
         rt: &R,
         server: &Server<'_, H, A, B, C, D>,
         own: usize,
-        changed: Topics,
+        changed: Followed,
     ) {
         if changed.is_empty() {
             return;
         }
-        if let Ok(shared) = Arc::new(server.alloc, changed) {
-            server.tell(rt, own, &shared);
+        let topics = changed.into_topics();
+        match topics.and_then(|topics| Arc::new(server.alloc, topics).ok()) {
+            Some(shared) => server.tell(rt, own, &shared),
+            None => server.look(),
         }
     }
 
@@ -454,7 +468,7 @@ impl<A: Lane, B: Lane, C: Lane, D: Lane> Bench<A, B, C, D> {
         rt: &R,
         server: &Server<'_, H, A, B, C, D>,
         own: usize,
-    ) -> Topics {
+    ) -> Followed {
         let noted = self.serve(rt, server);
         self.follow(rt, server, own, noted)
     }
@@ -553,6 +567,7 @@ impl<A: Lane, B: Lane, C: Lane, D: Lane> Bench<A, B, C, D> {
             };
             if let Stage::Over(cause) = client.connection.stage {
                 counts.ended(ended_by(cause));
+                self.ends.add(client, cause);
                 self.leavers.admit(client, &self.watch, self.now);
             }
         }
@@ -561,11 +576,13 @@ impl<A: Lane, B: Lane, C: Lane, D: Lane> Bench<A, B, C, D> {
 
     // Sends what waits. It gathers for some rounds while messages come. A client that is given up here leaves.
     fn send(&mut self, counts: &Counts, busy: bool) {
-        if busy && self.held < MAX_HELD {
+        let is_late = self.now.saturating_sub(self.sent) >= HELD_MILLISECONDS;
+        if busy && self.held < MAX_HELD && !is_late {
             self.held += 1;
             return;
         }
         self.held = 0;
+        self.sent = self.now;
         let first = self.see_off(counts);
         self.worker.flush();
         self.leavers.hang_up(first);
@@ -608,12 +625,32 @@ impl<A: Lane, B: Lane, C: Lane, D: Lane> Bench<A, B, C, D> {
         }
         self.swept = self.now;
         mark_each(&mut self.worker);
+        self.followers = followers_of(server.alloc, &self.worker);
         server.follow_only(rt, own, followed_by(server.alloc, &self.worker));
+    }
+
+    // Once a second the first worker looks at how much memory the process has.
+    fn look_at_memory<R: Wait + Clock + Files + Eprint, H>(
+        &mut self,
+        rt: &R,
+        server: &Server<'_, H, A, B, C, D>,
+        own: usize,
+    ) {
+        if own > 0 || self.now.saturating_sub(self.weighed) < WEIGH_MILLISECONDS {
+            return;
+        }
+        self.weighed = self.now;
+        let changed = resident_bytes(rt).and_then(|bytes| server.memory.look(bytes));
+        match changed {
+            Some(true) => server.log.say(rt, Level::Warn, MEMORY_IS_TIGHT),
+            Some(false) => server.log.say(rt, Level::Info, MEMORY_IS_ENOUGH),
+            None => {}
+        }
     }
 
     // Tells each client that the server stops, those too that still wait in the queue, and asks for the end of each
     // session, for some turns.
-    fn end_all<R: Wait + Clock, H: PresenceHooks>(
+    fn end_all<R: Wait + Clock + Eprint, H: PresenceHooks>(
         &mut self,
         rt: &R,
         server: &Server<'_, H, A, B, C, D>,
@@ -623,6 +660,7 @@ impl<A: Lane, B: Lane, C: Lane, D: Lane> Bench<A, B, C, D> {
             self.worker.stop_all();
             let _told = self.serve(rt, server);
             let _told_why = self.see_off(&server.counts);
+            self.ends.tell(rt, &server.log);
             self.worker.flush();
             if self.worker.len() == 0 {
                 break;
@@ -638,12 +676,12 @@ impl<A: Lane, B: Lane, C: Lane, D: Lane> Bench<A, B, C, D> {
         rt: &R,
         server: &Server<'_, H, A, B, C, D>,
         own: usize,
-    ) -> (Topics, Topics) {
+    ) -> (Followed, Followed) {
         let first = self.turn(rt, server, own);
         if self.is_busy() {
             (first, self.turn(rt, server, own))
         } else {
-            (first, Topics::new(server.alloc))
+            (first, Followed::new(server.alloc))
         }
     }
 
@@ -670,7 +708,7 @@ impl<A: Lane, B: Lane, C: Lane, D: Lane> Bench<A, B, C, D> {
     }
 
     // Takes in what waits, serves what is ready and waits for more.
-    fn round<R: Wait + Clock, H: PresenceHooks>(
+    fn round<R: Wait + Clock + Files + Eprint, H: PresenceHooks>(
         &mut self,
         rt: &R,
         server: &Server<'_, H, A, B, C, D>,
@@ -684,12 +722,14 @@ impl<A: Lane, B: Lane, C: Lane, D: Lane> Bench<A, B, C, D> {
             self.go_on(rt, server, own);
         }
         self.leavers.turn(self.now);
+        self.ends.tell(rt, &server.log);
         self.pause(rt);
         self.sweep(rt, server, own);
+        self.look_at_memory(rt, server, own);
     }
 
     /// Serves connections at its place among the workers until the server is stopped.
-    pub(crate) fn work<R: Wait + Clock, H: PresenceHooks>(
+    pub(crate) fn work<R: Wait + Clock + Files + Eprint, H: PresenceHooks>(
         &mut self,
         rt: &R,
         server: &Server<'_, H, A, B, C, D>,

@@ -4,12 +4,11 @@ ghost use Rattle.std.specs.Prelude.{◌<◌};
 use crate::caller::{Caller, next_caller};
 use crate::neighbours::{AddressLimits, Neighbours};
 use crate::pulse::Pulse;
+use crate::reasons::dropped_by;
 use crate::server::Server;
 use presence_node_client_streams::{Ticket, TicketCount};
 use presence_node_counts::Dropped;
-use presence_node_handshakes::{
-    Admission, Front, Guests, Keeper, Newcomer, Opened, Site, is_proxy,
-};
+use presence_node_handshakes::{Admission, Front, Guests, Keeper, Newcomer, Opened, is_proxy};
 use presence_node_leaving::{ClientSocket, ClientStream, socket_config};
 use presence_node_link_threads::time_behind;
 use presence_node_queue::{Giver, MAX_QUEUED};
@@ -20,6 +19,7 @@ use shard_pool::Lane;
 use std::alloc::{AllocError, Global};
 use std::collections::VecDeque;
 use std::net::{IpAddr, Shutdown, TcpListener, TcpStream};
+use std::rt::Files;
 use std::sync::Wait;
 use std::thread;
 use std::time::{Clock, Duration};
@@ -44,6 +44,7 @@ pub const LISTENER: u64 = 0;
 pub const METRICS_LISTENER: u64 = 1;
 
 /// Where connections come in.
+#[derive(Drop)]
 pub struct Entries {
     /// Of clients.
     pub clients: TcpListener,
@@ -51,15 +52,8 @@ pub struct Entries {
     pub metrics: Option<TcpListener>,
 }
 
-impl Drop for Entries {
-    fn drop(self) {
-        let Entries { clients, metrics } = self;
-        drop(clients);
-        drop(metrics);
-    }
-}
-
 // A connection that was taken, and the address that it is from.
+#[derive(Drop)]
 struct Arrival {
     stream: TcpStream,
     address: IpAddr,
@@ -67,18 +61,8 @@ struct Arrival {
     standing: Option<Admission>,
 }
 
-impl Drop for Arrival {
-    fn drop(self) {
-        let Arrival {
-            stream,
-            address: _,
-            standing: _,
-        } = self;
-        drop(stream);
-    }
-}
-
 // Who knows the clients of each address, at this time.
+#[derive(Drop)]
 struct Reception<'n> {
     neighbours: &'n mut Neighbours,
     now: u64,
@@ -91,6 +75,7 @@ impl Keeper<ClientSocket> for Reception<'_> {
         stream: &mut ClientSocket,
         address: IpAddr,
     ) -> Admission {
+        stream.come_from(address);
         match self.neighbours.comes(alloc, &address, self.now) {
             Ok((standing, ticket)) => {
                 stream.be_neighbour(ticket);
@@ -132,6 +117,8 @@ pub struct Door {
     next: usize,
     /// When all handshakes were looked at last, in milliseconds.
     looked: u64,
+    /// When it was logged last what has no line of its own, in milliseconds.
+    caught_up: u64,
     /// Whether there may be more to take at once.
     more: bool,
 }
@@ -154,6 +141,7 @@ impl Drop for Door {
             number: _,
             next: _,
             looked: _,
+            caught_up: _,
             more: _,
         } = self;
         drop(entries);
@@ -241,6 +229,7 @@ impl Door {
             number: METRICS_LISTENER,
             next: 0,
             looked: 0,
+            caught_up: 0,
             more: true,
         })
     }
@@ -306,17 +295,21 @@ impl Door {
 
     // Begins the handshake of a connection. One that can't be watched, or for which there is no memory, is dropped, and
     // so is the oldest where as many are under way as may be.
-    fn let_in<H, A: Lane, B: Lane, C: Lane, D: Lane>(
+    fn let_in<R: Wait + Clock + Eprint, H, A: Lane, B: Lane, C: Lane, D: Lane>(
         &mut self,
+        rt: &R,
         server: &Server<'_, H, A, B, C, D>,
         arrival: Arrival,
     ) {
         server.counts.took();
-        match self.admit(server.alloc, arrival, server.proxies) {
-            Ok(false) => {}
-            Ok(true) => server.counts.dropped(Dropped::Handshakes),
-            Err(why) => server.counts.dropped(why),
-        }
+        let address = arrival.address;
+        let why = match self.admit(server.alloc, arrival, server.proxies) {
+            Ok(false) => return,
+            Ok(true) => Dropped::Handshakes,
+            Err(why) => why,
+        };
+        server.counts.dropped(why);
+        server.log.tell(rt, dropped_by(why), address);
     }
 
     // Begins to answer who asks for metrics alone. One that can't be watched is dropped.
@@ -343,8 +336,9 @@ impl Door {
     }
 
     // Takes one connection in the file that is held open for it. There is no place for it: it is told so.
-    fn take_in_spare<H, A: Lane, B: Lane, C: Lane, D: Lane>(
+    fn take_in_spare<R: Wait + Clock + Eprint, H, A: Lane, B: Lane, C: Lane, D: Lane>(
         &mut self,
+        rt: &R,
         server: &Server<'_, H, A, B, C, D>,
     ) {
         let Some(spare) = self.spare.take() else {
@@ -353,6 +347,7 @@ impl Door {
         drop(spare);
         if let Caller::Came(stream, address) = next_caller(&self.entries.clients) {
             self.let_in(
+                rt,
                 server,
                 Arrival {
                     stream,
@@ -364,7 +359,7 @@ impl Door {
     }
 
     // Takes one connection, if one waits: whether there may be another.
-    fn take_one<R: Eprint, H, A: Lane, B: Lane, C: Lane, D: Lane>(
+    fn take_one<R: Wait + Clock + Eprint, H, A: Lane, B: Lane, C: Lane, D: Lane>(
         &mut self,
         rt: &R,
         server: &Server<'_, H, A, B, C, D>,
@@ -372,6 +367,7 @@ impl Door {
         match next_caller(&self.entries.clients) {
             Caller::Came(stream, address) => {
                 self.let_in(
+                    rt,
                     server,
                     Arrival {
                         stream,
@@ -388,7 +384,7 @@ impl Door {
             }
             Caller::NoFile => {
                 self.tell_of_files(rt, true);
-                self.take_in_spare(server);
+                self.take_in_spare(rt, server);
                 false
             }
         }
@@ -416,7 +412,7 @@ impl Door {
     }
 
     // Takes the connections that wait, as many as a turn may.
-    fn take_in<R: Eprint, H, A: Lane, B: Lane, C: Lane, D: Lane>(
+    fn take_in<R: Wait + Clock + Eprint, H, A: Lane, B: Lane, C: Lane, D: Lane>(
         &mut self,
         rt: &R,
         server: &Server<'_, H, A, B, C, D>,
@@ -465,60 +461,62 @@ impl Door {
     }
 
     // Goes on with the handshakes, and answers what else is asked for: the sockets of those that are done.
-    fn opened<R: Wait, H, A: Lane, B: Lane, C: Lane, D: Lane>(
+    fn opened<R: Wait + Clock + Files + Eprint, H, A: Lane, B: Lane, C: Lane, D: Lane>(
         &mut self,
         rt: &R,
         server: &Server<'_, H, A, B, C, D>,
     ) -> Result<Vec<Opened<ClientSocket>>, AllocError> {
+        let places = self.places_left();
+        let has_metrics = self.entries.metrics.is_none();
         let pulse = Pulse { rt, server };
+        let mut reception = Reception {
+            neighbours: &mut self.neighbours,
+            now: self.looked,
+        };
         let mut front = Front {
-            site: Site {
-                origins: server.origins,
-                has_clients: true,
-                has_metrics: self.entries.metrics.is_none(),
-            },
+            origins: server.origins,
+            has_clients: true,
+            has_metrics,
             proxies: server.proxies,
-            places: self.places_left(),
+            places,
             tells: &pulse,
-            keeper: &mut Reception {
-                neighbours: &mut self.neighbours,
-                now: self.looked,
-            },
+            keeper: &mut reception,
         };
         self.guests.turn(server.alloc, &mut front)
     }
 
     // Answers who asks for metrics alone.
-    fn answer_observers<R: Wait, H, A: Lane, B: Lane, C: Lane, D: Lane>(
+    fn answer_observers<R: Wait + Clock + Files + Eprint, H, A: Lane, B: Lane, C: Lane, D: Lane>(
         &mut self,
         rt: &R,
         server: &Server<'_, H, A, B, C, D>,
     ) {
         let pulse = Pulse { rt, server };
+        let mut reception = Reception {
+            neighbours: &mut self.neighbours,
+            now: self.looked,
+        };
         let mut front = Front {
-            site: Site {
-                origins: &[],
-                has_clients: false,
-                has_metrics: true,
-            },
+            origins: &[],
+            has_clients: false,
+            has_metrics: true,
             proxies: &[],
             places: 0,
             tells: &pulse,
-            keeper: &mut Reception {
-                neighbours: &mut self.neighbours,
-                now: self.looked,
-            },
+            keeper: &mut reception,
         };
         let _opened = self.observers.turn(server.alloc, &mut front);
     }
 
     // Goes on with the handshakes, answers what else is asked for, and hands the connections on whose handshakes are
     // done.
-    fn greet<R: Wait, H, A: Lane, B: Lane, C: Lane, D: Lane>(
+    fn greet<R: Wait + Clock + Files + Eprint, H, A: Lane, B: Lane, C: Lane, D: Lane>(
         &mut self,
         rt: &R,
         server: &Server<'_, H, A, B, C, D>,
     ) {
+        let taken = self.seated.count().saturating_add(self.guests.promised());
+        server.counts.has_clients(taken, self.places);
         server.counts.has_under_way(self.guests.len());
         self.answer_observers(rt, server);
         let Ok(opened) = self.opened(rt, server) else {
@@ -582,8 +580,20 @@ impl Door {
         }
     }
 
+    // Logs, once a second, how often what happened that has no line of its own.
+    fn catch_up<R: Wait + Clock + Eprint, H, A: Lane, B: Lane, C: Lane, D: Lane>(
+        &mut self,
+        rt: &R,
+        server: &Server<'_, H, A, B, C, D>,
+    ) {
+        if self.looked.saturating_sub(self.caught_up) >= IDLE_MILLISECONDS {
+            self.caught_up = self.looked;
+            server.log.catch_up(rt);
+        }
+    }
+
     /// Takes connections until the server is stopped.
-    pub(crate) fn attend<R: Wait + Clock + Eprint, H, A: Lane, B: Lane, C: Lane, D: Lane>(
+    pub(crate) fn attend<R: Wait + Clock + Files + Eprint, H, A: Lane, B: Lane, C: Lane, D: Lane>(
         &mut self,
         rt: &R,
         server: &Server<'_, H, A, B, C, D>,
@@ -597,6 +607,7 @@ impl Door {
             self.greet(rt, server);
             self.hand_on(rt, server);
             self.pause(rt);
+            self.catch_up(rt, server);
         }
     }
 }

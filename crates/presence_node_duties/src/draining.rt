@@ -1,6 +1,7 @@
 //! Checkpoints at quiet moments: where a journal is nearly full the workers read nothing for a while and deliver what waits,
 //! so that the checkpoint leaves nothing out.
 ghost use Rattle.std.specs.Prelude.{◌<◌};
+ghost use Rattle.presence_node_duties.specs.Due.{IsDueBy};
 
 use crate::server::Server;
 use presence_node_counts::Checkpoint;
@@ -137,9 +138,11 @@ fn is_due_at<R: Wait, H, A: Lane, B: Lane, C: Lane, D: Lane>(
     shard: u32,
 ) -> bool
     requires { shard < server.now.pool.shards }
+    ensures { IsDueBy server.now.pool.own.name result }
 {
-    server.pool.entry_count(rt, shard) >= DUE_ENTRIES
-        || server.pool.text_bytes(rt, shard) >= DUE_TEXT_BYTES
+    let entries = server.pool.entry_count(rt, shard);
+    let bytes = server.pool.text_bytes(rt, shard);
+    entries >= DUE_ENTRIES || bytes >= DUE_TEXT_BYTES
 }
 
 /// Whether a journal is due for a checkpoint.

@@ -2,6 +2,7 @@
 //! they share.
 //!
 //! That a thread goes on, or a hint comes through, no contract says: those of a worker's turn are `presence_node_workers`'.
+//! `specs/Due` says when a journal is due for a checkpoint.
 #![tactic(auto)]
 
 mod bench;
@@ -9,14 +10,16 @@ mod caller;
 mod door;
 mod draining;
 mod ends;
+mod following;
 pub mod laws;
 mod neighbours;
 mod place;
 mod pulse;
+mod reasons;
 mod server;
 
 pub use bench::Bench;
-pub use door::{Door, DoorLimits, LISTENER};
+pub use door::{Door, DoorLimits, Entries, LISTENER, METRICS_LISTENER};
 pub use neighbours::AddressLimits;
 pub use place::{Workplace, seats_of};
 // What threads are begun with, beside their duties.

@@ -1,13 +1,18 @@
 //! What the server tells of itself.
 ghost use Rattle.std.specs.Prelude.{◌<◌};
 
+use crate::reasons::{given_up_by, told_of};
 use crate::server::Server;
-use presence_node_counts::{LinksTold, ShardsTold, metrics_text};
+use presence_node_counts::{LinksTold, ProcessTold, ShardsTold, metrics_text};
 use presence_node_handshakes::{Answer, GivenUp, Tells};
-use presence_node_link_threads::Links;
+use presence_node_link_threads::{Links, time_behind};
+use presence_node_process::{max_files, open_files, resident_bytes};
 use shard_pool::Lane;
 use std::alloc::{AllocError, Global};
+use std::net::IpAddr;
+use std::rt::Files;
 use std::sync::Wait;
+use std::time::Clock;
 
 /// What the server tells at its port of itself: what its threads have counted, and what there is at each shard and of links
 /// when it is asked.
@@ -54,22 +59,53 @@ fn links_of(links: &Links) -> LinksTold {
         went_down: tallies.went_down,
         beats: tallies.beats,
         wants: tallies.wants,
+        refused: tallies.refused,
+        peers: tallies.peers,
+        peers_up: tallies.peers_up,
+        rebirths: tallies.rebirths,
     }
 }
 
-impl<'a, 'b, R: Wait, H, A: Lane, B: Lane, C: Lane, D: Lane> Tells
+// What the program is, and what it has of the machine. What the system doesn't say is 0.
+fn process_of<R: Files, H, A: Lane, B: Lane, C: Lane, D: Lane>(
+    rt: &R,
+    server: &Server<'_, H, A, B, C, D>,
+) -> ProcessTold {
+    ProcessTold {
+        version: server.version,
+        started: server.started,
+        memory: resident_bytes(rt).unwrap_or(0),
+        memory_max: server.memory.limit(),
+        is_tight: server.memory.is_tight(),
+        files: open_files(rt).unwrap_or(0),
+        files_max: max_files(rt).unwrap_or(0),
+    }
+}
+
+impl<'a, 'b, R: Wait + Clock + Files + Eprint, H, A: Lane, B: Lane, C: Lane, D: Lane> Tells
     for Pulse<'a, 'b, R, H, A, B, C, D> {
     fn metrics(&self, alloc: Global) -> Result<String, AllocError> {
         let shards = shards_of(alloc, self.rt, self.server)?;
         let links = links_of(&self.server.links);
-        metrics_text(alloc, &self.server.counts.told(), &shards, &links)
+        let process = process_of(self.rt, self.server);
+        metrics_text(alloc, &self.server.counts.told(), &shards, &links, &process)
     }
 
-    fn answered(&self, answer: Answer) {
+    fn is_well(&self) -> bool {
+        !self.server.memory.is_lacking(time_behind(self.rt, 0))
+    }
+
+    fn answered(&self, answer: Answer, address: &IpAddr) {
         self.server.counts.answered(answer);
+        if let Some(reason) = told_of(answer) {
+            self.server.log.tell(self.rt, reason, *address);
+        }
     }
 
-    fn gave_up(&self, cause: GivenUp) {
+    fn gave_up(&self, cause: GivenUp, address: &IpAddr) {
         self.server.counts.gave_up(cause);
+        if let Some(reason) = given_up_by(cause) {
+            self.server.log.tell(self.rt, reason, *address);
+        }
     }
 }

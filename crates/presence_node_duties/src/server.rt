@@ -8,10 +8,13 @@ use presence_node_counts::Counts;
 use presence_node_crew::Crew;
 use presence_node_hints::{Followed, Inbox, Topics};
 use presence_node_link_threads::{LinkTask, Links, Wakes};
+use presence_node_log::Log;
+use presence_node_rations::{MemoryMark, TopicBudgets};
 use presence_node_sockets::Bell;
 use shard_pool::{Lane, NoGate, Pool};
 use std::alloc::Global;
-use std::net::{Net, TcpListener, TcpStream};
+use std::net::{IpAddr, Net, TcpListener, TcpStream};
+use std::rt::Files;
 use std::sync::atomic::{AtomicBool, AtomicU64, Ordering};
 use std::sync::{Arc, Wait};
 use std::time::Clock;
@@ -72,6 +75,16 @@ pub struct Server<'a, H, A: Lane, B: Lane, C: Lane, D: Lane> {
     pub hooks: &'a H,
     /// Pages of these origins may open a WebSocket, or those of any where none is named.
     pub origins: &'a [String],
+    /// What these tell of their clients' addresses is believed.
+    pub proxies: &'a [IpAddr],
+    /// What the rows of each topic take of its budget.
+    pub budgets: TopicBudgets,
+    /// How much memory there is, and whether that is tight.
+    pub memory: MemoryMark,
+    pub log: Log,
+    /// When the server began, in seconds since 1970.
+    pub started: u64,
+    pub version: &'static str,
     pub counts: Counts,
     /// One of each worker, in their order.
     pub mailboxes: Vec<WorkerMailbox>,
@@ -89,6 +102,12 @@ impl<'a, H, A: Lane, B: Lane, C: Lane, D: Lane> Drop for Server<'a, H, A, B, C, 
             routes: _,
             hooks: _,
             origins: _,
+            proxies: _,
+            budgets,
+            memory,
+            log,
+            started: _,
+            version: _,
             counts,
             mailboxes,
             door_bell,
@@ -96,6 +115,9 @@ impl<'a, H, A: Lane, B: Lane, C: Lane, D: Lane> Drop for Server<'a, H, A, B, C, 
             stopped,
         } = self;
         drop(pool);
+        drop(budgets);
+        drop(memory);
+        drop(log);
         drop(counts);
         drop(mailboxes);
         drop(door_bell);
@@ -151,12 +173,21 @@ impl<'a, H, A: Lane, B: Lane, C: Lane, D: Lane> Server<'a, H, A, B, C, D> {
             routes: _,
             hooks: _,
             origins: _,
+            proxies: _,
+            budgets,
+            memory,
+            log,
+            started: _,
+            version: _,
             counts,
             mailboxes,
             door_bell,
             links,
             stopped,
         } = self;
+        drop(budgets);
+        drop(memory);
+        drop(log);
         drop(counts);
         drop(mailboxes);
         drop(door_bell);
@@ -176,7 +207,7 @@ impl<'a, H, A: Lane, B: Lane, C: Lane, D: Lane> Wakes for Server<'a, H, A, B, C,
 
 impl<R, H, A, B, C, D> Crew<R, Workplace<A, B, C, D>, Door, LinkTask> for Server<'_, H, A, B, C, D>
 where
-    R: Net<Listener = TcpListener, Stream = TcpStream> + Wait + Clock + Print + Eprint,
+    R: Net<Listener = TcpListener, Stream = TcpStream> + Wait + Clock + Print + Eprint + Files,
     H: PresenceHooks,
     A: Lane,
     B: Lane,

@@ -1,7 +1,7 @@
 //! What requests are answered from.
 use crate::greeting::GivenUp;
 use crate::seating::Admission;
-use presence_node_requests::{Answer, Site};
+use presence_node_requests::Answer;
 use std::alloc::{AllocError, Global};
 use std::net::IpAddr;
 
@@ -30,9 +30,14 @@ pub trait Keeper<S> {
 }
 
 /// What requests are answered from.
+#[derive(Drop)]
 pub struct Front<'a, T, K> {
-    /// What is asked for at this port.
-    pub site: Site<'a>,
+    /// Pages of these origins may open a WebSocket, or those of any where none is named.
+    pub origins: &'a [String],
+    /// Whether it is the port of clients.
+    pub has_clients: bool,
+    /// Whether what was counted is told there.
+    pub has_metrics: bool,
     /// What these tell of their clients' addresses is believed.
     pub proxies: &'a [IpAddr],
     /// How many further clients may be told that a WebSocket follows.

@@ -1,5 +1,5 @@
 //! One client's handshake.
-ghost use Rattle.std.specs.Prelude.{◌≡◌, ◌⊎◌};
+ghost use Rattle.std.specs.Prelude.{◌≡◌};
 ghost use Rattle.presence_node_handshakes.specs.Greeting.{while_well_in};
 ghost use Rattle.presence_node_requests.specs.Heads.{HasRequest};
 
@@ -7,7 +7,7 @@ use crate::front::{Front, Keeper, Tells};
 use crate::party::{MAX_EMPTY_READS, Party};
 use crate::seating::seated;
 use presence_node_requests::{
-    Answer, Parsed, Reply, Request, answer_of, plain, read_request, reply_of,
+    Answer, Parsed, Reply, Request, Site, answer_of, plain, read_request, reply_of,
 };
 use presence_node_web_sockets::WebSocket;
 use std::alloc::{AllocError, Global};
@@ -112,7 +112,12 @@ fn answer_for<S: Read + Write + Drop, T: Tells, K: Keeper<S>>(
     ensures config { party.new.config ≡ party.old.config }
     ensures reads { party.new.empty_reads ≡ party.old.empty_reads }
 {
-    let answer = while_well(answer_of(request, &front.site), front.tells.is_well());
+    let site = Site {
+        origins: front.origins,
+        has_clients: front.has_clients,
+        has_metrics: front.has_metrics,
+    };
+    let answer = while_well(answer_of(request, &site), front.tells.is_well());
     if !matches!(answer, Answer::Socket(_)) {
         return answer;
     }
@@ -244,26 +249,16 @@ fn write_on<S: Write>(stream: &mut S, reply: &mut Reply) -> Written
 fn throw_away<S: Read>(stream: &mut S, most: usize) -> Option<usize> {
     let mut left = most;
     let mut piece = [0; PIECE_BYTES];
-    while left > 0 {
+    for _ in 0..most {
         let asked = PIECE_BYTES.min(left);
         match stream.read(&mut piece[..asked]) {
             Ok(0) => return None,
-            Ok(count) => left -= count,
+            Ok(count) => left = left.saturating_sub(count),
             Err(e) if e.kind() == ErrorKind::WouldBlock => return Some(left),
             Err(_) => return None,
         }
     }
     None
-}
-
-// Why a handshake is given up that was looked at so often.
-fn late(stage: &Stage) -> GivenUp
-    ensures { (result ≡ GivenUp.Answered) ⊎ (result ≡ GivenUp.Silent) }
-{
-    match stage {
-        Stage::Closes(_) => GivenUp::Answered,
-        _ => GivenUp::Silent,
-    }
 }
 
 impl<S: Read + Write + Drop> Greeting<S> {
@@ -288,7 +283,11 @@ impl<S: Read + Write + Drop> Greeting<S> {
         let mut party = party;
         let empty_reads = party.empty_reads + 1;
         if empty_reads >= MAX_EMPTY_READS {
-            return Greeted::GivenUp(late(&stage), party.address);
+            return if matches!(&stage, Stage::Closes(_)) {
+                Greeted::GivenUp(GivenUp::Answered, party.address)
+            } else {
+                Greeted::GivenUp(GivenUp::Silent, party.address)
+            };
         }
         party.empty_reads = empty_reads;
         Greeted::Waits(Greeting { party, stage })

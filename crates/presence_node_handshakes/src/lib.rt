@@ -21,4 +21,4 @@ pub use pace::{BURST_MICROSECONDS, Pace};
 pub use party::MAX_EMPTY_READS;
 pub use seating::{Admission, seated};
 // What is told of requests.
-pub use presence_node_requests::{Answer, Site, is_proxy};
+pub use presence_node_requests::{Answer, is_proxy};

@@ -18,6 +18,7 @@ use std::env::Env;
 use std::io;
 use std::io::BufReader;
 use std::net::{Net, TcpListener, TcpStream};
+use std::rt::Files;
 use std::sync::Wait;
 use std::thread::Threads;
 use std::time::Clock;
@@ -64,6 +65,7 @@ where
         + Input
         + Print
         + Eprint
+        + Files
         + AllocGlobal
         + Sync,
     H: PresenceHooks + Sync,
@@ -96,6 +98,7 @@ where
         + Input
         + Print
         + Eprint
+        + Files
         + AllocGlobal
         + Sync,
     H: PresenceHooks + Sync,
@@ -164,6 +167,7 @@ where
         + Input
         + Print
         + Eprint
+        + Files
         + AllocGlobal
         + Sync,
 {
@@ -182,6 +186,7 @@ where
         + Input
         + Print
         + Eprint
+        + Files
         + AllocGlobal
         + Sync,
     H: PresenceHooks + Sync,
@@ -212,6 +217,7 @@ where
         + Input
         + Print
         + Eprint
+        + Files
         + AllocGlobal
         + Sync,
     H: PresenceHooks + Sync,

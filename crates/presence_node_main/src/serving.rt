@@ -1,5 +1,6 @@
 //! A run of the server, from its port to its last line: its threads are given what they work with, and settle at its end.
 
+mod belongings;
 mod fault;
 mod pieces;
 mod place;

@@ -28,8 +28,16 @@ pub node_of : (rows : List Row) (routes : List (List ℕ × ℕ)) → IsNamed ro
     → IsLinkVersion rows → AllArePeers (peers_given rows) → AreFewOrigins (origins_given rows) → IsPerAddress rows
     → AreHandshakes rows → routes ≡ numbered 0 (patterns_given rows) → AreRoutes routes → IsNode rows
 node_of rows routes named ports shards workers version peers origins clients handshakes is within = record {
-  named = named; ports = ports; shards = shards; workers = workers; version = version; peers = peers; origins = origins;
-  per_address = clients; handshakes = handshakes; patterns = few_patterns routes (patterns_given rows) is within;
+  named = named;
+  ports = ports;
+  shards = shards;
+  workers = workers;
+  version = version;
+  peers = peers;
+  origins = origins;
+  per_address = clients;
+  handshakes = handshakes;
+  patterns = few_patterns routes (patterns_given rows) is within;
 }
 
 -- the names of peers are their own, or one is told twice
@@ -74,3 +82,21 @@ edge_wrong rows (Usage Log text) node others wrong = (node, others, wrong)
 edge_wrong rows (Usage LogFormat text) node others wrong = (node, others, wrong)
 edge_wrong rows (Usage MetricsPort text) node others wrong = (node, others, wrong)
 edge_wrong rows Memory node others wrong = tt
+
+-- the same, from what was looked at of the node itself by parts
+pub named_wrong : (rows : List Row) (name : List ℕ) (routes : List (List ℕ × ℕ)) (peers : List PeerOption) (fault : UsageFault)
+    → IsFor PeerName (are_others name peers ≡ false) fault → name ≡ name_given rows → ArePeers (peers_given rows) peers
+    → routes ≡ numbered 0 (patterns_given rows) → AreRoutes routes → IsNamed rows → ArePorts rows → AreShards rows
+    → AreWorkers rows → IsLinkVersion rows → AllArePeers (peers_given rows) → AreFewOrigins (origins_given rows)
+    → IsPerAddress rows → AreHandshakes rows → IsServedWrong rows fault
+named_wrong rows name routes peers fault twice is are routed within named ports shards workers version all origins clients handshakes =
+    named_twice rows name peers fault (node_of rows routes named ports shards workers version all origins clients handshakes routed within) is are twice
+
+pub edge_refused : (rows : List Row) (name : List ℕ) (routes : List (List ℕ × ℕ)) (peers : List PeerOption) (fault : UsageFault)
+    → IsEdgeWrong rows fault → IsTrue (are_others name peers) → name ≡ name_given rows → ArePeers (peers_given rows) peers
+    → routes ≡ numbered 0 (patterns_given rows) → AreRoutes routes → IsNamed rows → ArePorts rows → AreShards rows
+    → AreWorkers rows → IsLinkVersion rows → AllArePeers (peers_given rows) → AreFewOrigins (origins_given rows)
+    → IsPerAddress rows → AreHandshakes rows → IsServedWrong rows fault
+edge_refused rows name routes peers fault wrong others is are routed within named ports shards workers version all origins clients handshakes =
+    edge_wrong rows fault (node_of rows routes named ports shards workers version all origins clients handshakes routed within)
+    (others_of rows name peers is are others) wrong

@@ -49,8 +49,11 @@ few_addresses texts text_of i most past few h = record {
 
 pub many_addresses : {A : Type 0} (texts : List A) (text_of : A → List ℕ) (most : ℕ) (cause : UsageCause) (fault : UsageFault) → most < length texts
     → HasCause cause fault → IsFor cause (AreFewAddresses most (map text_of texts) → ⊥) fault
-many_addresses texts text_of most cause (Usage c text) many has = (has, λ few.
-    let short : length texts ≤ most = subst (λ n. n ≤ most) (same_length text_of texts) few.few in absurd (omega (arith, many, short)))
+many_addresses texts text_of most cause (Usage c text) many has = (
+  has,
+  λ few.
+      let short : length texts ≤ most = subst (λ n. n ≤ most) (same_length text_of texts) few.few in absurd (omega (arith, many, short)),
+)
 many_addresses texts text_of most cause Memory many has = tt
 
 pub weaker_for : (cause : UsageCause) (A B : Type 0) (fault : UsageFault) → (B → A) → IsFor cause (A → ⊥) fault → IsFor cause (B → ⊥) fault

@@ -227,7 +227,7 @@ pub record WritesAddress (text : Text) (address : IpAddr) : Type 0 where
 -- these texts write these addresses, in order
 abbrev pub WriteAddresses : List Text → List IpAddr → Type 0
 WriteAddresses [] [] = Unit {0}
-WriteAddresses (t ∷ ts) (a ∷ as) = WritesAddress t a × WriteAddresses ts as
+WriteAddresses (t ∷ ts) (a ∷ others) = WritesAddress t a × WriteAddresses ts others
 WriteAddresses _ _ = ⊥
 
 abbrev pub IsAddressText : Text → Type 0

@@ -49,7 +49,7 @@ fn address_in(text: &str) -> Option<IpAddr>
 fn address_of(alloc: Global, text: &str, rule: AddressRule<'_>) -> Result<IpAddr, UsageFault>
     ensures address { IfOk result (WritesAddress text.now) }
     ensures text { OnOk result (IsAddressText text.now) }
-    ensures cause { IfErr result (IsFor rule.cause (IsAddressText text.now → ⊥)) }
+    ensures cause { IfErr result (IsFor rule.entry.cause (IsAddressText text.now → ⊥)) }
 {
     let option = rule.option;
     match address_in(text) {
@@ -65,7 +65,7 @@ fn address_of(alloc: Global, text: &str, rule: AddressRule<'_>) -> Result<IpAddr
 
 // There are more addresses than may be.
 fn too_many(alloc: Global, rule: AddressRule<'_>) -> UsageFault
-    ensures { HasCause rule.cause result }
+    ensures { HasCause rule.entry.cause result }
 {
     let option = rule.option;
     let most = rule.most;
@@ -83,10 +83,10 @@ pub(crate) fn addresses_of(
     rule: AddressRule<'_>,
 ) -> Result<Vec<IpAddr>, UsageFault>
     ensures addresses { IfOk result (λ all. WriteAddresses (map (λ t. t.now) texts.now) all.items) }
-    ensures few { IfOk result (λ all. vec_len all ≤ rule.most) }
-    ensures given { OnOk result (AreFewAddresses rule.most (map (λ t. t.now) texts.now)) }
-    ensures cause { IfErr result (IsFor rule.cause
-        (AreFewAddresses rule.most (map (λ t. t.now) texts.now) → ⊥)) }
+    ensures few { IfOk result (λ all. vec_len all ≤ rule.entry.most) }
+    ensures given { OnOk result (AreFewAddresses rule.entry.most (map (λ t. t.now) texts.now)) }
+    ensures cause { IfErr result (IsFor rule.entry.cause
+        (AreFewAddresses rule.entry.most (map (λ t. t.now) texts.now) → ⊥)) }
 {
     if texts.len() > rule.most {
         return Err(too_many(alloc, rule));

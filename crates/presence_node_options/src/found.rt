@@ -1,5 +1,5 @@
 //! What the parser found of each option.
-ghost use Rattle.std.specs.Prelude.{◌≡◌, ◌≤◌, IfErr, IfOk, OnOk, map, option_map, string_bytes, unwrap_or, vec_len};
+ghost use Rattle.std.specs.Prelude.{◌≡◌, ◌≤◌, [], IfErr, IfOk, OnOk, map, option_map, string_bytes, unwrap_or, vec_len};
 ghost use Rattle.std.specs.Option.{ForSome};
 ghost use Rattle.presence_base.specs.Refs.{IsCount};
 ghost use Rattle.clap.specs.Words.{all_of, first_of, found_of, rows_of};
@@ -204,12 +204,12 @@ pub(crate) fn given_number(
     rule: NumberRule<'_>,
 ) -> Result<Option<u64>, UsageFault>
     ensures number { IfOk result
-        (λ n. n ≡ option_map number_in (first_of rule.option.now (rows_of (found_of matches.now)))) }
-    ensures limits { IfOk result (λ n. ForSome n (IsFromTo rule.low rule.high)) }
+        (λ n. n ≡ option_map number_in (first_of rule.entry.option.now (rows_of (found_of matches.now)))) }
+    ensures limits { IfOk result (λ n. ForSome n (IsFromTo rule.entry.low rule.entry.high)) }
     ensures given { OnOk result
-        (IsBetween rule.low rule.high (first_of rule.option.now (rows_of (found_of matches.now)))) }
-    ensures cause { IfErr result (IsFor rule.cause
-        (IsBetween rule.low rule.high (first_of rule.option.now (rows_of (found_of matches.now))) → ⊥)) }
+        (IsBetween rule.entry.low rule.entry.high (first_of rule.entry.option.now (rows_of (found_of matches.now)))) }
+    ensures cause { IfErr result (IsFor rule.entry.cause
+        (IsBetween rule.entry.low rule.entry.high (first_of rule.entry.option.now (rows_of (found_of matches.now))) → ⊥)) }
 {
     let Some(text) = matches.get_str(rule.option) else {
         return Ok(None);
@@ -228,12 +228,12 @@ pub(crate) fn given_addresses(
     rule: AddressRule<'_>,
 ) -> Result<Vec<IpAddr>, UsageFault>
     ensures addresses { IfOk result (λ all.
-        WriteAddresses (unwrap_or (all_of rule.option.now (rows_of (found_of matches.now))) []) all.items) }
-    ensures few { IfOk result (λ all. vec_len all ≤ rule.most) }
+        WriteAddresses (unwrap_or (all_of rule.entry.option.now (rows_of (found_of matches.now))) []) all.items) }
+    ensures few { IfOk result (λ all. vec_len all ≤ rule.entry.most) }
     ensures given { OnOk result
-        (AreFewAddresses rule.most (unwrap_or (all_of rule.option.now (rows_of (found_of matches.now))) [])) }
-    ensures cause { IfErr result (IsFor rule.cause
-        (AreFewAddresses rule.most (unwrap_or (all_of rule.option.now (rows_of (found_of matches.now))) []) → ⊥)) }
+        (AreFewAddresses rule.entry.most (unwrap_or (all_of rule.entry.option.now (rows_of (found_of matches.now))) [])) }
+    ensures cause { IfErr result (IsFor rule.entry.cause
+        (AreFewAddresses rule.entry.most (unwrap_or (all_of rule.entry.option.now (rows_of (found_of matches.now))) []) → ⊥)) }
 {
     match matches.get_strs(rule.option) {
         Some(texts) => addresses_of(alloc, texts, rule),

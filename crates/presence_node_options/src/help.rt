@@ -39,7 +39,7 @@ A line each; nothing is said of a state";
 pub(crate) const PORT_HELP: &str = "The port of clients, 1 to 65535 [default: 4000]";
 
 pub(crate) const LINK_PORT_HELP: &str =
-    "The port of other nodes' links, 1 to 65535 [default: 4001 with --peer, or else none]";
+    "The port of other nodes' links, 1 to 65535 [default: 4001 with --peer, or none]";
 
 pub(crate) const PEER_HELP: &str = "Another node to link to, as b=10.0.0.2:4001
 Its name, its host and its link port; as often as one likes, each with a name of its own";
@@ -66,33 +66,32 @@ Beyond a burst of ten seconds' worth, which may come at once
 Not given, this machine and private networks may make any number";
 
 pub(crate) const PROXY_HELP: &str =
-    "The address of a proxy that is believed; up to 16 times [default: none]
-What it tells by X-Forwarded-For, or by the first line of the PROXY protocol, is its client's
-address, by which the limits of addresses then count";
+    "A proxy that is believed, by its address; up to 16 times [default: none]
+What it tells of a client's address, by X-Forwarded-For or by the PROXY protocol's first line,
+counts as that, also for the limits of addresses";
 
 pub(crate) const LINK_FROM_HELP: &str =
-    "An address that links may come from; up to 64 times [default: any]";
+    "Where links may come from, by an address; up to 64 times [default: anywhere]";
 
 pub(crate) const MEMORY_HELP: &str =
-    "Megabytes that the server may take, from 32 [default: half of what there is]
-Beyond nine tenths of them nobody gets in any more, and what would make more is refused as full";
+    "Megabytes that it may take, from 32 [default: half of what there is]
+Beyond nine tenths of them what would take more is refused as full";
 
 pub(crate) const TOPIC_ROWS_HELP: &str =
-    "Rows that a topic may have at this node, 1 to 1048576 [default: 65536]";
+    "Rows of a topic at this node, 1 to 1048576 [default: 65536]";
 
 pub(crate) const TOPIC_BYTES_HELP: &str =
-    "Bytes of text that they may have, 1024 to 1073741824 [default: 8388608]";
+    "Bytes of their text, 1024 to 1073741824 [default: 8388608]";
 
-pub(crate) const LOG_HELP: &str =
-    "Which clients standard error has lines of: refused, all or none [default: refused]
-Of those that are refused, dropped or closed for cause, or of those that come and go too";
+pub(crate) const LOG_HELP: &str = "Lines of which clients: refused, all or none [default: refused]
+On standard error, of those that are refused, dropped or closed for cause, or of all that come";
 
-pub(crate) const LOG_FORMAT_HELP: &str =
-    "As what these lines are written, text or json [default: text]";
+pub(crate) const LOG_FORMAT_HELP: &str = "As what, text or json [default: text]
+Words, or an object of JSON a line";
 
 pub(crate) const METRICS_PORT_HELP: &str =
     "A port for /metrics alone, 1 to 65535 [default: at --port]
-It is at the address of --link-listen, and /metrics then isn't at the port of clients";
+At the address of --link-listen; /metrics then isn't at the port of clients";
 
 pub(crate) const SHARDS_HELP: &str = "How many shards the topics are dealt to, 1 to 4 [default: 4]";
 

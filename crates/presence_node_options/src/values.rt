@@ -136,8 +136,8 @@ pub(crate) struct NumberRule<'a> {
 /// The number that a text is.
 pub(crate) fn number_of(alloc: Global, text: &str, rule: NumberRule<'_>) -> Result<u64, UsageFault>
     ensures number { IfOk result (λ n. n ≡ number_in text.now) }
-    ensures limits { IfOk result (λ n. IsNumberWithin rule.low rule.high text.now) }
-    ensures cause { IfErr result (IsFor rule.cause (IsNumberWithin rule.low rule.high text.now → ⊥)) }
+    ensures limits { IfOk result (λ n. IsNumberWithin rule.entry.low rule.entry.high text.now) }
+    ensures cause { IfErr result (IsFor rule.entry.cause (IsNumberWithin rule.entry.low rule.entry.high text.now → ⊥)) }
 {
     let NumberRule {
         cause,

@@ -73,12 +73,15 @@ opening_bytes accept has_protocol =
 abbrev pub Opens : List ℕ → Bool → List ℕ × Bool → Type 0
 Opens accept has_protocol reply = reply ≡ (opening_bytes accept has_protocol, true)
 
--- an answer without a WebSocket, of this kind, with which the connection ends: its length is that of the body, also where
--- the body isn't sent
-abbrev pub plain_bytes : List ℕ → List ℕ → List ℕ → List ℕ → List ℕ
-plain_bytes status kind body sent =
+-- an answer without a WebSocket, of this kind and length, with which the connection ends
+abbrev pub counted_bytes : List ℕ → List ℕ → ℕ → List ℕ → List ℕ
+counted_bytes status kind count sent =
     codes "HTTP/1.1 " ++ (status ++ (codes "\r\ncontent-type: " ++ (kind ++ (codes "\r\ncontent-length: "
-    ++ (decimal (length body) ++ (codes "\r\ncache-control: no-store\r\nconnection: close\r\n\r\n" ++ sent))))))
+    ++ (decimal count ++ (codes "\r\ncache-control: no-store\r\nconnection: close\r\n\r\n" ++ sent))))))
+
+-- its length is that of the body, also where the body isn't sent
+abbrev pub plain_bytes : List ℕ → List ℕ → List ℕ → List ℕ → List ℕ
+plain_bytes status kind body sent = counted_bytes status kind (length body) sent
 
 -- and one without a body
 abbrev pub bare_bytes : List ℕ → List ℕ

@@ -1,5 +1,5 @@
 -- Whom a connection is from, by the line that a proxy writes before all else.
-use Rattle.std.specs.Prelude.{◌≡◌, ◌≤◌, ℕ, IsTrue, List, [], ◌∷◌, ◌++◌, length, take, drop, bytes_eq, codes, min, Option, None, Some}
+use Rattle.std.specs.Prelude.{◌≡◌, ◌≤◌, ℕ, IsTrue, List, [], ◌∷◌, ◌++◌, length, take, slice_range, bytes_eq, codes, min, Option, None, Some}
 use Rattle.std.specs.declared.net.ip_addr.IpAddr.{IpAddr}
 use Rattle.presence_node_requests.specs.Clients.{Writes}
 use Rattle.presence_node_requests.specs.declared.introduction.Introduced.{Introduced}
@@ -17,7 +17,7 @@ abbrev pub IsLine : List ℕ → Introduced → Type 0
 IsLine bytes Partial = length bytes ≤ MAX_LINE_BYTES
 IsLine bytes Nothing = Unit {0}
 IsLine bytes (Line end told) = (end ≤ length bytes) × (end ≤ MAX_LINE_BYTES)
-    × TellsBy (drop 6 (take end bytes)) told
+    × TellsBy (slice_range bytes 6 end) told
 
 -- so many bytes are those that a line begins with
 abbrev pub BeginsLine : ℕ → List ℕ → Type 0

@@ -1,6 +1,6 @@
 //! Whom a request is from, by what proxies tell.
-ghost use Rattle.std.specs.Prelude.{◌≡◌, [], length, All, None, MatchOption};
-ghost use Rattle.httparse.specs.Spans.{IsHeaderWithin};
+ghost use Rattle.std.specs.Prelude.{◌≡◌, ◌∷◌, [], length, All, None, MatchOption};
+ghost use Rattle.httparse.specs.Spans.{IsHeaderWithin, header_bytes};
 ghost use Rattle.std.specs.Net.Grammar.{IsIpText};
 ghost use Rattle.std.specs.declared.net.ip_addr.IpAddr.{IpAddr};
 ghost use Rattle.websocket.specs.Headers.{fields_of};
@@ -57,6 +57,7 @@ pub(crate) fn address_in(text: &[u8]) -> Option<IpAddr>
 }
 
 // The client that is known behind the hop of this text.
+#[tactic(auto, using(crate::proofs::Hops::behind_some))]
 fn behind(proxies: &[IpAddr], hop: &[u8], before: Option<IpAddr>) -> Option<IpAddr>
     ensures { Behind proxies.now hop.now before result }
 {
@@ -84,6 +85,24 @@ fn behind_value(proxies: &[IpAddr], value: &[u8], before: Option<IpAddr>) -> Opt
     behind(proxies, &value[start..], client)
 }
 
+// The client that is known behind the hops of a field, if it is one of theirs.
+#[tactic(auto, using(crate::proofs::Hops::one_field))]
+fn behind_field(
+    head: &[u8],
+    span: &HeaderSpan,
+    proxies: &[IpAddr],
+    before: Option<IpAddr>,
+) -> Option<IpAddr>
+    requires { IsHeaderWithin (length head.now) span.now }
+    ensures { BehindAll proxies.now (hops_of (header_bytes head.now span.now ∷ [])) before result }
+{
+    if same_but_for_case(span.name.of(head), b"X-Forwarded-For") {
+        behind_value(proxies, span.value.of(head), before)
+    } else {
+        before
+    }
+}
+
 // The client that is known behind the hops of these fields.
 fn behind_fields(head: &[u8], spans: &[HeaderSpan], proxies: &[IpAddr]) -> Option<IpAddr>
     requires { All (IsHeaderWithin (length head.now)) spans.now }
@@ -91,9 +110,7 @@ fn behind_fields(head: &[u8], spans: &[HeaderSpan], proxies: &[IpAddr]) -> Optio
 {
     let mut client = None;
     for span in spans {
-        if same_but_for_case(span.name.of(head), b"X-Forwarded-For") {
-            client = behind_value(proxies, span.value.of(head), client);
-        }
+        client = behind_field(head, span, proxies, client);
     }
     client
 }

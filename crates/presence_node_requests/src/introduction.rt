@@ -1,6 +1,7 @@
 //! Whom a connection is from, by the line that a proxy writes before all else: the PROXY protocol, version 1.
 ghost use Rattle.std.specs.Prelude.{◌≡◌, ◌≤◌, ◌++◌, ◌∷◌, length, IfSome};
 ghost use Rattle.presence_node_requests.specs.Introductions.{IsIntroduced, IsLine, TellsBy};
+ghost use Rattle.presence_node_requests.specs.declared.introduction.TheConstants.{MAX_LINE_BYTES};
 
 use crate::client::address_in;
 use std::net::IpAddr;
@@ -50,11 +51,14 @@ fn told_by(words: &[u8]) -> Option<IpAddr>
     address_in(source)
 }
 
-// Where the first line ends, behind its line feed, if it does among these bytes.
+// Where the first line ends, behind its line feed, if it does where it must.
 fn end_of(bytes: &[u8]) -> Option<usize>
-    ensures { IfSome result (λ end. end ≤ length bytes.now) }
+    ensures { IfSome result (λ end. (end ≤ length bytes.now) × (end ≤ MAX_LINE_BYTES)) }
 {
     for i in 0..bytes.len() {
+        if i >= MAX_LINE_BYTES {
+            return None;
+        }
         if bytes[i] == b'\n' {
             return Some(i + 1);
         }
@@ -66,8 +70,7 @@ fn end_of(bytes: &[u8]) -> Option<usize>
 fn line_of(bytes: &[u8]) -> Introduced
     ensures { IsLine bytes.now result }
 {
-    let front = &bytes[..bytes.len().min(MAX_LINE_BYTES)];
-    match end_of(front) {
+    match end_of(bytes) {
         Some(end) if end > FRONT.len() => {
             Introduced::Line(end, told_by(&bytes[FRONT.len()..end]))
         }

@@ -1,7 +1,7 @@
 //! What is sent for an answer.
 ghost use Rattle.std.specs.Prelude.{◌≡◌, IfOk, IfSome};
 ghost use Rattle.presence_node_requests.specs.Heads.{HasRequest};
-ghost use Rattle.presence_node_requests.specs.Replies.{IsPlainReply, IsReplyTo, Says, kind_in, status_in};
+ghost use Rattle.presence_node_requests.specs.Replies.{IsPlainReply, IsReplyTo, IsTextReply, Says, kind_in, status_in};
 
 use crate::answer::Answer;
 use crate::head::Request;
@@ -64,6 +64,19 @@ fn body_of(answer: Answer, metrics: &str) -> &str
     }
 }
 
+// An answer with a text, which is sent but where it is left out.
+fn text_reply(
+    alloc: Global,
+    answer: Answer,
+    metrics: &str,
+    is_sent: bool,
+) -> Result<Reply, AllocError>
+    ensures { IfOk result (IsTextReply metrics.now answer is_sent) }
+{
+    let body = body_of(answer, metrics);
+    plain_reply(alloc, status_of(answer), kind_of(answer), body, is_sent)
+}
+
 /// An answer without a WebSocket, whose body is sent but where it is left out.
 pub fn plain(
     alloc: Global,
@@ -73,11 +86,10 @@ pub fn plain(
 ) -> Result<Reply, AllocError>
     ensures { IfOk result (IsPlainReply metrics.now answer is_sent) }
 {
-    if answer == Answer::Options {
-        return bare_reply(alloc, status_of(answer));
+    match answer {
+        Answer::Options => bare_reply(alloc, status_of(answer)),
+        _ => text_reply(alloc, answer, metrics, is_sent),
     }
-    let body = body_of(answer, metrics);
-    plain_reply(alloc, status_of(answer), kind_of(answer), body, is_sent)
 }
 
 /// What is sent for this answer to the request that these bytes begin with. Nothing is where a WebSocket is asked for and

@@ -2,7 +2,7 @@
 ghost use Rattle.std.specs.Prelude.{◌≡◌, [], IfOk, cond, false};
 ghost use Rattle.tungstenite.specs.Heads.{IsAccepted};
 ghost use Rattle.websocket.specs.Handshake.{response_bytes};
-ghost use Rattle.presence_node_requests.specs.Heads.{Opens, bare_bytes, opening_bytes, plain_bytes};
+ghost use Rattle.presence_node_requests.specs.Heads.{Opens, bare_bytes, counted_bytes, opening_bytes, plain_bytes};
 
 use crate::answer::PROTOCOL;
 use crate::reply::Reply;
@@ -56,6 +56,22 @@ pub fn opening(
     Ok(Reply::new(bytes, true))
 }
 
+// An answer with this status, whose body is of this kind and length, and of which this is sent.
+fn counted_reply(
+    alloc: Global,
+    status: &str,
+    kind: &str,
+    count: usize,
+    sent: &str,
+) -> Result<Reply, AllocError>
+    ensures { IfOk result (λ reply. reply ≡ (counted_bytes status.now kind.now count sent.now, false)) }
+{
+    let text = format!(in alloc;
+        "HTTP/1.1 {status}\r\ncontent-type: {kind}\r\ncontent-length: {count}\r\ncache-control: no-store\r\nconnection: close\r\n\r\n{sent}"
+    )?;
+    Ok(Reply::new(text.into_bytes(), false))
+}
+
 /// An answer with this status, whose body is this text of this kind, which is sent, or left out. The connection ends with it.
 pub fn plain_reply(
     alloc: Global,
@@ -67,12 +83,11 @@ pub fn plain_reply(
     ensures { IfOk result (λ reply.
         reply ≡ (plain_bytes status.now kind.now body.now (cond is_sent body.now []), false)) }
 {
-    let count = body.len();
-    let sent = if is_sent { body } else { "" };
-    let text = format!(in alloc;
-        "HTTP/1.1 {status}\r\ncontent-type: {kind}\r\ncontent-length: {count}\r\ncache-control: no-store\r\nconnection: close\r\n\r\n{sent}"
-    )?;
-    Ok(Reply::new(text.into_bytes(), false))
+    if is_sent {
+        counted_reply(alloc, status, kind, body.len(), body)
+    } else {
+        counted_reply(alloc, status, kind, body.len(), "")
+    }
 }
 
 /// An answer with this status, which has no body. The connection ends with it.

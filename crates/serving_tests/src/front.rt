@@ -1,7 +1,5 @@
 //! Handshakes of clients that are let in from anywhere.
-use presence_node_handshakes::{
-    Admission, Answer, Front, GivenUp, Guests, Keeper, Opened, Site, Tells,
-};
+use presence_node_handshakes::{Admission, Answer, Front, GivenUp, Guests, Keeper, Opened, Tells};
 use std::alloc::{AllocError, Global};
 use std::io::{Read, Write};
 use std::net::IpAddr;
@@ -52,11 +50,9 @@ pub(crate) fn look<S: Read + Write + Drop>(
     let quiet = Quiet;
     let mut kind = Kind;
     let mut front = Front {
-        site: Site {
-            origins: &[],
-            has_clients: true,
-            has_metrics: true,
-        },
+        origins: &[],
+        has_clients: true,
+        has_metrics: true,
         proxies: &[],
         places: PLACES,
         tells: &quiet,

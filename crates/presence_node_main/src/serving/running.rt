@@ -6,6 +6,7 @@ ghost use Rattle.presence_node_ends.specs.Ends.{Settles};
 ghost use Rattle.presence_node_main.specs.Ends.{IsEndFor, IsLinkEnd, IsMetricsEnd};
 ghost use Rattle.presence_node_main.specs.Ledgers.{AreBegun, HaveParts, IsNameOfAll};
 
+use super::belongings::{budgets_of, format_of, log_of, memory_of, now_in_seconds};
 use super::fault::BeginFault;
 use super::pieces::{Entrance, Stations, limits_of, stations_for};
 use super::place::place_of;
@@ -17,13 +18,14 @@ use presence_node_duties::{
     Counts, Door, Entries, LinkNode, LinkTask, LinkTasks, Server, Workplace, seats_of, tasks_for,
 };
 use presence_node_ends::{ServeEnd, settled};
-use presence_node_options::{PeerOption, ServeOptions};
+use presence_node_options::{PeerOption, ServeOptions, VERSION};
 use presence_node_sockets::listen;
 use shard_pool::{Lane, NoGate, Pool, Seat};
 use std::alloc::{AllocError, Global};
 use std::io::{ErrorKind, Input, Print};
 use std::marker::Brand;
 use std::net::{Net, TcpListener, TcpStream};
+use std::rt::Files;
 use std::sync::Wait;
 use std::sync::atomic::AtomicBool;
 use std::sync::ledger::Blank;
@@ -240,8 +242,11 @@ fn links_for<R: Net, H>(
         own,
         shards: options.shards,
         version: options.link_version,
+        format: format_of(&options.reports),
     };
-    let mut tasks = tasks_for(rt, alloc, node, listener)?;
+    let mut from = Vec::new(alloc);
+    from.extend_from_slice(options.link_from.as_slice())?;
+    let mut tasks = tasks_for(rt, alloc, node, listener, from)?;
     dial_all(alloc, options.peers.as_slice(), &mut tasks)?;
     Ok(tasks)
 }
@@ -272,6 +277,7 @@ where
         + Input
         + Print
         + Eprint
+        + Files
         + Sync,
     H: PresenceHooks + Sync,
     A: Lane + Send + Sync,
@@ -305,6 +311,7 @@ where
         + Input
         + Print
         + Eprint
+        + Files
         + Sync,
     H: PresenceHooks + Sync,
     A: Lane + Send + Sync,
@@ -334,6 +341,11 @@ where
         hooks: setting.hooks,
         origins: options.origins.as_slice(),
         proxies: options.proxies.as_slice(),
+        budgets: budgets_of(alloc, &options.budgets),
+        memory: memory_of(rt, alloc, &options.budgets),
+        log: log_of(alloc, &options.reports),
+        started: now_in_seconds(rt),
+        version: VERSION,
         counts: Counts::new(),
         mailboxes,
         door_bell,
@@ -360,6 +372,7 @@ where
         + Input
         + Print
         + Eprint
+        + Files
         + Sync,
     H: PresenceHooks + Sync,
     A: Lane + Send + Sync,
@@ -422,6 +435,7 @@ where
         + Input
         + Print
         + Eprint
+        + Files
         + Sync,
     H: PresenceHooks + Sync,
     ensures { IsEndFor options.now result }

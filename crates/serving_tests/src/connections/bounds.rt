@@ -32,7 +32,13 @@ fn a_turn_reads_so_much(rt: HostRuntime) -> Result<(), Fail> {
     let stream = ClientStream::new(wire_of(alloc, &sent));
     let socket = WebSocket::new(alloc, stream, NoMask, Role::Server, socket_config());
     let mut connection = Connection::new(alloc, socket, 1, 0);
-    let turns = [(175_904, true), (171_808, false), (106_272, false), (102_176, true), (36_640, true)];
+    let turns = [
+        (175_904, true),
+        (171_808, false),
+        (106_272, false),
+        (102_176, true),
+        (36_640, true),
+    ];
     for (left, goes_on) in turns {
         if goes_on {
             connection.socket.get_ref().go_on();

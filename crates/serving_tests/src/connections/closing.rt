@@ -97,7 +97,10 @@ fn silence(rt: HostRuntime) -> Result<(), Fail> {
     line.now = 60_000;
     assert_eq!(rt; line.turn(alloc), Progress::Over);
     assert_eq!(rt; line.connection.stage, Stage::Over(Cause::Silent));
-    assert_eq!(rt; line.got(), b"\x89\x00\x88\x11\x03\xE8silent for 60 s".as_slice());
+    assert_eq!(rt;
+        line.got(),
+        b"\x89\x00\x88\x11\x03\xE8silent for 60 s".as_slice()
+    );
     Ok(())
 }
 

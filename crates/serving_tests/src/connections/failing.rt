@@ -178,6 +178,9 @@ fn a_text_without_room_ends_it(rt: HostRuntime) -> Result<(), Fail> {
     let sent = frames(alloc, true, "[null,\"1\",\"phoenix\",\"heartbeat\",{}]\n")?;
     let room = MAX_WAITING.saturating_sub(10 + 62);
     assert_eq!(rt; stage_behind(alloc, &sent, room), Some(Stage::Open));
-    assert_eq!(rt; stage_behind(alloc, &sent, room + 1), Some(Stage::Over(Cause::Full)));
+    assert_eq!(rt;
+        stage_behind(alloc, &sent, room + 1),
+        Some(Stage::Over(Cause::Full))
+    );
     Ok(())
 }

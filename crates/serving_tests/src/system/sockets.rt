@@ -40,6 +40,7 @@ fn a_connection_and_its_bytes_are_reported(rt: HostRuntime) -> Result<(), Fail> 
     let Some(mut stream) = next_stream(&listener) else {
         panic!(rt; "no connection came");
     };
+    assert!(rt; stream.nodelay()?);
     watch.remove(&listener)?;
     watch.add(&stream, 7)?;
     watch.wait(10_000)?;

@@ -8,4 +8,4 @@ abbrev pub invariant-loop-i : goal.invariant-loop-i
 invariant-loop-i l = (l.start ≤ l.i)
     × ((after : Option IpAddr)
     → BehindAll l.proxies (pieces_from (take (l.i - l.start) (drop l.start l.value)) (drop l.i l.value)) l.client after
-    → BehindAll l.proxies (pieces_from [] l.value) l.before after)
+    → BehindAll l.proxies (pieces_from [] l.value) l.fn.before after)

@@ -3,7 +3,7 @@ use Rattle.std.proofs.lemmas.List.{drop_more, take_more}
 use Rattle.std.proofs.lemmas.Bool.Decides.{nat_tests}
 use Rattle.websocket.specs.Headers.{eq_ignore_case, has_token, has_token_from}
 use Rattle.presence_node_requests.proofs.fields.has_token.Goals as goal
-use Rattle.presence_node_requests.proofs.fields.has_token.Goals.{then-value-i-eq32+else-eq, else-value-i-eq32+else-value-i-eq44}
+use Rattle.presence_node_requests.proofs.fields.has_token.Goals.{then-value-i-eq32+else-same_but_for_case, else-value-i-eq32+else-value-i-eq44}
 
 -- at a separator a new piece begins
 at_separator : (wanted piece bs : List ℕ) (i : ℕ) → i < length bs → (get_or bs i 0 == 32 || get_or bs i 0 == 44) ≡ true → eq_ignore_case piece wanted ≡ false
@@ -26,7 +26,7 @@ loop-i-init c = (omega arith, refl)
 pub loop-i-preserved : goal.loop-i-preserved
 loop-i-preserved c =
     elim c.if-value-i-eq32.branch [
-      | then-value-i-eq32+else-eq w ↦
+      | then-value-i-eq32+else-same_but_for_case w ↦
           rw w.start-is (omega arith, c.loop-i.invariant.1 ∙ at_separator _ _ c.args.value.now c.loop-i.i (omega arith) (grind (arith, nat_tests)) (grind arith))
       | else-value-i-eq32+else-value-i-eq44 w ↦
           rw w.start-is (omega arith, c.loop-i.invariant.1 ∙ in_piece _ c.args.value.now c.loop-i.start c.loop-i.i c.loop-i.invariant.0 (omega arith) (grind (arith, nat_tests)))

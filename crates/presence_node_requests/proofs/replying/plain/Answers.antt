@@ -1,7 +1,6 @@
-use Rattle.std.proofs.Common.{◌≡◌, ◌∙◌, ℕ, Bool, List, Option, ap, cond, false, refl, [], Result, IfOk}
+use Rattle.std.proofs.Common.{◌≡◌, ℕ, Bool, List, refl}
 use Rattle.std.proofs.lemmas.Result.{IfOk-weaker}
-use Rattle.presence_node_requests.specs.Heads.{plain_bytes}
-use Rattle.presence_node_requests.specs.Replies.{IsPlainReply, IsTextReply, kind_in, status_in}
+use Rattle.presence_node_requests.specs.Replies.{IsPlainReply, IsTextReply}
 use Rattle.presence_node_requests.specs.declared.answer.Answer.{Answer}
 use Rattle.presence_node_requests.specs.declared.answer.Answer.TheVariants.{Socket, Page, Health, Metrics, BadRequest, Forbidden, NotFound, NotAllowed, Options, NoHost, LongHead, LongBody, Elsewhere, Unwell, Full, Crowded, Hasty}
 use Rattle.presence_node_requests.proofs.replying.plain.Goals as goal
@@ -26,3 +25,7 @@ text_is metrics Unwell is_sent reply other h = h
 text_is metrics Full is_sent reply other h = h
 text_is metrics Crowded is_sent reply other h = h
 text_is metrics Hasty is_sent reply other h = h
+
+pub returns-in_default : goal.returns-in_default
+returns-in_default c =
+    IfOk-weaker c.text_reply.result _ _ (λ r h. text_is c.args.metrics.now c.args.answer c.args.is_sent r c.in_default.not-Options h) c.text_reply.ensures

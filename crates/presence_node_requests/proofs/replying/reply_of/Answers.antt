@@ -1,4 +1,4 @@
-use Rattle.std.proofs.Common.{◌≡◌, ℕ, Bool, List, bytes_eq, codes, not, refl, sym, subst}
+use Rattle.std.proofs.Common.{◌≡◌, ℕ, Bool, List, bytes_eq, codes, not, refl, rules, subst}
 use Rattle.presence_node_requests.specs.Replies.{IsPlainReply, IsReplyTo}
 use Rattle.presence_node_requests.specs.declared.answer.Answer.{Answer}
 use Rattle.presence_node_requests.specs.declared.answer.Answer.TheVariants.{Socket, Page, Health, Metrics, BadRequest, Forbidden, NotFound, NotAllowed, Options, NoHost, LongHead, LongBody, Elsewhere, Unwell, Full, Crowded, Hasty}
@@ -28,4 +28,4 @@ plain_is request metrics Hasty is_sent reply other sent h = subst (λ b. IsPlain
 
 pub returns-in_default : goal.returns-in_default
 returns-in_default c =
-    plain_is c.args.request.now c.args.metrics.now c.args.answer _ c.in_ok-plain.field-0 c.in_default.not-Socket (search arith) c.in_ok-plain.ensures
+    plain_is c.args.request.now c.args.metrics.now c.args.answer _ c.in_ok-plain.field-0 c.in_default.not-Socket (search rules) c.in_ok-plain.ensures
