@@ -225,22 +225,6 @@ CLIENTS_MAX = record {
   label = [];
 }
 
-abbrev pub MESSAGES : Naming
-MESSAGES = record {
-  name = codes "presence_node_received_messages_total";
-  help = codes "Texts that came from clients.";
-  kind = codes "counter";
-  label = [];
-}
-
-abbrev pub BYTES_IN : Naming
-BYTES_IN = record {
-  name = codes "presence_node_received_bytes_total";
-  help = codes "Bytes that came from clients behind their handshakes.";
-  kind = codes "counter";
-  label = [];
-}
-
 abbrev pub REFUSALS : Naming
 REFUSALS = record {
   name = codes "presence_node_call_refusals_total";
@@ -392,12 +376,9 @@ sessions_behind text t = calls_behind (joined_behind (ends_behind (open_behind t
 abbrev pub seats_behind : List ℕ → ServerTold → List ℕ
 seats_behind text t = with_count (with_count text CLIENTS t.clients) CLIENTS_MAX t.clients_max
 
-abbrev pub received_behind : List ℕ → ServerTold → List ℕ
-received_behind text t = with_count (with_count text MESSAGES t.messages) BYTES_IN t.bytes
-
 abbrev pub clients_behind : List ℕ → ServerTold → List ℕ
 clients_behind text t =
-    sessions_behind (received_behind (seats_behind (requests_behind (connections_behind text t) t.answers) t) t) t
+    sessions_behind (seats_behind (requests_behind (connections_behind text t) t.answers) t) t
 
 abbrev pub checkpoints_behind : List ℕ → ServerTold → List ℕ
 checkpoints_behind text t =

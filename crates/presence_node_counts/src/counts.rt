@@ -64,8 +64,6 @@ pub struct Counts {
     calls: Calls,
     clients: Count,
     clients_max: Count,
-    messages: Count,
-    bytes: Count,
 }
 
 impl Counts {
@@ -88,8 +86,6 @@ impl Counts {
             calls: Calls::new(),
             clients: Count::new(),
             clients_max: Count::new(),
-            messages: Count::new(),
-            bytes: Count::new(),
         }
     }
 
@@ -107,12 +103,6 @@ impl Counts {
     pub fn has_clients(&self, clients: u64, places: u64) {
         self.clients.set(clients);
         self.clients_max.set(places);
-    }
-
-    /// So many texts came from clients, and so many bytes.
-    pub fn received(&self, messages: u64, bytes: u64) {
-        self.messages.add(messages);
-        self.bytes.add(bytes);
     }
 
     /// A connection was handed to the workers.
@@ -188,8 +178,6 @@ impl Counts {
             joined: calls.joins.saturating_sub(calls.leaves),
             clients: self.clients.get(),
             clients_max: self.clients_max.get(),
-            messages: self.messages.get(),
-            bytes: self.bytes.get(),
             due_checkpoints: self.due_checkpoints.get(),
             full_checkpoints: self.full_checkpoints.get(),
         }

@@ -190,20 +190,6 @@ pub(crate) const CLIENTS_MAX: Family = Family {
     label: "",
 };
 
-pub(crate) const MESSAGES: Family = Family {
-    name: "presence_node_received_messages_total",
-    help: "Texts that came from clients.",
-    kind: "counter",
-    label: "",
-};
-
-pub(crate) const BYTES_IN: Family = Family {
-    name: "presence_node_received_bytes_total",
-    help: "Bytes that came from clients behind their handshakes.",
-    kind: "counter",
-    label: "",
-};
-
 pub(crate) const REFUSALS: Family = Family {
     name: "presence_node_call_refusals_total",
     help: "Calls of sessions that were refused, by why.",

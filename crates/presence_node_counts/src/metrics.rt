@@ -1,7 +1,7 @@
 //! All counts as a text.
 ghost use Rattle.std.specs.Prelude.{◌≡◌, IfOk, string_bytes};
 ghost use Rattle.presence_node_counts.specs.Lines.{Leaves};
-ghost use Rattle.presence_node_counts.specs.Metrics.{accepted_behind, bytes_behind, calls_behind, checkpoints_behind, clients_behind, connections_behind, ends_behind, entries_behind, files_behind, joined_behind, journals_behind, link_words_behind, links_behind, links_up_behind, memory_behind, metrics_lines, nodes_behind, open_behind, other_rows_behind, own_rows_behind, peers_behind, process_behind, program_behind, received_behind, refusals_behind, requests_behind, rows_behind, seats_behind, server_behind, sessions_behind, shards_behind, shown_behind, taken_behind, topics_behind, waiting_behind};
+ghost use Rattle.presence_node_counts.specs.Metrics.{accepted_behind, bytes_behind, calls_behind, checkpoints_behind, clients_behind, connections_behind, ends_behind, entries_behind, files_behind, joined_behind, journals_behind, link_words_behind, links_behind, links_up_behind, memory_behind, metrics_lines, nodes_behind, open_behind, other_rows_behind, own_rows_behind, peers_behind, process_behind, program_behind, refusals_behind, requests_behind, rows_behind, seats_behind, server_behind, sessions_behind, shards_behind, shown_behind, taken_behind, topics_behind, waiting_behind};
 
 use crate::families::*;
 use crate::text::{count_text, named_text, numbered_text};
@@ -192,14 +192,6 @@ fn seats_text(alloc: Global, text: &mut String, told: &ServerTold) -> Result<(),
     count_text(alloc, text, &CLIENTS_MAX, told.clients_max)
 }
 
-// What came of them.
-fn received_text(alloc: Global, text: &mut String, told: &ServerTold) -> Result<(), AllocError>
-    ensures { Leaves (string_bytes text.new) (received_behind (string_bytes text.old) told.now) result }
-{
-    count_text(alloc, text, &MESSAGES, told.messages)?;
-    count_text(alloc, text, &BYTES_IN, told.bytes)
-}
-
 // The clients.
 fn clients_text(alloc: Global, text: &mut String, told: &ServerTold) -> Result<(), AllocError>
     ensures { Leaves (string_bytes text.new) (clients_behind (string_bytes text.old) told.now) result }
@@ -207,7 +199,6 @@ fn clients_text(alloc: Global, text: &mut String, told: &ServerTold) -> Result<(
     connections_text(alloc, text, told)?;
     requests_text(alloc, text, &told.answers)?;
     seats_text(alloc, text, told)?;
-    received_text(alloc, text, told)?;
     sessions_text(alloc, text, told)
 }
 

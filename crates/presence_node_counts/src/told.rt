@@ -59,9 +59,6 @@ pub struct ServerTold {
     pub clients: u64,
     /// How many places there are.
     pub clients_max: u64,
-    /// How many texts came from clients.
-    pub messages: u64,
-    pub bytes: u64,
     pub due_checkpoints: u64,
     pub full_checkpoints: u64,
 }

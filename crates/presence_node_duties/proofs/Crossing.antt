@@ -8,12 +8,18 @@ use Rattle.std.specs.declared.sync.ledger.Ledger as Ledger
 use Rattle.shard_pool.specs.Lane as Lane
 use Rattle.shard_pool.proofs.Crossing.{seat_send}
 use Rattle.presence_node_sockets.specs.contracts.watch.Watch as Watch
+use Rattle.presence_node_hints.specs.contracts.followers.Followers as Followers
 use Rattle.presence_node_leaving.specs.contracts.leaving.Leavers as Leavers
+use Rattle.presence_node_leaving.specs.contracts.long_texts.LongTexts as LongTexts
 use Rattle.presence_node_leaving.proofs.Crossing.{worker_send}
 use Rattle.presence_node_client_streams.proofs.Crossing.{client_stream_send, client_stream_row_send}
 use Rattle.hook_registry.specs.contracts.routes.Routes as Routes
 use Rattle.presence_node_counts.specs.contracts.counts.Counts as Counts
+use Rattle.presence_node_log.specs.contracts.log.Log as Log
+use Rattle.presence_node_rations.specs.contracts.budgets.TopicBudgets as TopicBudgets
+use Rattle.presence_node_rations.specs.contracts.memory.MemoryMark as MemoryMark
 use Rattle.presence_node_duties.specs.contracts.bench.Bench as Bench
+use Rattle.presence_node_duties.specs.contracts.ends.Ends as Ends
 use Rattle.presence_node_duties.specs.contracts.place.Workplace as Workplace
 use Rattle.presence_node_duties.specs.contracts.server.WorkerMailbox as WorkerMailbox
 pub use Rattle.presence_node_link_threads.proofs.Crossing.{links_sync, task_row_send}
@@ -29,6 +35,15 @@ routes_sync = search (maps.crosses, heap.crosses, sendable) depth 60 fits 20000
 pub counts_sync : IsSync (Counts.the_field).row
 counts_sync = search (maps.crosses, heap.crosses, sendable) depth 60 fits 20000
 
+pub log_sync : IsSync (Log.the_field).row
+log_sync = search (maps.crosses, heap.crosses, sendable) depth 60 fits 20000
+
+pub budgets_sync : IsSync (TopicBudgets.the_field).row
+budgets_sync = search (maps.crosses, heap.crosses, sendable) depth 60 fits 20000
+
+pub memory_sync : IsSync (MemoryMark.the_field).row
+memory_sync = search (maps.crosses, heap.crosses, sendable) depth 60 fits 20000
+
 -- ---- what is given
 
 watch_send : IsSend (Watch.the_field).row
@@ -37,10 +52,19 @@ watch_send = search (heap.crosses, sendable) depth 60 fits 20000
 leavers_send : IsSend (Leavers.the_field).row
 leavers_send = search (heap.crosses, sendable) depth 60 fits 20000
 
+long_texts_send : IsSend (LongTexts.the_field).row
+long_texts_send = search (heap.crosses, sendable) depth 60 fits 20000
+
+followers_send : IsSend (Followers.the_field).row
+followers_send = search (maps.crosses, heap.crosses, sendable) depth 60 fits 20000
+
+ends_send : IsSend (Ends.the_field).row
+ends_send = search (heap.crosses, sendable) depth 60 fits 20000
+
 module _ (A B C D : RattleType) (lane-a : Lane.Ghosts A.Denot) (lane-b : Lane.Ghosts B.Denot) (lane-c : Lane.Ghosts C.Denot) (lane-d : Lane.Ghosts D.Denot)
     (a : Ledger.Ghosts A.Denot) (b : Ledger.Ghosts B.Denot) (c : Ledger.Ghosts C.Denot) (d : Ledger.Ghosts D.Denot) where
   bench_send : IsSend (Bench.the_field A B C D lane-a a lane-b b lane-c c lane-d d).row
-  bench_send = search (seat_send, worker_send, client_stream_row_send, client_stream_send, watch_send, leavers_send, maps.crosses, heap.crosses, sendable) depth 60 fits 20000
+  bench_send = search (seat_send, worker_send, client_stream_row_send, client_stream_send, watch_send, leavers_send, long_texts_send, followers_send, ends_send, maps.crosses, heap.crosses, sendable) depth 60 fits 20000
 
   pub place_send : IsSend (Workplace.the_field A B C D lane-a a lane-b b lane-c c lane-d d).row
   place_send = search (bench_send, sendable) depth 60 fits 20000

@@ -1,31 +1,63 @@
-//! The clients of a worker that take nothing of what is sent to them, or send more than a turn reads.
+//! The clients of a worker that take too little of what is sent to them, or send more than a turn reads.
+ghost use Rattle.std.specs.Prelude.{◌≡◌, ◌+◌, leb};
+ghost use Rattle.presence_node_leaving.specs.declared.stalling.TheConstants.{MAX_STALL_MILLISECONDS};
+
 use presence_node_client_streams::ClientSocket;
-use presence_node_workers::{Client, Stage, Worker};
+use presence_node_workers::{Client, MAX_SILENCE, Stage, Worker};
 use std::net::Shutdown;
 
-/// How long a client may take nothing of what is sent to it, in milliseconds.
+/// How long a client may not keep pace with what is sent to it, in milliseconds.
 const MAX_STALL_MILLISECONDS: u64 = 60_000;
+
+// Whether a client that hasn't kept pace since then is cut off.
+fn is_too_slow(since: u64, now: u64) -> bool
+    ensures { result ≡ leb (since + MAX_STALL_MILLISECONDS) now }
+{
+    now >= since && now - since >= MAX_STALL_MILLISECONDS
+}
 
 // The stream of a client.
 fn stream_of(client: &Client<ClientSocket>) -> &ClientSocket {
     client.connection.socket.get_ref()
 }
 
-// The token of an open client that takes nothing of what is sent to it. One that has taken nothing for too long is cut
-// off, so that its next flush fails.
+// Since when a client hasn't kept pace with what is sent to it, if something waits for it that finds no room.
+fn behind_since(client: &Client<ClientSocket>, now: u64) -> Option<u64> {
+    let stream = stream_of(client);
+    if !stream.is_blocked() {
+        return None;
+    }
+    let noted = stream.behind_since();
+    if noted.is_none() {
+        stream.note_behind(client.connection.socket.front_left() as u64, now);
+    }
+    noted.or(Some(now))
+}
+
+// Whether a client was silent for too long by what was read of it, and nothing of it waits to be read.
+fn is_silent(client: &Client<ClientSocket>, now: u64) -> bool {
+    let mut byte = [0u8; 1];
+    now.saturating_sub(client.connection.heard) >= MAX_SILENCE
+        && stream_of(client).stream().peek(&mut byte).is_err()
+}
+
+// The token of an open client for which something waits that finds no room. One that hasn't kept pace for too long, or was
+// silent for so long, is cut off, so that its next flush fails.
 fn stalled(client: &Client<ClientSocket>, now: u64) -> Option<usize> {
-    let since = stream_of(client).stalled_since(now)?;
+    let since = behind_since(client, now)?;
     if client.connection.stage != Stage::Open {
         return None;
     }
-    if now.saturating_sub(since) >= MAX_STALL_MILLISECONDS {
+    if is_too_slow(since, now) || is_silent(client, now) {
+        stream_of(client).give_up();
         let _lost = stream_of(client).stream().shutdown(Shutdown::Both);
     }
     Some(client.token)
 }
 
-/// A client that takes nothing of what is sent to it gets no turn: nothing is read of it and nothing taken for it, so that
-/// what waits for it falls behind. After a minute it is cut off. Whether there is one.
+/// A client for which something waits that finds no room gets no turn: nothing is read of it and nothing taken for it, so
+/// that what waits for it falls behind. One that doesn't keep pace is cut off after a minute, and so is one that is silent.
+/// Whether there is one.
 pub fn hold_stalled(worker: &mut Worker<ClientSocket>, now: u64) -> bool {
     let mut some = false;
     for place in 0..worker.len() {
@@ -47,7 +79,7 @@ pub fn resume_recovered(worker: &mut Worker<ClientSocket>, now: u64) -> bool {
             let stream = stream_of(client);
             if stream.has_recovered() {
                 worker.mark(token);
-            } else if stream.stalled_since(now).is_some() {
+            } else if behind_since(client, now).is_some() {
                 some = true;
             }
         }

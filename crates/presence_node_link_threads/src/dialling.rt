@@ -410,7 +410,7 @@ impl<'a, R: Clock> State<'a, R> {
     {
         self.was_cut = end == LinkEnd::Stopped;
         if let Some(dialled) = &self.dialled {
-            links.tallies.count_down();
+            links.tallies.count_peer_down();
             if self.was_cut {
                 self.form = dialled.link.peer.form().unwrap_or(self.form);
             }
@@ -443,7 +443,7 @@ impl<'a, R: Clock> State<'a, R> {
             return;
         };
         if links.dials_higher(dialler.number, form) {
-            links.tallies.count_down();
+            links.tallies.count_peer_down();
             self.dialled = None;
             self.form = links.speaks;
         }
@@ -490,7 +490,7 @@ impl<'a, R: Clock> State<'a, R> {
         match link_to(node, dialler, &mut self.form) {
             Ok((dialled, other)) => {
                 self.dialled = Some(dialled);
-                links.tallies.count_up();
+                links.tallies.count_peer_up();
                 links.tell_up(rt, dialler.place(), &other, false);
             }
             Err(end) => self.goes(rt, links, dialler, end),

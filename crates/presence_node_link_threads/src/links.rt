@@ -118,7 +118,7 @@ impl Links {
 
     /// How often the links came and went so far, and what went over them.
     pub fn tallies(&self) -> LinkTallies {
-        self.tallies.read()
+        self.tallies.read(self.dialled.len() as u64)
     }
 
     pub(crate) fn is_stopped(&self) -> bool {

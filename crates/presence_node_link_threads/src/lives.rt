@@ -125,6 +125,7 @@ where
     if came.has_refused {
         return LinkEnd::GoesOnLater;
     }
+    links.tallies.count_rebirth();
     let _told = println!(rt; "reborn {incarnation}");
     LinkEnd::Reborn
 }

@@ -17,6 +17,12 @@ pub struct LinkTallies {
     pub wants: u64,
     /// How many links were refused for the address that they came from.
     pub refused: u64,
+    /// How many nodes are dialled.
+    pub peers: u64,
+    /// How many of the links to them are up now.
+    pub peers_up: u64,
+    /// How often the node went on under a higher incarnation.
+    pub rebirths: u64,
 }
 
 /// What is counted of the links.
@@ -26,6 +32,9 @@ pub(crate) struct Tallies {
     beats: AtomicU64,
     wants: AtomicU64,
     refused: AtomicU64,
+    peers_came: AtomicU64,
+    peers_went: AtomicU64,
+    rebirths: AtomicU64,
 }
 
 impl Drop for Tallies {
@@ -36,12 +45,18 @@ impl Drop for Tallies {
             beats,
             wants,
             refused,
+            peers_came,
+            peers_went,
+            rebirths,
         } = self;
         drop(came_up);
         drop(went_down);
         drop(beats);
         drop(wants);
         drop(refused);
+        drop(peers_came);
+        drop(peers_went);
+        drop(rebirths);
     }
 }
 
@@ -57,6 +72,9 @@ impl Tallies {
             beats: AtomicU64::new(0),
             wants: AtomicU64::new(0),
             refused: AtomicU64::new(0),
+            peers_came: AtomicU64::new(0),
+            peers_went: AtomicU64::new(0),
+            rebirths: AtomicU64::new(0),
         }
     }
 
@@ -66,6 +84,22 @@ impl Tallies {
 
     pub(crate) fn count_down(&self) {
         count(&self.went_down);
+    }
+
+    /// A link to a node that is dialled came up.
+    pub(crate) fn count_peer_up(&self) {
+        count(&self.peers_came);
+        self.count_up();
+    }
+
+    /// A link to a node that is dialled went down.
+    pub(crate) fn count_peer_down(&self) {
+        count(&self.peers_went);
+        self.count_down();
+    }
+
+    pub(crate) fn count_rebirth(&self) {
+        count(&self.rebirths);
     }
 
     pub(crate) fn count_beat(&self) {
@@ -80,8 +114,10 @@ impl Tallies {
         count(&self.refused);
     }
 
-    /// What was counted so far. What went down is read first, so that no link is missed among those that are up.
-    pub(crate) fn read(&self) -> LinkTallies {
+    /// What was counted so far, where so many nodes are dialled. What went down is read first, so that no link is missed among
+    /// those that are up.
+    pub(crate) fn read(&self, peers: u64) -> LinkTallies {
+        let peers_went = self.peers_went.load(Ordering::SeqCst);
         let went_down = self.went_down.load(Ordering::SeqCst);
         let came_up = self.came_up.load(Ordering::SeqCst);
         LinkTallies {
@@ -91,6 +127,12 @@ impl Tallies {
             beats: self.beats.load(Ordering::SeqCst),
             wants: self.wants.load(Ordering::SeqCst),
             refused: self.refused.load(Ordering::SeqCst),
+            peers,
+            peers_up: self
+                .peers_came
+                .load(Ordering::SeqCst)
+                .saturating_sub(peers_went),
+            rebirths: self.rebirths.load(Ordering::SeqCst),
         }
     }
 }

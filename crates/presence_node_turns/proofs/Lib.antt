@@ -1,2 +1,3 @@
 mod Turnings
+mod Sparings
 pub mod Crossing

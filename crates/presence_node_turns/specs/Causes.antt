@@ -1,5 +1,5 @@
--- Why a connection ends, and with which close code.
-use Rattle.std.specs.Prelude.{ℕ, Option, Some, None}
+-- Why a connection ends, and with which close code and reason.
+use Rattle.std.specs.Prelude.{ℕ, List, [], codes, Option, Some, None}
 use Rattle.channel_session.specs.declared.fault.SessionFault.{SessionFault}
 use Rattle.channel_session.specs.declared.fault.SessionFault.TheVariants as faults
 use Rattle.phx_message.specs.declared.message.MessageFault.{MessageFault}
@@ -36,6 +36,11 @@ code_of (Fault fault) = Some (fault_code fault)
 code_of Full = Some 1011
 code_of Stream = None
 code_of Stopping = Some 1001
+
+-- What stands beside the code: who was silent is told so, and nobody else is told more.
+abbrev pub reason_of : Cause → List ℕ
+reason_of Silent = codes "silent for 60 s"
+reason_of _ = []
 
 -- Why a connection ends by an error of its socket. A frame over the limit is of a text that is too long, and one that isn't UTF-8 is not JSON.
 abbrev pub cause_of : Error → Cause

@@ -1,3 +1,4 @@
 pub mod Causes
 pub mod Hearing
+pub mod Sparing
 pub mod Turning

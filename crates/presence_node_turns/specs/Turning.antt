@@ -1,5 +1,5 @@
 -- One turn of a connection: what was read, what its session said to that, and what went out.
-use Rattle.std.specs.Prelude.{◌≡◌, ◌⊎◌, ◌+◌, ℕ, Bool, true, false, ◌||◌, if◌then◌else◌, leb, List, [], vec_len, IfOk, IfErr, is_ok, Option, Some, None, Result, Ok, Err, String, Vec}
+use Rattle.std.specs.Prelude.{◌≡◌, ◌⊎◌, ◌+◌, ℕ, Bool, true, false, ◌||◌, ◌&&◌, not, ◌-◌, ◌==◌, if◌then◌else◌, leb, List, length, [], vec_len, IfOk, IfErr, is_ok, Option, Some, None, Result, Ok, Err, String, Vec}
 use Rattle.std.specs.Global.{Global}
 use Rattle.channel_session.specs.Delivery.{DeliveredBy}
 use Rattle.channel_session.specs.Ending.{EndedBy}
@@ -20,10 +20,12 @@ use Rattle.tungstenite.specs.Socket.{Socket, Flushed, Writes}
 use Rattle.tungstenite.specs.declared.error.Error.{Error}
 use Rattle.tungstenite.specs.declared.error.Error.TheVariants.{OutOfMemory}
 use Rattle.websocket.specs.CloseCode.{close_code_of}
-use Rattle.websocket.specs.Connection.{Effect, close_step}
+use Rattle.websocket.specs.Connection.{Effect, close_step, write_step}
+use Rattle.websocket.specs.Content.{ping}
 use Rattle.websocket.specs.declared.error.Error.{Error as FrameError}
-use Rattle.presence_node_turns.specs.Causes.{cause_of, code_of}
+use Rattle.presence_node_turns.specs.Causes.{cause_of, code_of, reason_of}
 use Rattle.presence_node_turns.specs.Hearing.{Hears, is_message}
+use Rattle.presence_node_turns.specs.Sparing.{Spares}
 use Rattle.presence_node_turns.specs.declared.cause.Cause.{Cause}
 use Rattle.presence_node_turns.specs.declared.cause.Cause.TheVariants.{Silent, Fault, Stream, Stopping}
 use Rattle.presence_node_turns.specs.declared.connection.Connection.{Connection}
@@ -31,7 +33,8 @@ use Rattle.presence_node_turns.specs.declared.connection.Progress.{Progress}
 use Rattle.presence_node_turns.specs.declared.connection.Progress.TheVariants as progress
 use Rattle.presence_node_turns.specs.declared.connection.Stage.{Stage}
 use Rattle.presence_node_turns.specs.declared.connection.Stage.TheVariants.{Open, Ending, Over}
-use Rattle.presence_node_turns.specs.declared.connection.TheConstants.{MAX_DEALT, MAX_SILENCE}
+use Rattle.presence_node_turns.specs.declared.connection.TheConstants.{MAX_DEALT, MAX_SILENCE, PING_SILENCE}
+use Rattle.presence_node_turns.specs.declared.sparing.TheConstants.{MAX_UNSENT}
 use Rattle.presence_node_turns.specs.declared.hearing.Heard.{Heard}
 use Rattle.presence_node_turns.specs.declared.hearing.Heard.TheVariants.{Text, Sign, Nothing, Ends}
 
@@ -74,19 +77,29 @@ module _ {S : Type 0} (contents : S → Option (List ℕ)) where
   GoOut old new (Err fault) (Ok u) = ⊥
   GoOut old new (Err fault) (Err cause) = (cause ≡ Fault fault) × (new ≡ old)
 
-  -- a close frame that could not be written, but for the stream
-  pub record LosesClose (old new : Socket S) (step : Result Effect FrameError) : Type 0 where
+  -- a frame that could not be written, but for the stream
+  pub record LosesFrame (old new : Socket S) (step : Result Effect FrameError) : Type 0 where
     pub error : Error
     pub fails : WriteFails step error
     pub other : IsIo error → ⊥
     pub memory : error ≡ OutOfMemory → new ≡ old
 
-  -- a close frame of this code goes out, and nothing else
-  abbrev pub ClosesBy : Option ℕ → Socket S → Socket S → Type 0
-  ClosesBy None old new = new ≡ old
-  ClosesBy (Some code) old new =
-      let step : Result Effect FrameError = close_step old.conn (Some (close_code_of code, [])) in
-      Writes contents old new step ⊎ LosesClose old new step
+  -- a close frame of this code and reason goes out, and nothing else
+  abbrev pub ClosesBy : Option ℕ → List ℕ → Socket S → Socket S → Type 0
+  ClosesBy None reason old new = new ≡ old
+  ClosesBy (Some code) reason old new =
+      let step : Result Effect FrameError = close_step old.conn (Some (close_code_of code, reason)) in
+      Writes contents old new step ⊎ LosesFrame old new step
+
+  -- the close frame of a cause goes out, and nothing else
+  abbrev pub ClosesFor : Cause → Socket S → Socket S → Type 0
+  ClosesFor cause old new = ClosesBy (code_of cause) (reason_of cause) old new
+
+  -- an empty ping goes out, and nothing else
+  abbrev pub Pings : Socket S → Socket S → Type 0
+  Pings old new =
+      let step : Result Effect FrameError = write_step old.conn (ping []) in
+      Writes contents old new step ⊎ LosesFrame old new step
 
 -- ---- the end
 
@@ -111,16 +124,44 @@ module _ {S K P : Type 0} (step : P → (q : Ask) → Answer q → P → Type 0)
 abbrev pub patience : ℕ → ℕ → Result (Unit {0}) Cause
 patience heard now = if leb (heard + MAX_SILENCE) now then Err Silent else Ok tt
 
+-- Whether a ping is owed to a connection that was silent for half of that. Each silence is owed one.
+abbrev pub is_owed_ping : ℕ → Bool → ℕ → Bool
+is_owed_ping heard pinged now = leb (heard + PING_SILENCE) now && not pinged
+
+module _ {S K : Type 0} (contents : S → Option (List ℕ)) where
+  -- its client is asked for a sign
+  pub record IsAsked (old new : Connection S K) : Type 0 where
+    pub pings : Pings contents old.socket new.socket
+    pub kept : new ≡ record old { socket = new.socket; pinged = true }
+
+  abbrev pub AsksIf : Bool → Connection S K → Connection S K → Type 0
+  AsksIf true old new = IsAsked old new
+  AsksIf false old new = new ≡ old
+
+  -- It ends where it was silent for too long, and else it is asked for a sign, if a ping is owed.
+  abbrev pub BearsOut : Result (Unit {0}) Cause → Bool → Connection S K → Connection S K → Type 0
+  BearsOut (Err cause) owed old new = new ≡ old
+  BearsOut (Ok u) owed old new = AsksIf owed old new
+
+  -- What a connection does that heard nothing.
+  pub record BearsSilence (now : ℕ) (old new : Connection S K) (result : Result (Unit {0}) Cause) : Type 0 where
+    pub outcome : result ≡ patience old.heard now
+    pub asks : BearsOut (patience old.heard now) (is_owed_ping old.heard old.pinged now) old new
+
 abbrev pub progress_of : Bool → Progress
 progress_of true = progress.Busy
 progress_of false = progress.Idle
 
 -- ---- what a delivery tells
 
--- whether more may wait than was taken
-abbrev pub may_have_more : Result Delivery SessionFault → Bool
-may_have_more (Ok delivery) = leb MAX_DEALT (vec_len delivery.texts)
-may_have_more (Err fault) = false
+-- whether more may wait than was taken, where so many bytes more might have been
+abbrev pub may_have_more : Result Delivery SessionFault → ℕ → Bool
+may_have_more (Ok delivery) room = leb MAX_DEALT (vec_len delivery.texts) || (room == 0)
+may_have_more (Err fault) room = false
+
+-- how many bytes a delivery takes at most before it takes nothing further, by those that wait to be sent
+abbrev pub room_in : {S : Type 0} → Socket S → ℕ
+room_in socket = MAX_UNSENT - length socket.output
 
 abbrev pub dealt : Result Bool Cause → Result (Unit {0}) Cause
 dealt (Ok more) = Ok tt
@@ -145,7 +186,7 @@ module _ {S K P : Type 0} (w : Around S P) where
     pub outcome_is : result ≡ outcome
 
   abbrev pub heard_at : ℕ → Connection S K → Connection S K
-  heard_at now c = record c { heard = now }
+  heard_at now c = record c { heard = now; pinged = false }
 
   -- What is done by what was read.
   abbrev pub Responds : List (List ℕ × ℕ) → ℕ → Heard → Connection S K → Connection S K → P → P
@@ -153,18 +194,21 @@ module _ {S K P : Type 0} (w : Around S P) where
   Responds routes now (Text words) old new before after result =
       AnswersText routes words (heard_at now old) new before after result
   Responds routes now Sign old new before after result = Rests (heard_at now old) new before after result (Ok tt)
-  Responds routes now Nothing old new before after result = Rests old new before after result (patience old.heard now)
+  Responds routes now Nothing old new before after result = BearsSilence w.contents now old new result × (after ≡ before)
   Responds routes now (Ends cause) old new before after result = Rests old new before after result (Err cause)
 
   -- ---- one delivery
 
+  -- What waits for the session is delivered, until so much waits to be sent that nothing further is taken.
   pub record Deals (old new : Connection S K) (before after : P) (result : Result Bool Cause) : Type 0 where
     pub delivery : Result Delivery SessionFault
+    pub room : ℕ
     pub failed : old.session.failed ≡ true → (delivery ≡ Err Failed) × (new.session ≡ old.session) × (after ≡ before)
     pub delivered : old.session.failed ≡ false
-        → DeliveredBy w.worded w.noted w.step MAX_DEALT old.session before after new.session delivery
+        → DeliveredBy w.worded w.noted (Spares w.step) MAX_DEALT old.session (before, room_in old.socket) (after, room)
+        new.session delivery
     pub sent : GoOut w.contents old.socket new.socket (dealt_texts delivery) (dealt result)
-    pub more : IfOk result (λ told. told ≡ may_have_more delivery)
+    pub more : IfOk result (λ told. told ≡ may_have_more delivery room)
     pub kept : new ≡ record old { socket = new.socket; session = new.session }
 
   -- Behind the message comes one delivery, unless the connection ends; and whether a message came, or more may wait, is told.
@@ -191,7 +235,7 @@ module _ {S K P : Type 0} (w : Around S P) where
   abbrev pub GoesOn : Connection S K → Connection S K → P → P → Result Bool Cause → Progress → Type 0
   GoesOn served new between after (Ok came) result = (new ≡ served) × (after ≡ between) × (result ≡ progress_of came)
   GoesOn served new between after (Err cause) result =
-      (closed : Socket S) × ClosesBy w.contents (code_of cause) served.socket closed
+      (closed : Socket S) × ClosesFor w.contents cause served.socket closed
       × EndsSession w.step cause (record served { socket = closed }) new between after result
 
   pub record TakesTurn (routes : List (List ℕ × ℕ)) (now : ℕ) (old new : Connection S K) (before after : P)
@@ -253,7 +297,7 @@ module _ {S K : Type 0} (contents : S → Option (List ℕ)) where
   -- The server stops: an open connection's client is told so, and its session's end is asked for from its next turn on. One that ends already stays as it is.
   abbrev pub StopsServing : Stage → Connection S K → Connection S K → Type 0
   StopsServing Open old new =
-      (told : Socket S) × ClosesBy contents (code_of Stopping) old.socket told
+      (told : Socket S) × ClosesFor contents Stopping old.socket told
       × (new ≡ record old { socket = told; stage = Ending Stopping })
   StopsServing (Ending cause) old new = new ≡ old
   StopsServing (Over cause) old new = new ≡ old

@@ -1,7 +1,7 @@
 //! Why a connection ends.
 ghost use Rattle.std.specs.Prelude.{◌≡◌, option_map};
 ghost use Rattle.websocket.specs.CloseCode.{close_code_of};
-ghost use Rattle.presence_node_turns.specs.Causes.{cause_of as cause_in, code_of, fault_code, refusal_code};
+ghost use Rattle.presence_node_turns.specs.Causes.{cause_of as cause_in, code_of, fault_code, reason_of, refusal_code};
 
 use channel_session::SessionFault;
 use phx_message::MessageFault;
@@ -70,6 +70,21 @@ pub fn close_code(cause: Cause) -> Option<CloseCode>
         Cause::Fault(fault) => Some(fault_close(fault)),
         Cause::Full => Some(CloseCode::Error),
         Cause::Stopping => Some(CloseCode::Away),
+    }
+}
+
+/// What a connection's client is told beside the close code.
+pub(crate) fn close_reason(cause: Cause) -> &'static str
+    ensures { result.now ≡ reason_of cause }
+{
+    match cause {
+        Cause::Silent => "silent for 60 s",
+        Cause::Closed
+        | Cause::Stream
+        | Cause::Binary
+        | Cause::Fault(_)
+        | Cause::Full
+        | Cause::Stopping => "",
     }
 }
 

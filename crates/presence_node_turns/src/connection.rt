@@ -1,24 +1,28 @@
 //! A connection, and its turn.
-ghost use Rattle.std.specs.Prelude.{is_ok, Some, ◌≡◌, ◌+◌, ◌≤◌, ◌^◌, [], leb, false, map, string_bytes, None, IfOk};
+ghost use Rattle.std.specs.Prelude.{is_ok, Some, ◌≡◌, ◌+◌, ◌≤◌, ◌^◌, [], leb, false, true, map, string_bytes, None, IfOk};
 ghost use Rattle.phx_message.specs.Reading.{decoded};
 ghost use Rattle.tungstenite.specs.Socket.{Flushed};
-ghost use Rattle.presence_node_turns.specs.Causes.{code_of};
 ghost use Rattle.presence_node_turns.specs.Hearing.{is_message};
-ghost use Rattle.presence_node_turns.specs.Turning.{around, AnswersText, ClosesBy, Continues, Deals, Delivers, behind_flush, broken_off, EndsSession, GoOut, Responds, Serves, Flushes, StopsServing, TakesDelivery, TakesTurn, Turns, patience, progress_of as progress_in};
+ghost use Rattle.presence_node_turns.specs.Turning.{around, AnswersText, AsksIf, BearsSilence, ClosesFor, Continues, Deals, Delivers, behind_flush, broken_off, EndsSession, GoOut, Responds, Serves, Flushes, Pings, StopsServing, TakesDelivery, TakesTurn, Turns, dealt, dealt_texts, is_owed_ping, may_have_more, patience, progress_of as progress_in};
+ghost use Rattle.presence_node_web_sockets.specs.declared.web_socket.TheConstants.{MAX_WAITING};
 
-use crate::cause::{Cause, cause_of, close_code};
+use crate::cause::{Cause, cause_of, close_code, close_reason};
 use crate::hearing::{Heard, hear};
-use channel_session::{Channels, Delivery, Port, Session, SessionFault, deliver, end, run_text};
+use crate::sparing::{MAX_UNSENT, deliver_within};
+use channel_session::{Channels, Delivery, Port, Session, SessionFault, end, run_text};
 use hook_registry::{PresenceHooks, Routes};
 use phx_message::Limits;
 use presence_node_sending::{is_passing, queue_all};
-use presence_node_web_sockets::WebSocket;
+use presence_node_web_sockets::{MAX_WAITING, WebSocket};
 use std::alloc::Global;
 use std::io::{Read, Write};
-use tungstenite::{CloseFrame, Error, MaskKeys, Utf8Bytes, WebSocketConfig};
+use tungstenite::{Bytes, CloseFrame, Error, MaskKeys, Message, Utf8Bytes, WebSocketConfig};
 
 /// How long a connection may be without a message, in milliseconds.
 pub const MAX_SILENCE: u64 = 60_000;
+
+/// How long a connection may be without a message before its client is sent a ping, in milliseconds.
+pub const PING_SILENCE: u64 = 30_000;
 
 /// How many items of each topic one turn takes: at most 1 MiB of what clients shout. (presence_journal's `MAX_TAKEN` is the
 /// most that a take may give.)
@@ -30,9 +34,6 @@ const READ_BYTES: usize = 256;
 
 /// How many bytes of output gather before they go to the stream by themselves.
 const WRITE_BYTES: usize = 1_048_576;
-
-/// How many bytes of output may wait for a client that reads too slowly: the longest frame and more.
-const MAX_WRITE_BYTES: usize = 17_825_792;
 
 /// How far a connection has come.
 #[derive(Clone, Copy, PartialEq, Eq, Debug)]
@@ -63,6 +64,8 @@ pub struct Connection<S, K> {
     pub session: Session,
     /// When the last message came, in milliseconds.
     pub heard: u64,
+    /// Whether its client was sent a ping since then.
+    pub pinged: bool,
     pub stage: Stage,
 }
 
@@ -72,6 +75,7 @@ impl<S: Drop, K: Drop> Drop for Connection<S, K> {
             socket,
             session,
             heard: _,
+            pinged: _,
             stage: _,
         } = self;
         drop(socket);
@@ -83,13 +87,13 @@ impl<S: Drop, K: Drop> Drop for Connection<S, K> {
 pub fn socket_config() -> WebSocketConfig
     ensures message { result.max_message_size ≡ Some Limits.CLIENT.bytes }
     ensures frame { result.max_frame_size ≡ Some Limits.CLIENT.bytes }
-    ensures waiting { result.max_write_buffer_size ≡ MAX_WRITE_BYTES }
+    ensures waiting { result.max_write_buffer_size ≡ MAX_WAITING }
     ensures masked { result.accept_unmasked_frames ≡ false }
 {
     WebSocketConfig::default()
         .read_buffer_size(READ_BYTES)
         .write_buffer_size(WRITE_BYTES)
-        .max_write_buffer_size(MAX_WRITE_BYTES)
+        .max_write_buffer_size(MAX_WAITING)
         .max_message_size(Some(Limits::CLIENT.bytes))
         .max_frame_size(Some(Limits::CLIENT.bytes))
 }
@@ -109,6 +113,7 @@ impl<S: Read + Write + Drop, K: MaskKeys + Drop> Connection<S, K> {
           socket = socket;
           session = record { pid = pid; failed = false; joined = []; cut_short = None };
           heard = now;
+          pinged = false;
           stage = Stage.Open;
         } }
     {
@@ -116,6 +121,7 @@ impl<S: Read + Write + Drop, K: MaskKeys + Drop> Connection<S, K> {
             socket,
             session: Session::new(alloc, pid),
             heard: now,
+            pinged: false,
             stage: Stage::Open,
         }
     }
@@ -150,14 +156,52 @@ impl<S: Read + Write + Drop, K: MaskKeys + Drop> Connection<S, K> {
         }
     }
 
-    // Ends a connection that was silent for too long.
-    fn bear_silence(&self, now: u64) -> Result<(), Cause>
+    // Asks the client for a sign: one that is there answers with a pong.
+    fn ping(&mut self)
+        ensures pings { Pings S.contents self.old.socket self.new.socket }
+        ensures kept { self.new ≡ record self.old { socket = self.new.socket; pinged = true } }
+    {
+        let _lost = self.socket.write(Message::Ping(Bytes::from_static(b"")));
+        self.pinged = true;
+    }
+
+    // Whether a ping is owed to it.
+    fn is_owed_ping(&self, now: u64) -> bool
+        ensures { result ≡ is_owed_ping self.now.heard self.now.pinged now }
+    {
+        now >= self.heard && now - self.heard >= PING_SILENCE && !self.pinged
+    }
+
+    // Sends a ping, if one is owed.
+    fn ask(&mut self, now: u64)
+        ensures { AsksIf S.contents (is_owed_ping self.old.heard self.old.pinged now) self.old self.new }
+    {
+        if self.is_owed_ping(now) {
+            self.ping();
+        }
+    }
+
+    // Whether it was silent for too long.
+    fn patience(&self, now: u64) -> Result<(), Cause>
         ensures { result ≡ patience self.now.heard now }
     {
         if now >= self.heard && now - self.heard >= MAX_SILENCE {
             Err(Cause::Silent)
         } else {
             Ok(())
+        }
+    }
+
+    // Ends a connection that was silent for too long, and sends a ping to one that was for half of that.
+    fn bear_silence(&mut self, now: u64) -> Result<(), Cause>
+        ensures { BearsSilence S.contents now self.old self.new result }
+    {
+        match self.patience(now) {
+            Ok(()) => {
+                self.ask(now);
+                Ok(())
+            }
+            Err(cause) => Err(cause),
         }
     }
 
@@ -177,10 +221,12 @@ impl<S: Read + Write + Drop, K: MaskKeys + Drop> Connection<S, K> {
         match heard {
             Heard::Text(words) => {
                 self.heard = now;
+                self.pinged = false;
                 self.answer(alloc, port, routes, hooks, words.as_str())
             }
             Heard::Sign => {
                 self.heard = now;
+                self.pinged = false;
                 Ok(())
             }
             Heard::Nothing => self.bear_silence(now),
@@ -188,7 +234,31 @@ impl<S: Read + Write + Drop, K: MaskKeys + Drop> Connection<S, K> {
         }
     }
 
-    // Delivers what waits, once: whether more may wait.
+    // Puts the texts of a delivery in what waits to be sent, where so many bytes more might have been taken: whether more
+    // may wait.
+    fn send_dealt(
+        &mut self,
+        delivery: Result<Delivery, SessionFault>,
+        left: usize,
+    ) -> Result<bool, Cause>
+        ensures sent { GoOut S.contents self.old.socket self.new.socket (dealt_texts delivery) (dealt result) }
+        ensures more { IfOk result (λ told. told ≡ may_have_more delivery left) }
+        ensures kept { self.new ≡ record self.old { socket = self.new.socket } }
+    {
+        match delivery {
+            Ok(Delivery { texts, notices }) => {
+                drop(notices);
+                let more = texts.len() >= MAX_DEALT as usize || left == 0;
+                match self.send(texts) {
+                    Ok(()) => Ok(more),
+                    Err(cause) => Err(cause),
+                }
+            }
+            Err(fault) => Err(Cause::Fault(fault)),
+        }
+    }
+
+    // Delivers what waits, once, until so much waits to be sent that nothing further is taken: whether more may wait.
     fn deal<P: Port, H: PresenceHooks>(
         &mut self,
         alloc: Global,
@@ -198,17 +268,9 @@ impl<S: Read + Write + Drop, K: MaskKeys + Drop> Connection<S, K> {
         ensures { Deals (around S.remaining S.contents P.step H.PresenceHooks hooks.now)
             self.old self.new port.old port.new result }
     {
-        match deliver(alloc, &mut self.session, port, hooks, MAX_DEALT) {
-            Ok(Delivery { texts, notices }) => {
-                drop(notices);
-                let more = texts.len() >= MAX_DEALT as usize;
-                match self.send(texts) {
-                    Ok(()) => Ok(more),
-                    Err(cause) => Err(cause),
-                }
-            }
-            Err(fault) => Err(Cause::Fault(fault)),
-        }
+        let room = MAX_UNSENT.saturating_sub(self.socket.waiting());
+        let (delivery, left) = deliver_within(alloc, &mut self.session, port, hooks, room);
+        self.send_dealt(delivery, left)
     }
 
     // Goes on behind a message with a delivery.
@@ -251,7 +313,7 @@ impl<S: Read + Write + Drop, K: MaskKeys + Drop> Connection<S, K> {
 
     // Sends the close frame of a cause, if it has one.
     fn close(&mut self, cause: Cause)
-        ensures closed { ClosesBy S.contents (code_of cause) self.old.socket self.new.socket }
+        ensures closed { ClosesFor S.contents cause self.old.socket self.new.socket }
         ensures kept { self.new ≡ record self.old { socket = self.new.socket } }
     {
         let Some(code) = close_code(cause) else {
@@ -259,7 +321,7 @@ impl<S: Read + Write + Drop, K: MaskKeys + Drop> Connection<S, K> {
         };
         let frame = CloseFrame {
             code,
-            reason: Utf8Bytes::from_static(""),
+            reason: Utf8Bytes::from_static(close_reason(cause)),
         };
         let _lost = self.socket.close(Some(frame));
     }
@@ -302,10 +364,11 @@ impl<S: Read + Write + Drop, K: MaskKeys + Drop> Connection<S, K> {
     }
 
     /// One turn, at this time: at most one message is read and answered, and what waits for the
-    /// session is delivered, `MAX_DEALT` items of each topic at most. Texts wait in the socket until it is flushed.
+    /// session is delivered, `MAX_DEALT` items of each topic at most, and nothing further once `MAX_UNSENT` bytes wait to
+    /// be sent. Texts wait in the socket until it is flushed.
     ///
-    /// A connection that ends is told its close code and reads no more. Its session's end is asked
-    /// for in that turn and in each later one, until it is accepted.
+    /// One that was silent for `PING_SILENCE` is sent a ping, once. A connection that ends is told its close code and reads
+    /// no more. Its session's end is asked for in that turn and in each later one, until it is accepted.
     pub fn turn<P: Port, H: PresenceHooks>(
         &mut self,
         alloc: Global,

@@ -181,6 +181,7 @@ newcomer number token socket now =
         socket = socket;
         session = record { pid = number; failed = false; joined = []; cut_short = None };
         heard = now;
+        pinged = false;
         stage = Open;
       };
     }

@@ -11,5 +11,7 @@ mod resting;
 mod worker;
 
 pub use client::Client;
-pub use presence_node_turns::{Cause, Connection, Progress, Stage, close_code, socket_config};
+pub use presence_node_turns::{
+    Cause, Connection, MAX_SILENCE, Progress, Stage, close_code, socket_config,
+};
 pub use worker::{MAX_CONNECTIONS, NoMore, Worker};

@@ -177,7 +177,7 @@ fn seen_of(alloc: Global, call: Call, fault: Option<ShardFault>) -> Option<Seen>
     }
     let mut port = HintingPort::new(alloc, inner);
     let answer = make(alloc, &mut port, &place, call);
-    let topics = port.into_noted().changed;
+    let topics = port.into_noted().changed.into_topics()?;
     Some(Seen {
         answer,
         noted: topics.contains(&place.topic),

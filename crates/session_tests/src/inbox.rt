@@ -2,7 +2,7 @@
 
 use hook_registry::{NoHooks, Routes};
 use presence_base::Topic;
-use presence_node_hints::{Followed, HintingPort, Inbox, Noted, Topics, follows};
+use presence_node_hints::{Followed, Followers, HintingPort, Inbox, Noted, Topics, follows};
 use session_desk::{Channels, JOIN, LATE, LEAVE, Session, TestPort, run_text};
 use std::alloc::Global;
 use std::collections::BTreeSet;
@@ -93,7 +93,7 @@ fn told_of_followed<R: Wait>(rt: &R, alloc: Global) -> Option<[usize; 4]> {
     let none = times_told(rt, alloc, &inbox, &names)?;
     inbox.follow(rt, followed_of(alloc, &["room:a"])?);
     let one = times_told(rt, alloc, &inbox, &names)?;
-    inbox.follow(rt, followed_of(alloc, &["room:a", "room:b"])?);
+    inbox.follow(rt, followed_of(alloc, &["room:b"])?);
     let two = times_told(rt, alloc, &inbox, &names)?;
     inbox.follow_only(rt, followed_of(alloc, &["room:c"])?);
     Some([none, one, two, times_told(rt, alloc, &inbox, &names)?])
@@ -141,8 +141,8 @@ fn known_of(alloc: Global, session: &Session, noted: &Noted) -> Option<Known> {
         follows: [follows(session, &lobby), follows(session, &other)],
         joined: [joined.has_one_of(&lobby), joined.has_one_of(&other)],
         noted: [
-            lobby.iter().all(|topic| noted.changed.contains(topic)),
-            other.iter().all(|topic| noted.changed.contains(topic)),
+            noted.changed.has_one_of(&lobby),
+            noted.changed.has_one_of(&other),
         ],
         followed: [
             noted.followed.has_one_of(&lobby),
@@ -170,4 +170,36 @@ fn sessions_follow_what_they_joined(rt: HostRuntime) -> Result<(), Fail> {
         assert_eq!(rt; known_behind(rt.alloc(), texts), Some(want));
     }
     Ok(())
+}
+
+// The tokens that stand at a topic.
+fn tokens_at(followers: &Followers, topic: &Topic) -> usize {
+    followers.of_topic(topic).map_or(0, |tokens| tokens.len())
+}
+
+// One of these three topics.
+fn topic_of(alloc: Global, name: &str) -> Option<Topic> {
+    Topic::new(alloc, name).ok()?
+}
+
+// How many of two connections follow `room:a`, `room:b` and `room:c`, where the first follows `room:a`, which it was noted
+// for twice, and `room:b`, and the second `room:b`.
+fn followers_of_three(alloc: Global) -> Option<[usize; 3]> {
+    let mut followers = Followers::new(alloc);
+    let a = topic_of(alloc, "room:a")?;
+    let b = topic_of(alloc, "room:b")?;
+    let c = topic_of(alloc, "room:c")?;
+    for (topic, token) in [(&a, 7), (&a, 7), (&b, 7), (&b, 8)] {
+        followers.add(alloc, topic, token);
+    }
+    Some([
+        tokens_at(&followers, &a),
+        tokens_at(&followers, &b),
+        tokens_at(&followers, &c),
+    ])
+}
+
+#[test]
+fn followers_stand_once_at_each_topic(rt: HostRuntime) {
+    assert_eq!(rt; followers_of_three(rt.alloc()), Some([1, 2, 0]));
 }

@@ -1,0 +1,67 @@
+//! Long texts: of the clients that send some, few at a time go on.
+//!
+//! The dearest text of 64 kB takes 10 ms. A text is known to be long before it is whole, since a turn reads `TURN_BYTES` of
+//! it at most, and then it waits until its turn among the long ones comes: so a turn of a worker lasts as long as its short
+//! texts and `MAX_LONG_TEXTS` long ones do, however many clients send such.
+use presence_node_client_streams::{ClientSocket, TURN_BYTES};
+use presence_node_workers::{Client, Worker};
+use std::alloc::Global;
+
+/// How many long texts one turn of a worker goes on with.
+const MAX_LONG_TEXTS: u32 = 1;
+
+/// Which of the clients that send long texts go on, by turns.
+#[derive(Drop)]
+pub struct LongTexts {
+    /// The number of the last that went on, or 0 where all have.
+    last: u64,
+    /// The tokens of those that wait for the turn behind this one.
+    held: Vec<usize>,
+}
+
+// Whether the next turn of a client would go on with a long text.
+fn has_long_text(client: &Client<ClientSocket>) -> bool {
+    client.ready && client.connection.socket.gathered() >= TURN_BYTES
+}
+
+impl LongTexts {
+    /// None has come yet.
+    pub fn new(alloc: Global) -> LongTexts {
+        LongTexts {
+            last: 0,
+            held: Vec::new(alloc),
+        }
+    }
+
+    /// Of the clients whose next turn would go on with a long text the first do that come behind the last that did, in order
+    /// of their numbers. Each other one has no turn until `resume`, as far as there is memory to note it.
+    pub fn hold(&mut self, worker: &mut Worker<ClientSocket>) {
+        let last = self.last;
+        self.last = 0;
+        let mut going = 0;
+        for place in 0..worker.len() {
+            let Some(client) = worker.due_at(place) else {
+                continue;
+            };
+            if !has_long_text(client) {
+                continue;
+            }
+            let (number, token) = (client.number, client.token);
+            if number > last && going < MAX_LONG_TEXTS {
+                client.connection.socket.get_ref().go_on();
+                going += 1;
+                self.last = number;
+            } else if self.held.push(token).is_ok() {
+                worker.hold(token);
+            }
+        }
+    }
+
+    /// Those that had no turn have the next one, if their time among the others comes.
+    pub fn resume(&mut self, worker: &mut Worker<ClientSocket>) {
+        for token in &self.held {
+            worker.mark(*token);
+        }
+        self.held.clear();
+    }
+}
