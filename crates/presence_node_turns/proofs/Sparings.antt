@@ -68,7 +68,7 @@ module _ {P : Type 0} (step : P → (q : Ask) → Answer q → P → Type 0) whe
       (result : Result Delivery SessionFault) (failed : Bool) → (failed ≡ true → (result ≡ Err Failed) × (after ≡ s) × (b ≡ a))
       → (failed ≡ false → DeliveredBy W M SparesSo max s a b after result) → b.port.ghost_name ≡ a.port.ghost_name
   sparing_keeps W M max s a b after result failed none delivered =
-      kept_anyhow SparesSo (λ (p : SparingPort P). p.port.ghost_name) (λ a q x b h. h.0) W M max s a b after result failed (λ is. (none is).1.1) delivered
+      kept_anyhow SparesSo (λ (p : SparingPort P). p.port.ghost_name) (λ a q x b h. h.0) W M max s a b after result failed (λ is. (none is).2) delivered
 
   pub sparing_delivers : (W : Said → Message → Type 0) (M : Said → List (List ℕ) → Type 0) (max : ℕ) (s : InForce) (a b : SparingPort P) (after : InForce)
       (result : Result Delivery SessionFault) → DeliveredBy W M SparesSo max s a b after result

@@ -85,15 +85,15 @@ pub deals : {S K P : Type 0} (w : Around S P) (old new : Connection S K) (before
     → (old.session.failed ≡ false → DeliveredBy w.worded w.noted (Spares w.step) MAX_DEALT old.session (before, given) (after, room) session delivery)
     → GoOut w.contents old.socket new.socket (dealt_texts delivery) (dealt result) → IfOk result (λ told. told ≡ may_have_more delivery room)
     → new ≡ record old { socket = new.socket; session = session } → Deals w old new before after result
-deals {S} {K} {P} w old new before after delivery given room session result is failed delivered sent more kept =
+deals {S} {K} {P} w old new before after delivery given room session result is failed came sent more kept =
     let same : new.session ≡ session = ap (λ (c : Connection S K). c.session) kept in
     record {
       delivery = delivery;
       room = room;
-      failed = λ so. ((failed so).0, same ∙ (failed so).1.0, (failed so).1.1);
+      failed = λ so. ((failed so).0, same ∙ (failed so).1, (failed so).2);
       delivered = λ so.
           subst (λ (s : InForce). DeliveredBy w.worded w.noted (Spares w.step) MAX_DEALT old.session (before, room_in old.socket) (after, room) s delivery) (sym same)
-          (subst (λ (n : ℕ). DeliveredBy w.worded w.noted (Spares w.step) MAX_DEALT old.session (before, n) (after, room) session delivery) is (delivered so));
+          (subst (λ (n : ℕ). DeliveredBy w.worded w.noted (Spares w.step) MAX_DEALT old.session (before, n) (after, room) session delivery) is (came so));
       sent = sent;
       more = more;
       kept = kept ∙ ap (λ (s : InForce). record old { socket = new.socket; session = s }) (sym same);
