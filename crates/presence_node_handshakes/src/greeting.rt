@@ -74,7 +74,7 @@ pub enum Greeted<S: Read + Write + Drop> {
 
 // What came of reading.
 #[derive(Drop)]
-enum Heard {
+enum Asked {
     /// The stream has nothing more, and the request isn't whole.
     Waits,
     /// It is whole, and this is sent for it.
@@ -147,11 +147,11 @@ fn reply_for<S: Read + Write + Drop, T: Tells, K: Keeper<S>>(
 }
 
 // What is sent where a request's head is longer than one may be.
-fn too_long<T: Tells, K>(alloc: Global, address: &IpAddr, front: &Front<'_, T, K>) -> Heard {
+fn too_long<T: Tells, K>(alloc: Global, address: &IpAddr, front: &Front<'_, T, K>) -> Asked {
     front.tells.answered(Answer::LongHead, address);
     match plain(alloc, Answer::LongHead, "", true) {
-        Ok(reply) => Heard::Whole(reply),
-        Err(_) => Heard::Ends,
+        Ok(reply) => Asked::Whole(reply),
+        Err(_) => Asked::Ends,
     }
 }
 
@@ -161,17 +161,17 @@ fn look_at<S: Read + Write + Drop, T: Tells, K: Keeper<S>>(
     head: &[u8],
     party: &mut Party<S>,
     front: &mut Front<'_, T, K>,
-) -> Heard
+) -> Asked
     ensures config { party.new.config ≡ party.old.config }
     ensures reads { party.new.empty_reads ≡ party.old.empty_reads }
 {
     match read_request(head) {
-        Parsed::Partial if head.len() < MAX_HEAD_BYTES => Heard::Waits,
+        Parsed::Partial if head.len() < MAX_HEAD_BYTES => Asked::Waits,
         Parsed::Partial | Parsed::Long => too_long(alloc, &party.address, front),
-        Parsed::Junk => Heard::Ends,
+        Parsed::Junk => Asked::Ends,
         Parsed::Whole(request) => match reply_for(alloc, head, &request, party, front) {
-            Ok(Some(reply)) => Heard::Whole(reply),
-            Ok(None) | Err(_) => Heard::Ends,
+            Ok(Some(reply)) => Asked::Whole(reply),
+            Ok(None) | Err(_) => Asked::Ends,
         },
     }
 }
@@ -182,14 +182,14 @@ fn look_behind<S: Read + Write + Drop, T: Tells, K: Keeper<S>>(
     bytes: &mut Vec<u8>,
     party: &mut Party<S>,
     front: &mut Front<'_, T, K>,
-) -> Heard
+) -> Asked
     ensures config { party.new.config ≡ party.old.config }
     ensures reads { party.new.empty_reads ≡ party.old.empty_reads }
 {
     match party.introduce(alloc, bytes) {
         Ok(true) => look_at(alloc, bytes.as_slice(), party, front),
-        Ok(false) => Heard::Waits,
-        Err(_) => Heard::Ends,
+        Ok(false) => Asked::Waits,
+        Err(_) => Asked::Ends,
     }
 }
 
@@ -199,7 +199,7 @@ fn read_on<S: Read + Write + Drop, T: Tells, K: Keeper<S>>(
     head: &mut Vec<u8>,
     party: &mut Party<S>,
     front: &mut Front<'_, T, K>,
-) -> Heard
+) -> Asked
     ensures config { party.new.config ≡ party.old.config }
     ensures reads { party.new.empty_reads ≡ party.old.empty_reads }
 {
@@ -207,20 +207,20 @@ fn read_on<S: Read + Write + Drop, T: Tells, K: Keeper<S>>(
     for _ in 0..=MAX_HEAD_BYTES {
         let most = PIECE_BYTES.min(MAX_HEAD_BYTES.saturating_sub(head.len()));
         let count = match party.stream.read(&mut piece[..most]) {
-            Ok(0) => return Heard::Ends,
+            Ok(0) => return Asked::Ends,
             Ok(count) => count,
-            Err(e) if e.kind() == ErrorKind::WouldBlock => return Heard::Waits,
-            Err(_) => return Heard::Ends,
+            Err(e) if e.kind() == ErrorKind::WouldBlock => return Asked::Waits,
+            Err(_) => return Asked::Ends,
         };
         if head.extend_from_slice(&piece[..count]).is_err() {
-            return Heard::Ends;
+            return Asked::Ends;
         }
         match look_behind(alloc, head, party, front) {
-            Heard::Waits => {}
+            Asked::Waits => {}
             ended => return ended,
         }
     }
-    Heard::Ends
+    Asked::Ends
 }
 
 // Sends what is left of a reply, until the stream takes no more.
@@ -359,9 +359,9 @@ impl<S: Read + Write + Drop> Greeting<S> {
             Stage::Closes(left) => return Greeting::closing(party, left),
         };
         match read_on(alloc, &mut head, &mut party, front) {
-            Heard::Waits => Greeting::waiting(party, Stage::Reads(head)),
-            Heard::Whole(reply) => Greeting::sending(alloc, party, reply, front),
-            Heard::Ends => Greeted::GivenUp(GivenUp::Failed, party.address),
+            Asked::Waits => Greeting::waiting(party, Stage::Reads(head)),
+            Asked::Whole(reply) => Greeting::sending(alloc, party, reply, front),
+            Asked::Ends => Greeted::GivenUp(GivenUp::Failed, party.address),
         }
     }
 }

@@ -2,12 +2,13 @@
 use Rattle.std.specs.Prelude.{ℕ, Bool, false, true, cond, ◌==◌, List, [], ◌∷◌, ◌++◌, Option, None, Some, codes, decimal, string_bytes}
 use Rattle.presence_node_options.specs.declared.options.ServeOptions.{ServeOptions}
 
--- a colon is among the bytes
+-- a colon is among the bytes, and no bracket before it
 abbrev pub has_colon : List ℕ → Bool
 has_colon [] = false
-has_colon (b ∷ bs) = cond (b == 58) true (has_colon bs)
+has_colon (b ∷ bs) = cond (b == 58) true (cond (b == 91) false (has_colon bs))
 
--- an address as it stands in front of a port: one of IPv6 between brackets (RFC 3986, section 3.2.2)
+-- an address as it stands in front of a port: one of IPv6 between brackets (RFC 3986, section 3.2.2), where
+-- it may stand already
 abbrev pub host_text : List ℕ → List ℕ
 host_text address = cond (has_colon address) (codes "[" ++ (address ++ codes "]")) address
 

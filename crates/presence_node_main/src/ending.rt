@@ -118,6 +118,7 @@ fn no_port_at(alloc: Global, option: &str, address: &str, port: u16) -> Result<S
 }
 
 // What is told of the end of a run of these options.
+#[tactic(auto, using(crate::proofs::Places::other_end))]
 fn serve_line(
     alloc: Global,
     end: ServeEnd,

@@ -1,7 +1,7 @@
 -- Why a server's options are refused, from what was looked at before.
 use Rattle.std.proofs.Common.{◌≡◌, ◌⊎◌, inl, inr, ℕ, List, IsTrue, false, subst, sym}
 use Rattle.clap.specs.Words.{Row}
-use Rattle.presence_node_options.specs.Given.{AllArePeers, AreFewOrigins, AreFewPatterns, AreHandshakes, AreOtherPeers, ArePeers, ArePorts, AreShards, AreWorkers, IsEdgeWrong, IsFor, IsLinkVersion, IsNamed, IsNode, IsPerAddress, IsServedWrong, name_given, origins_given, patterns_given, peers_given}
+use Rattle.presence_node_options.specs.Given.{AllArePeers, AreFewOrigins, AreFewPatterns, AreHandshakes, AreLinkFrom, AreOtherPeers, AreProxies, IsFrugal, IsUntold, IsWasteful, ArePeers, ArePorts, AreShards, AreWorkers, IsEdgeWrong, IsFor, IsLinkVersion, IsNamed, IsNode, IsPerAddress, IsServedWrong, name_given, origins_given, patterns_given, peers_given}
 use Rattle.presence_node_options.specs.declared.fault.UsageCause.TheVariants.{Words, Name, Incarnation, Route, Port, LinkPort, Shards, Workers, LinkVersion, Peer, Origin, PerAddress, HandshakesPerSecond, PeerName, Proxy, LinkFrom, MemoryLimit, TopicRows, TopicBytes, Log, LogFormat, MetricsPort}
 use Rattle.presence_node_options.specs.Limits.{AreRoutes, are_others, numbered}
 use Rattle.presence_node_options.specs.declared.options.PeerOption.{PeerOption}
@@ -100,3 +100,55 @@ pub edge_refused : (rows : List Row) (name : List ℕ) (routes : List (List ℕ 
 edge_refused rows name routes peers fault wrong others is are routed within named ports shards workers version all origins clients handshakes =
     edge_wrong rows fault (node_of rows routes named ports shards workers version all origins clients handshakes routed within)
     (others_of rows name peers is are others) wrong
+
+-- what is told, or taken, wrongly is wrong of what stands beside the node itself
+pub untold_edge : (rows : List Row) (fault : UsageFault) → AreProxies rows → AreLinkFrom rows → IsFrugal rows → IsUntold rows fault
+    → IsEdgeWrong rows fault
+untold_edge rows (Usage Words text) proxies links frugal wrong = (proxies, links, inr (frugal, wrong))
+untold_edge rows (Usage Name text) proxies links frugal wrong = (proxies, links, inr (frugal, wrong))
+untold_edge rows (Usage Incarnation text) proxies links frugal wrong = (proxies, links, inr (frugal, wrong))
+untold_edge rows (Usage Route text) proxies links frugal wrong = (proxies, links, inr (frugal, wrong))
+untold_edge rows (Usage Port text) proxies links frugal wrong = (proxies, links, inr (frugal, wrong))
+untold_edge rows (Usage LinkPort text) proxies links frugal wrong = (proxies, links, inr (frugal, wrong))
+untold_edge rows (Usage Shards text) proxies links frugal wrong = (proxies, links, inr (frugal, wrong))
+untold_edge rows (Usage Workers text) proxies links frugal wrong = (proxies, links, inr (frugal, wrong))
+untold_edge rows (Usage LinkVersion text) proxies links frugal wrong = (proxies, links, inr (frugal, wrong))
+untold_edge rows (Usage Peer text) proxies links frugal wrong = (proxies, links, inr (frugal, wrong))
+untold_edge rows (Usage Origin text) proxies links frugal wrong = (proxies, links, inr (frugal, wrong))
+untold_edge rows (Usage PerAddress text) proxies links frugal wrong = (proxies, links, inr (frugal, wrong))
+untold_edge rows (Usage HandshakesPerSecond text) proxies links frugal wrong = (proxies, links, inr (frugal, wrong))
+untold_edge rows (Usage PeerName text) proxies links frugal wrong = (proxies, links, inr (frugal, wrong))
+untold_edge rows (Usage Proxy text) proxies links frugal wrong = absurd wrong
+untold_edge rows (Usage LinkFrom text) proxies links frugal wrong = absurd wrong
+untold_edge rows (Usage MemoryLimit text) proxies links frugal wrong = (proxies, links, inr (frugal, wrong))
+untold_edge rows (Usage TopicRows text) proxies links frugal wrong = (proxies, links, inr (frugal, wrong))
+untold_edge rows (Usage TopicBytes text) proxies links frugal wrong = (proxies, links, inr (frugal, wrong))
+untold_edge rows (Usage Log text) proxies links frugal wrong = (proxies, links, inr (frugal, wrong))
+untold_edge rows (Usage LogFormat text) proxies links frugal wrong = (proxies, links, inr (frugal, wrong))
+untold_edge rows (Usage MetricsPort text) proxies links frugal wrong = (proxies, links, inr (frugal, wrong))
+untold_edge rows Memory proxies links frugal wrong = tt
+
+pub wasteful_edge : (rows : List Row) (fault : UsageFault) → AreProxies rows → AreLinkFrom rows → IsWasteful rows fault → IsEdgeWrong rows fault
+wasteful_edge rows (Usage Words text) proxies links wrong = (proxies, links, inl wrong)
+wasteful_edge rows (Usage Name text) proxies links wrong = (proxies, links, inl wrong)
+wasteful_edge rows (Usage Incarnation text) proxies links wrong = (proxies, links, inl wrong)
+wasteful_edge rows (Usage Route text) proxies links wrong = (proxies, links, inl wrong)
+wasteful_edge rows (Usage Port text) proxies links wrong = (proxies, links, inl wrong)
+wasteful_edge rows (Usage LinkPort text) proxies links wrong = (proxies, links, inl wrong)
+wasteful_edge rows (Usage Shards text) proxies links wrong = (proxies, links, inl wrong)
+wasteful_edge rows (Usage Workers text) proxies links wrong = (proxies, links, inl wrong)
+wasteful_edge rows (Usage LinkVersion text) proxies links wrong = (proxies, links, inl wrong)
+wasteful_edge rows (Usage Peer text) proxies links wrong = (proxies, links, inl wrong)
+wasteful_edge rows (Usage Origin text) proxies links wrong = (proxies, links, inl wrong)
+wasteful_edge rows (Usage PerAddress text) proxies links wrong = (proxies, links, inl wrong)
+wasteful_edge rows (Usage HandshakesPerSecond text) proxies links wrong = (proxies, links, inl wrong)
+wasteful_edge rows (Usage PeerName text) proxies links wrong = (proxies, links, inl wrong)
+wasteful_edge rows (Usage Proxy text) proxies links wrong = absurd wrong
+wasteful_edge rows (Usage LinkFrom text) proxies links wrong = absurd wrong
+wasteful_edge rows (Usage MemoryLimit text) proxies links wrong = (proxies, links, inl wrong)
+wasteful_edge rows (Usage TopicRows text) proxies links wrong = (proxies, links, inl wrong)
+wasteful_edge rows (Usage TopicBytes text) proxies links wrong = (proxies, links, inl wrong)
+wasteful_edge rows (Usage Log text) proxies links wrong = (proxies, links, inl wrong)
+wasteful_edge rows (Usage LogFormat text) proxies links wrong = (proxies, links, inl wrong)
+wasteful_edge rows (Usage MetricsPort text) proxies links wrong = (proxies, links, inl wrong)
+wasteful_edge rows Memory proxies links wrong = tt

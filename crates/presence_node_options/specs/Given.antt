@@ -93,11 +93,6 @@ listen_given rows = unwrap_or (first_of (codes "listen") rows) (codes "127.0.0.1
 abbrev pub link_listen_given : List Row → Text
 link_listen_given rows = unwrap_or (first_of (codes "link-listen") rows) (codes "127.0.0.1")
 
--- the address that a text names, which may stand between brackets
-abbrev pub NamesAddress : Text → Text → Type 0
-NamesAddress text address = (text ≡ 91 ∷ (address ++ 93 ∷ []))
-    ⊎ ((address ≡ text) × ((inner : Text) → text ≡ 91 ∷ (inner ++ 93 ∷ []) → ⊥))
-
 -- the origins that are given, in their order
 abbrev pub origins_given : List Row → List Text
 origins_given rows = unwrap_or (all_of (codes "origin") rows) []
@@ -272,8 +267,8 @@ pub record IsServed (rows : List Row) (o : ServeOptions) : Type 0 where
   pub workers : o.workers ≡ number_in (workers_given rows)
   pub link_version : o.link_version ≡ number_in (link_version_given rows)
   pub peers : ArePeers (peers_given rows) o.peers.items
-  pub listen : NamesAddress (listen_given rows) (string_bytes o.listen)
-  pub link_listen : NamesAddress (link_listen_given rows) (string_bytes o.link_listen)
+  pub listen : string_bytes o.listen ≡ listen_given rows
+  pub link_listen : string_bytes o.link_listen ≡ link_listen_given rows
   pub origins : map string_bytes o.origins.items ≡ origins_given rows
   pub per_address : o.per_address ≡ option_map number_in (per_address_given rows)
   pub handshakes_per_second : o.handshakes_per_second ≡ option_map number_in (handshakes_given rows)

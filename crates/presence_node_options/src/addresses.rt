@@ -1,6 +1,6 @@
 //! Addresses of machines as they are given.
 ghost use Rattle.std.specs.Prelude.{◌≡◌, ◌≤◌, IfOk, IfErr, OnOk, MatchOption, length, map, string_bytes, vec_len};
-ghost use Rattle.presence_node_options.specs.Given.{AreFewAddresses, HasCause, IsAddressText, IsFor, NamesAddress, WriteAddresses, WritesAddress};
+ghost use Rattle.presence_node_options.specs.Given.{AreFewAddresses, HasCause, IsAddressText, IsFor, WriteAddresses, WritesAddress};
 
 use crate::fault::{UsageCause, UsageFault};
 use crate::values::usage_of;
@@ -15,21 +15,12 @@ pub(crate) struct AddressRule<'a> {
     pub most: usize,
 }
 
-// What the text names between brackets, if it stands there.
-fn between_brackets(text: &str) -> Option<&str> {
-    let Some(inner) = text.strip_prefix('[') else {
-        return None;
-    };
-    inner.strip_suffix(']')
-}
-
-/// The address that a text names, which may stand between brackets.
+/// The text of an address.
 pub(crate) fn listen_of(alloc: Global, text: &str) -> Result<String, UsageFault>
-    ensures text { IfOk result (λ address. NamesAddress text.now (string_bytes address)) }
+    ensures text { IfOk result (λ address. string_bytes address ≡ text.now) }
     ensures cause { IfErr result (λ fault. fault ≡ UsageFault.Memory) }
 {
-    let address = between_brackets(text).unwrap_or(text);
-    match String::from_str(alloc, address) {
+    match String::from_str(alloc, text) {
         Ok(address) => Ok(address),
         Err(_) => Err(UsageFault::Memory),
     }

@@ -313,6 +313,7 @@ fn reports_of(alloc: Global, matches: &ArgMatches<'_>) -> Result<Reports, UsageF
 }
 
 // What stands beside the node itself.
+#[tactic(auto, using(crate::proofs::Serving::untold_edge, crate::proofs::Serving::wasteful_edge))]
 fn edge_of(alloc: Global, matches: &ArgMatches<'_>) -> Result<Edge, UsageFault>
     ensures given { IfOk result (IsEdge (rows_of (found_of matches.now))) }
     ensures limits { IfOk result IsEdgeWithin }

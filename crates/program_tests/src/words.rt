@@ -111,10 +111,14 @@ fn a_server_without_options(rt: HostRuntime) -> Result<(), Fail> {
     assert_eq!(rt; plain.link_listen.as_str(), "127.0.0.1");
     assert!(rt; plain.incarnation.is_none() && plain.origins.is_empty());
     assert!(rt; plain.per_address.is_none() && plain.handshakes_per_second.is_none());
-    assert!(rt; plain.link_port.is_none() && plain.proxies.is_empty() && plain.link_from.is_empty());
+    assert!(rt;
+        plain.link_port.is_none() && plain.proxies.is_empty() && plain.link_from.is_empty()
+    );
     assert!(rt; plain.budgets.memory.is_none());
     assert!(rt; (plain.budgets.topic_rows, plain.budgets.topic_bytes) == (65_536, 8_388_608));
-    assert!(rt; (plain.reports.logged, plain.reports.format) == (Logged::Refusals, LineFormat::Plain));
+    assert!(rt;
+        (plain.reports.logged, plain.reports.format) == (Logged::Refusals, LineFormat::Plain)
+    );
     assert!(rt; plain.reports.metrics_port.is_none());
     Ok(())
 }
@@ -136,9 +140,13 @@ fn ports_of_links(rt: HostRuntime) -> Result<(), Fail> {
 // Two peers of one name are none.
 #[test]
 fn peers_of_one_name(rt: HostRuntime) {
-    let words = ["p", "serve", "--peer", "b=b:1", "--peer", "c=c:1", "--peer", "b=d:1"];
+    let words = [
+        "p", "serve", "--peer", "b=b:1", "--peer", "c=c:1", "--peer", "b=d:1",
+    ];
     assert!(rt; cause_for(rt.alloc(), words.as_slice()) == Some(UsageCause::PeerName));
-    let words = ["p", "serve", "--name", "b", "--peer", "a=a:1", "--peer", "b=b:1"];
+    let words = [
+        "p", "serve", "--name", "b", "--peer", "a=a:1", "--peer", "b=b:1",
+    ];
     assert!(rt; cause_for(rt.alloc(), words.as_slice()) == Some(UsageCause::PeerName));
 }
 
@@ -163,7 +171,7 @@ fn addresses_of_proxies_and_links(rt: HostRuntime) -> Result<(), Fail> {
     assert!(rt; options.proxies[0] == IpAddr::from([10_u8, 0, 0, 5]));
     assert!(rt; options.proxies[1] == IpAddr::from([0xfd00_u16, 0, 0, 0, 0, 0, 0, 5]));
     assert!(rt; options.link_from[0] == IpAddr::from([10_u8, 0, 0, 6]));
-    assert_eq!(rt; options.listen.as_str(), "::1");
+    assert_eq!(rt; options.listen.as_str(), "[::1]");
     Ok(())
 }
 
@@ -190,7 +198,9 @@ fn budgets_and_reports(rt: HostRuntime) -> Result<(), Fail> {
     };
     assert!(rt; options.budgets.memory == Some(512));
     assert!(rt; (options.budgets.topic_rows, options.budgets.topic_bytes) == (1_000, 1_024));
-    assert!(rt; (options.reports.logged, options.reports.format) == (Logged::Everything, LineFormat::Json));
+    assert!(rt;
+        (options.reports.logged, options.reports.format) == (Logged::Everything, LineFormat::Json)
+    );
     assert!(rt; options.reports.metrics_port == Some(9_100));
     Ok(())
 }

@@ -5,13 +5,16 @@ ghost use Rattle.presence_node_main.specs.Place.{has_colon, host_text, links_tex
 use presence_node_options::ServeOptions;
 use std::alloc::{AllocError, Global};
 
-// Whether a colon is among the bytes.
+// Whether a colon is among the bytes, and no bracket before it.
 fn has_colon(bytes: &[u8]) -> bool
     ensures { result ≡ has_colon bytes.now }
 {
     for byte in bytes {
         if *byte == b':' {
             return true;
+        }
+        if *byte == b'[' {
+            return false;
         }
     }
     false

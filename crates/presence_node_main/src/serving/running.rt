@@ -156,19 +156,28 @@ fn metrics_port_refused(port: u16, kind: ErrorKind) -> ServeEnd
     }
 }
 
+// An address that may stand between brackets, without them.
+fn bare(address: &str) -> &str {
+    match address.strip_prefix('[') {
+        Some(rest) => rest.strip_suffix(']').unwrap_or(address),
+        None => address,
+    }
+}
+
 // What listens for clients, or the end of a run that can't have it.
 fn clients_for<R>(rt: &R, options: &ServeOptions) -> Result<TcpListener, ServeEnd>
 where
     R: Net<Listener = TcpListener, Stream = TcpStream>,
     ensures { IfErr result (λ end. IsEndFor options.now end) }
 {
-    match listen(rt, options.listen.as_str(), options.port) {
+    match listen(rt, bare(options.listen.as_str()), options.port) {
         Ok(clients) => Ok(clients),
         Err(e) => Err(port_refused(options, e.kind())),
     }
 }
 
 // What listens for links, if they have a port, or the end of a run that can't have it.
+#[tactic(auto, using(crate::proofs::Places::link_end))]
 fn links_at<R>(rt: &R, options: &ServeOptions) -> Result<Option<TcpListener>, ServeEnd>
 where
     R: Net<Listener = TcpListener, Stream = TcpStream>,
@@ -177,13 +186,14 @@ where
     let Some(port) = options.link_port else {
         return Ok(None);
     };
-    match listen(rt, options.link_listen.as_str(), port) {
+    match listen(rt, bare(options.link_listen.as_str()), port) {
         Ok(links) => Ok(Some(links)),
         Err(e) => Err(link_port_refused(port, e.kind())),
     }
 }
 
 // What listens for who asks for metrics alone, if these have a port, or the end of a run that can't have it.
+#[tactic(auto, using(crate::proofs::Places::metrics_end))]
 fn metrics_at<R>(rt: &R, options: &ServeOptions) -> Result<Option<TcpListener>, ServeEnd>
 where
     R: Net<Listener = TcpListener, Stream = TcpStream>,
@@ -192,7 +202,7 @@ where
     let Some(port) = options.reports.metrics_port else {
         return Ok(None);
     };
-    match listen(rt, options.link_listen.as_str(), port) {
+    match listen(rt, bare(options.link_listen.as_str()), port) {
         Ok(metrics) => Ok(Some(metrics)),
         Err(e) => Err(metrics_port_refused(port, e.kind())),
     }
