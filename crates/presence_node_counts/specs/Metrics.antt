@@ -1,5 +1,5 @@
 -- What `/metrics` tells: each family's lines, in their order.
-use Rattle.std.specs.Prelude.{ℕ, List, [], ◌∷◌, codes, Bool, true, false}
+use Rattle.std.specs.Prelude.{ℕ, List, [], ◌∷◌, codes, Bool, if◌then◌else◌}
 use Rattle.presence_node_counts.specs.declared.told.AnswersTold.{AnswersTold}
 use Rattle.presence_node_counts.specs.declared.told.EndsTold.{EndsTold}
 use Rattle.presence_node_counts.specs.declared.told.LinksTold.{LinksTold}
@@ -333,10 +333,10 @@ waiting_behind text t =
     with_named (with_count text UNDER_WAY t.under_way)
     GIVEN_UP ((codes "failed", t.failed) ∷ (codes "silent", t.silent) ∷ [])
 
-abbrev pub connections_behind : List ℕ → ServerTold → List ℕ
+unfoldable pub connections_behind : List ℕ → ServerTold → List ℕ
 connections_behind text t = waiting_behind (taken_behind text t) t
 
-abbrev pub requests_behind : List ℕ → AnswersTold → List ℕ
+unfoldable pub requests_behind : List ℕ → AnswersTold → List ℕ
 requests_behind text a = with_named text REQUESTS (
     (codes "socket", a.sockets) ∷ (codes "page", a.pages) ∷ (codes "health", a.health)
     ∷ (codes "metrics", a.metrics) ∷ (codes "bad_request", a.bad_requests) ∷ (codes "forbidden", a.forbidden)
@@ -345,23 +345,23 @@ requests_behind text a = with_named text REQUESTS (
     ∷ (codes "long_body", a.long_body) ∷ (codes "elsewhere", a.elsewhere) ∷ (codes "unwell", a.unwell)
     ∷ (codes "full", a.full) ∷ (codes "crowded", a.crowded) ∷ (codes "hasty", a.hasty) ∷ [])
 
-abbrev pub ends_behind : List ℕ → EndsTold → List ℕ
+unfoldable pub ends_behind : List ℕ → EndsTold → List ℕ
 ends_behind text e = with_named text ENDED (
     (codes "1000", e.normal) ∷ (codes "1001", e.away) ∷ (codes "1003", e.unsupported) ∷ (codes "1008", e.policy)
     ∷ (codes "1009", e.size) ∷ (codes "1011", e.error) ∷ (codes "client", e.client) ∷ (codes "stream", e.stream) ∷ [])
 
-abbrev pub accepted_behind : List ℕ → Tally → List ℕ
+unfoldable pub accepted_behind : List ℕ → Tally → List ℕ
 accepted_behind text c = with_named text CALLS (
     (codes "join", c.joins) ∷ (codes "leave", c.leaves) ∷ (codes "track", c.tracks) ∷ (codes "update", c.updates)
     ∷ (codes "untrack", c.untracks) ∷ (codes "list", c.lists) ∷ (codes "get", c.gets) ∷ (codes "shout", c.shouts) ∷ [])
 
-abbrev pub refusals_behind : List ℕ → Tally → List ℕ
-refusals_behind text c = with_named (with_count text REFUSED c.refused) REFUSALS (
+unfoldable pub refusals_behind : List ℕ → Tally → List ℕ
+refusals_behind text c = with_named text REFUSALS (
     (codes "already_tracked", c.already_tracked) ∷ (codes "no_presence", c.no_presence) ∷ (codes "full", c.full)
     ∷ (codes "journal_full", c.journal_full) ∷ (codes "no_memory", c.no_memory) ∷ (codes "others", c.others) ∷ [])
 
-abbrev pub calls_behind : List ℕ → Tally → List ℕ
-calls_behind text c = with_named (refusals_behind (accepted_behind text c) c)
+unfoldable pub calls_behind : List ℕ → Tally → List ℕ
+calls_behind text c = with_named (refusals_behind (with_count (accepted_behind text c) REFUSED c.refused) c)
     DELIVERIES ((codes "state", c.states) ∷ (codes "diff", c.diffs) ∷ (codes "shout", c.shouts_told) ∷ [])
 
 abbrev pub open_behind : List ℕ → ServerTold → List ℕ
@@ -370,17 +370,17 @@ open_behind text t = with_count (with_count (with_count text SOCKETS t.handed_on
 abbrev pub joined_behind : List ℕ → ServerTold → List ℕ
 joined_behind text t = with_count (with_count text PLACES t.joined) JOINED t.joined
 
-abbrev pub sessions_behind : List ℕ → ServerTold → List ℕ
+unfoldable pub sessions_behind : List ℕ → ServerTold → List ℕ
 sessions_behind text t = calls_behind (joined_behind (ends_behind (open_behind text t) t.ends) t) t.calls
 
-abbrev pub seats_behind : List ℕ → ServerTold → List ℕ
+unfoldable pub seats_behind : List ℕ → ServerTold → List ℕ
 seats_behind text t = with_count (with_count text CLIENTS t.clients) CLIENTS_MAX t.clients_max
 
-abbrev pub clients_behind : List ℕ → ServerTold → List ℕ
+unfoldable pub clients_behind : List ℕ → ServerTold → List ℕ
 clients_behind text t =
     sessions_behind (seats_behind (requests_behind (connections_behind text t) t.answers) t) t
 
-abbrev pub checkpoints_behind : List ℕ → ServerTold → List ℕ
+unfoldable pub checkpoints_behind : List ℕ → ServerTold → List ℕ
 checkpoints_behind text t =
     with_named text CHECKPOINTS ((codes "due", t.due_checkpoints) ∷ (codes "full", t.full_checkpoints) ∷ [])
 
@@ -393,10 +393,10 @@ link_words_behind text l = with_count (with_count (with_count text BEATS l.beats
 abbrev pub peers_behind : List ℕ → LinksTold → List ℕ
 peers_behind text l = with_count (with_count (with_count text PEERS l.peers) PEERS_UP l.peers_up) REBIRTHS l.rebirths
 
-abbrev pub links_behind : List ℕ → LinksTold → List ℕ
+unfoldable pub links_behind : List ℕ → LinksTold → List ℕ
 links_behind text l = peers_behind (link_words_behind (links_up_behind text l) l) l
 
-abbrev pub server_behind : List ℕ → ServerTold → List ℕ
+unfoldable pub server_behind : List ℕ → ServerTold → List ℕ
 server_behind text t = checkpoints_behind (clients_behind text t) t
 
 abbrev pub entries_behind : List ℕ → ShardsTold → List ℕ
@@ -423,28 +423,29 @@ shown_behind text s = topics_behind (rows_behind text s) s
 abbrev pub journals_behind : List ℕ → ShardsTold → List ℕ
 journals_behind text s = bytes_behind (entries_behind text s) s
 
-abbrev pub shards_behind : List ℕ → ShardsTold → List ℕ
+unfoldable pub shards_behind : List ℕ → ShardsTold → List ℕ
 shards_behind text s = shown_behind (journals_behind text s) s
 
-abbrev pub nodes_behind : List ℕ → ShardsTold → LinksTold → List ℕ
+unfoldable pub nodes_behind : List ℕ → ShardsTold → LinksTold → List ℕ
 nodes_behind text s l = links_behind (shards_behind text s) l
 
 -- yes is 1
 abbrev pub told_flag : Bool → ℕ
-told_flag true = 1
-told_flag false = 0
+told_flag b = if b then 1 else 0
 
-abbrev pub program_behind : List ℕ → ProcessTold → List ℕ
+unfoldable pub program_behind : List ℕ → ProcessTold → List ℕ
 program_behind text p = with_count (with_named text BUILD ((p.version.now, 1) ∷ [])) STARTED p.started
 
-abbrev pub memory_behind : List ℕ → ProcessTold → List ℕ
-memory_behind text p =
-    with_count (with_count (with_count text MEMORY p.memory) MEMORY_MAX p.memory_max) MEMORY_TIGHT (told_flag p.is_tight)
+unfoldable pub tight_behind : List ℕ → ProcessTold → List ℕ
+tight_behind text p = with_count text MEMORY_TIGHT (told_flag p.is_tight)
 
-abbrev pub files_behind : List ℕ → ProcessTold → List ℕ
+unfoldable pub memory_behind : List ℕ → ProcessTold → List ℕ
+memory_behind text p = tight_behind (with_count (with_count text MEMORY p.memory) MEMORY_MAX p.memory_max) p
+
+unfoldable pub files_behind : List ℕ → ProcessTold → List ℕ
 files_behind text p = with_count (with_count text FILES p.files) FILES_MAX p.files_max
 
-abbrev pub process_behind : List ℕ → ProcessTold → List ℕ
+unfoldable pub process_behind : List ℕ → ProcessTold → List ℕ
 process_behind text p = files_behind (memory_behind (program_behind text p) p) p
 
 -- all that is told

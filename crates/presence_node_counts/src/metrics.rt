@@ -1,7 +1,7 @@
 //! All counts as a text.
 ghost use Rattle.std.specs.Prelude.{◌≡◌, IfOk, string_bytes};
 ghost use Rattle.presence_node_counts.specs.Lines.{Leaves};
-ghost use Rattle.presence_node_counts.specs.Metrics.{accepted_behind, bytes_behind, calls_behind, checkpoints_behind, clients_behind, connections_behind, ends_behind, entries_behind, files_behind, joined_behind, journals_behind, link_words_behind, links_behind, links_up_behind, memory_behind, metrics_lines, nodes_behind, open_behind, other_rows_behind, own_rows_behind, peers_behind, process_behind, program_behind, refusals_behind, requests_behind, rows_behind, seats_behind, server_behind, sessions_behind, shards_behind, shown_behind, taken_behind, topics_behind, waiting_behind};
+ghost use Rattle.presence_node_counts.specs.Metrics.{accepted_behind, bytes_behind, calls_behind, checkpoints_behind, clients_behind, connections_behind, ends_behind, entries_behind, files_behind, joined_behind, journals_behind, link_words_behind, links_behind, links_up_behind, memory_behind, metrics_lines, nodes_behind, open_behind, other_rows_behind, own_rows_behind, peers_behind, process_behind, program_behind, refusals_behind, requests_behind, rows_behind, seats_behind, server_behind, sessions_behind, shards_behind, shown_behind, taken_behind, tight_behind, told_flag, topics_behind, waiting_behind};
 
 use crate::families::*;
 use crate::text::{count_text, named_text, numbered_text};
@@ -40,6 +40,7 @@ fn waiting_text(alloc: Global, text: &mut String, told: &ServerTold) -> Result<(
 }
 
 // The connections, and what became of them.
+#[tactic(auto, unfolding(crate::specs::Metrics::connections_behind))]
 fn connections_text(alloc: Global, text: &mut String, told: &ServerTold) -> Result<(), AllocError>
     ensures { Leaves (string_bytes text.new) (connections_behind (string_bytes text.old) told.now) result }
 {
@@ -48,6 +49,7 @@ fn connections_text(alloc: Global, text: &mut String, told: &ServerTold) -> Resu
 }
 
 // The requests, by their answers.
+#[tactic(auto, unfolding(crate::specs::Metrics::requests_behind))]
 fn requests_text(alloc: Global, text: &mut String, answers: &AnswersTold) -> Result<(), AllocError>
     ensures { Leaves (string_bytes text.new) (requests_behind (string_bytes text.old) answers.now) result }
 {
@@ -78,6 +80,7 @@ fn requests_text(alloc: Global, text: &mut String, answers: &AnswersTold) -> Res
 }
 
 // The sessions, and how they ended.
+#[tactic(auto, unfolding(crate::specs::Metrics::ends_behind))]
 fn ends_text(alloc: Global, text: &mut String, ends: &EndsTold) -> Result<(), AllocError>
     ensures { Leaves (string_bytes text.new) (ends_behind (string_bytes text.old) ends.now) result }
 {
@@ -99,6 +102,7 @@ fn ends_text(alloc: Global, text: &mut String, ends: &EndsTold) -> Result<(), Al
 }
 
 // The accepted calls of sessions.
+#[tactic(auto, unfolding(crate::specs::Metrics::accepted_behind))]
 fn accepted_text(alloc: Global, text: &mut String, calls: &Tally) -> Result<(), AllocError>
     ensures { Leaves (string_bytes text.new) (accepted_behind (string_bytes text.old) calls.now) result }
 {
@@ -120,10 +124,10 @@ fn accepted_text(alloc: Global, text: &mut String, calls: &Tally) -> Result<(), 
 }
 
 // The refused calls of sessions, by why.
+#[tactic(auto, unfolding(crate::specs::Metrics::refusals_behind))]
 fn refusals_text(alloc: Global, text: &mut String, calls: &Tally) -> Result<(), AllocError>
     ensures { Leaves (string_bytes text.new) (refusals_behind (string_bytes text.old) calls.now) result }
 {
-    count_text(alloc, text, &REFUSED, calls.refused)?;
     named_text(
         alloc,
         text,
@@ -140,10 +144,12 @@ fn refusals_text(alloc: Global, text: &mut String, calls: &Tally) -> Result<(), 
 }
 
 // The calls of sessions, and what they were delivered.
+#[tactic(auto, unfolding(crate::specs::Metrics::calls_behind))]
 fn calls_text(alloc: Global, text: &mut String, calls: &Tally) -> Result<(), AllocError>
     ensures { Leaves (string_bytes text.new) (calls_behind (string_bytes text.old) calls.now) result }
 {
     accepted_text(alloc, text, calls)?;
+    count_text(alloc, text, &REFUSED, calls.refused)?;
     refusals_text(alloc, text, calls)?;
     named_text(
         alloc,
@@ -175,6 +181,7 @@ fn joined_text(alloc: Global, text: &mut String, told: &ServerTold) -> Result<()
 }
 
 // The sessions, and what they did.
+#[tactic(auto, unfolding(crate::specs::Metrics::sessions_behind))]
 fn sessions_text(alloc: Global, text: &mut String, told: &ServerTold) -> Result<(), AllocError>
     ensures { Leaves (string_bytes text.new) (sessions_behind (string_bytes text.old) told.now) result }
 {
@@ -185,6 +192,7 @@ fn sessions_text(alloc: Global, text: &mut String, told: &ServerTold) -> Result<
 }
 
 // The clients that there are, and may be.
+#[tactic(auto, unfolding(crate::specs::Metrics::seats_behind))]
 fn seats_text(alloc: Global, text: &mut String, told: &ServerTold) -> Result<(), AllocError>
     ensures { Leaves (string_bytes text.new) (seats_behind (string_bytes text.old) told.now) result }
 {
@@ -193,6 +201,7 @@ fn seats_text(alloc: Global, text: &mut String, told: &ServerTold) -> Result<(),
 }
 
 // The clients.
+#[tactic(auto, unfolding(crate::specs::Metrics::clients_behind))]
 fn clients_text(alloc: Global, text: &mut String, told: &ServerTold) -> Result<(), AllocError>
     ensures { Leaves (string_bytes text.new) (clients_behind (string_bytes text.old) told.now) result }
 {
@@ -203,6 +212,7 @@ fn clients_text(alloc: Global, text: &mut String, told: &ServerTold) -> Result<(
 }
 
 // The checkpoints, by why they were made.
+#[tactic(auto, unfolding(crate::specs::Metrics::checkpoints_behind))]
 fn checkpoints_text(alloc: Global, text: &mut String, told: &ServerTold) -> Result<(), AllocError>
     ensures { Leaves (string_bytes text.new) (checkpoints_behind (string_bytes text.old) told.now) result }
 {
@@ -245,6 +255,7 @@ fn peers_text(alloc: Global, text: &mut String, links: &LinksTold) -> Result<(),
 }
 
 // The links, and what went over them.
+#[tactic(auto, unfolding(crate::specs::Metrics::links_behind))]
 fn links_text(alloc: Global, text: &mut String, links: &LinksTold) -> Result<(), AllocError>
     ensures { Leaves (string_bytes text.new) (links_behind (string_bytes text.old) links.now) result }
 {
@@ -254,6 +265,7 @@ fn links_text(alloc: Global, text: &mut String, links: &LinksTold) -> Result<(),
 }
 
 // The clients, and the checkpoints.
+#[tactic(auto, unfolding(crate::specs::Metrics::server_behind))]
 fn server_text(alloc: Global, text: &mut String, told: &ServerTold) -> Result<(), AllocError>
     ensures { Leaves (string_bytes text.new) (server_behind (string_bytes text.old) told.now) result }
 {
@@ -321,6 +333,7 @@ fn journals_text(alloc: Global, text: &mut String, shards: &ShardsTold) -> Resul
 }
 
 // What there is at each shard.
+#[tactic(auto, unfolding(crate::specs::Metrics::shards_behind))]
 fn shards_text(alloc: Global, text: &mut String, shards: &ShardsTold) -> Result<(), AllocError>
     ensures { Leaves (string_bytes text.new) (shards_behind (string_bytes text.old) shards.now) result }
 {
@@ -329,6 +342,7 @@ fn shards_text(alloc: Global, text: &mut String, shards: &ShardsTold) -> Result<
 }
 
 // What there is at each shard, and the links.
+#[tactic(auto, unfolding(crate::specs::Metrics::nodes_behind))]
 fn nodes_text(
     alloc: Global,
     text: &mut String,
@@ -342,6 +356,7 @@ fn nodes_text(
 }
 
 // Which program it is, and since when.
+#[tactic(auto, unfolding(crate::specs::Metrics::program_behind))]
 fn program_text(alloc: Global, text: &mut String, process: &ProcessTold) -> Result<(), AllocError>
     ensures { Leaves (string_bytes text.new) (program_behind (string_bytes text.old) process.now) result }
 {
@@ -349,17 +364,33 @@ fn program_text(alloc: Global, text: &mut String, process: &ProcessTold) -> Resu
     count_text(alloc, text, &STARTED, process.started)
 }
 
-// Its memory.
-fn memory_text(alloc: Global, text: &mut String, process: &ProcessTold) -> Result<(), AllocError>
-    ensures { Leaves (string_bytes text.new) (memory_behind (string_bytes text.old) process.now) result }
+// Yes as a number.
+fn flag(is_so: bool) -> u64
+    ensures { result ≡ told_flag is_so }
 {
-    let is_tight = if process.is_tight { 1 } else { 0 };
-    count_text(alloc, text, &MEMORY, process.memory)?;
-    count_text(alloc, text, &MEMORY_MAX, process.memory_max)?;
+    if is_so { 1 } else { 0 }
+}
+
+// Whether it takes nothing more in.
+fn tight_text(alloc: Global, text: &mut String, process: &ProcessTold) -> Result<(), AllocError>
+    ensures { Leaves (string_bytes text.new) (tight_behind (string_bytes text.old) process.now) result }
+{
+    let is_tight = flag(process.is_tight);
     count_text(alloc, text, &MEMORY_TIGHT, is_tight)
 }
 
+// Its memory.
+#[tactic(auto, unfolding(crate::specs::Metrics::memory_behind))]
+fn memory_text(alloc: Global, text: &mut String, process: &ProcessTold) -> Result<(), AllocError>
+    ensures { Leaves (string_bytes text.new) (memory_behind (string_bytes text.old) process.now) result }
+{
+    count_text(alloc, text, &MEMORY, process.memory)?;
+    count_text(alloc, text, &MEMORY_MAX, process.memory_max)?;
+    tight_text(alloc, text, process)
+}
+
 // Its files.
+#[tactic(auto, unfolding(crate::specs::Metrics::files_behind))]
 fn files_text(alloc: Global, text: &mut String, process: &ProcessTold) -> Result<(), AllocError>
     ensures { Leaves (string_bytes text.new) (files_behind (string_bytes text.old) process.now) result }
 {
@@ -368,6 +399,7 @@ fn files_text(alloc: Global, text: &mut String, process: &ProcessTold) -> Result
 }
 
 // What the program is, and what it has of the machine.
+#[tactic(auto, unfolding(crate::specs::Metrics::process_behind))]
 fn process_text(alloc: Global, text: &mut String, process: &ProcessTold) -> Result<(), AllocError>
     ensures { Leaves (string_bytes text.new) (process_behind (string_bytes text.old) process.now) result }
 {
