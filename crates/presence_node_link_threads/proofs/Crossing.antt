@@ -32,6 +32,7 @@ use Rattle.presence_node_link_threads.specs.contracts.incoming.LinkDoor as LinkD
 use Rattle.presence_node_link_threads.specs.contracts.incoming.Waiting as Waiting
 use Rattle.presence_node_link_threads.specs.contracts.links.Links as Links
 use Rattle.presence_node_link_threads.specs.contracts.reading.LineBytes as LineBytes
+use Rattle.presence_node_link_threads.specs.contracts.reading.Readers as Readers
 use Rattle.presence_node_link_streams.specs.contracts.stopping.Stopping as Stopping
 use Rattle.presence_node_link_threads.specs.contracts.tallies.Tallies as Tallies
 use Rattle.presence_node_link_threads.specs.contracts.tasks.LinkTask as LinkTask
@@ -159,8 +160,11 @@ log_format_sync = search sendable depth 60 fits 20000
 tallies_sync : IsSync (Tallies.the_field).row
 tallies_sync = search (heap.crosses, sendable) depth 60 fits 20000
 
+readers_sync : IsSync (Readers.the_field).row
+readers_sync = search (line_send, fault_send, bytes_send, heap.crosses, sendable) depth 60 fits 20000
+
 pub links_sync : IsSync (Links.the_field).row
-links_sync = search (delta_send, delta_sync, form_sync, waiting_sync, book_send, name_sync, stopping_sync, bell_sync, tallies_sync, log_format_sync, life_send, line_send, fault_send, bytes_send, heap.crosses, sendable) depth 60 fits 20000
+links_sync = search (delta_send, delta_sync, form_sync, waiting_sync, book_send, name_sync, stopping_sync, bell_sync, tallies_sync, log_format_sync, life_send, readers_sync, heap.crosses, sendable) depth 60 fits 20000
 
 -- ---- what is given
 
@@ -171,7 +175,7 @@ watch_send : IsSend (Watch.the_field).row
 watch_send = search (heap.crosses, sendable) depth 60 fits 20000
 
 door_send : IsSend (LinkDoor.the_field).row
-door_send = search (watch_send, sendable) depth 60 fits 20000
+door_send = search (watch_send, heap.crosses, sendable) depth 60 fits 20000
 
 pub task_send : IsSend (LinkTask.the_field).row
 task_send = search (dialler_send, door_send, sendable) depth 60 fits 20000

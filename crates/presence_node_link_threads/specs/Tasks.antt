@@ -24,6 +24,6 @@ pub record Dials (name host : List ℕ) (port : ℕ) (old new : LinkTasks) : Typ
   pub its_host : string_bytes dialler.host ≡ host
   pub its_port : dialler.port ≡ port
   pub its_number : dialler.number ≡ length old.links.mailboxes.items
-  pub tasks_are : new.tasks.items ≡ old.tasks.items ++ Read (length old.links.readers.items) ∷ Dial dialler ∷ []
-  pub reader : length new.links.readers.items ≡ length old.links.readers.items + 1
+  pub tasks_are : new.tasks.items ≡ old.tasks.items ++ Read (length old.links.readers.all.items) ∷ Dial dialler ∷ []
+  pub reader : length new.links.readers.all.items ≡ length old.links.readers.all.items + 1
   pub mailbox : length new.links.mailboxes.items ≡ length old.links.mailboxes.items + 1

@@ -3,7 +3,7 @@ ghost use Rattle.std.specs.Prelude.{◌≤◌};
 
 use crate::book::{Begun, Book};
 use crate::incoming::Waiting;
-use crate::reading::Reader;
+use crate::reading::Readers;
 use crate::tallies::{LinkTallies, Tallies};
 use delta_range::Delta;
 use node_links::begins_anew;
@@ -57,7 +57,7 @@ pub struct Links {
     pub(crate) waiting: Waiting,
     /// Who reads the long lines of links that came in: the first those of nodes that aren't dialled, and one more for each node
     /// that is dialled, in their order.
-    pub(crate) readers: Vec<Reader>,
+    pub(crate) readers: Readers,
     pub(crate) book: Mutex<Book>,
     /// The time that was handed in last, in milliseconds.
     pub(crate) time: AtomicU64,
@@ -129,7 +129,7 @@ impl Links {
     pub fn stop<R: Wait>(&self, rt: &R) {
         self.stopping.stop(rt);
         self.waiting.end(rt);
-        for reader in self.readers.iter() {
+        for reader in self.readers.all.iter() {
             reader.end(rt);
         }
         self.bell.ring();

@@ -17,6 +17,12 @@ pub(crate) type LineRead = Result<Option<Line>, LinkFault>;
 /// others.
 pub(crate) type Reader = Clerk<LineBytes, LineRead>;
 
+/// The readers, by their numbers.
+#[derive(Drop)]
+pub(crate) struct Readers {
+    pub(crate) all: Vec<Reader>,
+}
+
 /// The bytes of a line as they came, and who hears it.
 pub(crate) struct LineBytes {
     bytes: Vec<u8>,
@@ -62,7 +68,7 @@ pub(crate) fn unread(error: &io::Error) -> LinkFault {
 
 /// Reads the long lines of one reader, one at a time, until the links are to end.
 pub(crate) fn read_long<R: Wait>(rt: &R, links: &Links, number: usize) {
-    let Some(reader) = links.readers.get(number) else {
+    let Some(reader) = links.readers.all.get(number) else {
         return;
     };
     for _ in rt.forever() {

@@ -355,7 +355,7 @@ impl<'a, R: Clock> Incoming<'a, R> {
         if !line.is_long() {
             return line.read(node.links.alloc);
         }
-        let Some(reader) = node.links.readers.get(self.reader) else {
+        let Some(reader) = node.links.readers.all.get(self.reader) else {
             return Err(LinkFault::ReadFailed);
         };
         if !self.asks(node, reader, line) {

@@ -8,7 +8,7 @@ use crate::book::Book;
 use crate::dialling::{Dialler, dial_one};
 use crate::incoming::{LISTENER, LinkDoor, Waiting};
 use crate::links::{Links, Wakes};
-use crate::reading::read_long;
+use crate::reading::{Readers, read_long};
 use crate::serving::serve_links;
 use crate::tallies::Tallies;
 use crate::ticking::tick;
@@ -139,9 +139,10 @@ impl LinkTasks {
         ensures dials { OnOk result (Dials name host.now port self.old self.new) }
     {
         let dialler = dialler_of(alloc, self.links.mailboxes.len(), name, host, port)?;
-        self.tasks.push(LinkTask::Read(self.links.readers.len()))?;
+        self.tasks
+            .push(LinkTask::Read(self.links.readers.all.len()))?;
         self.tasks.push(LinkTask::Dial(dialler))?;
-        self.links.readers.push(Clerk::new())?;
+        self.links.readers.all.push(Clerk::new())?;
         self.links.mailboxes.push(Mailbox::new(alloc))?;
         self.links.newest.push(AtomicU64::new(0))?;
         self.links.speak_two.push(AtomicBool::new(false))?;
@@ -205,12 +206,14 @@ pub fn tasks_for<R: Net>(
     ensures speaks { IfOk result (λ t. t.links.speaks ≡ form_of_version (Some node.version)) }
     ensures tasks { IfOk result (λ t. AreFirst MAX_LINKS t.tasks.items) }
     ensures dialled { IfOk result (λ t. t.links.mailboxes.items ≡ []) }
-    ensures reader { IfOk result (λ t. vec_len t.links.readers ≡ 1) }
+    ensures reader { IfOk result (λ t. vec_len t.links.readers.all ≡ 1) }
 {
     let (door, bell) = door_at(net, alloc, listener, from)?;
     let tasks = first_tasks(alloc, door)?;
-    let mut readers = Vec::new(alloc);
-    readers.push(Clerk::new())?;
+    let mut readers = Readers {
+        all: Vec::new(alloc),
+    };
+    readers.all.push(Clerk::new())?;
     let links = Links {
         alloc,
         format: node.format,
