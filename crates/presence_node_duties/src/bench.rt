@@ -509,6 +509,9 @@ impl<A: Lane, B: Lane, C: Lane, D: Lane> Bench<A, B, C, D> {
         }
         if let Some(due) = self.drain.made() {
             self.drain.end(self.now, due);
+            if server.memory.is_tight() {
+                self.drain.rest(self.now);
+            }
             set_draining(server, false);
             server.look();
             return;

@@ -63,12 +63,12 @@ struct Arrival {
 
 // Who knows the clients of each address, at this time.
 #[derive(Drop)]
-struct Reception<'n> {
-    neighbours: &'n mut Neighbours,
+struct Reception {
+    neighbours: Neighbours,
     now: u64,
 }
 
-impl Keeper<ClientSocket> for Reception<'_> {
+impl Keeper<ClientSocket> for Reception {
     fn standing_of(
         &mut self,
         alloc: Global,
@@ -245,11 +245,10 @@ impl Door {
         if is_proxy(proxies, &address) {
             return None;
         }
-        let mut reception = Reception {
-            neighbours: &mut self.neighbours,
-            now: self.looked,
-        };
-        Some(reception.standing_of(alloc, stream, address))
+        let mut reception = self.reception(alloc);
+        let standing = reception.standing_of(alloc, stream, address);
+        self.give_back(reception);
+        Some(standing)
     }
 
     // Watches a connection that was taken: its number.
@@ -460,6 +459,19 @@ impl Door {
         self.next = next_of(self.next, server.mailboxes.len());
     }
 
+    // Who knows the clients of each address, until it is given back.
+    fn reception(&mut self, alloc: Global) -> Reception {
+        Reception {
+            neighbours: self.neighbours.lend(alloc),
+            now: self.looked,
+        }
+    }
+
+    fn give_back(&mut self, reception: Reception) {
+        let Reception { neighbours, now: _ } = reception;
+        self.neighbours = neighbours;
+    }
+
     // Goes on with the handshakes, and answers what else is asked for: the sockets of those that are done.
     fn opened<R: Wait + Clock + Files + Eprint, H, A: Lane, B: Lane, C: Lane, D: Lane>(
         &mut self,
@@ -469,10 +481,7 @@ impl Door {
         let places = self.places_left();
         let has_metrics = self.entries.metrics.is_none();
         let pulse = Pulse { rt, server };
-        let mut reception = Reception {
-            neighbours: &mut self.neighbours,
-            now: self.looked,
-        };
+        let mut reception = self.reception(server.alloc);
         let mut front = Front {
             origins: server.origins,
             has_clients: true,
@@ -482,7 +491,9 @@ impl Door {
             tells: &pulse,
             keeper: &mut reception,
         };
-        self.guests.turn(server.alloc, &mut front)
+        let opened = self.guests.turn(server.alloc, &mut front);
+        self.give_back(reception);
+        opened
     }
 
     // Answers who asks for metrics alone.
@@ -492,10 +503,7 @@ impl Door {
         server: &Server<'_, H, A, B, C, D>,
     ) {
         let pulse = Pulse { rt, server };
-        let mut reception = Reception {
-            neighbours: &mut self.neighbours,
-            now: self.looked,
-        };
+        let mut reception = self.reception(server.alloc);
         let mut front = Front {
             origins: &[],
             has_clients: false,
@@ -506,6 +514,7 @@ impl Door {
             keeper: &mut reception,
         };
         let _opened = self.observers.turn(server.alloc, &mut front);
+        self.give_back(reception);
     }
 
     // Goes on with the handshakes, answers what else is asked for, and hands the connections on whose handshakes are

@@ -1,7 +1,7 @@
 //! Checkpoints at quiet moments: where a journal is nearly full the workers read nothing for a while and deliver what waits,
 //! so that the checkpoint leaves nothing out.
-ghost use Rattle.std.specs.Prelude.{◌<◌};
-ghost use Rattle.presence_node_duties.specs.Due.{IsDueBy};
+ghost use Rattle.std.specs.Prelude.{◌≡◌, ◌<◌};
+ghost use Rattle.presence_node_duties.specs.Due.{IsDueBy, due_entries as due_entries_in};
 
 use crate::server::Server;
 use presence_node_counts::Checkpoint;
@@ -11,6 +11,9 @@ use std::sync::atomic::Ordering;
 
 /// A journal with so many entries is due for a checkpoint: three quarters of those that it may have.
 const DUE_ENTRIES: u64 = 196_608;
+
+/// Where memory is tight one with so many is, so that what is gone is given back.
+const TIGHT_ENTRIES: u64 = 64;
 
 /// A journal whose entries keep so many bytes of texts is due too: three quarters of 64 MiB.
 const DUE_TEXT_BYTES: u64 = 50_331_648;
@@ -25,7 +28,7 @@ const MAX_DRAIN_MILLISECONDS: u64 = 100;
 /// When a worker has ended so many turns that read nothing, one of them was begun since they are counted.
 const WHOLE_TURNS: u64 = 2;
 
-/// Where memory was refused to a checkpoint the next one is tried so much later, in milliseconds.
+/// Where memory was refused to a checkpoint, or is tight, the next one is tried so much later, in milliseconds.
 const REST_MILLISECONDS: u64 = 1_000;
 
 /// What a worker knows of the next checkpoint.
@@ -100,8 +103,13 @@ impl Drain {
         self.leads = false;
         self.made = None;
         if due == Due::Refused {
-            self.looks = now.saturating_add(REST_MILLISECONDS);
+            self.rest(now);
         }
+    }
+
+    /// It lets the journals be for a while.
+    pub fn rest(&mut self, now: u64) {
+        self.looks = now.saturating_add(REST_MILLISECONDS);
     }
 
     // For how long it has read nothing.
@@ -131,6 +139,13 @@ impl Drain {
     }
 }
 
+// With how many entries a journal is due.
+fn due_entries(is_tight: bool) -> u64
+    ensures { result ≡ due_entries_in is_tight }
+{
+    if is_tight { TIGHT_ENTRIES } else { DUE_ENTRIES }
+}
+
 // Whether a shard's journal is due for a checkpoint.
 fn is_due_at<R: Wait, H, A: Lane, B: Lane, C: Lane, D: Lane>(
     rt: &R,
@@ -142,7 +157,7 @@ fn is_due_at<R: Wait, H, A: Lane, B: Lane, C: Lane, D: Lane>(
 {
     let entries = server.pool.entry_count(rt, shard);
     let bytes = server.pool.text_bytes(rt, shard);
-    entries >= DUE_ENTRIES || bytes >= DUE_TEXT_BYTES
+    entries >= due_entries(server.memory.is_tight()) || bytes >= DUE_TEXT_BYTES
 }
 
 /// Whether a journal is due for a checkpoint.
@@ -208,7 +223,7 @@ fn make_at<R: Wait, H, A: Lane, B: Lane, C: Lane, D: Lane>(
         true
     } else {
         let due = DueFrom {
-            entries: DUE_ENTRIES,
+            entries: due_entries(server.memory.is_tight()),
             text_bytes: DUE_TEXT_BYTES,
         };
         server

@@ -14,6 +14,7 @@ pub fn limits_are_these()
     ensures sweep { SWEEP_MILLISECONDS ≡ 2000 }
     ensures trim { TRIM_TURNS ≡ 1024 }
     ensures due { draining.DUE_ENTRIES ≡ 196608 }
+    ensures due_where_tight { draining.TIGHT_ENTRIES ≡ 64 }
     ensures due_texts { draining.DUE_TEXT_BYTES ≡ 50331648 }
     ensures journal_look { draining.LOOK_MILLISECONDS ≡ 5 }
     ensures drain { draining.MAX_DRAIN_MILLISECONDS ≡ 100 }

@@ -2,6 +2,7 @@
 use presence_node_client_streams::{Ticket, TicketCount};
 use presence_node_handshakes::{Admission, Pace, counted_by, is_near};
 use std::alloc::{AllocError, Global};
+use std::mem;
 use std::net::IpAddr;
 
 /// How many handshakes a second clients of one address have beyond a burst, where nothing else is asked for.
@@ -65,6 +66,16 @@ impl Neighbours {
             limits,
             places,
         }
+    }
+
+    /// All of them, until they are given back. What stays knows nobody.
+    pub(crate) fn lend(&mut self, alloc: Global) -> Neighbours {
+        let nobody = Neighbours {
+            all: Vec::new(alloc),
+            limits: self.limits,
+            places: self.places,
+        };
+        mem::replace(self, nobody)
     }
 
     // How many clients of an address may be here.

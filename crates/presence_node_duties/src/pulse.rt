@@ -60,6 +60,9 @@ fn links_of(links: &Links) -> LinksTold {
         beats: tallies.beats,
         wants: tallies.wants,
         refused: tallies.refused,
+        peers: tallies.peers,
+        peers_up: tallies.peers_up,
+        rebirths: tallies.rebirths,
     }
 }
 
