@@ -1,7 +1,10 @@
 //! How many rows one connection may have, how many those of a node may have at one topic, and how many bytes they may take:
 //! over a port to a shard.
+ghost use Rattle.std.specs.Prelude.{IsTrue, IfSome};
+ghost use Rattle.presence_journal.specs.Limits.{is_payload};
 
-use presence_base::{Json, Key, Meta, Topic};
+use presence_base::{Json, Key, Meta, Topic, has_float, is_within_depth};
+use presence_journal::MAX_PAYLOAD_DEPTH;
 use presence_node_rationing::{GuardedPort, RationedPort};
 use presence_node_rations::{Amount, OwnBudgets, Rations, SharedBudgets, TopicBudgets};
 use serde_json::Value;
@@ -402,14 +405,26 @@ fn keys_count_as_they_are_told(rt: HostRuntime) -> Result<(), Fail> {
     Ok(())
 }
 
+// What is shouted.
+fn payload(alloc: Global) -> Option<Json>
+    ensures { IfSome result (λ j. IsTrue (is_payload j)) }
+{
+    let value = Value::from_str(alloc, "{\"b\":2}").ok()?;
+    if !is_within_depth(&value, MAX_PAYLOAD_DEPTH) || has_float(&value) {
+        return None;
+    }
+    Some(Json::new(value))
+}
+
 // Where memory is tight new rows, joins and shouts are refused, and all else goes on.
 #[test]
 fn tight_memory_takes_nothing_more(rt: HostRuntime) -> Result<(), Fail> {
     let alloc = rt.alloc();
-    let (Some(inner), Some(rows), Some(key)) = (
+    let (Some(inner), Some(rows), Some(key), Some(payload)) = (
         TestPort::new(alloc),
         rows_with(alloc, 1),
         key_at(alloc, 1),
+        payload(alloc),
     ) else {
         return Err(Fail::new("none was given"));
     };
@@ -418,10 +433,6 @@ fn tight_memory_takes_nothing_more(rt: HostRuntime) -> Result<(), Fail> {
         fault_of(ample.track(alloc, 1, &rows.topic, &key, &rows.meta)),
         None
     );
-    let Ok(payload) = Value::from_str(alloc, "{}") else {
-        return Err(Fail::new("none was given"));
-    };
-    let payload = Json::new(payload);
     let mut tight = GuardedPort::new(ample, true);
     let full = Some(ShardFault::ClockFull);
     assert_eq!(rt;
