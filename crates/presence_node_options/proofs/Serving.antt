@@ -1,7 +1,7 @@
 -- Why a server's options are refused, from what was looked at before.
-use Rattle.std.proofs.Common.{◌≡◌, ◌⊎◌, inl, inr, ℕ, List, IsTrue, false, subst, sym}
+use Rattle.std.proofs.Common.{◌≡◌, ◌⊎◌, inl, inr, ℕ, List, IsTrue, codes, false, subst, sym}
 use Rattle.clap.specs.Words.{Row}
-use Rattle.presence_node_options.specs.Given.{AllArePeers, AreFewOrigins, AreFewPatterns, AreHandshakes, AreLinkFrom, AreOtherPeers, AreProxies, IsFrugal, IsUntold, IsWasteful, ArePeers, ArePorts, AreShards, AreWorkers, IsEdgeWrong, IsFor, IsLinkVersion, IsNamed, IsNode, IsPerAddress, IsServedWrong, name_given, origins_given, patterns_given, peers_given}
+use Rattle.presence_node_options.specs.Given.{AllArePeers, AreFewOrigins, AreFewPatterns, AreHandshakes, AreLinkFrom, AreOtherPeers, AreProxies, IsFrugal, IsUntold, IsWasteful, ArePeers, ArePorts, AreShards, AreWorkers, ChoosesNone, IsEdgeWrong, IsFor, IsLinkVersion, IsNamed, IsNode, IsPerAddress, IsServedWrong, name_given, origins_given, patterns_given, peers_given}
 use Rattle.presence_node_options.specs.declared.fault.UsageCause.TheVariants.{Words, Name, Incarnation, Route, Port, LinkPort, Shards, Workers, LinkVersion, Peer, Origin, PerAddress, HandshakesPerSecond, PeerName, Proxy, LinkFrom, MemoryLimit, TopicRows, TopicBytes, Log, LogFormat, MetricsPort}
 use Rattle.presence_node_options.specs.Limits.{AreRoutes, are_others, numbered}
 use Rattle.presence_node_options.specs.declared.options.PeerOption.{PeerOption}
@@ -49,7 +49,7 @@ pub named_twice : (rows : List Row) (name : List ℕ) (peers : List PeerOption) 
     → name ≡ name_given rows → ArePeers (peers_given rows) peers → IsFor PeerName (are_others name peers ≡ false) fault
     → IsServedWrong rows fault
 named_twice rows name peers (Usage cause text) node is are twice =
-    rw twice.0 (node, peers, are, subst (λ n. are_others n peers ≡ false) is twice.1)
+    rw twice.0 (node, (peers, are, subst (λ n. are_others n peers ≡ false) is twice.1))
 named_twice rows name peers Memory node is are twice = tt
 
 -- what stands beside the node itself is wrong for a cause of its own
@@ -152,3 +152,31 @@ wasteful_edge rows (Usage Log text) proxies links wrong = (proxies, links, inl w
 wasteful_edge rows (Usage LogFormat text) proxies links wrong = (proxies, links, inl wrong)
 wasteful_edge rows (Usage MetricsPort text) proxies links wrong = (proxies, links, inl wrong)
 wasteful_edge rows Memory proxies links wrong = tt
+
+-- ---- the command
+
+pub serve_chosen : (name : List ℕ) (rows : List Row) (fault : UsageFault) → name ≡ codes "serve" → IsServedWrong rows fault
+    → ChoosesNone name rows fault
+serve_chosen name rows (Usage Words text) is wrong = absurd wrong
+serve_chosen name rows (Usage Name text) is wrong = inr (is, wrong)
+serve_chosen name rows (Usage Incarnation text) is wrong = inr (is, wrong)
+serve_chosen name rows (Usage Route text) is wrong = inr (is, wrong)
+serve_chosen name rows (Usage Port text) is wrong = inr (is, wrong)
+serve_chosen name rows (Usage LinkPort text) is wrong = inr (is, wrong)
+serve_chosen name rows (Usage Shards text) is wrong = inr (is, wrong)
+serve_chosen name rows (Usage Workers text) is wrong = inr (is, wrong)
+serve_chosen name rows (Usage LinkVersion text) is wrong = inr (is, wrong)
+serve_chosen name rows (Usage Peer text) is wrong = inr (is, wrong)
+serve_chosen name rows (Usage Origin text) is wrong = inr (is, wrong)
+serve_chosen name rows (Usage PerAddress text) is wrong = inr (is, wrong)
+serve_chosen name rows (Usage HandshakesPerSecond text) is wrong = inr (is, wrong)
+serve_chosen name rows (Usage PeerName text) is wrong = inr (is, wrong)
+serve_chosen name rows (Usage Proxy text) is wrong = inr (is, wrong)
+serve_chosen name rows (Usage LinkFrom text) is wrong = inr (is, wrong)
+serve_chosen name rows (Usage MemoryLimit text) is wrong = inr (is, wrong)
+serve_chosen name rows (Usage TopicRows text) is wrong = inr (is, wrong)
+serve_chosen name rows (Usage TopicBytes text) is wrong = inr (is, wrong)
+serve_chosen name rows (Usage Log text) is wrong = inr (is, wrong)
+serve_chosen name rows (Usage LogFormat text) is wrong = inr (is, wrong)
+serve_chosen name rows (Usage MetricsPort text) is wrong = inr (is, wrong)
+serve_chosen name rows Memory is wrong = tt

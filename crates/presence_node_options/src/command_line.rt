@@ -332,7 +332,6 @@ fn edge_of(alloc: Global, matches: &ArgMatches<'_>) -> Result<Edge, UsageFault>
 }
 
 // The options of the words behind `serve`.
-#[tactic(auto, using(crate::proofs::Serving::too_crowded, crate::proofs::Serving::too_hasty, crate::proofs::Serving::named_wrong, crate::proofs::Serving::edge_refused))]
 fn serve_options(alloc: Global, matches: &ArgMatches<'_>) -> Result<ServeOptions, UsageFault>
     ensures given { IfOk result (IsServed (rows_of (found_of matches.now))) }
     ensures limits { IfOk result IsServedWithin }

@@ -1,0 +1,8 @@
+use Rattle.std.proofs.Common.{rules, ◌≡◌, codes}
+use Rattle.presence_node_options.proofs.Serving.{serve_chosen}
+use Rattle.presence_node_options.proofs.command_line.chosen.Goals as goal
+
+pub returns-in-Err-serve_options-clause-refused : goal.returns-in-Err-serve_options-clause-refused
+returns-in-Err-serve_options-clause-refused c =
+    let is : c.args.name.now ≡ codes "serve" = search rules in
+    serve_chosen c.args.name.now _ c.in-Err-serve_options.fault is c.in-Err-serve_options.ensures.cause
