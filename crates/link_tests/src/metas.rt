@@ -110,7 +110,7 @@ fn numbered(alloc: Global, members: usize) -> Result<String, AllocError> {
     let mut text = String::from_str(alloc, "{")?;
     for number in 0..members {
         let parted = if number == 0 { "" } else { "," };
-        let name = 100 + number;
+        let name = number.saturating_add(100);
         let member = format!(in alloc; "{parted}\"k{name}\":{number}")?;
         text.push_str(member.as_str())?;
     }
@@ -130,8 +130,8 @@ fn a_meta_has_as_many_members_as_fit(rt: HostRuntime) -> Result<(), Fail> {
 
 // An array of so many zeros.
 fn zeros(alloc: Global, count: usize) -> Result<String, AllocError> {
-    let others = "0,".repeat(alloc, count - 1)?;
-    format!(in alloc; "[{others}0]")
+    let front = "0,".repeat(alloc, count.saturating_sub(1))?;
+    format!(in alloc; "[{front}0]")
 }
 
 #[test]
