@@ -492,7 +492,8 @@ impl<A: Lane, B: Lane, C: Lane, D: Lane> Bench<A, B, C, D> {
             mailbox.inbox.set_draining(false);
         }
         if !mailbox.inbox.is_draining() {
-            self.drain.end(self.now, Due::Made);
+            self.drain
+                .end(self.now, Due::Made, server.memory.is_tight());
             return false;
         }
         self.drain.begin(self.now);
@@ -508,10 +509,7 @@ impl<A: Lane, B: Lane, C: Lane, D: Lane> Bench<A, B, C, D> {
             return;
         }
         if let Some(due) = self.drain.made() {
-            self.drain.end(self.now, due);
-            if server.memory.is_tight() {
-                self.drain.rest(self.now);
-            }
+            self.drain.end(self.now, due, server.memory.is_tight());
             set_draining(server, false);
             server.look();
             return;

@@ -11,6 +11,7 @@ use presence_node_counts::Dropped;
 use presence_node_handshakes::{Admission, Front, Guests, Keeper, Newcomer, Opened, is_proxy};
 use presence_node_leaving::{ClientSocket, ClientStream, socket_config};
 use presence_node_link_threads::time_behind;
+use presence_node_log::{Level, Log};
 use presence_node_queue::{Giver, MAX_QUEUED};
 use presence_node_sockets::{LAST_TOKEN, Watch, number_of};
 use presence_node_web_sockets::WebSocket;
@@ -195,6 +196,19 @@ fn mark_ready(
     }
 }
 
+// Counts and logs that a connection is dropped, whose client has this address.
+fn tell_dropped<R: Wait + Clock + Eprint, H, A: Lane, B: Lane, C: Lane, D: Lane>(
+    rt: &R,
+    server: &Server<'_, H, A, B, C, D>,
+    why: Dropped,
+    address: Option<IpAddr>,
+) {
+    server.counts.dropped(why);
+    if let Some(address) = address {
+        server.log.tell(rt, dropped_by(why), address);
+    }
+}
+
 // The worker behind this one, and the first behind the last.
 fn next_of(worker: usize, workers: usize) -> usize
     ensures { 0 < workers → result < workers }
@@ -302,13 +316,12 @@ impl Door {
     ) {
         server.counts.took();
         let address = arrival.address;
-        let why = match self.admit(server.alloc, arrival, server.proxies) {
-            Ok(false) => return,
-            Ok(true) => Dropped::Handshakes,
-            Err(why) => why,
-        };
-        server.counts.dropped(why);
-        server.log.tell(rt, dropped_by(why), address);
+        match self.admit(server.alloc, arrival, server.proxies) {
+            Ok(false) => {}
+            // (nobody knows any more whose that was)
+            Ok(true) => server.counts.dropped(Dropped::Handshakes),
+            Err(why) => tell_dropped(rt, server, why, Some(address)),
+        }
     }
 
     // Begins to answer who asks for metrics alone. One that can't be watched is dropped.
@@ -326,11 +339,15 @@ impl Door {
     }
 
     // Says, once, that no further file can be opened, or that it is over.
-    fn tell_of_files<R: Eprint>(&mut self, rt: &R, has_no_file: bool) {
-        if self.has_no_file != has_no_file {
-            self.has_no_file = has_no_file;
-            let line = if has_no_file { NO_FILE } else { FILES_AGAIN };
-            let _told = rt.eprintln(line);
+    fn tell_of_files<R: Clock + Eprint>(&mut self, rt: &R, log: &Log, has_no_file: bool) {
+        if self.has_no_file == has_no_file {
+            return;
+        }
+        self.has_no_file = has_no_file;
+        if has_no_file {
+            log.say(rt, Level::Warn, NO_FILE);
+        } else {
+            log.say(rt, Level::Info, FILES_AGAIN);
         }
     }
 
@@ -378,11 +395,11 @@ impl Door {
             }
             Caller::Went => true,
             Caller::Nobody => {
-                self.tell_of_files(rt, false);
+                self.tell_of_files(rt, &server.log, false);
                 false
             }
             Caller::NoFile => {
-                self.tell_of_files(rt, true);
+                self.tell_of_files(rt, &server.log, true);
                 self.take_in_spare(rt, server);
                 false
             }
@@ -440,18 +457,19 @@ impl Door {
     }
 
     // Hands a connection to the workers and wakes the next of them. There is room in the queue.
-    fn give<R: Wait, H, A: Lane, B: Lane, C: Lane, D: Lane>(
+    fn give<R: Wait + Clock + Eprint, H, A: Lane, B: Lane, C: Lane, D: Lane>(
         &mut self,
         rt: &R,
         server: &Server<'_, H, A, B, C, D>,
         socket: WebSocket<ClientSocket, NoMask>,
     ) {
+        let address = socket.get_ref().address();
         if self.watch.remove(socket.get_ref()).is_err() {
-            server.counts.dropped(Dropped::Watch);
+            tell_dropped(rt, server, Dropped::Watch, address);
             return;
         }
         if self.giver.give(rt, socket).is_err() {
-            server.counts.dropped(Dropped::Queue);
+            tell_dropped(rt, server, Dropped::Queue, address);
             return;
         }
         server.counts.handed_on();
@@ -532,8 +550,9 @@ impl Door {
             return;
         };
         for (_, socket) in opened {
+            let address = socket.get_ref().address();
             if self.seat(socket).is_err() {
-                server.counts.dropped(Dropped::Queue);
+                tell_dropped(rt, server, Dropped::Queue, address);
             }
         }
     }
@@ -547,7 +566,7 @@ impl Door {
     }
 
     // Hands connections to the workers, as far as the queue has room.
-    fn hand_on<R: Wait, H, A: Lane, B: Lane, C: Lane, D: Lane>(
+    fn hand_on<R: Wait + Clock + Eprint, H, A: Lane, B: Lane, C: Lane, D: Lane>(
         &mut self,
         rt: &R,
         server: &Server<'_, H, A, B, C, D>,

@@ -97,19 +97,15 @@ impl Drain {
         }
     }
 
-    /// It reads again. Where memory was refused it lets the journals be for a while.
-    pub fn end(&mut self, now: u64, due: Due) {
+    /// It reads again, if it didn't. Where memory was refused, or is tight, it lets the journals be for a while.
+    pub fn end(&mut self, now: u64, due: Due, is_tight: bool) {
+        let rests = due == Due::Refused || is_tight;
+        if self.is_on() && rests {
+            self.looks = now.saturating_add(REST_MILLISECONDS);
+        }
         self.since = None;
         self.leads = false;
         self.made = None;
-        if due == Due::Refused {
-            self.rest(now);
-        }
-    }
-
-    /// It lets the journals be for a while.
-    pub fn rest(&mut self, now: u64) {
-        self.looks = now.saturating_add(REST_MILLISECONDS);
     }
 
     // For how long it has read nothing.
