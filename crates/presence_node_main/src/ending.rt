@@ -112,7 +112,7 @@ fn no_port_at(alloc: Global, option: &str, address: &str, port: u16) -> Result<S
     ensures address { IfOk result (λ line. Shows address.now (Some (string_bytes line))) }
 {
     let line = format!(in alloc;
-        "presence_node: --{option} '{address}': the system gives no port {port} there; an address of this machine is wanted, as 127.0.0.1, 0.0.0.0 or ::1"
+        "presence_node: --{option} '{address}': the system gives no port {port} there; wanted are an address of this machine, as 127.0.0.1, 0.0.0.0 or ::1, and a port that its user may have"
     )?;
     Ok(line)
 }

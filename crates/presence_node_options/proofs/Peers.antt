@@ -9,6 +9,7 @@ use Rattle.std.proofs.lemmas.Str.Pattern.{NoCharPasses-char, drop_at_char}
 use Rattle.std.proofs.lemmas.List.{take-append-drop}
 use Rattle.presence_base.specs.Names.{guarded, is_name_byte, is_node_name}
 use Rattle.presence_node_options.specs.Given.{ArePeers, AllArePeers, IsAddress, IsAddressIn, IsFor, IsNumberIn, IsNumberWithin, IsPeer, IsPeerIn, IsPeerText, number_in}
+use Rattle.presence_node_options.specs.Hosts.{is_host}
 use Rattle.presence_node_options.specs.declared.fault.UsageCause.TheVariants.{Peer}
 use Rattle.presence_node_options.specs.declared.fault.UsageFault.{UsageFault}
 use Rattle.presence_node_options.specs.declared.fault.UsageFault.TheVariants.{Usage, Memory}
@@ -121,13 +122,6 @@ parts_at_first c bs front back (i, j, found, front_is, back_is, below, many, res
     cut : bs ≡ front ++ c ∷ back
     cut = sym (take-append-drop i bs) ∙ ap (λ l. take i bs ++ l) (drop_at_char c bs i j found.1 small) ∙ ap₂ (λ f b. f ++ c ∷ b) (sym front_is) (sym back_is)
 
--- what has no byte
-pub empty_front : (front : List ℕ) (test : Bool) → (test ≡ (length front == 0)) → test ≡ true → front ≡ []
-empty_front [] test is holds = refl
-empty_front (b ∷ bs) test is holds =
-    let none : suc (length bs) ≡ 0 = eqb-true (suc (length bs)) 0 (sym is ∙ holds) in
-    absurd (omega arith)
-
 -- the parts round the last such character
 pub parts_at_last : (c : ℕ) (bs front back : List ℕ) → SplitsAroundMatch (RFindsChar c) bs front back → c < 128 → (bs ≡ front ++ c ∷ back) × Lacks c back
 parts_at_last c bs front back (i, j, found, front_is, back_is, below, many, rest) small =
@@ -141,13 +135,15 @@ module _ (text front back : List ℕ) (parts : (text ≡ front ++ 58 ∷ back) �
   one_address : (host port : List ℕ) → IsAddress text host port → (front ≡ host) × (back ≡ port)
   one_address host port a = last_cut 58 front back host port parts.1 (port_lacks port a.port_is) (sym parts.0 ∙ a.cut)
 
-  pub no_host : front ≡ [] → (host port : List ℕ) → IsAddress text host port → ⊥
-  no_host none host port a = a.host_is (sym (one_address host port a).0 ∙ none)
+  pub no_host : is_host front ≡ false → (host port : List ℕ) → IsAddress text host port → ⊥
+  no_host none host port a =
+      let is : is_host front ≡ true = subst (λ h. is_host h ≡ true) (sym (one_address host port a).0) a.host_is in
+      cc
 
   pub no_port : (IsNumberWithin 1 65535 back → ⊥) → (host port : List ℕ) → IsAddress text host port → ⊥
   no_port other host port a = other (subst (IsNumberWithin 1 65535) (sym (one_address host port a).1) a.port_is)
 
-  pub address_is : (n : ℕ) → (front ≡ [] → ⊥) → IsNumberIn 1 65535 back (Some n) → IsAddressIn text (Some (front, n))
+  pub address_is : (n : ℕ) → IsTrue (is_host front) → IsNumberIn 1 65535 back (Some n) → IsAddressIn text (Some (front, n))
   address_is n some number = (back, record { cut = parts.0; host_is = some; port_is = number.1 }, number.0)
 
 -- without such a byte there is none

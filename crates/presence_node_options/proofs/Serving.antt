@@ -83,23 +83,24 @@ edge_wrong rows (Usage LogFormat text) node others wrong = (node, others, wrong)
 edge_wrong rows (Usage MetricsPort text) node others wrong = (node, others, wrong)
 edge_wrong rows Memory node others wrong = tt
 
--- the same, from what was looked at of the node itself by parts
-pub named_wrong : (rows : List Row) (name : List ℕ) (routes : List (List ℕ × ℕ)) (peers : List PeerOption) (fault : UsageFault)
-    → IsFor PeerName (are_others name peers ≡ false) fault → name ≡ name_given rows → ArePeers (peers_given rows) peers
+-- the same, from what was looked at of the node itself by parts, and of peers that are these
+pub named_wrong : (rows : List Row) (name : List ℕ) (routes : List (List ℕ × ℕ)) (read peers : List PeerOption) (fault : UsageFault)
+    → read ≡ peers → IsFor PeerName (are_others name read ≡ false) fault → name ≡ name_given rows → ArePeers (peers_given rows) peers
     → routes ≡ numbered 0 (patterns_given rows) → AreRoutes routes → IsNamed rows → ArePorts rows → AreShards rows
     → AreWorkers rows → IsLinkVersion rows → AllArePeers (peers_given rows) → AreFewOrigins (origins_given rows)
     → IsPerAddress rows → AreHandshakes rows → IsServedWrong rows fault
-named_wrong rows name routes peers fault twice is are routed within named ports shards workers version all origins clients handshakes =
-    named_twice rows name peers fault (node_of rows routes named ports shards workers version all origins clients handshakes routed within) is are twice
+named_wrong rows name routes read peers fault same twice is are routed within named ports shards workers version all origins clients handshakes =
+    named_twice rows name peers fault (node_of rows routes named ports shards workers version all origins clients handshakes routed within) is are
+    (subst (λ ps. IsFor PeerName (are_others name ps ≡ false) fault) same twice)
 
-pub edge_refused : (rows : List Row) (name : List ℕ) (routes : List (List ℕ × ℕ)) (peers : List PeerOption) (fault : UsageFault)
-    → IsEdgeWrong rows fault → IsTrue (are_others name peers) → name ≡ name_given rows → ArePeers (peers_given rows) peers
+pub edge_refused : (rows : List Row) (name : List ℕ) (routes : List (List ℕ × ℕ)) (read peers : List PeerOption) (fault : UsageFault)
+    → read ≡ peers → IsEdgeWrong rows fault → IsTrue (are_others name read) → name ≡ name_given rows → ArePeers (peers_given rows) peers
     → routes ≡ numbered 0 (patterns_given rows) → AreRoutes routes → IsNamed rows → ArePorts rows → AreShards rows
     → AreWorkers rows → IsLinkVersion rows → AllArePeers (peers_given rows) → AreFewOrigins (origins_given rows)
     → IsPerAddress rows → AreHandshakes rows → IsServedWrong rows fault
-edge_refused rows name routes peers fault wrong others is are routed within named ports shards workers version all origins clients handshakes =
+edge_refused rows name routes read peers fault same wrong others is are routed within named ports shards workers version all origins clients handshakes =
     edge_wrong rows fault (node_of rows routes named ports shards workers version all origins clients handshakes routed within)
-    (others_of rows name peers is are others) wrong
+    (others_of rows name peers is are (subst (λ ps. IsTrue (are_others name ps)) same others)) wrong
 
 -- what is told, or taken, wrongly is wrong of what stands beside the node itself
 pub untold_edge : (rows : List Row) (fault : UsageFault) → AreProxies rows → AreLinkFrom rows → IsFrugal rows → IsUntold rows fault

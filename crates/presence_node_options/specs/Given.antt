@@ -14,6 +14,7 @@ use Rattle.hook_registry.specs.declared.routes.TheConstants.{MAX_ROUTES}
 use Rattle.presence_base.specs.Names.{is_node_name}
 use Rattle.presence_base.specs.Refs.{IsCount}
 use Rattle.presence_node_options.specs.CommandLine.{program}
+use Rattle.presence_node_options.specs.Hosts.{is_host}
 use Rattle.presence_node_options.specs.Limits.{are_others, numbered}
 use Rattle.presence_node_options.specs.Origins.{AreOrigins}
 use Rattle.presence_node_options.specs.declared.command_line.Edge.{Edge}
@@ -169,10 +170,10 @@ pub record IsNumberWithin (low high : ℕ) (text : Text) : Type 0 where
   pub above : low ≤ number_in text
   pub below : number_in text ≤ high
 
--- a host that is not empty and a port, with `:` between them, which is the last one: no port has one
+-- a host and a port, with `:` between them, which is the last one: no port has one
 pub record IsAddress (text host port : Text) : Type 0 where
   pub cut : text ≡ host ++ 58 ∷ port
-  pub host_is : host ≡ [] → ⊥
+  pub host_is : IsTrue (is_host host)
   pub port_is : IsNumberWithin 1 65535 port
 
 abbrev pub IsAddressIn : Text → Option (Text × ℕ) → Type 0

@@ -2,3 +2,4 @@ pub mod CommandLine
 pub mod Limits
 pub mod Given
 pub mod Origins
+pub mod Hosts

@@ -3,15 +3,16 @@ use Rattle.std.specs.Prelude.{ℕ, ◌+◌, ◌*◌, ◌-◌, List, [], ◌∷�
 use Rattle.std.specs.Char.{is_ascii_alphanumeric, is_ascii_digit, is_ascii_hexdigit, is_ascii_lowercase}
 use Rattle.std.specs.List.{AllByRecursion, starts_with, ends_with}
 use Rattle.presence_node_options.specs.declared.origin.Part.{Part}
-use Rattle.presence_node_options.specs.declared.origin.Part.TheVariants.{Scheme, Host, Address}
+use Rattle.presence_node_options.specs.declared.origin.Part.TheVariants.{Scheme, Host, Address, Mixed}
 
 -- what may stand in a part: in a scheme small letters, digits, `+`, `-` and `.` (RFC 3986; browsers write it in lower case),
 -- in a host's name letters, digits, `-`, `.` and `_`, in an IPv6 address hexadecimal digits and `:` (browsers write its last
--- 32 bits so too)
+-- 32 bits so too), to which `.` comes where these are written as an IPv4 address
 abbrev pub may_be_in : Part → ℕ → Bool
 may_be_in Scheme b = is_ascii_lowercase b || is_ascii_digit b || b == 43 || b == 45 || b == 46
 may_be_in Host b = is_ascii_alphanumeric b || b == 45 || b == 46 || b == 95
 may_be_in Address b = is_ascii_hexdigit b || b == 58
+may_be_in Mixed b = is_ascii_hexdigit b || b == 58 || b == 46
 
 -- what stands behind the bytes that may stand in the part
 abbrev pub behind : Part → List ℕ → List ℕ

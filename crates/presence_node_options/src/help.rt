@@ -75,7 +75,7 @@ pub(crate) const LINK_FROM_HELP: &str =
 
 pub(crate) const MEMORY_HELP: &str =
     "Megabytes that it may take, from 32 [default: half of what there is]
-Beyond nine tenths of them what would take more is refused as full";
+Beyond nine tenths of them joins, tracks and shouts are refused as full, and updates go on";
 
 pub(crate) const TOPIC_ROWS_HELP: &str =
     "Rows of a topic at this node, 1 to 1048576 [default: 65536]";
@@ -179,8 +179,8 @@ the refusal, as line 3: F2. Want of memory ends it with status 2.
 pub const SERVE_ENDS: &str =
     "It prints ready once clients may connect: those of Phoenix Channels by WebSocket to
 ws://ADDRESS:PORT/socket/websocket?vsn=2.0.0. A browser gets a room to try at http://ADDRESS:PORT/;
-/health there says ok, and /metrics what was counted. Pages may connect from anywhere, unless
---origin says from where.
+/health there says ok, and /metrics what was counted, unless --metrics-port gives it a port of its
+own. Pages may connect from anywhere, unless --origin says from where.
 
 A line stop on standard input ends it: it prints settled and how many calls of the workers it found
 in the journals, with status 0. Where calls and journals don't agree, standard error has the number
@@ -194,7 +194,7 @@ its clients, and prints reborn and that number.
   P3  a journal has more calls, or fewer
   P4  there was no memory to look at them
 A connection is closed with these codes:
-  1000  no message came for 60 seconds
+  1000  no sign of life came for 60 seconds: no message, no ping and no answer to one
   1001  the server stops
   1002  the client's close frame had a code that RFC 6455 doesn't allow there
   1003  the message was binary

@@ -1,8 +1,8 @@
 //! The program's command line.
 //!
 //! What its contracts cite: `CommandLine` has the commands as the parser reads them; `Given` says
-//! which options the words give and which words are refused; `Limits` says what options keep, and `Origins` what an
-//! origin is.
+//! which options the words give and which words are refused; `Limits` says what options keep, `Origins` what an
+//! origin is, and `Hosts` what the host of a peer.
 #![tactic(auto)]
 
 mod addresses;
@@ -11,6 +11,7 @@ mod command_line;
 mod fault;
 mod found;
 mod help;
+mod host;
 pub mod laws;
 mod options;
 mod origin;

@@ -3,13 +3,15 @@ ghost use Rattle.std.specs.Prelude.{◌≡◌, slice_index};
 ghost use Rattle.std.specs.Char.{is_ascii_lowercase};
 ghost use Rattle.presence_node_options.specs.Origins.{behind, is_behind_scheme, is_bracketed, is_end, is_named, is_of_host, is_of_sockets, is_origin, is_place, is_port, is_port_of_scheme, is_without_host, may_be_in};
 
-/// The parts of an origin that may have more than one byte.
+/// The parts of an origin that may have more than one byte, and of a peer's place.
 #[derive(Clone, Copy, PartialEq, Eq, Debug)]
 pub(crate) enum Part {
     Scheme,
     Host,
     /// An IPv6 address.
     Address,
+    /// An IPv6 address whose end may be written as an IPv4 one.
+    Mixed,
 }
 
 // Whether the byte may stand in this part.
@@ -26,11 +28,12 @@ fn may_be_in(part: Part, byte: u8) -> bool
         }
         Part::Host => byte.is_ascii_alphanumeric() || byte == b'-' || byte == b'.' || byte == b'_',
         Part::Address => byte.is_ascii_hexdigit() || byte == b':',
+        Part::Mixed => byte.is_ascii_hexdigit() || byte == b':' || byte == b'.',
     }
 }
 
-// What stands behind the bytes that may stand in this part.
-fn behind(part: Part, text: &[u8]) -> &[u8]
+/// What stands behind the bytes that may stand in this part.
+pub(crate) fn behind(part: Part, text: &[u8]) -> &[u8]
     ensures { result.now ≡ behind part text.now }
 {
     for i in 0..text.len() {

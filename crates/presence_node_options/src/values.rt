@@ -9,6 +9,7 @@ ghost use Rattle.presence_base.specs.declared.names.TheConstants.{MAX_SHARDS};
 ghost use Rattle.presence_node_options.specs.declared.options.TheConstants.{MAX_HANDSHAKES_PER_SECOND, MAX_LINK_VERSION, MAX_ORIGINS, MAX_PER_ADDRESS, MAX_WORKERS};
 
 use crate::fault::{UsageCause, UsageFault};
+use crate::host::is_host;
 use crate::options::{
     MAX_HANDSHAKES_PER_SECOND, MAX_LINK_VERSION, MAX_ORIGINS, MAX_PER_ADDRESS, MAX_WORKERS,
     PeerOption,
@@ -299,7 +300,7 @@ fn address_in(text: &str) -> Option<(&str, u16)>
     let Some((host, port)) = text.rsplit_once(':') else {
         return None;
     };
-    if host.is_empty() {
+    if !is_host(host.as_bytes()) {
         return None;
     }
     match port_in(port) {
@@ -336,7 +337,7 @@ fn peer_of(alloc: Global, text: &str) -> Result<PeerOption, UsageFault>
         Ok(None) => Err(usage_of(
             UsageCause::Peer,
             format!(in alloc;
-                "--peer '{text}': a peer is the name of a node, 1 to 32 characters of a-z, 0-9, then = and its host, then : and its link port, 1 to 65535, as b=10.0.0.2:4001"
+                "--peer '{text}': a peer is the name of a node, 1 to 32 characters of a-z, 0-9, then = and its host, a name or an address, then : and its link port, 1 to 65535, as b=10.0.0.2:4001 or b=[fd00::2]:4001"
             ),
         )),
         Err(_) => Err(UsageFault::Memory),

@@ -9,7 +9,7 @@ use std::net::IpAddr;
 use std::test::Fail;
 
 // A command, an option with a value, and why these words are wrong.
-const WRONG: [(&str, &str, &str, UsageCause); 45] = [
+const WRONG: [(&str, &str, &str, UsageCause); 52] = [
     ("stdio", "--name", "A!", UsageCause::Name),
     ("stdio", "--incarnation", "0", UsageCause::Incarnation),
     ("stdio", "--route", "a*b", UsageCause::Route),
@@ -30,6 +30,13 @@ const WRONG: [(&str, &str, &str, UsageCause); 45] = [
     ("serve", "--peer", "b=:1", UsageCause::Peer),
     ("serve", "--peer", "b=host:0", UsageCause::Peer),
     ("serve", "--peer", "b=host", UsageCause::Peer),
+    ("serve", "--peer", "b=http://host:1", UsageCause::Peer),
+    ("serve", "--peer", "b=x=host:1", UsageCause::Peer),
+    ("serve", "--peer", "b=a host:1", UsageCause::Peer),
+    ("serve", "--peer", "b=::1:1", UsageCause::Peer),
+    ("serve", "--peer", "b=[::1:1", UsageCause::Peer),
+    ("serve", "--peer", "b=[]:1", UsageCause::Peer),
+    ("serve", "--peer", "b=[host]:1", UsageCause::Peer),
     ("serve", "--notices", "1", UsageCause::Words),
     ("serve", "--per-address", "0", UsageCause::PerAddress),
     ("serve", "--per-address", "65537", UsageCause::PerAddress),
@@ -322,6 +329,20 @@ fn a_server_that_limits_addresses(rt: HostRuntime) -> Result<(), Fail> {
     Ok(())
 }
 
+// Hosts of peers are names and addresses, of IPv6 in brackets.
+#[test]
+fn hosts_of_peers(rt: HostRuntime) {
+    for peer in [
+        "b=10.0.0.2:4001",
+        "b=node-2.rooms_eu.Example:4001",
+        "b=[fd00::2]:4001",
+        "b=2:4001",
+    ] {
+        let words = ["p", "serve", "--peer", peer];
+        assert!(rt; served(rt.alloc(), words.as_slice()).is_some(), "{peer}");
+    }
+}
+
 // The first peer that a server is asked to link to: its name, host and port.
 fn first_peer(options: &ServeOptions) -> Option<(&str, &str, u16)> {
     let peer = options.peers.first()?;
@@ -335,7 +356,7 @@ fn peers_and_addresses_of_a_server(rt: HostRuntime) -> Result<(), Fail> {
         "p",
         "serve",
         "--peer",
-        "b=x=[::1]:4001",
+        "b=[::ffff:10.0.0.2]:4001",
         "--peer",
         "c=c:2",
         "--listen",
@@ -345,7 +366,7 @@ fn peers_and_addresses_of_a_server(rt: HostRuntime) -> Result<(), Fail> {
         panic!(rt; "no options");
     };
     assert_eq!(rt; linked.peers.len(), 2);
-    assert!(rt; first_peer(&linked) == Some(("b", "x=[::1]", 4001)));
+    assert!(rt; first_peer(&linked) == Some(("b", "[::ffff:10.0.0.2]", 4001)));
     assert_eq!(rt; linked.listen.as_str(), "0.0.0.0");
     assert_eq!(rt; linked.link_listen.as_str(), "127.0.0.1");
     Ok(())

@@ -298,7 +298,12 @@ where
         × Settles server.entry.pool.own.name server.entry.pool.shards server.entry.pool.seats hs end) }
 {
     let alloc = server.alloc;
-    let places = run_crew(rt, alloc, &server, &StopLine { alloc, place }, posts)?;
+    let stop = StopLine {
+        alloc,
+        log: &server.log,
+        place,
+    };
+    let places = run_crew(rt, alloc, &server, &stop, posts)?;
     let mut seats = seats_of(alloc, places)?;
     let pool = server.into_pool();
     trim_all(rt, &pool, &mut seats);

@@ -1,8 +1,10 @@
 //! Waiting for the line that stops the server.
 use presence_node_crew::AwaitEnd;
 use presence_node_lines::read_line;
+use presence_node_log::{Level, Log};
 use std::alloc::Global;
 use std::io::{Input, Print, Read};
+use std::time::Clock;
 
 /// The longest line that is kept whole.
 const MAX_BYTES: usize = 64;
@@ -26,14 +28,15 @@ fn await_stop<R: Read>(alloc: Global, reader: &mut R) -> bool {
 #[derive(Clone, Copy)]
 pub(crate) struct StopLine<'a> {
     pub alloc: Global,
+    pub log: &'a Log,
     /// What standard error is told before the server is ready.
     pub place: &'a str,
 }
 
-impl<R: Input + Print + Eprint> AwaitEnd<R> for StopLine<'_> {
+impl<R: Input + Print + Eprint + Clock> AwaitEnd<R> for StopLine<'_> {
     // The server is told to be ready first. Where nobody can be told, it ends.
     fn await_end(&self, rt: &R) -> bool {
-        let _told = rt.eprintln(self.place);
+        self.log.say(rt, Level::Info, self.place);
         rt.println("ready").is_err() || await_stop(self.alloc, &mut rt.reader())
     }
 }

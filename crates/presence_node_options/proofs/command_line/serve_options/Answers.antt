@@ -40,7 +40,7 @@ returns-in_err-names_checked-clause-cause c =
     let shards : AreShards rows = subst (IsNumberWithin 1 MAX_SHARDS) c.text_given-3.ensures c.in_ok-shards.ensures.limits in
     let workers : AreWorkers rows = subst (IsNumberWithin 1 MAX_WORKERS) c.text_given-4.ensures c.in_ok-workers.ensures.limits in
     let version : IsLinkVersion rows = subst (IsNumberWithin 1 MAX_LINK_VERSION) c.text_given-5.ensures c.in_ok-link_version.ensures.limits in
-    let wrong = named_wrong rows c.in_ok-name.name c.in_ok-routes.routes c.in_ok-peers.peers.items _ c.in_err-names_checked.ensures.cause name_is c.in_ok-peers.ensures.peers
+    let wrong = named_wrong rows c.in_ok-name.name c.in_ok-routes.routes c.as_slice.result.now c.in_ok-peers.peers.items _ c.as_slice.ensures.value c.in_err-names_checked.ensures.cause name_is c.in_ok-peers.ensures.peers
     c.in_ok-routes.ensures.routes c.in_ok-routes.ensures.within named ports shards workers version c.in_ok-peers.ensures.all c.in_ok-origins.ensures.given c.in_ok-per_address.ensures.given c.in_ok-handshakes_per_second.ensures.given in
     search (wrong, rules)
 
@@ -53,6 +53,6 @@ returns-in_err-proxies-clause-cause c =
     let shards : AreShards rows = subst (IsNumberWithin 1 MAX_SHARDS) c.text_given-3.ensures c.in_ok-shards.ensures.limits in
     let workers : AreWorkers rows = subst (IsNumberWithin 1 MAX_WORKERS) c.text_given-4.ensures c.in_ok-workers.ensures.limits in
     let version : IsLinkVersion rows = subst (IsNumberWithin 1 MAX_LINK_VERSION) c.text_given-5.ensures c.in_ok-link_version.ensures.limits in
-    let wrong = edge_refused rows c.in_ok-name.name c.in_ok-routes.routes c.in_ok-peers.peers.items _ c.in_err-proxies.ensures.cause c.in_ok-names_checked.ensures.others name_is
+    let wrong = edge_refused rows c.in_ok-name.name c.in_ok-routes.routes c.as_slice.result.now c.in_ok-peers.peers.items _ c.as_slice.ensures.value c.in_err-proxies.ensures.cause c.in_ok-names_checked.ensures.others name_is
     c.in_ok-peers.ensures.peers c.in_ok-routes.ensures.routes c.in_ok-routes.ensures.within named ports shards workers version c.in_ok-peers.ensures.all c.in_ok-origins.ensures.given c.in_ok-per_address.ensures.given c.in_ok-handshakes_per_second.ensures.given in
     search (wrong, rules)
