@@ -1,5 +1,5 @@
 -- What is told of other nodes: of its own lives nobody but the node itself tells it anything.
-use Rattle.std.specs.Prelude.{Bool, not, ◌||◌, List, Option, Some, None}
+use Rattle.std.specs.Prelude.{Bool, not, ◌||◌, ◌&&◌, ℕ, ◌-◌, nat_le, max, cond, List, [], ◌∷◌, Option, Some, None}
 use Rattle.std.specs.List.{list_any}
 use Rattle.presence_base.specs.declared.dots.Dot.{Dot}
 use Rattle.presence_base.specs.declared.dots.Replica.{Replica}
@@ -37,3 +37,12 @@ of_others (Some own) t = cut_to (is_other own) t
 abbrev pub of_others_else : ToldValue → Option ToldValue → ToldValue
 of_others_else t None = t
 of_others_else t (Some cut) = cut
+
+-- the incarnation of a life of this node that is above its own by no more than that, and of any other replica 0
+abbrev pub life_in : Replica → ℕ → Replica → ℕ
+life_in own most r = cond (is_life_of own r && nat_le (r.incarnation - own.incarnation) most) r.incarnation 0
+
+-- the highest of these that are told of
+abbrev pub highest_in : Replica → ℕ → List Range → ℕ
+highest_in own most [] = 0
+highest_in own most (g ∷ gs) = max (life_in own most g.0) (highest_in own most gs)

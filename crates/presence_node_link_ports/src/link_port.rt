@@ -31,6 +31,8 @@ pub struct PoolLinkPort<'a, R: Wait, G: Gate, A: Lane, B: Lane, C: Lane, D: Lane
     has_part: bool,
     /// The node's own replica, where it is looked for in what is told: what is told of its name isn't heard.
     own: Option<Replica>,
+    /// By how much a life of its name may be above that one and be counted.
+    most_ahead: u64,
     /// The highest incarnation of the node's own name that was told of, or 0.
     own_life: u64,
     /// Whether something was told of the own replica that it never did.
@@ -78,6 +80,7 @@ impl<'a, R: Wait, G: Gate, A: Lane, B: Lane, C: Lane, D: Lane> PoolLinkPort<'a, 
             has_told: false,
             has_part: false,
             own: None,
+            most_ahead: 0,
             own_life: 0,
             has_own_counts: false,
         }
@@ -98,17 +101,19 @@ impl<'a, R: Wait, G: Gate, A: Lane, B: Lane, C: Lane, D: Lane> PoolLinkPort<'a, 
         self.has_part
     }
 
-    /// The highest incarnation of this node's own name that the other node told of, or 0.
+    /// The highest incarnation of this node's own name that the other node told of, of those that count, or 0.
     pub fn own_life(&self) -> u64 {
         self.own_life
     }
 
-    /// From now on what is told of this replica, the node's own, is looked at, and what is told of its name isn't heard.
-    pub fn looks_for(&mut self, own: Replica)
+    /// From now on what is told of this replica, the node's own, is looked at, and what is told of its name isn't heard. A life of
+    /// its name that is further ahead of it than that hides no other one that is told of.
+    pub fn looks_for(&mut self, own: Replica, most_ahead: u64)
         ensures pool { self.new.pool ≡ self.old.pool }
         ensures own { self.new.own ≡ Some own }
     {
         self.own = Some(own);
+        self.most_ahead = most_ahead;
     }
 
     // Whether counts of the node's own replica are told that the shard doesn't have.
@@ -129,7 +134,7 @@ impl<'a, R: Wait, G: Gate, A: Lane, B: Lane, C: Lane, D: Lane> PoolLinkPort<'a, 
     {
         self.has_own_counts = self.has_own_counts || self.tells_own(shard, told);
         if let Some(own) = &self.own {
-            self.own_life = highest_life(own, told).max(self.own_life);
+            self.own_life = highest_life(own, self.most_ahead, told).max(self.own_life);
         }
     }
 
@@ -180,7 +185,8 @@ impl<'a, R: Wait, G: Gate, A: Lane, B: Lane, C: Lane, D: Lane> LinkPort
     ghost use Rattle.shard_pool.specs.Seats.{IsOfShardAt};
     ghost use Rattle.presence_node_link_ports.specs.Asking.{LinkStep};
 
-    ghost step = { λ old q a new. (new.pool ≡ old.pool) × (new.own ≡ old.own) × LinkStep (IsOfShardAt old.pool.now.own.name A.begins B.begins C.begins D.begins) old.own old.pool.now.shards q a };
+    ghost step = { λ old q a new. (new.pool ≡ old.pool) × (new.own ≡ old.own)
+        × LinkStep (IsOfShardAt old.pool.now.own.name A.begins B.begins C.begins D.begins) old.own old.pool.now.shards q a };
 
     ghost shard_count = { λ p. p.pool.now.shards };
 

@@ -1,7 +1,7 @@
 //! What is told of other nodes than this one: nobody else tells of its own lives.
 ghost use Rattle.std.specs.Prelude.{◌≡◌, IfOk};
 ghost use Rattle.presence_node_link_ports.specs.Others.{is_in_dots, is_in_ranges, is_in_rows, is_life_of};
-ghost use Rattle.presence_node_link_ports.specs.Others.{of_others, of_others_else, tells_of as has_lives};
+ghost use Rattle.presence_node_link_ports.specs.Others.{highest_in, life_in, of_others, of_others_else, tells_of as has_lives};
 
 use orswot_core_told::{ReplicaTest, Told};
 use presence_base::{Dot, Replica, Row};
@@ -74,13 +74,25 @@ pub(crate) fn cut_to_others(
     Ok(Some(cut))
 }
 
-/// The highest incarnation of this node's name that is told of, or 0.
-pub(crate) fn highest_life(own: &Replica, told: &Told) -> u64 {
+// The incarnation of a life of this node that is above its own by no more than that, and of any other replica 0.
+fn near_life(own: &Replica, most_ahead: u64, replica: &Replica) -> u64
+    ensures { result ≡ life_in own.now most_ahead replica.now }
+{
+    let ahead = replica.incarnation.saturating_sub(own.incarnation);
+    if is_life(own, replica) && ahead <= most_ahead {
+        replica.incarnation
+    } else {
+        0
+    }
+}
+
+/// The highest incarnation of this node's name that is told of, or 0. One that is further ahead of the node's own hides no other.
+pub(crate) fn highest_life(own: &Replica, most_ahead: u64, told: &Told) -> u64
+    ensures { result ≡ highest_in own.now most_ahead told.now.ranges }
+{
     let mut highest = 0;
     for range in told.ranges() {
-        if is_life(own, &range.0) {
-            highest = range.0.incarnation.max(highest);
-        }
+        highest = near_life(own, most_ahead, &range.0).max(highest);
     }
     highest
 }
