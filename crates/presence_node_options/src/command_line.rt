@@ -356,8 +356,6 @@ fn serve_options(alloc: Global, matches: &ArgMatches<'_>) -> Result<ServeOptions
         budgets,
         reports,
     } = edge_of(alloc, matches)?;
-    let listen = listen_of(alloc, text_given(matches, "listen", "127.0.0.1"))?;
-    let link_listen = listen_of(alloc, text_given(matches, "link-listen", "127.0.0.1"))?;
     Ok(ServeOptions {
         name,
         incarnation,
@@ -368,8 +366,8 @@ fn serve_options(alloc: Global, matches: &ArgMatches<'_>) -> Result<ServeOptions
         workers,
         link_version,
         peers,
-        listen,
-        link_listen,
+        listen: listen_of(alloc, text_given(matches, "listen", "127.0.0.1"))?,
+        link_listen: listen_of(alloc, text_given(matches, "link-listen", "127.0.0.1"))?,
         origins,
         per_address,
         handshakes_per_second,

@@ -1,6 +1,6 @@
 //! What everybody at the server shares by its options: the budgets of topics, the memory, and the log.
 use presence_node_log::{Log, LogFormat, Shown};
-use presence_node_options::{Budgets, LineFormat, Logged, Reports};
+use presence_node_options::{Budgets, LineFormat, Logged, MIN_MEMORY, Reports};
 use presence_node_process::memory_there;
 use presence_node_rations::{Amount, MemoryMark, TopicBudgets};
 use std::alloc::Global;
@@ -22,12 +22,13 @@ pub(crate) fn budgets_of(alloc: Global, budgets: &Budgets) -> TopicBudgets {
     TopicBudgets::new(alloc, each)
 }
 
-/// The memory that the server may have. Where it isn't given, and the system says nothing, it has no bound.
+/// The memory that the server may have: at least as much as it can be given. Where it isn't given, and the system says
+/// nothing, it has no bound.
 pub(crate) fn memory_of<R: Files>(rt: &R, alloc: Global, budgets: &Budgets) -> MemoryMark {
     let limit = match budgets.memory {
         Some(megabytes) => megabytes.saturating_mul(MEGABYTE),
         None => match memory_there(rt, alloc) {
-            Some(bytes) => bytes / SHARE,
+            Some(bytes) => (bytes / SHARE).max(MIN_MEMORY * MEGABYTE),
             None => u64::MAX,
         },
     };
