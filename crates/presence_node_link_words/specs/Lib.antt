@@ -4,3 +4,4 @@ pub mod Warnings
 pub mod Lives
 pub mod Rebirths
 pub mod Hearing
+pub mod Admitting

@@ -3,6 +3,7 @@
 //!
 //! What its contracts cite:
 //! - `specs/Words`: who is refused, and the number of each refusal
+//! - `specs/Admitting`: where links may come from
 //! - `specs/Warnings`: what is said of what is odd about a link
 //! - `specs/Saying`: when it is said that a link is up
 //! - `specs/Lives`: the lives of a node, and which links are of which
@@ -10,6 +11,7 @@
 //! - `specs/Rebirths`: how often a node goes on under a higher incarnation
 #![tactic(auto)]
 
+mod admitting;
 mod end;
 mod hearing;
 pub mod laws;
@@ -21,10 +23,11 @@ mod warning;
 mod warnings;
 mod words;
 
+pub use admitting::is_admitted;
 pub use end::LinkEnd;
 pub use hearing::{HEARD_MILLISECONDS, is_heard_anew};
 pub use lives::{Came, Coming, Course, Life, MOST_AHEAD, is_due};
-pub use meeting::{greeted, is_admitted, is_welcome};
+pub use meeting::{greeted, is_welcome};
 pub use rebirths::{REBIRTH_MILLISECONDS, Rebirths};
 pub use saying::Saying;
 pub use warning::LinkWarning;

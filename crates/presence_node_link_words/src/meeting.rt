@@ -1,11 +1,10 @@
 //! Who may be there.
-ghost use Rattle.std.specs.Prelude.{◌≡◌, length, true};
+ghost use Rattle.std.specs.Prelude.{◌≡◌};
 ghost use Rattle.presence_base.specs.Order.{same_text, same_replica};
 ghost use Rattle.presence_node_link_words.specs.Words.{met, met_name, is_among, is_welcome as may_link};
 
 use crate::end::LinkEnd;
 use presence_base::{NodeName, Replica};
-use std::net::IpAddr;
 
 fn is_same(a: &NodeName, b: &NodeName) -> bool
     ensures { result ≡ same_text a.now b.now }
@@ -59,12 +58,4 @@ pub fn is_welcome(peers: &[NodeName], name: &NodeName) -> bool
     ensures { result ≡ may_link peers.now name.now }
 {
     peers.is_empty() || is_named(peers, name)
-}
-
-/// Whether a link may come from this host: one of these, or any where there are none. One that is mapped into IPv6 is the host that is
-/// mapped.
-pub fn is_admitted(from: &[IpAddr], host: &IpAddr) -> bool
-    ensures any { length from.now ≡ 0 → result ≡ true }
-{
-    from.is_empty() || from.contains(&host.to_canonical())
 }
