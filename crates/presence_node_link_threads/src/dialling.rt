@@ -13,7 +13,7 @@ use orswot_core_told::Form;
 use presence_base::{NodeName, Replica};
 use presence_node_link_ports::{Gate, Lane, Pool, PoolLinkPort, bare_beat, fitting_beat};
 use presence_node_link_streams::{LinkStream, time_behind};
-use presence_node_link_words::{LinkEnd, LinkWarning, greeted};
+use presence_node_link_words::{LinkEnd, LinkWarning, MOST_AHEAD, greeted};
 use presence_node_mailboxes::{first_behind, from_shard};
 use presence_node_sockets::is_no_file;
 use std::io;
@@ -184,7 +184,7 @@ where
     let (rt, links) = (node.rt, node.links);
     let own = dialled.link.peer.own();
     let mut port = PoolLinkPort::new(rt, node.pool, links.shards);
-    port.looks_for(own);
+    port.looks_for(own, MOST_AHEAD);
     let done = exchange(
         links.alloc,
         &mut dialled.link,

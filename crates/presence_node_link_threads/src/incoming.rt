@@ -21,6 +21,9 @@ pub(crate) const ANYBODY: &str = "from another node";
 /// The number of the listening socket.
 pub(crate) const LISTENER: u64 = 0;
 
+/// Of so many addresses it is told that a link from there was refused; those from further ones are counted alone.
+const MAX_TOLD: usize = 16;
+
 /// How many links one turn takes.
 const MAX_ACCEPTED: usize = 64;
 
@@ -118,6 +121,8 @@ pub struct LinkDoor {
     watch: Watch,
     /// The addresses from which links are taken: where there are none, from any.
     from: Vec<IpAddr>,
+    /// The others of which it was told.
+    told: Vec<IpAddr>,
 }
 
 impl Drop for LinkDoor {
@@ -126,20 +131,28 @@ impl Drop for LinkDoor {
             listener,
             watch,
             from,
+            told,
         } = self;
         drop(listener);
         drop(watch);
         drop(from);
+        drop(told);
     }
 }
 
 impl LinkDoor {
     /// The listening socket, where there is one, is watched as `LISTENER`.
-    pub(crate) fn new(listener: Option<TcpListener>, watch: Watch, from: Vec<IpAddr>) -> LinkDoor {
+    pub(crate) fn new(
+        alloc: Global,
+        listener: Option<TcpListener>,
+        watch: Watch,
+        from: Vec<IpAddr>,
+    ) -> LinkDoor {
         LinkDoor {
             listener,
             watch,
             from,
+            told: Vec::new(alloc),
         }
     }
 
@@ -151,16 +164,31 @@ impl LinkDoor {
         }
     }
 
+    // Whether it is to be told that a link was refused which comes from where this socket does.
+    fn is_news(&mut self, socket: &TcpStream) -> bool {
+        let Ok(address) = socket.peer_addr() else {
+            return true;
+        };
+        let host = address.ip();
+        if self.told.len() >= MAX_TOLD || self.told.contains(&host) {
+            return false;
+        }
+        self.told.push(host).is_ok()
+    }
+
     // A link is refused for the address that it comes from, which is told once.
-    fn refuses<R: Wait + Clock + Eprint>(&self, rt: &R, links: &Links, socket: &TcpStream) {
+    fn refuses<R: Wait + Clock + Eprint>(&mut self, rt: &R, links: &Links, socket: &TcpStream) {
         links.tallies.count_refused();
+        if !self.is_news(socket) {
+            return;
+        }
         if let Ok(origin) = Origin::of(links.alloc, socket) {
             links.tell_down(rt, origin.place(), LinkEnd::OtherAddress);
         }
     }
 
     // Takes one link, if one waits: whether there may be another.
-    fn take_one<R: Wait + Clock + Eprint>(&self, rt: &R, links: &Links) -> bool {
+    fn take_one<R: Wait + Clock + Eprint>(&mut self, rt: &R, links: &Links) -> bool {
         let Some(listener) = &self.listener else {
             return false;
         };
@@ -182,7 +210,7 @@ impl LinkDoor {
     }
 
     // Takes the links that wait, as many as a turn may: whether there may be more.
-    fn take_in<R: Wait + Clock + Eprint>(&self, rt: &R, links: &Links) -> bool {
+    fn take_in<R: Wait + Clock + Eprint>(&mut self, rt: &R, links: &Links) -> bool {
         for _ in 0..MAX_ACCEPTED {
             if !self.take_one(rt, links) {
                 return false;

@@ -1,6 +1,8 @@
 //! How a node goes on that another one has given up: on one path, under one lock, for all threads of links.
 ghost use Rattle.std.specs.Prelude.{◌≡◌, ◌<◌};
-ghost use Rattle.presence_node_link_threads.specs.Lives.{came_of as what_came_of};
+ghost use Rattle.shard_pool.specs.Seats.{IsOfShardAt};
+ghost use Rattle.presence_node_link_threads.specs.Lives.{AllCame, IsCameAt, TriesLate};
+ghost use Rattle.presence_node_link_threads.specs.Lives.{and_option as with_option, came_of as what_came_of};
 
 use crate::cutting::{cut_all, pass_all};
 use crate::links::{Links, Wakes};
@@ -38,12 +40,23 @@ where
     C: Lane,
     D: Lane,
     requires { shard < pool.now.shards }
+    ensures { IsCameAt (IsOfShardAt pool.now.own.name A.begins B.begins C.begins D.begins shard) incarnation result }
 {
     if !is_due(pool.incarnation(rt, shard), incarnation) {
         return None;
     }
     let reply = go_on(rt, links.alloc, pool, shard, incarnation);
     Some(came_of(&reply))
+}
+
+// And this came of one shard more.
+fn and_option(all: Coming, came: Option<Came>) -> Coming
+    ensures { result ≡ with_option all came }
+{
+    match came {
+        Some(came) => all.and(came),
+        None => all,
+    }
 }
 
 // Makes all shards go on whose incarnation is below this one.
@@ -61,12 +74,12 @@ where
     C: Lane,
     D: Lane,
     requires { links.now.shards ≡ pool.now.shards }
+    ensures { AllCame (IsOfShardAt pool.now.own.name A.begins B.begins C.begins D.begins) incarnation
+        links.now.shards result }
 {
     let mut all = Coming::new();
     for shard in 0..links.shards {
-        if let Some(came) = go_on_at(rt, links, pool, shard, incarnation) {
-            all = all.and(came);
-        }
+        all = and_option(all, go_on_at(rt, links, pool, shard, incarnation));
     }
     all
 }
@@ -147,6 +160,8 @@ where
     D: Lane,
     W: Wakes,
     requires { links.now.shards ≡ pool.now.shards }
+    ensures { TriesLate (IsOfShardAt pool.now.own.name A.begins B.begins C.begins D.begins) links.now.shards
+        life.now.is_late life.now result }
 {
     if !life.is_late {
         return *life;

@@ -13,7 +13,9 @@ use node_links::{
 use presence_base::Replica;
 use presence_node_link_ports::{Gate, Lane, Pool, PoolLinkPort};
 use presence_node_link_streams::{Asking, LinkStream, MAX_LOOKS, time_behind};
-use presence_node_link_words::{LinkEnd, LinkWarning, greeted, is_heard_anew, is_welcome};
+use presence_node_link_words::{
+    LinkEnd, LinkWarning, MOST_AHEAD, greeted, is_heard_anew, is_welcome,
+};
 use std::alloc::{AllocError, Global};
 use std::net::TcpStream;
 use std::sync::Wait;
@@ -423,7 +425,7 @@ impl<'a, R: Clock> Incoming<'a, R> {
         let (rt, links) = (node.rt, node.links);
         let own = self.link.peer.own();
         let mut port = PoolLinkPort::new(rt, node.pool, links.shards);
-        port.looks_for(own);
+        port.looks_for(own, MOST_AHEAD);
         if self.counts_below(links.alloc, &mut port, &line) {
             links.tell_odd(rt, self.origin.place(), LinkWarning::CountsBelow);
         }

@@ -163,7 +163,7 @@ fn door_at<R: Net>(
         watch.add(listener, LISTENER)?;
     }
     let bell = watch.bell()?;
-    Ok((LinkDoor::new(listener, watch, from), bell))
+    Ok((LinkDoor::new(alloc, listener, watch, from), bell))
 }
 
 // What the first threads do, of which one takes the links that come in at this door. The one that reads long lines is begun
