@@ -6,8 +6,9 @@ use super::node::NOW;
 use node_links::{Line, LinkPort};
 use orswot_core_told::{Form, RawRow, RawTold, Told};
 use pool_desk::{Scene, replica};
-use presence_base::{Dot, Meta, Replica};
+use presence_base::{Dot, MAX_COUNT, Meta, Replica};
 use presence_node_link_ports::{PoolLinkPort, cut_off, fitting_beat};
+use presence_node_link_words::MOST_AHEAD;
 use serde_json::{Map, Value};
 use shard_pool::{Lane, NoGate, Seat};
 use std::alloc::Global;
@@ -128,9 +129,22 @@ pub(crate) type HearingOwn = ([u64; 2], u64, bool);
 
 pub(crate) const HEARING_OWN: HearingOwn = ([0, 2], 3, true);
 
-// Two rows of the replica, in one range.
-fn told_of(alloc: Global, replica: &Replica) -> Option<Told> {
-    crowd_of(alloc, replica, 2)
+// Counts of this life, and of another one of its name that is too far ahead to hide it.
+fn told_of_lives(alloc: Global, life: &Replica) -> Option<Told> {
+    let far = Replica {
+        name: life.name,
+        incarnation: MAX_COUNT,
+    };
+    let mut ranges = Vec::new(alloc);
+    ranges.push((*life, 0, 2)).ok()?;
+    ranges.push((far, 0, 1)).ok()?;
+    let raw = RawTold {
+        form: Form::One,
+        ranges,
+        extras: Vec::new(alloc),
+        live: Vec::new(alloc),
+    };
+    Told::check(alloc, raw, 0, 2).ok()
 }
 
 pub(crate) fn hear_own<R: Wait, A: Lane, B: Lane, C: Lane, D: Lane>(
@@ -146,9 +160,9 @@ pub(crate) fn hear_own<R: Wait, A: Lane, B: Lane, C: Lane, D: Lane>(
         incarnation: 3,
     };
     let mut port = PoolLinkPort::new(rt, pool, 2);
-    port.looks_for(*own);
-    port.merge(alloc, 0, &told_of(alloc, &next)?).ok()?;
-    port.merge(alloc, 0, &told_of(alloc, &other)?).ok()?;
+    port.looks_for(*own, MOST_AHEAD);
+    port.merge(alloc, 0, &told_of_lives(alloc, &next)?).ok()?;
+    port.merge(alloc, 0, &crowd_of(alloc, &other, 2)?).ok()?;
     let tops = [
         port.top(alloc, 0, &next).ok()?,
         port.top(alloc, 0, &other).ok()?,

@@ -29,8 +29,9 @@ pub(crate) const LIGHT: Heavy = Heavy {
 
 pub(crate) const SAYING_LIGHT: SayingParts = (1_074, 1_065, 2_139);
 
+// A line has room for all of these, but a long one.
 pub(crate) const MIDDLING: Heavy = Heavy {
-    rows: 4_500,
+    rows: 1_200,
     bytes: 1_000,
 };
 
