@@ -9,9 +9,8 @@ use Rattle.presence_node_duties.specs.declared.draining.TheConstants.{DUE_ENTRIE
 abbrev pub due_entries : Bool → ℕ
 due_entries is_tight = if is_tight then TIGHT_ENTRIES else DUE_ENTRIES
 
--- By its entries, of which fewer are enough where memory is tight, or by the bytes of their texts: so many as some legal history of this node's has, and some later one.
-pub record IsDueBy (node : List ℕ) (due : Bool) : Type 0 where
-  pub is_tight : Bool
+-- By its entries or the bytes of their texts: as many as some legal history of this node's has, and some later one.
+pub record IsDueBy (node : List ℕ) (is_tight due : Bool) : Type 0 where
   pub entries : ℕ
   pub bytes : ℕ
   pub counted : IsBehind node (λ h. entries ≡ entry_count h)

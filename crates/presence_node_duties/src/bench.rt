@@ -2,6 +2,7 @@
 use crate::draining::{Drain, Due, count_anew, have_all_delivered, is_due, make_due, set_draining};
 use crate::ends::{Ends, ended_by};
 use crate::following::{add_newcomers, followed_by, followers_of, joined_topics, mark_followers};
+use crate::growth::Growth;
 use crate::server::Server;
 use hook_registry::PresenceHooks;
 use presence_node_counts::{Checkpoint, Counts};
@@ -58,7 +59,7 @@ const MEMORY_IS_TIGHT: &str =
     "memory: nine tenths of --memory are taken: joins, tracks and shouts are refused";
 
 const MEMORY_IS_ENOUGH: &str =
-    "memory: fewer than eight tenths of --memory are taken: nothing is refused for it";
+    "memory: fewer than eight tenths of --memory are taken, or no more for 30 s: nothing is refused";
 
 /// A seat forgets the receipts that have no entry any more in each turn of such a number.
 const TRIM_TURNS: u64 = 1_024;
@@ -203,6 +204,7 @@ pub struct Bench<A: Lane, B: Lane, C: Lane, D: Lane> {
     crowded: bool,
     /// When the memory of the process was looked at last.
     weighed: u64,
+    growth: Growth,
     /// How many turns there were.
     turns: u64,
     drain: Drain,
@@ -227,6 +229,7 @@ impl<A: Lane, B: Lane, C: Lane, D: Lane> Drop for Bench<A, B, C, D> {
             dealt: _,
             crowded: _,
             weighed: _,
+            growth: _,
             turns: _,
             drain: _,
         } = self;
@@ -270,6 +273,7 @@ impl<A: Lane, B: Lane, C: Lane, D: Lane> Bench<A, B, C, D> {
             dealt: 0,
             crowded: false,
             weighed: 0,
+            growth: Growth::new(),
             turns: 0,
             drain: Drain::new(),
         }
@@ -296,6 +300,7 @@ impl<A: Lane, B: Lane, C: Lane, D: Lane> Bench<A, B, C, D> {
             dealt: _,
             crowded: _,
             weighed: _,
+            growth: _,
             turns: _,
             drain: _,
         } = self;
@@ -476,8 +481,9 @@ impl<A: Lane, B: Lane, C: Lane, D: Lane> Bench<A, B, C, D> {
     // From time to time: where a journal is nearly full, all workers are to read nothing until this one has made a
     // checkpoint.
     fn look_at_journals<R: Wait, H>(&mut self, rt: &R, server: &Server<'_, H, A, B, C, D>) {
-        if self.drain.looks_at(self.now) && is_due(rt, server) {
-            self.drain.lead();
+        let is_tight = server.memory.is_tight() && self.drain.has_rested(self.now);
+        if self.drain.looks_at(self.now) && is_due(rt, server, is_tight) {
+            self.drain.lead(is_tight);
             count_anew(server);
             set_draining(server, true);
         }
@@ -514,7 +520,7 @@ impl<A: Lane, B: Lane, C: Lane, D: Lane> Bench<A, B, C, D> {
             server.look();
             return;
         }
-        let due = make_due(rt, server, is_over);
+        let due = make_due(rt, server, self.drain.is_tight(), is_over);
         if due == Due::Waits {
             return;
         }
@@ -641,8 +647,9 @@ impl<A: Lane, B: Lane, C: Lane, D: Lane> Bench<A, B, C, D> {
             return;
         }
         self.weighed = self.now;
-        let changed = resident_bytes(rt).and_then(|bytes| server.memory.look(bytes));
-        match changed {
+        let limit = server.memory.limit();
+        let taken = self.growth.counted(resident_bytes(rt), limit, self.now);
+        match server.memory.look(taken) {
             Some(true) => server.log.say(rt, Level::Warn, MEMORY_IS_TIGHT),
             Some(false) => server.log.say(rt, Level::Info, MEMORY_IS_ENOUGH),
             None => {}

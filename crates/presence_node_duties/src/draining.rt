@@ -12,7 +12,7 @@ use std::sync::atomic::Ordering;
 /// A journal with so many entries is due for a checkpoint: three quarters of those that it may have.
 const DUE_ENTRIES: u64 = 196_608;
 
-/// Where memory is tight one with so many is, so that what is gone is given back.
+/// Where memory is tight one with so many is, once in a while, so that what is gone is given back.
 const TIGHT_ENTRIES: u64 = 64;
 
 /// A journal whose entries keep so many bytes of texts is due too: three quarters of 64 MiB.
@@ -28,8 +28,11 @@ const MAX_DRAIN_MILLISECONDS: u64 = 100;
 /// When a worker has ended so many turns that read nothing, one of them was begun since they are counted.
 const WHOLE_TURNS: u64 = 2;
 
-/// Where memory was refused to a checkpoint, or is tight, the next one is tried so much later, in milliseconds.
+/// Where memory was refused to a checkpoint the next one is tried so much later, in milliseconds.
 const REST_MILLISECONDS: u64 = 1_000;
+
+/// So long behind a checkpoint tight memory makes no journal due, in milliseconds: each gives clients whole states.
+const TIGHT_MILLISECONDS: u64 = 30_000;
 
 /// What a worker knows of the next checkpoint.
 #[derive(Clone, Copy)]
@@ -38,8 +41,12 @@ pub(crate) struct Drain {
     looks: u64,
     /// Since when this worker has read nothing, if it reads nothing.
     since: Option<u64>,
+    /// Until when tight memory makes no journal due.
+    rests: u64,
     /// Whether it makes the checkpoint.
     leads: bool,
+    /// Whether it makes those too that are due since memory is tight.
+    is_tight: bool,
     /// What came of the checkpoints that it made, while their fresh states are delivered.
     made: Option<Due>,
 }
@@ -61,7 +68,9 @@ impl Drain {
         Drain {
             looks: 0,
             since: None,
+            rests: 0,
             leads: false,
+            is_tight: false,
             made: None,
         }
     }
@@ -85,9 +94,20 @@ impl Drain {
         true
     }
 
-    /// It makes the checkpoint that is due.
-    pub fn lead(&mut self) {
+    /// Whether tight memory makes a journal due again.
+    pub fn has_rested(&self, now: u64) -> bool {
+        now >= self.rests
+    }
+
+    /// It makes the checkpoint that is due, where memory is tight or isn't.
+    pub fn lead(&mut self, is_tight: bool) {
         self.leads = true;
+        self.is_tight = is_tight;
+    }
+
+    /// Whether it makes those too that are due since memory is tight.
+    pub fn is_tight(&self) -> bool {
+        self.is_tight
     }
 
     /// It reads nothing from this time on, if it didn't already.
@@ -97,14 +117,18 @@ impl Drain {
         }
     }
 
-    /// It reads again, if it didn't. Where memory was refused, or is tight, it lets the journals be for a while.
+    /// It reads again, if it didn't. Where memory was refused it lets the journals be for a while, and where memory is
+    /// tight those that are due for it.
     pub fn end(&mut self, now: u64, due: Due, is_tight: bool) {
-        let rests = due == Due::Refused || is_tight;
-        if self.is_on() && rests {
+        if due == Due::Refused {
             self.looks = now.saturating_add(REST_MILLISECONDS);
+        }
+        if self.is_on() && is_tight {
+            self.rests = now.saturating_add(TIGHT_MILLISECONDS);
         }
         self.since = None;
         self.leads = false;
+        self.is_tight = false;
         self.made = None;
     }
 
@@ -142,27 +166,29 @@ fn due_entries(is_tight: bool) -> u64
     if is_tight { TIGHT_ENTRIES } else { DUE_ENTRIES }
 }
 
-// Whether a shard's journal is due for a checkpoint.
+// Whether a shard's journal is due for a checkpoint, where memory is tight or isn't.
 fn is_due_at<R: Wait, H, A: Lane, B: Lane, C: Lane, D: Lane>(
     rt: &R,
     server: &Server<'_, H, A, B, C, D>,
+    is_tight: bool,
     shard: u32,
 ) -> bool
     requires { shard < server.now.pool.shards }
-    ensures { IsDueBy server.now.pool.own.name result }
+    ensures { IsDueBy server.now.pool.own.name is_tight result }
 {
     let entries = server.pool.entry_count(rt, shard);
     let bytes = server.pool.text_bytes(rt, shard);
-    entries >= due_entries(server.memory.is_tight()) || bytes >= DUE_TEXT_BYTES
+    entries >= due_entries(is_tight) || bytes >= DUE_TEXT_BYTES
 }
 
-/// Whether a journal is due for a checkpoint.
+/// Whether a journal is due for a checkpoint, where memory is tight or isn't.
 pub(crate) fn is_due<R: Wait, H, A: Lane, B: Lane, C: Lane, D: Lane>(
     rt: &R,
     server: &Server<'_, H, A, B, C, D>,
+    is_tight: bool,
 ) -> bool {
     for shard in 0..server.links.shards() {
-        if is_due_at(rt, server, shard) {
+        if is_due_at(rt, server, is_tight, shard) {
             return true;
         }
     }
@@ -206,12 +232,13 @@ pub(crate) fn have_all_delivered<H, A: Lane, B: Lane, C: Lane, D: Lane>(
 fn make_at<R: Wait, H, A: Lane, B: Lane, C: Lane, D: Lane>(
     rt: &R,
     server: &Server<'_, H, A, B, C, D>,
-    shard: u32,
+    is_tight: bool,
     is_over: bool,
+    shard: u32,
 ) -> Result<bool, PoolFault>
     requires { shard < server.now.pool.shards }
 {
-    if !is_due_at(rt, server, shard) {
+    if !is_due_at(rt, server, is_tight, shard) {
         return Ok(true);
     }
     let is_made = if is_over {
@@ -219,7 +246,7 @@ fn make_at<R: Wait, H, A: Lane, B: Lane, C: Lane, D: Lane>(
         true
     } else {
         let due = DueFrom {
-            entries: due_entries(server.memory.is_tight()),
+            entries: due_entries(is_tight),
             text_bytes: DUE_TEXT_BYTES,
         };
         server
@@ -232,15 +259,16 @@ fn make_at<R: Wait, H, A: Lane, B: Lane, C: Lane, D: Lane>(
     Ok(is_made)
 }
 
-/// Tries each checkpoint that is due.
+/// Tries each checkpoint that is due, where memory is tight or isn't.
 pub(crate) fn make_due<R: Wait, H, A: Lane, B: Lane, C: Lane, D: Lane>(
     rt: &R,
     server: &Server<'_, H, A, B, C, D>,
+    is_tight: bool,
     is_over: bool,
 ) -> Due {
     let mut due = Due::Made;
     for shard in 0..server.links.shards() {
-        match make_at(rt, server, shard, is_over) {
+        match make_at(rt, server, is_tight, is_over, shard) {
             Ok(true) => {}
             Ok(false) => due = Due::Waits,
             Err(_) => return Due::Refused,

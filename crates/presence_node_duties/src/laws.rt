@@ -3,21 +3,24 @@ ghost use Rattle.std.specs.Prelude.{◌≡◌};
 ghost use Rattle.presence_node_duties.specs.declared.bench.TheConstants.{SWEEP_MILLISECONDS, TRIM_TURNS};
 ghost use Rattle.presence_node_duties.specs.declared.door.TheConstants as door;
 ghost use Rattle.presence_node_duties.specs.declared.draining.TheConstants as draining;
+ghost use Rattle.presence_node_duties.specs.declared.growth.TheConstants as growth;
 ghost use Rattle.presence_node_duties.specs.declared.neighbours.TheConstants.{HANDSHAKES_PER_SECOND, SHARE};
 
 /// Behind how many milliseconds a worker looks at all its connections, and behind how many turns it trims its seat;
-/// behind how many entries, and how many bytes of their texts, a journal is drained, how often journals are looked at,
-/// and how long nothing is read for one; how many connections a turn at the door takes, and how often it looks at
-/// handshakes; and what the clients of one address get where nothing else is asked for: handshakes each second, and a
-/// part of the places.
+/// behind how many entries, and how many bytes of their texts, a journal is drained, how often where memory is tight, how
+/// often journals are looked at, and how long nothing is read for one; how long memory that grows no more counts as taken; how many connections a turn at
+/// the door takes, and how often it looks at handshakes; and what the clients of one address get where nothing else is
+/// asked for: handshakes each second, and a part of the places.
 pub fn limits_are_these()
     ensures sweep { SWEEP_MILLISECONDS ≡ 2000 }
     ensures trim { TRIM_TURNS ≡ 1024 }
     ensures due { draining.DUE_ENTRIES ≡ 196608 }
     ensures due_where_tight { draining.TIGHT_ENTRIES ≡ 64 }
+    ensures tight_rest { draining.TIGHT_MILLISECONDS ≡ 30000 }
     ensures due_texts { draining.DUE_TEXT_BYTES ≡ 50331648 }
     ensures journal_look { draining.LOOK_MILLISECONDS ≡ 5 }
     ensures drain { draining.MAX_DRAIN_MILLISECONDS ≡ 100 }
+    ensures memory { growth.GROWTH_MILLISECONDS ≡ 30000 }
     ensures accepted { door.MAX_ACCEPTED ≡ 256 }
     ensures handshake_look { door.LOOK_MILLISECONDS ≡ 25 }
     ensures handshakes_per_second { HANDSHAKES_PER_SECOND ≡ 20 }

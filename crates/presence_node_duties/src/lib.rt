@@ -11,6 +11,7 @@ mod door;
 mod draining;
 mod ends;
 mod following;
+mod growth;
 pub mod laws;
 mod neighbours;
 mod place;
