@@ -3,17 +3,20 @@
 use crate::front::{here, look};
 use presence_node_handshakes::{Admission, Guests, Newcomer};
 use std::alloc::Global;
-use std::io;
 use std::io::{ErrorKind, Read, Write};
 use std::test::Fail;
+use std::{io, mem};
 use tungstenite::WebSocketConfig;
 
-// Gives its bytes, one piece a call, where `pieces` says how many of them come, and then has nothing. It takes all
-// that is written.
+// Gives its bytes, so many a call, and has nothing in between, nor behind them, if it doesn't end there. It takes so many a
+// call of what is written, and has no room in between.
 struct Wire {
     rest: &'static [u8],
     piece: usize,
     open: bool,
+    ends: bool,
+    takes: usize,
+    full: bool,
     taken: Vec<u8>,
 }
 
@@ -23,6 +26,9 @@ impl Drop for Wire {
             rest: _,
             piece: _,
             open: _,
+            ends: _,
+            takes: _,
+            full: _,
             taken,
         } = self;
         drop(taken);
@@ -31,6 +37,9 @@ impl Drop for Wire {
 
 impl Read for Wire {
     fn read(&mut self, buf: &mut [u8]) -> io::Result<usize> {
+        if self.ends && self.rest.is_empty() {
+            return Ok(0);
+        }
         if !self.open || self.rest.is_empty() {
             self.open = true;
             return Err(io::Error::from(ErrorKind::WouldBlock));
@@ -45,10 +54,16 @@ impl Read for Wire {
 
 impl Write for Wire {
     fn write(&mut self, buf: &[u8]) -> io::Result<usize> {
-        if self.taken.extend_from_slice(buf).is_err() {
+        if self.full {
+            self.full = false;
+            return Err(io::Error::from(ErrorKind::WouldBlock));
+        }
+        let n = buf.len().min(self.takes);
+        if self.taken.extend_from_slice(&buf[..n]).is_err() {
             return Err(io::Error::from(ErrorKind::OutOfMemory));
         }
-        Ok(buf.len())
+        self.full = n < buf.len();
+        Ok(n)
     }
 
     fn flush(&mut self) -> io::Result<()> {
@@ -60,20 +75,21 @@ impl Write for Wire {
 const REQUEST: &[u8] =
     b"GET /chat HTTP/1.1\r\nHost: server.example.com\r\nUpgrade: websocket\r\nConnection: Upgrade\r\nSec-WebSocket-Key: dGhlIHNhbXBsZSBub25jZQ==\r\nOrigin: http://example.com\r\nSec-WebSocket-Version: 13\r\n\r\n";
 
-// Lets a client in whose stream gives this, so many bytes a read.
-fn admit(
-    alloc: Global,
-    guests: &mut Guests<Wire>,
-    number: u64,
-    rest: &'static [u8],
-    piece: usize,
-) -> Result<(), Fail> {
-    let stream = Wire {
+// A stream that gives this, so many bytes a read, and takes whatever is written.
+fn wire(alloc: Global, rest: &'static [u8], piece: usize) -> Wire {
+    Wire {
         rest,
         piece,
         open: true,
+        ends: false,
+        takes: usize::MAX,
+        full: false,
         taken: Vec::new(alloc),
-    };
+    }
+}
+
+// Lets a client in.
+fn admit(alloc: Global, guests: &mut Guests<Wire>, number: u64, stream: Wire) -> Result<(), Fail> {
     let newcomer = Newcomer {
         number,
         stream,
@@ -84,10 +100,15 @@ fn admit(
     Ok(())
 }
 
-fn guests(alloc: Global, rest: &'static [u8], piece: usize) -> Result<Guests<Wire>, Fail> {
+// One client, who is let in over a stream.
+fn guest_over(alloc: Global, stream: Wire) -> Result<Guests<Wire>, Fail> {
     let mut guests = Guests::new(alloc);
-    admit(alloc, &mut guests, 7, rest, piece)?;
+    admit(alloc, &mut guests, 7, stream)?;
     Ok(guests)
+}
+
+fn guests(alloc: Global, rest: &'static [u8], piece: usize) -> Result<Guests<Wire>, Fail> {
+    guest_over(alloc, wire(alloc, rest, piece))
 }
 
 // In how many turns the one client came to an end, and whether with an open socket.
@@ -123,11 +144,46 @@ fn silence_is_borne_for_two_hundred_looks(rt: HostRuntime) -> Result<(), Fail> {
     Ok(())
 }
 
+// Behind another answer the client may end its side: who doesn't is borne as a silent one is.
 #[test]
-fn another_request_is_given_up_at_once(rt: HostRuntime) -> Result<(), Fail> {
+fn another_request_is_over_at_its_end(rt: HostRuntime) -> Result<(), Fail> {
     let alloc = rt.alloc();
-    let mut plain = guests(alloc, b"GET / HTTP/1.1\r\nHost: a\r\n\r\n", 4_096)?;
-    assert_eq!(rt; turns(alloc, &mut plain)?, (1, false));
+    for (ends, turn) in [(true, 1), (false, 200)] {
+        let mut stream = wire(alloc, b"GET / HTTP/1.1\r\nHost: a\r\n\r\n", 4_096);
+        stream.ends = ends;
+        let mut plain = guest_over(alloc, stream)?;
+        assert_eq!(rt; turns(alloc, &mut plain)?, (turn, false));
+    }
+    Ok(())
+}
+
+// What is sent to the one client until its WebSocket opens.
+fn sent_to(alloc: Global, guests: &mut Guests<Wire>) -> Result<Option<Vec<u8>>, Fail> {
+    for _ in 0..1_000 {
+        guests.mark_all();
+        if let Some((_, socket)) = look(alloc, guests)?.pop() {
+            let mut socket = socket;
+            let sent = mem::replace(&mut socket.get_mut().taken, Vec::new(alloc));
+            return Ok(Some(sent));
+        }
+    }
+    Ok(None)
+}
+
+// The reply has 129 bytes, with the accepted key of RFC 6455, section 1.3. A stream that takes ten at a time has all of them
+// in the end.
+#[test]
+fn a_reply_that_finds_no_room_goes_on(rt: HostRuntime) -> Result<(), Fail> {
+    let alloc = rt.alloc();
+    let mut stream = wire(alloc, REQUEST, 4_096);
+    stream.takes = 10;
+    let mut narrow = guest_over(alloc, stream)?;
+    let Some(sent) = sent_to(alloc, &mut narrow)? else {
+        return Err(Fail::new("no WebSocket opened"));
+    };
+    assert_eq!(rt; sent.len(), 129);
+    assert!(rt; sent.starts_with(b"HTTP/1.1 101 Switching Protocols\r\n"));
+    assert!(rt; sent.ends_with(b"\r\nSec-WebSocket-Accept: s3pPLMBiTxaQ9kYGzzhZRbK+xOo=\r\n\r\n"));
     Ok(())
 }
 
@@ -148,9 +204,9 @@ fn one_that_is_not_marked_waits(rt: HostRuntime) -> Result<(), Fail> {
 fn each_is_opened_once_under_its_number(rt: HostRuntime) -> Result<(), Fail> {
     let alloc = rt.alloc();
     let mut guests = Guests::new(alloc);
-    admit(alloc, &mut guests, 7, b"", 1)?;
-    admit(alloc, &mut guests, 9, REQUEST, 4_096)?;
-    admit(alloc, &mut guests, 8, REQUEST, 4_096)?;
+    admit(alloc, &mut guests, 7, wire(alloc, b"", 1))?;
+    admit(alloc, &mut guests, 9, wire(alloc, REQUEST, 4_096))?;
+    admit(alloc, &mut guests, 8, wire(alloc, REQUEST, 4_096))?;
     assert_eq!(rt; guests.len(), 3);
     let mut numbers = Vec::new(alloc);
     for (number, _) in look(alloc, &mut guests)? {
