@@ -1,4 +1,5 @@
 //! How much of the memory that the process has counts as taken.
+ghost use Rattle.presence_node_duties.specs.Growing.{Counts};
 
 /// So long behind its last growth all of it counts, in milliseconds.
 const GROWTH_MILLISECONDS: u64 = 30_000;
@@ -32,7 +33,9 @@ impl Growth {
     /// It is so many bytes now, or as many as it was where nobody says, and may be so many: how many count as taken. Where
     /// it hasn't grown for a while none do, since the C library keeps what was freed and gives it out again; but all do
     /// where it is as much as it may be.
-    pub fn counted(&mut self, bytes: Option<u64>, limit: u64, now: u64) -> u64 {
+    pub fn counted(&mut self, bytes: Option<u64>, limit: u64, now: u64) -> u64
+        ensures { Counts self.old bytes limit now result self.new }
+    {
         let taken = bytes.unwrap_or(self.last);
         self.last = taken;
         let has_grown = taken > self.grown.saturating_add(limit / GROWTH_PART);
