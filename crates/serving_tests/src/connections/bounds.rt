@@ -34,7 +34,7 @@ fn a_turn_reads_so_much(rt: HostRuntime) -> Result<(), Fail> {
     let mut connection = Connection::new(alloc, socket, 1, 0);
     let turns = [
         (175_904, true),
-        (171_808, false),
+        (110_368, false),
         (106_272, false),
         (102_176, true),
         (36_640, true),
