@@ -5,7 +5,7 @@ use Rattle.presence_node_log.specs.declared.quota.TheConstants.{LINES_A_SECOND}
 use Rattle.presence_node_log.specs.declared.reasons.Deed.{Deed}
 use Rattle.presence_node_log.specs.declared.reasons.Deed.TheVariants as deeds
 use Rattle.presence_node_log.specs.declared.reasons.Reason.{Reason}
-use Rattle.presence_node_log.specs.declared.reasons.Reason.TheVariants.{BadRequest, Forbidden, NotFound, NotAllowed, LongHead, LongBody, Full, Crowded, Hasty, NoMemory, Handshakes, Unwatched, Queue, Late, Silent, Binary, NotAMessage, TooLong, Backlog, Fault, Stalled, Opened, Left, Lost, Stopped, Gone}
+use Rattle.presence_node_log.specs.declared.reasons.Reason.TheVariants.{BadRequest, Forbidden, NotFound, NotAllowed, LongHead, LongBody, Full, Crowded, Hasty, Handshakes, Unwatched, Queue, Late, NoHttp, Silent, Binary, NotAMessage, TooLong, Backlog, Fault, Stalled, Opened, Left, Lost, Stopped, Gone}
 use Rattle.presence_node_log.specs.declared.reasons.Shown.{Shown}
 use Rattle.presence_node_log.specs.declared.reasons.Shown.TheVariants as shown
 
@@ -20,11 +20,11 @@ deed_of LongBody = deeds.Refused
 deed_of Full = deeds.Refused
 deed_of Crowded = deeds.Refused
 deed_of Hasty = deeds.Refused
-deed_of NoMemory = deeds.Refused
 deed_of Handshakes = deeds.Dropped
 deed_of Unwatched = deeds.Dropped
 deed_of Queue = deeds.Dropped
 deed_of Late = deeds.Dropped
+deed_of NoHttp = deeds.Dropped
 deed_of Silent = deeds.Closed
 deed_of Binary = deeds.Closed
 deed_of NotAMessage = deeds.Closed

@@ -70,11 +70,11 @@ pub enum Reason {
     Full,
     Crowded,
     Hasty,
-    NoMemory,
     Handshakes,
     Unwatched,
     Queue,
     Late,
+    NoHttp,
     Silent,
     Binary,
     NotAMessage,
@@ -103,11 +103,11 @@ pub(crate) const EACH_REASON: [Reason; REASONS] = [
     Reason::Full,
     Reason::Crowded,
     Reason::Hasty,
-    Reason::NoMemory,
     Reason::Handshakes,
     Reason::Unwatched,
     Reason::Queue,
     Reason::Late,
+    Reason::NoHttp,
     Reason::Silent,
     Reason::Binary,
     Reason::NotAMessage,
@@ -136,9 +136,12 @@ impl Reason {
             | Reason::LongBody
             | Reason::Full
             | Reason::Crowded
-            | Reason::Hasty
-            | Reason::NoMemory => Deed::Refused,
-            Reason::Handshakes | Reason::Unwatched | Reason::Queue | Reason::Late => Deed::Dropped,
+            | Reason::Hasty => Deed::Refused,
+            Reason::Handshakes
+            | Reason::Unwatched
+            | Reason::Queue
+            | Reason::Late
+            | Reason::NoHttp => Deed::Dropped,
             Reason::Silent
             | Reason::Binary
             | Reason::NotAMessage
@@ -151,7 +154,7 @@ impl Reason {
         }
     }
 
-    // Its name, by which it is counted.
+    // Its name. Where the server counts the same its count is labelled so.
     pub(crate) fn label(self) -> &'static str {
         match self {
             Reason::BadRequest => "bad_request",
@@ -163,12 +166,12 @@ impl Reason {
             Reason::Full => "full",
             Reason::Crowded => "crowded",
             Reason::Hasty => "hasty",
-            Reason::NoMemory => "no_memory",
             Reason::Handshakes => "handshakes",
             Reason::Unwatched => "watch",
             Reason::Queue => "queue",
             Reason::Late => "silent",
-            Reason::Silent => "silence",
+            Reason::NoHttp => "no_http",
+            Reason::Silent => "no_sign_of_life",
             Reason::Binary => "binary",
             Reason::NotAMessage => "not_a_message",
             Reason::TooLong => "too_long",
@@ -192,26 +195,28 @@ impl Reason {
             Reason::NotAllowed => "405, its method is not taken there",
             Reason::LongHead => "431, its request's head is too long",
             Reason::LongBody => "413, its request has a body that is too long",
-            Reason::Full => "503, all places of the workers are taken",
+            Reason::Full =>
+                "503, the workers have no place for it, or there is no file or memory for one",
             Reason::Crowded => "503, as many clients of its address are here as may be",
             Reason::Hasty => "429, clients of its address come too fast",
-            Reason::NoMemory => "503, the server has as much in memory as it may",
             Reason::Handshakes => "as many handshakes are under way as may be",
             Reason::Unwatched => "the system doesn't watch its connection",
             Reason::Queue => "as many wait for the workers as may",
             Reason::Late => "its request didn't come in time",
-            Reason::Silent => "it sent nothing for 60 seconds",
+            Reason::NoHttp => "what it sent is no request of HTTP",
+            Reason::Silent => "it gave no sign of life for 60 seconds",
             Reason::Binary => "it sent a binary message",
             Reason::NotAMessage => "it sent a text that is no message",
             Reason::TooLong => "it sent a message that is too long",
             Reason::Backlog => "more waited to be sent to it than may",
             Reason::Fault => "no reply could tell of a fault",
-            Reason::Stalled => "it took nothing of what was sent to it for 60 seconds",
+            Reason::Stalled =>
+                "for 60 seconds it took too little of what was sent to it, or gave no sign of life",
             Reason::Opened => "its WebSocket is open",
             Reason::Left => "it closed the connection",
-            Reason::Lost => "its connection broke off",
+            Reason::Lost => "its connection broke off, or it broke the rules of WebSockets",
             Reason::Stopped => "the server stops",
-            Reason::Gone => "it went before its request was whole",
+            Reason::Gone => "it went before its answer was sent",
         }
     }
 
