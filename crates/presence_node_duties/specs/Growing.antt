@@ -1,7 +1,7 @@
 -- How much of the memory that a process has counts as taken.
-use Rattle.std.specs.Prelude.{◌≡◌, ◌+◌, ◌-◌, ◌/◌, ◌&&◌, ◌||◌, ℕ, Bool, Option, Some, None, if◌then◌else◌, leb, nat_lt}
+use Rattle.std.specs.Prelude.{◌≡◌, ◌+◌, ◌-◌, ◌/◌, ◌||◌, ℕ, Bool, Option, Some, None, if◌then◌else◌, leb, nat_lt}
 use Rattle.presence_node_duties.specs.declared.growth.Growth.{Growth}
-use Rattle.presence_node_duties.specs.declared.growth.TheConstants.{FALL_PART, GROWTH_MILLISECONDS, GROWTH_PART}
+use Rattle.presence_node_duties.specs.declared.growth.TheConstants.{FALL_PART, GROWTH_MILLISECONDS, GROWTH_PART, LIMIT_MILLISECONDS}
 
 -- as much as it was, where nobody says
 abbrev pub taken_in : Growth → Option ℕ → ℕ
@@ -12,9 +12,13 @@ taken_in old None = old.last
 abbrev pub has_changed : Growth → ℕ → ℕ → Bool
 has_changed old taken limit = nat_lt (old.grown + limit / GROWTH_PART) taken || nat_lt taken (old.grown - limit / FALL_PART)
 
--- All counts, but where it hasn't changed for a while and is less than it may be.
+-- how long it counts, which is longer where it is as much as it may be
+abbrev pub rest_of : ℕ → ℕ → ℕ
+rest_of taken limit = if nat_lt taken limit then GROWTH_MILLISECONDS else LIMIT_MILLISECONDS
+
+-- All counts, but where it hasn't changed for so long.
 abbrev pub counted_in : ℕ → ℕ → ℕ → ℕ → ℕ
-counted_in taken since limit now = if leb GROWTH_MILLISECONDS (now - since) && nat_lt taken limit then 0 else taken
+counted_in taken since limit now = if nat_lt (now - since) (rest_of taken limit) then taken else 0
 
 -- It counts by when it has changed last, which is now where it has.
 abbrev pub Counts : Growth → Option ℕ → ℕ → ℕ → ℕ → Growth → Type 0

@@ -1,8 +1,10 @@
 //! How much of the memory that the process has counts as taken.
 ghost use Rattle.presence_node_duties.specs.Growing.{Counts};
 
-/// So long behind its last growth all of it counts, in milliseconds.
+/// So long behind its last growth all of it counts, in milliseconds, and so long where it is as much as it may be.
 const GROWTH_MILLISECONDS: u64 = 30_000;
+
+const LIMIT_MILLISECONDS: u64 = 300_000;
 
 /// It has grown where it is more by this part of what it may be, and fallen where it is less by that one.
 const GROWTH_PART: u64 = 100;
@@ -31,8 +33,7 @@ impl Growth {
     }
 
     /// It is so many bytes now, or as many as it was where nobody says, and may be so many: how many count as taken. Where
-    /// it hasn't grown for a while none do, since the C library keeps what was freed and gives it out again; but all do
-    /// where it is as much as it may be.
+    /// it hasn't grown for a while none do: the C library keeps what was freed, and gives it out again.
     pub fn counted(&mut self, bytes: Option<u64>, limit: u64, now: u64) -> u64
         ensures { Counts self.old bytes limit now result self.new }
     {
@@ -44,7 +45,15 @@ impl Growth {
             self.grown = taken;
             self.since = now;
         }
-        let rests = now.saturating_sub(self.since) >= GROWTH_MILLISECONDS;
-        if rests && taken < limit { 0 } else { taken }
+        let rest = if taken < limit {
+            GROWTH_MILLISECONDS
+        } else {
+            LIMIT_MILLISECONDS
+        };
+        if now.saturating_sub(self.since) < rest {
+            taken
+        } else {
+            0
+        }
     }
 }

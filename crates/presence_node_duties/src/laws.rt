@@ -21,6 +21,7 @@ pub fn limits_are_these()
     ensures journal_look { draining.LOOK_MILLISECONDS ≡ 5 }
     ensures drain { draining.MAX_DRAIN_MILLISECONDS ≡ 100 }
     ensures memory { growth.GROWTH_MILLISECONDS ≡ 30000 }
+    ensures all_memory { growth.LIMIT_MILLISECONDS ≡ 300000 }
     ensures accepted { door.MAX_ACCEPTED ≡ 256 }
     ensures handshake_look { door.LOOK_MILLISECONDS ≡ 25 }
     ensures handshakes_per_second { HANDSHAKES_PER_SECOND ≡ 20 }
