@@ -62,7 +62,10 @@ pub record IsTriedAgain (here : ℕ → History → Type 0) (shards : ℕ) (old 
   pub all : AllCame here old.own.incarnation shards came
   pub is : new ≡ life_retried old came
 
--- the shards are tried again where some could not go on yet, and else none
-abbrev pub TriesLate : (ℕ → History → Type 0) → ℕ → (late : Bool) → Life → Life → Type 0
-TriesLate here shards false old new = new ≡ old
-TriesLate here shards true old new = IsTriedAgain here shards old new
+-- whether some shard could not go on yet: then each is tried again, and else none
+abbrev pub TriesWhere : (late : Bool) → (ℕ → History → Type 0) → ℕ → Life → Life → Type 0
+TriesWhere false here shards old new = new ≡ old
+TriesWhere true here shards old new = IsTriedAgain here shards old new
+
+abbrev pub TriesLate : (ℕ → History → Type 0) → ℕ → Life → Life → Type 0
+TriesLate here shards old new = TriesWhere old.is_late here shards old new

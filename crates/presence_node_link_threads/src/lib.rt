@@ -7,7 +7,7 @@
 //!
 //! Its contracts cite these definitions:
 //! - `specs/Tasks`: what the threads of links do, and what a node that is dialled adds to it
-//! - `specs/Lives`: what comes of a shard that is to go on under a higher incarnation
+//! - `specs/Lives`: what comes of shards that are to go on under a higher incarnation, and of those that could not yet
 #![tactic(auto)]
 
 mod book;

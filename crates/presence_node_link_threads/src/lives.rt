@@ -161,7 +161,7 @@ where
     W: Wakes,
     requires { links.now.shards ≡ pool.now.shards }
     ensures { TriesLate (IsOfShardAt pool.now.own.name A.begins B.begins C.begins D.begins) links.now.shards
-        life.now.is_late life.now result }
+        life.now result }
 {
     if !life.is_late {
         return *life;
