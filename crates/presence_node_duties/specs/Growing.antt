@@ -1,5 +1,5 @@
 -- How much of the memory that a process has counts as taken.
-use Rattle.std.specs.Prelude.{◌≡◌, ◌+◌, ◌-◌, ◌/◌, ◌||◌, ℕ, Bool, Option, Some, None, if◌then◌else◌, leb, nat_lt}
+use Rattle.std.specs.Prelude.{◌≡◌, ◌+◌, ◌-◌, ◌/◌, ◌||◌, ℕ, Bool, Option, Some, None, if◌then◌else◌, nat_lt}
 use Rattle.presence_node_duties.specs.declared.growth.Growth.{Growth}
 use Rattle.presence_node_duties.specs.declared.growth.TheConstants.{FALL_PART, GROWTH_MILLISECONDS, GROWTH_PART, LIMIT_MILLISECONDS}
 
