@@ -1,5 +1,5 @@
 //! A client's stream.
-ghost use Rattle.std.specs.Prelude.{◌≡◌, ◌≤◌, true, false, None, IfOk};
+ghost use Rattle.std.specs.Prelude.{◌≡◌, ◌≤◌, cond, true, false, None, IfOk};
 ghost use Rattle.presence_node_client_streams.specs.Budget.{IsTurn, Spends};
 ghost use Rattle.presence_node_client_streams.specs.Stalls.{Takes, keeps_pace as keeps_pace_in, noted_at as noted_at_in};
 ghost use Rattle.presence_node_client_streams.specs.declared.stream.TheConstants.{LONG_TURN_BYTES, TURN_BYTES};
@@ -114,6 +114,13 @@ fn keeps_pace(noted: Stall, taken: u64) -> bool
     taken >= noted.goal && taken >= noted.taken.saturating_add(PACE_BYTES)
 }
 
+// How many bytes the turn behind this one may read, where it is to end a long text or isn't.
+fn turn_bytes(goes_on: bool) -> usize
+    ensures { result ≡ cond goes_on LONG_TURN_BYTES TURN_BYTES }
+{
+    if goes_on { LONG_TURN_BYTES } else { TURN_BYTES }
+}
+
 // What is noted at this time, where writes have taken so much, and so much is to go of the frame that is first.
 fn noted_at(taken: u64, front: u64, now: u64) -> Stall
     ensures { result ≡ noted_at_in taken front now }
@@ -153,6 +160,7 @@ impl<S> ClientStream<S> {
 
     /// Its client is at this address.
     pub fn come_from(&mut self, address: IpAddr)
+        ensures address { self.new.address ≡ Some address }
         ensures stream { self.new.stream ≡ self.old.stream }
         ensures left { self.new.left ≡ self.old.left }
     {
@@ -160,7 +168,9 @@ impl<S> ClientStream<S> {
     }
 
     /// Where its client is, if that was told.
-    pub fn address(&self) -> Option<IpAddr> {
+    pub fn address(&self) -> Option<IpAddr>
+        ensures { result ≡ self.now.address }
+    {
         self.address
     }
 
@@ -282,11 +292,7 @@ impl<S: Read> ClientStream<S> {
         ensures put_off { self.new.put_off ≡ true }
         ensures stream { self.new.stream ≡ self.old.stream }
     {
-        self.left = if self.goes_on.replace(false) {
-            LONG_TURN_BYTES
-        } else {
-            TURN_BYTES
-        };
+        self.left = turn_bytes(self.goes_on.replace(false));
         self.put_off = true;
         io::Error::from(ErrorKind::WouldBlock)
     }

@@ -331,7 +331,8 @@ taken_behind text t =
 abbrev pub waiting_behind : List ℕ → ServerTold → List ℕ
 waiting_behind text t =
     with_named (with_count text UNDER_WAY t.under_way)
-    GIVEN_UP ((codes "failed", t.failed) ∷ (codes "silent", t.silent) ∷ [])
+    GIVEN_UP (
+    (codes "failed", t.failed) ∷ (codes "silent", t.silent) ∷ (codes "no_http", t.no_http) ∷ [])
 
 unfoldable pub connections_behind : List ℕ → ServerTold → List ℕ
 connections_behind text t = waiting_behind (taken_behind text t) t

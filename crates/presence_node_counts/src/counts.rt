@@ -56,6 +56,7 @@ pub struct Counts {
     queue_full: Count,
     failed: Count,
     silent: Count,
+    no_http: Count,
     answers: Answers,
     begun: Count,
     due_checkpoints: Count,
@@ -78,6 +79,7 @@ impl Counts {
             queue_full: Count::new(),
             failed: Count::new(),
             silent: Count::new(),
+            no_http: Count::new(),
             answers: Answers::new(),
             begun: Count::new(),
             due_checkpoints: Count::new(),
@@ -130,6 +132,7 @@ impl Counts {
             GivenUp::Answered => {}
             GivenUp::Failed => self.failed.add_one(),
             GivenUp::Silent => self.silent.add_one(),
+            GivenUp::Junk => self.no_http.add_one(),
         }
     }
 
@@ -170,6 +173,7 @@ impl Counts {
             queue_full: self.queue_full.get(),
             failed: self.failed.get(),
             silent: self.silent.get(),
+            no_http: self.no_http.get(),
             answers: self.answers.told(),
             begun,
             sessions: begun.saturating_sub(all_ends(&ends)),

@@ -35,7 +35,11 @@ fn waiting_text(alloc: Global, text: &mut String, told: &ServerTold) -> Result<(
         alloc,
         text,
         &GIVEN_UP,
-        &[("failed", told.failed), ("silent", told.silent)],
+        &[
+            ("failed", told.failed),
+            ("silent", told.silent),
+            ("no_http", told.no_http),
+        ],
     )
 }
 

@@ -47,6 +47,7 @@ pub struct ServerTold {
     pub queue_full: u64,
     pub failed: u64,
     pub silent: u64,
+    pub no_http: u64,
     pub answers: AnswersTold,
     pub begun: u64,
     /// How many sessions are open.

@@ -26,6 +26,7 @@ pub(crate) fn given_up_by(cause: GivenUp) -> Option<Reason> {
         GivenUp::Answered => None,
         GivenUp::Failed => Some(Reason::Gone),
         GivenUp::Silent => Some(Reason::Late),
+        GivenUp::Junk => Some(Reason::NoHttp),
     }
 }
 

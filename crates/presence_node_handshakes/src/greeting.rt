@@ -1,6 +1,7 @@
 //! One client's handshake.
 ghost use Rattle.std.specs.Prelude.{◌≡◌};
-ghost use Rattle.presence_node_handshakes.specs.Greeting.{while_well_in};
+ghost use Rattle.presence_node_handshakes.specs.Greeting.{IsKnownFrom, while_well_in};
+ghost use Rattle.presence_node_requests.specs.Clients.{IsClientOf};
 ghost use Rattle.presence_node_requests.specs.Heads.{HasRequest};
 
 use crate::front::{Front, Keeper, Tells};
@@ -34,6 +35,8 @@ pub enum GivenUp {
     Failed,
     #[error("the client's request did not come in time")]
     Silent,
+    #[error("what the client sent is no request of HTTP")]
+    Junk,
 }
 
 // What is done of a handshake.
@@ -79,6 +82,8 @@ enum Asked {
     Waits,
     /// It is whole, and this is sent for it.
     Whole(Reply),
+    /// It is none.
+    Junk,
     Ends,
 }
 
@@ -101,7 +106,7 @@ fn while_well(answer: Answer, is_well: bool) -> Answer
     }
 }
 
-// What the request gets that a client sends by this head.
+// What the request gets that a client sends by this head, whose address is known then.
 fn answer_for<S: Read + Write + Drop, T: Tells, K: Keeper<S>>(
     alloc: Global,
     head: &[u8],
@@ -111,7 +116,10 @@ fn answer_for<S: Read + Write + Drop, T: Tells, K: Keeper<S>>(
 ) -> Answer
     ensures config { party.new.config ≡ party.old.config }
     ensures reads { party.new.empty_reads ≡ party.old.empty_reads }
+    ensures client { IsClientOf front.old.proxies.now head.now party.old.address party.new.address }
+    ensures proxies { front.new.proxies ≡ front.old.proxies }
 {
+    party.find_client(head, front.proxies);
     let site = Site {
         origins: front.origins,
         has_clients: front.has_clients,
@@ -121,7 +129,7 @@ fn answer_for<S: Read + Write + Drop, T: Tells, K: Keeper<S>>(
     if !matches!(answer, Answer::Socket(_)) {
         return answer;
     }
-    let standing = party.standing_by(alloc, head, front);
+    let standing = party.stands(alloc, front);
     seated(answer, standing, &mut front.places)
 }
 
@@ -136,6 +144,8 @@ fn reply_for<S: Read + Write + Drop, T: Tells, K: Keeper<S>>(
     requires { HasRequest head.now request.now }
     ensures config { party.new.config ≡ party.old.config }
     ensures reads { party.new.empty_reads ≡ party.old.empty_reads }
+    ensures client { IsClientOf front.old.proxies.now head.now party.old.address party.new.address }
+    ensures proxies { front.new.proxies ≡ front.old.proxies }
 {
     let answer = answer_for(alloc, head, request, party, front);
     front.tells.answered(answer, &party.address);
@@ -164,11 +174,13 @@ fn look_at<S: Read + Write + Drop, T: Tells, K: Keeper<S>>(
 ) -> Asked
     ensures config { party.new.config ≡ party.old.config }
     ensures reads { party.new.empty_reads ≡ party.old.empty_reads }
+    ensures address { IsKnownFrom front.old.proxies.now party.old.address party.new.address }
+    ensures proxies { front.new.proxies ≡ front.old.proxies }
 {
     match read_request(head) {
         Parsed::Partial if head.len() < MAX_HEAD_BYTES => Asked::Waits,
         Parsed::Partial | Parsed::Long => too_long(alloc, &party.address, front),
-        Parsed::Junk => Asked::Ends,
+        Parsed::Junk => Asked::Junk,
         Parsed::Whole(request) => match reply_for(alloc, head, &request, party, front) {
             Ok(Some(reply)) => Asked::Whole(reply),
             Ok(None) | Err(_) => Asked::Ends,
@@ -185,8 +197,10 @@ fn look_behind<S: Read + Write + Drop, T: Tells, K: Keeper<S>>(
 ) -> Asked
     ensures config { party.new.config ≡ party.old.config }
     ensures reads { party.new.empty_reads ≡ party.old.empty_reads }
+    ensures address { IsKnownFrom front.old.proxies.now party.old.address party.new.address }
+    ensures proxies { front.new.proxies ≡ front.old.proxies }
 {
-    match party.introduce(alloc, bytes) {
+    match party.introduce(alloc, bytes, front.proxies) {
         Ok(true) => look_at(alloc, bytes.as_slice(), party, front),
         Ok(false) => Asked::Waits,
         Err(_) => Asked::Ends,
@@ -202,6 +216,8 @@ fn read_on<S: Read + Write + Drop, T: Tells, K: Keeper<S>>(
 ) -> Asked
     ensures config { party.new.config ≡ party.old.config }
     ensures reads { party.new.empty_reads ≡ party.old.empty_reads }
+    ensures address { IsKnownFrom front.old.proxies.now party.old.address party.new.address }
+    ensures proxies { front.new.proxies ≡ front.old.proxies }
 {
     let mut piece = [0; PIECE_BYTES];
     for _ in 0..=MAX_HEAD_BYTES {
@@ -264,7 +280,7 @@ fn throw_away<S: Read>(stream: &mut S, most: usize) -> Option<usize> {
 impl<S: Read + Write + Drop> Greeting<S> {
     ghost use Rattle.std.specs.Prelude.{◌≡◌};
     ghost use Rattle.tungstenite.specs.Heads.{Heard};
-    ghost use Rattle.presence_node_handshakes.specs.Greeting.{Follows, GoesOn};
+    ghost use Rattle.presence_node_handshakes.specs.Greeting.{Follows, GoesOn, IsOf};
 
     /// A handshake with this party, of which nothing was read yet.
     pub(crate) fn new(alloc: Global, party: Party<S>) -> Greeting<S>
@@ -278,7 +294,7 @@ impl<S: Read + Write + Drop> Greeting<S> {
 
     // A handshake that has this left to do once the stream is ready again. After too many such looks it is given up.
     fn waiting(party: Party<S>, stage: Stage) -> Greeted<S>
-        ensures { Follows party.config party.empty_reads result }
+        ensures { Follows party result }
     {
         let mut party = party;
         let empty_reads = party.empty_reads + 1;
@@ -295,7 +311,7 @@ impl<S: Read + Write + Drop> Greeting<S> {
 
     // Throws away what comes behind an answer, so that the answer isn't reset by it.
     fn closing(party: Party<S>, most: usize) -> Greeted<S>
-        ensures { Follows party.config party.empty_reads result }
+        ensures { Follows party result }
     {
         let mut party = party;
         match throw_away(&mut party.stream, most) {
@@ -312,7 +328,7 @@ impl<S: Read + Write + Drop> Greeting<S> {
         reply: Reply,
         front: &mut Front<'_, T, K>,
     ) -> Greeted<S>
-        ensures { Follows party.config party.empty_reads result }
+        ensures { Follows party result }
     {
         let mut party = party;
         let mut reply = reply;
@@ -330,7 +346,7 @@ impl<S: Read + Write + Drop> Greeting<S> {
     // The WebSocket with this party.
     fn open(alloc: Global, party: Party<S>) -> Greeted<S>
         requires { Heard }
-        ensures { Follows party.config party.empty_reads result }
+        ensures { Follows party result }
     {
         let (stream, config) = party.into_parts();
         Greeted::Open(WebSocket::new(alloc, stream, NoMask, Role::Server, config))
@@ -349,7 +365,8 @@ impl<S: Read + Write + Drop> Greeting<S> {
         alloc: Global,
         front: &mut Front<'_, T, K>,
     ) -> Greeted<S>
-        ensures { GoesOn self result }
+        ensures goes_on { GoesOn self result }
+        ensures address { IsOf front.old.proxies.now self.party.address result }
     {
         let Greeting { party, stage } = self;
         let mut party = party;
@@ -361,6 +378,7 @@ impl<S: Read + Write + Drop> Greeting<S> {
         match read_on(alloc, &mut head, &mut party, front) {
             Asked::Waits => Greeting::waiting(party, Stage::Reads(head)),
             Asked::Whole(reply) => Greeting::sending(alloc, party, reply, front),
+            Asked::Junk => Greeted::GivenUp(GivenUp::Junk, party.address),
             Asked::Ends => Greeted::GivenUp(GivenUp::Failed, party.address),
         }
     }

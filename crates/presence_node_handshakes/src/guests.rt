@@ -37,7 +37,7 @@ impl<S: Read + Write + Drop> Drop for Guest<S> {
 }
 
 /// A client that has come: its number, its stream, whose address that is, and how it stands, or none where that is a proxy
-/// which tells of it.
+/// which tells of it, and the keeper is asked.
 pub struct Newcomer<S: Drop> {
     pub number: u64,
     pub stream: S,
@@ -74,7 +74,7 @@ impl<S: Read + Write + Drop> Newcomer<S> {
             stream,
             address,
             standing,
-            is_introduced: standing.is_some(),
+            is_introduced: false,
             config,
             empty_reads: 0,
         };
@@ -266,7 +266,9 @@ impl<S: Read + Write + Drop> Guests<S> {
     }
 
     /// Goes on with each handshake that is ready: the sockets of those that are done, in the order of their clients.
-    /// Clients whose handshakes are over go, and so do those whose requests were answered otherwise, from `front`, as all are who ask for a WebSocket where none of its places is left. Where memory for all that may be done is wanting, nothing is done.
+    /// Clients whose handshakes are over go, and so do those whose requests were answered otherwise, from `front`, as all are
+    /// who ask for a WebSocket where none of its places is left. Where memory for all that may be done is wanting, nothing is
+    /// done.
     pub fn turn<T: Tells, K: Keeper<S>>(
         &mut self,
         alloc: Global,

@@ -1,7 +1,8 @@
 //! WebSocket handshakes over streams that may have nothing yet, and answers to other requests of HTTP there.
 //!
-//! What its contracts cite: `specs/Addresses` says what addresses of clients are counted by, `specs/Greeting` what one look at a handshake gives, `specs/Guests` what marks,
-//! newcomers and turns do to the clients whose handshakes are not over, `specs/Seating` who gets a WebSocket.
+//! What its contracts cite: `specs/Addresses` says what addresses of clients are counted by, `specs/Greeting` what one look at
+//! a handshake gives, `specs/Guests` what marks, newcomers and turns do to the clients whose handshakes are not over,
+//! `specs/Seating` who gets a WebSocket.
 #![tactic(auto)]
 
 mod address;

@@ -4,7 +4,7 @@ ghost use Rattle.presence_node_handshakes.specs.declared.party.TheConstants.{MAX
 
 use crate::front::{Front, Keeper, Tells};
 use crate::seating::Admission;
-use presence_node_requests::{Introduced, client_of, introduction_of};
+use presence_node_requests::{Introduced, client_of, introduction_of, is_proxy};
 use std::alloc::{AllocError, Global};
 use std::io::{Read, Write};
 use std::net::IpAddr;
@@ -18,9 +18,9 @@ pub struct Party<S: Read + Write + Drop> {
     pub stream: S,
     /// Of the client, as far as it is known.
     pub address: IpAddr,
-    /// How the client stands; none where a proxy tells of it that is believed.
+    /// How the client stands; none where its keeper has to be asked.
     pub standing: Option<Admission>,
-    /// Whether the line is past that a proxy may write before all else, which isn't looked at from anybody else.
+    /// Whether the line is past that a proxy may write before all else.
     pub is_introduced: bool,
     pub config: WebSocketConfig,
     pub empty_reads: u32,
@@ -44,6 +44,8 @@ impl<S: Read + Write + Drop> Drop for Party<S> {
 
 impl<S: Read + Write + Drop> Party<S> {
     ghost use Rattle.std.specs.Prelude.{◌≡◌};
+    ghost use Rattle.presence_node_requests.specs.Clients.{IsClientOf};
+    ghost use Rattle.presence_node_handshakes.specs.Greeting.{IsKnownFrom};
 
     /// Its stream, and how what follows is done.
     pub(crate) fn into_parts(self) -> (S, WebSocketConfig)
@@ -60,20 +62,29 @@ impl<S: Read + Write + Drop> Party<S> {
         (stream, config)
     }
 
-    /// How the client stands that sends this head.
-    pub(crate) fn standing_by<T: Tells, K: Keeper<S>>(
+    /// Whose address it is that sends this head, as far as these proxies tell.
+    pub(crate) fn find_client(&mut self, head: &[u8], proxies: &[IpAddr])
+        ensures config { self.new.config ≡ self.old.config }
+        ensures reads { self.new.empty_reads ≡ self.old.empty_reads }
+        ensures client { IsClientOf proxies.now head.now self.old.address self.new.address }
+    {
+        self.address = client_of(head, self.address, proxies);
+    }
+
+    /// How the client stands.
+    pub(crate) fn stands<T: Tells, K: Keeper<S>>(
         &mut self,
         alloc: Global,
-        head: &[u8],
         front: &mut Front<'_, T, K>,
     ) -> Admission
         ensures config { self.new.config ≡ self.old.config }
         ensures reads { self.new.empty_reads ≡ self.old.empty_reads }
+        ensures address { self.new.address ≡ self.old.address }
+        ensures proxies { front.new.proxies ≡ front.old.proxies }
     {
         if let Some(standing) = self.standing {
             return standing;
         }
-        self.address = client_of(head, self.address, front.proxies);
         let standing = front
             .keeper
             .standing_of(alloc, &mut self.stream, self.address);
@@ -81,16 +92,19 @@ impl<S: Read + Write + Drop> Party<S> {
         standing
     }
 
-    /// Takes the line from the front of these bytes that a proxy may write before all else: whether they are a request's.
+    /// Takes the line from the front of these bytes that one of these proxies may write before all else: whether they are a
+    /// request's.
     pub(crate) fn introduce(
         &mut self,
         alloc: Global,
         bytes: &mut Vec<u8>,
+        proxies: &[IpAddr],
     ) -> Result<bool, AllocError>
         ensures config { self.new.config ≡ self.old.config }
         ensures reads { self.new.empty_reads ≡ self.old.empty_reads }
+        ensures address { IsKnownFrom proxies.now self.old.address self.new.address }
     {
-        if self.is_introduced {
+        if self.is_introduced || !is_proxy(proxies, &self.address) {
             return Ok(true);
         }
         match introduction_of(bytes.as_slice()) {

@@ -63,13 +63,17 @@ abbrev pub taken : Tally → {E : Type 0} → Result (List Item) E → Tally
 taken t (Ok items) = with_items t items
 taken t (Err fault) = t
 
--- Behind a call that was answered so. What takes the rows of a place away, and what only asks whether something waits, counts
--- for nothing.
+-- behind a call that no client asks for: only that it was refused counts
+abbrev pub unasked : Tally → Option ShardFault → Tally
+unasked t None = t
+unasked t (Some fault) = refusing t fault
+
+-- Behind a call that was answered so. What only asks whether something waits counts for nothing.
 abbrev pub counted : Tally → (q : Ask) → Answer q → Tally
 counted t (track pid topic key meta) a = called t kinds.Track (fault_of a)
 counted t (update pid topic key meta) a = called t kinds.Update (fault_of a)
 counted t (untrack pid topic key) a = called t kinds.Untrack (fault_of a)
-counted t (untrack_all pid topic) a = t
+counted t (untrack_all pid topic) a = unasked t (fault_of a)
 counted t (list topic) a = called t kinds.List (fault_of a)
 counted t (get topic key) a = called t kinds.Get (fault_of a)
 counted t (subscribe topic) a = called t kinds.Join (fault_of a)

@@ -84,7 +84,11 @@ impl<P: Port + Drop> Port for CountingPort<P> {
     }
 
     fn untrack_all(&mut self, alloc: Global, pid: u64, topic: &Topic) -> Result<(), ShardFault> {
-        self.port.untrack_all(alloc, pid, topic)
+        let answer = self.port.untrack_all(alloc, pid, topic);
+        if let Some(fault) = fault_in(&answer) {
+            self.tally.add_refused(fault);
+        }
+        answer
     }
 
     fn list(&mut self, alloc: Global, topic: &Topic) -> Result<SharedRows, ShardFault> {

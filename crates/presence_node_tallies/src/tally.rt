@@ -88,7 +88,7 @@ pub(crate) fn fault_in<T>(answer: &Result<T, ShardFault>) -> Option<ShardFault>
 
 impl Tally {
     // A call was refused for this.
-    fn add_refused(&mut self, fault: ShardFault)
+    pub(crate) fn add_refused(&mut self, fault: ShardFault)
         ensures { self.new ≡ refusing self.old fault }
     {
         add_one(&mut self.refused);
