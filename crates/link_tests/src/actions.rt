@@ -1,7 +1,7 @@
 //! What a peer asks for, line by line, and what comes of actions that no line gives.
 use crate::desk::{Desk, NOW, at_a, at_b, at_late_a, replica};
 use crate::port::Call;
-use node_links::{Act, ActFault, Line, LinkAction, LinkFault, act, hear_bytes};
+use node_links::{Act, ActFault, Line, LinkAction, LinkFault, act};
 use presence_base::Replica;
 use std::alloc::Global;
 
@@ -301,14 +301,9 @@ fn bytes_of_a_line_are_heard(rt: HostRuntime) {
         assert!(rt; false);
         return;
     };
-    assert!(rt;
-        desk.link
-            .peer
-            .on_bytes(alloc, 0, NOW)
-            .is_ok_and(|actions| actions.is_empty())
-    );
+    assert!(rt; desk.hears_bytes(alloc, 0) && desk.asked(&[]));
     assert!(rt; desk.takes(alloc, r#"["hello","b",3,2]"#));
-    assert!(rt; hear_bytes(alloc, &desk.link.peer, &mut desk.port, 1, NOW).is_ok());
+    assert!(rt; desk.hears_bytes(alloc, 1));
     assert!(rt; desk.asked(&[Call::Status(1, b), Call::Heard(1, b, NOW)]));
 }
 

@@ -3,7 +3,7 @@ use crate::port::{Call, Much, TestPort};
 use crate::wire::Wire;
 use node_links::{
     ActFault, DialFault, End, Hearer, Line, Link, LinkAction, LinkFault, Peer, accept_one,
-    decode_line, dial,
+    decode_line, dial, hear_bytes,
 };
 use orswot_core::Form;
 use presence_base::{NodeName, Replica};
@@ -100,6 +100,11 @@ impl<'a> Desk<'a> {
             Ok(line) => Some(self.dials(alloc, &line)),
             Err(_) => None,
         }
+    }
+
+    // Whether nothing fails where something of a line came, which this shard hears.
+    pub fn hears_bytes(&mut self, alloc: Global, shard: u32) -> bool {
+        hear_bytes(alloc, &self.link.peer, &mut self.port, shard, NOW).is_ok()
     }
 
     // What a line asks the peer for.
