@@ -1,2 +1,3 @@
 mod Endings
 pub mod Places
+mod Bracketed

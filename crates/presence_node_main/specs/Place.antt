@@ -1,6 +1,15 @@
--- Where a server listens, as standard error is told.
-use Rattle.std.specs.Prelude.{ℕ, Bool, false, true, cond, ◌==◌, List, [], ◌∷◌, ◌++◌, Option, None, Some, codes, decimal, string_bytes}
+-- Where a server listens, and how standard error is told of it.
+use Rattle.std.specs.Prelude.{◌≡◌, ◌⊎◌, ℕ, Bool, false, true, cond, ◌==◌, List, [], ◌∷◌, ◌++◌, Option, None, Some, codes, decimal, string_bytes}
 use Rattle.presence_node_options.specs.declared.options.ServeOptions.{ServeOptions}
+
+-- what stands between the brackets of an address, if it has them
+abbrev pub Brackets : List ℕ → Option (List ℕ) → Type 0
+Brackets address (Some inner) = address ≡ 91 ∷ (inner ++ 93 ∷ [])
+Brackets address None = (inner : List ℕ) → address ≡ 91 ∷ (inner ++ 93 ∷ []) → ⊥
+
+-- the address without the brackets that it may have
+abbrev pub IsBare : List ℕ → List ℕ → Type 0
+IsBare address bare = Brackets address (Some bare) ⊎ (Brackets address None × (bare ≡ address))
 
 -- a colon is among the bytes, and no bracket before it
 abbrev pub has_colon : List ℕ → Bool

@@ -1,9 +1,29 @@
-//! Where a server listens, as it is told.
-ghost use Rattle.std.specs.Prelude.{◌≡◌, IfOk, string_bytes};
-ghost use Rattle.presence_node_main.specs.Place.{has_colon, host_text, links_text, metrics_text, place_text};
+//! Where a server listens, and how that is told.
+ghost use Rattle.std.specs.Prelude.{◌≡◌, IfOk, option_map, string_bytes};
+ghost use Rattle.presence_node_main.specs.Place.{Brackets, IsBare, has_colon, host_text, links_text, metrics_text, place_text};
 
 use presence_node_options::ServeOptions;
 use std::alloc::{AllocError, Global};
+
+// What stands between the brackets of an address, if it has them.
+fn bracketed(address: &str) -> Option<&str>
+    ensures { Brackets address.now (option_map (λ inner. inner.now) result) }
+{
+    let Some(rest) = address.strip_prefix('[') else {
+        return None;
+    };
+    rest.strip_suffix(']')
+}
+
+/// An address that may stand between brackets, without them.
+pub(crate) fn bare(address: &str) -> &str
+    ensures { IsBare address.now result.now }
+{
+    match bracketed(address) {
+        Some(inner) => inner,
+        None => address,
+    }
+}
 
 // Whether a colon is among the bytes, and no bracket before it.
 fn has_colon(bytes: &[u8]) -> bool

@@ -9,7 +9,7 @@ ghost use Rattle.presence_node_main.specs.Ledgers.{AreBegun, HaveParts, IsNameOf
 use super::belongings::{budgets_of, format_of, log_of, memory_of, now_in_seconds};
 use super::fault::BeginFault;
 use super::pieces::{Entrance, Stations, limits_of, stations_for};
-use super::place::place_of;
+use super::place::{bare, place_of};
 use super::stopping::StopLine;
 use hook_registry::PresenceHooks;
 use presence_base::{MAX_COUNT, Replica};
@@ -153,14 +153,6 @@ fn metrics_port_refused(port: u16, kind: ErrorKind) -> ServeEnd
         ErrorKind::OutOfMemory => ServeEnd::Memory,
         ErrorKind::AddrInUse => ServeEnd::MetricsPortTaken(port),
         _ => ServeEnd::NoMetricsPort(port),
-    }
-}
-
-// An address that may stand between brackets, without them.
-fn bare(address: &str) -> &str {
-    match address.strip_prefix('[') {
-        Some(rest) => rest.strip_suffix(']').unwrap_or(address),
-        None => address,
     }
 }
 
