@@ -1,5 +1,5 @@
 -- The three claims, over every list of events.
-use Rattle.std.proofs.Common.{◌≡◌, ℕ, ◌<◌, ◌^◌, max, Bool, true, false, cond, ◌||◌, nat_lt, List, [], ◌∷◌, slice_get, Option, Some, None, refl, sym, ◌∙◌, ap, subst, arith, inl, inr, is_some}
+use Rattle.std.proofs.Common.{◌≡◌, ℕ, ◌<◌, ◌^◌, max, Bool, true, false, cond, ◌||◌, nat_lt, List, [], ◌∷◌, slice_get, Option, Some, None, refl, sym, ◌∙◌, ap, subst, arith, inl, inr, is_some, option_map}
 use Rattle.std.specs.Prelude.{◌⊎◌}
 use Rattle.std.specs.FinMap as map
 use Rattle.std.proofs.lemmas.Bool.{and_parts, or_cases, or_left, or_right, both_ways, false_from_ne_true, ltb-true}
@@ -34,6 +34,7 @@ use Rattle.presence_journal_deeds.specs.Truth.{IsTrueOf}
 use Rattle.presence_journal_deeds.proofs.Telling.{some_or_none, gone_or_live}
 use Rattle.node_links_world_laws.specs.declared.event.Event.{Event}
 use Rattle.node_links_world_laws.specs.declared.event.Event.TheVariants as events_are
+use Rattle.node_links_world_laws.specs.Others.{of_others}
 use Rattle.node_links_world_laws.specs.World.{LifeValue, WorldValue, newborn, start, life_at, stepped, with_life, acted, acts, with_told, may_ask, CutsHere, Cuts, Tells, delivered, BeginsHere, Begins, is_later, next_life, begun_anew, restarted, gone_on, goes_on_as, rebirths, Happens, Runs, with_told_if, TellsInPart}
 use Rattle.node_links_world_laws.specs.Claims.{AreNames, WasMade, NothingInvented, IsOver, NothingResurrected, CaughtUpIsEqual, NeverInvented, NeverResurrected, CaughtUpIsAlwaysEqual}
 use Rattle.node_links_world_laws.proofs.Lists.{get-put}
@@ -190,6 +191,10 @@ goes_acts d w n s = go (life_at w n) refl
     go None f = goes_same d w w refl
     go (Some x) f = goes_put d w (with_life w x.0 (stepped s x.1)) x.0 x.1 (stepped s x.1) (life_is w n x f).lives refl (over_after x.1.history s d)
 
+goes_delivered : (d : Dot) (w : WorldValue) (n : ℕ) (o : Option ToldValue) → GoesOn d w (delivered w n o)
+goes_delivered d w n None = goes_same d w w refl
+goes_delivered d w n (Some t) = goes_acts d w n (steps_are.Merge t)
+
 goes_restarted : (d : Dot) (w : WorldValue) → IsTrueWorld w → (n i : ℕ) → GoesOn d w (restarted w n i (slice_get w.present n))
 goes_restarted d w iw n i = go (slice_get w.present n) refl
   where
@@ -263,11 +268,10 @@ goes_happens d w v (events_are.Part n from to form) iw f = go (life_at w n) f
     go : (o : Option (Replica × LifeValue)) → TellsInPart form w from o v → GoesOn d w v
     go None g = goes_from d w w v g (goes_same d w w refl)
     go (Some x) g = at g.0 g.2
-goes_happens d w v (events_are.Deliver n k) iw f = goes_from d w (delivered w n (slice_get w.told k)) v f (go (slice_get w.told k))
-  where
-    go : (o : Option ToldValue) → GoesOn d w (delivered w n o)
-    go None = goes_same d w w refl
-    go (Some t) = goes_acts d w n (steps_are.Merge t)
+goes_happens d w v (events_are.Deliver n k) iw f = goes_from d w (delivered w n (slice_get w.told k)) v f (goes_delivered d w n (slice_get w.told k))
+goes_happens d w v (events_are.DeliverOthers n k) iw f =
+    let heard = option_map (of_others (slice_get w.present n)) (slice_get w.told k) in
+    goes_from d w (delivered w n heard) v f (goes_delivered d w n heard)
 goes_happens d w v (events_are.Heard n r now) iw f = goes_from d w (acts w n (steps_are.Heard r now)) v f (goes_acts d w n (steps_are.Heard r now))
 goes_happens d w v (events_are.Tick n now) iw f = goes_from d w (acts w n (steps_are.Tick now)) v f (goes_acts d w n (steps_are.Tick now))
 goes_happens d w v (events_are.PermDown n r) iw f = goes_from d w (acts w n (steps_are.PermDown r)) v f (goes_acts d w n (steps_are.PermDown r))

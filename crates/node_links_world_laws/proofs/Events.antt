@@ -39,10 +39,12 @@ use Rattle.presence_journal_deeds.proofs.Keeping.{entries_stay_true, kept_tell_t
 use Rattle.presence_journal_deeds.proofs.Checkpoints.{checkpoints_stay_true, lives_begin_true}
 use Rattle.node_links_world_laws.specs.declared.event.Event.{Event}
 use Rattle.node_links_world_laws.specs.declared.event.Event.TheVariants as events_are
+use Rattle.node_links_world_laws.specs.Others.{of_others}
 use Rattle.node_links_world_laws.specs.World.{LifeValue, Lives, WorldValue, first_life, newborn, with_lives, start, with_replica, life_of, life_at, under, added, with_row, stepped, with_life, acted, acts, with_told, is_client, may_ask, CutsHere, Cuts, Tells, delivered, BeginsHere, Begins, is_later, next_life, begun_anew, restarted, Happens, Runs, before_rows, rows_under, gone_on, goes_on_as, rebirths, TellsPartIf, TellsInPart, with_told_if}
 use Rattle.node_links_world_laws.specs.Claims.{AreNames}
 use Rattle.node_links_world_laws.proofs.Lists.{all_at, all_more, set_cases, lookup-append, get-put, one_place}
 use Rattle.node_links_world_laws.specs.TrueWorlds.{IsTrueLife, IsTrueTold, ArePresent, IsTrueBy, IsTrueWorld}
+use Rattle.node_links_world_laws.proofs.Others.{others_true}
 use Rattle.node_links_world_laws.proofs.Invariant.{put_true, same_present}
 use Rattle.presence_journal.proofs.Reborn.{IsAgain, again_of, can_parts, reborn_can}
 use Rattle.presence_journal.proofs.AfterRebirth.{no_row_under}
@@ -219,15 +221,30 @@ parts_true form w v iw n from c = go (life_at w n) refl c
     go None f g = subst IsTrueWorld (sym g) iw
     go (Some x) f g = at x (life_is w n x f) g.0 g.1 g.2
 
-delivered_true : (w : WorldValue) → IsTrueWorld w → (n k : ℕ) → IsTrueWorld (delivered w n (slice_get w.told k))
-delivered_true w iw n k = go (slice_get w.told k) refl
+-- ---- what comes to a node
+
+abbrev IsTrueIf : AllDeeds → Option ToldValue → Type 0
+IsTrueIf deeds None = Unit {0}
+IsTrueIf deeds (Some t) = IsTrueTold deeds t
+
+-- whatever is true where the world is may come to a node
+delivered_true : (w : WorldValue) → IsTrueWorld w → (n : ℕ) (o : Option ToldValue) → ((deeds : AllDeeds) → IsTrueBy deeds w → IsTrueIf deeds o) → IsTrueWorld (delivered w n o)
+delivered_true w iw n None is = iw
+delivered_true w iw n (Some t) is = acts_true w iw n (steps_are.Merge t) (is iw.deeds iw.is).1 refl (λ deeds iv u m. subst (TellsTrue deeds) (same u m) (is deeds iv).0)
   where
-    go : (o : Option ToldValue) → slice_get w.told k ≡ o → IsTrueWorld (delivered w n o)
-    go None f = iw
-    go (Some t) f = acts_true w iw n (steps_are.Merge t) (all_at (IsTrueTold iw.deeds) w.told k t iw.is.told f).1 refl (λ deeds iv u m. subst (TellsTrue deeds) (same t u m) (all_at (IsTrueTold deeds) w.told k t iv.told f).0)
-      where
-        same : (t u : ToldValue) → steps_are.Merge t ≡ steps_are.Merge u → t ≡ u
-        same t u m = cc
+    same : (u : ToldValue) → steps_are.Merge t ≡ steps_are.Merge u → t ≡ u
+    same u m = cc
+
+told_true : (w : WorldValue) (k : ℕ) (deeds : AllDeeds) → IsTrueBy deeds w → IsTrueIf deeds (slice_get w.told k)
+told_true w k deeds iv = go (slice_get w.told k) refl
+  where
+    go : (o : Option ToldValue) → slice_get w.told k ≡ o → IsTrueIf deeds o
+    go None f = tt
+    go (Some t) f = all_at (IsTrueTold deeds) w.told k t iv.told f
+
+told_of_others_true : (deeds : AllDeeds) (own : Option Replica) (o : Option ToldValue) → IsTrueIf deeds o → IsTrueIf deeds (option_map (of_others own) o)
+told_of_others_true deeds own None k = tt
+told_of_others_true deeds own (Some t) k = others_true deeds own t k
 
 -- ---- a checkpoint
 
@@ -461,7 +478,10 @@ happens_true w v (events_are.Client n s) iw f = subst IsTrueWorld (sym f) (go (m
 happens_true w v (events_are.Cut n form) iw f = cuts_true form w v iw n f
 happens_true w v (events_are.Full n from form) iw f = tells_true form w v iw n from f
 happens_true w v (events_are.Part n from to form) iw f = parts_true form w v iw n from f
-happens_true w v (events_are.Deliver n k) iw f = subst IsTrueWorld (sym f) (delivered_true w iw n k)
+happens_true w v (events_are.Deliver n k) iw f = subst IsTrueWorld (sym f) (delivered_true w iw n (slice_get w.told k) (told_true w k))
+happens_true w v (events_are.DeliverOthers n k) iw f =
+    subst IsTrueWorld (sym f) (delivered_true w iw n (option_map (of_others (slice_get w.present n)) (slice_get w.told k))
+    (λ deeds iv. told_of_others_true deeds (slice_get w.present n) (slice_get w.told k) (told_true w k deeds iv)))
 happens_true w v (events_are.Heard n r now) iw f = subst IsTrueWorld (sym f) (acts_true w iw n (steps_are.Heard r now) refl refl (λ deeds iv t m. absurd (cc)))
 happens_true w v (events_are.Tick n now) iw f = subst IsTrueWorld (sym f) (acts_true w iw n (steps_are.Tick now) refl refl (λ deeds iv t m. absurd (cc)))
 happens_true w v (events_are.PermDown n r) iw f = subst IsTrueWorld (sym f) (acts_true w iw n (steps_are.PermDown r) refl refl (λ deeds iv t m. absurd (cc)))

@@ -1,4 +1,5 @@
 pub mod Lists
+pub mod Others
 pub mod Invariant
 pub mod Events
 pub mod Claims

@@ -1,3 +1,4 @@
+pub mod Others
 pub mod World
 pub mod Claims
 pub mod TrueWorlds

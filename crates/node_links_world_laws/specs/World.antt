@@ -1,6 +1,6 @@
 -- The world of nodes: the lives of each node, and all that was ever told, which may come to any node once, again, late or
 -- never; and what an event makes of it.
-use Rattle.std.specs.Prelude.{◌≡◌, ℕ, ◌^◌, Bool, true, false, cond, ◌&&◌, nat_lt, nat_le, is_some, List, [], ◌∷◌, ◌++◌, map as each, set, slice_get, Option, Some, None}
+use Rattle.std.specs.Prelude.{◌≡◌, ℕ, ◌^◌, Bool, true, false, cond, ◌&&◌, nat_lt, nat_le, is_some, List, [], ◌∷◌, ◌++◌, map as each, set, slice_get, Option, Some, None, option_map}
 use Rattle.std.specs.FinMap as map
 use Rattle.presence_base.specs.declared.dots.Replica.{Replica}
 use Rattle.presence_base.specs.declared.dots.Dot.{Dot}
@@ -19,6 +19,7 @@ use Rattle.presence_journal_cuts.specs.Cuts.{IsCut}
 use Rattle.presence_journal_cuts.specs.KeptDeltas.{TellsFrom}
 use Rattle.presence_journal_cuts.specs.ToldParts.{IsPart, HasNoPart}
 use Rattle.presence_journal_starts.specs.Checkpoints.{IsCheckpoint}
+use Rattle.node_links_world_laws.specs.Others.{of_others}
 use Rattle.node_links_world_laws.specs.declared.event.Event.{Event}
 use Rattle.node_links_world_laws.specs.declared.event.Event.TheVariants as events_are
 
@@ -236,6 +237,8 @@ Happens w (events_are.Cut n form) v = Cuts form w (life_at w n) v
 Happens w (events_are.Full n from form) v = Tells form w from (life_at w n) v
 Happens w (events_are.Part n from to form) v = TellsInPart form w from (life_at w n) v
 Happens w (events_are.Deliver n k) v = v ≡ delivered w n (slice_get w.told k)
+Happens w (events_are.DeliverOthers n k) v =
+    v ≡ delivered w n (option_map (of_others (slice_get w.present n)) (slice_get w.told k))
 Happens w (events_are.Heard n r now) v = v ≡ acts w n (steps_are.Heard r now)
 Happens w (events_are.Tick n now) v = v ≡ acts w n (steps_are.Tick now)
 Happens w (events_are.PermDown n r) v = v ≡ acts w n (steps_are.PermDown r)
