@@ -1,17 +1,13 @@
 -- What is told is within the limits of what is heard, where the names and texts of its rows are.
-use Rattle.std.proofs.Common.{◌≡◌, true, not, ◌&&◌}
+use Rattle.std.proofs.Common.{◌≡◌, true}
 use Rattle.std.specs.List.{list_all}
 use Rattle.orswot_core_told.specs.declared.form.Form.{Form}
 use Rattle.orswot_core_told.specs.declared.form.Form.TheVariants.{One, Two}
-use Rattle.orswot_core_told.specs.Telling.{ToldValue}
-use Rattle.orswot_core_told.specs.Checks.{IsTold}
 use Rattle.orswot_core_told.specs.Limits.{are_texts}
 use Rattle.delta_range.specs.Deltas.{DeltaValue, telling_in, IsDelta}
 use Rattle.delta_range.proofs.FormFacts.{delta_told_in}
 use Rattle.presence_journal_data.specs.StepLimits.{is_heard, is_named}
-
-pub heard_told : (t : ToldValue) → IsTold t → list_all is_named t.live ≡ true → list_all (λ x. are_texts x.1) t.live ≡ true → is_heard t ≡ true
-heard_told t k n x = λ i. (k.forward i && (k.ranges i && (k.extras i && (k.rows i && (k.covered i && not (k.once i)))))) && (n i && x i)
+use Rattle.node_links_world_laws.proofs.Others.{heard_told}
 
 pub heard_delta : (form : Form) (d : DeltaValue) → IsDelta d → list_all is_named d.live ≡ true → list_all (λ x. are_texts x.1) d.live ≡ true → is_heard (telling_in form d) ≡ true
 heard_delta One d k n x = heard_told (telling_in One d) (delta_told_in One d k) n x

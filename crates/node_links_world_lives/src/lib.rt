@@ -12,6 +12,7 @@
 mod client;
 mod going_on;
 mod life;
+mod others;
 mod refused;
 mod row;
 mod steps;

@@ -1,14 +1,16 @@
 //! What a node told once.
-ghost use Rattle.std.specs.Prelude.{◌≡◌, true, IfOk};
+ghost use Rattle.std.specs.Prelude.{◌≡◌, true, Some, IfOk};
 ghost use Rattle.std.specs.List.{list_all};
 ghost use Rattle.orswot_core_told.specs.Limits.{are_texts};
 ghost use Rattle.delta_range.specs.Deltas.{telling_in, IsDelta};
 ghost use Rattle.presence_journal_data.specs.StepLimits.{is_heard, is_named};
 ghost use Rattle.presence_journal.specs.Table.{is_step};
+ghost use Rattle.node_links_world_laws.specs.Others.{of_others};
 
+use crate::others::OtherNodes;
 use delta_range::Delta;
 use orswot_core_told::{Form, Told};
-use presence_base::{Dot, Row};
+use presence_base::{Dot, Replica, Row};
 use presence_journal::Step;
 use std::alloc::{AllocError, Global};
 use std::marker::Model;
@@ -123,5 +125,16 @@ impl Telling {
         let _source = &self.source;
         let told = self.told(alloc)?;
         Ok(Step::Merge { told })
+    }
+
+    /// The step that takes in what it tells of other nodes than the one of which this is a life.
+    pub fn step_of_others(&self, alloc: Global, own: &Replica) -> Result<Step, AllocError>
+        ensures step { IfOk result (λ s. s ≡ Step.Merge (of_others (Some own.now) self.now)) }
+        ensures limits { IfOk result (λ s. is_step s ≡ true) }
+    {
+        let told = self.told(alloc)?;
+        let others = told.cut_to(alloc, &OtherNodes { own: *own })?;
+        read_told(&others);
+        Ok(Step::Merge { told: others })
     }
 }
