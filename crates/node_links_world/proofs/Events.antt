@@ -1,5 +1,5 @@
 -- What an event makes of a world, by what it makes of the lives.
-use Rattle.std.proofs.Common.{◌≡◌, ℕ, ◌^◌, Bool, true, false, cond, ◌&&◌, nat_lt, is_some, List, [], ◌∷◌, ◌++◌, slice_get, Option, Some, None, Result, Ok, Err, OnOk, OnErr, refl, sym, ◌∙◌, ap, subst, set}
+use Rattle.std.proofs.Common.{◌≡◌, ℕ, ◌^◌, Bool, true, false, cond, ◌&&◌, nat_lt, is_some, List, [], ◌∷◌, ◌++◌, slice_get, Option, Some, None, Result, Ok, Err, OnOk, OnErr, refl, sym, ◌∙◌, ap, subst, set, option_map}
 use Rattle.std.specs.FinMap as map
 use Rattle.presence_base.specs.declared.dots.Replica.{Replica}
 use Rattle.presence_base.specs.declared.dots.Dot.{Dot}
@@ -11,11 +11,12 @@ use Rattle.presence_journal_data.specs.declared.step.Step.TheVariants as steps_a
 use Rattle.presence_journal.specs.Steps.{Step, Outcome}
 use Rattle.presence_journal.specs.History.{last_number}
 use Rattle.presence_journal.specs.Table.{accepted, is_step}
-use Rattle.node_links_world_laws.specs.World.{LifeValue, Lives, WorldValue, with_replica, life_of, life_at, stepped, acted, acts, is_client, may_ask, added, with_row, CutsHere, Cuts, BeginsHere, Begins, Tells, next_life, goes_on_as, rebirths}
+use Rattle.node_links_world_laws.specs.Others.{of_others}
+use Rattle.node_links_world_laws.specs.World.{LifeValue, Lives, WorldValue, with_replica, life_of, life_at, stepped, acted, acts, is_client, may_ask, delivered, added, with_row, CutsHere, Cuts, BeginsHere, Begins, Tells, next_life, goes_on_as, rebirths}
 use Rattle.node_links_world_lives.specs.Living.{CutsIf, BeginsIf}
 use Rattle.node_links_world_lives.specs.GoingOn.{going_on}
 use Rattle.node_links_world.specs.Lives.{TurnsIf, Turns, Steps, Begun, CutIf, Cut, ToldIf, next_of, GoesOnTo, GoesOn}
-use Rattle.node_links_world.specs.Worlds.{world, ActsTo, CutsTo, TellsTo, RebirthsTo}
+use Rattle.node_links_world.specs.Worlds.{world, ActsTo, DeliversOthersTo, CutsTo, TellsTo, RebirthsTo}
 use Rattle.node_links_world.proofs.LifeFacts.{insert_same}
 
 -- ---- steps
@@ -46,6 +47,25 @@ asked (Err e) old new p n s f g k = tt
 asked (Ok x) old new p n s f g k = λ t. k t ∙ (λ i. cond (sym f i && sym g i) (acts (world old p t) n s) (world old p t))
 
 pub ruleset acting = (acts_some, acts_none, not_callers, not_limited, asked)
+
+-- ---- what is told of others
+
+pub others_some : {E : Type 0} (q : Result (Unit {0}) E) (old new : Lives) (p : List Replica) (t : List ToldValue) (n k : ℕ) (r : Replica) (one : ToldValue) (s : Step) → slice_get p n ≡ Some r → slice_get t k ≡ Some one → s ≡ steps_are.Merge (of_others (Some r) one) → OnOk q (ActsTo p old n s new) → OnOk q (DeliversOthersTo p t old n k new)
+others_some (Err e) old new p t n k r one s f g is act = tt
+others_some (Ok x) old new p t n k r one s f g is act =
+    act t ∙ (ap (acts (world old p t) n) is ∙ (λ i. delivered (world old p t) n (option_map (of_others (sym f i)) (sym g i))))
+
+pub others_nothing : (old : Lives) (p : List Replica) (t : List ToldValue) (n k : ℕ) → slice_get t k ≡ None → DeliversOthersTo p t old n k old
+others_nothing old p t n k g = ap (λ o. delivered (world old p t) n (option_map (of_others (slice_get p n)) o)) (sym g)
+
+pub others_nobody : (old : Lives) (p : List Replica) (t : List ToldValue) (n k : ℕ) → slice_get p n ≡ None → DeliversOthersTo p t old n k old
+others_nobody old p t n k f = go (option_map (of_others (slice_get p n)) (slice_get t k))
+  where
+    go : (o : Option ToldValue) → world old p t ≡ delivered (world old p t) n o
+    go None = refl
+    go (Some one) = acts_none old p n (steps_are.Merge one) f t
+
+pub ruleset hearing = (others_some, others_nothing, others_nobody)
 
 -- ---- cuts
 

@@ -1,9 +1,10 @@
 -- A world by its parts, and what the parts are behind an event.
-use Rattle.std.specs.Prelude.{◌≡◌, ℕ, cond, List, slice_get, Option}
+use Rattle.std.specs.Prelude.{◌≡◌, ℕ, cond, List, slice_get, Option, option_map}
 use Rattle.presence_base.specs.declared.dots.Replica.{Replica}
 use Rattle.orswot_core_told.specs.declared.form.Form.{Form}
 use Rattle.orswot_core_told.specs.Telling.{ToldValue}
 use Rattle.presence_journal.specs.Steps.{Step}
+use Rattle.node_links_world_laws.specs.Others.{of_others}
 use Rattle.node_links_world_laws.specs.World.{Lives, WorldValue, acts, life_at, may_ask, Cuts, Tells, delivered, Begins, restarted, rebirths, TellsInPart}
 
 abbrev pub world : Lives → List Replica → List ToldValue → WorldValue
@@ -30,6 +31,11 @@ PartsTo form p old t n from new u = TellsInPart form (world old p t) from (life_
 
 abbrev pub DeliversTo : List Replica → List ToldValue → Lives → ℕ → ℕ → Lives → Type 0
 DeliversTo p t old n k new = world new p t ≡ delivered (world old p t) n (slice_get t k)
+
+-- and after a delivery of what is told of others
+abbrev pub DeliversOthersTo : List Replica → List ToldValue → Lives → ℕ → ℕ → Lives → Type 0
+DeliversOthersTo p t old n k new =
+    world new p t ≡ delivered (world old p t) n (option_map (of_others (slice_get p n)) (slice_get t k))
 
 -- the lives after a checkpoint, and the lives and who is present after a restart, whatever was told
 abbrev pub BeginsTo : List Replica → Lives → ℕ → Lives → Type 0

@@ -3,7 +3,7 @@ ghost use Rattle.std.specs.Prelude.{◌≡◌, true, OnOk, OnErr, set};
 ghost use Rattle.presence_journal.specs.Table.{is_step};
 ghost use Rattle.node_links_world.specs.Lives.{seen};
 ghost use Rattle.node_links_world.specs.Worlds.{world, ActsTo, AsksTo, CutsTo, PartsTo, TellsTo};
-ghost use Rattle.node_links_world.specs.Worlds.{DeliversTo, BeginsTo, RestartsTo, RebirthsTo};
+ghost use Rattle.node_links_world.specs.Worlds.{DeliversTo, DeliversOthersTo, BeginsTo, RestartsTo, RebirthsTo};
 ghost use Rattle.node_links_world_laws.specs.World.{Happens};
 
 use crate::lives;
@@ -173,6 +173,31 @@ fn deliver(
     }
 }
 
+// What was told of other nodes comes to a node.
+#[tactic(auto, using(crate::proofs::Events::acting, crate::proofs::Events::hearing))]
+fn deliver_others(
+    lives: &mut BTreeMap<Replica, Life>,
+    present: &[Replica],
+    told: &[Telling],
+    alloc: Global,
+    node: usize,
+    place: usize,
+) -> Result<(), AllocError>
+    ensures delivers { OnOk result (DeliversOthersTo present.now told.now (seen lives.old) node place (seen lives.new)) }
+    ensures same { OnErr result (seen lives.new ≡ seen lives.old) }
+{
+    let Some(own) = present.get(node) else {
+        return Ok(());
+    };
+    match told.get(place) {
+        Some(one) => {
+            let step = one.step_of_others(alloc, own)?;
+            act(lives, present, alloc, node, &step)
+        }
+        None => Ok(()),
+    }
+}
+
 // A node puts a Start in the place of its journal.
 #[tactic(auto, using(crate::proofs::Events::beginning))]
 fn checkpoint(
@@ -295,6 +320,14 @@ pub(crate) fn happen(
             tell_part(lives, present.as_slice(), told, alloc, &part)
         }
         Event::Deliver { node, told: place } => deliver(
+            lives,
+            present.as_slice(),
+            told.as_slice(),
+            alloc,
+            *node,
+            *place,
+        ),
+        Event::DeliverOthers { node, told: place } => deliver_others(
             lives,
             present.as_slice(),
             told.as_slice(),
