@@ -76,7 +76,7 @@ const REQUEST: &[u8] =
     b"GET /chat HTTP/1.1\r\nHost: server.example.com\r\nUpgrade: websocket\r\nConnection: Upgrade\r\nSec-WebSocket-Key: dGhlIHNhbXBsZSBub25jZQ==\r\nOrigin: http://example.com\r\nSec-WebSocket-Version: 13\r\n\r\n";
 
 // A stream that gives this, so many bytes a read, and takes whatever is written.
-fn wire(alloc: Global, rest: &'static [u8], piece: usize) -> Wire {
+fn stream_giving(alloc: Global, rest: &'static [u8], piece: usize) -> Wire {
     Wire {
         rest,
         piece,
@@ -108,7 +108,7 @@ fn guest_over(alloc: Global, stream: Wire) -> Result<Guests<Wire>, Fail> {
 }
 
 fn guests(alloc: Global, rest: &'static [u8], piece: usize) -> Result<Guests<Wire>, Fail> {
-    guest_over(alloc, wire(alloc, rest, piece))
+    guest_over(alloc, stream_giving(alloc, rest, piece))
 }
 
 // In how many turns the one client came to an end, and whether with an open socket.
@@ -149,7 +149,7 @@ fn silence_is_borne_for_two_hundred_looks(rt: HostRuntime) -> Result<(), Fail> {
 fn another_request_is_over_at_its_end(rt: HostRuntime) -> Result<(), Fail> {
     let alloc = rt.alloc();
     for (ends, turn) in [(true, 1), (false, 200)] {
-        let mut stream = wire(alloc, b"GET / HTTP/1.1\r\nHost: a\r\n\r\n", 4_096);
+        let mut stream = stream_giving(alloc, b"GET / HTTP/1.1\r\nHost: a\r\n\r\n", 4_096);
         stream.ends = ends;
         let mut plain = guest_over(alloc, stream)?;
         assert_eq!(rt; turns(alloc, &mut plain)?, (turn, false));
@@ -175,7 +175,7 @@ fn sent_to(alloc: Global, guests: &mut Guests<Wire>) -> Result<Option<Vec<u8>>, 
 #[test]
 fn a_reply_that_finds_no_room_goes_on(rt: HostRuntime) -> Result<(), Fail> {
     let alloc = rt.alloc();
-    let mut stream = wire(alloc, REQUEST, 4_096);
+    let mut stream = stream_giving(alloc, REQUEST, 4_096);
     stream.takes = 10;
     let mut narrow = guest_over(alloc, stream)?;
     let Some(sent) = sent_to(alloc, &mut narrow)? else {
@@ -204,9 +204,9 @@ fn one_that_is_not_marked_waits(rt: HostRuntime) -> Result<(), Fail> {
 fn each_is_opened_once_under_its_number(rt: HostRuntime) -> Result<(), Fail> {
     let alloc = rt.alloc();
     let mut guests = Guests::new(alloc);
-    admit(alloc, &mut guests, 7, wire(alloc, b"", 1))?;
-    admit(alloc, &mut guests, 9, wire(alloc, REQUEST, 4_096))?;
-    admit(alloc, &mut guests, 8, wire(alloc, REQUEST, 4_096))?;
+    admit(alloc, &mut guests, 7, stream_giving(alloc, b"", 1))?;
+    admit(alloc, &mut guests, 9, stream_giving(alloc, REQUEST, 4_096))?;
+    admit(alloc, &mut guests, 8, stream_giving(alloc, REQUEST, 4_096))?;
     assert_eq!(rt; guests.len(), 3);
     let mut numbers = Vec::new(alloc);
     for (number, _) in look(alloc, &mut guests)? {
