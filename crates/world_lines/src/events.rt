@@ -117,6 +117,13 @@ fn deliver_of(members: &[Value]) -> Result<Event, LineFault> {
     Ok(Event::Deliver { node, told })
 }
 
+fn deliver_others_of(members: &[Value]) -> Result<Event, LineFault> {
+    are_so_many(members, 3)?;
+    let node = position_at(members, 1)?;
+    let told = position_at(members, 2)?;
+    Ok(Event::DeliverOthers { node, told })
+}
+
 fn heard_of(alloc: Global, members: &[Value]) -> Result<Event, LineFault> {
     are_so_many(members, 4)?;
     let node = position_at(members, 1)?;
@@ -171,6 +178,7 @@ pub(crate) fn event_of(
         "full" => full_of(members, form),
         "part" => part_of(members, form),
         "deliver" => deliver_of(members),
+        "deliver_others" => deliver_others_of(members),
         "heard" => heard_of(alloc, members),
         "tick" => tick_of(members),
         "permdown" => permdown_of(alloc, members),

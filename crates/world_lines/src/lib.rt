@@ -12,6 +12,7 @@
 //! | `["part",node,from]`, `["part",node,from,to]` | a node tells a part of what was counted above `from`, or above it up to `to` |
 //! | `["form",1]`, `["form",2]` | in which form nodes tell from here on; before any such line it is the first |
 //! | `["deliver",node,told]` | what was told comes to a node |
+//! | `["deliver_others",node,told]` | so much of it as is told of other nodes, by their names |
 //! | `["heard",node,[name,incarnation],now]`, `["tick",node,now]` | a replica is heard, time passes |
 //! | `["permdown",node,[name,incarnation]]` | a replica is gone for good |
 //! | `["checkpoint",node]`, `["restart",node,incarnation]` | a Start in the journal's place, a new life |
