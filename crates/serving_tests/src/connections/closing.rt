@@ -6,6 +6,7 @@ use crate::served::{Cause, Progress, Stage, close_code, close_frame, frame, fram
 use phx_message::MessageFault;
 use session_desk::{SessionFault, ShardFault};
 use std::alloc::Global;
+use std::io::ErrorKind;
 use std::test::Fail;
 use tungstenite::CloseCode;
 
@@ -109,12 +110,14 @@ fn silence(rt: HostRuntime) -> Result<(), Fail> {
 fn answered_pings(rt: HostRuntime) -> Result<(), Fail> {
     let alloc = rt.alloc();
     let pong = frame(alloc, 0x8A, b"")?;
-    let Some(mut line) = line_over(alloc, wire_of(alloc, b"")) else {
+    let mut wire = wire_of(alloc, &pong);
+    wire.so = ErrorKind::WouldBlock;
+    wire.fails_read = 0;
+    let Some(mut line) = line_over(alloc, wire) else {
         return Err(Fail::new("none was given"));
     };
     line.now = 30_000;
     assert_eq!(rt; line.turn(alloc), Progress::Idle);
-    line.connection.socket.get_mut().rest = pong.as_slice();
     line.now = 31_000;
     assert_eq!(rt; line.turn(alloc), Progress::Busy);
     line.now = 60_999;
