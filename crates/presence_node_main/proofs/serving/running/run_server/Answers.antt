@@ -18,7 +18,7 @@ run_crew-requires-send-K g c = search (task_row_send, sendable) depth 30
 pub run_crew-requires-sync-C : goal.run_crew-requires-sync-C
 run_crew-requires-sync-C g c κs within =
     let hooks : IsSync (param 1 g.row.H) = c.type_bounds.sync-H in
-    search (pool_sync, links_sync, mailbox_sync, counts_sync, budgets_sync, memory_sync, log_sync, routes_sync, Vec-sync, heap.crosses, sendable) depth 60 fits 20000
+    search (pool_sync, links_sync, mailbox_sync, counts_sync, budgets_sync, memory_sync, log_sync, routes_sync, Vec-sync, heap.crosses, sendable) depth 120 fits 20000
 
 pub returns : goal.returns
 returns c c' = (
