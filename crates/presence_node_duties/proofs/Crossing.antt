@@ -19,6 +19,7 @@ use Rattle.presence_node_log.specs.contracts.log.Log as Log
 use Rattle.presence_node_rations.specs.contracts.budgets.TopicBudgets as TopicBudgets
 use Rattle.presence_node_rations.specs.contracts.memory.MemoryMark as MemoryMark
 use Rattle.presence_node_rations.specs.contracts.rations.Rations as Rations
+use Rattle.presence_node_rations.specs.contracts.rations.Rations as Rations
 use Rattle.presence_node_duties.specs.contracts.bench.Bench as Bench
 use Rattle.presence_node_duties.specs.contracts.draining.Drain as Drain
 use Rattle.presence_node_duties.specs.contracts.ends.Ends as Ends
@@ -67,6 +68,9 @@ followers_send = search (maps.crosses, heap.crosses, sendable) depth 60 fits 200
 ends_send : IsSend (Ends.the_field).row
 ends_send = search (heap.crosses, sendable) depth 60 fits 20000
 
+rations_send : IsSend (Rations.the_field).row
+rations_send = search (maps.crosses, heap.crosses, sendable) depth 60 fits 20000
+
 growth_send : IsSend (Growth.the_field).row
 growth_send = search sendable depth 60 fits 20000
 
@@ -76,7 +80,10 @@ drain_send = search (heap.crosses, sendable) depth 60 fits 20000
 module _ (A B C D : RattleType) (lane-a : Lane.Ghosts A.Denot) (lane-b : Lane.Ghosts B.Denot) (lane-c : Lane.Ghosts C.Denot) (lane-d : Lane.Ghosts D.Denot)
     (a : Ledger.Ghosts A.Denot) (b : Ledger.Ghosts B.Denot) (c : Ledger.Ghosts C.Denot) (d : Ledger.Ghosts D.Denot) where
   bench_send : IsSend (Bench.the_field A B C D lane-a a lane-b b lane-c c lane-d d).row
-  bench_send = search (seat_send, worker_send, client_stream_row_send, client_stream_send, watch_send, leavers_send, long_texts_send, followers_send, ends_send, growth_send, drain_send, rations_send, maps.crosses, heap.crosses, sendable) depth 120 fits 40000
+  bench_send = search (seat_send, worker_send, client_stream_row_send, client_stream_send, watch_send, leavers_send, long_texts_send, followers_send, ends_send, growth_send, drain_send, rations_send, heap.crosses, sendable) depth 60 fits 20000
+
+  bench_b : IsSend (Bench.the_field A B C D lane-a a lane-b b lane-c c lane-d d).row
+  bench_b = search (seat_send, worker_send, client_stream_row_send, client_stream_send, watch_send, leavers_send, long_texts_send, followers_send, ends_send, growth_send, drain_send, rations_send, heap.crosses, sendable) depth 60 fits 200000
 
   pub place_send : IsSend (Workplace.the_field A B C D lane-a a lane-b b lane-c c lane-d d).row
   place_send = search (bench_send, sendable) depth 60 fits 20000
