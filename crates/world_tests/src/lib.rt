@@ -2,6 +2,8 @@
 #![tactic(auto)]
 
 #[cfg(test)]
+mod others;
+#[cfg(test)]
 mod parts;
 #[cfg(test)]
 mod rebirths;
