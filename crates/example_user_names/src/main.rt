@@ -47,7 +47,7 @@ where
         + Input
         + Print
         + Eprint
-        + Files
+        + Files<File: Send + Sync, Dir: Send + Sync>
         + AllocGlobal
         + Sync,
 {

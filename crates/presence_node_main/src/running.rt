@@ -65,7 +65,7 @@ where
         + Input
         + Print
         + Eprint
-        + Files
+        + Files<File: Send + Sync, Dir: Send + Sync>
         + AllocGlobal
         + Sync,
     H: PresenceHooks + Sync,
@@ -98,7 +98,7 @@ where
         + Input
         + Print
         + Eprint
-        + Files
+        + Files<File: Send + Sync, Dir: Send + Sync>
         + AllocGlobal
         + Sync,
     H: PresenceHooks + Sync,
@@ -167,7 +167,7 @@ where
         + Input
         + Print
         + Eprint
-        + Files
+        + Files<File: Send + Sync, Dir: Send + Sync>
         + AllocGlobal
         + Sync,
 {
@@ -186,7 +186,7 @@ where
         + Input
         + Print
         + Eprint
-        + Files
+        + Files<File: Send + Sync, Dir: Send + Sync>
         + AllocGlobal
         + Sync,
     H: PresenceHooks + Sync,
@@ -217,7 +217,7 @@ where
         + Input
         + Print
         + Eprint
-        + Files
+        + Files<File: Send + Sync, Dir: Send + Sync>
         + AllocGlobal
         + Sync,
     H: PresenceHooks + Sync,

@@ -279,7 +279,7 @@ where
         + Input
         + Print
         + Eprint
-        + Files
+        + Files<File: Send + Sync, Dir: Send + Sync>
         + Sync,
     H: PresenceHooks + Sync,
     A: Lane + Send + Sync,
@@ -318,7 +318,7 @@ where
         + Input
         + Print
         + Eprint
-        + Files
+        + Files<File: Send + Sync, Dir: Send + Sync>
         + Sync,
     H: PresenceHooks + Sync,
     A: Lane + Send + Sync,
@@ -379,7 +379,7 @@ where
         + Input
         + Print
         + Eprint
-        + Files
+        + Files<File: Send + Sync, Dir: Send + Sync>
         + Sync,
     H: PresenceHooks + Sync,
     A: Lane + Send + Sync,
@@ -442,7 +442,7 @@ where
         + Input
         + Print
         + Eprint
-        + Files
+        + Files<File: Send + Sync, Dir: Send + Sync>
         + Sync,
     H: PresenceHooks + Sync,
     ensures { IsEndFor options.now result }
