@@ -82,9 +82,6 @@ module _ (A B C D : RattleType) (lane-a : Lane.Ghosts A.Denot) (lane-b : Lane.Gh
   bench_send : IsSend (Bench.the_field A B C D lane-a a lane-b b lane-c c lane-d d).row
   bench_send = search (seat_send, worker_send, client_stream_row_send, client_stream_send, watch_send, leavers_send, long_texts_send, followers_send, ends_send, growth_send, drain_send, rations_send, heap.crosses, sendable) depth 60 fits 20000
 
-  bench_b : IsSend (Bench.the_field A B C D lane-a a lane-b b lane-c c lane-d d).row
-  bench_b = search (seat_send, worker_send, client_stream_row_send, client_stream_send, watch_send, leavers_send, long_texts_send, followers_send, ends_send, growth_send, drain_send, rations_send, heap.crosses, sendable) depth 60 fits 200000
-
   pub place_send : IsSend (Workplace.the_field A B C D lane-a a lane-b b lane-c c lane-d d).row
   place_send = search (bench_send, sendable) depth 60 fits 20000
 
