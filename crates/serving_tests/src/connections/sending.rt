@@ -105,7 +105,7 @@ fn what_was_read_is_given_back(rt: HostRuntime) -> Result<(), Fail> {
     let alloc = rt.alloc();
     let mut sent = Vec::new(alloc);
     add_frame(&mut sent, 0x81, true, "x".repeat(alloc, 60_000)?.as_bytes())?;
-    let front = sent.len() - 1;
+    let front = sent.len().saturating_sub(1);
     let mut wire = wire_of(alloc, &sent[..front]);
     wire.step = 4_096;
     let mut socket = socket(alloc, wire, socket_config());
@@ -128,6 +128,7 @@ fn fragments_are_counted(rt: HostRuntime) -> Result<(), Fail> {
     add_frame(&mut sent, 0x89, true, b"hi")?;
     let front = sent.len();
     add_frame(&mut sent, 0x80, true, b"e")?;
+    let front = front.min(sent.len());
     let mut socket = socket(alloc, wire_of(alloc, &sent[..front]), socket_config());
     assert!(rt; matches!(socket.read(), Ok(Message::Ping(_))));
     assert!(rt; socket.read().is_err());
