@@ -19,7 +19,6 @@ use Rattle.presence_node_log.specs.contracts.log.Log as Log
 use Rattle.presence_node_rations.specs.contracts.budgets.TopicBudgets as TopicBudgets
 use Rattle.presence_node_rations.specs.contracts.memory.MemoryMark as MemoryMark
 use Rattle.presence_node_rations.specs.contracts.rations.Rations as Rations
-use Rattle.presence_node_rations.specs.contracts.rations.Rations as Rations
 use Rattle.presence_node_duties.specs.contracts.bench.Bench as Bench
 use Rattle.presence_node_duties.specs.contracts.draining.Drain as Drain
 use Rattle.presence_node_duties.specs.contracts.ends.Ends as Ends
@@ -67,9 +66,6 @@ followers_send = search (maps.crosses, heap.crosses, sendable) depth 60 fits 200
 
 ends_send : IsSend (Ends.the_field).row
 ends_send = search (heap.crosses, sendable) depth 60 fits 20000
-
-rations_send : IsSend (Rations.the_field).row
-rations_send = search (maps.crosses, heap.crosses, sendable) depth 60 fits 20000
 
 growth_send : IsSend (Growth.the_field).row
 growth_send = search sendable depth 60 fits 20000
