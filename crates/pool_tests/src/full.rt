@@ -1,0 +1,267 @@
+//! What a link, a period and a session ask of a shard whose journal is full, where only that shard has rows.
+ghost use Rattle.std.specs.Prelude.{◌≡◌, ◌<◌};
+
+use channel_session_rules::Port;
+use node_links::LinkPort;
+use orswot_core_told::Form;
+use pool_desk::{Scene, key, meta, replica, topic, track, two_rows};
+use presence_base::{Replica, Topic};
+use presence_node_link_ports::{PoolLinkPort, cut_off, go_on, let_pass};
+use presence_node_ports::PoolPort;
+use replica_status::Status;
+use shard_pool::{Lane, NoGate, PoolFault, Seat};
+use std::alloc::Global;
+use std::sync::Wait;
+
+const NOW: u64 = 1_000;
+
+// More than a journal holds.
+const MANY: u64 = 300_000;
+
+// What is asked of the full shard.
+#[derive(Clone, Copy)]
+pub(crate) enum Asked {
+    // By a link: that a replica was heard, its two rows, that it is gone, and what the shard tells.
+    Heard,
+    Merge,
+    PermDown,
+    Tell,
+    // By a period: a tick, and a cut.
+    Tick,
+    Cut,
+    // By a node that is told that it is gone: to go on under a higher incarnation.
+    GoOn,
+    // By a session: the list of a room, a row, and a subscriber.
+    List,
+    Track,
+    Subscribe,
+}
+
+// How many entries found room behind the first two, and the number of each shard's Start behind the call.
+#[derive(Clone, Copy, Debug, PartialEq)]
+pub(crate) struct Filled {
+    entries: u64,
+    starts: [u64; 4],
+}
+
+// A journal holds 262,144 entries, its Start among them. The other shards keep theirs, and so does the full one where it
+// is asked what it tells alone, which makes no entry.
+pub(crate) const fn wanted_behind(shard: usize, asked: Asked) -> Filled {
+    let start = match asked {
+        Asked::Tell => 0,
+        _ => 262_144,
+    };
+    Filled {
+        entries: 262_141,
+        starts: match shard {
+            0 => [start, 0, 0, 0],
+            1 => [0, start, 0, 0],
+            2 => [0, 0, start, 0],
+            _ => [0, 0, 0, start],
+        },
+    }
+}
+
+// How many entries find room in a shard's journal.
+fn fill<R: Wait, A: Lane, B: Lane, C: Lane, D: Lane>(
+    scene: Scene<'_, R, NoGate, A, B, C, D>,
+    shard: u32,
+) -> Option<u64>
+    requires { shard < scene.pool.now.shards }
+{
+    let Scene { rt, alloc, pool } = scene;
+    for count in 0..MANY {
+        match pool.tick(rt, alloc, shard, NOW) {
+            Ok(()) => {}
+            Err(PoolFault::JournalFull) => return Some(count),
+            Err(_) => return None,
+        }
+    }
+    None
+}
+
+// What a shard says of another node, how far it knows that one and its own, and how many rows it tells from the first
+// count on and in full: nothing is kept of a cut, so both are all that it knows.
+#[derive(Clone, Copy, PartialEq)]
+struct Seen {
+    status: Status,
+    other_top: u64,
+    own_top: u64,
+    told: usize,
+    full: usize,
+}
+
+const NOTHING: Seen = Seen {
+    status: Status::Unheard,
+    other_top: 0,
+    own_top: 0,
+    told: 0,
+    full: 0,
+};
+
+fn says<R: Wait, A: Lane, B: Lane, C: Lane, D: Lane>(
+    alloc: Global,
+    port: &mut PoolLinkPort<'_, R, NoGate, A, B, C, D>,
+    shard: u32,
+    own: &Replica,
+    other: &Replica,
+) -> Option<Seen> {
+    Some(Seen {
+        status: port.status(alloc, shard, other).ok()?,
+        other_top: port.top(alloc, shard, other).ok()?,
+        own_top: port.top(alloc, shard, own).ok()?,
+        told: port
+            .told_from(alloc, shard, 0, Form::One)
+            .ok()??
+            .live()
+            .len(),
+        full: port.full(alloc, shard, Form::One).ok()??.live().len(),
+    })
+}
+
+// Whether the shard says this, and each other one that it knows nothing.
+fn says_alone<R: Wait, A: Lane, B: Lane, C: Lane, D: Lane>(
+    alloc: Global,
+    port: &mut PoolLinkPort<'_, R, NoGate, A, B, C, D>,
+    shard: u32,
+    other: &Replica,
+    wanted: Seen,
+) -> Option<()> {
+    let own = replica(alloc, "a")?;
+    for each in 0..4 {
+        let wanted = if each == shard { wanted } else { NOTHING };
+        if says(alloc, port, each, &own, other)? != wanted {
+            return None;
+        }
+    }
+    Some(())
+}
+
+// What a shard says that knows its own row and these of another node.
+const fn knows(status: Status, other_top: u64, rows: usize) -> Seen {
+    Seen {
+        status,
+        other_top,
+        own_top: 1,
+        told: rows,
+        full: rows,
+    }
+}
+
+// A call of a link's port, and what the shards say behind it: the row of this node and what is known of the other one.
+fn ask_by_link<R: Wait, A: Lane, B: Lane, C: Lane, D: Lane>(
+    scene: Scene<'_, R, NoGate, A, B, C, D>,
+    shard: u32,
+    asked: Asked,
+) -> Option<()>
+    requires { scene.pool.now.shards ≡ 4 }
+{
+    let Scene { rt, alloc, pool } = scene;
+    let other = replica(alloc, "b")?;
+    let mut port = PoolLinkPort::new(rt, pool, 4);
+    let wanted = match asked {
+        Asked::Merge => {
+            let rows = two_rows(alloc, &other, "room:lobby")?;
+            port.merge(alloc, shard, &rows).ok()?;
+            knows(Status::Up, 2, 3)
+        }
+        Asked::PermDown => {
+            port.permdown(alloc, shard, other).ok()?;
+            knows(Status::Gone, 0, 1)
+        }
+        Asked::Tell => knows(Status::Up, 0, 1),
+        _ => {
+            port.heard(alloc, shard, other, NOW).ok()?;
+            knows(Status::Up, 0, 1)
+        }
+    };
+    says_alone(alloc, &mut port, shard, &other, wanted)
+}
+
+// A call of a session's port, which makes room.
+fn ask_by_session<R: Wait, A: Lane, B: Lane, C: Lane, D: Lane>(
+    scene: Scene<'_, R, NoGate, A, B, C, D>,
+    seat: &mut Seat<A, B, C, D>,
+    asked: (&Topic, Asked),
+) -> Option<()> {
+    let Scene { rt, alloc, pool } = scene;
+    let mut port = PoolPort::new(rt, pool, seat);
+    match asked.1 {
+        Asked::Track => {
+            let key = key(alloc, "u2")?;
+            let meta = meta(alloc)?;
+            if port.track(alloc, 5, asked.0, &key, &meta).ok()?.count != 2 {
+                return None;
+            }
+        }
+        Asked::Subscribe => {
+            let sub = port.subscribe(alloc, asked.0).ok()?;
+            if port.waits(asked.0, &sub) != Ok(true) {
+                return None;
+            }
+        }
+        _ => {
+            if port.list(alloc, asked.0).ok()?.as_slice().len() != 1 {
+                return None;
+            }
+        }
+    }
+    if port.has_made_room() { Some(()) } else { None }
+}
+
+// Asks this of the shard that has the topic.
+fn ask<R: Wait, A: Lane, B: Lane, C: Lane, D: Lane>(
+    scene: Scene<'_, R, NoGate, A, B, C, D>,
+    seat: &mut Seat<A, B, C, D>,
+    asked: (&Topic, Asked),
+) -> Option<()>
+    requires { scene.pool.now.shards ≡ 4 }
+{
+    let Scene { rt, alloc, pool } = scene;
+    let shard = pool.shard_of(asked.0);
+    match asked.1 {
+        Asked::Heard | Asked::Merge | Asked::PermDown | Asked::Tell => {
+            ask_by_link(scene, shard, asked.1)
+        }
+        Asked::Tick => let_pass(rt, alloc, pool, shard, NOW).ok(),
+        Asked::Cut => {
+            cut_off(rt, alloc, pool, shard).ok()?;
+            Some(())
+        }
+        Asked::GoOn => {
+            let pairs = go_on(rt, alloc, pool, shard, 2).ok()?;
+            if pairs.len() == 1 && pool.incarnation(rt, shard) == 2 {
+                Some(())
+            } else {
+                None
+            }
+        }
+        Asked::List | Asked::Track | Asked::Subscribe => { ask_by_session(scene, seat, asked) }
+    }
+}
+
+// Fills the shard that has the room, where a row is and another node was heard, and asks this of it.
+pub(crate) fn ask_when_full<R: Wait, A: Lane, B: Lane, C: Lane, D: Lane>(
+    scene: Scene<'_, R, NoGate, A, B, C, D>,
+    seat: &mut Seat<A, B, C, D>,
+    asked: (&'static str, Asked),
+) -> Option<Filled>
+    requires { scene.pool.now.shards ≡ 4 }
+{
+    let Scene { rt, alloc, pool } = scene;
+    let topic = topic(alloc, asked.0)?;
+    let shard = pool.shard_of(&topic);
+    track(scene, seat, asked.0, "u1")?;
+    pool.heard(rt, alloc, shard, replica(alloc, "b")?, NOW)
+        .ok()?;
+    let entries = fill(scene, shard)?;
+    ask(scene, seat, (&topic, asked.1))?;
+    let starts = [
+        pool.start_of(rt, 0),
+        pool.start_of(rt, 1),
+        pool.start_of(rt, 2),
+        pool.start_of(rt, 3),
+    ];
+    pool.trim(rt, seat);
+    Some(Filled { entries, starts })
+}

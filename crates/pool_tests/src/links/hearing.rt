@@ -1,0 +1,57 @@
+//! What node a hears of node b, which dialled it, and what it shows behind each line.
+ghost use Rattle.std.specs.Prelude.{◌≡◌};
+
+use super::node::{Dialogue, node_over};
+use node_links::End;
+use pool_desk::{Scene, topic};
+use presence_base::Replica;
+use shard_pool::{Lane, NoGate, Seat};
+use std::sync::Wait;
+
+// The count of the first row that is listed behind each line, 0 where none is; whether more lines come; and whether it
+// answers as node b was answered.
+pub(crate) type Hearing = ([u64; 6], Option<bool>, bool);
+
+pub(crate) const HEARING: Hearing = ([0, 1, 1, 0, 0, 0], Some(false), true);
+
+// Where cuts were lost there are three lines, and the later looks are behind their end.
+pub(crate) const HEARING_KEPT: Hearing = ([0, 0, 3, 3, 3, 3], Some(false), true);
+
+pub(crate) const HEARING_OUTGROWN: Hearing = (
+    [0, 0, 10_003, 10_003, 10_003, 10_003],
+    Some(false),
+    true,
+);
+
+// The count of the first row of the room, or 0.
+fn first_row<R: Wait, A: Lane, B: Lane, C: Lane, D: Lane>(
+    scene: Scene<'_, R, NoGate, A, B, C, D>,
+    seat: &mut Seat<A, B, C, D>,
+) -> Option<u64> {
+    let Scene { rt, alloc, pool } = scene;
+    let topic = topic(alloc, "room:a")?;
+    let rows = pool.list(rt, alloc, seat, &topic).ok()?.value;
+    match rows.as_slice().first() {
+        Some(row) => Some(row.0.count),
+        None => Some(0),
+    }
+}
+
+pub(crate) fn hear<R: Wait, A: Lane, B: Lane, C: Lane, D: Lane>(
+    scene: Scene<'_, R, NoGate, A, B, C, D>,
+    seat: &mut Seat<A, B, C, D>,
+    own: Replica,
+    dialogue: Dialogue,
+) -> Option<Hearing>
+    requires { scene.pool.now.shards ≡ 2 }
+{
+    let Scene { alloc, .. } = scene;
+    let mut node = node_over(scene, own, End::Accepting, dialogue.said);
+    let mut rows = [0; 6];
+    for row in &mut rows {
+        node.accepts(alloc)?;
+        *row = first_row(scene, seat)?;
+    }
+    let more = node.accepts(alloc);
+    Some((rows, more, node.wrote(dialogue.answered)))
+}
