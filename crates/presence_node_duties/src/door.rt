@@ -2,6 +2,7 @@
 ghost use Rattle.std.specs.Prelude.{◌<◌};
 
 use crate::caller::{Caller, next_caller};
+use crate::files::client_files;
 use crate::neighbours::{AddressLimits, Neighbours};
 use crate::pulse::Pulse;
 use crate::reasons::dropped_by;
@@ -91,6 +92,13 @@ impl Keeper<ClientSocket> for Reception {
     }
 }
 
+// How many clients there may be, and how many files they may have with the one that is held open.
+#[derive(Clone, Copy)]
+struct Room {
+    places: u64,
+    files: u64,
+}
+
 /// What the thread at the door has of its own.
 pub struct Door {
     entries: Entries,
@@ -102,8 +110,7 @@ pub struct Door {
     /// Those at the port of metrics.
     observers: Guests<ClientSocket>,
     neighbours: Neighbours,
-    /// How many clients there may be.
-    places: u64,
+    room: Room,
     /// Those that have a place.
     seated: TicketCount,
     /// Those of them that wait for a worker.
@@ -134,7 +141,7 @@ impl Drop for Door {
             guests,
             observers,
             neighbours,
-            places: _,
+            room: _,
             seated,
             queued,
             waiting,
@@ -235,7 +242,10 @@ impl Door {
             guests: Guests::new(alloc),
             observers: Guests::new(alloc),
             neighbours: Neighbours::new(alloc, limits.addresses, limits.places),
-            places: limits.places,
+            room: Room {
+                places: limits.places,
+                files: u64::MAX,
+            },
             seated: TicketCount::new(alloc)?,
             queued: TicketCount::new(alloc)?,
             waiting: VecDeque::new(alloc),
@@ -351,6 +361,29 @@ impl Door {
         }
     }
 
+    // How many files clients have here and at the workers, with the one that is held open. A client that was told why it
+    // is closed keeps its own for two seconds more, which isn't counted.
+    fn files_taken(&self) -> u64 {
+        let greeted = self.guests.len().saturating_add(self.observers.len()) as u64;
+        let spare = u64::from(self.spare.is_some());
+        let seated = self.seated.count();
+        seated.saturating_add(greeted).saturating_add(spare)
+    }
+
+    // Whether a client may have a further file, with which those that links want are left to them.
+    fn has_file(&self) -> bool {
+        self.files_taken() < self.room.files
+    }
+
+    // Who comes next at the port of clients.
+    fn next_client(&self) -> Caller {
+        if self.has_file() {
+            next_caller(&self.entries.clients)
+        } else {
+            Caller::NoFile
+        }
+    }
+
     // Takes one connection in the file that is held open for it. There is no place for it: it is told so.
     fn take_in_spare<R: Wait + Clock + Eprint, H, A: Lane, B: Lane, C: Lane, D: Lane>(
         &mut self,
@@ -380,7 +413,7 @@ impl Door {
         rt: &R,
         server: &Server<'_, H, A, B, C, D>,
     ) -> bool {
-        match next_caller(&self.entries.clients) {
+        match self.next_client() {
             Caller::Came(stream, address) => {
                 self.let_in(
                     rt,
@@ -408,7 +441,7 @@ impl Door {
 
     // Holds a file open again, for who comes when no further one can be opened. Where that isn't so yet nobody is taken.
     fn hold_spare(&mut self) -> bool {
-        if self.spare.is_none() {
+        if self.spare.is_none() && self.has_file() {
             self.spare = self.entries.clients.try_clone().ok();
         }
         self.spare.is_some()
@@ -420,6 +453,9 @@ impl Door {
             let Some(listener) = &self.entries.metrics else {
                 break;
             };
+            if !self.has_file() {
+                break;
+            }
             let Caller::Came(stream, address) = next_caller(listener) else {
                 break;
             };
@@ -453,7 +489,7 @@ impl Door {
     // How many further clients may be told that a WebSocket follows.
     fn places_left(&self) -> u64 {
         let given = self.seated.count().saturating_add(self.guests.promised());
-        self.places.saturating_sub(given)
+        self.room.places.saturating_sub(given)
     }
 
     // Hands a connection to the workers and wakes the next of them. There is room in the queue.
@@ -543,7 +579,7 @@ impl Door {
         server: &Server<'_, H, A, B, C, D>,
     ) {
         let taken = self.seated.count().saturating_add(self.guests.promised());
-        server.counts.has_clients(taken, self.places);
+        server.counts.has_clients(taken, self.room.places);
         server.counts.has_under_way(self.guests.len());
         self.answer_observers(rt, server);
         let Ok(opened) = self.opened(rt, server) else {
@@ -626,6 +662,8 @@ impl Door {
         rt: &R,
         server: &Server<'_, H, A, B, C, D>,
     ) {
+        let peers = server.links.tallies().peers;
+        self.room.files = client_files(rt, self.files_taken(), peers);
         for _ in rt.forever() {
             if server.is_stopped() {
                 break;

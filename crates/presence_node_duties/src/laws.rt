@@ -3,14 +3,16 @@ ghost use Rattle.std.specs.Prelude.{◌≡◌};
 ghost use Rattle.presence_node_duties.specs.declared.bench.TheConstants.{SWEEP_MILLISECONDS, TRIM_TURNS};
 ghost use Rattle.presence_node_duties.specs.declared.door.TheConstants as door;
 ghost use Rattle.presence_node_duties.specs.declared.draining.TheConstants as draining;
+ghost use Rattle.presence_node_duties.specs.declared.files.TheConstants.{PEER_FILES};
 ghost use Rattle.presence_node_duties.specs.declared.growth.TheConstants as growth;
 ghost use Rattle.presence_node_duties.specs.declared.neighbours.TheConstants.{HANDSHAKES_PER_SECOND, SHARE};
 
 /// Behind how many milliseconds a worker looks at all its connections, and behind how many turns it trims its seat;
 /// behind how many entries, and how many bytes of their texts, a journal is drained, how often where memory is tight, how
-/// often journals are looked at, and how long nothing is read for one; how long memory that grows no more counts as taken; how many connections a turn at
-/// the door takes, and how often it looks at handshakes; and what the clients of one address get where nothing else is
-/// asked for: handshakes each second, and a part of the places.
+/// often journals are looked at, and how long nothing is read for one; how long memory that grows no more counts as taken;
+/// how many connections a turn at the door takes, and how often it looks at handshakes; what the clients of one address get
+/// where nothing else is asked for: handshakes each second, and a part of the places; and how many files are left to the
+/// links with each node that is dialled.
 pub fn limits_are_these()
     ensures sweep { SWEEP_MILLISECONDS ≡ 2000 }
     ensures trim { TRIM_TURNS ≡ 1024 }
@@ -26,4 +28,5 @@ pub fn limits_are_these()
     ensures handshake_look { door.LOOK_MILLISECONDS ≡ 25 }
     ensures handshakes_per_second { HANDSHAKES_PER_SECOND ≡ 20 }
     ensures share { SHARE ≡ 2 }
+    ensures peer_files { PEER_FILES ≡ 2 }
 {}

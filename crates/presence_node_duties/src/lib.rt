@@ -10,6 +10,7 @@ mod caller;
 mod door;
 mod draining;
 mod ends;
+mod files;
 mod following;
 mod growth;
 pub mod laws;
