@@ -478,10 +478,15 @@ impl<A: Lane, B: Lane, C: Lane, D: Lane> Bench<A, B, C, D> {
         self.follow(rt, server, own, noted)
     }
 
+    // Whether memory is tight, or was refused to a call a moment ago.
+    fn is_memory_tight<H>(&self, server: &Server<'_, H, A, B, C, D>) -> bool {
+        server.memory.is_tight() || server.memory.is_lacking(self.now)
+    }
+
     // From time to time: where a journal is nearly full, all workers are to read nothing until this one has made a
     // checkpoint.
     fn look_at_journals<R: Wait, H>(&mut self, rt: &R, server: &Server<'_, H, A, B, C, D>) {
-        let is_tight = server.memory.is_tight() && self.drain.has_rested(self.now);
+        let is_tight = self.is_memory_tight(server) && self.drain.has_rested(self.now);
         if self.drain.looks_at(self.now) && is_due(rt, server, is_tight) {
             self.drain.lead(is_tight);
             count_anew(server);
@@ -498,8 +503,8 @@ impl<A: Lane, B: Lane, C: Lane, D: Lane> Bench<A, B, C, D> {
             mailbox.inbox.set_draining(false);
         }
         if !mailbox.inbox.is_draining() {
-            self.drain
-                .end(self.now, Due::Made, server.memory.is_tight());
+            let is_tight = self.is_memory_tight(server);
+            self.drain.end(self.now, Due::Made, is_tight);
             return false;
         }
         self.drain.begin(self.now);
@@ -515,7 +520,8 @@ impl<A: Lane, B: Lane, C: Lane, D: Lane> Bench<A, B, C, D> {
             return;
         }
         if let Some(due) = self.drain.made() {
-            self.drain.end(self.now, due, server.memory.is_tight());
+            let is_tight = self.is_memory_tight(server);
+            self.drain.end(self.now, due, is_tight);
             set_draining(server, false);
             server.look();
             return;
