@@ -10,7 +10,8 @@ taken_in old None = old.last
 
 -- It is more than when it had grown last, or less, by these parts of what it may be.
 abbrev pub has_changed : Growth → ℕ → ℕ → Bool
-has_changed old taken limit = nat_lt (old.grown + limit / GROWTH_PART) taken || nat_lt taken (old.grown - limit / FALL_PART)
+has_changed old taken limit =
+    nat_lt (old.grown + limit / GROWTH_PART) taken || nat_lt taken (old.grown - limit / FALL_PART)
 
 -- how long it counts, which is longer where it is as much as it may be
 abbrev pub rest_of : ℕ → ℕ → ℕ
