@@ -52,7 +52,7 @@ const DRAIN_MILLISECONDS: u64 = 1;
 const SWEEP_MILLISECONDS: u64 = 2_000;
 
 /// The memory of the process is looked at once in so long, in milliseconds.
-const WEIGH_MILLISECONDS: u64 = 1_000;
+const WEIGH_MILLISECONDS: u64 = 100;
 
 /// What standard error says where memory gets tight, and where it isn't any more.
 const MEMORY_IS_TIGHT: &str =
@@ -231,7 +231,7 @@ impl<A: Lane, B: Lane, C: Lane, D: Lane> Drop for Bench<A, B, C, D> {
             weighed: _,
             growth: _,
             turns: _,
-            drain: _,
+            drain,
         } = self;
         drop(seat);
         drop(rations);
@@ -241,6 +241,7 @@ impl<A: Lane, B: Lane, C: Lane, D: Lane> Drop for Bench<A, B, C, D> {
         drop(ends);
         drop(followers);
         drop(long_texts);
+        drop(drain);
     }
 }
 
@@ -275,7 +276,7 @@ impl<A: Lane, B: Lane, C: Lane, D: Lane> Bench<A, B, C, D> {
             weighed: 0,
             growth: Growth::new(),
             turns: 0,
-            drain: Drain::new(),
+            drain: Drain::new(alloc),
         }
     }
 
@@ -302,7 +303,7 @@ impl<A: Lane, B: Lane, C: Lane, D: Lane> Bench<A, B, C, D> {
             weighed: _,
             growth: _,
             turns: _,
-            drain: _,
+            drain,
         } = self;
         drop(rations);
         drop(worker);
@@ -311,6 +312,7 @@ impl<A: Lane, B: Lane, C: Lane, D: Lane> Bench<A, B, C, D> {
         drop(ends);
         drop(followers);
         drop(long_texts);
+        drop(drain);
         seat
     }
 
@@ -478,15 +480,11 @@ impl<A: Lane, B: Lane, C: Lane, D: Lane> Bench<A, B, C, D> {
         self.follow(rt, server, own, noted)
     }
 
-    // Whether memory is tight, or was refused to a call a moment ago.
-    fn is_memory_tight<H>(&self, server: &Server<'_, H, A, B, C, D>) -> bool {
-        server.memory.is_tight() || server.memory.is_lacking(self.now)
-    }
-
-    // From time to time: where a journal is nearly full, all workers are to read nothing until this one has made a
-    // checkpoint.
+    // From time to time: where a journal is nearly full, or memory is tight or was refused to a call, all workers are to read
+    // nothing until this one has made a checkpoint.
     fn look_at_journals<R: Wait, H>(&mut self, rt: &R, server: &Server<'_, H, A, B, C, D>) {
-        let is_tight = self.is_memory_tight(server) && self.drain.has_rested(self.now);
+        let wants_memory = server.memory.is_tight() || server.memory.is_lacking(self.now);
+        let is_tight = wants_memory && self.drain.has_rested(self.now);
         if self.drain.looks_at(self.now) && is_due(rt, server, is_tight) {
             self.drain.lead(is_tight);
             count_anew(server);
@@ -503,8 +501,8 @@ impl<A: Lane, B: Lane, C: Lane, D: Lane> Bench<A, B, C, D> {
             mailbox.inbox.set_draining(false);
         }
         if !mailbox.inbox.is_draining() {
-            let is_tight = self.is_memory_tight(server);
-            self.drain.end(self.now, Due::Made, is_tight);
+            self.drain
+                .end(self.now, Due::Made, server.memory.is_tight());
             return false;
         }
         self.drain.begin(self.now);
@@ -520,13 +518,14 @@ impl<A: Lane, B: Lane, C: Lane, D: Lane> Bench<A, B, C, D> {
             return;
         }
         if let Some(due) = self.drain.made() {
-            let is_tight = self.is_memory_tight(server);
-            self.drain.end(self.now, due, is_tight);
+            self.drain.end(self.now, due, server.memory.is_tight());
             set_draining(server, false);
             server.look();
             return;
         }
+        self.drain.give_reserve(server.alloc);
         let due = make_due(rt, server, self.drain.is_tight(), is_over);
+        self.drain.hold_reserve(server.alloc);
         if due == Due::Waits {
             return;
         }
@@ -642,7 +641,7 @@ impl<A: Lane, B: Lane, C: Lane, D: Lane> Bench<A, B, C, D> {
         server.follow_only(rt, own, followed_by(server.alloc, &self.worker));
     }
 
-    // Once a second the first worker looks at how much memory the process has.
+    // From time to time the first worker looks at how much memory the process has.
     fn look_at_memory<R: Wait + Clock + Files + Eprint, H>(
         &mut self,
         rt: &R,
@@ -750,6 +749,7 @@ impl<A: Lane, B: Lane, C: Lane, D: Lane> Bench<A, B, C, D> {
         own: usize,
     ) {
         self.now = time_behind(rt, 0);
+        self.drain.hold_reserve(server.alloc);
         for _ in rt.forever() {
             if server.is_stopped() {
                 break;

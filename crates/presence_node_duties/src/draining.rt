@@ -6,6 +6,7 @@ ghost use Rattle.presence_node_duties.specs.Due.{IsDueBy, due_entries as due_ent
 use crate::server::Server;
 use presence_node_counts::Checkpoint;
 use shard_pool::{DueFrom, Lane, PoolFault};
+use std::alloc::Global;
 use std::sync::Wait;
 use std::sync::atomic::Ordering;
 
@@ -28,20 +29,24 @@ const MAX_DRAIN_MILLISECONDS: u64 = 100;
 /// When a worker has ended so many turns that read nothing, one of them was begun since they are counted.
 const WHOLE_TURNS: u64 = 2;
 
-/// Where memory was refused to a checkpoint the next one is tried so much later, in milliseconds.
+/// Where memory was refused to a checkpoint the next one is tried so much later, in milliseconds, and so much behind one that
+/// was made since memory was refused to a call.
 const REST_MILLISECONDS: u64 = 1_000;
 
 /// So long behind a checkpoint tight memory makes no journal due, in milliseconds: each gives clients whole states.
 const TIGHT_MILLISECONDS: u64 = 30_000;
 
+/// So many bytes are held back for a checkpoint, where there is no other memory.
+const RESERVE_BYTES: usize = 1_048_576;
+
 /// What a worker knows of the next checkpoint.
-#[derive(Clone, Copy)]
+#[derive(Drop)]
 pub(crate) struct Drain {
     /// When the journals are looked at next.
     looks: u64,
     /// Since when this worker has read nothing, if it reads nothing.
     since: Option<u64>,
-    /// Until when tight memory makes no journal due.
+    /// Until when want of memory makes no journal due.
     rests: u64,
     /// Whether it makes the checkpoint.
     leads: bool,
@@ -49,6 +54,8 @@ pub(crate) struct Drain {
     is_tight: bool,
     /// What came of the checkpoints that it made, while their fresh states are delivered.
     made: Option<Due>,
+    /// The memory that it holds back, which nothing is written to.
+    reserve: Vec<u8>,
 }
 
 /// What came of a try at the checkpoints that are due.
@@ -63,8 +70,8 @@ pub(crate) enum Due {
 }
 
 impl Drain {
-    /// Nothing is due.
-    pub fn new() -> Drain {
+    /// Nothing is due, and no memory is held back.
+    pub fn new(alloc: Global) -> Drain {
         Drain {
             looks: 0,
             since: None,
@@ -72,7 +79,20 @@ impl Drain {
             leads: false,
             is_tight: false,
             made: None,
+            reserve: Vec::new(alloc),
         }
+    }
+
+    /// Memory is held back for a checkpoint, if there is some.
+    pub fn hold_reserve(&mut self, alloc: Global) {
+        if let Ok(reserve) = Vec::with_capacity(alloc, RESERVE_BYTES) {
+            self.reserve = reserve;
+        }
+    }
+
+    /// The memory that was held back is there for a checkpoint.
+    pub fn give_reserve(&mut self, alloc: Global) {
+        self.reserve = Vec::new(alloc);
     }
 
     /// Whether this worker reads nothing.
@@ -94,7 +114,7 @@ impl Drain {
         true
     }
 
-    /// Whether tight memory makes a journal due again.
+    /// Whether want of memory makes a journal due again.
     pub fn has_rested(&self, now: u64) -> bool {
         now >= self.rests
     }
@@ -117,14 +137,19 @@ impl Drain {
         }
     }
 
-    /// It reads again, if it didn't. Where memory was refused it lets the journals be for a while, and where memory is
-    /// tight those that are due for it.
+    /// It reads again, if it didn't. Where memory was refused it lets the journals be for a while, and those that are due for
+    /// want of memory at all, for longer where it is tight.
     pub fn end(&mut self, now: u64, due: Due, is_tight: bool) {
         if due == Due::Refused {
             self.looks = now.saturating_add(REST_MILLISECONDS);
         }
-        if self.is_on() && is_tight {
-            self.rests = now.saturating_add(TIGHT_MILLISECONDS);
+        if self.is_on() {
+            let rest = if is_tight {
+                TIGHT_MILLISECONDS
+            } else {
+                REST_MILLISECONDS
+            };
+            self.rests = now.saturating_add(rest);
         }
         self.since = None;
         self.leads = false;

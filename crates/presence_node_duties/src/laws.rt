@@ -1,6 +1,6 @@
 //! Laws of the duties of a server's threads: functions that do nothing, and whose contracts are the laws.
 ghost use Rattle.std.specs.Prelude.{◌≡◌};
-ghost use Rattle.presence_node_duties.specs.declared.bench.TheConstants.{SWEEP_MILLISECONDS, TRIM_TURNS};
+ghost use Rattle.presence_node_duties.specs.declared.bench.TheConstants.{SWEEP_MILLISECONDS, TRIM_TURNS, WEIGH_MILLISECONDS};
 ghost use Rattle.presence_node_duties.specs.declared.door.TheConstants as door;
 ghost use Rattle.presence_node_duties.specs.declared.draining.TheConstants as draining;
 ghost use Rattle.presence_node_duties.specs.declared.files.TheConstants.{PEER_FILES};
@@ -8,11 +8,12 @@ ghost use Rattle.presence_node_duties.specs.declared.growth.TheConstants as grow
 ghost use Rattle.presence_node_duties.specs.declared.neighbours.TheConstants.{HANDSHAKES_PER_SECOND, SHARE};
 
 /// Behind how many milliseconds a worker looks at all its connections, and behind how many turns it trims its seat;
-/// behind how many entries, and how many bytes of their texts, a journal is drained, how often where memory is tight, how
-/// often journals are looked at, and how long nothing is read for one; how long memory that grows no more counts as taken;
-/// how many connections a turn at the door takes, and how often it looks at handshakes; what the clients of one address get
-/// where nothing else is asked for: handshakes each second, and a part of the places; and how many files are left to the
-/// links with each node that is dialled.
+/// behind how many entries, and how many bytes of their texts, a journal is drained, how often where memory is tight,
+/// how often journals are looked at, how long nothing is read for one, when one is tried again for which memory was
+/// refused, and how many bytes are held back for it; how often the memory of the process is looked at, and how long
+/// memory that grows no more counts as taken; how many connections a turn at the door takes, and how often it looks at
+/// handshakes; what the clients of one address get where nothing else is asked for: handshakes each second, and a part
+/// of the places; and how many files are left to the links with each node that is dialled.
 pub fn limits_are_these()
     ensures sweep { SWEEP_MILLISECONDS ≡ 2000 }
     ensures trim { TRIM_TURNS ≡ 1024 }
@@ -22,6 +23,9 @@ pub fn limits_are_these()
     ensures due_texts { draining.DUE_TEXT_BYTES ≡ 50331648 }
     ensures journal_look { draining.LOOK_MILLISECONDS ≡ 5 }
     ensures drain { draining.MAX_DRAIN_MILLISECONDS ≡ 100 }
+    ensures refused_rest { draining.REST_MILLISECONDS ≡ 1000 }
+    ensures reserve { draining.RESERVE_BYTES ≡ 1048576 }
+    ensures weigh { WEIGH_MILLISECONDS ≡ 100 }
     ensures memory { growth.GROWTH_MILLISECONDS ≡ 30000 }
     ensures all_memory { growth.LIMIT_MILLISECONDS ≡ 300000 }
     ensures accepted { door.MAX_ACCEPTED ≡ 256 }
