@@ -3,7 +3,7 @@ use Rattle.std.proofs.Common.{◌≡◌, ◌⊎◌, inl, inr, ℕ, List, IsTrue,
 use Rattle.clap.specs.Words.{Row}
 use Rattle.presence_node_options.specs.Given.{AllArePeers, AreFewOrigins, AreFewPatterns, AreHandshakes, AreLinkFrom, AreOtherPeers, AreProxies, IsFrugal, IsUntold, IsWasteful, ArePeers, ArePorts, AreShards, AreWorkers, ChoosesNone, IsEdgeWrong, IsFor, IsLinkVersion, IsNamed, IsNode, IsPerAddress, IsServedWrong, name_given, origins_given, patterns_given, peers_given}
 use Rattle.presence_node_options.specs.declared.fault.UsageCause.TheVariants.{Words, Name, Incarnation, Route, Port, LinkPort, Shards, Workers, LinkVersion, Peer, Origin, PerAddress, HandshakesPerSecond, PeerName, Proxy, LinkFrom, MemoryLimit, TopicRows, TopicBytes, Log, LogFormat, MetricsPort}
-use Rattle.presence_node_options.specs.Limits.{AreRoutes, are_others, numbered}
+use Rattle.presence_node_options.specs.Limits.{AreRoutes, is_peer_name, numbered}
 use Rattle.presence_node_options.specs.declared.options.PeerOption.{PeerOption}
 use Rattle.presence_node_options.proofs.Patterns.{few_patterns}
 use Rattle.presence_node_options.specs.declared.fault.UsageFault.{UsageFault}
@@ -40,17 +40,17 @@ node_of rows routes named ports shards workers version peers origins clients han
   patterns = few_patterns routes (patterns_given rows) is within;
 }
 
--- the names of peers are their own, or one is told twice
+-- no peer has the node's own name, or one has
 pub others_of : (rows : List Row) (name : List ℕ) (peers : List PeerOption) → name ≡ name_given rows
-    → ArePeers (peers_given rows) peers → IsTrue (are_others name peers) → AreOtherPeers rows
-others_of rows name peers is are others = (peers, are, subst (λ n. IsTrue (are_others n peers)) is others)
+    → ArePeers (peers_given rows) peers → is_peer_name name peers ≡ false → AreOtherPeers rows
+others_of rows name peers is are others = (peers, are, subst (λ n. is_peer_name n peers ≡ false) is others)
 
-pub named_twice : (rows : List Row) (name : List ℕ) (peers : List PeerOption) (fault : UsageFault) → IsNode rows
-    → name ≡ name_given rows → ArePeers (peers_given rows) peers → IsFor PeerName (are_others name peers ≡ false) fault
+pub own_peer : (rows : List Row) (name : List ℕ) (peers : List PeerOption) (fault : UsageFault) → IsNode rows
+    → name ≡ name_given rows → ArePeers (peers_given rows) peers → IsFor PeerName (IsTrue (is_peer_name name peers)) fault
     → IsServedWrong rows fault
-named_twice rows name peers (Usage cause text) node is are twice =
-    rw twice.0 (node, (peers, are, subst (λ n. are_others n peers ≡ false) is twice.1))
-named_twice rows name peers Memory node is are twice = tt
+own_peer rows name peers (Usage cause text) node is are twice =
+    rw twice.0 (node, (peers, are, subst (λ n. IsTrue (is_peer_name n peers)) is twice.1))
+own_peer rows name peers Memory node is are twice = tt
 
 -- what stands beside the node itself is wrong for a cause of its own
 none_of : {A : Type 0} → (⊥ ⊎ (A × ⊥)) → ⊥
@@ -85,22 +85,22 @@ edge_wrong rows Memory node others wrong = tt
 
 -- the same, from what was looked at of the node itself by parts, and of peers that are these
 pub named_wrong : (rows : List Row) (name : List ℕ) (routes : List (List ℕ × ℕ)) (read peers : List PeerOption) (fault : UsageFault)
-    → read ≡ peers → IsFor PeerName (are_others name read ≡ false) fault → name ≡ name_given rows → ArePeers (peers_given rows) peers
+    → read ≡ peers → IsFor PeerName (IsTrue (is_peer_name name read)) fault → name ≡ name_given rows → ArePeers (peers_given rows) peers
     → routes ≡ numbered 0 (patterns_given rows) → AreRoutes routes → IsNamed rows → ArePorts rows → AreShards rows
     → AreWorkers rows → IsLinkVersion rows → AllArePeers (peers_given rows) → AreFewOrigins (origins_given rows)
     → IsPerAddress rows → AreHandshakes rows → IsServedWrong rows fault
 named_wrong rows name routes read peers fault same twice is are routed within named ports shards workers version all origins clients handshakes =
-    named_twice rows name peers fault (node_of rows routes named ports shards workers version all origins clients handshakes routed within) is are
-    (subst (λ ps. IsFor PeerName (are_others name ps ≡ false) fault) same twice)
+    own_peer rows name peers fault (node_of rows routes named ports shards workers version all origins clients handshakes routed within) is are
+    (subst (λ ps. IsFor PeerName (IsTrue (is_peer_name name ps)) fault) same twice)
 
 pub edge_refused : (rows : List Row) (name : List ℕ) (routes : List (List ℕ × ℕ)) (read peers : List PeerOption) (fault : UsageFault)
-    → read ≡ peers → IsEdgeWrong rows fault → IsTrue (are_others name read) → name ≡ name_given rows → ArePeers (peers_given rows) peers
+    → read ≡ peers → IsEdgeWrong rows fault → is_peer_name name read ≡ false → name ≡ name_given rows → ArePeers (peers_given rows) peers
     → routes ≡ numbered 0 (patterns_given rows) → AreRoutes routes → IsNamed rows → ArePorts rows → AreShards rows
     → AreWorkers rows → IsLinkVersion rows → AllArePeers (peers_given rows) → AreFewOrigins (origins_given rows)
     → IsPerAddress rows → AreHandshakes rows → IsServedWrong rows fault
 edge_refused rows name routes read peers fault same wrong others is are routed within named ports shards workers version all origins clients handshakes =
     edge_wrong rows fault (node_of rows routes named ports shards workers version all origins clients handshakes routed within)
-    (others_of rows name peers is are (subst (λ ps. IsTrue (are_others name ps)) same others)) wrong
+    (others_of rows name peers is are (subst (λ ps. is_peer_name name ps ≡ false) same others)) wrong
 
 -- what is told, or taken, wrongly is wrong of what stands beside the node itself
 pub untold_edge : (rows : List Row) (fault : UsageFault) → AreProxies rows → AreLinkFrom rows → IsFrugal rows → IsUntold rows fault

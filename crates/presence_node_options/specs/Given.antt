@@ -15,8 +15,9 @@ use Rattle.presence_base.specs.Names.{is_node_name}
 use Rattle.presence_base.specs.Refs.{IsCount}
 use Rattle.presence_node_options.specs.CommandLine.{program}
 use Rattle.presence_node_options.specs.Hosts.{is_host}
-use Rattle.presence_node_options.specs.Limits.{are_others, numbered}
+use Rattle.presence_node_options.specs.Limits.{is_peer_name, numbered}
 use Rattle.presence_node_options.specs.Origins.{AreOrigins}
+use Rattle.presence_node_options.specs.declared.addresses.AddressRule.{AddressRule}
 use Rattle.presence_node_options.specs.declared.command_line.Edge.{Edge}
 use Rattle.presence_node_options.specs.declared.fault.UsageCause.{UsageCause}
 use Rattle.presence_node_options.specs.declared.fault.UsageCause.TheVariants.{Words, Name, Incarnation, Route, Port, LinkPort, Shards, Workers, LinkVersion, Peer, Origin, PerAddress, HandshakesPerSecond, PeerName, Proxy, LinkFrom, MemoryLimit, TopicRows, TopicBytes, Log, LogFormat, MetricsPort}
@@ -33,6 +34,7 @@ use Rattle.presence_node_options.specs.declared.options.PeerOption.{PeerOption}
 use Rattle.presence_node_options.specs.declared.options.Reports.{Reports}
 use Rattle.presence_node_options.specs.declared.options.ServeOptions.{ServeOptions}
 use Rattle.presence_node_options.specs.declared.options.StdioOptions.{StdioOptions}
+use Rattle.presence_node_options.specs.declared.values.NumberRule.{NumberRule}
 use Rattle.presence_base.specs.declared.names.TheConstants.{MAX_SHARDS}
 use Rattle.presence_node_options.specs.declared.options.TheConstants.{LINK_PORT, MAX_HANDSHAKES_PER_SECOND, MAX_LINK_FROM, MAX_LINK_VERSION, MAX_MEMORY, MAX_ORIGINS, MAX_PER_ADDRESS, MAX_PROXIES, MAX_TOPIC_BYTES, MAX_TOPIC_ROWS, MAX_WORKERS, MIN_MEMORY, MIN_TOPIC_BYTES, TOPIC_BYTES, TOPIC_ROWS}
 
@@ -237,6 +239,14 @@ pub record AreFewAddresses (most : ℕ) (texts : List Text) : Type 0 where
   pub each : AreAddressTexts texts
   pub few : length texts ≤ most
 
+-- the texts that the option of this rule is given, in their order
+abbrev pub texts_for : AddressRule → List Row → List Text
+texts_for rule rows = unwrap_or (all_of rule.option.now rows) []
+
+-- these are addresses, and as few as the rule allows
+abbrev pub AreByRule : AddressRule → List Row → Type 0
+AreByRule rule rows = AreFewAddresses rule.most (texts_for rule rows)
+
 -- the options are those that were given, each route with its position as its kind
 pub record IsGiven (rows : List Row) (o : StdioOptions) : Type 0 where
   pub name : o.name ≡ name_given rows
@@ -375,6 +385,10 @@ abbrev pub IsBetween : ℕ → ℕ → Option Text → Type 0
 IsBetween low high None = Unit {0}
 IsBetween low high (Some text) = IsNumberWithin low high text
 
+-- the number that the option of this rule is given is one that it allows, if one is given
+abbrev pub IsByRule : NumberRule → List Row → Type 0
+IsByRule rule rows = IsBetween rule.low rule.high (first_of rule.option.now rows)
+
 -- a number from 1 to this one, if one is given
 abbrev pub IsUpTo : ℕ → Option Text → Type 0
 IsUpTo high given = IsBetween 1 high given
@@ -400,14 +414,14 @@ IsPerAddress rows = IsUpTo MAX_PER_ADDRESS (per_address_given rows)
 abbrev pub AreHandshakes : List Row → Type 0
 AreHandshakes rows = IsUpTo MAX_HANDSHAKES_PER_SECOND (handshakes_given rows)
 
--- the peers' names are their own, or one is that of the node itself or of another
+-- no peer has the name of the node itself, or one has
 abbrev pub AreOtherPeers : List Row → Type 0
 AreOtherPeers rows = (peers : List PeerOption) × ArePeers (peers_given rows) peers
-    × IsTrue (are_others (name_given rows) peers)
+    × (is_peer_name (name_given rows) peers ≡ false)
 
-abbrev pub IsNamedTwice : List Row → Type 0
-IsNamedTwice rows = (peers : List PeerOption) × ArePeers (peers_given rows) peers
-    × (are_others (name_given rows) peers ≡ false)
+abbrev pub IsOwnPeer : List Row → Type 0
+IsOwnPeer rows = (peers : List PeerOption) × ArePeers (peers_given rows) peers
+    × IsTrue (is_peer_name (name_given rows) peers)
 
 -- the proxies, the addresses of links, and what everybody together may take
 abbrev pub AreProxies : List Row → Type 0
@@ -522,7 +536,7 @@ ServeRefuses rows HandshakesPerSecond = IsNamed rows × ArePorts rows × AreShar
     × AllArePeers (peers_given rows) × AreFewOrigins (origins_given rows) × IsPerAddress rows × (AreHandshakes rows → ⊥)
 ServeRefuses rows Name = is_node_name (name_given rows) ≡ false
 ServeRefuses rows Words = ⊥
-ServeRefuses rows PeerName = IsNode rows × IsNamedTwice rows
+ServeRefuses rows PeerName = IsNode rows × IsOwnPeer rows
 ServeRefuses rows cause = IsNode rows × AreOtherPeers rows × EdgeRefuses rows cause
 
 abbrev pub IsWrong : List Row → UsageFault → Type 0

@@ -1,5 +1,5 @@
 -- What the options of a command line keep.
-use Rattle.std.specs.Prelude.{◌≡◌, ◌≤◌, ◌+◌, ◌&&◌, ◌||◌, ℕ, Bool, true, false, not, List, [], ◌∷◌, bytes_eq, length, map, string_bytes, IsTrue}
+use Rattle.std.specs.Prelude.{◌≡◌, ◌≤◌, ◌+◌, ◌||◌, ℕ, Bool, false, List, [], ◌∷◌, bytes_eq, length, map, string_bytes, IsTrue}
 use Rattle.std.specs.Option.{ForSome}
 use Rattle.std.specs.List.{AllByRecursion}
 use Rattle.presence_base.specs.Names.{is_node_name}
@@ -50,11 +50,6 @@ abbrev pub is_peer_name : List ℕ → List PeerOption → Bool
 is_peer_name name [] = false
 is_peer_name name (p ∷ ps) = bytes_eq p.name name || is_peer_name name ps
 
--- none of these peers has the name of the node itself, or that of another
-abbrev pub are_others : List ℕ → List PeerOption → Bool
-are_others own [] = true
-are_others own (p ∷ ps) = not (bytes_eq p.name own) && (not (is_peer_name p.name ps) && are_others own ps)
-
 -- what everybody together may take is within its limits
 pub record AreBudgets (b : Budgets) : Type 0 where
   pub memory : ForSome b.memory (IsFromTo MIN_MEMORY MAX_MEMORY)
@@ -69,7 +64,7 @@ pub record IsEdgeWithin (e : Edge) : Type 0 where
   pub metrics_port : ForSome e.reports.metrics_port (IsFrom1To 65535)
 
 -- the same for a server, with ports from 1 to 65535, shards, workers, origins, proxies and addresses of links as many as
--- there may be, each origin one as browsers tell it, peers with names of their own, and a version of links; its incarnation
+-- there may be, each origin one as browsers tell it, peers of other names than its own, and a version of links; its incarnation
 -- may be left to the clock, and what one address may have to the server
 pub record IsServedWithin (o : ServeOptions) : Type 0 where
   pub name : IsTrue (is_node_name o.name)
@@ -84,7 +79,7 @@ pub record IsServedWithin (o : ServeOptions) : Type 0 where
   pub each_origin : AreOrigins (map string_bytes o.origins.items)
   pub per_address : ForSome o.per_address (IsFrom1To MAX_PER_ADDRESS)
   pub handshakes_per_second : ForSome o.handshakes_per_second (IsFrom1To MAX_HANDSHAKES_PER_SECOND)
-  pub others : IsTrue (are_others o.name o.peers.items)
+  pub others : is_peer_name o.name o.peers.items ≡ false
   pub proxies : length o.proxies.items ≤ MAX_PROXIES
   pub link_from : length o.link_from.items ≤ MAX_LINK_FROM
   pub budgets : AreBudgets o.budgets

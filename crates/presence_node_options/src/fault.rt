@@ -31,7 +31,7 @@ pub enum UsageCause {
     PerAddress,
     /// The number of handshakes is none from 1 to `MAX_HANDSHAKES_PER_SECOND`.
     HandshakesPerSecond,
-    /// A peer has the name of the node itself, or that of another peer.
+    /// A peer has the name of the node itself.
     PeerName,
     /// A proxy is no address, or there are too many.
     Proxy,

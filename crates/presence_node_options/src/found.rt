@@ -1,9 +1,9 @@
 //! What the parser found of each option.
-ghost use Rattle.std.specs.Prelude.{◌≡◌, ◌≤◌, [], IfErr, IfOk, OnOk, map, option_map, string_bytes, unwrap_or, vec_len};
+ghost use Rattle.std.specs.Prelude.{◌≡◌, ◌≤◌, IfErr, IfOk, OnOk, map, option_map, string_bytes, unwrap_or, vec_len};
 ghost use Rattle.std.specs.Option.{ForSome};
 ghost use Rattle.presence_base.specs.Refs.{IsCount};
-ghost use Rattle.clap.specs.Words.{all_of, first_of, found_of, rows_of};
-ghost use Rattle.presence_node_options.specs.Given.{AreFewAddresses, AreFewOrigins, AreFewPatterns, AreHandshakes, AllArePeers, ArePeers, IsBetween, IsFor, IsLife, IsLinkPort, IsMetricsPort, IsPerAddress, WriteAddresses, flag_given, handshakes_given, life_given, link_port_in, metrics_port_given, number_in, origins_given, patterns_given, peers_given, per_address_given};
+ghost use Rattle.clap.specs.Words.{first_of, found_of, rows_of};
+ghost use Rattle.presence_node_options.specs.Given.{AreByRule, AreFewOrigins, AreFewPatterns, AreHandshakes, AllArePeers, ArePeers, IsByRule, IsFor, IsLife, IsLinkPort, IsMetricsPort, IsPerAddress, WriteAddresses, flag_given, handshakes_given, life_given, link_port_in, metrics_port_given, number_in, origins_given, patterns_given, peers_given, per_address_given, texts_for};
 ghost use Rattle.presence_node_options.specs.declared.options.TheConstants.{MAX_HANDSHAKES_PER_SECOND, MAX_ORIGINS, MAX_PER_ADDRESS};
 ghost use Rattle.presence_node_options.specs.Limits.{AreRoutes, IsFrom1To, IsFromTo, numbered};
 ghost use Rattle.presence_node_options.specs.Origins.{AreOrigins};
@@ -206,10 +206,8 @@ pub(crate) fn given_number(
     ensures number { IfOk result
         (λ n. n ≡ option_map number_in (first_of rule.entry.option.now (rows_of (found_of matches.now)))) }
     ensures limits { IfOk result (λ n. ForSome n (IsFromTo rule.entry.low rule.entry.high)) }
-    ensures given { OnOk result
-        (IsBetween rule.entry.low rule.entry.high (first_of rule.entry.option.now (rows_of (found_of matches.now)))) }
-    ensures cause { IfErr result (IsFor rule.entry.cause
-        (IsBetween rule.entry.low rule.entry.high (first_of rule.entry.option.now (rows_of (found_of matches.now))) → ⊥)) }
+    ensures given { OnOk result (IsByRule rule.entry (rows_of (found_of matches.now))) }
+    ensures cause { IfErr result (IsFor rule.entry.cause (IsByRule rule.entry (rows_of (found_of matches.now)) → ⊥)) }
 {
     let Some(text) = matches.get_str(rule.option) else {
         return Ok(None);
@@ -227,13 +225,11 @@ pub(crate) fn given_addresses(
     matches: &ArgMatches<'_>,
     rule: AddressRule<'_>,
 ) -> Result<Vec<IpAddr>, UsageFault>
-    ensures addresses { IfOk result (λ all.
-        WriteAddresses (unwrap_or (all_of rule.entry.option.now (rows_of (found_of matches.now))) []) all.items) }
+    ensures addresses { IfOk result
+        (λ all. WriteAddresses (texts_for rule.entry (rows_of (found_of matches.now))) all.items) }
     ensures few { IfOk result (λ all. vec_len all ≤ rule.entry.most) }
-    ensures given { OnOk result
-        (AreFewAddresses rule.entry.most (unwrap_or (all_of rule.entry.option.now (rows_of (found_of matches.now))) [])) }
-    ensures cause { IfErr result (IsFor rule.entry.cause
-        (AreFewAddresses rule.entry.most (unwrap_or (all_of rule.entry.option.now (rows_of (found_of matches.now))) []) → ⊥)) }
+    ensures given { OnOk result (AreByRule rule.entry (rows_of (found_of matches.now))) }
+    ensures cause { IfErr result (IsFor rule.entry.cause (AreByRule rule.entry (rows_of (found_of matches.now)) → ⊥)) }
 {
     match matches.get_strs(rule.option) {
         Some(texts) => addresses_of(alloc, texts, rule),

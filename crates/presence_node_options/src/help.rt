@@ -2,7 +2,7 @@
 //! characters; an option's help has its default at the end of its first line.
 
 /// The version of the program, and the day of its sources: the year, the month and the day.
-pub const VERSION: &str = "0.1.0+20261129";
+pub const VERSION: &str = "0.1.0+20261130";
 
 /// How the program is called.
 pub(crate) const USAGES: &str = "presence_node serve [OPTIONS]
@@ -39,10 +39,11 @@ A line each; nothing is said of a state";
 pub(crate) const PORT_HELP: &str = "The port of clients, 1 to 65535 [default: 4000]";
 
 pub(crate) const LINK_PORT_HELP: &str =
-    "The port of other nodes' links, 1 to 65535 [default: 4001 with --peer, or none]";
+    "The port of links, 1 to 65535 [default: 4001 with --peer, or none]
+Other nodes reach this one there, by their --peer";
 
 pub(crate) const PEER_HELP: &str = "Another node to link to, as b=10.0.0.2:4001
-Its name, its host and its link port; as often as one likes, each with a name of its own";
+Its name, its host and its link port; as often as one likes";
 
 pub(crate) const LISTEN_HELP: &str = "The address of the port of clients [default: 127.0.0.1]";
 
@@ -65,17 +66,19 @@ pub(crate) const HANDSHAKES_HELP: &str =
 Beyond a burst of ten seconds' worth, which may come at once
 Not given, this machine and private networks may make any number";
 
-pub(crate) const PROXY_HELP: &str =
-    "A proxy that is believed, by its address; up to 16 times [default: none]
-What it tells of a client's address, by X-Forwarded-For or by the PROXY protocol's first line,
-counts as that, also for the limits of addresses";
+pub(crate) const PROXY_HELP: &str = "A proxy that is believed; up to 16 times [default: none]
+What it tells of a client's address, by X-Forwarded-For or by the
+PROXY protocol's first line, counts as that, also for the limits of
+addresses";
 
 pub(crate) const LINK_FROM_HELP: &str =
-    "Where links may come from, by an address; up to 64 times [default: anywhere]";
+    "Where links may come from; up to 64 times [default: anywhere]
+An address each time; links from elsewhere are closed";
 
 pub(crate) const MEMORY_HELP: &str =
     "Megabytes that it may take, from 32 [default: half of what there is]
-Beyond nine tenths of them joins, tracks and shouts are refused as full, and updates go on";
+Beyond nine tenths of them joins, tracks and shouts are refused as
+full, and updates go on";
 
 pub(crate) const TOPIC_ROWS_HELP: &str =
     "Rows of a topic at this node, 1 to 1048576 [default: 65536]";
@@ -84,14 +87,16 @@ pub(crate) const TOPIC_BYTES_HELP: &str =
     "Bytes of their text, 1024 to 1073741824 [default: 8388608]";
 
 pub(crate) const LOG_HELP: &str = "Lines of which clients: refused, all or none [default: refused]
-On standard error, of those that are refused, dropped or closed for cause, or of all that come";
+On standard error, of those that are refused, dropped or closed for
+cause, or of all that come";
 
 pub(crate) const LOG_FORMAT_HELP: &str = "As what, text or json [default: text]
 Words, or an object of JSON a line";
 
 pub(crate) const METRICS_PORT_HELP: &str =
     "A port for /metrics alone, 1 to 65535 [default: at --port]
-At the address of --link-listen; /metrics then isn't at the port of clients";
+At the address of --link-listen; /metrics then isn't at the port of
+clients";
 
 pub(crate) const SHARDS_HELP: &str = "How many shards the topics are dealt to, 1 to 4 [default: 4]";
 
@@ -124,7 +129,7 @@ Options of serve:
       --log-format <WORD>      As what, text or json [default: text]
       --metrics-port <PORT>    A port for /metrics alone, 1 to 65535 [default: at --port]
       --peer <NAME=HOST:PORT>  Another node to link to, as b=10.0.0.2:4001
-      --link-port <PORT>       The port of other nodes' links [default: 4001 with --peer, or none]
+      --link-port <PORT>       The port of links, 1 to 65535 [default: 4001 with --peer, or none]
       --link-listen <ADDRESS>  The address of the port of links [default: 127.0.0.1]
       --link-from <ADDRESS>    Where links may come from; up to 64 times [default: anywhere]
       --link-version <NUMBER>  Up to which version links are spoken, 1 or 2 [default: 2]

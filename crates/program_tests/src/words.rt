@@ -144,17 +144,22 @@ fn ports_of_links(rt: HostRuntime) -> Result<(), Fail> {
     Ok(())
 }
 
-// Two peers of one name are none.
+// A node may be dialled at two addresses, and no peer has the node's own name.
 #[test]
-fn peers_of_one_name(rt: HostRuntime) {
+fn names_of_peers(rt: HostRuntime) -> Result<(), Fail> {
     let words = [
-        "p", "serve", "--peer", "b=b:1", "--peer", "c=c:1", "--peer", "b=d:1",
+        "p", "serve", "--peer", "b=b:1", "--peer", "c=c:2", "--peer", "b=d:3",
     ];
-    assert!(rt; cause_for(rt.alloc(), words.as_slice()) == Some(UsageCause::PeerName));
+    let Some(linked) = served(rt.alloc(), words.as_slice()) else {
+        panic!(rt; "no options");
+    };
+    assert!(rt; peer_at(&linked, 0) == Some(("b", "b", 1)));
+    assert!(rt; peer_at(&linked, 2) == Some(("b", "d", 3)));
     let words = [
         "p", "serve", "--name", "b", "--peer", "a=a:1", "--peer", "b=b:1",
     ];
     assert!(rt; cause_for(rt.alloc(), words.as_slice()) == Some(UsageCause::PeerName));
+    Ok(())
 }
 
 // Addresses are taken as they count.
@@ -343,9 +348,9 @@ fn hosts_of_peers(rt: HostRuntime) {
     }
 }
 
-// The first peer that a server is asked to link to: its name, host and port.
-fn first_peer(options: &ServeOptions) -> Option<(&str, &str, u16)> {
-    let peer = options.peers.first()?;
+// The peer in this place of those that a server is asked to link to: its name, host and port.
+fn peer_at(options: &ServeOptions, place: usize) -> Option<(&str, &str, u16)> {
+    let peer = options.peers.get(place)?;
     Some((peer.name.as_str(), peer.host.as_str(), peer.port))
 }
 
@@ -366,7 +371,7 @@ fn peers_and_addresses_of_a_server(rt: HostRuntime) -> Result<(), Fail> {
         panic!(rt; "no options");
     };
     assert_eq!(rt; linked.peers.len(), 2);
-    assert!(rt; first_peer(&linked) == Some(("b", "[::ffff:10.0.0.2]", 4001)));
+    assert!(rt; peer_at(&linked, 0) == Some(("b", "[::ffff:10.0.0.2]", 4001)));
     assert_eq!(rt; linked.listen.as_str(), "0.0.0.0");
     assert_eq!(rt; linked.link_listen.as_str(), "127.0.0.1");
     Ok(())
