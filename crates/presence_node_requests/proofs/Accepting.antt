@@ -1,16 +1,14 @@
--- What a key is answered by, from what the handshake's library answers.
-use Rattle.std.proofs.Common.{◌≡◌, ℕ, List, Option, None, Some, Result, Ok, Err, IfOk, IfSome, sym, subst}
-use Rattle.std.specs.Result.{result_ok}
-use Rattle.websocket.specs.Handshake.{Answers}
-use Rattle.websocket.specs.declared.handshake.failure.HandshakeError.{HandshakeError}
-use Rattle.presence_node_requests.specs.Heads.{IsAcceptOf}
+-- Which heads a key is answered of.
+use Rattle.std.proofs.Common.{◌≡◌, ℕ, List, Option, None, Some, IfSome}
+use Rattle.httparse.specs.Spans.{IsRequestOf}
+use Rattle.httparse.specs.declared.spans.HeaderSpan.{HeaderSpan}
+use Rattle.httparse.specs.declared.spans.RequestSpans.{RequestSpans}
+use Rattle.presence_node_requests.specs.Heads.{IsAcceptOf, IsAsking, key_at}
 
-pub accept_of : (asked a : Result (List ℕ) HandshakeError) (o : Option (List ℕ)) → Answers a asked → o ≡ result_ok a → IsAcceptOf asked o
-accept_of (Ok key) (Ok z) o h e = subst (IsAcceptOf (Ok key)) (sym e) h
-accept_of (Ok key) (Err x) o h e = subst (IsAcceptOf (Ok key)) (sym e) h.0
-accept_of (Err x) (Ok z) o h e = absurd (cc)
-accept_of (Err x) (Err y) o h e = e
-
-pub some_of : (P : Type 0) (a : Result (List ℕ) HandshakeError) (o : Option (List ℕ)) → IfOk a (λ _. P) → o ≡ result_ok a → IfSome o (λ _. P)
-some_of P (Ok z) o h e = subst (λ o. IfSome o (λ _. P)) (sym e) h
-some_of P (Err x) o h e = subst (λ o. IfSome o (λ _. P)) (sym e) tt
+-- a key that is answered was asked with
+pub asking : (head : List ℕ) (spans : List HeaderSpan) (found : RequestSpans) (k o : Option (List ℕ)) → IsRequestOf head spans found
+    → key_at head spans found ≡ k → IsAcceptOf k o → IfSome o (λ _. IsAsking head)
+asking head spans found (Some key) (Some a) is at h = (spans, found, key, is, at, h.0)
+asking head spans found (Some key) None is at h = tt
+asking head spans found None (Some a) is at h = absurd (cc)
+asking head spans found None None is at h = tt

@@ -1,5 +1,5 @@
 -- What stands in the fields of a head.
-use Rattle.std.specs.Prelude.{ℕ, ◌+◌, ◌*◌, ◌-◌, min, Bool, false, cond, ◌||◌, ◌&&◌, ◌==◌, nat_lt, List, [], ◌∷◌, codes, Option, None, Some}
+use Rattle.std.specs.Prelude.{ℕ, ◌+◌, ◌*◌, ◌-◌, min, Bool, true, false, cond, ◌||◌, ◌&&◌, ◌==◌, nat_lt, List, [], ◌∷◌, codes, Option, None, Some}
 use Rattle.std.specs.Char.{is_ascii_digit}
 use Rattle.websocket.specs.Headers.{Fields, eq_ignore_case, has_token}
 use Rattle.presence_node_requests.specs.declared.fields.TheConstants.{MAX_BODY_BYTES}
@@ -13,10 +13,10 @@ host_count (f ∷ fs) = cond (eq_ignore_case f.0 (codes "Host")) (host_count fs 
 abbrev pub has_host : ℕ → Fields → Bool
 has_host version fields = host_count fields == 1 || (version == 0 && host_count fields == 0)
 
--- the field lists this, if it is there, whatever the case of letters
-abbrev pub lists : Option (List ℕ) → List ℕ → Bool
-lists None wanted = false
-lists (Some value) wanted = has_token value wanted
+-- the fields with this name, which are one list (RFC 9110, section 5.3), list this, whatever the case of letters
+abbrev pub lists : Fields → List ℕ → List ℕ → Bool
+lists [] name wanted = false
+lists (f ∷ fs) name wanted = cond (eq_ignore_case f.0 name && has_token f.1 wanted) true (lists fs name wanted)
 
 -- the digits behind a number that isn't above what a body may have make one that is
 abbrev pub is_long_from : ℕ → List ℕ → Bool

@@ -1,29 +1,52 @@
 -- What is looked at of a request's head, and which bytes open a WebSocket.
-use Rattle.std.specs.Prelude.{◌≡◌, ◌≤◌, ℕ, Bool, true, false, List, [], ◌++◌, length, take, codes, decimal, option_map, IfSome, Option, None, Some, Result, Ok, Err}
+use Rattle.std.specs.Prelude.{◌≡◌, ◌≤◌, ◌==◌, ◌&&◌, not, cond, ℕ, Bool, true, false, List, [], ◌++◌, length, take, bytes_eq, codes, decimal, option_map, IfSome, Option, None, Some}
 use denote.Ref.{Bor}
 use Rattle.httparse.specs.Grammar.{HasNoRequest, MayBecomeRequest, NeverHasRequest}
 use Rattle.httparse.specs.Spans.{IsRequestOf, RequestExceeds, RequestOverflows, span_bytes}
 use Rattle.httparse.specs.declared.spans.HeaderSpan.{HeaderSpan}
 use Rattle.httparse.specs.declared.spans.RequestSpans.{RequestSpans}
-use Rattle.tungstenite.specs.Heads.{IsAccepted}
-use Rattle.websocket.specs.declared.handshake.failure.HandshakeError.{HandshakeError}
-use Rattle.websocket.specs.Handshake.{IsValidKey, accept_key_of, requested_key}
-use Rattle.websocket.specs.Headers.{Fields, field_line, fields_of, header_value, crlf}
+use Rattle.websocket.specs.Handshake.{IsValidKey, accept_key_of}
+use Rattle.websocket.specs.Headers.{Fields, field_line, fields_of, header_value, value_is, crlf}
 use Rattle.presence_node_requests.specs.Fields.{has_host, is_long_body, lists}
 use Rattle.presence_node_requests.specs.declared.head.TheConstants.{MAX_FIELDS}
 use Rattle.presence_node_requests.specs.declared.head.Parsed.{Parsed}
 use Rattle.presence_node_requests.specs.declared.head.Parsed.TheVariants.{Partial, Whole, Long, Junk}
 use Rattle.presence_node_requests.specs.declared.head.Request.{Request}
 
--- what answers the key that a head asks for a WebSocket with, if it asks as it must
-abbrev pub IsAcceptOf : Result (List ℕ) HandshakeError → Option (List ℕ) → Type 0
-IsAcceptOf (Ok key) (Some accept) = IsValidKey key × (accept ≡ accept_key_of key)
-IsAcceptOf (Ok key) None = ¬ (IsValidKey key)
-IsAcceptOf (Err e) accept = accept ≡ None
-
 -- the fields that these spans cover
 abbrev pub fields_at : List ℕ → List HeaderSpan → RequestSpans → Fields
 fields_at head spans found = fields_of head (take found.headers spans)
+
+-- the fields ask for a WebSocket of version 13: RFC 6455, section 4.2.1
+abbrev pub asks_socket : Fields → Bool
+asks_socket fields =
+    lists fields (codes "Connection") (codes "Upgrade") && lists fields (codes "Upgrade") (codes "websocket")
+    && value_is fields (codes "Sec-WebSocket-Version") (codes "13")
+
+-- the key of a head that asks for a WebSocket as it must
+abbrev pub key_in : List ℕ → ℕ → Fields → Option (List ℕ)
+key_in method version fields =
+    cond (bytes_eq method (codes "GET") && not (version == 0) && asks_socket fields)
+    (header_value fields (codes "Sec-WebSocket-Key")) None
+
+-- the same of the head that these spans cover
+abbrev pub key_at : List ℕ → List HeaderSpan → RequestSpans → Option (List ℕ)
+key_at head spans found = key_in (span_bytes head found.method) found.version (fields_at head spans found)
+
+-- what answers a key, if it is one
+abbrev pub IsAcceptOf : Option (List ℕ) → Option (List ℕ) → Type 0
+IsAcceptOf (Some key) (Some accept) = IsValidKey key × (accept ≡ accept_key_of key)
+IsAcceptOf (Some key) None = ¬ (IsValidKey key)
+IsAcceptOf None accept = accept ≡ None
+
+-- the bytes hold a head that asks for a WebSocket as it must, with a key that is one
+abbrev pub IsAsking : List ℕ → Type 0
+IsAsking head = (spans : List HeaderSpan) × (found : RequestSpans) × (key : List ℕ)
+    × IsRequestOf head spans found × (key_at head spans found ≡ Some key) × IsValidKey key
+
+-- a client asked for a WebSocket as it must
+abbrev pub HasAsked : Type 0
+HasAsked = (head : List ℕ) × IsAsking head
 
 -- what is looked at of the head that these spans cover
 pub record IsHeadOf (head : List ℕ) (spans : List HeaderSpan) (found : RequestSpans) (r : Request) : Type 0 where
@@ -31,14 +54,13 @@ pub record IsHeadOf (head : List ℕ) (spans : List HeaderSpan) (found : Request
   pub target : r.target.now ≡ span_bytes head found.path
   pub has_host : r.has_host ≡ has_host found.version (fields_at head spans found)
   pub has_long_body : r.has_long_body ≡ is_long_body (header_value (fields_at head spans found) (codes "Content-Length"))
-  pub upgrades : r.upgrades
-      ≡ lists (header_value (fields_at head spans found) (codes "Upgrade")) (codes "websocket")
+  pub upgrades : r.upgrades ≡ lists (fields_at head spans found) (codes "Upgrade") (codes "websocket")
   pub origin : option_map (λ (v : Bor (List ℕ)). v.now) r.origin
       ≡ header_value (fields_at head spans found) (codes "Origin")
   pub protocols : option_map (λ (v : Bor (List ℕ)). v.now) r.protocols
       ≡ header_value (fields_at head spans found) (codes "Sec-WebSocket-Protocol")
-  pub accept : IsAcceptOf (requested_key (span_bytes head found.method) found.version (fields_at head spans found)) r.accept
-  pub accepted : IfSome r.accept (λ key. IsAccepted head)
+  pub accept : IsAcceptOf (key_at head spans found) r.accept
+  pub asking : IfSome r.accept (λ key. IsAsking head)
   pub bytes : r.bytes ≡ found.len
   pub within : r.bytes ≤ length head
 

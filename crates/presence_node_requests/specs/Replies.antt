@@ -26,12 +26,25 @@ status_in Full = codes "503 Service Unavailable\r\nretry-after: 5"
 status_in Crowded = codes "503 Service Unavailable\r\nretry-after: 5"
 status_in Hasty = codes "429 Too Many Requests\r\nretry-after: 5"
 
--- what stands in the text of an answer
+-- What stands in the text of an answer: its own words, and of all of them the metrics in that which tells them alone.
 abbrev pub Says : List ℕ → Answer → List ℕ → Type 0
 Says metrics Page body = body ≡ PAGE.now
-Says metrics Health body = body ≡ codes "ok\n"
 Says metrics Metrics body = body ≡ metrics
-Says metrics answer body = Unit {0}
+Says metrics Health body = body ≡ codes "ok\n"
+Says metrics Unwell body = body ≡ codes "calls fail\n"
+Says metrics BadRequest body = body ≡ codes "this is no request for a WebSocket of version 13\n"
+Says metrics NoHost body = body ≡ codes "a request tells its host once, by the field Host\n"
+Says metrics Forbidden body = body ≡ codes "pages of this origin are not let in\n"
+Says metrics NotAllowed body = body ≡ codes "GET, HEAD and OPTIONS are answered\n"
+Says metrics LongHead body = body ≡ codes "a request has at most 8192 bytes and 124 fields\n"
+Says metrics LongBody body = body ≡ codes "a request has a body of at most 65536 bytes\n"
+Says metrics Elsewhere body = body ≡ codes "this is at another port\n"
+Says metrics Full body = body ≡ codes "no place is free\n"
+Says metrics Crowded body = body ≡ codes "no further client of this address is taken\n"
+Says metrics Hasty body = body ≡ codes "clients of this address come too fast\n"
+Says metrics NotFound body = body ≡ codes "here are /, /health and /metrics\n"
+Says metrics Options body = body ≡ codes "here are /, /health and /metrics\n"
+Says metrics (Socket has_protocol) body = body ≡ codes "here are /, /health and /metrics\n"
 
 -- as which kind an answer is told
 abbrev pub kind_in : Answer → List ℕ

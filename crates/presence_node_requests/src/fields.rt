@@ -1,7 +1,7 @@
 //! What stands in the fields of a head.
 ghost use Rattle.std.specs.Prelude.{◌≡◌, length, All, option_map};
 ghost use Rattle.httparse.specs.Spans.{IsHeaderWithin};
-ghost use Rattle.websocket.specs.Headers.{eq_ignore_case, fields_of, has_token, header_value};
+ghost use Rattle.websocket.specs.Headers.{eq_ignore_case, fields_of, has_token, header_value, is_some_text};
 ghost use Rattle.presence_node_requests.specs.Fields.{host_count, is_long_from, is_long_body, lists};
 
 use httparse::spans::HeaderSpan;
@@ -59,12 +59,25 @@ fn has_token(value: &[u8], wanted: &[u8]) -> bool
     same_but_for_case(&value[start..], wanted)
 }
 
-/// Whether a field lists this, if it is there.
-pub(crate) fn lists(value: Option<&[u8]>, wanted: &[u8]) -> bool
-    ensures { result ≡ lists (option_map (λ v. v.now) value.entry) wanted.now }
+/// Whether the fields with this name, which are one list, list this, whatever the case of letters.
+pub(crate) fn lists(head: &[u8], spans: &[HeaderSpan], name: &[u8], wanted: &[u8]) -> bool
+    requires { All (IsHeaderWithin (length head.now)) spans.now }
+    ensures { result ≡ lists (fields_of head.now spans.now) name.now wanted.now }
+{
+    for span in spans {
+        if same_but_for_case(span.name.of(head), name) && has_token(span.value.of(head), wanted) {
+            return true;
+        }
+    }
+    false
+}
+
+/// Whether a field is this, if it is there.
+pub(crate) fn tells(value: Option<&[u8]>, wanted: &[u8]) -> bool
+    ensures { result ≡ is_some_text (option_map (λ v. v.now) value.entry) wanted.now }
 {
     match value {
-        Some(value) => has_token(value, wanted),
+        Some(value) => same_but_for_case(value, wanted),
         None => false,
     }
 }

@@ -1,15 +1,14 @@
 //! What is looked at of a request's head.
-ghost use Rattle.std.specs.Prelude.{◌≡◌, ◌==◌, ◌&&◌, ◌||◌, take, IfSome};
-ghost use Rattle.httparse.specs.Spans.{IsRequestWithin, IsRequestOf, span_bytes};
-ghost use Rattle.tungstenite.specs.Heads.{IsAccepted};
-ghost use Rattle.websocket.specs.Handshake.{requested_key};
+ghost use Rattle.std.specs.Prelude.{◌≡◌, ◌==◌, ◌&&◌, ◌||◌, ℕ, List, length, All, option_map, IfSome};
+ghost use denote.Ref.{Bor};
+ghost use Rattle.httparse.specs.Spans.{IsHeaderWithin, IsRequestWithin, IsRequestOf};
 ghost use Rattle.websocket.specs.Headers.{fields_of};
-ghost use Rattle.presence_node_requests.specs.Heads.{IsAcceptOf, IsHeadOf, IsParsed};
+ghost use Rattle.presence_node_requests.specs.Heads.{IsAcceptOf, IsAsking, IsHeadOf, IsParsed, asks_socket, key_at};
 
-use crate::fields::{field, host_count, is_long_body, lists};
+use crate::fields::{field, host_count, is_long_body, lists, tells};
 use httparse::spans::{EMPTY_HEADER_SPAN, HeaderSpan, RequestSpans, parse_request};
 use httparse::{Error, Status};
-use websocket::handshake::server::check_request;
+use websocket::handshake::server::accept_key;
 
 /// How many fields a head has at most.
 pub const MAX_FIELDS: usize = 124;
@@ -45,15 +44,48 @@ pub enum Parsed<'a> {
     Junk,
 }
 
-// What answers the key, if the head asks for a WebSocket as it must.
+// Whether fields ask for a WebSocket of version 13.
+fn asks_socket(head: &[u8], fields: &[HeaderSpan]) -> bool
+    requires { All (IsHeaderWithin (length head.now)) fields.now }
+    ensures { result ≡ asks_socket (fields_of head.now fields.now) }
+{
+    lists(head, fields, b"Connection", b"Upgrade")
+        && lists(head, fields, b"Upgrade", b"websocket")
+        && tells(field(head, fields, b"Sec-WebSocket-Version"), b"13")
+}
+
+// The key of a head that asks for a WebSocket as it must.
+fn key_at<'a>(head: &'a [u8], found: &RequestSpans, spans: &[HeaderSpan]) -> Option<&'a [u8]>
+    requires { IsRequestWithin head.now spans.now found.now }
+    ensures { option_map (λ (v : Bor (List ℕ)). v.now) result ≡ key_at head.now spans.now found.now }
+{
+    let fields = &spans[..found.headers];
+    let is_get = found.method.of(head) == b"GET".as_slice();
+    if is_get && found.version != 0 && asks_socket(head, fields) {
+        field(head, fields, b"Sec-WebSocket-Key")
+    } else {
+        None
+    }
+}
+
+// What answers a key, if it is one.
+fn accept_of(key: Option<&[u8]>) -> Option<[u8; 28]>
+    ensures { IsAcceptOf (option_map (λ (v : Bor (List ℕ)). v.now) key.entry) result }
+{
+    match key {
+        Some(key) => accept_key(key).ok(),
+        None => None,
+    }
+}
+
+// What answers the key of a head that asks for a WebSocket as it must.
 fn accepted(head: &[u8], found: &RequestSpans, spans: &[HeaderSpan]) -> Option<[u8; 28]>
     requires within { IsRequestWithin head.now spans.now found.now }
     requires parsed { IsRequestOf head.now spans.now found.now }
-    ensures accepted { IfSome result (λ _. IsAccepted head.now) }
-    ensures exact { IsAcceptOf (requested_key (span_bytes head.now found.now.method) found.now.version
-        (fields_of head.now (take found.now.headers spans.now))) result }
+    ensures exact { IsAcceptOf (key_at head.now spans.now found.now) result }
+    ensures asking { IfSome result (λ _. IsAsking head.now) }
 {
-    check_request(head, found, spans).ok()
+    accept_of(key_at(head, found, spans))
 }
 
 // Whether a head of this version of HTTP/1 tells its host once, as it must.
@@ -75,7 +107,7 @@ fn request_in<'a>(head: &'a [u8], found: &RequestSpans, spans: &[HeaderSpan]) ->
         target: found.path.of(head),
         has_host: has_host(found.version, host_count(head, fields)),
         has_long_body: is_long_body(field(head, fields, b"Content-Length")),
-        upgrades: lists(field(head, fields, b"Upgrade"), b"websocket"),
+        upgrades: lists(head, fields, b"Upgrade", b"websocket"),
         accept: accepted(head, found, spans),
         origin: field(head, fields, b"Origin"),
         protocols: field(head, fields, b"Sec-WebSocket-Protocol"),

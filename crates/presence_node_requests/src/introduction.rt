@@ -1,6 +1,8 @@
 //! Whom a connection is from, by the line that a proxy writes before all else: the PROXY protocol, version 1.
-ghost use Rattle.std.specs.Prelude.{◌≡◌, ◌≤◌, ◌++◌, ◌∷◌, length, IfSome};
-ghost use Rattle.presence_node_requests.specs.Introductions.{IsIntroduced, IsLine, TellsBy};
+ghost use Rattle.std.specs.Prelude.{◌≡◌, ◌<◌, length, option_map, IfSome, List, ℕ};
+ghost use denote.Ref.{Bor};
+ghost use Rattle.presence_node_requests.specs.Introductions.{IsIntroduced, IsLine, IsLineBy, IsToldBy, TellsBy};
+ghost use Rattle.presence_node_requests.specs.Introductions.{feed_in, is_family, source_behind, space_in, word_at};
 ghost use Rattle.presence_node_requests.specs.declared.introduction.TheConstants.{MAX_LINE_BYTES};
 
 use crate::client::address_in;
@@ -23,60 +25,86 @@ pub enum Introduced {
 // What a line begins with.
 const FRONT: &[u8] = b"PROXY ";
 
-// What stands before the first space, and what behind it.
-fn cut(words: &[u8]) -> Option<(&[u8], &[u8])>
-    ensures { IfSome result (λ p. words.now ≡ p.0.now ++ 32 ∷ p.1.now) }
+// Where the first space stands.
+fn space_in(words: &[u8]) -> Option<usize>
+    ensures place { result ≡ space_in words.now }
+    ensures within { IfSome result (λ i. i < length words.now) }
 {
-    for i in 0..words.len() {
-        if words[i] == b' ' {
-            return Some((&words[..i], &words[i + 1..]));
-        }
+    words.iter().position(|b| *b == b' ')
+}
+
+// The word before the first space, if there is one.
+fn word_in(words: &[u8]) -> Option<&[u8]>
+    ensures { option_map (λ (w : Bor (List ℕ)). w.now) result ≡ word_at (space_in words.now) words.now }
+{
+    match space_in(words) {
+        Some(i) => Some(&words[..i]),
+        None => None,
     }
-    None
+}
+
+// Whether a word is that of a family of addresses.
+fn is_family(word: &[u8]) -> bool
+    ensures { result ≡ is_family word.now }
+{
+    word == b"TCP4".as_slice() || word == b"TCP6".as_slice()
+}
+
+// The word of the source's address, behind that of its family.
+fn source_in(words: &[u8]) -> Option<&[u8]>
+    ensures { option_map (λ (w : Bor (List ℕ)). w.now) result ≡ source_behind (space_in words.now) words.now }
+{
+    match space_in(words) {
+        Some(i) if is_family(&words[..i]) => word_in(&words[i + 1..]),
+        _ => None,
+    }
+}
+
+// The address that a word writes, if there is one.
+fn address_by(source: Option<&[u8]>) -> Option<IpAddr>
+    ensures { IsToldBy (option_map (λ (w : Bor (List ℕ)). w.now) source.entry) result }
+{
+    match source {
+        Some(source) => address_in(source),
+        None => None,
+    }
 }
 
 // The address that the words of a line tell, of a family and of a source.
 fn told_by(words: &[u8]) -> Option<IpAddr>
     ensures { TellsBy words.now result }
 {
-    let Some((family, rest)) = cut(words) else {
-        return None;
-    };
-    if family != b"TCP4".as_slice() && family != b"TCP6".as_slice() {
-        return None;
-    }
-    let Some((source, _)) = cut(rest) else {
-        return None;
-    };
-    address_in(source)
+    address_by(source_in(words))
 }
 
-// Where the first line ends, behind its line feed, if it does where it must.
-fn end_of(bytes: &[u8]) -> Option<usize>
-    ensures { IfSome result (λ end. (end ≤ length bytes.now) × (end ≤ MAX_LINE_BYTES)) }
+// Where the first line feed stands, if it does where it must.
+fn feed_in(bytes: &[u8]) -> Option<usize>
+    ensures place { result ≡ feed_in bytes.now }
+    ensures within { IfSome result (λ feed. feed < length bytes.now) }
 {
-    for i in 0..bytes.len() {
-        if i >= MAX_LINE_BYTES {
-            return None;
+    let most = bytes.len().min(MAX_LINE_BYTES);
+    bytes[..most].iter().position(|b| *b == b'\n')
+}
+
+// What bytes are that begin as a line does, whose first line feed stands there.
+fn line_by(bytes: &[u8], feed: Option<usize>) -> Introduced
+    requires { IfSome feed (λ feed. feed < length bytes.now) }
+    ensures { IsLineBy feed bytes.now result }
+{
+    match feed {
+        Some(feed) if feed >= FRONT.len() => {
+            Introduced::Line(feed + 1, told_by(&bytes[FRONT.len()..=feed]))
         }
-        if bytes[i] == b'\n' {
-            return Some(i + 1);
-        }
+        None if bytes.len() < MAX_LINE_BYTES => Introduced::Partial,
+        _ => Introduced::Nothing,
     }
-    None
 }
 
 // What bytes are that begin as a line does.
 fn line_of(bytes: &[u8]) -> Introduced
     ensures { IsLine bytes.now result }
 {
-    match end_of(bytes) {
-        Some(end) if end > FRONT.len() => {
-            Introduced::Line(end, told_by(&bytes[FRONT.len()..end]))
-        }
-        None if bytes.len() < MAX_LINE_BYTES => Introduced::Partial,
-        _ => Introduced::Nothing,
-    }
+    line_by(bytes, feed_in(bytes))
 }
 
 /// What these first bytes of a connection are that came through a proxy. One that speaks another version of the protocol

@@ -1,8 +1,8 @@
 //! What clients ask for at their port by HTTP: a request's head, which answer it gets, and the bytes of that.
 //!
-//! What its contracts cite: `specs/Answers` is the table of answers, `specs/Fields` says what stands in the fields of a head,
-//! `specs/Heads` what is looked at of a head, and which bytes open a WebSocket, `specs/Clients` and `specs/Introductions` whom a request is from, and
-//! `specs/Replies` what is sent for an answer.
+//! What its contracts cite: `specs/Answers` is the table of answers, `specs/Fields` says what stands in the fields of a
+//! head, `specs/Heads` what is looked at of a head, and which bytes open a WebSocket, `specs/Clients` and
+//! `specs/Introductions` whom a request is from, and `specs/Replies` what is sent for an answer.
 #![tactic(auto)]
 
 mod answer;

@@ -1,6 +1,6 @@
 //! Bytes for a client.
 ghost use Rattle.std.specs.Prelude.{◌≡◌, ◌≤◌, drop, length, true};
-ghost use Rattle.tungstenite.specs.Heads.{Heard};
+ghost use Rattle.presence_node_requests.specs.Heads.{HasAsked};
 
 use std::marker::Model;
 
@@ -16,7 +16,7 @@ pub struct Reply {
 impl Model for Reply {
     ghost use Rattle.std.specs.Coded.{coded×, coded_bool, coded_list, coded_ℕ};
     ghost use Rattle.std.specs.Prelude.{◌≡◌, ◌≤◌, Bool, List, ℕ, drop, length, true};
-    ghost use Rattle.tungstenite.specs.Heads.{Heard};
+    ghost use Rattle.presence_node_requests.specs.Heads.{HasAsked};
 
     ghost Value = { List ℕ × Bool };
 
@@ -24,13 +24,13 @@ impl Model for Reply {
 
     ghost view = { λ r. (drop r.at r.bytes.items, r.opens) };
 
-    ghost invariant = { λ r. (r.at ≤ length r.bytes.items) × (r.opens ≡ true → Heard) };
+    ghost invariant = { λ r. (r.at ≤ length r.bytes.items) × (r.opens ≡ true → HasAsked) };
 }
 
 impl Reply {
     /// A reply that isn't begun.
     pub(crate) fn new(bytes: Vec<u8>, opens: bool) -> Reply
-        requires { opens ≡ true → Heard }
+        requires { opens ≡ true → HasAsked }
         ensures { result ≡ (bytes.items, opens) }
     {
         Reply {
@@ -58,7 +58,7 @@ impl Reply {
     /// Whether a WebSocket follows.
     pub fn opens(&self) -> bool
         ensures opens { result ≡ self.now.1 }
-        ensures heard { result ≡ true → Heard }
+        ensures asked { result ≡ true → HasAsked }
     {
         self.opens
     }

@@ -60,7 +60,9 @@ fn body_of(answer: Answer, metrics: &str) -> &str
         Answer::Full => "no place is free\n",
         Answer::Crowded => "no further client of this address is taken\n",
         Answer::Hasty => "clients of this address come too fast\n",
-        _ => "here are /, /health and /metrics\n",
+        Answer::NotFound | Answer::Options | Answer::Socket(_) => {
+            "here are /, /health and /metrics\n"
+        }
     }
 }
 

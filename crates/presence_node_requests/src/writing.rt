@@ -1,8 +1,7 @@
 //! The bytes of answers.
 ghost use Rattle.std.specs.Prelude.{◌≡◌, [], IfOk, cond, false};
-ghost use Rattle.tungstenite.specs.Heads.{IsAccepted};
 ghost use Rattle.websocket.specs.Handshake.{response_bytes};
-ghost use Rattle.presence_node_requests.specs.Heads.{Opens, bare_bytes, counted_bytes, opening_bytes, plain_bytes};
+ghost use Rattle.presence_node_requests.specs.Heads.{IsAsking, Opens, bare_bytes, counted_bytes, opening_bytes, plain_bytes};
 
 use crate::answer::PROTOCOL;
 use crate::reply::Reply;
@@ -49,7 +48,7 @@ pub fn opening(
     accept: &[u8; 28],
     has_protocol: bool,
 ) -> Result<Reply, AllocError>
-    requires { IsAccepted head.now }
+    requires { IsAsking head.now }
     ensures { IfOk result (Opens accept.now has_protocol) }
 {
     let bytes = opening_head(alloc, accept, has_protocol)?;
