@@ -13,7 +13,7 @@ use orswot_core_told::Form;
 use presence_base::{NodeName, Replica};
 use presence_node_link_ports::{Gate, Lane, Pool, PoolLinkPort, bare_beat, fitting_beat};
 use presence_node_link_streams::{LinkStream, time_behind};
-use presence_node_link_words::{LinkEnd, LinkWarning, MOST_AHEAD, greeted};
+use presence_node_link_words::{LinkEnd, LinkWarning, MOST_AHEAD, greeted, known_line};
 use presence_node_mailboxes::{first_behind, from_shard};
 use presence_node_sockets::is_no_file;
 use std::io;
@@ -127,6 +127,15 @@ fn unreached(error: &io::Error) -> LinkEnd {
     }
 }
 
+// Why no address could be had for a host.
+fn unfound(error: &io::Error) -> LinkEnd {
+    if is_no_file(error) {
+        LinkEnd::NoFile
+    } else {
+        LinkEnd::HostNotFound
+    }
+}
+
 // A socket at this address, if somebody answers there.
 fn call<R>(rt: &R, address: SocketAddr) -> io::Result<TcpStream>
 where
@@ -152,7 +161,7 @@ where
     let place = (bare(dialler.host.as_str()), dialler.port);
     let addresses = match place.to_socket_addrs(rt) {
         Ok(addresses) => addresses,
-        Err(error) => return Err(unreached(&error)),
+        Err(error) => return Err(unfound(&error)),
     };
     let mut why = LinkEnd::NotReached;
     for address in addresses {
@@ -209,8 +218,34 @@ where
     }
 }
 
-// A link to the node that is dialled, behind its hello and the first line of this node's life, and who is there. The form is
-// that of this node's hello, and then that of its next one.
+// The other node is told up to which counts it is known here, so that one which was started again as what it was before says so.
+fn say_known<R, G, A, B, C, D, W>(
+    node: Node<'_, R, G, A, B, C, D, W>,
+    dialled: &mut Dialled<'_, R>,
+    place: Place<'_>,
+    other: &Replica,
+) -> Result<(), LinkEnd>
+where
+    R: Wait + Clock + Print + Eprint,
+    G: Gate,
+    A: Lane,
+    B: Lane,
+    C: Lane,
+    D: Lane,
+    W: Wakes,
+    requires { node.links.now.shards ≡ node.pool.now.shards }
+{
+    for shard in 0..node.links.shards {
+        let top = node.pool.top(node.rt, shard, other);
+        if let Some(line) = known_line(shard, *other, top) {
+            let _said = say(node, dialled, place, &line)?;
+        }
+    }
+    Ok(())
+}
+
+// A link to the node that is dialled, behind its hello, the first line of this node's life and what is known of the other one,
+// and who is there. The form is that of this node's hello, and then that of its next one.
 fn link_to<'a, R, G, A, B, C, D, W>(
     node: Node<'a, R, G, A, B, C, D, W>,
     dialler: &Dialler,
@@ -259,6 +294,7 @@ where
     if let Some(line) = life.first_line() {
         let _said = say(node, &mut dialled, dialler.place(), &line)?;
     }
+    say_known(node, &mut dialled, dialler.place(), &other)?;
     Ok((dialled, other))
 }
 

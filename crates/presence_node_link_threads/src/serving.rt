@@ -14,7 +14,7 @@ use presence_base::Replica;
 use presence_node_link_ports::{Gate, Lane, Pool, PoolLinkPort};
 use presence_node_link_streams::{Asking, LinkStream, MAX_LOOKS, time_behind};
 use presence_node_link_words::{
-    LinkEnd, LinkWarning, MOST_AHEAD, greeted, is_heard_anew, is_welcome,
+    LinkEnd, LinkWarning, MOST_AHEAD, greeted, is_heard_anew, is_welcome, known_in,
 };
 use std::alloc::{AllocError, Global};
 use std::net::TcpStream;
@@ -226,6 +226,18 @@ impl<'a, R: Clock> Incoming<'a, R> {
         }
     }
 
+    // Whether the line tells that this node is known further than it counted.
+    fn knows_more<P: LinkPort>(&self, alloc: Global, port: &mut P, line: &Line) -> bool {
+        let own = self.link.peer.own();
+        let Some((shard, count)) = known_in(&own, line) else {
+            return false;
+        };
+        match port.top(alloc, shard, &own) {
+            Ok(top) => top < count,
+            Err(_) => false,
+        }
+    }
+
     // A shard was told at this time that the other end was heard.
     fn notes_heard(&mut self, shard: u32, now: u64) {
         if let Some(last) = self.heard.get_mut(shard as usize) {
@@ -428,6 +440,9 @@ impl<'a, R: Clock> Incoming<'a, R> {
         port.looks_for(own, MOST_AHEAD);
         if self.counts_below(links.alloc, &mut port, &line) {
             links.tell_odd(rt, self.origin.place(), LinkWarning::CountsBelow);
+        }
+        if self.knows_more(links.alloc, &mut port, &line) {
+            links.tell_odd(rt, self.origin.place(), LinkWarning::OwnCounts);
         }
         let done = answer_line(links.alloc, &mut self.link, &mut port, line, links.time());
         node.notes(&port, self.origin.place(), &own);

@@ -5,3 +5,4 @@ pub mod Lives
 pub mod Rebirths
 pub mod Hearing
 pub mod Admitting
+pub mod Known

@@ -22,7 +22,7 @@ warning_words NotDialled = codes "no --peer of this node has its name, so it isn
 warning_words NotDialling = codes "it doesn't dial this node, so rows there aren't told here: does it lack a --peer?"
 warning_words TwoNodes = codes "a node of the same name speaks over another link: are there two?"
 warning_words CountsBelow = codes "it counts below what is known of it: was it started again with the same --incarnation?"
-warning_words OwnCounts = codes "it tells of what this node never did: was this one started again with the same --incarnation, or are there two?"
+warning_words OwnCounts = codes "it tells of what this node never did: was this one started again with the same --incarnation, or are there two? Start it with a higher --incarnation"
 
 abbrev pub what_is_odd : LinkWarning → List ℕ
 what_is_odd (Untold u) = untold_text u

@@ -10,7 +10,7 @@ use Rattle.node_links_members.specs.declared.fault.LinkFault.TheVariants as faul
 use Rattle.orswot_core_told.specs.declared.told.ToldFault.{ToldFault}
 use Rattle.orswot_core_told.specs.declared.told.ToldFault.TheVariants as tolds
 use Rattle.presence_node_link_words.specs.declared.end.LinkEnd.{LinkEnd}
-use Rattle.presence_node_link_words.specs.declared.end.LinkEnd.TheVariants.{Fault, Closed, GivenUp, GoesOnLater, Reborn, OwnReplica, OwnName, OtherName, NotAPeer, OtherAddress, Replaced, NotReached, NoFile, TooMany, Stopped}
+use Rattle.presence_node_link_words.specs.declared.end.LinkEnd.TheVariants.{Fault, Closed, GivenUp, GoesOnLater, Reborn, OwnReplica, OwnName, OtherName, NotAPeer, OtherAddress, Replaced, NotReached, HostNotFound, NoFile, TooMany, Stopped}
 
 -- another name than the one that is wanted is refused, where one is
 abbrev pub met_name : Option (List ℕ) → List ℕ → Result (Unit {0}) LinkEnd
@@ -89,6 +89,7 @@ end_words NotAPeer = codes "no --peer of this node has its name"
 end_words OtherAddress = codes "no --link-from of this node has its address"
 end_words Replaced = codes "a newer link of that node came in"
 end_words NotReached = codes "nobody answers there"
+end_words HostNotFound = codes "no address is found for its host: the name isn't known, or the resolver doesn't answer"
 end_words NoFile = codes "as many files are open as may be: raise with ulimit -n"
 end_words TooMany = codes "there are 32 links that came in, and no more are taken"
 end_words Stopped = codes "this node stops"

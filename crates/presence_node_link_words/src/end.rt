@@ -31,6 +31,8 @@ pub enum LinkEnd {
     Replaced,
     /// Nobody answers there.
     NotReached,
+    /// No address is found for its host.
+    HostNotFound,
     /// No further file can be opened, and so no socket.
     NoFile,
     /// There are as many links as a node takes.

@@ -8,12 +8,14 @@
 //! - `specs/Saying`: when it is said that a link is up
 //! - `specs/Lives`: the lives of a node, and which links are of which
 //! - `specs/Hearing`: when a shard is told that a node was heard
+//! - `specs/Known`: what another node is told that is known of it
 //! - `specs/Rebirths`: how often a node goes on under a higher incarnation
 #![tactic(auto)]
 
 mod admitting;
 mod end;
 mod hearing;
+mod known;
 pub mod laws;
 mod lives;
 mod meeting;
@@ -26,6 +28,7 @@ mod words;
 pub use admitting::is_admitted;
 pub use end::LinkEnd;
 pub use hearing::{HEARD_MILLISECONDS, is_heard_anew};
+pub use known::{known_in, known_line};
 pub use lives::{Came, Coming, Course, Life, MOST_AHEAD, is_due};
 pub use meeting::{greeted, is_welcome};
 pub use rebirths::{REBIRTH_MILLISECONDS, Rebirths};

@@ -37,7 +37,7 @@ fn words_of(warning: LinkWarning) -> &'static str
             "it counts below what is known of it: was it started again with the same --incarnation?"
         }
         LinkWarning::OwnCounts => {
-            "it tells of what this node never did: was this one started again with the same --incarnation, or are there two?"
+            "it tells of what this node never did: was this one started again with the same --incarnation, or are there two? Start it with a higher --incarnation"
         }
     }
 }

@@ -115,6 +115,9 @@ fn end_words(end: LinkEnd) -> &'static str
         LinkEnd::OtherAddress => "no --link-from of this node has its address",
         LinkEnd::Replaced => "a newer link of that node came in",
         LinkEnd::NotReached => "nobody answers there",
+        LinkEnd::HostNotFound => {
+            "no address is found for its host: the name isn't known, or the resolver doesn't answer"
+        }
         LinkEnd::NoFile => "as many files are open as may be: raise with ulimit -n",
         LinkEnd::TooMany => "there are 32 links that came in, and no more are taken",
         LinkEnd::Stopped => "this node stops",
