@@ -4,9 +4,10 @@ use Rattle.std.specs.declared.net.ip_addr.IpAddr.{IpAddr}
 use Rattle.std.specs.declared.io.traits.Read.{Ghosts as ReadGhosts}
 use Rattle.std.specs.declared.io.traits.Write.{Ghosts as WriteGhosts}
 use Rattle.tungstenite.specs.Config.{HasLimits}
-use Rattle.tungstenite.specs.Heads.{Serves}
-use Rattle.tungstenite.specs.Socket.{Socket}
+use Rattle.tungstenite.specs.Socket.{IsFresh, Socket}
+use Rattle.websocket.specs.declared.protocol.config.Role.TheVariants as Role
 use Rattle.presence_node_requests.specs.Clients.{is_proxy}
+use Rattle.presence_node_requests.specs.Heads.{HasAsked}
 use Rattle.presence_node_requests.specs.declared.answer.Answer.{Answer}
 use Rattle.presence_node_requests.specs.declared.answer.Answer.TheVariants.{Health, Unwell}
 use Rattle.presence_node_handshakes.specs.declared.greeting.Greeting.{Greeting}
@@ -25,6 +26,11 @@ while_well_in false answer = answer
 -- a client's address, as it is known behind what these proxies may have told of it: nobody else's word is believed
 abbrev pub IsKnownFrom : List IpAddr → IpAddr → IpAddr → Type 0
 IsKnownFrom proxies peer address = is_proxy proxies peer ≡ false → address ≡ peer
+
+module _ {S : Type 0} where
+  -- a server's socket that a handshake gave: a client asked for it as it must, and it has done nothing since
+  abbrev pub Serves : Socket S → Type 0
+  Serves socket = HasAsked × ((stream : S) × IsFresh socket stream Role.Server)
 
 module _ {S : Type 0} {reads : ReadGhosts S} {writes : WriteGhosts S} where
   -- An open socket took the head of a request for a WebSocket, has done nothing since, and has the limits of the

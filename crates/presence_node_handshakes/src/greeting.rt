@@ -279,7 +279,7 @@ fn throw_away<S: Read>(stream: &mut S, most: usize) -> Option<usize> {
 
 impl<S: Read + Write + Drop> Greeting<S> {
     ghost use Rattle.std.specs.Prelude.{◌≡◌};
-    ghost use Rattle.tungstenite.specs.Heads.{Heard};
+    ghost use Rattle.presence_node_requests.specs.Heads.{HasAsked};
     ghost use Rattle.presence_node_handshakes.specs.Greeting.{Follows, GoesOn, IsOf};
 
     /// A handshake with this party, of which nothing was read yet.
@@ -345,7 +345,7 @@ impl<S: Read + Write + Drop> Greeting<S> {
 
     // The WebSocket with this party.
     fn open(alloc: Global, party: Party<S>) -> Greeted<S>
-        requires { Heard }
+        requires { HasAsked }
         ensures { Follows party result }
     {
         let (stream, config) = party.into_parts();
