@@ -1,5 +1,5 @@
 -- What a connection more at a topic changes, and one at many topics.
-use Rattle.std.proofs.Common.{◌≡◌, inl, inr, ◌||◌, ℕ, List, [], ◌∷◌, Bool, true, false, cond, Option, Some, None, IsSome, refl, sym, ap, ◌∙◌, subst}
+use Rattle.std.proofs.Common.{◌≡◌, inl, inr, ◌||◌, ℕ, List, [], ◌∷◌, Bool, true, false, cond, filter, Option, Some, None, IsSome, refl, sym, ap, ◌∙◌, subst}
 use Rattle.std.specs.BTreeMap.{get, WritesThrough}
 use Rattle.std.specs.BTreeSet.{BTreeSet, contains}
 use Rattle.std.specs.Cmp.{eq_by_cmp_equiv, nat_cmp_total}
@@ -71,3 +71,13 @@ rest_next f g n all left later k token is rest gains = (
 
 pub rest_done : (f g : Followers) (all left : List (List ℕ)) (token : ℕ) → left ≡ [] → Rest f all token g left → FollowsThese g all token
 rest_done f g all left token is rest = rest.1 g (λ t k h. h) (subst (λ (l : List (List ℕ)). FollowsThese g l token) (sym is) tt)
+
+-- the first of these that pass
+pub picked : (p : List ℕ → Bool) (left later : List (List ℕ)) (k : List ℕ) → left ≡ k ∷ later → p k ≡ true
+    → filter p left ≡ k ∷ filter p later
+picked p left later k is passes = ap (filter p) is ∙ ap (λ b. cond b (k ∷ filter p later) (filter p later)) passes
+
+-- the first doesn't
+pub passed : (p : List ℕ → Bool) (left later : List (List ℕ)) (k : List ℕ) → left ≡ k ∷ later → p k ≡ false
+    → filter p left ≡ filter p later
+passed p left later k is fails = ap (filter p) is ∙ ap (λ b. cond b (k ∷ filter p later) (filter p later)) fails

@@ -2,6 +2,7 @@
 use Rattle.std.specs.Prelude.{◌≡◌, ◌⊎◌, ◌||◌, ℕ, List, [], Bool, true, false, cond, is_ok, leb, length, ◌++◌, ◌∷◌, Option, Some, None, Result, Ok, Err}
 use Rattle.std.specs.List.{list_any}
 use Rattle.std.specs.BTreeSet.{BTreeSet, contains}
+use Rattle.std.specs.Arc.{arc_value}
 use Rattle.presence_base.specs.Order.{text_cmp, same_text}
 use Rattle.std.specs.BTreeMap.{BTreeMap, get}
 use Rattle.std.specs.List.{AllByRecursion}
@@ -9,6 +10,7 @@ use Rattle.std.specs.Ordering.{nat_cmp, eq_by_cmp}
 use Rattle.channel_session.specs.Asks.{Ask, Answer, track, update, untrack, untrack_all, subscribe, shout}
 use Rattle.presence_node_hints.specs.declared.followed.Followed.{Followed}
 use Rattle.presence_node_hints.specs.declared.followers.Followers.{Followers}
+use Rattle.presence_node_hints.specs.declared.inbox.Kept.{Kept}
 
 -- whether the topic counts as joined
 abbrev pub is_followed : Followed → List ℕ → Bool
@@ -73,13 +75,19 @@ NotesFollower q a f g = g ≡ f
 
 -- ---- what a worker is told
 
--- Topics of which one is followed wait behind those that waited, and it is told whether they are the first, but for want of memory. Others don't wait.
+-- Topics of which one is followed wait behind those that waited, and it is told whether they are the first, but for want of
+-- memory. Others don't wait.
 abbrev pub Tells : {T V E : Type 0} → (T → V) → Bool → V → List T → List T → Result Bool E → Type 0
 Tells {T} value true topics old new (Ok first) =
     (told : T) × (value told ≡ topics) × (new ≡ old ++ told ∷ []) × (first ≡ leb (length old) 0)
 Tells value true topics old new (Err e) = new ≡ old
 Tells value false topics old new (Ok first) = (new ≡ old) × (first ≡ false)
 Tells value false topics old new (Err e) = ⊥
+
+-- the same of what a worker keeps: of these topics it follows one, or none
+abbrev pub TellsKept : {E : Type 0} → BTreeSet (List ℕ) → Kept → Kept → Result Bool E → Type 0
+TellsKept topics old new result =
+    Tells arc_value (has_one_of old.followed topics) topics old.waiting.items new.waiting.items result
 
 -- ---- who follows
 

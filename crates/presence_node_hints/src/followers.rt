@@ -1,9 +1,9 @@
 //! Which connections have joined which topics.
-ghost use Rattle.std.specs.Prelude.{◌≡◌, IfOk, OnOk, option_copied};
+ghost use Rattle.std.specs.Prelude.{◌≡◌, IfOk, OnOk, filter, option_copied};
 ghost use Rattle.channel_session.specs.Ending.{topics_named};
 ghost use Rattle.presence_base.specs.Order.{text_cmp};
 ghost use Rattle.std.specs.BTreeMap.{get};
-ghost use Rattle.presence_node_hints.specs.Following.{FollowsThese, GainsFollower, GainsToken, HasNobody, HasToo, IsOnly, KeepsFollowers};
+ghost use Rattle.presence_node_hints.specs.Following.{FollowsThese, GainsFollower, GainsToken, HasNobody, HasToo, IsOnly, KeepsFollowers, is_followed};
 
 use crate::followed::Followed;
 use channel_session::Session;
@@ -107,7 +107,8 @@ impl Followers {
         topics: &Followed,
         token: usize,
     )
-        ensures { KeepsFollowers self.old self.new }
+        ensures kept { KeepsFollowers self.old self.new }
+        ensures joined { FollowsThese self.new (filter (is_followed topics.now) (topics_named session.now)) token }
     {
         for topic in session.joined() {
             if topics.contains(topic) {

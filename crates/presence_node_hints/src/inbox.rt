@@ -2,7 +2,7 @@
 ghost use Rattle.std.specs.Prelude.{◌≡◌};
 ghost use Rattle.std.specs.Arc.{arc_value};
 ghost use Rattle.channel_session.specs.Ending.{topics_named};
-ghost use Rattle.presence_node_hints.specs.Following.{FollowsBoth, Tells, has_one_of, names_one_of};
+ghost use Rattle.presence_node_hints.specs.Following.{FollowsBoth, TellsKept, names_one_of};
 
 use crate::followed::Followed;
 use channel_session::Session;
@@ -34,8 +34,7 @@ impl Kept {
 
     // Tells of these topics, if one of them is followed: whether it is, and nothing else waited.
     fn put(&mut self, topics: &Arc<Topics>) -> Result<bool, AllocError>
-        ensures told { Tells arc_value (has_one_of self.old.followed (arc_value topics.now)) (arc_value topics.now)
-            self.old.waiting.items self.new.waiting.items result }
+        ensures told { TellsKept (arc_value topics.now) self.old self.new result }
         ensures followed { self.new.followed ≡ self.old.followed }
     {
         if !self.followed.has_one_of(topics) {
