@@ -1,1 +1,2 @@
 pub use Rattle.presence_node_workers.proofs.Crossing
+pub mod Marks

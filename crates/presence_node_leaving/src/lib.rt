@@ -2,8 +2,7 @@
 //! they have ended their side; those that take too little of what is sent; and those that send more than a turn reads.
 //!
 //! No contract speaks of the first: they hold no session any more, and what is read of them is thrown away. Which of the
-//! others have a turn rests on what the system answers, so none speaks of them either: a turn by itself is
-//! `presence_node_workers`'.
+//! others have a turn rests on what the system answers: `specs/Marks` says that nothing else of them is changed.
 #![tactic(auto)]
 
 pub mod laws;

@@ -3,6 +3,9 @@
 //! The dearest text of 64 kB takes 10 ms. A text is known to be long before it is whole, since a turn reads `TURN_BYTES` of
 //! it at most, and then it waits until its turn among the long ones comes: so a turn of a worker lasts as long as its short
 //! texts and `MAX_LONG_TEXTS` long ones do, however many clients send such.
+ghost use Rattle.presence_node_leaving.specs.Marks.{OnlyMarks};
+ghost use Rattle.presence_node_workers.specs.Serving.{served_by};
+
 use presence_node_client_streams::{ClientSocket, TURN_BYTES};
 use presence_node_workers::{Client, Worker};
 use std::alloc::Global;
@@ -13,7 +16,7 @@ const MAX_LONG_TEXTS: u32 = 1;
 /// Which of the clients that send long texts go on, by turns.
 #[derive(Drop)]
 pub struct LongTexts {
-    /// The number of the last that went on, or 0 where all have.
+    /// The number of the last that went on, or 0 where none did.
     last: u64,
     /// The tokens of those that wait for the turn behind this one.
     held: Vec<usize>,
@@ -33,10 +36,34 @@ impl LongTexts {
         }
     }
 
+    // The number of the first client that goes on: behind the last that did, or else before it. 0 where none would.
+    fn next(&self, worker: &Worker<ClientSocket>) -> u64 {
+        let mut first = 0;
+        for place in 0..worker.len() {
+            let Some(client) = worker.due_at(place) else {
+                continue;
+            };
+            if !has_long_text(client) {
+                continue;
+            }
+            if client.number > self.last {
+                return client.number;
+            }
+            if first == 0 {
+                first = client.number;
+            }
+        }
+        first
+    }
+
     /// Of the clients whose next turn would go on with a long text the first do that come behind the last that did, in order
-    /// of their numbers. Each other one has no turn until `resume`, as far as there is memory to note it.
-    pub fn hold(&mut self, worker: &mut Worker<ClientSocket>) {
-        let last = self.last;
+    /// of their numbers, or of all where none is behind it. Each other one has no turn until `resume`, as far as there is
+    /// memory to note it.
+    #[tactic(auto, using(crate::proofs::Marks::held_next))]
+    pub fn hold(&mut self, worker: &mut Worker<ClientSocket>)
+        ensures { OnlyMarks (served_by worker.old) (served_by worker.new) }
+    {
+        let next = self.next(worker);
         self.last = 0;
         let mut going = 0;
         for place in 0..worker.len() {
@@ -47,7 +74,7 @@ impl LongTexts {
                 continue;
             }
             let (number, token) = (client.number, client.token);
-            if number > last && going < MAX_LONG_TEXTS {
+            if number >= next && going < MAX_LONG_TEXTS {
                 client.connection.socket.get_ref().go_on();
                 going += 1;
                 self.last = number;
@@ -58,7 +85,10 @@ impl LongTexts {
     }
 
     /// Those that had no turn have the next one, if their time among the others comes.
-    pub fn resume(&mut self, worker: &mut Worker<ClientSocket>) {
+    #[tactic(auto, using(crate::proofs::Marks::marked_next))]
+    pub fn resume(&mut self, worker: &mut Worker<ClientSocket>)
+        ensures { OnlyMarks (served_by worker.old) (served_by worker.new) }
+    {
         for token in &self.held {
             worker.mark(*token);
         }

@@ -1,5 +1,7 @@
 //! The clients of a worker that take too little of what is sent to them, or send more than a turn reads.
 ghost use Rattle.std.specs.Prelude.{◌≡◌, ◌+◌, leb};
+ghost use Rattle.presence_node_leaving.specs.Marks.{OnlyMarks};
+ghost use Rattle.presence_node_workers.specs.Serving.{served_by};
 ghost use Rattle.presence_node_leaving.specs.declared.stalling.TheConstants.{MAX_STALL_MILLISECONDS};
 
 use presence_node_client_streams::ClientSocket;
@@ -58,7 +60,10 @@ fn stalled(client: &Client<ClientSocket>, now: u64) -> Option<usize> {
 /// A client for which something waits that finds no room gets no turn: nothing is read of it and nothing taken for it, so
 /// that what waits for it falls behind. One that doesn't keep pace is cut off after a minute, and so is one that is silent.
 /// Whether there is one.
-pub fn hold_stalled(worker: &mut Worker<ClientSocket>, now: u64) -> bool {
+#[tactic(auto, using(crate::proofs::Marks::held_next))]
+pub fn hold_stalled(worker: &mut Worker<ClientSocket>, now: u64) -> bool
+    ensures { OnlyMarks (served_by worker.old) (served_by worker.new) }
+{
     let mut some = false;
     for place in 0..worker.len() {
         let held = worker.due_at(place).and_then(|client| stalled(client, now));
@@ -71,7 +76,10 @@ pub fn hold_stalled(worker: &mut Worker<ClientSocket>, now: u64) -> bool {
 }
 
 /// A client that takes again what is sent to it has the next turn. Whether there is one that doesn't.
-pub fn resume_recovered(worker: &mut Worker<ClientSocket>, now: u64) -> bool {
+#[tactic(auto, using(crate::proofs::Marks::marked_next))]
+pub fn resume_recovered(worker: &mut Worker<ClientSocket>, now: u64) -> bool
+    ensures { OnlyMarks (served_by worker.old) (served_by worker.new) }
+{
     let mut some = false;
     for place in 0..worker.len() {
         if let Some(client) = worker.at(place) {
@@ -88,7 +96,10 @@ pub fn resume_recovered(worker: &mut Worker<ClientSocket>, now: u64) -> bool {
 }
 
 /// A client of which a turn may have read more has the next turn too.
-pub fn mark_put_off(worker: &mut Worker<ClientSocket>) {
+#[tactic(auto, using(crate::proofs::Marks::marked_next))]
+pub fn mark_put_off(worker: &mut Worker<ClientSocket>)
+    ensures { OnlyMarks (served_by worker.old) (served_by worker.new) }
+{
     for place in 0..worker.len() {
         if let Some(client) = worker.due_at(place) {
             let token = client.token;
