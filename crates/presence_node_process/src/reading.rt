@@ -18,6 +18,10 @@ const PAGE_BYTES: u64 = 4_096;
 /// How many bytes of names one read of a folder asks for.
 const NAMES_BYTES: usize = 1_024;
 
+/// How many names a folder of open files has that stand for none that is counted: itself, the one above it, and the file by
+/// which it is read.
+const OTHER_NAMES: u64 = 3;
+
 // What is read of a file, as far as it fits: how many bytes.
 fn read_into(file: &mut impl Read, bytes: &mut [u8; MAX_BYTES]) -> io::Result<usize>
     ensures { IfOk result (λ len. len ≤ MAX_BYTES) }
@@ -92,13 +96,13 @@ fn names_in(folder: &mut impl Read) -> io::Result<u64> {
     Ok(names)
 }
 
-/// How many files it has open. The folder that is looked into isn't counted.
+/// How many files it has open, but for the folder that is looked into.
 pub fn open_files<R: Files>(rt: &R) -> Option<u64> {
     let Ok(mut folder) = rt.open_dir("/proc/self/fd/") else {
         return None;
     };
     match names_in(&mut folder) {
-        Ok(names) => Some(names.saturating_sub(1)),
+        Ok(names) => Some(names.saturating_sub(OTHER_NAMES)),
         Err(_) => None,
     }
 }
