@@ -2,7 +2,7 @@
 use crate::desk::replica;
 use node_links::Line;
 use presence_base::{MAX_COUNT, Replica};
-use presence_node_link_words::{Came, Coming, Course, Life};
+use presence_node_link_words::{Came, Coming, Course, Life, known_in, known_line};
 
 // Whether the first line behind a hello says that this replica is down for good.
 fn says_first(life: &Life, replica: &Replica) -> bool {
@@ -31,6 +31,24 @@ fn a_node_goes_on_once(rt: HostRuntime) {
     let last = next.retried(Coming::new().and(Came::Now));
     assert!(rt; last.own == a2 && !last.is_late && !last.is_of(next.turn));
     assert!(rt; last.retried(Coming::new()).is_of(last.turn));
+}
+
+// A node is told how far it is known by a beat of its own, which tells its next life nothing.
+#[test]
+fn what_is_known_of_a_node(rt: HostRuntime) {
+    let alloc = rt.alloc();
+    let (Some(a1), Some(a2)) = (replica(alloc, "a", 1), replica(alloc, "a", 2)) else {
+        assert!(rt; false);
+        return;
+    };
+    assert!(rt; known_line(1, a1, 0).is_none());
+    let Some(line) = known_line(1, a1, 7) else {
+        assert!(rt; false);
+        return;
+    };
+    assert!(rt; known_in(&a1, &line) == Some((1, 7)));
+    assert!(rt; known_in(&a2, &line).is_none());
+    assert!(rt; known_in(&a1, &Line::Ok).is_none());
 }
 
 #[test]

@@ -45,4 +45,12 @@ fn a_link_in_words(rt: HostRuntime) {
     let files =
         "link to b at host:1: down: as many files are open as may be: raise with ulimit -n\n";
     assert!(rt; is_line(down_line(alloc, "to b at host:1", LinkEnd::NoFile), files));
+    let unknown =
+        "link to b at host:1: down: no address is found for its host: the name isn't known, or the resolver doesn't answer\n";
+    assert!(rt;
+        is_line(
+            down_line(alloc, "to b at host:1", LinkEnd::HostNotFound),
+            unknown
+        )
+    );
 }
