@@ -170,8 +170,8 @@ fn sent_to(alloc: Global, guests: &mut Guests<Wire>) -> Result<Option<Vec<u8>>, 
     Ok(None)
 }
 
-// The reply has 129 bytes, with the accepted key of RFC 6455, section 1.3. A stream that takes ten at a time has all of them
-// in the end.
+// The reply has 129 bytes, with the accepted key of RFC 6455, section 1.3, and names of fields in small letters. A stream
+// that takes ten at a time has all of them in the end.
 #[test]
 fn a_reply_that_finds_no_room_goes_on(rt: HostRuntime) -> Result<(), Fail> {
     let alloc = rt.alloc();
@@ -183,7 +183,7 @@ fn a_reply_that_finds_no_room_goes_on(rt: HostRuntime) -> Result<(), Fail> {
     };
     assert_eq!(rt; sent.len(), 129);
     assert!(rt; sent.starts_with(b"HTTP/1.1 101 Switching Protocols\r\n"));
-    assert!(rt; sent.ends_with(b"\r\nSec-WebSocket-Accept: s3pPLMBiTxaQ9kYGzzhZRbK+xOo=\r\n\r\n"));
+    assert!(rt; sent.ends_with(b"\r\nsec-websocket-accept: s3pPLMBiTxaQ9kYGzzhZRbK+xOo=\r\n\r\n"));
     Ok(())
 }
 
