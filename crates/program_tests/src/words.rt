@@ -8,75 +8,72 @@ use std::alloc::Global;
 use std::net::IpAddr;
 use std::test::Fail;
 
-// A command, an option with a value, and why these words are wrong.
-const WRONG: [(&str, &str, &str, UsageCause); 52] = [
-    ("stdio", "--name", "A!", UsageCause::Name),
-    ("stdio", "--incarnation", "0", UsageCause::Incarnation),
-    ("stdio", "--route", "a*b", UsageCause::Route),
-    ("stdio", "--port", "1", UsageCause::Words),
-    ("stdio", "--incarnation", "-1", UsageCause::Words),
-    ("serve", "--name", "A!", UsageCause::Name),
-    ("serve", "--incarnation", "0", UsageCause::Incarnation),
-    ("serve", "--port", "0", UsageCause::Port),
-    ("serve", "--port", "65536", UsageCause::Port),
-    ("serve", "--link-port", "4001x", UsageCause::LinkPort),
-    ("serve", "--shards", "5", UsageCause::Shards),
-    ("serve", "--workers", "65", UsageCause::Workers),
-    ("serve", "--link-version", "0", UsageCause::LinkVersion),
-    ("serve", "--link-version", "3", UsageCause::LinkVersion),
-    ("serve", "--route", "a*b", UsageCause::Route),
-    ("serve", "--peer", "b", UsageCause::Peer),
-    ("serve", "--peer", "B=host:1", UsageCause::Peer),
-    ("serve", "--peer", "b=:1", UsageCause::Peer),
-    ("serve", "--peer", "b=host:0", UsageCause::Peer),
-    ("serve", "--peer", "b=host", UsageCause::Peer),
-    ("serve", "--peer", "b=http://host:1", UsageCause::Peer),
-    ("serve", "--peer", "b=x=host:1", UsageCause::Peer),
-    ("serve", "--peer", "b=a host:1", UsageCause::Peer),
-    ("serve", "--peer", "b=::1:1", UsageCause::Peer),
-    ("serve", "--peer", "b=[::1:1", UsageCause::Peer),
-    ("serve", "--peer", "b=[]:1", UsageCause::Peer),
-    ("serve", "--peer", "b=[host]:1", UsageCause::Peer),
-    ("serve", "--notices", "1", UsageCause::Words),
-    ("serve", "--per-address", "0", UsageCause::PerAddress),
-    ("serve", "--per-address", "65537", UsageCause::PerAddress),
-    (
-        "serve",
-        "--handshakes",
-        "0",
-        UsageCause::HandshakesPerSecond,
-    ),
-    (
-        "serve",
-        "--handshakes",
-        "1001",
-        UsageCause::HandshakesPerSecond,
-    ),
-    ("serve", "--peer", "a=host:1", UsageCause::PeerName),
-    ("serve", "--proxy", "proxy.example", UsageCause::Proxy),
-    ("serve", "--proxy", "10.0.0.0/8", UsageCause::Proxy),
-    ("serve", "--proxy", "256.1.1.1", UsageCause::Proxy),
-    ("serve", "--link-from", "10.0.0", UsageCause::LinkFrom),
-    ("serve", "--link-from", "", UsageCause::LinkFrom),
-    ("serve", "--memory", "31", UsageCause::MemoryLimit),
-    ("serve", "--memory", "1G", UsageCause::MemoryLimit),
-    ("serve", "--memory", "16777217", UsageCause::MemoryLimit),
-    ("serve", "--topic-rows", "0", UsageCause::TopicRows),
-    ("serve", "--topic-rows", "1048577", UsageCause::TopicRows),
-    ("serve", "--topic-bytes", "1023", UsageCause::TopicBytes),
-    (
-        "serve",
-        "--topic-bytes",
-        "1073741825",
-        UsageCause::TopicBytes,
-    ),
-    ("serve", "--log", "Refused", UsageCause::Log),
-    ("serve", "--log", "", UsageCause::Log),
-    ("serve", "--log-format", "JSON", UsageCause::LogFormat),
-    ("serve", "--metrics-port", "0", UsageCause::MetricsPort),
-    ("serve", "--metrics-port", "x", UsageCause::MetricsPort),
-    ("stdio", "--log", "all", UsageCause::Words),
-    ("stdio", "--proxy", "10.0.0.1", UsageCause::Words),
+// An option of `stdio` with a value, and why these words are wrong.
+const WRONG_OF_STDIO: [(&str, &str, UsageCause); 7] = [
+    ("--name", "A!", UsageCause::Name),
+    ("--incarnation", "0", UsageCause::Incarnation),
+    ("--route", "a*b", UsageCause::Route),
+    ("--port", "1", UsageCause::Words),
+    ("--incarnation", "-1", UsageCause::Words),
+    ("--log", "all", UsageCause::Words),
+    ("--proxy", "10.0.0.1", UsageCause::Words),
+];
+
+// The same of `serve`: what a node is, and who may connect.
+const WRONG_OF_SERVE: [(&str, &str, UsageCause); 16] = [
+    ("--name", "A!", UsageCause::Name),
+    ("--incarnation", "0", UsageCause::Incarnation),
+    ("--port", "0", UsageCause::Port),
+    ("--port", "65536", UsageCause::Port),
+    ("--link-port", "4001x", UsageCause::LinkPort),
+    ("--shards", "5", UsageCause::Shards),
+    ("--workers", "65", UsageCause::Workers),
+    ("--link-version", "0", UsageCause::LinkVersion),
+    ("--link-version", "3", UsageCause::LinkVersion),
+    ("--route", "a*b", UsageCause::Route),
+    ("--notices", "1", UsageCause::Words),
+    ("--per-address", "0", UsageCause::PerAddress),
+    ("--per-address", "65537", UsageCause::PerAddress),
+    ("--handshakes", "0", UsageCause::HandshakesPerSecond),
+    ("--handshakes", "1001", UsageCause::HandshakesPerSecond),
+    ("--peer", "a=host:1", UsageCause::PeerName),
+];
+
+// The same of what stands beside the node itself.
+const WRONG_BESIDE: [(&str, &str, UsageCause); 17] = [
+    ("--proxy", "proxy.example", UsageCause::Proxy),
+    ("--proxy", "10.0.0.0/8", UsageCause::Proxy),
+    ("--proxy", "256.1.1.1", UsageCause::Proxy),
+    ("--link-from", "10.0.0", UsageCause::LinkFrom),
+    ("--link-from", "", UsageCause::LinkFrom),
+    ("--memory", "31", UsageCause::MemoryLimit),
+    ("--memory", "1G", UsageCause::MemoryLimit),
+    ("--memory", "16777217", UsageCause::MemoryLimit),
+    ("--topic-rows", "0", UsageCause::TopicRows),
+    ("--topic-rows", "1048577", UsageCause::TopicRows),
+    ("--topic-bytes", "1023", UsageCause::TopicBytes),
+    ("--topic-bytes", "1073741825", UsageCause::TopicBytes),
+    ("--log", "Refused", UsageCause::Log),
+    ("--log", "", UsageCause::Log),
+    ("--log-format", "JSON", UsageCause::LogFormat),
+    ("--metrics-port", "0", UsageCause::MetricsPort),
+    ("--metrics-port", "x", UsageCause::MetricsPort),
+];
+
+// No peers.
+const WRONG_PEERS: [&str; 12] = [
+    "b",
+    "B=host:1",
+    "b=:1",
+    "b=host:0",
+    "b=host",
+    "b=http://host:1",
+    "b=x=host:1",
+    "b=a host:1",
+    "b=::1:1",
+    "b=[::1:1",
+    "b=[]:1",
+    "b=[host]:1",
 ];
 
 // Why these words are wrong.
@@ -87,15 +84,51 @@ fn cause_for(alloc: Global, words: &[&str]) -> Option<UsageCause> {
     }
 }
 
+// Why this option with this value is wrong of a command.
+fn cause_of(alloc: Global, command: &str, option: &str, value: &str) -> Option<UsageCause> {
+    let words = ["p", command, option, value];
+    cause_for(alloc, words.as_slice())
+}
+
 #[test]
-fn causes_of_wrong_words(rt: HostRuntime) {
+fn causes_of_wrong_words_of_stdio(rt: HostRuntime) {
     let alloc = rt.alloc();
-    for (command, word, value, cause) in WRONG {
-        let words = ["p", command, word, value];
+    for (option, value, cause) in WRONG_OF_STDIO {
         assert!(rt;
-            cause_for(alloc, words.as_slice()) == Some(cause),
-            "{command} {word} {value}"
+            cause_of(alloc, "stdio", option, value) == Some(cause),
+            "{option} {value}"
         );
+    }
+}
+
+#[test]
+fn causes_of_wrong_words_of_serve(rt: HostRuntime) {
+    let alloc = rt.alloc();
+    for (option, value, cause) in WRONG_OF_SERVE {
+        assert!(rt;
+            cause_of(alloc, "serve", option, value) == Some(cause),
+            "{option} {value}"
+        );
+    }
+}
+
+#[test]
+fn causes_of_wrong_words_beside_the_node(rt: HostRuntime) {
+    let alloc = rt.alloc();
+    for (option, value, cause) in WRONG_BESIDE {
+        assert!(rt;
+            cause_of(alloc, "serve", option, value) == Some(cause),
+            "{option} {value}"
+        );
+    }
+}
+
+#[test]
+fn causes_of_wrong_peers(rt: HostRuntime) {
+    let alloc = rt.alloc();
+    for value in WRONG_PEERS {
+        let cause = cause_of(alloc, "serve", "--peer", value);
+        assert!(rt; cause == Some(UsageCause::Peer), "{value}");
     }
 }
 
@@ -180,9 +213,11 @@ fn addresses_of_proxies_and_links(rt: HostRuntime) -> Result<(), Fail> {
     let Some(options) = served(rt.alloc(), words.as_slice()) else {
         panic!(rt; "no options");
     };
-    assert!(rt; options.proxies[0] == IpAddr::from([10_u8, 0, 0, 5]));
-    assert!(rt; options.proxies[1] == IpAddr::from([0xfd00_u16, 0, 0, 0, 0, 0, 0, 5]));
-    assert!(rt; options.link_from[0] == IpAddr::from([10_u8, 0, 0, 6]));
+    assert!(rt; options.proxies.first().copied() == Some(IpAddr::from([10_u8, 0, 0, 5])));
+    assert!(rt;
+        options.proxies.get(1).copied() == Some(IpAddr::from([0xfd00_u16, 0, 0, 0, 0, 0, 0, 5]))
+    );
+    assert!(rt; options.link_from.first().copied() == Some(IpAddr::from([10_u8, 0, 0, 6])));
     assert_eq!(rt; options.listen.as_str(), "[::1]");
     Ok(())
 }
