@@ -3,7 +3,7 @@ use Rattle.std.specs.Prelude.{◌≡◌, ◌+◌, ◌-◌, ◌^◌, ◌&&◌, �
 use Rattle.presence_node_client_streams.specs.declared.stream.Stall.{Stall}
 use Rattle.presence_node_client_streams.specs.declared.stream.TheConstants.{PACE_BYTES}
 
--- A write adds what it took, up to 2^64 - 1, and nothing where it fails.
+-- A write adds what it took, and a read what it gave, up to 2^64 - 1, and nothing where it fails.
 abbrev pub Takes : {E : Type 0} → ℕ → ℕ → Result ℕ E → Type 0
 Takes old new (Ok count) = new ≡ min (old + count) (2 ^ 64 - 1)
 Takes old new (Err e) = new ≡ old

@@ -58,6 +58,8 @@ pub struct ClientStream<S> {
     blocked: bool,
     /// How many bytes writes have taken, up to 2^64 - 1.
     taken: u64,
+    /// How many bytes reads have given, up to 2^64 - 1.
+    received: u64,
     /// What was noted of it when writes found no room.
     stalled: Cell<Option<Stall>>,
     /// Whether a read has to ask the system.
@@ -87,6 +89,7 @@ impl<S: Drop> Drop for ClientStream<S> {
             put_off: _,
             blocked: _,
             taken: _,
+            received: _,
             stalled: _,
             news: _,
             address: _,
@@ -140,6 +143,7 @@ impl<S> ClientStream<S> {
         ensures waits { result.put_off ≡ false }
         ensures room { result.blocked ≡ false }
         ensures taken { result.taken ≡ 0 }
+        ensures received { result.received ≡ 0 }
     {
         ClientStream {
             stream,
@@ -148,6 +152,7 @@ impl<S> ClientStream<S> {
             put_off: false,
             blocked: false,
             taken: 0,
+            received: 0,
             stalled: Cell::new(None),
             news: Cell::new(News::Untold),
             address: None,
@@ -232,6 +237,13 @@ impl<S> ClientStream<S> {
         &self.stream
     }
 
+    /// How many bytes reads have given, up to 2^64 - 1.
+    pub fn received(&self) -> u64
+        ensures { result ≡ self.now.received }
+    {
+        self.received
+    }
+
     /// Whether the last read was put off until the others had their turns, though the stream may have more.
     pub fn is_put_off(&self) -> bool
         ensures { result ≡ self.now.put_off }
@@ -278,6 +290,7 @@ impl<S: Read> ClientStream<S> {
     fn found_nothing(&mut self)
         ensures left { self.new.left ≡ TURN_BYTES }
         ensures stream { self.new.stream ≡ self.old.stream }
+        ensures received { self.new.received ≡ self.old.received }
     {
         self.left = TURN_BYTES;
         self.goes_on.set(false);
@@ -291,6 +304,7 @@ impl<S: Read> ClientStream<S> {
         ensures left { IsTurn self.new.left }
         ensures put_off { self.new.put_off ≡ true }
         ensures stream { self.new.stream ≡ self.old.stream }
+        ensures received { self.new.received ≡ self.old.received }
     {
         self.left = turn_bytes(self.goes_on.replace(false));
         self.put_off = true;
@@ -308,6 +322,7 @@ impl<S: Read> Read for ClientStream<S> {
         ensures bound { ReadsAtMost result buf.new }
         ensures bytes { ReadConsumes (S.remaining self.old.stream) (S.remaining self.new.stream) result buf.new }
         ensures spends { Spends self.old.left self.new.left result }
+        ensures counts { Takes self.old.received self.new.received result }
     {
         self.waiting = None;
         if self.news.get() == News::Nothing {
@@ -321,6 +336,7 @@ impl<S: Read> Read for ClientStream<S> {
         match self.stream.read(&mut buf[..most]) {
             Ok(count) => {
                 self.left -= count;
+                self.received = self.received.saturating_add(count as u64);
                 Ok(count)
             }
             Err(error) => {

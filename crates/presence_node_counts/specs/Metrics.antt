@@ -225,6 +225,22 @@ CLIENTS_MAX = record {
   label = [];
 }
 
+abbrev pub RECEIVED : Naming
+RECEIVED = record {
+  name = codes "presence_node_received_bytes_total";
+  help = codes "Bytes that came over WebSockets, their handshakes among them.";
+  kind = codes "counter";
+  label = [];
+}
+
+abbrev pub MESSAGES : Naming
+MESSAGES = record {
+  name = codes "presence_node_messages_total";
+  help = codes "Texts that came over WebSockets.";
+  kind = codes "counter";
+  label = [];
+}
+
 abbrev pub REFUSALS : Naming
 REFUSALS = record {
   name = codes "presence_node_call_refusals_total";
@@ -377,9 +393,12 @@ sessions_behind text t = calls_behind (joined_behind (ends_behind (open_behind t
 unfoldable pub seats_behind : List ℕ → ServerTold → List ℕ
 seats_behind text t = with_count (with_count text CLIENTS t.clients) CLIENTS_MAX t.clients_max
 
+unfoldable pub heard_behind : List ℕ → ServerTold → List ℕ
+heard_behind text t = with_count (with_count text RECEIVED t.received_bytes) MESSAGES t.messages
+
 unfoldable pub clients_behind : List ℕ → ServerTold → List ℕ
 clients_behind text t =
-    sessions_behind (seats_behind (requests_behind (connections_behind text t) t.answers) t) t
+    sessions_behind (heard_behind (seats_behind (requests_behind (connections_behind text t) t.answers) t) t) t
 
 unfoldable pub checkpoints_behind : List ℕ → ServerTold → List ℕ
 checkpoints_behind text t =

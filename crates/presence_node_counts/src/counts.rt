@@ -63,6 +63,8 @@ pub struct Counts {
     full_checkpoints: Count,
     ends: Ends,
     calls: Calls,
+    received_bytes: Count,
+    messages: Count,
     clients: Count,
     clients_max: Count,
 }
@@ -86,6 +88,8 @@ impl Counts {
             full_checkpoints: Count::new(),
             ends: Ends::new(),
             calls: Calls::new(),
+            received_bytes: Count::new(),
+            messages: Count::new(),
             clients: Count::new(),
             clients_max: Count::new(),
         }
@@ -151,6 +155,12 @@ impl Counts {
         self.calls.add(calls);
     }
 
+    /// So many bytes more came over WebSockets, and so many texts.
+    pub fn heard(&self, bytes: u64, messages: u64) {
+        self.received_bytes.add(bytes);
+        self.messages.add(messages);
+    }
+
     /// A checkpoint was made.
     pub fn made(&self, checkpoint: Checkpoint) {
         match checkpoint {
@@ -180,6 +190,8 @@ impl Counts {
             ends,
             calls,
             joined: calls.joins.saturating_sub(calls.leaves),
+            received_bytes: self.received_bytes.get(),
+            messages: self.messages.get(),
             clients: self.clients.get(),
             clients_max: self.clients_max.get(),
             due_checkpoints: self.due_checkpoints.get(),

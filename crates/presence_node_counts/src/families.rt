@@ -190,6 +190,20 @@ pub(crate) const CLIENTS_MAX: Family = Family {
     label: "",
 };
 
+pub(crate) const RECEIVED: Family = Family {
+    name: "presence_node_received_bytes_total",
+    help: "Bytes that came over WebSockets, their handshakes among them.",
+    kind: "counter",
+    label: "",
+};
+
+pub(crate) const MESSAGES: Family = Family {
+    name: "presence_node_messages_total",
+    help: "Texts that came over WebSockets.",
+    kind: "counter",
+    label: "",
+};
+
 pub(crate) const REFUSALS: Family = Family {
     name: "presence_node_call_refusals_total",
     help: "Calls of sessions that were refused, by why.",

@@ -1,7 +1,7 @@
 //! All counts as a text.
 ghost use Rattle.std.specs.Prelude.{◌≡◌, IfOk, string_bytes};
 ghost use Rattle.presence_node_counts.specs.Lines.{Leaves};
-ghost use Rattle.presence_node_counts.specs.Metrics.{accepted_behind, bytes_behind, calls_behind, checkpoints_behind, clients_behind, connections_behind, ends_behind, entries_behind, files_behind, joined_behind, journals_behind, link_words_behind, links_behind, links_up_behind, memory_behind, metrics_lines, nodes_behind, open_behind, other_rows_behind, own_rows_behind, peers_behind, process_behind, program_behind, refusals_behind, requests_behind, rows_behind, seats_behind, server_behind, sessions_behind, shards_behind, shown_behind, taken_behind, tight_behind, told_flag, topics_behind, waiting_behind};
+ghost use Rattle.presence_node_counts.specs.Metrics.{accepted_behind, bytes_behind, calls_behind, checkpoints_behind, clients_behind, connections_behind, ends_behind, entries_behind, files_behind, heard_behind, joined_behind, journals_behind, link_words_behind, links_behind, links_up_behind, memory_behind, metrics_lines, nodes_behind, open_behind, other_rows_behind, own_rows_behind, peers_behind, process_behind, program_behind, refusals_behind, requests_behind, rows_behind, seats_behind, server_behind, sessions_behind, shards_behind, shown_behind, taken_behind, tight_behind, told_flag, topics_behind, waiting_behind};
 
 use crate::families::*;
 use crate::text::{count_text, named_text, numbered_text};
@@ -204,6 +204,15 @@ fn seats_text(alloc: Global, text: &mut String, told: &ServerTold) -> Result<(),
     count_text(alloc, text, &CLIENTS_MAX, told.clients_max)
 }
 
+// What came from the clients.
+#[tactic(auto, unfolding(crate::specs::Metrics::heard_behind))]
+fn heard_text(alloc: Global, text: &mut String, told: &ServerTold) -> Result<(), AllocError>
+    ensures { Leaves (string_bytes text.new) (heard_behind (string_bytes text.old) told.now) result }
+{
+    count_text(alloc, text, &RECEIVED, told.received_bytes)?;
+    count_text(alloc, text, &MESSAGES, told.messages)
+}
+
 // The clients.
 #[tactic(auto, unfolding(crate::specs::Metrics::clients_behind))]
 fn clients_text(alloc: Global, text: &mut String, told: &ServerTold) -> Result<(), AllocError>
@@ -212,6 +221,7 @@ fn clients_text(alloc: Global, text: &mut String, told: &ServerTold) -> Result<(
     connections_text(alloc, text, told)?;
     requests_text(alloc, text, &told.answers)?;
     seats_text(alloc, text, told)?;
+    heard_text(alloc, text, told)?;
     sessions_text(alloc, text, told)
 }
 

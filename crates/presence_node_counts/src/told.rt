@@ -56,6 +56,10 @@ pub struct ServerTold {
     pub calls: Tally,
     /// How many topics sessions have joined, those of each counted.
     pub joined: u64,
+    /// How many bytes came over WebSockets, their handshakes among them.
+    pub received_bytes: u64,
+    /// How many texts came over them.
+    pub messages: u64,
     /// How many clients have a place, or are promised one.
     pub clients: u64,
     /// How many places there are.

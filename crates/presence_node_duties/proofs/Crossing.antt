@@ -23,6 +23,7 @@ use Rattle.presence_node_duties.specs.contracts.bench.Bench as Bench
 use Rattle.presence_node_duties.specs.contracts.draining.Drain as Drain
 use Rattle.presence_node_duties.specs.contracts.ends.Ends as Ends
 use Rattle.presence_node_duties.specs.contracts.growth.Growth as Growth
+use Rattle.presence_node_duties.specs.contracts.received.Received as Received
 use Rattle.presence_node_duties.specs.contracts.place.Workplace as Workplace
 use Rattle.presence_node_duties.specs.contracts.server.WorkerMailbox as WorkerMailbox
 pub use Rattle.presence_node_link_threads.proofs.Crossing.{links_sync, task_row_send}
@@ -70,13 +71,16 @@ ends_send = search (heap.crosses, sendable) depth 60 fits 20000
 growth_send : IsSend (Growth.the_field).row
 growth_send = search sendable depth 60 fits 20000
 
+received_send : IsSend (Received.the_field).row
+received_send = search sendable depth 60 fits 20000
+
 drain_send : IsSend (Drain.the_field).row
 drain_send = search (heap.crosses, sendable) depth 60 fits 20000
 
 module _ (A B C D : RattleType) (lane-a : Lane.Ghosts A.Denot) (lane-b : Lane.Ghosts B.Denot) (lane-c : Lane.Ghosts C.Denot) (lane-d : Lane.Ghosts D.Denot)
     (a : Ledger.Ghosts A.Denot) (b : Ledger.Ghosts B.Denot) (c : Ledger.Ghosts C.Denot) (d : Ledger.Ghosts D.Denot) where
   bench_send : IsSend (Bench.the_field A B C D lane-a a lane-b b lane-c c lane-d d).row
-  bench_send = search (seat_send, worker_send, client_stream_row_send, client_stream_send, watch_send, leavers_send, long_texts_send, followers_send, ends_send, growth_send, drain_send, rations_send, heap.crosses, sendable) depth 60 fits 20000
+  bench_send = search (seat_send, worker_send, client_stream_row_send, client_stream_send, watch_send, leavers_send, long_texts_send, followers_send, ends_send, growth_send, received_send, drain_send, rations_send, heap.crosses, sendable) depth 60 fits 20000
 
   pub place_send : IsSend (Workplace.the_field A B C D lane-a a lane-b b lane-c c lane-d d).row
   place_send = search (bench_send, sendable) depth 60 fits 20000

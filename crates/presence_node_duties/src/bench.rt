@@ -3,6 +3,7 @@ use crate::draining::{Drain, Due, count_anew, have_all_delivered, is_due, make_d
 use crate::ends::{Ends, ended_by};
 use crate::following::{add_newcomers, followed_by, followers_of, joined_topics, mark_followers};
 use crate::growth::Growth;
+use crate::received::Received;
 use crate::server::Server;
 use hook_registry::PresenceHooks;
 use presence_node_counts::{Checkpoint, Counts};
@@ -205,6 +206,7 @@ pub struct Bench<A: Lane, B: Lane, C: Lane, D: Lane> {
     /// When the memory of the process was looked at last.
     weighed: u64,
     growth: Growth,
+    received: Received,
     /// How many turns there were.
     turns: u64,
     drain: Drain,
@@ -230,6 +232,7 @@ impl<A: Lane, B: Lane, C: Lane, D: Lane> Drop for Bench<A, B, C, D> {
             crowded: _,
             weighed: _,
             growth: _,
+            received: _,
             turns: _,
             drain,
         } = self;
@@ -275,6 +278,7 @@ impl<A: Lane, B: Lane, C: Lane, D: Lane> Bench<A, B, C, D> {
             crowded: false,
             weighed: 0,
             growth: Growth::new(),
+            received: Received::new(),
             turns: 0,
             drain: Drain::new(alloc),
         }
@@ -302,6 +306,7 @@ impl<A: Lane, B: Lane, C: Lane, D: Lane> Bench<A, B, C, D> {
             crowded: _,
             weighed: _,
             growth: _,
+            received: _,
             turns: _,
             drain,
         } = self;
@@ -580,6 +585,7 @@ impl<A: Lane, B: Lane, C: Lane, D: Lane> Bench<A, B, C, D> {
             if let Stage::Over(cause) = client.connection.stage {
                 counts.ended(ended_by(cause));
                 self.ends.add(client, cause);
+                self.received.see_off(client);
                 self.leavers.admit(client, &self.watch, self.now);
             }
         }
@@ -630,13 +636,15 @@ impl<A: Lane, B: Lane, C: Lane, D: Lane> Bench<A, B, C, D> {
         self.now = time_behind(rt, self.now);
     }
 
-    // From time to time each connection is looked at, and the worker is told of no topic any more that none has joined.
+    // From time to time each connection is looked at, what came is counted, and the worker is told of no topic any more that
+    // none has joined.
     fn sweep<R: Wait, H>(&mut self, rt: &R, server: &Server<'_, H, A, B, C, D>, own: usize) {
         if self.now.saturating_sub(self.swept) < SWEEP_MILLISECONDS {
             return;
         }
         self.swept = self.now;
         mark_each(&mut self.worker);
+        self.received.count(&self.worker, &server.counts);
         self.followers = followers_of(server.alloc, &self.worker);
         server.follow_only(rt, own, followed_by(server.alloc, &self.worker));
     }

@@ -18,6 +18,7 @@ mod neighbours;
 mod place;
 mod pulse;
 mod reasons;
+mod received;
 mod server;
 
 pub use bench::Bench;

@@ -1,3 +1,4 @@
+mod PieceLemmas
 mod Turnings
 mod Sparings
 pub mod Crossing

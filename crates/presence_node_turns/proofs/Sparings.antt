@@ -26,7 +26,7 @@ module _ {A B : Type 0} (R : A → (q : Ask) → Answer q → A → Type 0) (S :
   made_along [] a b h = ap f h
   made_along (c ∷ cs) a b h = (f h.0, along a c.ask c.answer h.0 h.1, made_along cs h.0 b h.2)
 
-  follows_along : (script : Script End) (a b : A) (r : _) → Follows R script a b r → Follows S script (f a) (f b) r
+  pub follows_along : (script : Script End) (a b : A) (r : _) → Follows R script a b r → Follows S script (f a) (f b) r
   follows_along script a b r h = record { made = h.made; calls = made_along h.made a b h.calls; ends = h.ends }
 
   in_along : (max : ℕ) (s : InForce) (a b : A) (after : InForce) (r : Result (List Said) SessionFault)

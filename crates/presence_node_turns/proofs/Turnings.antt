@@ -1,11 +1,18 @@
 -- The steps of a turn, put together.
-use Rattle.std.proofs.Common.{◌≡◌, ℕ, List, Bool, true, false, Option, Result, Ok, Err, IfOk, refl, sym, ap, ◌∙◌, subst}
+use Rattle.std.proofs.Common.{◌≡◌, ℕ, List, Bool, true, false, is_some, Option, Result, Ok, Err, IfOk, refl, sym, ap, ◌∙◌, subst}
+use Rattle.std.specs.Prelude.{String, Vec}
+use Rattle.std.specs.Global.{Global}
 use Rattle.tungstenite.specs.Socket.{Socket}
+use Rattle.phx_message.specs.Reading.{decoded}
+use Rattle.phx_message.specs.declared.message.TheConstants.Limits as the_limits
 use Rattle.channel_session.specs.Delivery.{DeliveredBy, Delivery, InForce}
+use Rattle.channel_session.specs.Ran.{RanBy, texts_in}
 use Rattle.channel_session.specs.declared.fault.SessionFault.{SessionFault}
 use Rattle.channel_session.specs.declared.fault.SessionFault.TheVariants.{Failed}
+use Rattle.channel_session_pieces.specs.Piecewise.{Piecewise}
+use Rattle.presence_pieces.specs.declared.telling.Telling.{Telling}
 use Rattle.presence_node_turns.specs.Hearing.{Hears, is_message}
-use Rattle.presence_node_turns.specs.Turning.{Around, BearsOut, BearsSilence, ClosesFor, Continues, Deals, EndsSession, GoOut, Responds, Serves, StopsServing, TakesDelivery, TakesTurn, dealt, dealt_texts, is_owed_ping, may_have_more, patience, progress_of, room_in}
+use Rattle.presence_node_turns.specs.Turning.{Around, AnswersText, BearsOut, BearsSilence, ClosesFor, Continues, Deals, EndsSession, GoOut, Responds, Serves, StopsServing, TakesDelivery, TakesTurn, dealt, dealt_texts, is_owed_ping, may_have_more, patience, progress_of, room_in}
 use Rattle.presence_node_turns.specs.Sparing.{Spares}
 use Rattle.presence_node_turns.specs.declared.connection.TheConstants.{MAX_DEALT}
 use Rattle.presence_node_turns.specs.declared.cause.Cause.{Cause}
@@ -78,23 +85,56 @@ pub borne : {S K : Type 0} (contents : S → Option (List ℕ)) (now : ℕ) (old
 borne {S} {K} contents now old new result is asks =
     record { outcome = is; asks = subst (λ (r : Result (Unit {0}) Cause). BearsOut contents r (is_owed_ping old.heard old.pinged now) old new) is asks }
 
+-- the parts of a connection that a call and then its sending change
+turned : {S K : Type 0} (old mid new : Connection S K) → new ≡ record mid { socket = new.socket } → mid ≡ record old { session = mid.session; telling = mid.telling }
+    → new.session ≡ mid.session → new.telling ≡ mid.telling → new ≡ record old { socket = new.socket; session = new.session; telling = new.telling }
+turned {S} {K} old mid new kept held session told =
+    kept
+    ∙ (ap (λ (c : Connection S K). record c { socket = new.socket }) held
+    ∙ (ap (λ (s : InForce). record old { socket = new.socket; session = s; telling = mid.telling }) (sym session)
+    ∙ ap (λ (u : Telling). record old { socket = new.socket; session = new.session; telling = u }) (sym told)))
+
+-- what was answered goes out
+pub answers : {S K P : Type 0} (w : Around S P) (routes : List (List ℕ × ℕ)) (text : List ℕ) (old mid new : Connection S K) (before after : P)
+    (answer : Result (Vec (String Global) Global) SessionFault) (texts : Vec (String Global) Global) (result : Result (Unit {0}) Cause)
+    → RanBy w.worded (Piecewise w.step) routes old.session (decoded the_limits.CLIENT text) (before, old.telling.untold) (after, mid.telling.untold) mid.session answer
+    → mid ≡ record old { session = mid.session; telling = mid.telling } → answer ≡ Ok texts
+    → GoOut w.contents mid.socket new.socket (Ok (texts_in texts)) result → new ≡ record mid { socket = new.socket } → AnswersText w routes text old new before after result
+answers {S} {K} {P} w routes text old mid new before after answer texts result ran held is sent kept =
+    let session : new.session ≡ mid.session = ap (λ (c : Connection S K). c.session) kept in
+    let told : new.telling ≡ mid.telling = ap (λ (c : Connection S K). c.telling) kept in
+    let socket : mid.socket ≡ old.socket = ap (λ (c : Connection S K). c.socket) held in
+    record {
+      answer = Ok texts;
+      ran =
+          subst (λ (r : Result (Vec (String Global) Global) SessionFault). RanBy w.worded (Piecewise w.step) routes old.session (decoded the_limits.CLIENT text) (before, old.telling.untold) (after, new.telling.untold) new.session r) is
+          (subst (λ (s : InForce). RanBy w.worded (Piecewise w.step) routes old.session (decoded the_limits.CLIENT text) (before, old.telling.untold) (after, new.telling.untold) s answer) (sym session)
+          (subst (λ (u : Telling). RanBy w.worded (Piecewise w.step) routes old.session (decoded the_limits.CLIENT text) (before, old.telling.untold) (after, u.untold) mid.session answer) (sym told) ran));
+      sent = subst (λ (s : Socket S). GoOut w.contents s new.socket (Ok (texts_in texts)) result) socket sent;
+      kept = turned old mid new kept held session told;
+    }
+
 -- what was delivered within the room that there was goes out
-pub deals : {S K P : Type 0} (w : Around S P) (old new : Connection S K) (before after : P) (delivery : Result Delivery SessionFault) (given room : ℕ) (session : InForce)
+pub deals : {S K P : Type 0} (w : Around S P) (old mid new : Connection S K) (before after : P) (delivery : Result Delivery SessionFault) (given room : ℕ)
     (result : Result Bool Cause) → given ≡ room_in old.socket
-    → (old.session.failed ≡ true → (delivery ≡ Err Failed) × (session ≡ old.session) × (after ≡ before))
-    → (old.session.failed ≡ false → DeliveredBy w.worded w.noted (Spares w.step) MAX_DEALT old.session (before, given) (after, room) session delivery)
-    → GoOut w.contents old.socket new.socket (dealt_texts delivery) (dealt result) → IfOk result (λ told. told ≡ may_have_more delivery room)
-    → new ≡ record old { socket = new.socket; session = session } → Deals w old new before after result
-deals {S} {K} {P} w old new before after delivery given room session result is failed came sent more kept =
-    let same : new.session ≡ session = ap (λ (c : Connection S K). c.session) kept in
+    → (old.session.failed ≡ true → (delivery ≡ Err Failed) × (mid.session ≡ old.session) × (after ≡ before) × (mid.telling ≡ old.telling))
+    → (old.session.failed ≡ false → DeliveredBy w.worded w.noted (Spares (Piecewise w.step)) MAX_DEALT old.session ((before, old.telling.untold), given) ((after, mid.telling.untold), room) mid.session delivery)
+    → mid ≡ record old { session = mid.session; telling = mid.telling }
+    → GoOut w.contents mid.socket new.socket (dealt_texts delivery) (dealt result) → IfOk result (λ told. told ≡ may_have_more delivery room (is_some mid.telling.untold))
+    → new ≡ record mid { socket = new.socket } → Deals w old new before after result
+deals {S} {K} {P} w old mid new before after delivery given room result is failed came held sent more kept =
+    let session : new.session ≡ mid.session = ap (λ (c : Connection S K). c.session) kept in
+    let told : new.telling ≡ mid.telling = ap (λ (c : Connection S K). c.telling) kept in
+    let socket : mid.socket ≡ old.socket = ap (λ (c : Connection S K). c.socket) held in
     record {
       delivery = delivery;
       room = room;
-      failed = λ so. ((failed so).0, same ∙ (failed so).1, (failed so).2);
+      failed = λ so. ((failed so).0, session ∙ (failed so).1, (failed so).2, told ∙ (failed so).3);
       delivered = λ so.
-          subst (λ (s : InForce). DeliveredBy w.worded w.noted (Spares w.step) MAX_DEALT old.session (before, room_in old.socket) (after, room) s delivery) (sym same)
-          (subst (λ (n : ℕ). DeliveredBy w.worded w.noted (Spares w.step) MAX_DEALT old.session (before, n) (after, room) session delivery) is (came so));
-      sent = sent;
-      more = more;
-      kept = kept ∙ ap (λ (s : InForce). record old { socket = new.socket; session = s }) (sym same);
+          subst (λ (s : InForce). DeliveredBy w.worded w.noted (Spares (Piecewise w.step)) MAX_DEALT old.session ((before, old.telling.untold), room_in old.socket) ((after, new.telling.untold), room) s delivery) (sym session)
+          (subst (λ (u : Telling). DeliveredBy w.worded w.noted (Spares (Piecewise w.step)) MAX_DEALT old.session ((before, old.telling.untold), room_in old.socket) ((after, u.untold), room) mid.session delivery) (sym told)
+          (subst (λ (n : ℕ). DeliveredBy w.worded w.noted (Spares (Piecewise w.step)) MAX_DEALT old.session ((before, old.telling.untold), n) ((after, mid.telling.untold), room) mid.session delivery) is (came so)));
+      sent = subst (λ (s : Socket S). GoOut w.contents s new.socket (dealt_texts delivery) (dealt result)) socket sent;
+      more = subst (λ (u : Telling). IfOk result (λ b. b ≡ may_have_more delivery room (is_some u.untold))) (sym told) more;
+      kept = turned old mid new kept held session told;
     }

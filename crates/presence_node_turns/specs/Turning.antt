@@ -1,5 +1,5 @@
 -- One turn of a connection: what was read, what its session said to that, and what went out.
-use Rattle.std.specs.Prelude.{◌≡◌, ◌⊎◌, ◌+◌, ℕ, Bool, true, false, ◌||◌, ◌&&◌, not, ◌-◌, ◌==◌, if◌then◌else◌, leb, List, length, [], vec_len, IfOk, IfErr, is_ok, Option, Some, None, Result, Ok, Err, String, Vec}
+use Rattle.std.specs.Prelude.{◌≡◌, ◌⊎◌, ◌+◌, ◌^◌, ℕ, min, Bool, true, false, ◌||◌, ◌&&◌, not, ◌-◌, ◌==◌, if◌then◌else◌, leb, List, length, [], vec_len, IfOk, IfErr, is_ok, is_some, Option, Some, None, Result, Ok, Err, String, Vec}
 use Rattle.std.specs.Global.{Global}
 use Rattle.channel_session.specs.Delivery.{DeliveredBy}
 use Rattle.channel_session.specs.Ending.{EndedBy}
@@ -9,6 +9,7 @@ use Rattle.channel_session.specs.declared.fault.SessionFault.TheVariants.{Failed
 use Rattle.channel_session.specs.Delivery.{Delivery}
 use Rattle.channel_session.specs.Asks.{Ask, Answer}
 use Rattle.channel_session.specs.Said.{Said, Worded, Noted}
+use Rattle.channel_session_pieces.specs.Piecewise.{Piecewise}
 use Rattle.hook_registry.specs.declared.hooks.PresenceHooks.{Ghosts}
 use Rattle.phx_message.specs.Reading.{decoded}
 use Rattle.phx_message.specs.declared.message.Message.{Message}
@@ -154,10 +155,10 @@ progress_of false = progress.Idle
 
 -- ---- what a delivery tells
 
--- whether more may wait than was taken, where so many bytes more might have been
-abbrev pub may_have_more : Result Delivery SessionFault → ℕ → Bool
-may_have_more (Ok delivery) room = leb MAX_DEALT (vec_len delivery.texts) || (room == 0)
-may_have_more (Err fault) room = false
+-- whether more may wait than was taken, where so many bytes more might have been, and a state is being told or not
+abbrev pub may_have_more : Result Delivery SessionFault → ℕ → Bool → Bool
+may_have_more (Ok delivery) room untold = leb MAX_DEALT (vec_len delivery.texts) || (room == 0) || untold
+may_have_more (Err fault) room untold = false
 
 -- how many bytes a delivery takes at most before it takes nothing further, by those that wait to be sent
 abbrev pub room_in : {S : Type 0} → Socket S → ℕ
@@ -174,9 +175,10 @@ module _ {S K P : Type 0} (w : Around S P) where
   pub record AnswersText (routes : List (List ℕ × ℕ)) (text : List ℕ) (old new : Connection S K) (before after : P)
       (result : Result (Unit {0}) Cause) : Type 0 where
     pub answer : Result (Vec (String Global) Global) SessionFault
-    pub ran : RanBy w.worded w.step routes old.session (decoded the_limits.CLIENT text) before after new.session answer
+    pub ran : RanBy w.worded (Piecewise w.step) routes old.session (decoded the_limits.CLIENT text)
+        (before, old.telling.untold) (after, new.telling.untold) new.session answer
     pub sent : GoOut w.contents old.socket new.socket (ran_texts answer) result
-    pub kept : new ≡ record old { socket = new.socket; session = new.session }
+    pub kept : new ≡ record old { socket = new.socket; session = new.session; telling = new.telling }
 
   -- nothing was done, and this comes of it
   pub record Rests (old new : Connection S K) (before after : P)
@@ -188,11 +190,15 @@ module _ {S K P : Type 0} (w : Around S P) where
   abbrev pub heard_at : ℕ → Connection S K → Connection S K
   heard_at now c = record c { heard = now; pinged = false }
 
+  -- a text came at this time
+  abbrev pub text_at : ℕ → Connection S K → Connection S K
+  text_at now c = record c { heard = now; pinged = false; messages = min (c.messages + 1) (2 ^ 64 - 1) }
+
   -- What is done by what was read.
   abbrev pub Responds : List (List ℕ × ℕ) → ℕ → Heard → Connection S K → Connection S K → P → P
       → Result (Unit {0}) Cause → Type 0
   Responds routes now (Text words) old new before after result =
-      AnswersText routes words (heard_at now old) new before after result
+      AnswersText routes words (text_at now old) new before after result
   Responds routes now Sign old new before after result = Rests (heard_at now old) new before after result (Ok tt)
   Responds routes now Nothing old new before after result = BearsSilence w.contents now old new result × (after ≡ before)
   Responds routes now (Ends cause) old new before after result = Rests old new before after result (Err cause)
@@ -203,13 +209,14 @@ module _ {S K P : Type 0} (w : Around S P) where
   pub record Deals (old new : Connection S K) (before after : P) (result : Result Bool Cause) : Type 0 where
     pub delivery : Result Delivery SessionFault
     pub room : ℕ
-    pub failed : old.session.failed ≡ true → (delivery ≡ Err Failed) × (new.session ≡ old.session) × (after ≡ before)
+    pub failed : old.session.failed ≡ true
+        → (delivery ≡ Err Failed) × (new.session ≡ old.session) × (after ≡ before) × (new.telling ≡ old.telling)
     pub delivered : old.session.failed ≡ false
-        → DeliveredBy w.worded w.noted (Spares w.step) MAX_DEALT old.session (before, room_in old.socket) (after, room)
-        new.session delivery
+        → DeliveredBy w.worded w.noted (Spares (Piecewise w.step)) MAX_DEALT old.session
+        ((before, old.telling.untold), room_in old.socket) ((after, new.telling.untold), room) new.session delivery
     pub sent : GoOut w.contents old.socket new.socket (dealt_texts delivery) (dealt result)
-    pub more : IfOk result (λ told. told ≡ may_have_more delivery room)
-    pub kept : new ≡ record old { socket = new.socket; session = new.session }
+    pub more : IfOk result (λ told. told ≡ may_have_more delivery room (is_some new.telling.untold))
+    pub kept : new ≡ record old { socket = new.socket; session = new.session; telling = new.telling }
 
   -- Behind the message comes one delivery, unless the connection ends; and whether a message came, or more may wait, is told.
   abbrev pub Continues : Bool → Result (Unit {0}) Cause → Connection S K → Connection S K → P → P → Result Bool Cause

@@ -1,15 +1,22 @@
 //! A connection, and its turn.
-ghost use Rattle.std.specs.Prelude.{is_ok, Some, ◌≡◌, ◌+◌, ◌≤◌, ◌^◌, [], leb, false, true, map, string_bytes, None, IfOk};
+ghost use Rattle.std.specs.Prelude.{is_ok, is_some, Some, ◌≡◌, ◌+◌, ◌≤◌, ◌^◌, [], leb, false, true, map, string_bytes, None, IfOk};
 ghost use Rattle.phx_message.specs.Reading.{decoded};
 ghost use Rattle.tungstenite.specs.Socket.{Flushed};
 ghost use Rattle.presence_node_turns.specs.Hearing.{is_message};
 ghost use Rattle.presence_node_turns.specs.Turning.{around, AnswersText, AsksIf, BearsSilence, ClosesFor, Continues, Deals, Delivers, behind_flush, broken_off, EndsSession, GoOut, Responds, Serves, Flushes, Pings, StopsServing, TakesDelivery, TakesTurn, Turns, dealt, dealt_texts, is_owed_ping, may_have_more, patience, progress_of as progress_in};
+ghost use Rattle.channel_session.specs.Delivery.{DeliveredBy};
+ghost use Rattle.channel_session.specs.Ran.{RanBy};
+ghost use Rattle.channel_session.specs.Said.{Worded, Noted};
+ghost use Rattle.channel_session_pieces.specs.Piecewise.{Piecewise};
+ghost use Rattle.presence_node_turns.specs.Sparing.{Spares};
 ghost use Rattle.presence_node_web_sockets.specs.declared.web_socket.TheConstants.{MAX_WAITING};
 
 use crate::cause::{Cause, cause_of, close_code, close_reason};
 use crate::hearing::{Heard, hear};
-use crate::sparing::{MAX_UNSENT, deliver_within};
-use channel_session::{Channels, Delivery, Port, Session, SessionFault, end, run_text};
+use crate::pieces::{deliver_over, run_over};
+use crate::sparing::MAX_UNSENT;
+use channel_session::{Channels, Delivery, Port, Session, SessionFault, end};
+use channel_session_pieces::{PiecewisePort, Telling};
 use hook_registry::{PresenceHooks, Routes};
 use phx_message::Limits;
 use presence_node_sending::{is_passing, queue_all};
@@ -62,10 +69,14 @@ pub enum Progress {
 pub struct Connection<S, K> {
     pub socket: WebSocket<S, K>,
     pub session: Session,
+    /// What its client is yet to be told of a long state.
+    pub telling: Telling,
     /// When the last message came, in milliseconds.
     pub heard: u64,
     /// Whether its client was sent a ping since then.
     pub pinged: bool,
+    /// How many texts came.
+    pub messages: u64,
     pub stage: Stage,
 }
 
@@ -74,12 +85,15 @@ impl<S: Drop, K: Drop> Drop for Connection<S, K> {
         let Connection {
             socket,
             session,
+            telling,
             heard: _,
             pinged: _,
+            messages: _,
             stage: _,
         } = self;
         drop(socket);
         drop(session);
+        drop(telling);
     }
 }
 
@@ -112,16 +126,20 @@ impl<S: Read + Write + Drop, K: MaskKeys + Drop> Connection<S, K> {
         ensures { result ≡ record {
           socket = socket;
           session = record { pid = pid; failed = false; joined = []; cut_short = None };
+          telling = record { untold = None };
           heard = now;
           pinged = false;
+          messages = 0;
           stage = Stage.Open;
         } }
     {
         Connection {
             socket,
             session: Session::new(alloc, pid),
+            telling: Telling::new(),
             heard: now,
             pinged: false,
+            messages: 0,
             stage: Stage::Open,
         }
     }
@@ -137,6 +155,23 @@ impl<S: Read + Write + Drop, K: MaskKeys + Drop> Connection<S, K> {
         }
     }
 
+    // What the session answers to a text.
+    fn run<P: Port, H: PresenceHooks>(
+        &mut self,
+        alloc: Global,
+        port: &mut P,
+        channels: Channels<'_, H>,
+        text: &str,
+    ) -> Result<Vec<String>, SessionFault>
+        ensures ran { RanBy (Worded (H.PresenceHooks.fetched channels.entry.hooks.now) (H.PresenceHooks.plain channels.entry.hooks.now))
+            (Piecewise P.step) channels.entry.routes.now self.old.session (decoded Limits.CLIENT text.now)
+            (port.old, self.old.telling.untold) (port.new, self.new.telling.untold) self.new.session result }
+        ensures kept { self.new ≡ record self.old { session = self.new.session; telling = self.new.telling } }
+    {
+        let mut pieces = PiecewisePort::new(port, &mut self.telling);
+        run_over(alloc, &mut self.session, &mut pieces, channels, text)
+    }
+
     // Answers a text.
     fn answer<P: Port, H: PresenceHooks>(
         &mut self,
@@ -150,7 +185,7 @@ impl<S: Read + Write + Drop, K: MaskKeys + Drop> Connection<S, K> {
             routes.now text.now self.old self.new port.old port.new result }
     {
         let channels = Channels { routes, hooks };
-        match run_text(alloc, &mut self.session, port, channels, text) {
+        match self.run(alloc, port, channels, text) {
             Ok(texts) => self.send(texts),
             Err(fault) => Err(Cause::Fault(fault)),
         }
@@ -222,6 +257,7 @@ impl<S: Read + Write + Drop, K: MaskKeys + Drop> Connection<S, K> {
             Heard::Text(words) => {
                 self.heard = now;
                 self.pinged = false;
+                self.messages = self.messages.saturating_add(1);
                 self.answer(alloc, port, routes, hooks, words.as_str())
             }
             Heard::Sign => {
@@ -235,20 +271,21 @@ impl<S: Read + Write + Drop, K: MaskKeys + Drop> Connection<S, K> {
     }
 
     // Puts the texts of a delivery in what waits to be sent, where so many bytes more might have been taken: whether more
-    // may wait.
+    // may wait, as where a state is being told.
     fn send_dealt(
         &mut self,
         delivery: Result<Delivery, SessionFault>,
         left: usize,
     ) -> Result<bool, Cause>
         ensures sent { GoOut S.contents self.old.socket self.new.socket (dealt_texts delivery) (dealt result) }
-        ensures more { IfOk result (λ told. told ≡ may_have_more delivery left) }
+        ensures more { IfOk result (λ told. told ≡ may_have_more delivery left (is_some self.old.telling.untold)) }
         ensures kept { self.new ≡ record self.old { socket = self.new.socket } }
     {
         match delivery {
             Ok(Delivery { texts, notices }) => {
                 drop(notices);
-                let more = texts.len() >= MAX_DEALT as usize || left == 0;
+                let untold = self.telling.is_under_way();
+                let more = texts.len() >= MAX_DEALT as usize || left == 0 || untold;
                 match self.send(texts) {
                     Ok(()) => Ok(more),
                     Err(cause) => Err(cause),
@@ -256,6 +293,27 @@ impl<S: Read + Write + Drop, K: MaskKeys + Drop> Connection<S, K> {
             }
             Err(fault) => Err(Cause::Fault(fault)),
         }
+    }
+
+    // What a delivery gives within so much room, and how much is left of it.
+    fn take<P: Port, H: PresenceHooks>(
+        &mut self,
+        alloc: Global,
+        port: &mut P,
+        hooks: &H,
+        room: usize,
+    ) -> (Result<Delivery, SessionFault>, usize)
+        ensures failed { self.old.session.failed ≡ true → (result.0 ≡ Err SessionFault.Failed)
+            × (self.new.session ≡ self.old.session) × (port.new ≡ port.old) × (self.new.telling ≡ self.old.telling) }
+        ensures delivered { self.old.session.failed ≡ false → DeliveredBy
+            (Worded (H.PresenceHooks.fetched hooks.now) (H.PresenceHooks.plain hooks.now))
+            (Noted (H.PresenceHooks.joined hooks.now) (H.PresenceHooks.left hooks.now) (H.PresenceHooks.quiet hooks.now))
+            (Spares (Piecewise P.step)) MAX_DEALT self.old.session ((port.old, self.old.telling.untold), room)
+            ((port.new, self.new.telling.untold), result.1) self.new.session result.0 }
+        ensures kept { self.new ≡ record self.old { session = self.new.session; telling = self.new.telling } }
+    {
+        let mut pieces = PiecewisePort::new(port, &mut self.telling);
+        deliver_over(alloc, &mut self.session, &mut pieces, hooks, room)
     }
 
     // Delivers what waits, once, until so much waits to be sent that nothing further is taken: whether more may wait.
@@ -269,7 +327,7 @@ impl<S: Read + Write + Drop, K: MaskKeys + Drop> Connection<S, K> {
             self.old self.new port.old port.new result }
     {
         let room = MAX_UNSENT.saturating_sub(self.socket.waiting());
-        let (delivery, left) = deliver_within(alloc, &mut self.session, port, hooks, room);
+        let (delivery, left) = self.take(alloc, port, hooks, room);
         self.send_dealt(delivery, left)
     }
 

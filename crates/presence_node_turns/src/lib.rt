@@ -8,6 +8,7 @@ mod cause;
 mod connection;
 mod hearing;
 pub mod laws;
+mod pieces;
 mod sparing;
 
 pub use cause::{Cause, close_code};

@@ -180,8 +180,10 @@ newcomer number token socket now =
       connection = record {
         socket = socket;
         session = record { pid = number; failed = false; joined = []; cut_short = None };
+        telling = record { untold = None };
         heard = now;
         pinged = false;
+        messages = 0;
         stage = Open;
       };
     }

@@ -51,7 +51,7 @@ impl<H: Drop> Drop for Client<H> {
     }
 }
 
-fn shard_of(alloc: Global) -> Option<Shard> {
+pub(crate) fn shard_of(alloc: Global) -> Option<Shard> {
     let Ok(Some(name)) = NodeName::new(alloc, "a") else {
         return None;
     };
@@ -63,7 +63,7 @@ fn shard_of(alloc: Global) -> Option<Shard> {
 }
 
 // Rooms are of kind 7, and `chat` is of kind 1.
-fn routes_of(alloc: Global) -> Option<Routes> {
+pub(crate) fn routes_of(alloc: Global) -> Option<Routes> {
     let mut routes = Routes::new(alloc);
     if routes.add(alloc, "room:*", 7).is_err() || routes.add(alloc, "chat", 1).is_err() {
         return None;

@@ -24,6 +24,8 @@ mod lent;
 #[cfg(test)]
 mod limits;
 #[cfg(test)]
+mod pieces;
+#[cfg(test)]
 mod reasons;
 #[cfg(test)]
 mod refusals;

@@ -6,8 +6,8 @@ use Rattle.presence_node_turns.proofs.connection.Connection.deal.Goals as goal
 
 pub returns : goal.returns
 returns g c =
-    let d = c.deliver_within-delivery in
-    deals (around g.S.Read.remaining g.S.Write.contents g.P.Port.step g.H.PresenceHooks c.args.hooks.now) c.args.self.now c.send_dealt.new.self c.args.port.now d.new.port
-    d.result.0 c.saturating_sub-room.result d.result.1 d.new.session c.send_dealt.result
-    (c.saturating_sub-room.ensures ∙ ap (λ (n : ℕ). MAX_UNSENT - n) c.waiting.ensures) d.ensures.failed d.ensures.delivered c.send_dealt.ensures.sent c.send_dealt.ensures.more
-    c.send_dealt.ensures.kept
+    let d = c.take-delivery in
+    deals (around g.S.Read.remaining g.S.Write.contents g.P.Port.step g.H.PresenceHooks c.args.hooks.now) c.args.self.now d.new.self c.send_dealt.new.self c.args.port.now d.new.port
+    d.result.0 c.saturating_sub-room.result d.result.1 c.send_dealt.result
+    (c.saturating_sub-room.ensures ∙ ap (λ (n : ℕ). MAX_UNSENT - n) c.waiting.ensures) d.ensures.failed d.ensures.delivered d.ensures.kept
+    c.send_dealt.ensures.sent c.send_dealt.ensures.more c.send_dealt.ensures.kept
