@@ -6,4 +6,5 @@ mod contexts;
 mod deltas;
 mod fitting;
 mod forms;
+mod listed;
 mod rows;

@@ -336,7 +336,7 @@ pub(crate) fn happen(
             *place,
         ),
         Event::Heard { node, replica, now } => {
-            let step = Step::heard(*replica, *now);
+            let step = Step::heard(alloc, *replica, *now)?;
             act(lives, present.as_slice(), alloc, *node, &step)
         }
         Event::Tick { node, now } => {
@@ -344,7 +344,7 @@ pub(crate) fn happen(
             act(lives, present.as_slice(), alloc, *node, &step)
         }
         Event::PermDown { node, replica } => {
-            let step = Step::permdown(*replica);
+            let step = Step::permdown(alloc, *replica)?;
             act(lives, present.as_slice(), alloc, *node, &step)
         }
         Event::Checkpoint { node } => checkpoint(lives, present.as_slice(), alloc, *node),

@@ -58,11 +58,11 @@ pub(crate) fn added_row(
     match outcome {
         Some(Outcome::Added(dot)) => {
             let row = made_row(step, None)?;
-            Ok(under_dot(*dot, row))
+            Ok(under_dot(*dot.get(), row))
         }
         Some(Outcome::Replaced(dot, old)) => {
-            let row = made_row(step, Some(*old))?;
-            Ok(under_dot(*dot, row))
+            let row = made_row(step, Some(*old.get()))?;
+            Ok(under_dot(*dot.get(), row))
         }
         _ => Ok(None),
     }

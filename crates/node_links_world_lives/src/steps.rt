@@ -65,10 +65,10 @@ pub(crate) fn take(shard: &mut Shard, alloc: Global, step: &Step) -> Result<bool
         Step::Take { subscriber, max } => client::take(shard, alloc, *subscriber, max.get()),
         Step::Unsubscribe { subscriber } => client::unsubscribe(shard, alloc, *subscriber),
         Step::Shout { topic, payload } => client::shout(shard, alloc, topic, payload),
-        Step::Merge { told } => merge(shard, alloc, told),
-        Step::Heard { replica, now } => heard(shard, alloc, *replica, *now),
+        Step::Merge { told } => merge(shard, alloc, told.get()),
+        Step::Heard { replica, now } => heard(shard, alloc, *replica.get(), *now),
         Step::Tick { now } => tick(shard, alloc, *now),
-        Step::PermDown { replica } => permdown(shard, alloc, *replica),
+        Step::PermDown { replica } => permdown(shard, alloc, *replica.get()),
         Step::Cut => cut(shard, alloc),
         Step::Rebirth { incarnation } => rebirth(shard, alloc, *incarnation),
     }

@@ -11,7 +11,7 @@ use crate::others::OtherNodes;
 use delta_range::Delta;
 use orswot_core_told::{Form, Told};
 use presence_base::{Dot, Replica, Row};
-use presence_journal::Step;
+use presence_journal::{SharedTold, Step};
 use std::alloc::{AllocError, Global};
 use std::marker::Model;
 
@@ -123,7 +123,7 @@ impl Telling {
     {
         // Read for the proof alone: what was told is within its limits.
         let _source = &self.source;
-        let told = self.told(alloc)?;
+        let told = SharedTold::new(alloc, self.told(alloc)?)?;
         Ok(Step::Merge { told })
     }
 
@@ -135,6 +135,7 @@ impl Telling {
         let told = self.told(alloc)?;
         let others = told.cut_to(alloc, &OtherNodes { own: *own })?;
         read_told(&others);
-        Ok(Step::Merge { told: others })
+        let told = SharedTold::new(alloc, others)?;
+        Ok(Step::Merge { told })
     }
 }

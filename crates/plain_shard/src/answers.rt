@@ -8,7 +8,7 @@ ghost use Rattle.tracker_shard.specs.Steps.{first_dot};
 
 use delta_range::Delta;
 use presence_base::{Dot, Row, Topic};
-use presence_journal::{Item, Journal, Outcome, SharedRows};
+use presence_journal::{Item, Journal, Outcome, SharedDot, SharedRows};
 use presence_journal_walks::{Pending, walk_list};
 use std::alloc::{AllocError, Global};
 
@@ -22,11 +22,21 @@ pub(crate) fn first_dot_of(rows: &[(Dot, Row)]) -> Option<Dot>
     }
 }
 
-// What an update comes to that puts a row under the dot in the place of the old one.
-pub(crate) fn replaced(dot: &Dot, old: &Dot) -> Outcome
-    ensures { result ≡ Outcome.Replaced dot.now old.now }
+// What a track comes to that adds a row under the dot.
+pub(crate) fn added(alloc: Global, dot: &Dot) -> Result<Outcome, AllocError>
+    ensures { IfOk result (λ o. o ≡ Outcome.Added dot.now) }
 {
-    Outcome::Replaced(*dot, *old)
+    let dot = SharedDot::new(alloc, *dot)?;
+    Ok(Outcome::Added(dot))
+}
+
+// What an update comes to that puts a row under the dot in the place of the old one.
+pub(crate) fn replaced(alloc: Global, dot: &Dot, old: &Dot) -> Result<Outcome, AllocError>
+    ensures { IfOk result (λ o. o ≡ Outcome.Replaced dot.now old.now) }
+{
+    let dot = SharedDot::new(alloc, *dot)?;
+    let old = SharedDot::new(alloc, *old)?;
+    Ok(Outcome::Replaced(dot, old))
 }
 
 // What a cut comes to.

@@ -1,9 +1,9 @@
 //! The shard's calls, by walking.
-use crate::answers::{cut_outcome, first_dot_of, given_items, replaced, taken_outcome};
+use crate::answers::{added, cut_outcome, first_dot_of, given_items, replaced, taken_outcome};
 use delta_range::Delta;
 use orswot_core::{Form, Told};
 use presence_base::{Dot, Json, Key, MAX_COUNT, Meta, Replica, Row, Topic};
-use presence_journal::{Dots, Item, Journal, Outcome, SharedRows, Step, dots_of_rows};
+use presence_journal::{Dots, Item, Journal, ListedDots, Outcome, SharedRows, Step, dots_of_rows};
 use presence_journal_cuts::walk_cut;
 use presence_journal_sets::{walk_can_be_reborn, walk_pairs};
 use presence_journal_walks::{
@@ -142,7 +142,7 @@ impl PlainShard {
         if !dots.is_empty() && walk_count(&self.journal) >= MAX_COUNT {
             return Ok(None);
         }
-        Ok(Some(Outcome::Removed(Dots::new(dots))))
+        Ok(Some(Outcome::Removed(Dots::new(alloc, dots)?)))
     }
 
     // The topic of a subscriber, `None` where no present subscriber has this slot and number.
@@ -186,7 +186,8 @@ impl PlainShard {
             return Err(ShardFault::ClockFull);
         };
         let step = Step::track(pid, topic, key, meta)?;
-        self.write(seat, step, Outcome::Added(dot))?;
+        let outcome = added(alloc, &dot)?;
+        self.write(seat, step, outcome)?;
         Ok(dot)
     }
 
@@ -221,7 +222,8 @@ impl PlainShard {
             return Err(ShardFault::ClockFull);
         };
         let step = Step::update(pid, topic, key, meta)?;
-        self.write(seat, step, replaced(&dot, &old))?;
+        let outcome = replaced(alloc, &dot, &old)?;
+        self.write(seat, step, outcome)?;
         Ok(dot)
     }
 
@@ -302,10 +304,10 @@ impl PlainShard {
             return Err(ShardFault::JournalFull);
         }
         let rows = walk_list(alloc, &self.journal, topic)?;
-        let dots = dots_of_rows(alloc, &rows)?;
+        let dots = ListedDots::new(alloc, dots_of_rows(alloc, &rows)?)?;
         let rows = SharedRows::new(alloc, rows)?;
         let step = Step::list(topic)?;
-        self.write(seat, step, Outcome::Shown(Dots::new(dots)))?;
+        self.write(seat, step, Outcome::Shown(dots))?;
         Ok(rows)
     }
 
@@ -328,9 +330,9 @@ impl PlainShard {
             return Err(ShardFault::JournalFull);
         }
         let rows = walk_get(alloc, &self.journal, topic, key)?;
-        let dots = dots_of_rows(alloc, &rows)?;
+        let dots = ListedDots::new(alloc, dots_of_rows(alloc, &rows)?)?;
         let step = Step::get(topic, key)?;
-        self.write(seat, step, Outcome::Shown(Dots::new(dots)))?;
+        self.write(seat, step, Outcome::Shown(dots))?;
         Ok(rows)
     }
 
@@ -456,34 +458,22 @@ impl PlainShard {
         Ok(items)
     }
 
-    // Writes the entry of a step that no count and no subscriber stands against, and that comes to this.
-    #[tactic(auto, using(crate::proofs::Tables::tables))]
-    fn note(&mut self, step: Step) -> Result<(), ShardFault>
-        requires table { outcome_of self.old step ≡ Some Outcome.Noted }
-        requires limits { is_within_limits step ≡ true }
-        ensures step { Stepped self.old self.new None step result }
-        ensures answer { Answers (λ _. Unit {0}) (outcome_of self.old step) result }
-        ensures due { IsDue result (refusal true self.old step) }
-        ensures room { RefusesForRoom result }
-    {
-        if self.journal.is_full() {
-            return Err(ShardFault::JournalFull);
-        }
-        self.write(None, step, Outcome::Noted)
-    }
-
     /// Notes that a replica was heard at a time in milliseconds: it is up from then on, unless it is gone. A time before the
     /// greatest so far counts as that one.
     ///
     /// It refuses with `JournalFull`, else with `OutOfMemory`.
     #[tactic(auto, using(crate::proofs::Tables::tables))]
-    pub fn heard(&mut self, _alloc: Global, replica: Replica, now: u64) -> Result<(), ShardFault>
+    pub fn heard(&mut self, alloc: Global, replica: Replica, now: u64) -> Result<(), ShardFault>
         ensures step { Stepped self.old self.new None (Step.Heard replica now) result }
         ensures answer { Answers (λ _. Unit {0}) (outcome_of self.old (Step.Heard replica now)) result }
         ensures due { IsDue result (refusal true self.old (Step.Heard replica now)) }
         ensures room { RefusesForRoom result }
     {
-        self.note(Step::heard(replica, now))
+        if self.journal.is_full() {
+            return Err(ShardFault::JournalFull);
+        }
+        let step = Step::heard(alloc, replica, now)?;
+        self.write(None, step, Outcome::Noted)
     }
 
     /// Lets time pass: a replica that was silent for too long is down, or gone.
@@ -496,20 +486,27 @@ impl PlainShard {
         ensures due { IsDue result (refusal true self.old (Step.Tick now)) }
         ensures room { RefusesForRoom result }
     {
-        self.note(Step::Tick { now })
+        if self.journal.is_full() {
+            return Err(ShardFault::JournalFull);
+        }
+        self.write(None, Step::Tick { now }, Outcome::Noted)
     }
 
     /// Notes that a replica is gone for good.
     ///
     /// It refuses with `JournalFull`, else with `OutOfMemory`.
     #[tactic(auto, using(crate::proofs::Tables::tables))]
-    pub fn permdown(&mut self, _alloc: Global, replica: Replica) -> Result<(), ShardFault>
+    pub fn permdown(&mut self, alloc: Global, replica: Replica) -> Result<(), ShardFault>
         ensures step { Stepped self.old self.new None (Step.PermDown replica) result }
         ensures answer { Answers (λ _. Unit {0}) (outcome_of self.old (Step.PermDown replica)) result }
         ensures due { IsDue result (refusal true self.old (Step.PermDown replica)) }
         ensures room { RefusesForRoom result }
     {
-        self.note(Step::permdown(replica))
+        if self.journal.is_full() {
+            return Err(ShardFault::JournalFull);
+        }
+        let step = Step::permdown(alloc, replica)?;
+        self.write(None, step, Outcome::Noted)
     }
 
     /// What the own replica did since the last cut, for other nodes: its rows that came and are live, and the older ones that
@@ -537,7 +534,7 @@ impl PlainShard {
     ///
     /// It refuses with `JournalFull`, else with `OutOfMemory`.
     #[tactic(auto, using(crate::proofs::Tables::tables))]
-    pub fn merge(&mut self, _alloc: Global, told: &Told) -> Result<(), ShardFault>
+    pub fn merge(&mut self, alloc: Global, told: &Told) -> Result<(), ShardFault>
         ensures step { Stepped self.old self.new None (Step.Merge told.now) result }
         ensures answer { Answers (λ _. Unit {0}) (outcome_of self.old (Step.Merge told.now)) result }
         ensures due { IsDue result (refusal true self.old (Step.Merge told.now)) }
@@ -546,7 +543,7 @@ impl PlainShard {
         if self.journal.is_full() {
             return Err(ShardFault::JournalFull);
         }
-        let step = Step::merge(told)?;
+        let step = Step::merge(alloc, told)?;
         self.write(None, step, Outcome::Merged)
     }
 

@@ -29,7 +29,7 @@ fn ask<A: Lane, B: Lane, C: Lane, D: Lane, R: Wait>(
             0,
             DueFrom {
                 entries,
-                text_bytes: u64::MAX,
+                kept_bytes: u64::MAX,
             },
         ),
         None => pool.checkpoint_where_full(rt, alloc, 0),
@@ -37,7 +37,7 @@ fn ask<A: Lane, B: Lane, C: Lane, D: Lane, R: Wait>(
     Due {
         made,
         entries: pool.entry_count(rt, 0),
-        bytes: pool.text_bytes(rt, 0),
+        bytes: pool.kept_bytes(rt, 0),
     }
 }
 

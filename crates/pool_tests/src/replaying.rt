@@ -20,10 +20,10 @@ fn said<T: Written + Drop>(alloc: Global, answer: Result<T, ShardFault>) -> Opti
 // A step without a seat, made again.
 fn unseated_again(alloc: Global, shard: &mut Shard, step: &Step) -> Option<String> {
     match step {
-        Step::Heard { replica, now } => said(alloc, shard.heard(alloc, *replica, *now)),
+        Step::Heard { replica, now } => said(alloc, shard.heard(alloc, *replica.get(), *now)),
         Step::Tick { now } => said(alloc, shard.tick(alloc, *now)),
-        Step::PermDown { replica } => said(alloc, shard.permdown(alloc, *replica)),
-        Step::Merge { told } => said(alloc, shard.merge(alloc, told)),
+        Step::PermDown { replica } => said(alloc, shard.permdown(alloc, *replica.get())),
+        Step::Merge { told } => said(alloc, shard.merge(alloc, told.get())),
         Step::Rebirth { incarnation } => said(alloc, shard.rebirth(alloc, *incarnation)),
         _ => None,
     }

@@ -184,7 +184,7 @@ fn step_text(alloc: Global, step: &Step) -> Result<String, AllocError> {
             claim_text(alloc, &place, meta)
         }
         Step::Shout { topic, payload } => shout_text(alloc, topic, payload),
-        Step::Merge { told } => told_text(alloc, told),
+        Step::Merge { told } => told_text(alloc, told.get()),
         other => plain_step_text(alloc, other),
     }
 }
@@ -196,6 +196,7 @@ fn outcome_text(alloc: Global, outcome: &Outcome) -> Result<String, AllocError> 
             format!(in alloc; "removed {dots}")
         }
         Outcome::Shown(dots) => {
+            let dots = dots.to_vec(alloc)?;
             let dots = dots_text(alloc, dots.as_slice())?;
             format!(in alloc; "shown {dots}")
         }

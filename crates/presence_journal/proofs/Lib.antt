@@ -1,5 +1,5 @@
 pub mod Same
-pub mod TextBytes
+pub mod KeptBytes
 pub mod ToldLemmas
 pub mod Lookups
 pub mod PresentLemmas

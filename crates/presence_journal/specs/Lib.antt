@@ -2,7 +2,7 @@ pub mod Sizes
 pub mod Limits
 pub mod Steps
 pub mod History
-pub mod TextBytes
+pub mod KeptBytes
 pub mod Codes
 pub mod Present
 pub mod Queue

@@ -1,18 +1,18 @@
-// The entries of a journal, with the bytes of their texts.
-use presence_journal_data::{Entry, count_text_bytes};
+// The entries of a journal, with the bytes that they keep beside themselves.
+use presence_journal_data::{Entry, count_kept_bytes};
 use std::alloc::{AllocError, Global};
 use std::marker::Model;
 
 pub(crate) struct Entries {
     entries: Vec<Entry>,
-    text_bytes: u64,
+    kept_bytes: u64,
 }
 
 impl Drop for Entries {
     fn drop(self) {
         let Entries {
             entries,
-            text_bytes: _,
+            kept_bytes: _,
         } = self;
         drop(entries);
     }
@@ -23,7 +23,7 @@ impl Model for Entries {
     ghost use Rattle.std.specs.Coded.{coded_list};
     ghost use Rattle.presence_journal_data.specs.contracts.entry.Entry as one_entry;
     ghost use Rattle.presence_journal.specs.Steps.{Entry};
-    ghost use Rattle.presence_journal.specs.TextBytes.{entries_bytes};
+    ghost use Rattle.presence_journal.specs.KeptBytes.{entries_bytes};
 
     ghost Value = { List Entry };
 
@@ -31,7 +31,7 @@ impl Model for Entries {
 
     ghost view = { λ es. es.entries.items };
 
-    ghost invariant = { λ es. es.text_bytes ≡ min (entries_bytes es.entries.items) (2 ^ 64 - 1) };
+    ghost invariant = { λ es. es.kept_bytes ≡ min (entries_bytes es.entries.items) (2 ^ 64 - 1) };
 }
 
 impl Clone for Entries {
@@ -43,21 +43,21 @@ impl Clone for Entries {
         let entries = self.entries.clone()?;
         Ok(Entries {
             entries,
-            text_bytes: self.text_bytes,
+            kept_bytes: self.kept_bytes,
         })
     }
 }
 
 impl Entries {
     ghost use Rattle.std.specs.Prelude.{◌≡◌, ◌++◌, ◌∷◌, [], ◌-◌, ◌^◌, length, min, OnOk, OnErr};
-    ghost use Rattle.presence_journal.specs.TextBytes.{entries_bytes};
+    ghost use Rattle.presence_journal.specs.KeptBytes.{entries_bytes};
 
     pub(crate) fn new(alloc: Global) -> Entries
         ensures { result ≡ [] }
     {
         Entries {
             entries: Vec::new(alloc),
-            text_bytes: 0,
+            kept_bytes: 0,
         }
     }
 
@@ -73,24 +73,31 @@ impl Entries {
         self.entries.len()
     }
 
-    // The bytes of all texts, or the most that a count of 64 bits tells.
-    pub(crate) fn text_bytes(&self) -> u64
+    // The bytes that all of them keep, or the most that a count of 64 bits tells.
+    pub(crate) fn kept_bytes(&self) -> u64
         ensures { result ≡ min (entries_bytes self.now) (2 ^ 64 - 1) }
     {
-        self.text_bytes
+        self.kept_bytes
+    }
+
+    // Makes room for so many more at once. No memory is touched before they come.
+    pub(crate) fn reserve(&mut self, more: usize) -> Result<(), AllocError>
+        ensures { self.new ≡ self.old }
+    {
+        self.entries.reserve_exact(more)
     }
 
     // Puts an entry at the end.
-    #[tactic(auto, using(crate::proofs::TextBytes::pushed_bytes))]
+    #[tactic(auto, using(crate::proofs::KeptBytes::pushed_bytes))]
     pub(crate) fn push(&mut self, entry: Entry) -> Result<(), AllocError>
         ensures ok { OnOk result (self.new ≡ self.old ++ entry ∷ []) }
         ensures err { OnErr result (self.new ≡ self.old) }
     {
-        let text_bytes = self
-            .text_bytes
-            .saturating_add(count_text_bytes(&entry.step));
+        let kept_bytes = self
+            .kept_bytes
+            .saturating_add(count_kept_bytes(&entry.step, &entry.outcome));
         self.entries.push(entry)?;
-        self.text_bytes = text_bytes;
+        self.kept_bytes = kept_bytes;
         Ok(())
     }
 }

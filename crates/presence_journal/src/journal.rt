@@ -60,7 +60,7 @@ impl Journal {
     ghost use Rattle.std.specs.Prelude.{◌≡◌, ◌≤◌, ◌^◌, ◌+◌, ◌-◌, min, length, true, false, Some, OnOk, OnErr};
     ghost use Rattle.presence_base.specs.Refs.{IsCount};
     ghost use Rattle.presence_journal.specs.History.{Begin, begun, onto, start_of, own, last_number, entry_count, is_full};
-    ghost use Rattle.presence_journal.specs.TextBytes.{text_bytes};
+    ghost use Rattle.presence_journal.specs.KeptBytes.{kept_bytes};
     ghost use Rattle.presence_journal.specs.Limits.{is_within_limits};
     ghost use Rattle.presence_journal.specs.Table.{IsStart, IsLegal, AreWithinLimits, outcome_of, after};
 
@@ -117,12 +117,21 @@ impl Journal {
         self.entries.as_slice()
     }
 
-    /// The bytes of the texts of the entries, or the most that a count of 64 bits tells: of metas, of what was shouted, and
-    /// of what was told. Those of the Start are not counted.
-    pub fn text_bytes(&self) -> u64
-        ensures { result ≡ min (text_bytes self.now) (2 ^ 64 - 1) }
+    /// The bytes that the entries keep beside themselves, or the most that a count of 64 bits tells: metas, what was shouted,
+    /// what was told, and dots, but those of lists. Those of the Start are not counted.
+    pub fn kept_bytes(&self) -> u64
+        ensures { result ≡ min (kept_bytes self.now) (2 ^ 64 - 1) }
     {
-        self.entries.text_bytes()
+        self.entries.kept_bytes()
+    }
+
+    /// Takes the room of all entries that the journal may have at once: none is refused for want of it then, and none is moved
+    /// when others come. What no entry was in yet costs no memory but addresses.
+    pub fn reserve(&mut self) -> Result<(), AllocError>
+        ensures { self.new ≡ self.old }
+    {
+        let more = MAX_ENTRIES.saturating_sub(self.entries.len());
+        self.entries.reserve(more)
     }
 
     /// The replica that counts here.

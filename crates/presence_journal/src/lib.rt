@@ -2,7 +2,7 @@
 //!
 //! Its public contracts cite these definitions, which stand on one another, and presence_base's `Refs`:
 //! - `specs/History`: a history, and what it says of each dot and replica; `specs/Codes`: how the logic stores it
-//! - `specs/TextBytes`: how many bytes the texts of its entries have
+//! - `specs/KeptBytes`: how many bytes its entries keep beside themselves
 //! - `specs/Limits`: what a step may hold
 //! - `specs/Table`: the sequential presence table, and the histories that keep to it
 //! - `specs/Present`: the rows of a topic, and how two such tables differ
@@ -20,8 +20,8 @@ mod waiting;
 
 pub use journal::{Journal, MAX_ENTRIES, own_after, own_of};
 pub use presence_journal_data::{
-    Chains, Dots, Entry, Item, MAX_PAYLOAD_DEPTH, MAX_TAKEN, Outcome, Pairs, Payload, Place,
-    RowDiff, Rows, Runs, SharedDiff, SharedRows, SharedShout, Standings, Start, Step, Subscribers,
-    TakeLimit, dots_of_rows,
+    Chains, Dots, Entry, Item, ListedDots, MAX_PAYLOAD_DEPTH, MAX_TAKEN, Outcome, Pairs, Payload,
+    Place, RowDiff, Rows, Runs, SharedDiff, SharedDot, SharedReplica, SharedRows, SharedShout,
+    SharedTold, Standings, Start, Step, Subscribers, TakeLimit, dots_of_rows,
 };
 pub use waiting::MAX_WAITING;

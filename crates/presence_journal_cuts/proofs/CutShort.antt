@@ -58,7 +58,7 @@ module _ (p : Dot → Bool) where
       go true e h rest = and_from (r x) (list_all r (kept xs)) (f x e h) rest
       go false e h rest = rest
 
-  keys_kept : (es : List (Dot × Row)) → filter p (keys_of es) ≡ keys_of (kept es)
+  pub keys_kept : (es : List (Dot × Row)) → filter p (keys_of es) ≡ keys_of (kept es)
   keys_kept [] = refl
   keys_kept (e ∷ es) = go (p e.0) (keys_kept es)
     where

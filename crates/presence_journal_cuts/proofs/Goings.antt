@@ -10,10 +10,15 @@ use Rattle.dot_context.specs.Sets.{listed}
 use Rattle.presence_journal_data.specs.declared.entry.Outcome.TheVariants as outcomes_are
 use Rattle.presence_journal.specs.Steps.{Outcome, Entry, Start}
 use Rattle.presence_journal.specs.History.{History, Begin, Then, cut_after, last_cut}
-use Rattle.presence_journal.specs.Table.{IsStart}
-use Rattle.presence_journal_cuts.specs.Chains.{Chains, AreChains, AreUpTo, Chained, Counts, has}
-use Rattle.presence_journal_cuts.specs.Cuts.{chain_after, chain, goes, older_after, older}
+use Rattle.presence_journal.specs.Table.{IsStart, IsLegal}
+use Rattle.presence_journal_cuts.specs.Chains.{Chains, AreChains, AreUpTo, Counts, kept_chain}
+use Rattle.presence_journal_cuts.specs.Cuts.{chain_after, chain, goes, goes_by, older_after, older}
+use Rattle.presence_journal_cuts.specs.Handing.{handed}
+use Rattle.presence_journal_cuts.proofs.Handings.{long_handed}
 use Rattle.presence_journal_cuts.proofs.Histories.{last_cut-begin, last_more}
+
+abbrev Runs : Type 0
+Runs = List (ℕ × ℕ)
 
 shape : (f le x r : Bool) → ((f || (le && (x || false))) || (le && r)) ≡ (f || (le && (x || r)))
 shape true le x r = refl
@@ -22,29 +27,45 @@ shape false true false r = refl
 shape false false x r = refl
 
 -- one dot more that goes
-pub gone_more : (f g le : Bool) (ch : ℕ → ℕ → Bool) (d : Dot) (ds : List Dot) (n : ℕ) → g ≡ (f || (le && goes ch (d ∷ []) n)) → (g || (le && goes ch ds n)) ≡ (f || (le && goes ch (d ∷ ds) n))
-gone_more f g le ch d ds n e = ap (λ b. b || (le && goes ch ds n)) e ∙ shape f le (nat_eq n d.count || ch d.count n) (goes ch ds n)
+pub gone_more : (f g le : Bool) (ch : ℕ → Runs) (d : Dot) (ds : List Dot) (n : ℕ) → g ≡ (f || (le && goes ch (d ∷ []) n)) → (g || (le && goes ch ds n)) ≡ (f || (le && goes ch (d ∷ ds) n))
+gone_more f g le ch d ds n e = ap (λ b. b || (le && goes ch ds n)) e ∙ shape f le (nat_eq n d.count || holds (ch d.count) n) (goes ch ds n)
 
-goes_same : (f g : ℕ → ℕ → Bool) (ds : List Dot) (n : ℕ) → ((c : ℕ) → f c n ≡ g c n) → goes f ds n ≡ goes g ds n
+goes_same : (f g : ℕ → Runs) (ds : List Dot) (n : ℕ) → ((c : ℕ) → f c ≡ g c) → goes f ds n ≡ goes g ds n
 goes_same f g [] n e = refl
-goes_same f g (d ∷ ds) n e = (λ i. (nat_eq n d.count || e d.count i) || goes_same f g ds n e i)
+goes_same f g (d ∷ ds) n e = (λ i. (nat_eq n d.count || holds (e d.count i) n) || goes_same f g ds n e i)
 
-older_same : (o : Outcome) (k k' : ℕ) (f g : ℕ → ℕ → Bool) (p q : ℕ → Bool) (n : ℕ) → k ≡ k' → ((c : ℕ) → f c n ≡ g c n) → p n ≡ q n → older_after o k f p n ≡ older_after o k' g q n
+goes_by_same : (o : Outcome) (f g : ℕ → Runs) (n : ℕ) → ((c : ℕ) → f c ≡ g c) → goes_by o f n ≡ goes_by o g n
+goes_by_same (outcomes_are.Replaced new old) f g n e = ap (λ (rs : Runs). holds (handed rs old.count) n) (e old.count)
+goes_by_same (outcomes_are.Removed ds) f g n e = goes_same f g ds n e
+goes_by_same _ f g n e = refl
+
+older_same : (o : Outcome) (k k' : ℕ) (f g : ℕ → Runs) (p q : ℕ → Bool) (n : ℕ) → k ≡ k' → ((c : ℕ) → f c ≡ g c) → p n ≡ q n → older_after o k f p n ≡ older_after o k' g q n
 older_same (outcomes_are.CutAt from to) k k' f g p q n a b c = refl
-older_same (outcomes_are.Replaced new old) k k' f g p q n a b c = λ i. c i || (nat_le n (a i) && goes_same f g (old ∷ []) n b i)
+older_same (outcomes_are.Replaced new old) k k' f g p q n a b c = λ i. c i || (nat_le n (a i) && goes_by_same (outcomes_are.Replaced new old) f g n b i)
 older_same (outcomes_are.Removed ds) k k' f g p q n a b c = λ i. c i || (nat_le n (a i) && goes_same f g ds n b i)
 older_same (outcomes_are.Reborn ps) k k' f g p q n a b c = refl
 older_same _ k k' f g p q n a b c = λ i. c i || (nat_le n (a i) && false)
 
-chain_same : (o : Outcome) (f g : ℕ → ℕ → Bool) (c n : ℕ) → ((x : ℕ) → f x n ≡ g x n) → chain_after o f c n ≡ chain_after o g c n
-chain_same (outcomes_are.Replaced new old) f g c n e = λ i. cond (nat_eq c new.count) (nat_eq n old.count || e old.count i) (cond (nat_eq c old.count) false (e c i))
-chain_same (outcomes_are.Reborn ps) f g c n e = refl
-chain_same _ f g c n e = e c
+chain_same : (o : Outcome) (f g : ℕ → Runs) (c : ℕ) → ((x : ℕ) → f x ≡ g x) → chain_after o f c ≡ chain_after o g c
+chain_same (outcomes_are.Replaced new old) f g c e = λ i. cond (nat_eq c new.count) (handed (e old.count i) old.count) (cond (nat_eq c old.count) [] (e c i))
+chain_same (outcomes_are.Reborn ps) f g c e = refl
+chain_same _ f g c e = e c
+
+-- no run of a chain becomes hollow
+pub long_after : (o : Outcome) (f : ℕ → Runs) (c : ℕ) → ((x : ℕ) → AreLong (f x)) → AreLong (chain_after o f c)
+long_after (outcomes_are.Replaced new old) f c l = go (nat_eq c new.count) (nat_eq c old.count)
+  where
+    go : (a b : Bool) → AreLong (cond a (handed (f old.count) old.count) (cond b [] (f c)))
+    go true b = long_handed (f old.count) old.count (l old.count)
+    go false true = tt
+    go false false = l c
+long_after (outcomes_are.Reborn ps) f c l = tt
+long_after _ f c l = l c
 
 -- a walk's last cut, its chains and the runs that went are those of the history
 pub record Gone (k : ℕ) (m : Chains) (rs : List (ℕ × ℕ)) (h : History) : Type 0 where
   pub cut : k ≡ last_cut h
-  pub chained : Chained (has m) (chain h)
+  pub chained : (c : ℕ) → kept_chain m c ≡ chain h c
   pub long : AreChains m
   pub counts : Counts (holds rs) (older h)
   pub kept : AreUpTo k rs
@@ -61,22 +82,28 @@ pub gone_start : (s : Start) (m : Chains) (rs : List (ℕ × ℕ)) → IsStart s
 unfolding chain older
 gone_start s m rs start found e = record {
   cut = sym (last_cut-begin s);
-  chained = λ c n low. ap (λ (o : Option (List (ℕ × ℕ))). holds (listed o) n) (found c);
+  chained = λ c. ap listed (found c);
   long = λ c. subst (λ (o : Option (List (ℕ × ℕ))). AreLong (listed o)) (sym (found c)) (kept_long s.chains c start.chains);
   counts = λ n low. ap (λ (xs : List (ℕ × ℕ)). holds xs n) e;
   kept = subst (AreUpTo s.last_cut) (sym e) (start.older, start.older_low);
 }
 
-pub gone_then : (k k' : ℕ) (m m' : Chains) (rs rs' : List (ℕ × ℕ)) (h : History) (e : Entry) → k' ≡ cut_after e.outcome k → Counts (holds rs') (older_after e.outcome k (has m) (holds rs)) → (AreChains m → AreUpTo k rs → AreUpTo (cut_after e.outcome k) rs')
-    → Chained (has m') (chain_after e.outcome (has m)) → (AreChains m → AreChains m') → Gone k m rs h → Gone k' m' rs' (Then h e)
+pub gone_then : (k k' : ℕ) (m m' : Chains) (rs rs' : Runs) (h : History) (e : Entry) → k' ≡ cut_after e.outcome k → Counts (holds rs') (older_after e.outcome k (kept_chain m) (holds rs)) → (AreChains m → AreUpTo k rs → AreUpTo (cut_after e.outcome k) rs')
+    → ((c : ℕ) → kept_chain m' c ≡ chain_after e.outcome (kept_chain m) c) → Gone k m rs h → Gone k' m' rs' (Then h e)
 unfolding chain older
-gone_then k k' m m' rs rs' h e cuts counted kept chained long g = record {
+gone_then k k' m m' rs rs' h e cuts counted kept chained g = record {
   cut = last_more k k' h e cuts g.cut;
-  chained = λ c n low. chained c n low ∙ chain_same e.outcome (has m) (chain h) c n (λ x. g.chained x n low);
-  long = long g.long;
-  counts = λ n low. counted n low ∙ older_same e.outcome k (last_cut h) (has m) (chain h) (holds rs) (older h) n g.cut (λ c. g.chained c n low) (g.counts n low);
+  chained = λ c. chained c ∙ chain_same e.outcome (kept_chain m) (chain h) c g.chained;
+  long = λ c. subst AreLong (sym (chained c)) (long_after e.outcome (kept_chain m) c g.long);
+  counts = λ n low. counted n low ∙ older_same e.outcome k (last_cut h) (kept_chain m) (chain h) (holds rs) (older h) n g.cut g.chained (g.counts n low);
   kept = kept_at k' (sym cuts) (kept g.long g.kept);
 }
   where
     kept_at : (x : ℕ) → cut_after e.outcome k ≡ x → AreUpTo (cut_after e.outcome k) rs' → AreUpTo x rs'
     kept_at x p a = subst (λ y. AreUpTo y rs') p a
+
+-- no run of a chain of a legal history is hollow
+pub chain_long : (h : History) → IsLegal h → (c : ℕ) → AreLong (chain h c)
+unfolding chain
+chain_long (Begin s) l c = kept_long s.chains c l.chains
+chain_long (Then h e) l c = long_after e.outcome (chain h) c (chain_long h l.0)

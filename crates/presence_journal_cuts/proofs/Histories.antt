@@ -156,7 +156,7 @@ after_quiet : (s : Step) (o : Outcome) (d : Dot) (x : Option Row) → is_quiet o
 after_quiet s o d x q = λ i. first_some (quiet_none s o d q i) (cond (has_dot (quiet_taken o q i) d) None x)
 
 -- an own row after an entry
-own_live : (h : History) (e : Entry) (d : Dot) → IsLegal (Then h e) → is_reborn e.outcome ≡ false → d.replica ≡ own h → live (Then h e) d ≡ first_some (row_added e.step e.outcome d) (cond (has_dot (dots_taken e.outcome) d) None (live h d))
+pub own_live : (h : History) (e : Entry) (d : Dot) → IsLegal (Then h e) → is_reborn e.outcome ≡ false → d.replica ≡ own h → live (Then h e) d ≡ first_some (row_added e.step e.outcome d) (cond (has_dot (dots_taken e.outcome) d) None (live h d))
 own_live h e d l a o = go (tells e.step) refl
   where
     kind : Kind h e.step e.outcome

@@ -1,5 +1,5 @@
 -- What is told of a legal history keeps what every delta keeps.
-use Rattle.std.proofs.Common.{◌≡◌, ℕ, ◌≤◌, Bool, true, false, cond, ◌&&◌, ◌||◌, nat_le, nat_lt, List, [], ◌∷◌, Option, Some, None, refl, sym, ◌∙◌, ap, arith}
+use Rattle.std.proofs.Common.{◌≡◌, ℕ, ◌≤◌, Bool, true, false, cond, ◌&&◌, ◌||◌, nat_le, nat_lt, List, [], ◌∷◌, Option, Some, None, is_none, refl, sym, ◌∙◌, ap, arith}
 use Rattle.std.specs.List.{AllByRecursion, list_any, list_all}
 use Rattle.std.specs.List.Sorted.{IsStrictlySortedBy}
 use Rattle.std.specs.Map.{lookup, keys_of}
@@ -29,6 +29,8 @@ use Rattle.presence_journal.proofs.Fresh.{own_is}
 use Rattle.presence_journal_sets.proofs.RebornLemmas.{row_limits}
 use Rattle.presence_journal_cuts.specs.Chains.{AreUpTo, Counts}
 use Rattle.presence_journal_cuts.specs.Cuts.{older, recent, IsCut}
+use Rattle.presence_journal_cuts.specs.Parting.{AreVacant}
+use Rattle.presence_journal_cuts.specs.ToldParts.{row_of_count}
 use Rattle.presence_journal_cuts.proofs.Histories.{last_cut-low}
 
 -- ---- dots
@@ -102,9 +104,9 @@ all_of P p f (x ∷ xs) h = ap (λ b. b && list_all p xs) (f x h.0) ∙ all_of P
 
 -- ---- the delta
 
-pub cut_keeps : (h : History) → IsLegal h → (rs : List (ℕ × ℕ)) (xs : List (Dot × Row)) → AreUpTo (last_cut h) rs → ((d : Dot) → lookup (same_dot d) xs ≡ recent h d) → IsStrictlySortedBy dot_cmp (keys_of xs)
-    → IsDelta (record { owner = own h; from = last_cut h; to = count h; older = longest rs; live = xs })
-cut_keeps h l rs xs k found sorted =
+pub cut_keeps : (h : History) → IsLegal h → (row : ℕ → Option Row) (rs free : List (ℕ × ℕ)) (xs : List (Dot × Row)) → AreUpTo (last_cut h) rs → AreVacant row (longest rs) free → ((d : Dot) → lookup (same_dot d) xs ≡ recent h d) → IsStrictlySortedBy dot_cmp (keys_of xs)
+    → IsDelta (record { owner = own h; from = last_cut h; to = count h; older = free; live = xs })
+cut_keeps h l row rs free xs k vacant found sorted =
     let low = last_cut-low h l in
     let most = count-limit h l in
     let each = each_found xs sorted in
@@ -112,20 +114,20 @@ cut_keeps h l rs xs k found sorted =
       range = and_from (is_count (own h).incarnation) (nat_le (last_cut h) MAX_COUNT && nat_le (count h) MAX_COUNT) (own_limit h l)
           (and_from (nat_le (last_cut h) MAX_COUNT) (nat_le (count h) MAX_COUNT) (le-leb (last_cut h) MAX_COUNT (omega (arith, low, most))) (le-leb (count h) MAX_COUNT most));
       forward = low;
-      runs = longest_runs rs k.0;
-      below = ends_longest (last_cut h) rs k.1;
+      runs = vacant.runs (longest_runs rs k.0);
+      below = vacant.below (last_cut h) (ends_longest (last_cut h) rs k.1);
       rows = all_of (λ (x : Dot × Row). lookup (same_dot x.0) xs ≡ Some x.1) (λ x. is_dot x.0 && is_row x.1) (λ x f. recent_limits h l x.0 x.1 (sym (found x.0) ∙ f)) xs each;
       within = all_of (λ (x : Dot × Row). lookup (same_dot x.0) xs ≡ Some x.1) (λ x. in_range (own h) (last_cut h) (count h) x.0) (λ x f. (recent_parts h x.0 x.1 (sym (found x.0) ∙ f)).0) xs each;
       once = no_repeat (keys_of xs) sorted;
     }
 
-pub cut_is : (h : History) → (rs : List (ℕ × ℕ)) (xs : List (Dot × Row)) → AreUpTo (last_cut h) rs → Counts (holds rs) (older h) → ((d : Dot) → lookup (same_dot d) xs ≡ recent h d) → IsStrictlySortedBy dot_cmp (keys_of xs)
-    → IsCut h (record { owner = own h; from = last_cut h; to = count h; older = longest rs; live = xs })
-cut_is h rs xs k counts found sorted = record {
+pub cut_is : (h : History) → (rs free : List (ℕ × ℕ)) (xs : List (Dot × Row)) → AreUpTo (last_cut h) rs → Counts (holds rs) (older h) → AreVacant (row_of_count h) (longest rs) free → ((d : Dot) → lookup (same_dot d) xs ≡ recent h d) → IsStrictlySortedBy dot_cmp (keys_of xs)
+    → IsCut h (record { owner = own h; from = last_cut h; to = count h; older = free; live = xs })
+cut_is h rs free xs k counts vacant found sorted = record {
   owner = refl;
   from = refl;
   to = refl;
-  before = λ n low. holds_longest rs n k.0 ∙ counts n low;
+  before = λ n low. vacant.counts n ∙ ap (λ b. b && is_none (row_of_count h n)) (holds_longest rs n k.0 ∙ counts n low);
   rows = found;
   in_order = sorted;
 }

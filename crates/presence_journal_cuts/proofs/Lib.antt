@@ -2,6 +2,8 @@ pub mod Starts
 pub mod Histories
 pub mod Keeping
 pub mod RunLemmas
+pub mod Handings
+pub mod Vacating
 pub mod Goings
 pub mod KeptLemmas
 mod Joined

@@ -18,7 +18,8 @@ use Rattle.orswot_core.specs.Full.{dot_of}
 use Rattle.orswot_core.proofs.OrderedFacts.{same_replica_below}
 use Rattle.orswot_core.proofs.RunFacts.{any_either_list}
 use Rattle.presence_journal.proofs.Same.{replica_total, same_dot-true, same_dot-refl}
-use Rattle.presence_journal_cuts.specs.Parting.{run_between, vacant, rows_above, end_of}
+use Rattle.presence_journal_cuts.specs.Handing.{run_between}
+use Rattle.presence_journal_cuts.specs.Parting.{vacant, rows_above, end_of}
 
 -- rows of a replica, their counts above one, each above the one before
 abbrev pub Ascend : Replica → ℕ → List (Dot × Row) → Type 0
@@ -154,7 +155,7 @@ holds_vacant r to low (x ∷ xs) h c = go (holds_vacant r to x.0.count xs h.2 c)
     go rest other false p = other (lower r low k xs (omega (arith, h.1)) h.2) ∙ beyond (λ le. both_ways (nat_le k to) p (le-leb k to le)) (cases_lt c k)
 
 -- they are longest runs
-runs_from : (a b : ℕ) (rs : List (ℕ × ℕ)) → a ≤ b → AreRuns b rs → AreRuns a rs
+pub runs_from : (a b : ℕ) (rs : List (ℕ × ℕ)) → a ≤ b → AreRuns b rs → AreRuns a rs
 runs_from a b [] le h = tt
 runs_from a b (x ∷ xs) le h = (omega (arith, le, h.0), h.1, h.2)
 
@@ -178,7 +179,7 @@ runs_vacant r to low (x ∷ xs) h = go (runs_vacant r to x.0.count xs h.2) (runs
     go rest other false = other
 
 -- and none ends above the count
-all_append : (p : ℕ × ℕ → Bool) (xs ys : List (ℕ × ℕ)) → list_all p xs ≡ true → list_all p ys ≡ true → list_all p (xs ++ ys) ≡ true
+pub all_append : (p : ℕ × ℕ → Bool) (xs ys : List (ℕ × ℕ)) → list_all p xs ≡ true → list_all p ys ≡ true → list_all p (xs ++ ys) ≡ true
 all_append p [] ys h k = k
 all_append p (x ∷ xs) ys h k = go (λ e. all_append p xs ys e k) (p x) h
   where

@@ -23,6 +23,8 @@ use Rattle.presence_journal.specs.Laws.{ran, empty, dot, row_of, here, track, up
 use Rattle.presence_journal.proofs.FoldOthers.{stays_legal}
 use Rattle.presence_journal.proofs.WorkedTables.{ran_is}
 use Rattle.presence_journal_cuts.specs.Cuts.{chain, older, recent, IsCut}
+use Rattle.presence_journal_cuts.specs.Handing.{handed}
+use Rattle.presence_journal_cuts.specs.ToldParts.{row_of_count}
 use Rattle.presence_journal_cuts.specs.Plain.{older_plain, IsPlainCut, node_a, tracked, untracked, first_delta, third_delta, hearer, NeedChains}
 use Rattle.presence_journal_cuts.proofs.Starts.{first_none}
 use Rattle.presence_journal_cuts.proofs.Histories.{recent-begin, recent-then}
@@ -174,9 +176,16 @@ its_owner : (c : DeltaValue) → IsCut untracked c → c.owner ≡ node_a
 unfolding own
 its_owner c cut = cut.owner ∙ ap own is_out
 
+first_older : older untracked 1 ≡ true
+unfolding older chain handed last_cut
+first_older = ap (λ h. older h 1) is_out
+
+first_went : row_of_count untracked 1 ≡ None
+unfolding own removed row live
+first_went = ap (λ h. row_of_count h 1) is_out
+
 has_first : (c : DeltaValue) → IsCut untracked c → holds c.older 1 ≡ true
-unfolding older chain last_cut
-has_first c cut = cut.before 1 (omega arith) ∙ ap (λ h. older h 1) is_out
+has_first c cut = cut.before 1 (omega arith) ∙ (λ i. first_older i && is_none (first_went i))
 
 tells_first : (c : DeltaValue) → IsCut untracked c → tells_removed (telling c) (dot 1) ≡ true
 tells_first c cut =

@@ -1,6 +1,5 @@
 -- Runs of the counts that go.
-use Rattle.std.proofs.Common.{◌≡◌, ℕ, ◌-◌, ◌<◌, ◌≤◌, Bool, true, false, ◌&&◌, ◌||◌, nat_eq, nat_le, nat_lt, List, [], ◌∷◌, ◌++◌, zero, suc, length, get_or, set, take, drop, refl, sym, ◌∙◌, ap, subst, arith}
-use Rattle.std.proofs.lemmas.Bool.Decides.{nat_tests}
+use Rattle.std.proofs.Common.{◌≡◌, ℕ, Bool, true, false, ◌&&◌, ◌||◌, nat_eq, nat_le, List, [], ◌∷◌, ◌++◌, length, get_or, set, take, drop, zero, suc, ◌<◌, arith, refl, sym, ◌∙◌, ap, subst}
 use Rattle.std.specs.List.{list_all}
 use Rattle.dot_context_runs.specs.Runs.{in_run, holds, AreLong}
 use Rattle.delta_range.specs.Longest.{up_to}
@@ -18,23 +17,6 @@ holds_append (r ∷ rs) ss n = ap (λ b. in_run r n || b) (holds_append rs ss n)
     grouped true b c = refl
     grouped false b c = refl
 
-one_count : (n c : ℕ) → 0 < c → ((nat_lt (c - 1) n && nat_le n c) || false) ≡ nat_eq n c
-one_count n c p = grind (arith, nat_tests)
-
-no_count : (n c : ℕ) → 1 ≤ n → c ≤ 0 → nat_eq n c ≡ false
-no_count n c p q = grind (arith, nat_tests)
-
-or_none : (b : Bool) → b ≡ (b || false)
-or_none true = refl
-or_none false = refl
-
--- one count more
-pub count_pushed : (old new : Runs) (c n : ℕ) → 0 < c → new ≡ old ++ (c - 1, c) ∷ [] → holds new n ≡ (holds old n || nat_eq n c)
-count_pushed old new c n p e = ap (λ (rs : Runs). holds rs n) e ∙ (holds_append old ((c - 1, c) ∷ []) n ∙ ap (λ b. holds old n || b) (one_count n c p))
-
-pub count_kept : (old new : Runs) (c n : ℕ) → 1 ≤ n → c ≤ 0 → new ≡ old → holds new n ≡ (holds old n || nat_eq n c)
-count_kept old new c n low p e = ap (λ (rs : Runs). holds rs n) e ∙ (or_none (holds old n) ∙ ap (λ b. holds old n || b) (sym (no_count n c low p)))
-
 whole : (rs : Runs) → take (length rs) (rs ++ drop (length rs) rs) ≡ rs
 whole [] = refl
 whole (r ∷ rs) = ap (λ (xs : Runs). r ∷ xs) (whole rs)
@@ -43,40 +25,11 @@ whole (r ∷ rs) = ap (λ (xs : Runs). r ∷ xs) (whole rs)
 pub left_whole : (k : ℕ) (rs ss : Runs) → rs ≡ ss → k ≡ length ss → take k (rs ++ drop (length rs) ss) ≡ ss
 left_whole k rs ss e f = (λ i. take (f i) (e i ++ drop (length (e i)) ss)) ∙ whole ss
 
--- the run at a place, which goes on to the next count
-
-run_grown : (a b c n : ℕ) → a < b → 0 < c → b ≡ c - 1 → (nat_lt a n && nat_le n c) ≡ ((nat_lt a n && nat_le n b) || nat_eq n c)
-run_grown a b c n p q e = grind (arith, nat_tests)
-
-further : (a b c : ℕ) → a < b → b ≡ c - 1 → a < c
-further a b c p e = omega arith
-
-last_first : (a b c : Bool) → ((a || c) || b) ≡ ((a || b) || c)
-last_first true b c = refl
-last_first false true true = refl
-last_first false true false = refl
-last_first false false true = refl
-last_first false false false = refl
-
-all_grown : (a b c : Bool) → (a || (b || c)) ≡ ((a || b) || c)
-all_grown true b c = refl
-all_grown false b c = refl
-
-pub holds_grown : (rs : Runs) (i c : ℕ) (r : ℕ × ℕ) (n : ℕ) → i < length rs → r ≡ get_or rs i r → AreLong rs → 0 < c → r.1 ≡ c - 1 → holds (set rs i (r.0, c)) n ≡ (holds rs n || nat_eq n c)
-holds_grown [] i c r n within is l p e = absurd (omega arith)
-holds_grown (x ∷ rs) zero c r n within is l p e =
-    subst (λ (y : ℕ × ℕ). holds ((y.0, c) ∷ rs) n ≡ ((in_run x n || holds rs n) || nat_eq n c)) (sym is)
-    (ap (λ b. b || holds rs n) (run_grown x.0 x.1 c n l.0 p (ap (λ (y : ℕ × ℕ). y.1) (sym is) ∙ e)) ∙ last_first (in_run x n) (holds rs n) (nat_eq n c))
-holds_grown (x ∷ rs) (suc i) c r n within is l p e = ap (λ b. in_run x n || b) (holds_grown rs i c r n (omega arith) is l.1 p e) ∙ all_grown (in_run x n) (holds rs n) (nat_eq n c)
-
-pub long_grown : (rs : Runs) (i c : ℕ) (r : ℕ × ℕ) → i < length rs → r ≡ get_or rs i r → AreLong rs → r.1 ≡ c - 1 → AreLong (set rs i (r.0, c))
-long_grown [] i c r within is l e = absurd (omega arith)
-long_grown (x ∷ rs) zero c r within is l e =
-    subst (λ (y : ℕ × ℕ). AreLong ((y.0, c) ∷ rs)) (sym is) (further x.0 x.1 c l.0 (ap (λ (y : ℕ × ℕ). y.1) (sym is) ∙ e), l.1)
-long_grown (x ∷ rs) (suc i) c r within is l e = (l.0, long_grown rs i c r (omega arith) is l.1 e)
-
-pub long_pushed : (old : Runs) (c : ℕ) → 0 < c → AreLong old → AreLong (old ++ (c - 1, c) ∷ [])
-long_pushed old c p l = long_append old ((c - 1, c) ∷ []) l (omega arith, tt)
+-- the run at a place, put there again
+pub put_again : (rs : Runs) (i : ℕ) (r : ℕ × ℕ) → i < length rs → r ≡ get_or rs i r → set rs i r ≡ rs
+put_again [] i r within is = absurd (omega (arith, within))
+put_again (x ∷ rs) zero r within is = ap (λ (y : ℕ × ℕ). y ∷ rs) is
+put_again (x ∷ rs) (suc i) r within is = ap (λ (xs : Runs). x ∷ xs) (put_again rs i r (omega (arith, within)) is)
 
 pub all_append : (p : ℕ × ℕ → Bool) (rs ss : Runs) → list_all p rs ≡ true → list_all p ss ≡ true → list_all p (rs ++ ss) ≡ true
 all_append p [] ss a b = b
@@ -119,3 +72,11 @@ nil_up_to end (r ∷ rs) = ap (λ (xs : Runs). r ∷ xs) (nil_up_to end rs)
 
 pub none_more : (end : ℕ) (mid new : Runs) → new ≡ mid → new ≡ mid ++ up_to end []
 none_more end mid new e = e ∙ nil_up_to end mid
+
+-- what an update hands on, as far as it is at or below the end
+
+pub handed_more : (end n : ℕ) (rs new lent ch : Runs) → lent ≡ ch → new ≡ rs ++ up_to end lent → holds new n ≡ (holds rs n || (nat_le n end && holds ch n))
+handed_more end n rs new lent ch is e = ap (λ (xs : Runs). holds xs n) e ∙ (holds_more end n rs lent ∙ ap (λ (xs : Runs). holds rs n || (nat_le n end && holds xs n)) is)
+
+pub handed_up_to : (end : ℕ) (rs new lent ch : Runs) → lent ≡ ch → AreLong ch → new ≡ rs ++ up_to end lent → AreUpTo end rs → AreUpTo end new
+handed_up_to end rs new lent ch is l e k = subst (AreUpTo end) (sym e) (more_up_to end rs lent (subst AreLong (sym is) l) k)

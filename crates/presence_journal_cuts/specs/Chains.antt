@@ -1,5 +1,5 @@
 -- Chains as the code keeps them: runs of counts by count.
-use Rattle.std.specs.Prelude.{◌≡◌, ℕ, ◌≤◌, Bool, true, cond, ◌&&◌, ◌||◌, nat_eq, nat_le, List, [], ◌∷◌, Option, Some, None}
+use Rattle.std.specs.Prelude.{◌≡◌, ℕ, ◌-◌, ◌≤◌, Bool, true, false, cond, ◌&&◌, ◌||◌, nat_eq, nat_le, List, [], ◌∷◌, ◌++◌, Option, Some, None}
 use Rattle.std.specs.BTreeMap.{BTreeMap, get}
 use Rattle.std.specs.Ordering.{nat_cmp}
 use Rattle.std.specs.List.{list_all}
@@ -12,34 +12,28 @@ use Rattle.presence_journal.specs.Steps.{Outcome, Entry, Start}
 use Rattle.presence_journal.specs.History.{History, Then, first_some, cut_after, row_added}
 use Rattle.presence_journal.specs.Present.{dots_taken}
 use Rattle.presence_journal.specs.Walk.{row_at, without_dots}
-use Rattle.presence_journal_cuts.specs.Cuts.{goes, older_after, recent}
+use Rattle.presence_journal_cuts.specs.Cuts.{goes, goes_by, older_after, recent}
+use Rattle.presence_journal_cuts.specs.Handing.{grown}
 
 abbrev pub Chains : Type 0
 Chains = BTreeMap ℕ (List (ℕ × ℕ))
 
--- the chain of a count has the other one
-abbrev pub has : Chains → ℕ → ℕ → Bool
-has m c n = holds (listed (get nat_cmp m c)) n
+-- the chain of a count, or none
+abbrev pub kept_chain : Chains → ℕ → List (ℕ × ℕ)
+kept_chain m c = listed (get nat_cmp m c)
 
 -- no run of a chain is hollow
 abbrev pub AreChains : Chains → Type 0
-AreChains m = (c : ℕ) → AreLong (listed (get nat_cmp m c))
+AreChains m = (c : ℕ) → AreLong (kept_chain m c)
 
 -- both have the same counts
 abbrev pub Counts : (ℕ → Bool) → (ℕ → Bool) → Type 0
 Counts f g = (n : ℕ) → 1 ≤ n → f n ≡ g n
 
-abbrev pub Chained : (ℕ → ℕ → Bool) → (ℕ → ℕ → Bool) → Type 0
-Chained f g = (c n : ℕ) → 1 ≤ n → f c n ≡ g c n
-
--- the runs have one count more, and none is hollow
-pub record GrowsBy (old : List (ℕ × ℕ)) (count : ℕ) (new : List (ℕ × ℕ)) : Type 0 where
-  pub counts : (n : ℕ) → holds new n ≡ (holds old n || nat_eq n count)
-  pub long : AreLong new
-
--- with other counts in the chain of one count
-abbrev pub put_at : (ℕ → ℕ → Bool) → ℕ → (ℕ → Bool) → ℕ → ℕ → Bool
-put_at chain count counts c n = cond (nat_eq c count) (counts n) (chain c n)
+-- the last run goes on to the count, or it is to come as a run of its own
+abbrev pub GrowsLast : Bool → List (ℕ × ℕ) → ℕ → List (ℕ × ℕ) → Type 0
+GrowsLast true old count new = new ≡ grown old count
+GrowsLast false old count new = (new ≡ old) × (grown old count ≡ old ++ (count - 1, count) ∷ [])
 
 -- a chain comes in the place of that of its count
 abbrev pub PutsChain : Chains → ℕ → List (ℕ × ℕ) → Chains → Type 0
@@ -59,11 +53,15 @@ AreUpTo end rs = AreLong rs × (list_all (λ r. nat_le r.1 end) rs ≡ true)
 
 -- what goes with these dots comes to the runs, as far as it is at or below the last cut
 abbrev pub TakesIn : ℕ → Chains → List Dot → List (ℕ × ℕ) → List (ℕ × ℕ) → Type 0
-TakesIn last m ds rs rs' = Counts (holds rs') (λ n. holds rs n || (nat_le n last && goes (has m) ds n))
+TakesIn last m ds rs rs' = Counts (holds rs') (λ n. holds rs n || (nat_le n last && goes (kept_chain m) ds n))
+
+-- and so does what goes with an outcome
+abbrev pub TakesInBy : Outcome → ℕ → Chains → List (ℕ × ℕ) → List (ℕ × ℕ) → Type 0
+TakesInBy o last m rs rs' = Counts (holds rs') (λ n. holds rs n || (nat_le n last && goes_by o (kept_chain m) n))
 
 -- the runs have what an outcome makes of the older counts
 abbrev pub OlderAfter : Outcome → ℕ → Chains → List (ℕ × ℕ) → List (ℕ × ℕ) → Type 0
-OlderAfter o last m rs rs' = Counts (holds rs') (older_after o last (has m) (holds rs))
+OlderAfter o last m rs rs' = Counts (holds rs') (older_after o last (kept_chain m) (holds rs))
 
 -- the runs stay at or below the last cut
 abbrev pub KeptAfter : Outcome → ℕ → Chains → List (ℕ × ℕ) → List (ℕ × ℕ) → Type 0

@@ -1,3 +1,4 @@
+pub mod Handing
 pub mod Cuts
 pub mod Chains
 pub mod Joined

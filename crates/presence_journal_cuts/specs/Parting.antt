@@ -1,29 +1,45 @@
--- How a part is made of the own live rows, listed in order of dot.
-use Rattle.std.specs.Prelude.{◌≡◌, ℕ, ◌-◌, min, max, Bool, cond, nat_eq, nat_le, nat_lt, List, [], ◌∷◌, ◌++◌, Option, None}
-use Rattle.std.specs.List.{filter}
+-- How a part is made of the own live rows, listed in order of dot, and runs without their counts.
+use Rattle.std.specs.Prelude.{◌≡◌, ℕ, ◌-◌, min, max, Bool, true, cond, ◌&&◌, nat_eq, nat_le, List, [], ◌∷◌, ◌++◌, Option, None, is_none}
+use Rattle.std.specs.List.{filter, list_all}
 use Rattle.std.specs.List.Sorted.{IsStrictlySortedBy}
 use Rattle.std.specs.Map.{lookup, keys_of}
+use Rattle.std.specs.FinMap as map
+use Rattle.presence_base.specs.declared.dots.Replica.{Replica}
 use Rattle.presence_base.specs.declared.dots.Dot.{Dot}
 use Rattle.presence_base.specs.declared.row.Row.{Row}
 use Rattle.presence_base.specs.Order.{dot_cmp, same_dot, same_replica}
+use Rattle.dot_context_runs.specs.Runs.{AreRuns, holds}
+use Rattle.orswot_core.specs.Full.{dot_of}
+use Rattle.orswot_core.specs.Sets.{DotRows}
 use Rattle.delta_range.specs.Deltas.{DeltaValue, IsDelta}
 use Rattle.presence_journal.specs.History.{History, own, live}
-use Rattle.presence_journal_cuts.specs.ToldParts.{IsPart}
+use Rattle.presence_journal_cuts.specs.Handing.{run_between}
+use Rattle.presence_journal_cuts.specs.ToldParts.{IsPart, row_of_count}
 
 -- the own live rows, in order of dot
 pub record AreOwnRows (h : History) (es : List (Dot × Row)) : Type 0 where
   pub found : (d : Dot) → lookup (same_dot d) es ≡ cond (same_replica d.replica (own h)) (live h d) None
   pub in_order : IsStrictlySortedBy dot_cmp (keys_of es)
 
--- the run of the counts above one, up to another, where there are any
-abbrev pub run_between : ℕ → ℕ → List (ℕ × ℕ)
-run_between low high = cond (nat_lt low high) ((low, high) ∷ []) []
+-- the live row of a count of a replica
+abbrev pub row_in : DotRows → Replica → ℕ → Option Row
+row_in s r n = map.get s.live (dot_of r n)
+
+-- the set has the own live rows
+abbrev pub HasOwnRows : History → DotRows → Type 0
+HasOwnRows h s = (n : ℕ) → row_in s (own h) n ≡ row_of_count h n
 
 -- the runs of the counts above one, up to another, that no row of the list has
 abbrev pub vacant : ℕ → ℕ → List (Dot × Row) → List (ℕ × ℕ)
 vacant to low [] = run_between low to
 vacant to low (x ∷ xs) =
     cond (nat_le x.0.count to) (run_between low (x.0.count - 1) ++ vacant to x.0.count xs) (vacant to low xs)
+
+-- of the counts of runs those that have no row, in as good order
+pub record AreVacant (row : ℕ → Option Row) (rs free : List (ℕ × ℕ)) : Type 0 where
+  pub counts : (n : ℕ) → holds free n ≡ (holds rs n && is_none (row n))
+  pub runs : AreRuns 0 rs → AreRuns 0 free
+  pub below : (end : ℕ) → list_all (λ r. nat_le r.1 end) rs ≡ true → list_all (λ r. nat_le r.1 end) free ≡ true
 
 -- so many rows above a count at most
 abbrev pub rows_above : ℕ → ℕ → List (Dot × Row) → List (Dot × Row)

@@ -1,5 +1,5 @@
 -- Cuts that leave out the chains of what went, and what another node makes of them.
-use Rattle.std.specs.Prelude.{◌≡◌, ℕ, ◌≤◌, Bool, true, false, [], ◌∷◌, Some, None, codes}
+use Rattle.std.specs.Prelude.{◌≡◌, ℕ, ◌≤◌, Bool, true, List, [], ◌∷◌, Some, None, codes}
 use Rattle.presence_base.specs.declared.dots.Replica.{Replica}
 use Rattle.presence_base.specs.declared.dots.Dot.{Dot}
 use Rattle.dot_context_runs.specs.Runs.{holds}
@@ -13,8 +13,8 @@ use Rattle.presence_journal_cuts.specs.Cuts.{older_after, recent, IsCut}
 use Rattle.presence_journal_cuts.specs.Joined.{merge_of}
 
 -- no count stands for another
-abbrev pub no_chain : ℕ → ℕ → Bool
-no_chain c n = false
+abbrev pub no_chain : ℕ → List (ℕ × ℕ)
+no_chain c = []
 
 -- the counts at or below the last cut that went since, but none that their rows had replaced
 unfoldable pub older_plain : History → ℕ → Bool

@@ -1,16 +1,17 @@
 // Chains: for the count of a live row, the counts of the rows that were replaced in turn.
-ghost use Rattle.std.specs.Prelude.{◌≡◌, ◌<◌, ◌≤◌, ◌||◌, ℕ, nat_eq, false, IsTrue, OnOk, option_copied};
-ghost use Rattle.std.specs.BTreeMap.{get};
-ghost use Rattle.std.specs.Ordering.{nat_cmp};
-ghost use Rattle.dot_context_runs.specs.Runs.{holds, AreLong};
-ghost use Rattle.dot_context.specs.Sets.{listed};
-ghost use Rattle.presence_journal_cuts.specs.Chains.{AreChains, Chained, Counts, GrowsBy, PutsChain, has, put_at};
+ghost use Rattle.std.specs.Prelude.{◌≡◌, ◌<◌, ℕ, IfOk, OnOk};
+ghost use Rattle.presence_journal_cuts.specs.Chains.{GrowsLast, PutsChain, kept_chain};
 ghost use Rattle.presence_journal_cuts.specs.Cuts.{chain_after, left_at};
+ghost use Rattle.presence_journal_cuts.specs.Handing.{grown, handed, run_between};
 
 use presence_journal::{Outcome, Runs};
 use std::alloc::{AllocError, Global};
 use std::collections::BTreeMap;
 use std::marker::Model;
+
+/// The most runs of a chain. Counts of rows that are updated by turns never join into runs: a longer chain becomes the one run of all
+/// counts up to its last.
+pub const MAX_CHAIN_RUNS: usize = 64;
 
 /// Counts as runs: each is the count below its first one and its last one.
 pub struct Chain {
@@ -47,9 +48,8 @@ impl Clone for Chain {
 }
 
 impl Chain {
-    ghost use Rattle.std.specs.Prelude.{◌≡◌, ◌≤◌, ◌||◌, ℕ, nat_eq, [], IfOk, OnOk};
-    ghost use Rattle.dot_context_runs.specs.Runs.{holds, AreLong};
-    ghost use Rattle.presence_journal_cuts.specs.Chains.{Counts};
+    ghost use Rattle.std.specs.Prelude.{◌≡◌, [], IfOk, OnOk};
+    ghost use Rattle.presence_journal_cuts.specs.Handing.{handed};
 
     /// No counts.
     pub fn new(alloc: Global) -> Chain
@@ -75,21 +75,33 @@ impl Chain {
         self.runs.as_slice()
     }
 
-    /// Adds a count.
-    pub fn push(&mut self, count: u64) -> Result<(), AllocError>
-        requires { AreLong self.old }
-        ensures counts { OnOk result (Counts (holds self.new) (λ n. holds self.old n || nat_eq n count)) }
-        ensures long { OnOk result (AreLong self.new) }
+    // Adds the count of the row whose chain it is, as an update hands it on.
+    #[tactic(auto, unfolding(crate::specs::Handing::handed))]
+    fn grow(&mut self, alloc: Global, count: u64) -> Result<(), AllocError>
+        ensures { OnOk result (self.new ≡ handed self.old count) }
     {
-        push_count(&mut self.runs, count)
+        push_count(&mut self.runs, count)?;
+        if self.runs.len() > MAX_CHAIN_RUNS {
+            self.runs = runs_up_to(alloc, count)?;
+        }
+        Ok(())
     }
+}
+
+// The run of all counts up to one.
+fn runs_up_to(alloc: Global, count: u64) -> Result<Vec<(u64, u64)>, AllocError>
+    ensures { IfOk result (λ v. v.items ≡ run_between 0 count) }
+{
+    let mut runs = Vec::new(alloc);
+    if count > 0 {
+        runs.push((0, count))?;
+    }
+    Ok(runs)
 }
 
 // Adds a count, to the last run where it goes on from that.
 pub(crate) fn push_count(runs: &mut Vec<(u64, u64)>, count: u64) -> Result<(), AllocError>
-    requires { AreLong runs.old.items }
-    ensures counts { OnOk result (Counts (holds runs.new.items) (λ n. holds runs.old.items n || nat_eq n count)) }
-    ensures long { OnOk result (AreLong runs.new.items) }
+    ensures { OnOk result (runs.new.items ≡ grown runs.old.items count) }
 {
     if count > 0 && !grow_last(runs, count) {
         runs.push((count - 1, count))?;
@@ -99,10 +111,8 @@ pub(crate) fn push_count(runs: &mut Vec<(u64, u64)>, count: u64) -> Result<(), A
 
 // Lets the last run go on to a count, where it ends right below that, and says whether it does.
 fn grow_last(runs: &mut [(u64, u64)], count: u64) -> bool
-    requires long { AreLong runs.old }
-    requires above { 0 < count }
-    ensures grown { IsTrue result → GrowsBy runs.old count runs.new }
-    ensures same { result ≡ false → runs.new ≡ runs.old }
+    requires { 0 < count }
+    ensures { GrowsLast result runs.old count runs.new }
 {
     let Some(last) = runs.last_mut() else {
         return false;
@@ -116,9 +126,8 @@ fn grow_last(runs: &mut [(u64, u64)], count: u64) -> bool
 
 // The chain that is taken out, or none.
 fn taken_chain(alloc: Global, chains: &mut BTreeMap<u64, Chain>, count: u64) -> Chain
-    ensures chain { result ≡ listed (get nat_cmp chains.old count) }
-    ensures rest { (c n : ℕ) → has chains.new c n ≡ left_at count (has chains.old) c n }
-    ensures long { AreChains chains.old → AreChains chains.new }
+    ensures chain { result ≡ kept_chain chains.old count }
+    ensures rest { (c : ℕ) → kept_chain chains.new c ≡ left_at count (kept_chain chains.old) c }
 {
     match chains.remove(&count) {
         Some(chain) => chain,
@@ -132,12 +141,33 @@ pub(crate) fn put_chain(
     count: u64,
     chain: Chain,
 ) -> Result<(), AllocError>
-    ensures chains { OnOk result ((c n : ℕ) → has chains.new c n ≡ put_at (has chains.old) count (holds chain) c n) }
-    ensures long { OnOk result (AreLong chain → AreChains chains.old → AreChains chains.new) }
-    ensures got { OnOk result (PutsChain chains.old count chain chains.new) }
+    ensures { OnOk result (PutsChain chains.old count chain chains.new) }
 {
     chains.insert(count, chain)?;
     Ok(())
+}
+
+// A copy of the chain of a count, or none.
+fn chain_of(alloc: Global, chains: &BTreeMap<u64, Chain>, count: u64) -> Result<Chain, AllocError>
+    ensures { IfOk result (λ c. c ≡ kept_chain chains.now count) }
+{
+    match chains.get(&count) {
+        Some(chain) => chain.clone(),
+        None => Ok(Chain::new(alloc)),
+    }
+}
+
+/// The chain that an update of the row with this count hands on. The row's own stays.
+pub fn handed_chain(
+    alloc: Global,
+    chains: &BTreeMap<u64, Chain>,
+    count: u64,
+) -> Result<Chain, AllocError>
+    ensures { IfOk result (λ c. c ≡ handed (kept_chain chains.now count) count) }
+{
+    let mut chain = chain_of(alloc, chains, count)?;
+    chain.grow(alloc, count)?;
+    Ok(chain)
 }
 
 // What an outcome makes of the chains.
@@ -146,17 +176,16 @@ pub(crate) fn hand_on(
     chains: &mut BTreeMap<u64, Chain>,
     outcome: &Outcome,
 ) -> Result<(), AllocError>
-    requires { AreChains chains.old }
-    ensures chains { OnOk result (Chained (has chains.new) (chain_after outcome.now (has chains.old))) }
-    ensures long { OnOk result (AreChains chains.new) }
+    ensures { OnOk result ((c : ℕ) → kept_chain chains.new c ≡ chain_after outcome.now (kept_chain chains.old) c) }
 {
     if let Outcome::Reborn(_) = outcome {
         *chains = BTreeMap::new(alloc);
         return Ok(());
     }
     if let Outcome::Replaced(new, old) = outcome {
+        let (new, old) = (new.get(), old.get());
         let mut chain = taken_chain(alloc, chains, old.count);
-        chain.push(old.count)?;
+        chain.grow(alloc, old.count)?;
         put_chain(chains, new.count, chain)?;
     }
     Ok(())

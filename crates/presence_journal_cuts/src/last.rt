@@ -22,7 +22,7 @@ pub fn dots_out(outcome: &Outcome) -> &[Dot]
     ensures { result.now ≡ dots_taken outcome.now }
 {
     match outcome {
-        Outcome::Replaced(_, old) => std::slice::from_ref(old),
+        Outcome::Replaced(_, old) => std::slice::from_ref(old.get()),
         Outcome::Removed(dots) => dots.as_slice(),
         _ => &[],
     }

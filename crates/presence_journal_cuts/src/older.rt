@@ -1,12 +1,11 @@
 // The older counts that went since the last cut.
-ghost use Rattle.std.specs.Prelude.{◌≡◌, ◌∷◌, [], ◌||◌, ℕ, nat_eq, IfOk, OnOk};
+ghost use Rattle.std.specs.Prelude.{◌∷◌, [], IfOk, OnOk};
 ghost use Rattle.dot_context_runs.specs.Runs.{holds};
 ghost use Rattle.presence_journal.specs.History.{last_cut};
-ghost use Rattle.presence_journal.specs.Present.{dots_taken};
-ghost use Rattle.presence_journal_cuts.specs.Chains.{AreChains, AreUpTo, Counts, KeptAfter, OlderAfter, TakesIn};
+ghost use Rattle.presence_journal_cuts.specs.Chains.{AreChains, AreUpTo, Counts, KeptAfter, OlderAfter, TakesIn, TakesInBy};
 ghost use Rattle.presence_journal_cuts.specs.Cuts.{older};
 
-use crate::chain::{Chain, hand_on, push_count};
+use crate::chain::{Chain, hand_on, handed_chain, push_count};
 use crate::kept::{kept_chains, kept_runs};
 use crate::last::{dots_out, last_after};
 use delta_range::push_up_to;
@@ -52,6 +51,26 @@ pub fn push_all_gone(
     Ok(())
 }
 
+// Adds what goes with an outcome, as far as it is at or below the last cut.
+fn push_gone_by(
+    alloc: Global,
+    runs: &mut Vec<(u64, u64)>,
+    chains: &BTreeMap<u64, Chain>,
+    last: u64,
+    outcome: &Outcome,
+) -> Result<(), AllocError>
+    ensures counts { OnOk result (TakesInBy outcome.now last chains.now runs.old.items runs.new.items) }
+    ensures kept { OnOk result (AreChains chains.now → AreUpTo last runs.old.items → AreUpTo last runs.new.items) }
+{
+    match outcome {
+        Outcome::Replaced(_, old) => {
+            let chain = handed_chain(alloc, chains, old.get().count)?;
+            push_up_to(runs, chain.as_slice(), last)
+        }
+        _ => push_all_gone(alloc, runs, chains, last, dots_out(outcome)),
+    }
+}
+
 // What an outcome makes of the older counts.
 fn go_out(
     alloc: Global,
@@ -68,7 +87,7 @@ fn go_out(
             *runs = Vec::new(alloc);
             Ok(())
         }
-        _ => push_all_gone(alloc, runs, chains, last, dots_out(outcome)),
+        _ => push_gone_by(alloc, runs, chains, last, outcome),
     }
 }
 

@@ -1,10 +1,13 @@
-//! What a part tells, of the own live rows in order of dot.
+//! What a part tells, of the own live rows in order of dot, and runs without their counts.
 ghost use Rattle.std.specs.Prelude.{◌≡◌, ◌++◌, ◌∷◌, [], IfOk, OnOk};
 ghost use Rattle.std.specs.List.{filter};
-ghost use Rattle.presence_journal_cuts.specs.Parting.{end_of, is_up_to, rows_above, run_between, up_to, vacant};
+ghost use Rattle.dot_context_runs.specs.Runs.{AreLong};
+ghost use Rattle.presence_journal_cuts.specs.Handing.{run_between};
+ghost use Rattle.presence_journal_cuts.specs.Parting.{AreVacant, end_of, is_up_to, row_in, rows_above, up_to, vacant};
 
 use delta_range::Delta;
-use presence_base::{Dot, Row};
+use orswot_core::Orswot;
+use presence_base::{Dot, Replica, Row};
 use std::alloc::{AllocError, Global};
 use std::collections::btree_map::Range;
 
@@ -18,6 +21,25 @@ fn push_between(runs: &mut Vec<(u64, u64)>, low: u64, high: u64) -> Result<(), A
     Ok(())
 }
 
+// Adds the runs of the counts above one, up to another, that none of the rows has, which are of one replica and in order.
+fn push_vacant(
+    runs: &mut Vec<(u64, u64)>,
+    rows: Range<'_, Dot, Row>,
+    from: u64,
+    to: u64,
+) -> Result<(), AllocError>
+    ensures { OnOk result (runs.new.items ≡ runs.old.items ++ vacant to from rows.entry) }
+{
+    let mut low = from;
+    for (dot, _row) in rows {
+        if dot.count <= to {
+            push_between(runs, low, dot.count.saturating_sub(1))?;
+            low = dot.count;
+        }
+    }
+    push_between(runs, low, to)
+}
+
 /// The runs of the counts up to this one that none of the rows has, which are of one replica and in order. It costs a look at
 /// each row.
 pub fn vacant_runs(
@@ -28,15 +50,26 @@ pub fn vacant_runs(
     ensures { IfOk result (λ v. v.items ≡ vacant to 0 rows.entry) }
 {
     let mut runs = Vec::new(alloc);
-    let mut low = 0;
-    for (dot, _row) in rows {
-        if dot.count <= to {
-            push_between(&mut runs, low, dot.count.saturating_sub(1))?;
-            low = dot.count;
-        }
-    }
-    push_between(&mut runs, low, to)?;
+    push_vacant(&mut runs, rows, 0, to)?;
     Ok(runs)
+}
+
+/// The counts of the runs that are of no live row of the replica. It costs a look at each of its live rows that stands in a run.
+pub fn vacant_of(
+    alloc: Global,
+    set: &Orswot,
+    replica: &Replica,
+    runs: &[(u64, u64)],
+) -> Result<Vec<(u64, u64)>, AllocError>
+    requires { AreLong runs.now }
+    ensures { IfOk result (λ v. AreVacant (row_in set.now replica.now) runs.now v.items) }
+{
+    let mut vacant = Vec::new(alloc);
+    for run in runs {
+        let range = (*replica, run.0, run.1);
+        push_vacant(&mut vacant, set.rows_in(&range), run.0, run.1)?;
+    }
+    Ok(vacant)
 }
 
 // Adds a copy of a row at the end.

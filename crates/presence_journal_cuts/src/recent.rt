@@ -50,11 +50,11 @@ pub fn added_row(entry: &Entry) -> Result<Option<(Dot, Row)>, AllocError>
     match &entry.outcome {
         Outcome::Added(new) => {
             let row = made_row(&entry.step, None)?;
-            Ok(under_dot(*new, row))
+            Ok(under_dot(*new.get(), row))
         }
         Outcome::Replaced(new, old) => {
-            let row = made_row(&entry.step, Some(*old))?;
-            Ok(under_dot(*new, row))
+            let row = made_row(&entry.step, Some(*old.get()))?;
+            Ok(under_dot(*new.get(), row))
         }
         _ => Ok(None),
     }

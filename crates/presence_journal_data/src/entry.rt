@@ -1,4 +1,6 @@
 //! Outcomes, entries, a Start.
+use crate::listed_dots::ListedDots;
+use crate::shared_values::SharedDot;
 use crate::step::Step;
 use delta_range::Generations;
 use orswot_core_told::Told;
@@ -11,11 +13,11 @@ use std::sync::Arc;
 // Where the dots of a list lie.
 #[derive(Debug, Drop)]
 enum HeldDots {
-    Owned(Vec<Dot>),
+    Nowhere,
     Shared(Arc<Vec<Dot>, Global>),
 }
 
-/// A list of dots. What is cloned from a shared list shares its dots.
+/// A list of dots, shared by its clones.
 #[derive(Debug)]
 pub struct Dots {
     held: HeldDots,
@@ -45,19 +47,15 @@ impl Model for Dots {
 impl Dots {
     ghost use Rattle.std.specs.Prelude.{◌≡◌, IfOk};
 
-    /// The list, without taking memory.
-    pub fn new(items: Vec<Dot>) -> Dots
-        ensures { result ≡ items.items }
-    {
-        let held = HeldDots::Owned(items);
-        Dots { held }
-    }
-
-    /// The list, with dots that all its clones share.
-    pub fn shared(alloc: Global, items: Vec<Dot>) -> Result<Dots, AllocError>
+    /// The list. An empty one takes no memory.
+    pub fn new(alloc: Global, items: Vec<Dot>) -> Result<Dots, AllocError>
         ensures { IfOk result (λ d. d ≡ items.items) }
     {
-        let held = HeldDots::Shared(Arc::new(alloc, items)?);
+        let held = if items.is_empty() {
+            HeldDots::Nowhere
+        } else {
+            HeldDots::Shared(Arc::new(alloc, items)?)
+        };
         Ok(Dots { held })
     }
 
@@ -65,16 +63,16 @@ impl Dots {
         ensures { result.now ≡ self.now }
     {
         match &self.held {
-            HeldDots::Owned(items) => items.as_slice(),
+            HeldDots::Nowhere => &[],
             HeldDots::Shared(items) => items.as_slice(),
         }
     }
 }
 
-/// Dots that came in the place of others: each new one with the old one.
+/// Dots that came in the place of others: each new one with the old one. Its clones share them.
 #[derive(Debug)]
 pub struct Pairs {
-    items: Vec<(Dot, Dot)>,
+    items: Arc<Vec<(Dot, Dot)>, Global>,
 }
 
 impl Drop for Pairs {
@@ -86,6 +84,7 @@ impl Drop for Pairs {
 
 impl Model for Pairs {
     ghost use Rattle.std.specs.Prelude.{List};
+    ghost use Rattle.std.specs.Arc.{arc_value};
     ghost use Rattle.std.specs.Coded.{coded_list, coded×};
     ghost use Rattle.presence_base.specs.declared.dots.Dot.{Dot};
     ghost use Rattle.presence_base.specs.Codes.{dot_code};
@@ -94,7 +93,7 @@ impl Model for Pairs {
 
     ghost coded = { coded_list (coded× dot_code dot_code) };
 
-    ghost view = { λ p. p.items.items };
+    ghost view = { λ p. (arc_value p.items).items };
 }
 
 impl Clone for Pairs {
@@ -103,18 +102,19 @@ impl Clone for Pairs {
     ghost is_clone = { λ p q. q ≡ p };
 
     fn clone(&self) -> Result<Pairs, AllocError> {
-        let items = self.items.clone()?;
+        let items = Arc::try_clone(&self.items)?;
         Ok(Pairs { items })
     }
 }
 
 impl Pairs {
-    ghost use Rattle.std.specs.Prelude.{◌≡◌};
+    ghost use Rattle.std.specs.Prelude.{◌≡◌, IfOk};
 
-    pub fn new(items: Vec<(Dot, Dot)>) -> Pairs
-        ensures { result ≡ items.items }
+    pub fn new(alloc: Global, items: Vec<(Dot, Dot)>) -> Result<Pairs, AllocError>
+        ensures { IfOk result (λ p. p ≡ items.items) }
     {
-        Pairs { items }
+        let items = Arc::new(alloc, items)?;
+        Ok(Pairs { items })
     }
 
     pub fn as_slice(&self) -> &[(Dot, Dot)]
@@ -128,17 +128,17 @@ impl Pairs {
 #[derive(Debug, Drop)]
 pub enum Outcome {
     /// A track added a row under this dot.
-    Added(Dot),
+    Added(SharedDot),
     /// A track whose pid has a row under the topic and key.
     AlreadyTracked,
     /// An update put a row under the first dot in the place of the row under the second.
-    Replaced(Dot, Dot),
+    Replaced(SharedDot, SharedDot),
     /// An update whose pid has no row under the topic and key.
     NoPresence,
     /// An untrack took out the rows under these dots.
     Removed(Dots),
     /// A list or a get answered the rows under these dots.
-    Shown(Dots),
+    Shown(ListedDots),
     /// The subscriber's number.
     Subscribed(u64),
     /// Whether the take gave a state, and how many items it gave in all.
@@ -164,6 +164,9 @@ pub struct Entry {
     pub step: Step,
     pub outcome: Outcome,
 }
+
+// What a journal keeps of each step.
+const _: () = prove!(size_of::<Entry>() <= 136);
 
 /// What a journal begins with, and what came before it as far as later entries still depend on it.
 #[derive(Debug, Drop)]
@@ -201,7 +204,7 @@ impl Clone for Dots {
 
     fn clone(&self) -> Result<Dots, AllocError> {
         let held = match &self.held {
-            HeldDots::Owned(items) => HeldDots::Owned(items.clone()?),
+            HeldDots::Nowhere => HeldDots::Nowhere,
             HeldDots::Shared(items) => HeldDots::Shared(Arc::try_clone(items)?),
         };
         Ok(Dots { held })
@@ -215,9 +218,9 @@ impl Clone for Outcome {
 
     fn clone(&self) -> Result<Outcome, AllocError> {
         match self {
-            Outcome::Added(dot) => Ok(Outcome::Added(*dot)),
+            Outcome::Added(dot) => Ok(Outcome::Added(dot.clone()?)),
             Outcome::AlreadyTracked => Ok(Outcome::AlreadyTracked),
-            Outcome::Replaced(dot, old) => Ok(Outcome::Replaced(*dot, *old)),
+            Outcome::Replaced(dot, old) => Ok(Outcome::Replaced(dot.clone()?, old.clone()?)),
             Outcome::NoPresence => Ok(Outcome::NoPresence),
             Outcome::Removed(dots) => Ok(Outcome::Removed(dots.clone()?)),
             Outcome::Shown(dots) => Ok(Outcome::Shown(dots.clone()?)),

@@ -5,7 +5,7 @@ ghost use Rattle.serde_json.specs.Written.{compact_text};
 ghost use Rattle.presence_metas_texts.specs.Values.{state_of};
 ghost use Rattle.presence_journal_data.specs.RowDots.{dots_in};
 
-use crate::entry::Dots;
+use crate::listed_dots::ListedDots;
 use presence_base::{Dot, Row};
 use presence_metas_texts::{are_in_key_order, state_text, state_value};
 use std::alloc::{AllocError, Global};
@@ -13,14 +13,11 @@ use std::fmt::{self, Debug, Formatter, Write};
 use std::marker::Model;
 use std::sync::Arc;
 
-// Fewer dots than this are kept by each list for itself.
-const MIN_SHARED: usize = 2;
-
 // Rows with their dots.
 #[derive(Drop)]
 struct ListedRows {
     rows: Vec<(Dot, Row)>,
-    dots: Dots,
+    dots: ListedDots,
     ghost exact: { dots ≡ dots_in rows.items },
 }
 
@@ -77,23 +74,22 @@ impl Debug for SharedRows {
 pub fn dots_of_rows(alloc: Global, rows: &[(Dot, Row)]) -> Result<Vec<Dot>, AllocError>
     ensures { IfOk result (λ v. v.items ≡ dots_in rows.now) }
 {
-    let mut dots = Vec::new(alloc);
+    let mut dots = Vec::with_capacity(alloc, rows.len())?;
     for row in rows {
         dots.push(row.0)?;
     }
     Ok(dots)
 }
 
-// The rows with their dots.
-fn listed_rows(alloc: Global, rows: Vec<(Dot, Row)>) -> Result<ListedRows, AllocError>
+// The rows with their dots, of which they share what stayed since the list before, if there is one.
+fn listed_rows(
+    alloc: Global,
+    rows: Vec<(Dot, Row)>,
+    before: Option<&ListedDots>,
+) -> Result<ListedRows, AllocError>
     ensures { IfOk result (λ l. l.rows.items ≡ rows.items) }
 {
-    let dots = dots_of_rows(alloc, &rows)?;
-    let dots = if dots.len() < MIN_SHARED {
-        Dots::new(dots)
-    } else {
-        Dots::shared(alloc, dots)?
-    };
+    let dots = ListedDots::of_rows(alloc, &rows, before)?;
     Ok(ListedRows { rows, dots })
 }
 
@@ -131,7 +127,21 @@ impl SharedRows {
     pub fn new(alloc: Global, rows: Vec<(Dot, Row)>) -> Result<SharedRows, AllocError>
         ensures { IfOk result (λ s. s ≡ rows.items) }
     {
-        let listed = listed_rows(alloc, rows)?;
+        let listed = listed_rows(alloc, rows, None)?;
+        let held = HeldRows::Bare(Arc::new(alloc, listed)?);
+        Ok(SharedRows { held })
+    }
+
+    /// The rows of a topic, without their text. It copies none of them, and of their dots only those that didn't stay since
+    /// the list before, if there is one, and some of their neighbours.
+    pub fn after(
+        alloc: Global,
+        rows: Vec<(Dot, Row)>,
+        before: Option<&ListedDots>,
+    ) -> Result<SharedRows, AllocError>
+        ensures { IfOk result (λ s. s ≡ rows.items) }
+    {
+        let listed = listed_rows(alloc, rows, before)?;
         let held = HeldRows::Bare(Arc::new(alloc, listed)?);
         Ok(SharedRows { held })
     }
@@ -168,13 +178,21 @@ impl SharedRows {
         }
     }
 
-    /// The dots of the rows, which all who share the rows share. It copies one dot at most.
-    pub fn dots(&self) -> Result<Dots, AllocError>
+    /// The dots of the rows, which all who share the rows share. It copies none of them.
+    pub fn dots(&self) -> Result<ListedDots, AllocError>
         ensures { IfOk result (λ d. d ≡ dots_in self.now) }
     {
         match &self.held {
             HeldRows::Bare(listed) => listed.dots.clone(),
             HeldRows::Written(written) => written.listed.dots.clone(),
+        }
+    }
+
+    /// The bytes that the dots took when they were made. No contract speaks of it.
+    pub fn new_bytes(&self) -> u64 {
+        match &self.held {
+            HeldRows::Bare(listed) => listed.dots.new_bytes(),
+            HeldRows::Written(written) => written.listed.dots.new_bytes(),
         }
     }
 

@@ -5,6 +5,7 @@ ghost use Rattle.orswot_core_told.specs.Limits.{are_texts};
 ghost use Rattle.presence_journal_data.specs.StepLimits.{is_named};
 
 use crate::limits::{Payload, TakeLimit};
+use crate::shared_values::{SharedReplica, SharedTold};
 use orswot_core_told::Told;
 use presence_base::{Dot, Json, Key, Meta, Replica, Row, Topic};
 use std::alloc::{AllocError, Global};
@@ -57,7 +58,7 @@ pub enum Step {
     },
     /// A replica was heard.
     Heard {
-        replica: Replica,
+        replica: SharedReplica,
         now: u64,
     },
     /// Time passed.
@@ -66,13 +67,13 @@ pub enum Step {
     },
     /// A replica is gone for good.
     PermDown {
-        replica: Replica,
+        replica: SharedReplica,
     },
     /// What the own replica did since the last cut is told.
     Cut,
     /// What another node told is taken in.
     Merge {
-        told: Told,
+        told: SharedTold,
     },
     /// The own replica goes on under a higher incarnation.
     Rebirth {
@@ -208,30 +209,32 @@ impl Step {
     }
 
     /// A replica was heard at a time.
-    pub fn heard(replica: Replica, now: u64) -> Step
-        ensures step { result ≡ Step.Heard replica now }
-        ensures limits { is_within_limits result ≡ true }
+    pub fn heard(alloc: Global, replica: Replica, now: u64) -> Result<Step, AllocError>
+        ensures step { IfOk result (λ s. s ≡ Step.Heard replica now) }
+        ensures limits { IfOk result (λ s. is_within_limits s ≡ true) }
     {
         let _name = replica.name.as_str();
-        Step::Heard { replica, now }
+        let replica = SharedReplica::new(alloc, replica)?;
+        Ok(Step::Heard { replica, now })
     }
 
     /// A replica is gone for good.
-    pub fn permdown(replica: Replica) -> Step
-        ensures step { result ≡ Step.PermDown replica }
-        ensures limits { is_within_limits result ≡ true }
+    pub fn permdown(alloc: Global, replica: Replica) -> Result<Step, AllocError>
+        ensures step { IfOk result (λ s. s ≡ Step.PermDown replica) }
+        ensures limits { IfOk result (λ s. is_within_limits s ≡ true) }
     {
         let _name = replica.name.as_str();
-        Step::PermDown { replica }
+        let replica = SharedReplica::new(alloc, replica)?;
+        Ok(Step::PermDown { replica })
     }
 
     /// A merge of what another node told.
-    pub fn merge(told: &Told) -> Result<Step, AllocError>
+    pub fn merge(alloc: Global, told: &Told) -> Result<Step, AllocError>
         ensures step { IfOk result (λ s. s ≡ Step.Merge told.now) }
         ensures limits { IfOk result (λ s. is_within_limits s ≡ true) }
     {
         read_rows(told.live());
-        let told = told.clone()?;
+        let told = SharedTold::new(alloc, told.clone()?)?;
         Ok(Step::Merge { told })
     }
 }
@@ -284,13 +287,17 @@ impl Clone for Step {
             }),
             Step::Shout { topic, payload } => Step::shout_shared(topic, payload),
             Step::Heard { replica, now } => Ok(Step::Heard {
-                replica: *replica,
+                replica: replica.clone()?,
                 now: *now,
             }),
             Step::Tick { now } => Ok(Step::Tick { now: *now }),
-            Step::PermDown { replica } => Ok(Step::PermDown { replica: *replica }),
+            Step::PermDown { replica } => Ok(Step::PermDown {
+                replica: replica.clone()?,
+            }),
             Step::Cut => Ok(Step::Cut),
-            Step::Merge { told } => Step::merge(told),
+            Step::Merge { told } => Ok(Step::Merge {
+                told: told.clone()?,
+            }),
             Step::Rebirth { incarnation } => Ok(Step::Rebirth {
                 incarnation: *incarnation,
             }),

@@ -1,10 +1,11 @@
 -- All stays true of a Start that stands for a history, and is true of a new life.
-use Rattle.std.proofs.Common.{◌≡◌, ℕ, ◌<◌, Bool, true, false, ◌&&◌, nat_lt, nat_le, refl, sym, ◌∙◌, ap, subst, arith, IsTrue, ltb-true, leb-true}
+use Rattle.std.proofs.Common.{◌≡◌, ℕ, List, ◌<◌, Bool, true, false, ◌&&◌, nat_lt, nat_le, refl, sym, ◌∙◌, ap, subst, arith, IsTrue, ltb-true, leb-true}
 use Rattle.presence_base.specs.declared.dots.Replica.{Replica}
 use Rattle.presence_base.specs.declared.dots.Dot.{Dot}
 use Rattle.presence_base.specs.Names.{is_node_name}
 use Rattle.presence_base.specs.Refs.{IsCount}
 use Rattle.presence_base.specs.Order.{same_replica}
+use Rattle.dot_context_runs.specs.Runs.{holds}
 use Rattle.orswot_core.specs.Full.{dot_of}
 use Rattle.presence_journal.specs.Steps.{Start}
 use Rattle.presence_journal.specs.History.{History, Begin, begun, own, count, last_cut, status, is_gone, known, removed, row, shown, is_counted}
@@ -52,19 +53,19 @@ module _ (deeds : AllDeeds) (h : History) (s : Start) (t : IsTrueOf deeds h) (c 
   older_same : (n : ℕ) → 0 < n → older b n ≡ older h n
   older_same n pos = (begins_alike h s c).older n (omega (arith, pos))
 
-  chain_same : (m n : ℕ) → IsShownAt b m → 0 < n → chain b m n ≡ chain h m n
-  chain_same m n p pos = let q = shown_same m p in (begins_alike h s c).chains (dot_of (own h) m) q.0 refl q.1 n (omega (arith, pos))
+  chain_same : (m n : ℕ) → IsShownAt b m → holds (chain b m) n ≡ holds (chain h m) n
+  chain_same m n p = let q = shown_same m p in ap (λ (rs : List (ℕ × ℕ)). holds rs n) ((begins_alike h s c).chains (dot_of (own h) m) q.0 refl q.1)
 
   module _ (are : AreDeeds (deeds (own h))) where
     pub begin_closed : IsClosed (deeds (own h)) b
     begin_closed = record {
-      older_low = λ n pos f. let p = t.closed.older_low n pos (sym (older_same n pos) ∙ f) in (omega (arith, p.0, same_last), removed_same n ∙ p.1);
+      older_low = λ n pos f. let p = t.closed.older_low n pos (sym (older_same n pos) ∙ f) in omega (arith, p, same_last);
       older_all = λ m n k u v. older_same n (are.targets_in m n k).0 ∙ t.closed.older_all m n k (omega (arith, u, same_last)) (omega (arith, v, same_last));
       older_closed = λ m n k f. let p = are.targets_in m n k in older_same n p.0 ∙ t.closed.older_closed m n k (sym (older_same m (omega (arith, p.1))) ∙ f);
-      chain_first = λ m n p k. chain_same m n p (are.targets_in m n k).0 ∙ t.closed.chain_first m n (shown_same m p) k;
-      chain_closed = λ a m n p f k. let q = are.targets_in m n k in chain_same a n p q.0 ∙ t.closed.chain_closed a m n (shown_same a p) (sym (chain_same a m p (omega (arith, q.1))) ∙ f) k;
-      chain_low = λ m n p pos f. let q = t.closed.chain_low m n (shown_same m p) pos (sym (chain_same m n p pos) ∙ f) in (q.0, removed_same n ∙ q.1);
-      chain_unused = λ m n u pos. (begins_alike h s c).unused m (omega (arith, u, same_count)) n (omega (arith, pos)) ∙ t.closed.chain_unused m n (omega (arith, u, same_count)) pos;
+      chain_first = λ m n p k. chain_same m n p ∙ t.closed.chain_first m n (shown_same m p) k;
+      chain_closed = λ a m n p f k. chain_same a n p ∙ t.closed.chain_closed a m n (shown_same a p) (sym (chain_same a m p) ∙ f) k;
+      chain_low = λ m n p pos f. t.closed.chain_low m n (shown_same m p) pos (sym (chain_same m n p) ∙ f);
+      chain_unused = λ m n u pos. ap (λ (rs : List (ℕ × ℕ)). holds rs n) ((begins_alike h s c).unused m (omega (arith, u, same_count))) ∙ t.closed.chain_unused m n (omega (arith, u, same_count)) pos;
     }
 
     begin_owners : IsOwners (deeds (own h)) b

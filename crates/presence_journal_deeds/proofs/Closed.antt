@@ -1,22 +1,26 @@
 -- A legal entry keeps closed what the next cut tells of older counts, and the chains of the own rows.
-use Rattle.std.proofs.Common.{◌≡◌, ℕ, ◌+◌, ◌<◌, ◌≤◌, Bool, true, false, cond, ◌&&◌, ◌||◌, nat_eq, nat_le, List, [], ◌∷◌, Option, Some, None, refl, sym, ◌∙◌, ap, subst, arith, inl, inr, eqb-true, eq-eqb, leb-true, le-leb}
+use Rattle.std.proofs.Common.{◌≡◌, ℕ, ◌+◌, ◌<◌, ◌≤◌, Bool, true, false, cond, ◌&&◌, ◌||◌, nat_eq, nat_le, nat_lt, List, [], ◌∷◌, Option, Some, None, refl, sym, ◌∙◌, ap, subst, arith, inl, inr, eqb-true, eq-eqb, leb-true, le-leb, lt-ltb}
 use Rattle.std.specs.Prelude.{◌⊎◌}
 use Rattle.std.proofs.lemmas.Bool.{and_parts, and_from, or_cases, or_left, or_right, both_ways, false_from_ne_true}
 use Rattle.presence_base.specs.declared.dots.Dot.{Dot}
 use Rattle.presence_base.specs.declared.row.Row.{Row}
 use Rattle.presence_base.specs.Order.{same_dot}
+use Rattle.dot_context_runs.specs.Runs.{holds}
 use Rattle.orswot_core.specs.Full.{dot_of}
 use Rattle.presence_journal_data.specs.declared.entry.Outcome.TheVariants as outcomes_are
 use Rattle.presence_journal.specs.Steps.{Outcome, Entry}
-use Rattle.presence_journal.specs.History.{History, Then, own, count, counts_used, next_dot, has_dot, first_some, row_added, dot_removed, told_removed, removed, shown, last_cut, cut_after}
+use Rattle.presence_journal.specs.History.{History, Then, own, count, counts_used, next_dot, has_dot, first_some, row_added, shown, last_cut, cut_after}
 use Rattle.presence_journal.specs.Present.{dots_taken}
 use Rattle.presence_journal.specs.Table.{IsLegal}
 use Rattle.presence_journal.proofs.Same.{same_dot-true, same_dot-refl}
 use Rattle.presence_journal.proofs.PresentLemmas.{shown-row}
 use Rattle.presence_journal.proofs.HistoryLemmas.{IsOwnShown, Kind, Adds, Replaces, Removes, Quiet, kind_of, is_quiet, quiet_row, legal_knows, count-then, kind_plain, own-then}
-use Rattle.presence_journal_cuts.specs.Cuts.{stands_for, left_at, chain_after, chain, goes, older_after, older}
+use Rattle.presence_journal_cuts.specs.Cuts.{stands_for, left_at, chain_after, chain, goes, goes_by, older_after, older}
+use Rattle.presence_journal_cuts.specs.Handing.{handed}
 use Rattle.presence_journal_cuts.specs.KeptDeltas.{renews_kept}
 use Rattle.presence_journal_cuts.proofs.Histories.{CutsHere, cuts_here, last_cut-low, own_shown}
+use Rattle.presence_journal_cuts.proofs.Goings.{chain_long}
+use Rattle.presence_journal_cuts.proofs.Handings.{IsHanded, is_handed, handed_own}
 use Rattle.presence_journal_deeds.specs.Deeds.{Deeds, removes_by, with_entry}
 use Rattle.presence_journal_deeds.specs.Truth.{AreDeeds, IsOwners, IsShownAt, IsClosed}
 use Rattle.presence_journal_deeds.proofs.Effects.{Effects, effects}
@@ -25,35 +29,46 @@ use Rattle.presence_journal.specs.Walk.{is_rebirth, is_reborn}
 
 -- ---- what goes with dots
 
-abbrev Reaches : (ℕ → ℕ → Bool) → List Dot → ℕ → Type 0
-Reaches ch ds n = (z : Dot) × (has_dot ds z ≡ true) × ((n ≡ z.count) ⊎ (ch z.count n ≡ true))
+abbrev Chains : Type 0
+Chains = ℕ → List (ℕ × ℕ)
 
-goes_from : (ch : ℕ → ℕ → Bool) (ds : List Dot) (n : ℕ) → goes ch ds n ≡ true → Reaches ch ds n
+abbrev Reaches : Chains → List Dot → ℕ → Type 0
+Reaches ch ds n = (z : Dot) × (has_dot ds z ≡ true) × ((n ≡ z.count) ⊎ (holds (ch z.count) n ≡ true))
+
+goes_from : (ch : Chains) (ds : List Dot) (n : ℕ) → goes ch ds n ≡ true → Reaches ch ds n
 goes_from ch [] n f = absurd (cc)
 goes_from ch (y ∷ ys) n f = go (or_cases (stands_for ch y.count n) (goes ch ys n) f) (goes_from ch ys n)
   where
-    here : (n ≡ y.count) ⊎ (ch y.count n ≡ true) → Reaches ch (y ∷ ys) n
+    here : (n ≡ y.count) ⊎ (holds (ch y.count) n ≡ true) → Reaches ch (y ∷ ys) n
     here r = (y, or_left (same_dot y y) (has_dot ys y) (same_dot-refl y), r)
 
-    pick : (nat_eq n y.count ≡ true) ⊎ (ch y.count n ≡ true) → Reaches ch (y ∷ ys) n
+    pick : (nat_eq n y.count ≡ true) ⊎ (holds (ch y.count) n ≡ true) → Reaches ch (y ∷ ys) n
     pick (inl e) = here (inl (eqb-true n y.count e))
     pick (inr e) = here (inr e)
 
     go : (stands_for ch y.count n ≡ true) ⊎ (goes ch ys n ≡ true) → (goes ch ys n ≡ true → Reaches ch ys n) → Reaches ch (y ∷ ys) n
-    go (inl g) ih = pick (or_cases (nat_eq n y.count) (ch y.count n) g)
+    go (inl g) ih = pick (or_cases (nat_eq n y.count) (holds (ch y.count) n) g)
     go (inr g) ih = let p = ih g in (p.0, or_right (same_dot p.0 y) (has_dot ys p.0) p.1, p.2)
 
-stood : (ch : ℕ → ℕ → Bool) (c n : ℕ) → (n ≡ c) ⊎ (ch c n ≡ true) → stands_for ch c n ≡ true
-stood ch c n (inl e) = or_left (nat_eq n c) (ch c n) (eq-eqb n c e)
-stood ch c n (inr e) = or_right (nat_eq n c) (ch c n) e
+stood : (ch : Chains) (c n : ℕ) → (n ≡ c) ⊎ (holds (ch c) n ≡ true) → stands_for ch c n ≡ true
+stood ch c n (inl e) = or_left (nat_eq n c) (holds (ch c) n) (eq-eqb n c e)
+stood ch c n (inr e) = or_right (nat_eq n c) (holds (ch c) n) e
 
-goes_to : (ch : ℕ → ℕ → Bool) (ds : List Dot) (n : ℕ) → Reaches ch ds n → goes ch ds n ≡ true
+goes_to : (ch : Chains) (ds : List Dot) (n : ℕ) → Reaches ch ds n → goes ch ds n ≡ true
 goes_to ch [] n p = let q = p.1 in absurd (cc)
 goes_to ch (y ∷ ys) n p = go (or_cases (same_dot p.0 y) (has_dot ys p.0) p.1) (λ m. goes_to ch ys n (p.0, m, p.2))
   where
     go : (same_dot p.0 y ≡ true) ⊎ (has_dot ys p.0 ≡ true) → (has_dot ys p.0 ≡ true → goes ch ys n ≡ true) → goes ch (y ∷ ys) n ≡ true
     go (inl e) ih = or_left (stands_for ch y.count n) (goes ch ys n) (subst (λ (z : Dot). stands_for ch z.count n ≡ true) (same_dot-true p.0 y e) (stood ch (p.0).count n p.2))
     go (inr m) ih = or_right (stands_for ch y.count n) (goes ch ys n) (ih m)
+
+-- a dot that an update takes out is the old row's
+one_taken : (old d : Dot) → has_dot (old ∷ []) d ≡ true → d.count ≡ old.count
+one_taken old d f = go (or_cases (same_dot d old) false f)
+  where
+    go : (same_dot d old ≡ true) ⊎ (false ≡ true) → d.count ≡ old.count
+    go (inl g) = ap (λ (z : Dot). z.count) (same_dot-true d old g)
+    go (inr g) = absurd (cc)
 
 -- ---- an entry that is neither a cut nor a rebirth
 
@@ -62,15 +77,19 @@ uncut_after (outcomes_are.CutAt a b) n q = absurd (cc)
 uncut_after (outcomes_are.Reborn ps) n q = absurd (cc)
 uncut_after _ n q = refl
 
-uncut_older : (o : Outcome) (last : ℕ) (ch : ℕ → ℕ → Bool) (old : ℕ → Bool) (n : ℕ) → renews_kept o ≡ false → older_after o last ch old n ≡ (old n || (nat_le n last && goes ch (dots_taken o) n))
+uncut_older : (o : Outcome) (last : ℕ) (ch : Chains) (old : ℕ → Bool) (n : ℕ) → renews_kept o ≡ false → older_after o last ch old n ≡ (old n || (nat_le n last && goes_by o ch n))
 uncut_older (outcomes_are.CutAt a b) last ch old n q = absurd (cc)
 uncut_older (outcomes_are.Reborn ps) last ch old n q = absurd (cc)
 uncut_older _ last ch old n q = refl
 
-unreplaced : (o : Outcome) (ch : ℕ → ℕ → Bool) (c n : ℕ) → is_quiet o ≡ true → chain_after o ch c n ≡ ch c n
-unreplaced (outcomes_are.Replaced a b) ch c n q = absurd (cc)
-unreplaced (outcomes_are.Reborn ps) ch c n q = absurd (cc)
-unreplaced _ ch c n q = refl
+goes_quiet : (o : Outcome) (ch : Chains) (n : ℕ) → is_quiet o ≡ true → goes_by o ch n ≡ goes ch (dots_taken o) n
+goes_quiet (outcomes_are.Replaced a b) ch n q = absurd (cc)
+goes_quiet _ ch n q = refl
+
+unreplaced : (o : Outcome) (ch : Chains) (c : ℕ) → is_quiet o ≡ true → chain_after o ch c ≡ ch c
+unreplaced (outcomes_are.Replaced a b) ch c q = absurd (cc)
+unreplaced (outcomes_are.Reborn ps) ch c q = absurd (cc)
+unreplaced _ ch c q = refl
 
 module _ (x : Deeds) (h : History) (e : Entry) (are : AreDeeds x) (l : IsLegal (Then h e)) (lasts : is_rebirth e.step ≡ false) (o : IsOwners x h) (c : IsClosed x h) where
   abbrev y : Deeds
@@ -123,19 +142,6 @@ module _ (x : Deeds) (h : History) (e : Entry) (are : AreDeeds x) (l : IsLegal (
       go (inl k) = let p = removal_low m n k in omega (arith, p.0, p.1)
       go (inr k) = omega (arith, k.0)
 
-  -- ---- what is removed
-
-  abbrev Gone : ℕ → Type 0
-  Gone n = removed (Then h e) (dot_of (own h) n) ≡ true
-
-  still : (n : ℕ) → removed h (dot_of (own h) n) ≡ true → Gone n
-  unfolding removed
-  still n f = or_left (removed h (dot_of (own h) n)) (dot_removed e.outcome (next_dot h) (dot_of (own h) n) || told_removed h e.step (dot_of (own h) n)) f
-
-  goes_now : (n : ℕ) → Taken n → Gone n
-  unfolding removed
-  goes_now n f = or_right (removed h (dot_of (own h) n)) (dot_removed e.outcome (next_dot h) (dot_of (own h) n) || told_removed h e.step (dot_of (own h) n)) (or_left (dot_removed e.outcome (next_dot h) (dot_of (own h) n)) (told_removed h e.step (dot_of (own h) n)) (did.taken (dot_of (own h) n) f).1)
-
   -- ---- what is shown
 
   abbrev Comes : Type 0
@@ -150,13 +156,105 @@ module _ (x : Deeds) (h : History) (e : Entry) (are : AreDeeds x) (l : IsLegal (
       go None true p q g = absurd (cc)
       go None false p q g = inr ((s.0, g), q)
 
+  -- ---- what an update hands on from a row that was shown
+
+  module _ (old : Dot) (w : IsOwnShown h old) where
+    abbrev Handed : ℕ → Type 0
+    Handed n = holds (handed (chain h old.count) old.count) n ≡ true
+
+    handed_cases : IsHanded (chain h old.count) old.count
+    handed_cases = is_handed (chain h old.count) old.count (chain_long h l.0 old.count)
+
+    handed_itself : Handed old.count
+    handed_itself = handed_own (chain h old.count) old.count (chain_long h l.0 old.count) (own_low old w).0
+
+    handed_low : (n : ℕ) → 0 < n → Handed n → n ≤ old.count
+    handed_low n pos f = go handed_cases
+      where
+        pick : (holds (chain h old.count) n ≡ true) ⊎ (nat_eq n old.count ≡ true) → n ≤ old.count
+        pick (inl g) = omega (arith, c.chain_low old.count n (at_count old w) pos g)
+        pick (inr g) = omega (arith, eqb-true n old.count g)
+
+        go : IsHanded (chain h old.count) old.count → n ≤ old.count
+        go (inl is) = pick (or_cases (holds (chain h old.count) n) (nat_eq n old.count) (sym (is n (omega (arith, pos))) ∙ f))
+        go (inr is) = leb-true n old.count (and_parts (nat_lt 0 n) (nat_le n old.count) (sym (is.0 n) ∙ f)).1
+
+    handed_closed : (m n : ℕ) → x.removes m n ≡ true → Handed m → Handed n
+    handed_closed m n k f = go handed_cases
+      where
+        low : (0 < n) × (n < m) × (m ≤ count h)
+        low = removal_low m n k
+
+        at_or_above : 0 < m
+        at_or_above = omega (arith, low.0, low.1)
+
+        pick : (holds (chain h old.count) m ≡ true) ⊎ (nat_eq m old.count ≡ true) → holds (chain h old.count) n ≡ true
+        pick (inl g) = c.chain_closed old.count m n (at_count old w) g k
+        pick (inr g) = c.chain_first old.count n (at_count old w) (ap (λ z. x.removes z n) (sym (eqb-true m old.count g)) ∙ k)
+
+        go : IsHanded (chain h old.count) old.count → Handed n
+        go (inl is) =
+            is n (omega (arith, low.0))
+            ∙ or_left (holds (chain h old.count) n) (nat_eq n old.count)
+            (pick (or_cases (holds (chain h old.count) m) (nat_eq m old.count) (sym (is m (omega (arith, at_or_above))) ∙ f)))
+        go (inr is) =
+            is.0 n
+            ∙ and_from (nat_lt 0 n) (nat_le n old.count) (lt-ltb 0 n low.0)
+            (le-leb n old.count (omega (arith, low.1, handed_low m at_or_above f)))
+
+  -- ---- what goes with the entry
+
+  abbrev Goes : ℕ → Type 0
+  Goes n = goes_by e.outcome (chain h) n ≡ true
+
+  record GoesWith : Type 0 where
+    taken : (n : ℕ) → Taken n → Goes n
+    closed : (m n : ℕ) → x.removes m n ≡ true → Goes m → Goes n
+
+  goes_replaced : (old : Dot) → e.outcome ≡ outcomes_are.Replaced (next_dot h) old → IsOwnShown h old → GoesWith
+  goes_replaced old q w = record {
+    taken = λ n f. is n ∙ (ap (holds (handed (chain h old.count) old.count)) (old_taken n f) ∙ handed_itself old w);
+    closed = λ m n k f. is n ∙ handed_closed old w m n k (sym (is m) ∙ f);
+  }
+    where
+      is : (n : ℕ) → goes_by e.outcome (chain h) n ≡ holds (handed (chain h old.count) old.count) n
+      is n = ap (λ z. goes_by z (chain h) n) q
+
+      old_taken : (n : ℕ) → has_dot (dots_taken e.outcome) (dot_of (own h) n) ≡ true → n ≡ old.count
+      old_taken n f = one_taken old (dot_of (own h) n) (sym (ap (λ z. has_dot (dots_taken z) (dot_of (own h) n)) q) ∙ f)
+
+  goes_others : ((n : ℕ) → goes_by e.outcome (chain h) n ≡ goes (chain h) (dots_taken e.outcome) n) → GoesWith
+  goes_others is = record {
+    taken = λ n f. is n ∙ goes_to (chain h) (dots_taken e.outcome) n (dot_of (own h) n, f, inl refl);
+    closed = λ m n k f. is n ∙ goes_to (chain h) (dots_taken e.outcome) n (going m n k (goes_from (chain h) (dots_taken e.outcome) m (sym (is m) ∙ f)));
+  }
+    where
+      going : (m n : ℕ) → x.removes m n ≡ true → Reaches (chain h) (dots_taken e.outcome) m → Reaches (chain h) (dots_taken e.outcome) n
+      going m n k r = (r.0, r.1, inr (pick r.2))
+        where
+          up : IsShownAt h r.0.count
+          up = at_count r.0 (taken_own r.0 r.1)
+
+          pick : (m ≡ r.0.count) ⊎ (holds (chain h r.0.count) m ≡ true) → holds (chain h r.0.count) n ≡ true
+          pick (inl q) = c.chain_first r.0.count n up (ap (λ z. x.removes z n) (sym q) ∙ k)
+          pick (inr q) = c.chain_closed r.0.count m n up q k
+
+  goes_with : GoesWith
+  goes_with = go kind
+    where
+      go : Kind h e.step e.outcome → GoesWith
+      go (Adds r m q s) = goes_others (λ n. ap (λ z. goes_by z (chain h) n) q ∙ sym (ap (λ z. goes (chain h) (dots_taken z) n) q))
+      go (Replaces r old m q s w) = goes_replaced old q w
+      go (Removes d ds q s a k) = goes_others (λ n. ap (λ z. goes_by z (chain h) n) q ∙ sym (ap (λ z. goes (chain h) (dots_taken z) n) q))
+      go (Quiet q) = goes_others (λ n. goes_quiet e.outcome (chain h) n q)
+
   -- ---- older counts
 
   abbrev Now : ℕ → Type 0
-  Now n = (older h n ≡ true) ⊎ ((n ≤ last_cut h) × Reaches (chain h) (dots_taken e.outcome) n)
+  Now n = (older h n ≡ true) ⊎ ((n ≤ last_cut h) × Goes n)
 
   record OlderIs : Type 0 where
-    low : (n : ℕ) → 0 < n → older (Then h e) n ≡ true → (n ≤ last_cut (Then h e)) × Gone n
+    low : (n : ℕ) → 0 < n → older (Then h e) n ≡ true → n ≤ last_cut (Then h e)
     all : (m n : ℕ) → y.removes m n ≡ true → last_cut (Then h e) < m → n ≤ last_cut (Then h e) → older (Then h e) n ≡ true
     closed : (m n : ℕ) → y.removes m n ≡ true → older (Then h e) m ≡ true → older (Then h e) n ≡ true
 
@@ -167,63 +265,46 @@ module _ (x : Deeds) (h : History) (e : Entry) (are : AreDeeds x) (l : IsLegal (
       last : cut_after e.outcome (last_cut h) ≡ last_cut h
       last = uncut_after e.outcome (last_cut h) un
 
-      is : (n : ℕ) → older_after e.outcome (last_cut h) (chain h) (older h) n ≡ (older h n || (nat_le n (last_cut h) && goes (chain h) (dots_taken e.outcome) n))
+      is : (n : ℕ) → older_after e.outcome (last_cut h) (chain h) (older h) n ≡ (older h n || (nat_le n (last_cut h) && goes_by e.outcome (chain h) n))
       is n = uncut_older e.outcome (last_cut h) (chain h) (older h) n un
 
       now : (n : ℕ) → older_after e.outcome (last_cut h) (chain h) (older h) n ≡ true → Now n
-      now n f = go (or_cases (older h n) (nat_le n (last_cut h) && goes (chain h) (dots_taken e.outcome) n) (sym (is n) ∙ f))
+      now n f = go (or_cases (older h n) (nat_le n (last_cut h) && goes_by e.outcome (chain h) n) (sym (is n) ∙ f))
         where
-          go : (older h n ≡ true) ⊎ ((nat_le n (last_cut h) && goes (chain h) (dots_taken e.outcome) n) ≡ true) → (older h n ≡ true) ⊎ ((n ≤ last_cut h) × Reaches (chain h) (dots_taken e.outcome) n)
+          go : (older h n ≡ true) ⊎ ((nat_le n (last_cut h) && goes_by e.outcome (chain h) n) ≡ true) → Now n
           go (inl g) = inl g
-          go (inr g) = let p = and_parts (nat_le n (last_cut h)) (goes (chain h) (dots_taken e.outcome) n) g in inr (leb-true n (last_cut h) p.0, goes_from (chain h) (dots_taken e.outcome) n p.1)
+          go (inr g) = let p = and_parts (nat_le n (last_cut h)) (goes_by e.outcome (chain h) n) g in inr (leb-true n (last_cut h) p.0, p.1)
 
       from_old : (n : ℕ) → older h n ≡ true → older_after e.outcome (last_cut h) (chain h) (older h) n ≡ true
-      from_old n f = is n ∙ or_left (older h n) (nat_le n (last_cut h) && goes (chain h) (dots_taken e.outcome) n) f
+      from_old n f = is n ∙ or_left (older h n) (nat_le n (last_cut h) && goes_by e.outcome (chain h) n) f
 
-      from_going : (n : ℕ) → n ≤ last_cut h → Reaches (chain h) (dots_taken e.outcome) n → older_after e.outcome (last_cut h) (chain h) (older h) n ≡ true
-      from_going n m r = is n ∙ or_right (older h n) (nat_le n (last_cut h) && goes (chain h) (dots_taken e.outcome) n) (and_from (nat_le n (last_cut h)) (goes (chain h) (dots_taken e.outcome) n) (le-leb n (last_cut h) m) (goes_to (chain h) (dots_taken e.outcome) n r))
+      from_going : (n : ℕ) → n ≤ last_cut h → Goes n → older_after e.outcome (last_cut h) (chain h) (older h) n ≡ true
+      from_going n m r = is n ∙ or_right (older h n) (nat_le n (last_cut h) && goes_by e.outcome (chain h) n) (and_from (nat_le n (last_cut h)) (goes_by e.outcome (chain h) n) (le-leb n (last_cut h) m) r)
 
-      reached_gone : (n : ℕ) → 0 < n → Reaches (chain h) (dots_taken e.outcome) n → Gone n
-      reached_gone n pos r = go r.2
-        where
-          go : (n ≡ r.0.count) ⊎ (chain h r.0.count n ≡ true) → Gone n
-          go (inl q) = subst Gone (sym q) (goes_now r.0.count (taken_count r.0 r.1))
-          go (inr q) = still n (c.chain_low r.0.count n (at_count r.0 (taken_own r.0 r.1)) pos q).1
-
-      low : (n : ℕ) → 0 < n → older_after e.outcome (last_cut h) (chain h) (older h) n ≡ true → (n ≤ cut_after e.outcome (last_cut h)) × Gone n
+      low : (n : ℕ) → 0 < n → older_after e.outcome (last_cut h) (chain h) (older h) n ≡ true → n ≤ cut_after e.outcome (last_cut h)
       low n pos f = go (now n f)
         where
-          go : (older h n ≡ true) ⊎ ((n ≤ last_cut h) × Reaches (chain h) (dots_taken e.outcome) n) → (n ≤ cut_after e.outcome (last_cut h)) × Gone n
-          go (inl g) = let p = c.older_low n pos g in (omega (arith, p.0, last), still n p.1)
-          go (inr g) = (omega (arith, g.0, last), reached_gone n pos g.1)
+          go : Now n → n ≤ cut_after e.outcome (last_cut h)
+          go (inl g) = omega (arith, c.older_low n pos g, last)
+          go (inr g) = omega (arith, g.0, last)
 
       all : (m n : ℕ) → y.removes m n ≡ true → cut_after e.outcome (last_cut h) < m → n ≤ cut_after e.outcome (last_cut h) → older_after e.outcome (last_cut h) (chain h) (older h) n ≡ true
       all m n f a b = go (new_removal m n f)
         where
           go : (x.removes m n ≡ true) ⊎ ((m ≡ count h + 1) × Taken n) → older_after e.outcome (last_cut h) (chain h) (older h) n ≡ true
           go (inl k) = from_old n (c.older_all m n k (omega (arith, a, last)) (omega (arith, b, last)))
-          go (inr k) = from_going n (omega (arith, b, last)) (dot_of (own h) n, k.1, inl refl)
+          go (inr k) = from_going n (omega (arith, b, last)) (goes_with.taken n k.1)
 
       closed : (m n : ℕ) → y.removes m n ≡ true → older_after e.outcome (last_cut h) (chain h) (older h) m ≡ true → older_after e.outcome (last_cut h) (chain h) (older h) n ≡ true
       closed m n f g = go (new_removal m n f) (now m g)
         where
-          going : x.removes m n ≡ true → m ≤ last_cut h → Reaches (chain h) (dots_taken e.outcome) m → older_after e.outcome (last_cut h) (chain h) (older h) n ≡ true
-          going k a r = from_going n (omega (arith, a, (removal_low m n k).1)) (r.0, r.1, inr (pick r.2))
-            where
-              up : IsShownAt h r.0.count
-              up = at_count r.0 (taken_own r.0 r.1)
-
-              pick : (m ≡ r.0.count) ⊎ (chain h r.0.count m ≡ true) → chain h r.0.count n ≡ true
-              pick (inl q) = c.chain_first r.0.count n up (ap (λ z. x.removes z n) (sym q) ∙ k)
-              pick (inr q) = c.chain_closed r.0.count m n up q k
-
-          low_of : (older h m ≡ true) ⊎ ((m ≤ last_cut h) × Reaches (chain h) (dots_taken e.outcome) m) → m ≤ last_cut h
-          low_of (inl q) = (c.older_low m (removal_above m n f) q).0
+          low_of : Now m → m ≤ last_cut h
+          low_of (inl q) = c.older_low m (removal_above m n f) q
           low_of (inr q) = q.0
 
-          go : (x.removes m n ≡ true) ⊎ ((m ≡ count h + 1) × Taken n) → (older h m ≡ true) ⊎ ((m ≤ last_cut h) × Reaches (chain h) (dots_taken e.outcome) m) → older_after e.outcome (last_cut h) (chain h) (older h) n ≡ true
+          go : (x.removes m n ≡ true) ⊎ ((m ≡ count h + 1) × Taken n) → Now m → older_after e.outcome (last_cut h) (chain h) (older h) n ≡ true
           go (inl k) (inl q) = from_old n (c.older_closed m n k q)
-          go (inl k) (inr q) = going k q.0 q.1
+          go (inl k) (inr q) = from_going n (omega (arith, q.0, (removal_low m n k).1)) (goes_with.closed m n k q.1)
           go (inr k) q = absurd (omega (arith, k.0, low_of q, last_low))
 
   -- a cut tells all older counts, and every count is below its end
@@ -266,90 +347,87 @@ module _ (x : Deeds) (h : History) (e : Entry) (are : AreDeeds x) (l : IsLegal (
   -- ---- chains
 
   record ChainsAre : Type 0 where
-    first : (b n : ℕ) → IsShownAt (Then h e) b → y.removes b n ≡ true → chain (Then h e) b n ≡ true
-    closed : (b m n : ℕ) → IsShownAt (Then h e) b → chain (Then h e) b m ≡ true → y.removes m n ≡ true → chain (Then h e) b n ≡ true
-    low : (b n : ℕ) → IsShownAt (Then h e) b → 0 < n → chain (Then h e) b n ≡ true → (n < b) × Gone n
-    unused : (b n : ℕ) → count (Then h e) < b → 0 < n → chain (Then h e) b n ≡ false
+    first : (b n : ℕ) → IsShownAt (Then h e) b → y.removes b n ≡ true → holds (chain (Then h e) b) n ≡ true
+    closed : (b m n : ℕ) → IsShownAt (Then h e) b → holds (chain (Then h e) b) m ≡ true → y.removes m n ≡ true → holds (chain (Then h e) b) n ≡ true
+    low : (b n : ℕ) → IsShownAt (Then h e) b → 0 < n → holds (chain (Then h e) b) n ≡ true → n < b
+    unused : (b n : ℕ) → count (Then h e) < b → 0 < n → holds (chain (Then h e) b) n ≡ false
 
   -- of a row that was shown before and has its chain still
   module _ (b : ℕ) (s : IsShownAt h b) where
-    old_first : (n : ℕ) → y.removes b n ≡ true → chain h b n ≡ true
+    old_first : (n : ℕ) → y.removes b n ≡ true → holds (chain h b) n ≡ true
     old_first n f = go (new_removal b n f)
       where
-        go : (x.removes b n ≡ true) ⊎ ((b ≡ count h + 1) × Taken n) → chain h b n ≡ true
+        go : (x.removes b n ≡ true) ⊎ ((b ≡ count h + 1) × Taken n) → holds (chain h b) n ≡ true
         go (inl k) = c.chain_first b n s k
         go (inr k) = absurd (omega (arith, k.0, (shown_low b s).1))
 
-    old_closed : (m n : ℕ) → chain h b m ≡ true → y.removes m n ≡ true → chain h b n ≡ true
+    old_closed : (m n : ℕ) → holds (chain h b) m ≡ true → y.removes m n ≡ true → holds (chain h b) n ≡ true
     old_closed m n f g = go (new_removal m n g)
       where
-        go : (x.removes m n ≡ true) ⊎ ((m ≡ count h + 1) × Taken n) → chain h b n ≡ true
+        go : (x.removes m n ≡ true) ⊎ ((m ≡ count h + 1) × Taken n) → holds (chain h b) n ≡ true
         go (inl k) = c.chain_closed b m n s f k
-        go (inr k) = absurd (omega (arith, k.0, (c.chain_low b m s (removal_above m n g) f).0, (shown_low b s).1))
+        go (inr k) = absurd (omega (arith, k.0, c.chain_low b m s (removal_above m n g) f, (shown_low b s).1))
 
-    old_low : (n : ℕ) → 0 < n → chain h b n ≡ true → (n < b) × Gone n
-    old_low n pos f = let p = c.chain_low b n s pos f in (p.0, still n p.1)
+  abbrev Before : ℕ → Type 0
+  Before b = ((b ≡ count h + 1) × Comes) ⊎ (IsShownAt h b × (has_dot (dots_taken e.outcome) (dot_of (own h) b) ≡ false))
 
   -- an entry that replaces no row
-  chains_same : ((b n : ℕ) → chain (Then h e) b n ≡ chain h b n) → ((n : ℕ) → Comes → Taken n → ⊥) → ChainsAre
-  chains_same same apart = record { first = first; closed = closed; low = low; unused = λ b n u pos. same b n ∙ c.chain_unused b n (omega (arith, u, count-then h e plain)) pos }
+  chains_same : ((b : ℕ) → chain (Then h e) b ≡ chain h b) → ((n : ℕ) → Comes → Taken n → ⊥) → ChainsAre
+  chains_same same apart = record { first = first; closed = closed; low = low; unused = λ b n u pos. at b n ∙ c.chain_unused b n (omega (arith, u, count-then h e plain)) pos }
     where
-      unused_here : (b n : ℕ) → b ≡ count h + 1 → 0 < n → chain h b n ≡ true → ⊥
-      unused_here b n p pos f = both_ways (chain h b n) (c.chain_unused b n (omega (arith, p)) pos) f
+      at : (b n : ℕ) → holds (chain (Then h e) b) n ≡ holds (chain h b) n
+      at b n = ap (λ (rs : List (ℕ × ℕ)). holds rs n) (same b)
 
-      first : (b n : ℕ) → IsShownAt (Then h e) b → y.removes b n ≡ true → chain (Then h e) b n ≡ true
-      first b n s f = same b n ∙ go (shown_cases b s)
+      unused_here : (b n : ℕ) → b ≡ count h + 1 → 0 < n → holds (chain h b) n ≡ true → ⊥
+      unused_here b n p pos f = both_ways (holds (chain h b) n) (c.chain_unused b n (omega (arith, p)) pos) f
+
+      first : (b n : ℕ) → IsShownAt (Then h e) b → y.removes b n ≡ true → holds (chain (Then h e) b) n ≡ true
+      first b n s f = at b n ∙ go (shown_cases b s)
         where
-          fresh : b ≡ count h + 1 → Comes → (x.removes b n ≡ true) ⊎ ((b ≡ count h + 1) × Taken n) → chain h b n ≡ true
+          fresh : b ≡ count h + 1 → Comes → (x.removes b n ≡ true) ⊎ ((b ≡ count h + 1) × Taken n) → holds (chain h b) n ≡ true
           fresh p r (inl k) = absurd (omega (arith, p, (removal_low b n k).2))
           fresh p r (inr k) = absurd (apart n r k.1)
 
-          go : ((b ≡ count h + 1) × Comes) ⊎ (IsShownAt h b × (has_dot (dots_taken e.outcome) (dot_of (own h) b) ≡ false)) → chain h b n ≡ true
+          go : Before b → holds (chain h b) n ≡ true
           go (inl p) = fresh p.0 p.1 (new_removal b n f)
           go (inr p) = old_first b p.0 n f
 
-      closed : (b m n : ℕ) → IsShownAt (Then h e) b → chain (Then h e) b m ≡ true → y.removes m n ≡ true → chain (Then h e) b n ≡ true
-      closed b m n s f g = same b n ∙ go (shown_cases b s)
+      closed : (b m n : ℕ) → IsShownAt (Then h e) b → holds (chain (Then h e) b) m ≡ true → y.removes m n ≡ true → holds (chain (Then h e) b) n ≡ true
+      closed b m n s f g = at b n ∙ go (shown_cases b s)
         where
-          go : ((b ≡ count h + 1) × Comes) ⊎ (IsShownAt h b × (has_dot (dots_taken e.outcome) (dot_of (own h) b) ≡ false)) → chain h b n ≡ true
-          go (inl p) = absurd (unused_here b m p.0 (removal_above m n g) (sym (same b m) ∙ f))
-          go (inr p) = old_closed b p.0 m n (sym (same b m) ∙ f) g
+          go : Before b → holds (chain h b) n ≡ true
+          go (inl p) = absurd (unused_here b m p.0 (removal_above m n g) (sym (at b m) ∙ f))
+          go (inr p) = old_closed b p.0 m n (sym (at b m) ∙ f) g
 
-      low : (b n : ℕ) → IsShownAt (Then h e) b → 0 < n → chain (Then h e) b n ≡ true → (n < b) × Gone n
+      low : (b n : ℕ) → IsShownAt (Then h e) b → 0 < n → holds (chain (Then h e) b) n ≡ true → n < b
       low b n s pos f = go (shown_cases b s)
         where
-          go : ((b ≡ count h + 1) × Comes) ⊎ (IsShownAt h b × (has_dot (dots_taken e.outcome) (dot_of (own h) b) ≡ false)) → (n < b) × Gone n
-          go (inl p) = absurd (unused_here b n p.0 pos (sym (same b n) ∙ f))
-          go (inr p) = old_low b p.0 n pos (sym (same b n) ∙ f)
+          go : Before b → n < b
+          go (inl p) = absurd (unused_here b n p.0 pos (sym (at b n) ∙ f))
+          go (inr p) = c.chain_low b n p.0 pos (sym (at b n) ∙ f)
 
   -- an update hands the old row's chain on
   chains_replaced : (old : Dot) → e.outcome ≡ outcomes_are.Replaced (next_dot h) old → IsOwnShown h old → ChainsAre
   unfolding chain
   chains_replaced old q w = record { first = first; closed = closed; low = low; unused = unused }
     where
-      up : IsShownAt h old.count
-      up = at_count old w
-
       below : (0 < old.count) × (old.count ≤ count h)
       below = own_low old w
 
-      went : Gone old.count
-      went = goes_now old.count (taken_count old (ap (λ z. has_dot (dots_taken z) old) q ∙ or_left (same_dot old old) false (same_dot-refl old)))
+      now : (b : ℕ) → chain_after e.outcome (chain h) b ≡ cond (nat_eq b (count h + 1)) (handed (chain h old.count) old.count) (left_at old.count (chain h) b)
+      now b = ap (λ z. chain_after z (chain h) b) q
 
-      now : (b n : ℕ) → chain_after e.outcome (chain h) b n ≡ cond (nat_eq b (count h + 1)) (stands_for (chain h) old.count n) (left_at old.count (chain h) b n)
-      now b n = ap (λ z. chain_after z (chain h) b n) q
+      at_next : (b n : ℕ) → b ≡ count h + 1 → holds (chain_after e.outcome (chain h) b) n ≡ holds (handed (chain h old.count) old.count) n
+      at_next b n p = ap (λ (rs : List (ℕ × ℕ)). holds rs n) (now b ∙ ap (λ z. cond z (handed (chain h old.count) old.count) (left_at old.count (chain h) b)) (eq-eqb b (count h + 1) p))
 
-      at_next : (b n : ℕ) → b ≡ count h + 1 → chain_after e.outcome (chain h) b n ≡ stands_for (chain h) old.count n
-      at_next b n p = now b n ∙ ap (λ z. cond z (stands_for (chain h) old.count n) (left_at old.count (chain h) b n)) (eq-eqb b (count h + 1) p)
+      elsewhere : (b : ℕ) → (b ≡ count h + 1 → ⊥) → (b ≡ old.count → ⊥) → chain_after e.outcome (chain h) b ≡ chain h b
+      elsewhere b u v =
+          now b
+          ∙ ((λ i. cond (false_from_ne_true (nat_eq b (count h + 1)) (λ f. u (eqb-true b (count h + 1) f)) i) (handed (chain h old.count) old.count) (left_at old.count (chain h) b))
+          ∙ ap (λ z. cond z [] (chain h b)) (false_from_ne_true (nat_eq b old.count) (λ f. v (eqb-true b old.count f))))
 
-      elsewhere : (b n : ℕ) → (b ≡ count h + 1 → ⊥) → (b ≡ old.count → ⊥) → chain_after e.outcome (chain h) b n ≡ chain h b n
-      elsewhere b n u v =
-          now b n
-          ∙ ((λ i. cond (false_from_ne_true (nat_eq b (count h + 1)) (λ f. u (eqb-true b (count h + 1) f)) i) (stands_for (chain h) old.count n) (left_at old.count (chain h) b n))
-          ∙ ap (λ z. cond z false (chain h b n)) (false_from_ne_true (nat_eq b old.count) (λ f. v (eqb-true b old.count f))))
-
-      kept : (b n : ℕ) → IsShownAt h b → has_dot (dots_taken e.outcome) (dot_of (own h) b) ≡ false → chain_after e.outcome (chain h) b n ≡ chain h b n
-      kept b n s f = elsewhere b n (λ p. omega (arith, p, (shown_low b s).1)) (λ p. both_ways (has_dot (dots_taken e.outcome) (dot_of (own h) b)) f (is_taken p))
+      kept : (b n : ℕ) → IsShownAt h b → has_dot (dots_taken e.outcome) (dot_of (own h) b) ≡ false → holds (chain_after e.outcome (chain h) b) n ≡ holds (chain h b) n
+      kept b n s f = ap (λ (rs : List (ℕ × ℕ)). holds rs n) (elsewhere b (λ p. omega (arith, p, (shown_low b s).1)) (λ p. both_ways (has_dot (dots_taken e.outcome) (dot_of (own h) b)) f (is_taken p)))
         where
           is_taken : b ≡ old.count → has_dot (dots_taken e.outcome) (dot_of (own h) b) ≡ true
           is_taken p =
@@ -358,68 +436,59 @@ module _ (x : Deeds) (h : History) (e : Entry) (are : AreDeeds x) (l : IsLegal (
               ∙ (ap (λ z. has_dot (dots_taken z) old) q ∙ or_left (same_dot old old) false (same_dot-refl old)))
 
       old_taken : (n : ℕ) → has_dot (dots_taken e.outcome) (dot_of (own h) n) ≡ true → n ≡ old.count
-      old_taken n f = go (or_cases (same_dot (dot_of (own h) n) old) false (sym (ap (λ z. has_dot (dots_taken z) (dot_of (own h) n)) q) ∙ f))
-        where
-          go : (same_dot (dot_of (own h) n) old ≡ true) ⊎ (false ≡ true) → n ≡ old.count
-          go (inl g) = ap (λ (z : Dot). z.count) (same_dot-true (dot_of (own h) n) old g)
-          go (inr g) = absurd (cc)
+      old_taken n f = one_taken old (dot_of (own h) n) (sym (ap (λ z. has_dot (dots_taken z) (dot_of (own h) n)) q) ∙ f)
 
-      first : (b n : ℕ) → IsShownAt (Then h e) b → y.removes b n ≡ true → chain_after e.outcome (chain h) b n ≡ true
+      first : (b n : ℕ) → IsShownAt (Then h e) b → y.removes b n ≡ true → holds (chain_after e.outcome (chain h) b) n ≡ true
       first b n s f = go (shown_cases b s)
         where
-          fresh : b ≡ count h + 1 → (x.removes b n ≡ true) ⊎ ((b ≡ count h + 1) × (has_dot (dots_taken e.outcome) (dot_of (own h) n) ≡ true)) → stands_for (chain h) old.count n ≡ true
+          fresh : b ≡ count h + 1 → (x.removes b n ≡ true) ⊎ ((b ≡ count h + 1) × (has_dot (dots_taken e.outcome) (dot_of (own h) n) ≡ true)) → holds (handed (chain h old.count) old.count) n ≡ true
           fresh p (inl k) = absurd (omega (arith, p, (removal_low b n k).2))
-          fresh p (inr k) = stood (chain h) old.count n (inl (old_taken n k.1))
+          fresh p (inr k) = ap (holds (handed (chain h old.count) old.count)) (old_taken n k.1) ∙ handed_itself old w
 
-          go : ((b ≡ count h + 1) × Comes) ⊎ (IsShownAt h b × (has_dot (dots_taken e.outcome) (dot_of (own h) b) ≡ false)) → chain_after e.outcome (chain h) b n ≡ true
+          go : ((b ≡ count h + 1) × Comes) ⊎ (IsShownAt h b × (has_dot (dots_taken e.outcome) (dot_of (own h) b) ≡ false)) → holds (chain_after e.outcome (chain h) b) n ≡ true
           go (inl p) = at_next b n p.0 ∙ fresh p.0 (new_removal b n f)
           go (inr p) = kept b n p.0 p.1 ∙ old_first b p.0 n f
 
-      closed : (b m n : ℕ) → IsShownAt (Then h e) b → chain_after e.outcome (chain h) b m ≡ true → y.removes m n ≡ true → chain_after e.outcome (chain h) b n ≡ true
+      closed : (b m n : ℕ) → IsShownAt (Then h e) b → holds (chain_after e.outcome (chain h) b) m ≡ true → y.removes m n ≡ true → holds (chain_after e.outcome (chain h) b) n ≡ true
       closed b m n s f g = go (shown_cases b s)
         where
-          fresh : (nat_eq m old.count ≡ true) ⊎ (chain h old.count m ≡ true) → chain h old.count n ≡ true
-          fresh (inl p) = old_first old.count up n (ap (λ z. y.removes z n) (sym (eqb-true m old.count p)) ∙ g)
-          fresh (inr p) = old_closed old.count up m n p g
+          fresh : holds (handed (chain h old.count) old.count) m ≡ true → (x.removes m n ≡ true) ⊎ ((m ≡ count h + 1) × (has_dot (dots_taken e.outcome) (dot_of (own h) n) ≡ true)) → holds (handed (chain h old.count) old.count) n ≡ true
+          fresh k (inl r) = handed_closed old w m n r k
+          fresh k (inr r) = absurd (omega (arith, r.0, handed_low old w m (removal_above m n g) k, below.1))
 
-          go : ((b ≡ count h + 1) × Comes) ⊎ (IsShownAt h b × (has_dot (dots_taken e.outcome) (dot_of (own h) b) ≡ false)) → chain_after e.outcome (chain h) b n ≡ true
-          go (inl p) = at_next b n p.0 ∙ stood (chain h) old.count n (inr (fresh (or_cases (nat_eq m old.count) (chain h old.count m) (sym (at_next b m p.0) ∙ f))))
+          go : ((b ≡ count h + 1) × Comes) ⊎ (IsShownAt h b × (has_dot (dots_taken e.outcome) (dot_of (own h) b) ≡ false)) → holds (chain_after e.outcome (chain h) b) n ≡ true
+          go (inl p) = at_next b n p.0 ∙ fresh (sym (at_next b m p.0) ∙ f) (new_removal m n g)
           go (inr p) = kept b n p.0 p.1 ∙ old_closed b p.0 m n (sym (kept b m p.0 p.1) ∙ f) g
 
-      low : (b n : ℕ) → IsShownAt (Then h e) b → 0 < n → chain_after e.outcome (chain h) b n ≡ true → (n < b) × Gone n
+      low : (b n : ℕ) → IsShownAt (Then h e) b → 0 < n → holds (chain_after e.outcome (chain h) b) n ≡ true → n < b
       low b n s pos f = go (shown_cases b s)
         where
-          fresh : b ≡ count h + 1 → (nat_eq n old.count ≡ true) ⊎ (chain h old.count n ≡ true) → (n < b) × Gone n
-          fresh p (inl k) = let m : n ≡ old.count = eqb-true n old.count k in (omega (arith, p, m, below.1), subst Gone (sym m) went)
-          fresh p (inr k) = let r = old_low old.count up n pos k in (omega (arith, p, r.0, below.1), r.1)
+          go : ((b ≡ count h + 1) × Comes) ⊎ (IsShownAt h b × (has_dot (dots_taken e.outcome) (dot_of (own h) b) ≡ false)) → n < b
+          go (inl p) = omega (arith, p.0, handed_low old w n pos (sym (at_next b n p.0) ∙ f), below.1)
+          go (inr p) = c.chain_low b n p.0 pos (sym (kept b n p.0 p.1) ∙ f)
 
-          go : ((b ≡ count h + 1) × Comes) ⊎ (IsShownAt h b × (has_dot (dots_taken e.outcome) (dot_of (own h) b) ≡ false)) → (n < b) × Gone n
-          go (inl p) = fresh p.0 (or_cases (nat_eq n old.count) (chain h old.count n) (sym (at_next b n p.0) ∙ f))
-          go (inr p) = old_low b p.0 n pos (sym (kept b n p.0 p.1) ∙ f)
-
-      unused : (b n : ℕ) → count (Then h e) < b → 0 < n → chain_after e.outcome (chain h) b n ≡ false
-      unused b n u pos = elsewhere b n (λ p. omega (arith, p, u, count-then h e plain, ap counts_used q)) (λ p. omega (arith, p, u, count-then h e plain, below.1)) ∙ c.chain_unused b n (omega (arith, u, count-then h e plain)) pos
+      unused : (b n : ℕ) → count (Then h e) < b → 0 < n → holds (chain_after e.outcome (chain h) b) n ≡ false
+      unused b n u pos =
+          ap (λ (rs : List (ℕ × ℕ)). holds rs n) (elsewhere b (λ p. omega (arith, p, u, count-then h e plain, ap counts_used q)) (λ p. omega (arith, p, u, count-then h e plain, below.1)))
+          ∙ c.chain_unused b n (omega (arith, u, count-then h e plain)) pos
 
   chains_are : ChainsAre
   unfolding chain
   chains_are = go kind
     where
       go : Kind h e.step e.outcome → ChainsAre
-      go (Adds r m q s) = chains_same (λ b n. ap (λ z. chain_after z (chain h) b n) q) (λ n r f. let g : false ≡ true = sym (ap (λ z. has_dot (dots_taken z) (dot_of (own h) n)) q) ∙ f in absurd (cc))
+      go (Adds r m q s) = chains_same (λ b. ap (λ z. chain_after z (chain h) b) q) (λ n r f. let g : false ≡ true = sym (ap (λ z. has_dot (dots_taken z) (dot_of (own h) n)) q) ∙ f in absurd (cc))
       go (Replaces r old m q s w) = chains_replaced old q w
-      go (Removes d ds q s a k) = chains_same (λ b n. ap (λ z. chain_after z (chain h) b n) q) (λ n r f. let g : None ≡ Some r.0 = sym (ap (λ z. row_added e.step z (next_dot h)) q) ∙ r.1 in absurd (cc))
-      go (Quiet q) = chains_same (λ b n. unreplaced e.outcome (chain h) b n q) (λ n r f. let g : None ≡ Some r.0 = sym (quiet_row e.step e.outcome (next_dot h) q) ∙ r.1 in absurd (cc))
+      go (Removes d ds q s a k) = chains_same (λ b. ap (λ z. chain_after z (chain h) b) q) (λ n r f. let g : None ≡ Some r.0 = sym (ap (λ z. row_added e.step z (next_dot h)) q) ∙ r.1 in absurd (cc))
+      go (Quiet q) = chains_same (λ b. unreplaced e.outcome (chain h) b q) (λ n r f. let g : None ≡ Some r.0 = sym (quiet_row e.step e.outcome (next_dot h) q) ∙ r.1 in absurd (cc))
 
   pub closed_then : IsClosed (with_entry x h e) (Then h e)
   closed_then = record {
-    older_low = λ n p f. let q = older_is.low n p f in (q.0, still_own n q.1);
+    older_low = older_is.low;
     older_all = older_is.all;
     older_closed = older_is.closed;
     chain_first = chains_are.first;
     chain_closed = chains_are.closed;
-    chain_low = λ b n s p f. let q = chains_are.low b n s p f in (q.0, still_own n q.1);
+    chain_low = chains_are.low;
     chain_unused = chains_are.unused;
   }
-    where
-      still_own : (n : ℕ) → removed (Then h e) (dot_of (own h) n) ≡ true → removed (Then h e) (dot_of (own (Then h e)) n) ≡ true
-      still_own n f = ap (λ q. removed (Then h e) (dot_of q n)) (own-then h e lasts) ∙ f

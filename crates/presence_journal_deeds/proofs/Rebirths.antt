@@ -6,6 +6,7 @@ use Rattle.presence_base.specs.declared.dots.Replica.{Replica}
 use Rattle.presence_base.specs.declared.dots.Dot.{Dot}
 use Rattle.presence_base.specs.declared.row.Row.{Row}
 use Rattle.presence_base.specs.Order.{same_replica, same_dot}
+use Rattle.dot_context_runs.specs.Runs.{holds}
 use Rattle.delta_range.specs.Keeping.{Kept}
 use Rattle.presence_journal_data.specs.declared.entry.Outcome.TheVariants as outcomes_are
 use Rattle.presence_journal.specs.Steps.{Outcome, Entry}
@@ -124,7 +125,7 @@ module _ (deeds : AllDeeds) (h : History) (e : Entry) (l : IsLegal (Then h e)) (
       none_older (outcomes_are.Reborn ps) a m = refl
       none_older _ a m = absurd (cc)
 
-      none_chained : (o : Outcome) → is_reborn o ≡ true → (b m : ℕ) → chain_after o (chain h) b m ≡ false
+      none_chained : (o : Outcome) → is_reborn o ≡ true → (b m : ℕ) → holds (chain_after o (chain h) b) m ≡ false
       none_chained (outcomes_are.Reborn ps) a b m = refl
       none_chained _ a b m = absurd (cc)
 

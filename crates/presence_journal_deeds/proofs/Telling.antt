@@ -24,6 +24,8 @@ use Rattle.presence_journal.proofs.PresentLemmas.{shown-row}
 use Rattle.presence_journal.proofs.HistoryLemmas.{known_from, shown-live}
 use Rattle.presence_journal.proofs.Merges.{removed_is_known, known_is_live_or_removed}
 use Rattle.presence_journal_cuts.specs.Cuts.{older, recent, IsCut}
+use Rattle.presence_journal_cuts.specs.ToldParts.{row_of_count}
+use Rattle.presence_journal_cuts.proofs.Histories.{last_cut-low}
 use Rattle.presence_journal_starts.specs.Checkpoints.{kept_row}
 use Rattle.presence_journal_starts.proofs.Told.{full_stands}
 use Rattle.presence_journal_deeds.specs.Deeds.{AllDeeds}
@@ -80,10 +82,13 @@ module _ (deeds : AllDeeds) (h : History) (c : DeltaValue) (are : (r : Replica) 
   In d = (d.replica ≡ own h) × (last_cut h < d.count) × (d.count ≤ count h)
 
   abbrev Older : Dot → Type 0
-  Older d = (d.replica ≡ own h) × (0 < d.count) × (older h d.count ≡ true)
+  Older d = (d.replica ≡ own h) × (0 < d.count) × (older h d.count ≡ true) × (live h d ≡ None)
 
   same_range : (d : Dot) → in_range c.owner c.from c.to d ≡ in_range (own h) (last_cut h) (count h) d
   same_range d = λ i. in_range (cut.owner i) (cut.from i) (cut.to i) d
+
+  own_dot : (d : Dot) → d.replica ≡ own h → dot_of (own h) d.count ≡ d
+  own_dot d o = λ i. dot_of (sym o i) d.count
 
   cut_cases : (d : Dot) → covers (telling c) d ≡ true → In d ⊎ Older d
   cut_cases d f = go (or_cases (lies_in (own_dots c ∷ []) d) (is_among (older_dots c) d) f)
@@ -97,31 +102,35 @@ module _ (deeds : AllDeeds) (h : History) (c : DeltaValue) (are : (r : Replica) 
       go (inr g) =
           let p = and_parts (same_replica d.replica c.owner) (holds c.older d.count) (sym (older_has c d) ∙ g) in
           let pos : 0 < d.count = ltb-true 0 d.count (held_below c.from d.count c.older delta.below p.1).0 in
-          inr (same_replica-true d.replica c.owner p.0 ∙ cut.owner, pos, sym (cut.before d.count (omega (arith, pos))) ∙ p.1)
+          let mine : d.replica ≡ own h = same_replica-true d.replica c.owner p.0 ∙ cut.owner in
+          let q = and_parts (older h d.count) (is_none (row_of_count h d.count)) (sym (cut.before d.count (omega (arith, pos))) ∙ p.1) in
+          inr (mine, pos, q.0, ap (live h) (sym (own_dot d mine)) ∙ is_none_is (row_of_count h d.count) q.1)
 
   covers_in : (n : ℕ) → last_cut h < n → n ≤ count h → covers (telling c) (dot_of (own h) n) ≡ true
   covers_in n a b =
       or_left (lies_in (own_dots c ∷ []) (dot_of (own h) n)) (is_among (older_dots c) (dot_of (own h) n))
       (or_left (in_range c.owner c.from c.to (dot_of (own h) n)) false (same_range (dot_of (own h) n) ∙ range_from (own h) (last_cut h) (count h) n a b))
 
-  covers_older : (n : ℕ) → 0 < n → older h n ≡ true → covers (telling c) (dot_of (own h) n) ≡ true
-  covers_older n pos f =
+  covers_older : (n : ℕ) → 0 < n → older h n ≡ true → live h (dot_of (own h) n) ≡ None → covers (telling c) (dot_of (own h) n) ≡ true
+  covers_older n pos f gone =
       or_right (lies_in (own_dots c ∷ []) (dot_of (own h) n)) (is_among (older_dots c) (dot_of (own h) n))
       (older_has c (dot_of (own h) n)
-      ∙ and_from (same_replica (own h) c.owner) (holds c.older n) (ap (same_replica (own h)) cut.owner ∙ same_replica-refl (own h)) (cut.before n (omega (arith, pos)) ∙ f))
+      ∙ and_from (same_replica (own h) c.owner) (holds c.older n) (ap (same_replica (own h)) cut.owner ∙ same_replica-refl (own h)) (cut.before n (omega (arith, pos)) ∙ and_from (older h n) (is_none (row_of_count h n)) f (ap is_none gone)))
 
   in_known : (d : Dot) → In d → known h d ≡ true
   in_known d p = known_from h t.legal d p.0 (omega (arith, p.1)) p.2
 
-  own_dot : (d : Dot) → d.replica ≡ own h → dot_of (own h) d.count ≡ d
-  own_dot d o = λ i. dot_of (sym o i) d.count
+  older_known : (d : Dot) → Older d → known h d ≡ true
+  older_known d p =
+      let low = t.closed.older_low d.count p.1 p.2 in
+      known_from h t.legal d p.0 p.1 (omega (arith, low, last_cut-low h t.legal))
 
   older_removed : (d : Dot) → Older d → removed h d ≡ true
-  older_removed d p = sym (ap (removed h) (own_dot d p.0)) ∙ (t.closed.older_low d.count p.1 p.2).1
+  older_removed d p = known_is_live_or_removed h t.legal d (older_known d p) p.3
 
   cut_known : (d : Dot) → In d ⊎ Older d → known h d ≡ true
   cut_known d (inl p) = in_known d p
-  cut_known d (inr p) = removed_is_known h t.legal d (older_removed d p)
+  cut_known d (inr p) = older_known d p
 
   cut_row : (d : Dot) (r : Row) → live_row (telling c) d ≡ Some r → row h d ≡ Some r
   unfolding recent
@@ -164,16 +173,20 @@ module _ (deeds : AllDeeds) (h : History) (c : DeltaValue) (are : (r : Replica) 
   cut_removed d (inl p) n = in_removed d p n
   cut_removed d (inr p) n = older_removed d p
 
-  own_targets : (m n : ℕ) → In (dot_of (own h) m) ⊎ Older (dot_of (own h) m) → (deeds (own h)).removes m n ≡ true → covers (telling c) (dot_of (own h) n) ≡ true
-  own_targets m n (inl p) k = go (cases_lt (last_cut h) n)
+  -- what a count that is told removed is not live
+  target_gone : (m n : ℕ) → In (dot_of (own h) m) ⊎ Older (dot_of (own h) m) → (deeds (own h)).removes m n ≡ true → live h (dot_of (own h) n) ≡ None
+  target_gone m n p k = live_gone h (dot_of (own h) n) (t.honest.targets_known (own h) m n (cut_known (dot_of (own h) m) p) k)
+
+  own_targets : (m n : ℕ) → In (dot_of (own h) m) ⊎ Older (dot_of (own h) m) → (deeds (own h)).removes m n ≡ true → live h (dot_of (own h) n) ≡ None → covers (telling c) (dot_of (own h) n) ≡ true
+  own_targets m n (inl p) k gone = go (cases_lt (last_cut h) n)
     where
       low : (0 < n) × (n < m) × (m ≤ (deeds (own h)).used)
       low = (are (own h)).targets_in m n k
 
       go : (last_cut h < n) ⊎ (n ≤ last_cut h) → covers (telling c) (dot_of (own h) n) ≡ true
       go (inl a) = covers_in n a (omega (arith, p.2, low.1))
-      go (inr a) = covers_older n low.0 (t.closed.older_all m n k p.1 a)
-  own_targets m n (inr p) k = covers_older n ((are (own h)).targets_in m n k).0 (t.closed.older_closed m n k p.2)
+      go (inr a) = covers_older n low.0 (t.closed.older_all m n k p.1 a) gone
+  own_targets m n (inr p) k gone = covers_older n ((are (own h)).targets_in m n k).0 (t.closed.older_closed m n k p.2) gone
 
   pub cut_tells : TellsTrue deeds (telling c)
   cut_tells = record {
@@ -184,7 +197,7 @@ module _ (deeds : AllDeeds) (h : History) (c : DeltaValue) (are : (r : Replica) 
   }
     where
       own_case : (m n : ℕ) → In (dot_of (own h) m) ⊎ Older (dot_of (own h) m) → (deeds (own h)).removes m n ≡ true → tells_removed (telling c) (dot_of (own h) n) ≡ true
-      own_case m n p k = told_gone (telling c) (dot_of (own h) n) (own_targets m n p k) (cut_none (dot_of (own h) n) (t.honest.targets_known (own h) m n (cut_known (dot_of (own h) m) p) k))
+      own_case m n p k = told_gone (telling c) (dot_of (own h) n) (own_targets m n p k (target_gone m n p k)) (cut_none (dot_of (own h) n) (t.honest.targets_known (own h) m n (cut_known (dot_of (own h) m) p) k))
 
       of_own : (r : Replica) (m : ℕ) → In (dot_of r m) ⊎ Older (dot_of r m) → r ≡ own h
       of_own r m (inl p) = p.0

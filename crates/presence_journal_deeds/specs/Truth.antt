@@ -3,6 +3,7 @@ use Rattle.std.specs.Prelude.{◌≡◌, ◌⊎◌, ℕ, ◌<◌, ◌≤◌, tru
 use Rattle.presence_base.specs.declared.dots.Replica.{Replica}
 use Rattle.presence_base.specs.declared.dots.Dot.{Dot}
 use Rattle.presence_base.specs.declared.row.Row.{Row}
+use Rattle.dot_context_runs.specs.Runs.{holds}
 use Rattle.orswot_core_told.specs.Telling.{ToldValue, covers, live_row, tells_removed}
 use Rattle.orswot_core.specs.Full.{dot_of}
 use Rattle.delta_range.specs.Deltas.{DeltaValue, telling, IsDelta}
@@ -46,17 +47,17 @@ pub record IsOwners (x : Deeds) (h : History) : Type 0 where
 abbrev pub IsShownAt : History → ℕ → Type 0
 IsShownAt h n = (r : Row) × (shown h (dot_of (own h) n) ≡ Some r)
 
--- What the next cut tells of older counts, and each chain of an own row, is closed: with a count stands all that it
--- removed. All of them are removed, and counts that aren't used yet have no chain.
+-- The older counts of which the next cut tells those without a live row, and each chain of an own row, are closed: with a count
+-- stands all that it removed. A chain's counts are below its row's, and counts that aren't used yet have no chain.
 pub record IsClosed (x : Deeds) (h : History) : Type 0 where
-  pub older_low : (n : ℕ) → 0 < n → older h n ≡ true → (n ≤ last_cut h) × (removed h (dot_of (own h) n) ≡ true)
+  pub older_low : (n : ℕ) → 0 < n → older h n ≡ true → n ≤ last_cut h
   pub older_all : (c n : ℕ) → x.removes c n ≡ true → last_cut h < c → n ≤ last_cut h → older h n ≡ true
   pub older_closed : (c n : ℕ) → x.removes c n ≡ true → older h c ≡ true → older h n ≡ true
-  pub chain_first : (c n : ℕ) → IsShownAt h c → x.removes c n ≡ true → chain h c n ≡ true
-  pub chain_closed : (b c n : ℕ) → IsShownAt h b → chain h b c ≡ true → x.removes c n ≡ true → chain h b n ≡ true
-  pub chain_low : (b n : ℕ) → IsShownAt h b → 0 < n → chain h b n ≡ true
-      → (n < b) × (removed h (dot_of (own h) n) ≡ true)
-  pub chain_unused : (b n : ℕ) → count h < b → 0 < n → chain h b n ≡ false
+  pub chain_first : (c n : ℕ) → IsShownAt h c → x.removes c n ≡ true → holds (chain h c) n ≡ true
+  pub chain_closed : (b c n : ℕ) → IsShownAt h b → holds (chain h b) c ≡ true → x.removes c n ≡ true
+      → holds (chain h b) n ≡ true
+  pub chain_low : (b n : ℕ) → IsShownAt h b → 0 < n → holds (chain h b) n ≡ true → n < b
+  pub chain_unused : (b n : ℕ) → count h < b → 0 < n → holds (chain h b) n ≡ false
 
 -- a kept delta is true, and ends where the last cut did
 abbrev pub IsTrueKept : AllDeeds → Option (Replica × ℕ) → Option DeltaValue → Type 0

@@ -38,7 +38,9 @@ fn told_covers(start: &Start, entries: &[Entry], step: &Step, dot: &Dot) -> bool
     ensures { result ≡ told_covers (onto (Begin start.now) entries.now) step.now dot.now }
 {
     match step {
-        Step::Merge { told } => covers(told, dot) && hears_after(start, entries, &dot.replica),
+        Step::Merge { told } => {
+            covers(told.get(), dot) && hears_after(start, entries, &dot.replica)
+        }
         _ => false,
     }
 }

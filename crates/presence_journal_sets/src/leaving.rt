@@ -26,8 +26,8 @@ fn named_by<'a>(own: &'a Replica, step: &'a Step) -> Option<&'a Replica>
     ensures { option_copied result ≡ named_by own.now step.now }
 {
     match step {
-        Step::Heard { replica, .. } => Some(replica),
-        Step::PermDown { replica } => Some(replica),
+        Step::Heard { replica, .. } => Some(replica.get()),
+        Step::PermDown { replica } => Some(replica.get()),
         Step::Rebirth { .. } => Some(own),
         _ => None,
     }

@@ -83,7 +83,7 @@ fn reach_by_step(start: &Start, entries: &[Entry], step: &Step, replica: &Replic
     let Step::Merge { told } = step else {
         return from;
     };
-    let reach = reach_by_told(told, replica, from);
+    let reach = reach_by_told(told.get(), replica, from);
     if from < reach && hears_after(start, entries, replica) {
         reach
     } else {

@@ -32,7 +32,7 @@ pub fn number_dots(
         };
         pairs.push((new, *dot))?;
     }
-    Ok(Pairs::new(pairs))
+    Pairs::new(alloc, pairs)
 }
 
 /// Whether a replica can go on under an incarnation, by its own one, the status of the new replica, and whether dots of that

@@ -68,10 +68,12 @@ fn next_standing(
 {
     match step {
         Step::Heard { replica: heard, .. } => {
-            heard_standing(is_same(replica, heard), time, standing)
+            heard_standing(is_same(replica, heard.get()), time, standing)
         }
         Step::Tick { .. } => standing.ticked_at(time),
-        Step::PermDown { replica: gone } => gone_standing(is_same(replica, gone), standing),
+        Step::PermDown { replica: gone } => {
+            gone_standing(is_same(replica, gone.get()), standing)
+        }
         Step::Rebirth { .. } => gone_standing(is_same(replica, own), standing),
         _ => standing,
     }

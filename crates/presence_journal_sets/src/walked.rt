@@ -280,8 +280,10 @@ fn take_own(
     ensures { OnOk result (Holds (Then (onto (Begin start.now) entries.now) entry.now) set.new) }
 {
     match &entry.outcome {
-        Outcome::Added(new) => take_added(alloc, set, start, entries, entry, *new),
-        Outcome::Replaced(new, old) => take_replaced(alloc, set, start, entries, entry, new, old),
+        Outcome::Added(new) => take_added(alloc, set, start, entries, entry, *new.get()),
+        Outcome::Replaced(new, old) => {
+            take_replaced(alloc, set, start, entries, entry, new.get(), old.get())
+        }
         Outcome::Removed(dots) => {
             take_untracked(alloc, set, start, entries, entry, dots.as_slice(), next)
         }
@@ -295,7 +297,7 @@ fn told_by(step: &Step) -> Option<&Told>
     ensures { option_copied result ≡ told_in step.now }
 {
     match step {
-        Step::Merge { told } => Some(told),
+        Step::Merge { told } => Some(told.get()),
         _ => None,
     }
 }

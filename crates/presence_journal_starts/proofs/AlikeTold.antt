@@ -1,5 +1,5 @@
 -- What is told in full and by a cut in histories that say the same.
-use Rattle.std.proofs.Common.{◌≡◌, ℕ, cond, Option, Some, None, sym, ◌∙◌, ap, arith}
+use Rattle.std.proofs.Common.{◌≡◌, ℕ, cond, ◌&&◌, is_none, Option, Some, None, sym, ◌∙◌, ap, arith}
 use Rattle.presence_base.specs.declared.dots.Dot.{Dot}
 use Rattle.presence_base.specs.Order.{same_replica}
 use Rattle.dot_context.specs.Sets.{in_range}
@@ -8,14 +8,17 @@ use Rattle.orswot_core_told.specs.Telling.{ToldValue}
 use Rattle.orswot_core.specs.Sets.{DotRows}
 use Rattle.delta_range.specs.Deltas.{DeltaValue}
 use Rattle.delta_range.specs.Keeping.{from_count}
-use Rattle.presence_journal.specs.History.{History}
+use Rattle.orswot_core.specs.Full.{dot_of}
+use Rattle.presence_journal.specs.History.{History, own, status, is_gone, live}
+use Rattle.presence_journal.proofs.HistoryLemmas.{status-own}
 use Rattle.presence_journal_sets.specs.LeftOut.{HoldsCovered}
 use Rattle.presence_journal_sets.specs.Full.{IsFullOf}
 use Rattle.presence_journal_cuts.specs.Cuts.{recent, IsCut}
+use Rattle.presence_journal_cuts.specs.ToldParts.{row_of_count}
 use Rattle.presence_journal_cuts.specs.KeptDeltas.{TellsOrAll, IsToldFrom}
 use Rattle.presence_journal_starts.specs.Later.{IsLike, AlikeTellTheSame}
 use Rattle.presence_journal_starts.proofs.Alikes.{status_same, hears_same, top_of}
-use Rattle.presence_journal_starts.proofs.AlikeRows.{shown_same, present_same, listed_same}
+use Rattle.presence_journal_starts.proofs.AlikeRows.{live_same, shown_same, present_same, listed_same}
 
 pub turned : (g h : History) → IsLike g h → IsLike h g
 turned g h a = record {
@@ -23,8 +26,8 @@ turned g h a = record {
   covers = λ d. sym (a.covers d);
   rows = λ d. sym (a.rows d);
   older = λ n low. sym (a.older n low);
-  chains = λ d r o e n low. sym (a.chains d r (o ∙ a.own) (sym (shown_same g h a d) ∙ e) n low);
-  unused = λ c l n low. sym (a.unused c (omega (arith, l, a.count)) n low);
+  chains = λ d r o e. sym (a.chains d r (o ∙ a.own) (sym (shown_same g h a d) ∙ e));
+  unused = λ c l. sym (a.unused c (omega (arith, l, a.count)));
   deltas = λ k. ((a.deltas k).1, (a.deltas k).0);
   time = sym a.time;
   last_cut = sym a.last_cut;
@@ -49,12 +52,16 @@ pub recent_same : (g h : History) → IsLike g h → (d : Dot) → recent g d �
 unfolding recent
 recent_same g h a d = λ i. cond (in_range (a.own i) (a.last_cut i) (a.count i) d) (shown_same g h a d i) None
 
+-- a count has the same row in both
+row_same : (g h : History) → IsLike g h → (n : ℕ) → row_of_count g n ≡ row_of_count h n
+row_same g h a n = ap (λ r. live g (dot_of r n)) a.own ∙ live_same g h a (dot_of (own h) n) (ap is_gone (status-own h))
+
 pub cut_of : (g h : History) (c : DeltaValue) → IsLike g h → IsCut h c → IsCut g c
 cut_of g h c a is = record {
   owner = is.owner ∙ sym a.own;
   from = is.from ∙ sym a.last_cut;
   to = is.to ∙ sym a.count;
-  before = λ n low. is.before n low ∙ sym (a.older n low);
+  before = λ n low. is.before n low ∙ sym (λ i. a.older n low i && is_none (row_same g h a n i));
   rows = λ d. is.rows d ∙ sym (recent_same g h a d);
   in_order = is.in_order;
 }

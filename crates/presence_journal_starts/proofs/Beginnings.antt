@@ -39,9 +39,9 @@ pub removed-begin : (s : Start) (d : Dot) → removed (Begin s) d ≡ tells_remo
 unfolding removed
 removed-begin s d = refl
 
-pub chain-begin : (s : Start) (c n : ℕ) → chain (Begin s) c n ≡ chain_in s.chains c n
+pub chain-begin : (s : Start) (c : ℕ) → chain (Begin s) c ≡ chain_in s.chains c
 unfolding chain
-chain-begin s c n = refl
+chain-begin s c = refl
 
 pub older-begin : (s : Start) (n : ℕ) → older (Begin s) n ≡ holds s.older n
 unfolding older

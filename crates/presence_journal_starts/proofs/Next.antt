@@ -28,6 +28,8 @@ use Rattle.presence_journal.proofs.HistoryLemmas.{Kind, IsOwnShown, kind_of, kin
 use Rattle.presence_journal.proofs.Merges.{merge_is_live, own_steps_alone}
 use Rattle.presence_journal_cuts.specs.Chains.{Counts}
 use Rattle.presence_journal_cuts.specs.Cuts.{goes, chain, chain_after, older, older_after, IsCut}
+use Rattle.presence_journal_cuts.specs.Handing.{handed}
+use Rattle.dot_context_runs.specs.Runs.{holds}
 use Rattle.presence_journal_cuts.specs.KeptDeltas.{KeepsAfter, AreKeptOf}
 use Rattle.presence_journal_cuts.proofs.KeptLemmas.{kept-then, then-kept}
 use Rattle.presence_journal_starts.specs.Checkpoints.{kept_row}
@@ -75,19 +77,19 @@ module _ (g h : History) (a : IsLike g h) where
 
   goes_same : (ds : List Dot) (n : ℕ) → 1 ≤ n → AllByRecursion (IsOwnShown h) ds → goes (chain g) ds n ≡ goes (chain h) ds n
   goes_same [] n low all = refl
-  goes_same (d ∷ ds) n low all = λ i. (nat_eq n d.count || a.chains d all.0.row all.0.own all.0.shown n low i) || goes_same ds n low all.1 i
+  goes_same (d ∷ ds) n low all = λ i. (nat_eq n d.count || holds (a.chains d all.0.row all.0.own all.0.shown i) n) || goes_same ds n low all.1 i
 
   older_same : (o : Outcome) (n : ℕ) → 1 ≤ n → AllByRecursion (IsOwnShown h) (dots_taken o) → older_after o (last_cut g) (chain g) (older g) n ≡ older_after o (last_cut h) (chain h) (older h) n
   older_same (outcomes_are.CutAt from to) n low all = refl
-  older_same (outcomes_are.Replaced new old) n low all = λ i. a.older n low i || (nat_le n (a.last_cut i) && goes_same (old ∷ []) n low all i)
+  older_same (outcomes_are.Replaced new old) n low all = λ i. a.older n low i || (nat_le n (a.last_cut i) && holds (handed (a.chains old all.0.row all.0.own all.0.shown i) old.count) n)
   older_same (outcomes_are.Removed ds) n low all = λ i. a.older n low i || (nat_le n (a.last_cut i) && goes_same ds n low all i)
   older_same (outcomes_are.Reborn ps) n low all = refl
   older_same _ n low all = λ i. a.older n low i || (nat_le n (a.last_cut i) && false)
 
-  chain_same : (o : Outcome) (c n : ℕ) → 1 ≤ n → AllByRecursion (IsOwnShown h) (dots_taken o) → chain g c n ≡ chain h c n → chain_after o (chain g) c n ≡ chain_after o (chain h) c n
-  chain_same (outcomes_are.Replaced new old) c n low all e = λ i. cond (nat_eq c new.count) (nat_eq n old.count || a.chains old all.0.row all.0.own all.0.shown n low i) (cond (nat_eq c old.count) false (e i))
-  chain_same (outcomes_are.Reborn ps) c n low all e = refl
-  chain_same _ c n low all e = e
+  chain_same : (o : Outcome) (c : ℕ) → AllByRecursion (IsOwnShown h) (dots_taken o) → chain g c ≡ chain h c → chain_after o (chain g) c ≡ chain_after o (chain h) c
+  chain_same (outcomes_are.Replaced new old) c all e = λ i. cond (nat_eq c new.count) (handed (a.chains old all.0.row all.0.own all.0.shown i) old.count) (cond (nat_eq c old.count) [] (e i))
+  chain_same (outcomes_are.Reborn ps) c all e = refl
+  chain_same _ c all e = e
 
 -- an own row that an entry brings is under the next dot
 comes_next : (h : History) (e : Entry) (d : Dot) (r : Row) → IsLegal (Then h e) → is_rebirth e.step ≡ false → d.replica ≡ own h → shown h d ≡ None → shown (Then h e) d ≡ Some r → d ≡ next_dot h
@@ -198,27 +200,27 @@ module _ (g h : History) (e f : Entry) (a : IsLike g h) (lg : IsLegal (Then g e)
       ∙ (older_same g h a f.outcome m low taken
       ∙ sym (older-then h f m)))
 
-  chain_next : (c m : ℕ) → 1 ≤ m → chain g c m ≡ chain h c m → chain (Then g e) c m ≡ chain (Then h f) c m
-  chain_next c m low same =
-      chain-then g e c m
-      ∙ (ap (λ o. chain_after o (chain g) c m) q
-      ∙ (chain_same g h a f.outcome c m low taken same
-      ∙ sym (chain-then h f c m)))
+  chain_next : (c : ℕ) → chain g c ≡ chain h c → chain (Then g e) c ≡ chain (Then h f) c
+  chain_next c same =
+      chain-then g e c
+      ∙ (ap (λ o. chain_after o (chain g) c) q
+      ∙ (chain_same g h a f.outcome c taken same
+      ∙ sym (chain-then h f c)))
 
-  chains_next : (d : Dot) (r : Row) → d.replica ≡ own (Then h f) → shown (Then h f) d ≡ Some r → Counts (chain (Then g e) d.count) (chain (Then h f) d.count)
-  chains_next d r o s m low = chain_next d.count m low (go (shown h d) refl)
+  chains_next : (d : Dot) (r : Row) → d.replica ≡ own (Then h f) → shown (Then h f) d ≡ Some r → chain (Then g e) d.count ≡ chain (Then h f) d.count
+  chains_next d r o s = chain_next d.count (go (shown h d) refl)
     where
       mine : d.replica ≡ own h
       mine = o ∙ own-then h f n
 
-      go : (x : Option Row) → shown h d ≡ x → chain g d.count m ≡ chain h d.count m
-      go (Some x) is = a.chains d x mine is m low
+      go : (x : Option Row) → shown h d ≡ x → chain g d.count ≡ chain h d.count
+      go (Some x) is = a.chains d x mine is
       go None is =
           let next : d.count ≡ count h + 1 = ap (λ (x : Dot). x.count) (comes_next h f d r lh n mine is s) in
-          a.unused d.count (omega (arith, next)) m low
+          a.unused d.count (omega (arith, next))
 
-  unused_next : (c : ℕ) → count (Then h f) < c → Counts (chain (Then g e) c) (chain (Then h f) c)
-  unused_next c l m low = chain_next c m low (a.unused c (omega (arith, l, count-then h f plain_h)) m low)
+  unused_next : (c : ℕ) → count (Then h f) < c → chain (Then g e) c ≡ chain (Then h f) c
+  unused_next c l = chain_next c (a.unused c (omega (arith, l, count-then h f plain_h)))
 
   deltas_next : (k : Kept) → AreKeptOf (Then g e) k ↔ AreKeptOf (Then h f) k
   deltas_next k = (
@@ -375,11 +377,11 @@ module _ (g h : History) (e f : Entry) (a : IsLike g h) (lg : IsLegal (Then g e)
       ∙ (ap (λ o. older_after o (last_cut g) (chain g) (older g) m) v.outcome
       ∙ sym (older-then h f m ∙ ap (λ o. older_after o (last_cut h) (chain h) (older h) m) w.outcome))
 
-  chain_anew : (c m : ℕ) → chain (Then g e) c m ≡ chain (Then h f) c m
-  chain_anew c m =
-      chain-then g e c m
-      ∙ (ap (λ o. chain_after o (chain g) c m) v.outcome
-      ∙ sym (chain-then h f c m ∙ ap (λ o. chain_after o (chain h) c m) w.outcome))
+  chain_anew : (c : ℕ) → chain (Then g e) c ≡ chain (Then h f) c
+  chain_anew c =
+      chain-then g e c
+      ∙ (ap (λ o. chain_after o (chain g) c) v.outcome
+      ∙ sym (chain-then h f c ∙ ap (λ o. chain_after o (chain h) c) w.outcome))
 
   deltas_anew : (k : Kept) → AreKeptOf (Then g e) k ↔ AreKeptOf (Then h f) k
   deltas_anew k = (
@@ -393,8 +395,8 @@ module _ (g h : History) (e f : Entry) (a : IsLike g h) (lg : IsLegal (Then g e)
     covers = covered_anew;
     rows = kept_anew;
     older = older_anew;
-    chains = λ d r o s m low. chain_anew d.count m;
-    unused = λ c l m low. chain_anew c m;
+    chains = λ d r o s. chain_anew d.count;
+    unused = λ c l. chain_anew c;
     deltas = deltas_anew;
     time = time-then g e ∙ ((λ i. max (a.time i) (time_of (p i))) ∙ sym (time-then h f));
     last_cut = cut-then g e ∙ ((λ i. cut_after (q i) (a.last_cut i)) ∙ sym (cut-then h f));

@@ -89,18 +89,18 @@ same_cut (outcomes_are.Taken state items) n f = refl
 same_cut outcomes_are.Ended n f = refl
 same_cut _ n f = absurd (cc)
 
-same_chain : (o : Outcome) (f : ℕ → ℕ → Bool) (c n : ℕ) → is_silent o ≡ true → chain_after o f c n ≡ f c n
-same_chain (outcomes_are.Subscribed k) f c n e = refl
-same_chain (outcomes_are.Taken state items) f c n e = refl
-same_chain outcomes_are.Ended f c n e = refl
-same_chain _ f c n e = absurd (cc)
+same_chain : (o : Outcome) (f : ℕ → List (ℕ × ℕ)) (c : ℕ) → is_silent o ≡ true → chain_after o f c ≡ f c
+same_chain (outcomes_are.Subscribed k) f c e = refl
+same_chain (outcomes_are.Taken state items) f c e = refl
+same_chain outcomes_are.Ended f c e = refl
+same_chain _ f c e = absurd (cc)
 
 none_goes : (a b : Bool) → (a || (b && false)) ≡ a
 none_goes true b = refl
 none_goes false true = refl
 none_goes false false = refl
 
-same_older : (o : Outcome) (last : ℕ) (f : ℕ → ℕ → Bool) (k : ℕ → Bool) (n : ℕ) → is_silent o ≡ true → older_after o last f k n ≡ k n
+same_older : (o : Outcome) (last : ℕ) (f : ℕ → List (ℕ × ℕ)) (k : ℕ → Bool) (n : ℕ) → is_silent o ≡ true → older_after o last f k n ≡ k n
 same_older (outcomes_are.Subscribed m) last f k n e = none_goes (k n) (nat_le n last)
 same_older (outcomes_are.Taken state items) last f k n e = none_goes (k n) (nat_le n last)
 same_older outcomes_are.Ended last f k n e = none_goes (k n) (nat_le n last)
@@ -140,8 +140,8 @@ module _ (h : History) (e : Entry) (l : IsLegal (Then h e)) (of : is_of_subscrib
     covers = λ d. (λ i. known_here d i && not (is_gone (status_here d.replica i)));
     rows = λ d. (λ i. cond (is_gone (status_here d.replica i)) None (live_here d i));
     older = λ n low. older-then h e n ∙ same_older e.outcome (last_cut h) (chain h) (older h) n silent_here;
-    chains = λ d r o s n low. chain-then h e d.count n ∙ same_chain e.outcome (chain h) d.count n silent_here;
-    unused = λ c m n low. chain-then h e c n ∙ same_chain e.outcome (chain h) c n silent_here;
+    chains = λ d r o s. chain-then h e d.count ∙ same_chain e.outcome (chain h) d.count silent_here;
+    unused = λ c m. chain-then h e c ∙ same_chain e.outcome (chain h) c silent_here;
     deltas = λ k. (other_kept h e k (uncut e.outcome silent_here), kept_other h e k (uncut e.outcome silent_here));
     time = time_here;
     last_cut = cut-then h e ∙ same_cut e.outcome (last_cut h) silent_here;

@@ -33,9 +33,9 @@ pub cut-then : (h : History) (e : Entry) → last_cut (Then h e) ≡ cut_after e
 unfolding last_cut
 cut-then h e = refl
 
-pub chain-then : (h : History) (e : Entry) (c n : ℕ) → chain (Then h e) c n ≡ chain_after e.outcome (chain h) c n
+pub chain-then : (h : History) (e : Entry) (c : ℕ) → chain (Then h e) c ≡ chain_after e.outcome (chain h) c
 unfolding chain
-chain-then h e c n = refl
+chain-then h e c = refl
 
 pub older-then : (h : History) (e : Entry) (n : ℕ) → older (Then h e) n ≡ older_after e.outcome (last_cut h) (chain h) (older h) n
 unfolding older

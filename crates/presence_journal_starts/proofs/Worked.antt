@@ -28,7 +28,8 @@ use Rattle.presence_journal.proofs.Same.{same_replica-true, same_dot-true}
 use Rattle.presence_journal.proofs.FoldOthers.{stays_legal}
 use Rattle.presence_journal.proofs.WorkedTables.{ran_is}
 use Rattle.presence_journal_cuts.specs.Chains.{Counts}
-use Rattle.presence_journal_cuts.specs.Cuts.{chain_in, goes, chain, older}
+use Rattle.presence_journal_cuts.specs.Cuts.{chain_in, chain, older}
+use Rattle.presence_journal_cuts.specs.Handing.{handed}
 use Rattle.presence_journal_cuts.specs.KeptDeltas.{AreKeptOf}
 use Rattle.presence_journal_starts.specs.Checkpoints.{kept_row, StandsFor, IsCheckpoint}
 use Rattle.presence_journal_starts.specs.Worked.{node_a, node_b, plain, dot_of_b, told_by_b, track_one, update_one, worked_steps, worked_run, worked_start, StartStands}
@@ -208,27 +209,24 @@ older_whole : Counts (holds worked_start.older) (older whole)
 unfolding older last_cut
 older_whole n low =
     let z = not_low n low in
-    sym (λ i. ((((false || (z i && false)) || (z i && false)) || (z i && false)) || (z i && false)) || (z i && goes (chain fourth) (dot 1 ∷ []) n))
+    sym (λ i. ((((false || (z i && false)) || (z i && false)) || (z i && false)) || (z i && false)) || (z i && holds (handed (chain fourth 1) 1) n))
 
-one_count : (n : ℕ) → ((nat_lt 0 n && nat_le n 1) || false) ≡ (nat_eq n 1 || false)
-one_count n = grind (arith, nat_tests)
-
-chain_two : (n : ℕ) → chain_in worked_start.chains 2 n ≡ chain whole 2 n
-unfolding chain
-chain_two n = one_count n
+chain_two : chain_in worked_start.chains 2 ≡ chain whole 2
+unfolding chain handed
+chain_two = refl
 
 other_count : (c : ℕ) → 2 < c → nat_eq c 2 ≡ false
 other_count c l = grind (arith, nat_tests)
 
-no_count : (b : Bool) → cond b false false ≡ false
+no_count : (b : Bool) → cond {A = List (ℕ × ℕ)} b [] [] ≡ []
 no_count true = refl
 no_count false = refl
 
-chain_unused : (c n : ℕ) → nat_eq c 2 ≡ false → chain_in worked_start.chains c n ≡ chain whole c n
+chain_unused : (c : ℕ) → nat_eq c 2 ≡ false → chain_in worked_start.chains c ≡ chain whole c
 unfolding chain
-chain_unused c n e =
-    ap (λ b. holds (listed (cond b (Some ((0, 1) ∷ [])) None)) n) e
-    ∙ sym ((λ i. cond (e i) (nat_eq n 1 || false) (cond (nat_eq c 1) false false)) ∙ no_count (nat_eq c 1))
+chain_unused c e =
+    ap (λ b. listed (cond b (Some ((0, 1) ∷ [])) None)) e
+    ∙ sym ((λ i. cond (e i) (handed [] 1) (cond (nat_eq c 1) [] [])) ∙ no_count (nat_eq c 1))
 
 under : (b : Bool) (o : Option Row) (r : Row) → cond b o None ≡ Some r → o ≡ Some r
 under true o r e = e
@@ -272,10 +270,10 @@ stands_whole = record {
   standings = λ r f. standing_whole r;
   older = older_whole;
   low = (tt, refl);
-  chains = λ d r o s n low.
+  chains = λ d r o s.
       let c : d.count ≡ 2 = ap (λ (x : Dot). x.count) (shown_two d r s) in
-      subst (λ (k : ℕ). chain_in worked_start.chains k n ≡ chain whole k n) (sym c) (chain_two n);
-  unused = λ c l n low. chain_unused c n (other_count c (omega (arith, l, count_whole)));
+      subst (λ (k : ℕ). chain_in worked_start.chains k ≡ chain whole k) (sym c) chain_two;
+  unused = λ c l. chain_unused c (other_count c (omega (arith, l, count_whole)));
   long = ((omega arith, tt), tt);
   deltas = deltas_whole;
   topics = topic_whole;

@@ -25,11 +25,11 @@ kept_row h d = cond (is_gone (status h d.replica)) None (live h d)
 -- each own row that is shown has its chain
 abbrev pub ListsChains : History → List (ℕ × List (ℕ × ℕ)) → Type 0
 ListsChains h xs = (d : Dot) (r : Row) → d.replica ≡ own h → shown h d ≡ Some r
-    → Counts (chain_in xs d.count) (chain h d.count)
+    → chain_in xs d.count ≡ chain h d.count
 
 -- and so has each count that is not used yet
 abbrev pub ListsUnused : History → List (ℕ × List (ℕ × ℕ)) → Type 0
-ListsUnused h xs = (c : ℕ) → count h < c → Counts (chain_in xs c) (chain h c)
+ListsUnused h xs = (c : ℕ) → count h < c → chain_in xs c ≡ chain h c
 
 -- The Start has the next number. Of a replica that is gone only the standing is kept: its dots are not covered, and no row
 -- of it is live. What a Start has for a count that is not used yet is the chain of the row that uses it: a wrong one would

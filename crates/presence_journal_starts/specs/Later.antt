@@ -26,8 +26,8 @@ pub record IsLike (g h : History) : Type 0 where
   pub covers : (d : Dot) → covered g d ≡ covered h d
   pub rows : (d : Dot) → kept_row g d ≡ kept_row h d
   pub older : Counts (older g) (older h)
-  pub chains : (d : Dot) (r : Row) → d.replica ≡ own h → shown h d ≡ Some r → Counts (chain g d.count) (chain h d.count)
-  pub unused : (c : ℕ) → count h < c → Counts (chain g c) (chain h c)
+  pub chains : (d : Dot) (r : Row) → d.replica ≡ own h → shown h d ≡ Some r → chain g d.count ≡ chain h d.count
+  pub unused : (c : ℕ) → count h < c → chain g c ≡ chain h c
   pub deltas : (k : Kept) → AreKeptOf g k ↔ AreKeptOf h k
   pub time : time g ≡ time h
   pub last_cut : last_cut g ≡ last_cut h

@@ -113,11 +113,11 @@ KeepsRecent = (h : History) (s : Start) → IsCheckpoint h s → (d : Dot) → r
 -- the chains of the own rows that are shown, and those of counts that are not used yet
 abbrev pub KeepsShownChains : Type 0
 KeepsShownChains = (h : History) (s : Start) → IsCheckpoint h s → (d : Dot) (r : Row) → d.replica ≡ own h
-    → shown h d ≡ Some r → Counts (chain (Begin s) d.count) (chain h d.count)
+    → shown h d ≡ Some r → chain (Begin s) d.count ≡ chain h d.count
 
 abbrev pub KeepsUnusedChains : Type 0
 KeepsUnusedChains = (h : History) (s : Start) → IsCheckpoint h s → (c : ℕ) → count h < c
-    → Counts (chain (Begin s) c) (chain h c)
+    → chain (Begin s) c ≡ chain h c
 
 -- a history has its kept deltas once
 abbrev pub OneKept : Type 0

@@ -29,8 +29,8 @@ fn added_topic<'a>(step: &'a Step, outcome: &Outcome, dot: &Dot) -> Option<&'a T
     ensures { option_copied result ≡ topic_in (row_added step.now outcome.now dot.now) }
 {
     match outcome {
-        Outcome::Added(new) => made_topic(dot.cmp(new).is_eq(), step),
-        Outcome::Replaced(new, _) => made_topic(dot.cmp(new).is_eq(), step),
+        Outcome::Added(new) => made_topic(dot.cmp(new.get()).is_eq(), step),
+        Outcome::Replaced(new, _) => made_topic(dot.cmp(new.get()).is_eq(), step),
         _ => None,
     }
 }

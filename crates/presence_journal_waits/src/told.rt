@@ -69,7 +69,7 @@ pub(crate) fn told_topic<'a>(
     match step {
         Step::Merge { told } => {
             if hears_after(start, entries, &dot.replica) {
-                live_topic(told, dot)
+                live_topic(told.get(), dot)
             } else {
                 None
             }
@@ -83,7 +83,9 @@ pub(crate) fn tells_removed(start: &Start, entries: &[Entry], step: &Step, dot: 
     ensures { result ≡ told_removed (onto (Begin start.now) entries.now) step.now dot.now }
 {
     match step {
-        Step::Merge { told } => { hears_after(start, entries, &dot.replica) && removes(told, dot) }
+        Step::Merge { told } => {
+            hears_after(start, entries, &dot.replica) && removes(told.get(), dot)
+        }
         _ => false,
     }
 }
@@ -93,7 +95,7 @@ pub(crate) fn rows_told(step: &Step) -> &[(Dot, Row)]
     ensures { result.now ≡ rows_told step.now }
 {
     match step {
-        Step::Merge { told } => told.live(),
+        Step::Merge { told } => told.get().live(),
         _ => &[],
     }
 }

@@ -49,11 +49,11 @@ fn added_row(entry: &Entry, topic: &Topic) -> Result<Option<(Dot, Row)>, AllocEr
     match &entry.outcome {
         Outcome::Added(new) => {
             let row = made_row_of(&entry.step, None, topic)?;
-            Ok(under_dot(*new, row))
+            Ok(under_dot(*new.get(), row))
         }
         Outcome::Replaced(new, old) => {
-            let row = made_row_of(&entry.step, Some(*old), topic)?;
-            Ok(under_dot(*new, row))
+            let row = made_row_of(&entry.step, Some(*old.get()), topic)?;
+            Ok(under_dot(*new.get(), row))
         }
         _ => Ok(None),
     }
@@ -94,7 +94,7 @@ fn dots_out(outcome: &Outcome) -> &[Dot]
     ensures { result.now ≡ dots_taken outcome.now }
 {
     match outcome {
-        Outcome::Replaced(_, old) => std::slice::from_ref(old),
+        Outcome::Replaced(_, old) => std::slice::from_ref(old.get()),
         Outcome::Removed(dots) => dots.as_slice(),
         _ => &[],
     }

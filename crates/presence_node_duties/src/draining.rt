@@ -1,7 +1,7 @@
 //! Checkpoints at quiet moments: where a journal is nearly full the workers read nothing for a while and deliver what waits,
 //! so that the checkpoint leaves nothing out.
 ghost use Rattle.std.specs.Prelude.{◌≡◌, ◌<◌};
-ghost use Rattle.presence_node_duties.specs.Due.{IsDueBy, due_entries as due_entries_in};
+ghost use Rattle.presence_node_duties.specs.Due.{IsDueBy, IsDueFrom, due_entries as due_entries_in};
 
 use crate::server::Server;
 use presence_node_counts::Checkpoint;
@@ -16,8 +16,11 @@ const DUE_ENTRIES: u64 = 196_608;
 /// Where memory is tight one with so many is, once in a while, so that what is gone is given back.
 const TIGHT_ENTRIES: u64 = 64;
 
-/// A journal whose entries keep so many bytes of texts is due too: three quarters of 64 MiB.
+/// A journal whose entries keep so many bytes of texts and of dots that lists showed is due too: three quarters of 64 MiB.
 const DUE_TEXT_BYTES: u64 = 50_331_648;
+
+/// A journal with so many entries is due where nobody follows a topic of its shard, so that nobody is told anything by it.
+const DUE_ENTRIES_AT_REST: u64 = 8_192;
 
 /// The journals are looked at once in so long, in milliseconds.
 const LOOK_MILLISECONDS: u64 = 5;
@@ -185,10 +188,35 @@ impl Drain {
 }
 
 // With how many entries a journal is due.
-fn due_entries(is_tight: bool) -> u64
-    ensures { result ≡ due_entries_in is_tight }
+fn due_entries(is_tight: bool, is_followed: bool) -> u64
+    ensures { result ≡ due_entries_in is_tight is_followed }
 {
-    if is_tight { TIGHT_ENTRIES } else { DUE_ENTRIES }
+    if is_tight {
+        TIGHT_ENTRIES
+    } else if is_followed {
+        DUE_ENTRIES
+    } else {
+        DUE_ENTRIES_AT_REST
+    }
+}
+
+// From when on a shard's journal is due. What the dots of its lists take counts as texts do, and where nobody follows a topic
+// fewer entries make it due.
+fn due_from<R: Wait, H, A: Lane, B: Lane, C: Lane, D: Lane>(
+    rt: &R,
+    server: &Server<'_, H, A, B, C, D>,
+    is_tight: bool,
+    shard: u32,
+) -> DueFrom
+    requires { shard < server.now.pool.shards }
+    ensures { IsDueFrom is_tight result.entries result.kept_bytes }
+{
+    let followed = server.pool.row_counts(rt, shard).topics;
+    let lists = server.pool.list_bytes(rt, shard);
+    DueFrom {
+        entries: due_entries(is_tight, followed > 0),
+        kept_bytes: DUE_TEXT_BYTES.saturating_sub(lists),
+    }
 }
 
 // Whether a shard's journal is due for a checkpoint, where memory is tight or isn't.
@@ -201,9 +229,10 @@ fn is_due_at<R: Wait, H, A: Lane, B: Lane, C: Lane, D: Lane>(
     requires { shard < server.now.pool.shards }
     ensures { IsDueBy server.now.pool.own.name is_tight result }
 {
+    let due = due_from(rt, server, is_tight, shard);
     let entries = server.pool.entry_count(rt, shard);
-    let bytes = server.pool.text_bytes(rt, shard);
-    entries >= due_entries(is_tight) || bytes >= DUE_TEXT_BYTES
+    let bytes = server.pool.kept_bytes(rt, shard);
+    entries >= due.entries || bytes >= due.kept_bytes
 }
 
 /// Whether a journal is due for a checkpoint, where memory is tight or isn't.
@@ -270,10 +299,7 @@ fn make_at<R: Wait, H, A: Lane, B: Lane, C: Lane, D: Lane>(
         server.pool.checkpoint(rt, server.alloc, shard)?;
         true
     } else {
-        let due = DueFrom {
-            entries: due_entries(is_tight),
-            text_bytes: DUE_TEXT_BYTES,
-        };
+        let due = due_from(rt, server, is_tight, shard);
         server
             .pool
             .checkpoint_where_quiet(rt, server.alloc, shard, due)?

@@ -20,6 +20,7 @@ pub fn limits_are_these()
     ensures due { draining.DUE_ENTRIES ≡ 196608 }
     ensures due_where_tight { draining.TIGHT_ENTRIES ≡ 64 }
     ensures tight_rest { draining.TIGHT_MILLISECONDS ≡ 30000 }
+    ensures due_at_rest { draining.DUE_ENTRIES_AT_REST ≡ 8192 }
     ensures due_texts { draining.DUE_TEXT_BYTES ≡ 50331648 }
     ensures journal_look { draining.LOOK_MILLISECONDS ≡ 5 }
     ensures drain { draining.MAX_DRAIN_MILLISECONDS ≡ 100 }

@@ -35,7 +35,7 @@ fn shards_of<R: Wait, H, A: Lane, B: Lane, C: Lane, D: Lane>(
     let mut topics = Vec::new(alloc);
     for shard in 0..server.links.shards() {
         entries.push(server.pool.entry_count(rt, shard))?;
-        text_bytes.push(server.pool.text_bytes(rt, shard))?;
+        text_bytes.push(server.pool.kept_bytes(rt, shard))?;
         let rows = server.pool.row_counts(rt, shard);
         own_rows.push(rows.own)?;
         other_rows.push(rows.others)?;

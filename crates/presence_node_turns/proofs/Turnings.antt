@@ -1,5 +1,5 @@
 -- The steps of a turn, put together.
-use Rattle.std.proofs.Common.{◌≡◌, ℕ, List, Bool, true, false, is_some, Option, Result, Ok, Err, IfOk, refl, sym, ap, ◌∙◌, subst}
+use Rattle.std.proofs.Common.{◌≡◌, ℕ, List, Bool, true, false, ◌||◌, is_some, Option, Result, Ok, Err, IfOk, refl, sym, ap, ◌∙◌, subst}
 use Rattle.std.specs.Prelude.{String, Vec}
 use Rattle.std.specs.Global.{Global}
 use Rattle.tungstenite.specs.Socket.{Socket}
@@ -115,14 +115,14 @@ answers {S} {K} {P} w routes text old mid new before after answer texts result r
     }
 
 -- what was delivered within the room that there was goes out
-pub deals : {S K P : Type 0} (w : Around S P) (old mid new : Connection S K) (before after : P) (delivery : Result Delivery SessionFault) (given room : ℕ)
-    (result : Result Bool Cause) → given ≡ room_in old.socket
+pub deals : {S K P : Type 0} (w : Around S P) (old mid new : Connection S K) (before after : P) (delivery : Result Delivery SessionFault) (given room : ℕ) (telling : Bool)
+    (result : Result Bool Cause) → given ≡ room_in old.socket → telling ≡ is_some old.telling.untold
     → (old.session.failed ≡ true → (delivery ≡ Err Failed) × (mid.session ≡ old.session) × (after ≡ before) × (mid.telling ≡ old.telling))
     → (old.session.failed ≡ false → DeliveredBy w.worded w.noted (Spares (Piecewise w.step)) MAX_DEALT old.session ((before, old.telling.untold), given) ((after, mid.telling.untold), room) mid.session delivery)
     → mid ≡ record old { session = mid.session; telling = mid.telling }
-    → GoOut w.contents mid.socket new.socket (dealt_texts delivery) (dealt result) → IfOk result (λ told. told ≡ may_have_more delivery room (is_some mid.telling.untold))
+    → GoOut w.contents mid.socket new.socket (dealt_texts delivery) (dealt result) → IfOk result (λ told. told ≡ may_have_more delivery room (telling || is_some mid.telling.untold))
     → new ≡ record mid { socket = new.socket } → Deals w old new before after result
-deals {S} {K} {P} w old mid new before after delivery given room result is failed came held sent more kept =
+deals {S} {K} {P} w old mid new before after delivery given room telling result is was failed came held sent more kept =
     let session : new.session ≡ mid.session = ap (λ (c : Connection S K). c.session) kept in
     let told : new.telling ≡ mid.telling = ap (λ (c : Connection S K). c.telling) kept in
     let socket : mid.socket ≡ old.socket = ap (λ (c : Connection S K). c.socket) held in
@@ -135,6 +135,8 @@ deals {S} {K} {P} w old mid new before after delivery given room result is faile
           (subst (λ (u : Telling). DeliveredBy w.worded w.noted (Spares (Piecewise w.step)) MAX_DEALT old.session ((before, old.telling.untold), room_in old.socket) ((after, u.untold), room) mid.session delivery) (sym told)
           (subst (λ (n : ℕ). DeliveredBy w.worded w.noted (Spares (Piecewise w.step)) MAX_DEALT old.session ((before, old.telling.untold), n) ((after, mid.telling.untold), room) mid.session delivery) is (came so)));
       sent = subst (λ (s : Socket S). GoOut w.contents s new.socket (dealt_texts delivery) (dealt result)) socket sent;
-      more = subst (λ (u : Telling). IfOk result (λ b. b ≡ may_have_more delivery room (is_some u.untold))) (sym told) more;
+      more =
+          subst (λ (t : Bool). IfOk result (λ b. b ≡ may_have_more delivery room (t || is_some new.telling.untold))) was
+          (subst (λ (u : Telling). IfOk result (λ b. b ≡ may_have_more delivery room (telling || is_some u.untold))) (sym told) more);
       kept = turned old mid new kept held session told;
     }

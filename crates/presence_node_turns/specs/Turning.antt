@@ -155,7 +155,8 @@ progress_of false = progress.Idle
 
 -- ---- what a delivery tells
 
--- whether more may wait than was taken, where so many bytes more might have been, and a state is being told or not
+-- Whether more may wait than was taken, where so many bytes more might have been. While a state is being told, or was before
+-- the last piece of it, nothing else is taken.
 abbrev pub may_have_more : Result Delivery SessionFault → ℕ → Bool → Bool
 may_have_more (Ok delivery) room untold = leb MAX_DEALT (vec_len delivery.texts) || (room == 0) || untold
 may_have_more (Err fault) room untold = false
@@ -215,7 +216,8 @@ module _ {S K P : Type 0} (w : Around S P) where
         → DeliveredBy w.worded w.noted (Spares (Piecewise w.step)) MAX_DEALT old.session
         ((before, old.telling.untold), room_in old.socket) ((after, new.telling.untold), room) new.session delivery
     pub sent : GoOut w.contents old.socket new.socket (dealt_texts delivery) (dealt result)
-    pub more : IfOk result (λ told. told ≡ may_have_more delivery room (is_some new.telling.untold))
+    pub more : IfOk result
+        (λ told. told ≡ may_have_more delivery room (is_some old.telling.untold || is_some new.telling.untold))
     pub kept : new ≡ record old { socket = new.socket; session = new.session; telling = new.telling }
 
   -- Behind the message comes one delivery, unless the connection ends; and whether a message came, or more may wait, is told.

@@ -1,5 +1,5 @@
 //! A connection, and its turn.
-ghost use Rattle.std.specs.Prelude.{is_ok, is_some, Some, ◌≡◌, ◌+◌, ◌≤◌, ◌^◌, [], leb, false, true, map, string_bytes, None, IfOk};
+ghost use Rattle.std.specs.Prelude.{is_ok, is_some, Some, ◌||◌, ◌≡◌, ◌+◌, ◌≤◌, ◌^◌, [], leb, false, true, map, string_bytes, None, IfOk};
 ghost use Rattle.phx_message.specs.Reading.{decoded};
 ghost use Rattle.tungstenite.specs.Socket.{Flushed};
 ghost use Rattle.presence_node_turns.specs.Hearing.{is_message};
@@ -271,20 +271,21 @@ impl<S: Read + Write + Drop, K: MaskKeys + Drop> Connection<S, K> {
     }
 
     // Puts the texts of a delivery in what waits to be sent, where so many bytes more might have been taken: whether more
-    // may wait, as where a state is being told.
+    // may wait, as where a state is being told, or was before, so that nothing else was taken.
     fn send_dealt(
         &mut self,
         delivery: Result<Delivery, SessionFault>,
         left: usize,
+        telling: bool,
     ) -> Result<bool, Cause>
         ensures sent { GoOut S.contents self.old.socket self.new.socket (dealt_texts delivery) (dealt result) }
-        ensures more { IfOk result (λ told. told ≡ may_have_more delivery left (is_some self.old.telling.untold)) }
+        ensures more { IfOk result (λ told. told ≡ may_have_more delivery left (telling || is_some self.old.telling.untold)) }
         ensures kept { self.new ≡ record self.old { socket = self.new.socket } }
     {
         match delivery {
             Ok(Delivery { texts, notices }) => {
                 drop(notices);
-                let untold = self.telling.is_under_way();
+                let untold = telling || self.telling.is_under_way();
                 let more = texts.len() >= MAX_DEALT as usize || left == 0 || untold;
                 match self.send(texts) {
                     Ok(()) => Ok(more),
@@ -327,8 +328,9 @@ impl<S: Read + Write + Drop, K: MaskKeys + Drop> Connection<S, K> {
             self.old self.new port.old port.new result }
     {
         let room = MAX_UNSENT.saturating_sub(self.socket.waiting());
+        let telling = self.telling.is_under_way();
         let (delivery, left) = self.take(alloc, port, hooks, room);
-        self.send_dealt(delivery, left)
+        self.send_dealt(delivery, left, telling)
     }
 
     // Goes on behind a message with a delivery.

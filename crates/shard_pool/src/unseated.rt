@@ -2,7 +2,7 @@
 // contracts name a history behind the answer at most.
 ghost use Rattle.std.specs.Prelude.{◌≡◌, ◌<◌, ◌-◌, ◌^◌, min, IfOk, IfErr};
 ghost use Rattle.presence_journal.specs.History.{IsTop, entry_count, own, start_of, status};
-ghost use Rattle.presence_journal.specs.TextBytes.{text_bytes};
+ghost use Rattle.presence_journal.specs.KeptBytes.{kept_bytes};
 ghost use Rattle.shard_pool_locks.specs.Full.{IsFullOf};
 ghost use Rattle.orswot_core_told.specs.Checks.{WhereItFits};
 ghost use Rattle.shard_pool_locks.specs.KeptDeltas.{IsToldFrom, TellsFrom};
@@ -23,10 +23,10 @@ use replica_status::Status;
 use shard_pool_locks::{
     DueFrom, Gate, Lane, PoolFault, RowCounts, Sub, locked_checkpoint,
     locked_checkpoint_where_full, locked_checkpoint_where_quiet, locked_cut, locked_entry_count,
-    locked_fitting, locked_full, locked_heard, locked_incarnation, locked_journal, locked_merge,
-    locked_part, locked_permdown, locked_rebirth, locked_row_counts, locked_start_of,
-    locked_status, locked_text_bytes, locked_tick, locked_told_from, locked_top, locked_trim,
-    locked_waits,
+    locked_fitting, locked_full, locked_heard, locked_incarnation, locked_journal,
+    locked_kept_bytes, locked_list_bytes, locked_merge, locked_part, locked_permdown,
+    locked_rebirth, locked_row_counts, locked_start_of, locked_status, locked_tick,
+    locked_told_from, locked_top, locked_trim, locked_waits,
 };
 use std::alloc::Global;
 use std::sync::Wait;
@@ -357,16 +357,24 @@ impl<G: Gate, A: Lane, B: Lane, C: Lane, D: Lane> Pool<G, A, B, C, D> {
         at!(self, shard, lock => locked_entry_count(rt, lock))
     }
 
-    /// The bytes of the texts of a shard's entries, or the most that a count of 64 bits tells: what a checkpoint may give
+    /// The bytes that a shard's entries keep beside themselves, or the most that a count of 64 bits tells: what a checkpoint may give
     /// back. It is no step, and takes a moment under the lock.
     #[tactic(auto, using(crate::proofs::Lanes::lanes))]
-    pub fn text_bytes<R: Wait>(&self, rt: &R, shard: u32) -> u64
+    pub fn kept_bytes<R: Wait>(&self, rt: &R, shard: u32) -> u64
         requires { shard < self.now.shards }
-        ensures some { IsBehind self.now.own.name (λ h. result ≡ min (text_bytes h) (2 ^ 64 - 1)) }
+        ensures some { IsBehind self.now.own.name (λ h. result ≡ min (kept_bytes h) (2 ^ 64 - 1)) }
         ensures lane { IsBehindAt A.begins B.begins C.begins D.begins shard self.now.own.name
-            (λ h. result ≡ min (text_bytes h) (2 ^ 64 - 1)) }
+            (λ h. result ≡ min (kept_bytes h) (2 ^ 64 - 1)) }
     {
-        at!(self, shard, lock => locked_text_bytes(rt, lock))
+        at!(self, shard, lock => locked_kept_bytes(rt, lock))
+    }
+
+    /// What lists took for dots since a shard's journal began, in bytes, as `Shard::list_bytes` tells it: what a checkpoint may
+    /// give back beside texts. No contract speaks of it. It is no step, and takes a moment under the lock.
+    pub fn list_bytes<R: Wait>(&self, rt: &R, shard: u32) -> u64
+        requires { shard < self.now.shards }
+    {
+        at!(self, shard, lock => locked_list_bytes(rt, lock))
     }
 
     /// How many rows a shard shows, its own ones and those of others, and how many of its topics have a subscriber, as

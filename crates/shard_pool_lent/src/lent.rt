@@ -1,5 +1,5 @@
 //! The calls with the guard lent.
-ghost use Rattle.std.specs.Prelude.{◌≡◌, ◌+◌, ◌≤◌, ◌^◌, true, Some, IfOk, IsTrue};
+ghost use Rattle.std.specs.Prelude.{◌≡◌, ◌+◌, ◌≤◌, ◌<◌, ◌^◌, true, Some, IfOk, OnOk, IsTrue, vec_len, vec_capacity};
 ghost use Rattle.presence_journal.specs.History.{last_number};
 ghost use Rattle.presence_journal.specs.Limits.{is_payload, is_take_limit};
 ghost use Rattle.presence_journal.specs.Present.{listed, dots_of};
@@ -21,6 +21,24 @@ use tracker_shard::{
     Call, Found, Get, List, Shout, Sub, Subscribe, Take, Track, Unsubscribe, Untrack, UntrackAll,
     Update,
 };
+
+/// A list of receipts that is full takes room for so many more at once, and no more, however long it is.
+const GROWTH: usize = 4_096;
+
+// Makes room for one more receipt.
+fn make_room(receipts: &mut Vec<Receipt>) -> Result<(), AllocError>
+    ensures items { receipts.new.items ≡ receipts.old.items }
+    ensures len { vec_len receipts.new ≡ vec_len receipts.old }
+    ensures room { OnOk result (vec_len receipts.new < vec_capacity receipts.new) }
+{
+    if receipts.len() < GROWTH {
+        return receipts.reserve(1);
+    }
+    if receipts.len() < receipts.capacity() {
+        return Ok(());
+    }
+    receipts.reserve_exact(GROWTH)
+}
 
 // The receipt of a step at the shard's end, made ready before the step, so that nothing can be wanting once it is made.
 fn receipt_of(
@@ -67,7 +85,7 @@ pub fn lent_call<L: Lane, C: Call>(
         outcome,
         answer,
     } = locked.look(alloc, call)?;
-    receipts.reserve(1)?;
+    make_room(receipts)?;
     let number = locked.next_number();
     let receipt = receipt_of(*shard, number, &step, &outcome)?;
     locked.enter(alloc, share, *seat, step, outcome)?;

@@ -2,7 +2,7 @@
 ghost use Rattle.std.specs.Prelude.{◌≡◌, ◌+◌, ◌-◌, ◌≤◌, ◌^◌, min, true, false, Some, None, IfOk, IfErr, OnOk, OnErr};
 ghost use Rattle.presence_base.specs.Refs.{IsCount};
 ghost use Rattle.presence_journal.specs.History.{begun, own, entry_count, is_full, last_number, status, IsTop};
-ghost use Rattle.presence_journal.specs.TextBytes.{text_bytes};
+ghost use Rattle.presence_journal.specs.KeptBytes.{kept_bytes};
 ghost use Rattle.presence_journal.specs.Limits.{is_within_limits};
 ghost use Rattle.presence_journal.specs.Queue.{queue, is_waiting};
 ghost use Rattle.presence_journal.specs.Table.{IsLegal, outcome_of};
@@ -58,10 +58,10 @@ impl<L: Lane> Locked<L> {
         requires begins { L.begins (begun own) }
         ensures { (result.shard ≡ begun own) × (result.calls.total ≡ 0) }
     {
-        Locked {
-            shard: Shard::new(alloc, own),
-            calls,
-        }
+        let mut shard = Shard::new(alloc, own);
+        // Where memory is refused the journal takes more as it grows.
+        let _reserved = shard.reserve();
+        Locked { shard, calls }
     }
 
     /// The shard's journal, which is legal, of the ledger's node, and comes of what the shard began with.
@@ -81,11 +81,16 @@ impl<L: Lane> Locked<L> {
         self.shard.journal().entries().len() as u64 + 1
     }
 
-    /// The bytes of the texts of the journal's entries, or the most that a count of 64 bits tells.
-    pub fn text_bytes(&self) -> u64
-        ensures { result ≡ min (text_bytes self.now.shard) (2 ^ 64 - 1) }
+    /// The bytes that the journal's entries keep beside themselves, or the most that a count of 64 bits tells.
+    pub fn kept_bytes(&self) -> u64
+        ensures { result ≡ min (kept_bytes self.now.shard) (2 ^ 64 - 1) }
     {
-        self.shard.journal().text_bytes()
+        self.shard.journal().kept_bytes()
+    }
+
+    /// What lists took for dots, as `Shard::list_bytes` tells it.
+    pub fn list_bytes(&self) -> u64 {
+        self.shard.list_bytes()
     }
 
     /// How many rows the shard shows, as `Shard::row_counts` tells it.
@@ -232,7 +237,10 @@ impl<L: Lane> Locked<L> {
         ensures room { RefusesForRoom result }
         ensures total { self.new.calls.total ≡ self.old.calls.total }
     {
-        self.shard.checkpoint(alloc)
+        let made = self.shard.checkpoint(alloc);
+        // The journal's room went with it. Where memory is refused the new one takes more as it grows.
+        let _reserved = self.shard.reserve();
+        made
     }
 
     /// All that the shard knows, in the form. It is no step.

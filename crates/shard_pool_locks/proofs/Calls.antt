@@ -15,7 +15,7 @@ use Rattle.shard_pool_lent.specs.declared.reply.Reply.{Reply}
 use Rattle.shard_pool_lent.specs.Hands.{Hand}
 use Rattle.shard_pool_lent.specs.Lines.{IsOfLane, IsOfShard}
 use Rattle.shard_pool_lent.specs.Lent.{Notes, Replies}
-use Rattle.presence_journal.specs.TextBytes.{text_bytes}
+use Rattle.presence_journal.specs.KeptBytes.{kept_bytes}
 use Rattle.shard_pool_locks.specs.declared.due.DueFrom.{DueFrom}
 use Rattle.shard_pool_locks.specs.Due.{HasMany, TellsMany}
 use Rattle.shard_pool_locks.specs.Seated.{Called, IsDueOnceNoted}
@@ -134,10 +134,10 @@ pub ruleset where_quiet = (is_behind_lane, too_few, not_quiet, no_look, made_qui
 pub many_entries : (due : DueFrom) (h : History) → due.entries ≤ entry_count h → TellsMany due h true
 many_entries due h many = record { many = inl many }
 
-pub many_bytes : (due : DueFrom) (h : History) → due.text_bytes ≤ min (text_bytes h) (2 ^ 64 - 1) → TellsMany due h true
+pub many_bytes : (due : DueFrom) (h : History) → due.kept_bytes ≤ min (kept_bytes h) (2 ^ 64 - 1) → TellsMany due h true
 many_bytes due h many = record { many = inr (omega arith) }
 
-pub few_of_both : (due : DueFrom) (h : History) → entry_count h < due.entries → min (text_bytes h) (2 ^ 64 - 1) < due.text_bytes → due.text_bytes ≤ 2 ^ 64 - 1 → TellsMany due h false
+pub few_of_both : (due : DueFrom) (h : History) → entry_count h < due.entries → min (kept_bytes h) (2 ^ 64 - 1) < due.kept_bytes → due.kept_bytes ≤ 2 ^ 64 - 1 → TellsMany due h false
 few_of_both due h entries bytes fits = (entries, omega arith)
 
 pub ruleset many = (many_entries, many_bytes, few_of_both)

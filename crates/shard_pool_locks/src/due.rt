@@ -3,12 +3,12 @@ ghost use Rattle.shard_pool_locks.specs.Due.{TellsMany};
 
 use shard_pool_lent::{Lane, Locked};
 
-/// From when on a journal is due for a checkpoint: it has so many entries, its Start counted, or the texts of its entries have
-/// so many bytes.
+/// From when on a journal is due for a checkpoint: it has so many entries, its Start counted, or its entries keep
+/// so many bytes beside themselves.
 #[derive(Clone, Copy)]
 pub struct DueFrom {
     pub entries: u64,
-    pub text_bytes: u64,
+    pub kept_bytes: u64,
 }
 
 /// Whether a shard's journal is due.
@@ -16,5 +16,5 @@ pub struct DueFrom {
 pub(crate) fn is_due<L: Lane>(locked: &Locked<L>, due: DueFrom) -> bool
     ensures { TellsMany due locked.now.shard result }
 {
-    locked.entry_count() >= due.entries || locked.text_bytes() >= due.text_bytes
+    locked.entry_count() >= due.entries || locked.kept_bytes() >= due.kept_bytes
 }

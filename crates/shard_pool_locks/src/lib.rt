@@ -24,7 +24,7 @@ pub use shard_pool_lent::{
 pub use unseated::{
     locked_checkpoint, locked_checkpoint_where_full, locked_checkpoint_where_quiet, locked_cut,
     locked_entry_count, locked_fitting, locked_full, locked_heard, locked_incarnation,
-    locked_journal, locked_merge, locked_part, locked_permdown, locked_rebirth, locked_row_counts,
-    locked_start_of, locked_status, locked_text_bytes, locked_tick, locked_told_from, locked_top,
-    locked_trim, locked_waits,
+    locked_journal, locked_kept_bytes, locked_list_bytes, locked_merge, locked_part,
+    locked_permdown, locked_rebirth, locked_row_counts, locked_start_of, locked_status,
+    locked_tick, locked_told_from, locked_top, locked_trim, locked_waits,
 };

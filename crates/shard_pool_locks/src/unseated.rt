@@ -2,7 +2,7 @@
 // and of the node.
 ghost use Rattle.std.specs.Prelude.{◌≡◌, ◌-◌, ◌^◌, min, IfOk, IfErr};
 ghost use Rattle.presence_journal.specs.History.{IsTop, entry_count, own, start_of, status};
-ghost use Rattle.presence_journal.specs.TextBytes.{text_bytes};
+ghost use Rattle.presence_journal.specs.KeptBytes.{kept_bytes};
 ghost use Rattle.shard_pool_lent.specs.Full.{IsFullOf};
 ghost use Rattle.orswot_core_told.specs.Checks.{WhereItFits};
 ghost use Rattle.shard_pool_lent.specs.KeptDeltas.{IsToldFrom, TellsFrom};
@@ -321,14 +321,20 @@ pub fn locked_entry_count<L: Lane, R: Wait>(rt: &R, shard: &Mutex<Locked<L>>) ->
     guard.entry_count()
 }
 
-/// The bytes of the texts of the journal's entries, or the most that a count of 64 bits tells.
+/// The bytes that the journal's entries keep beside themselves, or the most that a count of 64 bits tells.
 #[tactic(auto, using(crate::proofs::Calls::unseated))]
-pub fn locked_text_bytes<L: Lane, R: Wait>(rt: &R, shard: &Mutex<Locked<L>>) -> u64
-    ensures { IsBehindOf (IsOfShard L.node L.begins) (λ h. result ≡ min (text_bytes h) (2 ^ 64 - 1)) }
+pub fn locked_kept_bytes<L: Lane, R: Wait>(rt: &R, shard: &Mutex<Locked<L>>) -> u64
+    ensures { IsBehindOf (IsOfShard L.node L.begins) (λ h. result ≡ min (kept_bytes h) (2 ^ 64 - 1)) }
 {
     let guard = lock_of(rt, shard);
     let _journal = guard.journal();
-    guard.text_bytes()
+    guard.kept_bytes()
+}
+
+/// What lists took for dots, in bytes, as `Shard::list_bytes` tells it. No contract speaks of it.
+pub fn locked_list_bytes<L: Lane, R: Wait>(rt: &R, shard: &Mutex<Locked<L>>) -> u64 {
+    let guard = lock_of(rt, shard);
+    guard.list_bytes()
 }
 
 /// How many rows the shard shows, and how many topics have a subscriber. No contract speaks of it.

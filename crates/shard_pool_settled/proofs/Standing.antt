@@ -22,7 +22,8 @@ use Rattle.presence_journal.proofs.Same.{same_text-true, same_text-refl, same_re
 use Rattle.std.specs.FinMap.{IsAntisymmetric, slice_cmp-IsAntisymmetric}
 use Rattle.presence_journal.proofs.Same.{is_eq-then, dot_total, dot_cmp-IsAntisymmetric}
 use Rattle.shard_pool_settled.specs.declared.receipt.Receipt.{Receipt}
-use Rattle.shard_pool_settled.specs.Alike.{same_value, same_dots, pair_cmp, same_pairs, same_step, same_outcome}
+use Rattle.presence_journal_data.specs.ListedDots.{same_dots}
+use Rattle.shard_pool_settled.specs.Alike.{same_value, pair_cmp, same_pairs, same_step, same_outcome}
 use Rattle.shard_pool_settled.specs.Seated.{entry_at}
 use Rattle.shard_pool_settled.specs.Settled.{is_seat, is_entry, is_in, is_told, all_told, seats_told}
 use Rattle.shard_pool_settled.specs.Words.{AreAlike, Stands, EachStands, ToldStand, StandingAreTold}

@@ -9,6 +9,7 @@ use Rattle.serde_json.specs.Written.{compact_text}
 use Rattle.presence_base.specs.declared.dots.Replica.{Replica}
 use Rattle.presence_base.specs.declared.dots.Dot.{Dot}
 use Rattle.presence_base.specs.Order.{same_text, same_replica, same_dot, dot_cmp}
+use Rattle.presence_journal_data.specs.ListedDots.{same_dots}
 use Rattle.presence_journal_data.specs.declared.step.Step.{Step}
 use Rattle.presence_journal_data.specs.declared.step.Step.TheVariants as steps_are
 use Rattle.presence_journal_data.specs.declared.entry.Outcome.{Outcome}
@@ -16,9 +17,6 @@ use Rattle.presence_journal_data.specs.declared.entry.Outcome.TheVariants as out
 
 abbrev pub same_value : Data → Data → Bool
 same_value a b = same_text (compact_text a) (compact_text b)
-
-abbrev pub same_dots : List Dot → List Dot → Bool
-same_dots = eq_by_cmp (slice_cmp dot_cmp)
 
 -- Is this that step? One question for each kind.
 

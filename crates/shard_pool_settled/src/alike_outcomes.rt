@@ -1,12 +1,13 @@
 // Whether two outcomes are the same.
 ghost use Rattle.std.specs.Prelude.{◌≡◌, ◌&&◌};
-ghost use Rattle.shard_pool_settled.specs.Alike.{same_dots, same_outcome, is_added, is_already_tracked, is_replaced};
+ghost use Rattle.presence_journal_data.specs.ListedDots.{same_dots};
+ghost use Rattle.shard_pool_settled.specs.Alike.{same_outcome, is_added, is_already_tracked, is_replaced};
 ghost use Rattle.shard_pool_settled.specs.Alike.{is_no_presence, is_removed, is_shown, is_subscribed, is_taken};
 ghost use Rattle.shard_pool_settled.specs.Alike.{is_ended, is_sent, is_noted, is_cut_at, is_merged};
 ghost use Rattle.shard_pool_settled.specs.Alike.{same_pairs, is_reborn};
 
 use presence_base::Dot;
-use presence_journal::{Dots, Outcome, Pairs};
+use presence_journal::{Dots, ListedDots, Outcome, Pairs};
 
 fn are_dots_alike(a: &Dots, b: &Dots) -> bool
     ensures { result ≡ same_dots a.now b.now }
@@ -18,7 +19,7 @@ fn is_that_added(dot: &Dot, outcome: &Outcome) -> bool
     ensures { result ≡ is_added dot.now outcome.now }
 {
     match outcome {
-        Outcome::Added(d) => d.cmp(dot).is_eq(),
+        Outcome::Added(d) => d.get().cmp(dot).is_eq(),
         _ => false,
     }
 }
@@ -36,7 +37,7 @@ fn is_that_replaced(dot: &Dot, old: &Dot, outcome: &Outcome) -> bool
     ensures { result ≡ is_replaced dot.now old.now outcome.now }
 {
     match outcome {
-        Outcome::Replaced(d, o) => d.cmp(dot).is_eq() && o.cmp(old).is_eq(),
+        Outcome::Replaced(d, o) => d.get().cmp(dot).is_eq() && o.get().cmp(old).is_eq(),
         _ => false,
     }
 }
@@ -59,11 +60,11 @@ fn is_that_removed(dots: &Dots, outcome: &Outcome) -> bool
     }
 }
 
-fn is_that_shown(dots: &Dots, outcome: &Outcome) -> bool
+fn is_that_shown(dots: &ListedDots, outcome: &Outcome) -> bool
     ensures { result ≡ is_shown dots.now outcome.now }
 {
     match outcome {
-        Outcome::Shown(ds) => are_dots_alike(ds, dots),
+        Outcome::Shown(ds) => ds.is_same(dots),
         _ => false,
     }
 }
@@ -150,9 +151,9 @@ pub(crate) fn are_outcomes_alike(a: &Outcome, b: &Outcome) -> bool
     ensures { result ≡ same_outcome a.now b.now }
 {
     match a {
-        Outcome::Added(dot) => is_that_added(dot, b),
+        Outcome::Added(dot) => is_that_added(dot.get(), b),
         Outcome::AlreadyTracked => is_that_already_tracked(b),
-        Outcome::Replaced(dot, old) => is_that_replaced(dot, old, b),
+        Outcome::Replaced(dot, old) => is_that_replaced(dot.get(), old.get(), b),
         Outcome::NoPresence => is_that_no_presence(b),
         Outcome::Removed(dots) => is_that_removed(dots, b),
         Outcome::Shown(dots) => is_that_shown(dots, b),

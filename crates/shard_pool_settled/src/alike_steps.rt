@@ -156,7 +156,7 @@ fn is_that_heard(replica: &Replica, now: u64, step: &Step) -> bool
     ensures { result ≡ is_heard replica.now now step.now }
 {
     match step {
-        Step::Heard { replica: r, now: n } => r.cmp(replica).is_eq() && *n == now,
+        Step::Heard { replica: r, now: n } => r.get().cmp(replica).is_eq() && *n == now,
         _ => false,
     }
 }
@@ -174,7 +174,7 @@ fn is_that_permdown(replica: &Replica, step: &Step) -> bool
     ensures { result ≡ is_permdown replica.now step.now }
 {
     match step {
-        Step::PermDown { replica: r } => r.cmp(replica).is_eq(),
+        Step::PermDown { replica: r } => r.get().cmp(replica).is_eq(),
         _ => false,
     }
 }
@@ -214,9 +214,9 @@ pub(crate) fn are_steps_alike(a: &Step, b: &Step) -> bool
         Step::Take { subscriber, max } => is_that_take(*subscriber, max, b),
         Step::Unsubscribe { subscriber } => is_that_unsubscribe(*subscriber, b),
         Step::Shout { topic, payload } => is_that_shout(topic, payload, b),
-        Step::Heard { replica, now } => is_that_heard(replica, *now, b),
+        Step::Heard { replica, now } => is_that_heard(replica.get(), *now, b),
         Step::Tick { now } => is_that_tick(*now, b),
-        Step::PermDown { replica } => is_that_permdown(replica, b),
+        Step::PermDown { replica } => is_that_permdown(replica.get(), b),
         Step::Cut => is_a_cut(b),
         Step::Merge { told: _ } | Step::Rebirth { incarnation: _ } => false,
     }

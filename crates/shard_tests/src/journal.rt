@@ -60,7 +60,7 @@ fn step_text(alloc: Global, step: &Step) -> Result<String, AllocError> {
 fn outcome_text(alloc: Global, outcome: &Outcome) -> Result<String, AllocError> {
     match outcome {
         Outcome::Added(dot) => {
-            let reference = ref_text(alloc, dot)?;
+            let reference = ref_text(alloc, dot.get())?;
             format!(in alloc; "added {reference}")
         }
         Outcome::Removed(dots) => {
@@ -68,6 +68,7 @@ fn outcome_text(alloc: Global, outcome: &Outcome) -> Result<String, AllocError> 
             format!(in alloc; "removed {removed}")
         }
         Outcome::Shown(dots) => {
+            let dots = dots.to_vec(alloc)?;
             let shown = references(alloc, dots.as_slice())?;
             format!(in alloc; "shown {shown}")
         }

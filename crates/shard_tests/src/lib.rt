@@ -25,6 +25,8 @@ mod link_telling;
 #[cfg(test)]
 mod link_wire;
 #[cfg(test)]
+mod long_chains;
+#[cfg(test)]
 mod merge_cuts;
 #[cfg(test)]
 mod merge_desk;

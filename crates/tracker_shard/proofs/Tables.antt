@@ -1,5 +1,5 @@
 -- What the table comes to, by what a shard looks up, and which refusals stand.
-use Rattle.std.proofs.Common.{◌≡◌, ℕ, ◌+◌, ◌^◌, Bool, true, false, cond, nat_eq, ◌&&◌, List, [], ◌∷◌, Option, Some, None, refl, sym, ◌∙◌, ap, nat_le, arith}
+use Rattle.std.proofs.Common.{◌≡◌, ◌≤◌, ℕ, ◌+◌, ◌^◌, Bool, true, false, cond, nat_eq, ◌&&◌, List, [], ◌∷◌, Option, Some, None, refl, sym, ◌∙◌, ap, nat_le, arith}
 use Rattle.std.specs.Prelude.{nat_lt, is_some, option_map}
 use Rattle.serde_json.specs.Data.{Data}
 use Rattle.presence_base.specs.declared.dots.Replica.{Replica}
@@ -210,6 +210,10 @@ pub reborn_limits : (h : History) (i : ℕ) → can_be_reborn h i ≡ true → i
 reborn_limits h i can =
     let parts = can_parts h i can in
     and_from (nat_le 1 i) (nat_le i (2 ^ 62)) (le-leb 1 i (omega (arith, parts.0))) (le-leb i (2 ^ 62) (omega (arith, parts.1)))
+
+-- a row's pid within its limit
+pub pid_limits : (within : Bool) (pid : ℕ) → within ≡ nat_le pid (2 ^ 62) → pid ≤ 2 ^ 62 → within ≡ true
+pid_limits within pid is low = is ∙ le-leb pid (2 ^ 62) (omega (arith, low))
 
 pub rebirth_keeps : (h : History) (i : ℕ) (seat : Option ℕ) (pairs : List (Dot × Dot)) → IsLegal h → outcome_of h (steps_are.Rebirth i) ≡ Some (outcomes_are.Reborn pairs) → is_full h ≡ false
     → (new : History) → new ≡ after h (steps_are.Rebirth i) seat → KeepsRows h new pairs

@@ -4,12 +4,12 @@ ghost use Rattle.presence_journal.specs.History.{is_full};
 ghost use Rattle.presence_journal.specs.Limits.{is_within_limits};
 ghost use Rattle.presence_journal.specs.Present.{dots_of};
 ghost use Rattle.presence_journal.specs.Table.{outcome_of, rows_of_key, untracked};
-ghost use Rattle.tracker_shard.specs.Steps.{Made, Stepped, Answers, IsDue, RefusesForRoom, refusal, first_dot};
+ghost use Rattle.tracker_shard.specs.Steps.{Made, first_dot};
 
 use crate::fault::ShardFault;
 use delta_range::Delta;
 use presence_base::{Dot, Key, Row, Topic};
-use presence_journal::{Dots, Outcome, Step, dots_of_rows};
+use presence_journal::{Dots, Outcome, SharedDot, Step, dots_of_rows};
 use std::alloc::{AllocError, Global};
 use tracker_shard_indexed::Indexed;
 
@@ -23,11 +23,21 @@ fn first_dot_of(rows: &[(Dot, Row)]) -> Option<Dot>
     }
 }
 
-// What an update comes to that puts a row under the dot in the place of the old one.
-pub(crate) fn replaced(dot: &Dot, old: &Dot) -> Outcome
-    ensures { result ≡ Outcome.Replaced dot.now old.now }
+// What a track comes to that adds a row under the dot.
+pub(crate) fn added(alloc: Global, dot: &Dot) -> Result<Outcome, AllocError>
+    ensures { IfOk result (λ o. o ≡ Outcome.Added dot.now) }
 {
-    Outcome::Replaced(*dot, *old)
+    let dot = SharedDot::new(alloc, *dot)?;
+    Ok(Outcome::Added(dot))
+}
+
+// What an update comes to that puts a row under the dot in the place of the old one.
+pub(crate) fn replaced(alloc: Global, dot: &Dot, old: &Dot) -> Result<Outcome, AllocError>
+    ensures { IfOk result (λ o. o ≡ Outcome.Replaced dot.now old.now) }
+{
+    let dot = SharedDot::new(alloc, *dot)?;
+    let old = SharedDot::new(alloc, *old)?;
+    Ok(Outcome::Replaced(dot, old))
 }
 
 // What a cut comes to.
@@ -65,7 +75,7 @@ pub(crate) fn removal(
     if !dots.is_empty() && table.next_dot().is_none() {
         return Ok(None);
     }
-    Ok(Some(Outcome::Removed(Dots::new(dots))))
+    Ok(Some(Outcome::Removed(Dots::new(alloc, dots)?)))
 }
 
 // Writes the entry of a step that the table accepts.
@@ -86,21 +96,4 @@ pub(crate) fn write(
 {
     table.append(alloc, seat, step, outcome)?;
     Ok(())
-}
-
-// Writes the entry of a step that no count and no subscriber stands against, and that comes to this.
-#[tactic(auto, using(crate::proofs::Tables::tables))]
-pub(crate) fn note(table: &mut Indexed, alloc: Global, step: Step) -> Result<(), ShardFault>
-    requires table { outcome_of table.old.history step ≡ Some Outcome.Noted }
-    requires limits { is_within_limits step ≡ true }
-    ensures step { Stepped table.old.history table.new.history None step result }
-    ensures answer { Answers (λ _. Unit {0}) (outcome_of table.old.history step) result }
-    ensures due { IsDue result (refusal true table.old.history step) }
-    ensures room { RefusesForRoom result }
-{
-    if table.journal().is_full() {
-        return Err(ShardFault::JournalFull);
-    }
-    table.ready(alloc)?;
-    write(table, alloc, None, step, Outcome::Noted)
 }

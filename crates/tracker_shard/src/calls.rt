@@ -9,12 +9,12 @@ ghost use Rattle.presence_journal_data.specs.declared.step.Step.TheVariants as s
 ghost use Rattle.tracker_shard.specs.Calls.{always, finds};
 ghost use Rattle.tracker_shard.specs.Steps.{new_dot, slot_of};
 
-use crate::answers::{own_dot, removal, replaced};
+use crate::answers::{added, own_dot, removal, replaced};
 use crate::call::{Call, Found};
 use crate::fault::ShardFault;
 use crate::shard::Sub;
 use presence_base::{Dot, Json, Key, Meta, Row, Topic};
-use presence_journal::{Dots, Item, Outcome, Payload, SharedRows, Step, dots_of_rows};
+use presence_journal::{Item, ListedDots, Outcome, Payload, SharedRows, Step, dots_of_rows};
 use std::alloc::Global;
 use tracker_shard_indexed::Indexed;
 
@@ -54,9 +54,10 @@ impl Call for Track<'_> {
         let Some(dot) = table.next_dot() else {
             return Err(ShardFault::ClockFull);
         };
+        let outcome = added(alloc, &dot)?;
         Ok(Found {
             step,
-            outcome: Outcome::Added(dot),
+            outcome,
             answer: Ok(dot),
         })
     }
@@ -98,9 +99,10 @@ impl Call for Update<'_> {
         let Some(dot) = table.next_dot() else {
             return Err(ShardFault::ClockFull);
         };
+        let outcome = replaced(alloc, &dot, &old)?;
         Ok(Found {
             step,
-            outcome: replaced(&dot, &old),
+            outcome,
             answer: Ok(dot),
         })
     }
@@ -238,11 +240,12 @@ impl Call for Get<'_> {
         table: &mut Indexed,
     ) -> Result<Found<Vec<(Dot, Row)>>, ShardFault> {
         let rows = table.listed_key(alloc, self.topic, self.key)?;
-        let dots = dots_of_rows(alloc, &rows)?;
+        let dots = ListedDots::new(alloc, dots_of_rows(alloc, &rows)?)?;
+        table.count_list(dots.new_bytes());
         let step = Step::get(self.topic, self.key)?;
         Ok(Found {
             step,
-            outcome: Outcome::Shown(Dots::new(dots)),
+            outcome: Outcome::Shown(dots),
             answer: Ok(rows),
         })
     }

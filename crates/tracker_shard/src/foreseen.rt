@@ -3,9 +3,9 @@ ghost use Rattle.std.specs.Prelude.{◌≡◌, true, Some, IfOk};
 ghost use Rattle.presence_journal.specs.Present.{dots_of};
 ghost use Rattle.presence_journal.specs.Table.{outcome_of};
 
-use crate::answers::{cut_outcome, own_dot, removal, replaced};
+use crate::answers::{added, cut_outcome, own_dot, removal, replaced};
 use presence_base::{Dot, Key, Meta, Row, Topic};
-use presence_journal::{Dots, Outcome, Step, dots_of_rows};
+use presence_journal::{ListedDots, Outcome, Step, dots_of_rows};
 use std::alloc::{AllocError, Global};
 use tracker_shard_indexed::Indexed;
 
@@ -28,7 +28,7 @@ fn track_outcome(
     let Some(dot) = table.next_dot() else {
         return Ok(None);
     };
-    Ok(Some(Outcome::Added(dot)))
+    Ok(Some(added(alloc, &dot)?))
 }
 
 // What an update would come to, `None` where no count is left.
@@ -50,14 +50,15 @@ fn update_outcome(
     let Some(dot) = table.next_dot() else {
         return Ok(None);
     };
-    Ok(Some(replaced(&dot, &old)))
+    Ok(Some(replaced(alloc, &dot, &old)?))
 }
 
 // What showing the rows of a key comes to.
 fn shown(alloc: Global, rows: &[(Dot, Row)]) -> Result<Option<Outcome>, AllocError>
     ensures { IfOk result (λ o. o ≡ Some (Outcome.Shown (dots_of rows.now))) }
 {
-    Ok(Some(Outcome::Shown(Dots::new(dots_of_rows(alloc, rows)?))))
+    let dots = dots_of_rows(alloc, rows)?;
+    Ok(Some(Outcome::Shown(ListedDots::new(alloc, dots)?)))
 }
 
 // What showing the rows of a topic comes to. What is asked for here is kept for the list itself.

@@ -1,5 +1,5 @@
 //! The shard's calls.
-use crate::answers::{cut_outcome, note, write};
+use crate::answers::{cut_outcome, write};
 use crate::call::{Call, Found};
 use crate::calls::{
     Get, List, Shout, Subscribe, Take, Track, Unsubscribe, Untrack, UntrackAll, Update,
@@ -129,6 +129,19 @@ impl Shard {
     {
         let Shard { table } = self;
         table.into_journal()
+    }
+
+    /// Takes the room of all entries of the journal at once, as `Journal::reserve` does.
+    pub fn reserve(&mut self) -> Result<(), AllocError>
+        ensures { self.new ≡ self.old }
+    {
+        self.table.reserve()
+    }
+
+    /// What lists took for dots since the journal began, in bytes, where they share them with no list before them. No contract
+    /// speaks of it.
+    pub fn list_bytes(&self) -> u64 {
+        self.table.list_bytes()
     }
 
     /// What a step would come to, `None` where it needs a count and none is left, or names a subscriber that isn't there. It
@@ -434,7 +447,12 @@ impl Shard {
         ensures due { IsDue result (refusal true self.old (Step.Heard replica now)) }
         ensures room { RefusesForRoom result }
     {
-        note(&mut self.table, alloc, Step::heard(replica, now))
+        if self.table.journal().is_full() {
+            return Err(ShardFault::JournalFull);
+        }
+        self.table.ready(alloc)?;
+        let step = Step::heard(alloc, replica, now)?;
+        write(&mut self.table, alloc, None, step, Outcome::Noted)
     }
 
     /// Lets time pass: a replica that was silent for too long is down, or gone.
@@ -447,7 +465,17 @@ impl Shard {
         ensures due { IsDue result (refusal true self.old (Step.Tick now)) }
         ensures room { RefusesForRoom result }
     {
-        note(&mut self.table, alloc, Step::Tick { now })
+        if self.table.journal().is_full() {
+            return Err(ShardFault::JournalFull);
+        }
+        self.table.ready(alloc)?;
+        write(
+            &mut self.table,
+            alloc,
+            None,
+            Step::Tick { now },
+            Outcome::Noted,
+        )
     }
 
     /// Notes that a replica is gone for good.
@@ -460,12 +488,18 @@ impl Shard {
         ensures due { IsDue result (refusal true self.old (Step.PermDown replica)) }
         ensures room { RefusesForRoom result }
     {
-        note(&mut self.table, alloc, Step::permdown(replica))
+        if self.table.journal().is_full() {
+            return Err(ShardFault::JournalFull);
+        }
+        self.table.ready(alloc)?;
+        let step = Step::permdown(alloc, replica)?;
+        write(&mut self.table, alloc, None, step, Outcome::Noted)
     }
 
     /// What the own replica did since the last cut, for other nodes: its rows that came and are live, and the older ones that
     /// went, each with those that it had replaced in turn. It costs what it tells: these rows, and the runs of the counts that
-    /// went; and, where it tells anything, a copy of the kept deltas, which have at most 11,100 rows and runs together.
+    /// went; and, where it tells anything, a copy of the kept deltas, which have at most 11,100 rows and runs together. Where a row
+    /// had been updated so often by turns with others that its chain became one run, it costs a look at each own row below its own.
     ///
     /// It refuses with `JournalFull`, else with `OutOfMemory`.
     #[tactic(auto, using(crate::proofs::Tables::tables))]
@@ -500,7 +534,7 @@ impl Shard {
             return Err(ShardFault::JournalFull);
         }
         self.table.ready(alloc)?;
-        let step = Step::merge(told)?;
+        let step = Step::merge(alloc, told)?;
         write(&mut self.table, alloc, None, step, Outcome::Merged)
     }
 

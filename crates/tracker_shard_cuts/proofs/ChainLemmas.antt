@@ -1,15 +1,18 @@
 -- Chains, entry by entry: each own row that is shown keeps its own.
-use Rattle.std.proofs.Common.{◌≡◌, ℕ, ◌+◌, ◌<◌, ◌≤◌, Bool, true, false, cond, ◌&&◌, ◌||◌, nat_eq, nat_le, List, [], ◌∷◌, ◌++◌, Option, Some, None, refl, sym, ◌∙◌, ap, subst, arith}
+use Rattle.std.proofs.Common.{◌≡◌, ℕ, ◌+◌, ◌<◌, ◌≤◌, Bool, true, false, cond, ◌&&◌, ◌||◌, nat_eq, nat_le, nat_lt, length, List, [], ◌∷◌, ◌++◌, Option, Some, None, inl, inr, refl, sym, ◌∙◌, ap, subst, arith}
+use Rattle.std.specs.Prelude.{◌⊎◌}
 use Rattle.std.specs.List.{AllByRecursion}
 use Rattle.std.specs.BTreeMap.{get}
 use Rattle.std.specs.Ordering.{nat_cmp}
-use Rattle.std.proofs.lemmas.Bool.{eqb-true, leb-true, leb-false, le-leb, or_parts, or_from, or_left, or_right}
+use Rattle.std.proofs.lemmas.Bool.{eqb-true, leb-true, leb-false, le-leb, lt-ltb, or_parts, or_from, or_cases, or_left, or_right, both_ways}
 use Rattle.std.proofs.lemmas.Bool.Decides.{nat_tests}
 use Rattle.presence_base.specs.declared.dots.Dot.{Dot}
 use Rattle.presence_base.specs.declared.row.Row.{Row}
 use Rattle.presence_base.specs.Order.{same_dot}
 use Rattle.dot_context_runs.specs.Runs.{holds, AreLong}
 use Rattle.dot_context.specs.Sets.{listed}
+use Rattle.delta_range.specs.Longest.{up_to}
+use Rattle.delta_range.proofs.RunFacts.{holds_up_to}
 use Rattle.presence_journal_data.specs.declared.entry.Outcome.TheVariants as outcomes_are
 use Rattle.presence_journal.specs.Steps.{Outcome, Entry}
 use Rattle.presence_journal.specs.History.{History, Then, own, count, counts_used, last_cut, first_some, has_dot, row_added, shown}
@@ -17,14 +20,16 @@ use Rattle.presence_journal.specs.Present.{dots_taken}
 use Rattle.presence_journal.specs.Table.{IsLegal}
 use Rattle.presence_journal.proofs.Same.{same_dot-refl}
 use Rattle.presence_journal.proofs.HistoryLemmas.{IsOwnShown, own-then, count-then}
-use Rattle.presence_journal_cuts.specs.Chains.{Chains, AreChains, Counts, TakesIn, has}
-use Rattle.presence_journal_cuts.specs.Cuts.{stands_for, chain_after, chain, goes, older_after, older}
+use Rattle.presence_journal_cuts.specs.Chains.{Chains, AreChains, Counts, TakesIn, kept_chain}
+use Rattle.presence_journal_cuts.specs.Cuts.{stands_for, chain_after, chain, goes, goes_by, older_after, older}
+use Rattle.presence_journal_cuts.specs.Handing.{handed}
+use Rattle.presence_journal_cuts.proofs.Handings.{IsHanded, is_handed, long_handed}
 use Rattle.presence_journal_cuts.proofs.RunLemmas.{holds_append}
 use Rattle.presence_journal_cuts.proofs.Histories.{own_shown}
 use Rattle.tracker_shard_cuts.specs.declared.change.Link.{Link}
 use Rattle.tracker_shard_cuts.specs.Untold.{HasChains, HasUnused, AreBelow, AreSettled}
 use Rattle.presence_journal_cuts.specs.KeptDeltas.{renews_kept}
-use Rattle.tracker_shard_cuts.specs.Changes.{told_in, is_counted, IsLinkOf, linked, IsLinked, LosesChains}
+use Rattle.tracker_shard_cuts.specs.Changes.{told_in, is_counted, IsLinkOf, TellsGone, linked, IsLinked, LosesChains}
 use Rattle.tracker_shard_cuts.proofs.FreshLemmas.{counted, added_next, added_stays, replaced_parts, taken_shown}
 use Rattle.presence_journal.specs.Walk.{is_reborn}
 use Rattle.presence_journal_sets.proofs.OwnLemmas.{plain_step}
@@ -44,64 +49,60 @@ lost_more false false o p e = sym e
 -- ---- what an outcome makes of the chains that are kept
 
 -- the new row of an update has a chain
-abbrev pub handed : Outcome → (ℕ → ℕ → Bool) → ℕ → ℕ → Bool
-handed (outcomes_are.Replaced new old) f c n = cond (nat_eq c new.count) (stands_for f old.count n) (f c n)
-handed _ f c n = f c n
+abbrev pub passed : Outcome → (ℕ → Runs) → ℕ → Runs
+passed (outcomes_are.Replaced new old) f c = cond (nat_eq c new.count) (handed (f old.count) old.count) (f c)
+passed _ f c = f c
 
 -- and the rows that are taken out have none
-abbrev pub Hands : Outcome → (ℕ → ℕ → Bool) → (ℕ → ℕ → Bool) → Type 0
-Hands o f g = (c n : ℕ) → 1 ≤ n → g c n ≡ cond (is_counted (dots_taken o) c) false (handed o f c n)
+abbrev pub Hands : Outcome → (ℕ → Runs) → (ℕ → Runs) → Type 0
+Hands o f g = (c : ℕ) → g c ≡ cond (is_counted (dots_taken o) c) [] (passed o f c)
 
-has_lost : (b : Bool) (o : RunsOption) (n : ℕ) → holds (listed (cond b None o)) n ≡ cond b false (holds (listed o) n)
-has_lost true o n = refl
-has_lost false o n = refl
+has_lost : (b : Bool) (o : RunsOption) → listed (cond b None o) ≡ cond b [] (listed o)
+has_lost true o = refl
+has_lost false o = refl
 
-at_to : (b : Bool) (r : Runs) (o : RunsOption) (s : Bool) (n : ℕ) → holds r n ≡ s → holds (listed (cond b (Some r) o)) n ≡ cond b s (holds (listed o) n)
-at_to true r o s n is = is
-at_to false r o s n is = refl
+at_to : (b : Bool) (r s : Runs) (o : RunsOption) → r ≡ s → listed (cond b (Some r) o) ≡ cond b s (listed o)
+at_to true r s o is = is
+at_to false r s o is = refl
 
-link_has : (o : Outcome) (m : Chains) (l : Option Link) (c n : ℕ) → IsLinkOf o m l → 1 ≤ n → holds (listed (linked l m c)) n ≡ handed o (has m) c n
-link_has (outcomes_are.Replaced new old) m (Some l) c n hands low =
-    (λ i. holds (listed (cond (nat_eq c (hands.to i)) (Some l.chain) (get nat_cmp m c))) n)
-    ∙ at_to (nat_eq c new.count) l.chain (get nat_cmp m c) (stands_for (has m) old.count n) n (hands.counts n low)
-link_has (outcomes_are.Replaced new old) m None c n hands low = absurd hands
-link_has _ m l c n none low = ap (λ (x : Option Link). holds (listed (linked x m c)) n) none
+link_has : (unsettled : ℕ) (o : Outcome) (m : Chains) (l : Option Link) (c : ℕ) → IsLinkOf unsettled o m l → listed (linked l m c) ≡ passed o (kept_chain m) c
+link_has unsettled (outcomes_are.Replaced new old) m (Some l) c hands =
+    (λ i. listed (cond (nat_eq c (hands.to i)) (Some l.chain) (get nat_cmp m c)))
+    ∙ at_to (nat_eq c new.count) l.chain (handed (kept_chain m old.count) old.count) (get nat_cmp m c) hands.chain
+link_has unsettled (outcomes_are.Replaced new old) m None c hands = absurd hands
+link_has unsettled _ m l c none = ap (λ (x : Option Link). listed (linked x m c)) none
 
-pub hands_on : (o : Outcome) (m w v : Chains) (l : Option Link) → IsLinkOf o m l → IsLinked l m w → LosesChains (dots_taken o) w v → Hands o (has m) (has v)
-hands_on o m w v l is put lost c n low =
-    ap (λ (x : RunsOption). holds (listed x) n) (lost c)
-    ∙ (has_lost (is_counted (dots_taken o) c) (get nat_cmp w c) n
-    ∙ ap (cond (is_counted (dots_taken o) c) false) (ap (λ (x : RunsOption). holds (listed x) n) (put c) ∙ link_has o m l c n is low))
+pub hands_on : (unsettled : ℕ) (o : Outcome) (m w v : Chains) (l : Option Link) → IsLinkOf unsettled o m l → IsLinked l m w → LosesChains (dots_taken o) w v → Hands o (kept_chain m) (kept_chain v)
+hands_on unsettled o m w v l is put lost c =
+    ap listed (lost c)
+    ∙ (has_lost (is_counted (dots_taken o) c) (get nat_cmp w c)
+    ∙ ap (cond (is_counted (dots_taken o) c) []) (ap listed (put c) ∙ link_has unsettled o m l c is))
 
-long_lost : (b : Bool) (o : RunsOption) → AreLong (listed o) → AreLong (listed (cond b None o))
-long_lost true o a = tt
-long_lost false o a = a
+long_lost : (b : Bool) (rs : Runs) → AreLong rs → AreLong (cond b [] rs)
+long_lost true rs a = tt
+long_lost false rs a = a
 
-long_to : (b : Bool) (r : Runs) (o : RunsOption) → AreLong r → AreLong (listed o) → AreLong (listed (cond b (Some r) o))
-long_to true r o a b = a
-long_to false r o a b = b
+long_passed : (o : Outcome) (f : ℕ → Runs) (c : ℕ) → ((x : ℕ) → AreLong (f x)) → AreLong (passed o f c)
+long_passed (outcomes_are.Replaced new old) f c long = go (nat_eq c new.count)
+  where
+    go : (b : Bool) → AreLong (cond b (handed (f old.count) old.count) (f c))
+    go true = long_handed (f old.count) old.count (long old.count)
+    go false = long c
+long_passed _ f c long = long c
 
-link_long : (o : Outcome) (m : Chains) (l : Option Link) (c : ℕ) → IsLinkOf o m l → AreChains m → AreLong (listed (linked l m c))
-link_long (outcomes_are.Replaced new old) m (Some l) c hands long = long_to (nat_eq c l.to) l.chain (get nat_cmp m c) hands.long (long c)
-link_long (outcomes_are.Replaced new old) m None c hands long = absurd hands
-link_long _ m l c none long = subst (λ (x : Option Link). AreLong (listed (linked x m c))) (sym none) (long c)
-
-pub stays_long : (o : Outcome) (m w v : Chains) (l : Option Link) → IsLinkOf o m l → IsLinked l m w → LosesChains (dots_taken o) w v → AreChains m → AreChains v
-stays_long o m w v l is put lost long c =
-    subst (λ (x : RunsOption). AreLong (listed x)) (sym (lost c))
-    (long_lost (is_counted (dots_taken o) c) (get nat_cmp w c)
-    (subst (λ (x : RunsOption). AreLong (listed x)) (sym (put c)) (link_long o m l c is long)))
+pub stays_long : (o : Outcome) (m v : Chains) → Hands o (kept_chain m) (kept_chain v) → AreChains m → AreChains v
+stays_long o m v hands long c = subst AreLong (sym (hands c)) (long_lost (is_counted (dots_taken o) c) (passed o (kept_chain m) c) (long_passed o (kept_chain m) c long))
 
 -- ---- no count above the last one has a chain
 
 pub over_next : (c k : ℕ) → k < c → nat_eq c k ≡ false
 over_next c k p = grind (arith, nat_tests)
 
-unless : (b x : Bool) → x ≡ false → cond b false x ≡ false
+unless : (b : Bool) (x : Runs) → x ≡ [] → cond b [] x ≡ []
 unless true x e = refl
 unless false x e = e
 
-other_one : (b x y : Bool) → b ≡ false → y ≡ false → cond b x y ≡ false
+other_one : (b : Bool) (x y : Runs) → b ≡ false → y ≡ [] → cond b x y ≡ []
 other_one true x y e f = let g : true ≡ false = e in absurd (cc)
 other_one false x y e f = f
 
@@ -114,29 +115,29 @@ above_new h e new old c l is above =
 before : (h : History) (e : Entry) (c : ℕ) → is_reborn e.outcome ≡ false → count (Then h e) < c → count h < c
 before h e c a above = let most = count-then h e a in omega (arith, above, most)
 
-pub few_then : (h : History) (e : Entry) (unsettled : ℕ) (f g : ℕ → ℕ → Bool) → IsLegal (Then h e) → is_reborn e.outcome ≡ false → AreBelow (count h) unsettled f → Hands e.outcome f g → AreBelow (count (Then h e)) unsettled g
-few_then h e unsettled f g l a few hands c n low above over = hands c n low ∙ unless (is_counted (dots_taken e.outcome) c) (handed e.outcome f c n) (go e.outcome refl)
+pub few_then : (h : History) (e : Entry) (unsettled : ℕ) (f g : ℕ → Runs) → IsLegal (Then h e) → is_reborn e.outcome ≡ false → AreBelow (count h) unsettled f → Hands e.outcome f g → AreBelow (count (Then h e)) unsettled g
+few_then h e unsettled f g l a few hands c above over = hands c ∙ unless (is_counted (dots_taken e.outcome) c) (passed e.outcome f c) (go e.outcome refl)
   where
-    go : (o : Outcome) → e.outcome ≡ o → handed o f c n ≡ false
-    go (outcomes_are.Replaced new old) is = other_one (nat_eq c new.count) (stands_for f old.count n) (f c n) (above_new h e new old c l is above) (few c n low (before h e c a above) over)
-    go _ is = few c n low (before h e c a above) over
+    go : (o : Outcome) → e.outcome ≡ o → passed o f c ≡ []
+    go (outcomes_are.Replaced new old) is = other_one (nat_eq c new.count) (handed (f old.count) old.count) (f c) (above_new h e new old c l is above) (few c (before h e c a above) over)
+    go _ is = few c (before h e c a above) over
 
-chain-then : (h : History) (e : Entry) (c n : ℕ) → chain (Then h e) c n ≡ chain_after e.outcome (chain h) c n
+chain-then : (h : History) (e : Entry) (c : ℕ) → chain (Then h e) c ≡ chain_after e.outcome (chain h) c
 unfolding chain
-chain-then h e c n = refl
+chain-then h e c = refl
 
 -- ---- each own row that is shown has its chain
 
-left : (b x : Bool) → b ≡ false → x ≡ cond b false x
+left : (b : Bool) (x : Runs) → b ≡ false → x ≡ cond b [] x
 left true x e = let g : true ≡ false = e in absurd (cc)
 left false x e = refl
 
-same_handed : (o : Outcome) (f g : ℕ → ℕ → Bool) (c n : ℕ) → is_reborn o ≡ false → f c n ≡ g c n → AllByRecursion (λ (x : Dot). f x.count n ≡ g x.count n) (dots_taken o) → is_counted (dots_taken o) c ≡ false → handed o f c n ≡ chain_after o g c n
-same_handed (outcomes_are.Replaced new old) f g c n plain here olds none =
-    (λ i. cond (nat_eq c new.count) (nat_eq n old.count || olds.0 i) (here i))
-    ∙ ap (cond (nat_eq c new.count) (stands_for g old.count n)) (left (nat_eq c old.count) (g c n) (or_parts (nat_eq c old.count) false none).0)
-same_handed (outcomes_are.Reborn ps) f g c n plain here olds none = absurd (cc)
-same_handed _ f g c n plain here olds none = here
+same_passed : (o : Outcome) (f g : ℕ → Runs) (c : ℕ) → is_reborn o ≡ false → f c ≡ g c → AllByRecursion (λ (x : Dot). f x.count ≡ g x.count) (dots_taken o) → is_counted (dots_taken o) c ≡ false → passed o f c ≡ chain_after o g c
+same_passed (outcomes_are.Replaced new old) f g c plain here olds none =
+    (λ i. cond (nat_eq c new.count) (handed (olds.0 i) old.count) (here i))
+    ∙ ap (cond (nat_eq c new.count) (handed (g old.count) old.count)) (left (nat_eq c old.count) (g c) (or_parts (nat_eq c old.count) false none).0)
+same_passed (outcomes_are.Reborn ps) f g c plain here olds none = absurd (cc)
+same_passed _ f g c plain here olds none = here
 
 none_counted : (h : History) (ds : List Dot) (d : Dot) → AllByRecursion (IsOwnShown h) ds → d.replica ≡ own h → has_dot ds d ≡ false → is_counted ds d.count ≡ false
 none_counted h [] d a o f = refl
@@ -152,9 +153,9 @@ none_counted h (x ∷ xs) d a o f =
         absurd (cc)
 
 -- those of the rows that are taken out
-pub taken_have : (h : History) (m : Chains) (n : ℕ) (ds : List Dot) → HasChains h m → 1 ≤ n → AllByRecursion (IsOwnShown h) ds → AllByRecursion (λ (x : Dot). has m x.count n ≡ chain h x.count n) ds
-taken_have h m n [] has_chains low a = tt
-taken_have h m n (x ∷ xs) has_chains low a = (has_chains x a.0.row a.0.own a.0.shown n low, taken_have h m n xs has_chains low a.1)
+pub taken_have : (h : History) (m : Chains) (ds : List Dot) → HasChains h m → AllByRecursion (IsOwnShown h) ds → AllByRecursion (λ (x : Dot). kept_chain m x.count ≡ chain h x.count) ds
+taken_have h m [] has_chains a = tt
+taken_have h m (x ∷ xs) has_chains a = (has_chains x a.0.row a.0.own a.0.shown, taken_have h m xs has_chains a.1)
 
 none_above : (h : History) (ds : List Dot) (c : ℕ) → IsLegal h → AllByRecursion (IsOwnShown h) ds → count h < c → is_counted ds c ≡ false
 none_above h [] c l a above = refl
@@ -163,35 +164,35 @@ none_above h (x ∷ xs) c l a above =
     or_from (nat_eq c x.count) (is_counted xs c) (over_next c x.count (omega (arith, low, above))) (none_above h xs c l a.1 above)
 
 -- a count that neither goes nor is new keeps its chain
-keeps : (h : History) (e : Entry) (m v : Chains) (c n : ℕ) → IsLegal (Then h e) → is_reborn e.outcome ≡ false → HasChains h m → Hands e.outcome (has m) (has v) → 1 ≤ n → has m c n ≡ chain h c n → is_counted (dots_taken e.outcome) c ≡ false → has v c n ≡ chain (Then h e) c n
-keeps h e m v c n l plain has_chains hands low here none =
-    hands c n low
-    ∙ (ap (λ b. cond b false (handed e.outcome (has m) c n)) none
-    ∙ (same_handed e.outcome (has m) (chain h) c n plain here (taken_have h m n (dots_taken e.outcome) has_chains low (taken_shown h e l)) none
-    ∙ sym (chain-then h e c n)))
+keeps : (h : History) (e : Entry) (m v : Chains) (c : ℕ) → IsLegal (Then h e) → is_reborn e.outcome ≡ false → HasChains h m → Hands e.outcome (kept_chain m) (kept_chain v) → kept_chain m c ≡ chain h c → is_counted (dots_taken e.outcome) c ≡ false → kept_chain v c ≡ chain (Then h e) c
+keeps h e m v c l plain has_chains hands here none =
+    hands c
+    ∙ (ap (λ b. cond b [] (passed e.outcome (kept_chain m) c)) none
+    ∙ (same_passed e.outcome (kept_chain m) (chain h) c plain here (taken_have h m (dots_taken e.outcome) has_chains (taken_shown h e l)) none
+    ∙ sym (chain-then h e c)))
 
-pub unused_then : (h : History) (e : Entry) (m v : Chains) → IsLegal (Then h e) → is_reborn e.outcome ≡ false → HasChains h m → HasUnused h m → Hands e.outcome (has m) (has v) → HasUnused (Then h e) v
-unused_then h e m v l a has_chains unused hands c n low above =
+pub unused_then : (h : History) (e : Entry) (m v : Chains) → IsLegal (Then h e) → is_reborn e.outcome ≡ false → HasChains h m → HasUnused h m → Hands e.outcome (kept_chain m) (kept_chain v) → HasUnused (Then h e) v
+unused_then h e m v l a has_chains unused hands c above =
     let over = before h e c a above in
-    keeps h e m v c n l a has_chains hands low (unused c n low over) (none_above h (dots_taken e.outcome) c l.0 (taken_shown h e l) over)
+    keeps h e m v c l a has_chains hands (unused c over) (none_above h (dots_taken e.outcome) c l.0 (taken_shown h e l) over)
 
-pub chains_then : (h : History) (e : Entry) (m v : Chains) → IsLegal (Then h e) → is_reborn e.outcome ≡ false → HasChains h m → HasUnused h m → Hands e.outcome (has m) (has v) → HasChains (Then h e) v
-chains_then h e m v l a has_chains unused hands d r mine there n low =
+pub chains_then : (h : History) (e : Entry) (m v : Chains) → IsLegal (Then h e) → is_reborn e.outcome ≡ false → HasChains h m → HasUnused h m → Hands e.outcome (kept_chain m) (kept_chain v) → HasChains (Then h e) v
+chains_then h e m v l a has_chains unused hands d r mine there =
     let parts = go (row_added e.step e.outcome d) refl (sym (own_shown h e d l a own_one) ∙ there) in
-    keeps h e m v d.count n l a has_chains hands low parts.1 (none_counted h (dots_taken e.outcome) d (taken_shown h e l) own_one parts.0)
+    keeps h e m v d.count l a has_chains hands parts.1 (none_counted h (dots_taken e.outcome) d (taken_shown h e l) own_one parts.0)
   where
     own_one : d.replica ≡ own h
     own_one = mine ∙ own-then h e (plain_step h e l a)
 
-    at : (b : Bool) → has_dot (dots_taken e.outcome) d ≡ b → cond b None (shown h d) ≡ Some r → (has_dot (dots_taken e.outcome) d ≡ false) × (has m d.count n ≡ chain h d.count n)
+    at : (b : Bool) → has_dot (dots_taken e.outcome) d ≡ b → cond b None (shown h d) ≡ Some r → (has_dot (dots_taken e.outcome) d ≡ false) × (kept_chain m d.count ≡ chain h d.count)
     at true p f = absurd (cc)
-    at false p f = (p, has_chains d r own_one f n low)
+    at false p f = (p, has_chains d r own_one f)
 
-    go : (a : Option Row) → row_added e.step e.outcome d ≡ a → first_some a (cond (has_dot (dots_taken e.outcome) d) None (shown h d)) ≡ Some r → (has_dot (dots_taken e.outcome) d ≡ false) × (has m d.count n ≡ chain h d.count n)
+    go : (a : Option Row) → row_added e.step e.outcome d ≡ a → first_some a (cond (has_dot (dots_taken e.outcome) d) None (shown h d)) ≡ Some r → (has_dot (dots_taken e.outcome) d ≡ false) × (kept_chain m d.count ≡ chain h d.count)
     go (Some x) p f =
         let next : d.count ≡ count h + 1 = ap (λ (y : Dot). y.count) (added_next h e d x l p) in
         let above : count h < d.count = omega (arith, next) in
-        (added_stays h e d x l p, unused d.count n low above)
+        (added_stays h e d x l p, unused d.count above)
     go None p f = at (has_dot (dots_taken e.outcome) d) refl f
 
 -- ---- the older counts
@@ -206,11 +207,11 @@ leave false true z f = let g : false ≡ true = f refl in absurd (cc)
 leave false false z f = refl
 
 -- what stands for a count above `unsettled` went before
-told_same : (last unsettled n : ℕ) (ch : ℕ → ℕ → Bool) (b : Bool) (ds : List Dot) → n ≤ last → last ≤ unsettled → ((c : ℕ) → unsettled < c → ch c n ≡ true → b ≡ true) → (b || goes ch (told_in unsettled ds) n) ≡ (b || goes ch ds n)
+told_same : (last unsettled n : ℕ) (ch : ℕ → Runs) (b : Bool) (ds : List Dot) → n ≤ last → last ≤ unsettled → ((c : ℕ) → unsettled < c → holds (ch c) n ≡ true → b ≡ true) → (b || goes ch (told_in unsettled ds) n) ≡ (b || goes ch ds n)
 told_same last unsettled n ch b [] within most settled = refl
 told_same last unsettled n ch b (d ∷ ds) within most settled = at (nat_le d.count unsettled) refl (told_same last unsettled n ch b ds within most settled)
   where
-    stood : unsettled < d.count → (s : Bool) → nat_eq n d.count ≡ s → (s || ch d.count n) ≡ true → b ≡ true
+    stood : unsettled < d.count → (s : Bool) → nat_eq n d.count ≡ s → (s || holds (ch d.count) n) ≡ true → b ≡ true
     stood above true p f = let same = eqb-true n d.count p in absurd (omega (arith, within, most, above, same))
     stood above false p f = settled d.count above f
 
@@ -219,23 +220,89 @@ told_same last unsettled n ch b (d ∷ ds) within most settled = at (nat_le d.co
     at false p ih = ih ∙ leave b (stands_for ch d.count n) (goes ch ds n) (λ f. stood (leb-false d.count unsettled p) (nat_eq n d.count) refl f)
 
 -- with what goes with the dots up to `unsettled`, the runs have what goes with all of them
-pub goes_told : (last unsettled : ℕ) (m : Chains) (ds : List Dot) (old gone new : Runs) (n : ℕ) → new ≡ old ++ gone → TakesIn last m (told_in unsettled ds) [] gone → AreSettled last unsettled (has m) old → last ≤ unsettled → 1 ≤ n
-    → holds new n ≡ (holds old n || (nat_le n last && goes (has m) ds n))
-goes_told last unsettled m ds old gone new n is t settled most low =
-    ap (λ (xs : Runs). holds xs n) is
-    ∙ (holds_append old gone n
+goes_told : (last unsettled : ℕ) (m : Chains) (ds : List Dot) (gone old : Runs) (n : ℕ) → TakesIn last m (told_in unsettled ds) [] gone → AreSettled last unsettled (kept_chain m) old → last ≤ unsettled → 1 ≤ n
+    → holds (old ++ gone) n ≡ (holds old n || (nat_le n last && goes (kept_chain m) ds n))
+goes_told last unsettled m ds gone old n t settled most low =
+    holds_append old gone n
     ∙ (ap (λ b. holds old n || b) (t n low)
-    ∙ at (nat_le n last) refl))
+    ∙ at (nat_le n last) refl)
   where
-    at : (p : Bool) → nat_le n last ≡ p → (holds old n || (p && goes (has m) (told_in unsettled ds) n)) ≡ (holds old n || (p && goes (has m) ds n))
+    at : (p : Bool) → nat_le n last ≡ p → (holds old n || (p && goes (kept_chain m) (told_in unsettled ds) n)) ≡ (holds old n || (p && goes (kept_chain m) ds n))
     at false p = refl
-    at true p = told_same last unsettled n (has m) (holds old n) ds (leb-true n last p) most (λ c above f. settled c n low (leb-true n last p) above f)
+    at true p = told_same last unsettled n (kept_chain m) (holds old n) ds (leb-true n last p) most (λ c above f. settled c n low (leb-true n last p) above f)
 
-goes_same : (f g : ℕ → ℕ → Bool) (ds : List Dot) (n : ℕ) → AllByRecursion (λ (x : Dot). f x.count n ≡ g x.count n) ds → goes f ds n ≡ goes g ds n
-goes_same f g [] n a = refl
-goes_same f g (d ∷ ds) n a = (λ i. (nat_eq n d.count || a.0 i) || goes_same f g ds n a.1 i)
+-- of an entry that links no rows
+pub others_gone : (last unsettled : ℕ) (m : Chains) (o : Outcome) (gone : Runs) → IsLinkOf unsettled o m None → TakesIn last m (told_in unsettled (dots_taken o)) [] gone → TellsGone last unsettled m o gone
+others_gone last unsettled m (outcomes_are.Replaced new old_one) gone none t = absurd none
+others_gone last unsettled m (outcomes_are.Removed ds) gone none t = λ old settled most n low. goes_told last unsettled m ds gone old n t settled most low
+others_gone last unsettled m _ gone none t = λ old settled most n low. goes_told last unsettled m [] gone old n t settled most low
 
-older_is : (o : Outcome) (last : ℕ) (ch : ℕ → ℕ → Bool) (f : ℕ → Bool) (n : ℕ) → renews_kept o ≡ false → (f n || (nat_le n last && goes ch (dots_taken o) n)) ≡ older_after o last ch f n
+none_told : (b x z : Bool) → (x ≡ true → z ≡ true → b ≡ true) → (b || false) ≡ (b || (x && z))
+none_told true x z f = refl
+none_told false true true f = let g : false ≡ true = f refl refl in absurd (cc)
+none_told false true false f = refl
+none_told false false z f = refl
+
+-- of an update
+pub links_gone : (last unsettled : ℕ) (m : Chains) (o : Outcome) (l : Link) (gone : Runs) → IsLinkOf unsettled o m (Some l) → gone ≡ cond l.is_told (up_to last l.chain) [] → TellsGone last unsettled m o gone
+links_gone last unsettled m (outcomes_are.Replaced new old_one) l gone hands is = λ old settled most n low.
+    holds_append old gone n ∙ (ap (λ (rs : Runs). holds old n || holds rs n) is ∙ at old settled most n low l.is_told refl)
+  where
+    chain_is : (n : ℕ) → holds l.chain n ≡ holds (handed (kept_chain m old_one.count) old_one.count) n
+    chain_is n = ap (λ (rs : Runs). holds rs n) hands.chain
+
+    in_old : (old : Runs) → AreSettled last unsettled (kept_chain m) old → last ≤ unsettled → (n : ℕ) → 1 ≤ n → n ≤ last → l.is_told ≡ false → (nat_eq n old_one.count ≡ true) ⊎ (holds (kept_chain m old_one.count) n ≡ true) → holds old n ≡ true
+    in_old old settled most n low within told (inl e) = let same = eqb-true n old_one.count e in absurd (omega (arith, within, most, hands.above told, same))
+    in_old old settled most n low within told (inr f) = settled old_one.count n low within (hands.above told) f
+
+    at : (old : Runs) → AreSettled last unsettled (kept_chain m) old → last ≤ unsettled → (n : ℕ) → 1 ≤ n → (b : Bool) → l.is_told ≡ b
+        → (holds old n || holds (cond b (up_to last l.chain) []) n) ≡ (holds old n || (nat_le n last && holds (handed (kept_chain m old_one.count) old_one.count) n))
+    at old settled most n low true told = ap (λ b. holds old n || b) (holds_up_to last n l.chain ∙ ap (λ b. nat_le n last && b) (chain_is n))
+    at old settled most n low false told =
+        none_told (holds old n) (nat_le n last) (holds (handed (kept_chain m old_one.count) old_one.count) n)
+        (λ within f. in_old old settled most n low (leb-true n last within) told
+        (or_cases (nat_eq n old_one.count) (holds (kept_chain m old_one.count) n) (sym (hands.same told n low) ∙ (chain_is n ∙ f))))
+links_gone last unsettled m _ l gone none is = absurd (cc)
+
+-- a chain that has no fewer runs than the one it comes from has but one count more
+pub only_more : (chain rs : Runs) (c unsettled : ℕ) (b : Bool) → AreLong rs → chain ≡ handed rs c → b ≡ (nat_le c unsettled || nat_lt (length chain) (length rs)) → b ≡ false → (unsettled < c) × Counts (holds chain) (λ n. nat_eq n c || holds rs n)
+only_more chain rs c unsettled b long is told none =
+    let parts = or_parts (nat_le c unsettled) (nat_lt (length chain) (length rs)) (sym told ∙ none) in
+    (leb-false c unsettled parts.0, go parts.1 (is_handed rs c long))
+  where
+    turned : (x y : Bool) → (x || y) ≡ (y || x)
+    turned true true = refl
+    turned true false = refl
+    turned false true = refl
+    turned false false = refl
+
+    go : nat_lt (length chain) (length rs) ≡ false → IsHanded rs c → Counts (holds chain) (λ n. nat_eq n c || holds rs n)
+    go shorter (inl f) = λ n low. ap (λ (xs : Runs). holds xs n) is ∙ (f n low ∙ turned (holds rs n) (nat_eq n c))
+    go shorter (inr f) =
+        let less : length chain < length rs = omega (arith, ap length is, f.1) in
+        absurd (both_ways (nat_lt (length chain) (length rs)) shorter (lt-ltb (length chain) (length rs) less))
+
+pub is_link : (unsettled : ℕ) (o : Outcome) (m : Chains) (new old : Dot) (l : Link) → o ≡ outcomes_are.Replaced new old → AreChains m → l.to ≡ new.count → l.chain ≡ handed (kept_chain m old.count) old.count
+    → l.is_told ≡ (nat_le old.count unsettled || nat_lt (length l.chain) (length (kept_chain m old.count))) → IsLinkOf unsettled o m (Some l)
+is_link unsettled o m new old l is long to chain told =
+    subst (λ (p : Outcome). IsLinkOf unsettled p m (Some l)) (sym is)
+    (record {
+      to = to;
+      chain = chain;
+      above = λ none. (only_more l.chain (kept_chain m old.count) old.count unsettled l.is_told (long old.count) chain told none).0;
+      same = λ none. (only_more l.chain (kept_chain m old.count) old.count unsettled l.is_told (long old.count) chain told none).1;
+    })
+
+goes_by_same : (o : Outcome) (f g : ℕ → Runs) (n : ℕ) → AllByRecursion (λ (x : Dot). f x.count ≡ g x.count) (dots_taken o) → goes_by o f n ≡ goes_by o g n
+goes_by_same (outcomes_are.Replaced new old) f g n a = ap (λ (rs : Runs). holds (handed rs old.count) n) a.0
+goes_by_same (outcomes_are.Removed ds) f g n a = goes_same ds a
+  where
+    goes_same : (ds : List Dot) → AllByRecursion (λ (x : Dot). f x.count ≡ g x.count) ds → goes f ds n ≡ goes g ds n
+    goes_same [] a = refl
+    goes_same (d ∷ ds) a = (λ i. (nat_eq n d.count || holds (a.0 i) n) || goes_same ds a.1 i)
+goes_by_same _ f g n a = refl
+
+older_is : (o : Outcome) (last : ℕ) (ch : ℕ → Runs) (f : ℕ → Bool) (n : ℕ) → renews_kept o ≡ false → (f n || (nat_le n last && goes_by o ch n)) ≡ older_after o last ch f n
 older_is (outcomes_are.CutAt from to) last ch f n uncut = absurd (cc)
 older_is (outcomes_are.Reborn ps) last ch f n uncut = absurd (cc)
 older_is _ last ch f n uncut = refl
@@ -245,31 +312,31 @@ unfolding older
 older-then h e n = refl
 
 pub older_then : (h : History) (e : Entry) (last : ℕ) (m : Chains) (old new : Runs) (n : ℕ) → IsLegal (Then h e) → renews_kept e.outcome ≡ false → HasChains h m → last ≡ last_cut h → Counts (holds old) (older h) → 1 ≤ n
-    → holds new n ≡ (holds old n || (nat_le n last && goes (has m) (dots_taken e.outcome) n)) → holds new n ≡ older (Then h e) n
+    → holds new n ≡ (holds old n || (nat_le n last && goes_by e.outcome (kept_chain m) n)) → holds new n ≡ older (Then h e) n
 older_then h e last m old new n l uncut has_chains same counts low after =
     after
-    ∙ ((λ i. counts n low i || (nat_le n (same i) && goes_same (has m) (chain h) (dots_taken e.outcome) n (taken_have h m n (dots_taken e.outcome) has_chains low (taken_shown h e l)) i))
+    ∙ ((λ i. counts n low i || (nat_le n (same i) && goes_by_same e.outcome (kept_chain m) (chain h) n (taken_have h m (dots_taken e.outcome) has_chains (taken_shown h e l)) i))
     ∙ (older_is e.outcome (last_cut h) (chain h) (older h) n uncut
     ∙ sym (older-then h e n)))
 
-there : (b x : Bool) → cond b false x ≡ true → x ≡ true
-there true x e = let g : false ≡ true = e in absurd (cc)
-there false x e = e
+there : (b : Bool) (x : Runs) (n : ℕ) → holds (cond b [] x) n ≡ true → holds x n ≡ true
+there true x n e = let g : false ≡ true = e in absurd (cc)
+there false x n e = e
 
-both : (x p s : Bool) → p ≡ true → s ≡ true → (x || (p && (s || false))) ≡ true
-both x p s f g = (λ i. x || (f i && (g i || false))) ∙ or_right x true refl
+both : (x p s : Bool) → p ≡ true → s ≡ true → (x || (p && s)) ≡ true
+both x p s f g = (λ i. x || (f i && g i)) ∙ or_right x true refl
 
-pub settled_then : (o : Outcome) (last unsettled : ℕ) (f g : ℕ → ℕ → Bool) (old new : Runs) → AreSettled last unsettled f old → Hands o f g → ((n : ℕ) → 1 ≤ n → holds new n ≡ (holds old n || (nat_le n last && goes f (dots_taken o) n))) → AreSettled last unsettled g new
-settled_then o last unsettled f g old new settled hands after c n low within above has_it = after n low ∙ go o (there (is_counted (dots_taken o) c) (handed o f c n) (sym (hands c n low) ∙ has_it))
+pub settled_then : (o : Outcome) (last unsettled : ℕ) (f g : ℕ → Runs) (old new : Runs) → AreSettled last unsettled f old → Hands o f g → ((n : ℕ) → 1 ≤ n → holds new n ≡ (holds old n || (nat_le n last && goes_by o f n))) → AreSettled last unsettled g new
+settled_then o last unsettled f g old new settled hands after c n low within above has_it = after n low ∙ go o (there (is_counted (dots_taken o) c) (passed o f c) n (ap (λ (rs : Runs). holds rs n) (sym (hands c)) ∙ has_it))
   where
-    kept : (x : Bool) → f c n ≡ true → (holds old n || x) ≡ true
+    kept : (x : Bool) → holds (f c) n ≡ true → (holds old n || x) ≡ true
     kept x t = or_left (holds old n) x (settled c n low within above t)
 
-    go : (p : Outcome) → handed p f c n ≡ true → (holds old n || (nat_le n last && goes f (dots_taken p) n)) ≡ true
+    go : (p : Outcome) → holds (passed p f c) n ≡ true → (holds old n || (nat_le n last && goes_by p f n)) ≡ true
     go (outcomes_are.Replaced new old_one) t = at (nat_eq c new.count) t
       where
-        at : (b : Bool) → cond b (stands_for f old_one.count n) (f c n) ≡ true → (holds old n || (nat_le n last && (stands_for f old_one.count n || false))) ≡ true
-        at true s = both (holds old n) (nat_le n last) (stands_for f old_one.count n) (le-leb n last within) s
-        at false s = kept (nat_le n last && (stands_for f old_one.count n || false)) s
+        at : (b : Bool) → holds (cond b (handed (f old_one.count) old_one.count) (f c)) n ≡ true → (holds old n || (nat_le n last && holds (handed (f old_one.count) old_one.count) n)) ≡ true
+        at true s = both (holds old n) (nat_le n last) (holds (handed (f old_one.count) old_one.count) n) (le-leb n last within) s
+        at false s = kept (nat_le n last && holds (handed (f old_one.count) old_one.count) n) s
     go (outcomes_are.Removed ds) t = kept (nat_le n last && goes f ds n) t
     go _ t = kept (nat_le n last && false) t

@@ -5,10 +5,10 @@ use Rattle.std.specs.Map.{lookup}
 use Rattle.std.specs.Ordering.{nat_cmp}
 use Rattle.std.specs.Cmp.{unsigned_tied}
 use Rattle.std.specs.BTreeMap.{get, is_at}
-use Rattle.dot_context_runs.specs.Runs.{holds, AreLong}
+use Rattle.dot_context_runs.specs.Runs.{AreLong}
 use Rattle.dot_context.specs.Sets.{listed}
 use Rattle.presence_journal.specs.History.{History, last_cut}
-use Rattle.presence_journal_cuts.specs.Chains.{Chains, AreChains, AreUpTo, has}
+use Rattle.presence_journal_cuts.specs.Chains.{Chains, AreChains, AreUpTo, kept_chain}
 use Rattle.presence_journal_cuts.specs.Cuts.{chain_in}
 use Rattle.tracker_shard_cuts.specs.declared.untold.Untold.{Untold}
 use Rattle.tracker_shard_cuts.specs.Untold.{IsUntoldOf}
@@ -35,13 +35,13 @@ found_long m long found = all_long m m.entries long found
 at_count : (c : ℕ) (xs : Kept) → lookup (is_at (nat_cmp c)) xs ≡ lookup (nat_eq c) xs
 at_count c xs = ap (λ (test : ℕ → Bool). lookup test xs) (λ i k. unsigned_tied c k i)
 
-chain_of : (m : Chains) (xs : Kept) (c n : ℕ) → xs ≡ m.entries → chain_in xs c n ≡ has m c n
-chain_of m xs c n is = ap (λ (ys : Kept). chain_in ys c n) is ∙ ap (λ o. holds (listed o) n) (sym (at_count c m.entries))
+chain_of : (m : Chains) (xs : Kept) (c : ℕ) → xs ≡ m.entries → chain_in xs c ≡ kept_chain m c
+chain_of m xs c is = ap (λ (ys : Kept). chain_in ys c) is ∙ ap listed (sym (at_count c m.entries))
 
 pub are_listed : (h : History) (u : Untold) (xs : Kept) → xs ≡ u.chains.entries → (AreChains u.chains → AllByRecursion (λ (x : ℕ × List (ℕ × ℕ)). AreLong x.1) xs) → IsUntoldOf h u → AreListed h xs
 are_listed h u xs is long kept = record {
-  shown = λ d r own shown n low. chain_of u.chains xs d.count n is ∙ kept.chains d r own shown n low;
-  unused = λ c above n low. chain_of u.chains xs c n is ∙ kept.unused c n low above;
+  shown = λ d r own shown. chain_of u.chains xs d.count is ∙ kept.chains d r own shown;
+  unused = λ c above. chain_of u.chains xs c is ∙ kept.unused c above;
   long = long kept.long;
 }
 

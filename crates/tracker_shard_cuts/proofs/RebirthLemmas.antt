@@ -22,7 +22,7 @@ use Rattle.presence_journal.specs.Walk.{is_reborn, row_at}
 use Rattle.presence_journal.proofs.Same.{dot_total}
 use Rattle.presence_journal_cuts.specs.Cuts.{chain_after, chain, older_after, older}
 use Rattle.presence_journal_sets.specs.ByDot.{Alike}
-use Rattle.presence_journal_cuts.specs.Chains.{AreUpTo, has}
+use Rattle.presence_journal_cuts.specs.Chains.{AreUpTo, kept_chain}
 use Rattle.presence_journal_cuts.specs.KeptDeltas.{KeepsAfter, AreKeptOf}
 use Rattle.presence_journal_cuts.proofs.Histories.{recent_again}
 use Rattle.tracker_shard_cuts.specs.declared.untold.Untold.{Untold}
@@ -62,11 +62,11 @@ all_copied es f a d = sym (a.here d)
 
 -- a rebirth
 
-chain_again : (o : Outcome) (f : ℕ → ℕ → Bool) (c n : ℕ) → is_reborn o ≡ true → chain_after o f c n ≡ false
-chain_again (outcomes_are.Reborn ps) f c n a = refl
-chain_again _ f c n a = absurd (cc)
+chain_again : (o : Outcome) (f : ℕ → List (ℕ × ℕ)) (c : ℕ) → is_reborn o ≡ true → chain_after o f c ≡ []
+chain_again (outcomes_are.Reborn ps) f c a = refl
+chain_again _ f c a = absurd (cc)
 
-older_again : (o : Outcome) (last : ℕ) (f : ℕ → ℕ → Bool) (g : ℕ → Bool) (n : ℕ) → is_reborn o ≡ true → older_after o last f g n ≡ false
+older_again : (o : Outcome) (last : ℕ) (f : ℕ → List (ℕ × ℕ)) (g : ℕ → Bool) (n : ℕ) → is_reborn o ≡ true → older_after o last f g n ≡ false
 older_again (outcomes_are.Reborn ps) last f g n a = refl
 older_again _ last f g n a = absurd (cc)
 
@@ -82,11 +82,11 @@ pub begins_again : (o : Replica) (n : ℕ) (rows : List (Dot × Row)) (u : Untol
     → BeginsAgain o n rows u
 unfolding chain older last_cut AreKeptOf
 begins_again o n rows u own_is count_is last_is open_is no_chain none copies kept_is h e l a mine counted lists = record {
-  chains = λ d s there shows m low. no_has d.count m ∙ sym (chain_again e.outcome (chain h) d.count m a);
-  unused = λ c m low above. no_has c m ∙ sym (chain_again e.outcome (chain h) c m a);
+  chains = λ d s there shows. no_has d.count ∙ sym (chain_again e.outcome (chain h) d.count a);
+  unused = λ c above. no_has c ∙ sym (chain_again e.outcome (chain h) c a);
   long = λ c. subst (λ (es : List (ℕ × List (ℕ × ℕ))). AreLong (listed (lookup (is_at (nat_cmp c)) es))) (sym no_chain) tt;
-  few = λ c m low above over. no_has c m;
-  settled = λ c m low within above f. let g : false ≡ true = sym (no_has c m) ∙ f in absurd (cc);
+  few = λ c above over. no_has c;
+  settled = λ c m low within above f. let g : false ≡ true = sym (ap (λ (rs : List (ℕ × ℕ)). holds rs m) (no_has c)) ∙ f in absurd (cc);
   unsettled = omega (arith, last_is);
   counts = λ m low. ap (λ (xs : List (ℕ × ℕ)). holds xs m) none ∙ sym (older_again e.outcome (last_cut h) (chain h) (older h) m a);
   low = subst (AreUpTo u.last) (sym none) (tt, refl);
@@ -97,5 +97,5 @@ begins_again o n rows u own_is count_is last_is open_is no_chain none copies kep
   count = count_is ∙ counted;
 }
   where
-    no_has : (c m : ℕ) → has u.chains c m ≡ false
-    no_has c m = ap (λ (es : List (ℕ × List (ℕ × ℕ))). holds (listed (lookup (is_at (nat_cmp c)) es)) m) no_chain
+    no_has : (c : ℕ) → kept_chain u.chains c ≡ []
+    no_has c = ap (λ (es : List (ℕ × List (ℕ × ℕ))). listed (lookup (is_at (nat_cmp c)) es)) no_chain

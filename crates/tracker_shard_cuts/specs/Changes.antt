@@ -1,25 +1,28 @@
 -- What an entry changes of what is kept.
-use Rattle.std.specs.Prelude.{◌≡◌, ◌≤◌, ℕ, Bool, cond, nat_eq, nat_le, List, [], Option, Some, None}
+use Rattle.std.specs.Prelude.{◌≡◌, ◌<◌, ◌≤◌, ◌++◌, ℕ, Bool, false, cond, nat_eq, nat_le, List, [], Option, Some, None}
 use Rattle.std.specs.List.{filter, list_any}
 use Rattle.std.specs.BTreeMap.{BTreeMap, get}
 use Rattle.std.specs.Ordering.{nat_cmp}
 use Rattle.presence_base.specs.declared.dots.Dot.{Dot}
 use Rattle.presence_base.specs.declared.row.Row.{Row}
 use Rattle.presence_base.specs.Order.{dot_cmp, same_dot}
-use Rattle.dot_context_runs.specs.Runs.{holds, AreLong}
+use Rattle.dot_context_runs.specs.Runs.{holds}
 use Rattle.presence_journal_data.specs.declared.entry.Outcome.TheVariants as outcomes_are
 use Rattle.presence_journal.specs.Steps.{Outcome, Entry}
+use Rattle.orswot_core.specs.Sets.{DotRows as RowSet}
 use Rattle.delta_range.specs.Keeping.{Kept}
 use Rattle.presence_journal.specs.History.{History, row_added}
 use Rattle.presence_journal.specs.Present.{dots_taken}
 use Rattle.presence_journal.specs.Walk.{row_at}
-use Rattle.presence_journal_cuts.specs.Chains.{Chains, AreUpTo, Counts, TakesIn, has}
+use Rattle.presence_journal_cuts.specs.Chains.{Chains, AreUpTo, Counts, TakesInBy, kept_chain}
 use Rattle.presence_journal_cuts.specs.Cuts.{stands_for}
+use Rattle.presence_journal_cuts.specs.Handing.{handed}
+use Rattle.presence_journal_cuts.specs.Parting.{HasOwnRows}
 use Rattle.presence_journal_cuts.specs.KeptDeltas.{IsPushed, AreKeptOf}
 use Rattle.tracker_shard_cuts.specs.declared.change.Link.{Link}
 use Rattle.tracker_shard_cuts.specs.declared.change.Change.{Change}
 use Rattle.tracker_shard_cuts.specs.declared.untold.Untold.{Untold}
-use Rattle.tracker_shard_cuts.specs.Untold.{IsUntoldOf}
+use Rattle.tracker_shard_cuts.specs.Untold.{AreSettled, IsUntoldOf}
 
 abbrev pub DotRows : Type 0
 DotRows = BTreeMap Dot Row
@@ -28,23 +31,30 @@ DotRows = BTreeMap Dot Row
 abbrev pub told_in : ℕ → List Dot → List Dot
 told_in unsettled ds = filter (λ d. nat_le d.count unsettled) ds
 
--- the new row's chain has the old row's counts, and the old one's own
-pub record HandsOn (m : Chains) (new old : Dot) (l : Link) : Type 0 where
+-- The new row's count has the chain that the old one's hands on. Where it need not be told, it has but the old one's own count more,
+-- which is above `unsettled`.
+pub record HandsOn (unsettled : ℕ) (m : Chains) (new old : Dot) (l : Link) : Type 0 where
   pub to : l.to ≡ new.count
-  pub counts : Counts (holds l.chain) (stands_for (has m) old.count)
-  pub long : AreLong l.chain
+  pub chain : l.chain ≡ handed (kept_chain m old.count) old.count
+  pub above : l.is_told ≡ false → unsettled < old.count
+  pub same : l.is_told ≡ false → Counts (holds l.chain) (stands_for (kept_chain m) old.count)
 
 -- an update links its two rows, and nothing else links any
-abbrev pub IsLinkOf : Outcome → Chains → Option Link → Type 0
-IsLinkOf (outcomes_are.Replaced new old) m (Some l) = HandsOn m new old l
-IsLinkOf (outcomes_are.Replaced new old) m None = ⊥
-IsLinkOf _ m o = o ≡ None
+abbrev pub IsLinkOf : ℕ → Outcome → Chains → Option Link → Type 0
+IsLinkOf unsettled (outcomes_are.Replaced new old) m (Some l) = HandsOn unsettled m new old l
+IsLinkOf unsettled (outcomes_are.Replaced new old) m None = ⊥
+IsLinkOf unsettled _ m o = o ≡ None
 
--- the row that an entry adds, its link, and the older counts that go with the dots up to a count
+-- the runs are what goes with an outcome, for those that have what counts above `unsettled` stand for
+abbrev pub TellsGone : ℕ → ℕ → Chains → Outcome → List (ℕ × ℕ) → Type 0
+TellsGone last unsettled m o gone = (old : List (ℕ × ℕ)) → AreSettled last unsettled (kept_chain m) old → last ≤ unsettled
+    → TakesInBy o last m old (old ++ gone)
+
+-- the row that an entry adds, its link, and the older counts that go with it
 pub record IsChange (last unsettled : ℕ) (m : Chains) (e : Entry) (c : Change) : Type 0 where
   pub row : (d : Dot) → row_at c.row d ≡ row_added e.step e.outcome d
-  pub link : IsLinkOf e.outcome m c.link
-  pub counts : TakesIn last m (told_in unsettled (dots_taken e.outcome)) [] c.gone.items
+  pub link : IsLinkOf unsettled e.outcome m c.link
+  pub counts : TellsGone last unsettled m e.outcome c.gone.items
   pub low : AreUpTo last c.gone.items
 
 abbrev pub IsChangeOf : Untold → Entry → Change → Type 0
@@ -97,10 +107,10 @@ with_kept u k = record {
   kept = k;
 }
 
--- what a cut tells comes to the kept deltas, and nothing else changes
-pub record KeepsCut (u v : Untold) : Type 0 where
+-- what a cut tells, where the set has the own rows, comes to the kept deltas, and nothing else changes
+pub record KeepsCut (u : Untold) (s : RowSet) (v : Untold) : Type 0 where
   pub same : v ≡ with_kept u v.kept
-  pub pushed : (h : History) → IsUntoldOf h u → IsPushed (AreKeptOf h) h v.kept
+  pub pushed : (h : History) → IsUntoldOf h u → HasOwnRows h s → IsPushed (AreKeptOf h) h v.kept
 
 -- all is told up to a count, and only the chains and the kept deltas stay
 pub record IsToldTo (to : ℕ) (u v : Untold) : Type 0 where

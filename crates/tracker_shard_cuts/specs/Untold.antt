@@ -1,5 +1,5 @@
 -- What is kept of a history for the next cut.
-use Rattle.std.specs.Prelude.{◌≡◌, ℕ, ◌≤◌, ◌<◌, Bool, true, false, List, Option, Some, option_map}
+use Rattle.std.specs.Prelude.{◌≡◌, ℕ, ◌≤◌, ◌<◌, true, List, [], Option, Some, option_map}
 use Rattle.std.specs.BTreeMap.{get}
 use Rattle.presence_base.specs.declared.dots.Dot.{Dot}
 use Rattle.presence_base.specs.declared.row.Row.{Row}
@@ -7,13 +7,15 @@ use Rattle.presence_base.specs.Order.{dot_cmp, same_dot}
 use Rattle.dot_context_runs.specs.Runs.{holds}
 use Rattle.orswot_core_told.specs.declared.form.Form.{Form}
 use Rattle.orswot_core_told.specs.Telling.{ToldValue}
+use Rattle.orswot_core.specs.Sets.{DotRows}
 use Rattle.delta_range.specs.Deltas.{telling_in}
 use Rattle.delta_range.specs.Keeping.{Kept, from_count}
 use Rattle.presence_journal.specs.Steps.{Entry}
 use Rattle.presence_journal.specs.History.{History, Then, own, count, last_cut, shown}
 use Rattle.presence_journal.specs.Table.{IsLegal}
 use Rattle.presence_journal_sets.specs.ByDot.{Alike}
-use Rattle.presence_journal_cuts.specs.Chains.{Chains, AreChains, AreUpTo, Counts, has}
+use Rattle.presence_journal_sets.specs.LeftOut.{HoldsCovered}
+use Rattle.presence_journal_cuts.specs.Chains.{Chains, AreChains, AreUpTo, Counts, kept_chain}
 use Rattle.presence_journal_cuts.specs.Cuts.{chain, older, recent}
 use Rattle.presence_journal_cuts.specs.KeptDeltas.{AreKeptOf}
 use Rattle.tracker_shard_cuts.specs.declared.untold.Untold.{Untold}
@@ -24,19 +26,19 @@ use Rattle.presence_journal_cuts.specs.Reborn.{own_live}
 
 -- each own row that is shown has its chain
 abbrev pub HasChains : History → Chains → Type 0
-HasChains h m = (d : Dot) (r : Row) → d.replica ≡ own h → shown h d ≡ Some r → Counts (has m d.count) (chain h d.count)
+HasChains h m = (d : Dot) (r : Row) → d.replica ≡ own h → shown h d ≡ Some r → kept_chain m d.count ≡ chain h d.count
 
 -- and so has each count that is not used yet
 abbrev pub HasUnused : History → Chains → Type 0
-HasUnused h m = (c n : ℕ) → 1 ≤ n → count h < c → has m c n ≡ chain h c n
+HasUnused h m = (c : ℕ) → count h < c → kept_chain m c ≡ chain h c
 
 -- no count above both has a chain
-abbrev pub AreBelow : ℕ → ℕ → (ℕ → ℕ → Bool) → Type 0
-AreBelow most unsettled f = (c n : ℕ) → 1 ≤ n → most < c → unsettled < c → f c n ≡ false
+abbrev pub AreBelow : ℕ → ℕ → (ℕ → List (ℕ × ℕ)) → Type 0
+AreBelow most unsettled f = (c : ℕ) → most < c → unsettled < c → f c ≡ []
 
 -- what stands in the chain of a count above `unsettled`, and itself at or below the last cut, is among these
-abbrev pub AreSettled : ℕ → ℕ → (ℕ → ℕ → Bool) → List (ℕ × ℕ) → Type 0
-AreSettled last unsettled f rs = (c n : ℕ) → 1 ≤ n → n ≤ last → unsettled < c → f c n ≡ true → holds rs n ≡ true
+abbrev pub AreSettled : ℕ → ℕ → (ℕ → List (ℕ × ℕ)) → List (ℕ × ℕ) → Type 0
+AreSettled last unsettled f rs = (c n : ℕ) → 1 ≤ n → n ≤ last → unsettled < c → holds (f c) n ≡ true → holds rs n ≡ true
 
 -- the chains of the own rows that are shown, the older counts that went since the last cut, the own rows above it, and the
 -- kept deltas
@@ -44,8 +46,8 @@ pub record IsUntoldOf (h : History) (u : Untold) : Type 0 where
   pub chains : HasChains h u.chains
   pub unused : HasUnused h u.chains
   pub long : AreChains u.chains
-  pub few : AreBelow (count h) u.unsettled (has u.chains)
-  pub settled : AreSettled u.last u.unsettled (has u.chains) u.older.items
+  pub few : AreBelow (count h) u.unsettled (kept_chain u.chains)
+  pub settled : AreSettled u.last u.unsettled (kept_chain u.chains) u.older.items
   pub unsettled : u.last ≤ u.unsettled
   pub counts : Counts (holds u.older.items) (older h)
   pub low : AreUpTo u.last u.older.items
@@ -67,9 +69,9 @@ pub record CanFollow (u : Untold) (e : Entry) : Type 0 where
   pub legal : IsLegal (Then before e)
   pub kept : IsUntoldOf before u
 
--- what is kept after the entry, where u was kept before it
-abbrev pub Follows : Untold → Entry → Untold → Type 0
-Follows u e v = (h : History) → IsLegal (Then h e) → IsUntoldOf h u → IsUntoldOf (Then h e) v
+-- what is kept after the entry, where u was kept before it, and the set is of what is covered after it
+abbrev pub Follows : Untold → Entry → DotRows → Untold → Type 0
+Follows u e s v = (h : History) → IsLegal (Then h e) → HoldsCovered (Then h e) s → IsUntoldOf h u → IsUntoldOf (Then h e) v
 
 -- after a rebirth under this replica, with so many counts and these rows, and no others, it is that of the history
 abbrev pub BeginsAgain : Replica → ℕ → List (Dot × Row) → Untold → Type 0

@@ -1,23 +1,23 @@
 // What an entry changes of what is untold, made before anything of it is changed.
-ghost use Rattle.std.specs.Prelude.{◌≡◌, [], IfOk};
-ghost use Rattle.std.specs.BTreeMap.{get};
-ghost use Rattle.std.specs.Ordering.{nat_cmp};
-ghost use Rattle.dot_context.specs.Sets.{listed};
+ghost use Rattle.std.specs.Prelude.{◌≡◌, ◌||◌, [], cond, length, nat_le, nat_lt, IfOk};
+ghost use Rattle.delta_range.specs.Longest.{up_to};
 ghost use Rattle.presence_journal.specs.Present.{dots_taken};
-ghost use Rattle.presence_journal_cuts.specs.Chains.{AreChains, AreUpTo, TakesIn};
+ghost use Rattle.presence_journal_cuts.specs.Chains.{AreChains, AreUpTo, TakesIn, kept_chain};
 ghost use Rattle.tracker_shard_cuts.specs.Changes.{told_in, IsLinkOf, IsChange};
 
+use delta_range::push_up_to;
 use presence_base::{Dot, Row};
 use presence_journal::{Entry, Outcome};
-use presence_journal_cuts::{Chain, added_row, dots_out, push_all_gone};
+use presence_journal_cuts::{Chain, added_row, dots_out, handed_chain, push_all_gone};
 use std::alloc::{AllocError, Global};
 use std::collections::BTreeMap;
 
-/// The count of an update's new row has the chain.
+/// The count of an update's new row has the chain, which is told where it may have a count that was not told as gone.
 #[derive(Drop)]
 pub(crate) struct Link {
     pub to: u64,
     pub chain: Chain,
+    pub is_told: bool,
 }
 
 /// The row that an entry adds with its link, and the runs of the older counts that go.
@@ -28,34 +28,58 @@ pub(crate) struct Change {
     pub gone: Vec<(u64, u64)>,
 }
 
-// A copy of the chain of a count, or none.
-fn chain_of(alloc: Global, chains: &BTreeMap<u64, Chain>, count: u64) -> Result<Chain, AllocError>
-    ensures { IfOk result (λ c. c ≡ listed (get nat_cmp chains.now count)) }
+// How many runs the chain of a count has.
+fn runs_of(chains: &BTreeMap<u64, Chain>, count: u64) -> usize
+    ensures { result ≡ length (kept_chain chains.now count) }
 {
     match chains.get(&count) {
-        Some(chain) => chain.clone(),
-        None => Ok(Chain::new(alloc)),
+        Some(chain) => chain.as_slice().len(),
+        None => 0,
     }
 }
 
-// The link of an update: the new row's chain has the old one's counts, and the old one's own.
+// Whether the chain that an update hands on from the row of this count may have a count that was not told as gone: of a row
+// above `unsettled` each was, but where the chain has fewer runs than the row's own it is one run now, with counts of other rows.
+fn may_be_untold(chains: &BTreeMap<u64, Chain>, chain: &Chain, count: u64, unsettled: u64) -> bool
+    ensures { result
+        ≡ (nat_le count unsettled || nat_lt (length chain.now) (length (kept_chain chains.now count))) }
+{
+    count <= unsettled || chain.as_slice().len() < runs_of(chains, count)
+}
+
+// The link of an update.
 fn link_of(
     alloc: Global,
     chains: &BTreeMap<u64, Chain>,
+    unsettled: u64,
     outcome: &Outcome,
 ) -> Result<Option<Link>, AllocError>
     requires { AreChains chains.now }
-    ensures { IfOk result (IsLinkOf outcome.now chains.now) }
+    ensures { IfOk result (IsLinkOf unsettled outcome.now chains.now) }
 {
     let Outcome::Replaced(new, old) = outcome else {
         return Ok(None);
     };
-    let mut chain = chain_of(alloc, chains, old.count)?;
-    chain.push(old.count)?;
+    let (new, old) = (new.get(), old.get());
+    let chain = handed_chain(alloc, chains, old.count)?;
+    let is_told = may_be_untold(chains, &chain, old.count, unsettled);
     Ok(Some(Link {
         to: new.count,
         chain,
+        is_told,
     }))
+}
+
+// The runs of the counts at or below the last cut that go with an update.
+fn gone_with(alloc: Global, link: &Link, last: u64) -> Result<Vec<(u64, u64)>, AllocError>
+    ensures { IfOk result (λ v. v.items ≡ cond link.now.is_told (up_to last link.now.chain) []) }
+{
+    let mut gone = Vec::new(alloc);
+    if !link.is_told {
+        return Ok(gone);
+    }
+    push_up_to(&mut gone, link.chain.as_slice(), last)?;
+    Ok(gone)
 }
 
 // The dots up to a count.
@@ -71,8 +95,8 @@ fn told_dots(alloc: Global, dots: &[Dot], unsettled: u64) -> Result<Vec<Dot>, Al
     Ok(told)
 }
 
-// The runs of the counts at or below the last cut that go with an outcome. What the dots above `unsettled` stand
-// for went before it.
+// The runs of the counts at or below the last cut that go with the dots that an outcome takes out. What the dots above
+// `unsettled` stand for went before it.
 fn gone_of(
     alloc: Global,
     chains: &BTreeMap<u64, Chain>,
@@ -102,7 +126,18 @@ pub(crate) fn change_of(
     ensures { IfOk result (IsChange last unsettled chains.now entry.now) }
 {
     let row = added_row(entry)?;
-    let link = link_of(alloc, chains, &entry.outcome)?;
-    let gone = gone_of(alloc, chains, last, unsettled, &entry.outcome)?;
-    Ok(Change { row, link, gone })
+    let Some(link) = link_of(alloc, chains, unsettled, &entry.outcome)? else {
+        let gone = gone_of(alloc, chains, last, unsettled, &entry.outcome)?;
+        return Ok(Change {
+            row,
+            link: None,
+            gone,
+        });
+    };
+    let gone = gone_with(alloc, &link, last)?;
+    Ok(Change {
+        row,
+        link: Some(link),
+        gone,
+    })
 }

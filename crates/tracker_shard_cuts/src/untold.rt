@@ -10,10 +10,12 @@ use crate::putting::{add_runs, drop_chains, put_both};
 use crate::rows::copied;
 use crate::start::most_listed;
 use delta_range::{Delta, Generations, longest};
-use orswot_core::{Form, Told};
+use orswot_core::{Form, Orswot, Told};
 use presence_base::{Dot, Replica, Row};
 use presence_journal::{Chains, Entry, Outcome, Runs, Start};
-use presence_journal_cuts::{Chain, dots_out, drop_dots, kept_chains, kept_rows, kept_runs};
+use presence_journal_cuts::{
+    Chain, dots_out, drop_dots, kept_chains, kept_rows, kept_runs, vacant_of,
+};
 use presence_journal_sets::used_by;
 use std::alloc::{AllocError, Global};
 use std::collections::BTreeMap;
@@ -24,7 +26,7 @@ pub struct Untold {
     own: Replica,
     count: u64,
     last: u64,
-    // What a count above this one stands for was not told, or went since the last cut.
+    // What a count above this one stands for was not told, or is among the older counts since the last cut.
     unsettled: u64,
     chains: BTreeMap<u64, Chain>,
     older: Vec<(u64, u64)>,
@@ -84,7 +86,10 @@ impl Untold {
     ghost use Rattle.presence_journal.specs.History.{History, Begin, begun, last_cut as cut_in};
     ghost use Rattle.presence_journal.specs.Table.{IsLegal};
     ghost use Rattle.presence_journal.specs.Walk.{is_reborn};
+    ghost use Rattle.orswot_core.specs.Sets.{DotRows};
+    ghost use Rattle.delta_range.specs.Deltas.{GoesOn};
     ghost use Rattle.presence_journal_cuts.specs.Cuts.{IsCut};
+    ghost use Rattle.presence_journal_cuts.specs.Parting.{HasOwnRows};
     ghost use Rattle.presence_journal_cuts.specs.KeptDeltas.{renews_kept, AreKeptOf};
     ghost use Rattle.tracker_shard_cuts.specs.Untold.{IsUntoldOf, IsKeptFrom, IsOfOne, BeginsAgain, CanFollow, Follows, Stays};
     ghost use Rattle.tracker_shard_cuts.specs.Listed.{AreOlder, AreListed};
@@ -152,13 +157,16 @@ impl Untold {
         })
     }
 
-    /// What a cut tells. It costs the rows that came since the last cut and the runs of the older counts that went.
-    pub fn cut(&self, alloc: Global) -> Result<Delta, AllocError>
+    /// What a cut tells, where the set has the own rows. It costs the rows that came since the last cut and the runs of the older
+    /// counts that went. Where one of these is a chain that was made one run it costs a look at each own row in that run.
+    pub fn cut(&self, alloc: Global, set: &Orswot) -> Result<Delta, AllocError>
         requires { IsOfOne self.now }
-        ensures { IfOk result (λ d. (h : History) → IsUntoldOf h self.now → IsCut h d) }
+        ensures cut { IfOk result (λ d. (h : History) → IsUntoldOf h self.now → HasOwnRows h set.now → IsCut h d) }
+        ensures next { IfOk result (GoesOn self.now.own self.now.last) }
     {
         let runs = runs_of(alloc, &self.older)?;
-        let older = longest(alloc, runs)?;
+        let gone = longest(alloc, runs)?;
+        let older = vacant_of(alloc, set, &self.own, &gone)?;
         let rows = copies(alloc, &self.rows)?;
         Ok(Delta::new(self.own, self.last, self.count, older, rows))
     }
@@ -210,18 +218,19 @@ impl Untold {
         Ok(Chains::new(list))
     }
 
-    /// Brings it up to the next entry, which is of no rebirth. Where memory is refused it is as it was.
+    /// Brings it up to the next entry, which is of no rebirth; the set has the own rows behind that entry. Where memory is refused it
+    /// is as it was.
     ///
     /// It costs the rows that the entry adds or takes out, with their chains, and for a cut that tells anything the rows of
-    /// the kept deltas.
-    pub fn apply(&mut self, alloc: Global, entry: &Entry) -> Result<(), AllocError>
+    /// the kept deltas and what `cut` costs.
+    pub fn apply(&mut self, alloc: Global, entry: &Entry, set: &Orswot) -> Result<(), AllocError>
         requires follows { CanFollow self.old entry.now }
         requires plain { is_reborn entry.now.outcome ≡ false }
-        ensures ok { OnOk result (Follows self.old entry.now self.new) }
+        ensures ok { OnOk result (Follows self.old entry.now set.now self.new) }
         ensures err { OnErr result (Stays self.old self.new) }
     {
         if let Outcome::CutAt(_, to) = &entry.outcome {
-            self.keep_cut(alloc)?;
+            self.keep_cut(alloc, set)?;
             self.take_cut(alloc, *to);
             return Ok(());
         }
@@ -230,12 +239,12 @@ impl Untold {
     }
 
     // What a cut tells is joined to the kept deltas.
-    fn keep_cut(&mut self, alloc: Global) -> Result<(), AllocError>
+    fn keep_cut(&mut self, alloc: Global, set: &Orswot) -> Result<(), AllocError>
         requires { IsOfOne self.old }
-        ensures ok { OnOk result (KeepsCut self.old self.new) }
+        ensures ok { OnOk result (KeepsCut self.old set.now self.new) }
         ensures err { OnErr result (Stays self.old self.new) }
     {
-        let delta = self.cut(alloc)?;
+        let delta = self.cut(alloc, set)?;
         // Read for the proof alone: what is told is a delta.
         let _live = delta.live();
         self.kept.push(alloc, delta)
@@ -256,7 +265,7 @@ impl Untold {
         requires follows { CanFollow self.old entry.now }
         requires other { renews_kept entry.now.outcome ≡ false }
         requires change { IsChangeOf self.old entry.now change }
-        ensures ok { OnOk result (Follows self.old entry.now self.new) }
+        ensures ok { OnOk result ((s : DotRows) → Follows self.old entry.now s self.new) }
         ensures err { OnErr result (Stays self.old self.new) }
     {
         self.older.reserve(change.gone.len())?;

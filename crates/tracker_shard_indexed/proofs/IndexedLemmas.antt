@@ -17,6 +17,8 @@ use Rattle.presence_journal.specs.Table.{IsLegal, AreWithinLimits, IsKept, outco
 use Rattle.presence_journal.proofs.HistoryLemmas.{after-accepted, within_step}
 use Rattle.delta_range.specs.Deltas.{DeltaValue, telling_in}
 use Rattle.delta_range.specs.Keeping.{from_count}
+use Rattle.presence_journal_cuts.specs.Parting.{HasOwnRows}
+use Rattle.presence_journal_cuts.proofs.Vacating.{own_rows}
 use Rattle.tracker_shard_cuts.specs.Cuts.{IsCut}
 use Rattle.tracker_shard_cuts.specs.KeptDeltas.{TellsOrAll, IsToldFrom}
 use Rattle.tracker_shard_cuts.specs.LeftOut.{HoldsCovered}
@@ -177,8 +179,10 @@ full_walked form s j p set r view holds told = IfOk-weaker r (IsFullIn form set)
 pub of_one : (h : History) (p : Parts) → p.stage ≡ Done → IsSound h p → IsOfOne p.untold
 of_one h p done sound = record { history = h; legal = sound.kept.legal; kept = (kept_done h p done sound).untold }
 
-pub cut_kept : {E : Type 0} (s : Seen) (j : History) (p : Parts) (r : Result DeltaValue E) → seen j p ≡ s → p.stage ≡ Done → IsSound j p → IfOk r (λ d. (h : History) → IsUntoldOf h p.untold → IsCut h d) → IfOk r (IsCut s.history)
-cut_kept s j p r view done sound told = IfOk-weaker r (λ d. (h : History) → IsUntoldOf h p.untold → IsCut h d) (IsCut s.history) (λ d f. f s.history (kept_at_end s j p view done sound).untold) told
+pub cut_kept : {E : Type 0} (s : Seen) (j : History) (p : Parts) (set : DotRows) (r : Result DeltaValue E) → seen j p ≡ s → p.stage ≡ Done → IsSound j p → ((h : History) → IsKnownOf h p.known → HoldsCovered h set) → IfOk r (λ d. (h : History) → IsUntoldOf h p.untold → HasOwnRows h set → IsCut h d) → IfOk r (IsCut s.history)
+cut_kept s j p set r view done sound covered told =
+    let kept = kept_at_end s j p view done sound in
+    IfOk-weaker r (λ d. (h : History) → IsUntoldOf h p.untold → HasOwnRows h set → IsCut h d) (IsCut s.history) (λ d f. f s.history kept.untold (own_rows s.history set (covered s.history kept.known))) told
 
 -- What is told from a count on.
 

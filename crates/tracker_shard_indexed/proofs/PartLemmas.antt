@@ -10,6 +10,8 @@ use Rattle.presence_journal.specs.Steps.{Outcome, Entry}
 use Rattle.presence_journal.specs.History.{History, Then, begun, own, own_after, live}
 use Rattle.presence_journal.specs.Walk.{is_reborn}
 use Rattle.presence_journal.proofs.Same.{same_replica-true}
+use Rattle.orswot_core.specs.Sets.{DotRows}
+use Rattle.tracker_shard_cuts.specs.LeftOut.{HoldsCovered}
 use Rattle.tracker_shard_cuts.specs.Reborn.{own_live}
 use Rattle.tracker_shard_known.proofs.SetLemmas.{not_gone_own}
 use Rattle.tracker_shard_turns.specs.declared.turn.Turn.{Turn}
@@ -96,14 +98,14 @@ not_learned e p q before stays seen fed rest to h legal at =
     })
 
 -- what is untold was brought up
-pub finished : (e : Entry) (p q : Parts) → p.stage ≡ Learned → cuts.Follows p.untold e q.untold → q.known ≡ p.known → q.shown ≡ p.shown → q.feeds ≡ p.feeds → q.stage ≡ Done → GoesOn e p q
-finished e p q before follows same seen fed to h legal at =
+pub finished : (e : Entry) (p q : Parts) (s : DotRows) → p.stage ≡ Learned → ((h : History) → IsKnownOf h p.known → HoldsCovered h s) → cuts.Follows p.untold e s q.untold → q.known ≡ p.known → q.shown ≡ p.shown → q.feeds ≡ p.feeds → q.stage ≡ Done → GoesOn e p q
+finished e p q s before covered follows same seen fed to h legal at =
     let l : IsLearned h e p = subst (λ s. IsAt s (Then h e) p) before at in
     subst (λ s. IsAt s (Then h e) q) (sym to) (record {
       known = subst (IsKnownOf (Then h e)) (sym same) l.known;
       shown = subst (IsShownOf (Then h e)) (sym seen) l.shown;
       feeds = subst (IsFedBy (Then h e)) (sym fed) l.feeds;
-      untold = follows h legal l.untold;
+      untold = follows h legal (covered (Then h e) l.known) l.untold;
     })
 
 -- what is untold was made anew behind a rebirth

@@ -155,6 +155,26 @@ impl Indexed {
         }
     }
 
+    /// Takes the room of all entries of the journal at once, as `Journal::reserve` does.
+    pub fn reserve(&mut self) -> Result<(), AllocError>
+        ensures { self.new ≡ self.old }
+    {
+        self.journal.reserve()
+    }
+
+    /// What lists took for dots since the journal began, in bytes, where they share them with no list before them: a look at a
+    /// count. No contract speaks of it.
+    pub fn list_bytes(&self) -> u64 {
+        self.parts.shown.list_bytes()
+    }
+
+    /// Counts what the dots of another list took.
+    pub fn count_list(&mut self, bytes: u64)
+        ensures { self.new ≡ self.old }
+    {
+        self.parts.shown.count_list(bytes);
+    }
+
     /// Brings all that is kept up to the last entry.
     pub fn ready(&mut self, alloc: Global) -> Result<(), AllocError>
         ensures history { self.new.history ≡ self.old.history }
@@ -451,13 +471,13 @@ impl Indexed {
         Ok(Some(Delta::new(own, from, to, older, live)))
     }
 
-    /// What the own replica did since the last cut. It costs what it tells, and a walk over the journal where memory ran
-    /// out behind the last entry.
+    /// What the own replica did since the last cut. It costs what it tells, where it tells a chain that was made one run a look
+    /// at each own row in that run, and a walk over the journal where memory ran out behind the last entry.
     pub fn cut(&self, alloc: Global) -> Result<Delta, AllocError>
         ensures { IfOk result (λ d. IsCut self.now.history d) }
     {
         match self.parts.stage {
-            Stage::Done => self.parts.untold.cut(alloc),
+            Stage::Done => self.parts.untold.cut(alloc, self.parts.known.set()),
             _ => walk_cut(alloc, &self.journal),
         }
     }

@@ -158,7 +158,7 @@ impl Parts {
         ensures kept { GoesOn entry.now self.old self.new }
         ensures stage { OnOk result (self.new.stage ≡ Done) }
     {
-        self.untold.apply(alloc, entry)?;
+        self.untold.apply(alloc, entry, self.known.set())?;
         self.stage = Stage::Done;
         Ok(())
     }

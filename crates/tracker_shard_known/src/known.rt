@@ -8,6 +8,7 @@ ghost use Rattle.presence_journal.specs.Walk.{is_rebirth};
 ghost use Rattle.presence_journal.specs.Table.{can_be_reborn, pairs_for};
 ghost use Rattle.orswot_core_told.specs.Checks.{WhereItFits};
 ghost use Rattle.presence_journal_sets.specs.Full.{IsFullOf};
+ghost use Rattle.presence_journal_sets.specs.LeftOut.{HoldsCovered};
 ghost use Rattle.tracker_shard_known.specs.Known.{IsKnownOf, IsOfOne, CanFollow, Follows, FollowsStep, Stays, kept, next_left, AreRowsOf};
 ghost use Rattle.tracker_shard_known.specs.Starts.{ListsStandings};
 ghost use Rattle.tracker_shard_known.specs.Turns.{TurnsEntry, TurnsStep};
@@ -102,6 +103,13 @@ impl Known {
         ensures { (h : History) → IsKnownOf h self.now → option_copied result ≡ kept h dot.now }
     {
         self.set.row(dot)
+    }
+
+    /// The set of what is covered with its live rows, without the replicas that are gone. Takes no memory.
+    pub fn set(&self) -> &Orswot
+        ensures { (h : History) → IsKnownOf h self.now → HoldsCovered h result.now }
+    {
+        &self.set
     }
 
     /// The rows that are kept of a replica, in order of dot. Takes no memory, and looks at no other rows.
@@ -208,13 +216,13 @@ impl Known {
         ensures err { OnErr result (Stays self.old self.new) }
     {
         match &entry.step {
-            Step::Heard { replica, now } => self.apply_heard(*replica, *now),
+            Step::Heard { replica, now } => self.apply_heard(*replica.get(), *now),
             Step::Tick { now } => {
                 self.apply_tick(*now);
                 Ok(())
             }
-            Step::PermDown { replica } => self.apply_down(*replica),
-            Step::Merge { told } => self.apply_merge(alloc, told),
+            Step::PermDown { replica } => self.apply_down(*replica.get()),
+            Step::Merge { told } => self.apply_merge(alloc, told.get()),
             Step::Rebirth { incarnation } => self.apply_reborn(alloc, *incarnation, entry),
             _ => self.apply_own(alloc, entry),
         }
@@ -305,10 +313,10 @@ impl Known {
         ensures { IfOk result (TurnsEntry self.now entry.now) }
     {
         match &entry.step {
-            Step::Heard { replica, .. } => self.turn_of_heard(alloc, replica),
+            Step::Heard { replica, .. } => self.turn_of_heard(alloc, replica.get()),
             Step::Tick { now } => self.turn_of_tick(alloc, *now),
-            Step::PermDown { replica } => self.turn_of_down(alloc, replica),
-            Step::Merge { told } => self.turn_of_told(alloc, told),
+            Step::PermDown { replica } => self.turn_of_down(alloc, replica.get()),
+            Step::Merge { told } => self.turn_of_told(alloc, told.get()),
             Step::Rebirth { .. } => self.turn_of_reborn(alloc, entry),
             _ => self.turn_of_own(alloc, entry),
         }

@@ -146,8 +146,10 @@ pub(crate) fn take_own(
     ensures err { OnErr result (set.new ≡ set.old) }
 {
     match &entry.outcome {
-        Outcome::Added(new) => take_added(alloc, set, entry, *new, next),
-        Outcome::Replaced(new, old) => take_replaced(alloc, set, entry, new, old, next),
+        Outcome::Added(new) => take_added(alloc, set, entry, *new.get(), next),
+        Outcome::Replaced(new, old) => {
+            take_replaced(alloc, set, entry, new.get(), old.get(), next)
+        }
         Outcome::Removed(dots) => take_removed(alloc, set, entry, dots.as_slice(), next),
         _ => Ok(()),
     }

@@ -37,8 +37,10 @@ pub fn rows_added(alloc: Global, entry: &Entry) -> Result<Vec<(Dot, Row)>, Alloc
     ensures { IfOk result (λ v. IsListOf (row_added entry.now.step entry.now.outcome) v.items) }
 {
     match &entry.outcome {
-        Outcome::Added(new) => made_under(alloc, &entry.step, None, *new),
-        Outcome::Replaced(new, old) => made_under(alloc, &entry.step, Some(*old), *new),
+        Outcome::Added(new) => made_under(alloc, &entry.step, None, *new.get()),
+        Outcome::Replaced(new, old) => {
+            made_under(alloc, &entry.step, Some(*old.get()), *new.get())
+        }
         _ => Ok(Vec::new(alloc)),
     }
 }
@@ -48,7 +50,7 @@ fn dots_taken(outcome: &Outcome) -> &[Dot]
     ensures { result.now ≡ dots_taken outcome.now }
 {
     match outcome {
-        Outcome::Replaced(_, old) => std::slice::from_ref(old),
+        Outcome::Replaced(_, old) => std::slice::from_ref(old.get()),
         Outcome::Removed(dots) => dots.as_slice(),
         _ => &[],
     }

@@ -110,6 +110,18 @@ impl Shown {
         self.others as u64
     }
 
+    /// What lists took for dots that they share with no list before them, in bytes. No contract speaks of it.
+    pub fn list_bytes(&self) -> u64 {
+        self.states.list_bytes()
+    }
+
+    /// Counts what the dots of another list took.
+    pub fn count_list(&mut self, bytes: u64)
+        ensures { self.new ≡ self.old }
+    {
+        self.states.count(bytes);
+    }
+
     /// Shows a row. Where memory runs out it may be shown to all that see its topic and not yet to its session.
     pub fn put(&mut self, dot: &Dot, row: &Row) -> Result<(), AllocError>
         ensures ok { OnOk result (IsSetIn dot.now row.now (Some row.now) self.old self.new) }
@@ -198,7 +210,7 @@ impl Shown {
             return Ok(state);
         }
         let rows = list_topic(alloc, &self.table.rows, Holder::Room, topic)?;
-        let state = SharedRows::new(alloc, rows)?;
+        let state = self.states.list(alloc, topic, rows)?;
         // Where memory is wanting it isn't kept, and the next ask lists the topic anew.
         let _kept = self.states.keep(topic, &state);
         Ok(state)

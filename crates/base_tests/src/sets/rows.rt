@@ -48,7 +48,7 @@ pub(super) fn raw_row(alloc: Global, count: u64, key: &str) -> Result<(Dot, RawR
     Ok((Dot { replica, count }, raw))
 }
 
-fn row(alloc: Global, key: &str) -> Result<Row, AllocError>
+pub(super) fn row(alloc: Global, key: &str) -> Result<Row, AllocError>
     ensures { IfOk result (λ r. is_row r ≡ true) }
 {
     let Some(topic) = Topic::new(alloc, "room:a")? else {

@@ -12,10 +12,10 @@ use tracker_shard::Shard;
 // What an entry came to. Dots are written by their references.
 fn push_outcome(text: &mut String, outcome: &Outcome) -> Result<(), AllocError> {
     match outcome {
-        Outcome::Added(dot) => push_dot(text, dot),
+        Outcome::Added(dot) => push_dot(text, dot.get()),
         Outcome::Replaced(dot, old) => {
-            push_dot(text, dot)?;
-            push_dot(text, old)
+            push_dot(text, dot.get())?;
+            push_dot(text, old.get())
         }
         Outcome::Removed(dots) => push_dots(text, dots.as_slice()),
         other => write!(text, " {other:?}"),

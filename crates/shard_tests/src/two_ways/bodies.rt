@@ -58,7 +58,7 @@ fn same<T: Debug + Drop>(
 fn outcome_text(alloc: Global, outcome: &Outcome) -> Option<String> {
     match outcome {
         Outcome::Shown(dots) => {
-            let dots = dots.as_slice();
+            let dots = dots.to_vec(alloc).ok()?;
             format!(in alloc; "Shown {dots:?}").ok()
         }
         other => text_of(alloc, other),

@@ -12,4 +12,4 @@ pub returns : goal.returns
 returns c =
     on_ok_weaker c.put_chain.result
     (λ put k. chain_comes (get nat_cmp c.args.chains.now) (get nat_cmp c.put_chain.new.chains) c.args.listed.now c.in_ok-chain.chain k (sym c.contains_key.ensures ∙ c.if-contains_key.false) c.in_ok-chain.ensures (put k))
-    c.put_chain.ensures.got
+    c.put_chain.ensures

@@ -22,15 +22,12 @@ loop-entry-init c =
     (λ k. c.in_ok-chains.ensures k ∙ (ap (λ (xs : Kept). lookup (nat_eq k) xs) c.as_slice.ensures ∙ ap (λ (b : Start). lookup (nat_eq k) b.chains) c.start-start.ensures))
     (c.in_ok-runs.ensures ∙ ap (λ (b : Start). b.older) c.start-start.ensures)))
 
-pub hand_on-requires : goal.hand_on-requires
-hand_on-requires c = c.loop-entry.invariant.here.long
-
 pub loop-entry-preserved : goal.loop-entry-preserved
 loop-entry-preserved c =
     let l = c.loop-entry in
     let e = c.entry-item.result in
     reached_more c.args.journal.now c.entries-entries.result.now l.entry-index e (Gone l.last l.chains l.runs.items) (Gone c.last_after-last.result c.hand_on.new.chains c.go_out.new.runs.items) c.entries-entries.ensures.legal c.loop-entry-test.true c.entry-item.is
-    (λ h legal. gone_then l.last c.last_after-last.result l.chains c.hand_on.new.chains l.runs.items c.go_out.new.runs.items h e c.last_after-last.ensures c.in_ok-go_out.ensures.counts c.in_ok-go_out.ensures.kept c.in_ok-hand_on.ensures.chains (λ long. c.in_ok-hand_on.ensures.long)) l.invariant
+    (λ h legal. gone_then l.last c.last_after-last.result l.chains c.hand_on.new.chains l.runs.items c.go_out.new.runs.items h e c.last_after-last.ensures c.in_ok-go_out.ensures.counts c.in_ok-go_out.ensures.kept c.in_ok-hand_on.ensures) l.invariant
 
 pub returns-clause-counts : goal.returns-clause-counts
 returns-clause-counts c =

@@ -1,7 +1,7 @@
-use Rattle.std.proofs.Common.{◌≡◌, sym, ◌∙◌, ap, subst}
+use Rattle.std.proofs.Common.{sym, ◌∙◌, ap, subst}
 use Rattle.std.specs.List.{filter}
 use Rattle.delta_range.specs.Deltas.{IsDelta}
-use Rattle.presence_journal_cuts.specs.Parting.{is_up_to, up_to}
+use Rattle.presence_journal_cuts.specs.Parting.{is_up_to}
 use Rattle.presence_journal_cuts.proofs.CutShort.{short_sound, short_is}
 use Rattle.presence_journal_cuts.proofs.part.up_to.Goals as goal
 

@@ -1,4 +1,5 @@
-use Rattle.std.proofs.Common.{◌+◌, ◌∙◌, subst, List, arith}
+use Rattle.std.proofs.Common.{◌≡◌, ◌+◌, ◌∙◌, subst, List, arith}
+use Rattle.std.specs.Prelude.{Result, Ok, Err, IfOk}
 use Rattle.presence_base.specs.declared.dots.Dot.{Dot}
 use Rattle.presence_base.specs.declared.row.Row.{Row}
 use Rattle.presence_journal_sets.proofs.NumberedLemmas.{AreNumbered, none_numbered, room_for_one, more_numbered, all_numbered}
@@ -21,7 +22,11 @@ loop-dot-preserved c =
     let at = subst (λ (rest : List (Dot × Row)). AreNumbered c.args.replica.now c.args.rows rest l.pairs.items l.count) c.in-Some.ensures.steps l.invariant in
     more_numbered c.args.replica.now c.args.rows c.next.new.self (c.in-Some.dot.now, c.in-Some._row.now) l.pairs.items c.push.new.self.items l.count c.in_ok-push.ensures.items at
 
+given : {E : Type 0} (r : Result (List (Dot × Dot)) E) (these those : List (Dot × Dot)) → IfOk r (λ ps. ps ≡ these) → these ≡ those → IfOk r (λ ps. ps ≡ those)
+given (Ok ps) these those is same = is ∙ same
+given (Err e) these those is same = tt
+
 pub returns : goal.returns
 returns c =
     let l = c.loop-dot in
-    c.new.ensures ∙ all_numbered c.args.replica.now c.args.rows l.dot-iterator l.pairs.items l.count c.in-None.ensures.steps.0 l.invariant
+    given _ _ _ c.new.ensures (all_numbered c.args.replica.now c.args.rows l.dot-iterator l.pairs.items l.count c.in-None.ensures.steps.0 l.invariant)

@@ -8,6 +8,6 @@ pub returns : goal.returns
 returns g c =
     let d = c.take-delivery in
     deals (around g.S.Read.remaining g.S.Write.contents g.P.Port.step g.H.PresenceHooks c.args.hooks.now) c.args.self.now d.new.self c.send_dealt.new.self c.args.port.now d.new.port
-    d.result.0 c.saturating_sub-room.result d.result.1 c.send_dealt.result
-    (c.saturating_sub-room.ensures ∙ ap (λ (n : ℕ). MAX_UNSENT - n) c.waiting.ensures) d.ensures.failed d.ensures.delivered d.ensures.kept
+    d.result.0 c.saturating_sub-room.result d.result.1 c.is_under_way-telling.result c.send_dealt.result
+    (c.saturating_sub-room.ensures ∙ ap (λ (n : ℕ). MAX_UNSENT - n) c.waiting.ensures) c.is_under_way-telling.ensures d.ensures.failed d.ensures.delivered d.ensures.kept
     c.send_dealt.ensures.sent c.send_dealt.ensures.more c.send_dealt.ensures.kept

@@ -1,11 +1,11 @@
-use Rattle.std.proofs.Common.{◌≡◌, arith, true, Some, ap, sym, ◌∙◌}
+use Rattle.std.proofs.Common.{◌≡◌, true, Some, ap, sym, ◌∙◌}
 use Rattle.presence_journal.specs.Limits.{is_within_limits}
 use Rattle.presence_journal.specs.Table.{outcome_of}
 use Rattle.presence_journal_data.specs.declared.step.Step.TheVariants as steps_are
 use Rattle.presence_journal_data.specs.declared.entry.Outcome.TheVariants as outcomes_are
 use Rattle.tracker_shard.specs.Steps.{new_dot}
 use Rattle.tracker_shard.proofs.Doors.{found_is}
-use Rattle.tracker_shard.proofs.Tables.{tables, none_is, track_added}
+use Rattle.tracker_shard.proofs.Tables.{pid_limits, none_is, track_added}
 use Rattle.tracker_shard.proofs.calls.TrackCall.find.Goals as goal
 
 pub returns-clause-found : goal.returns-clause-found
@@ -16,5 +16,5 @@ returns-clause-found c =
     track_added h a.pid a.topic.now a.key.now a.meta.now c.in-Some.dot
     (sym c.in_ok-own_dot.ensures ∙ none_is c.in_ok-own_dot.field-0 (sym c.is_some.ensures ∙ c.if-is_some.false)) (sym c.in-Some.ensures)
     in
-    let within : is_within_limits c.in_ok-step.step ≡ true = grind (arith, tables) in
-    found_is _ h _ _ c.in_ok-step.ensures.step within table (ap new_dot table)
+    let within : is_within_limits c.in_ok-step.step ≡ true = pid_limits _ a.pid c.in_ok-step.ensures.limits a.count in
+    found_is _ h _ _ c.in_ok-step.ensures.step within (table ∙ ap Some (sym c.in_ok-outcome.ensures)) (ap new_dot table)

@@ -1,6 +1,6 @@
 use Rattle.std.proofs.Common.{◌≡◌, ◌≤◌, ◌+◌, ◌-◌, ◌^◌, drop, min}
-use Rattle.presence_journal_data.specs.TextBytes.{rows_bytes}
-use Rattle.presence_journal_data.proofs.text_bytes.count_of_rows.Given as goal
+use Rattle.presence_journal_data.specs.KeptBytes.{rows_bytes}
+use Rattle.presence_journal_data.proofs.kept_bytes.count_of_rows.Given as goal
 
 -- the count so far, and the bytes of the rows that are left
 abbrev pub invariant-loop-row : goal.invariant-loop-row

@@ -1,8 +1,0 @@
-use Rattle.std.proofs.Common.{◌-◌, ◌^◌, min, ◌∙◌, ap}
-use Rattle.presence_journal.proofs.TextBytes.{bytes_here}
-use Rattle.presence_journal.proofs.journal.Journal.text_bytes.Goals as goal
-
-pub returns : goal.returns
-returns c =
-    let j = c.self.inside in
-    c.text_bytes.ensures ∙ ap (λ n. min n (2 ^ 64 - 1)) (bytes_here j.start j.entries c.args.self.now c.self.view_is)
