@@ -7,4 +7,5 @@ mod deltas;
 mod fitting;
 mod forms;
 mod listed;
+mod lives;
 mod rows;

@@ -76,7 +76,7 @@ impl Journal {
                 own,
                 count: 0,
                 content: Told::new(Vec::new(alloc), Vec::new(alloc), Vec::new(alloc)),
-                standings: Standings::new(Vec::new(alloc)),
+                standings: Standings::new(alloc),
                 time: 0,
                 last_cut: 0,
                 older: Runs::new(Vec::new(alloc)),

@@ -2,8 +2,11 @@
 //! standings of other replicas. Contracts see each as a list.
 #![tactic(auto)]
 
+mod gone;
 mod kept;
+mod lives;
 mod standings;
 
 pub use kept::{Chains, Runs, Subscribers};
+pub use lives::Lives;
 pub use standings::Standings;

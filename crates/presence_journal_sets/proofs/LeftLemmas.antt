@@ -1,5 +1,5 @@
 -- Leaving the replicas that are gone out of a set.
-use Rattle.std.proofs.Common.{◌≡◌, ℕ, Bool, true, false, cond, not, ◌&&◌, ◌||◌, List, [], ◌∷◌, Option, Some, None, refl, sym, ◌∙◌, ap, subst}
+use Rattle.std.proofs.Common.{◌≡◌, ℕ, Bool, true, false, cond, not, ◌&&◌, ◌||◌, List, [], ◌∷◌, ◌++◌, Option, Some, None, refl, sym, ◌∙◌, ap, subst}
 use Rattle.std.specs.FinSet as set
 use Rattle.std.specs.FinMap as map
 use Rattle.std.specs.Prelude.{max}
@@ -22,7 +22,7 @@ use Rattle.presence_journal.specs.History.{History, Begin, Then, onto, own, own_
 use Rattle.presence_journal.proofs.Same.{same_replica-true, dot_cmp-IsAntisymmetric}
 use Rattle.presence_journal_sets.proofs.StatusLemmas.{own-begin}
 use Rattle.presence_journal_sets.specs.Walked.{Holds}
-use Rattle.presence_journal_sets.specs.LeftOut.{HoldsCovered, LeavesOut, without_gone, named_by, is_it, is_named, is_listed, none_left}
+use Rattle.presence_journal_sets.specs.LeftOut.{HoldsCovered, LeavesOut, without_gone, named_by, is_it, is_named, is_listed, none_left, LeavesListed}
 
 get_without : (s : DotRows) (r : Replica) (d : Dot) → map.get (without_replica s r).live d ≡ cond (not (same_replica d.replica r)) (map.get s.live d) None
 get_without s r d = map.get-retain_keys s.live (λ x. not (same_replica x.replica r)) d (λ q e. sym (ap (λ (x : Dot). not (same_replica x.replica r)) (dot_cmp-IsAntisymmetric d q e)))
@@ -133,14 +133,47 @@ left_none s es x holds = record {
         let w : true ≡ false = sym f ∙ not_gone (onto (Begin s) es) d.replica u in
         absurd (cc)
 
-pub one_listed : (h : History) (xs rest : List (Replica × Standing)) (own : Replica) (es : List Entry) (x : Replica × Standing) (s u : DotRows) → xs ≡ x ∷ rest → u ≡ without_gone h s (Some x.0) → LeavesOut h (λ r. is_listed xs r || is_named own es r) s → LeavesOut h (λ r. is_listed rest r || is_named own es r) u
-one_listed h xs rest own es x s u split is o =
-    left_more h (λ r. is_listed xs r || is_named own es r) (λ r. is_listed rest r || is_named own es r) s u (Some x.0) is
-    (λ r. ap (λ (ys : List (Replica × Standing)). is_listed ys r || is_named own es r) split ∙ grouped (same_replica r x.0) (is_listed rest r) (is_named own es r)) o
-  where
-    grouped : (a b c : Bool) → ((a || b) || c) ≡ (a || (b || c))
-    grouped true b c = refl
-    grouped false b c = refl
+grouped : (a b c : Bool) → ((a || b) || c) ≡ (a || (b || c))
+grouped true b c = refl
+grouped false b c = refl
+
+any_both : (r : Replica) (xs ys : List (Replica × Standing)) → is_listed (xs ++ ys) r ≡ (is_listed xs r || is_listed ys r)
+any_both r [] ys = refl
+any_both r (x ∷ xs) ys = ap (λ b. same_replica r x.0 || b) (any_both r xs ys) ∙ sym (grouped (same_replica r x.0) (is_listed xs r) (is_listed ys r))
+
+-- the same are left
+relabelled : (h : History) (left later : Replica → Bool) (s : DotRows) → ((r : Replica) → left r ≡ later r) → LeavesOut h left s → LeavesOut h later s
+relabelled h left later s same o = record { kept = o.kept; lost = λ d f none. o.lost d f (same d.replica ∙ none) }
+
+-- of the listed only these may still have to be left out
+abbrev pub LeavesRest : History → List (Replica × Standing) → List (Replica × Standing) → DotRows → DotRows → Type 0
+LeavesRest h xs left s u = (later : Replica → Bool) → LeavesOut h (λ r. is_listed xs r || later r) s → LeavesOut h (λ r. is_listed left r || later r) u
+
+pub rest_one : (h : History) (xs left rest : List (Replica × Standing)) (x : Replica × Standing) (s u v : DotRows) → left ≡ x ∷ rest → v ≡ without_gone h u (Some x.0) → LeavesRest h xs left s u → LeavesRest h xs rest s v
+rest_one h xs left rest x s u v split is leaves later o =
+    left_more h (λ r. is_listed left r || later r) (λ r. is_listed rest r || later r) u v (Some x.0) is
+    (λ r. ap (λ (ys : List (Replica × Standing)). is_listed ys r || later r) split ∙ grouped (same_replica r x.0) (is_listed rest r) (later r)) (leaves later o)
+
+pub rest_some : (h : History) (xs left some rest : List (Replica × Standing)) (s u v : DotRows) → left ≡ some ++ rest → LeavesListed h some u v → LeavesRest h xs left s u → LeavesRest h xs rest s v
+rest_some h xs left some rest s u v split is leaves later o =
+    is (λ r. is_listed rest r || later r)
+    (relabelled h (λ r. is_listed left r || later r) (λ r. is_listed some r || (is_listed rest r || later r)) u
+    (λ r.
+    ap (λ (ys : List (Replica × Standing)). is_listed ys r || later r) split
+    ∙ (ap (λ b. b || later r) (any_both r some rest) ∙ grouped (is_listed some r) (is_listed rest r) (later r))) (leaves later o))
+
+pub rest_done : (h : History) (xs left : List (Replica × Standing)) (s u : DotRows) → left ≡ [] → LeavesRest h xs left s u → LeavesListed h xs s u
+rest_done h xs left s u none leaves later o = subst (λ (ys : List (Replica × Standing)). LeavesOut h (λ r. is_listed ys r || later r) u) none (leaves later o)
+
+-- all that are listed, in two parts
+pub both_listed : (h : History) (all xs ys : List (Replica × Standing)) (named : Replica → Bool) (s u v : DotRows) → all ≡ xs ++ ys → LeavesListed h xs s u → LeavesListed h ys u v → LeavesOut h (λ r. is_listed all r || named r) s → LeavesOut h named v
+both_listed h all xs ys named s u v split first second o =
+    second named
+    (first (λ r. is_listed ys r || named r)
+    (relabelled h (λ r. is_listed all r || named r) (λ r. is_listed xs r || (is_listed ys r || named r)) s
+    (λ r.
+    ap (λ (zs : List (Replica × Standing)). is_listed zs r || named r) split
+    ∙ (ap (λ b. b || named r) (any_both r xs ys) ∙ grouped (is_listed xs r) (is_listed ys r) (named r))) o))
 
 pub one_named : (h : History) (own p : Replica) (es rest : List Entry) (e : Entry) (s u : DotRows) → es ≡ e ∷ rest → p ≡ own_after e.step own → u ≡ without_gone h s (named_by own e.step) → LeavesOut h (is_named own es) s → LeavesOut h (is_named p rest) u
 one_named h own p es rest e s u split mine is o = left_more h (is_named own es) (is_named p rest) s u (named_by own e.step) is (λ r. ap (λ (ys : List Entry). is_named own ys r) split ∙ ap (λ (q : Replica). is_it (named_by own e.step) r || is_named q rest r) (sym mine)) o

@@ -49,3 +49,7 @@ is_listed xs r = list_any (λ x. same_replica r x.0) xs
 
 abbrev pub none_left : Replica → Bool
 none_left r = false
+
+-- those of the listed that are gone are left out, whoever else may still have to be
+abbrev pub LeavesListed : History → List (Replica × Standing) → DotRows → DotRows → Type 0
+LeavesListed h xs s u = (later : Replica → Bool) → LeavesOut h (λ r. is_listed xs r || later r) s → LeavesOut h later u

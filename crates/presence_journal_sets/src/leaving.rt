@@ -2,15 +2,19 @@
 ghost use Rattle.std.specs.Prelude.{◌≡◌, Some, IfOk, option_copied};
 ghost use Rattle.presence_journal.specs.History.{Begin, onto};
 ghost use Rattle.presence_journal.specs.Table.{IsLegal};
-ghost use Rattle.presence_journal_sets.specs.LeftOut.{HoldsCovered, LeavesOut, without_gone, named_by, is_named, none_left};
+ghost use Rattle.presence_journal_kept.specs.Standings.{gone_list, gone_lives};
+ghost use Rattle.presence_journal_sets.specs.LeftOut.{HoldsCovered, LeavesListed, LeavesOut, without_gone, named_by, is_named, none_left};
 ghost use Rattle.presence_journal_sets.specs.Walked.{Holds};
 
 use crate::statuses::{is_gone, status_after};
 use crate::walked::walk_set_of;
 use orswot_core::Orswot;
-use presence_base::Replica;
+use presence_base::{NodeName, Replica};
 use presence_journal::{Entry, Journal, Start, Step, own_after};
+use presence_journal_kept::Lives;
+use replica_status::Standing;
 use std::alloc::{AllocError, Global};
+use std::collections::BTreeMap;
 
 // Forgets the replica, where it is gone after these entries.
 fn forget_gone(set: &mut Orswot, start: &Start, entries: &[Entry], replica: &Replica)
@@ -42,15 +46,61 @@ fn forget_named(set: &mut Orswot, start: &Start, entries: &[Entry], own: &Replic
     }
 }
 
+// Forgets those of a name's lives that are gone.
+fn leave_out_lives(
+    set: &mut Orswot,
+    start: &Start,
+    entries: &[Entry],
+    name: &NodeName,
+    lives: &[u64],
+)
+    ensures { LeavesListed (onto (Begin start.now) entries.now) (gone_lives name.now lives.now) set.old set.new }
+{
+    for life in lives {
+        let replica = Replica {
+            name: *name,
+            incarnation: *life,
+        };
+        forget_gone(set, start, entries, &replica);
+    }
+}
+
+// Forgets those of the lives of these names that are gone.
+fn leave_out_names(
+    set: &mut Orswot,
+    start: &Start,
+    entries: &[Entry],
+    names: &BTreeMap<NodeName, Lives>,
+)
+    ensures { LeavesListed (onto (Begin start.now) entries.now) (gone_list names.now.entries) set.old set.new }
+{
+    for (name, lives) in names.iter() {
+        leave_out_lives(set, start, entries, name, lives.as_slice());
+    }
+}
+
+// Forgets those of these replicas that are gone.
+fn leave_out_others(
+    set: &mut Orswot,
+    start: &Start,
+    entries: &[Entry],
+    others: &BTreeMap<Replica, Standing>,
+)
+    ensures { LeavesListed (onto (Begin start.now) entries.now) others.now.entries set.old set.new }
+{
+    for (replica, _standing) in others.iter() {
+        forget_gone(set, start, entries, replica);
+    }
+}
+
 // Forgets those of the listed replicas that are gone.
 fn leave_out_listed(set: &mut Orswot, start: &Start, entries: &[Entry])
     requires { Holds (onto (Begin start.now) entries.now) set.old }
     ensures { LeavesOut (onto (Begin start.now) entries.now) (is_named start.now.own entries.now) set.new }
 {
-    let standings = start.standings.as_slice();
-    for listed in standings {
-        forget_gone(set, start, entries, &listed.0);
-    }
+    let (names, others) = start.standings.parts();
+    leave_out_names(set, start, entries, names);
+    leave_out_others(set, start, entries, others);
 }
 
 // Forgets those of the named replicas that are gone.

@@ -1,7 +1,6 @@
 //! The status of a replica.
 ghost use Rattle.std.specs.Prelude.{◌≡◌, cond};
 ghost use Rattle.presence_base.specs.Order.{same_replica};
-ghost use Rattle.replica_status.specs.Boards.{standing_in};
 ghost use Rattle.replica_status.specs.Table.{heard_at, put_down};
 ghost use Rattle.presence_journal.specs.History.{Begin, onto, time_of, standing_after, standing, status, is_gone, hears};
 
@@ -14,18 +13,6 @@ pub(crate) fn is_same(replica: &Replica, other: &Replica) -> bool
     ensures { result ≡ same_replica replica.now other.now }
 {
     replica.cmp(other).is_eq()
-}
-
-// The standing that is listed, or that of a replica that was never heard.
-fn listed_standing(standings: &[(Replica, Standing)], replica: &Replica) -> Standing
-    ensures { result ≡ standing_in standings.now replica.now }
-{
-    for listed in standings {
-        if is_same(replica, &listed.0) {
-            return listed.1;
-        }
-    }
-    Standing::Unheard
 }
 
 // The time that a step hands in.
@@ -85,7 +72,7 @@ fn standing_after(start: &Start, entries: &[Entry], replica: &Replica) -> Standi
 {
     let mut own = start.own;
     let mut time = start.time;
-    let mut standing = listed_standing(start.standings.as_slice(), replica);
+    let mut standing = start.standings.standing(replica);
     for entry in entries {
         time = time.max(time_of_step(&entry.step));
         standing = next_standing(&own, &entry.step, time, replica, standing);

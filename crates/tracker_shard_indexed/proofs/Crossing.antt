@@ -24,10 +24,9 @@ use Rattle.presence_journal_data.specs.contracts.entry.Entry as Entry
 use Rattle.presence_journal_data.specs.contracts.entry.Start as Start
 use Rattle.presence_journal_kept.specs.contracts.kept.Chains as Chains
 use Rattle.presence_journal_kept.specs.contracts.kept.Subscribers as Subscribers
-use Rattle.presence_journal_kept.specs.contracts.standings.Standings as Standings
 use Rattle.presence_journal.specs.contracts.entries.Entries as Entries
 use Rattle.presence_journal.specs.contracts.journal.Journal as Journal
-use Rattle.tracker_shard_known.proofs.Crossing.{replica_send, others_send}
+use Rattle.tracker_shard_known.proofs.Crossing.{replica_send, standings_send, others_send}
 use Rattle.tracker_shard_cuts.proofs.Crossing.{chain_send}
 use Rattle.tracker_shard_shown.proofs.Crossing.{shown_send}
 use Rattle.tracker_shard_feeds.proofs.Crossing.{feeds_send}
@@ -99,9 +98,6 @@ chains_send = search (heap.crosses, sendable) depth 60 fits 20000
 
 subscribers_send : IsSend (Subscribers.the_field).row
 subscribers_send = search (topic_send, heap.crosses, sendable) depth 60 fits 20000
-
-standings_send : IsSend (Standings.the_field).row
-standings_send = search (replica_send, heap.crosses, sendable) depth 60 fits 20000
 
 start_send : IsSend (Start.the_field).row
 start_send = search (replica_send, told_send, standings_send, chains_send, generations_send, subscribers_send, heap.crosses, sendable) depth 60 fits 20000

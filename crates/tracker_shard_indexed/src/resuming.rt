@@ -34,7 +34,7 @@ pub(crate) fn start_of_count(alloc: Global, own: Replica, count: u64) -> Result<
         own,
         count,
         content,
-        standings: Standings::new(Vec::new(alloc)),
+        standings: Standings::new(alloc),
         time: 0,
         last_cut: count,
         older: Runs::new(Vec::new(alloc)),

@@ -45,7 +45,7 @@ pub(crate) fn start_of(alloc: Global, journal: &Journal, parts: &Parts) -> Resul
     ensures { IfOk result (IsStartOf journal.now) }
 {
     let content = parts.known.content(alloc)?;
-    let standings = parts.known.standings(alloc)?;
+    let standings = parts.known.standings()?;
     let older = parts.untold.older(alloc)?;
     let chains = parts.untold.chains(alloc)?;
     let kept = parts.untold.kept()?;

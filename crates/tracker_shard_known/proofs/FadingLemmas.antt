@@ -13,6 +13,7 @@ use Rattle.orswot_core.specs.Sets.{DotRows, without_replica}
 use Rattle.replica_status.specs.declared.standing.Standing.{Standing}
 use Rattle.replica_status.specs.declared.standing.Standing.TheVariants.{Unheard, Up, Down, Gone}
 use Rattle.replica_status.specs.declared.status.Status.TheVariants as status_is
+use Rattle.replica_status.specs.Boards.{standing_in}
 use Rattle.replica_status.specs.Table.{status_of, heard_at, ticked_at, put_down}
 use Rattle.presence_journal_data.specs.declared.step.Step.TheVariants as steps_are
 use Rattle.presence_journal_data.specs.declared.entry.Outcome.TheVariants as outcomes_are
@@ -26,7 +27,7 @@ use Rattle.presence_journal.proofs.ToldLemmas.{none_told_covers}
 use Rattle.presence_journal.proofs.HistoryLemmas.{kind_of, legal_knows, known_quiet, no_more, live_by}
 use Rattle.presence_journal_sets.specs.LeftOut.{HoldsCovered}
 use Rattle.tracker_shard_known_others.specs.declared.others.Others.{Others}
-use Rattle.tracker_shard_known_others.specs.Standings.{standing_at, AreOthersOf}
+use Rattle.tracker_shard_known_others.specs.Standings.{AreOthersOf}
 use Rattle.tracker_shard_known_others.proofs.StandingLemmas.{any_of}
 use Rattle.tracker_shard_known.specs.Steps.{LosesReplicas, fades, loses}
 use Rattle.presence_journal_sets.proofs.OwnLemmas.{plain_step}
@@ -150,14 +151,14 @@ ticks t (Up n) = sym (no_more (is_gone (status_of (ticked_at t (Up n)))))
 ticks t (Down n) = sym (no_more (is_gone (status_of (ticked_at t (Down n)))))
 ticks t Gone = refl
 
-pub gone_tick : (h : History) (e : Entry) (now : ℕ) (o : Others) → e.step ≡ steps_are.Tick now → AreOthersOf h o → (q : Replica) → is_gone (status (Then h e) q) ≡ (fades (max o.time now) (standing_at o.standings q) || is_gone (status h q))
+pub gone_tick : (h : History) (e : Entry) (now : ℕ) (o : Others) → e.step ≡ steps_are.Tick now → AreOthersOf h o → (q : Replica) → is_gone (status (Then h e) q) ≡ (fades (max o.time now) (standing_in o.standings q) || is_gone (status h q))
 gone_tick h e now o is a q =
     ap is_gone (status-then h e q ∙ ap (λ s. cond (same_replica q (own_after s (own h))) status_is.Up (status_of (standing_after (own h) s (max (time h) (time_of s)) q (standing h q)))) is)
     ∙ (ap (λ n. is_gone (cond (same_replica q (own h)) status_is.Up (status_of (ticked_at (max n now) (standing h q))))) (sym a.time)
     ∙ (go (same_replica q (own h)) refl
-    ∙ ap (λ x. fades (max o.time now) (standing_at o.standings q) || is_gone x) (status-here h q)))
+    ∙ ap (λ x. fades (max o.time now) (standing_in o.standings q) || is_gone x) (status-here h q)))
   where
-    go : (b : Bool) → same_replica q (own h) ≡ b → is_gone (cond b status_is.Up (status_of (ticked_at (max o.time now) (standing h q)))) ≡ (fades (max o.time now) (standing_at o.standings q) || is_gone (cond b status_is.Up (status_of (standing h q))))
+    go : (b : Bool) → same_replica q (own h) ≡ b → is_gone (cond b status_is.Up (status_of (ticked_at (max o.time now) (standing h q)))) ≡ (fades (max o.time now) (standing_in o.standings q) || is_gone (cond b status_is.Up (status_of (standing h q))))
     go true f = ap (λ x. fades (max o.time now) x || false) (sym (a.none_own q f))
     go false f = ticks (max o.time now) (standing h q) ∙ ap (λ x. fades (max o.time now) x || is_gone (status_of (standing h q))) (sym (a.standing q f))
 

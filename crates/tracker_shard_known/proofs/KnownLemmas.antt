@@ -31,7 +31,8 @@ use Rattle.presence_journal_sets.specs.LeftOut.{HoldsCovered}
 use Rattle.presence_journal_sets.specs.Full.{IsFullOf}
 use Rattle.tracker_shard_known.specs.declared.known.Known.{Known}
 use Rattle.tracker_shard_known.specs.Known.{IsKnownOf, CanFollow, Follows, FollowsStep, Stays, next_left, AreRowsOf}
-use Rattle.tracker_shard_known_others.specs.Standings.{standing_at, AreOthersOf, OthersFollow, OthersStay}
+use Rattle.replica_status.specs.Boards.{standing_in}
+use Rattle.tracker_shard_known_others.specs.Standings.{AreOthersOf, OthersFollow, OthersStay}
 use Rattle.tracker_shard_known.specs.Steps.{CanTake, Takes, TakesMerge, LosesReplicas, fades, loses}
 use Rattle.tracker_shard_known_others.proofs.OthersLemmas.{others_callers, others_merge}
 use Rattle.tracker_shard_known_turns.proofs.GatherLemmas.{found_by}
@@ -122,12 +123,12 @@ follows_heard k l r now same others counts h e is legal known =
       count = counts ∙ (known.count ∙ sym (count_stays h e noted));
     }
 
-pub follows_tick : (k l : Known) (now t : ℕ) → t ≡ max k.others.time now → LosesReplicas k.set (λ r. fades t (standing_at k.others.standings r)) l.set → OthersFollow k.others (steps_are.Tick now) l.others → l.count ≡ k.count → FollowsStep k (steps_are.Tick now) l
+pub follows_tick : (k l : Known) (now t : ℕ) → t ≡ max k.others.time now → LosesReplicas k.set (λ r. fades t (standing_in k.others.standings r)) l.set → OthersFollow k.others (steps_are.Tick now) l.others → l.count ≡ k.count → FollowsStep k (steps_are.Tick now) l
 follows_tick k l now t time loses others counts h e is legal known =
     let noted = noted_tick h e now is legal in
     record {
-      set = lost h e k.set l.set (λ r. fades t (standing_at k.others.standings r)) (noted_leaves h e legal noted (ap tells is)) loses
-          (λ q. gone_tick h e now k.others is known.others q ∙ ap (λ n. fades n (standing_at k.others.standings q) || is_gone (status h q)) (sym time)) known.set;
+      set = lost h e k.set l.set (λ r. fades t (standing_in k.others.standings r)) (noted_leaves h e legal noted (ap tells is)) loses
+          (λ q. gone_tick h e now k.others is known.others q ∙ ap (λ n. fades n (standing_in k.others.standings q) || is_gone (status h q)) (sym time)) known.set;
       others = others h e is known.others;
       count = counts ∙ (known.count ∙ sym (count_stays h e noted));
     }

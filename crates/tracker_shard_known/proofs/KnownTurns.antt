@@ -7,6 +7,7 @@ use Rattle.presence_base.specs.declared.row.Row.{Row}
 use Rattle.presence_base.specs.Order.{same_replica}
 use Rattle.orswot_core_told.specs.Telling.{ToldValue, live_row}
 use Rattle.replica_status.specs.declared.status.Status.{Status}
+use Rattle.replica_status.specs.Boards.{standing_in}
 use Rattle.presence_journal_data.specs.declared.step.Step.TheVariants as steps_are
 use Rattle.presence_journal.specs.Steps.{Entry}
 use Rattle.presence_journal.specs.History.{History, own, is_up, is_gone, row_added, has_dot}
@@ -16,7 +17,7 @@ use Rattle.presence_journal.specs.Walk.{tells}
 use Rattle.presence_journal.proofs.Same.{same_replica-refl}
 use Rattle.tracker_shard_known.specs.declared.known.Known.{Known}
 use Rattle.tracker_shard_turns.specs.declared.turn.Turn.{Turn}
-use Rattle.tracker_shard_known_others.specs.Standings.{standing_at, status_at}
+use Rattle.tracker_shard_known_others.specs.Standings.{status_at}
 use Rattle.tracker_shard_known.specs.Known.{IsKnownOf}
 use Rattle.tracker_shard_known.specs.Turns.{TurnsEntry, TurnsStep}
 use Rattle.tracker_shard_known_turns.specs.Picks.{picked, drops, is_new, is_out}
@@ -52,12 +53,12 @@ turn_down k r x was is_own t same was_is own_is js ls h e is l known =
     let shifts = down_shifts h e r x is (noted_leaves h e l (noted_down h e r is l) (ap tells is)) (same_replica-refl r) (same ∙ status_kept h k.others r known.others) in
     turn_one k h e r was is_own t (shifts_as h e r (is_up x) (same_replica r (own h)) was is_own (sym was_is) (ap (same_replica r) (sym known.others.own) ∙ sym own_is) shifts) known js ls
 
-pub turn_tick : (k : Known) (now time : ℕ) (t : Turn) → time ≡ max k.others.time now → t.joins.items ≡ [] → IsListOf (picked k.set.live (λ d. drops time (standing_at k.others.standings d.replica))) t.leaves.items → TurnsStep k (steps_are.Tick now) t
+pub turn_tick : (k : Known) (now time : ℕ) (t : Turn) → time ≡ max k.others.time now → t.joins.items ≡ [] → IsListOf (picked k.set.live (λ d. drops time (standing_in k.others.standings d.replica))) t.leaves.items → TurnsStep k (steps_are.Tick now) t
 turn_tick k now time t time_is none ls h e is l known =
     let leaves = noted_leaves h e l (noted_tick h e now is l) (ap tells is) in
     record {
       joins = subst (IsListOf (joins_at h e)) (sym none) (no_list (joins_at h e) (tick_joins h e now k.others k.set is leaves known.others known.set));
-      leaves = list_like (picked k.set.live (λ d. drops time (standing_at k.others.standings d.replica))) (leaves_at h e) t.leaves.items (tick_leaves h e now time k.others k.set is time_is leaves known.others known.set) ls;
+      leaves = list_like (picked k.set.live (λ d. drops time (standing_in k.others.standings d.replica))) (leaves_at h e) t.leaves.items (tick_leaves h e now time k.others k.set is time_is leaves known.others known.set) ls;
     }
 
 pub turn_told : (k : Known) (told : ToldValue) (t : Turn) → IsListOf (λ d. cond (is_new k.set k.others d) (live_row told d) None) t.joins.items → IsListOf (picked k.set.live (is_out k.others told)) t.leaves.items → TurnsStep k (steps_are.Merge told) t

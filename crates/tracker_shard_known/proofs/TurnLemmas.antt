@@ -13,6 +13,7 @@ use Rattle.replica_status.specs.declared.standing.Standing.{Standing}
 use Rattle.replica_status.specs.declared.standing.Standing.TheVariants.{Unheard, Up, Down, Gone}
 use Rattle.replica_status.specs.declared.status.Status.{Status}
 use Rattle.replica_status.specs.declared.status.Status.TheVariants as status_is
+use Rattle.replica_status.specs.Boards.{standing_in}
 use Rattle.replica_status.specs.Table.{is_over, status_of, heard_at, ticked_at, put_down}
 use Rattle.replica_status.specs.declared.standing.TheConstants.{GONE_AFTER_MS}
 use Rattle.presence_journal_data.specs.declared.step.Step.TheVariants as steps_are
@@ -28,7 +29,7 @@ use Rattle.presence_journal.proofs.HistoryLemmas.{Kind, Adds, Replaces, Removes,
 use Rattle.presence_journal_sets.specs.LeftOut.{HoldsCovered}
 use Rattle.tracker_shard_known_others.specs.declared.others.Others.{Others}
 use Rattle.tracker_shard_known.specs.Known.{kept}
-use Rattle.tracker_shard_known_others.specs.Standings.{standing_at, AreOthersOf}
+use Rattle.tracker_shard_known_others.specs.Standings.{AreOthersOf}
 use Rattle.tracker_shard_known.specs.Steps.{fades, loses}
 use Rattle.tracker_shard_known_turns.specs.Picks.{picked, drops, shows_told, is_new, is_out}
 use Rattle.tracker_shard_turns.specs.Turns.{came, joins_at, leaves_at}
@@ -235,20 +236,20 @@ never_up t (Down n) = go (is_over GONE_AFTER_MS n t)
 never_up t Gone = refl
 
 up_ticked : (h : History) (o : Others) (now : ℕ) (q : Replica) → AreOthersOf h o → (b : Bool) → same_replica q (own h) ≡ b
-    → drops (max o.time now) (standing_at o.standings q) ≡ (is_up (cond b status_is.Up (status_of (standing h q))) && not (is_up (cond b status_is.Up (status_of (ticked_at (max o.time now) (standing h q))))))
+    → drops (max o.time now) (standing_in o.standings q) ≡ (is_up (cond b status_is.Up (status_of (standing h q))) && not (is_up (cond b status_is.Up (status_of (ticked_at (max o.time now) (standing h q))))))
 up_ticked h o now q a true f = ap (drops (max o.time now)) (a.none_own q f)
 up_ticked h o now q a false f = ap (drops (max o.time now)) (a.standing q f)
 
-pub tick_leaves : (h : History) (e : Entry) (now t : ℕ) (o : Others) (s : DotRows) → e.step ≡ steps_are.Tick now → t ≡ max o.time now → LeavesRows h e → AreOthersOf h o → HoldsCovered h s → (d : Dot) → picked s.live (λ x. drops t (standing_at o.standings x.replica)) d ≡ leaves_at h e d
+pub tick_leaves : (h : History) (e : Entry) (now t : ℕ) (o : Others) (s : DotRows) → e.step ≡ steps_are.Tick now → t ≡ max o.time now → LeavesRows h e → AreOthersOf h o → HoldsCovered h s → (d : Dot) → picked s.live (λ x. drops t (standing_in o.standings x.replica)) d ≡ leaves_at h e d
 tick_leaves h e now t o s is time_is leaves a holds d =
-    shift_leaves h e d s (drops t (standing_at o.standings d.replica)) leaves holds
-    (ap (λ n. drops n (standing_at o.standings d.replica)) time_is
+    shift_leaves h e d s (drops t (standing_in o.standings d.replica)) leaves holds
+    (ap (λ n. drops n (standing_in o.standings d.replica)) time_is
     ∙ (up_ticked h o now d.replica a (same_replica d.replica (own h)) refl
     ∙ (λ i. is_up (status-here h d.replica i) && not (is_up ((ap (λ n. cond (same_replica d.replica (own h)) status_is.Up (status_of (ticked_at (max n now) (standing h d.replica)))) a.time ∙ sym (tick-then h e now d.replica is)) i)))))
 
 pub tick_joins : (h : History) (e : Entry) (now : ℕ) (o : Others) (s : DotRows) → e.step ≡ steps_are.Tick now → LeavesRows h e → AreOthersOf h o → HoldsCovered h s → (d : Dot) → None ≡ joins_at h e d
 tick_joins h e now o s is leaves a holds d =
-    shift_joins h e d s false leaves holds (λ g. gone_tick h e now o is a d.replica ∙ still_true (fades (max o.time now) (standing_at o.standings d.replica)) (is_gone (status h d.replica)) g)
+    shift_joins h e d s false leaves holds (λ g. gone_tick h e now o is a d.replica ∙ still_true (fades (max o.time now) (standing_in o.standings d.replica)) (is_gone (status h d.replica)) g)
     (go (same_replica d.replica (own h)) ∙ (λ i. not (is_up (status-here h d.replica i)) && is_up (sym (tick-then h e now d.replica is) i)))
   where
     go : (b : Bool) → false ≡ (not (is_up (cond b status_is.Up (status_of (standing h d.replica)))) && is_up (cond b status_is.Up (status_of (ticked_at (max (time h) now) (standing h d.replica)))))

@@ -2,13 +2,13 @@
 ghost use Rattle.std.specs.Prelude.{◌≡◌, cond};
 ghost use Rattle.presence_base.specs.Order.{same_replica};
 ghost use Rattle.orswot_core.specs.Sets.{without_replica};
-ghost use Rattle.tracker_shard_known_others.specs.Standings.{standing_at};
+ghost use Rattle.replica_status.specs.Boards.{standing_in};
 ghost use Rattle.tracker_shard_known.specs.Steps.{LosesReplicas, fades};
 
 use orswot_core::Orswot;
 use presence_base::Replica;
+use presence_journal::Standings;
 use replica_status::Standing;
-use std::collections::BTreeMap;
 use tracker_shard_known_others::{Others, is_gone, is_same};
 
 // Whether time makes a replica of this standing gone.
@@ -28,10 +28,11 @@ fn forget_if_faded(set: &mut Orswot, replica: &Replica, standing: Standing, time
 }
 
 // Forgets the replicas that time makes gone. Takes no memory.
-pub(crate) fn forget_faded(set: &mut Orswot, standings: &BTreeMap<Replica, Standing>, time: u64)
-    ensures { LosesReplicas set.old (λ r. fades time (standing_at standings.now r)) set.new }
+pub(crate) fn forget_faded(set: &mut Orswot, standings: &Standings, time: u64)
+    ensures { LosesReplicas set.old (λ r. fades time (standing_in standings.now r)) set.new }
 {
-    for (replica, standing) in standings.iter() {
+    let others = standings.others();
+    for (replica, standing) in others.iter() {
         forget_if_faded(set, replica, *standing, time);
     }
 }

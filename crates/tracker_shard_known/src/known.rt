@@ -15,7 +15,7 @@ ghost use Rattle.tracker_shard_known.specs.Turns.{TurnsEntry, TurnsStep};
 
 use crate::again::join_again;
 use crate::fading::{forget_faded, forget_other};
-use crate::listing::{listed_standings, read_rows};
+use crate::listing::read_rows;
 use crate::own::{join_heard, take_own};
 use crate::starting::{others_of, set_of};
 use orswot_core::{Form, Orswot, Told};
@@ -68,7 +68,7 @@ impl Known {
     pub fn of_start(alloc: Global, start: &Start) -> Result<Known, AllocError>
         ensures { IfOk result (IsKnownOf (Begin start.now)) }
     {
-        let others = others_of(alloc, start)?;
+        let others = others_of(start)?;
         let set = set_of(alloc, start, &others)?;
         Ok(Known {
             set,
@@ -157,11 +157,10 @@ impl Known {
     }
 
     /// The standings of the other replicas, each replica once. It costs what it gives.
-    pub fn standings(&self, alloc: Global) -> Result<Standings, AllocError>
+    pub fn standings(&self) -> Result<Standings, AllocError>
         ensures { IfOk result (λ xs. (h : History) → IsKnownOf h self.now → ListsStandings h xs) }
     {
-        let list = listed_standings(alloc, &self.others.standings)?;
-        Ok(Standings::new(list))
+        self.others.standings.clone()
     }
 
     /// The own replica. Takes no memory.
@@ -218,10 +217,10 @@ impl Known {
         match &entry.step {
             Step::Heard { replica, now } => self.apply_heard(*replica.get(), *now),
             Step::Tick { now } => {
-                self.apply_tick(*now);
+                self.apply_tick(alloc, *now);
                 Ok(())
             }
-            Step::PermDown { replica } => self.apply_down(*replica.get()),
+            Step::PermDown { replica } => self.apply_down(alloc, *replica.get()),
             Step::Merge { told } => self.apply_merge(alloc, told.get()),
             Step::Rebirth { incarnation } => self.apply_reborn(alloc, *incarnation, entry),
             _ => self.apply_own(alloc, entry),
@@ -237,20 +236,20 @@ impl Known {
     }
 
     // Time passed.
-    fn apply_tick(&mut self, now: u64)
+    fn apply_tick(&mut self, alloc: Global, now: u64)
         ensures { FollowsStep self.old (Step.Tick now) self.new }
     {
         let time = self.others.time.max(now);
         forget_faded(&mut self.set, &self.others.standings, time);
-        self.others.tick(now);
+        self.others.tick(alloc, now);
     }
 
     // A replica is gone for good.
-    fn apply_down(&mut self, replica: Replica) -> Result<(), AllocError>
+    fn apply_down(&mut self, alloc: Global, replica: Replica) -> Result<(), AllocError>
         ensures ok { OnOk result (FollowsStep self.old (Step.PermDown replica) self.new) }
         ensures err { OnErr result (Stays self.old self.new) }
     {
-        self.others.permdown(replica)?;
+        self.others.permdown(alloc, &replica)?;
         forget_other(&mut self.set, &self.others, &replica);
         Ok(())
     }
@@ -280,7 +279,7 @@ impl Known {
         let old = self.others.own;
         let new = own_after(&entry.step, old);
         join_again(alloc, &mut self.set, new, pairs)?;
-        if let Err(fault) = self.others.reborn(incarnation) {
+        if let Err(fault) = self.others.reborn(alloc, incarnation) {
             self.set.forget(&new);
             return Err(fault);
         }

@@ -1,39 +1,10 @@
 // What a Start lists of what is known.
-ghost use Rattle.std.specs.Prelude.{◌≡◌, ◌++◌, ◌∷◌, [], true, IfOk, OnOk};
+ghost use Rattle.std.specs.Prelude.{◌≡◌, true};
 ghost use Rattle.std.specs.List.{list_all};
 ghost use Rattle.orswot_core_told.specs.Limits.{are_texts};
 ghost use Rattle.presence_journal_data.specs.StepLimits.{is_named};
 
-use presence_base::{Dot, Replica, Row};
-use replica_status::Standing;
-use std::alloc::{AllocError, Global};
-use std::collections::BTreeMap;
-
-// Adds a standing at the end.
-fn push_standing(
-    list: &mut Vec<(Replica, Standing)>,
-    replica: &Replica,
-    standing: Standing,
-) -> Result<(), AllocError>
-    ensures { OnOk result (list.new.items ≡ list.old.items ++ (replica.now, standing) ∷ []) }
-{
-    list.push((*replica, standing))?;
-    Ok(())
-}
-
-// The standings, in order of replica.
-pub(crate) fn listed_standings(
-    alloc: Global,
-    standings: &BTreeMap<Replica, Standing>,
-) -> Result<Vec<(Replica, Standing)>, AllocError>
-    ensures { IfOk result (λ v. v.items ≡ standings.now.entries) }
-{
-    let mut list = Vec::new(alloc);
-    for (replica, standing) in standings.iter() {
-        push_standing(&mut list, replica, *standing)?;
-    }
-    Ok(list)
-}
+use presence_base::{Dot, Row};
 
 // Reads the names and texts of rows, whose types keep their limits.
 pub(crate) fn read_rows(live: &[(Dot, Row)])

@@ -1,15 +1,14 @@
 -- The standings that are kept, entry by entry.
-use Rattle.std.proofs.Common.{◌≡◌, ℕ, Bool, true, false, cond, not, ◌&&◌, List, [], Option, Some, None, refl, sym, ◌∙◌, ap, arith}
-use Rattle.std.specs.Prelude.{max, map}
-use Rattle.std.specs.Option.{unwrap_or, option_map}
-use Rattle.std.specs.Map.{lookup}
-use Rattle.std.proofs.lemmas.Map.Made.{lookup-map_values}
+use Rattle.std.proofs.Common.{◌≡◌, ℕ, Bool, true, false, cond, not, ◌&&◌, [], refl, sym, ◌∙◌, ap, arith}
+use Rattle.std.specs.Prelude.{max}
 use Rattle.presence_base.specs.declared.dots.Replica.{Replica}
 use Rattle.presence_base.specs.Order.{same_replica}
 use Rattle.replica_status.specs.declared.standing.Standing.{Standing}
 use Rattle.replica_status.specs.declared.standing.Standing.TheVariants.{Unheard, Up, Down, Gone}
 use Rattle.replica_status.specs.declared.status.Status.TheVariants as status_is
+use Rattle.replica_status.specs.Boards.{standing_in}
 use Rattle.replica_status.specs.Table.{status_of, heard_at, ticked_at, put_down}
+use Rattle.presence_journal_kept.specs.Standings.{Puts, AllStay, Ticks}
 use Rattle.presence_journal_data.specs.declared.step.Step.TheVariants as steps_are
 use Rattle.presence_journal.specs.Steps.{Step, Entry}
 use Rattle.presence_journal.specs.History.{History, Then, begun, own, reborn, time, time_of, standing, standing_after, status, is_gone, hears}
@@ -21,15 +20,15 @@ use Rattle.presence_journal.specs.Table.{is_unheard}
 use Rattle.presence_journal.proofs.Reborn.{IsAgain, again_of}
 use Rattle.presence_journal.proofs.HistoryLemmas.{own-then, own_again, callers_plain}
 use Rattle.tracker_shard_known_others.specs.declared.others.Others.{Others}
-use Rattle.tracker_shard_known_others.specs.Standings.{StandingMap, standing_at, Puts, status_at, hears_at, AreOthersOf, OthersFollow, OthersStay, OthersReborn}
+use Rattle.tracker_shard_known_others.specs.Standings.{status_at, hears_at, AreOthersOf, OthersFollow, OthersStay, OthersReborn}
 
 -- statuses
 
 pub status_kept : (h : History) (o : Others) (r : Replica) → AreOthersOf h o → status_at o r ≡ status h r
 unfolding status
-status_kept h o r a = ap (λ x. cond (same_replica r x) status_is.Up (status_of (standing_at o.standings r))) a.own ∙ go (same_replica r (own h)) refl
+status_kept h o r a = ap (λ x. cond (same_replica r x) status_is.Up (status_of (standing_in o.standings r))) a.own ∙ go (same_replica r (own h)) refl
   where
-    go : (b : Bool) → same_replica r (own h) ≡ b → cond b status_is.Up (status_of (standing_at o.standings r)) ≡ cond b status_is.Up (status_of (standing h r))
+    go : (b : Bool) → same_replica r (own h) ≡ b → cond b status_is.Up (status_of (standing_in o.standings r)) ≡ cond b status_is.Up (status_of (standing h r))
     go true e = refl
     go false e = ap status_of (a.standing r e)
 
@@ -58,25 +57,25 @@ same_flip r q = by (same_replica r q) (same_replica q r) (λ f. ap (λ x. same_r
     by false false f g = refl
 
 -- after a step that makes f of the standing of a replica that is not the own one
-pub others_put : (h : History) (e : Entry) (f : Standing → Standing) (r : Replica) (o p : Others) → is_rebirth e.step ≡ false → same_replica r o.own ≡ false → p.own ≡ o.own → p.time ≡ max o.time (time_of e.step) → Puts o.standings p.standings r (f (standing_at o.standings r))
+pub others_put : (h : History) (e : Entry) (f : Standing → Standing) (r : Replica) (o p : Others) → is_rebirth e.step ≡ false → same_replica r o.own ≡ false → p.own ≡ o.own → p.time ≡ max o.time (time_of e.step) → Puts o.standings p.standings r (f (standing_in o.standings r))
     → ((q : Replica) → standing (Then h e) q ≡ cond (same_replica q r) (f (standing h q)) (standing h q)) → AreOthersOf h o → AreOthersOf (Then h e) p
 others_put h e f r o p n other mine later puts step a = record {
   own = mine ∙ (a.own ∙ sym (own-then h e n));
   time = later ∙ (ap (λ n. max n (time_of e.step)) a.time ∙ sym (time-then h e));
   standing = λ q none.
       puts q
-      ∙ (ap (λ b. cond b (f (standing_at o.standings r)) (standing_at o.standings q)) (same_flip r q)
+      ∙ (ap (λ b. cond b (f (standing_in o.standings r)) (standing_in o.standings q)) (same_flip r q)
       ∙ (at q (same_replica q r) refl
       ∙ ((λ i. cond (same_replica q r) (f (a.standing q (ap (same_replica q) (sym (own-then h e n)) ∙ none) i)) (a.standing q (ap (same_replica q) (sym (own-then h e n)) ∙ none) i))
       ∙ sym (step q))));
   none_own = λ q same.
       puts q
-      ∙ (ap (λ b. cond b (f (standing_at o.standings r)) (standing_at o.standings q)) (apart q (ap (same_replica q) (sym (own-then h e n)) ∙ same) (same_replica r q) refl)
+      ∙ (ap (λ b. cond b (f (standing_in o.standings r)) (standing_in o.standings q)) (apart q (ap (same_replica q) (sym (own-then h e n)) ∙ same) (same_replica r q) refl)
       ∙ a.none_own q (ap (same_replica q) (sym (own-then h e n)) ∙ same));
 }
   where
-    at : (q : Replica) (b : Bool) → same_replica q r ≡ b → cond b (f (standing_at o.standings r)) (standing_at o.standings q) ≡ cond b (f (standing_at o.standings q)) (standing_at o.standings q)
-    at q true same = ap (λ x. f (standing_at o.standings x)) (sym (same_replica-true q r same))
+    at : (q : Replica) (b : Bool) → same_replica q r ≡ b → cond b (f (standing_in o.standings r)) (standing_in o.standings q) ≡ cond b (f (standing_in o.standings q)) (standing_in o.standings q)
+    at q true same = ap (λ x. f (standing_in o.standings x)) (sym (same_replica-true q r same))
     at q false same = refl
 
     apart : (q : Replica) → same_replica q (own h) ≡ true → (b : Bool) → same_replica r q ≡ b → b ≡ false
@@ -86,7 +85,7 @@ others_put h e f r o p n other mine later puts step a = record {
         absurd (cc)
 
 -- after a step that leaves the standings of the others
-pub others_pass : (h : History) (e : Entry) (o p : Others) → is_rebirth e.step ≡ false → p.own ≡ o.own → p.time ≡ max o.time (time_of e.step) → ((q : Replica) → standing_at p.standings q ≡ standing_at o.standings q)
+pub others_pass : (h : History) (e : Entry) (o p : Others) → is_rebirth e.step ≡ false → p.own ≡ o.own → p.time ≡ max o.time (time_of e.step) → AllStay o.standings p.standings
     → ((q : Replica) → same_replica q (own h) ≡ false → standing (Then h e) q ≡ standing h q) → AreOthersOf h o → AreOthersOf (Then h e) p
 others_pass h e o p n mine later same step a = record {
   own = mine ∙ (a.own ∙ sym (own-then h e n));
@@ -107,14 +106,14 @@ apart_from_own h r q own_is other true same =
 heard-step : (h : History) (e : Entry) (r : Replica) (now : ℕ) (q : Replica) → e.step ≡ steps_are.Heard r now → standing (Then h e) q ≡ cond (same_replica q r) (heard_at (max (time h) now) (standing h q)) (standing h q)
 heard-step h e r now q is = standing-then h e q ∙ ap (λ s. standing_after (own h) s (max (time h) (time_of s)) q (standing h q)) is
 
-pub heard_other : (r : Replica) (now : ℕ) (o p : Others) → same_replica r o.own ≡ false → p.own ≡ o.own → p.time ≡ max o.time now → Puts o.standings p.standings r (heard_at (max o.time now) (standing_at o.standings r)) → OthersFollow o (steps_are.Heard r now) p
+pub heard_other : (r : Replica) (now : ℕ) (o p : Others) → same_replica r o.own ≡ false → p.own ≡ o.own → p.time ≡ max o.time now → Puts o.standings p.standings r (heard_at (max o.time now) (standing_in o.standings r)) → OthersFollow o (steps_are.Heard r now) p
 heard_other r now o p other mine later puts h e is a =
     others_put h e (heard_at (max o.time now)) r o p (ap is_rebirth is) other mine (later ∙ ap (λ s. max o.time (time_of s)) (sym is)) puts
     (λ q. heard-step h e r now q is ∙ ap (λ n. cond (same_replica q r) (heard_at (max n now) (standing h q)) (standing h q)) (sym a.time)) a
 
 pub heard_own : (r : Replica) (now : ℕ) (o p : Others) → same_replica r o.own ≡ true → p.own ≡ o.own → p.time ≡ max o.time now → p.standings ≡ o.standings → OthersFollow o (steps_are.Heard r now) p
 heard_own r now o p own_is mine later same h e is a =
-    others_pass h e o p (ap is_rebirth is) mine (later ∙ ap (λ s. max o.time (time_of s)) (sym is)) (λ q. ap (λ m. standing_at m q) same)
+    others_pass h e o p (ap is_rebirth is) mine (later ∙ ap (λ s. max o.time (time_of s)) (sym is)) (λ q. ap (λ m. standing_in m q) same)
     (λ q other. heard-step h e r now q is ∙ ap (λ b. cond b (heard_at (max (time h) now) (standing h q)) (standing h q)) (apart_from_own h r q (ap (same_replica r) (sym a.own) ∙ own_is) other (same_replica q r) refl)) a
 
 -- putting down
@@ -134,7 +133,7 @@ put_down-is Gone = refl
 pub down_other : (r : Replica) (o p : Others) → same_replica r o.own ≡ false → p.own ≡ o.own → p.time ≡ o.time → Puts o.standings p.standings r Gone → OthersFollow o (steps_are.PermDown r) p
 down_other r o p other mine same puts h e is a =
     others_put h e put_down r o p (ap is_rebirth is) other mine (same ∙ (sym (none_later o.time) ∙ ap (λ s. max o.time (time_of s)) (sym is)))
-    (λ q. puts q ∙ ap (λ x. cond (same_replica r q) x (standing_at o.standings q)) (sym (put_down-is (standing_at o.standings r))))
+    (λ q. puts q ∙ ap (λ x. cond (same_replica r q) x (standing_in o.standings q)) (sym (put_down-is (standing_in o.standings r))))
     (λ q. down-step h e r q is) a
 
 pub down_own : (r : Replica) (o : Others) → same_replica r o.own ≡ true → OthersFollow o (steps_are.PermDown r) o
@@ -147,43 +146,28 @@ down_own r o own_is h e is a =
 tick-step : (h : History) (e : Entry) (now : ℕ) (q : Replica) → e.step ≡ steps_are.Tick now → standing (Then h e) q ≡ ticked_at (max (time h) now) (standing h q)
 tick-step h e now q is = standing-then h e q ∙ ap (λ s. standing_after (own h) s (max (time h) (time_of s)) q (standing h q)) is
 
-ticked_or_unheard : (t : ℕ) (o : Option Standing) → unwrap_or (option_map (ticked_at t) o) Unheard ≡ ticked_at t (unwrap_or o Unheard)
-ticked_or_unheard t None = refl
-ticked_or_unheard t (Some s) = refl
-
-abbrev pub each_ticked : ℕ → List (Replica × Standing) → List (Replica × Standing)
-each_ticked t es = map (λ e. (e.0, ticked_at t e.1)) es
-
-ticked_map : (m n : StandingMap) (t : ℕ) (q : Replica) → n.entries ≡ each_ticked t m.entries → standing_at n q ≡ ticked_at t (standing_at m q)
-ticked_map m n t q is =
-    ap (λ es. unwrap_or (lookup (same_replica q) es) Unheard) is
-    ∙ (ap (λ o. unwrap_or o Unheard) (lookup-map_values (ticked_at t) (same_replica q) m.entries)
-    ∙ ticked_or_unheard t (lookup (same_replica q) m.entries))
-
-pub ticked : (now : ℕ) (o p : Others) → p.own ≡ o.own → p.time ≡ max o.time now → p.standings.entries ≡ each_ticked (max o.time now) o.standings.entries → OthersFollow o (steps_are.Tick now) p
+pub ticked : (now : ℕ) (o p : Others) → p.own ≡ o.own → p.time ≡ max o.time now → Ticks (max o.time now) o.standings p.standings → OthersFollow o (steps_are.Tick now) p
 ticked now o p mine later is h e step a = record {
   own = mine ∙ (a.own ∙ sym (own-then h e (ap is_rebirth step)));
   time = later ∙ ((λ i. max (a.time i) (time_of (sym step i))) ∙ sym (time-then h e));
   standing = λ q none.
-      ticked_map o.standings p.standings (max o.time now) q is
+      is q
       ∙ ((λ i. ticked_at (max (a.time i) now) (a.standing q (ap (same_replica q) (sym (own-then h e (ap is_rebirth step))) ∙ none) i))
       ∙ sym (tick-step h e now q step));
-  none_own = λ q same.
-      ticked_map o.standings p.standings (max o.time now) q is
-      ∙ ap (ticked_at (max o.time now)) (a.none_own q (ap (same_replica q) (sym (own-then h e (ap is_rebirth step))) ∙ same));
+  none_own = λ q same. is q ∙ ap (ticked_at (max o.time now)) (a.none_own q (ap (same_replica q) (sym (own-then h e (ap is_rebirth step))) ∙ same));
 }
 
 -- the others of a new shard
-pub none_yet : (r : Replica) (o : Others) → o.own ≡ r → o.time ≡ 0 → o.standings.entries ≡ [] → AreOthersOf (begun r) o
+pub none_yet : (r : Replica) (o : Others) → o.own ≡ r → o.time ≡ 0 → o.standings ≡ [] → AreOthersOf (begun r) o
 unfolding own time standing
 none_yet r o mine zero_is none = record {
   own = mine;
   time = zero_is;
-  standing = λ q other. ap (λ es. unwrap_or (lookup (same_replica q) es) Unheard) none;
-  none_own = λ q same. ap (λ es. unwrap_or (lookup (same_replica q) es) Unheard) none;
+  standing = λ q other. ap (λ xs. standing_in xs q) none;
+  none_own = λ q same. ap (λ xs. standing_in xs q) none;
 }
 
-pub others_same : (o p : Others) → p.own ≡ o.own → p.time ≡ o.time → ((q : Replica) → standing_at p.standings q ≡ standing_at o.standings q) → OthersStay o p
+pub others_same : (o p : Others) → p.own ≡ o.own → p.time ≡ o.time → AllStay o.standings p.standings → OthersStay o p
 others_same o p mine later same h a = record {
   own = mine ∙ a.own;
   time = later ∙ a.time;
@@ -233,13 +217,13 @@ others_reborn i o p mine later puts h e l is a = record {
   time = later ∙ (a.time ∙ (sym (none_later (time h)) ∙ (ap (λ s. max (time h) (time_of s)) (sym is) ∙ sym (time-then h e))));
   standing = λ q none.
       puts q
-      ∙ (ap (λ b. cond b Gone (standing_at o.standings q)) (same_flip o.own q ∙ ap (same_replica q) a.own)
+      ∙ (ap (λ b. cond b Gone (standing_in o.standings q)) (same_flip o.own q ∙ ap (same_replica q) a.own)
       ∙ (at q (same_replica q (own h)) refl
       ∙ sym (standing-then h e q ∙ ap (λ s. standing_after (own h) s (max (time h) (time_of s)) q (standing h q)) is)));
   none_own = λ q own_is.
       let new : q ≡ reborn (own h) w.incarnation = same_replica-true q (own (Then h e)) own_is ∙ own_again h e w in
       puts q
-      ∙ (ap (λ b. cond b Gone (standing_at o.standings q)) (same_flip o.own q ∙ ap (same_replica q) a.own)
+      ∙ (ap (λ b. cond b Gone (standing_in o.standings q)) (same_flip o.own q ∙ ap (same_replica q) a.own)
       ∙ fresh q new (same_replica q (own h)) refl);
 }
   where
@@ -249,15 +233,15 @@ others_reborn i o p mine later puts h e l is a = record {
     same : w.incarnation ≡ i
     same = ap incarnation_of (sym w.step ∙ is)
 
-    at : (q : Replica) (b : Bool) → same_replica q (own h) ≡ b → cond b Gone (standing_at o.standings q) ≡ cond b (put_down (standing h q)) (standing h q)
+    at : (q : Replica) (b : Bool) → same_replica q (own h) ≡ b → cond b Gone (standing_in o.standings q) ≡ cond b (put_down (standing h q)) (standing h q)
     at q true f = sym (put_down-is (standing h q))
     at q false f = a.standing q f
 
-    fresh : (q : Replica) → q ≡ reborn (own h) w.incarnation → (b : Bool) → same_replica q (own h) ≡ b → cond b Gone (standing_at o.standings q) ≡ Unheard
+    fresh : (q : Replica) → q ≡ reborn (own h) w.incarnation → (b : Bool) → same_replica q (own h) ≡ b → cond b Gone (standing_in o.standings q) ≡ Unheard
     fresh q new true f =
         let n : (own h).incarnation ≡ w.incarnation = ap (λ (x : Replica). x.incarnation) (sym (same_replica-true q (own h) f) ∙ new) in
         absurd (omega (arith, n, w.above))
     fresh q new false f =
-        only_unheard (standing_at o.standings q)
+        only_unheard (standing_in o.standings q)
         (ap (λ x. is_unheard (status_of x)) (a.standing q f)
         ∙ (ap is_unheard (sym (status_is_of h q f)) ∙ (ap (λ x. is_unheard (status h x)) new ∙ w.unheard)))

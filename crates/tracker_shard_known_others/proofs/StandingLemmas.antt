@@ -8,10 +8,11 @@ use Rattle.std.proofs.lemmas.Option.{same_Some}
 use Rattle.presence_base.specs.declared.dots.Replica.{Replica}
 use Rattle.presence_base.specs.Order.{replica_cmp, same_replica}
 use Rattle.replica_status.specs.declared.standing.Standing.{Standing}
-use Rattle.replica_status.specs.declared.standing.Standing.TheVariants.{Unheard}
+use Rattle.replica_status.specs.declared.standing.Standing.TheVariants.{Unheard, Gone}
+use Rattle.replica_status.specs.Boards.{standing_in}
 use Rattle.presence_journal.proofs.Same.{same_replica-true}
 use Rattle.presence_journal.proofs.HistoryLemmas.{no_more}
-use Rattle.tracker_shard_known_others.specs.Standings.{StandingMap, standing_at}
+use Rattle.presence_journal_kept.specs.Standings.{StandingMap, standing_at, TellsOthers}
 
 -- one of these replicas passes the test
 abbrev pub any_of : (Standing → Bool) → List (Replica × Standing) → Replica → Bool
@@ -55,6 +56,11 @@ any_standing m p es r unheard is found = ap (λ xs. any_of p xs r) is ∙ (any_l
     go : (o : Option Standing) → passes p o ≡ p (unwrap_or o Unheard)
     go None = sym unheard
     go (Some x) = refl
+
+-- those that pass a test, which no replica passes that is gone or unheard
+pub any_other : (xs : List (Replica × Standing)) (m : StandingMap) (p : Standing → Bool) (es : List (Replica × Standing)) (r : Replica) → p Unheard ≡ false → p Gone ≡ false → TellsOthers xs m → es ≡ m.entries → AreFound (get replica_cmp m) m.entries
+    → any_of p es r ≡ p (standing_in xs r)
+any_other xs m p es r unheard gone tells is found = any_standing m p es r unheard is found ∙ tells p unheard gone r
 
 pub none_listed : (p : Standing → Bool) (es : List (Replica × Standing)) → es ≡ [] → (r : Replica) → any_of p es r ≡ false
 none_listed p es none r = ap (λ l. any_of p l r) none

@@ -1,13 +1,11 @@
 -- The standings of the other replicas, by a history.
 use Rattle.std.specs.Prelude.{◌≡◌, ℕ, Bool, true, false, cond, not, ◌&&◌}
-use Rattle.std.specs.Option.{unwrap_or}
-use Rattle.std.specs.BTreeMap.{BTreeMap, get}
 use Rattle.presence_base.specs.declared.dots.Replica.{Replica}
-use Rattle.presence_base.specs.Order.{replica_cmp, same_replica}
-use Rattle.replica_status.specs.declared.standing.Standing.{Standing}
+use Rattle.presence_base.specs.Order.{same_replica}
 use Rattle.replica_status.specs.declared.standing.Standing.TheVariants.{Unheard}
 use Rattle.replica_status.specs.declared.status.Status.{Status}
 use Rattle.replica_status.specs.declared.status.Status.TheVariants as status_is
+use Rattle.replica_status.specs.Boards.{standing_in}
 use Rattle.replica_status.specs.Table.{status_of}
 use Rattle.presence_journal_data.specs.declared.step.Step.TheVariants as steps_are
 use Rattle.presence_journal.specs.Table.{IsLegal}
@@ -15,20 +13,9 @@ use Rattle.presence_journal.specs.Steps.{Step, Entry}
 use Rattle.presence_journal.specs.History.{History, Then, own, time, standing, is_gone}
 use Rattle.tracker_shard_known_others.specs.declared.others.Others.{Others}
 
-abbrev pub StandingMap : Type 0
-StandingMap = BTreeMap Replica Standing
-
--- the standing that is kept, or that of a replica that was never heard
-abbrev pub standing_at : StandingMap → Replica → Standing
-standing_at m r = unwrap_or (get replica_cmp m r) Unheard
-
--- n has the standing for the replica, and else those of m
-abbrev pub Puts : StandingMap → StandingMap → Replica → Standing → Type 0
-Puts m n r x = (q : Replica) → standing_at n q ≡ cond (same_replica r q) x (standing_at m q)
-
 -- the own replica is up
 abbrev pub status_at : Others → Replica → Status
-status_at o r = cond (same_replica r o.own) status_is.Up (status_of (standing_at o.standings r))
+status_at o r = cond (same_replica r o.own) status_is.Up (status_of (standing_in o.standings r))
 
 -- what is told of the own replica is not heard, and nothing that is told of one that is gone
 abbrev pub hears_at : Others → Replica → Bool
@@ -36,8 +23,8 @@ hears_at o r = not (same_replica r o.own) && not (is_gone (status_at o r))
 
 -- the time and the standings are those of a history; the own replica has none
 pub record AreOthersOf (h : History) (o : Others) : Type 0 where
-  pub none_own : (r : Replica) → same_replica r (own h) ≡ true → standing_at o.standings r ≡ Unheard
-  pub standing : (r : Replica) → same_replica r (own h) ≡ false → standing_at o.standings r ≡ standing h r
+  pub none_own : (r : Replica) → same_replica r (own h) ≡ true → standing_in o.standings r ≡ Unheard
+  pub standing : (r : Replica) → same_replica r (own h) ≡ false → standing_in o.standings r ≡ standing h r
   pub time : o.time ≡ time h
   pub own : o.own ≡ own h
 

@@ -1,16 +1,13 @@
 // The standings of the other replicas, found by replica.
-ghost use Rattle.std.specs.Prelude.{◌≡◌, true, map, OnOk, OnErr};
-ghost use Rattle.presence_base.specs.declared.dots.Replica.{Replica as ReplicaValue};
+ghost use Rattle.std.specs.Prelude.{◌≡◌, OnOk, OnErr};
 ghost use Rattle.presence_base.specs.Order.{same_replica};
-ghost use Rattle.replica_status.specs.Table.{ticked_at};
 ghost use Rattle.presence_journal.specs.History.{begun, reborn, is_gone as is_gone_status, is_up as is_up_status};
-ghost use Rattle.tracker_shard_known_others.specs.Standings.{standing_at, Puts, status_at, hears_at, AreOthersOf, OthersFollow, OthersStay, OthersReborn};
+ghost use Rattle.tracker_shard_known_others.specs.Standings.{status_at, hears_at, AreOthersOf, OthersFollow, OthersStay, OthersReborn};
 
 use presence_base::Replica;
-use presence_journal::Step;
-use replica_status::{Standing, Status};
+use presence_journal::{Standings, Step};
+use replica_status::Status;
 use std::alloc::{AllocError, Global};
-use std::collections::BTreeMap;
 
 /// What is held of the other replicas: the standing of each that was heard or put down, and the greatest
 /// time that was handed in, in milliseconds.
@@ -18,7 +15,7 @@ use std::collections::BTreeMap;
 pub struct Others {
     pub own: Replica,
     pub time: u64,
-    pub standings: BTreeMap<Replica, Standing>,
+    pub standings: Standings,
 }
 
 /// Whether the two are one replica.
@@ -48,45 +45,6 @@ pub fn is_up(status: Status) -> bool
     }
 }
 
-// The standing that is kept, or that of a replica that was never heard.
-fn standing_in(standings: &BTreeMap<Replica, Standing>, replica: &Replica) -> Standing
-    ensures { result ≡ standing_at standings.now replica.now }
-{
-    match standings.get(replica) {
-        Some(standing) => *standing,
-        None => Standing::Unheard,
-    }
-}
-
-// Keeps the standing of a replica.
-fn put(
-    standings: &mut BTreeMap<Replica, Standing>,
-    replica: Replica,
-    standing: Standing,
-) -> Result<(), AllocError>
-    ensures ok { OnOk result (Puts standings.old standings.new replica standing) }
-    ensures err { OnErr result ((q : ReplicaValue) → standing_at standings.new q ≡ standing_at standings.old q) }
-{
-    match standings.insert(replica, standing) {
-        Ok(_) => Ok(()),
-        Err(_) => Err(AllocError),
-    }
-}
-
-// Lets time pass for each.
-fn tick_all(standings: &mut BTreeMap<Replica, Standing>, time: u64)
-    ensures { standings.new.entries ≡ map (λ e. (e.0, ticked_at time e.1)) standings.old.entries }
-{
-    standings.retain(
-        |_replica: &Replica, standing: &mut Standing| -> bool
-            ensures { (result ≡ true) × (standing.new ≡ ticked_at time standing.old) }
-        {
-            *standing = standing.ticked_at(time);
-            true
-        },
-    );
-}
-
 /// The replica under another incarnation.
 pub fn reborn(own: &Replica, incarnation: u64) -> Replica
     ensures { result ≡ reborn own.now incarnation }
@@ -105,7 +63,7 @@ impl Others {
         Others {
             own,
             time: 0,
-            standings: BTreeMap::new(alloc),
+            standings: Standings::new(alloc),
         }
     }
 
@@ -116,7 +74,7 @@ impl Others {
         if is_same(replica, &self.own) {
             return Status::Up;
         }
-        standing_in(&self.standings, replica).status()
+        self.standings.standing(replica).status()
     }
 
     /// Whether what is told of a replica is heard.
@@ -136,41 +94,40 @@ impl Others {
             self.time = time;
             return Ok(());
         }
-        let standing = standing_in(&self.standings, &replica).heard_at(time);
-        put(&mut self.standings, replica, standing)?;
+        self.standings.heard(replica, time)?;
         self.time = time;
         Ok(())
     }
 
-    /// Time passed. Takes no memory.
-    pub fn tick(&mut self, now: u64)
+    /// Time passed. Needs no memory.
+    pub fn tick(&mut self, alloc: Global, now: u64)
         ensures { OthersFollow self.old (Step.Tick now) self.new }
     {
         let time = self.time.max(now);
-        tick_all(&mut self.standings, time);
+        self.standings.tick(alloc, time);
         self.time = time;
     }
 
     /// The own replica goes on under another incarnation: the old one is put down.
-    pub fn reborn(&mut self, incarnation: u64) -> Result<(), AllocError>
+    pub fn reborn(&mut self, alloc: Global, incarnation: u64) -> Result<(), AllocError>
         ensures ok { OnOk result (OthersReborn self.old incarnation self.new) }
         ensures err { OnErr result (OthersStay self.old self.new) }
     {
         let next = reborn(&self.own, incarnation);
-        put(&mut self.standings, self.own, Standing::Gone)?;
+        self.standings.put_down(alloc, &self.own)?;
         self.own = next;
         Ok(())
     }
 
     /// A replica is gone for good.
-    pub fn permdown(&mut self, replica: Replica) -> Result<(), AllocError>
+    pub fn permdown(&mut self, alloc: Global, replica: &Replica) -> Result<(), AllocError>
         ensures own { self.new.own ≡ self.old.own }
-        ensures ok { OnOk result (OthersFollow self.old (Step.PermDown replica) self.new) }
+        ensures ok { OnOk result (OthersFollow self.old (Step.PermDown replica.now) self.new) }
         ensures err { OnErr result (OthersStay self.old self.new) }
     {
-        if is_same(&replica, &self.own) {
+        if is_same(replica, &self.own) {
             return Ok(());
         }
-        put(&mut self.standings, replica, Standing::Gone)
+        self.standings.put_down(alloc, replica)
     }
 }

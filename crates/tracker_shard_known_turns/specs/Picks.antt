@@ -11,11 +11,12 @@ use Rattle.presence_base.specs.Order.{dot_cmp, same_dot, same_replica}
 use Rattle.orswot_core_told.specs.Telling.{Range, ToldValue, range_has, lies_in, is_among, covers, live_row}
 use Rattle.orswot_core.specs.Sets.{Rows, LiveRows, DotRows, first_row}
 use Rattle.replica_status.specs.declared.standing.Standing.{Standing}
+use Rattle.replica_status.specs.Boards.{standing_in}
 use Rattle.replica_status.specs.Table.{status_of, ticked_at}
 use Rattle.presence_journal.specs.Steps.{Step}
 use Rattle.presence_journal.specs.History.{is_up, row_made}
 use Rattle.tracker_shard_known_others.specs.declared.others.Others.{Others}
-use Rattle.tracker_shard_known_others.specs.Standings.{StandingMap, standing_at, status_at}
+use Rattle.tracker_shard_known_others.specs.Standings.{status_at}
 use Rattle.tracker_shard_turns.specs.Turns.{IsListOf}
 
 -- of the dots that pass the test n has the rows of the source, and else those of m
@@ -48,8 +49,8 @@ abbrev pub drops : ℕ → Standing → Bool
 drops time x = is_up (status_of x) && not (is_up (status_of (ticked_at time x)))
 
 -- time hides the rows of the dot's replica
-abbrev pub of_dropped : ℕ → StandingMap → Dot → Bool
-of_dropped time m d = drops time (standing_at m d.replica)
+abbrev pub of_dropped : ℕ → List (Replica × Standing) → Dot → Bool
+of_dropped time xs d = drops time (standing_in xs d.replica)
 
 -- rows that are told of the replica are shown: it is another than the own one, and up
 abbrev pub shows_told : Others → Replica → Bool

@@ -8,7 +8,7 @@ ghost use Rattle.tracker_shard_turns.specs.Turns.{IsListOf};
 use crate::gather::{gather_dots, gather_replica, listed};
 use orswot_core::Orswot;
 use presence_base::{Dot, Replica, Row};
-use presence_journal::{Entry, Outcome, Step};
+use presence_journal::{Entry, Outcome, Standings, Step};
 use presence_journal_sets::made_row;
 use replica_status::{Standing, Status};
 use std::alloc::{AllocError, Global};
@@ -158,12 +158,13 @@ fn gather_if_dropped(
 fn gather_dropped(
     rows: &mut BTreeMap<Dot, Row>,
     set: &Orswot,
-    standings: &BTreeMap<Replica, Standing>,
+    standings: &Standings,
     time: u64,
 ) -> Result<(), AllocError>
     ensures { OnOk result (Gathers set.now.live (of_dropped time standings.now) rows.old rows.new) }
 {
-    for (replica, standing) in standings.iter() {
+    let others = standings.others();
+    for (replica, standing) in others.iter() {
         gather_if_dropped(rows, set, replica, *standing, time)?;
     }
     Ok(())
@@ -173,7 +174,7 @@ fn gather_dropped(
 pub fn rows_dropped(
     alloc: Global,
     set: &Orswot,
-    standings: &BTreeMap<Replica, Standing>,
+    standings: &Standings,
     time: u64,
 ) -> Result<Vec<(Dot, Row)>, AllocError>
     ensures { IfOk result (λ v. IsPick set.now.live (of_dropped time standings.now) v.items) }

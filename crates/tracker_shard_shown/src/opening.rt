@@ -1,28 +1,15 @@
 // The rows that a journal's Start shows.
 ghost use Rattle.std.specs.Prelude.{◌≡◌, [], ◌∷◌, OnOk};
-ghost use Rattle.replica_status.specs.Boards.{standing_in};
 ghost use Rattle.presence_journal.specs.History.{Begin, is_up, status};
 ghost use Rattle.tracker_shard_shown.specs.Opening.{PutsUp};
 
 use crate::kept::{is_own, put_row};
 use crate::stand::Stand;
-use presence_base::{Dot, Replica, Row};
+use presence_base::{Dot, Row};
 use presence_journal_data::Start;
-use replica_status::{Standing, Status};
+use replica_status::Status;
 use std::alloc::AllocError;
 use std::collections::BTreeMap;
-
-// The standing that is listed, or that of a replica that was never heard.
-fn listed_standing(standings: &[(Replica, Standing)], replica: &Replica) -> Standing
-    ensures { result ≡ standing_in standings.now replica.now }
-{
-    for listed in standings {
-        if replica.cmp(&listed.0).is_eq() {
-            return listed.1;
-        }
-    }
-    Standing::Unheard
-}
 
 // Whether the status is that of a replica that is up.
 fn is_up_status(status: Status) -> bool
@@ -41,7 +28,7 @@ fn is_up_at(start: &Start, dot: &Dot) -> bool
     if is_own(&start.own, dot) {
         return true;
     }
-    let standing = listed_standing(start.standings.as_slice(), &dot.replica);
+    let standing = start.standings.standing(&dot.replica);
     is_up_status(standing.status())
 }
 

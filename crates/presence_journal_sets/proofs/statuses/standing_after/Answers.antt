@@ -1,9 +1,7 @@
-use Rattle.std.proofs.Common.{refl, ◌∙◌, ap, sym, subst, List}
+use Rattle.std.proofs.Common.{refl, ◌∙◌, ap, sym, subst}
 use Rattle.std.specs.Prelude.{max}
-use Rattle.presence_base.specs.declared.dots.Replica.{Replica}
 use Rattle.replica_status.specs.declared.standing.Standing.{Standing}
 use Rattle.presence_journal.specs.History.{Begin, onto}
-use Rattle.replica_status.specs.Boards.{standing_in}
 use Rattle.presence_journal.proofs.Walking.{reached_none, reached_all}
 use Rattle.presence_journal_sets.proofs.StatusLemmas.{Stands, stands_start, stands_more, passed_more}
 use Rattle.presence_journal_sets.proofs.statuses.standing_after.Goals as goal
@@ -13,8 +11,8 @@ loop-entry-init c =
     let s = c.args.start.now in
     let r = c.args.replica.now in
     let es = c.args.entries.now in
-    reached_none s (onto (Begin s) es) es (Stands s.own r s.time c.listed_standing-standing.result) refl
-    (subst (λ (x : Standing). Stands s.own r s.time x (Begin s)) (sym (c.listed_standing-standing.ensures ∙ ap (λ (xs : List (Replica × Standing)). standing_in xs r) c.as_slice.ensures)) (stands_start r s))
+    reached_none s (onto (Begin s) es) es (Stands s.own r s.time c.standing-standing.result) refl
+    (subst (λ (x : Standing). Stands s.own r s.time x (Begin s)) (sym c.standing-standing.ensures) (stands_start r s))
 
 pub loop-entry-preserved : goal.loop-entry-preserved
 loop-entry-preserved c =

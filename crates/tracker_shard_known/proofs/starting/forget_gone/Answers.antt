@@ -1,31 +1,14 @@
-use Rattle.std.proofs.Common.{Bool, ◌∙◌, refl}
-use Rattle.std.proofs.lemmas.List.Elements.{recursion_from_All}
-use Rattle.replica_status.specs.declared.standing.Standing.{Standing}
-use Rattle.replica_status.specs.Table.{status_of}
-use Rattle.presence_journal.specs.History.{is_gone}
-use Rattle.tracker_shard_known_others.specs.Standings.{standing_at}
-use Rattle.tracker_shard_known_others.proofs.StandingLemmas.{any_of, any_standing, none_listed}
-use Rattle.tracker_shard_known.proofs.FadingLemmas.{still_all, still_none, still_next}
+use Rattle.presence_journal_kept.specs.Standings.{gone_list, standing_at}
+use Rattle.presence_journal_sets.specs.LeftOut.{is_listed}
+use Rattle.replica_status.specs.Boards.{standing_in}
+use Rattle.tracker_shard_known.specs.Starts.{is_gone_by}
+use Rattle.tracker_shard_known.proofs.StartLemmas.{loses_both, all_gone}
 use Rattle.tracker_shard_known.proofs.starting.forget_gone.Goals as goal
-
-pub loop-replica-init : goal.loop-replica-init
-loop-replica-init c =
-    let m = c.args.standings.now in
-    let p : Standing → Bool = λ x. is_gone (status_of x) in
-    let es = c.into_iter-replica-iterator.result in
-    still_all c.args.set.now (λ r. p (standing_at m r)) (any_of p es)
-    (λ r. any_standing m p es r refl (c.into_iter-replica-iterator.ensures.into_iter_gives ∙ c.iter-replica-items.ensures.rest) (recursion_from_All _ _ c.iter-replica-items.ensures.found))
-
-pub loop-replica-preserved : goal.loop-replica-preserved
-loop-replica-preserved c =
-    let l = c.loop-replica in
-    let m = c.args.standings.now in
-    let p : Standing → Bool = λ x. is_gone (status_of x) in
-    still_next c.args.set.now l.set c.forget_if_gone.new.set (λ r. p (standing_at m r)) p l.replica-iterator c.next.new.self c.in-Some.replica.now c.in-Some.standing.now c.in-Some.ensures.steps c.forget_if_gone.ensures l.invariant
 
 pub returns : goal.returns
 returns c =
-    let l = c.loop-replica in
-    let m = c.args.standings.now in
-    let p : Standing → Bool = λ x. is_gone (status_of x) in
-    still_none c.args.set.now l.set (λ r. p (standing_at m r)) (any_of p l.replica-iterator) (none_listed p l.replica-iterator c.in-None.ensures.steps.0) l.invariant
+    let g = c.parts.result.0.now in
+    let m = c.parts.result.1.now in
+    let xs = c.args.standings.now in
+    loses_both c.args.set.now c.forget_names.new.set c.forget_others.new.set (is_listed (gone_list g.entries)) (λ r. is_gone_by (standing_at m r)) (λ r. is_gone_by (standing_in xs r)) c.forget_names.ensures c.forget_others.ensures
+    (all_gone g m xs c.parts.ensures)

@@ -1,7 +1,12 @@
-use Rattle.std.proofs.Common.{refl, ◌∙◌, ap}
-use Rattle.tracker_shard_known.specs.Starts.{listed_other}
+use Rattle.std.proofs.Common.{refl, subst, List}
+use Rattle.presence_base.specs.declared.dots.Replica.{Replica}
+use Rattle.replica_status.specs.declared.standing.Standing.{Standing}
+use Rattle.replica_status.specs.declared.standing.Standing.TheVariants.{Unheard}
+use Rattle.presence_journal_kept.specs.Standings.{Puts}
 use Rattle.tracker_shard_known.proofs.StartLemmas.{others_begin}
 use Rattle.tracker_shard_known.proofs.starting.others_of.Goals as goal
 
 pub returns : goal.returns
-returns c = others_begin c.args.start.now _ refl refl (λ q. c.in_ok-standings.ensures q ∙ ap (λ xs. listed_other c.args.start.now.own xs q) c.as_slice.ensures)
+returns c =
+    let s = c.args.start.now in
+    others_begin s _ refl refl (subst (λ (xs : List (Replica × Standing)). Puts xs c.forget.new.self s.own Unheard) c.in_ok-standings.ensures.cases c.forget.ensures)

@@ -4,10 +4,10 @@ use Rattle.tracker_shard_known_others.proofs.OthersLemmas.{down_other, down_own,
 use Rattle.tracker_shard_known_others.proofs.others.Others.permdown.Goals as goal
 
 pub returns-then-is_same-clause-ok : goal.returns-then-is_same-clause-ok
-returns-then-is_same-clause-ok c = down_own c.args.replica c.args.self.now (sym c.is_same.ensures ∙ c.if-is_same.true)
+returns-then-is_same-clause-ok c = down_own c.args.replica.now c.args.self.now (sym c.is_same.ensures ∙ c.if-is_same.true)
 
 pub returns-clause-ok : goal.returns-clause-ok
-returns-clause-ok c = on_ok c.put.result (λ puts. down_other c.args.replica c.args.self.now _ (sym c.is_same.ensures ∙ c.if-is_same.false) refl refl puts) c.put.ensures.ok
+returns-clause-ok c = on_ok c.put_down.result (λ puts. down_other c.args.replica.now c.args.self.now _ (sym c.is_same.ensures ∙ c.if-is_same.false) refl refl puts) c.put_down.ensures.ok
 
 pub returns-clause-err : goal.returns-clause-err
-returns-clause-err c = on_err c.put.result (λ same. others_same c.args.self.now _ refl refl same) c.put.ensures.err
+returns-clause-err c = on_err c.put_down.result (λ same. others_same c.args.self.now _ refl refl same) c.put_down.ensures.err

@@ -4,7 +4,7 @@ use Rattle.tracker_shard_known_others.proofs.OthersLemmas.{others_reborn, others
 use Rattle.tracker_shard_known_others.proofs.others.Others.reborn.Goals as goal
 
 pub returns-clause-ok : goal.returns-clause-ok
-returns-clause-ok c = others_reborn c.args.incarnation c.args.self.now _ c.reborn-next.ensures refl c.in_ok-put.ensures.ok
+returns-clause-ok c = others_reborn c.args.incarnation c.args.self.now _ c.reborn-next.ensures refl c.in_ok-put_down.ensures.ok
 
-pub returns-in_err-put-clause-err : goal.returns-in_err-put-clause-err
-returns-in_err-put-clause-err c = err_leaves c.from_residual.result (others_same c.args.self.now _ refl refl c.in_err-put.ensures.err)
+pub returns-in_err-put_down-clause-err : goal.returns-in_err-put_down-clause-err
+returns-in_err-put_down-clause-err c = err_leaves c.from_residual.result (others_same c.args.self.now _ refl refl c.in_err-put_down.ensures.err)

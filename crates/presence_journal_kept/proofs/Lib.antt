@@ -1,0 +1,3 @@
+pub mod LivesLemmas
+pub mod GoneLemmas
+pub mod StandingLemmas
