@@ -1,26 +1,15 @@
 //! Checkpoints at quiet moments: where a journal is nearly full the workers read nothing for a while and deliver what waits,
 //! so that the checkpoint leaves nothing out.
-ghost use Rattle.std.specs.Prelude.{◌≡◌, ◌<◌};
-ghost use Rattle.presence_node_duties.specs.Due.{IsDueBy, IsDueFrom, due_entries as due_entries_in};
+ghost use Rattle.std.specs.Prelude.{◌<◌};
+ghost use Rattle.presence_node_duties.specs.Due.{IsLoadOf};
 
+use crate::load::Load;
 use crate::server::Server;
 use presence_node_counts::Checkpoint;
-use shard_pool::{DueFrom, Lane, PoolFault};
+use shard_pool::{Lane, PoolFault};
 use std::alloc::Global;
 use std::sync::Wait;
 use std::sync::atomic::Ordering;
-
-/// A journal with so many entries is due for a checkpoint: three quarters of those that it may have.
-const DUE_ENTRIES: u64 = 196_608;
-
-/// Where memory is tight one with so many is, once in a while, so that what is gone is given back.
-const TIGHT_ENTRIES: u64 = 64;
-
-/// A journal whose entries keep so many bytes of texts and of dots that lists showed is due too: three quarters of 64 MiB.
-const DUE_TEXT_BYTES: u64 = 50_331_648;
-
-/// A journal with so many entries is due where nobody follows a topic of its shard, so that nobody is told anything by it.
-const DUE_ENTRIES_AT_REST: u64 = 8_192;
 
 /// The journals are looked at once in so long, in milliseconds.
 const LOOK_MILLISECONDS: u64 = 5;
@@ -187,52 +176,21 @@ impl Drain {
     }
 }
 
-// With how many entries a journal is due.
-fn due_entries(is_tight: bool, is_followed: bool) -> u64
-    ensures { result ≡ due_entries_in is_tight is_followed }
-{
-    if is_tight {
-        TIGHT_ENTRIES
-    } else if is_followed {
-        DUE_ENTRIES
-    } else {
-        DUE_ENTRIES_AT_REST
-    }
-}
-
-// From when on a shard's journal is due. What the dots of its lists take counts as texts do, and where nobody follows a topic
-// fewer entries make it due.
-fn due_from<R: Wait, H, A: Lane, B: Lane, C: Lane, D: Lane>(
+// What a shard's journal holds. What lists took and how many topics are followed no contract says.
+fn load_at<R: Wait, H, A: Lane, B: Lane, C: Lane, D: Lane>(
     rt: &R,
     server: &Server<'_, H, A, B, C, D>,
-    is_tight: bool,
     shard: u32,
-) -> DueFrom
+) -> Load
     requires { shard < server.now.pool.shards }
-    ensures { IsDueFrom is_tight result.entries result.kept_bytes }
+    ensures { IsLoadOf server.now.pool.own.name result }
 {
-    let followed = server.pool.row_counts(rt, shard).topics;
-    let lists = server.pool.list_bytes(rt, shard);
-    DueFrom {
-        entries: due_entries(is_tight, followed > 0),
-        kept_bytes: DUE_TEXT_BYTES.saturating_sub(lists),
+    Load {
+        entries: server.pool.entry_count(rt, shard),
+        kept_bytes: server.pool.kept_bytes(rt, shard),
+        list_bytes: server.pool.list_bytes(rt, shard),
+        topics: server.pool.row_counts(rt, shard).topics,
     }
-}
-
-// Whether a shard's journal is due for a checkpoint, where memory is tight or isn't.
-fn is_due_at<R: Wait, H, A: Lane, B: Lane, C: Lane, D: Lane>(
-    rt: &R,
-    server: &Server<'_, H, A, B, C, D>,
-    is_tight: bool,
-    shard: u32,
-) -> bool
-    requires { shard < server.now.pool.shards }
-    ensures { IsDueBy server.now.pool.own.name is_tight result }
-{
-    let due = due_from(rt, server, is_tight, shard);
-    let entries = server.pool.entry_count(rt, shard);
-    let bytes = server.pool.kept_bytes(rt, shard);
-    entries >= due.entries || bytes >= due.kept_bytes
 }
 
 /// Whether a journal is due for a checkpoint, where memory is tight or isn't.
@@ -242,7 +200,7 @@ pub(crate) fn is_due<R: Wait, H, A: Lane, B: Lane, C: Lane, D: Lane>(
     is_tight: bool,
 ) -> bool {
     for shard in 0..server.links.shards() {
-        if is_due_at(rt, server, is_tight, shard) {
+        if load_at(rt, server, shard).is_due(is_tight) {
             return true;
         }
     }
@@ -292,14 +250,15 @@ fn make_at<R: Wait, H, A: Lane, B: Lane, C: Lane, D: Lane>(
 ) -> Result<bool, PoolFault>
     requires { shard < server.now.pool.shards }
 {
-    if !is_due_at(rt, server, is_tight, shard) {
+    let load = load_at(rt, server, shard);
+    if !load.is_due(is_tight) {
         return Ok(true);
     }
     let is_made = if is_over {
         server.pool.checkpoint(rt, server.alloc, shard)?;
         true
     } else {
-        let due = due_from(rt, server, is_tight, shard);
+        let due = load.due_from(is_tight);
         server
             .pool
             .checkpoint_where_quiet(rt, server.alloc, shard, due)?

@@ -14,6 +14,7 @@ mod files;
 mod following;
 mod growth;
 pub mod laws;
+mod load;
 mod neighbours;
 mod place;
 mod pulse;
