@@ -124,7 +124,7 @@ ENTRIES = record {
 abbrev pub BYTES : Naming
 BYTES = record {
   name = codes "presence_node_journal_bytes";
-  help = codes "Bytes of the texts of the journal's entries since its last checkpoint.";
+  help = codes "Bytes that the journal's entries keep beside themselves, since its last checkpoint.";
   kind = codes "gauge";
   label = codes "shard";
 }
@@ -423,7 +423,7 @@ abbrev pub entries_behind : List ℕ → ShardsTold → List ℕ
 entries_behind text s = with_numbered text ENTRIES s.entries.items
 
 abbrev pub bytes_behind : List ℕ → ShardsTold → List ℕ
-bytes_behind text s = with_numbered text BYTES s.text_bytes.items
+bytes_behind text s = with_numbered text BYTES s.kept_bytes.items
 
 abbrev pub own_rows_behind : List ℕ → ShardsTold → List ℕ
 own_rows_behind text s = with_numbered text OWN_ROWS s.own_rows.items

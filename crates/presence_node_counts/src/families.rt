@@ -101,7 +101,7 @@ pub(crate) const ENTRIES: Family = Family {
 
 pub(crate) const BYTES: Family = Family {
     name: "presence_node_journal_bytes",
-    help: "Bytes of the texts of the journal's entries since its last checkpoint.",
+    help: "Bytes that the journal's entries keep beside themselves, since its last checkpoint.",
     kind: "gauge",
     label: "shard",
 };

@@ -298,7 +298,7 @@ fn entries_text(alloc: Global, text: &mut String, shards: &ShardsTold) -> Result
 fn bytes_text(alloc: Global, text: &mut String, shards: &ShardsTold) -> Result<(), AllocError>
     ensures { Leaves (string_bytes text.new) (bytes_behind (string_bytes text.old) shards.now) result }
 {
-    numbered_text(alloc, text, &BYTES, shards.text_bytes.as_slice())
+    numbered_text(alloc, text, &BYTES, shards.kept_bytes.as_slice())
 }
 
 // The rows that each shard shows of this node's sessions.

@@ -109,8 +109,8 @@ pub struct ProcessTold {
 pub struct ShardsTold {
     /// The entries of its journal.
     pub entries: Vec<u64>,
-    /// The bytes of the texts of these.
-    pub text_bytes: Vec<u64>,
+    /// The bytes that these keep beside themselves.
+    pub kept_bytes: Vec<u64>,
     /// The rows that it shows of this node's sessions.
     pub own_rows: Vec<u64>,
     /// The rows that it shows of other nodes.

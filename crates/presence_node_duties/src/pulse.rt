@@ -29,13 +29,13 @@ fn shards_of<R: Wait, H, A: Lane, B: Lane, C: Lane, D: Lane>(
     server: &Server<'_, H, A, B, C, D>,
 ) -> Result<ShardsTold, AllocError> {
     let mut entries = Vec::new(alloc);
-    let mut text_bytes = Vec::new(alloc);
+    let mut kept_bytes = Vec::new(alloc);
     let mut own_rows = Vec::new(alloc);
     let mut other_rows = Vec::new(alloc);
     let mut topics = Vec::new(alloc);
     for shard in 0..server.links.shards() {
         entries.push(server.pool.entry_count(rt, shard))?;
-        text_bytes.push(server.pool.kept_bytes(rt, shard))?;
+        kept_bytes.push(server.pool.kept_bytes(rt, shard))?;
         let rows = server.pool.row_counts(rt, shard);
         own_rows.push(rows.own)?;
         other_rows.push(rows.others)?;
@@ -43,7 +43,7 @@ fn shards_of<R: Wait, H, A: Lane, B: Lane, C: Lane, D: Lane>(
     }
     Ok(ShardsTold {
         entries,
-        text_bytes,
+        kept_bytes,
         own_rows,
         other_rows,
         topics,
