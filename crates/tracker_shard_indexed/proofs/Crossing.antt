@@ -7,6 +7,7 @@ use Rattle.presence_base.specs.contracts.meta.Meta as Meta
 use Rattle.presence_base.specs.contracts.row.Row as Row
 use Rattle.presence_base.specs.contracts.names.Topic as Topic
 use Rattle.presence_base.specs.contracts.names.Key as Key
+use Rattle.presence_base.specs.contracts.dots.Replica as Replica
 use Rattle.presence_base.specs.contracts.dots.Dot as Dot
 use Rattle.dot_context_runs.specs.contracts.runs.Runs as Runs
 use Rattle.dot_context.specs.contracts.context.Context as Context
@@ -18,7 +19,16 @@ use Rattle.tracker_shard_cuts.specs.contracts.untold.Untold as Untold
 use Rattle.orswot_core_told.specs.contracts.told.Told as Told
 use Rattle.presence_journal_data.specs.contracts.limits.Payload as Payload
 use Rattle.presence_journal_data.specs.contracts.step.Step as Step
+use Rattle.presence_journal_data.specs.contracts.shared_values.SharedDot as SharedDot
+use Rattle.presence_journal_data.specs.contracts.shared_values.SharedReplica as SharedReplica
+use Rattle.presence_journal_data.specs.contracts.shared_values.SharedTold as SharedTold
+use Rattle.presence_journal_data.specs.contracts.listed_dots.HeldPiece as HeldPiece
+use Rattle.presence_journal_data.specs.contracts.listed_dots.Piece as Piece
+use Rattle.presence_journal_data.specs.contracts.listed_dots.Pieced as Pieced
+use Rattle.presence_journal_data.specs.contracts.listed_dots.HeldList as HeldList
+use Rattle.presence_journal_data.specs.contracts.listed_dots.ListedDots as ListedDots
 use Rattle.presence_journal_data.specs.contracts.entry.Dots as Dots
+use Rattle.presence_journal_data.specs.contracts.entry.Pairs as Pairs
 use Rattle.presence_journal_data.specs.contracts.entry.Outcome as Outcome
 use Rattle.presence_journal_data.specs.contracts.entry.Entry as Entry
 use Rattle.presence_journal_data.specs.contracts.entry.Start as Start
@@ -81,17 +91,71 @@ told_send = search (row_send, dot_send, replica_send, maps.crosses, heap.crosses
 payload_send : IsSend (Payload.the_field).row
 payload_send = search (json_text_send, sendable) depth 60 fits 20000
 
-pub step_send : IsSend (Step.the_field).row
-step_send = search (meta_send, topic_send, key_send, replica_send, payload_send, told_send, sendable) depth 60 fits 20000
+meta_sync : IsSync (Meta.the_field).row
+meta_sync = search (json_text_send, json_text_sync, heap.crosses, sendable) depth 60 fits 20000
+
+topic_sync : IsSync (Topic.the_field).row
+topic_sync = search (heap.crosses, sendable) depth 60 fits 20000
+
+key_sync : IsSync (Key.the_field).row
+key_sync = search (heap.crosses, sendable) depth 60 fits 20000
 
 dot_sync : IsSync (Dot.the_field).row
 dot_sync = search sendable depth 60 fits 20000
 
+replica_sync : IsSync (Replica.the_field).row
+replica_sync = search sendable depth 60 fits 20000
+
+row_sync : IsSync (Row.the_field).row
+row_sync = search (meta_sync, topic_sync, key_sync, dot_sync, sendable) depth 60 fits 20000
+
+told_sync : IsSync (Told.the_field).row
+told_sync = search (row_sync, dot_sync, replica_sync, heap.crosses, sendable) depth 60 fits 20000
+
+shared_dot_send : IsSend (SharedDot.the_field).row
+shared_dot_send = search (dot_send, dot_sync, heap.crosses, sendable) depth 60 fits 20000
+
+shared_replica_send : IsSend (SharedReplica.the_field).row
+shared_replica_send = search (replica_send, replica_sync, heap.crosses, sendable) depth 60 fits 20000
+
+shared_told_send : IsSend (SharedTold.the_field).row
+shared_told_send = search (told_send, told_sync, heap.crosses, sendable) depth 60 fits 20000
+
+pub step_send : IsSend (Step.the_field).row
+step_send = search (meta_send, topic_send, key_send, shared_replica_send, payload_send, shared_told_send, sendable) depth 60 fits 20000
+
+held_piece_send : IsSend (HeldPiece.the_field).row
+held_piece_send = search (dot_send, heap.crosses, sendable) depth 60 fits 20000
+
+held_piece_sync : IsSync (HeldPiece.the_field).row
+held_piece_sync = search (dot_sync, heap.crosses, sendable) depth 60 fits 20000
+
+piece_send : IsSend (Piece.the_field).row
+piece_send = search (held_piece_send, held_piece_sync, heap.crosses, sendable) depth 60 fits 20000
+
+piece_sync : IsSync (Piece.the_field).row
+piece_sync = search (held_piece_send, held_piece_sync, heap.crosses, sendable) depth 60 fits 20000
+
+pieced_send : IsSend (Pieced.the_field).row
+pieced_send = search (piece_send, heap.crosses, sendable) depth 60 fits 20000
+
+pieced_sync : IsSync (Pieced.the_field).row
+pieced_sync = search (piece_sync, heap.crosses, sendable) depth 60 fits 20000
+
+held_list_send : IsSend (HeldList.the_field).row
+held_list_send = search (pieced_send, pieced_sync, dot_send, dot_sync, heap.crosses, sendable) depth 60 fits 20000
+
+listed_dots_send : IsSend (ListedDots.the_field).row
+listed_dots_send = search (held_list_send, sendable) depth 60 fits 20000
+
 pub dots_send : IsSend (Dots.the_field).row
 dots_send = search (dot_send, dot_sync, heap.crosses, sendable) depth 60 fits 20000
 
+pairs_send : IsSend (Pairs.the_field).row
+pairs_send = search (dot_send, dot_sync, heap.crosses, sendable) depth 60 fits 20000
+
 pub outcome_send : IsSend (Outcome.the_field).row
-outcome_send = search (dots_send, heap.crosses, sendable) depth 60 fits 20000
+outcome_send = search (shared_dot_send, dots_send, listed_dots_send, pairs_send, sendable) depth 60 fits 20000
 
 chains_send : IsSend (Chains.the_field).row
 chains_send = search (heap.crosses, sendable) depth 60 fits 20000

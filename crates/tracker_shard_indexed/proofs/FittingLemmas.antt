@@ -12,7 +12,6 @@ use Rattle.orswot_core.specs.Sets.{DotRows}
 use Rattle.orswot_core.specs.Full.{IsFullIn}
 use Rattle.presence_journal.specs.History.{History}
 use Rattle.delta_range.specs.Deltas.{DeltaValue, telling_in}
-use Rattle.delta_range.specs.Fitting.{fits_line}
 use Rattle.delta_range.specs.Keeping.{begun, first_of_both, from_count}
 use Rattle.tracker_shard_cuts.specs.KeptDeltas.{IsToldFrom}
 use Rattle.tracker_shard_cuts.specs.LeftOut.{HoldsCovered}
