@@ -1,5 +1,5 @@
 -- A journal that begins again, with a Start that stands for its history.
-use Rattle.std.specs.Prelude.{◌≡◌, ℕ, ◌+◌, List, [], ◌∷◌, is_some}
+use Rattle.std.specs.Prelude.{◌≡◌, ℕ, ◌+◌, Bool, true, false, List, [], ◌∷◌, is_some}
 use Rattle.presence_journal.specs.Steps.{Entry, Start}
 use Rattle.presence_journal.specs.History.{History, Begin, Then}
 use Rattle.tracker_shard_cuts.specs.Checkpoints.{IsCheckpoint}
