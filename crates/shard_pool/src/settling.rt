@@ -106,10 +106,13 @@ fn put_if(
     ensures behind { OnOk result (journals.new.items ≡ journals.old.items ++ cond used (journal ∷ []) []) }
     ensures err { IfErr result (λ e. e ≡ SettleFault.OutOfMemory) }
 {
-    if used && journals.push(journal).is_err() {
-        return Err(SettleFault::OutOfMemory);
+    if !used {
+        return Ok(());
     }
-    Ok(())
+    match journals.push(journal) {
+        Ok(()) => Ok(()),
+        Err(_) => Err(SettleFault::OutOfMemory),
+    }
 }
 
 // The journals of the shards that are used, in order. Their order is a proof's.
