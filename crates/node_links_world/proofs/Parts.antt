@@ -6,7 +6,7 @@ use Rattle.presence_base.specs.declared.dots.Replica.{Replica}
 use Rattle.presence_base.specs.Order.{replica_cmp}
 use Rattle.orswot_core_told.specs.declared.form.Form.{Form}
 use Rattle.orswot_core_told.specs.Telling.{ToldValue}
-use Rattle.node_links_world_laws.specs.World.{LifeValue, Lives, with_replica, life_of, life_at, TellsPartIf, TellsInPart, with_told_if}
+use Rattle.node_links_world_laws.specs.World.{LifeValue, Lives, with_replica, life_of, life_at, TellsPartIf, TellsInPart}
 use Rattle.node_links_world.specs.Lives.{LifeMap, seen, PartOfLife}
 use Rattle.node_links_world.specs.Worlds.{world, PartsTo}
 use Rattle.node_links_world.proofs.LifeFacts.{seen_life}
