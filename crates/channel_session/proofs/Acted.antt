@@ -37,29 +37,29 @@ joined_so s after m t kind r (Some sub) h e f j =
     let k : after.joined ≡ s.joined ++ record { topic = m.topic; kind = kind; join_ref = join_ref_of m; sub = sub } ∷ [] = j ∙ (λ i. s.joined ++ record { topic = e i; kind = kind; join_ref = f i; sub = sub } ∷ []) in
     λ i. record { pid = h.pid i; failed = h.failed i; joined = k i; cut_short = h.cut_short i }
 
-module _ {P : Type 0} (step : P → (q : Ask) → Answer q → P → Type 0) (s : InForce) (m : Message) (a : Asked) (kind pid count : ℕ) (pid_is : pid ≡ s.pid) (count_is : count ≡ length s.joined) where
-  pub join_script : (old new : P) (r : Result End Stop) → Follows step (join_asked pid count true [] kind s m a) old new r → Follows step (join_asked s.pid (length s.joined) true [] kind s m a) old new r
+module _ {P : Type 0} (steps : ℕ → P → (q : Ask) → Answer q → P → Type 0) (s : InForce) (m : Message) (a : Asked) (kind pid count : ℕ) (pid_is : pid ≡ s.pid) (count_is : count ≡ length s.joined) where
+  pub join_script : (old new : P) (r : Result End Stop) → Follows (steps pid) (join_asked count true [] kind s m a) old new r → Follows (steps s.pid) (join_asked (length s.joined) true [] kind s m a) old new r
   join_script old new r f = rw (pid_is, count_is) at f
 
   pub join_ran : (after : InForce) (t : List ℕ) (r : Option MsgRef) (sub : Option Sub) (reply : Message) (old new : P) → Same s after → t ≡ m.topic → r ≡ join_ref_of m → after.joined ≡ added s.joined t kind r sub
-      → Follows step (join_asked pid count true [] kind s m a) old new (Ok (answers (message reply ∷ []) (joined_by kind s m sub)))
-      → Follows step (join_asked s.pid (length s.joined) true [] kind s m a) old new (Ok (answers (message reply ∷ []) after))
+      → Follows (steps pid) (join_asked count true [] kind s m a) old new (Ok (answers (message reply ∷ []) (joined_by kind s m sub)))
+      → Follows (steps s.pid) (join_asked (length s.joined) true [] kind s m a) old new (Ok (answers (message reply ∷ []) after))
   join_ran after t r sub reply old new h e f j g = rw (joined_so s after m t kind r sub h e f j) (join_script old new _ g)
 
-module _ {P : Type 0} (step : P → (q : Ask) → Answer q → P → Type 0) (s : InForce) (m : Message) (a : Asked) (kind pid others : ℕ) (pid_is : pid ≡ s.pid) (others_is : others ≡ length s.joined - 1) where
-  pub rejoin_script : (j : Joined) (old new : P) (r : Result End Stop) → Follows step (rejoins pid others j kind (left s m.topic) m a) old new r → Follows step (rejoins s.pid (length s.joined - 1) j kind (left s m.topic) m a) old new r
+module _ {P : Type 0} (steps : ℕ → P → (q : Ask) → Answer q → P → Type 0) (s : InForce) (m : Message) (a : Asked) (kind pid others : ℕ) (pid_is : pid ≡ s.pid) (others_is : others ≡ length s.joined - 1) where
+  pub rejoin_script : (j : Joined) (old new : P) (r : Result End Stop) → Follows (steps pid) (rejoins others j kind (left s m.topic) m a) old new r → Follows (steps s.pid) (rejoins (length s.joined - 1) j kind (left s m.topic) m a) old new r
   rejoin_script j old new r f = rw (pid_is, others_is) at f
 
   pub rejoin_ran : (j : Joined) (after : InForce) (t : List ℕ) (r : Option MsgRef) (sub : Option Sub) (close reply : Message) (old new : P) → Same s after → t ≡ m.topic → r ≡ join_ref_of m → after.joined ≡ added (without_topic m.topic s.joined) t kind r sub
-      → Follows step (rejoins pid others j kind (left s m.topic) m a) old new (Ok (answers (message close ∷ message reply ∷ []) (joined_by kind (left s m.topic) m sub)))
-      → Follows step (rejoins s.pid (length s.joined - 1) j kind (left s m.topic) m a) old new (Ok (answers (message close ∷ message reply ∷ []) after))
+      → Follows (steps pid) (rejoins others j kind (left s m.topic) m a) old new (Ok (answers (message close ∷ message reply ∷ []) (joined_by kind (left s m.topic) m sub)))
+      → Follows (steps s.pid) (rejoins (length s.joined - 1) j kind (left s m.topic) m a) old new (Ok (answers (message close ∷ message reply ∷ []) after))
   rejoin_ran j after t r sub close reply old new h e f k g =
       let same : Same (left s m.topic) after = record { pid = h.pid; failed = h.failed; cut_short = h.cut_short } in
       rw (joined_so (left s m.topic) after m t kind r sub same e f k) (rejoin_script j old new _ g)
 
-pub leave_script : {P : Type 0} (step : P → (q : Ask) → Answer q → P → Type 0) (s : InForce) (m : Message) (pid : ℕ) → pid ≡ s.pid → (j : Joined) (old new : P) (r : Result End Stop)
-    → Follows step (on_leave pid s (Some j) m) old new r → Follows step (on_leave s.pid s (Some j) m) old new r
-leave_script step s m pid pid_is j old new r f = rw pid_is at f
+pub leave_script : {P : Type 0} (steps : ℕ → P → (q : Ask) → Answer q → P → Type 0) (s : InForce) (m : Message) (pid : ℕ) → pid ≡ s.pid → (j : Joined) (old new : P) (r : Result End Stop)
+    → Follows (steps pid) (on_leave s (Some j) m) old new r → Follows (steps s.pid) (on_leave s (Some j) m) old new r
+leave_script steps s m pid pid_is j old new r f = rw pid_is at f
 
 -- ---- rules whose replies are of their own messages
 
@@ -67,7 +67,7 @@ module _ (fetched : ℕ → List ℕ → List ℕ → Members → Type 0) (plain
   unmatched_so : RepliesWith (says_error m.join_ref m (codes "unmatched topic")) false r → ActsBy (Worded fetched plain) step (unmatched s m) old old s r
   unmatched_so h = replied_acted fetched plain step (says_error m.join_ref m (codes "unmatched topic")) s old r h
 
-  pub unmatched_acted : (event : TopicEvent) (j : Option Joined) → j ≡ None → RepliesWith (says_error m.join_ref m (codes "unmatched topic")) false r → ActsBy (Worded fetched plain) step (on_topic s.pid s j m event) old old s r
+  pub unmatched_acted : (event : TopicEvent) (j : Option Joined) → j ≡ None → RepliesWith (says_error m.join_ref m (codes "unmatched topic")) false r → ActsBy (Worded fetched plain) step (on_topic s j m event) old old s r
   unmatched_acted event j is h = rw is (unmatched_so h)
 
   module _ (phoenix : Bool) (route : Option ℕ) (event : EventKind) where

@@ -26,6 +26,8 @@ use Rattle.presence_journal.specs.Laws.{OnlyNamedLeave, is_callers}
 use Rattle.presence_journal.proofs.Topics.{topic_of-then}
 use Rattle.channel_session_rules.specs.Steps.{Stepped, Made, is_found, slot_of, refusal, cause}
 use Rattle.channel_session_rules.specs.ShardFault.{ShardFault}
+use Rattle.channel_session_rules.specs.declared.refusal.Refusal.{Refusal}
+use Rattle.channel_session_rules.specs.declared.refusal.Refusal.TheVariants.{OverRation, NotGranted, Table}
 use Rattle.channel_session_rules.specs.ShardFault.TheVariants.{AlreadyTracked, NoPresence, ClockFull, JournalFull, NoSub, BadIncarnation, OutOfMemory}
 use Rattle.channel_session_rules.specs.Sub.{Sub}
 use Rattle.channel_session_rules.specs.Asks.{Ask, Answer, Call, unsubscribe, untrack_all}
@@ -271,44 +273,50 @@ module _ (leave : OnlyNamedLeave) (pid : ℕ) (old new : History) (legal : IsLeg
       (record { legal = legal; rows = λ ts f. f; over = λ slot n e. e })
       (record { legal = stays_legal old legal s None limits; rows = λ ts f. stands_after leave old legal s callers adds ts pid f; over = λ slot n e. over_after old s fewer slot n e })
 
-  by_unsubscribe : (t : List ℕ) (sub : Sub) (a : Answer (unsubscribe t sub)) → LocalStep old (unsubscribe t sub) a new → Keeps pid old new
-  by_unsubscribe t sub a k = by_step (steps_are.Unsubscribe sub.number) a refl refl (unsubscribe_adds old sub.number) (unsubscribe_fewer sub.number) k.stepped
+  by_unsubscribe : (t : List ℕ) (sub : Sub) (a : Answer (unsubscribe t sub)) → LocalStep pid old (unsubscribe t sub) a new → Keeps pid old new
+  by_unsubscribe t sub (Ok u) k = by_step (steps_are.Unsubscribe sub.number) (Ok u) refl refl (unsubscribe_adds old sub.number) (unsubscribe_fewer sub.number) k.stepped
+  by_unsubscribe t sub (Err (Table e)) k = by_step {A = Unit {0}} (steps_are.Unsubscribe sub.number) (Err e) refl refl (unsubscribe_adds old sub.number) (unsubscribe_fewer sub.number) k.stepped
+  by_unsubscribe t sub (Err OverRation) k = absurd k
+  by_unsubscribe t sub (Err NotGranted) k = absurd k
 
-  by_untrack : (p : ℕ) (t : List ℕ) (a : Answer (untrack_all p t)) → LocalStep old (untrack_all p t) a new → Keeps pid old new
-  by_untrack p t a k = by_step (steps_are.UntrackAll p t) a refl refl (untrack_adds old p t) (untrack_fewer p t) k.stepped
+  by_untrack : (t : List ℕ) (a : Answer (untrack_all t)) → LocalStep pid old (untrack_all t) a new → Keeps pid old new
+  by_untrack t (Ok u) k = by_step (steps_are.UntrackAll pid t) (Ok u) refl refl (untrack_adds old pid t) (untrack_fewer pid t) k.stepped
+  by_untrack t (Err (Table e)) k = by_step {A = Unit {0}} (steps_are.UntrackAll pid t) (Err e) refl refl (untrack_adds old pid t) (untrack_fewer pid t) k.stepped
+  by_untrack t (Err OverRation) k = absurd k
+  by_untrack t (Err NotGranted) k = absurd k
 
 -- ---- the script of an end
 
-record First {E : Type 0} (q : Ask) (next : Answer q → Script E) (old new : History) (e : E) : Type 0 where
+record First {E : Type 0} (pid : ℕ) (q : Ask) (next : Answer q → Script E) (old new : History) (e : E) : Type 0 where
   answer : Answer q
   mid : History
-  call : LocalStep old q answer mid
-  rest : Played LocalStep (next answer) mid new e
+  call : LocalStep pid old q answer mid
+  rest : Played (LocalStep pid) (next answer) mid new e
 
-first_of : {E : Type 0} (q : Ask) (next : Answer q → Script E) (old new : History) (e : E) → Played LocalStep (ask q next) old new e → First q next old new e
-first_of {E} q next old new e p = go p.made p.calls p.plays
+first_of : {E : Type 0} (pid : ℕ) (q : Ask) (next : Answer q → Script E) (old new : History) (e : E) → Played (LocalStep pid) (ask q next) old new e → First pid q next old new e
+first_of {E} pid q next old new e p = go p.made p.calls p.plays
   where
-    one : (c : Call) (a : Answer q) → c ≡ record { ask = q; answer = a } → (mid : History) → LocalStep old c.ask c.answer mid → LocalStep old q a mid
-    one c a w mid k = subst (λ x. LocalStep old x.ask x.answer mid) w k
+    one : (c : Call) (a : Answer q) → c ≡ record { ask = q; answer = a } → (mid : History) → LocalStep pid old c.ask c.answer mid → LocalStep pid old q a mid
+    one c a w mid k = subst (λ x. LocalStep pid old x.ask x.answer mid) w k
 
-    go : (cs : List Call) → Chained LocalStep old cs new → Plays (ask q next) cs e → First q next old new e
+    go : (cs : List Call) → Chained (LocalStep pid) old cs new → Plays (ask q next) cs e → First pid q next old new e
     go [] m f = absurd f
     go (c ∷ cs) m f = record { answer = f.0; mid = m.0; call = one c f.0 f.1 m.0 m.1; rest = record { made = cs; calls = m.2; plays = f.2 } }
 
 -- a topic's two calls: what is answered, and what it leaves
-record TopicEnded (pid : ℕ) (t : List ℕ) (sub : Sub) (next : Result (Unit {0}) ShardFault → Script Ended) (old new : History) (e : Ended) : Type 0 where
-  answer : Result (Unit {0}) ShardFault
+record TopicEnded (pid : ℕ) (t : List ℕ) (sub : Sub) (next : Result (Unit {0}) Refusal → Script Ended) (old new : History) (e : Ended) : Type 0 where
+  answer : Result (Unit {0}) Refusal
   mid : History
   keeps : Keeps pid old mid
   rows : answer ≡ Ok tt → (ts : List (List ℕ)) → StandsOn (t ∷ ts) pid old → StandsOn ts pid mid
   over : answer ≡ Ok tt → is_found mid sub.slot sub.number ≡ false
-  rest : Played LocalStep (next answer) mid new e
+  rest : Played (LocalStep pid) (next answer) mid new e
 
 -- the removal of the rows, after a subscriber that is over
-then_removed : (leave : OnlyNamedLeave) (pid : ℕ) (t : List ℕ) (sub : Sub) (next : Result (Unit {0}) ShardFault → Script Ended) (old mid new : History) (e : Ended) → IsLegal old → Keeps pid old mid → is_found mid sub.slot sub.number ≡ false → Played LocalStep (ask (untrack_all pid t) next) mid new e → TopicEnded pid t sub next old new e
+then_removed : (leave : OnlyNamedLeave) (pid : ℕ) (t : List ℕ) (sub : Sub) (next : Result (Unit {0}) Refusal → Script Ended) (old mid new : History) (e : Ended) → IsLegal old → Keeps pid old mid → is_found mid sub.slot sub.number ≡ false → Played (LocalStep pid) (ask (untrack_all t) next) mid new e → TopicEnded pid t sub next old new e
 then_removed leave pid t sub next old mid new e legal kept over p =
-    let f = first_of (untrack_all pid t) next mid new e p in
-    let k = by_untrack leave pid mid f.mid kept.legal pid t f.answer f.call in
+    let f = first_of pid (untrack_all t) next mid new e p in
+    let k = by_untrack leave pid mid f.mid kept.legal t f.answer f.call in
     record {
       answer = f.answer;
       mid = f.mid;
@@ -318,16 +326,16 @@ then_removed leave pid t sub next old mid new e legal kept over p =
       rest = f.rest;
     }
   where
-    removed : (last : History) (a : Answer (untrack_all pid t)) → LocalStep mid (untrack_all pid t) a last → a ≡ Ok tt → (ts : List (List ℕ)) → StandsOn (t ∷ ts) pid mid → StandsOn ts pid last
+    removed : (last : History) (a : Answer (untrack_all t)) → LocalStep pid mid (untrack_all t) a last → a ≡ Ok tt → (ts : List (List ℕ)) → StandsOn (t ∷ ts) pid mid → StandsOn ts pid last
     removed last (Ok u) k w ts on = rows_gone leave mid last kept.legal pid t k.stepped ts on
     removed last (Err x) k w ts on = absurd (cc)
 
-topic_ended : (leave : OnlyNamedLeave) (pid : ℕ) (t : List ℕ) (sub : Sub) (next : Result (Unit {0}) ShardFault → Script Ended) (old new : History) (e : Ended) → IsLegal old → Played LocalStep (ends_topic pid t sub next) old new e → TopicEnded pid t sub next old new e
+topic_ended : (leave : OnlyNamedLeave) (pid : ℕ) (t : List ℕ) (sub : Sub) (next : Result (Unit {0}) Refusal → Script Ended) (old new : History) (e : Ended) → IsLegal old → Played (LocalStep pid) (ends_topic t sub next) old new e → TopicEnded pid t sub next old new e
 topic_ended leave pid t sub next old new e legal p =
-    let f = first_of (unsubscribe t sub) (then_rows pid t next) old new e p in
+    let f = first_of pid (unsubscribe t sub) (then_rows t next) old new e p in
     go f.mid f.answer f.call f.rest
   where
-    stays : (mid : History) (x : ShardFault) → LocalStep old (unsubscribe t sub) (Err x) mid → Played LocalStep (next (Err x)) mid new e → TopicEnded pid t sub next old new e
+    stays : (mid : History) (x : Refusal) → LocalStep pid old (unsubscribe t sub) (Err x) mid → Played (LocalStep pid) (next (Err x)) mid new e → TopicEnded pid t sub next old new e
     stays mid x k r = record {
       answer = Err x;
       mid = mid;
@@ -337,43 +345,45 @@ topic_ended leave pid t sub next old new e legal p =
       rest = r;
     }
 
-    go : (mid : History) (a : Answer (unsubscribe t sub)) → LocalStep old (unsubscribe t sub) a mid → Played LocalStep (then_rows pid t next a) mid new e → TopicEnded pid t sub next old new e
+    go : (mid : History) (a : Answer (unsubscribe t sub)) → LocalStep pid old (unsubscribe t sub) a mid → Played (LocalStep pid) (then_rows t next a) mid new e → TopicEnded pid t sub next old new e
     go mid (Ok u) k r = then_removed leave pid t sub next old mid new e legal (by_unsubscribe leave pid old mid legal t sub (Ok u) k) (over_now old mid sub.number k.stepped sub.slot) r
-    go mid (Err NoSub) k r =
-        let kept = by_unsubscribe leave pid old mid legal t sub (Err NoSub) k in
+    go mid (Err (Table NoSub)) k r =
+        let kept = by_unsubscribe leave pid old mid legal t sub (Err (Table NoSub)) k in
         then_removed leave pid t sub next old mid new e legal kept (kept.over sub.slot sub.number (unknown_is_over (is_found old sub.slot sub.number) old (steps_are.Unsubscribe sub.number) k.due)) r
-    go mid (Err AlreadyTracked) k r = stays mid AlreadyTracked k r
-    go mid (Err NoPresence) k r = stays mid NoPresence k r
-    go mid (Err ClockFull) k r = stays mid ClockFull k r
-    go mid (Err JournalFull) k r = stays mid JournalFull k r
-    go mid (Err BadIncarnation) k r = stays mid BadIncarnation k r
-    go mid (Err OutOfMemory) k r = stays mid OutOfMemory k r
+    go mid (Err (Table AlreadyTracked)) k r = stays mid (Table AlreadyTracked) k r
+    go mid (Err (Table NoPresence)) k r = stays mid (Table NoPresence) k r
+    go mid (Err (Table ClockFull)) k r = stays mid (Table ClockFull) k r
+    go mid (Err (Table JournalFull)) k r = stays mid (Table JournalFull) k r
+    go mid (Err (Table BadIncarnation)) k r = stays mid (Table BadIncarnation) k r
+    go mid (Err (Table OutOfMemory)) k r = stays mid (Table OutOfMemory) k r
+    go mid (Err OverRation) k r = absurd k
+    go mid (Err NotGranted) k r = absurd k
 
 -- ---- all topics
 
 abbrev IsRefused : Leaving → Type 0
-IsRefused leaving = (js : List Joined) (a : Result (Unit {0}) ShardFault) → (leaving js a).answer ≡ Ok tt → ⊥
+IsRefused leaving = (js : List Joined) (a : Result (Unit {0}) Refusal) → (leaving js a).answer ≡ Ok tt → ⊥
 
 -- what has nothing more to ask ends so
-at_end : (x e : Ended) (old new : History) → Played LocalStep (done x) old new e → (x ≡ e) × (new ≡ old)
+at_end : (x e : Ended) (old new : History) → Played (LocalStep pid) (done x) old new e → (x ≡ e) × (new ≡ old)
 at_end x e old new p = go p.made p.calls p.plays
   where
-    go : (cs : List Call) → Chained LocalStep old cs new → Plays (done x) cs e → (x ≡ e) × (new ≡ old)
+    go : (cs : List Call) → Chained (LocalStep pid) old cs new → Plays (done x) cs e → (x ≡ e) × (new ≡ old)
     go [] m f = (f, m)
     go (c ∷ cs) m f = absurd f
 
-refused : (leave : OnlyNamedLeave) (pid : ℕ) (js : List Joined) (leaving : Leaving) → IsRefused leaving → (old new : History) (e : Ended) → IsLegal old → Played LocalStep (ends_topics pid leaving js) old new e → e.answer ≡ Ok tt → ⊥
+refused : (leave : OnlyNamedLeave) (pid : ℕ) (js : List Joined) (leaving : Leaving) → IsRefused leaving → (old new : History) (e : Ended) → IsLegal old → Played (LocalStep pid) (ends_topics leaving js) old new e → e.answer ≡ Ok tt → ⊥
 refused leave pid [] leaving r old new e legal p w = r [] (Ok tt) (ap (λ (x : Ended). x.answer) (at_end (leaving [] (Ok tt)) e old new p).0 ∙ w)
 refused leave pid (j ∷ js) leaving r old new e legal p w =
-    let t = topic_ended leave pid j.topic j.sub (λ a. ends_topics pid (staying j a leaving) js) old new e legal p in
+    let t = topic_ended leave pid j.topic j.sub (λ a. ends_topics (staying j a leaving) js) old new e legal p in
     go (λ later f mid l q. refused leave pid js later f mid new e l q w) t.mid t.answer t.keeps.legal t.rest
   where
-    go : ((later : Leaving) → IsRefused later → (mid : History) → IsLegal mid → Played LocalStep (ends_topics pid later js) mid new e → ⊥) → (mid : History) (a : Result (Unit {0}) ShardFault) → IsLegal mid → Played LocalStep (ends_topics pid (staying j a leaving) js) mid new e → ⊥
+    go : ((later : Leaving) → IsRefused later → (mid : History) → IsLegal mid → Played (LocalStep pid) (ends_topics later js) mid new e → ⊥) → (mid : History) (a : Result (Unit {0}) Refusal) → IsLegal mid → Played (LocalStep pid) (ends_topics (staying j a leaving) js) mid new e → ⊥
     go rest mid (Ok u) l q = rest leaving r mid l q
     go rest mid (Err x) l q = rest (λ ks a. leaving (j ∷ ks) (Err x)) (λ ks a f. r (j ∷ ks) (Err x) f) mid l q
 
 abbrev IsHonest : Leaving → Type 0
-IsHonest leaving = (js : List Joined) (a : Result (Unit {0}) ShardFault) → (leaving js a).answer ≡ a
+IsHonest leaving = (js : List Joined) (a : Result (Unit {0}) Refusal) → (leaving js a).answer ≡ a
 
 record AllEnded (pid : ℕ) (js : List Joined) (old new : History) : Type 0 where
   keeps : Keeps pid old new
@@ -383,21 +393,21 @@ record AllEnded (pid : ℕ) (js : List Joined) (old new : History) : Type 0 wher
 abbrev topics : List Joined → List (List ℕ)
 topics js = each (λ j. j.topic) js
 
-all_ended : (leave : OnlyNamedLeave) (pid : ℕ) (js : List Joined) (leaving : Leaving) → IsHonest leaving → (old new : History) (e : Ended) → IsLegal old → StandsOn (topics js) pid old → Played LocalStep (ends_topics pid leaving js) old new e → e.answer ≡ Ok tt → AllEnded pid js old new
+all_ended : (leave : OnlyNamedLeave) (pid : ℕ) (js : List Joined) (leaving : Leaving) → IsHonest leaving → (old new : History) (e : Ended) → IsLegal old → StandsOn (topics js) pid old → Played (LocalStep pid) (ends_topics leaving js) old new e → e.answer ≡ Ok tt → AllEnded pid js old new
 all_ended leave pid [] leaving honest old new e legal on p w =
     let same = (at_end (leaving [] (Ok tt)) e old new p).1 in
     subst (λ g. AllEnded pid [] old g) (sym same) (record { keeps = record { legal = legal; rows = λ ts f. f; over = λ slot n f. f }; rows = on; over = tt })
 all_ended leave pid (j ∷ js) leaving honest old new e legal on p w =
-    let t = topic_ended leave pid j.topic j.sub (λ a. ends_topics pid (staying j a leaving) js) old new e legal p in
+    let t = topic_ended leave pid j.topic j.sub (λ a. ends_topics (staying j a leaving) js) old new e legal p in
     go (λ mid l f q. all_ended leave pid js leaving honest mid new e l f q w) t.mid t.answer t.keeps t.rows t.over t.rest
   where
-    go : ((mid : History) → IsLegal mid → StandsOn (topics js) pid mid → Played LocalStep (ends_topics pid leaving js) mid new e → AllEnded pid js mid new) → (mid : History) (a : Result (Unit {0}) ShardFault) → Keeps pid old mid → (a ≡ Ok tt → (ts : List (List ℕ)) → StandsOn (j.topic ∷ ts) pid old → StandsOn ts pid mid) → (a ≡ Ok tt → is_found mid j.sub.slot j.sub.number ≡ false) → Played LocalStep (ends_topics pid (staying j a leaving) js) mid new e → AllEnded pid (j ∷ js) old new
+    go : ((mid : History) → IsLegal mid → StandsOn (topics js) pid mid → Played (LocalStep pid) (ends_topics leaving js) mid new e → AllEnded pid js mid new) → (mid : History) (a : Result (Unit {0}) Refusal) → Keeps pid old mid → (a ≡ Ok tt → (ts : List (List ℕ)) → StandsOn (j.topic ∷ ts) pid old → StandsOn ts pid mid) → (a ≡ Ok tt → is_found mid j.sub.slot j.sub.number ≡ false) → Played (LocalStep pid) (ends_topics (staying j a leaving) js) mid new e → AllEnded pid (j ∷ js) old new
     go later mid (Ok u) k rows over q =
         let rest = later mid k.legal (rows refl (topics js) on) q in
         record { keeps = keeps_all pid old mid new k rest.keeps; rows = rest.rows; over = (rest.keeps.over j.sub.slot j.sub.number (over refl), rest.over) }
     go later mid (Err x) k rows over q = absurd (refused leave pid js (λ ks a. leaving (j ∷ ks) (Err x)) (λ ks a f. not_ok x (sym (honest (j ∷ ks) (Err x)) ∙ f)) mid new e k.legal q w)
       where
-        not_ok : (x : ShardFault) → ◌≡◌ {A = Result (Unit {0}) ShardFault} (Err x) (Ok tt) → ⊥
+        not_ok : (x : Refusal) → ◌≡◌ {A = Result (Unit {0}) Refusal} (Err x) (Ok tt) → ⊥
         not_ok x f = cc
 
 -- ---- the whole end
@@ -410,7 +420,7 @@ named_last t u (x ∷ ts) e = go (same_text t x) (same_text t u) (is_named t ts)
     go true b c d f g = or_true b
     go false b c d f g = f g
 
-ok_by : (a : Result (Unit {0}) ShardFault) → Ok tt ≡ ended_as a → a ≡ Ok tt
+ok_by : (a : Result (Unit {0}) Refusal) → Ok tt ≡ ended_as a → a ≡ Ok tt
 ok_by (Ok u) e = refl
 ok_by (Err x) e = absurd (cc)
 
@@ -436,22 +446,22 @@ end_leaves_nothing leave s after old new legal on ended = go s.cut_short refl en
     on_all : (o : Option (List ℕ)) → s.cut_short ≡ o → StandsOn (topics s.joined ++ option_to_list o) s.pid old
     on_all o e = subst (λ x. StandsOn (topics s.joined ++ option_to_list x) s.pid old) e on
 
-    go : (o : Option (List ℕ)) → s.cut_short ≡ o → Played LocalStep (ends_cut_short s o) old new last → LeavesNothing s new
+    go : (o : Option (List ℕ)) → s.cut_short ≡ o → Played (LocalStep s.pid) (ends_cut_short s o) old new last → LeavesNothing s new
     go None e p = leaves_nothing s old new (all_ended leave s.pid s.joined (left_with s None) (λ js a. refl) old new last legal (λ t q r f g. subst (λ ts. is_named t ts ≡ true) (append-nil (topics s.joined)) (on_all None e t q r f g)) p ok)
     go (Some t) e p =
-        let f = first_of (untrack_all s.pid t) (then_topics s t) old new last p in
+        let f = first_of s.pid (untrack_all t) (then_topics s t) old new last p in
         cut f.mid f.answer f.call f.rest
       where
         on_cut : StandsOn (t ∷ topics s.joined) s.pid old
         on_cut u q r f g = named_last u t (topics s.joined) (on_all (Some t) e u q r f g)
 
-        cut : (mid : History) (a : Answer (untrack_all s.pid t)) → LocalStep old (untrack_all s.pid t) a mid → Played LocalStep (then_topics s t a) mid new last → LeavesNothing s new
+        cut : (mid : History) (a : Answer (untrack_all t)) → LocalStep s.pid old (untrack_all t) a mid → Played (LocalStep s.pid) (then_topics s t a) mid new last → LeavesNothing s new
         cut mid (Ok u) k q =
-            let kept = by_untrack leave s.pid old mid legal s.pid t (Ok u) k in
+            let kept = by_untrack leave s.pid old mid legal t (Ok u) k in
             leaves_nothing s mid new (all_ended leave s.pid s.joined (left_with s None) (λ js a. refl) mid new last kept.legal (rows_gone leave old mid legal s.pid t k.stepped (topics s.joined) on_cut) q ok)
         cut mid (Err x) k q =
-            let kept = by_untrack leave s.pid old mid legal s.pid t (Err x) k in
+            let kept = by_untrack leave s.pid old mid legal t (Err x) k in
             absurd (refused leave s.pid s.joined (λ js a. left_with s (Some t) js (Err x)) (λ js a f. not_ok x f) mid new last kept.legal q ok)
           where
-            not_ok : (x : ShardFault) → ◌≡◌ {A = Result (Unit {0}) ShardFault} (Err x) (Ok tt) → ⊥
+            not_ok : (x : Refusal) → ◌≡◌ {A = Result (Unit {0}) Refusal} (Err x) (Ok tt) → ⊥
             not_ok x f = cc

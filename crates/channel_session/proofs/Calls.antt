@@ -19,8 +19,10 @@ use Rattle.presence_journal.proofs.FoldOthers.{others_stay, stays_legal}
 use Rattle.channel_session_rules.specs.Steps.{Stepped, Made, Answers}
 use Rattle.channel_session_rules.specs.ShardFault.{ShardFault}
 use Rattle.channel_session_rules.specs.ShardFault.TheVariants.{AlreadyTracked, NoPresence, ClockFull, JournalFull, NoSub, BadIncarnation, OutOfMemory}
-use Rattle.channel_session_rules.specs.Asks.{Ask, Answer, track, update, untrack, untrack_all, list, get, subscribe, take, unsubscribe, waits, shout}
-use Rattle.channel_session_laws.specs.Local.{LocalStep, IsNew}
+use Rattle.channel_session_rules.specs.Asks.{Ask, Given, Answer, track, update, untrack, untrack_all, list, get, subscribe, take, unsubscribe, waits, shout}
+use Rattle.channel_session_rules.specs.Seen.{in_table}
+use Rattle.channel_session_rules.specs.declared.refusal.Refusal.TheVariants.{OverRation, NotGranted, Table}
+use Rattle.channel_session_laws.specs.Local.{LocalStep, TableStep, IsNew}
 use Rattle.channel_session.proofs.Behind.{AddsNone, was_there, mine_after, mine_is_named, is_accepted, either, untracked_is, untrack_adds, unsubscribe_adds, same_some, no_row, or_true}
 use Rattle.presence_journal.proofs.HistoryLemmas.{callers_plain}
 use Rattle.presence_journal.specs.Walk.{is_rebirth}
@@ -148,10 +150,10 @@ module _ (leave : OnlyNamedLeave) (pid : ℕ) (f : List ℕ → Bool) (old new :
 
 -- the topics on which rows may stand after a call
 abbrev pub after_call : (List ℕ → Bool) → (q : Ask) → Answer q → List ℕ → Bool
-after_call f (track p u k m) a = cond (is_ok a) (and_at u f) f
-after_call f (update p u k m) a = cond (is_ok a) (and_at u f) f
-after_call f (untrack p u k) a = f
-after_call f (untrack_all p u) a = cond (is_ok a) (and_not u f) f
+after_call f (track u k m) a = cond (is_ok a) (and_at u f) f
+after_call f (update u k m) a = cond (is_ok a) (and_at u f) f
+after_call f (untrack u k) a = f
+after_call f (untrack_all u) a = cond (is_ok a) (and_not u f) f
 after_call f (list u) a = f
 after_call f (get u k) a = f
 after_call f (subscribe u) a = f
@@ -160,29 +162,31 @@ after_call f (unsubscribe u s) a = f
 after_call f (waits u s) a = f
 after_call f (shout u d) a = f
 
--- the call is the session's, and may add rows on this topic alone
-abbrev pub Fits : ℕ → List ℕ → Ask → Type 0
-Fits pid t (track p u k m) = (p ≡ pid) × (u ≡ t)
-Fits pid t (update p u k m) = (p ≡ pid) × (u ≡ t)
-Fits pid t (untrack_all p u) = p ≡ pid
-Fits pid t _ = Unit {0}
+-- the call may add rows on this topic alone
+abbrev pub Fits : List ℕ → Ask → Type 0
+Fits t (track u k m) = u ≡ t
+Fits t (update u k m) = u ≡ t
+Fits t _ = Unit {0}
 
 module _ (leave : OnlyNamedLeave) (pid : ℕ) (low : nat_le pid (2 ^ 62) ≡ true) (t : List ℕ) where
-  limit : (p : ℕ) → p ≡ pid → nat_le p (2 ^ 62) ≡ true
-  limit p e = ap (λ n. nat_le n (2 ^ 62)) e ∙ low
+  table_keeps : (f : List ℕ → Bool) (old new : History) (q : Ask) (a : Result (Given q) ShardFault) → Fits t q → Kept pid f old → TableStep pid old q a new → Kept pid (after_call f q (in_table a)) new
+  table_keeps f old new (track u k m) (Ok d) fits h s = added leave pid f old new h (steps_are.Track pid u k m) u (λ x. refl) low refl s.stepped
+  table_keeps f old new (track u k m) (Err x) fits h s = refused leave pid f old new h {A = Dot} (steps_are.Track pid u k m) (IsNew old (steps_are.Track pid u k m)) x low refl s.stepped s.given
+  table_keeps f old new (update u k m) (Ok d) fits h s = added leave pid f old new h (steps_are.Update pid u k m) u (λ x. refl) low refl s.stepped
+  table_keeps f old new (update u k m) (Err x) fits h s = refused leave pid f old new h {A = Dot} (steps_are.Update pid u k m) (IsNew old (steps_are.Update pid u k m)) x low refl s.stepped s.given
+  table_keeps f old new (untrack u k) a fits h s = quiet leave pid f old new h (steps_are.Untrack pid u k) a refl refl (untrack_key_adds old pid u k) s.stepped
+  table_keeps f old new (untrack_all u) (Ok x) fits h s = gone leave pid f old new h u s.stepped
+  table_keeps f old new (untrack_all u) (Err x) fits h s = refused leave pid f old new h {A = Unit {0}} (steps_are.UntrackAll pid u) (λ _. Unit {0}) x refl refl s.stepped s.given
+  table_keeps f old new (list u) a fits h s = quiet leave pid f old new h (steps_are.List u) a refl refl (list_adds old u) s.stepped
+  table_keeps f old new (get u k) a fits h s = quiet leave pid f old new h (steps_are.Get u k) a refl refl (get_adds old u k) s.stepped
+  table_keeps f old new (subscribe u) a fits h s = quiet leave pid f old new h (steps_are.Subscribe u) a refl refl (subscribe_adds old u) s.stepped
+  table_keeps f old new (take u sub n) a fits h s = quiet leave pid f old new h (steps_are.Take sub.number n) a refl refl (take_adds old sub.number n) s.stepped
+  table_keeps f old new (unsubscribe u sub) a fits h s = quiet leave pid f old new h (steps_are.Unsubscribe sub.number) a refl refl (unsubscribe_adds old sub.number) s.stepped
+  table_keeps f old new (waits u sub) a fits h s = same leave pid f old new h s.0
+  table_keeps f old new (shout u d) a fits h s = quiet leave pid f old new h (steps_are.Shout u d) a refl refl (shout_adds old u d) s.stepped
 
-  pub call_keeps : (f : List ℕ → Bool) (old new : History) (q : Ask) (a : Answer q) → Fits pid t q → Kept pid f old → LocalStep old q a new → Kept pid (after_call f q a) new
-  call_keeps f old new (track p u k m) (Ok d) fits h s = added leave pid f old new h (steps_are.Track p u k m) u (λ x. refl) (limit p fits.0) refl s.stepped
-  call_keeps f old new (track p u k m) (Err x) fits h s = refused leave pid f old new h {A = Dot} (steps_are.Track p u k m) (IsNew old (steps_are.Track p u k m)) x (limit p fits.0) refl s.stepped s.given
-  call_keeps f old new (update p u k m) (Ok d) fits h s = added leave pid f old new h (steps_are.Update p u k m) u (λ x. refl) (limit p fits.0) refl s.stepped
-  call_keeps f old new (update p u k m) (Err x) fits h s = refused leave pid f old new h {A = Dot} (steps_are.Update p u k m) (IsNew old (steps_are.Update p u k m)) x (limit p fits.0) refl s.stepped s.given
-  call_keeps f old new (untrack p u k) a fits h s = quiet leave pid f old new h (steps_are.Untrack p u k) a refl refl (untrack_key_adds old p u k) s.stepped
-  call_keeps f old new (untrack_all p u) (Ok x) fits h s = gone leave pid f old new h u (subst (λ n. Made old new None (steps_are.UntrackAll n u)) fits s.stepped)
-  call_keeps f old new (untrack_all p u) (Err x) fits h s = refused leave pid f old new h {A = Unit {0}} (steps_are.UntrackAll p u) (λ _. Unit {0}) x refl refl s.stepped s.given
-  call_keeps f old new (list u) a fits h s = quiet leave pid f old new h (steps_are.List u) a refl refl (list_adds old u) s.stepped
-  call_keeps f old new (get u k) a fits h s = quiet leave pid f old new h (steps_are.Get u k) a refl refl (get_adds old u k) s.stepped
-  call_keeps f old new (subscribe u) a fits h s = quiet leave pid f old new h (steps_are.Subscribe u) a refl refl (subscribe_adds old u) s.stepped
-  call_keeps f old new (take u sub n) a fits h s = quiet leave pid f old new h (steps_are.Take sub.number n) a refl refl (take_adds old sub.number n) s.stepped
-  call_keeps f old new (unsubscribe u sub) a fits h s = quiet leave pid f old new h (steps_are.Unsubscribe sub.number) a refl refl (unsubscribe_adds old sub.number) s.stepped
-  call_keeps f old new (waits u sub) a fits h s = same leave pid f old new h s.0
-  call_keeps f old new (shout u d) a fits h s = quiet leave pid f old new h (steps_are.Shout u d) a refl refl (shout_adds old u d) s.stepped
+  pub call_keeps : (f : List ℕ → Bool) (old new : History) (q : Ask) (a : Answer q) → Fits t q → Kept pid f old → LocalStep pid old q a new → Kept pid (after_call f q a) new
+  call_keeps f old new q (Ok x) fits h s = table_keeps f old new q (Ok x) fits h s
+  call_keeps f old new q (Err (Table e)) fits h s = table_keeps f old new q (Err e) fits h s
+  call_keeps f old new q (Err OverRation) fits h s = absurd s
+  call_keeps f old new q (Err NotGranted) fits h s = absurd s

@@ -5,7 +5,7 @@ use Rattle.std.specs.List.{slice_get}
 use Rattle.std.proofs.lemmas.Option.{slice_get_within, get_or_from_slice_get}
 use Rattle.presence_journal.proofs.Walking.{drop_next}
 use Rattle.presence_journal_data.specs.declared.rows.Item.{Item}
-use Rattle.channel_session_rules.specs.ShardFault.{ShardFault}
+use Rattle.channel_session_rules.specs.declared.refusal.Refusal.{Refusal}
 use Rattle.channel_session.specs.Delivery.{DealsBy, DeliveredBy, failing}
 use Rattle.channel_session.specs.Ran.{fault_of}
 use Rattle.channel_session.specs.declared.fault.SessionFault.{SessionFault}
@@ -34,11 +34,11 @@ may_want max s [] before = tt
 may_want max s (j ∷ js) before = tt
 
 module _ {P : Type 0} (step : P → (q : Ask) → Answer q → P → Type 0) (max : ℕ) (s : InForce) (j : Joined) (js all : List Joined) (all_is : all ≡ j ∷ js) (before : List Said) where
-  pub waits_refused : (e : ShardFault) (stop : Stop) (old new : P) → step old (waits j.topic j.sub) (Err e) new → GivesEnd (unsaid e) false (Err stop)
+  pub waits_refused : (e : Refusal) (stop : Stop) (old new : P) → step old (waits j.topic j.sub) (Err e) new → GivesEnd (unsaid e) false (Err stop)
       → Follows step (delivers max s all before) old new (Err stop)
   waits_refused e stop old new h g = rw all_is (once step (waits j.topic j.sub) (then_take max j before (delivers max s js)) (Err e) (unsaid e) old new (Err stop) h refl refl g)
 
-  pub take_refused : (e : ShardFault) (stop : Stop) (old mid new : P) → step old (waits j.topic j.sub) (Ok true) mid → step mid (take j.topic j.sub max) (Err e) new → GivesEnd (unsaid e) false (Err stop)
+  pub take_refused : (e : Refusal) (stop : Stop) (old mid new : P) → step old (waits j.topic j.sub) (Ok true) mid → step mid (take j.topic j.sub max) (Err e) new → GivesEnd (unsaid e) false (Err stop)
       → Follows step (delivers max s all before) old new (Err stop)
   take_refused e stop old mid new h h2 g =
       rw all_is

@@ -1,7 +1,8 @@
 -- The end of a session, call by call.
 use Rattle.std.proofs.Common.{◌≡◌, ℕ, zero, suc, List, [], ◌∷◌, drop, take, Some, None, Option, Result, Ok, Err, true, refl, sym, ap, ◌∙◌, subst}
 use Rattle.std.specs.List.{slice_get, remove}
-use Rattle.channel_session_rules.specs.ShardFault.{ShardFault}
+use Rattle.channel_session_rules.specs.declared.refusal.Refusal.{Refusal}
+use Rattle.channel_session_rules.specs.declared.refusal.Refusal.TheVariants.{OverRation, NotGranted, Table}
 use Rattle.channel_session_rules.specs.ShardFault.TheVariants.{AlreadyTracked, NoPresence, ClockFull, JournalFull, NoSub, BadIncarnation, OutOfMemory}
 use Rattle.channel_session_rules.specs.Sub.{Sub}
 use Rattle.channel_session_rules.specs.Asks.{Ask, Answer, unsubscribe, untrack_all}
@@ -16,24 +17,26 @@ module _ {P E : Type 0} (step : P → (q : Ask) → Answer q → P → Type 0) w
   pub played_on : (q : Ask) (next : Answer q → Script E) (a : Answer q) (old mid new : P) (e : E) → step old q a mid → Played step (next a) mid new e → Played step (ask q next) old new e
   played_on q next a old mid new e h p = record { made = record { ask = q; answer = a } ∷ p.made; calls = (mid, h, p.calls); plays = (a, refl, p.plays) }
 
-pub goes_on_refused : (pid : ℕ) (t : List ℕ) (next : Result (Unit {0}) ShardFault → Script Ended) (e : ShardFault) → (e ≡ NoSub → ⊥) → then_rows pid t next (Err e) ≡ next (Err e)
-goes_on_refused pid t next AlreadyTracked h = refl
-goes_on_refused pid t next NoPresence h = refl
-goes_on_refused pid t next ClockFull h = refl
-goes_on_refused pid t next JournalFull h = refl
-goes_on_refused pid t next OutOfMemory h = refl
-goes_on_refused pid t next NoSub h = absurd (h refl)
-goes_on_refused pid t next BadIncarnation h = refl
+pub goes_on_refused : (t : List ℕ) (next : Result (Unit {0}) Refusal → Script Ended) (e : Refusal) → (e ≡ Table NoSub → ⊥) → then_rows t next (Err e) ≡ next (Err e)
+goes_on_refused t next (Table AlreadyTracked) h = refl
+goes_on_refused t next (Table NoPresence) h = refl
+goes_on_refused t next (Table ClockFull) h = refl
+goes_on_refused t next (Table JournalFull) h = refl
+goes_on_refused t next (Table OutOfMemory) h = refl
+goes_on_refused t next (Table NoSub) h = absurd (h refl)
+goes_on_refused t next OverRation h = refl
+goes_on_refused t next NotGranted h = refl
+goes_on_refused t next (Table BadIncarnation) h = refl
 
-module _ {P : Type 0} (step : P → (q : Ask) → Answer q → P → Type 0) (pid : ℕ) (topic : List ℕ) (sub : Sub) where
-  pub rows_gone : (u : Unit {0}) (r : Answer (untrack_all pid topic)) (old mid new : P) → step old (unsubscribe topic sub) (Ok u) mid → step mid (untrack_all pid topic) r new → Gone step pid topic sub old new r
-  rows_gone u r old mid new h k = λ next last e p. played_on step (unsubscribe topic sub) (then_rows pid topic next) (Ok u) old mid last e h (played_on step (untrack_all pid topic) next r mid new last e k p)
+module _ {P : Type 0} (step : P → (q : Ask) → Answer q → P → Type 0) (topic : List ℕ) (sub : Sub) where
+  pub rows_gone : (u : Unit {0}) (r : Answer (untrack_all topic)) (old mid new : P) → step old (unsubscribe topic sub) (Ok u) mid → step mid (untrack_all topic) r new → Gone step topic sub old new r
+  rows_gone u r old mid new h k = λ next last e p. played_on step (unsubscribe topic sub) (then_rows topic next) (Ok u) old mid last e h (played_on step (untrack_all topic) next r mid new last e k p)
 
-  pub rows_gone_unknown : (r : Answer (untrack_all pid topic)) (old mid new : P) → step old (unsubscribe topic sub) (Err NoSub) mid → step mid (untrack_all pid topic) r new → Gone step pid topic sub old new r
-  rows_gone_unknown r old mid new h k = λ next last e p. played_on step (unsubscribe topic sub) (then_rows pid topic next) (Err NoSub) old mid last e h (played_on step (untrack_all pid topic) next r mid new last e k p)
+  pub rows_gone_unknown : (r : Answer (untrack_all topic)) (old mid new : P) → step old (unsubscribe topic sub) (Err (Table NoSub)) mid → step mid (untrack_all topic) r new → Gone step topic sub old new r
+  rows_gone_unknown r old mid new h k = λ next last e p. played_on step (unsubscribe topic sub) (then_rows topic next) (Err (Table NoSub)) old mid last e h (played_on step (untrack_all topic) next r mid new last e k p)
 
-  pub kept : (e : ShardFault) (old new : P) → (e ≡ NoSub → ⊥) → step old (unsubscribe topic sub) (Err e) new → Gone step pid topic sub old new (Err e)
-  kept e old new other h = λ next last f p. played_on step (unsubscribe topic sub) (then_rows pid topic next) (Err e) old new last f h (rw (goes_on_refused pid topic next e other) p)
+  pub kept : (e : Refusal) (old new : P) → (e ≡ Table NoSub → ⊥) → step old (unsubscribe topic sub) (Err e) new → Gone step topic sub old new (Err e)
+  kept e old new other h = λ next last f p. played_on step (unsubscribe topic sub) (then_rows topic next) (Err e) old new last f h (rw (goes_on_refused topic next e other) p)
 
 -- ---- topics from a place on
 
@@ -85,51 +88,51 @@ take_less (x ∷ js) (y ∷ ks) (suc i) e =
     let more : take i ks ≡ take i js = take_less js ks i (tails y x (take (suc i) ks) (take (suc i) js) e) in
     λ k. first k ∷ more k
 
-module _ {P : Type 0} (step : P → (q : Ask) → Answer q → P → Type 0) (pid : ℕ) (leaving : Leaving) (js : List Joined) (j : Joined) (rest : List Joined) (is : js ≡ j ∷ rest) where
-  pub ended_gone : (u : Unit {0}) (old mid new : P) (e : Ended) → Gone step pid j.topic j.sub old mid (Ok u) → Played step (ends_topics pid leaving rest) mid new e → Played step (ends_topics pid leaving js) old new e
-  ended_gone u old mid new e gone p = rw is (gone (λ r. ends_topics pid (staying j r leaving) rest) new e p)
+module _ {P : Type 0} (step : P → (q : Ask) → Answer q → P → Type 0) (leaving : Leaving) (js : List Joined) (j : Joined) (rest : List Joined) (is : js ≡ j ∷ rest) where
+  pub ended_gone : (u : Unit {0}) (old mid new : P) (e : Ended) → Gone step j.topic j.sub old mid (Ok u) → Played step (ends_topics leaving rest) mid new e → Played step (ends_topics leaving js) old new e
+  ended_gone u old mid new e gone p = rw is (gone (λ r. ends_topics (staying j r leaving) rest) new e p)
 
-  pub ended_staying : (f : ShardFault) (all ks : List Joined) (old mid new : P) → all ≡ j ∷ ks → Gone step pid j.topic j.sub old mid (Err f)
-      → Played step (ends_topics pid (staying j (Err f) leaving) rest) mid new (leaving (j ∷ ks) (Err f)) → Played step (ends_topics pid leaving js) old new (leaving all (Err f))
-  ended_staying f all ks old mid new all_is gone p = rw (is, all_is) (gone (λ r. ends_topics pid (staying j r leaving) rest) new (leaving (j ∷ ks) (Err f)) p)
+  pub ended_staying : (f : Refusal) (all ks : List Joined) (old mid new : P) → all ≡ j ∷ ks → Gone step j.topic j.sub old mid (Err f)
+      → Played step (ends_topics (staying j (Err f) leaving) rest) mid new (leaving (j ∷ ks) (Err f)) → Played step (ends_topics leaving js) old new (leaving all (Err f))
+  ended_staying f all ks old mid new all_is gone p = rw (is, all_is) (gone (λ r. ends_topics (staying j r leaving) rest) new (leaving (j ∷ ks) (Err f)) p)
 
-pub none_ended : {P : Type 0} (step : P → (q : Ask) → Answer q → P → Type 0) (pid : ℕ) (leaving : Leaving) (js : List Joined) (old : P) → js ≡ [] → Played step (ends_topics pid leaving js) old old (leaving js (Ok tt))
-none_ended step pid leaving js old e = rw e (played_now step (leaving [] (Ok tt)) old)
+pub none_ended : {P : Type 0} (step : P → (q : Ask) → Answer q → P → Type 0) (leaving : Leaving) (js : List Joined) (old : P) → js ≡ [] → Played step (ends_topics leaving js) old old (leaving js (Ok tt))
+none_ended step leaving js old e = rw e (played_now step (leaving [] (Ok tt)) old)
 
 -- ---- the session
 
-named_end : (s after : InForce) (a : Result (Unit {0}) ShardFault) (named : Option (List ℕ)) → after.pid ≡ s.pid → after.failed ≡ failed_by s.failed a → after.cut_short ≡ named
+named_end : (s after : InForce) (a : Result (Unit {0}) Refusal) (named : Option (List ℕ)) → after.pid ≡ s.pid → after.failed ≡ failed_by s.failed a → after.cut_short ≡ named
     → left_with s named after.joined a ≡ record { after = after; answer = a }
 named_end s after a named p f n = sym (λ i. record { after = record { pid = p i; failed = f i; joined = after.joined; cut_short = n i }; answer = a })
 
-module _ {P : Type 0} (step : P → (q : Ask) → Answer q → P → Type 0) (s : InForce) where
+module _ {P : Type 0} (steps : ℕ → P → (q : Ask) → Answer q → P → Type 0) (s : InForce) where
   -- the topics in force, where the session has come to this one
-  from_mid : (mids after : InForce) (leaving : Leaving) (a : Result (Unit {0}) ShardFault) (mid new : P) → mids.pid ≡ s.pid → mids.joined ≡ s.joined
-      → Played step (ends_topics mids.pid leaving mids.joined) mid new (leaving after.joined a) → Played step (ends_topics s.pid leaving s.joined) mid new (leaving after.joined a)
+  from_mid : (mids after : InForce) (leaving : Leaving) (a : Result (Unit {0}) Refusal) (mid new : P) → mids.pid ≡ s.pid → mids.joined ≡ s.joined
+      → Played (steps mids.pid) (ends_topics leaving mids.joined) mid new (leaving after.joined a) → Played (steps s.pid) (ends_topics leaving s.joined) mid new (leaving after.joined a)
   from_mid mids after leaving a mid new p j played = rw (p, j) at played
 
-  pub nothing_cut_short : (after : InForce) (a : Result (Unit {0}) ShardFault) (old new : P) → s.cut_short ≡ None → Keeps s after a
-      → Played step (ends_topics s.pid (left_with s None) s.joined) old new (left_with s None after.joined a) → Played step (ends s) old new (record { after = after; answer = a })
+  pub nothing_cut_short : (after : InForce) (a : Result (Unit {0}) Refusal) (old new : P) → s.cut_short ≡ None → Keeps s after a
+      → Played (steps s.pid) (ends_topics (left_with s None) s.joined) old new (left_with s None after.joined a) → Played (steps s.pid) (ends s) old new (record { after = after; answer = a })
   nothing_cut_short after a old new none keeps played =
-      let p : Played step (ends s) old new (left_with s None after.joined a) = rw none played in
-      subst (λ e. Played step (ends s) old new e) (named_end s after a None keeps.pid keeps.failed (keeps.cut_short ∙ none)) p
+      let p : Played (steps s.pid) (ends s) old new (left_with s None after.joined a) = rw none played in
+      subst (λ e. Played (steps s.pid) (ends s) old new e) (named_end s after a None keeps.pid keeps.failed (keeps.cut_short ∙ none)) p
 
   module _ (t : List ℕ) (named : s.cut_short ≡ Some t) (pid : ℕ) (pid_is : pid ≡ s.pid) (mids : InForce) (p : mids.pid ≡ s.pid) (j : mids.joined ≡ s.joined) where
-    pub cut_short_gone : (u : Unit {0}) (after : InForce) (a : Result (Unit {0}) ShardFault) (old mid new : P) → step old (untrack_all pid t) (Ok u) mid
+    pub cut_short_gone : (u : Unit {0}) (after : InForce) (a : Result (Unit {0}) Refusal) (old mid new : P) → steps pid old (untrack_all t) (Ok u) mid
         → mids.failed ≡ s.failed → mids.cut_short ≡ None → Keeps mids after a
-        → Played step (ends_topics mids.pid (left_with s None) mids.joined) mid new (left_with s None after.joined a) → Played step (ends s) old new (record { after = after; answer = a })
+        → Played (steps mids.pid) (ends_topics (left_with s None) mids.joined) mid new (left_with s None after.joined a) → Played (steps s.pid) (ends s) old new (record { after = after; answer = a })
     cut_short_gone u after a old mid new h f n keeps played =
-        let asked : step old (untrack_all s.pid t) (Ok u) mid = rw pid_is at h in
-        let rest : Played step (then_topics s t (Ok u)) mid new (left_with s None after.joined a) = from_mid mids after (left_with s None) a mid new p j played in
-        let all : Played step (ends s) old new (left_with s None after.joined a) = rw named (played_on step (untrack_all s.pid t) (then_topics s t) (Ok u) old mid new _ asked rest) in
-        subst (λ e. Played step (ends s) old new e) (named_end s after a None (keeps.pid ∙ p) (keeps.failed ∙ ap (λ x. failed_by x a) f) (keeps.cut_short ∙ n)) all
+        let asked : steps s.pid old (untrack_all t) (Ok u) mid = rw pid_is at h in
+        let rest : Played (steps s.pid) (then_topics s t (Ok u)) mid new (left_with s None after.joined a) = from_mid mids after (left_with s None) a mid new p j played in
+        let all : Played (steps s.pid) (ends s) old new (left_with s None after.joined a) = rw named (played_on (steps s.pid) (untrack_all t) (then_topics s t) (Ok u) old mid new _ asked rest) in
+        subst (λ e. Played (steps s.pid) (ends s) old new e) (named_end s after a None (keeps.pid ∙ p) (keeps.failed ∙ ap (λ x. failed_by x a) f) (keeps.cut_short ∙ n)) all
 
-    pub cut_short_kept : (g : ShardFault) (later after : InForce) (old mid new : P) → step old (untrack_all pid t) (Err g) mid
+    pub cut_short_kept : (g : Refusal) (later after : InForce) (old mid new : P) → steps pid old (untrack_all t) (Err g) mid
         → after.pid ≡ s.pid → after.failed ≡ true → after.joined ≡ later.joined → after.cut_short ≡ s.cut_short
-        → Played step (ends_topics mids.pid (λ js b. left_with s (Some t) js (Err g)) mids.joined) mid new (left_with s (Some t) later.joined (Err g))
-        → Played step (ends s) old new (record { after = after; answer = Err g })
+        → Played (steps mids.pid) (ends_topics (λ js b. left_with s (Some t) js (Err g)) mids.joined) mid new (left_with s (Some t) later.joined (Err g))
+        → Played (steps s.pid) (ends s) old new (record { after = after; answer = Err g })
     cut_short_kept g later after old mid new h q f k n played =
-        let asked : step old (untrack_all s.pid t) (Err g) mid = rw pid_is at h in
-        let rest : Played step (then_topics s t (Err g)) mid new (left_with s (Some t) later.joined (Err g)) = from_mid mids later (λ js b. left_with s (Some t) js (Err g)) (Ok tt) mid new p j played in
-        let all : Played step (ends s) old new (left_with s (Some t) later.joined (Err g)) = rw named (played_on step (untrack_all s.pid t) (then_topics s t) (Err g) old mid new _ asked rest) in
-        subst (λ e. Played step (ends s) old new e) (ap (λ ks. left_with s (Some t) ks (Err g)) (sym k) ∙ named_end s after (Err g) (Some t) q f (n ∙ named)) all
+        let asked : steps s.pid old (untrack_all t) (Err g) mid = rw pid_is at h in
+        let rest : Played (steps s.pid) (then_topics s t (Err g)) mid new (left_with s (Some t) later.joined (Err g)) = from_mid mids later (λ js b. left_with s (Some t) js (Err g)) (Ok tt) mid new p j played in
+        let all : Played (steps s.pid) (ends s) old new (left_with s (Some t) later.joined (Err g)) = rw named (played_on (steps s.pid) (untrack_all t) (then_topics s t) (Err g) old mid new _ asked rest) in
+        subst (λ e. Played (steps s.pid) (ends s) old new e) (ap (λ ks. left_with s (Some t) ks (Err g)) (sym k) ∙ named_end s after (Err g) (Some t) q f (n ∙ named)) all

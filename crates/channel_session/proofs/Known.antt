@@ -11,7 +11,8 @@ use Rattle.phx_message.specs.declared.message.Message.{Message}
 use Rattle.phx_message.specs.Making.{closing}
 use Rattle.presence_journal.specs.History.{History}
 use Rattle.channel_session_rules.specs.Sub.{Sub}
-use Rattle.channel_session_rules.specs.ShardFault.{ShardFault}
+use Rattle.channel_session_rules.specs.declared.refusal.Refusal.{Refusal}
+use Rattle.channel_session_rules.specs.declared.refusal.Refusal.TheVariants.{OverRation, NotGranted, Table}
 use Rattle.channel_session_rules.specs.ShardFault.TheVariants.{AlreadyTracked, NoPresence, ClockFull, JournalFull, NoSub, BadIncarnation, OutOfMemory}
 use Rattle.channel_session_rules.specs.declared.asked.Asked.{Asked}
 use Rattle.channel_session_rules.specs.declared.asked.Asked.TheVariants.{Nothing, Bad, Wants}
@@ -23,7 +24,7 @@ use Rattle.channel_session_rules.specs.Asked.{asked, key_asked}
 use Rattle.channel_session_rules.specs.Asks.{Answer, untrack_all, take, waits}
 use Rattle.channel_session_rules.specs.InForce.{Joined, InForce, find, without_topic}
 use Rattle.channel_session_rules.specs.Rules
-use Rattle.channel_session_rules.specs.Rules.{End, answers, full, memory, said, unsaid, full_reason, track_reason, update_reason, replied, refuses, subscribes, tracks, join_asked, on_join, on_leave, ended, left, on_event, on_topic, by_kind, rules, join_at, is_phoenix, route_of, kind_of, joins, then_next}
+use Rattle.channel_session_rules.specs.Rules.{End, answers, full, memory, said, unsaid, full_reason, subscribe_reason, track_reason, update_reason, replied, refuses, subscribes, tracks, join_asked, on_join, on_leave, ended, left, on_event, on_topic, by_kind, rules, join_at, is_phoenix, route_of, kind_of, joins, then_next}
 use Rattle.channel_session_rules.specs.Said.{Said, message, listed}
 use Rattle.channel_session_rules.specs.declared.topics.TheConstants.{MAX_TOPICS}
 use Rattle.channel_session_rules.specs.Script.{Script, done, ask}
@@ -93,44 +94,46 @@ module _ (others : Sub → Bool) (o : InForce) (m : Message) where
   abbrev Knows : (Sub → Bool) → InForce → Type 0
   Knows g s = Within g (is_known others s)
 
-  unsaid_ends : (g : Sub → Bool) → Knows g o → (e : ShardFault) → TextEnds others o g (unsaid e)
-  unsaid_ends g v AlreadyTracked = v
-  unsaid_ends g v NoPresence = v
-  unsaid_ends g v ClockFull = v
-  unsaid_ends g v JournalFull = v
-  unsaid_ends g v NoSub = v
-  unsaid_ends g v BadIncarnation = v
-  unsaid_ends g v OutOfMemory = tt
+  unsaid_ends : (g : Sub → Bool) → Knows g o → (e : Refusal) → TextEnds others o g (unsaid e)
+  unsaid_ends g v (Table AlreadyTracked) = v
+  unsaid_ends g v (Table NoPresence) = v
+  unsaid_ends g v (Table ClockFull) = v
+  unsaid_ends g v (Table JournalFull) = v
+  unsaid_ends g v (Table NoSub) = v
+  unsaid_ends g v (Table BadIncarnation) = v
+  unsaid_ends g v (Table OutOfMemory) = tt
+  unsaid_ends g v OverRation = v
+  unsaid_ends g v NotGranted = v
 
-  said_ends : (g : Sub → Bool) (answer : List ℕ → End) → ((reason : List ℕ) → TextEnds others o g (answer reason)) → Knows g o → (e : ShardFault) (r : Option (List ℕ)) → TextEnds others o g (said answer e r)
+  said_ends : (g : Sub → Bool) (answer : List ℕ → End) → ((reason : List ℕ) → TextEnds others o g (answer reason)) → Knows g o → (e : Refusal) (r : Option (List ℕ)) → TextEnds others o g (said answer e r)
   said_ends g answer h v e (Some r) = h r
   said_ends g answer h v e None = unsaid_ends g v e
 
-  replied_ends : {A : Type 0} (g : Sub → Bool) → Knows g o → (r : Option MsgRef) (reason : ShardFault → Option (List ℕ)) (reply : A → List Said) (a : Result A ShardFault) → TextEnds others o g (replied o r m reason reply a)
+  replied_ends : {A : Type 0} (g : Sub → Bool) → Knows g o → (r : Option MsgRef) (reason : Refusal → Option (List ℕ)) (reply : A → List Said) (a : Result A Refusal) → TextEnds others o g (replied o r m reason reply a)
   replied_ends g v r reason reply (Ok x) = v
   replied_ends g v r reason reply (Err e) = said_ends g _ (λ t. v) v e (reason e)
 
   -- ---- events
 
   module _ (g : Sub → Bool) (v : Knows g o) where
-    event_leads : (kind : ℕ) (r : Option MsgRef) (event : TopicEvent) → L g (on_event o.pid kind o r m event)
+    event_leads : (kind : ℕ) (r : Option MsgRef) (event : TopicEvent) → L g (on_event kind o r m event)
     event_leads kind r events_are.Ping = v
     event_leads kind r events_are.Shout = λ a. replied_ends g v r (full_reason true) (λ u. []) a
     event_leads kind r events_are.Track = go (asked m.payload)
       where
-        go : (a : Asked) → L g (Rules.on_track o.pid o r m a)
+        go : (a : Asked) → L g (Rules.on_track o r m a)
         go (Wants key meta) = λ a. replied_ends g v r (track_reason true) (λ (d : Dot). message (Rules.ok r m (Rules.told_ref d)) ∷ []) a
         go Nothing = v
         go Bad = v
     event_leads kind r events_are.Update = go (asked m.payload)
       where
-        go : (a : Asked) → L g (Rules.on_update o.pid o r m a)
+        go : (a : Asked) → L g (Rules.on_update o r m a)
         go (Wants key meta) = λ a. replied_ends g v r update_reason (λ (d : Dot). message (Rules.ok r m (Rules.told_ref d)) ∷ []) a
         go Nothing = v
         go Bad = v
     event_leads kind r events_are.Untrack = go (key_asked m.payload)
       where
-        go : (k : Option (List ℕ)) → L g (Rules.on_untrack o.pid o r m k)
+        go : (k : Option (List ℕ)) → L g (Rules.on_untrack o r m k)
         go (Some key) = λ a. replied_ends g v r (full_reason true) (λ u. message (Rules.ok r m Rules.empty) ∷ []) a
         go None = v
     event_leads kind r events_are.List = λ a. replied_ends g v r (full_reason true) (λ rows. listed kind r m rows ∷ []) a
@@ -149,41 +152,41 @@ module _ (others : Sub → Bool) (o : InForce) (m : Message) where
         join_knows others s (joins kind s m sub) (record { topic = m.topic; kind = kind; join_ref = Rules.join_ref_of m; sub = sub }) refl x
         (or_either (same_sub x sub) (g x) (same_sub x sub || is_known others s x) (λ q. or_left (same_sub x sub) (is_known others s x) q) (λ q. or_right (same_sub x sub) (is_known others s x) (w x q)) e)
 
-    subscribe_leads : (first : Bool) (response : Data) → L g (subscribes first before kind s m response)
+    subscribe_leads : (first : Option Bool) (response : Data) → L g (subscribes first before kind s m response)
     subscribe_leads first response = λ a. go a
       where
-        go : (a : Result Sub ShardFault) → TextEnds others o (if_made g a) (Rules.after_subscribe first before kind s m response a)
+        go : (a : Result Sub Refusal) → TextEnds others o (if_made g a) (Rules.after_subscribe first before kind s m response a)
         go (Ok sub) = joined_knows sub
-        go (Err e) = said_ends g (refuses before s m) (λ reason. w) v e (full_reason first e)
+        go (Err e) = said_ends g (refuses before s m) (λ reason. w) v e (subscribe_reason first e)
 
-    track_leads : (first : Bool) (key : List ℕ) (meta : Data) → L g (tracks o.pid first before kind s m key meta)
+    track_leads : (first : Bool) (key : List ℕ) (meta : Data) → L g (tracks first before kind s m key meta)
     track_leads first key meta = λ a. go a
       where
-        go : (a : Result Dot ShardFault) → L g (Rules.then_subscribe first before kind s m a)
-        go (Ok d) = subscribe_leads false (Rules.told_ref d)
+        go : (a : Result Dot Refusal) → L g (Rules.then_subscribe first before kind s m a)
+        go (Ok d) = subscribe_leads None (Rules.told_ref d)
         go (Err e) = said_ends g (refuses before s m) (λ reason. w) v e (track_reason first e)
 
     either_leads : (b : Bool) (x y : Script End) → L g x → L g y → L g (if b then x else y)
     either_leads true x y p q = p
     either_leads false x y p q = q
 
-    asked_leads : (count : ℕ) (first : Bool) (a : Asked) → L g (join_asked o.pid count first before kind s m a)
+    asked_leads : (count : ℕ) (first : Bool) (a : Asked) → L g (join_asked count first before kind s m a)
     asked_leads count first Bad = w
     asked_leads count first Nothing =
-        either_leads (nat_le MAX_TOPICS count) (done (refuses before s m (codes "too many topics"))) (subscribes first before kind s m Rules.empty) w (subscribe_leads first Rules.empty)
+        either_leads (nat_le MAX_TOPICS count) (done (refuses before s m (codes "too many topics"))) (subscribes (Some first) before kind s m Rules.empty) w (subscribe_leads (Some first) Rules.empty)
     asked_leads count first (Wants key meta) =
-        either_leads (nat_le MAX_TOPICS count) (done (refuses before s m (codes "too many topics"))) (tracks o.pid first before kind s m key meta) w (track_leads first key meta)
+        either_leads (nat_le MAX_TOPICS count) (done (refuses before s m (codes "too many topics"))) (tracks first before kind s m key meta) w (track_leads first key meta)
 
   -- ---- ends of joins
 
-  ended_leads : (g : Sub → Bool) (sub : Sub) (next : Script End) → L (but_sub sub g) next → Knows g o → L g (ended o.pid m.topic sub next)
+  ended_leads : (g : Sub → Bool) (sub : Sub) (next : Script End) → L (but_sub sub g) next → Knows g o → L g (ended m.topic sub next)
   ended_leads g sub next l v = λ a. first a
     where
-      second : (a : Result (Unit {0}) ShardFault) → L (but_sub sub g) (then_next next a)
+      second : (a : Result (Unit {0}) Refusal) → L (but_sub sub g) (then_next next a)
       second (Ok u) = l
       second (Err e) = unsaid_ends (but_sub sub g) (λ x q. v x (and_parts (g x) (not (same_sub x sub)) q).0) e
 
-      first : (a : Result (Unit {0}) ShardFault) → L (if_ended g sub a) (then_next (ask (untrack_all o.pid m.topic) (then_next next)) a)
+      first : (a : Result (Unit {0}) Refusal) → L (if_ended g sub a) (then_next (ask (untrack_all m.topic) (then_next next)) a)
       first (Ok u) = λ a. second a
       first (Err e) = unsaid_ends (if_ended g sub (Err e)) (λ x q. v x (ended_within g sub (Err e) x q)) e
 
@@ -198,22 +201,22 @@ module _ (others : Sub → Bool) (o : InForce) (m : Message) where
   abbrev IsFound : Option Joined → Type 0
   IsFound j = (k : Joined) → j ≡ Some k → find m.topic o.joined ≡ Some k
 
-  leave_leads : (j : Option Joined) → IsFound j → L known (on_leave o.pid o j m)
+  leave_leads : (j : Option Joined) → IsFound j → L known (on_leave o j m)
   leave_leads (Some j) found = ended_leads known j.sub _ (left_knows others o m.topic j (found j refl)) same_known
   leave_leads None found = same_known
 
-  join_leads : (count kind : ℕ) (j : Option Joined) → IsFound j → (a : Asked) → L known (on_join o.pid count kind o j m a)
+  join_leads : (count kind : ℕ) (j : Option Joined) → IsFound j → (a : Asked) → L known (on_join count kind o j m a)
   join_leads count kind None found a = asked_leads o [] kind known same_known same_known count true a
   join_leads count kind (Some j) found a =
       ended_leads known j.sub _
       (asked_leads (left o m.topic) (message (closing j.join_ref m.topic) ∷ []) kind (but_sub j.sub known) (left_knows others o m.topic j (found j refl)) (λ x q. (and_parts (known x) (not (same_sub x j.sub)) q).0) (count - 1) false a)
       same_known
 
-  topic_leads : (j : Option Joined) (event : TopicEvent) → L known (on_topic o.pid o j m event)
+  topic_leads : (j : Option Joined) (event : TopicEvent) → L known (on_topic o j m event)
   topic_leads (Some j) event = event_leads known same_known j.kind j.join_ref event
   topic_leads None event = same_known
 
-  kind_leads : (phoenix : Bool) (route : Option ℕ) (count : ℕ) (j : Option Joined) → IsFound j → (kind : EventKind) → L known (by_kind phoenix route o.pid count o j m kind)
+  kind_leads : (phoenix : Bool) (route : Option ℕ) (count : ℕ) (j : Option Joined) → IsFound j → (kind : EventKind) → L known (by_kind phoenix route count o j m kind)
   kind_leads true route count j found kinds_are.Heartbeat = same_known
   kind_leads false route count j found kinds_are.Heartbeat = topic_leads j events_are.Unknown
   kind_leads phoenix None count j found kinds_are.Join = same_known
@@ -232,18 +235,18 @@ untouched : (others : Sub → Bool) (s after : InForce) (old new : History) → 
 untouched others s after old new n u = subst (λ x. KnowsItsSubs others x new) (sym u.session) (subst (KnowsItsSubs others s) (sym u.port) n)
 
 module _ (others : Sub → Bool) (routes : List (List ℕ × ℕ)) (s after : InForce) (old new : History) (n : KnowsItsSubs others s old) where
-  answered : (m : Message) (texts : List Said) → MessageRan LocalStep routes s m old new after (Ok texts) → KnowsItsSubs others after new
+  answered : (m : Message) (texts : List Said) → MessageRan (LocalStep s.pid) routes s m old new after (Ok texts) → KnowsItsSubs others after new
   answered m texts ran =
-      let led = script_leads (TextEnds others s) (rules routes s m) (is_known others s) old new (answers texts after) (rules_lead others s m routes) n ran.0.made ran.0.calls ran.0.ends in
+      let led = script_leads s.pid (TextEnds others s) (rules routes s m) (is_known others s) old new (answers texts after) (rules_lead others s m routes) n ran.0.made ran.0.calls ran.0.ends in
       held_within led.subs (is_known others after) new led.ends led.held
 
-  faulted : (m : Message) (fault : SessionFault) → Faulted LocalStep (rules routes s m) m.topic s old new after fault → KnowsItsSubs others after new
+  faulted : (m : Message) (fault : SessionFault) → Faulted (LocalStep s.pid) (rules routes s m) m.topic s old new after fault → KnowsItsSubs others after new
   faulted m fault f = left_by f.stop.spoiled f.left
     where
       stopped : (kind : StopKind) → Stopped kind (rules routes s m) f.calls.made → KnowsItsSubs others s new
-      stopped kinds.OutOfMemory b = none_made (is_known others s) old new n f.calls.made b.1 f.calls.calls
+      stopped kinds.OutOfMemory b = none_made s.pid (is_known others s) old new n f.calls.made b.1 f.calls.calls
       stopped kinds.ShardFull p =
-          let led = script_leads (TextEnds others s) (rules routes s m) (is_known others s) old new full (rules_lead others s m routes) n f.calls.made f.calls.calls p in
+          let led = script_leads s.pid (TextEnds others s) (rules routes s m) (is_known others s) old new full (rules_lead others s m routes) n f.calls.made f.calls.calls p in
           held_within led.subs (is_known others s) new led.ends led.held
 
       left_by : (b : Bool) → after ≡ (if b then failed_at s m.topic else s) → KnowsItsSubs others after new
@@ -282,13 +285,13 @@ module _ (s : InForce) (f : Sub → Bool) where
       go next (Err e) = λ x q. q
 
 module _ (others : Sub → Bool) (max : ℕ) (s : InForce) (old new : History) (n : KnowsItsSubs others s old) where
-  cut_knows : (after : InForce) (fault : SessionFault) → CutShort LocalStep (delivery max s) s old new after fault → KnowsItsSubs others after new
+  cut_knows : (after : InForce) (fault : SessionFault) → CutShort (LocalStep s.pid) (delivery max s) s old new after fault → KnowsItsSubs others after new
   cut_knows after fault f = left_by f.stop.spoiled f.left
     where
       stopped : (kind : StopKind) → Stopped kind (delivery max s) f.calls.made → KnowsItsSubs others s new
-      stopped kinds.OutOfMemory b = none_made (is_known others s) old new n f.calls.made b.1 f.calls.calls
+      stopped kinds.OutOfMemory b = none_made s.pid (is_known others s) old new n f.calls.made b.1 f.calls.calls
       stopped kinds.ShardFull p =
-          let led = script_leads (DeliveryEnds (is_known others s)) (delivery max s) (is_known others s) old new full (delivers_lead s (is_known others s) max s.joined []) n f.calls.made f.calls.calls p in
+          let led = script_leads s.pid (DeliveryEnds (is_known others s)) (delivery max s) (is_known others s) old new full (delivers_lead s (is_known others s) max s.joined []) n f.calls.made f.calls.calls p in
           held_within led.subs (is_known others s) new led.ends led.held
 
       left_by : (b : Bool) → after ≡ (if b then failing s else s) → KnowsItsSubs others after new
@@ -297,7 +300,7 @@ module _ (others : Sub → Bool) (max : ℕ) (s : InForce) (old new : History) (
 
 pub deliveries_keep_subs : DeliveriesKeepSubs
 deliveries_keep_subs others max s after old new (Ok texts) n d =
-    let led = script_leads (DeliveryEnds (is_known others s)) (delivery max s) (is_known others s) old new (answers texts s) (delivers_lead s (is_known others s) max s.joined []) n d.0.made d.0.calls d.0.ends in
+    let led = script_leads s.pid (DeliveryEnds (is_known others s)) (delivery max s) (is_known others s) old new (answers texts s) (delivers_lead s (is_known others s) max s.joined []) n d.0.made d.0.calls d.0.ends in
     subst (λ x. KnowsItsSubs others x new) (sym d.1) (held_within led.subs (is_known others s) new led.ends led.held)
 deliveries_keep_subs others max s after old new (Err fault) n d = cut_knows others max s old new n after fault d
 
@@ -307,53 +310,55 @@ deliveries_keep_subs others max s after old new (Err fault) n d = cut_knows othe
 abbrev EndEnds : (Sub → Bool) → (Sub → Bool) → Ended → Type 0
 EndEnds others g e = Within g (is_known others e.after)
 
-module _ (others : Sub → Bool) (pid : ℕ) where
+module _ (others : Sub → Bool) where
   abbrev X : (Sub → Bool) → Script Ended → Type 0
   X g x = Leads (EndEnds others) g x
 
   -- what comes of topics that stay knows their subscribers, and these besides
   abbrev Holds : (Sub → Bool) → Leaving → Type 0
-  Holds base leaving = (ks : List Joined) (a : Result (Unit {0}) ShardFault) → EndEnds others (λ x. base x || is_joined x ks) (leaving ks a)
+  Holds base leaving = (ks : List Joined) (a : Result (Unit {0}) Refusal) → EndEnds others (λ x. base x || is_joined x ks) (leaving ks a)
 
-  holds_behind : (base : Sub → Bool) (leaving : Leaving) (j : Joined) (e : ShardFault) → Holds base leaving → Holds (λ x. same_sub x j.sub || base x) (λ ks a. leaving (j ∷ ks) (Err e))
+  holds_behind : (base : Sub → Bool) (leaving : Leaving) (j : Joined) (e : Refusal) → Holds base leaving → Holds (λ x. same_sub x j.sub || base x) (λ ks a. leaving (j ∷ ks) (Err e))
   holds_behind base leaving j e n ks a = λ x w. n (j ∷ ks) (Err e) x (or_swap (same_sub x j.sub) (base x) (is_joined x ks) ∙ w)
 
   abbrev Later : List Joined → Type 0
-  Later js = (leaves : Leaving) (g b : Sub → Bool) → Holds b leaves → Within g (λ x. b x || is_joined x js) → X g (ends_topics pid leaves js)
+  Later js = (leaves : Leaving) (g b : Sub → Bool) → Holds b leaves → Within g (λ x. b x || is_joined x js) → X g (ends_topics leaves js)
 
-  ends_lead : (js : List Joined) (leaving : Leaving) (g base : Sub → Bool) → Holds base leaving → Within g (λ x. base x || is_joined x js) → X g (ends_topics pid leaving js)
+  ends_lead : (js : List Joined) (leaving : Leaving) (g base : Sub → Bool) → Holds base leaving → Within g (λ x. base x || is_joined x js) → X g (ends_topics leaving js)
   ends_lead [] leaving g base n w = λ x e. n [] (Ok tt) x (w x e)
   ends_lead (j ∷ js) leaving g base n w = λ a. first (λ leaves f b holds within. ends_lead js leaves f b holds within) a
     where
-      refused : Later js → (f : Sub → Bool) → Within f g → (e : ShardFault) → X f (ends_topics pid (λ ks a. leaving (j ∷ ks) (Err e)) js)
+      refused : Later js → (f : Sub → Bool) → Within f g → (e : Refusal) → X f (ends_topics (λ ks a. leaving (j ∷ ks) (Err e)) js)
       refused later f v e =
           later (λ ks a. leaving (j ∷ ks) (Err e)) f (λ x. same_sub x j.sub || base x) (holds_behind base leaving j e n)
           (λ x q. sym (or_swap (same_sub x j.sub) (base x) (is_joined x js)) ∙ w x (v x q))
 
-      second : Later js → (a : Result (Unit {0}) ShardFault) → X (but_sub j.sub g) (ends_topics pid (staying j a leaving) js)
+      second : Later js → (a : Result (Unit {0}) Refusal) → X (but_sub j.sub g) (ends_topics (staying j a leaving) js)
       second later (Ok u) = later leaving (but_sub j.sub g) base n (λ x q. or_without (base x) (same_sub x j.sub) (is_joined x js) (and_other (g x) (same_sub x j.sub) q) (w x (and_parts (g x) (not (same_sub x j.sub)) q).0))
       second later (Err e) = refused later (but_sub j.sub g) (λ x q. (and_parts (g x) (not (same_sub x j.sub)) q).0) e
 
-      first : Later js → (a : Result (Unit {0}) ShardFault) → X (if_ended g j.sub a) (then_rows pid j.topic (λ r. ends_topics pid (staying j r leaving) js) a)
+      first : Later js → (a : Result (Unit {0}) Refusal) → X (if_ended g j.sub a) (then_rows j.topic (λ r. ends_topics (staying j r leaving) js) a)
       first later (Ok u) = λ a. second later a
-      first later (Err NoSub) = λ a. second later a
-      first later (Err AlreadyTracked) = refused later g (λ x q. q) AlreadyTracked
-      first later (Err NoPresence) = refused later g (λ x q. q) NoPresence
-      first later (Err ClockFull) = refused later g (λ x q. q) ClockFull
-      first later (Err JournalFull) = refused later g (λ x q. q) JournalFull
-      first later (Err BadIncarnation) = refused later g (λ x q. q) BadIncarnation
-      first later (Err OutOfMemory) = refused later g (λ x q. q) OutOfMemory
+      first later (Err (Table NoSub)) = λ a. second later a
+      first later (Err (Table AlreadyTracked)) = refused later g (λ x q. q) (Table AlreadyTracked)
+      first later (Err (Table NoPresence)) = refused later g (λ x q. q) (Table NoPresence)
+      first later (Err (Table ClockFull)) = refused later g (λ x q. q) (Table ClockFull)
+      first later (Err (Table JournalFull)) = refused later g (λ x q. q) (Table JournalFull)
+      first later (Err (Table BadIncarnation)) = refused later g (λ x q. q) (Table BadIncarnation)
+      first later (Err (Table OutOfMemory)) = refused later g (λ x q. q) (Table OutOfMemory)
+      first later (Err OverRation) = refused later g (λ x q. q) OverRation
+      first later (Err NotGranted) = refused later g (λ x q. q) NotGranted
 
 module _ (others : Sub → Bool) (s : InForce) where
-  whole_leads : (t : Option (List ℕ)) → X others s.pid (is_known others s) (ends_cut_short s t)
-  whole_leads None = ends_lead others s.pid s.joined (left_with s None) (is_known others s) others (λ ks a x w. w) (λ x q. q)
+  whole_leads : (t : Option (List ℕ)) → X others (is_known others s) (ends_cut_short s t)
+  whole_leads None = ends_lead others s.joined (left_with s None) (is_known others s) others (λ ks a x w. w) (λ x q. q)
   whole_leads (Some t) = λ a. go a
     where
-      go : (a : Result (Unit {0}) ShardFault) → X others s.pid (is_known others s) (then_topics s t a)
-      go (Ok u) = ends_lead others s.pid s.joined (left_with s None) (is_known others s) others (λ ks a x w. w) (λ x q. q)
-      go (Err e) = ends_lead others s.pid s.joined (λ ks a. left_with s (Some t) ks (Err e)) (is_known others s) others (λ ks a x w. w) (λ x q. q)
+      go : (a : Result (Unit {0}) Refusal) → X others (is_known others s) (then_topics s t a)
+      go (Ok u) = ends_lead others s.joined (left_with s None) (is_known others s) others (λ ks a x w. w) (λ x q. q)
+      go (Err e) = ends_lead others s.joined (λ ks a. left_with s (Some t) ks (Err e)) (is_known others s) others (λ ks a x w. w) (λ x q. q)
 
 pub ends_keep_subs : EndsKeepSubs
 ends_keep_subs others s after old new result n e =
-    let led = script_leads (EndEnds others) (ends s) (is_known others s) old new (record { after = after; answer = e.answer }) (whole_leads others s s.cut_short) n e.played.made e.played.calls e.played.plays in
+    let led = script_leads s.pid (EndEnds others) (ends s) (is_known others s) old new (record { after = after; answer = e.answer }) (whole_leads others s s.cut_short) n e.played.made e.played.calls e.played.plays in
     held_within led.subs (is_known others after) new led.ends led.held

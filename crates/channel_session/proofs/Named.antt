@@ -11,7 +11,8 @@ use Rattle.presence_journal.specs.History.{History}
 use Rattle.presence_journal.specs.Laws.{OnlyNamedLeave}
 use Rattle.presence_journal.proofs.Same.{same_text-true, same_text-refl}
 use Rattle.channel_session_rules.specs.Sub.{Sub}
-use Rattle.channel_session_rules.specs.ShardFault.{ShardFault}
+use Rattle.channel_session_rules.specs.declared.refusal.Refusal.{Refusal}
+use Rattle.channel_session_rules.specs.declared.refusal.Refusal.TheVariants.{OverRation, NotGranted, Table}
 use Rattle.channel_session_rules.specs.ShardFault.TheVariants.{AlreadyTracked, NoPresence, ClockFull, JournalFull, NoSub, BadIncarnation, OutOfMemory}
 use Rattle.channel_session_rules.specs.declared.asked.Asked.{Asked}
 use Rattle.channel_session_rules.specs.declared.asked.Asked.TheVariants.{Nothing, Bad, Wants}
@@ -141,12 +142,12 @@ pub record Led {E : Type 0} (pid : ℕ) (Q : (List ℕ → Bool) → E → Type 
   pub ends : Q topics e
 
 call_stays : (f : List ℕ → Bool) (pid : ℕ) (q : Ask) (a : Answer q) → spoils q a ≡ false → (h : History) → Kept pid (after_call f q a) h → Kept pid f h
-call_stays f pid (track p u k m) (Ok d) e h kept = absurd (cc)
-call_stays f pid (track p u k m) (Err x) e h kept = kept
-call_stays f pid (update p u k m) (Ok d) e h kept = absurd (cc)
-call_stays f pid (update p u k m) (Err x) e h kept = kept
-call_stays f pid (untrack p u k) a e h kept = kept
-call_stays f pid (untrack_all p u) a e h kept = absurd (cc)
+call_stays f pid (track u k m) (Ok d) e h kept = absurd (cc)
+call_stays f pid (track u k m) (Err x) e h kept = kept
+call_stays f pid (update u k m) (Ok d) e h kept = absurd (cc)
+call_stays f pid (update u k m) (Err x) e h kept = kept
+call_stays f pid (untrack u k) a e h kept = kept
+call_stays f pid (untrack_all u) a e h kept = absurd (cc)
 call_stays f pid (list u) a e h kept = kept
 call_stays f pid (get u k) a e h kept = kept
 call_stays f pid (subscribe u) a e h kept = kept
@@ -156,27 +157,27 @@ call_stays f pid (waits u s) a e h kept = kept
 call_stays f pid (shout u d) a e h kept = kept
 
 -- what a call that fits a topic leaves, where rows may stand there anyhow
-pub call_within : (pid : ℕ) (t : List ℕ) (f : List ℕ → Bool) → f t ≡ true → (q : Ask) (a : Answer q) → Fits pid t q → Within (after_call f q a) f
-call_within pid t f here (track p u k m) (Ok d) fits x e = at_topic f here u fits.1 x e
-call_within pid t f here (track p u k m) (Err y) fits x e = e
-call_within pid t f here (update p u k m) (Ok d) fits x e = at_topic f here u fits.1 x e
-call_within pid t f here (update p u k m) (Err y) fits x e = e
-call_within pid t f here (untrack p u k) a fits x e = e
-call_within pid t f here (untrack_all p u) (Ok y) fits x e = and_first (f x) (not (same_text x u)) e
-call_within pid t f here (untrack_all p u) (Err y) fits x e = e
-call_within pid t f here (list u) a fits x e = e
-call_within pid t f here (get u k) a fits x e = e
-call_within pid t f here (subscribe u) a fits x e = e
-call_within pid t f here (take u s n) a fits x e = e
-call_within pid t f here (unsubscribe u s) a fits x e = e
-call_within pid t f here (waits u s) a fits x e = e
-call_within pid t f here (shout u d) a fits x e = e
+pub call_within : (t : List ℕ) (f : List ℕ → Bool) → f t ≡ true → (q : Ask) (a : Answer q) → Fits t q → Within (after_call f q a) f
+call_within t f here (track u k m) (Ok d) fits x e = at_topic f here u fits x e
+call_within t f here (track u k m) (Err y) fits x e = e
+call_within t f here (update u k m) (Ok d) fits x e = at_topic f here u fits x e
+call_within t f here (update u k m) (Err y) fits x e = e
+call_within t f here (untrack u k) a fits x e = e
+call_within t f here (untrack_all u) (Ok y) fits x e = and_first (f x) (not (same_text x u)) e
+call_within t f here (untrack_all u) (Err y) fits x e = e
+call_within t f here (list u) a fits x e = e
+call_within t f here (get u k) a fits x e = e
+call_within t f here (subscribe u) a fits x e = e
+call_within t f here (take u s n) a fits x e = e
+call_within t f here (unsubscribe u s) a fits x e = e
+call_within t f here (waits u s) a fits x e = e
+call_within t f here (shout u d) a fits x e = e
 
-module _ (leave : OnlyNamedLeave) (pid : ℕ) (low : nat_le pid (2 ^ 62) ≡ true) (t : List ℕ) (F : Ask → Type 0) (fits : (q : Ask) → F q → Fits pid t q) where
-  call_of : (f : List ℕ → Bool) (old mid : History) (q : Ask) (c : Call) (a : Answer q) → c ≡ record { ask = q; answer = a } → LocalStep old c.ask c.answer mid → F q → Kept pid f old → Kept pid (after_call f q a) mid
-  call_of f old mid q c a e s is k = call_keeps leave pid low t f old mid q a (fits q is) k (subst (λ x. LocalStep old x.ask x.answer mid) e s)
+module _ (leave : OnlyNamedLeave) (pid : ℕ) (low : nat_le pid (2 ^ 62) ≡ true) (t : List ℕ) (F : Ask → Type 0) (fits : (q : Ask) → F q → Fits t q) where
+  call_of : (f : List ℕ → Bool) (old mid : History) (q : Ask) (c : Call) (a : Answer q) → c ≡ record { ask = q; answer = a } → LocalStep pid old c.ask c.answer mid → F q → Kept pid f old → Kept pid (after_call f q a) mid
+  call_of f old mid q c a e s is k = call_keeps leave pid low t f old mid q a (fits q is) k (subst (λ x. LocalStep pid old x.ask x.answer mid) e s)
 
-  pub script_leads : {E : Type 0} (Q : (List ℕ → Bool) → E → Type 0) (script : Script E) (f : List ℕ → Bool) (old new : History) (e : E) → Leads F Q f script → Kept pid f old → (cs : List Call) → Chained LocalStep old cs new → Plays script cs e → Led pid Q new e
+  pub script_leads : {E : Type 0} (Q : (List ℕ → Bool) → E → Type 0) (script : Script E) (f : List ℕ → Bool) (old new : History) (e : E) → Leads F Q f script → Kept pid f old → (cs : List Call) → Chained (LocalStep pid) old cs new → Plays script cs e → Led pid Q new e
   script_leads Q (done x) f old new e l k [] m p = record { topics = f; kept = subst (λ h. Kept pid f h) (sym m) k; ends = subst (Q f) p l }
   script_leads Q (done x) f old new e l k (c ∷ cs) m p = absurd p
   script_leads Q (ask q next) f old new e l k [] m p = absurd p
@@ -184,7 +185,7 @@ module _ (leave : OnlyNamedLeave) (pid : ℕ) (low : nat_le pid (2 ^ 62) ≡ tru
       script_leads Q (next p.0) (after_call f q p.0) m.0 new e (l.1 p.0) (call_of f old m.0 q c p.0 p.1 m.1 l.0 k) cs m.2 p.2
 
   -- the first calls of a script, where a fault cut it short
-  pub first_calls : {E : Type 0} (Q : (List ℕ → Bool) → E → Type 0) (Rest : Script E → Type 0) (script : Script E) (f g : List ℕ → Bool) → ((q : Ask) (a : Answer q) → F q → Within (after_call g q a) g) → (old new : History) → Leads F Q f script → Kept pid g old → (cs : List Call) → Chained LocalStep old cs new → Begins Rest script cs → Kept pid g new
+  pub first_calls : {E : Type 0} (Q : (List ℕ → Bool) → E → Type 0) (Rest : Script E → Type 0) (script : Script E) (f g : List ℕ → Bool) → ((q : Ask) (a : Answer q) → F q → Within (after_call g q a) g) → (old new : History) → Leads F Q f script → Kept pid g old → (cs : List Call) → Chained (LocalStep pid) old cs new → Begins Rest script cs → Kept pid g new
   first_calls Q Rest script f g here old new l k [] m b = subst (λ h. Kept pid g h) (sym m) k
   first_calls Q Rest (done x) f g here old new l k (c ∷ cs) m b = absurd b
   first_calls Q Rest (ask q next) f g here old new l k (c ∷ cs) m b =
@@ -192,7 +193,7 @@ module _ (leave : OnlyNamedLeave) (pid : ℕ) (low : nat_le pid (2 ^ 62) ≡ tru
       (kept_within pid (after_call g q b.0) g m.0 (here q b.0 l.0) (call_of g old m.0 q c b.0 b.1 m.1 l.0 k)) cs m.2 b.2
 
   -- and where none of them left something behind
-  pub first_calls_stay : {E : Type 0} (Q : (List ℕ → Bool) → E → Type 0) (Rest : Script E → Type 0) (script : Script E) (f g : List ℕ → Bool) (old new : History) → Leads F Q f script → Kept pid g old → (cs : List Call) → some_spoils cs ≡ false → Chained LocalStep old cs new → Begins Rest script cs → Kept pid g new
+  pub first_calls_stay : {E : Type 0} (Q : (List ℕ → Bool) → E → Type 0) (Rest : Script E → Type 0) (script : Script E) (f g : List ℕ → Bool) (old new : History) → Leads F Q f script → Kept pid g old → (cs : List Call) → some_spoils cs ≡ false → Chained (LocalStep pid) old cs new → Begins Rest script cs → Kept pid g new
   first_calls_stay Q Rest script f g old new l k [] s m b = subst (λ h. Kept pid g h) (sym m) k
   first_calls_stay Q Rest (done x) f g old new l k (c ∷ cs) s m b = absurd b
   first_calls_stay Q Rest (ask q next) f g old new l k (c ∷ cs) s m b =
@@ -269,22 +270,24 @@ IsLike o f s = (s.pid ≡ o.pid) × (s.cut_short ≡ o.cut_short) × Within f (n
 
 module _ (o : InForce) (m : Message) where
   abbrev L : (List ℕ → Bool) → Script End → Type 0
-  L f x = Leads (Fits o.pid m.topic) (TextEnds o) f x
+  L f x = Leads (Fits m.topic) (TextEnds o) f x
 
-  unsaid_ends : (f : List ℕ → Bool) (e : ShardFault) → TextEnds o f (unsaid e)
-  unsaid_ends f AlreadyTracked = tt
-  unsaid_ends f NoPresence = tt
-  unsaid_ends f ClockFull = tt
-  unsaid_ends f JournalFull = tt
-  unsaid_ends f NoSub = tt
-  unsaid_ends f BadIncarnation = tt
-  unsaid_ends f OutOfMemory = tt
+  unsaid_ends : (f : List ℕ → Bool) (e : Refusal) → TextEnds o f (unsaid e)
+  unsaid_ends f (Table AlreadyTracked) = tt
+  unsaid_ends f (Table NoPresence) = tt
+  unsaid_ends f (Table ClockFull) = tt
+  unsaid_ends f (Table JournalFull) = tt
+  unsaid_ends f (Table NoSub) = tt
+  unsaid_ends f (Table BadIncarnation) = tt
+  unsaid_ends f (Table OutOfMemory) = tt
+  unsaid_ends f OverRation = tt
+  unsaid_ends f NotGranted = tt
 
-  said_ends : (f : List ℕ → Bool) (answer : List ℕ → End) → ((reason : List ℕ) → TextEnds o f (answer reason)) → (e : ShardFault) (r : Option (List ℕ)) → TextEnds o f (said answer e r)
+  said_ends : (f : List ℕ → Bool) (answer : List ℕ → End) → ((reason : List ℕ) → TextEnds o f (answer reason)) → (e : Refusal) (r : Option (List ℕ)) → TextEnds o f (said answer e r)
   said_ends f answer h e (Some r) = h r
   said_ends f answer h e None = unsaid_ends f e
 
-  replied_ends : {A : Type 0} (f : List ℕ → Bool) (s : InForce) → IsLike o f s → (r : Option MsgRef) (reason : ShardFault → Option (List ℕ)) (reply : A → List Said) (a : Result A ShardFault) → TextEnds o f (replied s r m reason reply a)
+  replied_ends : {A : Type 0} (f : List ℕ → Bool) (s : InForce) → IsLike o f s → (r : Option MsgRef) (reason : Refusal → Option (List ℕ)) (reply : A → List Said) (a : Result A Refusal) → TextEnds o f (replied s r m reason reply a)
   replied_ends f s like r reason reply (Ok x) = like
   replied_ends f s like r reason reply (Err e) = said_ends f _ (λ t. like) e (reason e)
 
@@ -294,32 +297,32 @@ module _ (o : InForce) (m : Message) where
     like_here : IsLike o (and_at m.topic f) o
     like_here = (refl, refl, λ x w. or_either (same_text x m.topic) (f x) (names o x) (λ s. ap (names o) (same_text-true x m.topic s) ∙ here) (λ g. like.2 x g) w)
 
-    event_leads : (kind : ℕ) (r : Option MsgRef) (event : TopicEvent) → L f (on_event o.pid kind o r m event)
+    event_leads : (kind : ℕ) (r : Option MsgRef) (event : TopicEvent) → L f (on_event kind o r m event)
     event_leads kind r events_are.Ping = like
     event_leads kind r events_are.Shout = (tt, λ a. replied_ends f o like r (full_reason true) (λ u. []) a)
     event_leads kind r events_are.Track = go (asked m.payload)
       where
-        answered : (a : Result Dot ShardFault) → TextEnds o (cond (is_ok a) (and_at m.topic f) f) (Rules.after_track o r m a)
+        answered : (a : Result Dot Refusal) → TextEnds o (cond (is_ok a) (and_at m.topic f) f) (Rules.after_track o r m a)
         answered (Ok d) = like_here
         answered (Err e) = replied_ends f o like r (track_reason true) (λ (d : Dot). message (Rules.ok r m (Rules.told_ref d)) ∷ []) (Err e)
 
-        go : (a : Asked) → L f (Rules.on_track o.pid o r m a)
-        go (Wants key meta) = ((refl, refl), λ a. answered a)
+        go : (a : Asked) → L f (Rules.on_track o r m a)
+        go (Wants key meta) = (refl, λ a. answered a)
         go Nothing = like
         go Bad = like
     event_leads kind r events_are.Update = go (asked m.payload)
       where
-        answered : (a : Result Dot ShardFault) → TextEnds o (cond (is_ok a) (and_at m.topic f) f) (Rules.after_update o r m a)
+        answered : (a : Result Dot Refusal) → TextEnds o (cond (is_ok a) (and_at m.topic f) f) (Rules.after_update o r m a)
         answered (Ok d) = like_here
         answered (Err e) = replied_ends f o like r update_reason (λ (d : Dot). message (Rules.ok r m (Rules.told_ref d)) ∷ []) (Err e)
 
-        go : (a : Asked) → L f (Rules.on_update o.pid o r m a)
-        go (Wants key meta) = ((refl, refl), λ a. answered a)
+        go : (a : Asked) → L f (Rules.on_update o r m a)
+        go (Wants key meta) = (refl, λ a. answered a)
         go Nothing = like
         go Bad = like
     event_leads kind r events_are.Untrack = go (key_asked m.payload)
       where
-        go : (k : Option (List ℕ)) → L f (Rules.on_untrack o.pid o r m k)
+        go : (k : Option (List ℕ)) → L f (Rules.on_untrack o r m k)
         go (Some key) = (tt, λ a. replied_ends f o like r (full_reason true) (λ u. message (Rules.ok r m Rules.empty) ∷ []) a)
         go None = like
     event_leads kind r events_are.List = (tt, λ a. replied_ends f o like r (full_reason true) (λ rows. listed kind r m rows ∷ []) a)
@@ -336,31 +339,25 @@ module _ (o : InForce) (m : Message) where
     joined_like : (f : List ℕ → Bool) → Within f (and_at m.topic (names s)) → (sub : Sub) → IsLike o f (joins kind s m sub)
     joined_like f w sub = (pid, cut, λ x e. join_names s (joins kind s m sub) m.topic _ refl refl refl x (w x e))
 
-    subscribe_leads : (f : List ℕ → Bool) → Within f (names s) → (first : Bool) (response : Data) → L f (subscribes first before kind s m response)
+    subscribe_leads : (f : List ℕ → Bool) → Within f (names s) → (first : Bool) (response : Data) → L f (subscribes (Some first) before kind s m response)
     subscribe_leads f w first response = (tt, λ a. go a)
       where
-        go : (a : Result Sub ShardFault) → TextEnds o f (Rules.after_subscribe first before kind s m response a)
+        go : (a : Result Sub Refusal) → TextEnds o f (Rules.after_subscribe (Some first) before kind s m response a)
         go (Ok sub) = joined_like f (λ x e. or_behind (same_text x m.topic) (names s x) (w x e)) sub
         go (Err e) = said_ends f (refuses before s m) (λ reason. (pid, cut, w)) e (full_reason first e)
 
     -- behind an accepted track nothing but a fault refuses
-    subscribe_later : (f : List ℕ → Bool) → Within f (and_at m.topic (names s)) → (response : Data) → L f (subscribes false before kind s m response)
+    subscribe_later : (f : List ℕ → Bool) → Within f (and_at m.topic (names s)) → (response : Data) → L f (subscribes None before kind s m response)
     subscribe_later f w response = (tt, λ a. go a)
       where
-        go : (a : Result Sub ShardFault) → TextEnds o f (Rules.after_subscribe false before kind s m response a)
+        go : (a : Result Sub Refusal) → TextEnds o f (Rules.after_subscribe None before kind s m response a)
         go (Ok sub) = joined_like f w sub
-        go (Err AlreadyTracked) = tt
-        go (Err NoPresence) = tt
-        go (Err ClockFull) = tt
-        go (Err JournalFull) = tt
-        go (Err NoSub) = tt
-        go (Err BadIncarnation) = tt
-        go (Err OutOfMemory) = tt
+        go (Err e) = unsaid_ends f e
 
-    track_leads : (f : List ℕ → Bool) → Within f (names s) → (first : Bool) (key : List ℕ) (meta : Data) → L f (tracks o.pid first before kind s m key meta)
-    track_leads f w first key meta = ((refl, refl), λ a. go a)
+    track_leads : (f : List ℕ → Bool) → Within f (names s) → (first : Bool) (key : List ℕ) (meta : Data) → L f (tracks first before kind s m key meta)
+    track_leads f w first key meta = (refl, λ a. go a)
       where
-        go : (a : Result Dot ShardFault) → L (cond (is_ok a) (and_at m.topic f) f) (Rules.then_subscribe first before kind s m a)
+        go : (a : Result Dot Refusal) → L (cond (is_ok a) (and_at m.topic f) f) (Rules.then_subscribe first before kind s m a)
         go (Ok d) = subscribe_later (and_at m.topic f) (λ x e. or_either (same_text x m.topic) (f x) (same_text x m.topic || names s x) (λ q. ap (λ b. b || names s x) q) (λ q. or_behind (same_text x m.topic) (names s x) (w x q)) e) (Rules.told_ref d)
         go (Err e) = said_ends f (refuses before s m) (λ reason. (pid, cut, w)) e (track_reason first e)
 
@@ -368,26 +365,26 @@ module _ (o : InForce) (m : Message) where
     either_leads f true x y p q = p
     either_leads f false x y p q = q
 
-    asked_leads : (f : List ℕ → Bool) → Within f (names s) → (count : ℕ) (first : Bool) (a : Asked) → L f (join_asked o.pid count first before kind s m a)
+    asked_leads : (f : List ℕ → Bool) → Within f (names s) → (count : ℕ) (first : Bool) (a : Asked) → L f (join_asked count first before kind s m a)
     asked_leads f w count first Bad = (pid, cut, w)
     asked_leads f w count first Nothing =
         let like : IsLike o f s = (pid, cut, w) in
-        either_leads f (nat_le MAX_TOPICS count) (done (refuses before s m (codes "too many topics"))) (subscribes first before kind s m Rules.empty) like (subscribe_leads f w first Rules.empty)
+        either_leads f (nat_le MAX_TOPICS count) (done (refuses before s m (codes "too many topics"))) (subscribes (Some first) before kind s m Rules.empty) like (subscribe_leads f w first Rules.empty)
     asked_leads f w count first (Wants key meta) =
         let like : IsLike o f s = (pid, cut, w) in
-        either_leads f (nat_le MAX_TOPICS count) (done (refuses before s m (codes "too many topics"))) (tracks o.pid first before kind s m key meta) like (track_leads f w first key meta)
+        either_leads f (nat_le MAX_TOPICS count) (done (refuses before s m (codes "too many topics"))) (tracks first before kind s m key meta) like (track_leads f w first key meta)
 
   -- ---- ends of joins
 
-  ended_leads : (f : List ℕ → Bool) (sub : Sub) (next : Script End) → L (and_not m.topic f) next → L f (ended o.pid m.topic sub next)
+  ended_leads : (f : List ℕ → Bool) (sub : Sub) (next : Script End) → L (and_not m.topic f) next → L f (ended m.topic sub next)
   ended_leads f sub next l = (tt, λ a. first a)
     where
-      second : (a : Result (Unit {0}) ShardFault) → L (cond (is_ok a) (and_not m.topic f) f) (then_next next a)
+      second : (a : Result (Unit {0}) Refusal) → L (cond (is_ok a) (and_not m.topic f) f) (then_next next a)
       second (Ok u) = l
       second (Err e) = unsaid_ends f e
 
-      first : (a : Result (Unit {0}) ShardFault) → L f (then_next (ask (untrack_all o.pid m.topic) (then_next next)) a)
-      first (Ok u) = (refl, λ a. second a)
+      first : (a : Result (Unit {0}) Refusal) → L f (then_next (ask (untrack_all m.topic) (then_next next)) a)
+      first (Ok u) = (tt, λ a. second a)
       first (Err e) = unsaid_ends f e
 
   -- ---- the whole table
@@ -395,19 +392,19 @@ module _ (o : InForce) (m : Message) where
   same_names : IsLike o (names o) o
   same_names = (refl, refl, λ x e. e)
 
-  leave_leads : (j : Option Joined) → L (names o) (on_leave o.pid o j m)
+  leave_leads : (j : Option Joined) → L (names o) (on_leave o j m)
   leave_leads (Some j) = ended_leads (names o) j.sub _ (refl, refl, left_names o m.topic)
   leave_leads None = same_names
 
-  join_leads : (count kind : ℕ) (j : Option Joined) (a : Asked) → L (names o) (on_join o.pid count kind o j m a)
+  join_leads : (count kind : ℕ) (j : Option Joined) (a : Asked) → L (names o) (on_join count kind o j m a)
   join_leads count kind None a = asked_leads o refl refl [] kind (names o) (λ x e. e) count true a
   join_leads count kind (Some j) a = ended_leads (names o) j.sub _ (asked_leads (left o m.topic) refl refl (message (closing j.join_ref m.topic) ∷ []) kind (and_not m.topic (names o)) (left_names o m.topic) (count - 1) false a)
 
-  topic_leads : (j : Option Joined) → ((k : Joined) → j ≡ Some k → names o m.topic ≡ true) → (event : TopicEvent) → L (names o) (on_topic o.pid o j m event)
+  topic_leads : (j : Option Joined) → ((k : Joined) → j ≡ Some k → names o m.topic ≡ true) → (event : TopicEvent) → L (names o) (on_topic o j m event)
   topic_leads (Some j) here event = event_leads (names o) same_names (here j refl) j.kind j.join_ref event
   topic_leads None here event = same_names
 
-  kind_leads : (phoenix : Bool) (route : Option ℕ) (count : ℕ) (j : Option Joined) → ((k : Joined) → j ≡ Some k → names o m.topic ≡ true) → (kind : EventKind) → L (names o) (by_kind phoenix route o.pid count o j m kind)
+  kind_leads : (phoenix : Bool) (route : Option ℕ) (count : ℕ) (j : Option Joined) → ((k : Joined) → j ≡ Some k → names o m.topic ≡ true) → (kind : EventKind) → L (names o) (by_kind phoenix route count o j m kind)
   kind_leads true route count j here kinds_are.Heartbeat = same_names
   kind_leads false route count j here kinds_are.Heartbeat = topic_leads j here events_are.Unknown
   kind_leads phoenix None count j here kinds_are.Join = same_names
@@ -459,9 +456,9 @@ failed_names s t none x w = go (find t s.joined) (λ k e. found_named t s.joined
         (λ q. or_first_of (is_named x (topics s.joined)) (same_text x t || false) (sym (named_more x (topics s.joined) []) ∙ was None none q)) w
 
 module _ (leave : OnlyNamedLeave) (routes : List (List ℕ × ℕ)) (s after : InForce) (old new : History) (n : NamesItsTopics s old) (works : s.failed ≡ false) where
-  answered : (m : Message) (texts : List Said) → MessageRan LocalStep routes s m old new after (Ok texts) → NamesItsTopics after new
+  answered : (m : Message) (texts : List Said) → MessageRan (LocalStep s.pid) routes s m old new after (Ok texts) → NamesItsTopics after new
   answered m texts ran =
-      let led = script_leads leave s.pid n.pid m.topic (Fits s.pid m.topic) (λ q f. f) (TextEnds s) (rules routes s m) (names s) old new (answers texts after) (rules_lead s m routes) (kept_names s old n) ran.0.made ran.0.calls ran.0.ends in
+      let led = script_leads leave s.pid n.pid m.topic (Fits m.topic) (λ q f. f) (TextEnds s) (rules routes s m) (names s) old new (answers texts after) (rules_lead s m routes) (kept_names s old n) ran.0.made ran.0.calls ran.0.ends in
       names_them s after led.topics new n.pid led.ends.0 led.ends.2 (λ _. led.ends.1 ∙ n.cut_short works) led.kept
 
   -- the calls up to a fault
@@ -472,7 +469,7 @@ module _ (leave : OnlyNamedLeave) (routes : List (List ℕ × ℕ)) (s after : I
       go kinds.OutOfMemory b = (MayWant, b.0)
       go kinds.ShardFull p = ((λ _. Unit {0}), plays_begin (rules routes s m) made full p)
 
-  faulted : (m : Message) (fault : SessionFault) → Faulted LocalStep (rules routes s m) m.topic s old new after fault → NamesItsTopics after new
+  faulted : (m : Message) (fault : SessionFault) → Faulted (LocalStep s.pid) (rules routes s m) m.topic s old new after fault → NamesItsTopics after new
   faulted m fault f = go f.stop.spoiled refl f.left
     where
       made : List Call
@@ -484,12 +481,12 @@ module _ (leave : OnlyNamedLeave) (routes : List (List ℕ × ℕ)) (s after : I
       go : (b : Bool) → f.stop.spoiled ≡ b → after ≡ (if b then failed_at s m.topic else s) → NamesItsTopics after new
       go true e is = subst (λ x. NamesItsTopics x new) (sym is)
           (names_them s (failed_at s m.topic) (and_at m.topic (names s)) new n.pid refl (failed_names s m.topic (n.cut_short works)) (λ q. absurd (cc))
-          (first_calls leave s.pid n.pid m.topic (Fits s.pid m.topic) (λ q f. f) (TextEnds s) first.0 (rules routes s m) (names s) (and_at m.topic (names s))
-          (λ q a fits. call_within s.pid m.topic (and_at m.topic (names s)) (ap (λ b. b || names s m.topic) (same_text-refl m.topic)) q a fits) old new (rules_lead s m routes)
+          (first_calls leave s.pid n.pid m.topic (Fits m.topic) (λ q f. f) (TextEnds s) first.0 (rules routes s m) (names s) (and_at m.topic (names s))
+          (λ q a fits. call_within m.topic (and_at m.topic (names s)) (ap (λ b. b || names s m.topic) (same_text-refl m.topic)) q a fits) old new (rules_lead s m routes)
           (kept_within s.pid (names s) (and_at m.topic (names s)) old (λ x q. or_behind (same_text x m.topic) (names s x) q) (kept_names s old n)) made f.calls.calls first.1))
       go false e is = subst (λ x. NamesItsTopics x new) (sym is)
           (names_them s s (names s) new n.pid refl (λ x q. q) n.cut_short
-          (first_calls_stay leave s.pid n.pid m.topic (Fits s.pid m.topic) (λ q f. f) (TextEnds s) first.0 (rules routes s m) (names s) (names s) old new (rules_lead s m routes) (kept_names s old n) made (sym f.calls.ends.1 ∙ e) f.calls.calls first.1))
+          (first_calls_stay leave s.pid n.pid m.topic (Fits m.topic) (λ q f. f) (TextEnds s) first.0 (rules routes s m) (names s) (names s) old new (rules_lead s m routes) (kept_names s old n) made (sym f.calls.ends.1 ∙ e) f.calls.calls first.1))
 
 pub texts_keep_names : OnlyNamedLeave → TextsKeepNames
 texts_keep_names leave routes s after reading old new (Ok texts) n e = answered leave routes s after old new n e.0 e.1.message texts e.1.ran
@@ -506,26 +503,26 @@ IsQuiet (waits u s) = Unit {0}
 IsQuiet (take u s n) = Unit {0}
 IsQuiet _ = ⊥
 
-quiet_fits : (pid : ℕ) (q : Ask) → IsQuiet q → Fits pid [] q
-quiet_fits pid (waits u s) e = tt
-quiet_fits pid (take u s n) e = tt
-quiet_fits pid (track p u k m) e = absurd e
-quiet_fits pid (update p u k m) e = absurd e
-quiet_fits pid (untrack p u k) e = absurd e
-quiet_fits pid (untrack_all p u) e = absurd e
-quiet_fits pid (list u) e = absurd e
-quiet_fits pid (get u k) e = absurd e
-quiet_fits pid (subscribe u) e = absurd e
-quiet_fits pid (unsubscribe u s) e = absurd e
-quiet_fits pid (shout u d) e = absurd e
+quiet_fits : (q : Ask) → IsQuiet q → Fits [] q
+quiet_fits (waits u s) e = tt
+quiet_fits (take u s n) e = tt
+quiet_fits (track u k m) e = absurd e
+quiet_fits (update u k m) e = absurd e
+quiet_fits (untrack u k) e = absurd e
+quiet_fits (untrack_all u) e = absurd e
+quiet_fits (list u) e = absurd e
+quiet_fits (get u k) e = absurd e
+quiet_fits (subscribe u) e = absurd e
+quiet_fits (unsubscribe u s) e = absurd e
+quiet_fits (shout u d) e = absurd e
 
 quiet_within : (g : List ℕ → Bool) (q : Ask) (a : Answer q) → IsQuiet q → Within (after_call g q a) g
 quiet_within g (waits u s) a e x w = w
 quiet_within g (take u s n) a e x w = w
-quiet_within g (track p u k m) a e x w = absurd e
-quiet_within g (update p u k m) a e x w = absurd e
-quiet_within g (untrack p u k) a e x w = absurd e
-quiet_within g (untrack_all p u) a e x w = absurd e
+quiet_within g (track u k m) a e x w = absurd e
+quiet_within g (update u k m) a e x w = absurd e
+quiet_within g (untrack u k) a e x w = absurd e
+quiet_within g (untrack_all u) a e x w = absurd e
 quiet_within g (list u) a e x w = absurd e
 quiet_within g (get u k) a e x w = absurd e
 quiet_within g (subscribe u) a e x w = absurd e
@@ -550,9 +547,9 @@ module _ (s : InForce) (f : List ℕ → Bool) where
       go next (Err e) = tt
 
 module _ (leave : OnlyNamedLeave) (max : ℕ) (s : InForce) (old new : History) (n : NamesItsTopics s old) where
-  delivered_kept : (Rest : Script End → Type 0) (made : List Call) → Chained LocalStep old made new → Begins Rest (delivers max s s.joined []) made → Kept s.pid (names s) new
+  delivered_kept : (Rest : Script End → Type 0) (made : List Call) → Chained (LocalStep s.pid) old made new → Begins Rest (delivers max s s.joined []) made → Kept s.pid (names s) new
   delivered_kept Rest made calls begins =
-      first_calls leave s.pid n.pid [] IsQuiet (quiet_fits s.pid) (λ g e. Unit {0}) Rest (delivers max s s.joined []) (names s) (names s) (quiet_within (names s)) old new
+      first_calls leave s.pid n.pid [] IsQuiet quiet_fits (λ g e. Unit {0}) Rest (delivers max s s.joined []) (names s) (names s) (quiet_within (names s)) old new
       (delivers_lead s (names s) max s.joined []) (kept_names s old n) made calls begins
 
   named_still : Kept s.pid (names s) new → NamesItsTopics s new
@@ -561,14 +558,14 @@ module _ (leave : OnlyNamedLeave) (max : ℕ) (s : InForce) (old new : History) 
   named_failing : Kept s.pid (names s) new → NamesItsTopics (failing s) new
   named_failing k = names_them s (failing s) (names s) new n.pid refl (λ x q. q) (λ q. absurd (cc)) k
 
-  cut_kept : (stop : Stop) (made : List Call) → Chained LocalStep old made new → EndsSo (delivers max s s.joined []) made (Err stop) → Kept s.pid (names s) new
+  cut_kept : (stop : Stop) (made : List Call) → Chained (LocalStep s.pid) old made new → EndsSo (delivers max s s.joined []) made (Err stop) → Kept s.pid (names s) new
   cut_kept stop made calls e = go stop.kind e.0
     where
       go : (kind : StopKind) → Stopped kind (delivers max s s.joined []) made → Kept s.pid (names s) new
       go kinds.OutOfMemory b = delivered_kept MayWant made calls b.0
       go kinds.ShardFull p = delivered_kept (λ _. Unit {0}) made calls (plays_begin (delivers max s s.joined []) made full p)
 
-  cut_names : (after : InForce) (fault : SessionFault) → CutShort LocalStep (delivery max s) s old new after fault → NamesItsTopics after new
+  cut_names : (after : InForce) (fault : SessionFault) → CutShort (LocalStep s.pid) (delivery max s) s old new after fault → NamesItsTopics after new
   cut_names after fault f = go f.stop.spoiled f.left
     where
       go : (b : Bool) → after ≡ (if b then failing s else s) → NamesItsTopics after new
@@ -589,54 +586,56 @@ EndEnds pid f e = (e.after.pid ≡ pid) × (e.after.failed ≡ false → e.after
 
 module _ (pid : ℕ) where
   abbrev X : (List ℕ → Bool) → Script Ended → Type 0
-  X f x = Leads (Fits pid []) (EndEnds pid) f x
+  X f x = Leads (Fits []) (EndEnds pid) f x
 
   -- what comes of topics that stay names them, and these besides
   abbrev Names : (List ℕ → Bool) → Leaving → Type 0
-  Names base leaving = (ks : List Joined) (a : Result (Unit {0}) ShardFault) → EndEnds pid (λ x. base x || is_named x (topics ks)) (leaving ks a)
+  Names base leaving = (ks : List Joined) (a : Result (Unit {0}) Refusal) → EndEnds pid (λ x. base x || is_named x (topics ks)) (leaving ks a)
 
-  names_behind : (base : List ℕ → Bool) (leaving : Leaving) (j : Joined) (e : ShardFault) → Names base leaving → Names (λ x. same_text x j.topic || base x) (λ ks a. leaving (j ∷ ks) (Err e))
+  names_behind : (base : List ℕ → Bool) (leaving : Leaving) (j : Joined) (e : Refusal) → Names base leaving → Names (λ x. same_text x j.topic || base x) (λ ks a. leaving (j ∷ ks) (Err e))
   names_behind base leaving j e n ks a =
       let all = n (j ∷ ks) (Err e) in
       (all.0, all.1, λ x w. all.2 x (or_swap (same_text x j.topic) (base x) (is_named x (topics ks)) ∙ w))
 
   abbrev Later : List Joined → Type 0
-  Later js = (leaves : Leaving) (g b : List ℕ → Bool) → Names b leaves → Within g (λ x. b x || is_named x (topics js)) → X g (ends_topics pid leaves js)
+  Later js = (leaves : Leaving) (g b : List ℕ → Bool) → Names b leaves → Within g (λ x. b x || is_named x (topics js)) → X g (ends_topics leaves js)
 
-  ends_lead : (js : List Joined) (leaving : Leaving) (f base : List ℕ → Bool) → Names base leaving → Within f (λ x. base x || is_named x (topics js)) → X f (ends_topics pid leaving js)
+  ends_lead : (js : List Joined) (leaving : Leaving) (f base : List ℕ → Bool) → Names base leaving → Within f (λ x. base x || is_named x (topics js)) → X f (ends_topics leaving js)
   ends_lead [] leaving f base n w = let all = n [] (Ok tt) in (all.0, all.1, λ x e. all.2 x (w x e))
   ends_lead (j ∷ js) leaving f base n w = (tt, λ a. first (λ leaves g b names within. ends_lead js leaves g b names within) a)
     where
-      refused : Later js → (e : ShardFault) → X f (ends_topics pid (λ ks a. leaving (j ∷ ks) (Err e)) js)
+      refused : Later js → (e : Refusal) → X f (ends_topics (λ ks a. leaving (j ∷ ks) (Err e)) js)
       refused later e =
           later (λ ks a. leaving (j ∷ ks) (Err e)) f (λ x. same_text x j.topic || base x) (names_behind base leaving j e n)
           (λ x q. sym (or_swap (same_text x j.topic) (base x) (is_named x (topics js))) ∙ w x q)
 
-      second : Later js → (a : Result (Unit {0}) ShardFault) → X (cond (is_ok a) (and_not j.topic f) f) (ends_topics pid (staying j a leaving) js)
+      second : Later js → (a : Result (Unit {0}) Refusal) → X (cond (is_ok a) (and_not j.topic f) f) (ends_topics (staying j a leaving) js)
       second later (Ok u) = later leaving (and_not j.topic f) base n (λ x q. or_without (base x) (same_text x j.topic) (is_named x (topics js)) (and_other (f x) (same_text x j.topic) q) (w x (and_first (f x) (not (same_text x j.topic)) q)))
       second later (Err e) = refused later e
 
-      first : Later js → (a : Result (Unit {0}) ShardFault) → X f (then_rows pid j.topic (λ r. ends_topics pid (staying j r leaving) js) a)
-      first later (Ok u) = (refl, λ a. second later a)
-      first later (Err NoSub) = (refl, λ a. second later a)
-      first later (Err AlreadyTracked) = refused later AlreadyTracked
-      first later (Err NoPresence) = refused later NoPresence
-      first later (Err ClockFull) = refused later ClockFull
-      first later (Err JournalFull) = refused later JournalFull
-      first later (Err BadIncarnation) = refused later BadIncarnation
-      first later (Err OutOfMemory) = refused later OutOfMemory
+      first : Later js → (a : Result (Unit {0}) Refusal) → X f (then_rows j.topic (λ r. ends_topics (staying j r leaving) js) a)
+      first later (Ok u) = (tt, λ a. second later a)
+      first later (Err (Table NoSub)) = (tt, λ a. second later a)
+      first later (Err (Table AlreadyTracked)) = refused later (Table AlreadyTracked)
+      first later (Err (Table NoPresence)) = refused later (Table NoPresence)
+      first later (Err (Table ClockFull)) = refused later (Table ClockFull)
+      first later (Err (Table JournalFull)) = refused later (Table JournalFull)
+      first later (Err (Table BadIncarnation)) = refused later (Table BadIncarnation)
+      first later (Err (Table OutOfMemory)) = refused later (Table OutOfMemory)
+      first later (Err OverRation) = refused later OverRation
+      first later (Err NotGranted) = refused later NotGranted
 
 module _ (s : InForce) where
   -- none is named beside the topics that stay
   plain_names : Names s.pid (λ x. false) (left_with s None)
   plain_names ks a = (refl, λ q. refl, λ x w. named_more x (topics ks) [] ∙ ap (λ b. b || false) w)
 
-  cut_left : (t : List ℕ) (e : ShardFault) → Names s.pid (λ x. same_text x t) (λ ks a. left_with s (Some t) ks (Err e))
+  cut_left : (t : List ℕ) (e : Refusal) → Names s.pid (λ x. same_text x t) (λ ks a. left_with s (Some t) ks (Err e))
   cut_left t e ks a = (refl, λ q. absurd (cc), λ x w. named_more x (topics ks) (t ∷ []) ∙ or_turn (same_text x t) (is_named x (topics ks)) w)
 
   whole_leads : (o : Option (List ℕ)) → X s.pid (λ x. is_named x (topics s.joined ++ option_to_list o)) (ends_cut_short s o)
   whole_leads None = ends_lead s.pid s.joined (left_with s None) (λ x. is_named x (topics s.joined ++ [])) (λ x. false) plain_names (λ x q. or_nothing (is_named x (topics s.joined)) (sym (named_more x (topics s.joined) []) ∙ q))
-  whole_leads (Some t) = (refl, λ a. go a)
+  whole_leads (Some t) = (tt, λ a. go a)
     where
       f : List ℕ → Bool
       f x = is_named x (topics s.joined ++ t ∷ [])
@@ -644,7 +643,7 @@ module _ (s : InForce) where
       split : (x : List ℕ) → f x ≡ true → (is_named x (topics s.joined) || (same_text x t || false)) ≡ true
       split x q = sym (named_more x (topics s.joined) (t ∷ [])) ∙ q
 
-      go : (a : Result (Unit {0}) ShardFault) → X s.pid (cond (is_ok a) (and_not t f) f) (then_topics s t a)
+      go : (a : Result (Unit {0}) Refusal) → X s.pid (cond (is_ok a) (and_not t f) f) (then_topics s t a)
       go (Ok u) = ends_lead s.pid s.joined (left_with s None) (and_not t f) (λ x. false) plain_names
           (λ x q. or_drop (is_named x (topics s.joined)) (same_text x t) (and_other (f x) (same_text x t) q) (split x (and_first (f x) (not (same_text x t)) q)))
       go (Err e) = ends_lead s.pid s.joined (λ ks a. left_with s (Some t) ks (Err e)) f (λ x. same_text x t) (cut_left t e)
@@ -652,5 +651,5 @@ module _ (s : InForce) where
 
 pub ends_keep_names : OnlyNamedLeave → EndsKeepNames
 ends_keep_names leave s after old new result n e =
-    let led = script_leads leave s.pid n.pid [] (Fits s.pid []) (λ q f. f) (EndEnds s.pid) (ends s) (names s) old new (record { after = after; answer = e.answer }) (whole_leads s s.cut_short) (kept_names s old n) e.played.made e.played.calls e.played.plays in
+    let led = script_leads leave s.pid n.pid [] (Fits []) (λ q f. f) (EndEnds s.pid) (ends s) (names s) old new (record { after = after; answer = e.answer }) (whole_leads s s.cut_short) (kept_names s old n) e.played.made e.played.calls e.played.plays in
     names_them s after led.topics new n.pid led.ends.0 led.ends.2 led.ends.1 led.kept

@@ -14,10 +14,13 @@ use Rattle.channel_session_rules.specs.Sub.{Sub}
 use Rattle.channel_session_rules.specs.Steps.{Stepped, Made, Answers, is_found, slot_of}
 use Rattle.channel_session_rules.specs.ShardFault.{ShardFault}
 use Rattle.channel_session_rules.specs.ShardFault.TheVariants.{AlreadyTracked, NoPresence, ClockFull, JournalFull, NoSub, BadIncarnation, OutOfMemory}
-use Rattle.channel_session_rules.specs.Asks.{Ask, Answer, Call, enters, some_enters, track, update, untrack, untrack_all, list, get, subscribe, take, unsubscribe, waits, shout}
+use Rattle.channel_session_rules.specs.Asks.{Ask, Given, Answer, Call, enters, some_enters, track, update, untrack, untrack_all, list, get, subscribe, take, unsubscribe, waits, shout}
 use Rattle.channel_session_rules.specs.Asks.{Made as Chained}
 use Rattle.channel_session_rules.specs.Script.{Script, done, ask, Plays}
-use Rattle.channel_session_laws.specs.Local.{LocalStep, IsNext}
+use Rattle.channel_session_rules.specs.Seen.{in_table}
+use Rattle.channel_session_rules.specs.declared.refusal.Refusal.{Refusal}
+use Rattle.channel_session_rules.specs.declared.refusal.Refusal.TheVariants.{OverRation, NotGranted, Table}
+use Rattle.channel_session_laws.specs.Local.{LocalStep, TableStep, IsNext}
 use Rattle.channel_session.specs.Subscribed.{same_sub}
 use Rattle.channel_session.proofs.Behind.{Fewer, unsubscribe_fewer, over_after, over_now, unknown_is_over, either, same_some}
 
@@ -111,14 +114,14 @@ module _ (g : Sub → Bool) (old new : History) (k : Held g old) where
 -- ---- calls
 
 -- those that may stand after a subscription
-abbrev pub if_made : (Sub → Bool) → Result Sub ShardFault → Sub → Bool
+abbrev pub if_made : (Sub → Bool) → Result Sub Refusal → Sub → Bool
 if_made g (Ok sub) = and_sub sub g
 if_made g (Err e) = g
 
 -- and after the end of one: an unknown subscriber is nowhere
-abbrev pub if_ended : (Sub → Bool) → Sub → Result (Unit {0}) ShardFault → Sub → Bool
+abbrev pub if_ended : (Sub → Bool) → Sub → Result (Unit {0}) Refusal → Sub → Bool
 if_ended g sub (Ok u) = but_sub sub g
-if_ended g sub (Err NoSub) = but_sub sub g
+if_ended g sub (Err (Table NoSub)) = but_sub sub g
 if_ended g sub (Err e) = g
 
 -- the subscribers that may stand after a call
@@ -127,15 +130,17 @@ after_call g (subscribe t) a = if_made g a
 after_call g (unsubscribe t sub) a = if_ended g sub a
 after_call g _ a = g
 
-pub ended_within : (g : Sub → Bool) (sub : Sub) (a : Result (Unit {0}) ShardFault) → Within (if_ended g sub a) g
+pub ended_within : (g : Sub → Bool) (sub : Sub) (a : Result (Unit {0}) Refusal) → Within (if_ended g sub a) g
 ended_within g sub (Ok u) x e = (and_parts (g x) (not (same_sub x sub)) e).0
-ended_within g sub (Err NoSub) x e = (and_parts (g x) (not (same_sub x sub)) e).0
-ended_within g sub (Err AlreadyTracked) x e = e
-ended_within g sub (Err NoPresence) x e = e
-ended_within g sub (Err ClockFull) x e = e
-ended_within g sub (Err JournalFull) x e = e
-ended_within g sub (Err BadIncarnation) x e = e
-ended_within g sub (Err OutOfMemory) x e = e
+ended_within g sub (Err (Table NoSub)) x e = (and_parts (g x) (not (same_sub x sub)) e).0
+ended_within g sub (Err (Table AlreadyTracked)) x e = e
+ended_within g sub (Err (Table NoPresence)) x e = e
+ended_within g sub (Err (Table ClockFull)) x e = e
+ended_within g sub (Err (Table JournalFull)) x e = e
+ended_within g sub (Err (Table BadIncarnation)) x e = e
+ended_within g sub (Err (Table OutOfMemory)) x e = e
+ended_within g sub (Err OverRation) x e = e
+ended_within g sub (Err NotGranted) x e = e
 
 -- a call that makes no subscriber leaves no more of them
 no_more : (g : Sub → Bool) (q : Ask) (a : Answer q) → enters q a ≡ false → Within (after_call g q a) g
@@ -148,30 +153,36 @@ module _ (g : Sub → Bool) (old new : History) (k : Held g old) where
   ends_none : (sub : Sub) (a : Result (Unit {0}) ShardFault) → Stepped old new None (steps_are.Unsubscribe sub.number) a → Held g new
   ends_none sub a m = stays g old new k (steps_are.Unsubscribe sub.number) a (unsubscribe_fewer sub.number) m
 
-  unsubscribed : (t : List ℕ) (sub : Sub) (a : Result (Unit {0}) ShardFault) → LocalStep old (unsubscribe t sub) a new → Held (if_ended g sub a) new
-  unsubscribed t sub (Ok u) s = without_sub g new sub (over_now old new sub.number s.stepped sub.slot) (ends_none sub (Ok u) s.stepped)
-  unsubscribed t sub (Err NoSub) s =
+  unsubscribed : (pid : ℕ) (t : List ℕ) (sub : Sub) (a : Result (Unit {0}) ShardFault) → TableStep pid old (unsubscribe t sub) a new → Held (if_ended g sub (in_table a)) new
+  unsubscribed pid t sub (Ok u) s = without_sub g new sub (over_now old new sub.number s.stepped sub.slot) (ends_none sub (Ok u) s.stepped)
+  unsubscribed pid t sub (Err NoSub) s =
       without_sub g new sub (ap (λ h. is_found h sub.slot sub.number) s.stepped ∙ unknown_is_over (is_found old sub.slot sub.number) old (steps_are.Unsubscribe sub.number) s.due) (ends_none sub (Err NoSub) s.stepped)
-  unsubscribed t sub (Err AlreadyTracked) s = ends_none sub (Err AlreadyTracked) s.stepped
-  unsubscribed t sub (Err NoPresence) s = ends_none sub (Err NoPresence) s.stepped
-  unsubscribed t sub (Err ClockFull) s = ends_none sub (Err ClockFull) s.stepped
-  unsubscribed t sub (Err JournalFull) s = ends_none sub (Err JournalFull) s.stepped
-  unsubscribed t sub (Err BadIncarnation) s = ends_none sub (Err BadIncarnation) s.stepped
-  unsubscribed t sub (Err OutOfMemory) s = ends_none sub (Err OutOfMemory) s.stepped
+  unsubscribed pid t sub (Err AlreadyTracked) s = ends_none sub (Err AlreadyTracked) s.stepped
+  unsubscribed pid t sub (Err NoPresence) s = ends_none sub (Err NoPresence) s.stepped
+  unsubscribed pid t sub (Err ClockFull) s = ends_none sub (Err ClockFull) s.stepped
+  unsubscribed pid t sub (Err JournalFull) s = ends_none sub (Err JournalFull) s.stepped
+  unsubscribed pid t sub (Err BadIncarnation) s = ends_none sub (Err BadIncarnation) s.stepped
+  unsubscribed pid t sub (Err OutOfMemory) s = ends_none sub (Err OutOfMemory) s.stepped
 
-call_keeps : (g : Sub → Bool) (old new : History) (q : Ask) (a : Answer q) → Held g old → LocalStep old q a new → Held (after_call g q a) new
-call_keeps g old new (track p u d m) a k s = stays g old new k (steps_are.Track p u d m) a (λ number n o e. e) s.stepped
-call_keeps g old new (update p u d m) a k s = stays g old new k (steps_are.Update p u d m) a (λ number n o e. e) s.stepped
-call_keeps g old new (untrack p u d) a k s = stays g old new k (steps_are.Untrack p u d) a (λ number n o e. e) s.stepped
-call_keeps g old new (untrack_all p u) a k s = stays g old new k (steps_are.UntrackAll p u) a (λ number n o e. e) s.stepped
-call_keeps g old new (list u) a k s = stays g old new k (steps_are.List u) a (λ number n o e. e) s.stepped
-call_keeps g old new (get u d) a k s = stays g old new k (steps_are.Get u d) a (λ number n o e. e) s.stepped
-call_keeps g old new (subscribe u) (Ok sub) k s = made_one g old new k u sub s.stepped s.given
-call_keeps g old new (subscribe u) (Err x) k s = made_none g old new k u x s.stepped s.given
-call_keeps g old new (take u sub max) a k s = stays g old new k (steps_are.Take sub.number max) a (λ number n o e. e) s.stepped
-call_keeps g old new (unsubscribe u sub) a k s = unsubscribed g old new k u sub a s
-call_keeps g old new (waits u sub) a k s = same g old new k s.0
-call_keeps g old new (shout u d) a k s = stays g old new k (steps_are.Shout u d) a (λ number n o e. e) s.stepped
+table_keeps : (pid : ℕ) (g : Sub → Bool) (old new : History) (q : Ask) (a : Result (Given q) ShardFault) → Held g old → TableStep pid old q a new → Held (after_call g q (in_table a)) new
+table_keeps pid g old new (track u d m) a k s = stays g old new k (steps_are.Track pid u d m) a (λ number n o e. e) s.stepped
+table_keeps pid g old new (update u d m) a k s = stays g old new k (steps_are.Update pid u d m) a (λ number n o e. e) s.stepped
+table_keeps pid g old new (untrack u d) a k s = stays g old new k (steps_are.Untrack pid u d) a (λ number n o e. e) s.stepped
+table_keeps pid g old new (untrack_all u) a k s = stays g old new k (steps_are.UntrackAll pid u) a (λ number n o e. e) s.stepped
+table_keeps pid g old new (list u) a k s = stays g old new k (steps_are.List u) a (λ number n o e. e) s.stepped
+table_keeps pid g old new (get u d) a k s = stays g old new k (steps_are.Get u d) a (λ number n o e. e) s.stepped
+table_keeps pid g old new (subscribe u) (Ok sub) k s = made_one g old new k u sub s.stepped s.given
+table_keeps pid g old new (subscribe u) (Err x) k s = made_none g old new k u x s.stepped s.given
+table_keeps pid g old new (take u sub max) a k s = stays g old new k (steps_are.Take sub.number max) a (λ number n o e. e) s.stepped
+table_keeps pid g old new (unsubscribe u sub) a k s = unsubscribed g old new k pid u sub a s
+table_keeps pid g old new (waits u sub) a k s = same g old new k s.0
+table_keeps pid g old new (shout u d) a k s = stays g old new k (steps_are.Shout u d) a (λ number n o e. e) s.stepped
+
+call_keeps : (pid : ℕ) (g : Sub → Bool) (old new : History) (q : Ask) (a : Answer q) → Held g old → LocalStep pid old q a new → Held (after_call g q a) new
+call_keeps pid g old new q (Ok x) k s = table_keeps pid g old new q (Ok x) k s
+call_keeps pid g old new q (Err (Table e)) k s = table_keeps pid g old new q (Err e) k s
+call_keeps pid g old new q (Err OverRation) k s = absurd s
+call_keeps pid g old new q (Err NotGranted) k s = absurd s
 
 -- ---- scripts
 
@@ -186,19 +197,19 @@ pub record Led {E : Type 0} (Q : (Sub → Bool) → E → Type 0) (new : History
   pub held : Held subs new
   pub ends : Q subs e
 
-call_of : (g : Sub → Bool) (old mid : History) (q : Ask) (c : Call) (a : Answer q) → c ≡ record { ask = q; answer = a } → LocalStep old c.ask c.answer mid → Held g old → Held (after_call g q a) mid
-call_of g old mid q c a e s k = call_keeps g old mid q a k (subst (λ x. LocalStep old x.ask x.answer mid) e s)
+call_of : (pid : ℕ) (g : Sub → Bool) (old mid : History) (q : Ask) (c : Call) (a : Answer q) → c ≡ record { ask = q; answer = a } → LocalStep pid old c.ask c.answer mid → Held g old → Held (after_call g q a) mid
+call_of pid g old mid q c a e s k = call_keeps pid g old mid q a k (subst (λ x. LocalStep pid old x.ask x.answer mid) e s)
 
-pub script_leads : {E : Type 0} (Q : (Sub → Bool) → E → Type 0) (script : Script E) (g : Sub → Bool) (old new : History) (e : E) → Leads Q g script → Held g old → (cs : List Call) → Chained LocalStep old cs new → Plays script cs e → Led Q new e
-script_leads Q (done x) g old new e l k [] m p = record { subs = g; held = subst (λ h. Held g h) (sym m) k; ends = subst (Q g) p l }
-script_leads Q (done x) g old new e l k (c ∷ cs) m p = absurd p
-script_leads Q (ask q next) g old new e l k [] m p = absurd p
-script_leads Q (ask q next) g old new e l k (c ∷ cs) m p =
-    script_leads Q (next p.0) (after_call g q p.0) m.0 new e (l p.0) (call_of g old m.0 q c p.0 p.1 m.1 k) cs m.2 p.2
+pub script_leads : {E : Type 0} (pid : ℕ) (Q : (Sub → Bool) → E → Type 0) (script : Script E) (g : Sub → Bool) (old new : History) (e : E) → Leads Q g script → Held g old → (cs : List Call) → Chained (LocalStep pid) old cs new → Plays script cs e → Led Q new e
+script_leads pid Q (done x) g old new e l k [] m p = record { subs = g; held = subst (λ h. Held g h) (sym m) k; ends = subst (Q g) p l }
+script_leads pid Q (done x) g old new e l k (c ∷ cs) m p = absurd p
+script_leads pid Q (ask q next) g old new e l k [] m p = absurd p
+script_leads pid Q (ask q next) g old new e l k (c ∷ cs) m p =
+    script_leads pid Q (next p.0) (after_call g q p.0) m.0 new e (l p.0) (call_of pid g old m.0 q c p.0 p.1 m.1 k) cs m.2 p.2
 
 -- calls of which none makes a subscriber
-pub none_made : (g : Sub → Bool) (old new : History) → Held g old → (cs : List Call) → some_enters cs ≡ false → Chained LocalStep old cs new → Held g new
-none_made g old new k [] s m = subst (λ h. Held g h) (sym m) k
-none_made g old new k (c ∷ cs) s m =
+pub none_made : (pid : ℕ) (g : Sub → Bool) (old new : History) → Held g old → (cs : List Call) → some_enters cs ≡ false → Chained (LocalStep pid) old cs new → Held g new
+none_made pid g old new k [] s m = subst (λ h. Held g h) (sym m) k
+none_made pid g old new k (c ∷ cs) s m =
     let none = or_parts (enters c.ask c.answer) (some_enters cs) s in
-    none_made g m.0 new (held_within (after_call g c.ask c.answer) g m.0 (no_more g c.ask c.answer none.0) (call_keeps g old m.0 c.ask c.answer k m.1)) cs none.1 m.2
+    none_made pid g m.0 new (held_within (after_call g c.ask c.answer) g m.0 (no_more g c.ask c.answer none.0) (call_keeps pid g old m.0 c.ask c.answer k m.1)) cs none.1 m.2

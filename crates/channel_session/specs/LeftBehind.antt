@@ -35,5 +35,5 @@ pub record LeavesNothing (s : InForce) (h : History) : Type 0 where
 abbrev pub EndLeavesNothing : Type 0
 EndLeavesNothing =
     (s after : InForce) (old new : History) → IsLegal old → StandsOn (topics_named s) s.pid old
-    → EndedBy LocalStep s old new after (Ok tt)
+    → EndedBy (LocalStep s.pid) s old new after (Ok tt)
     → LeavesNothing s new

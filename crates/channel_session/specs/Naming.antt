@@ -26,16 +26,16 @@ abbrev pub TextsKeepNames : Type 0
 TextsKeepNames =
     (routes : List (List ℕ × ℕ)) (s after : InForce) (reading : Result Message MessageFault) (old new : History)
     (result : Result (List Said) SessionFault)
-    → NamesItsTopics s old → EndedSo LocalStep routes s reading old new after result → NamesItsTopics after new
+    → NamesItsTopics s old → EndedSo (LocalStep s.pid) routes s reading old new after result → NamesItsTopics after new
 
 -- and behind a delivery
 abbrev pub DeliveriesKeepNames : Type 0
 DeliveriesKeepNames =
     (max : ℕ) (s after : InForce) (old new : History) (result : Result (List Said) SessionFault)
-    → NamesItsTopics s old → Delivered LocalStep max s old new after result → NamesItsTopics after new
+    → NamesItsTopics s old → Delivered (LocalStep s.pid) max s old new after result → NamesItsTopics after new
 
 -- and behind an end
 abbrev pub EndsKeepNames : Type 0
 EndsKeepNames =
     (s after : InForce) (old new : History) (result : Result (Unit {0}) SessionFault)
-    → NamesItsTopics s old → EndedBy LocalStep s old new after result → NamesItsTopics after new
+    → NamesItsTopics s old → EndedBy (LocalStep s.pid) s old new after result → NamesItsTopics after new

@@ -34,17 +34,17 @@ abbrev pub TextsKeepSubs : Type 0
 TextsKeepSubs =
     (others : Sub → Bool) (routes : List (List ℕ × ℕ)) (s after : InForce) (reading : Result Message MessageFault)
     (old new : History) (result : Result (List Said) SessionFault)
-    → KnowsItsSubs others s old → EndedSo LocalStep routes s reading old new after result
+    → KnowsItsSubs others s old → EndedSo (LocalStep s.pid) routes s reading old new after result
     → KnowsItsSubs others after new
 
 -- and behind a delivery
 abbrev pub DeliveriesKeepSubs : Type 0
 DeliveriesKeepSubs =
     (others : Sub → Bool) (max : ℕ) (s after : InForce) (old new : History) (result : Result (List Said) SessionFault)
-    → KnowsItsSubs others s old → Delivered LocalStep max s old new after result → KnowsItsSubs others after new
+    → KnowsItsSubs others s old → Delivered (LocalStep s.pid) max s old new after result → KnowsItsSubs others after new
 
 -- and behind an end
 abbrev pub EndsKeepSubs : Type 0
 EndsKeepSubs =
     (others : Sub → Bool) (s after : InForce) (old new : History) (result : Result (Unit {0}) SessionFault)
-    → KnowsItsSubs others s old → EndedBy LocalStep s old new after result → KnowsItsSubs others after new
+    → KnowsItsSubs others s old → EndedBy (LocalStep s.pid) s old new after result → KnowsItsSubs others after new

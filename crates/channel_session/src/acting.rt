@@ -67,7 +67,7 @@ impl Session {
         kind: u32,
     ) -> Result<Reply, Stop>
         requires absent { find message.now.topic self.old.joined ≡ None }
-        ensures ran { Acts P.step (join_rule kind self.old None message.now) port.old port.new self.new result }
+        ensures ran { Acts (P.step self.old.pid) (join_rule kind self.old None message.now) port.old port.new self.new result }
         ensures err { OnErr result (self.new ≡ self.old) }
         ensures failed { self.new.failed ≡ self.old.failed }
     {
@@ -97,7 +97,7 @@ impl Session {
         kind: u32,
         join: &Join,
     ) -> Result<Reply, Stop>
-        ensures ran { Acts P.step
+        ensures ran { Acts (P.step self.old.pid)
             (join_rule kind self.old (Some (joined_of (message.now.topic, join.now))) message.now)
             port.old port.new self.new result }
         ensures err { OnErr result (self.new ≡ self.old) }
@@ -129,7 +129,7 @@ impl Session {
         message: &Message,
         kind: u32,
     ) -> Result<Reply, Stop>
-        ensures ran { Acts P.step
+        ensures ran { Acts (P.step self.old.pid)
             (join_rule kind self.old (join_at self.old message.now) message.now)
             port.old port.new self.new result }
         ensures err { OnErr result (self.new ≡ self.old) }
@@ -149,7 +149,7 @@ impl Session {
         message: &Message,
         join: &Join,
     ) -> Result<Reply, Stop>
-        ensures ran { Acts P.step
+        ensures ran { Acts (P.step self.old.pid)
             (leave_rule self.old (Some (joined_of (message.now.topic, join.now))) message.now)
             port.old port.new self.new result }
         ensures err { OnErr result (self.new ≡ self.old) }
@@ -175,7 +175,7 @@ impl Session {
         port: &mut P,
         message: &Message,
     ) -> Result<Reply, Stop>
-        ensures ran { Acts P.step
+        ensures ran { Acts (P.step self.old.pid)
             (leave_rule self.old (join_at self.old message.now) message.now)
             port.old port.new self.new result }
         ensures err { OnErr result (self.new ≡ self.old) }
@@ -197,7 +197,7 @@ impl Session {
         event: TopicEvent,
     ) -> Result<Reply, Stop>
         requires { IsTrue (is_payload message.now.payload) }
-        ensures { ActsBy (worded_by H.PresenceHooks hooks.now) P.step
+        ensures { ActsBy (worded_by H.PresenceHooks hooks.now) (P.step self.now.pid)
             (topic_rule self.now message.now event) port.old port.new self.now result }
     {
         match self.topics.find(&message.topic) {
@@ -222,7 +222,7 @@ impl Session {
         case: Case,
     ) -> Result<Reply, Stop>
         requires { IsTrue (is_payload message.now.payload) }
-        ensures ran { ActsBy (worded_by H.PresenceHooks hooks.now) P.step
+        ensures ran { ActsBy (worded_by H.PresenceHooks hooks.now) (P.step self.old.pid)
             (kind_rule case.phoenix case.route self.old message.now case.event)
             port.old port.new self.new result }
         ensures err { OnErr result (self.new ≡ self.old) }
@@ -255,7 +255,7 @@ impl Session {
         message: &Message,
     ) -> Result<Reply, Stop>
         requires { IsTrue (is_payload message.now.payload) }
-        ensures ran { ActsBy (worded_by H.PresenceHooks channels.entry.hooks.now) P.step
+        ensures ran { ActsBy (worded_by H.PresenceHooks channels.entry.hooks.now) (P.step self.old.pid)
             (rules channels.entry.routes.now self.old message.now) port.old port.new self.new result }
         ensures err { OnErr result (self.new ≡ self.old) }
         ensures failed { self.new.failed ≡ self.old.failed }

@@ -7,15 +7,15 @@ ghost use Rattle.channel_session_rules.specs.InForce.{joined_in};
 
 use crate::fault::{SessionFault, fault_of_stop};
 use crate::session::Session;
-use channel_session_events::Delivery;
-use channel_session_rules::{Port, Stop, Topics, spoil, spoiling, stop_of};
+use channel_session_events::{Caller, Delivery};
+use channel_session_rules::{Port, Stop, Take, Topics, Waits, spoil, spoiling, stop_of};
 use hook_registry::PresenceHooks;
 use std::alloc::Global;
 
 // How items are taken and told.
 #[derive_where(Clone, Copy)]
 struct Dealing<'a, H> {
-    alloc: Global,
+    caller: Caller,
     hooks: &'a H,
     // The most that one take gives.
     max: u32,
@@ -30,7 +30,7 @@ fn deliver_from<P: Port, H: PresenceHooks>(
     before: Delivery,
 ) -> Result<Delivery, Stop>
     requires { IsTrue (is_take_limit dealing.max) }
-    ensures { DealsFrom H.PresenceHooks dealing.entry.hooks.now P.step dealing.entry.max
+    ensures { DealsFrom H.PresenceHooks dealing.entry.hooks.now (P.step dealing.entry.caller.pid) dealing.entry.max
         (drop index (joined_in topics.now)) port.old port.new before result }
 {
     if index >= topics.len() {
@@ -39,12 +39,21 @@ fn deliver_from<P: Port, H: PresenceHooks>(
     let Some((topic, join)) = topics.at(index) else {
         return Ok(before);
     };
-    let alloc = dealing.alloc;
-    match port.waits(topic, &join.sub) {
-        Err(fault) => Err(stop_of(fault, false)),
+    let Caller { alloc, pid, .. } = dealing.caller;
+    let sub = join.sub;
+    match port.call(alloc, pid, &Waits { topic, sub }) {
+        Err(refusal) => Err(stop_of(refusal, false)),
         Ok(false) => deliver_from(dealing, topics, index + 1, port, before),
-        Ok(true) => match port.take(alloc, topic, &join.sub, dealing.max) {
-            Err(fault) => Err(stop_of(fault, false)),
+        Ok(true) => match port.call(
+            alloc,
+            pid,
+            &Take {
+                topic,
+                sub,
+                max: dealing.max,
+            },
+        ) {
+            Err(refusal) => Err(stop_of(refusal, false)),
             Ok(items) => {
                 match spoiling(before.add_items(alloc, dealing.hooks, topic, join, &items)) {
                     Err(stop) => Err(stop),
@@ -78,13 +87,17 @@ fn deliver_all<P: Port, H: PresenceHooks>(
     max: u32,
 ) -> Result<Delivery, SessionFault>
     requires { IsTrue (is_take_limit max) }
-    ensures { DeliveredTo H.PresenceHooks hooks.now P.step max session.old port.old port.new session.new result }
+    ensures { DeliveredTo H.PresenceHooks hooks.now (P.step session.old.pid) max session.old port.old port.new session.new result }
 {
     let nothing = Delivery {
         texts: Vec::new(alloc),
         notices: Vec::new(alloc),
     };
-    let dealing = Dealing { alloc, hooks, max };
+    let caller = Caller {
+        alloc,
+        pid: session.pid,
+    };
+    let dealing = Dealing { caller, hooks, max };
     match deliver_from(dealing, &session.topics, 0, port, nothing) {
         Ok(delivery) => Ok(delivery),
         Err(stop) => Err(leave_behind(session, &stop)),
@@ -107,7 +120,7 @@ pub fn deliver<P: Port, H: PresenceHooks>(
     ensures failed { session.old.failed ≡ true
         → (result ≡ Err SessionFault.Failed) × (session.new ≡ session.old) × (port.new ≡ port.old) }
     ensures delivered { session.old.failed ≡ false
-        → DeliveredTo H.PresenceHooks hooks.now P.step max session.old port.old port.new session.new result }
+        → DeliveredTo H.PresenceHooks hooks.now (P.step session.old.pid) max session.old port.old port.new session.new result }
 {
     if session.failed {
         return Err(SessionFault::Failed);

@@ -1,43 +1,57 @@
 //! The end of a session, topic by topic.
 ghost use Rattle.std.specs.Prelude.{◌≡◌, [], OnOk, take, drop};
 ghost use Rattle.channel_session.specs.Ending.{Played, Gone, Keeps, EndedBy, EndsTopics, ends, fault_of_refusal as fault_in, topics_named};
+ghost use Rattle.channel_session_rules.specs.Asks.{untrack_all};
 ghost use Rattle.channel_session_rules.specs.InForce.{joined_in};
 
 use crate::fault::SessionFault;
 use crate::session::Session;
-use channel_session_rules::{Join, Port, ShardFault, Topics};
+use channel_session_events::Caller;
+use channel_session_rules::{Join, Port, Refusal, ShardFault, Topics, Unsubscribe, UntrackAll};
 use presence_base::Topic;
 use std::alloc::Global;
 
+// Takes out the session's rows on a topic.
+fn take_out<P: Port>(caller: Caller, topic: &Topic, port: &mut P) -> Result<(), Refusal>
+    ensures { P.step caller.pid port.old (untrack_all topic.now) result port.new }
+{
+    match port.call(caller.alloc, caller.pid, &UntrackAll { topic }) {
+        Ok(_) => Ok(()),
+        Err(refusal) => Err(refusal),
+    }
+}
+
 // Both calls for one topic. An unknown subscriber counts as gone.
 fn end_topic<P: Port>(
-    alloc: Global,
-    pid: u64,
+    caller: Caller,
     topic: &Topic,
     join: &Join,
     port: &mut P,
-) -> Result<(), ShardFault>
-    ensures { Gone P.step pid topic.now join.now.sub port.old port.new result }
+) -> Result<(), Refusal>
+    ensures { Gone (P.step caller.pid) topic.now join.now.sub port.old port.new result }
 {
-    match port.unsubscribe(alloc, topic, &join.sub) {
-        Ok(()) => port.untrack_all(alloc, pid, topic),
-        Err(ShardFault::NoSub) => port.untrack_all(alloc, pid, topic),
-        Err(fault) => Err(fault),
+    let unsubscribe = Unsubscribe {
+        topic,
+        sub: join.sub,
+    };
+    match port.call(caller.alloc, caller.pid, &unsubscribe) {
+        Ok(()) => take_out(caller, topic, port),
+        Err(Refusal::Table(ShardFault::NoSub)) => take_out(caller, topic, port),
+        Err(refusal) => Err(refusal),
     }
 }
 
 // Ends the topics from this place on, in order of joining. One whose calls are refused stays, and
 // the first refusal is answered.
 fn end_topics<P: Port>(
-    alloc: Global,
-    pid: u64,
+    caller: Caller,
     topics: &mut Topics,
     index: usize,
     port: &mut P,
-) -> Result<(), ShardFault>
+) -> Result<(), Refusal>
     ensures before { take index (joined_in topics.new) ≡ take index (joined_in topics.old) }
     ensures empty { OnOk result (drop index (joined_in topics.new) ≡ []) }
-    ensures played { EndsTopics P.step pid (drop index (joined_in topics.old))
+    ensures played { EndsTopics (P.step caller.pid) (drop index (joined_in topics.old))
         (drop index (joined_in topics.new)) port.old port.new result }
 {
     if index >= topics.len() {
@@ -46,66 +60,78 @@ fn end_topics<P: Port>(
     let Some((topic, join)) = topics.at(index) else {
         return Ok(());
     };
-    match end_topic(alloc, pid, topic, join, port) {
+    match end_topic(caller, topic, join, port) {
         Ok(()) => {
             topics.drop_at(index);
-            end_topics(alloc, pid, topics, index, port)
+            end_topics(caller, topics, index, port)
         }
-        Err(fault) => {
-            let _later = end_topics(alloc, pid, topics, index + 1, port);
-            Err(fault)
+        Err(refusal) => {
+            let _later = end_topics(caller, topics, index + 1, port);
+            Err(refusal)
         }
     }
 }
 
 // The fault of a refusal.
-fn fault_of_refusal(fault: ShardFault) -> SessionFault
-    ensures { result ≡ fault_in fault }
+fn fault_of_refusal(refusal: Refusal) -> SessionFault
+    ensures { result ≡ fault_in refusal }
 {
-    match fault {
-        ShardFault::OutOfMemory => SessionFault::OutOfMemory,
-        ShardFault::AlreadyTracked
-        | ShardFault::NoPresence
-        | ShardFault::ClockFull
-        | ShardFault::JournalFull
-        | ShardFault::NoSub
-        | ShardFault::BadIncarnation => SessionFault::ShardFull,
+    match refusal {
+        Refusal::Table(ShardFault::OutOfMemory) => SessionFault::OutOfMemory,
+        Refusal::OverRation
+        | Refusal::NotGranted
+        | Refusal::Table(
+            ShardFault::AlreadyTracked
+            | ShardFault::NoPresence
+            | ShardFault::ClockFull
+            | ShardFault::JournalFull
+            | ShardFault::NoSub
+            | ShardFault::BadIncarnation,
+        ) => SessionFault::ShardFull,
     }
 }
 
 // Ends the topics in force. A session in which one stays has failed.
-fn end_joined<P: Port>(alloc: Global, session: &mut Session, port: &mut P) -> Result<(), ShardFault>
+fn end_joined<P: Port>(alloc: Global, session: &mut Session, port: &mut P) -> Result<(), Refusal>
     ensures empty { OnOk result (session.new.joined ≡ []) }
     ensures kept { Keeps session.old session.new result }
-    ensures played { EndsTopics P.step session.old.pid session.old.joined session.new.joined
+    ensures played { EndsTopics (P.step session.old.pid) session.old.joined session.new.joined
         port.old port.new result }
 {
-    match end_topics(alloc, session.pid, &mut session.topics, 0, port) {
+    let caller = Caller {
+        alloc,
+        pid: session.pid,
+    };
+    match end_topics(caller, &mut session.topics, 0, port) {
         Ok(()) => Ok(()),
-        Err(fault) => {
+        Err(refusal) => {
             session.failed = true;
-            Err(fault)
+            Err(refusal)
         }
     }
 }
 
 // Ends the join that was cut short, and then the topics in force.
-fn end_calls<P: Port>(alloc: Global, session: &mut Session, port: &mut P) -> Result<(), ShardFault>
+fn end_calls<P: Port>(alloc: Global, session: &mut Session, port: &mut P) -> Result<(), Refusal>
     ensures empty { OnOk result (topics_named session.new ≡ []) }
-    ensures played { Played P.step (ends session.old) port.old port.new
+    ensures played { Played (P.step session.old.pid) (ends session.old) port.old port.new
         (record { after = session.new; answer = result }) }
 {
+    let caller = Caller {
+        alloc,
+        pid: session.pid,
+    };
     match &session.cut_short {
         None => end_joined(alloc, session, port),
-        Some(topic) => match port.untrack_all(alloc, session.pid, topic) {
+        Some(topic) => match take_out(caller, topic, port) {
             Ok(()) => {
                 session.cut_short = None;
                 end_joined(alloc, session, port)
             }
-            Err(fault) => {
+            Err(refusal) => {
                 let _later = end_joined(alloc, session, port);
                 session.failed = true;
-                Err(fault)
+                Err(refusal)
             }
         },
     }
@@ -118,11 +144,11 @@ fn end_calls<P: Port>(alloc: Global, session: &mut Session, port: &mut P) -> Res
 /// A refusal keeps its topic, and the others are ended all the same: the first refusal is answered,
 /// and the session has failed then. `end` may be called again.
 pub fn end<P: Port>(alloc: Global, session: &mut Session, port: &mut P) -> Result<(), SessionFault>
-    ensures ended { EndedBy P.step session.old port.old port.new session.new result }
+    ensures ended { EndedBy (P.step session.old.pid) session.old port.old port.new session.new result }
     ensures empty { OnOk result (topics_named session.new ≡ []) }
 {
     match end_calls(alloc, session, port) {
         Ok(()) => Ok(()),
-        Err(fault) => Err(fault_of_refusal(fault)),
+        Err(refusal) => Err(fault_of_refusal(refusal)),
     }
 }

@@ -97,7 +97,7 @@ impl Session {
         requires payload { IsTrue (is_payload message.payload) }
         requires empty { texts.items ≡ [] }
         requires room { 2 ≤ vec_capacity texts }
-        ensures { MessageRanBy (worded_by H.PresenceHooks channels.entry.hooks.now) P.step
+        ensures { MessageRanBy (worded_by H.PresenceHooks channels.entry.hooks.now) (P.step self.old.pid)
             channels.entry.routes.now self.old message port.old port.new self.new result }
     {
         match self.act(alloc, port, channels, &message) {
@@ -123,7 +123,7 @@ pub fn run_text<P: Port, H: PresenceHooks>(
     channels: Channels<'_, H>,
     text: &str,
 ) -> Result<Vec<String>, SessionFault>
-    ensures ran { TextRan H.PresenceHooks channels.entry.hooks.now P.step channels.entry.routes.now text.now
+    ensures ran { TextRan H.PresenceHooks channels.entry.hooks.now (P.step session.old.pid) channels.entry.routes.now text.now
         session.old port.old port.new session.new result }
     ensures long { session.old.failed ≡ false → Limits.CLIENT.bytes < length text.now
         → result ≡ Err (BadMessage TooLong) }

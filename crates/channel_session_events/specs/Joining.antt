@@ -6,7 +6,7 @@ use Rattle.channel_session_rules.specs.Sub.{Sub}
 use Rattle.channel_session_rules.specs.Asks.{Ask, Answer}
 use Rattle.channel_session_rules.specs.Script.{Script}
 use Rattle.serde_json.specs.Data.{Data}
-use Rattle.channel_session_rules.specs.ShardFault.{ShardFault}
+use Rattle.channel_session_rules.specs.declared.refusal.Refusal.{Refusal}
 use Rattle.channel_session_rules.specs.Asked.{asked}
 use Rattle.channel_session_rules.specs.Replies.{Acts}
 use Rattle.channel_session_rules.specs.Rules.{Joined, InForce, End, after_subscribe, answers, ended, join_asked, join_ref_of, joins, left, ok, on_leave, rejoins, empty}
@@ -19,12 +19,12 @@ use Rattle.channel_session_events.specs.declared.joins.JoinReply.{JoinReply}
 use Rattle.channel_session_events.specs.declared.joins.RejoinReply.{RejoinReply}
 
 -- Whatever follows them: what follows is made from here on, or they were refused.
-abbrev pub Leads : {P : Type 0} → (P → (q : Ask) → Answer q → P → Type 0) → ℕ → List ℕ → Sub → P → P
+abbrev pub Leads : {P : Type 0} → (P → (q : Ask) → Answer q → P → Type 0) → List ℕ → Sub → P → P
     → Result (Unit {0}) Stop → Type 0
-Leads {P} step pid topic sub old new (Ok u) = (next : Script End) (last : P) (r : Result End Stop)
-    → Follows step next new last r → Follows step (ended pid topic sub next) old last (spoilt r)
-Leads step pid topic sub old new (Err stop) = (next : Script End)
-    → Follows step (ended pid topic sub next) old new (Err stop)
+Leads {P} step topic sub old new (Ok u) = (next : Script End) (last : P) (r : Result End Stop)
+    → Follows step next new last r → Follows step (ended topic sub next) old last (spoilt r)
+Leads step topic sub old new (Err stop) = (next : Script End)
+    → Follows step (ended topic sub next) old new (Err stop)
 
 -- What a join of a topic of this kind leaves in force: nothing new where it was refused.
 abbrev pub joined_by : ℕ → InForce → Message → Option Sub → InForce
@@ -60,37 +60,37 @@ leave_end j m s = answers (message (ok j.join_ref m empty) ∷ message (closing 
 -- ---- whole joins and leaves
 
 -- Where the reply tells this response, the answer to the subscription leads to it or to a refusal.
-abbrev pub Subscribed : Bool → Message → Message → Result Sub ShardFault → Result JoinReply Stop → Type 0
+abbrev pub Subscribed : Option Bool → Message → Message → Result Sub Refusal → Result JoinReply Stop → Type 0
 Subscribed first m reply answer result = (response : Data) → reply ≡ ok (join_ref_of m) m response
     → JoinRepliesWith (λ before kind s. after_subscribe first before kind s m response answer) (is_ok answer) m result
 
--- a join that asks this, by a session with this pid that has joined so many topics, whose calls may be the first
-abbrev pub JoinsAsked : {P : Type 0} → (P → (q : Ask) → Answer q → P → Type 0) → ℕ → ℕ → Bool → Message → Asked → P → P
+-- a join that asks this, by a session that has joined so many topics, whose calls may be the first
+abbrev pub JoinsAsked : {P : Type 0} → (P → (q : Ask) → Answer q → P → Type 0) → ℕ → Bool → Message → Asked → P → P
     → Result JoinReply Stop → Type 0
-JoinsAsked step pid count first m a old new result =
-    JoinRuns step (λ before kind s. join_asked pid count first before kind s m a) m old new result
+JoinsAsked step count first m a old new result =
+    JoinRuns step (λ before kind s. join_asked count first before kind s m a) m old new result
 
--- a first join, before which nothing is said, by a session with this pid that has joined so many topics
-abbrev pub Joins : {P : Type 0} → (P → (q : Ask) → Answer q → P → Type 0) → ℕ → ℕ → Message → P → P
+-- a first join, before which nothing is said, by a session that has joined so many topics
+abbrev pub Joins : {P : Type 0} → (P → (q : Ask) → Answer q → P → Type 0) → ℕ → Message → P → P
     → Result JoinReply Stop → Type 0
-Joins step pid count m old new result = (kind : ℕ) (s : InForce)
-    → Follows step (join_asked pid count true [] kind s m (asked m.payload)) old new
+Joins step count m old new result = (kind : ℕ) (s : InForce)
+    → Follows step (join_asked count true [] kind s m (asked m.payload)) old new
     (seen (join_end [] kind s m) result)
 
 -- a join behind the close of the old one
-abbrev pub JoinsBehind : {P : Type 0} → (P → (q : Ask) → Answer q → P → Type 0) → ℕ → ℕ → Bool → Message → Message
+abbrev pub JoinsBehind : {P : Type 0} → (P → (q : Ask) → Answer q → P → Type 0) → ℕ → Bool → Message → Message
     → Asked → P → P → Result RejoinReply Stop → Type 0
-JoinsBehind step pid count first close m a old new result =
-    RejoinRuns step (λ kind s. join_asked pid count first (message close ∷ []) kind s m a) m old new result
+JoinsBehind step count first close m a old new result =
+    RejoinRuns step (λ kind s. join_asked count first (message close ∷ []) kind s m a) m old new result
 
 -- the end of this join, and then the new one
-abbrev pub Rejoins : {P : Type 0} → (P → (q : Ask) → Answer q → P → Type 0) → ℕ → ℕ → Joined → Message → P → P
+abbrev pub Rejoins : {P : Type 0} → (P → (q : Ask) → Answer q → P → Type 0) → ℕ → Joined → Message → P → P
     → Result RejoinReply Stop → Type 0
-Rejoins step pid count j m old new result =
-    RejoinRuns step (λ kind s. rejoins pid count j kind s m (asked m.payload)) m old new result
+Rejoins step count j m old new result =
+    RejoinRuns step (λ kind s. rejoins count j kind s m (asked m.payload)) m old new result
 
 -- a leave of this join, whatever is in force
-abbrev pub Leaves : {P : Type 0} → (P → (q : Ask) → Answer q → P → Type 0) → ℕ → Joined → Message → P → P
+abbrev pub Leaves : {P : Type 0} → (P → (q : Ask) → Answer q → P → Type 0) → Joined → Message → P → P
     → Result Reply Stop → Type 0
-Leaves step pid j m old new result = (s after : InForce) → after ≡ left s m.topic
-    → Acts step (on_leave pid s (Some j) m) old new after result
+Leaves step j m old new result = (s after : InForce) → after ≡ left s m.topic
+    → Acts step (on_leave s (Some j) m) old new after result

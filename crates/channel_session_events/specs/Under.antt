@@ -8,12 +8,17 @@ use Rattle.channel_session_rules.specs.InForce.{InForce}
 use Rattle.channel_session_rules.specs.Rules.{End, after_list, on_event, on_list, on_get}
 use Rattle.channel_session_rules.specs.Said.{Said, listed}
 use Rattle.channel_session_rules.specs.Script.{Script}
+use Rattle.channel_session_rules.specs.Seen.{seen_by}
 use Rattle.channel_session_rules.specs.declared.kind.TopicEvent.{TopicEvent}
 use Rattle.channel_session_rules.specs.declared.topics.Join.{Join}
-use Rattle.channel_session_rules.specs.ShardFault.{ShardFault}
+use Rattle.channel_session_rules.specs.declared.refusal.Refusal.{Refusal}
 
-abbrev pub event_under : ℕ → Join → Message → TopicEvent → InForce → Script End
-event_under pid j m event s = on_event pid j.kind s j.join_ref m event
+-- an answer of which only that it was accepted is told
+abbrev pub done_by : {A : Type 0} → Result A Refusal → Result (Unit {0}) Refusal
+done_by r = seen_by (λ _. tt) r
+
+abbrev pub event_under : Join → Message → TopicEvent → InForce → Script End
+event_under j m event s = on_event j.kind s j.join_ref m event
 
 abbrev pub list_under : Join → Message → InForce → Script End
 list_under j m s = on_list j.kind s j.join_ref m
@@ -26,7 +31,7 @@ abbrev pub gets_under : Join → Message → InForce → Script End
 gets_under j m s = get_under j m (key_asked m.payload) s
 
 -- what a port's answer with rows leads to
-abbrev pub rows_told_under : Join → Message → Result (List (Dot × Row)) ShardFault → InForce → End
+abbrev pub rows_told_under : Join → Message → Result (List (Dot × Row)) Refusal → InForce → End
 rows_told_under j m answer s = after_list j.kind s j.join_ref m answer
 
 -- rows, told in reply to a message

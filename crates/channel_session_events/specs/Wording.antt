@@ -11,7 +11,7 @@ use Rattle.channel_session_rules.specs.Said.{Said, told, EachBy, Worded, Writes,
 use Rattle.channel_session_rules.specs.declared.replies.Reply.{Reply}
 use Rattle.channel_session_rules.specs.declared.stop.Stop.{Stop}
 use Rattle.channel_session_rules.specs.declared.topics.Join.{Join}
-use Rattle.channel_session_rules.specs.ShardFault.{ShardFault}
+use Rattle.channel_session_rules.specs.declared.refusal.Refusal.{Refusal}
 use Rattle.channel_session_events.specs.Under.{listed_under, rows_told_under}
 
 -- the message tells it, with what these hooks add
@@ -27,7 +27,7 @@ abbrev pub Frames : {H : Type 0} → Ghosts H → H → Joined → Item → List
 Frames G hooks j item text = Writes (worded_by G hooks) (told j item) text
 
 -- the port's answer to a list or a get is told under this join: its rows, or its refusal
-abbrev pub TellsRows : {H : Type 0} → Ghosts H → H → Join → Message → Result (List (Dot × Row)) ShardFault
+abbrev pub TellsRows : {H : Type 0} → Ghosts H → H → Join → Message → Result (List (Dot × Row)) Refusal
     → Result Reply Stop → Type 0
 TellsRows G hooks join m answer result =
     RepliesBy (worded_by G hooks) (rows_told_under join m answer) (is_ok answer) result

@@ -1,4 +1,6 @@
 //! Who asks, and under which join.
+ghost use Rattle.std.specs.Prelude.{◌≤◌, ◌^◌};
+
 use channel_session_rules::Join;
 use phx_message::Message;
 use std::alloc::Global;
@@ -8,6 +10,7 @@ use std::alloc::Global;
 pub struct Caller {
     pub alloc: Global,
     pub pid: u64,
+    ghost count: { pid ≤ 2 ^ 62 },
 }
 
 /// A message to a joined topic, and the topic's present join.

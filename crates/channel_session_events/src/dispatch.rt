@@ -1,5 +1,5 @@
 //! Topic events, matched once.
-ghost use Rattle.std.specs.Prelude.{◌≤◌, ◌^◌, IsTrue, None, false, codes};
+ghost use Rattle.std.specs.Prelude.{IsTrue, None, false, codes};
 ghost use Rattle.presence_journal.specs.Limits.{is_payload};
 ghost use Rattle.channel_session_rules.specs.Replies.{RunsBy, RepliesWith};
 ghost use Rattle.channel_session_rules.specs.Rules.{says_ok, says_error, empty as empty_of};
@@ -21,23 +21,21 @@ pub fn topic_event<P: Port, H: PresenceHooks>(
     port: &mut P,
     event: TopicEvent,
 ) -> Result<Reply, Stop>
-    requires limit { caller.pid ≤ 2 ^ 62 }
-    requires payload { IsTrue (is_payload incoming.message.now.payload) }
-    ensures { RunsBy (worded_by H.PresenceHooks hooks.now) P.step
-        (event_under caller.pid incoming.entry.join.now incoming.entry.message.now event) port.old port.new result }
+    requires { IsTrue (is_payload incoming.message.now.payload) }
+    ensures { RunsBy (worded_by H.PresenceHooks hooks.now) (P.step caller.pid)
+        (event_under incoming.entry.join.now incoming.entry.message.now event) port.old port.new result }
 {
-    let alloc = caller.alloc;
     let Incoming { join, message } = incoming;
     let join_ref = &join.join_ref;
     match event {
-        TopicEvent::Ping => ping(alloc, join_ref, port, message),
-        TopicEvent::Shout => shout(alloc, join_ref, port, message),
+        TopicEvent::Ping => ping(caller, join_ref, port, message),
+        TopicEvent::Shout => shout(caller, join_ref, port, message),
         TopicEvent::Track => track(caller, join_ref, port, message),
         TopicEvent::Update => update(caller, join_ref, port, message),
         TopicEvent::Untrack => untrack(caller, join_ref, port, message),
-        TopicEvent::List => list(alloc, hooks, incoming, port),
-        TopicEvent::Get => get(alloc, hooks, incoming, port),
-        TopicEvent::Unknown => unknown(alloc, join_ref, port, message),
+        TopicEvent::List => list(caller, hooks, incoming, port),
+        TopicEvent::Get => get(caller, hooks, incoming, port),
+        TopicEvent::Unknown => unknown(caller, join_ref, port, message),
     }
 }
 

@@ -6,13 +6,13 @@ ghost use Rattle.channel_session_rules.specs.Asked.{asked as asked_of, key_asked
 ghost use Rattle.channel_session_rules.specs.Rules.{said, says_ok, says_error, after_shout, after_track, after_update, after_untrack, ok as ok_message, on_ping, on_shout, on_track, on_update, on_untrack, on_unknown, told_ref, empty as empty_of};
 ghost use Rattle.channel_session_rules.specs.Replies.{Runs, RunsBy, RepliesWith};
 ghost use Rattle.channel_session_events.specs.Wording.{worded_by, ListsRows, TellsRows};
-ghost use Rattle.channel_session_events.specs.Under.{listed_under, list_under, get_under, gets_under};
+ghost use Rattle.channel_session_events.specs.Under.{done_by, listed_under, list_under, get_under, gets_under};
 
 use crate::asking::{Caller, Incoming};
 use channel_session_rules::{
-    Asked, Port, Reply, ShardFault, Stop, Written, empty_object, full_reason, read_asked, read_key,
-    ref_response, spoiling, stop_of, track_reason, update_reason, write_error, write_listed,
-    write_ok,
+    Asked, Get, List, Port, Refusal, Reply, Shout, Stop, Track, Untrack, Update, Written,
+    empty_object, full_reason, read_asked, read_key, ref_response, spoiling, stop_of, track_reason,
+    update_reason, write_error, write_listed, write_ok,
 };
 use hook_registry::{PresenceHooks, render_state};
 use phx_message::{Message, MsgRef};
@@ -25,15 +25,15 @@ fn refused(
     alloc: Global,
     join_ref: &Option<MsgRef>,
     message: &Message,
-    fault: ShardFault,
+    refusal: Refusal,
     reason: Option<&'static str>,
 ) -> Result<Reply, Stop>
-    ensures { RepliesWith (λ s. said (λ t. says_error join_ref.now message.now t s) fault
+    ensures { RepliesWith (λ s. said (λ t. says_error join_ref.now message.now t s) refusal
         (option_map (λ r. r.now) reason.entry)) false result }
 {
     match reason {
         Some(reason) => Ok(Reply::One(write_error(alloc, join_ref, message, reason)?)),
-        None => Err(stop_of(fault, false)),
+        None => Err(stop_of(refusal, false)),
     }
 }
 
@@ -45,27 +45,27 @@ fn bad_payload(alloc: Global, join_ref: &Option<MsgRef>, message: &Message) -> R
 }
 
 pub(crate) fn ping<P: Port>(
-    alloc: Global,
+    caller: Caller,
     join_ref: &Option<MsgRef>,
     port: &mut P,
     message: &Message,
 ) -> Result<Reply, Stop>
     requires { IsTrue (is_payload message.now.payload) }
-    ensures { Runs P.step (λ s. on_ping s join_ref.now message.now) port.old port.new result }
+    ensures { Runs (P.step caller.pid) (λ s. on_ping s join_ref.now message.now) port.old port.new result }
 {
     let payload = message.payload.clone()?;
-    Ok(Reply::One(write_ok(alloc, join_ref, message, payload)?))
+    Ok(Reply::One(write_ok(caller.alloc, join_ref, message, payload)?))
 }
 
 pub(crate) fn unknown<P: Port>(
-    alloc: Global,
+    caller: Caller,
     join_ref: &Option<MsgRef>,
     port: &mut P,
     message: &Message,
 ) -> Result<Reply, Stop>
-    ensures { Runs P.step (λ s. on_unknown s join_ref.now message.now) port.old port.new result }
+    ensures { Runs (P.step caller.pid) (λ s. on_unknown s join_ref.now message.now) port.old port.new result }
 {
-    Ok(Reply::One(write_error(alloc, join_ref, message, "unknown event")?))
+    Ok(Reply::One(write_error(caller.alloc, join_ref, message, "unknown event")?))
 }
 
 // What the port's answer to a shout leads to.
@@ -73,27 +73,37 @@ fn shouted(
     alloc: Global,
     join_ref: &Option<MsgRef>,
     message: &Message,
-    answer: Result<(), ShardFault>,
+    answer: Result<(), Refusal>,
 ) -> Result<Reply, Stop>
     ensures { RepliesWith (λ s. after_shout s join_ref.now message.now answer) (is_ok answer) result }
 {
     match answer {
         Ok(()) => Ok(Reply::Nothing),
-        Err(fault) => refused(alloc, join_ref, message, fault, full_reason(true, fault)),
+        Err(refusal) => refused(
+            alloc,
+            join_ref,
+            message,
+            refusal,
+            full_reason(true, refusal),
+        ),
     }
 }
 
 pub(crate) fn shout<P: Port>(
-    alloc: Global,
+    caller: Caller,
     join_ref: &Option<MsgRef>,
     port: &mut P,
     message: &Message,
 ) -> Result<Reply, Stop>
     requires { IsTrue (is_payload message.now.payload) }
-    ensures { Runs P.step (λ s. on_shout s join_ref.now message.now) port.old port.new result }
+    ensures { Runs (P.step caller.pid) (λ s. on_shout s join_ref.now message.now) port.old port.new result }
 {
-    let answer = port.shout(alloc, &message.topic, &message.payload);
-    shouted(alloc, join_ref, message, answer)
+    let shout = Shout {
+        topic: &message.topic,
+        payload: &message.payload,
+    };
+    let answer = port.call(caller.alloc, caller.pid, &shout);
+    shouted(caller.alloc, join_ref, message, answer)
 }
 
 // The reply that tells a reference.
@@ -129,13 +139,19 @@ fn tracked(
     alloc: Global,
     join_ref: &Option<MsgRef>,
     message: &Message,
-    answer: Result<Dot, ShardFault>,
+    answer: Result<Dot, Refusal>,
 ) -> Result<Reply, Stop>
     ensures { RepliesWith (λ s. after_track s join_ref.now message.now answer) (is_ok answer) result }
 {
     match answer {
         Ok(dot) => told(alloc, join_ref, message, &dot),
-        Err(fault) => refused(alloc, join_ref, message, fault, track_reason(true, fault)),
+        Err(refusal) => refused(
+            alloc,
+            join_ref,
+            message,
+            refusal,
+            track_reason(true, refusal),
+        ),
     }
 }
 
@@ -144,13 +160,13 @@ fn updated(
     alloc: Global,
     join_ref: &Option<MsgRef>,
     message: &Message,
-    answer: Result<Dot, ShardFault>,
+    answer: Result<Dot, Refusal>,
 ) -> Result<Reply, Stop>
     ensures { RepliesWith (λ s. after_update s join_ref.now message.now answer) (is_ok answer) result }
 {
     match answer {
         Ok(dot) => told(alloc, join_ref, message, &dot),
-        Err(fault) => refused(alloc, join_ref, message, fault, update_reason(fault)),
+        Err(refusal) => refused(alloc, join_ref, message, refusal, update_reason(refusal)),
     }
 }
 
@@ -161,12 +177,16 @@ fn track_asked<P: Port>(
     message: &Message,
     asked: Asked,
 ) -> Result<Reply, Stop>
-    requires { caller.pid ≤ 2 ^ 62 }
-    ensures { Runs P.step (λ s. on_track caller.pid s join_ref.now message.now asked) port.old port.new result }
+    ensures { Runs (P.step caller.pid) (λ s. on_track s join_ref.now message.now asked) port.old port.new result }
 {
     match asked {
         Asked::Wants(key, meta) => {
-            let answer = port.track(caller.alloc, caller.pid, &message.topic, &key, &meta);
+            let track = Track {
+                topic: &message.topic,
+                key: &key,
+                meta: &meta,
+            };
+            let answer = port.call(caller.alloc, caller.pid, &track);
             tracked(caller.alloc, join_ref, message, answer)
         }
         Asked::Nothing => bad_payload(caller.alloc, join_ref, message),
@@ -180,8 +200,7 @@ pub(crate) fn track<P: Port>(
     port: &mut P,
     message: &Message,
 ) -> Result<Reply, Stop>
-    requires { caller.pid ≤ 2 ^ 62 }
-    ensures { Runs P.step (λ s. on_track caller.pid s join_ref.now message.now (asked_of message.now.payload))
+    ensures { Runs (P.step caller.pid) (λ s. on_track s join_ref.now message.now (asked_of message.now.payload))
         port.old port.new result }
 {
     let asked = read_asked(caller.alloc, message.payload.as_value())?;
@@ -195,12 +214,16 @@ fn update_asked<P: Port>(
     message: &Message,
     asked: Asked,
 ) -> Result<Reply, Stop>
-    requires { caller.pid ≤ 2 ^ 62 }
-    ensures { Runs P.step (λ s. on_update caller.pid s join_ref.now message.now asked) port.old port.new result }
+    ensures { Runs (P.step caller.pid) (λ s. on_update s join_ref.now message.now asked) port.old port.new result }
 {
     match asked {
         Asked::Wants(key, meta) => {
-            let answer = port.update(caller.alloc, caller.pid, &message.topic, &key, &meta);
+            let update = Update {
+                topic: &message.topic,
+                key: &key,
+                meta: &meta,
+            };
+            let answer = port.call(caller.alloc, caller.pid, &update);
             updated(caller.alloc, join_ref, message, answer)
         }
         Asked::Nothing => bad_payload(caller.alloc, join_ref, message),
@@ -214,8 +237,7 @@ pub(crate) fn update<P: Port>(
     port: &mut P,
     message: &Message,
 ) -> Result<Reply, Stop>
-    requires { caller.pid ≤ 2 ^ 62 }
-    ensures { Runs P.step (λ s. on_update caller.pid s join_ref.now message.now (asked_of message.now.payload))
+    ensures { Runs (P.step caller.pid) (λ s. on_update s join_ref.now message.now (asked_of message.now.payload))
         port.old port.new result }
 {
     let asked = read_asked(caller.alloc, message.payload.as_value())?;
@@ -239,16 +261,22 @@ fn untracked(
     alloc: Global,
     join_ref: &Option<MsgRef>,
     message: &Message,
-    answer: Result<(), ShardFault>,
+    answer: Result<Vec<Dot>, Refusal>,
 ) -> Result<Reply, Stop>
-    ensures { RepliesWith (λ s. after_untrack s join_ref.now message.now answer) (is_ok answer) result }
+    ensures { RepliesWith (λ s. after_untrack s join_ref.now message.now (done_by answer)) (is_ok (done_by answer)) result }
 {
     match answer {
-        Ok(()) => match spoiling(empty_reply(alloc, join_ref, message)) {
+        Ok(_) => match spoiling(empty_reply(alloc, join_ref, message)) {
             Ok(reply) => Ok(Reply::One(reply)),
             Err(stop) => Err(stop),
         },
-        Err(fault) => refused(alloc, join_ref, message, fault, full_reason(true, fault)),
+        Err(refusal) => refused(
+            alloc,
+            join_ref,
+            message,
+            refusal,
+            full_reason(true, refusal),
+        ),
     }
 }
 
@@ -259,11 +287,15 @@ fn untrack_asked<P: Port>(
     message: &Message,
     key: Option<Key>,
 ) -> Result<Reply, Stop>
-    ensures { Runs P.step (λ s. on_untrack caller.pid s join_ref.now message.now key) port.old port.new result }
+    ensures { Runs (P.step caller.pid) (λ s. on_untrack s join_ref.now message.now key) port.old port.new result }
 {
     match key {
         Some(key) => {
-            let answer = port.untrack(caller.alloc, caller.pid, &message.topic, &key);
+            let untrack = Untrack {
+                topic: &message.topic,
+                key: &key,
+            };
+            let answer = port.call(caller.alloc, caller.pid, &untrack);
             untracked(caller.alloc, join_ref, message, answer)
         }
         None => bad_payload(caller.alloc, join_ref, message),
@@ -276,7 +308,7 @@ pub(crate) fn untrack<P: Port>(
     port: &mut P,
     message: &Message,
 ) -> Result<Reply, Stop>
-    ensures { Runs P.step (λ s. on_untrack caller.pid s join_ref.now message.now (key_asked message.now.payload))
+    ensures { Runs (P.step caller.pid) (λ s. on_untrack s join_ref.now message.now (key_asked message.now.payload))
         port.old port.new result }
 {
     let key = read_key(caller.alloc, message.payload.as_value())?;
@@ -321,34 +353,35 @@ fn told_rows<H: PresenceHooks>(
     alloc: Global,
     hooks: &H,
     incoming: Incoming<'_>,
-    answer: Result<SharedRows, ShardFault>,
+    answer: Result<SharedRows, Refusal>,
 ) -> Result<Reply, Stop>
     ensures { TellsRows H.PresenceHooks hooks.now incoming.entry.join.now incoming.entry.message.now answer result }
 {
     let Incoming { join, message } = incoming;
     match answer {
         Ok(rows) => spoiling(rows_reply(alloc, hooks, incoming, rows)),
-        Err(fault) => refused(
+        Err(refusal) => refused(
             alloc,
             &join.join_ref,
             message,
-            fault,
-            full_reason(true, fault),
+            refusal,
+            full_reason(true, refusal),
         ),
     }
 }
 
 pub(crate) fn list<P: Port, H: PresenceHooks>(
-    alloc: Global,
+    caller: Caller,
     hooks: &H,
     incoming: Incoming<'_>,
     port: &mut P,
 ) -> Result<Reply, Stop>
-    ensures { RunsBy (worded_by H.PresenceHooks hooks.now) P.step
+    ensures { RunsBy (worded_by H.PresenceHooks hooks.now) (P.step caller.pid)
         (list_under incoming.entry.join.now incoming.entry.message.now) port.old port.new result }
 {
-    let answer = port.list(alloc, &incoming.message.topic);
-    told_rows(alloc, hooks, incoming, answer)
+    let topic = &incoming.message.topic;
+    let answer = port.call(caller.alloc, caller.pid, &List { topic });
+    told_rows(caller.alloc, hooks, incoming, answer)
 }
 
 // The reply to a get.
@@ -370,7 +403,7 @@ fn told_got<H: PresenceHooks>(
     alloc: Global,
     hooks: &H,
     incoming: Incoming<'_>,
-    answer: Result<Vec<(Dot, Row)>, ShardFault>,
+    answer: Result<Vec<(Dot, Row)>, Refusal>,
 ) -> Result<Reply, Stop>
     ensures { TellsRows H.PresenceHooks hooks.now incoming.entry.join.now incoming.entry.message.now
         (seen_by (λ v. v.items) answer) result }
@@ -378,44 +411,48 @@ fn told_got<H: PresenceHooks>(
     let Incoming { join, message } = incoming;
     match answer {
         Ok(rows) => spoiling(got_reply(alloc, hooks, incoming, rows)),
-        Err(fault) => refused(
+        Err(refusal) => refused(
             alloc,
             &join.join_ref,
             message,
-            fault,
-            full_reason(true, fault),
+            refusal,
+            full_reason(true, refusal),
         ),
     }
 }
 
 fn get_asked<P: Port, H: PresenceHooks>(
-    alloc: Global,
+    caller: Caller,
     hooks: &H,
     incoming: Incoming<'_>,
     port: &mut P,
     key: Option<Key>,
 ) -> Result<Reply, Stop>
-    ensures { RunsBy (worded_by H.PresenceHooks hooks.now) P.step
+    ensures { RunsBy (worded_by H.PresenceHooks hooks.now) (P.step caller.pid)
         (get_under incoming.entry.join.now incoming.entry.message.now key) port.old port.new result }
 {
     match key {
         Some(key) => {
-            let answer = port.get(alloc, &incoming.message.topic, &key);
-            told_got(alloc, hooks, incoming, answer)
+            let get = Get {
+                topic: &incoming.message.topic,
+                key: &key,
+            };
+            let answer = port.call(caller.alloc, caller.pid, &get);
+            told_got(caller.alloc, hooks, incoming, answer)
         }
-        None => bad_payload(alloc, &incoming.join.join_ref, incoming.message),
+        None => bad_payload(caller.alloc, &incoming.join.join_ref, incoming.message),
     }
 }
 
 pub(crate) fn get<P: Port, H: PresenceHooks>(
-    alloc: Global,
+    caller: Caller,
     hooks: &H,
     incoming: Incoming<'_>,
     port: &mut P,
 ) -> Result<Reply, Stop>
-    ensures { RunsBy (worded_by H.PresenceHooks hooks.now) P.step
+    ensures { RunsBy (worded_by H.PresenceHooks hooks.now) (P.step caller.pid)
         (gets_under incoming.entry.join.now incoming.entry.message.now) port.old port.new result }
 {
-    let key = read_key(alloc, incoming.message.payload.as_value())?;
-    get_asked(alloc, hooks, incoming, port, key)
+    let key = read_key(caller.alloc, incoming.message.payload.as_value())?;
+    get_asked(caller, hooks, incoming, port, key)
 }

@@ -1,5 +1,5 @@
 //! Joins and their ends.
-ghost use Rattle.std.specs.Prelude.{◌≡◌, ◌≤◌, ◌^◌, IfOk, IfErr, option_map, is_ok, false};
+ghost use Rattle.std.specs.Prelude.{◌≡◌, IfOk, IfErr, option_map, is_ok, false};
 ghost use Rattle.serde_json.specs.Written.{has_float as float_within};
 ghost use Rattle.channel_session_rules.specs.InForce.{joined_of};
 ghost use Rattle.channel_session_events.specs.Joining.{Joins, JoinsAsked, JoinsBehind, Leads, Leaves, JoinRuns, JoinRepliesWith, Rejoins, Subscribed, leave_end};
@@ -8,9 +8,9 @@ ghost use Rattle.channel_session_rules.specs.Rules.{InForce, said, refuses, subs
 
 use crate::asking::Caller;
 use channel_session_rules::{
-    Asked, Join, MAX_TOPICS, Port, Reply, ShardFault, Stop, Sub, Written, empty_object,
-    full_reason, read_asked, ref_response, spoil, stop_of, track_reason, write_close, write_error,
-    write_ok,
+    Asked, Join, MAX_TOPICS, Port, Refusal, Reply, Stop, Sub, Subscribe, Track, Unsubscribe,
+    UntrackAll, Written, empty_object, read_asked, ref_response, spoil, stop_of, subscribe_reason,
+    track_reason, write_close, write_error, write_ok,
 };
 use phx_message::{Message, MsgRef};
 use presence_base::{Dot, Json, Key, Meta, Topic};
@@ -18,13 +18,18 @@ use std::alloc::{AllocError, Global};
 
 // The calls that end a join.
 fn end_join<P: Port>(caller: Caller, topic: &Topic, join: &Join, port: &mut P) -> Result<(), Stop>
-    ensures { Leads P.step caller.pid topic.now join.now.sub port.old port.new result }
+    ensures { Leads (P.step caller.pid) topic.now join.now.sub port.old port.new result }
 {
-    match port.unsubscribe(caller.alloc, topic, &join.sub) {
-        Err(fault) => Err(stop_of(fault, true)),
-        Ok(()) => match port.untrack_all(caller.alloc, caller.pid, topic) {
-            Err(fault) => Err(stop_of(fault, true)),
-            Ok(()) => Ok(()),
+    let Caller { alloc, pid, .. } = caller;
+    let unsubscribe = Unsubscribe {
+        topic,
+        sub: join.sub,
+    };
+    match port.call(alloc, pid, &unsubscribe) {
+        Err(refusal) => Err(stop_of(refusal, true)),
+        Ok(()) => match port.call(alloc, pid, &UntrackAll { topic }) {
+            Err(refusal) => Err(stop_of(refusal, true)),
+            Ok(_) => Ok(()),
         },
     }
 }
@@ -59,26 +64,26 @@ fn refusing(alloc: Global, message: &Message, reason: &str) -> Result<JoinReply,
 fn refused_join(
     alloc: Global,
     message: &Message,
-    fault: ShardFault,
+    refusal: Refusal,
     reason: Option<&'static str>,
 ) -> Result<JoinReply, Stop>
     ensures { JoinRepliesWith
-        (λ before kind s. said (refuses before s message.now) fault (option_map (λ r. r.now) reason.entry))
+        (λ before kind s. said (refuses before s message.now) refusal (option_map (λ r. r.now) reason.entry))
         false message.now result }
 {
     match reason {
         Some(reason) => refusing(alloc, message, reason),
-        None => Err(stop_of(fault, false)),
+        None => Err(stop_of(refusal, false)),
     }
 }
 
 // What the port's answer to a subscription leads to.
 fn subscribed(
     alloc: Global,
-    first: bool,
+    first: Option<bool>,
     message: &Message,
     reply: Written,
-    answer: Result<Sub, ShardFault>,
+    answer: Result<Sub, Refusal>,
 ) -> Result<JoinReply, Stop>
     ensures gives { Subscribed first message.now reply.message answer result }
     ensures heeds { IfErr result (λ _. is_ok answer ≡ false) }
@@ -88,54 +93,55 @@ fn subscribed(
             reply,
             sub: Some(sub),
         }),
-        Err(fault) => refused_join(alloc, message, fault, full_reason(first, fault)),
+        Err(refusal) => refused_join(alloc, message, refusal, subscribe_reason(first, refusal)),
     }
 }
 
 // Subscribes. The reply is written before the call, since nothing may fail behind it.
 fn subscribe_with<P: Port>(
-    alloc: Global,
-    first: bool,
+    caller: Caller,
+    first: Option<bool>,
     port: &mut P,
     message: &Message,
     response: Json,
 ) -> Result<JoinReply, Stop>
     requires whole { float_within response ≡ false }
-    ensures { JoinRuns P.step
+    ensures { JoinRuns (P.step caller.pid)
         (λ before kind s. subscribes first before kind s message.now response)
         message.now port.old port.new result }
 {
-    let reply = write_ok(alloc, join_ref_for(message), message, response)?;
-    let answer = port.subscribe(alloc, &message.topic);
-    subscribed(alloc, first, message, reply, answer)
+    let reply = write_ok(caller.alloc, join_ref_for(message), message, response)?;
+    let topic = &message.topic;
+    let answer = port.call(caller.alloc, caller.pid, &Subscribe { topic });
+    subscribed(caller.alloc, first, message, reply, answer)
 }
 
 fn subscribe_plain<P: Port>(
-    alloc: Global,
+    caller: Caller,
     first: bool,
     port: &mut P,
     message: &Message,
 ) -> Result<JoinReply, Stop>
-    ensures { JoinRuns P.step
-        (λ before kind s. subscribes first before kind s message.now empty_of)
+    ensures { JoinRuns (P.step caller.pid)
+        (λ before kind s. subscribes (Some first) before kind s message.now empty_of)
         message.now port.old port.new result }
 {
-    let response = empty_object(alloc);
-    subscribe_with(alloc, first, port, message, response)
+    let response = empty_object(caller.alloc);
+    subscribe_with(caller, Some(first), port, message, response)
 }
 
 fn subscribe_told<P: Port>(
-    alloc: Global,
+    caller: Caller,
     port: &mut P,
     message: &Message,
     dot: &Dot,
 ) -> Result<JoinReply, Stop>
-    ensures { JoinRuns P.step
-        (λ before kind s. subscribes false before kind s message.now (told_ref dot.now))
+    ensures { JoinRuns (P.step caller.pid)
+        (λ before kind s. subscribes None before kind s message.now (told_ref dot.now))
         message.now port.old port.new result }
 {
-    let response = ref_response(alloc, dot)?;
-    subscribe_with(alloc, false, port, message, response)
+    let response = ref_response(caller.alloc, dot)?;
+    subscribe_with(caller, None, port, message, response)
 }
 
 // Who joins: a session that has joined `count` topics, and whether the join's calls are its text's first.
@@ -153,19 +159,23 @@ fn track_then_subscribe<P: Port>(
     key: &Key,
     meta: &Meta,
 ) -> Result<JoinReply, Stop>
-    requires { joiner.caller.pid ≤ 2 ^ 62 }
-    ensures { JoinRuns P.step
-        (λ before kind s. tracks joiner.caller.pid joiner.first before kind s message.now key.now meta.now)
+    ensures { JoinRuns (P.step joiner.caller.pid)
+        (λ before kind s. tracks joiner.first before kind s message.now key.now meta.now)
         message.now port.old port.new result }
 {
     let Joiner { caller, first, .. } = joiner;
     let alloc = caller.alloc;
-    match port.track(alloc, caller.pid, &message.topic, key, meta) {
+    let track = Track {
+        topic: &message.topic,
+        key,
+        meta,
+    };
+    match port.call(alloc, caller.pid, &track) {
         Ok(dot) => {
-            let rest = subscribe_told(alloc, port, message, &dot);
+            let rest = subscribe_told(caller, port, message, &dot);
             spoil(rest)
         }
-        Err(fault) => refused_join(alloc, message, fault, track_reason(first, fault)),
+        Err(refusal) => refused_join(alloc, message, refusal, track_reason(first, refusal)),
     }
 }
 
@@ -175,8 +185,7 @@ fn join_asked<P: Port>(
     message: &Message,
     asked: Asked,
 ) -> Result<JoinReply, Stop>
-    requires { joiner.caller.pid ≤ 2 ^ 62 }
-    ensures { JoinsAsked P.step joiner.caller.pid joiner.count joiner.first message.now asked
+    ensures { JoinsAsked (P.step joiner.caller.pid) joiner.count joiner.first message.now asked
         port.old port.new result }
 {
     let Joiner {
@@ -191,7 +200,7 @@ fn join_asked<P: Port>(
             if count >= MAX_TOPICS {
                 refusing(alloc, message, "too many topics")
             } else {
-                subscribe_plain(alloc, first, port, message)
+                subscribe_plain(caller, first, port, message)
             }
         }
         Asked::Wants(key, meta) => {
@@ -211,8 +220,7 @@ pub fn join<P: Port>(
     port: &mut P,
     message: &Message,
 ) -> Result<JoinReply, Stop>
-    requires { caller.pid ≤ 2 ^ 62 }
-    ensures { Joins P.step caller.pid count message.now port.old port.new result }
+    ensures { Joins (P.step caller.pid) count message.now port.old port.new result }
 {
     let asked = read_asked(caller.alloc, message.payload.as_value())?;
     let joiner = Joiner {
@@ -238,8 +246,7 @@ fn join_behind<P: Port>(
     asked: Asked,
     close: Written,
 ) -> Result<RejoinReply, Stop>
-    requires { joiner.caller.pid ≤ 2 ^ 62 }
-    ensures { JoinsBehind P.step joiner.caller.pid joiner.count joiner.first
+    ensures { JoinsBehind (P.step joiner.caller.pid) joiner.count joiner.first
         close.message message.now asked port.old port.new result }
 {
     match join_asked(joiner, port, message, asked) {
@@ -256,8 +263,7 @@ pub fn rejoin<P: Port>(
     port: &mut P,
     message: &Message,
 ) -> Result<RejoinReply, Stop>
-    requires { caller.pid ≤ 2 ^ 62 }
-    ensures { Rejoins P.step caller.pid count (joined_of (message.now.topic, join.now)) message.now
+    ensures { Rejoins (P.step caller.pid) count (joined_of (message.now.topic, join.now)) message.now
         port.old port.new result }
 {
     let close = write_close(caller.alloc, &join.join_ref, &message.topic)?;
@@ -294,7 +300,7 @@ pub fn leave<P: Port>(
     port: &mut P,
     message: &Message,
 ) -> Result<Reply, Stop>
-    ensures { Leaves P.step caller.pid (joined_of (message.now.topic, join.now)) message.now
+    ensures { Leaves (P.step caller.pid) (joined_of (message.now.topic, join.now)) message.now
         port.old port.new result }
 {
     let reply = leave_reply(caller.alloc, join, message)?;

@@ -19,10 +19,12 @@ use Rattle.channel_session_rules.specs.Steps.{Made, Stepped}
 use Rattle.channel_session_rules.specs.Sub.{Sub}
 use Rattle.channel_session_rules.specs.ShardFault.{ShardFault}
 use Rattle.channel_session_rules.specs.ShardFault.TheVariants.{AlreadyTracked, NoPresence, ClockFull, JournalFull, NoSub, BadIncarnation, OutOfMemory}
-use Rattle.channel_session_rules.specs.Asks.{track, update, untrack, untrack_all, list, get, subscribe, take, unsubscribe, waits, shout}
+use Rattle.channel_session_rules.specs.Asks.{Ask, Given, track, update, untrack, untrack_all, list, get, subscribe, take, unsubscribe, waits, shout}
 use Rattle.channel_session_rules.specs.Frames.{message_of}
 use Rattle.channel_session_laws.specs.Laws.{AllFramesMirror, CallsGive}
-use Rattle.channel_session_laws.specs.Local.{LocalStep}
+use Rattle.channel_session_laws.specs.Local.{TableStep}
+use Rattle.channel_session_rules.specs.Seen.{in_table}
+use Rattle.channel_session_rules.specs.declared.refusal.Refusal.TheVariants.{OverRation, NotGranted, Table}
 use Rattle.channel_session_laws.specs.Mirrors.{after_reading, mirror_from, Mirrors, given_after, given_to, given_by}
 use Rattle.channel_session_laws.proofs.Mirroring.{frames_mirror}
 
@@ -118,27 +120,34 @@ same_items : (old : History) (m n max : ℕ) (items : List Item) → items ≡ i
 same_items old m n max items e true s = ap (λ z. items_given old z max) (sym (eqb-true m n s)) ∙ sym e
 same_items old m n max items e false s = refl
 
-take_call : (old new : History) (n : ℕ) (t : List ℕ) (sub : Sub) (max : ℕ) (a : Result (List Item) ShardFault) → LocalStep old (take t sub max) a new → given_to new n ≡ given_to old n ++ given_by (take t sub max) a n
+take_call : (pid : ℕ) (old new : History) (n : ℕ) (t : List ℕ) (sub : Sub) (max : ℕ) (a : Result (List Item) ShardFault) → TableStep pid old (take t sub max) a new → given_to new n ≡ given_to old n ++ given_by (take t sub max) (in_table a) n
 unfolding outcome_of
-take_call old new n t sub max (Ok items) h =
+take_call pid old new n t sub max (Ok items) h =
     made_gives old new (steps_are.Take sub.number max) n h.stepped ∙ ap (λ xs. given_to old n ++ xs) (same_items old sub.number n max items h.given (nat_eq sub.number n) refl)
-take_call old new n t sub max (Err AlreadyTracked) h = absurd (never_tracked (topic_of old sub.number) max (queue old sub.number) h.given)
-take_call old new n t sub max (Err NoPresence) h = absurd (never_absent (topic_of old sub.number) max (queue old sub.number) h.given)
-take_call old new n t sub max (Err ClockFull) h = kept old new n h.stepped
-take_call old new n t sub max (Err JournalFull) h = kept old new n h.stepped
-take_call old new n t sub max (Err NoSub) h = kept old new n h.stepped
-take_call old new n t sub max (Err BadIncarnation) h = kept old new n h.stepped
-take_call old new n t sub max (Err OutOfMemory) h = kept old new n h.stepped
+take_call pid old new n t sub max (Err AlreadyTracked) h = absurd (never_tracked (topic_of old sub.number) max (queue old sub.number) h.given)
+take_call pid old new n t sub max (Err NoPresence) h = absurd (never_absent (topic_of old sub.number) max (queue old sub.number) h.given)
+take_call pid old new n t sub max (Err ClockFull) h = kept old new n h.stepped
+take_call pid old new n t sub max (Err JournalFull) h = kept old new n h.stepped
+take_call pid old new n t sub max (Err NoSub) h = kept old new n h.stepped
+take_call pid old new n t sub max (Err BadIncarnation) h = kept old new n h.stepped
+take_call pid old new n t sub max (Err OutOfMemory) h = kept old new n h.stepped
+
+-- a call gives what the table answers to it
+table_gives : (pid : ℕ) (old new : History) (q : Ask) (a : Result (Given q) ShardFault) → TableStep pid old q a new → (n : ℕ) → given_to new n ≡ given_to old n ++ given_by q (in_table a) n
+table_gives pid old new (track t k m) a h n = quiet_call old new (steps_are.Track pid t k m) n refl a h.stepped
+table_gives pid old new (update t k m) a h n = quiet_call old new (steps_are.Update pid t k m) n refl a h.stepped
+table_gives pid old new (untrack t k) a h n = quiet_call old new (steps_are.Untrack pid t k) n refl a h.stepped
+table_gives pid old new (untrack_all t) a h n = quiet_call old new (steps_are.UntrackAll pid t) n refl a h.stepped
+table_gives pid old new (list t) a h n = quiet_call old new (steps_are.List t) n refl a h.stepped
+table_gives pid old new (get t k) a h n = quiet_call old new (steps_are.Get t k) n refl a h.stepped
+table_gives pid old new (subscribe t) a h n = quiet_call old new (steps_are.Subscribe t) n refl a h.stepped
+table_gives pid old new (take t sub max) a h n = take_call pid old new n t sub max a h
+table_gives pid old new (unsubscribe t sub) a h n = quiet_call old new (steps_are.Unsubscribe sub.number) n refl a h.stepped
+table_gives pid old new (waits t sub) a h n = kept old new n h.0
+table_gives pid old new (shout t p) a h n = quiet_call old new (steps_are.Shout t p) n refl a h.stepped
 
 pub calls_give : CallsGive
-calls_give old new (track pid t k m) a h n = quiet_call old new (steps_are.Track pid t k m) n refl a h.stepped
-calls_give old new (update pid t k m) a h n = quiet_call old new (steps_are.Update pid t k m) n refl a h.stepped
-calls_give old new (untrack pid t k) a h n = quiet_call old new (steps_are.Untrack pid t k) n refl a h.stepped
-calls_give old new (untrack_all pid t) a h n = quiet_call old new (steps_are.UntrackAll pid t) n refl a h.stepped
-calls_give old new (list t) a h n = quiet_call old new (steps_are.List t) n refl a h.stepped
-calls_give old new (get t k) a h n = quiet_call old new (steps_are.Get t k) n refl a h.stepped
-calls_give old new (subscribe t) a h n = quiet_call old new (steps_are.Subscribe t) n refl a h.stepped
-calls_give old new (take t sub max) a h n = take_call old new n t sub max a h
-calls_give old new (unsubscribe t sub) a h n = quiet_call old new (steps_are.Unsubscribe sub.number) n refl a h.stepped
-calls_give old new (waits t sub) a h n = kept old new n h.0
-calls_give old new (shout t p) a h n = quiet_call old new (steps_are.Shout t p) n refl a h.stepped
+calls_give pid old new q (Ok x) h n = table_gives pid old new q (Ok x) h n
+calls_give pid old new q (Err (Table e)) h n = table_gives pid old new q (Err e) h n
+calls_give pid old new q (Err OverRation) h n = absurd h
+calls_give pid old new q (Err NotGranted) h n = absurd h

@@ -3,7 +3,7 @@ use Rattle.std.proofs.Common.{◌≡◌, ◌||◌, ℕ, Bool, true, false, not, 
 use Rattle.std.specs.List.{filter, list_any}
 use Rattle.std.proofs.lemmas.List.Elements.{filter-append}
 use Rattle.presence_journal_data.specs.declared.rows.Item.{Item}
-use Rattle.channel_session_rules.specs.ShardFault.{ShardFault}
+use Rattle.channel_session_rules.specs.declared.refusal.Refusal.{Refusal}
 use Rattle.channel_session_rules.specs.Delivering.{then_told, then_take, delivers, delivery}
 use Rattle.channel_session_rules.specs.InForce.{Joined, InForce}
 use Rattle.channel_session_rules.specs.Rules.{End, answers}
@@ -16,11 +16,11 @@ use Rattle.channel_session_laws.proofs.TurnSteps.{Answered, Same, Keeps, leads_t
 
 -- ---- a delivery leaves the session as it was
 
-told_keeps : (s : InForce) (j : Joined) (before : List Said) (next : List Said → Script End) → ((said : List Said) → Keeps s (next said)) → (a : Result (List Item) ShardFault) → Keeps s (then_told j before next a)
+told_keeps : (s : InForce) (j : Joined) (before : List Said) (next : List Said → Script End) → ((said : List Said) → Keeps s (next said)) → (a : Result (List Item) Refusal) → Keeps s (then_told j before next a)
 told_keeps s j before next k (Ok items) = k _
 told_keeps s j before next k (Err e) = unsaid_leads (Same s) None e
 
-take_keeps : (max : ℕ) (s : InForce) (j : Joined) (before : List Said) (next : List Said → Script End) → ((said : List Said) → Keeps s (next said)) → (a : Result Bool ShardFault) → Keeps s (then_take max j before next a)
+take_keeps : (max : ℕ) (s : InForce) (j : Joined) (before : List Said) (next : List Said → Script End) → ((said : List Said) → Keeps s (next said)) → (a : Result Bool Refusal) → Keeps s (then_take max j before next a)
 take_keeps max s j before next k (Ok true) = λ a. told_keeps s j before next k a
 take_keeps max s j before next k (Ok false) = k before
 take_keeps max s j before next k (Err e) = unsaid_leads (Same s) None e

@@ -20,6 +20,7 @@ use Rattle.presence_journal.proofs.Topics.{topic_of-then, queue-then}
 use Rattle.presence_metas.specs.Listing.{Listing}
 use Rattle.channel_session_rules.specs.Steps.{refusal, is_found}
 use Rattle.channel_session_rules.specs.ShardFault.{ShardFault}
+use Rattle.channel_session_rules.specs.declared.refusal.Refusal.{Refusal}
 use Rattle.channel_session_rules.specs.ShardFault.TheVariants.{JournalFull}
 use Rattle.channel_session_rules.specs.Sub.{Sub}
 use Rattle.channel_session_rules.specs.Asks.{track, update, untrack, untrack_all, list, get, subscribe, unsubscribe, shout}
@@ -199,31 +200,31 @@ module _ (lists : List ℕ → Listing) (s : InForce) (h : History) (st : Stands
   low : nat_le s.pid (2 ^ 62) ≡ true
   low = le-leb s.pid (2 ^ 62) st.pid
 
-  pub after_track : (k : List ℕ) (m : Data) → Stands lists s (after_in h (track s.pid t k m))
+  pub after_track : (k : List ℕ) (m : Data) → Stands lists s (after_in s.pid h (track t k m))
   unfolding after_in
   after_track k m = stands_after lists s h (steps_are.Track s.pid t k m) st low (λ n. refl)
 
-  pub after_update : (k : List ℕ) (m : Data) → Stands lists s (after_in h (update s.pid t k m))
+  pub after_update : (k : List ℕ) (m : Data) → Stands lists s (after_in s.pid h (update t k m))
   unfolding after_in
   after_update k m = stands_after lists s h (steps_are.Update s.pid t k m) st low (λ n. refl)
 
-  pub after_untrack : (pid : ℕ) (k : List ℕ) → Stands lists s (after_in h (untrack pid t k))
+  pub after_untrack : (k : List ℕ) → Stands lists s (after_in s.pid h (untrack t k))
   unfolding after_in
-  after_untrack pid k = stands_after lists s h (steps_are.Untrack pid t k) st refl (λ n. refl)
+  after_untrack k = stands_after lists s h (steps_are.Untrack s.pid t k) st refl (λ n. refl)
 
-  pub after_untrack_all : (pid : ℕ) → Stands lists s (after_in h (untrack_all pid t))
+  pub after_untrack_all : Stands lists s (after_in s.pid h (untrack_all t))
   unfolding after_in
-  after_untrack_all pid = stands_after lists s h (steps_are.UntrackAll pid t) st refl (λ n. refl)
+  after_untrack_all = stands_after lists s h (steps_are.UntrackAll s.pid t) st refl (λ n. refl)
 
-  pub after_list : Stands lists s (after_in h (list t))
+  pub after_list : Stands lists s (after_in s.pid h (list t))
   unfolding after_in
   after_list = stands_after lists s h (steps_are.List t) st refl (λ n. refl)
 
-  pub after_get : (k : List ℕ) → Stands lists s (after_in h (get t k))
+  pub after_get : (k : List ℕ) → Stands lists s (after_in s.pid h (get t k))
   unfolding after_in
   after_get k = stands_after lists s h (steps_are.Get t k) st refl (λ n. refl)
 
-  pub after_shout : (p : Data) → Stands lists s (after_in h (shout t p))
+  pub after_shout : (p : Data) → Stands lists s (after_in s.pid h (shout t p))
   unfolding after_in
   after_shout p = stands_after lists s h (steps_are.Shout t p) st refl (λ n. refl)
 
@@ -251,7 +252,7 @@ leaves_after lists s h t j found st is = record {
         fits_after lists h step found st.legal k
         (other_number h j.sub.number k.sub.number j.topic k.topic own.topic f.topic (λ p. apart_texts t k.topic other (find_topic t s.joined j is ∙ p))) f
 
-pub after_unsubscribe : (lists : List ℕ → Listing) (s : InForce) (h : History) (t : List ℕ) (j : Joined) → Stands lists s h → find t s.joined ≡ Some j → Stands lists (left s t) (after_in h (unsubscribe t j.sub))
+pub after_unsubscribe : (lists : List ℕ → Listing) (s : InForce) (h : History) (t : List ℕ) (j : Joined) → Stands lists s h → find t s.joined ≡ Some j → Stands lists (left s t) (after_in s.pid h (unsubscribe t j.sub))
 unfolding after_in
 after_unsubscribe lists s h t j st is = leaves_after lists s h t j (is_found h j.sub.slot j.sub.number) st is
 
@@ -284,7 +285,7 @@ new_fits lists h j n is topic waits = record {
   lists_are = λ q e. absurd (not_queued (queue h j.sub.number) q (ap (λ (x : Sub). queue h x.number) is ∙ waits) e);
 }
 
-same_Ok : (x y : Sub) → ◌≡◌ {A = Result Sub ShardFault} (Ok x) (Ok y) → x ≡ y
+same_Ok : (x y : Sub) → ◌≡◌ {A = Result Sub Refusal} (Ok x) (Ok y) → x ≡ y
 same_Ok x y e = cc
 
 joins_after : (lists : List ℕ → Listing) (kind : ℕ) (s : InForce) (h : History) (m : Message) (sub : Sub) → Stands lists s h → find m.topic s.joined ≡ None → is_full h ≡ false → sub ≡ record { slot = 0; number = last_number h + 1 } → Stands lists (joins kind s m sub) (after h (steps_are.Subscribe m.topic) None)
@@ -304,7 +305,7 @@ joins_after lists kind s h m sub st none room is = record {
     after_it : History
     after_it = after h (steps_are.Subscribe m.topic) None
 
-pub after_subscribe : (lists : List ℕ → Listing) (kind : ℕ) (s : InForce) (h : History) (m : Message) (sub : Sub) → Stands lists s h → find m.topic s.joined ≡ None → answer_in h (subscribe m.topic) ≡ Ok sub → Stands lists (joins kind s m sub) (after_in h (subscribe m.topic))
+pub after_subscribe : (lists : List ℕ → Listing) (kind : ℕ) (s : InForce) (h : History) (m : Message) (sub : Sub) → Stands lists s h → find m.topic s.joined ≡ None → answer_in s.pid h (subscribe m.topic) ≡ Ok sub → Stands lists (joins kind s m sub) (after_in s.pid h (subscribe m.topic))
 unfolding after_in answer_in outcome_of
 after_subscribe lists kind s h m sub st none = go (is_full h) refl
   where
@@ -315,6 +316,6 @@ after_subscribe lists kind s h m sub st none = go (is_full h) refl
     go false p e = joins_after lists kind s h m sub st none p (sym (same_Ok (record { slot = 0; number = last_number h + 1 }) sub e))
 
 -- a join that is refused leaves what stands
-pub refused_subscribe : (lists : List ℕ → Listing) (s : InForce) (h : History) (t : List ℕ) → Stands lists s h → Stands lists s (after_in h (subscribe t))
+pub refused_subscribe : (lists : List ℕ → Listing) (s : InForce) (h : History) (t : List ℕ) → Stands lists s h → Stands lists s (after_in s.pid h (subscribe t))
 unfolding after_in
 refused_subscribe lists s h t st = stands_after lists s h (steps_are.Subscribe t) st refl (λ n. refl)

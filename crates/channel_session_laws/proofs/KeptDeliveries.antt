@@ -12,8 +12,9 @@ use Rattle.presence_journal.specs.History.{History}
 use Rattle.presence_journal.specs.Queue.{Waiting, Behind, Queued, topic_of, queue, taken, is_waiting, listed_for}
 use Rattle.presence_journal.specs.Table.{IsLegal, after}
 use Rattle.presence_metas.specs.Listing.{Listing}
-use Rattle.channel_session_rules.specs.ShardFault.{ShardFault}
+use Rattle.channel_session_rules.specs.declared.refusal.Refusal.{Refusal}
 use Rattle.channel_session_rules.specs.ShardFault.TheVariants as shard_faults_are
+use Rattle.channel_session_rules.specs.declared.refusal.Refusal.TheVariants.{Table}
 use Rattle.channel_session_rules.specs.ShardFault.TheVariants.{NoSub}
 use Rattle.channel_session_rules.specs.Asks.{take, waits}
 use Rattle.channel_session_rules.specs.Delivering.{then_told, then_take, delivers}
@@ -71,7 +72,7 @@ Deals F lists s before ds js full g = Unit {0}
 Deals F lists s before ds js memory g = Unit {0}
 
 abbrev DealsPlayed : Type 0 → (List ℕ → Listing) → InForce → List Said → List Joined → List Joined → Script End → History → Type 0
-DealsPlayed F lists s before ds js script h = Deals F lists s before ds js (played script h).0 (played script h).1
+DealsPlayed F lists s before ds js script h = Deals F lists s before ds js (played s.pid script h).0 (played s.pid script h).1
 
 -- no later topic is the entry's
 abbrev NotIn : List Joined → Joined → Type 0
@@ -87,8 +88,8 @@ record Starts (F : Type 0) (lists : List ℕ → Listing) (h : History) (ds js :
   apart : AreApart js
   not_in : AllByRecursion (NotIn js) ds
 
-unsaid_deals : (F : Type 0) (lists : List ℕ → Listing) (s : InForce) (before : List Said) (ds js : List Joined) (h : History) (e : ShardFault) → Deals F lists s before ds js (unsaid e) h
-unsaid_deals F lists s before ds js h shard_faults_are.OutOfMemory = tt
+unsaid_deals : (F : Type 0) (lists : List ℕ → Listing) (s : InForce) (before : List Said) (ds js : List Joined) (h : History) (e : Refusal) → Deals F lists s before ds js (unsaid e) h
+unsaid_deals F lists s before ds js h (Table shard_faults_are.OutOfMemory) = tt
 unsaid_deals F lists s before ds js h _ = tt
 
 not_in_more : (j : Joined) (js : List Joined) (d : Joined) → NotIn (j ∷ js) d → (same_text d.topic j.topic ≡ false) × NotIn js d
@@ -153,7 +154,7 @@ taken_dealt F lists s before j js ds items (answers said after_it) g k d = recor
 taken_dealt F lists s before j js ds items full g k d = tt
 taken_dealt F lists s before j js ds items memory g k d = tt
 
-module _ (lists : List ℕ → Listing) (h : History) (legal : IsLegal h) (j : Joined) (own : Fits lists h j) (items : List Item) (is : answer_in h (take j.topic j.sub 256) ≡ Ok items) where
+module _ (pid : ℕ) (lists : List ℕ → Listing) (h : History) (legal : IsLegal h) (j : Joined) (own : Fits lists h j) (items : List Item) (is : answer_in pid h (take j.topic j.sub 256) ≡ Ok items) where
   later : History
   later = after h (steps_are.Take j.sub.number 256) None
 
@@ -164,16 +165,16 @@ module _ (lists : List ℕ → Listing) (h : History) (legal : IsLegal h) (j : J
   unfolding later now
   own_lists =
       client_own j.join_ref j.topic (lists j.topic) items
-      ∙ (ap (λ xs. mirror_from (lists j.topic) (map (message_of j.join_ref j.topic) xs)) (took_items h j.sub j.topic j.topic own.topic own.slot 256 items is)
+      ∙ (ap (λ xs. mirror_from (lists j.topic) (map (message_of j.join_ref j.topic) xs)) (took_items pid h j.sub j.topic j.topic own.topic own.slot 256 items is)
       ∙ (given_leads j.join_ref j.topic (lists j.topic) (listed_for h (topic_of h j.sub.number)) 256 (taken h j.sub.number) (queue h j.sub.number) own.lists_are
-      ∙ ap (λ xs. mirror_from [] (map (message_of j.join_ref j.topic) xs)) (sym (took_taken h j.sub j.topic j.topic own.topic own.slot 256 items is))))
+      ∙ ap (λ xs. mirror_from [] (map (message_of j.join_ref j.topic) xs)) (sym (took_taken pid h j.sub j.topic j.topic own.topic own.slot 256 items is))))
 
   own_even : Even now later j
   unfolding later now
   own_even = record {
-    topic = took_topic h j.sub j.topic j.topic own.topic own.slot 256 items is;
+    topic = took_topic pid h j.sub j.topic j.topic own.topic own.slot 256 items is;
     slot = own.slot;
-    served = took_all h j.sub j.topic j.topic own.topic own.slot items is;
+    served = took_all pid h j.sub j.topic j.topic own.topic own.slot items is;
     lists_are = own_lists;
   }
 
@@ -221,42 +222,42 @@ is_served Behind e = absurd (cc)
 is_served (Queued []) e = refl
 is_served (Queued (i ∷ is)) e = absurd (cc)
 
-same_answer : (a b : Bool) → ◌≡◌ {A = Result Bool ShardFault} (Ok a) (Ok b) → a ≡ b
+same_answer : (a b : Bool) → ◌≡◌ {A = Result Bool Refusal} (Ok a) (Ok b) → a ≡ b
 same_answer a b e = cc
 
-waits_answer : (h : History) (j : Joined) → topic_of h j.sub.number ≡ Some j.topic → j.sub.slot ≡ 0 → answer_in h (waits j.topic j.sub) ≡ Ok (is_waiting (queue h j.sub.number))
+waits_answer : (pid : ℕ) (h : History) (j : Joined) → topic_of h j.sub.number ≡ Some j.topic → j.sub.slot ≡ 0 → answer_in pid h (waits j.topic j.sub) ≡ Ok (is_waiting (queue h j.sub.number))
 unfolding answer_in
-waits_answer h j there slot = λ i. cond (is_some (there i) && nat_eq (slot i) 0) (Ok (is_waiting (queue h j.sub.number))) (Err NoSub)
+waits_answer pid h j there slot = λ i. cond (is_some (there i) && nat_eq (slot i) 0) (Ok (is_waiting (queue h j.sub.number))) (Err (Table NoSub))
 
 -- the delivery of the topics that follow
 abbrev Rest : Type 0 → InForce → List Joined → Type 0
 Rest F s js = (lists : List ℕ → Listing) (h : History) (ds : List Joined) (before : List Said) → Starts F lists h ds js → DealsPlayed F lists s before ds js (delivers 256 s js before) h
 
 module _ (F : Type 0) (lists : List ℕ → Listing) (s : InForce) (h : History) (j : Joined) (js ds : List Joined) (before : List Said) (st : Starts F lists h ds (j ∷ js)) (rest : Rest F s js) where
-  taken_framed : (items : List Item) → answer_in h (take j.topic j.sub 256) ≡ Ok items → F → AllByRecursion IsFramed (map (message_of j.join_ref j.topic) items)
+  taken_framed : (items : List Item) → answer_in s.pid h (take j.topic j.sub 256) ≡ Ok items → F → AllByRecursion IsFramed (map (message_of j.join_ref j.topic) items)
   taken_framed items is f =
       items_framed j.join_ref j.topic items (st.entries f).0.0 (st.entries f).0.1
-      (subst ItemsAreSound (sym (took_items h j.sub j.topic j.topic st.waiting.0.topic st.waiting.0.slot 256 items is)) (items_given_sound h j.sub.number 256 (st.history f)))
+      (subst ItemsAreSound (sym (took_items s.pid h j.sub j.topic j.topic st.waiting.0.topic st.waiting.0.slot 256 items is)) (items_given_sound h j.sub.number 256 (st.history f)))
 
-  frames_deal : (a : Result (List Item) ShardFault) → answer_in h (take j.topic j.sub 256) ≡ a → DealsPlayed F lists s before ds (j ∷ js) (then_told j before (delivers 256 s js) a) (after_in h (take j.topic j.sub 256))
+  frames_deal : (a : Result (List Item) Refusal) → answer_in s.pid h (take j.topic j.sub 256) ≡ a → DealsPlayed F lists s before ds (j ∷ js) (then_told j before (delivers 256 s js) a) (after_in s.pid h (take j.topic j.sub 256))
   unfolding later now
   frames_deal (Ok items) is =
-      subst (λ g. DealsPlayed F lists s before ds (j ∷ js) (delivers 256 s js (before ++ map (item_to j) items)) g) (sym (took_history h j.sub j.topic j.topic st.waiting.0.topic st.waiting.0.slot 256 items is))
+      subst (λ g. DealsPlayed F lists s before ds (j ∷ js) (delivers 256 s js (before ++ map (item_to j) items)) g) (sym (took_history s.pid h j.sub j.topic j.topic st.waiting.0.topic st.waiting.0.slot 256 items is))
       (taken_dealt F lists s before j js ds items _ _ (taken_framed items is)
-      (rest (told lists (map (message_of j.join_ref j.topic) items)) (after h (steps_are.Take j.sub.number 256) None) (j ∷ ds) (before ++ map (item_to j) items) (taken_starts lists h st.legal j st.waiting.0 items is F js ds st)))
-  frames_deal (Err e) is = unsaid_deals F lists s before ds (j ∷ js) (after_in h (take j.topic j.sub 256)) e
+      (rest (told lists (map (message_of j.join_ref j.topic) items)) (after h (steps_are.Take j.sub.number 256) None) (j ∷ ds) (before ++ map (item_to j) items) (taken_starts s.pid lists h st.legal j st.waiting.0 items is F js ds st)))
+  frames_deal (Err e) is = unsaid_deals F lists s before ds (j ∷ js) (after_in s.pid h (take j.topic j.sub 256)) e
 
-  take_deals : (a : Result Bool ShardFault) → answer_in h (waits j.topic j.sub) ≡ a → DealsPlayed F lists s before ds (j ∷ js) (then_take 256 j before (delivers 256 s js) a) h
-  take_deals (Ok true) is = frames_deal (answer_in h (take j.topic j.sub 256)) refl
+  take_deals : (a : Result Bool Refusal) → answer_in s.pid h (waits j.topic j.sub) ≡ a → DealsPlayed F lists s before ds (j ∷ js) (then_take 256 j before (delivers 256 s js) a) h
+  take_deals (Ok true) is = frames_deal (answer_in s.pid h (take j.topic j.sub 256)) refl
   take_deals (Ok false) is =
       quiet_dealt F lists s before j js ds _ _
       (rest lists h (j ∷ ds) before
-      (quiet_starts F lists s h j js ds st (is_served (queue h j.sub.number) (same_answer false (is_waiting (queue h j.sub.number)) (sym is ∙ waits_answer h j st.waiting.0.topic st.waiting.0.slot)))))
+      (quiet_starts F lists s h j js ds st (is_served (queue h j.sub.number) (same_answer false (is_waiting (queue h j.sub.number)) (sym is ∙ waits_answer s.pid h j st.waiting.0.topic st.waiting.0.slot)))))
   take_deals (Err e) is = unsaid_deals F lists s before ds (j ∷ js) h e
 
   one_deals : DealsPlayed F lists s before ds (j ∷ js) (delivers 256 s (j ∷ js) before) h
   unfolding after_in
-  one_deals = take_deals (answer_in h (waits j.topic j.sub)) refl
+  one_deals = take_deals (answer_in s.pid h (waits j.topic j.sub)) refl
 
 all_deal : (F : Type 0) (s : InForce) (js : List Joined) → Rest F s js
 all_deal F s [] lists h ds before st = ends_even F lists s before ds h st

@@ -14,15 +14,16 @@ use Rattle.presence_metas.specs.Frames.{frame_in}
 use Rattle.presence_metas.specs.Listing.{Listing}
 use Rattle.presence_metas.specs.Values.{state_of}
 use Rattle.presence_metas.specs.declared.frame.FrameFault.TheVariants.{NotPresence}
-use Rattle.channel_session_rules.specs.ShardFault.{ShardFault}
+use Rattle.channel_session_rules.specs.declared.refusal.Refusal.{Refusal}
 use Rattle.channel_session_rules.specs.ShardFault.TheVariants as shard_faults_are
+use Rattle.channel_session_rules.specs.declared.refusal.Refusal.TheVariants.{Table}
 use Rattle.channel_session_rules.specs.Sub.{Sub}
 use Rattle.channel_session_rules.specs.Asked.{asked, key_asked}
 use Rattle.channel_session_rules.specs.Asks.{Ask, track, update, untrack, untrack_all, list, get, subscribe, unsubscribe, shout}
 use Rattle.channel_session_rules.specs.InForce.{Joined, InForce, find}
 use Rattle.channel_session_laws.specs.Keeping.{IsAnswer}
 use Rattle.channel_session_laws.specs.Local.{answer_in, after_in, played}
-use Rattle.channel_session_rules.specs.Rules.{End, answers, full, memory, says, ok, error, empty, told_ref, full_reason, track_reason, update_reason, unsaid, said, replied, on_event, on_topic, ended, on_leave, after_subscribe as subscribe_end, subscribes, then_subscribe, join_asked, on_join, left, joins, join_ref_of, answers_join, refuses, is_phoenix, by_route, route_of, kind_of, by_kind, rules, on_track, on_update, on_untrack, on_get, then_next}
+use Rattle.channel_session_rules.specs.Rules.{End, answers, full, memory, says, ok, error, empty, told_ref, full_reason, subscribe_reason, track_reason, update_reason, unsaid, said, replied, on_event, on_topic, ended, on_leave, after_subscribe as subscribe_end, subscribes, then_subscribe, join_asked, on_join, left, joins, join_ref_of, answers_join, refuses, is_phoenix, by_route, route_of, kind_of, by_kind, rules, on_track, on_update, on_untrack, on_get, then_next}
 use Rattle.channel_session_rules.specs.Said.{Said, message, listed, plainly}
 use Rattle.channel_session_rules.specs.Script.{Script, done}
 use Rattle.channel_session_rules.specs.declared.asked.Asked.{Asked}
@@ -87,9 +88,9 @@ Good F lists (answers said s) h = Answered F lists said s h
 Good F lists full h = Unit {0}
 Good F lists memory h = Unit {0}
 
--- the script comes to such an end
-abbrev pub Comes : Type 0 → (List ℕ → Listing) → Script End → History → Type 0
-Comes F lists script h = Good F lists (played script h).0 (played script h).1
+-- the script of the session of this number comes to such an end
+abbrev pub Comes : Type 0 → (List ℕ → Listing) → ℕ → Script End → History → Type 0
+Comes F lists pid script h = Good F lists (played pid script h).0 (played pid script h).1
 
 -- what stands as a message is answered; where F holds, it is sound and the message was decoded
 pub record Holds (F : Type 0) (lists : List ℕ → Listing) (s : InForce) (h : History) (m : Message) : Type 0 where
@@ -116,10 +117,10 @@ module _ (F : Type 0) (lists : List ℕ → Listing) where
   }
 
   -- a question that leaves what stands
-  holds_after : (s : InForce) (h : History) (m : Message) (q : Ask) → Holds F lists s h m → Stands lists s (after_in h q) → (F → AskSound q) → Holds F lists s (after_in h q) m
+  holds_after : (s : InForce) (h : History) (m : Message) (q : Ask) → Holds F lists s h m → Stands lists s (after_in s.pid h q) → (F → AskSound q) → Holds F lists s (after_in s.pid h q) m
   holds_after s h m q st now k = record {
     stands = now;
-    sound = λ f. record { joined = (st.sound f).joined; history = after_in_sound h q (st.sound f).history (k f) };
+    sound = λ f. record { joined = (st.sound f).joined; history = after_in_sound s.pid h q (st.sound f).history (k f) };
     heard = st.heard;
   }
 
@@ -142,19 +143,19 @@ module _ (F : Type 0) (lists : List ℕ → Listing) where
     state_is : (rows : List (Dot × Row)) → (F → RowsSound rows) → F → IsFramed (ok r m (state_of rows))
     state_is rows k = ok_is (state_of rows) (λ f. less_sound 36 90 (state_of rows) (omega arith) (state_sound rows (k f)))
 
-  unsaid_good : (h : History) (e : ShardFault) → Good F lists (unsaid e) h
-  unsaid_good h shard_faults_are.OutOfMemory = tt
+  unsaid_good : (h : History) (e : Refusal) → Good F lists (unsaid e) h
+  unsaid_good h (Table shard_faults_are.OutOfMemory) = tt
   unsaid_good h _ = tt
 
-  said_good : (h : History) (answer : List ℕ → End) (e : ShardFault) → ((t : List ℕ) → Good F lists (answer t) h) → (o : Option (List ℕ)) → Good F lists (said answer e o) h
+  said_good : (h : History) (answer : List ℕ → End) (e : Refusal) → ((t : List ℕ) → Good F lists (answer t) h) → (o : Option (List ℕ)) → Good F lists (said answer e o) h
   said_good h answer e f (Some t) = f t
   said_good h answer e f None = unsaid_good h e
 
   says_one : (s : InForce) (h : History) (m x : Message) → Holds F lists s h m → IsAnswer x → (F → IsFramed x) → Good F lists (says (x ∷ []) s) h
   says_one s h m x st none k = record { stands = st.stands; sound = st.sound; unheard = one_said x none k }
 
-  replied_good : {A : Type 0} (s : InForce) (h : History) (r : Option MsgRef) (m : Message) (reason : ShardFault → Option (List ℕ)) (reply : A → List Said) → Holds F lists s h m → (F → RefSound r)
-      → (a : Result A ShardFault) → ((x : A) → a ≡ Ok x → Unheard F (reply x)) → Good F lists (replied s r m reason reply a) h
+  replied_good : {A : Type 0} (s : InForce) (h : History) (r : Option MsgRef) (m : Message) (reason : Refusal → Option (List ℕ)) (reply : A → List Said) → Holds F lists s h m → (F → RefSound r)
+      → (a : Result A Refusal) → ((x : A) → a ≡ Ok x → Unheard F (reply x)) → Good F lists (replied s r m reason reply a) h
   replied_good s h r m reason reply st ref (Ok x) f = record { stands = st.stands; sound = st.sound; unheard = f x refl }
   replied_good s h r m reason reply st ref (Err e) f = said_good h (λ t. says (error r m t ∷ []) s) e (λ t. says_one s h m (error r m t) st (error_unheard r m t) (error_is s h r m st ref t)) (reason e)
 
@@ -162,13 +163,13 @@ module _ (F : Type 0) (lists : List ℕ → Listing) where
 
   module _ (kind : ℕ) (s : InForce) (h : History) (r : Option MsgRef) (m : Message) (st : Holds F lists s h m) (ref : F → RefSound r) where
     -- what stands after a question
-    now : (q : Ask) → Stands lists s (after_in h q) → (F → AskSound q) → Holds F lists s (after_in h q) m
+    now : (q : Ask) → Stands lists s (after_in s.pid h q) → (F → AskSound q) → Holds F lists s (after_in s.pid h q) m
     now q after k = holds_after s h m q st after k
 
-    shout_comes : Comes F lists (on_event s.pid kind s r m events_are.Shout) h
+    shout_comes : Comes F lists s.pid (on_event kind s r m events_are.Shout) h
     shout_comes =
-        replied_good s (after_in h (shout m.topic m.payload)) r m (full_reason true) (λ u. []) (now (shout m.topic m.payload) (after_shout lists s h st.stands m.topic m.payload) (λ f. heard_payload m (st.heard f))) ref
-        (answer_in h (shout m.topic m.payload)) (λ u e. nothing_said)
+        replied_good s (after_in s.pid h (shout m.topic m.payload)) r m (full_reason true) (λ u. []) (now (shout m.topic m.payload) (after_shout lists s h st.stands m.topic m.payload) (λ f. heard_payload m (st.heard f))) ref
+        (answer_in s.pid h (shout m.topic m.payload)) (λ u e. nothing_said)
 
     bad_comes : Good F lists (says (error r m (codes "bad payload") ∷ []) s) h
     bad_comes = says_one s h m (error r m (codes "bad payload")) st (error_unheard r m (codes "bad payload")) (error_is s h r m st ref (codes "bad payload"))
@@ -176,49 +177,49 @@ module _ (F : Type 0) (lists : List ℕ → Listing) where
     ref_unheard : (d : Dot) → Unheard F (message (ok r m (told_ref d)) ∷ [])
     ref_unheard d = one_said (ok r m (told_ref d)) (ok_unheard r m (told_ref d)) (told_is s h r m st ref d)
 
-    track_comes : (a : Asked) → (F → AskedSound a) → Comes F lists (on_track s.pid s r m a) h
+    track_comes : (a : Asked) → (F → AskedSound a) → Comes F lists s.pid (on_track s r m a) h
     track_comes Nothing k = bad_comes
     track_comes Bad k = bad_comes
     track_comes (Wants key meta) k =
-        replied_good s (after_in h (track s.pid m.topic key meta)) r m (track_reason true) (λ d. message (ok r m (told_ref d)) ∷ []) (now (track s.pid m.topic key meta) (after_track lists s h st.stands m.topic key meta) k) ref
-        (answer_in h (track s.pid m.topic key meta)) (λ d e. ref_unheard d)
+        replied_good s (after_in s.pid h (track m.topic key meta)) r m (track_reason true) (λ d. message (ok r m (told_ref d)) ∷ []) (now (track m.topic key meta) (after_track lists s h st.stands m.topic key meta) k) ref
+        (answer_in s.pid h (track m.topic key meta)) (λ d e. ref_unheard d)
 
-    update_comes : (a : Asked) → (F → AskedSound a) → Comes F lists (on_update s.pid s r m a) h
+    update_comes : (a : Asked) → (F → AskedSound a) → Comes F lists s.pid (on_update s r m a) h
     update_comes Nothing k = bad_comes
     update_comes Bad k = bad_comes
     update_comes (Wants key meta) k =
-        replied_good s (after_in h (update s.pid m.topic key meta)) r m update_reason (λ d. message (ok r m (told_ref d)) ∷ []) (now (update s.pid m.topic key meta) (after_update lists s h st.stands m.topic key meta) k) ref
-        (answer_in h (update s.pid m.topic key meta)) (λ d e. ref_unheard d)
+        replied_good s (after_in s.pid h (update m.topic key meta)) r m update_reason (λ d. message (ok r m (told_ref d)) ∷ []) (now (update m.topic key meta) (after_update lists s h st.stands m.topic key meta) k) ref
+        (answer_in s.pid h (update m.topic key meta)) (λ d e. ref_unheard d)
 
-    untrack_comes : (k : Option (List ℕ)) → Comes F lists (on_untrack s.pid s r m k) h
+    untrack_comes : (k : Option (List ℕ)) → Comes F lists s.pid (on_untrack s r m k) h
     untrack_comes None = bad_comes
     untrack_comes (Some key) =
-        replied_good s (after_in h (untrack s.pid m.topic key)) r m (full_reason true) (λ u. message (ok r m empty) ∷ []) (now (untrack s.pid m.topic key) (after_untrack lists s h st.stands m.topic s.pid key) (λ f. tt)) ref
-        (answer_in h (untrack s.pid m.topic key)) (λ u e. one_said (ok r m empty) (ok_unheard r m empty) (empty_is s h r m st ref))
+        replied_good s (after_in s.pid h (untrack m.topic key)) r m (full_reason true) (λ u. message (ok r m empty) ∷ []) (now (untrack m.topic key) (after_untrack lists s h st.stands m.topic key) (λ f. tt)) ref
+        (answer_in s.pid h (untrack m.topic key)) (λ u e. one_said (ok r m empty) (ok_unheard r m empty) (empty_is s h r m st ref))
 
-    list_comes : Comes F lists (on_event s.pid kind s r m events_are.List) h
+    list_comes : Comes F lists s.pid (on_event kind s r m events_are.List) h
     list_comes =
-        replied_good s (after_in h (list m.topic)) r m (full_reason true) (λ rows. listed kind r m rows ∷ []) (now (list m.topic) (after_list lists s h st.stands m.topic) (λ f. tt)) ref
-        (answer_in h (list m.topic))
-        (λ rows e. rows_said kind r m rows (state_is s h r m st ref rows (λ f. list_sound h m.topic rows (st.sound f).history e)))
+        replied_good s (after_in s.pid h (list m.topic)) r m (full_reason true) (λ rows. listed kind r m rows ∷ []) (now (list m.topic) (after_list lists s h st.stands m.topic) (λ f. tt)) ref
+        (answer_in s.pid h (list m.topic))
+        (λ rows e. rows_said kind r m rows (state_is s h r m st ref rows (λ f. list_sound s.pid h m.topic rows (st.sound f).history e)))
 
-    get_comes : (k : Option (List ℕ)) → Comes F lists (on_get kind s r m k) h
+    get_comes : (k : Option (List ℕ)) → Comes F lists s.pid (on_get kind s r m k) h
     get_comes None = bad_comes
     get_comes (Some key) =
-        replied_good s (after_in h (get m.topic key)) r m (full_reason true) (λ rows. listed kind r m rows ∷ []) (now (get m.topic key) (after_get lists s h st.stands m.topic key) (λ f. tt)) ref
-        (answer_in h (get m.topic key))
-        (λ rows e. rows_said kind r m rows (state_is s h r m st ref rows (λ f. get_sound h m.topic key rows (st.sound f).history e)))
+        replied_good s (after_in s.pid h (get m.topic key)) r m (full_reason true) (λ rows. listed kind r m rows ∷ []) (now (get m.topic key) (after_get lists s h st.stands m.topic key) (λ f. tt)) ref
+        (answer_in s.pid h (get m.topic key))
+        (λ rows e. rows_said kind r m rows (state_is s h r m st ref rows (λ f. get_sound s.pid h m.topic key rows (st.sound f).history e)))
 
     unknown_comes : Good F lists (says (error r m (codes "unknown event") ∷ []) s) h
     unknown_comes = says_one s h m (error r m (codes "unknown event")) st (error_unheard r m (codes "unknown event")) (error_is s h r m st ref (codes "unknown event"))
 
-    ping_comes : Comes F lists (on_event s.pid kind s r m events_are.Ping) h
+    ping_comes : Comes F lists s.pid (on_event kind s r m events_are.Ping) h
     ping_comes = says_one s h m (ok r m m.payload) st (ok_unheard r m m.payload) (ok_is s h r m st ref m.payload (λ f. less_sound 64 90 m.payload (omega arith) (heard_payload m (st.heard f))))
 
     payload_asked : F → AskedSound (asked m.payload)
     payload_asked f = asked_sound m.payload (heard_payload m (st.heard f)).orderly
 
-    event_comes : (k : TopicEvent) → Comes F lists (on_event s.pid kind s r m k) h
+    event_comes : (k : TopicEvent) → Comes F lists s.pid (on_event kind s r m k) h
     event_comes events_are.Unknown = unknown_comes
     event_comes events_are.Ping = ping_comes
     event_comes events_are.Shout = shout_comes
@@ -243,40 +244,40 @@ module _ (F : Type 0) (lists : List ℕ → Listing) where
     unmatched_comes : Good F lists (says (error m.join_ref m (codes "unmatched topic") ∷ []) s) h
     unmatched_comes = says_one s h m (error m.join_ref m (codes "unmatched topic")) st (error_unheard m.join_ref m (codes "unmatched topic")) (error_is s h m.join_ref m st (own_ref s h m st) (codes "unmatched topic"))
 
-    topic_comes : (j : Option Joined) → find m.topic s.joined ≡ j → (k : TopicEvent) → Comes F lists (on_topic s.pid s j m k) h
+    topic_comes : (j : Option Joined) → find m.topic s.joined ≡ j → (k : TopicEvent) → Comes F lists s.pid (on_topic s j m k) h
     topic_comes None is k = unmatched_comes
     topic_comes (Some j) is k = event_comes j.kind s h j.join_ref m st (found_ref s h m st j is) k
 
   -- ---- ends of joins
 
-  next_comes : (next : Script End) (h : History) (a : Result (Unit {0}) ShardFault) → Comes F lists next h → Comes F lists (then_next next a) h
-  next_comes next h (Ok u) f = f
-  next_comes next h (Err e) f = unsaid_good h e
+  next_comes : (pid : ℕ) (next : Script End) (h : History) (a : Result (Unit {0}) Refusal) → Comes F lists pid next h → Comes F lists pid (then_next next a) h
+  next_comes pid next h (Ok u) f = f
+  next_comes pid next h (Err e) f = unsaid_good h e
 
   -- both calls, and then what comes next from there
-  ended_comes : (pid : ℕ) (s : InForce) (h : History) (m : Message) (j : Joined) (next : Script End) → Holds F lists s h m → find m.topic s.joined ≡ Some j
-      → ((g : History) → Holds F lists (left s m.topic) g m → Comes F lists next g) → Comes F lists (ended pid m.topic j.sub next) h
-  ended_comes pid s h m j next st is f =
-      next_comes _ mid (answer_in h (unsubscribe m.topic j.sub))
-      (next_comes next last (answer_in mid (untrack_all pid m.topic))
+  ended_comes : (s : InForce) (h : History) (m : Message) (j : Joined) (next : Script End) → Holds F lists s h m → find m.topic s.joined ≡ Some j
+      → ((g : History) → Holds F lists (left s m.topic) g m → Comes F lists s.pid next g) → Comes F lists s.pid (ended m.topic j.sub next) h
+  ended_comes s h m j next st is f =
+      next_comes s.pid _ mid (answer_in s.pid h (unsubscribe m.topic j.sub))
+      (next_comes s.pid next last (answer_in s.pid mid (untrack_all m.topic))
       (f last (record {
-        stands = after_untrack_all lists (left s m.topic) mid (after_unsubscribe lists s h m.topic j st.stands is) m.topic pid;
+        stands = after_untrack_all lists (left s m.topic) mid (after_unsubscribe lists s h m.topic j st.stands is) m.topic;
         sound = λ c. record {
           joined = without_all JoinedSound m.topic s.joined (st.sound c).joined;
-          history = after_in_sound mid (untrack_all pid m.topic) (after_in_sound h (unsubscribe m.topic j.sub) (st.sound c).history tt) tt;
+          history = after_in_sound s.pid mid (untrack_all m.topic) (after_in_sound s.pid h (unsubscribe m.topic j.sub) (st.sound c).history tt) tt;
         };
         heard = st.heard;
       })))
     where
       mid : History
-      mid = after_in h (unsubscribe m.topic j.sub)
+      mid = after_in s.pid h (unsubscribe m.topic j.sub)
 
       last : History
-      last = after_in (after_in h (unsubscribe m.topic j.sub)) (untrack_all pid m.topic)
+      last = after_in s.pid (after_in s.pid h (unsubscribe m.topic j.sub)) (untrack_all m.topic)
 
-  leave_comes : (s : InForce) (h : History) (m : Message) → Holds F lists s h m → (j : Option Joined) → find m.topic s.joined ≡ j → Comes F lists (on_leave s.pid s j m) h
+  leave_comes : (s : InForce) (h : History) (m : Message) → Holds F lists s h m → (j : Option Joined) → find m.topic s.joined ≡ j → Comes F lists s.pid (on_leave s j m) h
   leave_comes s h m st None is = says_one s h m (ok m.join_ref m empty) st (ok_unheard m.join_ref m empty) (empty_is s h m.join_ref m st (own_ref s h m st))
-  leave_comes s h m st (Some j) is = ended_comes s.pid s h m j _ st is (λ g after. record { stands = after.stands; sound = after.sound; unheard = two })
+  leave_comes s h m st (Some j) is = ended_comes s h m j _ st is (λ g after. record { stands = after.stands; sound = after.sound; unheard = two })
     where
       two : Unheard F (message (ok j.join_ref m empty) ∷ message (closing j.join_ref m.topic) ∷ [])
       two = record {
@@ -295,63 +296,63 @@ module _ (F : Type 0) (lists : List ℕ → Listing) where
     refuses_good : (s : InForce) (h : History) (m : Message) (reason : List ℕ) → Holds F lists s h m → Good F lists (refuses before s m reason) h
     refuses_good s h m reason st = join_good (error (join_ref_of m) m reason) s h (error_unheard (join_ref_of m) m reason) (error_is s h (join_ref_of m) m st (new_ref s h m st) reason) st.stands st.sound
 
-    subscribed_good : (first : Bool) (kind : ℕ) (s : InForce) (h : History) (m : Message) (response : Data) → Holds F lists s h m → (F → IsSound 90 response) → find m.topic s.joined ≡ None
-        → (a : Result Sub ShardFault) → answer_in h (subscribe m.topic) ≡ a → Good F lists (subscribe_end first before kind s m response a) (after_in h (subscribe m.topic))
+    subscribed_good : (first : Option Bool) (kind : ℕ) (s : InForce) (h : History) (m : Message) (response : Data) → Holds F lists s h m → (F → IsSound 90 response) → find m.topic s.joined ≡ None
+        → (a : Result Sub Refusal) → answer_in s.pid h (subscribe m.topic) ≡ a → Good F lists (subscribe_end first before kind s m response a) (after_in s.pid h (subscribe m.topic))
     subscribed_good first kind s h m response st k none (Ok sub) is =
-        join_good (ok (join_ref_of m) m response) (joins kind s m sub) (after_in h (subscribe m.topic)) (ok_unheard (join_ref_of m) m response) (ok_is s h (join_ref_of m) m st (new_ref s h m st) response k)
+        join_good (ok (join_ref_of m) m response) (joins kind s m sub) (after_in s.pid h (subscribe m.topic)) (ok_unheard (join_ref_of m) m response) (ok_is s h (join_ref_of m) m st (new_ref s h m st) response k)
         (after_subscribe lists kind s h m sub st.stands none is)
         (λ f. record {
           joined = all_more JoinedSound s.joined (record { topic = m.topic; kind = kind; join_ref = join_ref_of m; sub = sub }) (st.sound f).joined ((st.heard f).0.topic, new_ref s h m st f);
-          history = after_in_sound h (subscribe m.topic) (st.sound f).history tt;
+          history = after_in_sound s.pid h (subscribe m.topic) (st.sound f).history tt;
         })
     subscribed_good first kind s h m response st k none (Err e) is =
-        said_good (after_in h (subscribe m.topic)) (refuses before s m) e
-        (λ t. refuses_good s (after_in h (subscribe m.topic)) m t (holds_after s h m (subscribe m.topic) st (refused_subscribe lists s h m.topic st.stands) (λ f. tt))) (full_reason first e)
+        said_good (after_in s.pid h (subscribe m.topic)) (refuses before s m) e
+        (λ t. refuses_good s (after_in s.pid h (subscribe m.topic)) m t (holds_after s h m (subscribe m.topic) st (refused_subscribe lists s h m.topic st.stands) (λ f. tt))) (subscribe_reason first e)
 
-    subscribes_comes : (first : Bool) (kind : ℕ) (s : InForce) (h : History) (m : Message) (response : Data) → Holds F lists s h m → (F → IsSound 90 response) → find m.topic s.joined ≡ None → Comes F lists (subscribes first before kind s m response) h
-    subscribes_comes first kind s h m response st k none = subscribed_good first kind s h m response st k none (answer_in h (subscribe m.topic)) refl
+    subscribes_comes : (first : Option Bool) (kind : ℕ) (s : InForce) (h : History) (m : Message) (response : Data) → Holds F lists s h m → (F → IsSound 90 response) → find m.topic s.joined ≡ None → Comes F lists s.pid (subscribes first before kind s m response) h
+    subscribes_comes first kind s h m response st k none = subscribed_good first kind s h m response st k none (answer_in s.pid h (subscribe m.topic)) refl
 
-    tracked_comes : (first : Bool) (kind : ℕ) (s : InForce) (h : History) (m : Message) → Holds F lists s h m → find m.topic s.joined ≡ None → (a : Result Dot ShardFault) → Comes F lists (then_subscribe first before kind s m a) h
-    tracked_comes first kind s h m st none (Ok d) = subscribes_comes false kind s h m (told_ref d) st (λ f. less_sound 1 90 (told_ref d) (omega arith) (told_sound d)) none
+    tracked_comes : (first : Bool) (kind : ℕ) (s : InForce) (h : History) (m : Message) → Holds F lists s h m → find m.topic s.joined ≡ None → (a : Result Dot Refusal) → Comes F lists s.pid (then_subscribe first before kind s m a) h
+    tracked_comes first kind s h m st none (Ok d) = subscribes_comes None kind s h m (told_ref d) st (λ f. less_sound 1 90 (told_ref d) (omega arith) (told_sound d)) none
     tracked_comes first kind s h m st none (Err e) = said_good h (refuses before s m) e (λ t. refuses_good s h m t st) (track_reason first e)
 
-    within_comes : (b : Bool) (s : InForce) (h : History) (m : Message) (next : Script End) → Holds F lists s h m → Comes F lists next h → Comes F lists (cond b (done (refuses before s m (codes "too many topics"))) next) h
+    within_comes : (b : Bool) (s : InForce) (h : History) (m : Message) (next : Script End) → Holds F lists s h m → Comes F lists s.pid next h → Comes F lists s.pid (cond b (done (refuses before s m (codes "too many topics"))) next) h
     within_comes true s h m next st f = refuses_good s h m (codes "too many topics") st
     within_comes false s h m next st f = f
 
-    join_comes : (count : ℕ) (first : Bool) (kind : ℕ) (s : InForce) (h : History) (m : Message) → Holds F lists s h m → find m.topic s.joined ≡ None → (a : Asked) → (F → AskedSound a) → Comes F lists (join_asked s.pid count first before kind s m a) h
+    join_comes : (count : ℕ) (first : Bool) (kind : ℕ) (s : InForce) (h : History) (m : Message) → Holds F lists s h m → find m.topic s.joined ≡ None → (a : Asked) → (F → AskedSound a) → Comes F lists s.pid (join_asked count first before kind s m a) h
     join_comes count first kind s h m st none Bad k = refuses_good s h m (codes "bad payload") st
-    join_comes count first kind s h m st none Nothing k = within_comes (nat_le MAX_TOPICS count) s h m _ st (subscribes_comes first kind s h m empty st (λ f. empty_sound 89) none)
+    join_comes count first kind s h m st none Nothing k = within_comes (nat_le MAX_TOPICS count) s h m _ st (subscribes_comes (Some first) kind s h m empty st (λ f. empty_sound 89) none)
     join_comes count first kind s h m st none (Wants key meta) k =
         within_comes (nat_le MAX_TOPICS count) s h m _ st
-        (tracked_comes first kind s (after_in h (track s.pid m.topic key meta)) m (holds_after s h m (track s.pid m.topic key meta) st (after_track lists s h st.stands m.topic key meta) k) none (answer_in h (track s.pid m.topic key meta)))
+        (tracked_comes first kind s (after_in s.pid h (track m.topic key meta)) m (holds_after s h m (track m.topic key meta) st (after_track lists s h st.stands m.topic key meta) k) none (answer_in s.pid h (track m.topic key meta)))
 
-  on_join_comes : (count kind : ℕ) (s : InForce) (h : History) (m : Message) → Holds F lists s h m → (j : Option Joined) → find m.topic s.joined ≡ j → (a : Asked) → (F → AskedSound a) → Comes F lists (on_join s.pid count kind s j m a) h
+  on_join_comes : (count kind : ℕ) (s : InForce) (h : History) (m : Message) → Holds F lists s h m → (j : Option Joined) → find m.topic s.joined ≡ j → (a : Asked) → (F → AskedSound a) → Comes F lists s.pid (on_join count kind s j m a) h
   on_join_comes count kind s h m st None is a k = join_comes [] nothing_said count true kind s h m st is a k
   on_join_comes count kind s h m st (Some j) is a k =
-      ended_comes s.pid s h m j _ st is
+      ended_comes s h m j _ st is
       (λ g after. join_comes (message (closing j.join_ref m.topic) ∷ []) (one_said (closing j.join_ref m.topic) (closing_unheard j.join_ref m.topic) (closing_is s h j.join_ref m st (found_ref s h m st j is))) (count - 1) false kind (left s m.topic) g m after (gone m.topic s.joined st.stands.apart) a k)
 
   -- ---- the table
 
-  either_comes : (b : Bool) (x y : Script End) (h : History) → Comes F lists x h → Comes F lists y h → Comes F lists (cond b x y) h
-  either_comes true x y h f g = f
-  either_comes false x y h f g = g
+  either_comes : (pid : ℕ) (b : Bool) (x y : Script End) (h : History) → Comes F lists pid x h → Comes F lists pid y h → Comes F lists pid (cond b x y) h
+  either_comes pid true x y h f g = f
+  either_comes pid false x y h f g = g
 
   no_ref : F → RefSound None
   no_ref f = tt
 
-  route_comes : (count : ℕ) (s : InForce) (h : History) (m : Message) → Holds F lists s h m → (j : Option Joined) → find m.topic s.joined ≡ j → (route : Option ℕ) → Comes F lists (by_route s.pid count s j m route) h
+  route_comes : (count : ℕ) (s : InForce) (h : History) (m : Message) → Holds F lists s h m → (j : Option Joined) → find m.topic s.joined ≡ j → (route : Option ℕ) → Comes F lists s.pid (by_route count s j m route) h
   route_comes count s h m st j is None = unmatched_comes s h m st
   route_comes count s h m st j is (Some kind) = on_join_comes count kind s h m st j is (asked m.payload) (λ f. asked_sound m.payload (heard_payload m (st.heard f)).orderly)
 
-  kind_comes : (phoenix : Bool) (route : Option ℕ) (count : ℕ) (s : InForce) (h : History) (m : Message) → Holds F lists s h m → (j : Option Joined) → find m.topic s.joined ≡ j → (k : EventKind) → Comes F lists (by_kind phoenix route s.pid count s j m k) h
-  kind_comes phoenix route count s h m st j is kinds_are.Heartbeat = either_comes phoenix _ _ h (says_one s h m (ok None m empty) st (ok_unheard None m empty) (empty_is s h None m st no_ref)) (topic_comes s h m st j is events_are.Unknown)
+  kind_comes : (phoenix : Bool) (route : Option ℕ) (count : ℕ) (s : InForce) (h : History) (m : Message) → Holds F lists s h m → (j : Option Joined) → find m.topic s.joined ≡ j → (k : EventKind) → Comes F lists s.pid (by_kind phoenix route count s j m k) h
+  kind_comes phoenix route count s h m st j is kinds_are.Heartbeat = either_comes s.pid phoenix _ _ h (says_one s h m (ok None m empty) st (ok_unheard None m empty) (empty_is s h None m st no_ref)) (topic_comes s h m st j is events_are.Unknown)
   kind_comes phoenix route count s h m st j is kinds_are.Join = route_comes count s h m st j is route
   kind_comes phoenix route count s h m st j is kinds_are.Leave = leave_comes s h m st j is
   kind_comes phoenix route count s h m st j is (kinds_are.Topic event) = topic_comes s h m st j is event
 
   -- a message that is answered leaves what stands, and what it says is of no frames
-  pub rules_come : (routes : List (List ℕ × ℕ)) (s : InForce) (h : History) (m : Message) → Holds F lists s h m → Comes F lists (rules routes s m) h
+  pub rules_come : (routes : List (List ℕ × ℕ)) (s : InForce) (h : History) (m : Message) → Holds F lists s h m → Comes F lists s.pid (rules routes s m) h
   unfolding rules
   rules_come routes s h m st = kind_comes (is_phoenix m.topic) (route_of (is_phoenix m.topic) routes m.topic) (length s.joined) s h m st (find m.topic s.joined) refl (kind_of m.event)

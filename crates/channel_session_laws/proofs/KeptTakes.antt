@@ -11,7 +11,7 @@ use Rattle.presence_journal.specs.Queue.{Waiting, Behind, Queued, topic_of, queu
 use Rattle.presence_journal.specs.Table.{next_entry, after, outcome_of, for_present, take_outcome}
 use Rattle.presence_journal.proofs.HistoryLemmas.{after-accepted}
 use Rattle.presence_journal.proofs.Topics.{topic_of-then, queue-then}
-use Rattle.channel_session_rules.specs.ShardFault.{ShardFault}
+use Rattle.channel_session_rules.specs.declared.refusal.Refusal.{Refusal}
 use Rattle.channel_session_rules.specs.ShardFault.TheVariants.{JournalFull, ClockFull, NoSub}
 use Rattle.channel_session_rules.specs.Sub.{Sub}
 use Rattle.channel_session_rules.specs.Asks.{take}
@@ -59,7 +59,7 @@ none_left (Queued q) h = ap Queued (drop_all 256 q h)
 
 -- ---- what is answered
 
-same_items : (x y : List Item) → ◌≡◌ {A = Result (List Item) ShardFault} (Ok x) (Ok y) → x ≡ y
+same_items : (x y : List Item) → ◌≡◌ {A = Result (List Item) Refusal} (Ok x) (Ok y) → x ≡ y
 same_items x y e = cc
 
 took_plain : (b : Bool) (max : ℕ) (w : Waiting) (x items : List Item) → answer_to (cond b (Some JournalFull) None) (Some (take_outcome max w)) x ≡ Ok items → (b ≡ false) × (items ≡ x)
@@ -67,23 +67,23 @@ took_plain true max w x items e = absurd (cc)
 took_plain false max Behind x items e = (refl, sym (same_items x items e))
 took_plain false max (Queued q) x items e = (refl, sym (same_items x items e))
 
-module _ (h : History) (sub : Sub) (t u : List ℕ) (there : topic_of h sub.number ≡ Some u) (slot : sub.slot ≡ 0) where
-  take_answer : (max : ℕ) → answer_in h (take t sub max) ≡ answer_to (cond (is_full h) (Some JournalFull) None) (Some (take_outcome max (queue h sub.number))) (items_given h sub.number max)
+module _ (pid : ℕ) (h : History) (sub : Sub) (t u : List ℕ) (there : topic_of h sub.number ≡ Some u) (slot : sub.slot ≡ 0) where
+  take_answer : (max : ℕ) → answer_in pid h (take t sub max) ≡ answer_to (cond (is_full h) (Some JournalFull) None) (Some (take_outcome max (queue h sub.number))) (items_given h sub.number max)
   unfolding answer_in outcome_of
   take_answer max = λ i. answer_to (cond (is_some (there i) && nat_eq (slot i) 0) (cond (is_full h) (Some JournalFull) (cond (is_some (for_present (there i) (take_outcome max (queue h sub.number)))) None (Some ClockFull))) (Some NoSub)) (for_present (there i) (take_outcome max (queue h sub.number))) (items_given h sub.number max)
 
-  take_history : (max : ℕ) → after_in h (take t sub max) ≡ after_unless (cond (is_full h) (Some JournalFull) None) h (steps_are.Take sub.number max)
+  take_history : (max : ℕ) → after_in pid h (take t sub max) ≡ after_unless (cond (is_full h) (Some JournalFull) None) h (steps_are.Take sub.number max)
   unfolding after_in outcome_of
   take_history max = λ i. after_unless (cond (is_some (there i) && nat_eq (slot i) 0) (cond (is_full h) (Some JournalFull) (cond (is_some (for_present (there i) (take_outcome max (queue h sub.number)))) None (Some ClockFull))) (Some NoSub)) h (steps_are.Take sub.number max)
 
-  module _ (max : ℕ) (items : List Item) (is : answer_in h (take t sub max) ≡ Ok items) where
+  module _ (max : ℕ) (items : List Item) (is : answer_in pid h (take t sub max) ≡ Ok items) where
     took_facts : (is_full h ≡ false) × (items ≡ items_given h sub.number max)
     took_facts = took_plain (is_full h) max (queue h sub.number) (items_given h sub.number max) items (sym (take_answer max) ∙ is)
 
     pub took_items : items ≡ items_given h sub.number max
     took_items = took_facts.1
 
-    pub took_history : after_in h (take t sub max) ≡ after h (steps_are.Take sub.number max) None
+    pub took_history : after_in pid h (take t sub max) ≡ after h (steps_are.Take sub.number max) None
     took_history = take_history max ∙ ap (λ b. after_unless (cond b (Some JournalFull) None) h (steps_are.Take sub.number max)) took_facts.0
 
     made : after h (steps_are.Take sub.number max) None ≡ Then h (next_entry h (steps_are.Take sub.number max) None (take_outcome max (queue h sub.number)))
@@ -105,5 +105,5 @@ module _ (h : History) (sub : Sub) (t u : List ℕ) (there : topic_of h sub.numb
         ∙ (taken-then h (next_entry h (steps_are.Take sub.number max) None (take_outcome max (queue h sub.number))) sub.number
         ∙ ap (λ b. cond b (took (listed_for h (topic_of h sub.number)) max (queue h sub.number) (taken h sub.number)) (taken h sub.number)) (eq-eqb sub.number sub.number refl))
 
-  pub took_all : (items : List Item) → answer_in h (take t sub 256) ≡ Ok items → queue (after h (steps_are.Take sub.number 256) None) sub.number ≡ Queued []
+  pub took_all : (items : List Item) → answer_in pid h (take t sub 256) ≡ Ok items → queue (after h (steps_are.Take sub.number 256) None) sub.number ≡ Queued []
   took_all items is = left 256 items is ∙ none_left (queue h sub.number) (queue_short h sub.number)

@@ -1,4 +1,5 @@
 pub mod Locals
+pub mod Lending
 pub mod Heeding
 pub mod Shown
 pub mod Proper

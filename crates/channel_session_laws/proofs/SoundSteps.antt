@@ -27,6 +27,7 @@ use Rattle.presence_journal.specs.Present.{listed}
 use Rattle.presence_journal.specs.Table.{accepted, with_outcome, after, outcome_of, listed_key}
 use Rattle.channel_session_rules.specs.Steps.{refusal, is_found}
 use Rattle.channel_session_rules.specs.ShardFault.{ShardFault}
+use Rattle.channel_session_rules.specs.declared.refusal.Refusal.{Refusal}
 use Rattle.channel_session_rules.specs.Asked.{without_member, without_refs, given_meta, with_meta, with_key, by_key, asked}
 use Rattle.channel_session_rules.specs.Asks.{Ask, track, update, untrack, untrack_all, list, get as get_rows, subscribe, take, unsubscribe, waits, shout}
 use Rattle.channel_session_rules.specs.InForce.{Joined, InForce}
@@ -160,8 +161,8 @@ heard_payload m h = record { shallow = h.0.shallow; whole = h.0.whole; orderly =
 -- ---- the questions
 
 abbrev pub AskSound : Ask → Type 0
-AskSound (track pid t k m) = IsSound 32 m
-AskSound (update pid t k m) = IsSound 32 m
+AskSound (track t k m) = IsSound 32 m
+AskSound (update t k m) = IsSound 32 m
 AskSound (shout t p) = IsSound 64 p
 AskSound _ = Unit {0}
 
@@ -180,23 +181,23 @@ of_sound found h s k step = go (refusal found h s)
     go None = after_sound h s k step
     go (Some e) = k
 
-pub after_in_sound : (h : History) (q : Ask) → HistorySound h → AskSound q → HistorySound (after_in h q)
+pub after_in_sound : (pid : ℕ) (h : History) (q : Ask) → HistorySound h → AskSound q → HistorySound (after_in pid h q)
 unfolding after_in
-after_in_sound h (track pid t key m) k a = of_sound true h (steps_are.Track pid t key m) k a
-after_in_sound h (update pid t key m) k a = of_sound true h (steps_are.Update pid t key m) k a
-after_in_sound h (untrack pid t key) k a = of_sound true h (steps_are.Untrack pid t key) k tt
-after_in_sound h (untrack_all pid t) k a = of_sound true h (steps_are.UntrackAll pid t) k tt
-after_in_sound h (list t) k a = of_sound true h (steps_are.List t) k tt
-after_in_sound h (get_rows t key) k a = of_sound true h (steps_are.Get t key) k tt
-after_in_sound h (subscribe t) k a = of_sound true h (steps_are.Subscribe t) k tt
-after_in_sound h (take t sub max) k a = of_sound (is_found h sub.slot sub.number) h (steps_are.Take sub.number max) k tt
-after_in_sound h (unsubscribe t sub) k a = of_sound (is_found h sub.slot sub.number) h (steps_are.Unsubscribe sub.number) k tt
-after_in_sound h (waits t sub) k a = k
-after_in_sound h (shout t p) k a = of_sound true h (steps_are.Shout t p) k a
+after_in_sound pid h (track t key m) k a = of_sound true h (steps_are.Track pid t key m) k a
+after_in_sound pid h (update t key m) k a = of_sound true h (steps_are.Update pid t key m) k a
+after_in_sound pid h (untrack t key) k a = of_sound true h (steps_are.Untrack pid t key) k tt
+after_in_sound pid h (untrack_all t) k a = of_sound true h (steps_are.UntrackAll pid t) k tt
+after_in_sound pid h (list t) k a = of_sound true h (steps_are.List t) k tt
+after_in_sound pid h (get_rows t key) k a = of_sound true h (steps_are.Get t key) k tt
+after_in_sound pid h (subscribe t) k a = of_sound true h (steps_are.Subscribe t) k tt
+after_in_sound pid h (take t sub max) k a = of_sound (is_found h sub.slot sub.number) h (steps_are.Take sub.number max) k tt
+after_in_sound pid h (unsubscribe t sub) k a = of_sound (is_found h sub.slot sub.number) h (steps_are.Unsubscribe sub.number) k tt
+after_in_sound pid h (waits t sub) k a = k
+after_in_sound pid h (shout t p) k a = of_sound true h (steps_are.Shout t p) k a
 
 -- ---- rows that are answered
 
-abbrev OkRows : Result (List (Dot × Row)) ShardFault → Type 0
+abbrev OkRows : Result (List (Dot × Row)) Refusal → Type 0
 OkRows (Ok rows) = RowsSound rows
 OkRows (Err e) = Unit {0}
 
@@ -218,10 +219,10 @@ answer_rows None (Some (outcomes_are.CutAt from to)) rows h = h
 answer_rows None (Some outcomes_are.Merged) rows h = h
 answer_rows None (Some (outcomes_are.Reborn pairs)) rows h = h
 
-pub list_sound : (h : History) (t : List ℕ) (rows : List (Dot × Row)) → HistorySound h → answer_in h (list t) ≡ Ok rows → RowsSound rows
+pub list_sound : (pid : ℕ) (h : History) (t : List ℕ) (rows : List (Dot × Row)) → HistorySound h → answer_in pid h (list t) ≡ Ok rows → RowsSound rows
 unfolding answer_in
-list_sound h t rows k e = subst OkRows e (answer_rows (refusal true h (steps_are.List t)) (outcome_of h (steps_are.List t)) (listed h t) (listed_sound h t k))
+list_sound pid h t rows k e = subst OkRows e (answer_rows (refusal true h (steps_are.List t)) (outcome_of h (steps_are.List t)) (listed h t) (listed_sound h t k))
 
-pub get_sound : (h : History) (t key : List ℕ) (rows : List (Dot × Row)) → HistorySound h → answer_in h (get_rows t key) ≡ Ok rows → RowsSound rows
+pub get_sound : (pid : ℕ) (h : History) (t key : List ℕ) (rows : List (Dot × Row)) → HistorySound h → answer_in pid h (get_rows t key) ≡ Ok rows → RowsSound rows
 unfolding answer_in
-get_sound h t key rows k e = subst OkRows e (answer_rows (refusal true h (steps_are.Get t key)) (outcome_of h (steps_are.Get t key)) (listed_key h t key) (listed_key_sound h t key k))
+get_sound pid h t key rows k e = subst OkRows e (answer_rows (refusal true h (steps_are.Get t key)) (outcome_of h (steps_are.Get t key)) (listed_key h t key) (listed_key_sound h t key k))

@@ -12,13 +12,14 @@ use Rattle.phx_message.specs.declared.message.Message.{Message}
 use Rattle.phx_message.specs.declared.message.MsgRef.{MsgRef}
 use Rattle.hook_registry.specs.Routes.{first_kind}
 use Rattle.presence_journal.proofs.Same.{same_text-true}
-use Rattle.channel_session_rules.specs.ShardFault.{ShardFault}
+use Rattle.channel_session_rules.specs.declared.refusal.Refusal.{Refusal}
 use Rattle.channel_session_rules.specs.ShardFault.TheVariants as shard_faults_are
+use Rattle.channel_session_rules.specs.declared.refusal.Refusal.TheVariants.{Table}
 use Rattle.channel_session_rules.specs.Sub.{Sub}
 use Rattle.channel_session_rules.specs.Asked.{asked, key_asked}
 use Rattle.channel_session_rules.specs.Asks.{Answer, Call, untrack_all, subscribe}
 use Rattle.channel_session_rules.specs.InForce.{Joined, InForce, find, without_topic}
-use Rattle.channel_session_rules.specs.Rules.{End, answers, full, memory, says, ok, error, empty, told_ref, full_reason, track_reason, update_reason, unsaid, said, replied, on_event, on_topic, on_track, on_update, on_untrack, on_get, ended, on_leave, on_heartbeat, after_subscribe, subscribes, then_subscribe, join_asked, on_join, left, joins, join_ref_of, refuses, is_phoenix, by_route, route_of, topic_event_of, kind_of, by_kind, rules, then_next}
+use Rattle.channel_session_rules.specs.Rules.{End, answers, full, memory, says, ok, error, empty, told_ref, full_reason, subscribe_reason, track_reason, update_reason, unsaid, said, replied, on_event, on_topic, on_track, on_update, on_untrack, on_get, ended, on_leave, on_heartbeat, after_subscribe, subscribes, then_subscribe, join_asked, on_join, left, joins, join_ref_of, refuses, is_phoenix, by_route, route_of, topic_event_of, kind_of, by_kind, rules, then_next}
 use Rattle.channel_session_rules.specs.Said.{Said, message, listed, plainly}
 use Rattle.channel_session_rules.specs.Script.{Script, done, ask, Plays}
 use Rattle.channel_session_rules.specs.declared.asked.Asked.{Asked}
@@ -62,43 +63,43 @@ leads_weaker P Q f (done e) l = f None e l
 leads_weaker P Q f (ask q next) l = λ a. leads_weaker (λ o e. P (given_or q a o) e) (λ o e. Q (given_or q a o) e) (λ o e. f (given_or q a o) e) (next a) (l a)
 
 module _ (A : Option Sub → List Said → InForce → Type 0) where
-  pub unsaid_leads : (o : Option Sub) (e : ShardFault) → Answered A o (unsaid e)
-  unsaid_leads o shard_faults_are.OutOfMemory = tt
+  pub unsaid_leads : (o : Option Sub) (e : Refusal) → Answered A o (unsaid e)
+  unsaid_leads o (Table shard_faults_are.OutOfMemory) = tt
   unsaid_leads o _ = tt
 
-  said_leads : (o : Option Sub) (answer : List ℕ → End) (e : ShardFault) → ((t : List ℕ) → Answered A o (answer t)) → (r : Option (List ℕ)) → Answered A o (said answer e r)
+  said_leads : (o : Option Sub) (answer : List ℕ → End) (e : Refusal) → ((t : List ℕ) → Answered A o (answer t)) → (r : Option (List ℕ)) → Answered A o (said answer e r)
   said_leads o answer e f (Some t) = f t
   said_leads o answer e f None = unsaid_leads o e
 
-  next_leads : (next : Script End) → Leads (Answered A) next → (a : Result (Unit {0}) ShardFault) → Leads (Answered A) (then_next next a)
+  next_leads : (next : Script End) → Leads (Answered A) next → (a : Result (Unit {0}) Refusal) → Leads (Answered A) (then_next next a)
   next_leads next l (Ok u) = l
   next_leads next l (Err e) = unsaid_leads None e
 
   -- both calls that end a join give no subscriber
-  ended_leads : (pid : ℕ) (topic : List ℕ) (sub : Sub) (next : Script End) → Leads (Answered A) next → Leads (Answered A) (ended pid topic sub next)
-  ended_leads pid topic sub next l = λ a. next_leads (ask (untrack_all pid topic) (then_next next)) (λ b. next_leads next l b) a
+  ended_leads : (topic : List ℕ) (sub : Sub) (next : Script End) → Leads (Answered A) next → Leads (Answered A) (ended topic sub next)
+  ended_leads topic sub next l = λ a. next_leads (ask (untrack_all topic) (then_next next)) (λ b. next_leads next l b) a
 
   -- A join is refused, or accepted with the subscriber that was given.
   module _ (before : List Said) (kind : ℕ) (s : InForce) (m : Message) (refused : (reason : List ℕ) → A None (before ++ message (error (join_ref_of m) m reason) ∷ []) s) (accepted : (response : Data) (sub : Sub) → A (Some sub) (before ++ message (ok (join_ref_of m) m response) ∷ []) (joins kind s m sub)) where
-    subscribed_leads : (first : Bool) (response : Data) (a : Result Sub ShardFault) → Answered A (given_or (subscribe m.topic) a None) (after_subscribe first before kind s m response a)
+    subscribed_leads : (first : Option Bool) (response : Data) (a : Result Sub Refusal) → Answered A (given_or (subscribe m.topic) a None) (after_subscribe first before kind s m response a)
     subscribed_leads first response (Ok sub) = accepted response sub
-    subscribed_leads first response (Err e) = said_leads None (refuses before s m) e refused (full_reason first e)
+    subscribed_leads first response (Err e) = said_leads None (refuses before s m) e refused (subscribe_reason first e)
 
-    subscribes_leads : (first : Bool) (response : Data) → Leads (Answered A) (subscribes first before kind s m response)
+    subscribes_leads : (first : Option Bool) (response : Data) → Leads (Answered A) (subscribes first before kind s m response)
     subscribes_leads first response = λ a. subscribed_leads first response a
 
-    tracked_leads : (first : Bool) (a : Result Dot ShardFault) → Leads (Answered A) (then_subscribe first before kind s m a)
-    tracked_leads first (Ok d) = subscribes_leads false (told_ref d)
+    tracked_leads : (first : Bool) (a : Result Dot Refusal) → Leads (Answered A) (then_subscribe first before kind s m a)
+    tracked_leads first (Ok d) = subscribes_leads None (told_ref d)
     tracked_leads first (Err e) = said_leads None (refuses before s m) e refused (track_reason first e)
 
     within_leads : (b : Bool) (next : Script End) → Leads (Answered A) next → Leads (Answered A) (cond b (done (refuses before s m (codes "too many topics"))) next)
     within_leads true next l = refused (codes "too many topics")
     within_leads false next l = l
 
-    join_leads : (pid count : ℕ) (first : Bool) (a : Asked) → Leads (Answered A) (join_asked pid count first before kind s m a)
-    join_leads pid count first Bad = refused (codes "bad payload")
-    join_leads pid count first Nothing = within_leads (nat_le MAX_TOPICS count) _ (subscribes_leads first empty)
-    join_leads pid count first (Wants key meta) = within_leads (nat_le MAX_TOPICS count) _ (λ a. tracked_leads first a)
+    join_leads : (count : ℕ) (first : Bool) (a : Asked) → Leads (Answered A) (join_asked count first before kind s m a)
+    join_leads count first Bad = refused (codes "bad payload")
+    join_leads count first Nothing = within_leads (nat_le MAX_TOPICS count) _ (subscribes_leads (Some first) empty)
+    join_leads count first (Wants key meta) = within_leads (nat_le MAX_TOPICS count) _ (λ a. tracked_leads first a)
 
 -- ---- events leave the session as it was
 
@@ -108,41 +109,41 @@ Same s o said t = t ≡ s
 abbrev pub Keeps : InForce → Script End → Type 0
 Keeps s script = Leads (Answered (Same s)) script
 
-replied_keeps : {A : Type 0} (s : InForce) (r : Option MsgRef) (m : Message) (reason : ShardFault → Option (List ℕ)) (reply : A → List Said) (a : Result A ShardFault) → Answered (Same s) None (replied s r m reason reply a)
+replied_keeps : {A : Type 0} (s : InForce) (r : Option MsgRef) (m : Message) (reason : Refusal → Option (List ℕ)) (reply : A → List Said) (a : Result A Refusal) → Answered (Same s) None (replied s r m reason reply a)
 replied_keeps s r m reason reply (Ok x) = refl
 replied_keeps s r m reason reply (Err e) = said_leads (Same s) None (λ t. says (error r m t ∷ []) s) e (λ t. refl) (reason e)
 
-track_keeps : (pid : ℕ) (s : InForce) (r : Option MsgRef) (m : Message) (a : Asked) → Keeps s (on_track pid s r m a)
-track_keeps pid s r m Nothing = refl
-track_keeps pid s r m Bad = refl
-track_keeps pid s r m (Wants key meta) = λ a. replied_keeps s r m (track_reason true) (λ d. message (ok r m (told_ref d)) ∷ []) a
+track_keeps : (s : InForce) (r : Option MsgRef) (m : Message) (a : Asked) → Keeps s (on_track s r m a)
+track_keeps s r m Nothing = refl
+track_keeps s r m Bad = refl
+track_keeps s r m (Wants key meta) = λ a. replied_keeps s r m (track_reason true) (λ d. message (ok r m (told_ref d)) ∷ []) a
 
-update_keeps : (pid : ℕ) (s : InForce) (r : Option MsgRef) (m : Message) (a : Asked) → Keeps s (on_update pid s r m a)
-update_keeps pid s r m Nothing = refl
-update_keeps pid s r m Bad = refl
-update_keeps pid s r m (Wants key meta) = λ a. replied_keeps s r m update_reason (λ d. message (ok r m (told_ref d)) ∷ []) a
+update_keeps : (s : InForce) (r : Option MsgRef) (m : Message) (a : Asked) → Keeps s (on_update s r m a)
+update_keeps s r m Nothing = refl
+update_keeps s r m Bad = refl
+update_keeps s r m (Wants key meta) = λ a. replied_keeps s r m update_reason (λ d. message (ok r m (told_ref d)) ∷ []) a
 
-untrack_keeps : (pid : ℕ) (s : InForce) (r : Option MsgRef) (m : Message) (key : Option (List ℕ)) → Keeps s (on_untrack pid s r m key)
-untrack_keeps pid s r m None = refl
-untrack_keeps pid s r m (Some key) = λ a. replied_keeps s r m (full_reason true) (λ u. message (ok r m empty) ∷ []) a
+untrack_keeps : (s : InForce) (r : Option MsgRef) (m : Message) (key : Option (List ℕ)) → Keeps s (on_untrack s r m key)
+untrack_keeps s r m None = refl
+untrack_keeps s r m (Some key) = λ a. replied_keeps s r m (full_reason true) (λ u. message (ok r m empty) ∷ []) a
 
 get_keeps : (kind : ℕ) (s : InForce) (r : Option MsgRef) (m : Message) (key : Option (List ℕ)) → Keeps s (on_get kind s r m key)
 get_keeps kind s r m None = refl
 get_keeps kind s r m (Some key) = λ a. replied_keeps s r m (full_reason true) (λ rows. listed kind r m rows ∷ []) a
 
-event_keeps : (pid kind : ℕ) (s : InForce) (r : Option MsgRef) (m : Message) (event : TopicEvent) → Keeps s (on_event pid kind s r m event)
-event_keeps pid kind s r m events_are.Ping = refl
-event_keeps pid kind s r m events_are.Shout = λ a. replied_keeps s r m (full_reason true) (λ u. []) a
-event_keeps pid kind s r m events_are.Track = track_keeps pid s r m (asked m.payload)
-event_keeps pid kind s r m events_are.Update = update_keeps pid s r m (asked m.payload)
-event_keeps pid kind s r m events_are.Untrack = untrack_keeps pid s r m (key_asked m.payload)
-event_keeps pid kind s r m events_are.List = λ a. replied_keeps s r m (full_reason true) (λ rows. listed kind r m rows ∷ []) a
-event_keeps pid kind s r m events_are.Get = get_keeps kind s r m (key_asked m.payload)
-event_keeps pid kind s r m events_are.Unknown = refl
+event_keeps : (kind : ℕ) (s : InForce) (r : Option MsgRef) (m : Message) (event : TopicEvent) → Keeps s (on_event kind s r m event)
+event_keeps kind s r m events_are.Ping = refl
+event_keeps kind s r m events_are.Shout = λ a. replied_keeps s r m (full_reason true) (λ u. []) a
+event_keeps kind s r m events_are.Track = track_keeps s r m (asked m.payload)
+event_keeps kind s r m events_are.Update = update_keeps s r m (asked m.payload)
+event_keeps kind s r m events_are.Untrack = untrack_keeps s r m (key_asked m.payload)
+event_keeps kind s r m events_are.List = λ a. replied_keeps s r m (full_reason true) (λ rows. listed kind r m rows ∷ []) a
+event_keeps kind s r m events_are.Get = get_keeps kind s r m (key_asked m.payload)
+event_keeps kind s r m events_are.Unknown = refl
 
-topic_keeps : (pid : ℕ) (s : InForce) (j : Option Joined) (m : Message) (event : TopicEvent) → Keeps s (on_topic pid s j m event)
-topic_keeps pid s None m event = refl
-topic_keeps pid s (Some j) m event = event_keeps pid j.kind s j.join_ref m event
+topic_keeps : (s : InForce) (j : Option Joined) (m : Message) (event : TopicEvent) → Keeps s (on_topic s j m event)
+topic_keeps s None m event = refl
+topic_keeps s (Some j) m event = event_keeps j.kind s j.join_ref m event
 
 heartbeat_keeps : (phoenix : Bool) (x y : Script End) (s : InForce) → Keeps s x → Keeps s y → Keeps s (cond phoenix x y)
 heartbeat_keeps true x y s k l = k
@@ -236,9 +237,9 @@ module _ (routes : List (List ℕ × ℕ)) (m : Message) (s : InForce) (st : Ord
   no_more : (js : List Joined) → js ≡ others m.topic s.joined → js ≡ others m.topic s.joined ++ []
   no_more js e = e ∙ sym (append-nil (others m.topic s.joined))
 
-  leave_leads : (pid : ℕ) (j : Option Joined) → find m.topic s.joined ≡ j → Leads (Answered (LeavesBy routes m s false true)) (on_leave pid s j m)
-  leave_leads pid None is = record { joined = no_more s.joined (sym (absent_others m.topic s.joined is)); ordered = st }
-  leave_leads pid (Some j) is = ended_leads (LeavesBy routes m s false true) pid m.topic j.sub (done (says (ok j.join_ref m empty ∷ closing j.join_ref m.topic ∷ []) (left s m.topic))) (record {
+  leave_leads : (j : Option Joined) → find m.topic s.joined ≡ j → Leads (Answered (LeavesBy routes m s false true)) (on_leave s j m)
+  leave_leads None is = record { joined = no_more s.joined (sym (absent_others m.topic s.joined is)); ordered = st }
+  leave_leads (Some j) is = ended_leads (LeavesBy routes m s false true) m.topic j.sub (done (says (ok j.join_ref m empty ∷ closing j.join_ref m.topic ∷ []) (left s m.topic))) (record {
     joined = no_more (without_topic m.topic s.joined) (without_others m.topic s.joined st.apart);
     ordered = ordered_without routes m.topic s.joined st;
   })
@@ -246,7 +247,7 @@ module _ (routes : List (List ℕ × ℕ)) (m : Message) (s : InForce) (st : Ord
   module _ (kind : ℕ) (is : route_of (is_phoenix m.topic) routes m.topic ≡ Some kind) where
     -- the join where nothing of its topic is there, behind what said no ok
     here_leads : (before : List Said) → answered_ok before ≡ false → (u : InForce) → u.joined ≡ others m.topic s.joined → Ordered routes u.joined → find m.topic u.joined ≡ None
-        → (pid count : ℕ) (first : Bool) (a : Asked) → Leads (Answered (LeavesBy routes m s true false)) (join_asked pid count first before kind u m a)
+        → (count : ℕ) (first : Bool) (a : Asked) → Leads (Answered (LeavesBy routes m s true false)) (join_asked count first before kind u m a)
     here_leads before quiet u same now none = join_leads (LeavesBy routes m s true false) before kind u m
         (λ reason. record {
           joined = no_more u.joined same ∙ ap (λ b. others m.topic s.joined ++ cond b (joined_as (first_kind m.topic routes) None m) [])
@@ -263,19 +264,19 @@ module _ (routes : List (List ℕ × ℕ)) (m : Message) (s : InForce) (st : Ord
         one : Sub → Joined
         one sub = record { topic = m.topic; kind = kind; join_ref = join_ref_of m; sub = sub }
 
-    join_leaves : (pid count : ℕ) (j : Option Joined) → find m.topic s.joined ≡ j → (a : Asked) → Leads (Answered (LeavesBy routes m s true false)) (on_join pid count kind s j m a)
-    join_leaves pid count None none a = here_leads [] refl s (sym (absent_others m.topic s.joined none)) st none pid count true a
-    join_leaves pid count (Some j) here a =
-        ended_leads (LeavesBy routes m s true false) pid m.topic j.sub _
+    join_leaves : (count : ℕ) (j : Option Joined) → find m.topic s.joined ≡ j → (a : Asked) → Leads (Answered (LeavesBy routes m s true false)) (on_join count kind s j m a)
+    join_leaves count None none a = here_leads [] refl s (sym (absent_others m.topic s.joined none)) st none count true a
+    join_leaves count (Some j) here a =
+        ended_leads (LeavesBy routes m s true false) m.topic j.sub _
         (here_leads (message (closing j.join_ref m.topic) ∷ []) refl (left s m.topic) (without_others m.topic s.joined st.apart)
-        (ordered_without routes m.topic s.joined st) (gone m.topic s.joined st.apart) pid (count - 1) false a)
+        (ordered_without routes m.topic s.joined st) (gone m.topic s.joined st.apart) (count - 1) false a)
 
-  route_leads : (pid count : ℕ) (j : Option Joined) → find m.topic s.joined ≡ j → (route : Option ℕ) → route_of (is_phoenix m.topic) routes m.topic ≡ route → Leads (Answered (LeavesBy routes m s true false)) (by_route pid count s j m route)
-  route_leads pid count j here None is = record {
+  route_leads : (count : ℕ) (j : Option Joined) → find m.topic s.joined ≡ j → (route : Option ℕ) → route_of (is_phoenix m.topic) routes m.topic ≡ route → Leads (Answered (LeavesBy routes m s true false)) (by_route count s j m route)
+  route_leads count j here None is = record {
     joined = no_more s.joined (sym (absent_others m.topic s.joined (unrouted_absent routes m.topic is s.joined st.routed)));
     ordered = st;
   }
-  route_leads pid count j here (Some kind) is = join_leaves kind is pid count j here (asked m.payload)
+  route_leads count j here (Some kind) is = join_leaves kind is count j here (asked m.payload)
 
 -- ---- the kind of an event tells whether it joins or leaves
 
@@ -307,18 +308,18 @@ module _ (routes : List (List ℕ × ℕ)) (m : Message) (s : InForce) (st : Ord
   leaving_at script join leave is_joining is_leaving e l = subst (λ b. Leaving script b is_leaving) e.0 (subst (Leaving script join) e.1 l)
 
   abbrev At : EventKind → Script End
-  At k = by_kind (is_phoenix m.topic) (route_of (is_phoenix m.topic) routes m.topic) s.pid (length s.joined) s (find m.topic s.joined) m k
+  At k = by_kind (is_phoenix m.topic) (route_of (is_phoenix m.topic) routes m.topic) (length s.joined) s (find m.topic s.joined) m k
 
   kind_leads : (k : EventKind) (join leave : Bool) → KindIs k join leave → Leaving (At k) join leave
   kind_leads kinds_are.Heartbeat join leave is =
       leaving_at (At kinds_are.Heartbeat) false false join leave is
       (others_leave routes m s st (At kinds_are.Heartbeat)
-      (heartbeat_keeps (is_phoenix m.topic) (on_heartbeat s m) (on_topic s.pid s (find m.topic s.joined) m events_are.Unknown) s refl (topic_keeps s.pid s (find m.topic s.joined) m events_are.Unknown)))
+      (heartbeat_keeps (is_phoenix m.topic) (on_heartbeat s m) (on_topic s (find m.topic s.joined) m events_are.Unknown) s refl (topic_keeps s (find m.topic s.joined) m events_are.Unknown)))
   kind_leads kinds_are.Join join leave is =
-      leaving_at (At kinds_are.Join) true false join leave is (route_leads routes m s st s.pid (length s.joined) (find m.topic s.joined) refl (route_of (is_phoenix m.topic) routes m.topic) refl)
-  kind_leads kinds_are.Leave join leave is = leaving_at (At kinds_are.Leave) false true join leave is (leave_leads routes m s st s.pid (find m.topic s.joined) refl)
+      leaving_at (At kinds_are.Join) true false join leave is (route_leads routes m s st (length s.joined) (find m.topic s.joined) refl (route_of (is_phoenix m.topic) routes m.topic) refl)
+  kind_leads kinds_are.Leave join leave is = leaving_at (At kinds_are.Leave) false true join leave is (leave_leads routes m s st (find m.topic s.joined) refl)
   kind_leads (kinds_are.Topic event) join leave is =
-      leaving_at (At (kinds_are.Topic event)) false false join leave is (others_leave routes m s st (At (kinds_are.Topic event)) (topic_keeps s.pid s (find m.topic s.joined) m event))
+      leaving_at (At (kinds_are.Topic event)) false false join leave is (others_leave routes m s st (At (kinds_are.Topic event)) (topic_keeps s (find m.topic s.joined) m event))
 
   rules_lead : Leaving (rules routes s m) (is_join m) (is_leave m)
   unfolding rules
@@ -339,19 +340,19 @@ module _ (routes : List (List ℕ × ℕ)) (m : Message) where
   not_given o said t quiet e = absurd (false_true (sym quiet ∙ e))
 
   module _ (kind : ℕ) (is : first_kind m.topic routes ≡ Some kind) where
-    asked_gives : (before : List Said) → answered_ok before ≡ false → (s : InForce) (pid count : ℕ) (first : Bool) (a : Asked) → Leads (Answered (IsGiven routes m)) (join_asked pid count first before kind s m a)
+    asked_gives : (before : List Said) → answered_ok before ≡ false → (s : InForce) (count : ℕ) (first : Bool) (a : Asked) → Leads (Answered (IsGiven routes m)) (join_asked count first before kind s m a)
     asked_gives before quiet s = join_leads (IsGiven routes m) before kind s m
         (λ reason. not_given None (before ++ message (error (join_ref_of m) m reason) ∷ []) s (answered_with before (message (error (join_ref_of m) m reason)) false quiet refl))
         (λ response sub e. (record { topic = m.topic; kind = kind; join_ref = join_ref_of m; sub = sub }, ap (λ k. joined_as k (Some sub) m) is))
 
-    join_gives : (s : InForce) (pid count : ℕ) (j : Option Joined) (a : Asked) → Leads (Answered (IsGiven routes m)) (on_join pid count kind s j m a)
-    join_gives s pid count None a = asked_gives [] refl s pid count true a
-    join_gives s pid count (Some j) a =
-        ended_leads (IsGiven routes m) pid m.topic j.sub _ (asked_gives (message (closing j.join_ref m.topic) ∷ []) refl (left s m.topic) pid (count - 1) false a)
+    join_gives : (s : InForce) (count : ℕ) (j : Option Joined) (a : Asked) → Leads (Answered (IsGiven routes m)) (on_join count kind s j m a)
+    join_gives s count None a = asked_gives [] refl s count true a
+    join_gives s count (Some j) a =
+        ended_leads (IsGiven routes m) m.topic j.sub _ (asked_gives (message (closing j.join_ref m.topic) ∷ []) refl (left s m.topic) (count - 1) false a)
 
-  route_gives : (s : InForce) (pid count : ℕ) (j : Option Joined) (route : Option ℕ) → route_of (is_phoenix m.topic) routes m.topic ≡ route → Leads (Answered (IsGiven routes m)) (by_route pid count s j m route)
-  route_gives s pid count j None is = not_given None (message (error m.join_ref m (codes "unmatched topic")) ∷ []) s refl
-  route_gives s pid count j (Some kind) is = join_gives kind (kind_routed (is_phoenix m.topic) (first_kind m.topic routes) kind is) s pid count j (asked m.payload)
+  route_gives : (s : InForce) (count : ℕ) (j : Option Joined) (route : Option ℕ) → route_of (is_phoenix m.topic) routes m.topic ≡ route → Leads (Answered (IsGiven routes m)) (by_route count s j m route)
+  route_gives s count j None is = not_given None (message (error m.join_ref m (codes "unmatched topic")) ∷ []) s refl
+  route_gives s count j (Some kind) is = join_gives kind (kind_routed (is_phoenix m.topic) (first_kind m.topic routes) kind is) s count j (asked m.payload)
 
   join_kind : is_join m ≡ true → kind_of m.event ≡ kinds_are.Join
   join_kind e = ap kind_of ((bytes_eq-Decides m.event (codes "phx_join")).0 e)
@@ -359,8 +360,8 @@ module _ (routes : List (List ℕ × ℕ)) (m : Message) where
   rules_give : (s : InForce) → is_join m ≡ true → Leads (Answered (IsGiven routes m)) (rules routes s m)
   unfolding rules
   rules_give s e =
-      subst (λ k. Leads (Answered (IsGiven routes m)) (by_kind (is_phoenix m.topic) (route_of (is_phoenix m.topic) routes m.topic) s.pid (length s.joined) s (find m.topic s.joined) m k))
-      (sym (join_kind e)) (route_gives s s.pid (length s.joined) (find m.topic s.joined) (route_of (is_phoenix m.topic) routes m.topic) refl)
+      subst (λ k. Leads (Answered (IsGiven routes m)) (by_kind (is_phoenix m.topic) (route_of (is_phoenix m.topic) routes m.topic) (length s.joined) s (find m.topic s.joined) m k))
+      (sym (join_kind e)) (route_gives s (length s.joined) (find m.topic s.joined) (route_of (is_phoenix m.topic) routes m.topic) refl)
 
   both_true : (a b : Bool) → (a && b) ≡ true → (a ≡ true) × (b ≡ true)
   both_true true b e = (refl, e)

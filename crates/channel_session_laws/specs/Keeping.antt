@@ -59,11 +59,11 @@ then_past (Some p) next = next p
 
 -- a message is answered
 abbrev pub ruled : List (List ℕ × ℕ) → Past → Message → Option Past
-ruled routes p m = let x = played (rules routes p.session m) p.history in behind p.said x.0 x.1
+ruled routes p m = let x = played p.session.pid (rules routes p.session m) p.history in behind p.said x.0 x.1
 
 -- each topic gets what waits for it
 abbrev pub served : Past → Option Past
-served p = let x = played (delivery MAX_TAKEN p.session) p.history in behind p.said x.0 x.1
+served p = let x = played p.session.pid (delivery MAX_TAKEN p.session) p.history in behind p.said x.0 x.1
 
 -- a line: the message, and then one delivery
 abbrev pub lined : List (List ℕ × ℕ) → Past → Message → Option Past

@@ -9,6 +9,7 @@ use Rattle.presence_journal.specs.Queue.{Queued, queue, topic_of, taken, is_wait
 use Rattle.presence_journal.specs.Table.{IsLegal}
 use Rattle.presence_metas.specs.Listing.{Listing}
 use Rattle.channel_session_rules.specs.ShardFault.TheVariants.{OutOfMemory}
+use Rattle.channel_session_rules.specs.declared.refusal.Refusal.TheVariants.{Table}
 use Rattle.channel_session_rules.specs.Asks.{Ask, Answer, Call}
 use Rattle.channel_session_rules.specs.Delivering.{delivery}
 use Rattle.channel_session_rules.specs.Frames.{message_of}
@@ -24,19 +25,19 @@ use Rattle.channel_session_rules.specs.Script.{Script}
 
 -- what a lent shard answers, and the history that it leaves, are the sequential table's, unless memory is wanted
 abbrev pub AnswersByTable : Type 0
-AnswersByTable = (old new : History) (q : Ask) (a : Answer q) → LocalStep old q a new → (a ≡ Err OutOfMemory → ⊥)
-    → (a ≡ answer_in old q) × (new ≡ after_in old q)
+AnswersByTable = (pid : ℕ) (old new : History) (q : Ask) (a : Answer q) → LocalStep pid old q a new
+    → (a ≡ Err (Table OutOfMemory) → ⊥) → (a ≡ answer_in pid old q) × (new ≡ after_in pid old q)
 
 -- want of memory leaves the history as it was
 abbrev pub WantStays : Type 0
-WantStays = (old new : History) (q : Ask) → LocalStep old q (Err OutOfMemory) new → new ≡ old
+WantStays = (pid : ℕ) (old new : History) (q : Ask) → LocalStep pid old q (Err (Table OutOfMemory)) new → new ≡ old
 
 -- Over a lent shard a script that is answered was played against the table: what it says, what is in force after it
--- and the new history are a function of the script and the history.
+-- and the new history are a function of the script, the asking session's number and the history.
 abbrev pub IsPlayed : Script End → Type 0
 IsPlayed script =
-    (said : List Said) (s : InForce) (old new : History) → Follows LocalStep script old new (Ok (answers said s))
-    → played script old ≡ (answers said s, new)
+    (pid : ℕ) (said : List Said) (s : InForce) (old new : History)
+    → Follows (LocalStep pid) script old new (Ok (answers said s)) → played pid script old ≡ (answers said s, new)
 
 abbrev pub RulesArePlayed : Type 0
 RulesArePlayed = (routes : List (List ℕ × ℕ)) (s : InForce) (m : Message) → IsPlayed (rules routes s m)
@@ -61,7 +62,7 @@ AllFramesMirror =
 
 -- a call of a lent shard gives a subscriber what it answers to its take, and nothing else does
 abbrev pub CallsGive : Type 0
-CallsGive = (old new : History) (q : Ask) (a : Answer q) → LocalStep old q a new → (n : ℕ)
+CallsGive = (pid : ℕ) (old new : History) (q : Ask) (a : Answer q) → LocalStep pid old q a new → (n : ℕ)
     → given_to new n ≡ given_to old n ++ given_by q a n
 
 -- Whatever a port answers: after turns of a session that had joined nothing, none of which left it failed, in force are the topics whose last

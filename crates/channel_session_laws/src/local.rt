@@ -1,7 +1,5 @@
 //! A port that is lent one shard.
-use channel_session_rules::{Port, Shard, ShardFault, Sub};
-use presence_base::{Dot, Json, Key, Meta, Row, Topic};
-use presence_journal::{Item, SharedRows};
+use channel_session_rules::{AtShard, Call, Port, Refusal, Shard, Told, in_table, told_to};
 use std::alloc::Global;
 
 /// A port that is lent one shard: each of its calls is that call of the shard, without a seat. What
@@ -33,86 +31,15 @@ impl<'a> Port for LocalPort<'a> {
     ghost use Rattle.std.specs.Prelude.{◌≡◌};
     ghost use Rattle.channel_session_laws.specs.Local.{LocalStep};
 
-    ghost step = { λ old q a new. (new.shard.ghost_name ≡ old.shard.ghost_name) × LocalStep old.shard.now q a new.shard.now };
+    ghost step = { λ pid old q a new. (new.shard.ghost_name ≡ old.shard.ghost_name) × LocalStep pid old.shard.now q a new.shard.now };
 
-    fn track(
-        &mut self,
-        alloc: Global,
-        pid: u64,
-        topic: &Topic,
-        key: &Key,
-        meta: &Meta,
-    ) -> Result<Dot, ShardFault> {
-        self.shard.track(alloc, None, pid, topic, key, meta)
-    }
-
-    fn update(
-        &mut self,
-        alloc: Global,
-        pid: u64,
-        topic: &Topic,
-        key: &Key,
-        meta: &Meta,
-    ) -> Result<Dot, ShardFault> {
-        self.shard.update(alloc, None, pid, topic, key, meta)
-    }
-
-    fn untrack(
-        &mut self,
-        alloc: Global,
-        pid: u64,
-        topic: &Topic,
-        key: &Key,
-    ) -> Result<(), ShardFault> {
-        match self.shard.untrack(alloc, None, pid, topic, key) {
-            Ok(_) => Ok(()),
-            Err(fault) => Err(fault),
+    fn call<C: Call>(&mut self, alloc: Global, pid: u64, call: &C) -> Result<C::Answer, Refusal> {
+        match call.at_shard(pid) {
+            AtShard::Step(step) => in_table(self.shard.perform(alloc, None, &step)),
+            AtShard::Waits(sub) => match self.shard.waits(&sub) {
+                Ok(waits) => Ok(told_to(call, Told::Waits(waits))),
+                Err(fault) => Err(Refusal::Table(fault)),
+            },
         }
-    }
-
-    fn untrack_all(&mut self, alloc: Global, pid: u64, topic: &Topic) -> Result<(), ShardFault> {
-        match self.shard.untrack_all(alloc, None, pid, topic) {
-            Ok(_) => Ok(()),
-            Err(fault) => Err(fault),
-        }
-    }
-
-    fn list(&mut self, alloc: Global, topic: &Topic) -> Result<SharedRows, ShardFault> {
-        self.shard.list(alloc, None, topic)
-    }
-
-    fn get(
-        &mut self,
-        alloc: Global,
-        topic: &Topic,
-        key: &Key,
-    ) -> Result<Vec<(Dot, Row)>, ShardFault> {
-        self.shard.get(alloc, None, topic, key)
-    }
-
-    fn subscribe(&mut self, alloc: Global, topic: &Topic) -> Result<Sub, ShardFault> {
-        self.shard.subscribe(alloc, None, topic)
-    }
-
-    fn take(
-        &mut self,
-        alloc: Global,
-        _topic: &Topic,
-        sub: &Sub,
-        max: u32,
-    ) -> Result<Vec<Item>, ShardFault> {
-        self.shard.take(alloc, None, sub, max)
-    }
-
-    fn unsubscribe(&mut self, alloc: Global, _topic: &Topic, sub: &Sub) -> Result<(), ShardFault> {
-        self.shard.unsubscribe(alloc, None, sub)
-    }
-
-    fn waits(&mut self, _topic: &Topic, sub: &Sub) -> Result<bool, ShardFault> {
-        self.shard.waits(sub)
-    }
-
-    fn shout(&mut self, alloc: Global, topic: &Topic, payload: &Json) -> Result<(), ShardFault> {
-        self.shard.shout(alloc, None, topic, payload)
     }
 }

@@ -1,3 +1,4 @@
 pub mod Alike
 pub mod Reading
 pub mod Runs
+pub mod Passing

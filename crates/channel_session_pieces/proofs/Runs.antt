@@ -16,10 +16,10 @@ use Rattle.presence_metas.proofs.Lookups.{Rises, none_rises}
 use Rattle.presence_pieces.specs.Laws.{untold_items}
 use Rattle.presence_pieces.specs.Pieces.{begun, is_to, left_of, without, Tells, TellsNext}
 use Rattle.presence_pieces.specs.declared.telling.UntoldState.{UntoldState}
-use Rattle.channel_session_rules.specs.ShardFault.{ShardFault}
+use Rattle.channel_session_rules.specs.declared.refusal.Refusal.{Refusal}
 use Rattle.channel_session_rules.specs.ShardFault.TheVariants.{OutOfMemory}
 use Rattle.channel_session_rules.specs.Sub.{Sub}
-use Rattle.channel_session_rules.specs.Asks.{Ask, Answer, Call, Made, track, update, untrack, untrack_all, list, get, subscribe, take, unsubscribe, waits, shout}
+use Rattle.channel_session_rules.specs.Asks.{Ask, Answer, ByAnyone, Call, Made, track, update, untrack, untrack_all, list, get, subscribe, take, unsubscribe, waits, shout}
 use Rattle.channel_session_laws.specs.Local.{LocalStep}
 use Rattle.channel_session_laws.specs.Mirrors.{given_to, given_by}
 use Rattle.channel_session_laws.proofs.Givings.{all_frames_mirror, calls_give}
@@ -83,13 +83,13 @@ module _ (mine : List ℕ → ℕ → Bool) (r : Option MsgRef) (t : List ℕ) (
       go false e = rw (left, e) (alike_refl ls h)
 
   -- a take's answer where the state of its subscriber was to be told
-  told_or : (u : UntoldState) (answer : Result (List Item) ShardFault) (topic : List ℕ) (sub : Sub) (max : ℕ) (after : Option UntoldState) → mine topic sub.number ≡ mine u.topic u.number
+  told_or : (u : UntoldState) (answer : Result (List Item) Refusal) (topic : List ℕ) (sub : Sub) (max : ℕ) (after : Option UntoldState) → mine topic sub.number ≡ mine u.topic u.number
       → TellsOr (Some u) answer after → Alike (reads_all r t (reads_all r t ls (given_of mine (take topic sub max) answer)) (untold_of mine after)) (reads_all r t ls (untold_of mine (Some u)))
   told_or u (Ok items) topic sub max after e tells = rw e (told u items after tells)
   told_or u (Err fault) topic sub max after e (f, is) = rw is (alike_refl (reads_all r t ls (untold_of mine (Some u))) (all_rises r t ls (untold_of mine (Some u)) h))
 
   -- what the port inside gave, and what was given of it
-  given_leads : (topic : List ℕ) (sub : Sub) (max : ℕ) (inner a : Result (List Item) ShardFault) (after : Option UntoldState) → Alike ls ks → GivesAnswer topic sub.number inner a after
+  given_leads : (topic : List ℕ) (sub : Sub) (max : ℕ) (inner a : Result (List Item) Refusal) (after : Option UntoldState) → Alike ls ks → GivesAnswer topic sub.number inner a after
       → Alike (reads_all r t (reads_all r t ls (given_of mine (take topic sub max) a)) (untold_of mine after)) (reads_all r t ks (given_of mine (take topic sub max) inner))
   given_leads topic sub max (Err fault) a after alike (is, none) = rw (is, none) alike
   given_leads topic sub max (Ok items) a after alike gives = go (lone items) refl gives
@@ -103,7 +103,7 @@ module _ (mine : List ℕ → ℕ → Bool) (r : Option MsgRef) (t : List ℕ) (
           (all_alike r t ls ks (cond (mine topic sub.number) (items_are.State rows ∷ []) []) alike))
 
   -- a piece, or nothing, where the port inside isn't asked
-  piece_leads : (topic : List ℕ) (sub : Sub) (max : ℕ) (u : UntoldState) (a : Result (List Item) ShardFault) (after : Option UntoldState) → Alike (reads_all r t ls (untold_of mine (Some u))) ks
+  piece_leads : (topic : List ℕ) (sub : Sub) (max : ℕ) (u : UntoldState) (a : Result (List Item) Refusal) (after : Option UntoldState) → Alike (reads_all r t ls (untold_of mine (Some u))) ks
       → GivesPiece (is_to topic sub.number u) u a after → Alike (reads_all r t (reads_all r t ls (given_of mine (take topic sub max) a)) (untold_of mine after)) ks
   piece_leads topic sub max u a after alike gives = go (is_to topic sub.number u) refl gives
     where
@@ -140,7 +140,7 @@ module _ {P : Type 0} (step : P → (q : Ask) → Answer q → P → Type 0) whe
       → Answered old new (λ mine. given_of mine q a) (λ mine. ends mine q a)
   unasked old new q a same leads = record { inner = []; made = same; leading = λ mine e. leads mine }
 
-  take_answered : (u after : Option UntoldState) (old new : P) (topic : List ℕ) (sub : Sub) (max : ℕ) (a : Result (List Item) ShardFault) → Takes step u topic sub max old a new after
+  take_answered : (u after : Option UntoldState) (old new : P) (topic : List ℕ) (sub : Sub) (max : ℕ) (a : Result (List Item) Refusal) → Takes step u topic sub max old a new after
       → Answered (old, u) (new, after) (λ mine. given_of mine (take topic sub max) a) (λ mine. false)
   take_answered None after old new topic sub max a (inl (inner, s, gives)) = record {
     inner = record { ask = take topic sub max; answer = inner } ∷ [];
@@ -158,7 +158,7 @@ module _ {P : Type 0} (step : P → (q : Ask) → Answer q → P → Type 0) whe
     leading = λ mine e r t ls ks h alike. piece_leads mine r t ls ks h topic sub max u a after alike gives;
   }
 
-  waits_answered : (u : Option UntoldState) (old new : P) (topic : List ℕ) (sub : Sub) (a : Result Bool ShardFault) → Waits step u topic sub old a new
+  waits_answered : (u : Option UntoldState) (old new : P) (topic : List ℕ) (sub : Sub) (a : Result Bool Refusal) → Waits step u topic sub old a new
       → Answered (old, u) (new, u) (λ mine. []) (λ mine. false)
   waits_answered None old new topic sub a s = record { inner = record { ask = waits topic sub; answer = a } ∷ []; made = (new, s, refl); leading = λ mine e r t ls ks h alike. alike }
   waits_answered (Some u) old new topic sub a (is, same) = record { inner = []; made = same; leading = λ mine e r t ls ks h alike. alike }
@@ -169,10 +169,10 @@ module _ {P : Type 0} (step : P → (q : Ask) → Answer q → P → Type 0) whe
   renewed old new u given ending e a = record { inner = a.inner; made = a.made; leading = λ mine f r t ls ks h alike. rw e (a.leading mine f r t ls ks h alike) }
 
   call_answered : (old new : P × Option UntoldState) (q : Ask) (a : Answer q) → Piecewise step old q a new → Answered old new (λ mine. given_of mine q a) (λ mine. ends mine q a)
-  call_answered old new (track pid p k m) a s = quiet old new (track pid p k m) a a s.0 (λ mine. refl) (λ mine. refl) (λ mine e. ap (untold_of mine) s.1)
-  call_answered old new (update pid p k m) a s = quiet old new (update pid p k m) a a s.0 (λ mine. refl) (λ mine. refl) (λ mine e. ap (untold_of mine) s.1)
-  call_answered old new (untrack pid p k) a s = quiet old new (untrack pid p k) a a s.0 (λ mine. refl) (λ mine. refl) (λ mine e. ap (untold_of mine) s.1)
-  call_answered old new (untrack_all pid p) a s = quiet old new (untrack_all pid p) a a s.0 (λ mine. refl) (λ mine. refl) (λ mine e. ap (untold_of mine) s.1)
+  call_answered old new (track p k m) a s = quiet old new (track p k m) a a s.0 (λ mine. refl) (λ mine. refl) (λ mine e. ap (untold_of mine) s.1)
+  call_answered old new (update p k m) a s = quiet old new (update p k m) a a s.0 (λ mine. refl) (λ mine. refl) (λ mine e. ap (untold_of mine) s.1)
+  call_answered old new (untrack p k) a s = quiet old new (untrack p k) a a s.0 (λ mine. refl) (λ mine. refl) (λ mine e. ap (untold_of mine) s.1)
+  call_answered old new (untrack_all p) a s = quiet old new (untrack_all p) a a s.0 (λ mine. refl) (λ mine. refl) (λ mine e. ap (untold_of mine) s.1)
   call_answered old new (list p) a s = quiet old new (list p) a s.0 s.1 (λ mine. refl) (λ mine. refl) (λ mine e. ap (untold_of mine) s.3)
   call_answered old new (get p k) a s = quiet old new (get p k) a a s.0 (λ mine. refl) (λ mine. refl) (λ mine e. ap (untold_of mine) s.1)
   call_answered old new (subscribe p) a s = quiet old new (subscribe p) a a s.0 (λ mine. refl) (λ mine. refl) (λ mine e. ap (untold_of mine) s.1)
@@ -210,9 +210,41 @@ module _ {P : Type 0} (step : P → (q : Ask) → Answer q → P → Type 0) whe
             (first.leading mine apart.0 r t ls ks h alike));
       }
 
+-- ---- whoever calls
+
+module _ {P : Type 0} (step : P → (q : Ask) → Answer q → P → Type 0) (wider : P → (q : Ask) → Answer q → P → Type 0) (more : (old new : P) (q : Ask) (a : Answer q) → step old q a new → wider old q a new) where
+  takes_more : (u after : Option UntoldState) (old new : P) (topic : List ℕ) (sub : Sub) (max : ℕ) (a : Result (List Item) Refusal) → Takes step u topic sub max old a new after → Takes wider u topic sub max old a new after
+  takes_more None after old new topic sub max a (inl (inner, s, gives)) = inl (inner, more old new (take topic sub max) inner s, gives)
+  takes_more None after old new topic sub max a (inr wants) = inr wants
+  takes_more (Some u) after old new topic sub max a h = h
+
+  waits_more : (u : Option UntoldState) (old new : P) (topic : List ℕ) (sub : Sub) (a : Result Bool Refusal) → Waits step u topic sub old a new → Waits wider u topic sub old a new
+  waits_more None old new topic sub a s = more old new (waits topic sub) a s
+  waits_more (Some u) old new topic sub a h = h
+
+  -- calls in pieces of a port that does more
+  pieces_more : (old new : P × Option UntoldState) (q : Ask) (a : Answer q) → Piecewise step old q a new → Piecewise wider old q a new
+  pieces_more old new (track p k m) a s = (more old.0 new.0 (track p k m) a s.0, s.1)
+  pieces_more old new (update p k m) a s = (more old.0 new.0 (update p k m) a s.0, s.1)
+  pieces_more old new (untrack p k) a s = (more old.0 new.0 (untrack p k) a s.0, s.1)
+  pieces_more old new (untrack_all p) a s = (more old.0 new.0 (untrack_all p) a s.0, s.1)
+  pieces_more old new (list p) a s = (s.0, more old.0 new.0 (list p) s.0 s.1, s.2, s.3)
+  pieces_more old new (get p k) a s = (more old.0 new.0 (get p k) a s.0, s.1)
+  pieces_more old new (subscribe p) a s = (more old.0 new.0 (subscribe p) a s.0, s.1)
+  pieces_more old new (take p sub max) a s = takes_more old.1 new.1 old.0 new.0 p sub max a s
+  pieces_more old new (unsubscribe p sub) a s = (more old.0 new.0 (unsubscribe p sub) a s.0, s.1)
+  pieces_more old new (waits p sub) a s = (waits_more old.1 old.0 new.0 p sub a s.0, s.1)
+  pieces_more old new (shout p d) a s = (more old.0 new.0 (shout p d) a s.0, s.1)
+
+module _ {P : Type 0} (step : ℕ → P → (q : Ask) → Answer q → P → Type 0) where
+  anyones : (calls : List Call) (old new : P × Option UntoldState) → Made (ByAnyone (λ pid. Piecewise (step pid))) old calls new → Made (Piecewise (ByAnyone step)) old calls new
+  anyones [] old new same = same
+  anyones (c ∷ cs) old new (mid, s, made) =
+      (mid, pieces_more (step s.0) (ByAnyone step) (λ a b q x h. (s.0, h)) old mid c.ask c.answer s.1, anyones cs mid new made)
+
   pub pieces_lead : PiecesLead step
   pieces_lead old new untold calls made =
-      let run = run_answered calls (old, None) (new, untold) made in
+      let run = run_answered (ByAnyone step) calls (old, None) (new, untold) (anyones calls (old, None) (new, untold) made) in
       record {
         inner = run.inner;
         made = run.made;
@@ -223,10 +255,10 @@ module _ {P : Type 0} (step : P → (q : Ask) → Answer q → P → Type 0) whe
 
 -- what calls give the subscriber of a number
 given_by_number : (n : ℕ) (q : Ask) (a : Answer q) → given_by q a n ≡ given_of (numbered n) q a
-given_by_number n (track pid p k m) a = refl
-given_by_number n (update pid p k m) a = refl
-given_by_number n (untrack pid p k) a = refl
-given_by_number n (untrack_all pid p) a = refl
+given_by_number n (track p k m) a = refl
+given_by_number n (update p k m) a = refl
+given_by_number n (untrack p k) a = refl
+given_by_number n (untrack_all p) a = refl
 given_by_number n (list p) a = refl
 given_by_number n (get p k) a = refl
 given_by_number n (subscribe p) a = refl
@@ -236,11 +268,11 @@ given_by_number n (unsubscribe p sub) a = refl
 given_by_number n (waits p sub) a = refl
 given_by_number n (shout p d) a = refl
 
-all_given : (n : ℕ) (calls : List Call) (old new : History) → Made LocalStep old calls new → given_to new n ≡ given_to old n ++ given_in (numbered n) calls
+all_given : (n : ℕ) (calls : List Call) (old new : History) → Made (ByAnyone LocalStep) old calls new → given_to new n ≡ given_to old n ++ given_in (numbered n) calls
 all_given n [] old new same = ap (λ x. given_to x n) same ∙ sym (append-nil (given_to old n))
 all_given n (c ∷ cs) old new (mid, s, made) =
     all_given n cs mid new made
-    ∙ (ap (λ is. is ++ given_in (numbered n) cs) (calls_give old mid c.ask c.answer s n ∙ ap (λ is. given_to old n ++ is) (given_by_number n c.ask c.answer))
+    ∙ (ap (λ is. is ++ given_in (numbered n) cs) (calls_give s.0 old mid c.ask c.answer s.1 n ∙ ap (λ is. given_to old n ++ is) (given_by_number n c.ask c.answer))
     ∙ append_assoc (given_to old n) (given_of (numbered n) c.ask c.answer) (given_in (numbered n) cs))
 
 pub pieces_mirror : PiecesMirror

@@ -10,7 +10,7 @@ use Rattle.presence_metas.specs.Fold.{meta_at}
 use Rattle.presence_metas.specs.Listing.{Listing}
 use Rattle.presence_pieces.specs.Laws.{untold_items}
 use Rattle.presence_pieces.specs.declared.telling.UntoldState.{UntoldState}
-use Rattle.channel_session_rules.specs.Asks.{Ask, Answer, Call, Made, track, update, untrack, untrack_all, list, get, subscribe, take, unsubscribe, waits, shout}
+use Rattle.channel_session_rules.specs.Asks.{Ask, Answer, ByAnyone, Call, Made, track, update, untrack, untrack_all, list, get, subscribe, take, unsubscribe, waits, shout}
 use Rattle.channel_session_rules.specs.Frames.{message_of}
 use Rattle.channel_session_laws.specs.Local.{LocalStep}
 use Rattle.channel_session_laws.specs.Mirrors.{mirror_from, Mirrors, given_to}
@@ -22,10 +22,10 @@ use Rattle.channel_session_pieces.specs.Piecewise.{Piecewise}
 abbrev pub given_of : (List ℕ → ℕ → Bool) → (q : Ask) → Answer q → List Item
 given_of mine (take t sub max) (Ok items) = cond (mine t sub.number) items []
 given_of mine (take t sub max) (Err e) = []
-given_of mine (track pid t k m) a = []
-given_of mine (update pid t k m) a = []
-given_of mine (untrack pid t k) a = []
-given_of mine (untrack_all pid t) a = []
+given_of mine (track t k m) a = []
+given_of mine (update t k m) a = []
+given_of mine (untrack t k) a = []
+given_of mine (untrack_all t) a = []
 given_of mine (list t) a = []
 given_of mine (get t k) a = []
 given_of mine (subscribe t) a = []
@@ -74,9 +74,11 @@ module _ {P : Type 0} (step : P → (q : Ask) → Answer q → P → Type 0) whe
         → AreAlike (lists_after join_ref t (given_in mine calls ++ untold_of mine untold))
         (lists_after join_ref t (given_in mine inner))
 
-  abbrev pub PiecesLead : Type 0
-  PiecesLead = (old new : P) (untold : Option UntoldState) (calls : List Call)
-      → Made (Piecewise step) (old, None) calls (new, untold) → AnsweredBy old new untold calls
+-- so it is of each run of calls in pieces, whoever makes them
+abbrev pub PiecesLead : {P : Type 0} → (ℕ → P → (q : Ask) → Answer q → P → Type 0) → Type 0
+PiecesLead {P} step = (old new : P) (untold : Option UntoldState) (calls : List Call)
+    → Made (ByAnyone (λ pid. Piecewise (step pid))) (old, None) calls (new, untold)
+    → AnsweredBy (ByAnyone step) old new untold calls
 
 -- the subscriber of this number, in one shard
 abbrev pub numbered : ℕ → List ℕ → ℕ → Bool
@@ -87,7 +89,7 @@ numbered n t k = nat_eq k n
 abbrev pub PiecesMirror : Type 0
 PiecesMirror =
     (old new : History) (untold : Option UntoldState) (calls : List Call) (n : ℕ)
-    → Made (Piecewise LocalStep) (old, None) calls (new, untold) → given_to old n ≡ []
+    → Made (ByAnyone (λ pid. Piecewise (LocalStep pid))) (old, None) calls (new, untold) → given_to old n ≡ []
     → some_ends (numbered n) calls ≡ false → IsLegal new → (t : List ℕ) → topic_of new n ≡ Some t
     → untold_of (numbered n) untold ≡ [] → is_waiting (queue new n) ≡ false → (join_ref : Option MsgRef)
     → Mirrors (lists_after join_ref t (given_in (numbered n) calls)) (listed new t)

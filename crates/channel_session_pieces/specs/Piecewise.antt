@@ -8,14 +8,15 @@ use Rattle.presence_pieces.specs.Pieces.{begun, is_to, is_within, without, Tells
 use Rattle.presence_pieces.specs.declared.piece.TheConstants.{MAX_LISTED_BYTES}
 use Rattle.presence_pieces.specs.declared.telling.UntoldState.{UntoldState}
 use Rattle.channel_session_rules.specs.Asks.{Ask, Answer, list, take, unsubscribe, waits}
-use Rattle.channel_session_rules.specs.ShardFault.{ShardFault}
-use Rattle.channel_session_rules.specs.ShardFault.TheVariants.{JournalFull, OutOfMemory}
+use Rattle.channel_session_rules.specs.ShardFault.TheVariants.{OutOfMemory}
+use Rattle.channel_session_rules.specs.declared.refusal.Refusal.{Refusal}
+use Rattle.channel_session_rules.specs.declared.refusal.Refusal.TheVariants.{OverRation, Table}
 use Rattle.channel_session_rules.specs.Sub.{Sub}
 
 -- What comes next is given, or memory ran out and the same is untold.
-abbrev pub TellsOr : Option UntoldState → Result (List Item) ShardFault → Option UntoldState → Type 0
+abbrev pub TellsOr : Option UntoldState → Result (List Item) Refusal → Option UntoldState → Type 0
 TellsOr untold (Ok items) after = Tells untold items after
-TellsOr untold (Err fault) after = (fault ≡ OutOfMemory) × (after ≡ untold)
+TellsOr untold (Err fault) after = (fault ≡ Table OutOfMemory) × (after ≡ untold)
 
 -- the rows of a state that comes alone
 abbrev pub lone : List Item → Option (List (Dot × Row))
@@ -23,21 +24,21 @@ lone (State rows ∷ []) = Some rows
 lone _ = None
 
 -- Items are given on as they are, but for a state that comes alone: what comes first of it is.
-abbrev pub GivesAlone : Option (List (Dot × Row)) → List ℕ → ℕ → List Item → Result (List Item) ShardFault
+abbrev pub GivesAlone : Option (List (Dot × Row)) → List ℕ → ℕ → List Item → Result (List Item) Refusal
     → Option UntoldState → Type 0
 GivesAlone None topic number items answer after = (answer ≡ Ok items) × (after ≡ None)
 GivesAlone (Some rows) topic number items answer after = TellsOr (Some (begun topic number rows)) answer after
 
-abbrev pub GivesOn : List ℕ → ℕ → List Item → Result (List Item) ShardFault → Option UntoldState → Type 0
+abbrev pub GivesOn : List ℕ → ℕ → List Item → Result (List Item) Refusal → Option UntoldState → Type 0
 GivesOn topic number items answer after = GivesAlone (lone items) topic number items answer after
 
-abbrev pub GivesAnswer : List ℕ → ℕ → Result (List Item) ShardFault → Result (List Item) ShardFault
+abbrev pub GivesAnswer : List ℕ → ℕ → Result (List Item) Refusal → Result (List Item) Refusal
     → Option UntoldState → Type 0
 GivesAnswer topic number (Ok items) answer after = GivesOn topic number items answer after
 GivesAnswer topic number (Err fault) answer after = (answer ≡ Err fault) × (after ≡ None)
 
 -- To whom a state is being told its next piece is given, and to any other nothing.
-abbrev pub GivesPiece : Bool → UntoldState → Result (List Item) ShardFault → Option UntoldState → Type 0
+abbrev pub GivesPiece : Bool → UntoldState → Result (List Item) Refusal → Option UntoldState → Type 0
 GivesPiece true u answer after = TellsOr (Some u) answer after
 GivesPiece false u answer after = (answer ≡ Ok []) × (after ≡ Some u)
 
@@ -46,28 +47,28 @@ abbrev pub left_by : Bool → List ℕ → ℕ → Option UntoldState → Option
 left_by gone topic number untold = if gone then without topic number untold else untold
 
 -- rows that a reply lists are given with no change, and more are refused
-abbrev pub Lists : List (Dot × Row) → Result (List (Dot × Row)) ShardFault → Type 0
+abbrev pub Lists : List (Dot × Row) → Result (List (Dot × Row)) Refusal → Type 0
 Lists rows (Ok given) = (is_within MAX_LISTED_BYTES rows ≡ true) × (given ≡ rows)
-Lists rows (Err JournalFull) = is_within MAX_LISTED_BYTES rows ≡ false
-Lists rows (Err OutOfMemory) = Unit {0}
+Lists rows (Err OverRation) = is_within MAX_LISTED_BYTES rows ≡ false
+Lists rows (Err (Table OutOfMemory)) = Unit {0}
 Lists rows (Err fault) = ⊥
 
-abbrev pub ListsAnswer : Result (List (Dot × Row)) ShardFault → Result (List (Dot × Row)) ShardFault → Type 0
+abbrev pub ListsAnswer : Result (List (Dot × Row)) Refusal → Result (List (Dot × Row)) Refusal → Type 0
 ListsAnswer (Ok rows) answer = Lists rows answer
 ListsAnswer (Err fault) answer = answer ≡ Err fault
 
 module _ {P : Type 0} (step : P → (q : Ask) → Answer q → P → Type 0) where
   -- The port inside is asked, unless memory runs out before.
-  abbrev pub Asks : List ℕ → Sub → ℕ → P → Result (List Item) ShardFault → P → Option UntoldState → Type 0
+  abbrev pub Asks : List ℕ → Sub → ℕ → P → Result (List Item) Refusal → P → Option UntoldState → Type 0
   Asks topic sub max old answer new after =
-      (inner : Result (List Item) ShardFault) × step old (take topic sub max) inner new
+      (inner : Result (List Item) Refusal) × step old (take topic sub max) inner new
       × GivesAnswer topic sub.number inner answer after
 
-  abbrev pub Wants : P → Result (List Item) ShardFault → P → Option UntoldState → Type 0
-  Wants old answer new after = (answer ≡ Err OutOfMemory) × (new ≡ old) × (after ≡ None)
+  abbrev pub Wants : P → Result (List Item) Refusal → P → Option UntoldState → Type 0
+  Wants old answer new after = (answer ≡ Err (Table OutOfMemory)) × (new ≡ old) × (after ≡ None)
 
   -- Where nothing is untold the port inside is asked, and else it isn't.
-  abbrev pub Takes : Option UntoldState → List ℕ → Sub → ℕ → P → Result (List Item) ShardFault → P → Option UntoldState
+  abbrev pub Takes : Option UntoldState → List ℕ → Sub → ℕ → P → Result (List Item) Refusal → P → Option UntoldState
       → Type 0
   Takes None topic sub max old answer new after =
       Asks topic sub max old answer new after ⊎ Wants old answer new after
@@ -75,7 +76,7 @@ module _ {P : Type 0} (step : P → (q : Ask) → Answer q → P → Type 0) whe
       (new ≡ old) × GivesPiece (is_to topic sub.number u) u answer after
 
   -- While a state is being told something waits for its subscriber, and for nobody else.
-  abbrev pub Waits : Option UntoldState → List ℕ → Sub → P → Result Bool ShardFault → P → Type 0
+  abbrev pub Waits : Option UntoldState → List ℕ → Sub → P → Result Bool Refusal → P → Type 0
   Waits None topic sub old answer new = step old (waits topic sub) answer new
   Waits (Some u) topic sub old answer new = (answer ≡ Ok (is_to topic sub.number u)) × (new ≡ old)
 
@@ -86,6 +87,6 @@ module _ {P : Type 0} (step : P → (q : Ask) → Answer q → P → Type 0) whe
   Piecewise old (unsubscribe topic sub) a new =
       step old.0 (unsubscribe topic sub) a new.0 × (new.1 ≡ left_by (is_ok a) topic sub.number old.1)
   Piecewise old (list topic) a new =
-      (inner : Result (List (Dot × Row)) ShardFault) × step old.0 (list topic) inner new.0 × ListsAnswer inner a
+      (inner : Result (List (Dot × Row)) Refusal) × step old.0 (list topic) inner new.0 × ListsAnswer inner a
       × (new.1 ≡ old.1)
   Piecewise old q a new = step old.0 q a new.0 × (new.1 ≡ old.1)

@@ -1,17 +1,20 @@
 //! The port that gives a long state in pieces.
-ghost use Rattle.std.specs.Prelude.{◌≡◌, None, Some, is_some, MatchResult};
+ghost use Rattle.std.specs.Prelude.{◌≡◌, ◌≤◌, ◌^◌, None, Some, is_some, MatchResult};
 ghost use Rattle.channel_session_rules.specs.Seen.{seen_by};
-ghost use Rattle.channel_session_pieces.specs.Piecewise.{lone, GivesOn, Lists, Piecewise, TellsOr};
+ghost use Rattle.channel_session_rules.specs.Asks.{list as lists};
+ghost use Rattle.channel_session_pieces.specs.Piecewise.{lone, GivesOn, Lists, Piecewise, Takes, TellsOr};
 
-use channel_session_rules::{Port, ShardFault, Sub};
-use presence_base::{Dot, Json, Key, Meta, Row, Topic};
+use channel_session_rules::{
+    Call, List, Port, Question, Refusal, ShardFault, Take, Told, Unsubscribe, Waits, told_to,
+};
+use presence_base::Topic;
 use presence_journal::{Item, SharedRows};
 use presence_pieces::{MAX_LISTED_BYTES, Telling, text_within};
 use std::alloc::Global;
 
 /// A port whose calls are those of the port inside, but that a long state that comes alone is given in pieces, one for each
-/// take. Until all of it is given, nothing else is said to wait. A list of too many rows for a reply is refused as by a
-/// shard that is full.
+/// take. Until all of it is given, nothing else is said to wait. A list of too many rows for a reply is refused as
+/// what is more than the caller may have.
 #[derive(Drop)]
 pub struct PiecewisePort<'a, P> {
     port: &'a mut P,
@@ -40,14 +43,14 @@ fn state_alone(items: Vec<Item>) -> Result<SharedRows, Vec<Item>>
     }
 }
 
-// Rows that a reply lists, or the refusal of a shard that is full where they are too many for one.
-fn listed(alloc: Global, rows: &SharedRows) -> Result<SharedRows, ShardFault>
+// Rows that a reply lists, or their refusal where they are too many for one.
+fn listed(alloc: Global, rows: &SharedRows) -> Result<SharedRows, Refusal>
     ensures { Lists rows.now result }
 {
     match text_within(alloc, rows, MAX_LISTED_BYTES) {
         Ok(Some(state)) => Ok(state),
-        Ok(None) => Err(ShardFault::JournalFull),
-        Err(_) => Err(ShardFault::OutOfMemory),
+        Ok(None) => Err(Refusal::OverRation),
+        Err(_) => Err(Refusal::Table(ShardFault::OutOfMemory)),
     }
 }
 
@@ -63,14 +66,14 @@ impl<'a, P: Port> PiecewisePort<'a, P> {
     }
 
     // What comes next of the state that is being told.
-    fn tell(&mut self, alloc: Global) -> Result<Vec<Item>, ShardFault>
+    fn tell(&mut self, alloc: Global) -> Result<Vec<Item>, Refusal>
         ensures same_port { self.new.port ≡ self.old.port }
         ensures same_telling { self.new.telling.ghost_name ≡ self.old.telling.ghost_name }
         ensures told { TellsOr self.old.telling.now.untold (seen_by (λ v. v.items) result) self.new.telling.now.untold }
     {
         match self.telling.next(alloc) {
             Ok(items) => Ok(items),
-            Err(_) => Err(ShardFault::OutOfMemory),
+            Err(_) => Err(Refusal::Table(ShardFault::OutOfMemory)),
         }
     }
 
@@ -81,7 +84,7 @@ impl<'a, P: Port> PiecewisePort<'a, P> {
         topic: Topic,
         number: u64,
         items: Vec<Item>,
-    ) -> Result<Vec<Item>, ShardFault>
+    ) -> Result<Vec<Item>, Refusal>
         requires { self.old.telling.now.untold ≡ None }
         ensures same_port { self.new.port ≡ self.old.port }
         ensures same_telling { self.new.telling.ghost_name ≡ self.old.telling.ghost_name }
@@ -95,76 +98,16 @@ impl<'a, P: Port> PiecewisePort<'a, P> {
             Err(others) => Ok(others),
         }
     }
-}
 
-impl<P: Port> Port for PiecewisePort<'_, P> {
-    ghost step = { λ old q a new. (new.port.ghost_name ≡ old.port.ghost_name)
-        × (new.telling.ghost_name ≡ old.telling.ghost_name)
-        × Piecewise P.step (old.port.now, old.telling.now.untold) q a (new.port.now, new.telling.now.untold) };
-
-    fn track(
-        &mut self,
-        alloc: Global,
-        pid: u64,
-        topic: &Topic,
-        key: &Key,
-        meta: &Meta,
-    ) -> Result<Dot, ShardFault> {
-        self.port.track(alloc, pid, topic, key, meta)
-    }
-
-    fn update(
-        &mut self,
-        alloc: Global,
-        pid: u64,
-        topic: &Topic,
-        key: &Key,
-        meta: &Meta,
-    ) -> Result<Dot, ShardFault> {
-        self.port.update(alloc, pid, topic, key, meta)
-    }
-
-    fn untrack(
-        &mut self,
-        alloc: Global,
-        pid: u64,
-        topic: &Topic,
-        key: &Key,
-    ) -> Result<(), ShardFault> {
-        self.port.untrack(alloc, pid, topic, key)
-    }
-
-    fn untrack_all(&mut self, alloc: Global, pid: u64, topic: &Topic) -> Result<(), ShardFault> {
-        self.port.untrack_all(alloc, pid, topic)
-    }
-
-    fn list(&mut self, alloc: Global, topic: &Topic) -> Result<SharedRows, ShardFault> {
-        match self.port.list(alloc, topic) {
-            Ok(rows) => listed(alloc, &rows),
-            Err(fault) => Err(fault),
-        }
-    }
-
-    fn get(
-        &mut self,
-        alloc: Global,
-        topic: &Topic,
-        key: &Key,
-    ) -> Result<Vec<(Dot, Row)>, ShardFault> {
-        self.port.get(alloc, topic, key)
-    }
-
-    fn subscribe(&mut self, alloc: Global, topic: &Topic) -> Result<Sub, ShardFault> {
-        self.port.subscribe(alloc, topic)
-    }
-
-    fn take(
-        &mut self,
-        alloc: Global,
-        topic: &Topic,
-        sub: &Sub,
-        max: u32,
-    ) -> Result<Vec<Item>, ShardFault> {
+    // Takes of the port inside, or gives what comes next of the state that is being told.
+    fn take(&mut self, alloc: Global, pid: u64, take: &Take<'_>) -> Result<Vec<Item>, Refusal>
+        requires { pid ≤ 2 ^ 62 }
+        ensures same_port { self.new.port.ghost_name ≡ self.old.port.ghost_name }
+        ensures same_telling { self.new.telling.ghost_name ≡ self.old.telling.ghost_name }
+        ensures taken { Takes (P.step pid) self.old.telling.now.untold take.now.topic.now take.now.sub take.now.max
+            self.old.port.now (seen_by (λ v. v.items) result) self.new.port.now self.new.telling.now.untold }
+    {
+        let Take { topic, sub, .. } = *take;
         if self.telling.is_to(topic, sub.number) {
             return self.tell(alloc);
         }
@@ -172,30 +115,61 @@ impl<P: Port> Port for PiecewisePort<'_, P> {
             return Ok(Vec::new(alloc));
         }
         let Ok(name) = topic.clone() else {
-            return Err(ShardFault::OutOfMemory);
+            return Err(Refusal::Table(ShardFault::OutOfMemory));
         };
-        match self.port.take(alloc, topic, sub, max) {
+        match self.port.call(alloc, pid, take) {
             Ok(items) => self.give_on(alloc, name, sub.number, items),
-            Err(fault) => Err(fault),
+            Err(refusal) => Err(refusal),
         }
     }
 
-    fn unsubscribe(&mut self, alloc: Global, topic: &Topic, sub: &Sub) -> Result<(), ShardFault> {
-        let answer = self.port.unsubscribe(alloc, topic, sub);
-        if answer.is_ok() {
-            self.telling.forget(topic, sub.number);
+    // Lists by the port inside, unless there are too many rows for a reply.
+    fn list(&mut self, alloc: Global, pid: u64, list: &List<'_>) -> Result<SharedRows, Refusal>
+        requires { pid ≤ 2 ^ 62 }
+        ensures same_port { self.new.port.ghost_name ≡ self.old.port.ghost_name }
+        ensures same_telling { self.new.telling ≡ self.old.telling }
+        ensures listed { Piecewise (P.step pid) (self.old.port.now, self.old.telling.now.untold) (lists list.now.topic.now)
+            result (self.new.port.now, self.new.telling.now.untold) }
+    {
+        match self.port.call(alloc, pid, list) {
+            Ok(rows) => listed(alloc, &rows),
+            Err(refusal) => Err(refusal),
         }
-        answer
     }
+}
 
-    fn waits(&mut self, topic: &Topic, sub: &Sub) -> Result<bool, ShardFault> {
-        if self.telling.is_under_way() {
-            return Ok(self.telling.is_to(topic, sub.number));
+impl<P: Port> Port for PiecewisePort<'_, P> {
+    ghost step = { λ pid old q a new. (new.port.ghost_name ≡ old.port.ghost_name)
+        × (new.telling.ghost_name ≡ old.telling.ghost_name)
+        × Piecewise (P.step pid) (old.port.now, old.telling.now.untold) q a (new.port.now, new.telling.now.untold) };
+
+    fn call<C: Call>(&mut self, alloc: Global, pid: u64, call: &C) -> Result<C::Answer, Refusal> {
+        match call.question() {
+            Question::List(list) => match self.list(alloc, pid, &list) {
+                Ok(rows) => Ok(told_to(call, Told::Rows(rows))),
+                Err(refusal) => Err(refusal),
+            },
+            Question::Take(take) => match self.take(alloc, pid, &take) {
+                Ok(items) => Ok(told_to(call, Told::Items(items))),
+                Err(refusal) => Err(refusal),
+            },
+            Question::Waits(Waits { topic, sub }) => {
+                if self.telling.is_under_way() {
+                    let waits = self.telling.is_to(topic, sub.number);
+                    return Ok(told_to(call, Told::Waits(waits)));
+                }
+                self.port.call(alloc, pid, call)
+            }
+            Question::Unsubscribe(Unsubscribe { topic, sub }) => {
+                match self.port.call(alloc, pid, call) {
+                    Ok(given) => {
+                        self.telling.forget(topic, sub.number);
+                        Ok(given)
+                    }
+                    Err(refusal) => Err(refusal),
+                }
+            }
+            _ => self.port.call(alloc, pid, call),
         }
-        self.port.waits(topic, sub)
-    }
-
-    fn shout(&mut self, alloc: Global, topic: &Topic, payload: &Json) -> Result<(), ShardFault> {
-        self.port.shout(alloc, topic, payload)
     }
 }

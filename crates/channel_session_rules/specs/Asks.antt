@@ -1,18 +1,18 @@
--- What a session asks of its port, and what it is answered.
+-- What a session asks of its port, and what it is answered. Who asks is no part of a question: it is handed to the port beside it.
 use Rattle.std.specs.Prelude.{◌≡◌, ℕ, List, [], ◌∷◌, Bool, true, false, ◌||◌, Result, is_ok}
 use Rattle.serde_json.specs.Data.{Data}
 use Rattle.presence_base.specs.declared.dots.Dot.{Dot}
 use Rattle.presence_base.specs.declared.row.Row.{Row}
 use Rattle.presence_journal_data.specs.declared.rows.Item.{Item}
-use Rattle.tracker_shard.specs.declared.fault.ShardFault.{ShardFault}
 use Rattle.tracker_shard.specs.declared.shard.Sub.{Sub}
+use Rattle.channel_session_rules.specs.declared.refusal.Refusal.{Refusal}
 
 -- one question for each call of a shard that a session makes
 pub data Ask : Type 0 where
-  track : (pid : ℕ) (topic key : List ℕ) (meta : Data) → Ask
-  update : (pid : ℕ) (topic key : List ℕ) (meta : Data) → Ask
-  untrack : (pid : ℕ) (topic key : List ℕ) → Ask
-  untrack_all : (pid : ℕ) (topic : List ℕ) → Ask
+  track : (topic key : List ℕ) (meta : Data) → Ask
+  update : (topic key : List ℕ) (meta : Data) → Ask
+  untrack : (topic key : List ℕ) → Ask
+  untrack_all : (topic : List ℕ) → Ask
   list : (topic : List ℕ) → Ask
   get : (topic key : List ℕ) → Ask
   subscribe : (topic : List ℕ) → Ask
@@ -23,10 +23,10 @@ pub data Ask : Type 0 where
 
 -- what is given where a question is accepted
 abbrev pub Given : Ask → Type 0
-Given (track pid t k m) = Dot
-Given (update pid t k m) = Dot
-Given (untrack pid t k) = Unit {0}
-Given (untrack_all pid t) = Unit {0}
+Given (track t k m) = Dot
+Given (update t k m) = Dot
+Given (untrack t k) = Unit {0}
+Given (untrack_all t) = Unit {0}
 Given (list t) = List (Dot × Row)
 Given (get t k) = List (Dot × Row)
 Given (subscribe t) = Sub
@@ -36,7 +36,7 @@ Given (waits t s) = Bool
 Given (shout t p) = Unit {0}
 
 abbrev pub Answer : Ask → Type 0
-Answer q = Result (Given q) ShardFault
+Answer q = Result (Given q) Refusal
 
 -- a call: what was asked, and what came back
 pub record Call : Type 0 where
@@ -45,10 +45,10 @@ pub record Call : Type 0 where
 
 -- A call that leaves something behind: an accepted one, or a refused one of the two that end a join. To ask what waits is none.
 abbrev pub spoils : (q : Ask) → Answer q → Bool
-spoils (track pid t k m) a = is_ok a
-spoils (update pid t k m) a = is_ok a
-spoils (untrack pid t k) a = is_ok a
-spoils (untrack_all pid t) a = true
+spoils (track t k m) a = is_ok a
+spoils (update t k m) a = is_ok a
+spoils (untrack t k) a = is_ok a
+spoils (untrack_all t) a = true
 spoils (list t) a = is_ok a
 spoils (get t k) a = is_ok a
 spoils (subscribe t) a = is_ok a
@@ -69,6 +69,10 @@ some_enters (c ∷ cs) = enters c.ask c.answer || some_enters cs
 abbrev pub some_spoils : List Call → Bool
 some_spoils [] = false
 some_spoils (c ∷ cs) = spoils c.ask c.answer || some_spoils cs
+
+-- This was asked and this answered, of some caller.
+abbrev pub ByAnyone : {P : Type 0} → (ℕ → P → (q : Ask) → Answer q → P → Type 0) → P → (q : Ask) → Answer q → P → Type 0
+ByAnyone step old q a new = (pid : ℕ) × step pid old q a new
 
 -- these calls, in this order, took the port from the one to the other
 abbrev pub Made : {P : Type 0} → (P → (q : Ask) → Answer q → P → Type 0) → P → List Call → P → Type 0

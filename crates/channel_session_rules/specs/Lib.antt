@@ -2,6 +2,8 @@ pub mod Limits
 pub mod Asks
 pub mod Script
 pub mod Seen
+pub mod Shards
+pub mod Questions
 pub mod InForce
 pub mod Asked
 pub mod Frames

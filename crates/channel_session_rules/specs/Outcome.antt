@@ -20,7 +20,7 @@ CanWant memory = Unit {0}
 
 -- Nothing is made between the two calls that end a join, nor between the question what waits and its take.
 abbrev pub CanWantBefore : Ask → Type 0
-CanWantBefore (untrack_all pid t) = ⊥
+CanWantBefore (untrack_all t) = ⊥
 CanWantBefore (take t s n) = ⊥
 CanWantBefore _ = Unit {0}
 

@@ -4,7 +4,7 @@ ghost use Rattle.std.specs.Prelude.{◌≡◌, IfSome};
 use crate::scene::Scene;
 use presence_base::{Key, Meta, NodeName, Replica, Topic};
 use serde_json::Value;
-use shard_pool::{Gate, Lane, Pool, Seat};
+use shard_pool::{Gate, Lanes, Pool, Seat};
 use std::alloc::Global;
 use std::sync::Wait;
 
@@ -36,9 +36,9 @@ pub fn replica(alloc: Global, name: &str) -> Option<Replica>
 }
 
 /// Tracks a key of session 1 on a topic: the shard, and the number of the entry.
-pub fn track<G: Gate, A: Lane, B: Lane, C: Lane, D: Lane, R: Wait>(
-    scene: Scene<'_, R, G, A, B, C, D>,
-    seat: &mut Seat<A, B, C, D>,
+pub fn track<G: Gate, L: Lanes, R: Wait>(
+    scene: Scene<'_, R, G, L>,
+    seat: &mut Seat<L>,
     room: &str,
     name: &str,
 ) -> Option<(u32, u64)> {
@@ -51,11 +51,11 @@ pub fn track<G: Gate, A: Lane, B: Lane, C: Lane, D: Lane, R: Wait>(
 }
 
 /// The shard of a track on the topic, with a seat that is not given back.
-pub fn tracked_at<G: Gate, A: Lane, B: Lane, C: Lane, D: Lane, R: Wait>(
+pub fn tracked_at<G: Gate, L: Lanes, R: Wait>(
     rt: &R,
     alloc: Global,
-    pool: &Pool<G, A, B, C, D>,
-    seat: Seat<A, B, C, D>,
+    pool: &Pool<G, L>,
+    seat: Seat<L>,
     room: &str,
 ) -> Option<u32> {
     let mut seat = seat;

@@ -8,5 +8,5 @@ mod tellings;
 
 pub use desk::{key, meta, replica, topic, track, tracked_at};
 pub use gate::Crossing;
-pub use scene::{Blanks, Scene};
+pub use scene::Scene;
 pub use tellings::{first_removed, two_rows};

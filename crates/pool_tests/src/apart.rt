@@ -5,7 +5,7 @@ use orswot_core_told::Form;
 use pool_desk::{Scene, topic, track, two_rows};
 use presence_base::Replica;
 use replica_status::Status;
-use shard_pool::{Gate, Lane, Pool, PoolFault, Seat};
+use shard_pool::{Gate, Lanes, Pool, PoolFault, Seat};
 use std::alloc::Global;
 use std::sync::Wait;
 use tracker_shard::Sub;
@@ -31,20 +31,16 @@ pub(crate) struct Sides {
     receipts: usize,
 }
 
-fn shard_of_room<G: Gate, A: Lane, B: Lane, C: Lane, D: Lane>(
-    alloc: Global,
-    pool: &Pool<G, A, B, C, D>,
-    room: &str,
-) -> Option<u32>
+fn shard_of_room<G: Gate, L: Lanes>(alloc: Global, pool: &Pool<G, L>, room: &str) -> Option<u32>
     ensures { IfSome result (λ shard. shard < pool.now.shards) }
 {
     let topic = topic(alloc, room)?;
     Some(pool.shard_of(&topic))
 }
 
-fn subscribed<G: Gate, A: Lane, B: Lane, C: Lane, D: Lane, R: Wait>(
-    scene: Scene<'_, R, G, A, B, C, D>,
-    seat: &mut Seat<A, B, C, D>,
+fn subscribed<G: Gate, L: Lanes, R: Wait>(
+    scene: Scene<'_, R, G, L>,
+    seat: &mut Seat<L>,
     room: &str,
 ) -> Option<Sub> {
     let Scene { rt, alloc, pool } = scene;
@@ -53,8 +49,8 @@ fn subscribed<G: Gate, A: Lane, B: Lane, C: Lane, D: Lane, R: Wait>(
     Some(reply.value)
 }
 
-fn side_of<G: Gate, A: Lane, B: Lane, C: Lane, D: Lane, R: Wait>(
-    scene: Scene<'_, R, G, A, B, C, D>,
+fn side_of<G: Gate, L: Lanes, R: Wait>(
+    scene: Scene<'_, R, G, L>,
     shard: u32,
     other: &Replica,
     sub: &Sub,
@@ -81,8 +77,8 @@ fn side_of<G: Gate, A: Lane, B: Lane, C: Lane, D: Lane, R: Wait>(
 }
 
 // Makes these calls at a shard.
-fn call_at<G: Gate, A: Lane, B: Lane, C: Lane, D: Lane, R: Wait>(
-    scene: Scene<'_, R, G, A, B, C, D>,
+fn call_at<G: Gate, L: Lanes, R: Wait>(
+    scene: Scene<'_, R, G, L>,
     shard: u32,
     other: &Replica,
 ) -> Option<()>
@@ -98,9 +94,9 @@ fn call_at<G: Gate, A: Lane, B: Lane, C: Lane, D: Lane, R: Wait>(
 }
 
 // A track in one room, and calls at the shard of another, in which there is a subscriber.
-pub(crate) fn called_apart<G: Gate, A: Lane, B: Lane, C: Lane, D: Lane, R: Wait>(
-    scene: Scene<'_, R, G, A, B, C, D>,
-    seat: &mut Seat<A, B, C, D>,
+pub(crate) fn called_apart<G: Gate, L: Lanes, R: Wait>(
+    scene: Scene<'_, R, G, L>,
+    seat: &mut Seat<L>,
     other: &Replica,
     tracked: &str,
     called: &str,

@@ -8,14 +8,14 @@ use pool_desk::{Scene, key, meta, topic};
 use presence_base::{Json, Key, Meta, Topic, has_float, is_within_depth};
 use presence_journal::MAX_PAYLOAD_DEPTH;
 use serde_json::Value;
-use shard_pool::{Gate, Lane, Pool, PoolFault, Reply, Seat};
+use shard_pool::{Gate, Lanes, Pool, PoolFault, Reply, Seat};
 use std::alloc::Global;
 use std::sync::Wait;
 use tracker_shard::Sub;
 
 // What all calls are made with, and where.
-struct Asking<'a, R, G: Gate, A: Lane, B: Lane, C: Lane, D: Lane> {
-    scene: Scene<'a, R, G, A, B, C, D>,
+struct Asking<'a, R, G: Gate, L: Lanes> {
+    scene: Scene<'a, R, G, L>,
     pid: u32,
     topic: Topic,
     key: Key,
@@ -24,7 +24,7 @@ struct Asking<'a, R, G: Gate, A: Lane, B: Lane, C: Lane, D: Lane> {
     ghost sent: { IsTrue (is_payload payload) },
 }
 
-impl<R, G: Gate, A: Lane, B: Lane, C: Lane, D: Lane> Drop for Asking<'_, R, G, A, B, C, D> {
+impl<R, G: Gate, L: Lanes> Drop for Asking<'_, R, G, L> {
     fn drop(self) {
         let Asking {
             scene: _,
@@ -52,10 +52,10 @@ pub(crate) fn payload(alloc: Global) -> Option<Json>
 }
 
 // Calls of this session, for a key of its own.
-fn asked_with<'a, G: Gate, A: Lane, B: Lane, C: Lane, D: Lane, R>(
-    scene: Scene<'a, R, G, A, B, C, D>,
+fn asked_with<'a, G: Gate, L: Lanes, R>(
+    scene: Scene<'a, R, G, L>,
     pid: u32,
-) -> Option<Asking<'a, R, G, A, B, C, D>> {
+) -> Option<Asking<'a, R, G, L>> {
     let alloc = scene.alloc;
     let name = format!(in alloc; "u{pid}").ok()?;
     Some(Asking {
@@ -90,9 +90,9 @@ fn noted<T: Written + Drop>(
 }
 
 // One of the calls that need no subscriber.
-fn call<G: Gate, A: Lane, B: Lane, C: Lane, D: Lane, R: Wait>(
-    asking: &Asking<'_, R, G, A, B, C, D>,
-    seat: &mut Seat<A, B, C, D>,
+fn call<G: Gate, L: Lanes, R: Wait>(
+    asking: &Asking<'_, R, G, L>,
+    seat: &mut Seat<L>,
     turn: u32,
     answers: &mut Vec<Answered>,
 ) -> Option<()> {
@@ -130,9 +130,9 @@ fn call<G: Gate, A: Lane, B: Lane, C: Lane, D: Lane, R: Wait>(
 }
 
 // A take of up to so many items as a round's own calls and those of some others make.
-fn take<G: Gate, A: Lane, B: Lane, C: Lane, D: Lane, R: Wait>(
-    asking: &Asking<'_, R, G, A, B, C, D>,
-    seat: &mut Seat<A, B, C, D>,
+fn take<G: Gate, L: Lanes, R: Wait>(
+    asking: &Asking<'_, R, G, L>,
+    seat: &mut Seat<L>,
     sub: &Sub,
     answers: &mut Vec<Answered>,
 ) -> Option<()> {
@@ -146,9 +146,9 @@ fn take<G: Gate, A: Lane, B: Lane, C: Lane, D: Lane, R: Wait>(
 
 // Ten calls: a subscriber takes the state, and once there are a new row, an update and a shout what waits for it.
 // `twice` has a second track, which is refused, in place of the untrack of one key, and a list in place of a get.
-fn round<G: Gate, A: Lane, B: Lane, C: Lane, D: Lane, R: Wait>(
-    asking: &Asking<'_, R, G, A, B, C, D>,
-    seat: &mut Seat<A, B, C, D>,
+fn round<G: Gate, L: Lanes, R: Wait>(
+    asking: &Asking<'_, R, G, L>,
+    seat: &mut Seat<L>,
     twice: bool,
     answers: &mut Vec<Answered>,
 ) -> Option<()> {
@@ -172,21 +172,21 @@ fn round<G: Gate, A: Lane, B: Lane, C: Lane, D: Lane, R: Wait>(
 }
 
 // Two hundred calls of a session, with what came of them and the seat.
-pub(crate) fn calls<G: Gate, A: Lane, B: Lane, C: Lane, D: Lane, R: Wait>(
+pub(crate) fn calls<G: Gate, L: Lanes, R: Wait>(
     rt: &R,
     alloc: Global,
-    pool: &Pool<G, A, B, C, D>,
-    seat: Seat<A, B, C, D>,
+    pool: &Pool<G, L>,
+    seat: Seat<L>,
     pid: u32,
-) -> (Option<Called>, Seat<A, B, C, D>) {
+) -> (Option<Called>, Seat<L>) {
     let mut seat = seat;
     let called = all_called(Scene { rt, alloc, pool }, &mut seat, pid);
     (called, seat)
 }
 
-fn all_called<G: Gate, A: Lane, B: Lane, C: Lane, D: Lane, R: Wait>(
-    scene: Scene<'_, R, G, A, B, C, D>,
-    seat: &mut Seat<A, B, C, D>,
+fn all_called<G: Gate, L: Lanes, R: Wait>(
+    scene: Scene<'_, R, G, L>,
+    seat: &mut Seat<L>,
     pid: u32,
 ) -> Option<Called> {
     let alloc = scene.alloc;

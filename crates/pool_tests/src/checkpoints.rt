@@ -3,7 +3,7 @@ ghost use Rattle.std.specs.Prelude.{◌<◌};
 
 use pool_desk::{Scene, topic, track};
 use presence_journal::Item;
-use shard_pool::{Lane, NoGate, Seat, SettleFault, check_receipts};
+use shard_pool::{Lanes, NoGate, Seat, SettleFault, check_receipts};
 use std::sync::Wait;
 
 // How the receipts and the journal agree, and how many receipts there are.
@@ -24,9 +24,9 @@ pub(crate) struct Behind {
 }
 
 // How the seat's receipts agree with the journal now.
-fn look_at_receipts<A: Lane, B: Lane, C: Lane, D: Lane, R: Wait>(
-    scene: Scene<'_, R, NoGate, A, B, C, D>,
-    seat: &Seat<A, B, C, D>,
+fn look_at_receipts<L: Lanes, R: Wait>(
+    scene: Scene<'_, R, NoGate, L>,
+    seat: &Seat<L>,
 ) -> Option<Agreed>
     requires { 0 < scene.pool.now.shards }
 {
@@ -52,9 +52,9 @@ fn rows_of_state(items: &[Item]) -> Option<usize> {
 }
 
 // A subscription, a take and a track; a checkpoint; a track; and a take.
-pub(crate) fn checkpointed<A: Lane, B: Lane, C: Lane, D: Lane, R: Wait>(
-    scene: Scene<'_, R, NoGate, A, B, C, D>,
-    seat: &mut Seat<A, B, C, D>,
+pub(crate) fn checkpointed<L: Lanes, R: Wait>(
+    scene: Scene<'_, R, NoGate, L>,
+    seat: &mut Seat<L>,
 ) -> Option<Behind>
     requires { 0 < scene.pool.now.shards }
 {

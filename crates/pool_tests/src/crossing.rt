@@ -2,10 +2,11 @@
 ghost use Rattle.presence_journal.specs.History.{begun};
 ghost use Rattle.std.specs.Prelude.{◌≡◌};
 ghost use Rattle.presence_base.specs.Refs.{IsCount};
+ghost use Rattle.shard_pool.specs.Lanes.{AllBegin};
 
-use pool_desk::{Blanks, Crossing, replica, tracked_at};
+use pool_desk::{Crossing, replica, tracked_at};
 use presence_base::Replica;
-use shard_pool::{Gate, Lane, Pool};
+use shard_pool::{Blanks, Four, Gate, Lane, Pool};
 use std::alloc::Global;
 use std::marker::Brand;
 use std::sync::Wait;
@@ -31,18 +32,9 @@ fn two_shards<
         × (own.name ≡ C.node) }
     requires fourth { (blanks.fourth.name ≡ D.name) × (blanks.fourth.parts ≡ D.parts) × (blanks.fourth.parts ≡ 2)
         × (own.name ≡ D.node) }
-    requires begins { (A.begins (begun own)) × (B.begins (begun own)) × (C.begins (begun own))
-        × (D.begins (begun own)) }
+    requires begins { AllBegin A.begins B.begins C.begins D.begins (begun own) }
 {
-    let Blanks {
-        first,
-        second,
-        third,
-        fourth,
-    } = blanks;
-    let started = Pool::<G, A, B, C, D>::start(
-        alloc, own, 2, 2, gate, first, second, third, fourth,
-    );
+    let started = Pool::<G, Four<A, B, C, D>>::start(alloc, own, 2, 2, gate, blanks);
     let Ok((pool, mut seats)) = started else {
         return None;
     };

@@ -3,7 +3,7 @@
 use pool_desk::{Scene, first_removed, topic, two_rows};
 use presence_base::{Dot, Replica, Row, Topic};
 use presence_journal::Item;
-use shard_pool::{Gate, Lane, Seat};
+use shard_pool::{Gate, Lanes, Seat};
 use std::sync::Wait;
 use tracker_shard::Sub;
 
@@ -63,8 +63,8 @@ fn given_by(items: &[Item]) -> Given {
     }
 }
 
-fn act_on<G: Gate, A: Lane, B: Lane, C: Lane, D: Lane, R: Wait>(
-    scene: Scene<'_, R, G, A, B, C, D>,
+fn act_on<G: Gate, L: Lanes, R: Wait>(
+    scene: Scene<'_, R, G, L>,
     other: &Replica,
     act: Act,
 ) -> Option<()> {
@@ -84,9 +84,9 @@ fn act_on<G: Gate, A: Lane, B: Lane, C: Lane, D: Lane, R: Wait>(
     }
 }
 
-fn take<G: Gate, A: Lane, B: Lane, C: Lane, D: Lane, R: Wait>(
-    scene: Scene<'_, R, G, A, B, C, D>,
-    seat: &mut Seat<A, B, C, D>,
+fn take<G: Gate, L: Lanes, R: Wait>(
+    scene: Scene<'_, R, G, L>,
+    seat: &mut Seat<L>,
     topic: &Topic,
     sub: &Sub,
 ) -> Option<Given> {
@@ -99,9 +99,9 @@ fn take<G: Gate, A: Lane, B: Lane, C: Lane, D: Lane, R: Wait>(
 pub(crate) type Told = &'static [(Act, Given)];
 
 // How many of these go as they say, behind a subscription and a take of the state without rows.
-pub(crate) fn told<G: Gate, A: Lane, B: Lane, C: Lane, D: Lane, R: Wait>(
-    scene: Scene<'_, R, G, A, B, C, D>,
-    seat: &mut Seat<A, B, C, D>,
+pub(crate) fn told<G: Gate, L: Lanes, R: Wait>(
+    scene: Scene<'_, R, G, L>,
+    seat: &mut Seat<L>,
     other: &Replica,
     acts: Told,
 ) -> Option<usize> {

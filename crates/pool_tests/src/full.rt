@@ -1,7 +1,7 @@
 //! What a link, a period and a session ask of a shard whose journal is full, where only that shard has rows.
 ghost use Rattle.std.specs.Prelude.{◌≡◌, ◌<◌};
 
-use channel_session_rules::Port;
+use channel_session_rules::{List, Port, Subscribe, Track, Waits};
 use node_links::LinkPort;
 use orswot_core_told::Form;
 use pool_desk::{Scene, key, meta, replica, topic, track, two_rows};
@@ -9,7 +9,7 @@ use presence_base::{Replica, Topic};
 use presence_node_link_ports::{PoolLinkPort, cut_off, go_on, let_pass};
 use presence_node_ports::PoolPort;
 use replica_status::Status;
-use shard_pool::{Lane, NoGate, PoolFault, Seat};
+use shard_pool::{Lanes, NoGate, PoolFault, Seat};
 use std::alloc::Global;
 use std::sync::Wait;
 
@@ -63,10 +63,7 @@ pub(crate) const fn wanted_behind(shard: usize, asked: Asked) -> Filled {
 }
 
 // How many entries find room in a shard's journal.
-fn fill<R: Wait, A: Lane, B: Lane, C: Lane, D: Lane>(
-    scene: Scene<'_, R, NoGate, A, B, C, D>,
-    shard: u32,
-) -> Option<u64>
+fn fill<R: Wait, L: Lanes>(scene: Scene<'_, R, NoGate, L>, shard: u32) -> Option<u64>
     requires { shard < scene.pool.now.shards }
 {
     let Scene { rt, alloc, pool } = scene;
@@ -99,9 +96,9 @@ const NOTHING: Seen = Seen {
     full: 0,
 };
 
-fn says<R: Wait, A: Lane, B: Lane, C: Lane, D: Lane>(
+fn says<R: Wait, L: Lanes>(
     alloc: Global,
-    port: &mut PoolLinkPort<'_, R, NoGate, A, B, C, D>,
+    port: &mut PoolLinkPort<'_, R, NoGate, L>,
     shard: u32,
     own: &Replica,
     other: &Replica,
@@ -120,9 +117,9 @@ fn says<R: Wait, A: Lane, B: Lane, C: Lane, D: Lane>(
 }
 
 // Whether the shard says this, and each other one that it knows nothing.
-fn says_alone<R: Wait, A: Lane, B: Lane, C: Lane, D: Lane>(
+fn says_alone<R: Wait, L: Lanes>(
     alloc: Global,
-    port: &mut PoolLinkPort<'_, R, NoGate, A, B, C, D>,
+    port: &mut PoolLinkPort<'_, R, NoGate, L>,
     shard: u32,
     other: &Replica,
     wanted: Seen,
@@ -149,8 +146,8 @@ const fn knows(status: Status, other_top: u64, rows: usize) -> Seen {
 }
 
 // A call of a link's port, and what the shards say behind it: the row of this node and what is known of the other one.
-fn ask_by_link<R: Wait, A: Lane, B: Lane, C: Lane, D: Lane>(
-    scene: Scene<'_, R, NoGate, A, B, C, D>,
+fn ask_by_link<R: Wait, L: Lanes>(
+    scene: Scene<'_, R, NoGate, L>,
     shard: u32,
     asked: Asked,
 ) -> Option<()>
@@ -179,29 +176,36 @@ fn ask_by_link<R: Wait, A: Lane, B: Lane, C: Lane, D: Lane>(
 }
 
 // A call of a session's port, which makes room.
-fn ask_by_session<R: Wait, A: Lane, B: Lane, C: Lane, D: Lane>(
-    scene: Scene<'_, R, NoGate, A, B, C, D>,
-    seat: &mut Seat<A, B, C, D>,
+fn ask_by_session<R: Wait, L: Lanes>(
+    scene: Scene<'_, R, NoGate, L>,
+    seat: &mut Seat<L>,
     asked: (&Topic, Asked),
 ) -> Option<()> {
     let Scene { rt, alloc, pool } = scene;
     let mut port = PoolPort::new(rt, pool, seat);
+    let topic = asked.0;
     match asked.1 {
         Asked::Track => {
             let key = key(alloc, "u2")?;
             let meta = meta(alloc)?;
-            if port.track(alloc, 5, asked.0, &key, &meta).ok()?.count != 2 {
+            let track = Track {
+                topic,
+                key: &key,
+                meta: &meta,
+            };
+            if port.call(alloc, 5, &track).ok()?.count != 2 {
                 return None;
             }
         }
         Asked::Subscribe => {
-            let sub = port.subscribe(alloc, asked.0).ok()?;
-            if port.waits(asked.0, &sub) != Ok(true) {
+            let sub = port.call(alloc, 5, &Subscribe { topic }).ok()?;
+            if port.call(alloc, 5, &Waits { topic, sub }) != Ok(true) {
                 return None;
             }
         }
         _ => {
-            if port.list(alloc, asked.0).ok()?.as_slice().len() != 1 {
+            let rows = port.call(alloc, 5, &List { topic }).ok()?;
+            if rows.as_slice().len() != 1 {
                 return None;
             }
         }
@@ -210,9 +214,9 @@ fn ask_by_session<R: Wait, A: Lane, B: Lane, C: Lane, D: Lane>(
 }
 
 // Asks this of the shard that has the topic.
-fn ask<R: Wait, A: Lane, B: Lane, C: Lane, D: Lane>(
-    scene: Scene<'_, R, NoGate, A, B, C, D>,
-    seat: &mut Seat<A, B, C, D>,
+fn ask<R: Wait, L: Lanes>(
+    scene: Scene<'_, R, NoGate, L>,
+    seat: &mut Seat<L>,
     asked: (&Topic, Asked),
 ) -> Option<()>
     requires { scene.pool.now.shards ≡ 4 }
@@ -241,9 +245,9 @@ fn ask<R: Wait, A: Lane, B: Lane, C: Lane, D: Lane>(
 }
 
 // Fills the shard that has the room, where a row is and another node was heard, and asks this of it.
-pub(crate) fn ask_when_full<R: Wait, A: Lane, B: Lane, C: Lane, D: Lane>(
-    scene: Scene<'_, R, NoGate, A, B, C, D>,
-    seat: &mut Seat<A, B, C, D>,
+pub(crate) fn ask_when_full<R: Wait, L: Lanes>(
+    scene: Scene<'_, R, NoGate, L>,
+    seat: &mut Seat<L>,
     asked: (&'static str, Asked),
 ) -> Option<Filled>
     requires { scene.pool.now.shards ≡ 4 }

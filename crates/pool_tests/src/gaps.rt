@@ -4,7 +4,7 @@ use orswot_core_told::{Form, Told};
 use pool_desk::{Scene, first_removed, topic, track, two_rows};
 use presence_base::{Dot, Replica, Row};
 use replica_status::Status;
-use shard_pool::{Gate, Lane, Seat};
+use shard_pool::{Gate, Lanes, Seat};
 use std::sync::Wait;
 
 // Up to which count the other node is covered, and the rows of the lobby: how many, and the first one's count.
@@ -50,9 +50,9 @@ pub(crate) struct Played {
 }
 
 // What the pool shows now.
-fn look<G: Gate, A: Lane, B: Lane, C: Lane, D: Lane, R: Wait>(
-    scene: Scene<'_, R, G, A, B, C, D>,
-    seat: &mut Seat<A, B, C, D>,
+fn look<G: Gate, L: Lanes, R: Wait>(
+    scene: Scene<'_, R, G, L>,
+    seat: &mut Seat<L>,
     other: &Replica,
 ) -> Option<Shown> {
     let Scene { rt, alloc, pool } = scene;
@@ -82,10 +82,7 @@ fn live_of(rows: &[(Dot, Row)], other: &Replica) -> Live {
 }
 
 // Cuts a delta of the own node.
-fn cut<G: Gate, A: Lane, B: Lane, C: Lane, D: Lane, R: Wait>(
-    scene: Scene<'_, R, G, A, B, C, D>,
-    other: &Replica,
-) -> Option<Own> {
+fn cut<G: Gate, L: Lanes, R: Wait>(scene: Scene<'_, R, G, L>, other: &Replica) -> Option<Own> {
     let Scene { rt, alloc, pool } = scene;
     let delta = pool.cut(rt, alloc, 0).ok()?;
     Some(Own {
@@ -96,9 +93,9 @@ fn cut<G: Gate, A: Lane, B: Lane, C: Lane, D: Lane, R: Wait>(
 }
 
 // Takes in these in turn, and looks behind each.
-fn merge_both<G: Gate, A: Lane, B: Lane, C: Lane, D: Lane, R: Wait>(
-    scene: Scene<'_, R, G, A, B, C, D>,
-    seat: &mut Seat<A, B, C, D>,
+fn merge_both<G: Gate, L: Lanes, R: Wait>(
+    scene: Scene<'_, R, G, L>,
+    seat: &mut Seat<L>,
     other: &Replica,
     first: &Told,
     second: &Told,
@@ -112,9 +109,9 @@ fn merge_both<G: Gate, A: Lane, B: Lane, C: Lane, D: Lane, R: Wait>(
 }
 
 // Takes in both tellings of the other node, once it is heard, the second one first where it is late.
-fn tell<G: Gate, A: Lane, B: Lane, C: Lane, D: Lane, R: Wait>(
-    scene: Scene<'_, R, G, A, B, C, D>,
-    seat: &mut Seat<A, B, C, D>,
+fn tell<G: Gate, L: Lanes, R: Wait>(
+    scene: Scene<'_, R, G, L>,
+    seat: &mut Seat<L>,
     other: &Replica,
     late: bool,
 ) -> Option<[Shown; 2]> {
@@ -130,8 +127,8 @@ fn tell<G: Gate, A: Lane, B: Lane, C: Lane, D: Lane, R: Wait>(
 }
 
 // Which live rows a full value of the pool has.
-fn live_rows<G: Gate, A: Lane, B: Lane, C: Lane, D: Lane, R: Wait>(
-    scene: Scene<'_, R, G, A, B, C, D>,
+fn live_rows<G: Gate, L: Lanes, R: Wait>(
+    scene: Scene<'_, R, G, L>,
     other: &Replica,
 ) -> Option<Live> {
     let Scene { rt, alloc, pool } = scene;
@@ -140,9 +137,9 @@ fn live_rows<G: Gate, A: Lane, B: Lane, C: Lane, D: Lane, R: Wait>(
 }
 
 // Tells both, and looks on while the other node is gone for good and the own one tracks a row.
-pub(crate) fn watch<G: Gate, A: Lane, B: Lane, C: Lane, D: Lane, R: Wait>(
-    scene: Scene<'_, R, G, A, B, C, D>,
-    seat: &mut Seat<A, B, C, D>,
+pub(crate) fn watch<G: Gate, L: Lanes, R: Wait>(
+    scene: Scene<'_, R, G, L>,
+    seat: &mut Seat<L>,
     other: &Replica,
     late: bool,
 ) -> Option<Played> {

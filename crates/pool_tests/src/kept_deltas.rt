@@ -5,7 +5,7 @@ use node_links::{Line, encode_line};
 use orswot_core_told::{Form, Told};
 use pool_desk::{Scene, key, topic, track};
 use presence_node_link_ports::{beat_of, fitting_beat};
-use shard_pool::{Lane, NoGate, Seat};
+use shard_pool::{Lanes, NoGate, Seat};
 use std::alloc::Global;
 use std::sync::Wait;
 
@@ -18,10 +18,7 @@ struct Tells {
 }
 
 // What is told from a count on, where it has one range.
-fn told_from<A: Lane, B: Lane, C: Lane, D: Lane, R: Wait>(
-    scene: Scene<'_, R, NoGate, A, B, C, D>,
-    count: u64,
-) -> Option<Tells>
+fn told_from<L: Lanes, R: Wait>(scene: Scene<'_, R, NoGate, L>, count: u64) -> Option<Tells>
     requires { 0 < scene.pool.now.shards }
 {
     let Scene { rt, alloc, pool } = scene;
@@ -36,9 +33,9 @@ fn told_from<A: Lane, B: Lane, C: Lane, D: Lane, R: Wait>(
     }
 }
 
-fn untrack<A: Lane, B: Lane, C: Lane, D: Lane, R: Wait>(
-    scene: Scene<'_, R, NoGate, A, B, C, D>,
-    seat: &mut Seat<A, B, C, D>,
+fn untrack<L: Lanes, R: Wait>(
+    scene: Scene<'_, R, NoGate, L>,
+    seat: &mut Seat<L>,
     name: &str,
 ) -> Option<()> {
     let Scene { rt, alloc, pool } = scene;
@@ -58,9 +55,7 @@ fn is_range(told: &Told, from: u64, to: u64) -> bool {
 }
 
 // Whether both cuts are told in the second form as one range: from a count on, in full, and where a line takes it.
-fn are_told_in_two<A: Lane, B: Lane, C: Lane, D: Lane, R: Wait>(
-    scene: Scene<'_, R, NoGate, A, B, C, D>,
-) -> Option<bool>
+fn are_told_in_two<L: Lanes, R: Wait>(scene: Scene<'_, R, NoGate, L>) -> Option<bool>
     requires { 0 < scene.pool.now.shards }
 {
     let Scene { rt, alloc, pool } = scene;
@@ -95,9 +90,9 @@ pub(crate) struct WhatIsKept {
 }
 
 // A track and a cut, its untrack and a cut, and then a track that no cut told.
-pub(crate) fn kept<A: Lane, B: Lane, C: Lane, D: Lane, R: Wait>(
-    scene: Scene<'_, R, NoGate, A, B, C, D>,
-    seat: &mut Seat<A, B, C, D>,
+pub(crate) fn kept<L: Lanes, R: Wait>(
+    scene: Scene<'_, R, NoGate, L>,
+    seat: &mut Seat<L>,
 ) -> Option<WhatIsKept>
     requires { 0 < scene.pool.now.shards }
 {

@@ -1,22 +1,23 @@
 //! Pools of many seats, which settle where each has made a call.
 ghost use Rattle.std.specs.Prelude.{◌≡◌, ◌<◌, ◌≤◌};
 ghost use Rattle.presence_base.specs.Refs.{IsCount};
+ghost use Rattle.shard_pool.specs.Lanes.{AllBegin};
 ghost use Rattle.presence_journal.specs.History.{begun};
 
-use pool_desk::{Blanks, replica, topic};
+use pool_desk::{replica, topic};
 use presence_base::{Replica, Topic};
-use shard_pool::{Lane, NoGate, Pool, Seat};
+use shard_pool::{Blanks, Four, Lane, Lanes, NoGate, Pool, Seat};
 use std::alloc::Global;
 use std::marker::Brand;
 use std::sync::Wait;
 use std::test::Fail;
 
 // A list by each seat.
-fn list_all<R: Wait, A: Lane, B: Lane, C: Lane, D: Lane>(
+fn list_all<R: Wait, L: Lanes>(
     rt: &R,
     alloc: Global,
-    pool: &Pool<NoGate, A, B, C, D>,
-    seats: &mut [Seat<A, B, C, D>],
+    pool: &Pool<NoGate, L>,
+    seats: &mut [Seat<L>],
     topic: &Topic,
 ) -> Option<()> {
     for seat in seats.iter_mut() {
@@ -26,13 +27,13 @@ fn list_all<R: Wait, A: Lane, B: Lane, C: Lane, D: Lane>(
 }
 
 // How many entries the one journal has behind a list by each of so many seats, where the pool settles.
-fn listed_by<A: Lane, B: Lane, C: Lane, D: Lane, R: Wait>(
-    rt: &R,
-    alloc: Global,
-    own: Replica,
-    seats: u32,
-    blanks: Blanks,
-) -> Option<usize>
+fn listed_by<
+    A: Lane + Send + Sync,
+    B: Lane + Send + Sync,
+    C: Lane + Send + Sync,
+    D: Lane + Send + Sync,
+    R: Wait,
+>(rt: &R, alloc: Global, own: Replica, seats: u32, blanks: Blanks) -> Option<usize>
     requires seats { seats ≤ 64 }
     requires count { IsCount own.incarnation }
     requires first { (blanks.first.name ≡ A.name) × (blanks.first.parts ≡ A.parts) × (blanks.first.parts ≡ seats)
@@ -43,18 +44,9 @@ fn listed_by<A: Lane, B: Lane, C: Lane, D: Lane, R: Wait>(
         × (own.name ≡ C.node) }
     requires fourth { (blanks.fourth.name ≡ D.name) × (blanks.fourth.parts ≡ D.parts) × (blanks.fourth.parts ≡ seats)
         × (own.name ≡ D.node) }
-    requires begins { (A.begins (begun own)) × (B.begins (begun own)) × (C.begins (begun own))
-        × (D.begins (begun own)) }
+    requires begins { AllBegin A.begins B.begins C.begins D.begins (begun own) }
 {
-    let Blanks {
-        first,
-        second,
-        third,
-        fourth,
-    } = blanks;
-    let started = Pool::<NoGate, A, B, C, D>::start(
-        alloc, own, 1, seats, NoGate, first, second, third, fourth,
-    );
+    let started = Pool::<NoGate, Four<A, B, C, D>>::start(alloc, own, 1, seats, NoGate, blanks);
     let Ok((pool, mut seats)) = started else {
         return None;
     };

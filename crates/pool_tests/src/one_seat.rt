@@ -3,6 +3,7 @@
 ghost use Rattle.presence_journal.specs.History.{begun};
 ghost use Rattle.std.specs.Prelude.{◌≡◌, ◌<◌, ◌≤◌};
 ghost use Rattle.presence_base.specs.Refs.{IsCount};
+ghost use Rattle.shard_pool.specs.Lanes.{AllBegin};
 
 use crate::apart::{Sides, WANTED as WANTED_SIDES, called_apart};
 use crate::checkpoints::{Behind, WANTED as WANTED_BEHIND, checkpointed};
@@ -13,10 +14,10 @@ use crate::kept_deltas::{WANTED as WANTED_KEPT, WhatIsKept, kept};
 use crate::quiet::{Due, asked_in_turn, wanted as wanted_due};
 use crate::rebirths::{WANTED as WANTED_REBORN, WANTED_REFUSALS, WentOn, reborn, refusals};
 use crate::statuses::{WANTED as WANTED_STATUSES, statuses};
-use pool_desk::{Blanks, Scene, replica, track};
+use pool_desk::{Scene, replica, track};
 use presence_base::Replica;
 use replica_status::Status;
-use shard_pool::{Lane, NoGate, Pool, Seat};
+use shard_pool::{Blanks, Four, Lane, Lanes, NoGate, Pool, Seat};
 use std::alloc::Global;
 use std::marker::Brand;
 use std::sync::Wait;
@@ -69,9 +70,9 @@ enum Came {
     Refusals([bool; 6]),
 }
 
-fn run_over<A: Lane, B: Lane, C: Lane, D: Lane, R: Wait>(
-    scene: Scene<'_, R, NoGate, A, B, C, D>,
-    seat: &mut Seat<A, B, C, D>,
+fn run_over<L: Lanes, R: Wait>(
+    scene: Scene<'_, R, NoGate, L>,
+    seat: &mut Seat<L>,
     other: &Replica,
     case: Case,
 ) -> Option<Came>
@@ -106,13 +107,13 @@ fn run_over<A: Lane, B: Lane, C: Lane, D: Lane, R: Wait>(
 }
 
 // What comes of a run over a new pool of so many shards, if the pool settles behind it.
-fn settled_run<A: Lane, B: Lane, C: Lane, D: Lane, R: Wait>(
-    rt: &R,
-    alloc: Global,
-    own: Replica,
-    case: Case,
-    blanks: Blanks,
-) -> Option<Came>
+fn settled_run<
+    A: Lane + Send + Sync,
+    B: Lane + Send + Sync,
+    C: Lane + Send + Sync,
+    D: Lane + Send + Sync,
+    R: Wait,
+>(rt: &R, alloc: Global, own: Replica, case: Case, blanks: Blanks) -> Option<Came>
     requires shards { (0 < case.shards) × (case.shards ≤ 4) }
     requires count { IsCount own.incarnation }
     requires first { (blanks.first.name ≡ A.name) × (blanks.first.parts ≡ A.parts) × (blanks.first.parts ≡ 1)
@@ -123,25 +124,15 @@ fn settled_run<A: Lane, B: Lane, C: Lane, D: Lane, R: Wait>(
         × (own.name ≡ C.node) }
     requires fourth { (blanks.fourth.name ≡ D.name) × (blanks.fourth.parts ≡ D.parts) × (blanks.fourth.parts ≡ 1)
         × (own.name ≡ D.node) }
-    requires begins { (A.begins (begun own)) × (B.begins (begun own)) × (C.begins (begun own))
-        × (D.begins (begun own)) }
+    requires begins { AllBegin A.begins B.begins C.begins D.begins (begun own) }
 {
-    let Blanks {
-        first,
-        second,
-        third,
-        fourth,
-    } = blanks;
-    let started = Pool::<NoGate, A, B, C, D>::start(
+    let started = Pool::<NoGate, Four<A, B, C, D>>::start(
         alloc,
         own,
         case.shards,
         1,
         NoGate,
-        first,
-        second,
-        third,
-        fourth,
+        blanks,
     );
     let Ok((pool, mut seats)) = started else {
         return None;

@@ -3,7 +3,7 @@
 ghost use Rattle.std.specs.Prelude.{◌<◌};
 
 use pool_desk::{Scene, topic, track};
-use shard_pool::{DueFrom, Lane, NoGate, PoolFault, Seat};
+use shard_pool::{DueFrom, Lanes, NoGate, PoolFault, Seat};
 use std::sync::Wait;
 
 // What was answered, and how many entries the journal had behind it, and bytes of their texts.
@@ -15,10 +15,7 @@ pub(crate) struct Due {
 }
 
 // What is asked for: a checkpoint where so many entries are there, or where the journal is full.
-fn ask<A: Lane, B: Lane, C: Lane, D: Lane, R: Wait>(
-    scene: Scene<'_, R, NoGate, A, B, C, D>,
-    entries: Option<u64>,
-) -> Due
+fn ask<L: Lanes, R: Wait>(scene: Scene<'_, R, NoGate, L>, entries: Option<u64>) -> Due
     requires { 0 < scene.pool.now.shards }
 {
     let Scene { rt, alloc, pool } = scene;
@@ -42,9 +39,9 @@ fn ask<A: Lane, B: Lane, C: Lane, D: Lane, R: Wait>(
 }
 
 // A subscription; a take and a track; and a take.
-pub(crate) fn asked_in_turn<A: Lane, B: Lane, C: Lane, D: Lane, R: Wait>(
-    scene: Scene<'_, R, NoGate, A, B, C, D>,
-    seat: &mut Seat<A, B, C, D>,
+pub(crate) fn asked_in_turn<L: Lanes, R: Wait>(
+    scene: Scene<'_, R, NoGate, L>,
+    seat: &mut Seat<L>,
 ) -> Option<[Due; 6]>
     requires { 0 < scene.pool.now.shards }
 {

@@ -4,7 +4,7 @@ ghost use Rattle.std.specs.Prelude.{◌<◌};
 use pool_desk::{Scene, replica, topic, track};
 use presence_base::{Dot, Replica, ref_text};
 use presence_journal::Item;
-use shard_pool::{Gate, Lane, PoolFault, Seat};
+use shard_pool::{Gate, Lanes, PoolFault, Seat};
 use std::alloc::Global;
 use std::sync::Wait;
 
@@ -57,9 +57,9 @@ fn is_replaced(items: &[Item], pairs: &[(Dot, Dot)]) -> bool {
 }
 
 // A row is tracked at shard 0, which then goes on as the second incarnation, before the eyes of a subscriber.
-pub(crate) fn reborn<G: Gate, A: Lane, B: Lane, C: Lane, D: Lane, R: Wait>(
-    scene: Scene<'_, R, G, A, B, C, D>,
-    seat: &mut Seat<A, B, C, D>,
+pub(crate) fn reborn<G: Gate, L: Lanes, R: Wait>(
+    scene: Scene<'_, R, G, L>,
+    seat: &mut Seat<L>,
 ) -> Option<WentOn>
     requires { 1 < scene.pool.now.shards }
 {
@@ -81,8 +81,8 @@ pub(crate) fn reborn<G: Gate, A: Lane, B: Lane, C: Lane, D: Lane, R: Wait>(
 }
 
 // Whether shard 1 can't go on under this incarnation.
-fn is_refused<G: Gate, A: Lane, B: Lane, C: Lane, D: Lane, R: Wait>(
-    scene: Scene<'_, R, G, A, B, C, D>,
+fn is_refused<G: Gate, L: Lanes, R: Wait>(
+    scene: Scene<'_, R, G, L>,
     incarnation: u64,
 ) -> Option<bool>
     requires { 1 < scene.pool.now.shards }
@@ -99,9 +99,7 @@ fn is_refused<G: Gate, A: Lane, B: Lane, C: Lane, D: Lane, R: Wait>(
 // three behind it is.
 pub(crate) const WANTED_REFUSALS: [bool; 6] = [true, true, true, false, true, false];
 
-pub(crate) fn refusals<G: Gate, A: Lane, B: Lane, C: Lane, D: Lane, R: Wait>(
-    scene: Scene<'_, R, G, A, B, C, D>,
-) -> Option<[bool; 6]>
+pub(crate) fn refusals<G: Gate, L: Lanes, R: Wait>(scene: Scene<'_, R, G, L>) -> Option<[bool; 6]>
     requires { 1 < scene.pool.now.shards }
 {
     let Scene { rt, alloc, pool } = scene;

@@ -2,15 +2,16 @@
 ghost use Rattle.presence_journal.specs.History.{begun};
 ghost use Rattle.std.specs.Prelude.{◌≡◌};
 ghost use Rattle.presence_base.specs.Refs.{IsCount};
+ghost use Rattle.shard_pool.specs.Lanes.{AllBegin};
 
 use crate::answers::Called;
 use crate::calls::calls;
 use crate::replaying::{Counts, seen_of};
 use orswot_core_told::Form;
-use pool_desk::{Blanks, first_removed, replica, two_rows};
+use pool_desk::{first_removed, replica, two_rows};
 use presence_base::Replica;
 use replica_status::Status;
-use shard_pool::{Gate, Lane, NoGate, Pool, Seat};
+use shard_pool::{Blanks, Four, Gate, Lane, Lanes, NoGate, Pool, Seat};
 use std::alloc::Global;
 use std::marker::Brand;
 use std::sync::Wait;
@@ -20,10 +21,10 @@ use std::thread::Threads;
 use tracker_shard::Sub;
 
 // Up to which count the pool covers the other replica, which is up. None of what it asks makes a step.
-fn top_of<G: Gate, A: Lane, B: Lane, C: Lane, D: Lane, R: Wait>(
+fn top_of<G: Gate, L: Lanes, R: Wait>(
     rt: &R,
     alloc: Global,
-    pool: &Pool<G, A, B, C, D>,
+    pool: &Pool<G, L>,
     other: &Replica,
 ) -> Option<u64> {
     let sub = Sub { slot: 0, number: 1 };
@@ -38,10 +39,10 @@ fn top_of<G: Gate, A: Lane, B: Lane, C: Lane, D: Lane, R: Wait>(
 
 // Hears another replica and takes in what it tells, late, and goes on as the second incarnation, without a seat: whether both
 // tellings are covered, before that and behind it.
-fn tell<G: Gate, A: Lane, B: Lane, C: Lane, D: Lane, R: Wait>(
+fn tell<G: Gate, L: Lanes, R: Wait>(
     rt: &R,
     alloc: Global,
-    pool: &Pool<G, A, B, C, D>,
+    pool: &Pool<G, L>,
     other: &Replica,
 ) -> Option<bool> {
     let rows = two_rows(alloc, other, "room:a")?;
@@ -57,23 +58,16 @@ fn tell<G: Gate, A: Lane, B: Lane, C: Lane, D: Lane, R: Wait>(
 }
 
 // What a thread with a seat gives back.
-type Done<A, B, C, D> = (Option<Called>, Seat<A, B, C, D>);
+type Done<L> = (Option<Called>, Seat<L>);
 
 // A thread with a seat, and beside it what another replica does is told.
-fn told_beside<
-    G: Gate + Sync,
-    A: Lane + Send + Sync,
-    B: Lane + Send + Sync,
-    C: Lane + Send + Sync,
-    D: Lane + Send + Sync,
-    R: Threads + Wait + Sync,
->(
+fn told_beside<G: Gate + Sync, L: Lanes + Send + Sync, R: Threads + Wait + Sync>(
     rt: &R,
     alloc: Global,
-    pool: &Pool<G, A, B, C, D>,
-    seat: Seat<A, B, C, D>,
+    pool: &Pool<G, L>,
+    seat: Seat<L>,
     other: &Replica,
-) -> (Done<A, B, C, D>, Option<bool>) {
+) -> (Done<L>, Option<bool>) {
     thread::join(
         rt,
         move || calls(rt, alloc, pool, seat, 3),
@@ -82,20 +76,13 @@ fn told_beside<
 }
 
 // Two of them.
-fn two_beside<
-    G: Gate + Sync,
-    A: Lane + Send + Sync,
-    B: Lane + Send + Sync,
-    C: Lane + Send + Sync,
-    D: Lane + Send + Sync,
-    R: Threads + Wait + Sync,
->(
+fn two_beside<G: Gate + Sync, L: Lanes + Send + Sync, R: Threads + Wait + Sync>(
     rt: &R,
     alloc: Global,
-    pool: &Pool<G, A, B, C, D>,
-    seats: (Seat<A, B, C, D>, Seat<A, B, C, D>),
+    pool: &Pool<G, L>,
+    seats: (Seat<L>, Seat<L>),
     other: &Replica,
-) -> (Done<A, B, C, D>, (Done<A, B, C, D>, Option<bool>)) {
+) -> (Done<L>, (Done<L>, Option<bool>)) {
     let (second, third) = seats;
     thread::join(
         rt,
@@ -105,25 +92,15 @@ fn two_beside<
 }
 
 // What all three give back, and whether what was told is covered.
-type AllDone<A, B, C, D> = (
-    Done<A, B, C, D>,
-    (Done<A, B, C, D>, (Done<A, B, C, D>, Option<bool>)),
-);
+type AllDone<L> = (Done<L>, (Done<L>, (Done<L>, Option<bool>)));
 
-fn at_once<
-    G: Gate + Sync,
-    A: Lane + Send + Sync,
-    B: Lane + Send + Sync,
-    C: Lane + Send + Sync,
-    D: Lane + Send + Sync,
-    R: Threads + Wait + Sync,
->(
+fn at_once<G: Gate + Sync, L: Lanes + Send + Sync, R: Threads + Wait + Sync>(
     rt: &R,
     alloc: Global,
-    pool: &Pool<G, A, B, C, D>,
-    seats: (Seat<A, B, C, D>, Seat<A, B, C, D>, Seat<A, B, C, D>),
+    pool: &Pool<G, L>,
+    seats: (Seat<L>, Seat<L>, Seat<L>),
     other: &Replica,
-) -> AllDone<A, B, C, D> {
+) -> AllDone<L> {
     let (first, second, third) = seats;
     let others = (second, third);
     thread::join(
@@ -134,11 +111,7 @@ fn at_once<
 }
 
 // Keeps what a thread gave back: whether each of its calls went well.
-fn keep<A: Lane, B: Lane, C: Lane, D: Lane>(
-    done: Done<A, B, C, D>,
-    called: &mut Vec<Called>,
-    seats: &mut Vec<Seat<A, B, C, D>>,
-) -> bool {
+fn keep<L: Lanes>(done: Done<L>, called: &mut Vec<Called>, seats: &mut Vec<Seat<L>>) -> bool {
     let (of_seat, seat) = done;
     let is_put = seats.push(seat).is_ok();
     match of_seat {
@@ -148,11 +121,7 @@ fn keep<A: Lane, B: Lane, C: Lane, D: Lane>(
 }
 
 // Keeps what all three gave back: whether each call went well.
-fn keep_all<A: Lane, B: Lane, C: Lane, D: Lane>(
-    all: AllDone<A, B, C, D>,
-    called: &mut Vec<Called>,
-    seats: &mut Vec<Seat<A, B, C, D>>,
-) -> bool {
+fn keep_all<L: Lanes>(all: AllDone<L>, called: &mut Vec<Called>, seats: &mut Vec<Seat<L>>) -> bool {
     let (first, (second, (third, told))) = all;
     let first = keep(first, called, seats);
     let second = keep(second, called, seats);
@@ -177,19 +146,10 @@ fn three_threads<
         × (own.name ≡ C.node) }
     requires fourth { (blanks.fourth.name ≡ D.name) × (blanks.fourth.parts ≡ D.parts) × (blanks.fourth.parts ≡ 3)
         × (own.name ≡ D.node) }
-    requires begins { (A.begins (begun own)) × (B.begins (begun own)) × (C.begins (begun own))
-        × (D.begins (begun own)) }
+    requires begins { AllBegin A.begins B.begins C.begins D.begins (begun own) }
 {
     let again = own;
-    let Blanks {
-        first,
-        second,
-        third,
-        fourth,
-    } = blanks;
-    let started = Pool::<NoGate, A, B, C, D>::start(
-        alloc, own, 1, 3, NoGate, first, second, third, fourth,
-    );
+    let started = Pool::<NoGate, Four<A, B, C, D>>::start(alloc, own, 1, 3, NoGate, blanks);
     let Ok((pool, mut seats)) = started else {
         return None;
     };

@@ -3,7 +3,7 @@
 use pool_desk::Scene;
 use presence_base::Replica;
 use replica_status::Status;
-use shard_pool::{Gate, Lane};
+use shard_pool::{Gate, Lanes};
 use std::sync::Wait;
 
 // Heard, silent, silent for too long, heard again, silent for good.
@@ -16,8 +16,8 @@ pub(crate) const WANTED: [Status; 5] = [
 ];
 
 // The statuses of another replica after each of these calls.
-pub(crate) fn statuses<G: Gate, A: Lane, B: Lane, C: Lane, D: Lane, R: Wait>(
-    scene: Scene<'_, R, G, A, B, C, D>,
+pub(crate) fn statuses<G: Gate, L: Lanes, R: Wait>(
+    scene: Scene<'_, R, G, L>,
     other: &Replica,
 ) -> Option<[Status; 5]> {
     let Scene { rt, alloc, pool } = scene;

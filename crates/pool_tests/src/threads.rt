@@ -2,11 +2,14 @@
 ghost use Rattle.presence_journal.specs.History.{begun};
 ghost use Rattle.std.specs.Prelude.{◌≡◌, ◌<◌};
 ghost use Rattle.presence_base.specs.Refs.{IsCount};
+ghost use Rattle.shard_pool.specs.Lanes.{AllBegin};
 
-use pool_desk::{Blanks, Scene, replica, topic, track};
+use pool_desk::{Scene, replica, topic, track};
 use presence_base::Replica;
 use presence_journal::Journal;
-use shard_pool::{Gate, Lane, NoGate, Pool, Receipt, Seat, SettleFault, check_receipts};
+use shard_pool::{
+    Blanks, Four, Gate, Lane, Lanes, NoGate, Pool, Receipt, Seat, SettleFault, check_receipts,
+};
 use std::alloc::Global;
 use std::marker::Brand;
 use std::sync::Wait;
@@ -26,9 +29,9 @@ struct Seen {
 }
 
 // Tracks a key and lists: whether the list has the key's row.
-fn track_and_list<G: Gate, A: Lane, B: Lane, C: Lane, D: Lane, R: Wait>(
-    scene: Scene<'_, R, G, A, B, C, D>,
-    seat: &mut Seat<A, B, C, D>,
+fn track_and_list<G: Gate, L: Lanes, R: Wait>(
+    scene: Scene<'_, R, G, L>,
+    seat: &mut Seat<L>,
     name: &str,
 ) -> Option<bool> {
     let Scene { rt, alloc, pool } = scene;
@@ -39,13 +42,13 @@ fn track_and_list<G: Gate, A: Lane, B: Lane, C: Lane, D: Lane, R: Wait>(
 }
 
 // The same, with the seat given back.
-fn work<G: Gate, A: Lane, B: Lane, C: Lane, D: Lane, R: Wait>(
+fn work<G: Gate, L: Lanes, R: Wait>(
     rt: &R,
     alloc: Global,
-    pool: &Pool<G, A, B, C, D>,
-    seat: Seat<A, B, C, D>,
+    pool: &Pool<G, L>,
+    seat: Seat<L>,
     name: &str,
-) -> (bool, Seat<A, B, C, D>) {
+) -> (bool, Seat<L>) {
     let mut seat = seat;
     let scene = Scene { rt, alloc, pool };
     let own_row = track_and_list(scene, &mut seat, name) == Some(true);
@@ -53,20 +56,13 @@ fn work<G: Gate, A: Lane, B: Lane, C: Lane, D: Lane, R: Wait>(
 }
 
 // Both seats at work, each in a thread of its own.
-fn work_both<
-    G: Gate + Sync,
-    A: Lane + Send + Sync,
-    B: Lane + Send + Sync,
-    C: Lane + Send + Sync,
-    D: Lane + Send + Sync,
-    R: Threads + Wait + Sync,
->(
+fn work_both<G: Gate + Sync, L: Lanes + Send + Sync, R: Threads + Wait + Sync>(
     rt: &R,
     alloc: Global,
-    pool: &Pool<G, A, B, C, D>,
-    first: Seat<A, B, C, D>,
-    second: Seat<A, B, C, D>,
-) -> ((bool, Seat<A, B, C, D>), (bool, Seat<A, B, C, D>)) {
+    pool: &Pool<G, L>,
+    first: Seat<L>,
+    second: Seat<L>,
+) -> ((bool, Seat<L>), (bool, Seat<L>)) {
     thread::join(
         rt,
         move || work(rt, alloc, pool, first, "u1"),
@@ -135,12 +131,12 @@ impl Drop for Copies {
     }
 }
 
-fn copies_of<G: Gate, A: Lane, B: Lane, C: Lane, D: Lane, R: Wait>(
+fn copies_of<G: Gate, L: Lanes, R: Wait>(
     rt: &R,
     alloc: Global,
-    pool: &Pool<G, A, B, C, D>,
-    first: &Seat<A, B, C, D>,
-    second: &Seat<A, B, C, D>,
+    pool: &Pool<G, L>,
+    first: &Seat<L>,
+    second: &Seat<L>,
 ) -> Option<Copies>
     requires { 0 < pool.now.shards }
 {
@@ -157,12 +153,12 @@ fn copies_of<G: Gate, A: Lane, B: Lane, C: Lane, D: Lane, R: Wait>(
 }
 
 // The second seat, and the first one where it is not left out.
-fn handed_back<A: Lane, B: Lane, C: Lane, D: Lane>(
+fn handed_back<L: Lanes>(
     alloc: Global,
-    first: Seat<A, B, C, D>,
-    second: Seat<A, B, C, D>,
+    first: Seat<L>,
+    second: Seat<L>,
     leave_out: bool,
-) -> Option<Vec<Seat<A, B, C, D>>> {
+) -> Option<Vec<Seat<L>>> {
     let mut seats = Vec::new(alloc);
     let is_put = seats.push(second).is_ok();
     let are_put = is_put && (leave_out || seats.push(first).is_ok());
@@ -208,18 +204,9 @@ fn two_threads<
         × (own.name ≡ C.node) }
     requires fourth { (blanks.fourth.name ≡ D.name) × (blanks.fourth.parts ≡ D.parts) × (blanks.fourth.parts ≡ 2)
         × (own.name ≡ D.node) }
-    requires begins { (A.begins (begun own)) × (B.begins (begun own)) × (C.begins (begun own))
-        × (D.begins (begun own)) }
+    requires begins { AllBegin A.begins B.begins C.begins D.begins (begun own) }
 {
-    let Blanks {
-        first,
-        second,
-        third,
-        fourth,
-    } = blanks;
-    let started = Pool::<NoGate, A, B, C, D>::start(
-        alloc, own, 1, 2, NoGate, first, second, third, fourth,
-    );
+    let started = Pool::<NoGate, Four<A, B, C, D>>::start(alloc, own, 1, 2, NoGate, blanks);
     let Ok((pool, mut seats)) = started else {
         return None;
     };

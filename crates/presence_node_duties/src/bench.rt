@@ -22,7 +22,7 @@ use presence_node_rations::{Rations, SharedBudgets};
 use presence_node_sockets::{Watch, number_of};
 use presence_node_tallies::CountingPort;
 use presence_node_web_sockets::WebSocket;
-use shard_pool::{Lane, NoGate, Seat};
+use shard_pool::{Lanes, NoGate, Seat};
 use std::alloc::Global;
 use std::rt::Files;
 use std::sync::{Arc, Wait};
@@ -139,19 +139,17 @@ struct Served {
 
 // The port of a worker's turn: it keeps each connection within its rations and each topic within its budget, refuses what
 // takes memory that there isn't, counts the calls, and notes what they may have changed.
-type TurnPort<'a, R, A, B, C, D> = HintingPort<
-    CountingPort<
-        GuardedPort<RationedPort<'a, PoolPort<'a, R, NoGate, A, B, C, D>, SharedBudgets<'a, R>>>,
-    >,
+type TurnPort<'a, R, L> = HintingPort<
+    CountingPort<GuardedPort<RationedPort<'a, PoolPort<'a, R, NoGate, L>, SharedBudgets<'a, R>>>>,
 >;
 
 // A port over the server's pool, through the seat.
-fn port_at<'a, R: Wait, H, A: Lane, B: Lane, C: Lane, D: Lane>(
+fn port_at<'a, R: Wait, H, L: Lanes>(
     rt: &'a R,
-    server: &'a Server<'_, H, A, B, C, D>,
-    seat: &'a mut Seat<A, B, C, D>,
+    server: &'a Server<'_, H, L>,
+    seat: &'a mut Seat<L>,
     rations: &'a mut Rations,
-) -> TurnPort<'a, R, A, B, C, D> {
+) -> TurnPort<'a, R, L> {
     let pool = PoolPort::new(rt, &server.pool, seat);
     let budgets = SharedBudgets::new(rt, &server.budgets);
     let rationed = RationedPort::new(pool, rations, budgets);
@@ -160,9 +158,9 @@ fn port_at<'a, R: Wait, H, A: Lane, B: Lane, C: Lane, D: Lane>(
 }
 
 // Counts what went through a turn's port: what came of the turn, which was at this time.
-fn served_by<R: Wait, H, A: Lane, B: Lane, C: Lane, D: Lane>(
-    server: &Server<'_, H, A, B, C, D>,
-    port: TurnPort<'_, R, A, B, C, D>,
+fn served_by<R: Wait, H, L: Lanes>(
+    server: &Server<'_, H, L>,
+    port: TurnPort<'_, R, L>,
     now: u64,
 ) -> Served {
     let tally = port.port().tally();
@@ -178,8 +176,8 @@ fn served_by<R: Wait, H, A: Lane, B: Lane, C: Lane, D: Lane>(
 }
 
 /// What a worker has of its own.
-pub struct Bench<A: Lane, B: Lane, C: Lane, D: Lane> {
-    seat: Seat<A, B, C, D>,
+pub struct Bench<L: Lanes> {
+    seat: Seat<L>,
     /// What its connections have of the rows that each may have.
     rations: Rations,
     worker: Worker<ClientSocket>,
@@ -212,7 +210,7 @@ pub struct Bench<A: Lane, B: Lane, C: Lane, D: Lane> {
     drain: Drain,
 }
 
-impl<A: Lane, B: Lane, C: Lane, D: Lane> Drop for Bench<A, B, C, D> {
+impl<L: Lanes> Drop for Bench<L> {
     fn drop(self) {
         let Bench {
             seat,
@@ -248,16 +246,16 @@ impl<A: Lane, B: Lane, C: Lane, D: Lane> Drop for Bench<A, B, C, D> {
     }
 }
 
-impl<A: Lane, B: Lane, C: Lane, D: Lane> Bench<A, B, C, D> {
+impl<L: Lanes> Bench<L> {
     ghost use Rattle.std.specs.Prelude.{◌≡◌};
 
     /// A bench at this seat that serves nobody yet.
     pub fn new(
         alloc: Global,
-        seat: Seat<A, B, C, D>,
+        seat: Seat<L>,
         taker: Taker<WebSocket<ClientSocket, NoMask>>,
         watch: Watch,
-    ) -> Bench<A, B, C, D>
+    ) -> Bench<L>
         ensures { result.seat ≡ seat }
     {
         Bench {
@@ -285,7 +283,7 @@ impl<A: Lane, B: Lane, C: Lane, D: Lane> Bench<A, B, C, D> {
     }
 
     /// The seat, once the work is over.
-    pub(crate) fn into_seat(self) -> Seat<A, B, C, D>
+    pub(crate) fn into_seat(self) -> Seat<L>
         ensures { result ≡ self.seat }
     {
         let Bench {
@@ -322,7 +320,7 @@ impl<A: Lane, B: Lane, C: Lane, D: Lane> Bench<A, B, C, D> {
     }
 
     // Takes the connections that wait.
-    fn take_in<R: Wait, H>(&mut self, rt: &R, server: &Server<'_, H, A, B, C, D>) {
+    fn take_in<R: Wait, H>(&mut self, rt: &R, server: &Server<'_, H, L>) {
         let served = self.worker.len();
         let _later = self.worker.take_in(rt, server.alloc, self.now);
         server
@@ -333,7 +331,7 @@ impl<A: Lane, B: Lane, C: Lane, D: Lane> Bench<A, B, C, D> {
 
     // Looks at what the workers and the links told, all of it at once. What clients were told in this turn goes out before
     // the others that follow their topics have theirs. Whether some of them were told of anything.
-    fn hear<R: Wait, H>(&mut self, rt: &R, server: &Server<'_, H, A, B, C, D>, own: usize) -> bool {
+    fn hear<R: Wait, H>(&mut self, rt: &R, server: &Server<'_, H, L>, own: usize) -> bool {
         let Some(mailbox) = server.mailboxes.get(own) else {
             return false;
         };
@@ -365,12 +363,7 @@ impl<A: Lane, B: Lane, C: Lane, D: Lane> Bench<A, B, C, D> {
 
     // What was noted in a turn. Where a journal was replaced, each connection of each worker takes the next turn, since each
     // may be owed a state.
-    fn noted_in<R: Wait, H>(
-        &mut self,
-        rt: &R,
-        server: &Server<'_, H, A, B, C, D>,
-        served: Served,
-    ) -> Noted {
+    fn noted_in<R: Wait, H>(&mut self, rt: &R, server: &Server<'_, H, L>, served: Served) -> Noted {
         let Served {
             noted,
             has_made_room,
@@ -391,7 +384,7 @@ impl<A: Lane, B: Lane, C: Lane, D: Lane> Bench<A, B, C, D> {
     fn serve_ready<R: Wait, H: PresenceHooks>(
         &mut self,
         rt: &R,
-        server: &Server<'_, H, A, B, C, D>,
+        server: &Server<'_, H, L>,
     ) -> Served {
         let mut port = port_at(rt, server, &mut self.seat, &mut self.rations);
         let (routes, hooks) = (server.routes, server.hooks);
@@ -404,7 +397,7 @@ impl<A: Lane, B: Lane, C: Lane, D: Lane> Bench<A, B, C, D> {
     fn deliver_ready<R: Wait, H: PresenceHooks>(
         &mut self,
         rt: &R,
-        server: &Server<'_, H, A, B, C, D>,
+        server: &Server<'_, H, L>,
     ) -> Served {
         let mut port = port_at(rt, server, &mut self.seat, &mut self.rations);
         self.worker.deliver(server.alloc, &mut port, server.hooks);
@@ -413,11 +406,7 @@ impl<A: Lane, B: Lane, C: Lane, D: Lane> Bench<A, B, C, D> {
 
     // Serves each connection that is ready, but for those whose clients take nothing, and of those with long texts some:
     // what was noted.
-    fn serve<R: Wait, H: PresenceHooks>(
-        &mut self,
-        rt: &R,
-        server: &Server<'_, H, A, B, C, D>,
-    ) -> Noted {
+    fn serve<R: Wait, H: PresenceHooks>(&mut self, rt: &R, server: &Server<'_, H, L>) -> Noted {
         self.stalls |= hold_stalled(&mut self.worker, self.now);
         self.long_texts.hold(&mut self.worker);
         let served = self.serve_ready(rt, server);
@@ -427,11 +416,7 @@ impl<A: Lane, B: Lane, C: Lane, D: Lane> Bench<A, B, C, D> {
     }
 
     // Delivers what waits for each connection, but for those whose clients take nothing, and reads nothing: what was noted.
-    fn deliver<R: Wait, H: PresenceHooks>(
-        &mut self,
-        rt: &R,
-        server: &Server<'_, H, A, B, C, D>,
-    ) -> Noted {
+    fn deliver<R: Wait, H: PresenceHooks>(&mut self, rt: &R, server: &Server<'_, H, L>) -> Noted {
         self.worker.mark_all();
         self.stalls |= hold_stalled(&mut self.worker, self.now);
         let served = self.deliver_ready(rt, server);
@@ -443,7 +428,7 @@ impl<A: Lane, B: Lane, C: Lane, D: Lane> Bench<A, B, C, D> {
     fn follow<R: Wait, H>(
         &mut self,
         rt: &R,
-        server: &Server<'_, H, A, B, C, D>,
+        server: &Server<'_, H, L>,
         own: usize,
         noted: Noted,
     ) -> Followed {
@@ -457,13 +442,7 @@ impl<A: Lane, B: Lane, C: Lane, D: Lane> Bench<A, B, C, D> {
 
     // Lets the workers that follow them know which topics may have something new, this one too. Where memory ran out each
     // looks at all.
-    fn tell<R: Wait, H>(
-        &self,
-        rt: &R,
-        server: &Server<'_, H, A, B, C, D>,
-        own: usize,
-        changed: Followed,
-    ) {
+    fn tell<R: Wait, H>(&self, rt: &R, server: &Server<'_, H, L>, own: usize, changed: Followed) {
         if changed.is_empty() {
             return;
         }
@@ -478,7 +457,7 @@ impl<A: Lane, B: Lane, C: Lane, D: Lane> Bench<A, B, C, D> {
     fn turn<R: Wait, H: PresenceHooks>(
         &mut self,
         rt: &R,
-        server: &Server<'_, H, A, B, C, D>,
+        server: &Server<'_, H, L>,
         own: usize,
     ) -> Followed {
         let noted = self.serve(rt, server);
@@ -487,7 +466,7 @@ impl<A: Lane, B: Lane, C: Lane, D: Lane> Bench<A, B, C, D> {
 
     // From time to time: where a journal is nearly full, or memory is tight or was refused to a call, all workers are to read
     // nothing until this one has made a checkpoint.
-    fn look_at_journals<R: Wait, H>(&mut self, rt: &R, server: &Server<'_, H, A, B, C, D>) {
+    fn look_at_journals<R: Wait, H>(&mut self, rt: &R, server: &Server<'_, H, L>) {
         let wants_memory = server.memory.is_tight() || server.memory.is_lacking(self.now);
         let is_tight = wants_memory && self.drain.has_rested(self.now);
         if self.drain.looks_at(self.now) && is_due(rt, server, is_tight) {
@@ -498,7 +477,7 @@ impl<A: Lane, B: Lane, C: Lane, D: Lane> Bench<A, B, C, D> {
     }
 
     // Whether this worker reads nothing.
-    fn is_draining<H>(&mut self, server: &Server<'_, H, A, B, C, D>, own: usize) -> bool {
+    fn is_draining<H>(&mut self, server: &Server<'_, H, L>, own: usize) -> bool {
         let Some(mailbox) = server.mailboxes.get(own) else {
             return false;
         };
@@ -517,7 +496,7 @@ impl<A: Lane, B: Lane, C: Lane, D: Lane> Bench<A, B, C, D> {
     // The checkpoints that are due, if this worker is the one that makes them: once no worker reads, what waited was
     // delivered, and nothing waits. Behind them all workers read again once each has delivered the fresh states, since a
     // subscriber that is owed one is told of nothing that comes before it. Neither is waited for without end.
-    fn make_checkpoints<R: Wait, H>(&mut self, rt: &R, server: &Server<'_, H, A, B, C, D>) {
+    fn make_checkpoints<R: Wait, H>(&mut self, rt: &R, server: &Server<'_, H, L>) {
         let is_over = self.drain.is_over(self.now);
         if !self.drain.leads() || !have_all_delivered(server) && !is_over {
             return;
@@ -540,12 +519,7 @@ impl<A: Lane, B: Lane, C: Lane, D: Lane> Bench<A, B, C, D> {
     }
 
     // Delivers and sends what waits, and reads nothing.
-    fn drain<R: Wait, H: PresenceHooks>(
-        &mut self,
-        rt: &R,
-        server: &Server<'_, H, A, B, C, D>,
-        own: usize,
-    ) {
+    fn drain<R: Wait, H: PresenceHooks>(&mut self, rt: &R, server: &Server<'_, H, L>, own: usize) {
         let noted = self.deliver(rt, server);
         let changed = self.follow(rt, server, own, noted);
         self.tell(rt, server, own, changed);
@@ -638,7 +612,7 @@ impl<A: Lane, B: Lane, C: Lane, D: Lane> Bench<A, B, C, D> {
 
     // From time to time each connection is looked at, what came is counted, and the worker is told of no topic any more that
     // none has joined.
-    fn sweep<R: Wait, H>(&mut self, rt: &R, server: &Server<'_, H, A, B, C, D>, own: usize) {
+    fn sweep<R: Wait, H>(&mut self, rt: &R, server: &Server<'_, H, L>, own: usize) {
         if self.now.saturating_sub(self.swept) < SWEEP_MILLISECONDS {
             return;
         }
@@ -653,7 +627,7 @@ impl<A: Lane, B: Lane, C: Lane, D: Lane> Bench<A, B, C, D> {
     fn look_at_memory<R: Wait + Clock + Files + Eprint, H>(
         &mut self,
         rt: &R,
-        server: &Server<'_, H, A, B, C, D>,
+        server: &Server<'_, H, L>,
         own: usize,
     ) {
         if own > 0 || self.now.saturating_sub(self.weighed) < WEIGH_MILLISECONDS {
@@ -674,7 +648,7 @@ impl<A: Lane, B: Lane, C: Lane, D: Lane> Bench<A, B, C, D> {
     fn end_all<R: Wait + Clock + Eprint, H: PresenceHooks>(
         &mut self,
         rt: &R,
-        server: &Server<'_, H, A, B, C, D>,
+        server: &Server<'_, H, L>,
     ) {
         for _ in 0..MAX_LAST_TURNS {
             self.take_in(rt, server);
@@ -695,7 +669,7 @@ impl<A: Lane, B: Lane, C: Lane, D: Lane> Bench<A, B, C, D> {
     fn turns<R: Wait, H: PresenceHooks>(
         &mut self,
         rt: &R,
-        server: &Server<'_, H, A, B, C, D>,
+        server: &Server<'_, H, L>,
         own: usize,
     ) -> (Followed, Followed) {
         let first = self.turn(rt, server, own);
@@ -709,12 +683,7 @@ impl<A: Lane, B: Lane, C: Lane, D: Lane> Bench<A, B, C, D> {
     // Serves what is ready, tells what may have changed, looks at what the workers told, and sends what waits. Where nobody
     // has more to say, what was answered goes out before the other workers are told: they wake, and what they deliver to
     // many would come before the answer to the one.
-    fn go_on<R: Wait, H: PresenceHooks>(
-        &mut self,
-        rt: &R,
-        server: &Server<'_, H, A, B, C, D>,
-        own: usize,
-    ) {
+    fn go_on<R: Wait, H: PresenceHooks>(&mut self, rt: &R, server: &Server<'_, H, L>, own: usize) {
         let (first, second) = self.turns(rt, server, own);
         let mut busy = self.is_busy();
         if !busy && !first.is_empty() {
@@ -732,7 +701,7 @@ impl<A: Lane, B: Lane, C: Lane, D: Lane> Bench<A, B, C, D> {
     fn round<R: Wait + Clock + Files + Eprint, H: PresenceHooks>(
         &mut self,
         rt: &R,
-        server: &Server<'_, H, A, B, C, D>,
+        server: &Server<'_, H, L>,
         own: usize,
     ) {
         self.take_in(rt, server);
@@ -753,7 +722,7 @@ impl<A: Lane, B: Lane, C: Lane, D: Lane> Bench<A, B, C, D> {
     pub(crate) fn work<R: Wait + Clock + Files + Eprint, H: PresenceHooks>(
         &mut self,
         rt: &R,
-        server: &Server<'_, H, A, B, C, D>,
+        server: &Server<'_, H, L>,
         own: usize,
     ) {
         self.now = time_behind(rt, 0);

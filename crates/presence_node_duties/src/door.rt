@@ -17,7 +17,7 @@ use presence_node_queue::{Giver, MAX_QUEUED};
 use presence_node_sockets::{LAST_TOKEN, Watch, number_of};
 use presence_node_web_sockets::WebSocket;
 use presence_node_workers::MAX_CONNECTIONS;
-use shard_pool::Lane;
+use shard_pool::Lanes;
 use std::alloc::{AllocError, Global};
 use std::collections::VecDeque;
 use std::net::{IpAddr, Shutdown, TcpListener, TcpStream};
@@ -204,9 +204,9 @@ fn mark_ready(
 }
 
 // Counts and logs that a connection is dropped, whose client has this address.
-fn tell_dropped<R: Wait + Clock + Eprint, H, A: Lane, B: Lane, C: Lane, D: Lane>(
+fn tell_dropped<R: Wait + Clock + Eprint, H, L: Lanes>(
     rt: &R,
-    server: &Server<'_, H, A, B, C, D>,
+    server: &Server<'_, H, L>,
     why: Dropped,
     address: Option<IpAddr>,
 ) {
@@ -318,10 +318,10 @@ impl Door {
 
     // Begins the handshake of a connection. One that can't be watched, or for which there is no memory, is dropped, and
     // so is the oldest where as many are under way as may be.
-    fn let_in<R: Wait + Clock + Eprint, H, A: Lane, B: Lane, C: Lane, D: Lane>(
+    fn let_in<R: Wait + Clock + Eprint, H, L: Lanes>(
         &mut self,
         rt: &R,
-        server: &Server<'_, H, A, B, C, D>,
+        server: &Server<'_, H, L>,
         arrival: Arrival,
     ) {
         server.counts.took();
@@ -385,10 +385,10 @@ impl Door {
     }
 
     // Takes one connection in the file that is held open for it. There is no place for it: it is told so.
-    fn take_in_spare<R: Wait + Clock + Eprint, H, A: Lane, B: Lane, C: Lane, D: Lane>(
+    fn take_in_spare<R: Wait + Clock + Eprint, H, L: Lanes>(
         &mut self,
         rt: &R,
-        server: &Server<'_, H, A, B, C, D>,
+        server: &Server<'_, H, L>,
     ) {
         let Some(spare) = self.spare.take() else {
             return;
@@ -408,10 +408,10 @@ impl Door {
     }
 
     // Takes one connection, if one waits: whether there may be another.
-    fn take_one<R: Wait + Clock + Eprint, H, A: Lane, B: Lane, C: Lane, D: Lane>(
+    fn take_one<R: Wait + Clock + Eprint, H, L: Lanes>(
         &mut self,
         rt: &R,
-        server: &Server<'_, H, A, B, C, D>,
+        server: &Server<'_, H, L>,
     ) -> bool {
         match self.next_client() {
             Caller::Came(stream, address) => {
@@ -464,10 +464,10 @@ impl Door {
     }
 
     // Takes the connections that wait, as many as a turn may.
-    fn take_in<R: Wait + Clock + Eprint, H, A: Lane, B: Lane, C: Lane, D: Lane>(
+    fn take_in<R: Wait + Clock + Eprint, H, L: Lanes>(
         &mut self,
         rt: &R,
-        server: &Server<'_, H, A, B, C, D>,
+        server: &Server<'_, H, L>,
     ) {
         self.more = self.hold_spare();
         for _ in 0..MAX_ACCEPTED {
@@ -493,10 +493,10 @@ impl Door {
     }
 
     // Hands a connection to the workers and wakes the next of them. There is room in the queue.
-    fn give<R: Wait + Clock + Eprint, H, A: Lane, B: Lane, C: Lane, D: Lane>(
+    fn give<R: Wait + Clock + Eprint, H, L: Lanes>(
         &mut self,
         rt: &R,
-        server: &Server<'_, H, A, B, C, D>,
+        server: &Server<'_, H, L>,
         socket: WebSocket<ClientSocket, NoMask>,
     ) {
         let address = socket.get_ref().address();
@@ -527,10 +527,10 @@ impl Door {
     }
 
     // Goes on with the handshakes, and answers what else is asked for: the sockets of those that are done.
-    fn opened<R: Wait + Clock + Files + Eprint, H, A: Lane, B: Lane, C: Lane, D: Lane>(
+    fn opened<R: Wait + Clock + Files + Eprint, H, L: Lanes>(
         &mut self,
         rt: &R,
-        server: &Server<'_, H, A, B, C, D>,
+        server: &Server<'_, H, L>,
     ) -> Result<Vec<Opened<ClientSocket>>, AllocError> {
         let places = self.places_left();
         let has_metrics = self.entries.metrics.is_none();
@@ -551,10 +551,10 @@ impl Door {
     }
 
     // Answers who asks for metrics alone.
-    fn answer_observers<R: Wait + Clock + Files + Eprint, H, A: Lane, B: Lane, C: Lane, D: Lane>(
+    fn answer_observers<R: Wait + Clock + Files + Eprint, H, L: Lanes>(
         &mut self,
         rt: &R,
-        server: &Server<'_, H, A, B, C, D>,
+        server: &Server<'_, H, L>,
     ) {
         let pulse = Pulse { rt, server };
         let mut reception = self.reception(server.alloc);
@@ -573,10 +573,10 @@ impl Door {
 
     // Goes on with the handshakes, answers what else is asked for, and hands the connections on whose handshakes are
     // done.
-    fn greet<R: Wait + Clock + Files + Eprint, H, A: Lane, B: Lane, C: Lane, D: Lane>(
+    fn greet<R: Wait + Clock + Files + Eprint, H, L: Lanes>(
         &mut self,
         rt: &R,
-        server: &Server<'_, H, A, B, C, D>,
+        server: &Server<'_, H, L>,
     ) {
         let taken = self.seated.count().saturating_add(self.guests.promised());
         server.counts.has_clients(taken, self.room.places);
@@ -602,10 +602,10 @@ impl Door {
     }
 
     // Hands connections to the workers, as far as the queue has room.
-    fn hand_on<R: Wait + Clock + Eprint, H, A: Lane, B: Lane, C: Lane, D: Lane>(
+    fn hand_on<R: Wait + Clock + Eprint, H, L: Lanes>(
         &mut self,
         rt: &R,
-        server: &Server<'_, H, A, B, C, D>,
+        server: &Server<'_, H, L>,
     ) {
         for _ in 0..MAX_QUEUED {
             let Some(ticket) = self.queue_ticket() else {
@@ -645,10 +645,10 @@ impl Door {
     }
 
     // Logs, once a second, how often what happened that has no line of its own.
-    fn catch_up<R: Wait + Clock + Eprint, H, A: Lane, B: Lane, C: Lane, D: Lane>(
+    fn catch_up<R: Wait + Clock + Eprint, H, L: Lanes>(
         &mut self,
         rt: &R,
-        server: &Server<'_, H, A, B, C, D>,
+        server: &Server<'_, H, L>,
     ) {
         if self.looked.saturating_sub(self.caught_up) >= IDLE_MILLISECONDS {
             self.caught_up = self.looked;
@@ -657,10 +657,10 @@ impl Door {
     }
 
     /// Takes connections until the server is stopped.
-    pub(crate) fn attend<R: Wait + Clock + Files + Eprint, H, A: Lane, B: Lane, C: Lane, D: Lane>(
+    pub(crate) fn attend<R: Wait + Clock + Files + Eprint, H, L: Lanes>(
         &mut self,
         rt: &R,
-        server: &Server<'_, H, A, B, C, D>,
+        server: &Server<'_, H, L>,
     ) {
         let peers = server.links.tallies().peers;
         self.room.files = client_files(rt, self.files_taken(), peers);

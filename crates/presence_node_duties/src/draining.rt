@@ -6,7 +6,7 @@ ghost use Rattle.presence_node_duties.specs.Due.{IsLoadOf};
 use crate::load::Load;
 use crate::server::Server;
 use presence_node_counts::Checkpoint;
-use shard_pool::{Lane, PoolFault};
+use shard_pool::{Lanes, PoolFault};
 use std::alloc::Global;
 use std::sync::Wait;
 use std::sync::atomic::Ordering;
@@ -177,11 +177,7 @@ impl Drain {
 }
 
 // What a shard's journal holds. What lists took and how many topics are followed no contract says.
-fn load_at<R: Wait, H, A: Lane, B: Lane, C: Lane, D: Lane>(
-    rt: &R,
-    server: &Server<'_, H, A, B, C, D>,
-    shard: u32,
-) -> Load
+fn load_at<R: Wait, H, L: Lanes>(rt: &R, server: &Server<'_, H, L>, shard: u32) -> Load
     requires { shard < server.now.pool.shards }
     ensures { IsLoadOf server.now.pool.own.name result }
 {
@@ -194,9 +190,9 @@ fn load_at<R: Wait, H, A: Lane, B: Lane, C: Lane, D: Lane>(
 }
 
 /// Whether a journal is due for a checkpoint, where memory is tight or isn't.
-pub(crate) fn is_due<R: Wait, H, A: Lane, B: Lane, C: Lane, D: Lane>(
+pub(crate) fn is_due<R: Wait, H, L: Lanes>(
     rt: &R,
-    server: &Server<'_, H, A, B, C, D>,
+    server: &Server<'_, H, L>,
     is_tight: bool,
 ) -> bool {
     for shard in 0..server.links.shards() {
@@ -208,10 +204,7 @@ pub(crate) fn is_due<R: Wait, H, A: Lane, B: Lane, C: Lane, D: Lane>(
 }
 
 /// Lets all workers read nothing until a checkpoint was made, or read again, and wakes them.
-pub(crate) fn set_draining<H, A: Lane, B: Lane, C: Lane, D: Lane>(
-    server: &Server<'_, H, A, B, C, D>,
-    drains: bool,
-) {
+pub(crate) fn set_draining<H, L: Lanes>(server: &Server<'_, H, L>, drains: bool) {
     for mailbox in server.mailboxes.iter() {
         mailbox.inbox.set_draining(drains);
         mailbox.bell.ring();
@@ -219,9 +212,7 @@ pub(crate) fn set_draining<H, A: Lane, B: Lane, C: Lane, D: Lane>(
 }
 
 /// From here on the turns that read nothing are counted anew, at each worker.
-pub(crate) fn count_anew<H, A: Lane, B: Lane, C: Lane, D: Lane>(
-    server: &Server<'_, H, A, B, C, D>,
-) {
+pub(crate) fn count_anew<H, L: Lanes>(server: &Server<'_, H, L>) {
     for mailbox in server.mailboxes.iter() {
         mailbox.drained.store(0, Ordering::SeqCst);
     }
@@ -229,9 +220,7 @@ pub(crate) fn count_anew<H, A: Lane, B: Lane, C: Lane, D: Lane>(
 
 /// Whether each worker has begun and ended a turn that read nothing since they are counted: what was to be delivered when
 /// the count began was.
-pub(crate) fn have_all_delivered<H, A: Lane, B: Lane, C: Lane, D: Lane>(
-    server: &Server<'_, H, A, B, C, D>,
-) -> bool {
+pub(crate) fn have_all_delivered<H, L: Lanes>(server: &Server<'_, H, L>) -> bool {
     for mailbox in server.mailboxes.iter() {
         if mailbox.drained.load(Ordering::SeqCst) < WHOLE_TURNS {
             return false;
@@ -241,9 +230,9 @@ pub(crate) fn have_all_delivered<H, A: Lane, B: Lane, C: Lane, D: Lane>(
 }
 
 // Tries the checkpoint of a shard, if it is due: where something waits only if that is waited for no longer.
-fn make_at<R: Wait, H, A: Lane, B: Lane, C: Lane, D: Lane>(
+fn make_at<R: Wait, H, L: Lanes>(
     rt: &R,
-    server: &Server<'_, H, A, B, C, D>,
+    server: &Server<'_, H, L>,
     is_tight: bool,
     is_over: bool,
     shard: u32,
@@ -270,9 +259,9 @@ fn make_at<R: Wait, H, A: Lane, B: Lane, C: Lane, D: Lane>(
 }
 
 /// Tries each checkpoint that is due, where memory is tight or isn't.
-pub(crate) fn make_due<R: Wait, H, A: Lane, B: Lane, C: Lane, D: Lane>(
+pub(crate) fn make_due<R: Wait, H, L: Lanes>(
     rt: &R,
-    server: &Server<'_, H, A, B, C, D>,
+    server: &Server<'_, H, L>,
     is_tight: bool,
     is_over: bool,
 ) -> Due {

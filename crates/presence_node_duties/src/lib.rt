@@ -20,6 +20,7 @@ mod place;
 mod pulse;
 mod reasons;
 mod received;
+mod runtime;
 mod server;
 
 pub use bench::Bench;
@@ -31,4 +32,5 @@ pub use presence_node_counts::Counts;
 pub use presence_node_hints::Inbox;
 pub use presence_node_leaving::ClientSocket;
 pub use presence_node_link_threads::{LinkNode, LinkTask, LinkTasks, tasks_for};
+pub use runtime::ServeRuntime;
 pub use server::{Server, WorkerMailbox};

@@ -1,27 +1,27 @@
 //! A worker's place among the workers.
 use crate::bench::Bench;
 use presence_node_crew::Tools;
-use shard_pool::{Lane, Seat};
+use shard_pool::{Lanes, Seat};
 use std::alloc::{AllocError, Global};
 
 /// A place among the workers, and the bench there.
 #[derive(Drop)]
-pub struct Workplace<A: Lane, B: Lane, C: Lane, D: Lane> {
+pub struct Workplace<L: Lanes> {
     pub number: usize,
-    pub bench: Bench<A, B, C, D>,
+    pub bench: Bench<L>,
 }
 
-impl<A: Lane, B: Lane, C: Lane, D: Lane> Tools for Workplace<A, B, C, D> {
+impl<L: Lanes> Tools for Workplace<L> {
     ghost use Rattle.std.specs.Prelude.{◌≡◌};
 
     ghost returns = { λ given back. back.number ≡ given.number };
 }
 
-impl<A: Lane, B: Lane, C: Lane, D: Lane> Workplace<A, B, C, D> {
+impl<L: Lanes> Workplace<L> {
     ghost use Rattle.std.specs.Prelude.{◌≡◌};
 
     /// The seat, once the work is over.
-    pub(crate) fn into_seat(self) -> Seat<A, B, C, D>
+    pub(crate) fn into_seat(self) -> Seat<L>
         ensures { result ≡ self.bench.seat }
     {
         let Workplace { number: _, bench } = self;
@@ -30,10 +30,10 @@ impl<A: Lane, B: Lane, C: Lane, D: Lane> Workplace<A, B, C, D> {
 }
 
 /// The seats of all places.
-pub fn seats_of<A: Lane, B: Lane, C: Lane, D: Lane>(
+pub fn seats_of<L: Lanes>(
     alloc: Global,
-    places: Vec<Workplace<A, B, C, D>>,
-) -> Result<Vec<Seat<A, B, C, D>>, AllocError> {
+    places: Vec<Workplace<L>>,
+) -> Result<Vec<Seat<L>>, AllocError> {
     let mut seats = Vec::with_capacity(alloc, places.len())?;
     for place in places {
         seats.push(place.into_seat())?;

@@ -7,7 +7,7 @@ use presence_node_counts::{LinksTold, ProcessTold, ShardsTold, metrics_text};
 use presence_node_handshakes::{Answer, GivenUp, Tells};
 use presence_node_link_threads::{Links, time_behind};
 use presence_node_process::{max_files, open_files, resident_bytes};
-use shard_pool::Lane;
+use shard_pool::Lanes;
 use std::alloc::{AllocError, Global};
 use std::net::IpAddr;
 use std::rt::Files;
@@ -17,16 +17,16 @@ use std::time::Clock;
 /// What the server tells at its port of itself: what its threads have counted, and what there is at each shard and of links
 /// when it is asked.
 #[derive(Drop)]
-pub(crate) struct Pulse<'a, 'b, R, H, A: Lane, B: Lane, C: Lane, D: Lane> {
+pub(crate) struct Pulse<'a, 'b, R, H, L: Lanes> {
     pub rt: &'a R,
-    pub server: &'a Server<'b, H, A, B, C, D>,
+    pub server: &'a Server<'b, H, L>,
 }
 
 // What there is at each shard: its lock is taken three times, for a moment each.
-fn shards_of<R: Wait, H, A: Lane, B: Lane, C: Lane, D: Lane>(
+fn shards_of<R: Wait, H, L: Lanes>(
     alloc: Global,
     rt: &R,
-    server: &Server<'_, H, A, B, C, D>,
+    server: &Server<'_, H, L>,
 ) -> Result<ShardsTold, AllocError> {
     let mut entries = Vec::new(alloc);
     let mut kept_bytes = Vec::new(alloc);
@@ -67,10 +67,7 @@ fn links_of(links: &Links) -> LinksTold {
 }
 
 // What the program is, and what it has of the machine. What the system doesn't say is 0.
-fn process_of<R: Files, H, A: Lane, B: Lane, C: Lane, D: Lane>(
-    rt: &R,
-    server: &Server<'_, H, A, B, C, D>,
-) -> ProcessTold {
+fn process_of<R: Files, H, L: Lanes>(rt: &R, server: &Server<'_, H, L>) -> ProcessTold {
     ProcessTold {
         version: server.version,
         started: server.started,
@@ -82,8 +79,7 @@ fn process_of<R: Files, H, A: Lane, B: Lane, C: Lane, D: Lane>(
     }
 }
 
-impl<'a, 'b, R: Wait + Clock + Files + Eprint, H, A: Lane, B: Lane, C: Lane, D: Lane> Tells
-    for Pulse<'a, 'b, R, H, A, B, C, D> {
+impl<'a, 'b, R: Wait + Clock + Files + Eprint, H, L: Lanes> Tells for Pulse<'a, 'b, R, H, L> {
     fn metrics(&self, alloc: Global) -> Result<String, AllocError> {
         let shards = shards_of(alloc, self.rt, self.server)?;
         let links = links_of(&self.server.links);

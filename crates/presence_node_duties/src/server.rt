@@ -11,7 +11,7 @@ use presence_node_link_threads::{LinkTask, Links, Wakes};
 use presence_node_log::Log;
 use presence_node_rations::{MemoryMark, TopicBudgets};
 use presence_node_sockets::Bell;
-use shard_pool::{Lane, NoGate, Pool};
+use shard_pool::{Lanes, NoGate, Pool};
 use std::alloc::Global;
 use std::net::{IpAddr, Net, TcpListener, TcpStream};
 use std::rt::Files;
@@ -68,9 +68,9 @@ impl WorkerMailbox {
 }
 
 /// What the threads of the server share.
-pub struct Server<'a, H, A: Lane, B: Lane, C: Lane, D: Lane> {
+pub struct Server<'a, H, L: Lanes> {
     pub alloc: Global,
-    pub pool: Pool<NoGate, A, B, C, D>,
+    pub pool: Pool<NoGate, L>,
     pub routes: &'a Routes,
     pub hooks: &'a H,
     /// Pages of these origins may open a WebSocket, or those of any where none is named.
@@ -94,7 +94,7 @@ pub struct Server<'a, H, A: Lane, B: Lane, C: Lane, D: Lane> {
     ghost all_shards: { links.shards ≡ pool.shards },
 }
 
-impl<'a, H, A: Lane, B: Lane, C: Lane, D: Lane> Drop for Server<'a, H, A, B, C, D> {
+impl<'a, H, L: Lanes> Drop for Server<'a, H, L> {
     fn drop(self) {
         let Server {
             alloc: _,
@@ -126,7 +126,7 @@ impl<'a, H, A: Lane, B: Lane, C: Lane, D: Lane> Drop for Server<'a, H, A, B, C, 
     }
 }
 
-impl<'a, H, A: Lane, B: Lane, C: Lane, D: Lane> Server<'a, H, A, B, C, D> {
+impl<'a, H, L: Lanes> Server<'a, H, L> {
     ghost use Rattle.std.specs.Prelude.{◌≡◌};
 
     pub(crate) fn is_stopped(&self) -> bool {
@@ -164,7 +164,7 @@ impl<'a, H, A: Lane, B: Lane, C: Lane, D: Lane> Server<'a, H, A, B, C, D> {
     }
 
     /// The pool, once the threads have ended.
-    pub fn into_pool(self) -> Pool<NoGate, A, B, C, D>
+    pub fn into_pool(self) -> Pool<NoGate, L>
         ensures { result ≡ self.entry.pool }
     {
         let Server {
@@ -197,7 +197,7 @@ impl<'a, H, A: Lane, B: Lane, C: Lane, D: Lane> Server<'a, H, A, B, C, D> {
     }
 }
 
-impl<'a, H, A: Lane, B: Lane, C: Lane, D: Lane> Wakes for Server<'a, H, A, B, C, D> {
+impl<'a, H, L: Lanes> Wakes for Server<'a, H, L> {
     fn look(&self) {
         for mailbox in self.mailboxes.iter() {
             mailbox.look();
@@ -205,16 +205,13 @@ impl<'a, H, A: Lane, B: Lane, C: Lane, D: Lane> Wakes for Server<'a, H, A, B, C,
     }
 }
 
-impl<R, H, A, B, C, D> Crew<R, Workplace<A, B, C, D>, Door, LinkTask> for Server<'_, H, A, B, C, D>
+impl<R, H, L> Crew<R, Workplace<L>, Door, LinkTask> for Server<'_, H, L>
 where
-    R: Net<Listener = TcpListener, Stream = TcpStream> + Wait + Clock + Print + Eprint + Files,
+    R: LinkRuntime + Files,
     H: PresenceHooks,
-    A: Lane,
-    B: Lane,
-    C: Lane,
-    D: Lane,
+    L: Lanes,
 {
-    fn work(&self, rt: &R, place: Workplace<A, B, C, D>) -> Workplace<A, B, C, D> {
+    fn work(&self, rt: &R, place: Workplace<L>) -> Workplace<L> {
         let Workplace { number, mut bench } = place;
         bench.work(rt, self, number);
         Workplace { number, bench }

@@ -3,15 +3,12 @@ ghost use Rattle.std.specs.Prelude.{◌≡◌, IfSome};
 ghost use Rattle.presence_node_ends.specs.Ends.{Settles, receipts_in};
 
 use crate::end::ServeEnd;
-use shard_pool::{Gate, Lane, Pool, Seat};
+use shard_pool::{Gate, Lanes, Pool, Seat};
 use std::alloc::Global;
 use std::sync::Wait;
 
 // How many receipts the seats have, or none where there is no memory to count them.
-fn receipts_of<A: Lane, B: Lane, C: Lane, D: Lane>(
-    alloc: Global,
-    seats: &[Seat<A, B, C, D>],
-) -> Option<u64>
+fn receipts_of<L: Lanes>(alloc: Global, seats: &[Seat<L>]) -> Option<u64>
     ensures { IfSome result (λ count. count ≡ receipts_in seats.now) }
 {
     let mut count: u64 = 0;
@@ -23,11 +20,11 @@ fn receipts_of<A: Lane, B: Lane, C: Lane, D: Lane>(
 }
 
 /// Settles the seats of a pool with its journals. So many receipts are told only where they agree.
-pub fn settled<R: Wait, G: Gate + Drop, A: Lane, B: Lane, C: Lane, D: Lane>(
+pub fn settled<R: Wait, G: Gate + Drop, L: Lanes>(
     rt: &R,
     alloc: Global,
-    pool: Pool<G, A, B, C, D>,
-    seats: Vec<Seat<A, B, C, D>>,
+    pool: Pool<G, L>,
+    seats: Vec<Seat<L>>,
 ) -> ServeEnd
     ensures { Settles pool.own.name pool.shards pool.seats seats.items result }
 {

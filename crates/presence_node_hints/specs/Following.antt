@@ -59,19 +59,31 @@ abbrev pub AddsIf : Bool → Followed → List ℕ → Followed → Type 0
 AddsIf true f topic g = FollowsToo f topic g
 AddsIf false f topic g = g ≡ f
 
+-- the topic that it may change, where it is accepted
+abbrev pub topic_changed : Ask → Option (List ℕ)
+topic_changed (track topic key meta) = Some topic
+topic_changed (update topic key meta) = Some topic
+topic_changed (untrack topic key) = Some topic
+topic_changed (untrack_all topic) = Some topic
+topic_changed (shout topic payload) = Some topic
+topic_changed _ = None
+
+-- the topic that has a new subscriber, where it is accepted
+abbrev pub topic_followed : Ask → Option (List ℕ)
+topic_followed (subscribe topic) = Some topic
+topic_followed _ = None
+
+abbrev pub Notes : Option (List ℕ) → Bool → Followed → Followed → Type 0
+Notes (Some topic) accepted f g = AddsIf accepted f topic g
+Notes None accepted f g = g ≡ f
+
 -- An accepted call that may have changed a topic notes that one, and no other call notes any.
 abbrev pub NotesChange : (q : Ask) → Answer q → Followed → Followed → Type 0
-NotesChange (track pid topic key meta) a f g = AddsIf (is_ok a) f topic g
-NotesChange (update pid topic key meta) a f g = AddsIf (is_ok a) f topic g
-NotesChange (untrack pid topic key) a f g = AddsIf (is_ok a) f topic g
-NotesChange (untrack_all pid topic) a f g = AddsIf (is_ok a) f topic g
-NotesChange (shout topic payload) a f g = AddsIf (is_ok a) f topic g
-NotesChange q a f g = g ≡ f
+NotesChange q a f g = Notes (topic_changed q) (is_ok a) f g
 
 -- A new subscriber's topic is noted, and no other.
 abbrev pub NotesFollower : (q : Ask) → Answer q → Followed → Followed → Type 0
-NotesFollower (subscribe topic) a f g = AddsIf (is_ok a) f topic g
-NotesFollower q a f g = g ≡ f
+NotesFollower q a f g = Notes (topic_followed q) (is_ok a) f g
 
 -- ---- what a worker is told
 

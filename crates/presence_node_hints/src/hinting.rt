@@ -1,11 +1,12 @@
 //! A port that notes which topics its calls may have changed, and which are followed from then on.
-ghost use Rattle.std.specs.Prelude.{◌≡◌, is_ok};
-ghost use Rattle.presence_node_hints.specs.Following.{AddsIf, FollowsNone, NotesChange, NotesFollower};
+ghost use Rattle.std.specs.Prelude.{◌≡◌, true};
+ghost use Rattle.channel_session_rules.specs.Questions.{asks};
+ghost use Rattle.presence_node_hints.specs.Following.{FollowsNone, Notes, NotesChange, NotesFollower, topic_changed, topic_followed};
 
 use crate::followed::Followed;
-use channel_session::{Port, ShardFault, Sub};
-use presence_base::{Dot, Json, Key, Meta, Row, Topic};
-use presence_journal::{Item, SharedRows};
+use channel_session_rules::{
+    Call, Port, Question, Refusal, Shout, Subscribe, Track, Untrack, UntrackAll, Update,
+};
 use std::alloc::Global;
 
 /// What a port has noted.
@@ -56,109 +57,40 @@ impl<P: Port + Drop> HintingPort<P> {
         noted
     }
 
-    // Notes the topic of an accepted call.
-    fn note<T>(&mut self, topic: &Topic, answer: &Result<T, ShardFault>)
-        ensures changed { AddsIf (is_ok answer.now) self.old.noted.changed topic.now self.new.noted.changed }
-        ensures followed { self.new.noted.followed ≡ self.old.noted.followed }
+    // Notes what an accepted call may have changed, and who follows from then on.
+    fn note(&mut self, question: Question<'_>)
+        ensures changed { Notes (topic_changed (asks question.entry)) true self.old.noted.changed self.new.noted.changed }
+        ensures followed { Notes (topic_followed (asks question.entry)) true self.old.noted.followed self.new.noted.followed }
         ensures port { self.new.port ≡ self.old.port }
     {
-        if answer.is_ok() {
-            self.noted.changed.add(topic);
+        match question {
+            Question::Track(Track { topic, .. })
+            | Question::Update(Update { topic, .. })
+            | Question::Untrack(Untrack { topic, .. })
+            | Question::UntrackAll(UntrackAll { topic })
+            | Question::Shout(Shout { topic, .. }) => self.noted.changed.add(topic),
+            Question::Subscribe(Subscribe { topic }) => self.noted.followed.add(topic),
+            Question::List(_)
+            | Question::Get(_)
+            | Question::Take(_)
+            | Question::Unsubscribe(_)
+            | Question::Waits(_) => (),
         }
     }
 }
 
 impl<P: Port + Drop> Port for HintingPort<P> {
-    ghost step = { λ old q a new. P.step old.port q a new.port
+    ghost step = { λ pid old q a new. P.step pid old.port q a new.port
         × NotesChange q a old.noted.changed new.noted.changed
         × NotesFollower q a old.noted.followed new.noted.followed };
 
-    fn track(
-        &mut self,
-        alloc: Global,
-        pid: u64,
-        topic: &Topic,
-        key: &Key,
-        meta: &Meta,
-    ) -> Result<Dot, ShardFault> {
-        let answer = self.port.track(alloc, pid, topic, key, meta);
-        self.note(topic, &answer);
-        answer
-    }
-
-    fn update(
-        &mut self,
-        alloc: Global,
-        pid: u64,
-        topic: &Topic,
-        key: &Key,
-        meta: &Meta,
-    ) -> Result<Dot, ShardFault> {
-        let answer = self.port.update(alloc, pid, topic, key, meta);
-        self.note(topic, &answer);
-        answer
-    }
-
-    fn untrack(
-        &mut self,
-        alloc: Global,
-        pid: u64,
-        topic: &Topic,
-        key: &Key,
-    ) -> Result<(), ShardFault> {
-        let answer = self.port.untrack(alloc, pid, topic, key);
-        self.note(topic, &answer);
-        answer
-    }
-
-    fn untrack_all(&mut self, alloc: Global, pid: u64, topic: &Topic) -> Result<(), ShardFault> {
-        let answer = self.port.untrack_all(alloc, pid, topic);
-        self.note(topic, &answer);
-        answer
-    }
-
-    fn list(&mut self, alloc: Global, topic: &Topic) -> Result<SharedRows, ShardFault> {
-        self.port.list(alloc, topic)
-    }
-
-    fn get(
-        &mut self,
-        alloc: Global,
-        topic: &Topic,
-        key: &Key,
-    ) -> Result<Vec<(Dot, Row)>, ShardFault> {
-        self.port.get(alloc, topic, key)
-    }
-
-    fn subscribe(&mut self, alloc: Global, topic: &Topic) -> Result<Sub, ShardFault> {
-        let answer = self.port.subscribe(alloc, topic);
-        if answer.is_ok() {
-            self.noted.followed.add(topic);
+    fn call<C: Call>(&mut self, alloc: Global, pid: u64, call: &C) -> Result<C::Answer, Refusal> {
+        match self.port.call(alloc, pid, call) {
+            Ok(given) => {
+                self.note(call.question());
+                Ok(given)
+            }
+            Err(refusal) => Err(refusal),
         }
-        answer
-    }
-
-    fn take(
-        &mut self,
-        alloc: Global,
-        topic: &Topic,
-        sub: &Sub,
-        max: u32,
-    ) -> Result<Vec<Item>, ShardFault> {
-        self.port.take(alloc, topic, sub, max)
-    }
-
-    fn unsubscribe(&mut self, alloc: Global, topic: &Topic, sub: &Sub) -> Result<(), ShardFault> {
-        self.port.unsubscribe(alloc, topic, sub)
-    }
-
-    fn waits(&mut self, topic: &Topic, sub: &Sub) -> Result<bool, ShardFault> {
-        self.port.waits(topic, sub)
-    }
-
-    fn shout(&mut self, alloc: Global, topic: &Topic, payload: &Json) -> Result<(), ShardFault> {
-        let answer = self.port.shout(alloc, topic, payload);
-        self.note(topic, &answer);
-        answer
     }
 }

@@ -9,22 +9,21 @@ use crate::room::room_made;
 use delta_range::Delta;
 use node_links_lines::{Line, Telling};
 use orswot_core_told::Form;
-use shard_pool::{Gate, Lane, Pool, PoolFault};
+use shard_pool::{Gate, Lanes, Pool, PoolFault};
 use std::alloc::{AllocError, Global};
 use std::sync::Wait;
 
 /// Lets time pass at a shard, up to a time in milliseconds. Where the shard's journal is full room is made by a
 /// checkpoint, unless somebody else made it, and it is tried once more.
-pub fn let_pass<R: Wait, G: Gate, A: Lane, B: Lane, C: Lane, D: Lane>(
+pub fn let_pass<R: Wait, G: Gate, L: Lanes>(
     rt: &R,
     alloc: Global,
-    pool: &Pool<G, A, B, C, D>,
+    pool: &Pool<G, L>,
     shard: u32,
     now: u64,
 ) -> Result<(), PoolFault>
     requires { shard < pool.now.shards }
-    ensures { IsBehindAt A.begins B.begins C.begins D.begins shard pool.now.own.name
-        (λ h. IsMade h (steps_are.Tick now) result) }
+    ensures { IsBehindAt L.begins shard pool.now.own.name (λ h. IsMade h (steps_are.Tick now) result) }
 {
     let reply = pool.tick(rt, alloc, shard, now);
     if room_made(rt, alloc, pool, shard, &reply).is_none() {
@@ -35,14 +34,14 @@ pub fn let_pass<R: Wait, G: Gate, A: Lane, B: Lane, C: Lane, D: Lane>(
 
 /// What the own replica did at a shard since the last cut there. Where the shard's journal is full room is made by a
 /// checkpoint, unless somebody else made it, and it is tried once more.
-pub fn cut_off<R: Wait, G: Gate, A: Lane, B: Lane, C: Lane, D: Lane>(
+pub fn cut_off<R: Wait, G: Gate, L: Lanes>(
     rt: &R,
     alloc: Global,
-    pool: &Pool<G, A, B, C, D>,
+    pool: &Pool<G, L>,
     shard: u32,
 ) -> Result<Delta, PoolFault>
     requires { shard < pool.now.shards }
-    ensures { IsBehindAt A.begins B.begins C.begins D.begins shard pool.now.own.name (λ h. IsCutMade h result) }
+    ensures { IsBehindAt L.begins shard pool.now.own.name (λ h. IsCutMade h result) }
 {
     let reply = pool.cut(rt, alloc, shard);
     if room_made(rt, alloc, pool, shard, &reply).is_none() {

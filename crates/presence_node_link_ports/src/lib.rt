@@ -21,4 +21,4 @@ pub use fitting::{bare_beat, fitting_beat};
 pub use going_on::go_on;
 pub use link_port::PoolLinkPort;
 pub use parts::MAX_PART_BYTES;
-pub use shard_pool::{Gate, Lane, Pool, PoolFault};
+pub use shard_pool::{Gate, Lanes, Pool, PoolFault};

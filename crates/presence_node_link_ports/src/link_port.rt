@@ -11,16 +11,16 @@ use node_links_acts::{ActFault, LinkPort};
 use orswot_core_told::{Form, Told};
 use presence_base::Replica;
 use replica_status::Status;
-use shard_pool::{Gate, Lane, Pool, PoolFault};
+use shard_pool::{Gate, Lanes, Pool, PoolFault};
 use std::alloc::Global;
 use std::sync::Wait;
 
 /// The port of a link over a pool: each of its calls is that call of the pool, without a seat, and waits for the lock of
 /// the shard. One that finds the shard's journal full makes room there by a checkpoint and is tried once more.
 #[derive(Drop)]
-pub struct PoolLinkPort<'a, R: Wait, G: Gate, A: Lane, B: Lane, C: Lane, D: Lane> {
+pub struct PoolLinkPort<'a, R: Wait, G: Gate, L: Lanes> {
     rt: &'a R,
-    pool: &'a Pool<G, A, B, C, D>,
+    pool: &'a Pool<G, L>,
     shards: u32,
     /// Whether the replica of the last status was shown.
     is_up: bool,
@@ -56,18 +56,14 @@ macro_rules! tried {
     }};
 }
 
-impl<'a, R: Wait, G: Gate, A: Lane, B: Lane, C: Lane, D: Lane> PoolLinkPort<'a, R, G, A, B, C, D> {
+impl<'a, R: Wait, G: Gate, L: Lanes> PoolLinkPort<'a, R, G, L> {
     ghost use Rattle.std.specs.Prelude.{◌≡◌, ◌<◌, ◌⊎◌};
     ghost use Rattle.presence_journal_data.specs.declared.step.Step.TheVariants.{Merge};
     ghost use Rattle.shard_pool.specs.Seats.{IsOfShardAt};
     ghost use Rattle.presence_node_link_ports.specs.Asking.{HasNoShard, HasRoom, Made};
 
     /// The port of this pool, which has so many shards.
-    pub fn new(
-        rt: &'a R,
-        pool: &'a Pool<G, A, B, C, D>,
-        shards: u32,
-    ) -> PoolLinkPort<'a, R, G, A, B, C, D>
+    pub fn new(rt: &'a R, pool: &'a Pool<G, L>, shards: u32) -> PoolLinkPort<'a, R, G, L>
         requires { shards ≡ pool.now.shards }
         ensures { result.pool.now ≡ pool.now }
     {
@@ -143,7 +139,7 @@ impl<'a, R: Wait, G: Gate, A: Lane, B: Lane, C: Lane, D: Lane> PoolLinkPort<'a, 
         ensures pool { self.new.pool ≡ self.old.pool }
         ensures own { self.new.own ≡ self.old.own }
         ensures merged { HasNoShard self.old.pool.now.shards shard result
-            ⊎ Made (IsOfShardAt self.old.pool.now.own.name A.begins B.begins C.begins D.begins shard)
+            ⊎ Made (IsOfShardAt self.old.pool.now.own.name L.begins shard)
             (Merge news.now) result }
     {
         self.has_changed = true;
@@ -166,8 +162,7 @@ impl<'a, R: Wait, G: Gate, A: Lane, B: Lane, C: Lane, D: Lane> PoolLinkPort<'a, 
         ensures pool { self.new.pool ≡ self.old.pool }
         ensures own { self.new.own ≡ self.old.own }
         ensures full { result ≡ true → reply.now ≡ Err JournalFull }
-        ensures room { result ≡ true → HasRoom (IsOfShardAt self.old.pool.now.own.name
-            A.begins B.begins C.begins D.begins shard) }
+        ensures room { result ≡ true → HasRoom (IsOfShardAt self.old.pool.now.own.name L.begins shard) }
     {
         match room_made(self.rt, alloc, self.pool, shard, reply) {
             Some(made) => {
@@ -179,14 +174,13 @@ impl<'a, R: Wait, G: Gate, A: Lane, B: Lane, C: Lane, D: Lane> PoolLinkPort<'a, 
     }
 }
 
-impl<'a, R: Wait, G: Gate, A: Lane, B: Lane, C: Lane, D: Lane> LinkPort
-    for PoolLinkPort<'a, R, G, A, B, C, D> {
+impl<'a, R: Wait, G: Gate, L: Lanes> LinkPort for PoolLinkPort<'a, R, G, L> {
     ghost use Rattle.std.specs.Prelude.{◌≡◌};
     ghost use Rattle.shard_pool.specs.Seats.{IsOfShardAt};
     ghost use Rattle.presence_node_link_ports.specs.Asking.{LinkStep};
 
     ghost step = { λ old q a new. (new.pool ≡ old.pool) × (new.own ≡ old.own)
-        × LinkStep (IsOfShardAt old.pool.now.own.name A.begins B.begins C.begins D.begins) old.own old.pool.now.shards q a };
+        × LinkStep (IsOfShardAt old.pool.now.own.name L.begins) old.own old.pool.now.shards q a };
 
     ghost shard_count = { λ p. p.pool.now.shards };
 

@@ -13,7 +13,7 @@ use delta_range::Delta;
 use node_links_lines::MAX_LINE_BYTES;
 use orswot_core_told::{Form, Told};
 use presence_journal_cuts::up_to;
-use shard_pool::{Gate, Lane, Pool, PoolFault};
+use shard_pool::{Gate, Lanes, Pool, PoolFault};
 use std::alloc::{AllocError, Global};
 use std::sync::Wait;
 
@@ -178,16 +178,15 @@ fn shortened(alloc: Global, shard: u32, part: &Delta) -> Result<Option<Told>, Al
 /// A part of the shard's own rows, for a node that knows its dots up to a count, on a line of the second form. None where a line
 /// has no room for one more count beside the runs of older ones, or there is none. It refuses with `OutOfMemory` alone.
 #[tactic(auto, using(crate::proofs::PartLemmas::none_behind))]
-pub(crate) fn part_on_line<R: Wait, G: Gate, A: Lane, B: Lane, C: Lane, D: Lane>(
+pub(crate) fn part_on_line<R: Wait, G: Gate, L: Lanes>(
     rt: &R,
     alloc: Global,
-    pool: &Pool<G, A, B, C, D>,
+    pool: &Pool<G, L>,
     shard: u32,
     count: u64,
 ) -> Result<Option<Told>, PoolFault>
     requires { shard < pool.now.shards }
-    ensures part { IfOk result (λ o. IsBehindAt A.begins B.begins C.begins D.begins shard pool.now.own.name
-        (λ h. TellsPart shard h count o)) }
+    ensures part { IfOk result (λ o. IsBehindAt L.begins shard pool.now.own.name (λ h. TellsPart shard h count o)) }
     ensures err { IfErr result (λ e. e ≡ OutOfMemory) }
 {
     let Some(part) = pool.part(rt, alloc, shard, count)? else {

@@ -3,23 +3,15 @@ ghost use Rattle.std.specs.Prelude.{◌≡◌, ◌<◌};
 
 use crate::links::Links;
 use delta_range::Delta;
-use presence_node_link_ports::{Gate, Lane, Pool, cut_off, let_pass};
+use presence_node_link_ports::{Gate, Lanes, Pool, cut_off, let_pass};
 use std::sync::{Arc, Wait};
 
 // What a shard did since the last cut. What is refused waits for the next.
-fn cut<R, G, A, B, C, D>(
-    rt: &R,
-    links: &Links,
-    pool: &Pool<G, A, B, C, D>,
-    shard: u32,
-) -> Option<Arc<Delta>>
+fn cut<R, G, L>(rt: &R, links: &Links, pool: &Pool<G, L>, shard: u32) -> Option<Arc<Delta>>
 where
     R: Wait,
     G: Gate,
-    A: Lane,
-    B: Lane,
-    C: Lane,
-    D: Lane,
+    L: Lanes,
     requires { shard < pool.now.shards }
 {
     let Ok(cut) = cut_off(rt, links.alloc, pool, shard) else {
@@ -29,18 +21,11 @@ where
 }
 
 /// What each shard did since the last cut.
-pub(crate) fn cut_all<R, G, A, B, C, D>(
-    rt: &R,
-    links: &Links,
-    pool: &Pool<G, A, B, C, D>,
-) -> Vec<(u32, Arc<Delta>)>
+pub(crate) fn cut_all<R, G, L>(rt: &R, links: &Links, pool: &Pool<G, L>) -> Vec<(u32, Arc<Delta>)>
 where
     R: Wait,
     G: Gate,
-    A: Lane,
-    B: Lane,
-    C: Lane,
-    D: Lane,
+    L: Lanes,
     requires { links.now.shards ≡ pool.now.shards }
 {
     let mut cuts = Vec::new(links.alloc);
@@ -53,19 +38,11 @@ where
 }
 
 /// Lets time pass at each shard, up to a time in milliseconds. What is refused waits for the next period.
-pub(crate) fn pass_all<R, G, A, B, C, D>(
-    rt: &R,
-    links: &Links,
-    pool: &Pool<G, A, B, C, D>,
-    now: u64,
-)
+pub(crate) fn pass_all<R, G, L>(rt: &R, links: &Links, pool: &Pool<G, L>, now: u64)
 where
     R: Wait,
     G: Gate,
-    A: Lane,
-    B: Lane,
-    C: Lane,
-    D: Lane,
+    L: Lanes,
     requires { links.now.shards ≡ pool.now.shards }
 {
     for shard in 0..links.shards {

@@ -4,6 +4,7 @@ ghost use Rattle.std.specs.Prelude.{◌≡◌};
 use crate::links::{Cuts, Links, Place, Wakes};
 use crate::lives::{given_up, owning};
 use crate::node::Node;
+use crate::runtime::LinkRuntime;
 use crate::serving::{coming_from, end_of};
 use delta_range::Delta;
 use node_links::{
@@ -11,7 +12,7 @@ use node_links::{
 };
 use orswot_core_told::Form;
 use presence_base::{NodeName, Replica};
-use presence_node_link_ports::{Gate, Lane, Pool, PoolLinkPort, bare_beat, fitting_beat};
+use presence_node_link_ports::{Gate, Lanes, Pool, PoolLinkPort, bare_beat, fitting_beat};
 use presence_node_link_streams::{LinkStream, time_behind};
 use presence_node_link_words::{LinkEnd, LinkWarning, MOST_AHEAD, greeted, known_line};
 use presence_node_mailboxes::{first_behind, from_shard};
@@ -174,8 +175,8 @@ where
 }
 
 // One exchange: the line goes out, and what comes is done.
-fn say<R, G, A, B, C, D, W>(
-    node: Node<'_, R, G, A, B, C, D, W>,
+fn say<R, G, L, W>(
+    node: Node<'_, R, G, L, W>,
     dialled: &mut Dialled<'_, R>,
     place: Place<'_>,
     line: &Line,
@@ -183,10 +184,7 @@ fn say<R, G, A, B, C, D, W>(
 where
     R: Wait + Clock + Print + Eprint,
     G: Gate,
-    A: Lane,
-    B: Lane,
-    C: Lane,
-    D: Lane,
+    L: Lanes,
     W: Wakes,
     requires { node.links.now.shards ≡ node.pool.now.shards }
 {
@@ -219,8 +217,8 @@ where
 }
 
 // The other node is told up to which counts it is known here, so that one which was started again as what it was before says so.
-fn say_known<R, G, A, B, C, D, W>(
-    node: Node<'_, R, G, A, B, C, D, W>,
+fn say_known<R, G, L, W>(
+    node: Node<'_, R, G, L, W>,
     dialled: &mut Dialled<'_, R>,
     place: Place<'_>,
     other: &Replica,
@@ -228,10 +226,7 @@ fn say_known<R, G, A, B, C, D, W>(
 where
     R: Wait + Clock + Print + Eprint,
     G: Gate,
-    A: Lane,
-    B: Lane,
-    C: Lane,
-    D: Lane,
+    L: Lanes,
     W: Wakes,
     requires { node.links.now.shards ≡ node.pool.now.shards }
 {
@@ -246,18 +241,15 @@ where
 
 // A link to the node that is dialled, behind its hello, the first line of this node's life and what is known of the other one,
 // and who is there. The form is that of this node's hello, and then that of its next one.
-fn link_to<'a, R, G, A, B, C, D, W>(
-    node: Node<'a, R, G, A, B, C, D, W>,
+fn link_to<'a, R, G, L, W>(
+    node: Node<'a, R, G, L, W>,
     dialler: &Dialler,
     form: &mut Form,
 ) -> Result<(Dialled<'a, R>, Replica), LinkEnd>
 where
-    R: Net<Listener = TcpListener, Stream = TcpStream> + Wait + Clock + Print + Eprint,
+    R: LinkRuntime,
     G: Gate,
-    A: Lane,
-    B: Lane,
-    C: Lane,
-    D: Lane,
+    L: Lanes,
     W: Wakes,
     requires { node.links.now.shards ≡ node.pool.now.shards }
 {
@@ -315,8 +307,8 @@ fn beat_for(links: &Links, peer: &Peer, shard: u32, cut: &Delta) -> Line {
 }
 
 // Sends a beat of a shard. What the other node stays without is told once.
-fn send_beat<R, G, A, B, C, D, W>(
-    node: Node<'_, R, G, A, B, C, D, W>,
+fn send_beat<R, G, L, W>(
+    node: Node<'_, R, G, L, W>,
     dialled: &mut Dialled<'_, R>,
     place: Place<'_>,
     shard: u32,
@@ -325,10 +317,7 @@ fn send_beat<R, G, A, B, C, D, W>(
 where
     R: Wait + Clock + Print + Eprint,
     G: Gate,
-    A: Lane,
-    B: Lane,
-    C: Lane,
-    D: Lane,
+    L: Lanes,
     W: Wakes,
     requires { node.links.now.shards ≡ node.pool.now.shards }
 {
@@ -343,8 +332,8 @@ where
 }
 
 // Sends the beats: each goes out whatever came of the one before, as far as the stream stands.
-fn send_all<R, G, A, B, C, D, W>(
-    node: Node<'_, R, G, A, B, C, D, W>,
+fn send_all<R, G, L, W>(
+    node: Node<'_, R, G, L, W>,
     dialled: &mut Dialled<'_, R>,
     place: Place<'_>,
     cuts: &[(u32, Arc<Delta>)],
@@ -352,10 +341,7 @@ fn send_all<R, G, A, B, C, D, W>(
 where
     R: Wait + Clock + Print + Eprint,
     G: Gate,
-    A: Lane,
-    B: Lane,
-    C: Lane,
-    D: Lane,
+    L: Lanes,
     W: Wakes,
     requires { node.links.now.shards ≡ node.pool.now.shards }
 {
@@ -376,8 +362,8 @@ where
 }
 
 // Sends the beats of those shards once more, bare, of which a part was told: what is still wanted is told too.
-fn send_more<R, G, A, B, C, D, W>(
-    node: Node<'_, R, G, A, B, C, D, W>,
+fn send_more<R, G, L, W>(
+    node: Node<'_, R, G, L, W>,
     dialled: &mut Dialled<'_, R>,
     place: Place<'_>,
     cuts: &[(u32, Arc<Delta>)],
@@ -385,10 +371,7 @@ fn send_more<R, G, A, B, C, D, W>(
 where
     R: Wait + Clock + Print + Eprint,
     G: Gate,
-    A: Lane,
-    B: Lane,
-    C: Lane,
-    D: Lane,
+    L: Lanes,
     W: Wakes,
     requires { node.links.now.shards ≡ node.pool.now.shards }
 {
@@ -508,14 +491,11 @@ impl<'a, R: Clock> State<'a, R> {
     }
 
     // The link comes up, if it is not.
-    fn comes<G, A, B, C, D, W>(&mut self, node: Node<'a, R, G, A, B, C, D, W>, dialler: &Dialler)
+    fn comes<G, L, W>(&mut self, node: Node<'a, R, G, L, W>, dialler: &Dialler)
     where
-        R: Net<Listener = TcpListener, Stream = TcpStream> + Wait + Clock + Print + Eprint,
+        R: LinkRuntime,
         G: Gate,
-        A: Lane,
-        B: Lane,
-        C: Lane,
-        D: Lane,
+        L: Lanes,
         W: Wakes,
         requires { node.links.now.shards ≡ node.pool.now.shards }
     {
@@ -534,19 +514,16 @@ impl<'a, R: Clock> State<'a, R> {
     }
 
     // The lines go out, if the link is up.
-    fn sends<G, A, B, C, D, W>(
+    fn sends<G, L, W>(
         &mut self,
-        node: Node<'_, R, G, A, B, C, D, W>,
+        node: Node<'_, R, G, L, W>,
         dialler: &Dialler,
         cuts: &[(u32, Arc<Delta>)],
     )
     where
         R: Wait + Clock + Print + Eprint,
         G: Gate,
-        A: Lane,
-        B: Lane,
-        C: Lane,
-        D: Lane,
+        L: Lanes,
         W: Wakes,
         requires { node.links.now.shards ≡ node.pool.now.shards }
     {
@@ -560,19 +537,16 @@ impl<'a, R: Clock> State<'a, R> {
     }
 
     // Where parts were told, more of them go out, as long as they are wanted, for half a period.
-    fn sends_parts<G, A, B, C, D, W>(
+    fn sends_parts<G, L, W>(
         &mut self,
-        node: Node<'_, R, G, A, B, C, D, W>,
+        node: Node<'_, R, G, L, W>,
         dialler: &Dialler,
         cuts: &[(u32, Arc<Delta>)],
     )
     where
         R: Wait + Clock + Print + Eprint,
         G: Gate,
-        A: Lane,
-        B: Lane,
-        C: Lane,
-        D: Lane,
+        L: Lanes,
         W: Wakes,
         requires { node.links.now.shards ≡ node.pool.now.shards }
     {
@@ -593,19 +567,16 @@ impl<'a, R: Clock> State<'a, R> {
     }
 
     // The beats of a period go out, first those of the shards that come behind the one that didn't get through last.
-    fn beats<G, A, B, C, D, W>(
+    fn beats<G, L, W>(
         &mut self,
-        node: Node<'a, R, G, A, B, C, D, W>,
+        node: Node<'a, R, G, L, W>,
         dialler: &Dialler,
         cuts: &[(u32, Arc<Delta>)],
     )
     where
-        R: Net<Listener = TcpListener, Stream = TcpStream> + Wait + Clock + Print + Eprint,
+        R: LinkRuntime,
         G: Gate,
-        A: Lane,
-        B: Lane,
-        C: Lane,
-        D: Lane,
+        L: Lanes,
         W: Wakes,
         requires { node.links.now.shards ≡ node.pool.now.shards }
     {
@@ -622,14 +593,11 @@ impl<'a, R: Clock> State<'a, R> {
 
     // This node says that it has ended, if the link is up. One that was cut since it stops, or is of an earlier turn, is
     // dialled once more for that.
-    fn leaves<G, A, B, C, D, W>(&mut self, node: Node<'a, R, G, A, B, C, D, W>, dialler: &Dialler)
+    fn leaves<G, L, W>(&mut self, node: Node<'a, R, G, L, W>, dialler: &Dialler)
     where
-        R: Net<Listener = TcpListener, Stream = TcpStream> + Wait + Clock + Print + Eprint,
+        R: LinkRuntime,
         G: Gate,
-        A: Lane,
-        B: Lane,
-        C: Lane,
-        D: Lane,
+        L: Lanes,
         W: Wakes,
         requires { node.links.now.shards ≡ node.pool.now.shards }
     {
@@ -650,18 +618,11 @@ impl<'a, R: Clock> State<'a, R> {
 }
 
 // Sends the beats that are posted for the node that is dialled. The link is dialled where it is not up.
-fn send_posted<R, G, A, B, C, D, W>(
-    node: Node<'_, R, G, A, B, C, D, W>,
-    dialler: &Dialler,
-    mailbox: &Cuts,
-)
+fn send_posted<R, G, L, W>(node: Node<'_, R, G, L, W>, dialler: &Dialler, mailbox: &Cuts)
 where
-    R: Net<Listener = TcpListener, Stream = TcpStream> + Wait + Clock + Print + Eprint,
+    R: LinkRuntime,
     G: Gate,
-    A: Lane,
-    B: Lane,
-    C: Lane,
-    D: Lane,
+    L: Lanes,
     W: Wakes,
     requires { node.links.now.shards ≡ node.pool.now.shards }
 {
@@ -685,20 +646,17 @@ where
 }
 
 /// Dials a node and sends it the beats, until the links are to end.
-pub(crate) fn dial_one<R, G, A, B, C, D, W>(
+pub(crate) fn dial_one<R, G, L, W>(
     rt: &R,
     links: &Links,
-    pool: &Pool<G, A, B, C, D>,
+    pool: &Pool<G, L>,
     wakes: &W,
     dialler: &Dialler,
 )
 where
-    R: Net<Listener = TcpListener, Stream = TcpStream> + Wait + Clock + Print + Eprint,
+    R: LinkRuntime,
     G: Gate,
-    A: Lane,
-    B: Lane,
-    C: Lane,
-    D: Lane,
+    L: Lanes,
     W: Wakes,
     requires { links.now.shards ≡ pool.now.shards }
 {

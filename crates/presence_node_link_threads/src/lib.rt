@@ -20,6 +20,7 @@ mod lives;
 mod node;
 mod origin;
 mod reading;
+mod runtime;
 mod serving;
 mod tallies;
 mod tasks;
@@ -27,5 +28,6 @@ mod ticking;
 
 pub use links::{Links, Wakes};
 pub use presence_node_link_streams::time_behind;
+pub use runtime::LinkRuntime;
 pub use tallies::LinkTallies;
 pub use tasks::{LinkNode, LinkTask, LinkTasks, tasks_for};

@@ -8,7 +8,7 @@ use crate::cutting::{cut_all, pass_all};
 use crate::links::{Links, Wakes};
 use node_links::Peer;
 use presence_base::Replica;
-use presence_node_link_ports::{Gate, Lane, Pool, PoolFault, go_on};
+use presence_node_link_ports::{Gate, Lanes, Pool, PoolFault, go_on};
 use presence_node_link_streams::time_behind;
 use presence_node_link_words::{Came, Coming, Course, Life, LinkEnd, is_due};
 use std::sync::Wait;
@@ -25,22 +25,19 @@ fn came_of<T>(reply: &Result<T, PoolFault>) -> Came
 }
 
 // Makes a shard go on under this incarnation, where its own is below: what came of it.
-fn go_on_at<R, G, A, B, C, D>(
+fn go_on_at<R, G, L>(
     rt: &R,
     links: &Links,
-    pool: &Pool<G, A, B, C, D>,
+    pool: &Pool<G, L>,
     shard: u32,
     incarnation: u64,
 ) -> Option<Came>
 where
     R: Wait,
     G: Gate,
-    A: Lane,
-    B: Lane,
-    C: Lane,
-    D: Lane,
+    L: Lanes,
     requires { shard < pool.now.shards }
-    ensures { IsCameAt (IsOfShardAt pool.now.own.name A.begins B.begins C.begins D.begins shard) incarnation result }
+    ensures { IsCameAt (IsOfShardAt pool.now.own.name L.begins shard) incarnation result }
 {
     if !is_due(pool.incarnation(rt, shard), incarnation) {
         return None;
@@ -60,22 +57,13 @@ fn and_option(all: Coming, came: Option<Came>) -> Coming
 }
 
 // Makes all shards go on whose incarnation is below this one.
-fn go_on_all<R, G, A, B, C, D>(
-    rt: &R,
-    links: &Links,
-    pool: &Pool<G, A, B, C, D>,
-    incarnation: u64,
-) -> Coming
+fn go_on_all<R, G, L>(rt: &R, links: &Links, pool: &Pool<G, L>, incarnation: u64) -> Coming
 where
     R: Wait,
     G: Gate,
-    A: Lane,
-    B: Lane,
-    C: Lane,
-    D: Lane,
+    L: Lanes,
     requires { links.now.shards ≡ pool.now.shards }
-    ensures { AllCame (IsOfShardAt pool.now.own.name A.begins B.begins C.begins D.begins) incarnation
-        links.now.shards result }
+    ensures { AllCame (IsOfShardAt pool.now.own.name L.begins) incarnation links.now.shards result }
 {
     let mut all = Coming::new();
     for shard in 0..links.shards {
@@ -85,14 +73,11 @@ where
 }
 
 // The links begin anew: beats of before are no longer sent, and what the shards did as what they are now goes out at once.
-fn begin_anew<R, G, A, B, C, D, W>(rt: &R, links: &Links, pool: &Pool<G, A, B, C, D>, wakes: &W)
+fn begin_anew<R, G, L, W>(rt: &R, links: &Links, pool: &Pool<G, L>, wakes: &W)
 where
     R: Wait + Clock,
     G: Gate,
-    A: Lane,
-    B: Lane,
-    C: Lane,
-    D: Lane,
+    L: Lanes,
     W: Wakes,
     requires { links.now.shards ≡ pool.now.shards }
 {
@@ -103,20 +88,17 @@ where
 
 /// A link that said hello as this replica was told that it is gone: the node goes on under the next incarnation that it wasn't
 /// told of, unless it has since, or did so three times of late. Why the link ends.
-pub(crate) fn given_up<R, G, A, B, C, D, W>(
+pub(crate) fn given_up<R, G, L, W>(
     rt: &R,
     links: &Links,
-    pool: &Pool<G, A, B, C, D>,
+    pool: &Pool<G, L>,
     wakes: &W,
     hello: &Replica,
 ) -> LinkEnd
 where
     R: Wait + Clock + Print,
     G: Gate,
-    A: Lane,
-    B: Lane,
-    C: Lane,
-    D: Lane,
+    L: Lanes,
     W: Wakes,
     requires { links.now.shards ≡ pool.now.shards }
 {
@@ -144,24 +126,14 @@ where
 }
 
 // Tries the shards again that could not go on yet: the life behind that.
-fn try_late<R, G, A, B, C, D, W>(
-    rt: &R,
-    links: &Links,
-    pool: &Pool<G, A, B, C, D>,
-    wakes: &W,
-    life: &Life,
-) -> Life
+fn try_late<R, G, L, W>(rt: &R, links: &Links, pool: &Pool<G, L>, wakes: &W, life: &Life) -> Life
 where
     R: Wait + Clock,
     G: Gate,
-    A: Lane,
-    B: Lane,
-    C: Lane,
-    D: Lane,
+    L: Lanes,
     W: Wakes,
     requires { links.now.shards ≡ pool.now.shards }
-    ensures { TriesLate (IsOfShardAt pool.now.own.name A.begins B.begins C.begins D.begins) links.now.shards
-        life.now result }
+    ensures { TriesLate (IsOfShardAt pool.now.own.name L.begins) links.now.shards life.now result }
 {
     if !life.is_late {
         return *life;
@@ -176,20 +148,11 @@ where
 
 /// One period of the shards: those are tried again that could not go on yet, time passes at each, and what each did is posted.
 /// All of it is in one life of the node, so that no beat of an earlier one is posted behind that.
-pub(crate) fn pass_period<R, G, A, B, C, D, W>(
-    rt: &R,
-    links: &Links,
-    pool: &Pool<G, A, B, C, D>,
-    wakes: &W,
-    now: u64,
-)
+pub(crate) fn pass_period<R, G, L, W>(rt: &R, links: &Links, pool: &Pool<G, L>, wakes: &W, now: u64)
 where
     R: Wait + Clock,
     G: Gate,
-    A: Lane,
-    B: Lane,
-    C: Lane,
-    D: Lane,
+    L: Lanes,
     W: Wakes,
     requires { links.now.shards ≡ pool.now.shards }
 {
@@ -200,19 +163,11 @@ where
 }
 
 // What each shard is, by its number, where some shard isn't what the hello names. Where there is no memory for that, none.
-fn owns_of<R, G, A, B, C, D>(
-    rt: &R,
-    links: &Links,
-    pool: &Pool<G, A, B, C, D>,
-    own: &Replica,
-) -> Option<Vec<Replica>>
+fn owns_of<R, G, L>(rt: &R, links: &Links, pool: &Pool<G, L>, own: &Replica) -> Option<Vec<Replica>>
 where
     R: Wait,
     G: Gate,
-    A: Lane,
-    B: Lane,
-    C: Lane,
-    D: Lane,
+    L: Lanes,
     requires { links.now.shards ≡ pool.now.shards }
 {
     let mut owns = Vec::new(links.alloc);
@@ -232,19 +187,11 @@ where
 }
 
 /// The same end of a link, before any line came, at the node as its shards are.
-pub(crate) fn owning<R, G, A, B, C, D>(
-    rt: &R,
-    links: &Links,
-    pool: &Pool<G, A, B, C, D>,
-    peer: Peer,
-) -> Peer
+pub(crate) fn owning<R, G, L>(rt: &R, links: &Links, pool: &Pool<G, L>, peer: Peer) -> Peer
 where
     R: Wait,
     G: Gate,
-    A: Lane,
-    B: Lane,
-    C: Lane,
-    D: Lane,
+    L: Lanes,
     requires { links.now.shards ≡ pool.now.shards }
     ensures own { result.own ≡ peer.own }
     ensures shards { result.shards ≡ peer.shards }

@@ -1,29 +1,24 @@
 //! This node, as the threads of its links have it.
 use crate::links::{Links, Place, Wakes};
 use presence_base::Replica;
-use presence_node_link_ports::{Gate, Lane, Pool, PoolLinkPort};
+use presence_node_link_ports::{Gate, Lanes, Pool, PoolLinkPort};
 use presence_node_link_words::LinkWarning;
 use std::sync::Wait;
 use std::time::Clock;
 
 /// What each thread of links is lent.
 #[derive_where(Clone, Copy)]
-pub(crate) struct Node<'a, R, G: Gate, A: Lane, B: Lane, C: Lane, D: Lane, W> {
+pub(crate) struct Node<'a, R, G: Gate, L: Lanes, W> {
     pub(crate) rt: &'a R,
     pub(crate) links: &'a Links,
-    pub(crate) pool: &'a Pool<G, A, B, C, D>,
+    pub(crate) pool: &'a Pool<G, L>,
     pub(crate) wakes: &'a W,
 }
 
-impl<R, G: Gate, A: Lane, B: Lane, C: Lane, D: Lane, W> Node<'_, R, G, A, B, C, D, W> {
+impl<R, G: Gate, L: Lanes, W> Node<'_, R, G, L, W> {
     /// What came of a link's exchange beside its answer: clients are looked at, it is counted, and what is odd about the link is
     /// told. The replica is the node as it said hello.
-    pub(crate) fn notes(
-        self,
-        port: &PoolLinkPort<'_, R, G, A, B, C, D>,
-        place: Place<'_>,
-        own: &Replica,
-    )
+    pub(crate) fn notes(self, port: &PoolLinkPort<'_, R, G, L>, place: Place<'_>, own: &Replica)
     where
         R: Wait + Clock + Eprint,
         W: Wakes,

@@ -11,7 +11,7 @@ use node_links::{
     DialFault, End, Line, Link, LinkFault, LinkPort, MAX_LINE_BYTES, Peer, answer_line, hear_bytes,
 };
 use presence_base::Replica;
-use presence_node_link_ports::{Gate, Lane, Pool, PoolLinkPort};
+use presence_node_link_ports::{Gate, Lanes, Pool, PoolLinkPort};
 use presence_node_link_streams::{Asking, LinkStream, MAX_LOOKS, time_behind};
 use presence_node_link_words::{
     LinkEnd, LinkWarning, MOST_AHEAD, greeted, is_heard_anew, is_welcome, known_in,
@@ -246,14 +246,11 @@ impl<'a, R: Clock> Incoming<'a, R> {
     }
 
     // Tells a shard that the other end was heard.
-    fn heard_at<G, A, B, C, D, W>(&mut self, node: Node<'a, R, G, A, B, C, D, W>, shard: u32)
+    fn heard_at<G, L, W>(&mut self, node: Node<'a, R, G, L, W>, shard: u32)
     where
         R: Wait,
         G: Gate,
-        A: Lane,
-        B: Lane,
-        C: Lane,
-        D: Lane,
+        L: Lanes,
         W: Wakes,
         requires { node.links.now.shards ≡ node.pool.now.shards }
     {
@@ -267,14 +264,11 @@ impl<'a, R: Clock> Incoming<'a, R> {
     }
 
     // Something of a line came: each shard hears of it that wasn't told so for a while, unless the link was replaced.
-    fn hears<G, A, B, C, D, W>(&mut self, node: Node<'a, R, G, A, B, C, D, W>)
+    fn hears<G, L, W>(&mut self, node: Node<'a, R, G, L, W>)
     where
         R: Wait,
         G: Gate,
-        A: Lane,
-        B: Lane,
-        C: Lane,
-        D: Lane,
+        L: Lanes,
         W: Wakes,
         requires { node.links.now.shards ≡ node.pool.now.shards }
     {
@@ -292,17 +286,11 @@ impl<'a, R: Clock> Incoming<'a, R> {
     }
 
     // The bytes of the next line. What comes of it is heard, whole or not.
-    fn bytes<G, A, B, C, D, W>(
-        &mut self,
-        node: Node<'a, R, G, A, B, C, D, W>,
-    ) -> Result<Vec<u8>, LinkFault>
+    fn bytes<G, L, W>(&mut self, node: Node<'a, R, G, L, W>) -> Result<Vec<u8>, LinkFault>
     where
         R: Wait,
         G: Gate,
-        A: Lane,
-        B: Lane,
-        C: Lane,
-        D: Lane,
+        L: Lanes,
         W: Wakes,
         requires { node.links.now.shards ≡ node.pool.now.shards }
     {
@@ -322,19 +310,16 @@ impl<'a, R: Clock> Incoming<'a, R> {
     }
 
     // Asks a reader for a long line, once it has no other: whether it could.
-    fn asks<G, A, B, C, D, W>(
+    fn asks<G, L, W>(
         &mut self,
-        node: Node<'a, R, G, A, B, C, D, W>,
+        node: Node<'a, R, G, L, W>,
         reader: &Reader,
         line: LineBytes,
     ) -> bool
     where
         R: Wait,
         G: Gate,
-        A: Lane,
-        B: Lane,
-        C: Lane,
-        D: Lane,
+        L: Lanes,
         W: Wakes,
         requires { node.links.now.shards ≡ node.pool.now.shards }
     {
@@ -351,18 +336,11 @@ impl<'a, R: Clock> Incoming<'a, R> {
     }
 
     // A line as it is read: a long one by the reader of its node, while its link is heard.
-    fn read<G, A, B, C, D, W>(
-        &mut self,
-        node: Node<'a, R, G, A, B, C, D, W>,
-        line: LineBytes,
-    ) -> LineRead
+    fn read<G, L, W>(&mut self, node: Node<'a, R, G, L, W>, line: LineBytes) -> LineRead
     where
         R: Wait,
         G: Gate,
-        A: Lane,
-        B: Lane,
-        C: Lane,
-        D: Lane,
+        L: Lanes,
         W: Wakes,
         requires { node.links.now.shards ≡ node.pool.now.shards }
     {
@@ -385,17 +363,11 @@ impl<'a, R: Clock> Incoming<'a, R> {
     }
 
     // The next line, or why there is none. That of a link which was replaced meanwhile is dropped.
-    fn next_line<G, A, B, C, D, W>(
-        &mut self,
-        node: Node<'a, R, G, A, B, C, D, W>,
-    ) -> Result<Line, LinkEnd>
+    fn next_line<G, L, W>(&mut self, node: Node<'a, R, G, L, W>) -> Result<Line, LinkEnd>
     where
         R: Wait,
         G: Gate,
-        A: Lane,
-        B: Lane,
-        C: Lane,
-        D: Lane,
+        L: Lanes,
         W: Wakes,
         requires { node.links.now.shards ≡ node.pool.now.shards }
     {
@@ -419,18 +391,11 @@ impl<'a, R: Clock> Incoming<'a, R> {
     }
 
     // What a line asks for is done, and what is odd about that told.
-    fn answers<G, A, B, C, D, W>(
-        &mut self,
-        node: Node<'a, R, G, A, B, C, D, W>,
-        line: Line,
-    ) -> Result<(), LinkEnd>
+    fn answers<G, L, W>(&mut self, node: Node<'a, R, G, L, W>, line: Line) -> Result<(), LinkEnd>
     where
         R: Wait + Eprint,
         G: Gate,
-        A: Lane,
-        B: Lane,
-        C: Lane,
-        D: Lane,
+        L: Lanes,
         W: Wakes,
         requires { node.links.now.shards ≡ node.pool.now.shards }
     {
@@ -453,17 +418,11 @@ impl<'a, R: Clock> Incoming<'a, R> {
     }
 
     // One exchange, unless the links began anew since this one was begun. Its line is heard, by its shard where it is a beat.
-    fn exchange<G, A, B, C, D, W>(
-        &mut self,
-        node: Node<'a, R, G, A, B, C, D, W>,
-    ) -> Result<(), LinkEnd>
+    fn exchange<G, L, W>(&mut self, node: Node<'a, R, G, L, W>) -> Result<(), LinkEnd>
     where
         R: Wait + Eprint,
         G: Gate,
-        A: Lane,
-        B: Lane,
-        C: Lane,
-        D: Lane,
+        L: Lanes,
         W: Wakes,
         requires { node.links.now.shards ≡ node.pool.now.shards }
     {
@@ -503,17 +462,14 @@ impl<R: Wait + Clock + Eprint> Incoming<'_, R> {
 }
 
 // The link of this socket, unless there is no memory or the system refuses it.
-fn incoming_of<'a, R, G, A, B, C, D, W>(
-    node: Node<'a, R, G, A, B, C, D, W>,
+fn incoming_of<'a, R, G, L, W>(
+    node: Node<'a, R, G, L, W>,
     socket: TcpStream,
 ) -> Option<Incoming<'a, R>>
 where
     R: Wait + Clock + Eprint,
     G: Gate,
-    A: Lane,
-    B: Lane,
-    C: Lane,
-    D: Lane,
+    L: Lanes,
     W: Wakes,
     requires { node.links.now.shards ≡ node.pool.now.shards }
 {
@@ -545,17 +501,11 @@ where
 }
 
 // Serves one link until it ends: why it did.
-fn serve_one<'a, R, G, A, B, C, D, W>(
-    node: Node<'a, R, G, A, B, C, D, W>,
-    incoming: &mut Incoming<'a, R>,
-) -> LinkEnd
+fn serve_one<'a, R, G, L, W>(node: Node<'a, R, G, L, W>, incoming: &mut Incoming<'a, R>) -> LinkEnd
 where
     R: Wait + Clock + Eprint,
     G: Gate,
-    A: Lane,
-    B: Lane,
-    C: Lane,
-    D: Lane,
+    L: Lanes,
     W: Wakes,
     requires { node.links.now.shards ≡ node.pool.now.shards }
 {
@@ -571,19 +521,11 @@ where
 }
 
 /// Serves links that came in, one after another, until the links are to end.
-pub(crate) fn serve_links<R, G, A, B, C, D, W>(
-    rt: &R,
-    links: &Links,
-    pool: &Pool<G, A, B, C, D>,
-    wakes: &W,
-)
+pub(crate) fn serve_links<R, G, L, W>(rt: &R, links: &Links, pool: &Pool<G, L>, wakes: &W)
 where
     R: Wait + Clock + Eprint,
     G: Gate,
-    A: Lane,
-    B: Lane,
-    C: Lane,
-    D: Lane,
+    L: Lanes,
     W: Wakes,
     requires { links.now.shards ≡ pool.now.shards }
 {

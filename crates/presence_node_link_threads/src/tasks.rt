@@ -9,12 +9,13 @@ use crate::dialling::{Dialler, dial_one};
 use crate::incoming::{LISTENER, LinkDoor, Waiting};
 use crate::links::{Links, Wakes};
 use crate::reading::{Readers, read_long};
+use crate::runtime::LinkRuntime;
 use crate::serving::serve_links;
 use crate::tallies::Tallies;
 use crate::ticking::tick;
 use node_links::form_told;
 use presence_base::{NodeName, Replica};
-use presence_node_link_ports::{Gate, Lane, Pool};
+use presence_node_link_ports::{Gate, Lanes, Pool};
 use presence_node_link_streams::{Clerk, Stopping};
 use presence_node_link_words::{Life, MAX_LINKS};
 use presence_node_log::LogFormat;
@@ -53,20 +54,11 @@ impl Drop for LinkTask {
 
 impl LinkTask {
     /// Does the task until the links are to end.
-    pub fn run<R, G, A, B, C, D, W>(
-        self,
-        rt: &R,
-        links: &Links,
-        pool: &Pool<G, A, B, C, D>,
-        wakes: &W,
-    )
+    pub fn run<R, G, L, W>(self, rt: &R, links: &Links, pool: &Pool<G, L>, wakes: &W)
     where
-        R: Net<Listener = TcpListener, Stream = TcpStream> + Wait + Clock + Print + Eprint,
+        R: LinkRuntime,
         G: Gate,
-        A: Lane,
-        B: Lane,
-        C: Lane,
-        D: Lane,
+        L: Lanes,
         W: Wakes,
         requires { links.now.shards ≡ pool.now.shards }
     {

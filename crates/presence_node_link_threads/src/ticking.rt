@@ -3,7 +3,7 @@ ghost use Rattle.std.specs.Prelude.{◌≡◌};
 
 use crate::links::{Links, Wakes};
 use crate::lives::pass_period;
-use presence_node_link_ports::{Gate, Lane, Pool};
+use presence_node_link_ports::{Gate, Lanes, Pool};
 use presence_node_link_streams::Ticker;
 use std::sync::Wait;
 use std::time::Clock;
@@ -12,19 +12,11 @@ use std::time::Clock;
 pub(crate) const PERIOD_MILLISECONDS: u64 = 1_500;
 
 /// Lets time pass at each shard, and posts what each did, once a period, until the links are to end.
-pub(crate) fn tick<R, G, A, B, C, D, W>(
-    rt: &R,
-    links: &Links,
-    pool: &Pool<G, A, B, C, D>,
-    wakes: &W,
-)
+pub(crate) fn tick<R, G, L, W>(rt: &R, links: &Links, pool: &Pool<G, L>, wakes: &W)
 where
     R: Wait + Clock,
     G: Gate,
-    A: Lane,
-    B: Lane,
-    C: Lane,
-    D: Lane,
+    L: Lanes,
     W: Wakes,
     requires { links.now.shards ≡ pool.now.shards }
 {

@@ -1,13 +1,7 @@
--- The ledgers of a pool that none has opened.
+-- What the lanes of a server's pool are.
 use Rattle.std.specs.Prelude.{◌≡◌, ℕ, List}
 use Rattle.presence_journal.specs.History.{History, begun}
-use Rattle.presence_node_main.specs.declared.serving.running.Blanks.{Blanks}
-
--- each has so many parts
-abbrev pub HaveParts : Blanks → ℕ → Type 0
-HaveParts blanks parts =
-    (blanks.first.parts ≡ parts) × (blanks.second.parts ≡ parts)
-    × (blanks.third.parts ≡ parts) × (blanks.fourth.parts ≡ parts)
+use Rattle.shard_pool.specs.Lanes.{AllBegin}
 
 -- the name is that of each of the nodes
 abbrev pub IsNameOfAll : (name first second third fourth : List ℕ) → Type 0
@@ -16,5 +10,4 @@ IsNameOfAll name first second third fourth = (name ≡ first) × (name ≡ secon
 -- each shard may begin as a new one of the replica does
 abbrev pub AreBegun : (First Second Third Fourth : History → Type 0) → List ℕ → ℕ → Type 0
 AreBegun First Second Third Fourth name incarnation =
-    let own = begun (record { name = name; incarnation = incarnation }) in
-    First own × Second own × Third own × Fourth own
+    AllBegin First Second Third Fourth (begun (record { name = name; incarnation = incarnation }))

@@ -7,6 +7,7 @@ use crate::error_stream::ErrorStream;
 use crate::serving::serve;
 use crate::words::{texts_of, words_of};
 use hook_registry::{NoHooks, PresenceHooks};
+use presence_node_duties::ServeRuntime;
 use presence_node_ends::serve_status_of;
 use presence_node_fold::{fold_status_of, run_fold};
 use presence_node_notices::ReferenceNotices;
@@ -17,11 +18,6 @@ use presence_node_stdio::{Outlets, run_stdio, status_of};
 use std::env::Env;
 use std::io;
 use std::io::BufReader;
-use std::net::{Net, TcpListener, TcpStream};
-use std::rt::Files;
-use std::sync::Wait;
-use std::thread::Threads;
-use std::time::Clock;
 
 // Runs one session over the standard streams, with notices on standard error. Each reply goes out
 // before the next line is read, so nothing is buffered behind the session.
@@ -58,16 +54,7 @@ fn fold_stdin<R: Input + Print + AllocGlobal>(rt: &R, options: FoldOptions) -> i
 // Serves clients.
 fn serve_clients<R, H>(rt: &R, hooks: &H, options: &ServeOptions) -> io::Result<Ending>
 where
-    R: Net<Listener = TcpListener, Stream = TcpStream>
-        + Threads
-        + Wait
-        + Clock
-        + Input
-        + Print
-        + Eprint
-        + Files<File: Send + Sync, Dir: Send + Sync>
-        + AllocGlobal
-        + Sync,
+    R: ServeRuntime + AllocGlobal,
     H: PresenceHooks + Sync,
 {
     let alloc = rt.alloc();
@@ -90,17 +77,7 @@ fn asked<R: Env + AllocGlobal>(rt: &R) -> io::Result<Result<Options, UsageFault>
 // with those if they are asked for.
 fn run<R, H>(rt: &R, hooks: &H, has_notices: bool) -> io::Result<Ending>
 where
-    R: Net<Listener = TcpListener, Stream = TcpStream>
-        + Threads
-        + Wait
-        + Clock
-        + Env
-        + Input
-        + Print
-        + Eprint
-        + Files<File: Send + Sync, Dir: Send + Sync>
-        + AllocGlobal
-        + Sync,
+    R: ServeRuntime + Env + AllocGlobal,
     H: PresenceHooks + Sync,
 {
     match asked(rt)? {
@@ -159,17 +136,7 @@ fn finish<R: Print + Eprint>(rt: &R, ended: io::Result<Ending>) -> u8 {
 /// Runs the program over its words and the standard streams, and gives the status to end with.
 pub fn run_program<R>(rt: &R) -> u8
 where
-    R: Net<Listener = TcpListener, Stream = TcpStream>
-        + Threads
-        + Wait
-        + Clock
-        + Env
-        + Input
-        + Print
-        + Eprint
-        + Files<File: Send + Sync, Dir: Send + Sync>
-        + AllocGlobal
-        + Sync,
+    R: ServeRuntime + Env + AllocGlobal,
 {
     finish(rt, run(rt, &NoHooks, true))
 }
@@ -178,17 +145,7 @@ where
 /// with. `stdio` and `serve` run as by `run_with` and `serve_with`.
 pub fn run_program_with<R, H>(rt: &R, hooks: &H) -> u8
 where
-    R: Net<Listener = TcpListener, Stream = TcpStream>
-        + Threads
-        + Wait
-        + Clock
-        + Env
-        + Input
-        + Print
-        + Eprint
-        + Files<File: Send + Sync, Dir: Send + Sync>
-        + AllocGlobal
-        + Sync,
+    R: ServeRuntime + Env + AllocGlobal,
     H: PresenceHooks + Sync,
 {
     finish(rt, run(rt, hooks, false))
@@ -210,16 +167,7 @@ pub fn run_with<R: Input + Print + Eprint + AllocGlobal, H: PresenceHooks>(
 /// nowhere, since each client that is told of a row has one of its own.
 pub fn serve_with<R, H>(rt: &R, hooks: &H, options: &ServeOptions) -> u8
 where
-    R: Net<Listener = TcpListener, Stream = TcpStream>
-        + Threads
-        + Wait
-        + Clock
-        + Input
-        + Print
-        + Eprint
-        + Files<File: Send + Sync, Dir: Send + Sync>
-        + AllocGlobal
-        + Sync,
+    R: ServeRuntime + AllocGlobal,
     H: PresenceHooks + Sync,
 {
     finish(rt, serve_clients(rt, hooks, options))

@@ -1,15 +1,20 @@
 -- A call of the pool, as the port tells its answer.
-use Rattle.std.proofs.Common.{◌≡◌, ℕ, Bool, true, false, cond, List, Vec, Global, refl, sym, ap, subst, ◌∙◌}
+use Rattle.std.proofs.Common.{◌≡◌, ℕ, Bool, true, false, cond, List, Option, refl, sym, ap, subst, ◌∙◌}
 use Rattle.std.proofs.lemmas.Bool.{false≢true}
 use Rattle.std.specs.Prelude.{◌==◌, Result, Ok, Err}
 use Rattle.presence_journal_data.specs.declared.step.Step.{Step}
 use Rattle.presence_journal.specs.History.{History}
+use Rattle.channel_session_rules.specs.Steps.{refusal}
 use Rattle.channel_session_rules.specs.ShardFault.{ShardFault}
 use Rattle.channel_session_rules.specs.ShardFault.TheVariants.{AlreadyTracked, NoPresence, ClockFull, JournalFull, NoSub, BadIncarnation, OutOfMemory}
-use Rattle.shard_pool.specs.Reply.{Reply}
-use Rattle.shard_pool.specs.Seats.{Hands, CalledAt, hand_at, shard_of, with_hand}
+use Rattle.channel_session_rules.specs.Asks.{Ask, Given}
 use Rattle.channel_session_rules.specs.Seen.{seen_by}
-use Rattle.presence_node_ports.specs.Asking.{Asked, value_of, lacks_room}
+use Rattle.channel_session_rules.specs.Shards.{there_of, topic_asked, gives_of, IsStepOf}
+use Rattle.channel_session_rules.specs.declared.refusal.Refusal.{Refusal}
+use Rattle.shard_pool.specs.Reply.{Reply}
+use Rattle.shard_pool.specs.Seated.{IsDueOnceNoted}
+use Rattle.shard_pool.specs.Seats.{Hands, CalledAt, hand_at, shard_of, with_hand}
+use Rattle.presence_node_ports.specs.Asking.{Asked, AskedOr, PoolStep, value_of, lacks_room}
 
 -- a reply, its value seen otherwise
 abbrev seen : {A B : Type 0} → (A → B) → Result (Reply A) ShardFault → Result (Reply B) ShardFault
@@ -20,37 +25,42 @@ seen_value : {A B : Type 0} (f : A → B) (r : Result (Reply A) ShardFault) → 
 seen_value f (Ok r) = refl
 seen_value f (Err e) = refl
 
-seen_call : {A B : Type 0} (f : A → B) (here : ℕ → History → Type 0) (there : History → Bool) (old new : Hands) (s : ℕ) (step : Step) (GA : History → A → Type 0) (GB : History → B → Type 0) → ((h : History) (x : A) → GA h x → GB h (f x))
-    → (r : Result (Reply A) ShardFault) → CalledAt here there old new s step GA r → CalledAt here there old new s step GB (seen f r)
-seen_call f here there old new s step GA GB kept (Ok r) c =
-    let h = c.call.history in
-    record {
-      others = c.others;
-      shard = c.shard;
-      call = record { history = h; left = c.call.left; legal = c.call.legal; here = c.call.here; made = c.call.made; notes = c.call.notes; due = c.call.due; answer = (c.call.answer.0, c.call.answer.1, kept h r.value c.call.answer.2) };
-    }
-seen_call f here there old new s step GA GB kept (Err AlreadyTracked) c = record { others = c.others; shard = c.shard; call = record { history = c.call.history; left = c.call.left; legal = c.call.legal; here = c.call.here; made = c.call.made; notes = c.call.notes; answer = c.call.answer; due = c.call.due } }
-seen_call f here there old new s step GA GB kept (Err NoPresence) c = record { others = c.others; shard = c.shard; call = record { history = c.call.history; left = c.call.left; legal = c.call.legal; here = c.call.here; made = c.call.made; notes = c.call.notes; answer = c.call.answer; due = c.call.due } }
-seen_call f here there old new s step GA GB kept (Err ClockFull) c = record { others = c.others; shard = c.shard; call = record { history = c.call.history; left = c.call.left; legal = c.call.legal; here = c.call.here; made = c.call.made; notes = c.call.notes; answer = c.call.answer; due = c.call.due } }
-seen_call f here there old new s step GA GB kept (Err JournalFull) c = record { others = c.others; shard = c.shard; call = record { history = c.call.history; left = c.call.left; legal = c.call.legal; here = c.call.here; made = c.call.made; notes = c.call.notes; answer = c.call.answer; due = c.call.due } }
-seen_call f here there old new s step GA GB kept (Err NoSub) c = record { others = c.others; shard = c.shard; call = record { history = c.call.history; left = c.call.left; legal = c.call.legal; here = c.call.here; made = c.call.made; notes = c.call.notes; answer = c.call.answer; due = c.call.due } }
-seen_call f here there old new s step GA GB kept (Err BadIncarnation) c = record { others = c.others; shard = c.shard; call = record { history = c.call.history; left = c.call.left; legal = c.call.legal; here = c.call.here; made = c.call.made; notes = c.call.notes; answer = c.call.answer; due = c.call.due } }
-seen_call f here there old new s step GA GB kept (Err OutOfMemory) c = record { others = c.others; shard = c.shard; call = record { history = c.call.history; left = c.call.left; legal = c.call.legal; here = c.call.here; made = c.call.made; notes = c.call.notes; answer = c.call.answer; due = c.call.due } }
+module _ {A B : Type 0} (f : A → B) (here : ℕ → History → Type 0) (there found : History → Bool) (same : (h : History) → there h ≡ found h) (old new : Hands) (s : ℕ) (step : Step)
+    (GA : History → A → Type 0) (GB : History → B → Type 0) (kept : (h : History) (x : A) → GA h x → GB h (f x)) where
+  due : {C : Type 0} (r : Result (Reply C) ShardFault) (h : History) → IsDueOnceNoted r (refusal (there h) h step) → IsDueOnceNoted r (refusal (found h) h step)
+  due r h d = subst (λ (b : Bool). IsDueOnceNoted r (refusal b h step)) (same h) d
 
-module _ (here : ℕ → History → Type 0) (there : History → Bool) (n : ℕ) (old new : Hands) (t : List ℕ) (step : Step) where
-  -- a call whose value is a list
-  pub asked_items : {X : Type 0} (items : History → List X) (r : Result (Reply (Vec X Global)) ShardFault) → CalledAt here there old new (shard_of t n) step (λ h v. v.items ≡ items h) r
-      → Asked here there n old new t step (λ h l. l ≡ items h) (seen_by (λ v. v.items) (value_of r))
-  asked_items {X} items r c =
-      let f : Vec X Global → List X = λ v. v.items in
-      record { reply = seen f r; called = seen_call f here there old new (shard_of t n) step (λ h v. v.items ≡ items h) (λ h l. l ≡ items h) (λ h v e. e) r c; told = seen_value f r }
+  seen_call : (r : Result (Reply A) ShardFault) → CalledAt here there old new s step GA r → CalledAt here found old new s step GB (seen f r)
+  seen_call (Ok r) c =
+      let h = c.call.history in
+      record {
+        others = c.others;
+        shard = c.shard;
+        call = record {
+          history = h; left = c.call.left; legal = c.call.legal; here = c.call.here; made = c.call.made; notes = c.call.notes;
+          due = due (Ok (record { shard = r.shard; number = r.number; value = f r.value })) h c.call.due;
+          answer = (c.call.answer.0, c.call.answer.1, kept h r.value c.call.answer.2);
+        };
+      }
+  seen_call (Err AlreadyTracked) c = record { others = c.others; shard = c.shard; call = record { history = c.call.history; left = c.call.left; legal = c.call.legal; here = c.call.here; made = c.call.made; notes = c.call.notes; answer = c.call.answer; due = due {C = B} (Err AlreadyTracked) c.call.history c.call.due } }
+  seen_call (Err NoPresence) c = record { others = c.others; shard = c.shard; call = record { history = c.call.history; left = c.call.left; legal = c.call.legal; here = c.call.here; made = c.call.made; notes = c.call.notes; answer = c.call.answer; due = due {C = B} (Err NoPresence) c.call.history c.call.due } }
+  seen_call (Err ClockFull) c = record { others = c.others; shard = c.shard; call = record { history = c.call.history; left = c.call.left; legal = c.call.legal; here = c.call.here; made = c.call.made; notes = c.call.notes; answer = c.call.answer; due = due {C = B} (Err ClockFull) c.call.history c.call.due } }
+  seen_call (Err JournalFull) c = record { others = c.others; shard = c.shard; call = record { history = c.call.history; left = c.call.left; legal = c.call.legal; here = c.call.here; made = c.call.made; notes = c.call.notes; answer = c.call.answer; due = due {C = B} (Err JournalFull) c.call.history c.call.due } }
+  seen_call (Err NoSub) c = record { others = c.others; shard = c.shard; call = record { history = c.call.history; left = c.call.left; legal = c.call.legal; here = c.call.here; made = c.call.made; notes = c.call.notes; answer = c.call.answer; due = due {C = B} (Err NoSub) c.call.history c.call.due } }
+  seen_call (Err BadIncarnation) c = record { others = c.others; shard = c.shard; call = record { history = c.call.history; left = c.call.left; legal = c.call.legal; here = c.call.here; made = c.call.made; notes = c.call.notes; answer = c.call.answer; due = due {C = B} (Err BadIncarnation) c.call.history c.call.due } }
+  seen_call (Err OutOfMemory) c = record { others = c.others; shard = c.shard; call = record { history = c.call.history; left = c.call.left; legal = c.call.legal; here = c.call.here; made = c.call.made; notes = c.call.notes; answer = c.call.answer; due = due {C = B} (Err OutOfMemory) c.call.history c.call.due } }
 
-  -- a call of whose value the port tells nothing
-  pub asked_done : {A : Type 0} (Gives : History → A → Type 0) (r : Result (Reply A) ShardFault) → CalledAt here there old new (shard_of t n) step Gives r
-      → Asked here there n old new t step (λ h _. Unit {0}) (seen_by (λ _. tt {0}) (value_of r))
-  asked_done {A} Gives r c =
-      let f : A → Unit {0} = λ _. tt {0} in
-      record { reply = seen f r; called = seen_call f here there old new (shard_of t n) step Gives (λ h _. Unit {0}) (λ h v e. tt {0}) r c; told = seen_value f r }
+-- what the pool's call gave, as the question is given it
+module _ {A : Type 0} (here : ℕ → History → Type 0) (n pid : ℕ) (q : Ask) (view : A → Given q) (step : Step) (there : History → Bool) (Gives : History → A → Type 0) (is : IsStepOf pid q view step there Gives) where
+  pub asked_so : (t : List ℕ) → t ≡ topic_asked q → (old new : Hands) (a : Result A Refusal) → Asked here there n old new t step Gives a → PoolStep here n pid old q (seen_by view a) new
+  asked_so t named old new a h =
+      subst (λ (o : Option Step). AskedOr here (there_of q) n old new (topic_asked q) o (gives_of pid q) (seen_by view a)) (sym is.is)
+      (record {
+        reply = seen view h.reply;
+        called = subst (λ (u : List ℕ). CalledAt here (there_of q) old new (shard_of u n) step (gives_of pid q) (seen view h.reply)) named
+            (seen_call view here there (there_of q) is.found old new (shard_of t n) step Gives (gives_of pid q) is.given h.reply h.called);
+        told = ap (seen_by view) h.told ∙ seen_value view h.reply;
+      })
 
 -- a call that found the journal full, or no memory, left the seat as it was
 
@@ -84,18 +94,11 @@ called_anew here there old mid left new s step Gives r again full first same sec
     subst (λ (h : Hands). CalledAt here there h new s step Gives again) (same ∙ lack_keeps here there old mid s step Gives r full first) second
 
 module _ (here : ℕ → History → Type 0) (there : History → Bool) (n : ℕ) (old : Hands) (t : List ℕ) (step : Step) where
-  -- the same where something is left between a call and its end
-  pub first_items : {X : Type 0} (items : History → List X) (mid left : Hands) (r : Result (Reply (Vec X Global)) ShardFault) (a : Result (Vec X Global) ShardFault) → left ≡ mid → a ≡ value_of r
-      → CalledAt here there old mid (shard_of t n) step (λ h v. v.items ≡ items h) r → Asked here there n old left t step (λ h l. l ≡ items h) (seen_by (λ v. v.items) a)
-  first_items {X} items mid left r a same is c =
-      subst (λ (x : Hands). Asked here there n old x t step (λ h l. l ≡ items h) (seen_by (λ (v : Vec X Global). v.items) a)) (sym same)
-      (subst (λ (y : Result (Vec X Global) ShardFault). Asked here there n old mid t step (λ h l. l ≡ items h) (seen_by (λ (v : Vec X Global). v.items) y)) (sym is) (asked_items here there n old mid t step items r c))
-
-  pub first_done : {A : Type 0} (Gives : History → A → Type 0) (mid left : Hands) (r : Result (Reply A) ShardFault) (a : Result (Unit {0}) ShardFault) → left ≡ mid → a ≡ seen_by (λ _. tt {0}) (value_of r)
-      → CalledAt here there old mid (shard_of t n) step Gives r → Asked here there n old left t step (λ h _. Unit {0}) a
-  first_done Gives mid left r a same is c =
-      subst (λ (x : Hands). Asked here there n old x t step (λ h _. Unit {0}) a) (sym same)
-      (subst (λ (y : Result (Unit {0}) ShardFault). Asked here there n old mid t step (λ h _. Unit {0}) y) (sym is) (asked_done here there n old mid t step Gives r c))
+  -- a call, and what is left behind it
+  pub first_value : {A : Type 0} (Gives : History → A → Type 0) (mid left : Hands) (r : Result (Reply A) ShardFault) (a : Result A Refusal) → left ≡ mid → a ≡ value_of r
+      → CalledAt here there old mid (shard_of t n) step Gives r → Asked here there n old left t step Gives a
+  first_value {A} Gives mid left r a same is c =
+      subst (λ (x : Hands). Asked here there n old x t step Gives a) (sym same) (record { reply = r; called = c; told = is })
 
   -- a call that is made anew, of the same pool
   anew : {A : Type 0} (Gives : History → A → Type 0) (mid left new : Hands) (name : ℕ → History → Type 0) (shards : ℕ) (r again : Result (Reply A) ShardFault) → left ≡ mid → name ≡ here → shards ≡ n → lacks_room r ≡ true
@@ -105,21 +108,7 @@ module _ (here : ℕ → History → Type 0) (there : History → Bool) (n : ℕ
       (subst (λ (x : ℕ → History → Type 0). CalledAt x there left new (shard_of t n) step Gives again) named
       (subst (λ (x : ℕ). CalledAt name there left new (shard_of t x) step Gives again) many second))
 
-  pub again_items : {X : Type 0} (items : History → List X) (mid left new : Hands) (name : ℕ → History → Type 0) (shards : ℕ) (r again : Result (Reply (Vec X Global)) ShardFault) (a : Result (Vec X Global) ShardFault)
-      → left ≡ mid → name ≡ here → shards ≡ n → lacks_room r ≡ true → a ≡ value_of again
-      → CalledAt here there old mid (shard_of t n) step (λ h v. v.items ≡ items h) r → CalledAt name there left new (shard_of t shards) step (λ h v. v.items ≡ items h) again
-      → Asked here there n old new t step (λ h l. l ≡ items h) (seen_by (λ v. v.items) a)
-  again_items items mid left new name shards r again a same named many full is first second =
-      first_items items new new again a refl is (anew (λ h v. v.items ≡ items h) mid left new name shards r again same named many full first second)
-
-  pub again_done : {A : Type 0} (Gives : History → A → Type 0) (mid left new : Hands) (name : ℕ → History → Type 0) (shards : ℕ) (r again : Result (Reply A) ShardFault) (a : Result (Unit {0}) ShardFault)
-      → left ≡ mid → name ≡ here → shards ≡ n → lacks_room r ≡ true → a ≡ seen_by (λ _. tt {0}) (value_of again)
-      → CalledAt here there old mid (shard_of t n) step Gives r → CalledAt name there left new (shard_of t shards) step Gives again
-      → Asked here there n old new t step (λ h _. Unit {0}) a
-  again_done Gives mid left new name shards r again a same named many full is first second =
-      first_done Gives new new again a refl is (anew Gives mid left new name shards r again same named many full first second)
-
-  pub again_value : {A : Type 0} (Gives : History → A → Type 0) (mid left new : Hands) (name : ℕ → History → Type 0) (shards : ℕ) (r again : Result (Reply A) ShardFault) (a : Result A ShardFault)
+  pub again_value : {A : Type 0} (Gives : History → A → Type 0) (mid left new : Hands) (name : ℕ → History → Type 0) (shards : ℕ) (r again : Result (Reply A) ShardFault) (a : Result A Refusal)
       → left ≡ mid → name ≡ here → shards ≡ n → lacks_room r ≡ true → a ≡ value_of again
       → CalledAt here there old mid (shard_of t n) step Gives r → CalledAt name there left new (shard_of t shards) step Gives again
       → Asked here there n old new t step Gives a

@@ -1,14 +1,14 @@
 //! The pool as the port of a session, through a seat.
 ghost use Rattle.std.specs.Prelude.{◌≡◌, true, is_some};
-ghost use Rattle.channel_session_rules.specs.Seen.{seen_by};
-ghost use Rattle.presence_node_ports.specs.Asking.{lacks_room, value_of};
+ghost use Rattle.shard_pool.specs.Seats.{IsOfShardAt};
+ghost use Rattle.presence_node_ports.specs.Asking.{Asked, Keeps, lacks_room, value_of};
 
-use channel_session_rules::{Port, ShardFault, Sub};
-use presence_base::{Dot, Json, Key, Meta, Row, Topic};
-use presence_journal::{Item, SharedRows};
-use shard_pool::{Gate, Lane, Pool, PoolFault, Reply, Seat};
+use channel_session_rules::{AtShard, Call, Port, Refusal, Told, told_to};
+use presence_base::Topic;
+use shard_pool::{Gate, Lanes, Pool, PoolFault, Reply, Seat};
 use std::alloc::Global;
 use std::sync::Wait;
+use tracker_shard::Call as ShardCall;
 
 /// Where memory is wanting a checkpoint is tried of a journal with so many entries, which it gives back.
 const MIN_ENTRIES: u64 = 64;
@@ -17,30 +17,17 @@ const MIN_ENTRIES: u64 = 64;
 /// A call waits for the lock of its topic's shard. One that finds the shard's journal full makes room there by a
 /// checkpoint, if another one hasn't yet, and is tried once more. So does one that finds no memory, once a port.
 #[derive(Drop)]
-pub struct PoolPort<'a, R: Wait, G: Gate, A: Lane, B: Lane, C: Lane, D: Lane> {
+pub struct PoolPort<'a, R: Wait, G: Gate, L: Lanes> {
     rt: &'a R,
-    pool: &'a Pool<G, A, B, C, D>,
-    seat: &'a mut Seat<A, B, C, D>,
+    pool: &'a Pool<G, L>,
+    seat: &'a mut Seat<L>,
     has_made_room: bool,
     /// Whether a call found no memory, so that its shard was to give some back.
     has_lacked: bool,
 }
 
-// What is told of a call of the pool. One that finds the journal of its topic's shard full, or no memory, is made once more
-// where a checkpoint makes room.
-macro_rules! tried {
-    ($port:ident, $alloc:ident, $topic:ident, $tell:ident, $call:expr) => {{
-        let reply = $call;
-        if !$port.makes_room($alloc, $topic, &reply) {
-            return $tell(reply);
-        }
-        let again = $call;
-        $tell(again)
-    }};
-}
-
 // The value of a reply, without the shard and the number of its entry.
-fn value<T: Drop>(reply: Result<Reply<T>, PoolFault>) -> Result<T, ShardFault>
+fn value<T: Drop>(reply: Result<Reply<T>, PoolFault>) -> Result<T, Refusal>
     ensures { result ≡ value_of reply }
 {
     match reply {
@@ -51,7 +38,7 @@ fn value<T: Drop>(reply: Result<Reply<T>, PoolFault>) -> Result<T, ShardFault>
                 value,
             },
         ) => Ok(value),
-        Err(fault) => Err(fault),
+        Err(fault) => Err(Refusal::Table(fault)),
     }
 }
 
@@ -74,25 +61,11 @@ fn lack_of<T>(reply: &Result<Reply<T>, PoolFault>) -> Option<Lack>
     }
 }
 
-// Whether the call was accepted, for a call of whose value a session asks nothing.
-fn accepted<T: Drop>(reply: Result<Reply<T>, PoolFault>) -> Result<(), ShardFault>
-    ensures { result ≡ seen_by (λ _. tt) (value_of reply) }
-{
-    match reply {
-        Ok(_) => Ok(()),
-        Err(fault) => Err(fault),
-    }
-}
-
-impl<'a, R: Wait, G: Gate, A: Lane, B: Lane, C: Lane, D: Lane> PoolPort<'a, R, G, A, B, C, D> {
+impl<'a, R: Wait, G: Gate, L: Lanes> PoolPort<'a, R, G, L> {
     ghost use Rattle.std.specs.Prelude.{◌≡◌, ◌<◌, ◌||◌, false};
 
     /// The port of a seat of this pool.
-    pub fn new(
-        rt: &'a R,
-        pool: &'a Pool<G, A, B, C, D>,
-        seat: &'a mut Seat<A, B, C, D>,
-    ) -> PoolPort<'a, R, G, A, B, C, D>
+    pub fn new(rt: &'a R, pool: &'a Pool<G, L>, seat: &'a mut Seat<L>) -> PoolPort<'a, R, G, L>
         ensures same_reference { result.seat.ghost_name ≡ seat.entry.ghost_name }
         ensures pool { result.pool.now ≡ pool.now }
         ensures seat { result.seat.now ≡ seat.old }
@@ -151,154 +124,44 @@ impl<'a, R: Wait, G: Gate, A: Lane, B: Lane, C: Lane, D: Lane> PoolPort<'a, R, G
         self.has_made_room = self.has_made_room || has_room;
         has_room
     }
+
+    // Makes a call of the topic's shard. One that finds its journal full, or no memory, is made once more where a checkpoint
+    // makes room.
+    fn make<S: ShardCall>(
+        &mut self,
+        alloc: Global,
+        topic: &Topic,
+        call: &S,
+    ) -> Result<S::Answer, Refusal>
+        ensures kept { Keeps self.old.pool self.new.pool self.old.seat.ghost_name self.new.seat.ghost_name }
+        ensures asked { Asked (IsOfShardAt self.old.pool.now.own.name L.begins) (S.there call.now)
+            self.old.pool.now.shards self.old.seat.now self.new.seat.now topic.now (S.step call.now) (S.gives call.now)
+            result }
+    {
+        let reply = self.pool.call(self.rt, alloc, &mut *self.seat, topic, call);
+        if !self.makes_room(alloc, topic, &reply) {
+            return value(reply);
+        }
+        let again = self.pool.call(self.rt, alloc, &mut *self.seat, topic, call);
+        value(again)
+    }
 }
 
-impl<'a, R: Wait, G: Gate, A: Lane, B: Lane, C: Lane, D: Lane> Port
-    for PoolPort<'a, R, G, A, B, C, D> {
-    ghost use Rattle.shard_pool.specs.Seats.{IsOfShardAt};
-    ghost use Rattle.presence_node_ports.specs.Asking.{PoolStep, Keeps};
+impl<'a, R: Wait, G: Gate, L: Lanes> Port for PoolPort<'a, R, G, L> {
+    ghost use Rattle.presence_node_ports.specs.Asking.{PoolStep};
 
-    ghost step = { λ old q a new. Keeps old.pool new.pool old.seat.ghost_name new.seat.ghost_name × PoolStep (IsOfShardAt old.pool.now.own.name A.begins B.begins C.begins D.begins) old.pool.now.shards old.seat.now q a new.seat.now };
+    ghost step = { λ pid old q a new. Keeps old.pool new.pool old.seat.ghost_name new.seat.ghost_name × PoolStep (IsOfShardAt old.pool.now.own.name L.begins) old.pool.now.shards pid old.seat.now q a new.seat.now };
 
-    fn track(
-        &mut self,
-        alloc: Global,
-        pid: u64,
-        topic: &Topic,
-        key: &Key,
-        meta: &Meta,
-    ) -> Result<Dot, ShardFault> {
-        tried!(
-            self,
-            alloc,
-            topic,
-            value,
-            self.pool
-                .track(self.rt, alloc, &mut *self.seat, pid, topic, key, meta)
-        )
-    }
-
-    fn update(
-        &mut self,
-        alloc: Global,
-        pid: u64,
-        topic: &Topic,
-        key: &Key,
-        meta: &Meta,
-    ) -> Result<Dot, ShardFault> {
-        tried!(
-            self,
-            alloc,
-            topic,
-            value,
-            self.pool
-                .update(self.rt, alloc, &mut *self.seat, pid, topic, key, meta)
-        )
-    }
-
-    fn untrack(
-        &mut self,
-        alloc: Global,
-        pid: u64,
-        topic: &Topic,
-        key: &Key,
-    ) -> Result<(), ShardFault> {
-        tried!(
-            self,
-            alloc,
-            topic,
-            accepted,
-            self.pool
-                .untrack(self.rt, alloc, &mut *self.seat, pid, topic, key)
-        )
-    }
-
-    fn untrack_all(&mut self, alloc: Global, pid: u64, topic: &Topic) -> Result<(), ShardFault> {
-        tried!(
-            self,
-            alloc,
-            topic,
-            accepted,
-            self.pool
-                .untrack_all(self.rt, alloc, &mut *self.seat, pid, topic)
-        )
-    }
-
-    fn list(&mut self, alloc: Global, topic: &Topic) -> Result<SharedRows, ShardFault> {
-        tried!(
-            self,
-            alloc,
-            topic,
-            value,
-            self.pool.list(self.rt, alloc, &mut *self.seat, topic)
-        )
-    }
-
-    fn get(
-        &mut self,
-        alloc: Global,
-        topic: &Topic,
-        key: &Key,
-    ) -> Result<Vec<(Dot, Row)>, ShardFault> {
-        tried!(
-            self,
-            alloc,
-            topic,
-            value,
-            self.pool.get(self.rt, alloc, &mut *self.seat, topic, key)
-        )
-    }
-
-    fn subscribe(&mut self, alloc: Global, topic: &Topic) -> Result<Sub, ShardFault> {
-        tried!(
-            self,
-            alloc,
-            topic,
-            value,
-            self.pool.subscribe(self.rt, alloc, &mut *self.seat, topic)
-        )
-    }
-
-    fn take(
-        &mut self,
-        alloc: Global,
-        topic: &Topic,
-        sub: &Sub,
-        max: u32,
-    ) -> Result<Vec<Item>, ShardFault> {
-        tried!(
-            self,
-            alloc,
-            topic,
-            value,
-            self.pool
-                .take(self.rt, alloc, &mut *self.seat, topic, sub, max)
-        )
-    }
-
-    fn unsubscribe(&mut self, alloc: Global, topic: &Topic, sub: &Sub) -> Result<(), ShardFault> {
-        tried!(
-            self,
-            alloc,
-            topic,
-            value,
-            self.pool
-                .unsubscribe(self.rt, alloc, &mut *self.seat, topic, sub)
-        )
-    }
-
-    fn waits(&mut self, topic: &Topic, sub: &Sub) -> Result<bool, ShardFault> {
-        self.pool.waits(self.rt, self.pool.shard_of(topic), sub)
-    }
-
-    fn shout(&mut self, alloc: Global, topic: &Topic, payload: &Json) -> Result<(), ShardFault> {
-        tried!(
-            self,
-            alloc,
-            topic,
-            value,
-            self.pool
-                .shout(self.rt, alloc, &mut *self.seat, topic, payload)
-        )
+    fn call<C: Call>(&mut self, alloc: Global, pid: u64, call: &C) -> Result<C::Answer, Refusal> {
+        let topic = call.question().topic();
+        match call.at_shard(pid) {
+            AtShard::Step(step) => self.make(alloc, topic, &step),
+            AtShard::Waits(sub) => {
+                match self.pool.waits(self.rt, self.pool.shard_of(topic), &sub) {
+                    Ok(waits) => Ok(told_to(call, Told::Waits(waits))),
+                    Err(fault) => Err(Refusal::Table(fault)),
+                }
+            }
+        }
     }
 }

@@ -2,8 +2,9 @@
 use Rattle.std.specs.Prelude.{◌≡◌, ◌⊎◌, ℕ, List, [], ◌∷◌, ◌++◌, Bool, true, false, not, filter, Result, Ok, Err, alloc_error}
 use Rattle.std.specs.declared.alloc.AllocError.{AllocError}
 use Rattle.channel_session_rules.specs.Asks.{Ask, Answer, track, update, untrack, untrack_all}
-use Rattle.channel_session_rules.specs.ShardFault.{ShardFault}
-use Rattle.channel_session_rules.specs.ShardFault.TheVariants.{ClockFull, OutOfMemory}
+use Rattle.channel_session_rules.specs.ShardFault.TheVariants.{OutOfMemory}
+use Rattle.channel_session_rules.specs.declared.refusal.Refusal.{Refusal}
+use Rattle.channel_session_rules.specs.declared.refusal.Refusal.TheVariants.{OverRation, Table}
 use Rattle.presence_node_rations.specs.Amounts.{nothing, without}
 use Rattle.presence_node_rations.specs.Connections.{IsNow, SameRows, rows_of, kept}
 use Rattle.presence_node_rations.specs.Rows.{has_row, has_room, is_row, is_of, row_bytes, amount_of, amount_with, resized}
@@ -17,17 +18,20 @@ pub record Books (P B : Type 0) : Type 0 where
   pub rations : Rations
   pub budgets : B
 
+abbrev pub books : {P B : Type 0} → P → Rations → B → Books P B
+books port rations budgets = record { port = port; rations = rations; budgets = budgets }
+
 module _ {B : Type 0} (charged : B → List ℕ → Amount → Result Bool AllocError → B → Type 0) where
   -- So much more of a topic is charged, where it is anything.
   abbrev pub Charged : B → List ℕ → Amount → B → Type 0
   Charged old topic more new = charged old topic more (Ok true) new ⊎ ((more ≡ nothing) × (new ≡ old))
 
   -- So much more is charged, or there is no room for it in the topic's budget, or no memory.
-  abbrev pub Charges : B → List ℕ → Amount → Result (Unit {0}) ShardFault → B → Type 0
+  abbrev pub Charges : B → List ℕ → Amount → Result (Unit {0}) Refusal → B → Type 0
   Charges old topic more (Ok done) new = Charged old topic more new
   Charges old topic more (Err fault) new =
-      ((fault ≡ ClockFull) × charged old topic more (Ok false) new)
-      ⊎ ((fault ≡ OutOfMemory) × charged old topic more (Err alloc_error) new)
+      ((fault ≡ OverRation) × charged old topic more (Ok false) new)
+      ⊎ ((fault ≡ Table OutOfMemory) × charged old topic more (Err alloc_error) new)
 
 -- So much of a topic is given back, where it is anything.
 abbrev pub Released : {B : Type 0} → (B → List ℕ → Amount → B → Type 0) → B → List ℕ → Amount → B → Type 0
@@ -43,7 +47,7 @@ pub record Change : Type 0 where
 
 -- The rows change where the call was accepted, and what is less is given back; where it was refused they stay, and what was
 -- charged is given back.
-abbrev pub Settles : {A B : Type 0} → (B → List ℕ → Amount → B → Type 0) → Rations → B → Change → Result A ShardFault → Rations → B → Type 0
+abbrev pub Settles : {A B : Type 0} → (B → List ℕ → Amount → B → Type 0) → Rations → B → Change → Result A Refusal → Rations → B → Type 0
 Settles released old mid change (Ok value) new budgets =
     IsNow old change.pid change.rows new × Released released mid change.topic change.less budgets
 Settles released old mid change (Err fault) new budgets =
@@ -51,11 +55,11 @@ Settles released old mid change (Err fault) new budgets =
 
 -- What the change adds is counted and charged; or it isn't, where there is no room in the topic's budget, or no memory.
 abbrev pub Admits : {B : Type 0} → (B → List ℕ → Amount → Result Bool AllocError → B → Type 0) → Rations → B → Change
-    → Result (Unit {0}) ShardFault → Rations → B → Type 0
+    → Result (Unit {0}) Refusal → Rations → B → Type 0
 Admits charged old budgets change (Ok done) new left =
     IsNow old change.pid change.rows new × Charged charged budgets change.topic change.more left
 Admits charged old budgets change (Err fault) new left = SameRows old new
-    × (Charges charged budgets change.topic change.more (Err fault) left ⊎ ((fault ≡ OutOfMemory) × (left ≡ budgets)))
+    × (Charges charged budgets change.topic change.more (Err fault) left ⊎ ((fault ≡ Table OutOfMemory) × (left ≡ budgets)))
 
 -- a row more of a connection
 abbrev pub tracked : Rations → ℕ → List ℕ → List ℕ → ℕ → Change
@@ -114,7 +118,7 @@ module _ {P B : Type 0} (step : P → (q : Ask) → Answer q → P → Type 0)
       × Settles released old.rations mid change a new.rations new.budgets
 
   -- The port inside isn't asked: what the change adds isn't admitted.
-  abbrev pub Refuses : Change → {A : Type 0} → Result A ShardFault → Type 0
+  abbrev pub Refuses : Change → {A : Type 0} → Result A Refusal → Type 0
   Refuses change (Ok value) = ⊥
   Refuses change (Err fault) =
       (new.port ≡ old.port) × Admits charged old.rations old.budgets change (Err fault) new.rations new.budgets
@@ -123,7 +127,7 @@ module _ {P B : Type 0} (step : P → (q : Ask) → Answer q → P → Type 0)
   abbrev pub CountsIf : Bool → Change → (q : Ask) → Answer q → Type 0
   CountsIf true change q a = Counts change q a ⊎ Refuses change a
   CountsIf false change q a =
-      (a ≡ Err ClockFull) × (new.port ≡ old.port) × (new.rations ≡ old.rations) × (new.budgets ≡ old.budgets)
+      (a ≡ Err OverRation) × (new.port ≡ old.port) × (new.rations ≡ old.rations) × (new.budgets ≡ old.budgets)
 
   -- The row of a call, which is there or isn't.
   abbrev pub TracksIf : Bool → ℕ → List ℕ → List ℕ → ℕ → (q : Ask) → Answer q → Type 0
@@ -136,13 +140,16 @@ module _ {P B : Type 0} (step : P → (q : Ask) → Answer q → P → Type 0)
       CountsIf (has_room t k bytes (rows_of old.rations pid)) (updated old.rations pid t k bytes) q a
   UpdatesIf false pid t k bytes q a = Passes q a
 
-  -- A new row, and a change of one that is there, has to fit into its connection's ration and into the topic's budget. Any
-  -- other call goes through, and what it takes away is given back.
-  abbrev pub Rationed : (q : Ask) → Answer q → Type 0
-  Rationed (track pid t k m) a =
-      TracksIf (has_row t k (rows_of old.rations pid)) pid t k (row_bytes t k m) (track pid t k m) a
-  Rationed (update pid t k m) a =
-      UpdatesIf (has_row t k (rows_of old.rations pid)) pid t k (row_bytes t k m) (update pid t k m) a
-  Rationed (untrack pid t k) a = Counts (untracked old.rations pid t k) (untrack pid t k) a
-  Rationed (untrack_all pid t) a = Counts (left old.rations pid t) (untrack_all pid t) a
-  Rationed q a = Passes q a
+  -- A new row of the caller, and a change of one that is there, has to fit into its ration and into the topic's budget. Any
+  -- other call goes through, and what it takes away is given back. It is told by what is asked which call it is.
+  abbrev pub RationedAs : ℕ → (asked : Ask) → (q : Ask) → Answer q → Type 0
+  RationedAs pid (track t k m) q a =
+      TracksIf (has_row t k (rows_of old.rations pid)) pid t k (row_bytes t k m) q a
+  RationedAs pid (update t k m) q a =
+      UpdatesIf (has_row t k (rows_of old.rations pid)) pid t k (row_bytes t k m) q a
+  RationedAs pid (untrack t k) q a = Counts (untracked old.rations pid t k) q a
+  RationedAs pid (untrack_all t) q a = Counts (left old.rations pid t) q a
+  RationedAs pid _ q a = Passes q a
+
+  abbrev pub Rationed : ℕ → (q : Ask) → Answer q → Type 0
+  Rationed pid q a = RationedAs pid q q a

@@ -1,14 +1,13 @@
 //! A port that refuses what takes more memory where memory is tight.
 ghost use Rattle.std.specs.Prelude.{◌≡◌};
-ghost use Rattle.presence_node_rationing.specs.Guarding.{Guarded};
+ghost use Rattle.channel_session_rules.specs.Questions.{asks};
+ghost use Rattle.presence_node_rationing.specs.Guarding.{Guarded, grows as is_growing};
 
-use channel_session_rules::{Port, ShardFault, Sub};
-use presence_base::{Dot, Json, Key, Meta, Row, Topic};
-use presence_journal::{Item, SharedRows};
+use channel_session_rules::{Call, Port, Question, Refusal};
 use std::alloc::Global;
 
 /// A port whose calls are those of the port inside, but that where memory is tight a new row, a join and a shout are refused
-/// as by a shard that is full, and the port inside isn't asked.
+/// as more than may be had, and the port inside isn't asked.
 #[derive(Drop)]
 pub struct GuardedPort<P> {
     port: P,
@@ -32,90 +31,23 @@ impl<P: Port + Drop> GuardedPort<P> {
     }
 }
 
+// Whether a call takes memory for long.
+fn grows(question: Question<'_>) -> bool
+    ensures { result ≡ is_growing (asks question.entry) }
+{
+    matches!(
+        question,
+        Question::Track(_) | Question::Subscribe(_) | Question::Shout(_)
+    )
+}
+
 impl<P: Port + Drop> Port for GuardedPort<P> {
-    ghost step = { λ old q a new. (new.is_tight ≡ old.is_tight) × Guarded P.step old.is_tight old.port q a new.port };
+    ghost step = { λ pid old q a new. (new.is_tight ≡ old.is_tight) × Guarded (P.step pid) old.is_tight old.port q a new.port };
 
-    fn track(
-        &mut self,
-        alloc: Global,
-        pid: u64,
-        topic: &Topic,
-        key: &Key,
-        meta: &Meta,
-    ) -> Result<Dot, ShardFault> {
-        if self.is_tight {
-            return Err(ShardFault::ClockFull);
+    fn call<C: Call>(&mut self, alloc: Global, pid: u64, call: &C) -> Result<C::Answer, Refusal> {
+        if self.is_tight && grows(call.question()) {
+            return Err(Refusal::OverRation);
         }
-        self.port.track(alloc, pid, topic, key, meta)
-    }
-
-    fn update(
-        &mut self,
-        alloc: Global,
-        pid: u64,
-        topic: &Topic,
-        key: &Key,
-        meta: &Meta,
-    ) -> Result<Dot, ShardFault> {
-        self.port.update(alloc, pid, topic, key, meta)
-    }
-
-    fn untrack(
-        &mut self,
-        alloc: Global,
-        pid: u64,
-        topic: &Topic,
-        key: &Key,
-    ) -> Result<(), ShardFault> {
-        self.port.untrack(alloc, pid, topic, key)
-    }
-
-    fn untrack_all(&mut self, alloc: Global, pid: u64, topic: &Topic) -> Result<(), ShardFault> {
-        self.port.untrack_all(alloc, pid, topic)
-    }
-
-    fn list(&mut self, alloc: Global, topic: &Topic) -> Result<SharedRows, ShardFault> {
-        self.port.list(alloc, topic)
-    }
-
-    fn get(
-        &mut self,
-        alloc: Global,
-        topic: &Topic,
-        key: &Key,
-    ) -> Result<Vec<(Dot, Row)>, ShardFault> {
-        self.port.get(alloc, topic, key)
-    }
-
-    fn subscribe(&mut self, alloc: Global, topic: &Topic) -> Result<Sub, ShardFault> {
-        if self.is_tight {
-            return Err(ShardFault::ClockFull);
-        }
-        self.port.subscribe(alloc, topic)
-    }
-
-    fn take(
-        &mut self,
-        alloc: Global,
-        topic: &Topic,
-        sub: &Sub,
-        max: u32,
-    ) -> Result<Vec<Item>, ShardFault> {
-        self.port.take(alloc, topic, sub, max)
-    }
-
-    fn unsubscribe(&mut self, alloc: Global, topic: &Topic, sub: &Sub) -> Result<(), ShardFault> {
-        self.port.unsubscribe(alloc, topic, sub)
-    }
-
-    fn waits(&mut self, topic: &Topic, sub: &Sub) -> Result<bool, ShardFault> {
-        self.port.waits(topic, sub)
-    }
-
-    fn shout(&mut self, alloc: Global, topic: &Topic, payload: &Json) -> Result<(), ShardFault> {
-        if self.is_tight {
-            return Err(ShardFault::ClockFull);
-        }
-        self.port.shout(alloc, topic, payload)
+        self.port.call(alloc, pid, call)
     }
 }

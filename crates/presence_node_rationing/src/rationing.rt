@@ -1,16 +1,19 @@
 //! A port that refuses a row beyond what its connection, or all of its topic, may have.
-ghost use Rattle.std.specs.Prelude.{◌≡◌};
+ghost use Rattle.std.specs.Prelude.{◌≡◌, ◌≤◌, ◌^◌};
 ghost use Rattle.presence_node_rations.specs.Connections.{IsNow, rows_of, all_but_last};
-ghost use Rattle.presence_node_rationing.specs.Rationing.{Admits, Charges, Rationed, Released, tracked};
+ghost use Rattle.channel_session_rules.specs.Asks.{track as tracks, update as updates, untrack as untracks, untrack_all as untracks_all};
+ghost use Rattle.channel_session_rules.specs.Seen.{seen_by};
+ghost use Rattle.presence_node_rationing.specs.Rationing.{Admits, Charges, Rationed, RationedAs, Released, books, tracked};
 
-use channel_session_rules::{Port, ShardFault, Sub};
-use presence_base::{Dot, Json, Key, Meta, Row, Topic};
-use presence_journal::{Item, SharedRows};
+use channel_session_rules::{
+    Call, Port, Question, Refusal, ShardFault, Track, Untrack, UntrackAll, Update,
+};
+use presence_base::{Key, Topic};
 use presence_node_rations::{Amount, Budgets, Rations, amount_of, row_bytes};
 use std::alloc::{AllocError, Global};
 
 // Charges so much more of a topic, if it is anything.
-fn charge<B: Budgets>(budgets: &mut B, topic: &Topic, more: Amount) -> Result<(), ShardFault>
+fn charge<B: Budgets>(budgets: &mut B, topic: &Topic, more: Amount) -> Result<(), Refusal>
     ensures { Charges B.charged budgets.old topic.now more result budgets.new }
 {
     if more.is_nothing() {
@@ -18,8 +21,8 @@ fn charge<B: Budgets>(budgets: &mut B, topic: &Topic, more: Amount) -> Result<()
     }
     match budgets.charge(topic, more) {
         Ok(true) => Ok(()),
-        Ok(false) => Err(ShardFault::ClockFull),
-        Err(AllocError) => Err(ShardFault::OutOfMemory),
+        Ok(false) => Err(Refusal::OverRation),
+        Err(AllocError) => Err(Refusal::Table(ShardFault::OutOfMemory)),
     }
 }
 
@@ -33,7 +36,7 @@ fn release<B: Budgets>(budgets: &mut B, topic: &Topic, less: Amount)
 }
 
 /// A port whose calls are those of the port inside, but that a row beyond what its connection may have, or beyond what all
-/// rows of the node may take of its topic, is refused as by a shard that is full, and the port inside isn't asked.
+/// rows of the node may take of its topic, is refused, and the port inside isn't asked.
 #[derive(Drop)]
 pub struct RationedPort<'a, P, B> {
     port: P,
@@ -77,13 +80,13 @@ impl<'a, P: Port + Drop, B: Budgets + Drop> RationedPort<'a, P, B> {
         topic: &Topic,
         key: &Key,
         bytes: usize,
-    ) -> Result<(), ShardFault>
+    ) -> Result<(), Refusal>
         ensures port { self.new.port ≡ self.old.port }
         ensures row { Admits B.charged self.old.rations.now self.old.budgets
             (tracked self.old.rations.now pid topic.now key.now bytes) result self.new.rations.now self.new.budgets }
     {
         if self.rations.add(alloc, pid, topic, key, bytes).is_err() {
-            return Err(ShardFault::OutOfMemory);
+            return Err(Refusal::Table(ShardFault::OutOfMemory));
         }
         let charged = charge(&mut self.budgets, topic, amount_of(key, bytes));
         if charged.is_err() {
@@ -101,128 +104,140 @@ impl<'a, P: Port + Drop, B: Budgets + Drop> RationedPort<'a, P, B> {
         self.rations.take_back(pid);
         release(&mut self.budgets, topic, amount);
     }
-}
 
-impl<P: Port + Drop, B: Budgets + Drop> Port for RationedPort<'_, P, B> {
-    ghost step = { λ old q a new. Rationed P.step B.charged B.released (record { port = old.port; rations = old.rations.now; budgets = old.budgets }) (record { port = new.port; rations = new.rations.now; budgets = new.budgets }) q a };
-
-    fn track(
+    // A new row is counted and charged, or refused.
+    fn track<C: Call>(
         &mut self,
         alloc: Global,
         pid: u64,
-        topic: &Topic,
-        key: &Key,
-        meta: &Meta,
-    ) -> Result<Dot, ShardFault> {
+        call: &C,
+        track: Track<'_>,
+    ) -> Result<C::Answer, Refusal>
+        requires { pid ≤ 2 ^ 62 }
+        ensures { RationedAs (P.step pid) B.charged B.released (books self.old.port self.old.rations.now self.old.budgets)
+            (books self.new.port self.new.rations.now self.new.budgets) pid (tracks track.entry.topic.now track.entry.key.now track.entry.meta.now) (C.ask call.now)
+            (seen_by (C.view call.now) result) }
+    {
+        let Track { topic, key, meta } = track;
         if self.rations.has(pid, topic, key) {
-            return self.port.track(alloc, pid, topic, key, meta);
+            return self.port.call(alloc, pid, call);
         }
         let bytes = row_bytes(topic, key, meta);
         if !self.rations.has_room(pid, topic, key, bytes) {
-            return Err(ShardFault::ClockFull);
+            return Err(Refusal::OverRation);
         }
-        if let Err(fault) = self.admit(alloc, pid, topic, key, bytes) {
-            return Err(fault);
+        if let Err(refusal) = self.admit(alloc, pid, topic, key, bytes) {
+            return Err(refusal);
         }
-        let answer = self.port.track(alloc, pid, topic, key, meta);
-        if answer.is_err() {
-            self.take_back(pid, topic, amount_of(key, bytes));
+        match self.port.call(alloc, pid, call) {
+            Ok(given) => Ok(given),
+            Err(refusal) => {
+                self.take_back(pid, topic, amount_of(key, bytes));
+                Err(refusal)
+            }
         }
-        answer
     }
 
-    fn update(
+    // A change of a row that is there is counted and charged, or refused.
+    fn update<C: Call>(
         &mut self,
         alloc: Global,
         pid: u64,
-        topic: &Topic,
-        key: &Key,
-        meta: &Meta,
-    ) -> Result<Dot, ShardFault> {
+        call: &C,
+        update: Update<'_>,
+    ) -> Result<C::Answer, Refusal>
+        requires { pid ≤ 2 ^ 62 }
+        ensures { RationedAs (P.step pid) B.charged B.released (books self.old.port self.old.rations.now self.old.budgets)
+            (books self.new.port self.new.rations.now self.new.budgets) pid (updates update.entry.topic.now update.entry.key.now update.entry.meta.now) (C.ask call.now)
+            (seen_by (C.view call.now) result) }
+    {
+        let Update { topic, key, meta } = update;
         if !self.rations.has(pid, topic, key) {
-            return self.port.update(alloc, pid, topic, key, meta);
+            return self.port.call(alloc, pid, call);
         }
         let bytes = row_bytes(topic, key, meta);
         if !self.rations.has_room(pid, topic, key, bytes) {
-            return Err(ShardFault::ClockFull);
+            return Err(Refusal::OverRation);
         }
         let was = self.rations.taken_by_row(pid, topic, key);
         let now = amount_of(key, bytes);
-        if let Err(fault) = charge(&mut self.budgets, topic, now.without(was)) {
-            return Err(fault);
+        if let Err(refusal) = charge(&mut self.budgets, topic, now.without(was)) {
+            return Err(refusal);
         }
-        let answer = self.port.update(alloc, pid, topic, key, meta);
-        if answer.is_ok() {
-            self.rations.resize(pid, topic, key, bytes);
-            release(&mut self.budgets, topic, was.without(now));
-        } else {
-            release(&mut self.budgets, topic, now.without(was));
+        match self.port.call(alloc, pid, call) {
+            Ok(given) => {
+                self.rations.resize(pid, topic, key, bytes);
+                release(&mut self.budgets, topic, was.without(now));
+                Ok(given)
+            }
+            Err(refusal) => {
+                release(&mut self.budgets, topic, now.without(was));
+                Err(refusal)
+            }
         }
-        answer
     }
 
-    fn untrack(
+    // What a row takes is given back.
+    fn untrack<C: Call>(
         &mut self,
         alloc: Global,
         pid: u64,
-        topic: &Topic,
-        key: &Key,
-    ) -> Result<(), ShardFault> {
-        let answer = self.port.untrack(alloc, pid, topic, key);
-        if answer.is_ok() {
-            let taken = self.rations.taken_by_row(pid, topic, key);
-            self.rations.forget(pid, topic, key);
-            release(&mut self.budgets, topic, taken);
+        call: &C,
+        untrack: Untrack<'_>,
+    ) -> Result<C::Answer, Refusal>
+        requires { pid ≤ 2 ^ 62 }
+        ensures { RationedAs (P.step pid) B.charged B.released (books self.old.port self.old.rations.now self.old.budgets)
+            (books self.new.port self.new.rations.now self.new.budgets) pid (untracks untrack.entry.topic.now untrack.entry.key.now) (C.ask call.now)
+            (seen_by (C.view call.now) result) }
+    {
+        let Untrack { topic, key } = untrack;
+        match self.port.call(alloc, pid, call) {
+            Ok(given) => {
+                let taken = self.rations.taken_by_row(pid, topic, key);
+                self.rations.forget(pid, topic, key);
+                release(&mut self.budgets, topic, taken);
+                Ok(given)
+            }
+            Err(refusal) => Err(refusal),
         }
-        answer
     }
 
-    fn untrack_all(&mut self, alloc: Global, pid: u64, topic: &Topic) -> Result<(), ShardFault> {
-        let answer = self.port.untrack_all(alloc, pid, topic);
-        if answer.is_ok() {
-            let taken = self.rations.taken_by_topic(pid, topic);
-            self.rations.forget_topic(pid, topic);
-            release(&mut self.budgets, topic, taken);
-        }
-        answer
-    }
-
-    fn list(&mut self, alloc: Global, topic: &Topic) -> Result<SharedRows, ShardFault> {
-        self.port.list(alloc, topic)
-    }
-
-    fn get(
+    // What all rows of the caller take of the topic is given back.
+    fn untrack_all<C: Call>(
         &mut self,
         alloc: Global,
-        topic: &Topic,
-        key: &Key,
-    ) -> Result<Vec<(Dot, Row)>, ShardFault> {
-        self.port.get(alloc, topic, key)
+        pid: u64,
+        call: &C,
+        untrack_all: UntrackAll<'_>,
+    ) -> Result<C::Answer, Refusal>
+        requires { pid ≤ 2 ^ 62 }
+        ensures { RationedAs (P.step pid) B.charged B.released (books self.old.port self.old.rations.now self.old.budgets)
+            (books self.new.port self.new.rations.now self.new.budgets) pid (untracks_all untrack_all.entry.topic.now) (C.ask call.now)
+            (seen_by (C.view call.now) result) }
+    {
+        let UntrackAll { topic } = untrack_all;
+        match self.port.call(alloc, pid, call) {
+            Ok(given) => {
+                let taken = self.rations.taken_by_topic(pid, topic);
+                self.rations.forget_topic(pid, topic);
+                release(&mut self.budgets, topic, taken);
+                Ok(given)
+            }
+            Err(refusal) => Err(refusal),
+        }
     }
+}
 
-    fn subscribe(&mut self, alloc: Global, topic: &Topic) -> Result<Sub, ShardFault> {
-        self.port.subscribe(alloc, topic)
-    }
+impl<P: Port + Drop, B: Budgets + Drop> Port for RationedPort<'_, P, B> {
+    ghost step = { λ pid old q a new. Rationed (P.step pid) B.charged B.released (books old.port old.rations.now old.budgets) (books new.port new.rations.now new.budgets) pid q a };
 
-    fn take(
-        &mut self,
-        alloc: Global,
-        topic: &Topic,
-        sub: &Sub,
-        max: u32,
-    ) -> Result<Vec<Item>, ShardFault> {
-        self.port.take(alloc, topic, sub, max)
-    }
-
-    fn unsubscribe(&mut self, alloc: Global, topic: &Topic, sub: &Sub) -> Result<(), ShardFault> {
-        self.port.unsubscribe(alloc, topic, sub)
-    }
-
-    fn waits(&mut self, topic: &Topic, sub: &Sub) -> Result<bool, ShardFault> {
-        self.port.waits(topic, sub)
-    }
-
-    fn shout(&mut self, alloc: Global, topic: &Topic, payload: &Json) -> Result<(), ShardFault> {
-        self.port.shout(alloc, topic, payload)
+    fn call<C: Call>(&mut self, alloc: Global, pid: u64, call: &C) -> Result<C::Answer, Refusal> {
+        match call.question() {
+            Question::Track(track) => self.track(alloc, pid, call, track),
+            Question::Update(update) => self.update(alloc, pid, call, update),
+            Question::Untrack(untrack) => self.untrack(alloc, pid, call, untrack),
+            Question::UntrackAll(untrack_all) => self.untrack_all(alloc, pid, call, untrack_all),
+            _ => self.port.call(alloc, pid, call),
+        }
     }
 }

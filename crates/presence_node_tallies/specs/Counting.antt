@@ -2,9 +2,10 @@
 use Rattle.std.specs.Prelude.{ℕ, ◌+◌, ◌%◌, ◌^◌, List, [], ◌∷◌, Result, Ok, Err, Option, Some, None}
 use Rattle.presence_journal_data.specs.declared.rows.Item.{Item}
 use Rattle.presence_journal_data.specs.declared.rows.Item.TheVariants.{State, Diff, Shout}
-use Rattle.channel_session_rules.specs.ShardFault.{ShardFault}
 use Rattle.channel_session_rules.specs.ShardFault.TheVariants as faults
 use Rattle.channel_session_rules.specs.Asks.{Ask, Answer, track, update, untrack, untrack_all, list, get, subscribe, take, unsubscribe, waits, shout}
+use Rattle.channel_session_rules.specs.declared.refusal.Refusal.{Refusal}
+use Rattle.channel_session_rules.specs.declared.refusal.Refusal.TheVariants.{OverRation, NotGranted, Table}
 use Rattle.presence_node_tallies.specs.declared.tally.Tally.{Tally}
 use Rattle.presence_node_tallies.specs.declared.tally.Kind.{Kind}
 use Rattle.presence_node_tallies.specs.declared.tally.Kind.TheVariants as kinds
@@ -25,28 +26,30 @@ accepted t kinds.Get = record t { gets = one_more t.gets }
 accepted t kinds.Shout = record t { shouts = one_more t.shouts }
 
 -- behind a call that was refused for this
-abbrev pub refused_for : Tally → ShardFault → Tally
-refused_for t faults.AlreadyTracked = record t { already_tracked = one_more t.already_tracked }
-refused_for t faults.NoPresence = record t { no_presence = one_more t.no_presence }
-refused_for t faults.ClockFull = record t { full = one_more t.full }
-refused_for t faults.JournalFull = record t { journal_full = one_more t.journal_full }
-refused_for t faults.NoSub = record t { others = one_more t.others }
-refused_for t faults.BadIncarnation = record t { others = one_more t.others }
-refused_for t faults.OutOfMemory = record t { no_memory = one_more t.no_memory }
+abbrev pub refused_for : Tally → Refusal → Tally
+refused_for t OverRation = record t { full = one_more t.full }
+refused_for t (Table faults.AlreadyTracked) = record t { already_tracked = one_more t.already_tracked }
+refused_for t (Table faults.NoPresence) = record t { no_presence = one_more t.no_presence }
+refused_for t (Table faults.ClockFull) = record t { full = one_more t.full }
+refused_for t (Table faults.JournalFull) = record t { journal_full = one_more t.journal_full }
+refused_for t NotGranted = record t { others = one_more t.others }
+refused_for t (Table faults.NoSub) = record t { others = one_more t.others }
+refused_for t (Table faults.BadIncarnation) = record t { others = one_more t.others }
+refused_for t (Table faults.OutOfMemory) = record t { no_memory = one_more t.no_memory }
 
 -- it counts among all refused ones too
-abbrev pub refusing : Tally → ShardFault → Tally
-refusing t fault = refused_for (record t { refused = one_more t.refused }) fault
+abbrev pub refusing : Tally → Refusal → Tally
+refusing t refusal = refused_for (record t { refused = one_more t.refused }) refusal
 
 -- behind a call of this kind that was accepted, or refused for this
-abbrev pub called : Tally → Kind → Option ShardFault → Tally
+abbrev pub called : Tally → Kind → Option Refusal → Tally
 called t kind None = accepted t kind
 called t kind (Some fault) = refusing t fault
 
 -- why a call was refused that was answered so
-abbrev pub fault_of : {A : Type 0} → Result A ShardFault → Option ShardFault
-fault_of (Ok a) = None
-fault_of (Err fault) = Some fault
+abbrev pub refusal_of : {A : Type 0} → Result A Refusal → Option Refusal
+refusal_of (Ok a) = None
+refusal_of (Err refusal) = Some refusal
 
 abbrev pub with_item : Tally → Item → Tally
 with_item t (State rows) = record t { states = one_more t.states }
@@ -64,20 +67,26 @@ taken t (Ok items) = with_items t items
 taken t (Err fault) = t
 
 -- behind a call that no client asks for: only that it was refused counts
-abbrev pub unasked : Tally → Option ShardFault → Tally
+abbrev pub unasked : Tally → Option Refusal → Tally
 unasked t None = t
 unasked t (Some fault) = refusing t fault
 
--- Behind a call that was answered so. What only asks whether something waits counts for nothing.
+-- Behind a call of which only the items of a take are told, that was accepted, or refused for this. What only asks whether
+-- something waits counts for nothing.
+abbrev pub counted_as : Tally → Ask → Option Refusal → Tally
+counted_as t (track topic key meta) r = called t kinds.Track r
+counted_as t (update topic key meta) r = called t kinds.Update r
+counted_as t (untrack topic key) r = called t kinds.Untrack r
+counted_as t (untrack_all topic) r = unasked t r
+counted_as t (list topic) r = called t kinds.List r
+counted_as t (get topic key) r = called t kinds.Get r
+counted_as t (subscribe topic) r = called t kinds.Join r
+counted_as t (take topic sub max) r = t
+counted_as t (unsubscribe topic sub) r = called t kinds.Leave r
+counted_as t (waits topic sub) r = t
+counted_as t (shout topic payload) r = called t kinds.Shout r
+
+-- Behind a call that was answered so.
 abbrev pub counted : Tally → (q : Ask) → Answer q → Tally
-counted t (track pid topic key meta) a = called t kinds.Track (fault_of a)
-counted t (update pid topic key meta) a = called t kinds.Update (fault_of a)
-counted t (untrack pid topic key) a = called t kinds.Untrack (fault_of a)
-counted t (untrack_all pid topic) a = unasked t (fault_of a)
-counted t (list topic) a = called t kinds.List (fault_of a)
-counted t (get topic key) a = called t kinds.Get (fault_of a)
-counted t (subscribe topic) a = called t kinds.Join (fault_of a)
 counted t (take topic sub max) a = taken t a
-counted t (unsubscribe topic sub) a = called t kinds.Leave (fault_of a)
-counted t (waits topic sub) a = t
-counted t (shout topic payload) a = called t kinds.Shout (fault_of a)
+counted t q a = counted_as t q (refusal_of a)

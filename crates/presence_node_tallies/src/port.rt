@@ -1,11 +1,12 @@
 //! A port that counts its calls.
-ghost use Rattle.std.specs.Prelude.{◌≡◌};
-ghost use Rattle.presence_node_tallies.specs.Counting.{counted};
+ghost use Rattle.std.specs.Prelude.{◌≡◌, ◌≤◌, ◌^◌};
+ghost use Rattle.channel_session_rules.specs.Asks.{take as takes};
+ghost use Rattle.channel_session_rules.specs.Seen.{seen_by};
+ghost use Rattle.presence_node_tallies.specs.Counting.{counted, taken};
 
-use crate::tally::{Kind, Tally, fault_in};
-use channel_session_rules::{Port, ShardFault, Sub};
-use presence_base::{Dot, Json, Key, Meta, Row, Topic};
-use presence_journal::{Item, SharedRows};
+use crate::tally::Tally;
+use channel_session_rules::{Call, Port, Question, Refusal, Take, Told, told_to};
+use presence_journal::Item;
 use std::alloc::Global;
 
 /// A port that counts its calls. Each call is that of the port inside.
@@ -40,107 +41,43 @@ impl<P: Port + Drop> CountingPort<P> {
     {
         self.tally
     }
+
+    // Takes of the port inside, and counts what it gives.
+    fn take(&mut self, alloc: Global, pid: u64, take: &Take<'_>) -> Result<Vec<Item>, Refusal>
+        requires { pid ≤ 2 ^ 62 }
+        ensures port { P.step pid self.old.port (takes take.now.topic.now take.now.sub take.now.max)
+            (seen_by (λ v. v.items) result) self.new.port }
+        ensures tally { self.new.tally ≡ taken self.old.tally (seen_by (λ v. v.items) result) }
+    {
+        match self.port.call(alloc, pid, take) {
+            Ok(items) => {
+                self.tally.add_items(items.as_slice());
+                Ok(items)
+            }
+            Err(refusal) => Err(refusal),
+        }
+    }
 }
 
 impl<P: Port + Drop> Port for CountingPort<P> {
-    ghost step = { λ old q a new. P.step old.port q a new.port × (new.tally ≡ counted old.tally q a) };
+    ghost step = { λ pid old q a new. P.step pid old.port q a new.port × (new.tally ≡ counted old.tally q a) };
 
-    fn track(
-        &mut self,
-        alloc: Global,
-        pid: u64,
-        topic: &Topic,
-        key: &Key,
-        meta: &Meta,
-    ) -> Result<Dot, ShardFault> {
-        let answer = self.port.track(alloc, pid, topic, key, meta);
-        self.tally.add_call(Kind::Track, fault_in(&answer));
-        answer
-    }
-
-    fn update(
-        &mut self,
-        alloc: Global,
-        pid: u64,
-        topic: &Topic,
-        key: &Key,
-        meta: &Meta,
-    ) -> Result<Dot, ShardFault> {
-        let answer = self.port.update(alloc, pid, topic, key, meta);
-        self.tally.add_call(Kind::Update, fault_in(&answer));
-        answer
-    }
-
-    fn untrack(
-        &mut self,
-        alloc: Global,
-        pid: u64,
-        topic: &Topic,
-        key: &Key,
-    ) -> Result<(), ShardFault> {
-        let answer = self.port.untrack(alloc, pid, topic, key);
-        self.tally.add_call(Kind::Untrack, fault_in(&answer));
-        answer
-    }
-
-    fn untrack_all(&mut self, alloc: Global, pid: u64, topic: &Topic) -> Result<(), ShardFault> {
-        let answer = self.port.untrack_all(alloc, pid, topic);
-        if let Some(fault) = fault_in(&answer) {
-            self.tally.add_refused(fault);
+    fn call<C: Call>(&mut self, alloc: Global, pid: u64, call: &C) -> Result<C::Answer, Refusal> {
+        match call.question() {
+            Question::Take(take) => match self.take(alloc, pid, &take) {
+                Ok(items) => Ok(told_to(call, Told::Items(items))),
+                Err(refusal) => Err(refusal),
+            },
+            question => match self.port.call(alloc, pid, call) {
+                Ok(given) => {
+                    self.tally.add(question, None);
+                    Ok(given)
+                }
+                Err(refusal) => {
+                    self.tally.add(question, Some(refusal));
+                    Err(refusal)
+                }
+            },
         }
-        answer
-    }
-
-    fn list(&mut self, alloc: Global, topic: &Topic) -> Result<SharedRows, ShardFault> {
-        let answer = self.port.list(alloc, topic);
-        self.tally.add_call(Kind::List, fault_in(&answer));
-        answer
-    }
-
-    fn get(
-        &mut self,
-        alloc: Global,
-        topic: &Topic,
-        key: &Key,
-    ) -> Result<Vec<(Dot, Row)>, ShardFault> {
-        let answer = self.port.get(alloc, topic, key);
-        self.tally.add_call(Kind::Get, fault_in(&answer));
-        answer
-    }
-
-    fn subscribe(&mut self, alloc: Global, topic: &Topic) -> Result<Sub, ShardFault> {
-        let answer = self.port.subscribe(alloc, topic);
-        self.tally.add_call(Kind::Join, fault_in(&answer));
-        answer
-    }
-
-    fn take(
-        &mut self,
-        alloc: Global,
-        topic: &Topic,
-        sub: &Sub,
-        max: u32,
-    ) -> Result<Vec<Item>, ShardFault> {
-        let answer = self.port.take(alloc, topic, sub, max);
-        if let Ok(items) = &answer {
-            self.tally.add_items(items.as_slice());
-        }
-        answer
-    }
-
-    fn unsubscribe(&mut self, alloc: Global, topic: &Topic, sub: &Sub) -> Result<(), ShardFault> {
-        let answer = self.port.unsubscribe(alloc, topic, sub);
-        self.tally.add_call(Kind::Leave, fault_in(&answer));
-        answer
-    }
-
-    fn waits(&mut self, topic: &Topic, sub: &Sub) -> Result<bool, ShardFault> {
-        self.port.waits(topic, sub)
-    }
-
-    fn shout(&mut self, alloc: Global, topic: &Topic, payload: &Json) -> Result<(), ShardFault> {
-        let answer = self.port.shout(alloc, topic, payload);
-        self.tally.add_call(Kind::Shout, fault_in(&answer));
-        answer
     }
 }

@@ -1,8 +1,9 @@
 //! What is counted of calls.
 ghost use Rattle.std.specs.Prelude.{◌≡◌};
-ghost use Rattle.presence_node_tallies.specs.Counting.{accepted, fault_of, called, one_more, refusing, with_item, with_items};
+ghost use Rattle.channel_session_rules.specs.Questions.{asks};
+ghost use Rattle.presence_node_tallies.specs.Counting.{accepted, called, counted_as, one_more, refusing, with_item, with_items};
 
-use channel_session_rules::ShardFault;
+use channel_session_rules::{Question, Refusal, ShardFault};
 use presence_journal::Item;
 
 // What a call asks for.
@@ -76,29 +77,20 @@ fn add_one(count: &mut u64)
     *count = count.wrapping_add(1);
 }
 
-// Why a call was refused, if it was.
-pub(crate) fn fault_in<T>(answer: &Result<T, ShardFault>) -> Option<ShardFault>
-    ensures { result ≡ fault_of answer.now }
-{
-    match answer {
-        Ok(_) => None,
-        Err(fault) => Some(*fault),
-    }
-}
-
 impl Tally {
     // A call was refused for this.
-    pub(crate) fn add_refused(&mut self, fault: ShardFault)
-        ensures { self.new ≡ refusing self.old fault }
+    fn add_refused(&mut self, refusal: Refusal)
+        ensures { self.new ≡ refusing self.old refusal }
     {
         add_one(&mut self.refused);
-        match fault {
-            ShardFault::AlreadyTracked => add_one(&mut self.already_tracked),
-            ShardFault::NoPresence => add_one(&mut self.no_presence),
-            ShardFault::ClockFull => add_one(&mut self.full),
-            ShardFault::JournalFull => add_one(&mut self.journal_full),
-            ShardFault::OutOfMemory => add_one(&mut self.no_memory),
-            ShardFault::NoSub | ShardFault::BadIncarnation => add_one(&mut self.others),
+        match refusal {
+            Refusal::OverRation | Refusal::Table(ShardFault::ClockFull) => add_one(&mut self.full),
+            Refusal::Table(ShardFault::AlreadyTracked) => add_one(&mut self.already_tracked),
+            Refusal::Table(ShardFault::NoPresence) => add_one(&mut self.no_presence),
+            Refusal::Table(ShardFault::JournalFull) => add_one(&mut self.journal_full),
+            Refusal::Table(ShardFault::OutOfMemory) => add_one(&mut self.no_memory),
+            Refusal::NotGranted | Refusal::Table(ShardFault::NoSub | ShardFault::BadIncarnation) =>
+                { add_one(&mut self.others) }
         }
     }
 
@@ -119,12 +111,34 @@ impl Tally {
     }
 
     // A call of this kind was accepted, or refused for this.
-    pub(crate) fn add_call(&mut self, kind: Kind, fault: Option<ShardFault>)
-        ensures { self.new ≡ called self.old kind fault }
+    fn add_call(&mut self, kind: Kind, refusal: Option<Refusal>)
+        ensures { self.new ≡ called self.old kind refusal }
     {
-        match fault {
+        match refusal {
             None => self.add_accepted(kind),
-            Some(fault) => self.add_refused(fault),
+            Some(refusal) => self.add_refused(refusal),
+        }
+    }
+
+    // What asks so was accepted, or refused for this. Takes are counted by their items.
+    pub(crate) fn add(&mut self, question: Question<'_>, refusal: Option<Refusal>)
+        ensures { self.new ≡ counted_as self.old (asks question.entry) refusal }
+    {
+        match question {
+            Question::Track(_) => self.add_call(Kind::Track, refusal),
+            Question::Update(_) => self.add_call(Kind::Update, refusal),
+            Question::Untrack(_) => self.add_call(Kind::Untrack, refusal),
+            Question::UntrackAll(_) => {
+                if let Some(refusal) = refusal {
+                    self.add_refused(refusal);
+                }
+            }
+            Question::List(_) => self.add_call(Kind::List, refusal),
+            Question::Get(_) => self.add_call(Kind::Get, refusal),
+            Question::Subscribe(_) => self.add_call(Kind::Join, refusal),
+            Question::Unsubscribe(_) => self.add_call(Kind::Leave, refusal),
+            Question::Shout(_) => self.add_call(Kind::Shout, refusal),
+            Question::Take(_) | Question::Waits(_) => (),
         }
     }
 

@@ -83,10 +83,10 @@ module _ {P : Type 0} (step : P → (q : Ask) → Answer q → P → Type 0) whe
   waits_along false topic sub old new x h = h.2
 
   spares_along : (a : PiecewisePort P × ℕ) (q : Ask) (x : Answer q) (b : PiecewisePort P × ℕ) → Spares InPieces a q x b → Spares (Piecewise step) (spared a) q x (spared b)
-  spares_along a (track pid t k m) x b h = (h.0.2, h.1)
-  spares_along a (update pid t k m) x b h = (h.0.2, h.1)
-  spares_along a (untrack pid t k) x b h = (h.0.2, h.1)
-  spares_along a (untrack_all pid t) x b h = (h.0.2, h.1)
+  spares_along a (track t k m) x b h = (h.0.2, h.1)
+  spares_along a (update t k m) x b h = (h.0.2, h.1)
+  spares_along a (untrack t k) x b h = (h.0.2, h.1)
+  spares_along a (untrack_all t) x b h = (h.0.2, h.1)
   spares_along a (list t) x b h = (h.0.2, h.1)
   spares_along a (get t k) x b h = (h.0.2, h.1)
   spares_along a (subscribe t) x b h = (h.0.2, h.1)
@@ -101,10 +101,10 @@ module _ {P : Type 0} (step : P → (q : Ask) → Answer q → P → Type 0) whe
     waits_keep false topic sub old new x h = keeps old (waits topic sub) x new h
 
     spares_keep : (a : PiecewisePort P × ℕ) (q : Ask) (x : Answer q) (b : PiecewisePort P × ℕ) → Spares InPieces a q x b → k b.0 ≡ k a.0
-    spares_keep a (track pid t key m) x b h = keeps a.0 (track pid t key m) x b.0 h.0
-    spares_keep a (update pid t key m) x b h = keeps a.0 (update pid t key m) x b.0 h.0
-    spares_keep a (untrack pid t key) x b h = keeps a.0 (untrack pid t key) x b.0 h.0
-    spares_keep a (untrack_all pid t) x b h = keeps a.0 (untrack_all pid t) x b.0 h.0
+    spares_keep a (track t key m) x b h = keeps a.0 (track t key m) x b.0 h.0
+    spares_keep a (update t key m) x b h = keeps a.0 (update t key m) x b.0 h.0
+    spares_keep a (untrack t key) x b h = keeps a.0 (untrack t key) x b.0 h.0
+    spares_keep a (untrack_all t) x b h = keeps a.0 (untrack_all t) x b.0 h.0
     spares_keep a (list t) x b h = keeps a.0 (list t) x b.0 h.0
     spares_keep a (get t key) x b h = keeps a.0 (get t key) x b.0 h.0
     spares_keep a (subscribe t) x b h = keeps a.0 (subscribe t) x b.0 h.0

@@ -13,6 +13,11 @@ use Rattle.presence_journal_data.specs.declared.rows.Item.{Item}
 use Rattle.channel_session.specs.declared.fault.SessionFault.TheVariants.{Failed}
 use Rattle.presence_node_turns.specs.Sparing.{Leaves, Spares, Weighs}
 use Rattle.presence_node_turns.specs.declared.sparing.SparingPort.{SparingPort}
+use Rattle.channel_session_rules.specs.Questions.{asks}
+use Rattle.channel_session_rules.specs.declared.calls.Take.{Take}
+use Rattle.channel_session_rules.specs.declared.calls.Waits.{Waits}
+use Rattle.channel_session_rules.specs.declared.question.Question.{Question}
+use Rattle.channel_session_rules.specs.declared.question.Question.TheVariants as questions
 
 -- what each call keeps, all of them do
 pub kept_along : {A N : Type 0} (R : A → (q : Ask) → Answer q → A → Type 0) (k : A → N)
@@ -86,3 +91,18 @@ left_next items room i left w x is weighs rest r h = rest r (subst (λ (l : List
 
 pub left_end : (items : List Item) (room i left : ℕ) → drop i items ≡ [] → LeftTo items room i left → Leaves items room left
 left_end items room i left is rest = rest left (subst (λ (l : List Item). Leaves l left left) (sym is) refl)
+
+-- a question that is none of a take and none of what waits goes through
+module _ {P : Type 0} (step : P → (q : Ask) → Answer q → P → Type 0) (old new : P × ℕ) where
+  pub others_pass : (k : Question) → ((x : Take) → k ≡ questions.Take x → ⊥) → ((x : Waits) → k ≡ questions.Waits x → ⊥) → (a : Answer (asks k)) → step old.0 (asks k) a new.0 → new.1 ≡ old.1 → Spares step old (asks k) a new
+  others_pass (questions.Track c) nt nw a h e = (h, e)
+  others_pass (questions.Update c) nt nw a h e = (h, e)
+  others_pass (questions.Untrack c) nt nw a h e = (h, e)
+  others_pass (questions.UntrackAll c) nt nw a h e = (h, e)
+  others_pass (questions.List c) nt nw a h e = (h, e)
+  others_pass (questions.Get c) nt nw a h e = (h, e)
+  others_pass (questions.Subscribe c) nt nw a h e = (h, e)
+  others_pass (questions.Take c) nt nw a h e = absurd (nt c refl)
+  others_pass (questions.Unsubscribe c) nt nw a h e = (h, e)
+  others_pass (questions.Waits c) nt nw a h e = absurd (nw c refl)
+  others_pass (questions.Shout c) nt nw a h e = (h, e)

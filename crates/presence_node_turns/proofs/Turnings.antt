@@ -97,7 +97,7 @@ turned {S} {K} old mid new kept held session told =
 -- what was answered goes out
 pub answers : {S K P : Type 0} (w : Around S P) (routes : List (List ℕ × ℕ)) (text : List ℕ) (old mid new : Connection S K) (before after : P)
     (answer : Result (Vec (String Global) Global) SessionFault) (texts : Vec (String Global) Global) (result : Result (Unit {0}) Cause)
-    → RanBy w.worded (Piecewise w.step) routes old.session (decoded the_limits.CLIENT text) (before, old.telling.untold) (after, mid.telling.untold) mid.session answer
+    → RanBy w.worded (Piecewise (w.step old.session.pid)) routes old.session (decoded the_limits.CLIENT text) (before, old.telling.untold) (after, mid.telling.untold) mid.session answer
     → mid ≡ record old { session = mid.session; telling = mid.telling } → answer ≡ Ok texts
     → GoOut w.contents mid.socket new.socket (Ok (texts_in texts)) result → new ≡ record mid { socket = new.socket } → AnswersText w routes text old new before after result
 answers {S} {K} {P} w routes text old mid new before after answer texts result ran held is sent kept =
@@ -107,9 +107,9 @@ answers {S} {K} {P} w routes text old mid new before after answer texts result r
     record {
       answer = Ok texts;
       ran =
-          subst (λ (r : Result (Vec (String Global) Global) SessionFault). RanBy w.worded (Piecewise w.step) routes old.session (decoded the_limits.CLIENT text) (before, old.telling.untold) (after, new.telling.untold) new.session r) is
-          (subst (λ (s : InForce). RanBy w.worded (Piecewise w.step) routes old.session (decoded the_limits.CLIENT text) (before, old.telling.untold) (after, new.telling.untold) s answer) (sym session)
-          (subst (λ (u : Telling). RanBy w.worded (Piecewise w.step) routes old.session (decoded the_limits.CLIENT text) (before, old.telling.untold) (after, u.untold) mid.session answer) (sym told) ran));
+          subst (λ (r : Result (Vec (String Global) Global) SessionFault). RanBy w.worded (Piecewise (w.step old.session.pid)) routes old.session (decoded the_limits.CLIENT text) (before, old.telling.untold) (after, new.telling.untold) new.session r) is
+          (subst (λ (s : InForce). RanBy w.worded (Piecewise (w.step old.session.pid)) routes old.session (decoded the_limits.CLIENT text) (before, old.telling.untold) (after, new.telling.untold) s answer) (sym session)
+          (subst (λ (u : Telling). RanBy w.worded (Piecewise (w.step old.session.pid)) routes old.session (decoded the_limits.CLIENT text) (before, old.telling.untold) (after, u.untold) mid.session answer) (sym told) ran));
       sent = subst (λ (s : Socket S). GoOut w.contents s new.socket (Ok (texts_in texts)) result) socket sent;
       kept = turned old mid new kept held session told;
     }
@@ -118,7 +118,7 @@ answers {S} {K} {P} w routes text old mid new before after answer texts result r
 pub deals : {S K P : Type 0} (w : Around S P) (old mid new : Connection S K) (before after : P) (delivery : Result Delivery SessionFault) (given room : ℕ) (telling : Bool)
     (result : Result Bool Cause) → given ≡ room_in old.socket → telling ≡ is_some old.telling.untold
     → (old.session.failed ≡ true → (delivery ≡ Err Failed) × (mid.session ≡ old.session) × (after ≡ before) × (mid.telling ≡ old.telling))
-    → (old.session.failed ≡ false → DeliveredBy w.worded w.noted (Spares (Piecewise w.step)) MAX_DEALT old.session ((before, old.telling.untold), given) ((after, mid.telling.untold), room) mid.session delivery)
+    → (old.session.failed ≡ false → DeliveredBy w.worded w.noted (Spares (Piecewise (w.step old.session.pid))) MAX_DEALT old.session ((before, old.telling.untold), given) ((after, mid.telling.untold), room) mid.session delivery)
     → mid ≡ record old { session = mid.session; telling = mid.telling }
     → GoOut w.contents mid.socket new.socket (dealt_texts delivery) (dealt result) → IfOk result (λ told. told ≡ may_have_more delivery room (telling || is_some mid.telling.untold))
     → new ≡ record mid { socket = new.socket } → Deals w old new before after result
@@ -131,9 +131,9 @@ deals {S} {K} {P} w old mid new before after delivery given room telling result 
       room = room;
       failed = λ so. ((failed so).0, session ∙ (failed so).1, (failed so).2, told ∙ (failed so).3);
       delivered = λ so.
-          subst (λ (s : InForce). DeliveredBy w.worded w.noted (Spares (Piecewise w.step)) MAX_DEALT old.session ((before, old.telling.untold), room_in old.socket) ((after, new.telling.untold), room) s delivery) (sym session)
-          (subst (λ (u : Telling). DeliveredBy w.worded w.noted (Spares (Piecewise w.step)) MAX_DEALT old.session ((before, old.telling.untold), room_in old.socket) ((after, u.untold), room) mid.session delivery) (sym told)
-          (subst (λ (n : ℕ). DeliveredBy w.worded w.noted (Spares (Piecewise w.step)) MAX_DEALT old.session ((before, old.telling.untold), n) ((after, mid.telling.untold), room) mid.session delivery) is (came so)));
+          subst (λ (s : InForce). DeliveredBy w.worded w.noted (Spares (Piecewise (w.step old.session.pid))) MAX_DEALT old.session ((before, old.telling.untold), room_in old.socket) ((after, new.telling.untold), room) s delivery) (sym session)
+          (subst (λ (u : Telling). DeliveredBy w.worded w.noted (Spares (Piecewise (w.step old.session.pid))) MAX_DEALT old.session ((before, old.telling.untold), room_in old.socket) ((after, u.untold), room) mid.session delivery) (sym told)
+          (subst (λ (n : ℕ). DeliveredBy w.worded w.noted (Spares (Piecewise (w.step old.session.pid))) MAX_DEALT old.session ((before, old.telling.untold), n) ((after, mid.telling.untold), room) mid.session delivery) is (came so)));
       sent = subst (λ (s : Socket S). GoOut w.contents s new.socket (dealt_texts delivery) (dealt result)) socket sent;
       more =
           subst (λ (t : Bool). IfOk result (λ b. b ≡ may_have_more delivery room (t || is_some new.telling.untold))) was

@@ -5,7 +5,7 @@ use Rattle.presence_metas.specs.Values.{state_of, diff_of}
 use Rattle.presence_journal_data.specs.declared.rows.Item.{Item}
 use Rattle.presence_journal_data.specs.declared.rows.Item.TheVariants.{State, Diff, Shout}
 use Rattle.channel_session.specs.Asks.{Ask, Answer, take, waits}
-use Rattle.channel_session.specs.ShardFault.{ShardFault}
+use Rattle.channel_session_rules.specs.declared.refusal.Refusal.{Refusal}
 use Rattle.channel_session.specs.Sub.{Sub}
 use Rattle.presence_node_turns.specs.declared.sparing.TheConstants.{MAX_UNSENT}
 
@@ -20,13 +20,13 @@ abbrev pub Leaves : List Item → ℕ → ℕ → Type 0
 Leaves [] room left = left ≡ room
 Leaves (item ∷ items) room left = (n : ℕ) × Weighs item n × Leaves items (room - n) left
 
-abbrev pub LeavesOf : Result (List Item) ShardFault → ℕ → ℕ → Type 0
+abbrev pub LeavesOf : Result (List Item) Refusal → ℕ → ℕ → Type 0
 LeavesOf (Ok items) room left = Leaves items room left
 LeavesOf (Err fault) room left = left ≡ room
 
 module _ {P : Type 0} (step : P → (q : Ask) → Answer q → P → Type 0) where
   -- Once there is no room nothing is said to wait, and the port isn't asked.
-  abbrev pub SparesWaits : Bool → List ℕ → Sub → P → Result Bool ShardFault → P → Type 0
+  abbrev pub SparesWaits : Bool → List ℕ → Sub → P → Result Bool Refusal → P → Type 0
   SparesWaits true topic sub old a new = (a ≡ Ok false) × (new ≡ old)
   SparesWaits false topic sub old a new = step old (waits topic sub) a new
 

@@ -43,12 +43,12 @@ use Rattle.presence_node_turns.specs.declared.hearing.Heard.TheVariants.{Text, S
 pub record Around (S P : Type 0) : Type 1 where
   pub remaining : S → Option (List ℕ)
   pub contents : S → Option (List ℕ)
-  pub step : P → (q : Ask) → Answer q → P → Type 0
+  pub step : ℕ → P → (q : Ask) → Answer q → P → Type 0
   pub worded : Said → Message → Type 0
   pub noted : Said → List (List ℕ) → Type 0
 
 abbrev pub around : {S P H : Type 0} → (S → Option (List ℕ)) → (S → Option (List ℕ))
-    → (P → (q : Ask) → Answer q → P → Type 0) → Ghosts H → H → Around S P
+    → (ℕ → P → (q : Ask) → Answer q → P → Type 0) → Ghosts H → H → Around S P
 around remaining contents step G hooks =
     record {
       remaining = remaining;
@@ -112,12 +112,12 @@ abbrev pub progress_behind : Result (Unit {0}) SessionFault → Progress
 progress_behind (Ok u) = progress.Over
 progress_behind (Err fault) = progress.Ending
 
-module _ {S K P : Type 0} (step : P → (q : Ask) → Answer q → P → Type 0) where
+module _ {S K P : Type 0} (step : ℕ → P → (q : Ask) → Answer q → P → Type 0) where
   -- The session's end is asked for once, and the connection is over where that is accepted.
   pub record EndsSession (cause : Cause) (old new : Connection S K) (before after : P)
       (result : Progress) : Type 0 where
     pub answer : Result (Unit {0}) SessionFault
-    pub ended : EndedBy step old.session before after new.session answer
+    pub ended : EndedBy (step old.session.pid) old.session before after new.session answer
     pub kept : new ≡ record old { session = new.session; stage = stage_behind cause answer }
     pub told : result ≡ progress_behind answer
 
@@ -176,7 +176,7 @@ module _ {S K P : Type 0} (w : Around S P) where
   pub record AnswersText (routes : List (List ℕ × ℕ)) (text : List ℕ) (old new : Connection S K) (before after : P)
       (result : Result (Unit {0}) Cause) : Type 0 where
     pub answer : Result (Vec (String Global) Global) SessionFault
-    pub ran : RanBy w.worded (Piecewise w.step) routes old.session (decoded the_limits.CLIENT text)
+    pub ran : RanBy w.worded (Piecewise (w.step old.session.pid)) routes old.session (decoded the_limits.CLIENT text)
         (before, old.telling.untold) (after, new.telling.untold) new.session answer
     pub sent : GoOut w.contents old.socket new.socket (ran_texts answer) result
     pub kept : new ≡ record old { socket = new.socket; session = new.session; telling = new.telling }
@@ -213,7 +213,7 @@ module _ {S K P : Type 0} (w : Around S P) where
     pub failed : old.session.failed ≡ true
         → (delivery ≡ Err Failed) × (new.session ≡ old.session) × (after ≡ before) × (new.telling ≡ old.telling)
     pub delivered : old.session.failed ≡ false
-        → DeliveredBy w.worded w.noted (Spares (Piecewise w.step)) MAX_DEALT old.session
+        → DeliveredBy w.worded w.noted (Spares (Piecewise (w.step old.session.pid))) MAX_DEALT old.session
         ((before, old.telling.untold), room_in old.socket) ((after, new.telling.untold), room) new.session delivery
     pub sent : GoOut w.contents old.socket new.socket (dealt_texts delivery) (dealt result)
     pub more : IfOk result

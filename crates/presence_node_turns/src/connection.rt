@@ -164,7 +164,7 @@ impl<S: Read + Write + Drop, K: MaskKeys + Drop> Connection<S, K> {
         text: &str,
     ) -> Result<Vec<String>, SessionFault>
         ensures ran { RanBy (Worded (H.PresenceHooks.fetched channels.entry.hooks.now) (H.PresenceHooks.plain channels.entry.hooks.now))
-            (Piecewise P.step) channels.entry.routes.now self.old.session (decoded Limits.CLIENT text.now)
+            (Piecewise (P.step self.old.session.pid)) channels.entry.routes.now self.old.session (decoded Limits.CLIENT text.now)
             (port.old, self.old.telling.untold) (port.new, self.new.telling.untold) self.new.session result }
         ensures kept { self.new ≡ record self.old { session = self.new.session; telling = self.new.telling } }
     {
@@ -309,7 +309,7 @@ impl<S: Read + Write + Drop, K: MaskKeys + Drop> Connection<S, K> {
         ensures delivered { self.old.session.failed ≡ false → DeliveredBy
             (Worded (H.PresenceHooks.fetched hooks.now) (H.PresenceHooks.plain hooks.now))
             (Noted (H.PresenceHooks.joined hooks.now) (H.PresenceHooks.left hooks.now) (H.PresenceHooks.quiet hooks.now))
-            (Spares (Piecewise P.step)) MAX_DEALT self.old.session ((port.old, self.old.telling.untold), room)
+            (Spares (Piecewise (P.step self.old.session.pid))) MAX_DEALT self.old.session ((port.old, self.old.telling.untold), room)
             ((port.new, self.new.telling.untold), result.1) self.new.session result.0 }
         ensures kept { self.new ≡ record self.old { session = self.new.session; telling = self.new.telling } }
     {

@@ -27,7 +27,7 @@ pub(crate) fn run_over<P: Port, H: PresenceHooks>(
     ensures same_port { pieces.new.port.ghost_name ≡ pieces.old.port.ghost_name }
     ensures same_telling { pieces.new.telling.ghost_name ≡ pieces.old.telling.ghost_name }
     ensures ran { RanBy (Worded (H.PresenceHooks.fetched channels.entry.hooks.now) (H.PresenceHooks.plain channels.entry.hooks.now))
-        (Piecewise P.step) channels.entry.routes.now session.old (decoded Limits.CLIENT text.now)
+        (Piecewise (P.step session.old.pid)) channels.entry.routes.now session.old (decoded Limits.CLIENT text.now)
         (pieces.old.port.now, pieces.old.telling.now.untold) (pieces.new.port.now, pieces.new.telling.now.untold)
         session.new result }
 {
@@ -50,7 +50,7 @@ pub(crate) fn deliver_over<P: Port, H: PresenceHooks>(
     ensures delivered { session.old.failed ≡ false → DeliveredBy
         (Worded (H.PresenceHooks.fetched hooks.now) (H.PresenceHooks.plain hooks.now))
         (Noted (H.PresenceHooks.joined hooks.now) (H.PresenceHooks.left hooks.now) (H.PresenceHooks.quiet hooks.now))
-        (Spares (Piecewise P.step)) MAX_DEALT session.old
+        (Spares (Piecewise (P.step session.old.pid))) MAX_DEALT session.old
         ((pieces.old.port.now, pieces.old.telling.now.untold), room)
         ((pieces.new.port.now, pieces.new.telling.now.untold), result.1) session.new result.0 }
 {

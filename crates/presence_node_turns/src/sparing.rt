@@ -1,5 +1,7 @@
 //! Deliveries that take no further item once so many bytes wait for their connection.
-ghost use Rattle.std.specs.Prelude.{◌≡◌, true, false};
+ghost use Rattle.std.specs.Prelude.{◌≡◌, ◌≤◌, ◌^◌, true, false};
+ghost use Rattle.channel_session_rules.specs.Asks.{take as takes};
+ghost use Rattle.channel_session_rules.specs.Seen.{seen_by};
 ghost use Rattle.channel_session.specs.Delivery.{DeliveredBy, Delivery};
 ghost use Rattle.channel_session.specs.Said.{Worded, Noted};
 ghost use Rattle.channel_session.specs.declared.fault.SessionFault.TheVariants as faults;
@@ -8,10 +10,10 @@ ghost use Rattle.presence_node_turns.specs.declared.connection.TheConstants.{MAX
 ghost use Rattle.presence_node_turns.specs.declared.sparing.TheConstants.{MAX_UNSENT};
 
 use crate::connection::MAX_DEALT;
-use channel_session::{Delivery, Port, Session, SessionFault, ShardFault, Sub, deliver};
+use channel_session::{Delivery, Session, SessionFault, deliver};
+use channel_session_rules::{Call, Port, Question, Refusal, Take, Told, told_to};
 use hook_registry::PresenceHooks;
-use presence_base::{Dot, Json, Key, Meta, Row, Topic};
-use presence_journal::{Item, SharedRows};
+use presence_journal::Item;
 use std::alloc::Global;
 
 /// How many bytes wait for a connection at most before nothing further is taken for it. What a shard has for it waits there.
@@ -49,90 +51,42 @@ pub(crate) struct SparingPort<'a, P> {
     room: usize,
 }
 
+impl<P: Port> SparingPort<'_, P> {
+    // Takes of the port inside. What is taken takes of the room.
+    fn take(&mut self, alloc: Global, pid: u64, take: &Take<'_>) -> Result<Vec<Item>, Refusal>
+        requires { pid ≤ 2 ^ 62 }
+        ensures same_port { self.new.port.ghost_name ≡ self.old.port.ghost_name }
+        ensures taken { Spares (P.step pid) (self.old.port.now, self.old.room) (takes take.now.topic.now take.now.sub take.now.max)
+            (seen_by (λ v. v.items) result) (self.new.port.now, self.new.room) }
+    {
+        match self.port.call(alloc, pid, take) {
+            Ok(items) => {
+                self.room = left_by(items.as_slice(), self.room);
+                Ok(items)
+            }
+            Err(refusal) => Err(refusal),
+        }
+    }
+}
+
 impl<P: Port> Port for SparingPort<'_, P> {
-    ghost step = { λ old q a new. (new.port.ghost_name ≡ old.port.ghost_name)
-        × Spares P.step (old.port.now, old.room) q a (new.port.now, new.room) };
+    ghost step = { λ pid old q a new. (new.port.ghost_name ≡ old.port.ghost_name)
+        × Spares (P.step pid) (old.port.now, old.room) q a (new.port.now, new.room) };
 
-    fn track(
-        &mut self,
-        alloc: Global,
-        pid: u64,
-        topic: &Topic,
-        key: &Key,
-        meta: &Meta,
-    ) -> Result<Dot, ShardFault> {
-        self.port.track(alloc, pid, topic, key, meta)
-    }
-
-    fn update(
-        &mut self,
-        alloc: Global,
-        pid: u64,
-        topic: &Topic,
-        key: &Key,
-        meta: &Meta,
-    ) -> Result<Dot, ShardFault> {
-        self.port.update(alloc, pid, topic, key, meta)
-    }
-
-    fn untrack(
-        &mut self,
-        alloc: Global,
-        pid: u64,
-        topic: &Topic,
-        key: &Key,
-    ) -> Result<(), ShardFault> {
-        self.port.untrack(alloc, pid, topic, key)
-    }
-
-    fn untrack_all(&mut self, alloc: Global, pid: u64, topic: &Topic) -> Result<(), ShardFault> {
-        self.port.untrack_all(alloc, pid, topic)
-    }
-
-    fn list(&mut self, alloc: Global, topic: &Topic) -> Result<SharedRows, ShardFault> {
-        self.port.list(alloc, topic)
-    }
-
-    fn get(
-        &mut self,
-        alloc: Global,
-        topic: &Topic,
-        key: &Key,
-    ) -> Result<Vec<(Dot, Row)>, ShardFault> {
-        self.port.get(alloc, topic, key)
-    }
-
-    fn subscribe(&mut self, alloc: Global, topic: &Topic) -> Result<Sub, ShardFault> {
-        self.port.subscribe(alloc, topic)
-    }
-
-    fn take(
-        &mut self,
-        alloc: Global,
-        topic: &Topic,
-        sub: &Sub,
-        max: u32,
-    ) -> Result<Vec<Item>, ShardFault> {
-        let answer = self.port.take(alloc, topic, sub, max);
-        if let Ok(items) = &answer {
-            self.room = left_by(items.as_slice(), self.room);
+    fn call<C: Call>(&mut self, alloc: Global, pid: u64, call: &C) -> Result<C::Answer, Refusal> {
+        match call.question() {
+            Question::Take(take) => match self.take(alloc, pid, &take) {
+                Ok(items) => Ok(told_to(call, Told::Items(items))),
+                Err(refusal) => Err(refusal),
+            },
+            Question::Waits(_) => {
+                if self.room == 0 {
+                    return Ok(told_to(call, Told::Waits(false)));
+                }
+                self.port.call(alloc, pid, call)
+            }
+            _ => self.port.call(alloc, pid, call),
         }
-        answer
-    }
-
-    fn unsubscribe(&mut self, alloc: Global, topic: &Topic, sub: &Sub) -> Result<(), ShardFault> {
-        self.port.unsubscribe(alloc, topic, sub)
-    }
-
-    fn waits(&mut self, topic: &Topic, sub: &Sub) -> Result<bool, ShardFault> {
-        if self.room == 0 {
-            return Ok(false);
-        }
-        self.port.waits(topic, sub)
-    }
-
-    fn shout(&mut self, alloc: Global, topic: &Topic, payload: &Json) -> Result<(), ShardFault> {
-        self.port.shout(alloc, topic, payload)
     }
 }
 
@@ -149,7 +103,7 @@ fn deliver_sparing<P: Port, H: PresenceHooks>(
     ensures delivered { session.old.failed ≡ false → DeliveredBy
         (Worded (H.PresenceHooks.fetched hooks.now) (H.PresenceHooks.plain hooks.now))
         (Noted (H.PresenceHooks.joined hooks.now) (H.PresenceHooks.left hooks.now) (H.PresenceHooks.quiet hooks.now))
-        (Spares P.step) MAX_DEALT session.old (port.old.port.now, port.old.room) (port.new.port.now, port.new.room)
+        (Spares (P.step session.old.pid)) MAX_DEALT session.old (port.old.port.now, port.old.room) (port.new.port.now, port.new.room)
         session.new result }
 {
     deliver(alloc, session, port, hooks, MAX_DEALT)
@@ -169,7 +123,7 @@ pub(crate) fn deliver_within<P: Port, H: PresenceHooks>(
     ensures delivered { session.old.failed ≡ false → DeliveredBy
         (Worded (H.PresenceHooks.fetched hooks.now) (H.PresenceHooks.plain hooks.now))
         (Noted (H.PresenceHooks.joined hooks.now) (H.PresenceHooks.left hooks.now) (H.PresenceHooks.quiet hooks.now))
-        (Spares P.step) MAX_DEALT session.old (port.old, room) (port.new, result.1) session.new result.0 }
+        (Spares (P.step session.old.pid)) MAX_DEALT session.old (port.old, room) (port.new, result.1) session.new result.0 }
 {
     let mut sparing = SparingPort { port, room };
     let delivery = deliver_sparing(alloc, session, &mut sparing, hooks);

@@ -3,12 +3,13 @@
 ghost use Rattle.std.specs.Prelude.{IsTrue, IfSome};
 ghost use Rattle.presence_journal.specs.Limits.{is_payload};
 
+use channel_session_rules::{Track, Untrack, UntrackAll, Update};
 use presence_base::{Json, Key, Meta, Topic, has_float, is_within_depth};
 use presence_journal::MAX_PAYLOAD_DEPTH;
 use presence_node_rationing::{GuardedPort, RationedPort};
 use presence_node_rations::{Amount, OwnBudgets, Rations, SharedBudgets, TopicBudgets};
 use serde_json::Value;
-use session_desk::{Port, ShardFault, TestPort};
+use session_desk::{Port, Refusal, ShardFault, TestPort};
 use std::alloc::Global;
 use std::sync::Wait;
 use std::test::Fail;
@@ -69,10 +70,10 @@ enum Does {
     Untrack,
 }
 
-fn fault_of<T: Drop>(answer: Result<T, ShardFault>) -> Option<ShardFault> {
+fn refusal_of<T: Drop>(answer: Result<T, Refusal>) -> Option<Refusal> {
     match answer {
         Ok(_) => None,
-        Err(fault) => Some(fault),
+        Err(refusal) => Some(refusal),
     }
 }
 
@@ -83,15 +84,15 @@ fn refusal<P: Port>(
     is_second: bool,
     rows: &Rows,
     row: (Does, usize),
-) -> Option<Option<ShardFault>> {
+) -> Option<Option<Refusal>> {
     let pid = if is_second { 2 } else { 1 };
     let key = key_at(alloc, row.1)?;
-    let fault = match row.0 {
-        Does::Track => fault_of(port.track(alloc, pid, &rows.topic, &key, &rows.meta)),
-        Does::Update => fault_of(port.update(alloc, pid, &rows.topic, &key, &rows.meta)),
-        Does::Untrack => fault_of(port.untrack(alloc, pid, &rows.topic, &key)),
-    };
-    Some(fault)
+    let (topic, key, meta) = (&rows.topic, &key, &rows.meta);
+    Some(match row.0 {
+        Does::Track => refusal_of(port.call(alloc, pid, &Track { topic, key, meta })),
+        Does::Update => refusal_of(port.call(alloc, pid, &Update { topic, key, meta })),
+        Does::Untrack => refusal_of(port.call(alloc, pid, &Untrack { topic, key })),
+    })
 }
 
 // How many rows of a connection are tracked, from this one on, up to the first that is refused, and why that one is.
@@ -101,7 +102,7 @@ fn tracked_from<P: Port>(
     is_second: bool,
     rows: &Rows,
     first: usize,
-) -> Option<(usize, ShardFault)> {
+) -> Option<(usize, Refusal)> {
     for number in first..first.saturating_add(2_000) {
         if let Some(fault) = refusal(alloc, port, is_second, rows, (Does::Track, number))? {
             return Some((number.saturating_sub(first), fault));
@@ -115,7 +116,7 @@ fn tracked<P: Port>(
     port: &mut P,
     is_second: bool,
     rows: &Rows,
-) -> Option<(usize, ShardFault)> {
+) -> Option<(usize, Refusal)> {
     tracked_from(alloc, port, is_second, rows, 0)
 }
 
@@ -128,7 +129,7 @@ fn rows_have_a_limit(rt: HostRuntime) -> Result<(), Fail> {
     };
     let mut rations = Rations::new(alloc);
     let mut port = RationedPort::new(inner, &mut rations, OwnBudgets::new(alloc, AMPLE));
-    let full = ShardFault::ClockFull;
+    let full = Refusal::OverRation;
     assert_eq!(rt;
         tracked(alloc, &mut port, false, &rows),
         Some((1_024, full))
@@ -139,13 +140,22 @@ fn rows_have_a_limit(rt: HostRuntime) -> Result<(), Fail> {
     for (row, wanted) in [
         ((Does::Track, 1_500), None),
         ((Does::Track, 1_501), Some(full)),
-        ((Does::Track, 3), Some(ShardFault::AlreadyTracked)),
+        (
+            (Does::Track, 3),
+            Some(Refusal::Table(ShardFault::AlreadyTracked)),
+        ),
         ((Does::Update, 3), None),
-        ((Does::Update, 1_501), Some(ShardFault::NoPresence)),
+        (
+            (Does::Update, 1_501),
+            Some(Refusal::Table(ShardFault::NoPresence)),
+        ),
     ] {
         assert_eq!(rt; refusal(alloc, &mut port, false, &rows, row), Some(wanted));
     }
-    assert!(rt; port.untrack_all(alloc, 1, &rows.topic).is_ok());
+    assert!(rt;
+        port.call(alloc, 1, &UntrackAll { topic: &rows.topic })
+            .is_ok()
+    );
     assert_eq!(rt;
         tracked(alloc, &mut port, false, &rows),
         Some((1_024, full))
@@ -170,9 +180,18 @@ fn a_leave_forgets_one_topic(rt: HostRuntime) -> Result<(), Fail> {
         let answer = refusal(alloc, &mut port, false, &hall, (Does::Track, number));
         assert_eq!(rt; answer, Some(None));
     }
-    let full = ShardFault::ClockFull;
+    let full = Refusal::OverRation;
     assert_eq!(rt; tracked(alloc, &mut port, false, &lobby), Some((424, full)));
-    assert!(rt; port.untrack_all(alloc, 1, &lobby.topic).is_ok());
+    assert!(rt;
+        port.call(
+            alloc,
+            1,
+            &UntrackAll {
+                topic: &lobby.topic
+            }
+        )
+        .is_ok()
+    );
     assert_eq!(rt; tracked(alloc, &mut port, false, &lobby), Some((424, full)));
     Ok(())
 }
@@ -191,7 +210,7 @@ fn bytes_have_a_limit(rt: HostRuntime) -> Result<(), Fail> {
     };
     let mut rations = Rations::new(alloc);
     let mut port = RationedPort::new(inner, &mut rations, OwnBudgets::new(alloc, AMPLE));
-    let full = ShardFault::ClockFull;
+    let full = Refusal::OverRation;
     assert_eq!(rt; tracked(alloc, &mut port, false, &large), Some((65, full)));
     assert_eq!(rt;
         refusal(alloc, &mut port, false, &small, (Does::Update, 9)),
@@ -234,7 +253,7 @@ fn a_topic_has_a_budget(rt: HostRuntime) -> Result<(), Fail> {
         bytes: 1_000,
     };
     let mut port = RationedPort::new(inner, &mut rations, OwnBudgets::new(alloc, budget));
-    let full = ShardFault::ClockFull;
+    let full = Refusal::OverRation;
     for number in 0..6_usize {
         let answer = refusal(alloc, &mut port, false, &lobby, (Does::Track, number));
         assert_eq!(rt; answer, Some(None));
@@ -244,7 +263,11 @@ fn a_topic_has_a_budget(rt: HostRuntime) -> Result<(), Fail> {
     let (rows, bytes) = (10, 240);
     assert_eq!(rt; port.budgets().taken(&lobby.topic), Amount { rows, bytes });
     for (is_second, row, wanted) in [
-        (false, (Does::Track, 5), Some(ShardFault::AlreadyTracked)),
+        (
+            false,
+            (Does::Track, 5),
+            Some(Refusal::Table(ShardFault::AlreadyTracked)),
+        ),
         (false, (Does::Untrack, 5), None),
         (true, (Does::Track, 7), None),
         (true, (Does::Track, 8), Some(full)),
@@ -254,10 +277,28 @@ fn a_topic_has_a_budget(rt: HostRuntime) -> Result<(), Fail> {
             Some(wanted)
         );
     }
-    assert!(rt; port.untrack_all(alloc, 2, &lobby.topic).is_ok());
+    assert!(rt;
+        port.call(
+            alloc,
+            2,
+            &UntrackAll {
+                topic: &lobby.topic
+            }
+        )
+        .is_ok()
+    );
     let (rows, bytes) = (5, 120);
     assert_eq!(rt; port.budgets().taken(&lobby.topic), Amount { rows, bytes });
-    assert!(rt; port.untrack_all(alloc, 1, &lobby.topic).is_ok());
+    assert!(rt;
+        port.call(
+            alloc,
+            1,
+            &UntrackAll {
+                topic: &lobby.topic
+            }
+        )
+        .is_ok()
+    );
     assert_eq!(rt; port.budgets().taken(&lobby.topic), Amount::NOTHING);
     Ok(())
 }
@@ -279,7 +320,7 @@ fn a_topics_bytes_have_a_budget(rt: HostRuntime) -> Result<(), Fail> {
         bytes: 300,
     };
     let mut port = RationedPort::new(inner, &mut rations, OwnBudgets::new(alloc, budget));
-    let full = Some(ShardFault::ClockFull);
+    let full = Some(Refusal::OverRation);
     for (is_second, rows, row, wanted, bytes) in [
         (false, &large, (Does::Track, 1), None, 124),
         (true, &large, (Does::Track, 2), None, 248),
@@ -331,7 +372,7 @@ fn workers_share_a_topics_budget(rt: HostRuntime) -> Result<(), Fail> {
     let (mut rations, mut others) = (Rations::new(alloc), Rations::new(alloc));
     let mut port = shared(&rt, inner, &mut rations, &budgets);
     let mut beside = shared(&rt, other, &mut others, &budgets);
-    let refused = Some(ShardFault::JournalFull);
+    let refused = Some(Refusal::Table(ShardFault::JournalFull));
     let answer = refusal(alloc, &mut port, false, &small, (Does::Track, 1));
     assert_eq!(rt; answer, Some(None));
     assert_eq!(rt;
@@ -342,7 +383,7 @@ fn workers_share_a_topics_budget(rt: HostRuntime) -> Result<(), Fail> {
         budgets.taken(&rt, &small.topic),
         Amount { rows: 1, bytes: 24 }
     );
-    let full = ShardFault::ClockFull;
+    let full = Refusal::OverRation;
     assert_eq!(rt; tracked(alloc, &mut beside, true, &small), Some((3, full)));
     assert_eq!(rt;
         refusal(alloc, &mut port, false, &small, (Does::Track, 2)),
@@ -378,7 +419,7 @@ fn refusals_of_the_shard_are_not_counted(rt: HostRuntime) -> Result<(), Fail> {
         let answer = refusal(alloc, &mut port, false, &small, (Does::Track, 1));
         assert_eq!(rt; answer, Some(None));
         let answer = refusal(alloc, &mut port, false, &other, row);
-        assert_eq!(rt; answer, Some(Some(ShardFault::JournalFull)));
+        assert_eq!(rt; answer, Some(Some(Refusal::Table(ShardFault::JournalFull))));
         let taken = port.budgets().taken(&small.topic);
         assert_eq!(rt; taken, Amount { rows: 1, bytes: 24 });
     }
@@ -399,7 +440,18 @@ fn keys_count_as_they_are_told(rt: HostRuntime) -> Result<(), Fail> {
     };
     let mut rations = Rations::new(alloc);
     let mut port = RationedPort::new(inner, &mut rations, OwnBudgets::new(alloc, AMPLE));
-    assert!(rt; port.track(alloc, 1, &rows.topic, &key, &rows.meta).is_ok());
+    assert!(rt;
+        port.call(
+            alloc,
+            1,
+            &Track {
+                topic: &rows.topic,
+                key: &key,
+                meta: &rows.meta
+            }
+        )
+        .is_ok()
+    );
     let taken = port.budgets().taken(&rows.topic);
     assert_eq!(rt; taken, Amount { rows: 1, bytes: 26 });
     Ok(())
@@ -434,7 +486,7 @@ fn tight_memory_takes_nothing_more(rt: HostRuntime) -> Result<(), Fail> {
         None
     );
     let mut tight = GuardedPort::new(ample, true);
-    let full = Some(ShardFault::ClockFull);
+    let full = Some(Refusal::OverRation);
     assert_eq!(rt;
         fault_of(tight.track(alloc, 2, &rows.topic, &key, &rows.meta)),
         full

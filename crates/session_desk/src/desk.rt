@@ -5,6 +5,7 @@ use crate::texts::{JOIN, JOINED, error_reply, message, ok_reply};
 use channel_session::{
     Channels, Delivery, Session, SessionFault, ShardFault, deliver, end, run_text,
 };
+use channel_session_rules::Refusal;
 use hook_registry::{NoHooks, Routes};
 use std::alloc::{AllocError, Global};
 
@@ -215,7 +216,7 @@ impl Desk {
     // Lets the call after this many be refused, from here on.
     pub fn refuse(&mut self, after: u32, fault: ShardFault) {
         self.port.refused = self.port.calls.saturating_add(after);
-        self.port.fault = fault;
+        self.port.refusal = Refusal::Table(fault);
     }
 
     // Ends the session.

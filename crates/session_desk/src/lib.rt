@@ -11,6 +11,7 @@ pub use channel_session::{
     Channels, Delivery, LocalPort, Port, Session, SessionFault, Shard, ShardFault, Sub, deliver,
     end, run_text,
 };
+pub use channel_session_rules::{Call, Refusal};
 pub use desk::{Desk, are_texts, desk_of, fault_for, joined_desk};
 pub use port::TestPort;
 pub use texts::{

@@ -1,8 +1,8 @@
 //! A port over a shard that refuses one of its calls.
 
-use channel_session::{Port, Shard, ShardFault, Sub};
-use presence_base::{Dot, Json, Key, Meta, NodeName, Replica, Row, Topic};
-use presence_journal::{Item, SharedRows};
+use channel_session::{LocalPort, Port, Shard, ShardFault};
+use channel_session_rules::{Call, Refusal};
+use presence_base::{NodeName, Replica, Topic};
 use presence_journal_walks::walk_topic;
 use std::alloc::Global;
 
@@ -11,7 +11,7 @@ pub struct TestPort {
     pub shard: Shard,
     pub calls: u32,
     pub refused: u32,
-    pub fault: ShardFault,
+    pub refusal: Refusal,
 }
 
 impl Drop for TestPort {
@@ -20,7 +20,7 @@ impl Drop for TestPort {
             shard,
             calls: _,
             refused: _,
-            fault: _,
+            refusal: _,
         } = self;
         drop(shard);
     }
@@ -50,14 +50,14 @@ impl TestPort {
             shard: Shard::new(alloc, own),
             calls: 0,
             refused: u32::MAX,
-            fault: ShardFault::JournalFull,
+            refusal: Refusal::Table(ShardFault::JournalFull),
         })
     }
 
     // Lets the next call be refused so.
     pub fn refuse_next(&mut self, fault: ShardFault) {
         self.refused = self.calls;
-        self.fault = fault;
+        self.refusal = Refusal::Table(fault);
     }
 
     // Whether nobody is present on the topic, and nobody subscribes to any.
@@ -72,11 +72,11 @@ impl TestPort {
     }
 
     // The refusal of this call, where it is the one.
-    fn refusal(&mut self) -> Option<ShardFault> {
+    fn refusal_now(&mut self) -> Option<Refusal> {
         let now = self.calls;
         self.calls = now.saturating_add(1);
         if now == self.refused {
-            Some(self.fault)
+            Some(self.refusal)
         } else {
             None
         }
@@ -84,119 +84,13 @@ impl TestPort {
 }
 
 impl Port for TestPort {
-    ghost step = { λ old q a new. Unit {0} };
+    ghost step = { λ pid old q a new. Unit {0} };
 
-    fn track(
-        &mut self,
-        alloc: Global,
-        pid: u64,
-        topic: &Topic,
-        key: &Key,
-        meta: &Meta,
-    ) -> Result<Dot, ShardFault> {
-        match self.refusal() {
-            Some(fault) => Err(fault),
-            None => self.shard.track(alloc, None, pid, topic, key, meta),
+    fn call<C: Call>(&mut self, alloc: Global, pid: u64, call: &C) -> Result<C::Answer, Refusal> {
+        if let Some(refusal) = self.refusal_now() {
+            return Err(refusal);
         }
-    }
-
-    fn update(
-        &mut self,
-        alloc: Global,
-        pid: u64,
-        topic: &Topic,
-        key: &Key,
-        meta: &Meta,
-    ) -> Result<Dot, ShardFault> {
-        match self.refusal() {
-            Some(fault) => Err(fault),
-            None => self.shard.update(alloc, None, pid, topic, key, meta),
-        }
-    }
-
-    fn untrack(
-        &mut self,
-        alloc: Global,
-        pid: u64,
-        topic: &Topic,
-        key: &Key,
-    ) -> Result<(), ShardFault> {
-        match self.refusal() {
-            Some(fault) => Err(fault),
-            None => match self.shard.untrack(alloc, None, pid, topic, key) {
-                Ok(_) => Ok(()),
-                Err(fault) => Err(fault),
-            },
-        }
-    }
-
-    fn untrack_all(&mut self, alloc: Global, pid: u64, topic: &Topic) -> Result<(), ShardFault> {
-        match self.refusal() {
-            Some(fault) => Err(fault),
-            None => match self.shard.untrack_all(alloc, None, pid, topic) {
-                Ok(_) => Ok(()),
-                Err(fault) => Err(fault),
-            },
-        }
-    }
-
-    fn list(&mut self, alloc: Global, topic: &Topic) -> Result<SharedRows, ShardFault> {
-        match self.refusal() {
-            Some(fault) => Err(fault),
-            None => self.shard.list(alloc, None, topic),
-        }
-    }
-
-    fn get(
-        &mut self,
-        alloc: Global,
-        topic: &Topic,
-        key: &Key,
-    ) -> Result<Vec<(Dot, Row)>, ShardFault> {
-        match self.refusal() {
-            Some(fault) => Err(fault),
-            None => self.shard.get(alloc, None, topic, key),
-        }
-    }
-
-    fn subscribe(&mut self, alloc: Global, topic: &Topic) -> Result<Sub, ShardFault> {
-        match self.refusal() {
-            Some(fault) => Err(fault),
-            None => self.shard.subscribe(alloc, None, topic),
-        }
-    }
-
-    fn take(
-        &mut self,
-        alloc: Global,
-        topic: &Topic,
-        sub: &Sub,
-        max: u32,
-    ) -> Result<Vec<Item>, ShardFault> {
-        match self.refusal() {
-            Some(fault) => Err(fault),
-            None => self.shard.take(alloc, None, sub, max),
-        }
-    }
-
-    fn unsubscribe(&mut self, alloc: Global, topic: &Topic, sub: &Sub) -> Result<(), ShardFault> {
-        match self.refusal() {
-            Some(fault) => Err(fault),
-            None => self.shard.unsubscribe(alloc, None, sub),
-        }
-    }
-
-    fn waits(&mut self, topic: &Topic, sub: &Sub) -> Result<bool, ShardFault> {
-        match self.refusal() {
-            Some(fault) => Err(fault),
-            None => self.shard.waits(sub),
-        }
-    }
-
-    fn shout(&mut self, alloc: Global, topic: &Topic, payload: &Json) -> Result<(), ShardFault> {
-        match self.refusal() {
-            Some(fault) => Err(fault),
-            None => self.shard.shout(alloc, None, topic, payload),
-        }
+        let mut port = LocalPort::new(&mut self.shard);
+        port.call(alloc, pid, call)
     }
 }

@@ -3,8 +3,8 @@
 use hook_registry::{Notice, PresenceHooks, Routes};
 use presence_base::{NodeName, Replica};
 use session_desk::{
-    Channels, Delivery, LocalPort, Session, SessionFault, Shard, ShardFault, TestPort, are_texts,
-    deliver, end, run_text,
+    Channels, Delivery, LocalPort, Refusal, Session, SessionFault, Shard, ShardFault, TestPort,
+    are_texts, deliver, end, run_text,
 };
 use std::alloc::Global;
 
@@ -145,7 +145,7 @@ impl<H: Drop> Client<H> {
             shard,
             calls: 0,
             refused: u32::MAX,
-            fault: ShardFault::JournalFull,
+            refusal: Refusal::Table(ShardFault::JournalFull),
         }
     }
 }

@@ -1,5 +1,9 @@
 //! A port that notes which topics its calls may have changed: each of its calls, accepted and refused.
 
+use channel_session_rules::{
+    Get, List, Refusal, Shout, Subscribe, Take, Track, Unsubscribe, Untrack, UntrackAll, Update,
+    Waits,
+};
 use presence_base::{Json, Key, Meta, Topic, has_float, is_within_depth};
 use presence_journal::{MAX_PAYLOAD_DEPTH, Payload};
 use presence_node_hints::HintingPort;
@@ -39,7 +43,7 @@ enum Answer {
 // The answer, whether the topic was noted, and how many topics were.
 #[derive(Clone, Copy, Debug, PartialEq)]
 struct Seen {
-    answer: Result<Answer, ShardFault>,
+    answer: Result<Answer, Refusal>,
     noted: bool,
     topics: usize,
 }
@@ -103,8 +107,13 @@ fn place_of<P: Port>(alloc: Global, port: &mut P, call: Call) -> Option<Place> {
     let topic = topic_of(alloc, "room:lobby")?;
     let first = key_of(alloc, "u1")?;
     let meta = meta_of(alloc)?;
-    let _dot = port.track(alloc, 1, &topic, &first, &meta).ok()?;
-    let sub = port.subscribe(alloc, &topic).ok()?;
+    let track = Track {
+        topic: &topic,
+        key: &first,
+        meta: &meta,
+    };
+    let _dot = port.call(alloc, 1, &track).ok()?;
+    let sub = port.call(alloc, 1, &Subscribe { topic: &topic }).ok()?;
     Some(Place {
         topic,
         key: key_of(alloc, key_named(call))?,
@@ -120,7 +129,7 @@ fn change<P: Port>(
     port: &mut P,
     place: &Place,
     call: Call,
-) -> Result<Answer, ShardFault> {
+) -> Result<Answer, Refusal> {
     let Place {
         topic,
         key,
@@ -129,19 +138,26 @@ fn change<P: Port>(
         sub: _,
     } = place;
     match call {
-        Call::Track(_) => Ok(Answer::Count(port.track(alloc, 1, topic, key, meta)?.count)),
-        Call::Update(_) => Ok(Answer::Count(port.update(alloc, 1, topic, key, meta)?.count)),
+        Call::Track(_) => {
+            let dot = port.call(alloc, 1, &Track { topic, key, meta })?;
+            Ok(Answer::Count(dot.count))
+        },
+        Call::Update(_) => {
+            let dot = port.call(alloc, 1, &Update { topic, key, meta })?;
+            Ok(Answer::Count(dot.count))
+        },
         Call::Untrack(_) => {
-            port.untrack(alloc, 1, topic, key)?;
+            port.call(alloc, 1, &Untrack { topic, key })?;
             Ok(Answer::Done)
         }
         Call::UntrackAll => {
-            port.untrack_all(alloc, 1, topic)?;
+            port.call(alloc, 1, &UntrackAll { topic })?;
             Ok(Answer::Done)
         }
         _ => {
             let payload = payload.to_json(alloc)?;
-            port.shout(alloc, topic, &payload)?;
+            let payload = &payload;
+            port.call(alloc, 1, &Shout { topic, payload })?;
             Ok(Answer::Done)
         }
     }
@@ -152,16 +168,38 @@ fn make<P: Port>(
     port: &mut P,
     place: &Place,
     call: Call,
-) -> Result<Answer, ShardFault> {
-    let topic = &place.topic;
+) -> Result<Answer, Refusal> {
+    let Place {
+        topic,
+        key,
+        sub,
+        ..
+    } = place;
+    let sub = *sub;
     match call {
-        Call::List => Ok(Answer::Rows(port.list(alloc, topic)?.as_slice().len())),
-        Call::Get(_) => Ok(Answer::Rows(port.get(alloc, topic, &place.key)?.len())),
-        Call::Subscribe => Ok(Answer::Subscriber(port.subscribe(alloc, topic)?.number)),
-        Call::Take => Ok(Answer::Items(port.take(alloc, topic, &place.sub, 256)?.len())),
-        Call::Waits => Ok(Answer::Waits(port.waits(topic, &place.sub)?)),
+        Call::List => {
+            let rows = port.call(alloc, 1, &List { topic })?;
+            Ok(Answer::Rows(rows.as_slice().len()))
+        },
+        Call::Get(_) => {
+            let rows = port.call(alloc, 1, &Get { topic, key })?;
+            Ok(Answer::Rows(rows.len()))
+        },
+        Call::Subscribe => {
+            let sub = port.call(alloc, 1, &Subscribe { topic })?;
+            Ok(Answer::Subscriber(sub.number))
+        },
+        Call::Take => {
+            let take = Take {
+                topic,
+                sub,
+                max: 256,
+            };
+            Ok(Answer::Items(port.call(alloc, 1, &take)?.len()))
+        },
+        Call::Waits => Ok(Answer::Waits(port.call(alloc, 1, &Waits { topic, sub })?)),
         Call::Unsubscribe => {
-            port.unsubscribe(alloc, topic, &place.sub)?;
+            port.call(alloc, 1, &Unsubscribe { topic, sub })?;
             Ok(Answer::Done)
         }
         _ => change(alloc, port, place, call),
@@ -193,7 +231,7 @@ const fn noted(answer: Answer) -> Seen {
     }
 }
 
-const fn beside(answer: Result<Answer, ShardFault>) -> Seen {
+const fn beside(answer: Result<Answer, Refusal>) -> Seen {
     Seen {
         answer,
         noted: false,
@@ -218,8 +256,14 @@ fn accepted_calls_that_change_are_noted(rt: HostRuntime) -> Result<(), Fail> {
         (Call::Take, beside(Ok(Answer::Items(1)))),
         (Call::Waits, beside(Ok(Answer::Waits(true)))),
         (Call::Unsubscribe, beside(Ok(Answer::Done))),
-        (Call::Track("u1"), beside(Err(ShardFault::AlreadyTracked))),
-        (Call::Update("u9"), beside(Err(ShardFault::NoPresence))),
+        (
+            Call::Track("u1"),
+            beside(Err(Refusal::Table(ShardFault::AlreadyTracked))),
+        ),
+        (
+            Call::Update("u9"),
+            beside(Err(Refusal::Table(ShardFault::NoPresence))),
+        ),
     ] {
         assert_eq!(rt; seen_of(rt.alloc(), call, None), Some(want));
     }
@@ -244,7 +288,7 @@ fn refused_calls_are_not_noted(rt: HostRuntime) -> Result<(), Fail> {
     ] {
         assert_eq!(rt;
             seen_of(rt.alloc(), call, Some(fault)),
-            Some(beside(Err(fault)))
+            Some(beside(Err(Refusal::Table(fault))))
         );
     }
     Ok(())

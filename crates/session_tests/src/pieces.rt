@@ -3,6 +3,7 @@
 
 use crate::client::{routes_of, shard_of};
 use channel_session_pieces::{MAX_STATE_BYTES, PIECE_BYTES, PiecewisePort, Telling};
+use channel_session_rules::{Take, Waits};
 use hook_registry::NoHooks;
 use presence_base::{Dot, Key, Meta, Row, Topic};
 use presence_journal::Item;
@@ -115,10 +116,16 @@ fn told_to(
 }
 
 // Whether something is said to wait for a subscriber.
-fn is_waiting(shard: &mut Shard, telling: &mut Telling, topic: &Topic, sub: &Sub) -> bool {
+fn is_waiting(
+    alloc: Global,
+    shard: &mut Shard,
+    telling: &mut Telling,
+    topic: &Topic,
+    sub: &Sub,
+) -> bool {
     let mut local = LocalPort::new(shard);
     let mut port = PiecewisePort::new(&mut local, telling);
-    port.waits(topic, sub) == Ok(true)
+    port.call(alloc, 1, &Waits { topic, sub: *sub }) == Ok(true)
 }
 
 // What a take of it gives.
@@ -131,7 +138,12 @@ fn taken(
 ) -> Option<Vec<Item>> {
     let mut local = LocalPort::new(shard);
     let mut port = PiecewisePort::new(&mut local, telling);
-    port.take(alloc, topic, sub, 16).ok()
+    let take = Take {
+        topic,
+        sub: *sub,
+        max: 16,
+    };
+    port.call(alloc, 1, &take).ok()
 }
 
 impl Newcomer {
@@ -276,7 +288,7 @@ impl Side {
 
     // Whether something is said to wait.
     fn waits(&mut self, telling: &mut Telling) -> bool {
-        is_waiting(&mut self.shard, telling, &self.topic, &self.sub)
+        is_waiting(alloc, &mut self.shard, telling, &self.topic, &self.sub)
     }
 
     // Whether a take gives so many rows, which are of its room.

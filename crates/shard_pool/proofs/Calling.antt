@@ -9,41 +9,44 @@ use Rattle.shard_pool_locks.specs.Hands.{Hand}
 use Rattle.shard_pool_locks.specs.Seated.{Called}
 use Rattle.shard_pool_locks.specs.Lines.{IsOfShard}
 use Rattle.shard_pool.specs.Seats.{Hands, CalledAt, IsOfShardAt, IsSeated, shard_of}
+use Rattle.shard_pool.proofs.AtNumber.{last_shard, shard_of_name}
 
-module _ {A : Type 0} (First Second Third Fourth : History → Type 0) (node name t : List ℕ) (n shard : ℕ) (there : History → Bool) (old : Hands) (x : Hand) (step : Step) (Gives : History → A → Type 0) (r : Result (Reply A) ShardFault) where
+module _ {A : Type 0} (Begins : ℕ → History → Type 0) (First : History → Type 0) (node name t : List ℕ) (n shard : ℕ) (there : History → Bool) (old : Hands) (x : Hand) (step : Step) (Gives : History → A → Type 0) (r : Result (Reply A) ShardFault) where
   abbrev Here : ℕ → History → Type 0
-  Here = IsOfShardAt node First Second Third Fourth
+  Here = IsOfShardAt node Begins
 
-  renamed : (Begins : History → Type 0) (h : Hand) → name ≡ node → Called (IsOfShard name Begins) there h x step Gives r → Called (IsOfShard node Begins) there h x step Gives r
-  renamed Begins h named called = subst (λ (m : List ℕ). Called (IsOfShard m Begins) there h x step Gives r) named called
+  called_here : (k : ℕ) (h : Hand) → ((j : History) → First j → Begins k j) → name ≡ node → Called (IsOfShard name First) there h x step Gives r → Called (Here k) there h x step Gives r
+  called_here k h law named c = record {
+    history = c.history;
+    left = c.left;
+    legal = c.legal;
+    here = shard_of_name First (Begins k) law name node c.history named c.here;
+    made = c.made;
+    notes = c.notes;
+    answer = c.answer;
+    due = c.due;
+  }
 
-  moved : (new : Hands) → shard ≡ shard_of t n → CalledAt Here there old new shard step Gives r → CalledAt Here there old new (shard_of t n) step Gives r
-  moved new is called = subst (λ (s : ℕ). CalledAt Here there old new s step Gives r) is called
+  moved : (k : ℕ) (new : Hands) → k ≡ shard_of t n → CalledAt Here there old new k step Gives r → CalledAt Here there old new (shard_of t n) step Gives r
+  moved k new is called = subst (λ (s : ℕ). CalledAt Here there old new s step Gives r) is called
 
-  pub called_first : name ≡ node → shard ≡ shard_of t n → shard ≡ 0 → IsSeated old → Called (IsOfShard name First) there old.first x step Gives r
+  pub called_first : ((h : History) → First h → Begins 0 h) → name ≡ node → shard ≡ shard_of t n → shard ≡ 0 → IsSeated old → Called (IsOfShard name First) there old.first x step Gives r
       → CalledAt Here there old (record { number = old.number; first = x; second = old.second; third = old.third; fourth = old.fourth }) (shard_of t n) step Gives r
-  called_first named is same seated called =
+  called_first law named is same seated called =
       let new : Hands = record { number = old.number; first = x; second = old.second; third = old.third; fourth = old.fourth } in
-      moved new is (subst (λ (s : ℕ). CalledAt Here there old new s step Gives r) (sym same) (record { others = refl; shard = seated.4; call = renamed First old.first named called }))
+      moved 0 new (subst (λ s. s ≡ shard_of t n) same is) (record { others = refl; shard = seated.4; call = called_here 0 old.first law named called })
 
-  pub called_second : name ≡ node → shard ≡ shard_of t n → shard ≡ 1 → IsSeated old → Called (IsOfShard name Second) there old.second x step Gives r
+  pub called_second : ((h : History) → First h → Begins 1 h) → name ≡ node → shard ≡ shard_of t n → shard ≡ 1 → IsSeated old → Called (IsOfShard name First) there old.second x step Gives r
       → CalledAt Here there old (record { number = old.number; first = old.first; second = x; third = old.third; fourth = old.fourth }) (shard_of t n) step Gives r
-  called_second named is same seated called =
+  called_second law named is same seated called =
       let new : Hands = record { number = old.number; first = old.first; second = x; third = old.third; fourth = old.fourth } in
-      moved new is (subst (λ (s : ℕ). CalledAt Here there old new s step Gives r) (sym same) (record { others = refl; shard = seated.5; call = renamed Second old.second named called }))
+      moved 1 new (subst (λ s. s ≡ shard_of t n) same is) (record { others = refl; shard = seated.5; call = called_here 1 old.second law named called })
 
-  pub called_third : name ≡ node → shard ≡ shard_of t n → shard ≡ 2 → IsSeated old → Called (IsOfShard name Third) there old.third x step Gives r
+  pub called_third : ((h : History) → First h → Begins 2 h) → name ≡ node → shard ≡ shard_of t n → shard ≡ 2 → IsSeated old → Called (IsOfShard name First) there old.third x step Gives r
       → CalledAt Here there old (record { number = old.number; first = old.first; second = old.second; third = x; fourth = old.fourth }) (shard_of t n) step Gives r
-  called_third named is same seated called =
+  called_third law named is same seated called =
       let new : Hands = record { number = old.number; first = old.first; second = old.second; third = x; fourth = old.fourth } in
-      moved new is (subst (λ (s : ℕ). CalledAt Here there old new s step Gives r) (sym same) (record { others = refl; shard = seated.6; call = renamed Third old.third named called }))
-
-  last_shard : (s : ℕ) → s < n → n ≤ 4 → (s ≡ 0 → ⊥) → (s ≡ 1 → ⊥) → (s ≡ 2 → ⊥) → 3 ≡ s
-  last_shard zero less few a b c = absurd (a refl)
-  last_shard (suc zero) less few a b c = absurd (b refl)
-  last_shard (suc (suc zero)) less few a b c = absurd (c refl)
-  last_shard (suc (suc (suc zero))) less few a b c = refl
-  last_shard (suc (suc (suc (suc s)))) less few a b c = grind (arith)
+      moved 2 new (subst (λ s. s ≡ shard_of t n) same is) (record { others = refl; shard = seated.6; call = called_here 2 old.third law named called })
 
   below : shard ≡ shard_of t n → 0 < n → shard < n
   below is some = subst (λ (s : ℕ). s < n) (sym is) (remains (sum t))
@@ -51,10 +54,10 @@ module _ {A : Type 0} (First Second Third Fourth : History → Type 0) (node nam
       remains : (m : ℕ) → m % n < n
       remains m = grind (arith)
 
-  pub called_fourth : name ≡ node → shard ≡ shard_of t n → 0 < n → n ≤ 4 → (shard ≡ 0 → ⊥) → (shard ≡ 1 → ⊥) → (shard ≡ 2 → ⊥) → IsSeated old → Called (IsOfShard name Fourth) there old.fourth x step Gives r
+  pub called_fourth : ((h : History) → First h → Begins 3 h) → name ≡ node → shard ≡ shard_of t n → 0 < n → n ≤ 4 → (shard ≡ 0 → ⊥) → (shard ≡ 1 → ⊥) → (shard ≡ 2 → ⊥) → IsSeated old → Called (IsOfShard name First) there old.fourth x step Gives r
       → CalledAt Here there old (record { number = old.number; first = old.first; second = old.second; third = old.third; fourth = x }) (shard_of t n) step Gives r
-  called_fourth named is some few a b c seated called =
+  called_fourth law named is some few a b c seated called =
       let new : Hands = record { number = old.number; first = old.first; second = old.second; third = old.third; fourth = x } in
-      moved new is (subst (λ (s : ℕ). CalledAt Here there old new s step Gives r) (last_shard shard (below is some) few a b c) (record { others = refl; shard = seated.7; call = renamed Fourth old.fourth named called }))
+      moved 3 new (subst (λ s. s ≡ shard_of t n) (last_shard shard n (below is some) few a b c) is) (record { others = refl; shard = seated.7; call = called_here 3 old.fourth law named called })
 
 pub ruleset calling = (called_first, called_second, called_third, called_fourth)

@@ -7,6 +7,7 @@ use Rattle.shard_pool_locks.specs.Lines.{IsOfLane}
 use Rattle.shard_pool_locks.specs.Unseated.{IsOf}
 use Rattle.shard_pool.specs.Seats.{IsOfShardAt}
 use Rattle.shard_pool.specs.Settling.{ArePlaced}
+use Rattle.shard_pool.proofs.AtNumber.{line_of}
 
 pub put_behind : (node : List ℕ) (js : List History) (j : History) → All (IsOf node) js → IsOf node j → All (IsOf node) (js ++ j ∷ [])
 put_behind node js j before one = All-push (IsOf node) js j before one
@@ -45,14 +46,15 @@ in_their_places here (suc (suc (suc (suc zero)))) a b c d most p q r s = (p, (q,
 in_their_places here (suc (suc (suc (suc (suc n))))) a b c d most p q r s = absurd (omega (arith, most))
 
 -- the journals of four lanes in their order, those that are used
-pub are_placed : (node : List ℕ) (A B C D : History → Type 0) (n : ℕ) (a b c d : History) (all : List History) → n ≤ 4
+pub are_placed : (node : List ℕ) (Begins : ℕ → History → Type 0) (A B C D : History → Type 0) (n : ℕ) (a b c d : History) (all : List History) → n ≤ 4
+    → ((h : History) → A h → Begins 0 h) → ((h : History) → B h → Begins 1 h) → ((h : History) → C h → Begins 2 h) → ((h : History) → D h → Begins 3 h)
     → all ≡ take n (a ∷ b ∷ c ∷ d ∷ [])
     → (own a).name ≡ node → (own b).name ≡ node → (own c).name ≡ node → (own d).name ≡ node
-    → IsOfLane A a → IsOfLane B b → IsOfLane C c → IsOfLane D d → ArePlaced (IsOfShardAt node A B C D) 0 all
-are_placed node A B C D n a b c d all most order first second third fourth one two three four =
-    subst (λ (js : List History). ArePlaced (IsOfShardAt node A B C D) 0 js) (sym order)
-    (in_their_places (IsOfShardAt node A B C D) n a b c d most
-    (record { of_node = first; of_lane = one }) (record { of_node = second; of_lane = two })
-    (record { of_node = third; of_lane = three }) (record { of_node = fourth; of_lane = four }))
+    → IsOfLane A a → IsOfLane B b → IsOfLane C c → IsOfLane D d → ArePlaced (IsOfShardAt node Begins) 0 all
+are_placed node Begins A B C D n a b c d all most law-a law-b law-c law-d order first second third fourth one two three four =
+    subst (λ (js : List History). ArePlaced (IsOfShardAt node Begins) 0 js) (sym order)
+    (in_their_places (IsOfShardAt node Begins) n a b c d most
+    (record { of_node = first; of_lane = line_of A (Begins 0) law-a a one }) (record { of_node = second; of_lane = line_of B (Begins 1) law-b b two })
+    (record { of_node = third; of_lane = line_of C (Begins 2) law-c c three }) (record { of_node = fourth; of_lane = line_of D (Begins 3) law-d d four }))
 
 pub ruleset in_places = (are_placed)

@@ -1,3 +1,5 @@
+pub mod Lanes
+pub mod Blanks
 pub mod Seats
 pub mod Calls
 pub mod Codes

@@ -51,34 +51,26 @@ with_hand h s x =
 abbrev pub without_receipts_at : Hands → ℕ → ℕ → Hands
 without_receipts_at h s n = with_hand h s (without_receipts (hand_at h s) n)
 
--- what the shard of a number begins with
-abbrev pub begins_at : (First Second Third Fourth : History → Type 0) → ℕ → History → Type 0
-begins_at First Second Third Fourth zero = First
-begins_at First Second Third Fourth (suc zero) = Second
-begins_at First Second Third Fourth (suc (suc zero)) = Third
-begins_at First Second Third Fourth (suc (suc (suc n))) = Fourth
-
--- the histories of the shard of a number
-abbrev pub IsOfShardAt : List ℕ → (First Second Third Fourth : History → Type 0) → ℕ → History → Type 0
-IsOfShardAt node First Second Third Fourth shard = IsOfShard node (begins_at First Second Third Fourth shard)
+-- the histories of the shard of a number; `Begins` tells what each begins with
+abbrev pub IsOfShardAt : List ℕ → (Begins : ℕ → History → Type 0) → ℕ → History → Type 0
+IsOfShardAt node Begins shard = IsOfShard node (Begins shard)
 
 -- some legal history of the shard of a number is such
-abbrev pub IsBehindAt : (First Second Third Fourth : History → Type 0) → ℕ → List ℕ → (History → Type 0) → Type 0
-IsBehindAt First Second Third Fourth shard node Is =
-    IsBehindOf (IsOfShardAt node First Second Third Fourth shard) Is
+abbrev pub IsBehindAt : (Begins : ℕ → History → Type 0) → ℕ → List ℕ → (History → Type 0) → Type 0
+IsBehindAt Begins shard node Is = IsBehindOf (IsOfShardAt node Begins shard) Is
 
 -- the number of the Start of some legal history of the shard
 abbrev pub IsStartOf : List ℕ → (History → Type 0) → ℕ → Type 0
 IsStartOf node Begins n = IsBehindOf (IsOfShard node Begins) (λ h. n ≡ (start_of h).number)
 
 -- the seat that forgets its receipts up to the Start of each shard
-pub record IsTrimmed (node : List ℕ) (First Second Third Fourth : History → Type 0) (old new : Hands) : Type 0 where
+pub record IsTrimmed (node : List ℕ) (Begins : ℕ → History → Type 0) (old new : Hands) : Type 0 where
   pub first : ℕ
   pub second : ℕ
   pub third : ℕ
   pub fourth : ℕ
-  pub starts : IsStartOf node First first × IsStartOf node Second second × IsStartOf node Third third
-      × IsStartOf node Fourth fourth
+  pub starts : IsStartOf node (Begins 0) first × IsStartOf node (Begins 1) second × IsStartOf node (Begins 2) third
+      × IsStartOf node (Begins 3) fourth
   pub forgets : new ≡ record {
     number = old.number;
     first = without_receipts old.first first;

@@ -1,22 +1,23 @@
 //! A seat: the receipts of a caller.
 ghost use Rattle.std.specs.Prelude.{◌≡◌, IfOk};
 
-use shard_pool_locks::{Lane, Part};
+use crate::lanes::Lanes;
+use shard_pool_locks::Part;
 use shard_pool_settled::Receipt;
 use std::alloc::{AllocError, Global};
 use std::marker::Model;
 
 /// A caller's token: its number, and its part at each shard.
 #[derive(Drop)]
-pub struct Seat<A: Lane, B: Lane, C: Lane, D: Lane> {
+pub struct Seat<L: Lanes> {
     pub(crate) number: u32,
-    pub(crate) first: Part<A>,
-    pub(crate) second: Part<B>,
-    pub(crate) third: Part<C>,
-    pub(crate) fourth: Part<D>,
+    pub(crate) first: Part<L::First>,
+    pub(crate) second: Part<L::Second>,
+    pub(crate) third: Part<L::Third>,
+    pub(crate) fourth: Part<L::Fourth>,
 }
 
-impl<A: Lane, B: Lane, C: Lane, D: Lane> Model for Seat<A, B, C, D> {
+impl<L: Lanes> Model for Seat<L> {
     ghost use Rattle.std.specs.Prelude.{◌≡◌};
     ghost use Rattle.shard_pool.specs.Seats.{Hands, IsSeated};
     ghost use Rattle.shard_pool.specs.Codes.{hands_code};
@@ -38,7 +39,7 @@ fn copied(alloc: Global, receipts: &[Receipt]) -> Result<Vec<Receipt>, AllocErro
     Ok(copies)
 }
 
-impl<A: Lane, B: Lane, C: Lane, D: Lane> Seat<A, B, C, D> {
+impl<L: Lanes> Seat<L> {
     ghost use Rattle.std.specs.Prelude.{◌≡◌, ◌<◌, IfOk};
     ghost use Rattle.shard_pool_locks.specs.Hands.{new_hand};
     ghost use Rattle.shard_pool.specs.Seats.{new_seat, without_receipts_at};
@@ -47,11 +48,11 @@ impl<A: Lane, B: Lane, C: Lane, D: Lane> Seat<A, B, C, D> {
     // A seat that made no call yet.
     pub(crate) fn new(
         number: u32,
-        first: Part<A>,
-        second: Part<B>,
-        third: Part<C>,
-        fourth: Part<D>,
-    ) -> Seat<A, B, C, D>
+        first: Part<L::First>,
+        second: Part<L::Second>,
+        third: Part<L::Third>,
+        fourth: Part<L::Fourth>,
+    ) -> Seat<L>
         requires { (first ≡ new_hand number 0) × (second ≡ new_hand number 1)
             × (third ≡ new_hand number 2) × (fourth ≡ new_hand number 3) }
         ensures { result ≡ new_seat number }

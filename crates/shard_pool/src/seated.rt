@@ -5,29 +5,30 @@ ghost use Rattle.shard_pool.specs.Seats.{CalledAt, IsOfShardAt, shard_of};
 ghost use Rattle.shard_pool.specs.Calls.{Tracks, Updates, Untracks, UntracksAll, Lists, Fetches};
 ghost use Rattle.shard_pool.specs.Calls.{Subscribes, Takes, Unsubscribes, Shouts};
 
+use crate::lanes::Lanes;
 use crate::pool::Pool;
 use crate::seat::Seat;
 use presence_base::{Dot, Json, Key, Meta, Row, Topic, shard_of};
 use presence_journal::{Item, SharedRows};
 use shard_pool_locks::{
-    Call, Gate, Get, Lane, List, PoolFault, Reply, Shout, Sub, Subscribe, Take, Track, Unsubscribe,
+    Call, Gate, Get, List, PoolFault, Reply, Shout, Sub, Subscribe, Take, Track, Unsubscribe,
     Untrack, UntrackAll, Update, locked_call,
 };
 use std::alloc::Global;
 use std::sync::Wait;
 
-impl<G: Gate, A: Lane, B: Lane, C: Lane, D: Lane> Pool<G, A, B, C, D> {
-    // Makes a call through a seat: picks the topic's shard, and with it the seat's part there.
+impl<G: Gate, L: Lanes> Pool<G, L> {
+    /// Makes a call through a seat, at its topic's shard.
     #[tactic(auto, using(crate::proofs::Calling::calling))]
-    fn call<R: Wait, Q: Call>(
+    pub fn call<R: Wait, Q: Call>(
         &self,
         rt: &R,
         alloc: Global,
-        seat: &mut Seat<A, B, C, D>,
+        seat: &mut Seat<L>,
         topic: &Topic,
         call: &Q,
     ) -> Result<Reply<Q::Answer>, PoolFault>
-        ensures { CalledAt (IsOfShardAt self.now.own.name A.begins B.begins C.begins D.begins) (Q.there call.now)
+        ensures { CalledAt (IsOfShardAt self.now.own.name L.begins) (Q.there call.now)
             seat.old seat.new (shard_of topic.now self.now.shards) (Q.step call.now) (Q.gives call.now) result }
     {
         let shard = shard_of(topic, self.shards);
@@ -55,14 +56,14 @@ impl<G: Gate, A: Lane, B: Lane, C: Lane, D: Lane> Pool<G, A, B, C, D> {
         &self,
         rt: &R,
         alloc: Global,
-        seat: &mut Seat<A, B, C, D>,
+        seat: &mut Seat<L>,
         pid: u64,
         topic: &Topic,
         key: &Key,
         meta: &Meta,
     ) -> Result<Reply<Dot>, PoolFault>
         requires pid { pid ≤ 2 ^ 62 }
-        ensures { Tracks (IsOfShardAt self.now.own.name A.begins B.begins C.begins D.begins)
+        ensures { Tracks (IsOfShardAt self.now.own.name L.begins)
             self.now.shards seat.old seat.new pid topic.now key.now meta.now result }
     {
         self.call(
@@ -84,14 +85,14 @@ impl<G: Gate, A: Lane, B: Lane, C: Lane, D: Lane> Pool<G, A, B, C, D> {
         &self,
         rt: &R,
         alloc: Global,
-        seat: &mut Seat<A, B, C, D>,
+        seat: &mut Seat<L>,
         pid: u64,
         topic: &Topic,
         key: &Key,
         meta: &Meta,
     ) -> Result<Reply<Dot>, PoolFault>
         requires pid { pid ≤ 2 ^ 62 }
-        ensures { Updates (IsOfShardAt self.now.own.name A.begins B.begins C.begins D.begins)
+        ensures { Updates (IsOfShardAt self.now.own.name L.begins)
             self.now.shards seat.old seat.new pid topic.now key.now meta.now result }
     {
         self.call(
@@ -113,12 +114,12 @@ impl<G: Gate, A: Lane, B: Lane, C: Lane, D: Lane> Pool<G, A, B, C, D> {
         &self,
         rt: &R,
         alloc: Global,
-        seat: &mut Seat<A, B, C, D>,
+        seat: &mut Seat<L>,
         pid: u64,
         topic: &Topic,
         key: &Key,
     ) -> Result<Reply<Vec<Dot>>, PoolFault>
-        ensures { Untracks (IsOfShardAt self.now.own.name A.begins B.begins C.begins D.begins)
+        ensures { Untracks (IsOfShardAt self.now.own.name L.begins)
             self.now.shards seat.old seat.new pid topic.now key.now result }
     {
         self.call(rt, alloc, seat, topic, &Untrack { pid, topic, key })
@@ -129,11 +130,11 @@ impl<G: Gate, A: Lane, B: Lane, C: Lane, D: Lane> Pool<G, A, B, C, D> {
         &self,
         rt: &R,
         alloc: Global,
-        seat: &mut Seat<A, B, C, D>,
+        seat: &mut Seat<L>,
         pid: u64,
         topic: &Topic,
     ) -> Result<Reply<Vec<Dot>>, PoolFault>
-        ensures { UntracksAll (IsOfShardAt self.now.own.name A.begins B.begins C.begins D.begins)
+        ensures { UntracksAll (IsOfShardAt self.now.own.name L.begins)
             self.now.shards seat.old seat.new pid topic.now result }
     {
         self.call(rt, alloc, seat, topic, &UntrackAll { pid, topic })
@@ -144,11 +145,10 @@ impl<G: Gate, A: Lane, B: Lane, C: Lane, D: Lane> Pool<G, A, B, C, D> {
         &self,
         rt: &R,
         alloc: Global,
-        seat: &mut Seat<A, B, C, D>,
+        seat: &mut Seat<L>,
         topic: &Topic,
     ) -> Result<Reply<SharedRows>, PoolFault>
-        ensures { Lists (IsOfShardAt self.now.own.name A.begins B.begins C.begins D.begins)
-            self.now.shards seat.old seat.new topic.now result }
+        ensures { Lists (IsOfShardAt self.now.own.name L.begins) self.now.shards seat.old seat.new topic.now result }
     {
         self.call(rt, alloc, seat, topic, &List { topic })
     }
@@ -158,11 +158,11 @@ impl<G: Gate, A: Lane, B: Lane, C: Lane, D: Lane> Pool<G, A, B, C, D> {
         &self,
         rt: &R,
         alloc: Global,
-        seat: &mut Seat<A, B, C, D>,
+        seat: &mut Seat<L>,
         topic: &Topic,
         key: &Key,
     ) -> Result<Reply<Vec<(Dot, Row)>>, PoolFault>
-        ensures { Fetches (IsOfShardAt self.now.own.name A.begins B.begins C.begins D.begins)
+        ensures { Fetches (IsOfShardAt self.now.own.name L.begins)
             self.now.shards seat.old seat.new topic.now key.now result }
     {
         self.call(rt, alloc, seat, topic, &Get { topic, key })
@@ -173,10 +173,10 @@ impl<G: Gate, A: Lane, B: Lane, C: Lane, D: Lane> Pool<G, A, B, C, D> {
         &self,
         rt: &R,
         alloc: Global,
-        seat: &mut Seat<A, B, C, D>,
+        seat: &mut Seat<L>,
         topic: &Topic,
     ) -> Result<Reply<Sub>, PoolFault>
-        ensures { Subscribes (IsOfShardAt self.now.own.name A.begins B.begins C.begins D.begins)
+        ensures { Subscribes (IsOfShardAt self.now.own.name L.begins)
             self.now.shards seat.old seat.new topic.now result }
     {
         self.call(rt, alloc, seat, topic, &Subscribe { topic })
@@ -187,13 +187,13 @@ impl<G: Gate, A: Lane, B: Lane, C: Lane, D: Lane> Pool<G, A, B, C, D> {
         &self,
         rt: &R,
         alloc: Global,
-        seat: &mut Seat<A, B, C, D>,
+        seat: &mut Seat<L>,
         topic: &Topic,
         sub: &Sub,
         max: u32,
     ) -> Result<Reply<Vec<Item>>, PoolFault>
         requires limit { IsTrue (is_take_limit max) }
-        ensures { Takes (IsOfShardAt self.now.own.name A.begins B.begins C.begins D.begins)
+        ensures { Takes (IsOfShardAt self.now.own.name L.begins)
             self.now.shards seat.old seat.new topic.now sub.now max result }
     {
         self.call(rt, alloc, seat, topic, &Take { sub: *sub, max })
@@ -204,11 +204,11 @@ impl<G: Gate, A: Lane, B: Lane, C: Lane, D: Lane> Pool<G, A, B, C, D> {
         &self,
         rt: &R,
         alloc: Global,
-        seat: &mut Seat<A, B, C, D>,
+        seat: &mut Seat<L>,
         topic: &Topic,
         sub: &Sub,
     ) -> Result<Reply<()>, PoolFault>
-        ensures { Unsubscribes (IsOfShardAt self.now.own.name A.begins B.begins C.begins D.begins)
+        ensures { Unsubscribes (IsOfShardAt self.now.own.name L.begins)
             self.now.shards seat.old seat.new topic.now sub.now result }
     {
         self.call(rt, alloc, seat, topic, &Unsubscribe { sub: *sub })
@@ -219,12 +219,12 @@ impl<G: Gate, A: Lane, B: Lane, C: Lane, D: Lane> Pool<G, A, B, C, D> {
         &self,
         rt: &R,
         alloc: Global,
-        seat: &mut Seat<A, B, C, D>,
+        seat: &mut Seat<L>,
         topic: &Topic,
         payload: &Json,
     ) -> Result<Reply<()>, PoolFault>
         requires payload { IsTrue (is_payload payload.now) }
-        ensures { Shouts (IsOfShardAt self.now.own.name A.begins B.begins C.begins D.begins)
+        ensures { Shouts (IsOfShardAt self.now.own.name L.begins)
             self.now.shards seat.old seat.new topic.now payload.now result }
     {
         self.call(rt, alloc, seat, topic, &Shout { topic, payload })

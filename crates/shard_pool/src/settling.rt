@@ -8,6 +8,7 @@ ghost use Rattle.shard_pool_locks.specs.Unseated.{IsOf};
 ghost use Rattle.shard_pool.specs.Seats.{IsOfShardAt};
 ghost use Rattle.shard_pool.specs.Settling.{has_seat, found, by_number, has_seats, IsMissing, AreOf, ArePlaced};
 
+use crate::lanes::Lanes;
 use crate::pool::Pool;
 use crate::seat::Seat;
 use presence_base::Replica;
@@ -18,9 +19,9 @@ use std::alloc::Global;
 use std::sync::{Mutex, Wait};
 
 // The receipts of the seat of a number.
-fn receipts_of_number<A: Lane, B: Lane, C: Lane, D: Lane>(
+fn receipts_of_number<L: Lanes>(
     alloc: Global,
-    seats: &[Seat<A, B, C, D>],
+    seats: &[Seat<L>],
     number: u32,
 ) -> Result<Vec<Receipt>, SettleFault>
     ensures found { IfOk result (λ v. v.items ≡ found seats.now number) }
@@ -40,9 +41,9 @@ fn receipts_of_number<A: Lane, B: Lane, C: Lane, D: Lane>(
 }
 
 // The receipts of the seats below a number, in order.
-fn receipts_by_number<A: Lane, B: Lane, C: Lane, D: Lane>(
+fn receipts_by_number<L: Lanes>(
     alloc: Global,
-    seats: &[Seat<A, B, C, D>],
+    seats: &[Seat<L>],
     count: u32,
 ) -> Result<Vec<Vec<Receipt>>, SettleFault>
     ensures found { IfOk result (λ v. map (λ r. r.items) v.items ≡ by_number seats.now count) }
@@ -63,11 +64,11 @@ fn receipts_by_number<A: Lane, B: Lane, C: Lane, D: Lane>(
 /// Whether so many seats, those numbered from 0, are all here, and agree with the journals.
 ///
 /// It refuses in this order: `MissingSeat`, `NoSuchEntry`, `CountDiffers`; `OutOfMemory` at any point.
-pub fn check_seats<A: Lane, B: Lane, C: Lane, D: Lane>(
+pub fn check_seats<L: Lanes>(
     alloc: Global,
     journals: &[Journal],
     count: u32,
-    seats: &[Seat<A, B, C, D>],
+    seats: &[Seat<L>],
 ) -> Result<(), SettleFault>
     ensures there { OnOk result (has_seats seats.now count ≡ true) }
     ensures agree { OnOk result (Agree journals.now (by_number seats.now count)) }
@@ -82,9 +83,9 @@ pub fn check_seats<A: Lane, B: Lane, C: Lane, D: Lane>(
 }
 
 // A journal out of its lock.
-fn taken_out<L: Lane>(shard: Mutex<Locked<L>>) -> Journal
-    ensures journal { IsOf L.node result }
-    ensures lane { IsOfLane L.begins result }
+fn taken_out<K: Lane>(shard: Mutex<Locked<K>>) -> Journal
+    ensures journal { IsOf K.node result }
+    ensures lane { IsOfLane K.begins result }
 {
     let locked = shard.into_inner();
     let _journal = locked.journal();
@@ -143,7 +144,7 @@ fn journals_of(
     Ok(all)
 }
 
-impl<G: Gate + Drop, A: Lane, B: Lane, C: Lane, D: Lane> Pool<G, A, B, C, D> {
+impl<G: Gate + Drop, L: Lanes> Pool<G, L> {
     /// The journals out of their locks, where the seats of the pool are all here and agree with them.
     ///
     /// It refuses as `check_seats` does, and then hands nothing back: of the journals that it found no
@@ -153,11 +154,10 @@ impl<G: Gate + Drop, A: Lane, B: Lane, C: Lane, D: Lane> Pool<G, A, B, C, D> {
         self,
         _rt: &R,
         alloc: Global,
-        seats: Vec<Seat<A, B, C, D>>,
+        seats: Vec<Seat<L>>,
     ) -> Result<Vec<Journal>, SettleFault>
         ensures journals { IfOk result (λ js. AreOf self.own.name self.shards js.items) }
-        ensures places { IfOk result (λ js. ArePlaced
-            (IsOfShardAt self.own.name A.begins B.begins C.begins D.begins) 0 js.items) }
+        ensures places { IfOk result (λ js. ArePlaced (IsOfShardAt self.own.name L.begins) 0 js.items) }
         ensures there { OnOk result (has_seats seats.items self.seats ≡ true) }
         ensures agree { IfOk result (λ js. Agree js.items (by_number seats.items self.seats)) }
         ensures missing { result ≡ Err SettleFault.MissingSeat → IsMissing seats.items self.seats }

@@ -10,9 +10,10 @@ ghost use Rattle.shard_pool_locks.specs.ToldParts.{IsPartWhereItFits};
 ghost use Rattle.shard_pool_locks.specs.ShardFault.TheVariants.{OutOfMemory};
 ghost use Rattle.shard_pool_locks.specs.Unseated.{IsOf, IsBehind, IsMade, IsCutMade, IsCheckpointed, TellsWaiting};
 ghost use Rattle.shard_pool_locks.specs.Unseated.{IsMadeWhereFull, IsMadeWhereQuiet, IsRebornMade};
-ghost use Rattle.shard_pool.specs.Seats.{shard_of, begins_at, IsBehindAt, IsTrimmed};
+ghost use Rattle.shard_pool.specs.Seats.{shard_of, IsBehindAt, IsTrimmed};
 ghost use Rattle.shard_pool_locks.specs.Lines.{IsOfLane};
 
+use crate::lanes::Lanes;
 use crate::pool::Pool;
 use crate::seat::Seat;
 use delta_range::Delta;
@@ -21,12 +22,11 @@ use presence_base::{Dot, Replica, Topic, shard_of};
 use presence_journal::{Journal, Step};
 use replica_status::Status;
 use shard_pool_locks::{
-    DueFrom, Gate, Lane, PoolFault, RowCounts, Sub, locked_checkpoint,
-    locked_checkpoint_where_full, locked_checkpoint_where_quiet, locked_cut, locked_entry_count,
-    locked_fitting, locked_full, locked_heard, locked_incarnation, locked_journal,
-    locked_kept_bytes, locked_list_bytes, locked_merge, locked_part, locked_permdown,
-    locked_rebirth, locked_row_counts, locked_start_of, locked_status, locked_tick,
-    locked_told_from, locked_top, locked_trim, locked_waits,
+    DueFrom, Gate, PoolFault, RowCounts, Sub, locked_checkpoint, locked_checkpoint_where_full,
+    locked_checkpoint_where_quiet, locked_cut, locked_entry_count, locked_fitting, locked_full,
+    locked_heard, locked_incarnation, locked_journal, locked_kept_bytes, locked_list_bytes,
+    locked_merge, locked_part, locked_permdown, locked_rebirth, locked_row_counts, locked_start_of,
+    locked_status, locked_tick, locked_told_from, locked_top, locked_trim, locked_waits,
 };
 use std::alloc::Global;
 use std::sync::Wait;
@@ -55,7 +55,7 @@ macro_rules! at {
     };
 }
 
-impl<G: Gate, A: Lane, B: Lane, C: Lane, D: Lane> Pool<G, A, B, C, D> {
+impl<G: Gate, L: Lanes> Pool<G, L> {
     /// The number of the shard that has a topic.
     pub fn shard_of(&self, topic: &Topic) -> u32
         ensures shard { result ≡ shard_of topic.now self.now.shards }
@@ -65,18 +65,18 @@ impl<G: Gate, A: Lane, B: Lane, C: Lane, D: Lane> Pool<G, A, B, C, D> {
     }
 
     /// A copy of a shard's journal. It refuses with `OutOfMemory` alone.
-    #[tactic(auto, using(crate::proofs::Lanes::lanes))]
+    #[tactic(auto, using(crate::proofs::AtNumber::lanes))]
     pub fn journal<R: Wait>(&self, rt: &R, _alloc: Global, shard: u32) -> Result<Journal, PoolFault>
         requires { shard < self.now.shards }
         ensures journal { IfOk result (λ j. IsOf self.now.own.name j) }
-        ensures lane { IfOk result (IsOfLane (begins_at A.begins B.begins C.begins D.begins shard)) }
+        ensures lane { IfOk result (IsOfLane (L.begins shard)) }
         ensures err { IfErr result (λ e. e ≡ OutOfMemory) }
     {
         at!(self, shard, lock => locked_journal(rt, lock))
     }
 
     /// Notes at a shard that a replica was heard.
-    #[tactic(auto, using(crate::proofs::Lanes::lanes))]
+    #[tactic(auto, using(crate::proofs::AtNumber::lanes))]
     pub fn heard<R: Wait>(
         &self,
         rt: &R,
@@ -87,14 +87,13 @@ impl<G: Gate, A: Lane, B: Lane, C: Lane, D: Lane> Pool<G, A, B, C, D> {
     ) -> Result<(), PoolFault>
         requires { shard < self.now.shards }
         ensures some { IsBehind self.now.own.name (λ h. IsMade h (Step.Heard replica now) result) }
-        ensures lane { IsBehindAt A.begins B.begins C.begins D.begins shard self.now.own.name
-            (λ h. IsMade h (Step.Heard replica now) result) }
+        ensures lane { IsBehindAt L.begins shard self.now.own.name (λ h. IsMade h (Step.Heard replica now) result) }
     {
         at!(self, shard, lock => locked_heard(rt, alloc, lock, replica, now))
     }
 
     /// Lets time pass at a shard.
-    #[tactic(auto, using(crate::proofs::Lanes::lanes))]
+    #[tactic(auto, using(crate::proofs::AtNumber::lanes))]
     pub fn tick<R: Wait>(
         &self,
         rt: &R,
@@ -104,14 +103,13 @@ impl<G: Gate, A: Lane, B: Lane, C: Lane, D: Lane> Pool<G, A, B, C, D> {
     ) -> Result<(), PoolFault>
         requires { shard < self.now.shards }
         ensures some { IsBehind self.now.own.name (λ h. IsMade h (Step.Tick now) result) }
-        ensures lane { IsBehindAt A.begins B.begins C.begins D.begins shard self.now.own.name
-            (λ h. IsMade h (Step.Tick now) result) }
+        ensures lane { IsBehindAt L.begins shard self.now.own.name (λ h. IsMade h (Step.Tick now) result) }
     {
         at!(self, shard, lock => locked_tick(rt, alloc, lock, now))
     }
 
     /// Notes at a shard that a replica is gone for good.
-    #[tactic(auto, using(crate::proofs::Lanes::lanes))]
+    #[tactic(auto, using(crate::proofs::AtNumber::lanes))]
     pub fn permdown<R: Wait>(
         &self,
         rt: &R,
@@ -121,8 +119,7 @@ impl<G: Gate, A: Lane, B: Lane, C: Lane, D: Lane> Pool<G, A, B, C, D> {
     ) -> Result<(), PoolFault>
         requires { shard < self.now.shards }
         ensures some { IsBehind self.now.own.name (λ h. IsMade h (Step.PermDown replica) result) }
-        ensures lane { IsBehindAt A.begins B.begins C.begins D.begins shard self.now.own.name
-            (λ h. IsMade h (Step.PermDown replica) result) }
+        ensures lane { IsBehindAt L.begins shard self.now.own.name (λ h. IsMade h (Step.PermDown replica) result) }
     {
         at!(self, shard, lock => locked_permdown(rt, alloc, lock, replica))
     }
@@ -130,7 +127,7 @@ impl<G: Gate, A: Lane, B: Lane, C: Lane, D: Lane> Pool<G, A, B, C, D> {
     /// Makes a shard go on under a higher incarnation: its own rows stand under new dots from then on, each of which is
     /// answered with the old one, and no row is lost. It refuses with `JournalFull`, else with `BadIncarnation` where the
     /// shard can't go on under this one, else with `OutOfMemory`.
-    #[tactic(auto, using(crate::proofs::Lanes::lanes))]
+    #[tactic(auto, using(crate::proofs::AtNumber::lanes))]
     pub fn rebirth<R: Wait>(
         &self,
         rt: &R,
@@ -140,36 +137,33 @@ impl<G: Gate, A: Lane, B: Lane, C: Lane, D: Lane> Pool<G, A, B, C, D> {
     ) -> Result<Vec<(Dot, Dot)>, PoolFault>
         requires { shard < self.now.shards }
         ensures some { IsBehind self.now.own.name (λ h. IsRebornMade h incarnation result) }
-        ensures lane { IsBehindAt A.begins B.begins C.begins D.begins shard self.now.own.name
-            (λ h. IsRebornMade h incarnation result) }
+        ensures lane { IsBehindAt L.begins shard self.now.own.name (λ h. IsRebornMade h incarnation result) }
     {
         at!(self, shard, lock => locked_rebirth(rt, alloc, lock, incarnation))
     }
 
     /// The incarnation under which a shard goes on.
-    #[tactic(auto, using(crate::proofs::Lanes::lanes))]
+    #[tactic(auto, using(crate::proofs::AtNumber::lanes))]
     pub fn incarnation<R: Wait>(&self, rt: &R, shard: u32) -> u64
         requires { shard < self.now.shards }
         ensures some { IsBehind self.now.own.name (λ h. result ≡ (own h).incarnation) }
-        ensures lane { IsBehindAt A.begins B.begins C.begins D.begins shard self.now.own.name
-            (λ h. result ≡ (own h).incarnation) }
+        ensures lane { IsBehindAt L.begins shard self.now.own.name (λ h. result ≡ (own h).incarnation) }
     {
         at!(self, shard, lock => locked_incarnation(rt, lock))
     }
 
     /// What the own replica did at a shard since the last cut there.
-    #[tactic(auto, using(crate::proofs::Lanes::lanes))]
+    #[tactic(auto, using(crate::proofs::AtNumber::lanes))]
     pub fn cut<R: Wait>(&self, rt: &R, alloc: Global, shard: u32) -> Result<Delta, PoolFault>
         requires { shard < self.now.shards }
         ensures some { IsBehind self.now.own.name (λ h. IsCutMade h result) }
-        ensures lane { IsBehindAt A.begins B.begins C.begins D.begins shard self.now.own.name
-            (λ h. IsCutMade h result) }
+        ensures lane { IsBehindAt L.begins shard self.now.own.name (λ h. IsCutMade h result) }
     {
         at!(self, shard, lock => locked_cut(rt, alloc, lock))
     }
 
     /// Takes in at a shard what another node told.
-    #[tactic(auto, using(crate::proofs::Lanes::lanes))]
+    #[tactic(auto, using(crate::proofs::AtNumber::lanes))]
     pub fn merge<R: Wait>(
         &self,
         rt: &R,
@@ -179,14 +173,13 @@ impl<G: Gate, A: Lane, B: Lane, C: Lane, D: Lane> Pool<G, A, B, C, D> {
     ) -> Result<(), PoolFault>
         requires { shard < self.now.shards }
         ensures some { IsBehind self.now.own.name (λ h. IsMade h (Step.Merge told.now) result) }
-        ensures lane { IsBehindAt A.begins B.begins C.begins D.begins shard self.now.own.name
-            (λ h. IsMade h (Step.Merge told.now) result) }
+        ensures lane { IsBehindAt L.begins shard self.now.own.name (λ h. IsMade h (Step.Merge told.now) result) }
     {
         at!(self, shard, lock => locked_merge(rt, alloc, lock, told))
     }
 
     /// All that a shard knows, in the form. It is no step, and refuses with `OutOfMemory` alone.
-    #[tactic(auto, using(crate::proofs::Lanes::lanes))]
+    #[tactic(auto, using(crate::proofs::AtNumber::lanes))]
     pub fn full<R: Wait>(
         &self,
         rt: &R,
@@ -196,8 +189,7 @@ impl<G: Gate, A: Lane, B: Lane, C: Lane, D: Lane> Pool<G, A, B, C, D> {
     ) -> Result<Told, PoolFault>
         requires { shard < self.now.shards }
         ensures full { IfOk result (λ t. IsBehind self.now.own.name (λ h. IsFullOf form h t)) }
-        ensures lane { IfOk result (λ t. IsBehindAt A.begins B.begins C.begins D.begins shard self.now.own.name
-            (λ h. IsFullOf form h t)) }
+        ensures lane { IfOk result (λ t. IsBehindAt L.begins shard self.now.own.name (λ h. IsFullOf form h t)) }
         ensures err { IfErr result (λ e. e ≡ OutOfMemory) }
     {
         at!(self, shard, lock => locked_full(rt, alloc, lock, form))
@@ -205,7 +197,7 @@ impl<G: Gate, A: Lane, B: Lane, C: Lane, D: Lane> Pool<G, A, B, C, D> {
 
     /// What a node is told that knows the shard's own dots up to a count: of the kept deltas that begin at or below it the
     /// shortest, else all that the shard knows. It is no step, and refuses with `OutOfMemory` alone.
-    #[tactic(auto, using(crate::proofs::Lanes::lanes))]
+    #[tactic(auto, using(crate::proofs::AtNumber::lanes))]
     pub fn told_from<R: Wait>(
         &self,
         rt: &R,
@@ -216,8 +208,7 @@ impl<G: Gate, A: Lane, B: Lane, C: Lane, D: Lane> Pool<G, A, B, C, D> {
     ) -> Result<Told, PoolFault>
         requires { shard < self.now.shards }
         ensures told { IfOk result (λ t. IsBehind self.now.own.name (λ h. IsToldFrom form h count t)) }
-        ensures lane { IfOk result (λ t. IsBehindAt A.begins B.begins C.begins D.begins shard self.now.own.name
-            (λ h. IsToldFrom form h count t)) }
+        ensures lane { IfOk result (λ t. IsBehindAt L.begins shard self.now.own.name (λ h. IsToldFrom form h count t)) }
         ensures err { IfErr result (λ e. e ≡ OutOfMemory) }
     {
         at!(self, shard, lock => locked_told_from(rt, alloc, lock, count, form))
@@ -225,7 +216,7 @@ impl<G: Gate, A: Lane, B: Lane, C: Lane, D: Lane> Pool<G, A, B, C, D> {
 
     /// The same for a line of a link: what a node is told that knows the shard's own dots up to a count, or without a count all that
     /// the shard knows, where it has no more in the form than a node takes in. It is no step, and refuses with `OutOfMemory` alone.
-    #[tactic(auto, using(crate::proofs::Lanes::lanes))]
+    #[tactic(auto, using(crate::proofs::AtNumber::lanes))]
     pub fn fitting<R: Wait>(
         &self,
         rt: &R,
@@ -236,7 +227,7 @@ impl<G: Gate, A: Lane, B: Lane, C: Lane, D: Lane> Pool<G, A, B, C, D> {
     ) -> Result<Option<Told>, PoolFault>
         requires { shard < self.now.shards }
         ensures told { IfOk result (λ o. IsBehind self.now.own.name (λ h. WhereItFits form (TellsFrom form h from) o)) }
-        ensures lane { IfOk result (λ o. IsBehindAt A.begins B.begins C.begins D.begins shard self.now.own.name
+        ensures lane { IfOk result (λ o. IsBehindAt L.begins shard self.now.own.name
             (λ h. WhereItFits form (TellsFrom form h from) o)) }
         ensures err { IfErr result (λ e. e ≡ OutOfMemory) }
     {
@@ -245,7 +236,7 @@ impl<G: Gate, A: Lane, B: Lane, C: Lane, D: Lane> Pool<G, A, B, C, D> {
 
     /// A part of the shard's own rows, for a node that knows its dots up to a count, where neither what it missed nor all that the
     /// shard knows fits a line. It is no step, and refuses with `OutOfMemory` alone.
-    #[tactic(auto, using(crate::proofs::Lanes::lanes))]
+    #[tactic(auto, using(crate::proofs::AtNumber::lanes))]
     pub fn part<R: Wait>(
         &self,
         rt: &R,
@@ -255,7 +246,7 @@ impl<G: Gate, A: Lane, B: Lane, C: Lane, D: Lane> Pool<G, A, B, C, D> {
     ) -> Result<Option<Delta>, PoolFault>
         requires { shard < self.now.shards }
         ensures part { IfOk result (λ o. IsBehind self.now.own.name (λ h. IsPartWhereItFits h count o)) }
-        ensures lane { IfOk result (λ o. IsBehindAt A.begins B.begins C.begins D.begins shard self.now.own.name
+        ensures lane { IfOk result (λ o. IsBehindAt L.begins shard self.now.own.name
             (λ h. IsPartWhereItFits h count o)) }
         ensures err { IfErr result (λ e. e ≡ OutOfMemory) }
     {
@@ -263,34 +254,31 @@ impl<G: Gate, A: Lane, B: Lane, C: Lane, D: Lane> Pool<G, A, B, C, D> {
     }
 
     /// The count up to which a shard covers all of a replica's dots. It is no step.
-    #[tactic(auto, using(crate::proofs::Lanes::lanes))]
+    #[tactic(auto, using(crate::proofs::AtNumber::lanes))]
     pub fn top<R: Wait>(&self, rt: &R, shard: u32, replica: &Replica) -> u64
         requires { shard < self.now.shards }
         ensures some { IsBehind self.now.own.name (λ h. IsTop h replica.now result) }
-        ensures lane { IsBehindAt A.begins B.begins C.begins D.begins shard self.now.own.name
-            (λ h. IsTop h replica.now result) }
+        ensures lane { IsBehindAt L.begins shard self.now.own.name (λ h. IsTop h replica.now result) }
     {
         at!(self, shard, lock => locked_top(rt, lock, replica))
     }
 
     /// The status of a replica at a shard. It is no step.
-    #[tactic(auto, using(crate::proofs::Lanes::lanes))]
+    #[tactic(auto, using(crate::proofs::AtNumber::lanes))]
     pub fn status<R: Wait>(&self, rt: &R, shard: u32, replica: &Replica) -> Status
         requires { shard < self.now.shards }
         ensures some { IsBehind self.now.own.name (λ h. result ≡ status h replica.now) }
-        ensures lane { IsBehindAt A.begins B.begins C.begins D.begins shard self.now.own.name
-            (λ h. result ≡ status h replica.now) }
+        ensures lane { IsBehindAt L.begins shard self.now.own.name (λ h. result ≡ status h replica.now) }
     {
         at!(self, shard, lock => locked_status(rt, lock, replica))
     }
 
     /// Whether a subscriber of a shard is behind or has something waiting. It is no step.
-    #[tactic(auto, using(crate::proofs::Lanes::lanes))]
+    #[tactic(auto, using(crate::proofs::AtNumber::lanes))]
     pub fn waits<R: Wait>(&self, rt: &R, shard: u32, sub: &Sub) -> Result<bool, PoolFault>
         requires { shard < self.now.shards }
         ensures some { IsBehind self.now.own.name (λ h. TellsWaiting h sub.now result) }
-        ensures lane { IsBehindAt A.begins B.begins C.begins D.begins shard self.now.own.name
-            (λ h. TellsWaiting h sub.now result) }
+        ensures lane { IsBehindAt L.begins shard self.now.own.name (λ h. TellsWaiting h sub.now result) }
     {
         at!(self, shard, lock => locked_waits(rt, lock, sub))
     }
@@ -300,19 +288,18 @@ impl<G: Gate, A: Lane, B: Lane, C: Lane, D: Lane> Pool<G, A, B, C, D> {
     /// lasts nobody else is served by the shard; it costs a walk over the entries and a copy of all that the shard keeps.
     ///
     /// A seat's receipts from before have no entry any more: see `trim`.
-    #[tactic(auto, using(crate::proofs::Lanes::lanes))]
+    #[tactic(auto, using(crate::proofs::AtNumber::lanes))]
     pub fn checkpoint<R: Wait>(&self, rt: &R, alloc: Global, shard: u32) -> Result<(), PoolFault>
         requires { shard < self.now.shards }
         ensures some { IsBehind self.now.own.name (λ h. IsCheckpointed h result) }
-        ensures lane { IsBehindAt A.begins B.begins C.begins D.begins shard self.now.own.name
-            (λ h. IsCheckpointed h result) }
+        ensures lane { IsBehindAt L.begins shard self.now.own.name (λ h. IsCheckpointed h result) }
     {
         at!(self, shard, lock => locked_checkpoint(rt, alloc, lock))
     }
 
     /// Makes a checkpoint of a shard where its journal is full once its lock is had, so that of two who found it full one
     /// makes it. `Ok(false)` means that there was room, and that nothing changed.
-    #[tactic(auto, using(crate::proofs::Lanes::lanes))]
+    #[tactic(auto, using(crate::proofs::AtNumber::lanes))]
     pub fn checkpoint_where_full<R: Wait>(
         &self,
         rt: &R,
@@ -321,8 +308,7 @@ impl<G: Gate, A: Lane, B: Lane, C: Lane, D: Lane> Pool<G, A, B, C, D> {
     ) -> Result<bool, PoolFault>
         requires { shard < self.now.shards }
         ensures some { IsBehind self.now.own.name (λ h. IsMadeWhereFull h result) }
-        ensures lane { IsBehindAt A.begins B.begins C.begins D.begins shard self.now.own.name
-            (λ h. IsMadeWhereFull h result) }
+        ensures lane { IsBehindAt L.begins shard self.now.own.name (λ h. IsMadeWhereFull h result) }
     {
         at!(self, shard, lock => locked_checkpoint_where_full(rt, alloc, lock))
     }
@@ -330,7 +316,7 @@ impl<G: Gate, A: Lane, B: Lane, C: Lane, D: Lane> Pool<G, A, B, C, D> {
     /// Makes a checkpoint of a shard where its journal is due once its lock is had, and no item waits for a subscriber that
     /// isn't behind, so that none loses one. `Ok(false)` means that it isn't so, and that nothing changed;
     /// that costs a look at each subscriber, under the shard's lock.
-    #[tactic(auto, using(crate::proofs::Lanes::lanes))]
+    #[tactic(auto, using(crate::proofs::AtNumber::lanes))]
     pub fn checkpoint_where_quiet<R: Wait>(
         &self,
         rt: &R,
@@ -340,31 +326,28 @@ impl<G: Gate, A: Lane, B: Lane, C: Lane, D: Lane> Pool<G, A, B, C, D> {
     ) -> Result<bool, PoolFault>
         requires { shard < self.now.shards }
         ensures some { IsBehind self.now.own.name (λ h. IsMadeWhereQuiet due h result) }
-        ensures lane { IsBehindAt A.begins B.begins C.begins D.begins shard self.now.own.name
-            (λ h. IsMadeWhereQuiet due h result) }
+        ensures lane { IsBehindAt L.begins shard self.now.own.name (λ h. IsMadeWhereQuiet due h result) }
     {
         at!(self, shard, lock => locked_checkpoint_where_quiet(rt, alloc, lock, due))
     }
 
     /// How many entries a shard's journal has, its Start counted. It is no step, and takes a moment under the lock.
-    #[tactic(auto, using(crate::proofs::Lanes::lanes))]
+    #[tactic(auto, using(crate::proofs::AtNumber::lanes))]
     pub fn entry_count<R: Wait>(&self, rt: &R, shard: u32) -> u64
         requires { shard < self.now.shards }
         ensures some { IsBehind self.now.own.name (λ h. result ≡ entry_count h) }
-        ensures lane { IsBehindAt A.begins B.begins C.begins D.begins shard self.now.own.name
-            (λ h. result ≡ entry_count h) }
+        ensures lane { IsBehindAt L.begins shard self.now.own.name (λ h. result ≡ entry_count h) }
     {
         at!(self, shard, lock => locked_entry_count(rt, lock))
     }
 
     /// The bytes that a shard's entries keep beside themselves, or the most that a count of 64 bits tells: what a checkpoint may give
     /// back. It is no step, and takes a moment under the lock.
-    #[tactic(auto, using(crate::proofs::Lanes::lanes))]
+    #[tactic(auto, using(crate::proofs::AtNumber::lanes))]
     pub fn kept_bytes<R: Wait>(&self, rt: &R, shard: u32) -> u64
         requires { shard < self.now.shards }
         ensures some { IsBehind self.now.own.name (λ h. result ≡ min (kept_bytes h) (2 ^ 64 - 1)) }
-        ensures lane { IsBehindAt A.begins B.begins C.begins D.begins shard self.now.own.name
-            (λ h. result ≡ min (kept_bytes h) (2 ^ 64 - 1)) }
+        ensures lane { IsBehindAt L.begins shard self.now.own.name (λ h. result ≡ min (kept_bytes h) (2 ^ 64 - 1)) }
     {
         at!(self, shard, lock => locked_kept_bytes(rt, lock))
     }
@@ -386,19 +369,18 @@ impl<G: Gate, A: Lane, B: Lane, C: Lane, D: Lane> Pool<G, A, B, C, D> {
     }
 
     /// The number of the Start of a shard's journal. It is no step.
-    #[tactic(auto, using(crate::proofs::Lanes::lanes))]
+    #[tactic(auto, using(crate::proofs::AtNumber::lanes))]
     pub fn start_of<R: Wait>(&self, rt: &R, shard: u32) -> u64
         requires { shard < self.now.shards }
         ensures some { IsBehind self.now.own.name (λ h. result ≡ (start_of h).number) }
-        ensures lane { IsBehindAt A.begins B.begins C.begins D.begins shard self.now.own.name
-            (λ h. result ≡ (start_of h).number) }
+        ensures lane { IsBehindAt L.begins shard self.now.own.name (λ h. result ≡ (start_of h).number) }
     {
         at!(self, shard, lock => locked_start_of(rt, lock))
     }
 
     /// Drops a seat's receipts up to the Start of each shard: those that have no entry any more.
-    pub fn trim<R: Wait>(&self, rt: &R, seat: &mut Seat<A, B, C, D>)
-        ensures { IsTrimmed self.now.own.name A.begins B.begins C.begins D.begins seat.old seat.new }
+    pub fn trim<R: Wait>(&self, rt: &R, seat: &mut Seat<L>)
+        ensures { IsTrimmed self.now.own.name L.begins seat.old seat.new }
     {
         let _start = locked_trim(rt, &self.first, &mut seat.first);
         let _start = locked_trim(rt, &self.second, &mut seat.second);

@@ -10,7 +10,7 @@ use presence_base::{Dot, MAX_COUNT, Meta, Replica};
 use presence_node_link_ports::{PoolLinkPort, cut_off, fitting_beat};
 use presence_node_link_words::MOST_AHEAD;
 use serde_json::{Map, Value};
-use shard_pool::{Lane, NoGate, Seat};
+use shard_pool::{Lanes, NoGate, Seat};
 use std::alloc::Global;
 use std::sync::Wait;
 
@@ -27,9 +27,9 @@ pub(crate) const TOO_MANY: u32 = 65_537;
 pub(crate) const SAYING_TOO_MANY: SayingCrowd = ([None, None], 65_537);
 
 // Tracks so many rows of the first shard's room.
-fn track_many<R: Wait, A: Lane, B: Lane, C: Lane, D: Lane>(
-    scene: Scene<'_, R, NoGate, A, B, C, D>,
-    seat: &mut Seat<A, B, C, D>,
+fn track_many<R: Wait, L: Lanes>(
+    scene: Scene<'_, R, NoGate, L>,
+    seat: &mut Seat<L>,
     rows: u32,
 ) -> Option<()> {
     let Scene { alloc, .. } = scene;
@@ -51,9 +51,9 @@ fn rows_along(beat: Line) -> Option<usize> {
     }
 }
 
-pub(crate) fn say_crowd<R: Wait, A: Lane, B: Lane, C: Lane, D: Lane>(
-    scene: Scene<'_, R, NoGate, A, B, C, D>,
-    seat: &mut Seat<A, B, C, D>,
+pub(crate) fn say_crowd<R: Wait, L: Lanes>(
+    scene: Scene<'_, R, NoGate, L>,
+    seat: &mut Seat<L>,
     rows: u32,
 ) -> Option<SayingCrowd>
     requires { scene.pool.now.shards ≡ 2 }
@@ -106,8 +106,8 @@ fn crowd_of(alloc: Global, replica: &Replica, rows: u32) -> Option<Told> {
     Told::check(alloc, raw, 0, 2).ok()
 }
 
-pub(crate) fn hear_crowd<R: Wait, A: Lane, B: Lane, C: Lane, D: Lane>(
-    scene: Scene<'_, R, NoGate, A, B, C, D>,
+pub(crate) fn hear_crowd<R: Wait, L: Lanes>(
+    scene: Scene<'_, R, NoGate, L>,
     rows: u32,
 ) -> Option<HearingCrowd>
     requires { scene.pool.now.shards ≡ 2 }
@@ -147,8 +147,8 @@ fn told_of_lives(alloc: Global, life: &Replica) -> Option<Told> {
     Told::check(alloc, raw, 0, 2).ok()
 }
 
-pub(crate) fn hear_own<R: Wait, A: Lane, B: Lane, C: Lane, D: Lane>(
-    scene: Scene<'_, R, NoGate, A, B, C, D>,
+pub(crate) fn hear_own<R: Wait, L: Lanes>(
+    scene: Scene<'_, R, NoGate, L>,
     own: &Replica,
 ) -> Option<HearingOwn>
     requires { scene.pool.now.shards ≡ 2 }

@@ -1,12 +1,12 @@
 // What the tests give a pool that is linked.
 use pool_desk::{Scene, key, meta, topic};
-use shard_pool::{Lane, NoGate, Seat};
+use shard_pool::{Lanes, NoGate, Seat};
 use std::sync::Wait;
 
 // A row of session 5 in the room of the first shard.
-pub(crate) fn track<R: Wait, A: Lane, B: Lane, C: Lane, D: Lane>(
-    scene: Scene<'_, R, NoGate, A, B, C, D>,
-    seat: &mut Seat<A, B, C, D>,
+pub(crate) fn track<R: Wait, L: Lanes>(
+    scene: Scene<'_, R, NoGate, L>,
+    seat: &mut Seat<L>,
     name: &str,
 ) -> Option<()> {
     let Scene { rt, alloc, pool } = scene;

@@ -5,7 +5,7 @@ use super::node::{Dialogue, node_over};
 use node_links::End;
 use pool_desk::{Scene, topic};
 use presence_base::Replica;
-use shard_pool::{Lane, NoGate, Seat};
+use shard_pool::{Lanes, NoGate, Seat};
 use std::sync::Wait;
 
 // The count of the first row that is listed behind each line, 0 where none is; whether more lines come; and whether it
@@ -24,10 +24,7 @@ pub(crate) const HEARING_OUTGROWN: Hearing = (
 );
 
 // The count of the first row of the room, or 0.
-fn first_row<R: Wait, A: Lane, B: Lane, C: Lane, D: Lane>(
-    scene: Scene<'_, R, NoGate, A, B, C, D>,
-    seat: &mut Seat<A, B, C, D>,
-) -> Option<u64> {
+fn first_row<R: Wait, L: Lanes>(scene: Scene<'_, R, NoGate, L>, seat: &mut Seat<L>) -> Option<u64> {
     let Scene { rt, alloc, pool } = scene;
     let topic = topic(alloc, "room:a")?;
     let rows = pool.list(rt, alloc, seat, &topic).ok()?.value;
@@ -37,9 +34,9 @@ fn first_row<R: Wait, A: Lane, B: Lane, C: Lane, D: Lane>(
     }
 }
 
-pub(crate) fn hear<R: Wait, A: Lane, B: Lane, C: Lane, D: Lane>(
-    scene: Scene<'_, R, NoGate, A, B, C, D>,
-    seat: &mut Seat<A, B, C, D>,
+pub(crate) fn hear<R: Wait, L: Lanes>(
+    scene: Scene<'_, R, NoGate, L>,
+    seat: &mut Seat<L>,
     own: Replica,
     dialogue: Dialogue,
 ) -> Option<Hearing>

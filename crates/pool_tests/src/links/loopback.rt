@@ -8,7 +8,7 @@ use orswot_core_told::Form;
 use pool_desk::{Scene, topic};
 use presence_base::Replica;
 use presence_node_link_ports::PoolLinkPort;
-use shard_pool::{Lane, NoGate, Seat};
+use shard_pool::{Lanes, NoGate, Seat};
 use std::io;
 use std::io::{Read, Write};
 use std::net::{Net, TcpListener, TcpStream};
@@ -16,9 +16,9 @@ use std::sync::Wait;
 use std::time::Duration;
 
 // One period of the first shard, whose beat goes out: whether this node is told that it is gone.
-fn beats_over<R: Wait, A: Lane, B: Lane, C: Lane, D: Lane, S: Read + Write + Drop>(
-    scene: Scene<'_, R, NoGate, A, B, C, D>,
-    port: &mut PoolLinkPort<'_, R, NoGate, A, B, C, D>,
+fn beats_over<R: Wait, L: Lanes, S: Read + Write + Drop>(
+    scene: Scene<'_, R, NoGate, L>,
+    port: &mut PoolLinkPort<'_, R, NoGate, L>,
     link: &mut Link<S>,
 ) -> Option<bool>
     requires { scene.pool.now.shards ≡ 2 }
@@ -34,9 +34,9 @@ pub(crate) type Dialled = [bool; 3];
 pub(crate) const DIALLED: Dialled = [false, false, false];
 
 // A hello; a row, and a beat of it; and a beat behind one that was lost, which had the row's removal.
-pub(crate) fn dial_over<R: Wait, A: Lane, B: Lane, C: Lane, D: Lane, S: Read + Write + Drop>(
-    scene: Scene<'_, R, NoGate, A, B, C, D>,
-    seat: &mut Seat<A, B, C, D>,
+pub(crate) fn dial_over<R: Wait, L: Lanes, S: Read + Write + Drop>(
+    scene: Scene<'_, R, NoGate, L>,
+    seat: &mut Seat<L>,
     own: &Replica,
     stream: S,
 ) -> Option<Dialled>
@@ -78,10 +78,7 @@ pub(crate) const ACCEPTED: Accepted = [
     (false, EMPTY),
 ];
 
-fn listed<R: Wait, A: Lane, B: Lane, C: Lane, D: Lane>(
-    scene: Scene<'_, R, NoGate, A, B, C, D>,
-    seat: &mut Seat<A, B, C, D>,
-) -> Option<Listed> {
+fn listed<R: Wait, L: Lanes>(scene: Scene<'_, R, NoGate, L>, seat: &mut Seat<L>) -> Option<Listed> {
     let Scene { rt, alloc, pool } = scene;
     let topic = topic(alloc, "room:a")?;
     let rows = pool.list(rt, alloc, seat, &topic).ok()?.value;
@@ -91,9 +88,9 @@ fn listed<R: Wait, A: Lane, B: Lane, C: Lane, D: Lane>(
     Some((rows.as_slice().len(), is_told))
 }
 
-pub(crate) fn accept_over<R: Wait, A: Lane, B: Lane, C: Lane, D: Lane, S: Read + Write + Drop>(
-    scene: Scene<'_, R, NoGate, A, B, C, D>,
-    seat: &mut Seat<A, B, C, D>,
+pub(crate) fn accept_over<R: Wait, L: Lanes, S: Read + Write + Drop>(
+    scene: Scene<'_, R, NoGate, L>,
+    seat: &mut Seat<L>,
     own: &Replica,
     stream: S,
 ) -> Option<Accepted>

@@ -9,7 +9,7 @@ use node_links::{End, Line};
 use pool_desk::{Scene, key, meta, topic};
 use presence_base::Replica;
 use presence_node_link_ports::cut_off;
-use shard_pool::{Lane, NoGate, Seat};
+use shard_pool::{Lanes, NoGate, Seat};
 use std::sync::Wait;
 
 // Two cuts are told as one, without the row that came behind them, and without that of node c.
@@ -57,10 +57,7 @@ const OTHER: &str = r#"["hello","c",1,2]
 // One more than a kept delta holds at most.
 const CROWD: u32 = 10_001;
 
-fn hears_another<R: Wait, A: Lane, B: Lane, C: Lane, D: Lane>(
-    scene: Scene<'_, R, NoGate, A, B, C, D>,
-    own: &Replica,
-) -> Option<()>
+fn hears_another<R: Wait, L: Lanes>(scene: Scene<'_, R, NoGate, L>, own: &Replica) -> Option<()>
     requires { scene.pool.now.shards ≡ 2 }
 {
     let Scene { alloc, .. } = scene;
@@ -71,10 +68,7 @@ fn hears_another<R: Wait, A: Lane, B: Lane, C: Lane, D: Lane>(
 }
 
 // A row, and behind a cut another one and an update of the first. Neither cut goes out.
-fn is_cut_twice<R: Wait, A: Lane, B: Lane, C: Lane, D: Lane>(
-    scene: Scene<'_, R, NoGate, A, B, C, D>,
-    seat: &mut Seat<A, B, C, D>,
-) -> Option<()>
+fn is_cut_twice<R: Wait, L: Lanes>(scene: Scene<'_, R, NoGate, L>, seat: &mut Seat<L>) -> Option<()>
     requires { scene.pool.now.shards ≡ 2 }
 {
     let Scene { rt, alloc, pool } = scene;
@@ -90,10 +84,7 @@ fn is_cut_twice<R: Wait, A: Lane, B: Lane, C: Lane, D: Lane>(
 }
 
 // Many rows come, and all go behind a cut. Neither that cut nor the one behind it goes out.
-fn is_outgrown<R: Wait, A: Lane, B: Lane, C: Lane, D: Lane>(
-    scene: Scene<'_, R, NoGate, A, B, C, D>,
-    seat: &mut Seat<A, B, C, D>,
-) -> Option<()>
+fn is_outgrown<R: Wait, L: Lanes>(scene: Scene<'_, R, NoGate, L>, seat: &mut Seat<L>) -> Option<()>
     requires { scene.pool.now.shards ≡ 2 }
 {
     let Scene { rt, alloc, pool } = scene;
@@ -108,9 +99,9 @@ fn is_outgrown<R: Wait, A: Lane, B: Lane, C: Lane, D: Lane>(
     Some(())
 }
 
-pub(crate) fn say_lost<'a, R: Wait, A: Lane, B: Lane, C: Lane, D: Lane>(
-    scene: Scene<'a, R, NoGate, A, B, C, D>,
-    seat: &mut Seat<A, B, C, D>,
+pub(crate) fn say_lost<'a, R: Wait, L: Lanes>(
+    scene: Scene<'a, R, NoGate, L>,
+    seat: &mut Seat<L>,
     own: &Replica,
     lost: Lost,
 ) -> Option<SayingLost>

@@ -7,7 +7,7 @@ use orswot_core_told::Form;
 use pool_desk::Scene;
 use presence_base::Replica;
 use presence_node_link_ports::PoolLinkPort;
-use shard_pool::{Lane, NoGate};
+use shard_pool::{Lanes, NoGate};
 use std::alloc::Global;
 use std::sync::Wait;
 
@@ -21,12 +21,12 @@ pub(crate) struct Dialogue {
     pub answered: &'static str,
 }
 
-pub(crate) struct Node<'a, R: Wait, A: Lane, B: Lane, C: Lane, D: Lane> {
-    pub port: PoolLinkPort<'a, R, NoGate, A, B, C, D>,
+pub(crate) struct Node<'a, R: Wait, L: Lanes> {
+    pub port: PoolLinkPort<'a, R, NoGate, L>,
     pub link: Link<Wire<'a>>,
 }
 
-impl<R: Wait, A: Lane, B: Lane, C: Lane, D: Lane> Drop for Node<'_, R, A, B, C, D> {
+impl<R: Wait, L: Lanes> Drop for Node<'_, R, L> {
     fn drop(self) {
         let Node { port, link } = self;
         drop(port);
@@ -35,12 +35,12 @@ impl<R: Wait, A: Lane, B: Lane, C: Lane, D: Lane> Drop for Node<'_, R, A, B, C, 
 }
 
 // The end of a link of this node, which is told these lines.
-pub(crate) fn node_over<'a, R: Wait, A: Lane, B: Lane, C: Lane, D: Lane>(
-    scene: Scene<'a, R, NoGate, A, B, C, D>,
+pub(crate) fn node_over<'a, R: Wait, L: Lanes>(
+    scene: Scene<'a, R, NoGate, L>,
     own: Replica,
     end: End,
     lines: &'a str,
-) -> Node<'a, R, A, B, C, D>
+) -> Node<'a, R, L>
     requires { scene.pool.now.shards ≡ 2 }
 {
     let Scene { rt, alloc, pool } = scene;
@@ -56,7 +56,7 @@ pub(crate) fn node_over<'a, R: Wait, A: Lane, B: Lane, C: Lane, D: Lane>(
     }
 }
 
-impl<R: Wait, A: Lane, B: Lane, C: Lane, D: Lane> Node<'_, R, A, B, C, D> {
+impl<R: Wait, L: Lanes> Node<'_, R, L> {
     // Whether the other end says that this node is gone there, behind this line.
     pub fn dials(&mut self, alloc: Global, line: &Line) -> Option<bool> {
         dial(alloc, &mut self.link, &mut self.port, line, NOW).ok()

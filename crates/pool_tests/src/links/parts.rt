@@ -7,7 +7,7 @@ use pool_desk::{Scene, key, topic};
 use presence_base::Meta;
 use presence_node_link_ports::PoolLinkPort;
 use serde_json::Value;
-use shard_pool::{Lane, NoGate, Seat};
+use shard_pool::{Lanes, NoGate, Seat};
 use std::alloc::Global;
 use std::sync::Wait;
 
@@ -55,9 +55,9 @@ fn heavy_meta(alloc: Global, bytes: u32) -> Option<Meta> {
 }
 
 // Tracks the rows in the first shard's room.
-fn track_heavy<R: Wait, A: Lane, B: Lane, C: Lane, D: Lane>(
-    scene: Scene<'_, R, NoGate, A, B, C, D>,
-    seat: &mut Seat<A, B, C, D>,
+fn track_heavy<R: Wait, L: Lanes>(
+    scene: Scene<'_, R, NoGate, L>,
+    seat: &mut Seat<L>,
     heavy: Heavy,
 ) -> Option<()> {
     let Scene { rt, alloc, pool } = scene;
@@ -78,9 +78,9 @@ fn part_from<P: LinkPort>(port: &mut P, alloc: Global, from: u64) -> Option<(usi
     Some((told.live().len(), range.2))
 }
 
-pub(crate) fn say_parts<R: Wait, A: Lane, B: Lane, C: Lane, D: Lane>(
-    scene: Scene<'_, R, NoGate, A, B, C, D>,
-    seat: &mut Seat<A, B, C, D>,
+pub(crate) fn say_parts<R: Wait, L: Lanes>(
+    scene: Scene<'_, R, NoGate, L>,
+    seat: &mut Seat<L>,
     heavy: Heavy,
 ) -> Option<SayingParts>
     requires { scene.pool.now.shards ≡ 2 }

@@ -2,6 +2,7 @@
 ghost use Rattle.presence_journal.specs.History.{begun};
 ghost use Rattle.std.specs.Prelude.{◌≡◌};
 ghost use Rattle.presence_base.specs.Refs.{IsCount};
+ghost use Rattle.shard_pool.specs.Lanes.{AllBegin};
 
 use super::crowds::{
     HEARING_MOST, HEARING_OWN, HearingCrowd, HearingOwn, MOST, SAYING_MOST, SAYING_TOO_MANY,
@@ -16,9 +17,9 @@ use super::parts::{
     say_parts,
 };
 use super::saying::{FIRST, SAYING, Saying, say};
-use pool_desk::{Blanks, Scene, replica};
+use pool_desk::{Scene, replica};
 use presence_base::Replica;
-use shard_pool::{Lane, NoGate, Pool, Seat};
+use shard_pool::{Blanks, Four, Lane, Lanes, NoGate, Pool, Seat};
 use std::alloc::Global;
 use std::marker::Brand;
 use std::net::TcpStream;
@@ -56,9 +57,9 @@ enum Came {
     Accepted(Accepted),
 }
 
-fn run_over<A: Lane, B: Lane, C: Lane, D: Lane, R: Wait>(
-    scene: Scene<'_, R, NoGate, A, B, C, D>,
-    seat: &mut Seat<A, B, C, D>,
+fn run_over<L: Lanes, R: Wait>(
+    scene: Scene<'_, R, NoGate, L>,
+    seat: &mut Seat<L>,
     own: &Replica,
     run: Run,
 ) -> Option<Came>
@@ -78,13 +79,13 @@ fn run_over<A: Lane, B: Lane, C: Lane, D: Lane, R: Wait>(
 }
 
 // What comes of a run over a new pool of this node, if the pool settles behind it.
-fn settled_run<A: Lane, B: Lane, C: Lane, D: Lane, R: Wait>(
-    rt: &R,
-    alloc: Global,
-    own: Replica,
-    run: Run,
-    blanks: Blanks,
-) -> Option<Came>
+fn settled_run<
+    A: Lane + Send + Sync,
+    B: Lane + Send + Sync,
+    C: Lane + Send + Sync,
+    D: Lane + Send + Sync,
+    R: Wait,
+>(rt: &R, alloc: Global, own: Replica, run: Run, blanks: Blanks) -> Option<Came>
     requires count { IsCount own.incarnation }
     requires first { (blanks.first.name ≡ A.name) × (blanks.first.parts ≡ A.parts) × (blanks.first.parts ≡ 1)
         × (own.name ≡ A.node) }
@@ -94,18 +95,9 @@ fn settled_run<A: Lane, B: Lane, C: Lane, D: Lane, R: Wait>(
         × (own.name ≡ C.node) }
     requires fourth { (blanks.fourth.name ≡ D.name) × (blanks.fourth.parts ≡ D.parts) × (blanks.fourth.parts ≡ 1)
         × (own.name ≡ D.node) }
-    requires begins { (A.begins (begun own)) × (B.begins (begun own)) × (C.begins (begun own))
-        × (D.begins (begun own)) }
+    requires begins { AllBegin A.begins B.begins C.begins D.begins (begun own) }
 {
-    let Blanks {
-        first,
-        second,
-        third,
-        fourth,
-    } = blanks;
-    let started = Pool::<NoGate, A, B, C, D>::start(
-        alloc, own, 2, 1, NoGate, first, second, third, fourth,
-    );
+    let started = Pool::<NoGate, Four<A, B, C, D>>::start(alloc, own, 2, 1, NoGate, blanks);
     let Ok((pool, mut seats)) = started else {
         return None;
     };

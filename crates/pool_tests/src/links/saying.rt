@@ -8,7 +8,7 @@ use orswot_core_told::Form;
 use pool_desk::{Scene, key, topic};
 use presence_base::Replica;
 use presence_node_link_ports::{beat_of, cut_off, let_pass};
-use shard_pool::{Lane, NoGate, Seat};
+use shard_pool::{Lanes, NoGate, Seat};
 use std::sync::Wait;
 
 const SAID: &str = r#"["hello","b",1,2]
@@ -39,9 +39,7 @@ pub(crate) type Saying = ([bool; 5], bool);
 pub(crate) const SAYING: Saying = ([false, false, false, false, true], true);
 
 // The beat of one period of the first shard.
-pub(crate) fn next_beat<R: Wait, A: Lane, B: Lane, C: Lane, D: Lane>(
-    scene: Scene<'_, R, NoGate, A, B, C, D>,
-) -> Option<Line>
+pub(crate) fn next_beat<R: Wait, L: Lanes>(scene: Scene<'_, R, NoGate, L>) -> Option<Line>
     requires { scene.pool.now.shards ≡ 2 }
 {
     let Scene { rt, alloc, pool } = scene;
@@ -51,9 +49,9 @@ pub(crate) fn next_beat<R: Wait, A: Lane, B: Lane, C: Lane, D: Lane>(
 }
 
 // One period of the first shard, whose beat goes out.
-fn beats<R: Wait, A: Lane, B: Lane, C: Lane, D: Lane>(
-    scene: Scene<'_, R, NoGate, A, B, C, D>,
-    node: &mut Node<'_, R, A, B, C, D>,
+fn beats<R: Wait, L: Lanes>(
+    scene: Scene<'_, R, NoGate, L>,
+    node: &mut Node<'_, R, L>,
 ) -> Option<bool>
     requires { scene.pool.now.shards ≡ 2 }
 {
@@ -62,17 +60,17 @@ fn beats<R: Wait, A: Lane, B: Lane, C: Lane, D: Lane>(
     node.dials(alloc, &beat)
 }
 
-pub(crate) fn comes<R: Wait, A: Lane, B: Lane, C: Lane, D: Lane>(
-    scene: Scene<'_, R, NoGate, A, B, C, D>,
-    seat: &mut Seat<A, B, C, D>,
+pub(crate) fn comes<R: Wait, L: Lanes>(
+    scene: Scene<'_, R, NoGate, L>,
+    seat: &mut Seat<L>,
 ) -> Option<()> {
     track(scene, seat, "u2")
 }
 
 // The row goes, and the beat that would say so is lost.
-pub(crate) fn goes_unheard<R: Wait, A: Lane, B: Lane, C: Lane, D: Lane>(
-    scene: Scene<'_, R, NoGate, A, B, C, D>,
-    seat: &mut Seat<A, B, C, D>,
+pub(crate) fn goes_unheard<R: Wait, L: Lanes>(
+    scene: Scene<'_, R, NoGate, L>,
+    seat: &mut Seat<L>,
 ) -> Option<()>
     requires { scene.pool.now.shards ≡ 2 }
 {
@@ -84,9 +82,9 @@ pub(crate) fn goes_unheard<R: Wait, A: Lane, B: Lane, C: Lane, D: Lane>(
     Some(())
 }
 
-pub(crate) fn say<'a, R: Wait, A: Lane, B: Lane, C: Lane, D: Lane>(
-    scene: Scene<'a, R, NoGate, A, B, C, D>,
-    seat: &mut Seat<A, B, C, D>,
+pub(crate) fn say<'a, R: Wait, L: Lanes>(
+    scene: Scene<'a, R, NoGate, L>,
+    seat: &mut Seat<L>,
     own: &Replica,
 ) -> Option<Saying>
     requires { scene.pool.now.shards ≡ 2 }

@@ -9,7 +9,7 @@ use presence_node_options::ServeOptions;
 use presence_node_queue::Giver;
 use presence_node_sockets::{Bell, Watch};
 use presence_node_web_sockets::WebSocket;
-use shard_pool::{Lane, Seat};
+use shard_pool::{Lanes, Seat};
 use std::alloc::Global;
 use std::io;
 use std::net::Net;
@@ -36,8 +36,8 @@ pub(crate) fn limits_of(options: &ServeOptions) -> DoorLimits {
 }
 
 /// What the threads are given, and what wakes each of them.
-pub(crate) struct Stations<A: Lane, B: Lane, C: Lane, D: Lane> {
-    pub posts: Posts<Workplace<A, B, C, D>, Door, LinkTask>,
+pub(crate) struct Stations<L: Lanes> {
+    pub posts: Posts<Workplace<L>, Door, LinkTask>,
     /// One of each worker, in their order.
     pub mailboxes: Vec<WorkerMailbox>,
     pub door_bell: Bell,
@@ -45,19 +45,19 @@ pub(crate) struct Stations<A: Lane, B: Lane, C: Lane, D: Lane> {
 
 /// The places of the workers, with what the others reach each of them by.
 #[derive(Drop)]
-struct Places<A: Lane, B: Lane, C: Lane, D: Lane> {
-    places: Vec<Workplace<A, B, C, D>>,
+struct Places<L: Lanes> {
+    places: Vec<Workplace<L>>,
     mailboxes: Vec<WorkerMailbox>,
 }
 
-impl<A: Lane, B: Lane, C: Lane, D: Lane> Places<A, B, C, D> {
+impl<L: Lanes> Places<L> {
     // Adds the next place, with this seat.
     fn add<R: Net>(
         &mut self,
         net: &R,
         alloc: Global,
         waiting: &mut Waiting,
-        seat: Seat<A, B, C, D>,
+        seat: Seat<L>,
     ) -> io::Result<()> {
         let watch = Watch::new(net, alloc)?;
         self.mailboxes.push(mailbox_of(alloc, &watch)?)?;
@@ -80,12 +80,12 @@ fn mailbox_of(alloc: Global, watch: &Watch) -> io::Result<WorkerMailbox> {
 }
 
 // A place for each seat, in their order.
-fn places_for<R: Net, A: Lane, B: Lane, C: Lane, D: Lane>(
+fn places_for<R: Net, L: Lanes>(
     net: &R,
     alloc: Global,
     waiting: &mut Waiting,
-    seats: Vec<Seat<A, B, C, D>>,
-) -> io::Result<Places<A, B, C, D>> {
+    seats: Vec<Seat<L>>,
+) -> io::Result<Places<L>> {
     let mut all = Places {
         places: Vec::new(alloc),
         mailboxes: Vec::new(alloc),
@@ -114,13 +114,13 @@ fn door_at<R: Net>(
 }
 
 /// A place for each seat, in their order, the door at this entrance, and the tasks of links.
-pub(crate) fn stations_for<R: Net, A: Lane, B: Lane, C: Lane, D: Lane>(
+pub(crate) fn stations_for<R: Net, L: Lanes>(
     net: &R,
     alloc: Global,
     entrance: Entrance,
-    seats: Vec<Seat<A, B, C, D>>,
+    seats: Vec<Seat<L>>,
     tasks: Vec<LinkTask>,
-) -> Result<Stations<A, B, C, D>, BeginFault> {
+) -> Result<Stations<L>, BeginFault> {
     let mut waiting = Giver::new(alloc)?;
     let Places { places, mailboxes } = places_for(net, alloc, &mut waiting, seats)?;
     let (door, door_bell) = door_at(net, alloc, entrance, waiting)?;

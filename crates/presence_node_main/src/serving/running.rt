@@ -4,7 +4,8 @@ ghost use Rattle.presence_base.specs.Refs.{IsCount};
 ghost use Rattle.shard_pool.specs.Seats.{Hands};
 ghost use Rattle.presence_node_ends.specs.Ends.{Settles};
 ghost use Rattle.presence_node_main.specs.Ends.{IsEndFor, IsLinkEnd, IsMetricsEnd};
-ghost use Rattle.presence_node_main.specs.Ledgers.{AreBegun, HaveParts, IsNameOfAll};
+ghost use Rattle.shard_pool.specs.Blanks.{HaveParts};
+ghost use Rattle.presence_node_main.specs.Ledgers.{AreBegun, IsNameOfAll};
 
 use super::belongings::{budgets_of, format_of, log_of, memory_of, now_in_seconds};
 use super::fault::BeginFault;
@@ -15,21 +16,19 @@ use hook_registry::PresenceHooks;
 use presence_base::{MAX_COUNT, Replica};
 use presence_node_crew::{Posts, run_crew};
 use presence_node_duties::{
-    Counts, Door, Entries, LinkNode, LinkTask, LinkTasks, Server, Workplace, seats_of, tasks_for,
+    Counts, Door, Entries, LinkNode, LinkTask, LinkTasks, ServeRuntime, Server, Workplace,
+    seats_of, tasks_for,
 };
 use presence_node_ends::{ServeEnd, settled};
 use presence_node_options::{PeerOption, ServeOptions, VERSION};
 use presence_node_sockets::listen;
-use shard_pool::{Lane, NoGate, Pool, Seat};
+use shard_pool::{Blanks, Four, Lane, Lanes, NoGate, Pool, Seat};
 use std::alloc::{AllocError, Global};
-use std::io::{ErrorKind, Input, Print};
+use std::io::ErrorKind;
 use std::marker::Brand;
 use std::net::{Net, TcpListener, TcpStream};
-use std::rt::Files;
 use std::sync::Wait;
 use std::sync::atomic::AtomicBool;
-use std::sync::ledger::Blank;
-use std::thread::Threads;
 use std::time::Clock;
 
 /// What a run of the server is given, and which life of the node it is.
@@ -67,26 +66,6 @@ fn incarnation_for<R: Clock>(rt: &R, options: &ServeOptions) -> u64
             Ok(time) => life_at(time.as_millis()),
             Err(_) => life_at(1),
         },
-    }
-}
-
-/// A ledger for each shard of a pool, which none has opened.
-struct Blanks {
-    first: Blank,
-    second: Blank,
-    third: Blank,
-    fourth: Blank,
-}
-
-// Ledgers of so many parts.
-fn blanks_of(parts: u64) -> Blanks
-    ensures { HaveParts result parts }
-{
-    Blanks {
-        first: Blank::new(parts),
-        second: Blank::new(parts),
-        third: Blank::new(parts),
-        fourth: Blank::new(parts),
     }
 }
 
@@ -254,38 +233,23 @@ fn links_for<R: Net, H>(
 }
 
 // Drops the receipts that have no entry any more.
-fn trim_all<R: Wait, A: Lane, B: Lane, C: Lane, D: Lane>(
-    rt: &R,
-    pool: &Pool<NoGate, A, B, C, D>,
-    seats: &mut Vec<Seat<A, B, C, D>>,
-) {
+fn trim_all<R: Wait, L: Lanes>(rt: &R, pool: &Pool<NoGate, L>, seats: &mut Vec<Seat<L>>) {
     for seat in seats.iter_mut() {
         pool.trim(rt, seat);
     }
 }
 
 // Runs the threads of this server until it is stopped, and settles. Standard error is told the place before it is ready.
-fn run_server<R, H, A, B, C, D>(
+fn run_server<R, H, L>(
     rt: &R,
-    server: Server<'_, H, A, B, C, D>,
-    posts: Posts<Workplace<A, B, C, D>, Door, LinkTask>,
+    server: Server<'_, H, L>,
+    posts: Posts<Workplace<L>, Door, LinkTask>,
     place: &str,
 ) -> Result<ServeEnd, BeginFault>
 where
-    R: Net<Listener = TcpListener, Stream = TcpStream>
-        + Threads
-        + Wait
-        + Clock
-        + Input
-        + Print
-        + Eprint
-        + Files<File: Send + Sync, Dir: Send + Sync>
-        + Sync,
+    R: ServeRuntime,
     H: PresenceHooks + Sync,
-    A: Lane + Send + Sync,
-    B: Lane + Send + Sync,
-    C: Lane + Send + Sync,
-    D: Lane + Send + Sync,
+    L: Lanes + Send + Sync,
     ensures { IfOk result (λ end. (hs : List Hands)
         × Settles server.entry.pool.own.name server.entry.pool.shards server.entry.pool.seats hs end) }
 {
@@ -303,28 +267,17 @@ where
 }
 
 // Runs the threads over this pool until the server is stopped, and settles.
-fn run_threads<R, H, A, B, C, D>(
+fn run_threads<R, H, L>(
     rt: &R,
     setting: &Setting<'_, H>,
     listeners: Listeners,
-    pool: Pool<NoGate, A, B, C, D>,
-    seats: Vec<Seat<A, B, C, D>>,
+    pool: Pool<NoGate, L>,
+    seats: Vec<Seat<L>>,
 ) -> Result<ServeEnd, BeginFault>
 where
-    R: Net<Listener = TcpListener, Stream = TcpStream>
-        + Threads
-        + Wait
-        + Clock
-        + Input
-        + Print
-        + Eprint
-        + Files<File: Send + Sync, Dir: Send + Sync>
-        + Sync,
+    R: ServeRuntime,
     H: PresenceHooks + Sync,
-    A: Lane + Send + Sync,
-    B: Lane + Send + Sync,
-    C: Lane + Send + Sync,
-    D: Lane + Send + Sync,
+    L: Lanes + Send + Sync,
     requires { setting.now.options.now.shards ≡ pool.shards }
     ensures { IfOk result (λ end. (hs : List Hands) × Settles pool.own.name pool.shards pool.seats hs end) }
 {
@@ -372,15 +325,7 @@ fn serve_lanes<R, H, A, B, C, D>(
     blanks: Blanks,
 ) -> ServeEnd
 where
-    R: Net<Listener = TcpListener, Stream = TcpStream>
-        + Threads
-        + Wait
-        + Clock
-        + Input
-        + Print
-        + Eprint
-        + Files<File: Send + Sync, Dir: Send + Sync>
-        + Sync,
+    R: ServeRuntime,
     H: PresenceHooks + Sync,
     A: Lane + Send + Sync,
     B: Lane + Send + Sync,
@@ -401,22 +346,13 @@ where
         name: options.name,
         incarnation: setting.incarnation,
     };
-    let Blanks {
-        first,
-        second,
-        third,
-        fourth,
-    } = blanks;
-    let started = Pool::<NoGate, A, B, C, D>::start(
+    let started = Pool::<NoGate, Four<A, B, C, D>>::start(
         setting.alloc,
         own,
         options.shards,
         options.workers,
         NoGate,
-        first,
-        second,
-        third,
-        fourth,
+        blanks,
     );
     let Ok((pool, seats)) = started else {
         return ServeEnd::Memory;
@@ -435,15 +371,7 @@ where
 /// That a client is served or a node told of anything, and when, no contract says.
 pub fn serve<R, H>(rt: &R, alloc: Global, hooks: &H, options: &ServeOptions) -> ServeEnd
 where
-    R: Net<Listener = TcpListener, Stream = TcpStream>
-        + Threads
-        + Wait
-        + Clock
-        + Input
-        + Print
-        + Eprint
-        + Files<File: Send + Sync, Dir: Send + Sync>
-        + Sync,
+    R: ServeRuntime,
     H: PresenceHooks + Sync,
     ensures { IsEndFor options.now result }
 {
@@ -451,7 +379,7 @@ where
         Ok(listeners) => listeners,
         Err(end) => return end,
     };
-    let blanks = blanks_of(u64::from(options.workers));
+    let blanks = Blanks::new(u64::from(options.workers));
     let setting = Setting {
         alloc,
         hooks,

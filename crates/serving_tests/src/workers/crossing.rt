@@ -2,13 +2,14 @@
 ghost use Rattle.presence_journal.specs.History.{begun};
 ghost use Rattle.std.specs.Prelude.{◌≡◌};
 ghost use Rattle.presence_base.specs.Refs.{IsCount};
+ghost use Rattle.shard_pool.specs.Lanes.{AllBegin};
 
 use super::run::{Run, own_replica, play};
 use super::script::{Part, Says, Turn};
-use pool_desk::{Blanks, Crossing};
+use pool_desk::Crossing;
 use presence_base::Replica;
 use presence_node_ports::PoolPort;
-use shard_pool::{Gate, Lane, Pool, Seat};
+use shard_pool::{Blanks, Four, Gate, Lane, Lanes, Pool, Seat};
 use std::alloc::Global;
 use std::marker::Brand;
 use std::sync::Wait;
@@ -42,11 +43,11 @@ const AT_SHARD_1: &[Turn] = &[Turn {
 }];
 
 // How many of these turns of a worker went as they say, with a seat that is not given back.
-fn served<G: Gate, A: Lane, B: Lane, C: Lane, D: Lane, R: Wait + Clock>(
+fn served<G: Gate, L: Lanes, R: Wait + Clock>(
     rt: &R,
     alloc: Global,
-    pool: &Pool<G, A, B, C, D>,
-    seat: Seat<A, B, C, D>,
+    pool: &Pool<G, L>,
+    seat: Seat<L>,
     turns: &[Turn],
 ) -> Option<usize> {
     let mut seat = seat;
@@ -76,18 +77,9 @@ fn two_workers<
         × (own.name ≡ C.node) }
     requires fourth { (blanks.fourth.name ≡ D.name) × (blanks.fourth.parts ≡ D.parts) × (blanks.fourth.parts ≡ 2)
         × (own.name ≡ D.node) }
-    requires begins { (A.begins (begun own)) × (B.begins (begun own)) × (C.begins (begun own))
-        × (D.begins (begun own)) }
+    requires begins { AllBegin A.begins B.begins C.begins D.begins (begun own) }
 {
-    let Blanks {
-        first,
-        second,
-        third,
-        fourth,
-    } = blanks;
-    let started = Pool::<G, A, B, C, D>::start(
-        alloc, own, 2, 2, gate, first, second, third, fourth,
-    );
+    let started = Pool::<G, Four<A, B, C, D>>::start(alloc, own, 2, 2, gate, blanks);
     let Ok((pool, mut seats)) = started else {
         return None;
     };

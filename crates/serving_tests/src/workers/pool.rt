@@ -2,12 +2,13 @@
 ghost use Rattle.presence_journal.specs.History.{begun};
 ghost use Rattle.std.specs.Prelude.{◌≡◌};
 ghost use Rattle.presence_base.specs.Refs.{IsCount};
+ghost use Rattle.shard_pool.specs.Lanes.{AllBegin};
 
 use super::run::{Run, own_replica, play};
 use pool_desk::Blanks;
 use presence_base::Replica;
 use presence_node_ports::PoolPort;
-use shard_pool::{Lane, NoGate, Pool, Seat, SettleFault};
+use shard_pool::{Blanks, Four, Lane, Lanes, NoGate, Pool, Seat, SettleFault};
 use std::alloc::Global;
 use std::marker::Brand;
 use std::sync::Wait;
@@ -21,11 +22,11 @@ struct Served<'a> {
 }
 
 // How much comes of a run at the first seat.
-fn run_at_first<A: Lane, B: Lane, C: Lane, D: Lane, R: Wait + Clock>(
+fn run_at_first<L: Lanes, R: Wait + Clock>(
     rt: &R,
     alloc: Global,
-    pool: &Pool<NoGate, A, B, C, D>,
-    seats: &mut Vec<Seat<A, B, C, D>>,
+    pool: &Pool<NoGate, L>,
+    seats: &mut Vec<Seat<L>>,
     run: Run<'_>,
 ) -> Option<usize> {
     let seat = seats.first_mut()?;
@@ -33,10 +34,7 @@ fn run_at_first<A: Lane, B: Lane, C: Lane, D: Lane, R: Wait + Clock>(
 }
 
 // How many receipts the seats have.
-fn receipts_of<A: Lane, B: Lane, C: Lane, D: Lane>(
-    alloc: Global,
-    seats: &[Seat<A, B, C, D>],
-) -> Option<u64> {
+fn receipts_of<L: Lanes>(alloc: Global, seats: &[Seat<L>]) -> Option<u64> {
     let mut count: u64 = 0;
     for seat in seats {
         let receipts = seat.receipts(alloc).ok()?;
@@ -46,7 +44,13 @@ fn receipts_of<A: Lane, B: Lane, C: Lane, D: Lane>(
 }
 
 // How much comes of a run over a new pool, and how the pool settles, where the second seat may be left out.
-fn settled_run<A: Lane, B: Lane, C: Lane, D: Lane, R: Wait + Clock>(
+fn settled_run<
+    A: Lane + Send + Sync,
+    B: Lane + Send + Sync,
+    C: Lane + Send + Sync,
+    D: Lane + Send + Sync,
+    R: Wait + Clock,
+>(
     rt: &R,
     alloc: Global,
     own: Replica,
@@ -62,18 +66,9 @@ fn settled_run<A: Lane, B: Lane, C: Lane, D: Lane, R: Wait + Clock>(
         × (own.name ≡ C.node) }
     requires fourth { (blanks.fourth.name ≡ D.name) × (blanks.fourth.parts ≡ D.parts) × (blanks.fourth.parts ≡ 2)
         × (own.name ≡ D.node) }
-    requires begins { (A.begins (begun own)) × (B.begins (begun own)) × (C.begins (begun own))
-        × (D.begins (begun own)) }
+    requires begins { AllBegin A.begins B.begins C.begins D.begins (begun own) }
 {
-    let Blanks {
-        first,
-        second,
-        third,
-        fourth,
-    } = blanks;
-    let started = Pool::<NoGate, A, B, C, D>::start(
-        alloc, own, 4, 2, NoGate, first, second, third, fourth,
-    );
+    let started = Pool::<NoGate, Four<A, B, C, D>>::start(alloc, own, 4, 2, NoGate, blanks);
     let Ok((pool, mut seats)) = started else {
         return None;
     };

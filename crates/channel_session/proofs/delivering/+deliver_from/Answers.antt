@@ -15,15 +15,15 @@ returns-in-Err g t c = λ said s h.
       deals = waits_refused _ c.args.dealing.max s (joined_of (c.in-Some.topic.now, c.in-Some.join.now)) (drop (c.args.index + 1) (joined_in c.args.topics.now)) (drop c.args.index (joined_in c.args.topics.now)) e said _ _ _ _ c.in-Err.ensures c.stop_of.ensures;
     }
 
-pub returns-in-Err-take : goal.returns-in-Err-take
-returns-in-Err-take g t c = λ said s h.
+pub returns-in-Err-call : goal.returns-in-Err-call
+returns-in-Err-call g t c = λ said s h.
     let e = here (joined_in c.args.topics.now) c.args.index (joined_of (c.in-Some.topic.now, c.in-Some.join.now)) c.in-Some.ensures in
     record {
       said = said;
       carries = tt;
       deals =
           take_refused _ c.args.dealing.max s (joined_of (c.in-Some.topic.now, c.in-Some.join.now)) (drop (c.args.index + 1) (joined_in c.args.topics.now)) (drop c.args.index (joined_in c.args.topics.now)) e said _ _ _ _ _
-          (rw c.in-Ok-true.field-0-test at c.in-Ok-true.ensures) c.in-Err-take.ensures c.stop_of-in-Err-take.ensures;
+          (rw c.in-Ok-true.field-0-test at c.in-Ok-true.ensures) c.in-Err-call.ensures c.stop_of-in-Err-call.ensures;
     }
 
 pub returns-in-Err-spoiling : goal.returns-in-Err-spoiling

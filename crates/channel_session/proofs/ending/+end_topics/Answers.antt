@@ -8,7 +8,7 @@ pub returns-in_default-clause-empty : goal.returns-in_default-clause-empty
 returns-in_default-clause-empty g t c = none_from (joined_in c.args.topics.now) c.args.index (sym c.in_default.ensures)
 
 pub returns-in_default-clause-played : goal.returns-in_default-clause-played
-returns-in_default-clause-played g t c = λ leaving. none_ended _ _ leaving (drop c.args.index (joined_in c.args.topics.now)) _ (none_from (joined_in c.args.topics.now) c.args.index (sym c.in_default.ensures))
+returns-in_default-clause-played g t c = λ leaving. none_ended _ leaving (drop c.args.index (joined_in c.args.topics.now)) _ (none_from (joined_in c.args.topics.now) c.args.index (sym c.in_default.ensures))
 
 pub returns-in-Ok-clause-before : goal.returns-in-Ok-clause-before
 returns-in-Ok-clause-before g t c =
@@ -21,7 +21,7 @@ returns-in-Ok-clause-played g t c = λ leaving.
     let j = joined_of (c.in-Some.topic.now, c.in-Some.join.now) in
     let js = joined_in c.args.topics.now in
     let here : slice_get js c.args.index ≡ Some j = sym c.in-Some.ensures in
-    ended_gone _ _ leaving (drop c.args.index js) j (drop (suc c.args.index) js) (some_from js c.args.index j here) _ _ _ _ _ c.in-Ok.ensures
+    ended_gone _ leaving (drop c.args.index js) j (drop (suc c.args.index) js) (some_from js c.args.index j here) _ _ _ _ _ c.in-Ok.ensures
     (rw (drop_removed js c.args.index j here) at (rw c.drop_at.ensures at (c.end_topics.ensures.played leaving)))
 
 pub returns-in-Err-clause-before : goal.returns-in-Err-clause-before
@@ -36,6 +36,6 @@ returns-in-Err-clause-played g t c = λ leaving.
     let ks = joined_in c.end_topics-later.new.topics in
     let here : slice_get js c.args.index ≡ Some j = sym c.in-Some.ensures in
     let next : c.args.index + 1 ≡ suc c.args.index = omega arith in
-    ended_staying _ _ leaving (drop c.args.index js) j (drop (suc c.args.index) js) (some_from js c.args.index j here) _ (drop c.args.index ks) (drop (suc c.args.index) ks) _ _ _
+    ended_staying _ leaving (drop c.args.index js) j (drop (suc c.args.index) js) (some_from js c.args.index j here) _ (drop c.args.index ks) (drop (suc c.args.index) ks) _ _ _
     (stays_there js ks c.args.index j here (rw next at c.end_topics-later.ensures.before)) c.in-Err.ensures
-    (rw next at (c.end_topics-later.ensures.played (λ xs a. leaving (j ∷ xs) (Err c.in-Err.fault))))
+    (rw next at (c.end_topics-later.ensures.played (λ xs a. leaving (j ∷ xs) (Err c.in-Err.refusal))))

@@ -3,4 +3,4 @@ use Rattle.channel_session_rules.proofs.Once.{once}
 use Rattle.channel_session_events.proofs.events.untrack_asked.Goals as goal
 
 pub returns-in-Some : goal.returns-in-Some
-returns-in-Some g c = λ s. rw c.in-Some.is (once _ _ _ _ _ _ _ _ c.untrack-answer.ensures refl refl (c.untracked.ensures s))
+returns-in-Some g c = λ s. rw c.in-Some.is (once _ _ _ _ _ _ _ _ c.call-answer.ensures refl refl (c.untracked.ensures s))

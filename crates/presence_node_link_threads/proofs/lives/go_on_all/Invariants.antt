@@ -5,4 +5,4 @@ use Rattle.presence_node_link_threads.proofs.lives.go_on_all.Given as goal
 -- what came of the shards so far
 abbrev pub invariant-loop-shard : goal.invariant-loop-shard
 invariant-loop-shard g l =
-    AllCame (IsOfShardAt l.pool.own.name g.A.Lane.begins g.B.Lane.begins g.C.Lane.begins g.D.Lane.begins) l.incarnation l.shard l.all
+    AllCame (IsOfShardAt l.pool.own.name g.L.Lanes.begins) l.incarnation l.shard l.all

@@ -14,11 +14,11 @@ returns-in-Ok-clause-ran g c =
     let topic : c.in_ok-topic.topic ≡ c.args.message.now.topic = search rules in
     let ref : c.in_ok-join_ref.join_ref ≡ join_ref_of c.args.message.now = search rules in
     let others : c.saturating_sub-others.result ≡ length c.args.self.now.joined - 1 = c.saturating_sub-others.ensures ∙ ap (λ n. n - 1) (c.len.ensures ∙ ap length held) in
-    rejoin_ran _ c.args.self.now c.args.message.now _ c.args.kind _ _ pid others (joined_of (c.args.message.now.topic, c.args.join.now)) _ _ _ _ _ _ _ _ (record { pid = pid; failed = failed; cut_short = cut_short }) topic ref (rw left at c.enter.ensures) (c.in-Ok.ensures c.args.kind (left_of c.args.self.now c.args.message.now.topic))
+    rejoin_ran g.P.Port.step c.args.self.now c.args.message.now _ c.args.kind _ _ pid others (joined_of (c.args.message.now.topic, c.args.join.now)) _ _ _ _ _ _ _ _ (record { pid = pid; failed = failed; cut_short = cut_short }) topic ref (rw left at c.enter.ensures) (c.in-Ok.ensures c.args.kind (left_of c.args.self.now c.args.message.now.topic))
 
 pub returns-in-Err-clause-ran : goal.returns-in-Err-clause-ran
 returns-in-Err-clause-ran g c =
     let pid : c.self.inside.pid ≡ c.args.self.now.pid = ap (λ (x : InForce). x.pid) c.self.view_is in
     let held : joined_in c.make_room.new.self ≡ c.args.self.now.joined = c.make_room.ensures.entries ∙ ap (λ (x : InForce). x.joined) c.self.view_is in
     let others : c.saturating_sub-others.result ≡ length c.args.self.now.joined - 1 = c.saturating_sub-others.ensures ∙ ap (λ n. n - 1) (c.len.ensures ∙ ap length held) in
-    rejoin_script _ c.args.self.now c.args.message.now _ c.args.kind _ _ pid others (joined_of (c.args.message.now.topic, c.args.join.now)) _ _ _ (c.in-Err.ensures c.args.kind (left_of c.args.self.now c.args.message.now.topic))
+    rejoin_script g.P.Port.step c.args.self.now c.args.message.now _ c.args.kind _ _ pid others (joined_of (c.args.message.now.topic, c.args.join.now)) _ _ _ (c.in-Err.ensures c.args.kind (left_of c.args.self.now c.args.message.now.topic))

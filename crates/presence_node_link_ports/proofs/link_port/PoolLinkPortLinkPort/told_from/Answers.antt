@@ -6,7 +6,7 @@ use Rattle.presence_node_link_ports.proofs.link_port.PoolLinkPortLinkPort.told_f
 
 pub returns-then-is_told_in_parts : goal.returns-then-is_told_in_parts
 returns-then-is_told_in_parts g c =
-    let here = IsOfShardAt c.args.self.now.pool.now.own.name g.A.Lane.begins g.B.Lane.begins g.C.Lane.begins g.D.Lane.begins c.args.shard in
+    let here = IsOfShardAt c.args.self.now.pool.now.own.name g.L.Lanes.begins c.args.shard in
     let two = c.is_told_in_parts.ensures.two c.if-is_told_in_parts.true in
     let large = c.is_told_in_parts.ensures.large c.if-is_told_in_parts.true in (
       refl,
@@ -18,7 +18,7 @@ returns-then-is_told_in_parts g c =
 
 pub returns : goal.returns
 returns g c =
-    let here = IsOfShardAt c.args.self.now.pool.now.own.name g.A.Lane.begins g.B.Lane.begins g.C.Lane.begins g.D.Lane.begins c.args.shard in
+    let here = IsOfShardAt c.args.self.now.pool.now.own.name g.L.Lanes.begins c.args.shard in
     let small = c.is_told_in_parts.ensures.small c.if-is_told_in_parts.false in (
       refl,
       refl,

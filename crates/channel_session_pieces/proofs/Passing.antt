@@ -1,0 +1,42 @@
+-- Questions that go through to the port inside.
+use Rattle.std.proofs.Common.{◌≡◌, ℕ, Bool, true, false, List, Option, Some, None, Result, Ok, Err, refl}
+use Rattle.std.proofs.lemmas.Bool.{false≢true, true≢false}
+use Rattle.std.specs.Prelude.{is_some}
+use Rattle.presence_pieces.specs.Pieces.{is_told_to}
+use Rattle.channel_session_rules.specs.Sub.{Sub}
+use Rattle.channel_session_rules.specs.declared.refusal.Refusal.{Refusal}
+use Rattle.presence_pieces.specs.declared.telling.UntoldState.{UntoldState}
+use Rattle.channel_session_rules.specs.Asks.{Ask, Answer, waits}
+use Rattle.channel_session_rules.specs.Questions.{asks}
+use Rattle.channel_session_rules.specs.declared.calls.List.{List as ListCall}
+use Rattle.channel_session_rules.specs.declared.calls.Take.{Take}
+use Rattle.channel_session_rules.specs.declared.calls.Waits.{Waits as WaitsCall}
+use Rattle.channel_session_rules.specs.declared.calls.Unsubscribe.{Unsubscribe}
+use Rattle.channel_session_rules.specs.declared.question.Question.{Question}
+use Rattle.channel_session_rules.specs.declared.question.Question.TheVariants as questions
+use Rattle.channel_session_pieces.specs.Piecewise.{Piecewise, Waits}
+
+module _ {P : Type 0} (step : P → (q : Ask) → Answer q → P → Type 0) (old new : P × Option UntoldState) where
+  pub others_pass : (k : Question) → ((x : ListCall) → k ≡ questions.List x → ⊥) → ((x : Take) → k ≡ questions.Take x → ⊥) → ((x : WaitsCall) → k ≡ questions.Waits x → ⊥) → ((x : Unsubscribe) → k ≡ questions.Unsubscribe x → ⊥)
+      → (a : Answer (asks k)) → step old.0 (asks k) a new.0 → new.1 ≡ old.1 → Piecewise step old (asks k) a new
+  others_pass (questions.Track c) nl nt nw nu a h e = (h, e)
+  others_pass (questions.Update c) nl nt nw nu a h e = (h, e)
+  others_pass (questions.Untrack c) nl nt nw nu a h e = (h, e)
+  others_pass (questions.UntrackAll c) nl nt nw nu a h e = (h, e)
+  others_pass (questions.List c) nl nt nw nu a h e = absurd (nl c refl)
+  others_pass (questions.Get c) nl nt nw nu a h e = (h, e)
+  others_pass (questions.Subscribe c) nl nt nw nu a h e = (h, e)
+  others_pass (questions.Take c) nl nt nw nu a h e = absurd (nt c refl)
+  others_pass (questions.Unsubscribe c) nl nt nw nu a h e = absurd (nu c refl)
+  others_pass (questions.Waits c) nl nt nw nu a h e = absurd (nw c refl)
+  others_pass (questions.Shout c) nl nt nw nu a h e = (h, e)
+
+-- what waits, while a state is being told and while none is
+module _ {P : Type 0} (step : P → (q : Ask) → Answer q → P → Type 0) (topic : List ℕ) (sub : Sub) (port : P) where
+  pub waits_under_way : (u : Option UntoldState) → is_some u ≡ true → Waits step u topic sub port (Ok (is_told_to topic sub.number u)) port
+  waits_under_way (Some u) is = (refl, refl)
+  waits_under_way None is = absurd (false≢true is)
+
+  pub waits_inside : (u : Option UntoldState) → is_some u ≡ false → (a : Result Bool Refusal) (new : P) → step port (waits topic sub) a new → Waits step u topic sub port a new
+  waits_inside None is a new h = h
+  waits_inside (Some u) is a new h = absurd (true≢false is)

@@ -1,0 +1,16 @@
+//! What the threads of links need of the system.
+use std::net::{Net, TcpListener, TcpStream};
+use std::sync::Wait;
+use std::time::Clock;
+
+/// What the threads of links need of the system: its sockets, the time, and where to say what became of a link.
+pub trait LinkRuntime: Net<Listener = TcpListener, Stream = TcpStream>
+    + Wait
+    + Clock
+    + Print
+    + Eprint {}
+
+impl<R> LinkRuntime for R
+where
+    R: Net<Listener = TcpListener, Stream = TcpStream> + Wait + Clock + Print + Eprint,
+{}

@@ -1,0 +1,22 @@
+-- What is counted of questions but takes.
+use Rattle.std.proofs.Common.{◌≡◌, refl}
+use Rattle.channel_session_rules.specs.Asks.{Answer}
+use Rattle.channel_session_rules.specs.Questions.{asks}
+use Rattle.channel_session_rules.specs.declared.calls.Take.{Take}
+use Rattle.channel_session_rules.specs.declared.question.Question.{Question}
+use Rattle.channel_session_rules.specs.declared.question.Question.TheVariants as questions
+use Rattle.presence_node_tallies.specs.Counting.{counted, counted_as, refusal_of}
+use Rattle.presence_node_tallies.specs.declared.tally.Tally.{Tally}
+
+pub others_count : (t : Tally) (k : Question) → ((x : Take) → k ≡ questions.Take x → ⊥) → (a : Answer (asks k)) → counted t (asks k) a ≡ counted_as t (asks k) (refusal_of a)
+others_count t (questions.Track c) nt a = refl
+others_count t (questions.Update c) nt a = refl
+others_count t (questions.Untrack c) nt a = refl
+others_count t (questions.UntrackAll c) nt a = refl
+others_count t (questions.List c) nt a = refl
+others_count t (questions.Get c) nt a = refl
+others_count t (questions.Subscribe c) nt a = refl
+others_count t (questions.Take c) nt a = absurd (nt c refl)
+others_count t (questions.Unsubscribe c) nt a = refl
+others_count t (questions.Waits c) nt a = refl
+others_count t (questions.Shout c) nt a = refl

@@ -1,0 +1,67 @@
+//! The ledgers of a pool's shards, as one.
+ghost use Rattle.std.specs.Prelude.{ℕ};
+ghost use Rattle.presence_journal.specs.History.{History};
+ghost use Rattle.shard_pool.specs.Lanes.{begins_at};
+
+use shard_pool_locks::Lane;
+use std::marker::PhantomData;
+
+/// The lanes of a pool: one for each shard that there can be.
+pub trait Lanes {
+    type First: Lane + Send + Sync;
+
+    type Second: Lane + Send + Sync;
+
+    type Third: Lane + Send + Sync;
+
+    type Fourth: Lane + Send + Sync;
+
+    /// What the shard of a number begins with.
+    ghost begins: { ℕ → History → Type 0 };
+
+    ghost first: { (h : History) → Self.First.begins h → begins 0 h };
+
+    ghost second: { (h : History) → Self.Second.begins h → begins 1 h };
+
+    ghost third: { (h : History) → Self.Third.begins h → begins 2 h };
+
+    ghost fourth: { (h : History) → Self.Fourth.begins h → begins 3 h };
+}
+
+/// These four lanes.
+pub struct Four<
+    A: Lane + Send + Sync,
+    B: Lane + Send + Sync,
+    C: Lane + Send + Sync,
+    D: Lane + Send + Sync,
+> {
+    first: PhantomData<A>,
+    second: PhantomData<B>,
+    third: PhantomData<C>,
+    fourth: PhantomData<D>,
+}
+
+impl<
+    A: Lane + Send + Sync,
+    B: Lane + Send + Sync,
+    C: Lane + Send + Sync,
+    D: Lane + Send + Sync,
+> Lanes for Four<A, B, C, D> {
+    type First = A;
+
+    type Second = B;
+
+    type Third = C;
+
+    type Fourth = D;
+
+    ghost begins = { begins_at A.begins B.begins C.begins D.begins };
+
+    ghost first = { λ h b. b };
+
+    ghost second = { λ h b. b };
+
+    ghost third = { λ h b. b };
+
+    ghost fourth = { λ h b. b };
+}
