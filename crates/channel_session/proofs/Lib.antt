@@ -1,15 +1,5 @@
 pub mod Crossing
 pub mod Acted
-pub mod Behind
-pub mod Calls
-pub mod Named
-pub mod Standing
-pub mod Known
 pub mod Delivered
 pub mod Endings
-pub mod Lent
-pub use Rattle.channel_session_laws.proofs.Kept
-pub use Rattle.channel_session_laws.proofs.KeptWords
-pub use Rattle.channel_session_laws.proofs.KeptAsks
-pub use Rattle.channel_session_laws.proofs.SoundValues
 pub use Rattle.channel_session_rules.proofs.Saying

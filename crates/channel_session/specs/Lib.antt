@@ -1,9 +1,6 @@
 pub mod Ran
 pub mod Delivery
 pub mod Ending
-pub mod LeftBehind
-pub mod Naming
-pub mod Subscribed
 pub use Rattle.channel_session_rules.specs.Asks
 pub use Rattle.channel_session_rules.specs.Script
 pub use Rattle.channel_session_rules.specs.InForce
@@ -13,10 +10,6 @@ pub use Rattle.channel_session_rules.specs.Outcome
 pub use Rattle.channel_session_rules.specs.Frames
 pub use Rattle.channel_session_events.specs.Carrying
 pub use Rattle.channel_session_events.specs.Wording
-pub use Rattle.channel_session_laws.specs.Local
-pub use Rattle.channel_session_laws.specs.Mirrors
-pub use Rattle.channel_session_laws.specs.Keeping
-pub use Rattle.channel_session_laws.specs.Laws
 pub use Rattle.channel_session_rules.specs.ShardFault
 pub use Rattle.channel_session_rules.specs.Sub
 pub use Rattle.channel_session_rules.specs.Steps

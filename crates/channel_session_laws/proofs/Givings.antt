@@ -22,7 +22,7 @@ use Rattle.channel_session_rules.specs.ShardFault.TheVariants.{AlreadyTracked, N
 use Rattle.channel_session_rules.specs.Asks.{Ask, Given, track, update, untrack, untrack_all, list, get, subscribe, take, unsubscribe, waits, shout}
 use Rattle.channel_session_rules.specs.Frames.{message_of}
 use Rattle.channel_session_laws.specs.Laws.{AllFramesMirror, CallsGive}
-use Rattle.channel_session_laws.specs.Local.{TableStep}
+use Rattle.channel_session_local.specs.Local.{TableStep}
 use Rattle.channel_session_rules.specs.Seen.{in_table}
 use Rattle.channel_session_rules.specs.declared.refusal.Refusal.TheVariants.{OverRation, NotGranted, Table}
 use Rattle.channel_session_laws.specs.Mirrors.{after_reading, mirror_from, Mirrors, given_after, given_to, given_by}

@@ -27,7 +27,7 @@ use Rattle.channel_session_rules.specs.Asks.{track, update, untrack, untrack_all
 use Rattle.channel_session_rules.specs.Frames.{message_of}
 use Rattle.channel_session_rules.specs.InForce.{Joined, InForce, find, without_topic}
 use Rattle.channel_session_laws.specs.Keeping.{AreApart}
-use Rattle.channel_session_laws.specs.Local.{answer_to, after_unless, after_of, answer_in, after_in}
+use Rattle.channel_session_local.specs.Local.{answer_to, after_unless, after_of, answer_in, after_in}
 use Rattle.channel_session_laws.specs.Mirrors.{mirror_from}
 use Rattle.channel_session_rules.specs.Rules.{left, joins, join_ref_of}
 use Rattle.channel_session_laws.proofs.KeptSteps.{touches, Stays, same_stays, stays_after, legal_after}

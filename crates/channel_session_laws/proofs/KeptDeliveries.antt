@@ -21,7 +21,7 @@ use Rattle.channel_session_rules.specs.Delivering.{then_told, then_take, deliver
 use Rattle.channel_session_rules.specs.Frames.{message_of}
 use Rattle.channel_session_rules.specs.InForce.{Joined, InForce, find}
 use Rattle.channel_session_laws.specs.Keeping.{AreApart, IsItem, client_lists}
-use Rattle.channel_session_laws.specs.Local.{answer_in, after_in, played}
+use Rattle.channel_session_local.specs.Local.{answer_in, after_in, played}
 use Rattle.channel_session_laws.specs.Mirrors.{mirror_from}
 use Rattle.channel_session_rules.specs.Rules.{End, answers, full, memory, unsaid}
 use Rattle.channel_session_rules.specs.Said.{Said, plainly, told as item_to}

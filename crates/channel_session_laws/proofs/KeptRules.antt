@@ -22,7 +22,7 @@ use Rattle.channel_session_rules.specs.Asked.{asked, key_asked}
 use Rattle.channel_session_rules.specs.Asks.{Ask, track, update, untrack, untrack_all, list, get, subscribe, unsubscribe, shout}
 use Rattle.channel_session_rules.specs.InForce.{Joined, InForce, find}
 use Rattle.channel_session_laws.specs.Keeping.{IsAnswer}
-use Rattle.channel_session_laws.specs.Local.{answer_in, after_in, played}
+use Rattle.channel_session_local.specs.Local.{answer_in, after_in, played}
 use Rattle.channel_session_rules.specs.Rules.{End, answers, full, memory, says, ok, error, empty, told_ref, full_reason, subscribe_reason, track_reason, update_reason, unsaid, said, replied, on_event, on_topic, ended, on_leave, after_subscribe as subscribe_end, subscribes, then_subscribe, join_asked, on_join, left, joins, join_ref_of, answers_join, refuses, is_phoenix, by_route, route_of, kind_of, by_kind, rules, on_track, on_update, on_untrack, on_get, then_next}
 use Rattle.channel_session_rules.specs.Said.{Said, message, listed, plainly}
 use Rattle.channel_session_rules.specs.Script.{Script, done}

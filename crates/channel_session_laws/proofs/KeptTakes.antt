@@ -15,7 +15,7 @@ use Rattle.channel_session_rules.specs.declared.refusal.Refusal.{Refusal}
 use Rattle.channel_session_rules.specs.ShardFault.TheVariants.{JournalFull, ClockFull, NoSub}
 use Rattle.channel_session_rules.specs.Sub.{Sub}
 use Rattle.channel_session_rules.specs.Asks.{take}
-use Rattle.channel_session_laws.specs.Local.{answer_to, after_unless, answer_in, after_in}
+use Rattle.channel_session_local.specs.Local.{answer_to, after_unless, answer_in, after_in}
 use Rattle.channel_session_laws.proofs.KeptSteps.{taken-then}
 
 -- ---- no more than 256 items wait

@@ -1,5 +1,4 @@
 pub mod Locals
-pub mod Lending
 pub mod Heeding
 pub mod Shown
 pub mod Proper
@@ -19,3 +18,9 @@ pub mod KeptWords
 pub mod Kept
 pub mod TurnSteps
 pub mod InForceTurns
+pub mod Behind
+pub mod Calls
+pub mod Named
+pub mod Standing
+pub mod Known
+pub mod Lent

@@ -15,7 +15,7 @@ use Rattle.channel_session_rules.specs.ShardFault.{ShardFault}
 use Rattle.channel_session_rules.specs.ShardFault.TheVariants.{AlreadyTracked, NoPresence, ClockFull, JournalFull, NoSub, BadIncarnation, OutOfMemory}
 use Rattle.channel_session_rules.specs.Sub.{Sub}
 use Rattle.channel_session_rules.specs.Asks.{Ask, track, update, untrack, untrack_all, list, get, subscribe, take, unsubscribe, waits, shout, Given, Answer, Call, Made}
-use Rattle.channel_session_laws.specs.Local.{Asked, TableStep, LocalStep, answer_to, after_unless, answer_of, after_of, answer_in, after_in, played, Heeds}
+use Rattle.channel_session_local.specs.Local.{Asked, TableStep, LocalStep, answer_to, after_unless, answer_of, after_of, answer_in, after_in, played, Heeds}
 use Rattle.channel_session_rules.specs.Script.{Script, done, ask, Plays}
 use Rattle.channel_session_rules.specs.Seen.{in_table}
 use Rattle.channel_session_rules.specs.declared.refusal.Refusal.{Refusal}

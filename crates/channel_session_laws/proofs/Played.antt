@@ -5,7 +5,7 @@ use Rattle.presence_journal.specs.History.{History}
 use Rattle.channel_session_rules.specs.Asks.{Ask, Answer, Call, Made}
 use Rattle.channel_session_rules.specs.Delivering.{delivery}
 use Rattle.channel_session_rules.specs.InForce.{InForce}
-use Rattle.channel_session_laws.specs.Local.{LocalStep, Heeds, played}
+use Rattle.channel_session_local.specs.Local.{LocalStep, Heeds, played}
 use Rattle.channel_session_rules.specs.Outcome.{Follows, EndsSo}
 use Rattle.channel_session_rules.specs.Rules.{End, answers, full, memory, rules}
 use Rattle.channel_session_rules.specs.Said.{Said}

@@ -31,7 +31,7 @@ use Rattle.channel_session_rules.specs.declared.refusal.Refusal.{Refusal}
 use Rattle.channel_session_rules.specs.Asked.{without_member, without_refs, given_meta, with_meta, with_key, by_key, asked}
 use Rattle.channel_session_rules.specs.Asks.{Ask, track, update, untrack, untrack_all, list, get as get_rows, subscribe, take, unsubscribe, waits, shout}
 use Rattle.channel_session_rules.specs.InForce.{Joined, InForce}
-use Rattle.channel_session_laws.specs.Local.{answer_to, after_unless, after_of, answer_in, after_in}
+use Rattle.channel_session_local.specs.Local.{answer_to, after_unless, after_of, answer_in, after_in}
 use Rattle.channel_session_rules.specs.Rules.{or_ref, join_ref_of}
 use Rattle.channel_session_rules.specs.declared.asked.Asked.{Asked}
 use Rattle.channel_session_rules.specs.declared.asked.Asked.TheVariants.{Nothing, Bad, Wants}

@@ -13,7 +13,7 @@ use Rattle.presence_metas.specs.Listing.{Listing}
 use Rattle.channel_session_rules.specs.Steps.{slot_of}
 use Rattle.channel_session_rules.specs.Delivering.{delivery}
 use Rattle.channel_session_rules.specs.InForce.{Joined, InForce, find}
-use Rattle.channel_session_laws.specs.Local.{played}
+use Rattle.channel_session_local.specs.Local.{played}
 use Rattle.channel_session_laws.specs.Mirrors.{mirror_from, Mirrors}
 use Rattle.channel_session_rules.specs.Rules.{End, answers, full, memory, rules}
 use Rattle.channel_session_rules.specs.Said.{Said, told, plainly, Tells, EachBy}

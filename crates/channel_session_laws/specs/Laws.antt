@@ -15,7 +15,7 @@ use Rattle.channel_session_rules.specs.Delivering.{delivery}
 use Rattle.channel_session_rules.specs.Frames.{message_of}
 use Rattle.channel_session_rules.specs.InForce.{Joined}
 use Rattle.channel_session_laws.specs.Mirrors.{mirror_from, Mirrors, given_to, given_by}
-use Rattle.channel_session_laws.specs.Local.{LocalStep, answer_in, after_in, played}
+use Rattle.channel_session_local.specs.Local.{LocalStep, answer_in, after_in, played}
 use Rattle.channel_session_laws.specs.Keeping.{fresh}
 use Rattle.channel_session_laws.specs.Turns.{Turn, heard, is_join, answered_ok, joined_by, in_force, Turned, AllTurned}
 use Rattle.channel_session_rules.specs.Outcome.{Follows}

@@ -1,5 +1,7 @@
-pub mod Local
 pub mod Mirrors
 pub mod Keeping
 pub mod Turns
 pub mod Laws
+pub mod LeftBehind
+pub mod Naming
+pub mod Subscribed

@@ -1,10 +1,10 @@
-//! Sessions over one lent shard: the port that lends it, and the laws of what they answer.
+//! Laws of sessions over one lent shard: what they answer there, and what a client makes of it.
 //!
-//! `specs/Local` has what the port answers and what a script comes to over it, `specs/Mirrors` what
-//! a client makes of messages, `specs/Keeping` a session's lines, `specs/Laws` the laws.
+//! `specs/Mirrors` has what a client makes of messages, `specs/Keeping` a session's lines, `specs/Turns` what is in force by
+//! turns, `specs/Laws` the laws; `specs/Naming`, that a session names each topic on which a row of its own stands,
+//! `specs/Subscribed`, that it knows each subscriber that it made, and `specs/LeftBehind`, that an accepted end leaves
+//! nothing of it there.
 #![tactic(auto)]
 
+pub mod ended;
 pub mod laws;
-mod local;
-
-pub use local::LocalPort;

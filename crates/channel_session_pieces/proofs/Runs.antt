@@ -20,7 +20,7 @@ use Rattle.channel_session_rules.specs.declared.refusal.Refusal.{Refusal}
 use Rattle.channel_session_rules.specs.ShardFault.TheVariants.{OutOfMemory}
 use Rattle.channel_session_rules.specs.Sub.{Sub}
 use Rattle.channel_session_rules.specs.Asks.{Ask, Answer, ByAnyone, Call, Made, track, update, untrack, untrack_all, list, get, subscribe, take, unsubscribe, waits, shout}
-use Rattle.channel_session_laws.specs.Local.{LocalStep}
+use Rattle.channel_session_local.specs.Local.{LocalStep}
 use Rattle.channel_session_laws.specs.Mirrors.{given_to, given_by}
 use Rattle.channel_session_laws.proofs.Givings.{all_frames_mirror, calls_give}
 use Rattle.channel_session_pieces.specs.Laws.{given_of, given_in, ends, some_ends, untold_of, numbered, AnsweredBy, PiecesLead, PiecesMirror}

@@ -12,7 +12,7 @@ use Rattle.presence_pieces.specs.Laws.{untold_items}
 use Rattle.presence_pieces.specs.declared.telling.UntoldState.{UntoldState}
 use Rattle.channel_session_rules.specs.Asks.{Ask, Answer, ByAnyone, Call, Made, track, update, untrack, untrack_all, list, get, subscribe, take, unsubscribe, waits, shout}
 use Rattle.channel_session_rules.specs.Frames.{message_of}
-use Rattle.channel_session_laws.specs.Local.{LocalStep}
+use Rattle.channel_session_local.specs.Local.{LocalStep}
 use Rattle.channel_session_laws.specs.Mirrors.{mirror_from, Mirrors, given_to}
 use Rattle.channel_session_pieces.specs.Piecewise.{Piecewise}
 

@@ -1,8 +1,9 @@
 //! The rules of the built-in channel, what they ask of a port, and the parts of their answers.
 //!
 //! `specs/Rules` has the rules as scripts of questions, `specs/Asks` the questions, `specs/Seen` their answers as
-//! contracts see them, `specs/Questions` calls as questions, `specs/Shards` what a question is at its topic's shard, `specs/Asked` what a payload asks to be tracked, `specs/Outcome` what the function of a rule
-//! promises, `specs/Delivering` the script of a delivery, `specs/Said` what is said and by which messages it is told,
+//! contracts see them, `specs/Questions` calls as questions, `specs/Shards` what a question is at its topic's shard,
+//! `specs/Asked` what a payload asks to be tracked, `specs/Outcome` what the function of a rule promises,
+//! `specs/Delivering` the script of a delivery, `specs/Said` what is said and by which messages it is told,
 //! `specs/InForce` what a session holds and `specs/Limits` of how many topics.
 #![tactic(auto)]
 

@@ -12,12 +12,12 @@ use Rattle.channel_session.specs.Delivery.{Delivered, delivery}
 use Rattle.channel_session.specs.InForce.{InForce}
 use Rattle.channel_session.specs.Said.{Said}
 use Rattle.presence_journal_data.specs.declared.limits.TheConstants.{MAX_TAKEN}
-use Rattle.channel_session.specs.Local.{LocalStep, played}
+use Rattle.channel_session_local.specs.Local.{LocalStep, played}
 use Rattle.channel_session.specs.Ran.{EndedSo, texts_in}
 use Rattle.channel_session.specs.Rules.{End, answers, full, memory}
 use Rattle.channel_session.specs.declared.fault.SessionFault.{SessionFault}
 use Rattle.channel_session.specs.declared.fault.SessionFault.TheVariants.{BadMessage, ShardFull, Failed}
-use Rattle.channel_session.proofs.Lent.{Leads, text_leads, full_leads, delivery_leads, full_delivery}
+use Rattle.channel_session_laws.proofs.Lent.{Leads, text_leads, full_leads, delivery_leads, full_delivery}
 use Rattle.presence_node_stdio.specs.Session.{State, Speech, silence, and_then, answering, dealing, Answer, answer_to, ruled, delivered, with_delivery, printed, ends, Voice, Says, Tells, AnswersLine, TellsDelivery, Answered, Dealt, Keeps, next_of, answer}
 use Rattle.presence_node_lines.specs.Reading.{line_message}
 use Rattle.presence_node_stdio.specs.declared.local.Output.{Output}

@@ -26,7 +26,7 @@ use Rattle.presence_metas.specs.Listing.{Listing}
 use Rattle.presence_metas.specs.Rows.{listing_of}
 use Rattle.presence_metas.specs.Values.{metas_value, with_key, state_of}
 use Rattle.presence_metas.proofs.Whole.{put_whole}
-use Rattle.channel_session.proofs.SoundValues.{IsSound, MembersSound, IsFramed}
+use Rattle.channel_session_laws.proofs.SoundValues.{IsSound, MembersSound, IsFramed}
 use Rattle.channel_session.specs.Said.{Said, message, listed, told, plainly, EachBy, Tells, Worded}
 
 left_false : (a b : Bool) → (a || b) ≡ false → a ≡ false

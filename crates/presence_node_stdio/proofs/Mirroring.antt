@@ -18,16 +18,16 @@ use Rattle.presence_base.specs.Refs.{IsCount}
 use Rattle.presence_journal.specs.History.{History}
 use Rattle.presence_journal.specs.Table.{IsLegal}
 use Rattle.channel_session.specs.Delivery.{delivery}
-use Rattle.channel_session.specs.Keeping.{Past, behind, then_past, served, lined, all_lined, fresh}
-use Rattle.channel_session.specs.Keeping as keeping
+use Rattle.channel_session_laws.specs.Keeping.{Past, behind, then_past, served, lined, all_lined, fresh}
+use Rattle.channel_session_laws.specs.Keeping as keeping
 use Rattle.presence_journal_data.specs.declared.limits.TheConstants.{MAX_TAKEN}
-use Rattle.channel_session.specs.Local.{played}
+use Rattle.channel_session_local.specs.Local.{played}
 use Rattle.channel_session.specs.Rules.{End, answers, full, memory, rules}
 use Rattle.channel_session.specs.Said.{Said, plainly, EachBy, Worded}
-use Rattle.channel_session.proofs.Kept.{MirroredWhere, fresh_in_step, stays_in_step, mirrored_where}
-use Rattle.channel_session.proofs.KeptAsks.{all_of}
-use Rattle.channel_session.proofs.KeptWords.{worded_anyhow, worded_plainly}
-use Rattle.channel_session.proofs.SoundValues.{IsFramed, IsHeard}
+use Rattle.channel_session_laws.proofs.Kept.{MirroredWhere, fresh_in_step, stays_in_step, mirrored_where}
+use Rattle.channel_session_laws.proofs.KeptAsks.{all_of}
+use Rattle.channel_session_laws.proofs.KeptWords.{worded_anyhow, worded_plainly}
+use Rattle.channel_session_laws.proofs.SoundValues.{IsFramed, IsHeard}
 use Rattle.presence_node_options.specs.declared.options.StdioOptions.{StdioOptions}
 use Rattle.presence_node_stdio.specs.Mirrored.{goes_on, after_lines, IsReadBack, FetchesOrderly, JoinedAreMirrored}
 use Rattle.presence_node_stdio.proofs.Fetching.{worded_framed}

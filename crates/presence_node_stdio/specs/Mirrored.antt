@@ -10,8 +10,8 @@ use Rattle.phx_message.specs.Reading.{decoded}
 use Rattle.phx_message.specs.declared.message.Message.{Message}
 use Rattle.phx_message.specs.declared.message.TheConstants.Limits as the_limits
 use Rattle.presence_journal.specs.Present.{listed}
-use Rattle.channel_session.specs.Keeping.{IsSaid, InStep, client_lists}
-use Rattle.channel_session.specs.Mirrors.{Mirrors}
+use Rattle.channel_session_laws.specs.Keeping.{IsSaid, InStep, client_lists}
+use Rattle.channel_session_laws.specs.Mirrors.{Mirrors}
 use Rattle.channel_session.specs.Said.{EachBy, text_of}
 use Rattle.presence_node_stdio.specs.Run.{run}
 use Rattle.presence_node_stdio.specs.Session.{State, Speech, start, answer, voice_of}

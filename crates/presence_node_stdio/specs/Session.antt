@@ -14,7 +14,7 @@ use Rattle.channel_session.specs.Delivery.{Delivery}
 use Rattle.channel_session.specs.declared.fault.SessionFault.{SessionFault}
 use Rattle.channel_session.specs.InForce.{InForce}
 use Rattle.channel_session.specs.Said.{Said, WritesAll, NotesAll}
-use Rattle.channel_session.specs.Local.{LocalStep, played}
+use Rattle.channel_session_local.specs.Local.{LocalStep, played}
 use Rattle.channel_session.specs.Rules.{End, answers, full, memory, rules}
 use Rattle.channel_session.specs.Wording.{worded_by, noted_by}
 use Rattle.channel_session.specs.declared.fault.SessionFault.TheVariants.{ShardFull, Failed}

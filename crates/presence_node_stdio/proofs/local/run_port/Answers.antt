@@ -1,5 +1,5 @@
 use Rattle.channel_session.specs.Ran.{said_by}
-use Rattle.channel_session.proofs.Lent.{text_local, text_keeps}
+use Rattle.channel_session_laws.proofs.Lent.{text_local, text_keeps}
 use Rattle.presence_node_stdio.proofs.local.run_port.Goals as goal
 
 pub returns-clause-same_reference : goal.returns-clause-same_reference

@@ -6,9 +6,9 @@ use Rattle.channel_session_rules.specs.Seen.{seen_by}
 use Rattle.channel_session_rules.specs.declared.refusal.Refusal.{Refusal}
 use Rattle.channel_session_rules.specs.declared.refusal.Refusal.TheVariants.{Table}
 use Rattle.channel_session_rules.specs.declared.question.Told.TheVariants as told
-use Rattle.channel_session_laws.specs.Local.{LocalStep}
-use Rattle.channel_session_laws.proofs.Lending.{lent_step}
-use Rattle.channel_session_laws.proofs.local.LocalPortPort.call.Goals as goal
+use Rattle.channel_session_local.specs.Local.{LocalStep}
+use Rattle.channel_session_local.proofs.Lending.{lent_step}
+use Rattle.channel_session_local.proofs.local.LocalPortPort.call.Goals as goal
 
 pub told_to-requires : goal.told_to-requires
 told_to-requires g c = can_tell _ _ (sym c.in-Waits.ensures.1) (told.Waits c.in-Ok.waits) _ refl

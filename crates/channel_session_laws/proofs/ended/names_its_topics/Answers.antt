@@ -1,5 +1,5 @@
-use Rattle.channel_session.proofs.Named.{texts_keep_names, deliveries_keep_names, ends_keep_names}
-use Rattle.channel_session.proofs.ended.names_its_topics.Goals as goal
+use Rattle.channel_session_laws.proofs.Named.{texts_keep_names, deliveries_keep_names, ends_keep_names}
+use Rattle.channel_session_laws.proofs.ended.names_its_topics.Goals as goal
 
 pub returns-clause-texts : goal.returns-clause-texts
 returns-clause-texts c = texts_keep_names c.nothing_else_changes.ensures.rows

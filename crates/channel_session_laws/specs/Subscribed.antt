@@ -8,7 +8,7 @@ use Rattle.channel_session_rules.specs.Sub.{Sub}
 use Rattle.channel_session_rules.specs.Steps.{is_found}
 use Rattle.channel_session_rules.specs.InForce.{Joined, InForce}
 use Rattle.channel_session_rules.specs.Said.{Said}
-use Rattle.channel_session_laws.specs.Local.{LocalStep}
+use Rattle.channel_session_local.specs.Local.{LocalStep}
 use Rattle.channel_session.specs.Ran.{EndedSo}
 use Rattle.channel_session.specs.Delivery.{Delivered}
 use Rattle.channel_session.specs.Ending.{EndedBy}

@@ -34,9 +34,9 @@ use Rattle.channel_session_rules.specs.Asks.{Ask, Answer, Call, unsubscribe, unt
 use Rattle.channel_session_rules.specs.Asks.{Made as Chained}
 use Rattle.channel_session_rules.specs.InForce.{Joined, InForce}
 use Rattle.channel_session_rules.specs.Script.{Script, done, ask, Plays}
-use Rattle.channel_session_laws.specs.Local.{LocalStep}
+use Rattle.channel_session_local.specs.Local.{LocalStep}
 use Rattle.channel_session.specs.Ending.{Played, Ended, Leaving, then_rows, ends_topic, ends_topics, left_with, then_topics, staying, ended_as, ends_cut_short}
-use Rattle.channel_session.specs.LeftBehind.{is_named, StandsOn, IsOver, LeavesNothing, EndLeavesNothing}
+use Rattle.channel_session_laws.specs.LeftBehind.{is_named, StandsOn, IsOver, LeavesNothing, EndLeavesNothing}
 use Rattle.presence_journal.specs.Walk.{is_rebirth}
 
 -- ---- one step that adds no row

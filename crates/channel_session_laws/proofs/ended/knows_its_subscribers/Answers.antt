@@ -1,5 +1,5 @@
-use Rattle.channel_session.proofs.Known.{texts_keep_subs, deliveries_keep_subs, ends_keep_subs}
-use Rattle.channel_session.proofs.ended.knows_its_subscribers.Goals as goal
+use Rattle.channel_session_laws.proofs.Known.{texts_keep_subs, deliveries_keep_subs, ends_keep_subs}
+use Rattle.channel_session_laws.proofs.ended.knows_its_subscribers.Goals as goal
 
 pub returns-clause-texts : goal.returns-clause-texts
 returns-clause-texts c = texts_keep_subs

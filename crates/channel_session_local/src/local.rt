@@ -29,7 +29,7 @@ impl<'a> LocalPort<'a> {
 
 impl<'a> Port for LocalPort<'a> {
     ghost use Rattle.std.specs.Prelude.{◌≡◌};
-    ghost use Rattle.channel_session_laws.specs.Local.{LocalStep};
+    ghost use Rattle.channel_session_local.specs.Local.{LocalStep};
 
     ghost step = { λ pid old q a new. (new.shard.ghost_name ≡ old.shard.ghost_name) × LocalStep pid old.shard.now q a new.shard.now };
 

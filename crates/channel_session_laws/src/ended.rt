@@ -1,8 +1,8 @@
 //! What a session leaves behind: a function that does nothing, and whose contract is the law.
 
-ghost use Rattle.channel_session.specs.LeftBehind.{EndLeavesNothing};
-ghost use Rattle.channel_session.specs.Naming.{TextsKeepNames, DeliveriesKeepNames, EndsKeepNames};
-ghost use Rattle.channel_session.specs.Subscribed.{TextsKeepSubs, DeliveriesKeepSubs, EndsKeepSubs};
+ghost use Rattle.channel_session_laws.specs.LeftBehind.{EndLeavesNothing};
+ghost use Rattle.channel_session_laws.specs.Naming.{TextsKeepNames, DeliveriesKeepNames, EndsKeepNames};
+ghost use Rattle.channel_session_laws.specs.Subscribed.{TextsKeepSubs, DeliveriesKeepSubs, EndsKeepSubs};
 
 use presence_journal::laws::nothing_else_changes;
 

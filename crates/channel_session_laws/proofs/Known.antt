@@ -32,16 +32,16 @@ use Rattle.channel_session_rules.specs.Delivering.{delivers, then_take, then_tol
 use Rattle.channel_session_rules.specs.Outcome.{Stopped}
 use Rattle.channel_session_rules.specs.declared.stop.StopKind.{StopKind}
 use Rattle.channel_session_rules.specs.declared.stop.StopKind.TheVariants as kinds
-use Rattle.channel_session_laws.specs.Local.{LocalStep}
+use Rattle.channel_session_local.specs.Local.{LocalStep}
 use Rattle.channel_session.specs.Ending.{Ended, Leaving, ends, ends_topics, ends_cut_short, then_topics, then_rows, staying, left_with}
 use Rattle.channel_session.specs.Delivery.{failing, CutShort, delivery}
 use Rattle.channel_session.specs.Ran.{failed_at, Faulted, Untouched, MessageRan}
-use Rattle.channel_session.specs.Subscribed.{same_sub, is_joined, is_known, KnowsItsSubs, TextsKeepSubs, DeliveriesKeepSubs, EndsKeepSubs}
+use Rattle.channel_session_laws.specs.Subscribed.{same_sub, is_joined, is_known, KnowsItsSubs, TextsKeepSubs, DeliveriesKeepSubs, EndsKeepSubs}
 use Rattle.channel_session.specs.declared.fault.SessionFault.{SessionFault}
 use Rattle.channel_session.specs.declared.fault.SessionFault.TheVariants as faults
 use Rattle.channel_session.specs.declared.fault.SessionFault.TheVariants.{BadMessage, ShardFull, Failed}
-use Rattle.channel_session.proofs.Named.{or_either, or_group, or_swap, or_without, and_other}
-use Rattle.channel_session.proofs.Standing.{Within, and_sub, but_sub, held_within, if_made, if_ended, ended_within, Leads, script_leads, none_made}
+use Rattle.channel_session_laws.proofs.Named.{or_either, or_group, or_swap, or_without, and_other}
+use Rattle.channel_session_laws.proofs.Standing.{Within, and_sub, but_sub, held_within, if_made, if_ended, ended_within, Leads, script_leads, none_made}
 
 -- ---- the topics in force
 

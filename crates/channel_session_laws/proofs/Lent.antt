@@ -6,7 +6,7 @@ use Rattle.presence_journal.specs.History.{History}
 use Rattle.channel_session_rules.specs.Asks.{Ask, Answer}
 use Rattle.channel_session.specs.Delivery.{Delivered, delivery}
 use Rattle.channel_session_rules.specs.InForce.{InForce}
-use Rattle.channel_session_laws.specs.Local.{LocalStep, played}
+use Rattle.channel_session_local.specs.Local.{LocalStep, played}
 use Rattle.channel_session_rules.specs.Said.{Said}
 use Rattle.channel_session.specs.Ran.{EndedSo, ReadAs, MessageRan, Untouched, fault_of}
 use Rattle.channel_session_rules.specs.Rules.{End, answers, full, rules}

@@ -6,11 +6,11 @@ use Rattle.presence_journal.specs.History.{History}
 use Rattle.presence_journal.specs.Table.{IsLegal}
 use Rattle.channel_session_rules.specs.InForce.{InForce}
 use Rattle.channel_session_rules.specs.Said.{Said}
-use Rattle.channel_session_laws.specs.Local.{LocalStep}
+use Rattle.channel_session_local.specs.Local.{LocalStep}
 use Rattle.channel_session.specs.Ran.{EndedSo}
 use Rattle.channel_session.specs.Delivery.{Delivered}
 use Rattle.channel_session.specs.Ending.{topics_named, EndedBy}
-use Rattle.channel_session.specs.LeftBehind.{StandsOn}
+use Rattle.channel_session_laws.specs.LeftBehind.{StandsOn}
 use Rattle.channel_session.specs.declared.fault.SessionFault.{SessionFault}
 
 -- Each own row of the session's number that is present in a legal history stands on a topic that the session names. (Only a

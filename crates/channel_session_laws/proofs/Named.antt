@@ -30,11 +30,11 @@ use Rattle.channel_session_rules.specs.Said.{Said, message, listed}
 use Rattle.channel_session_rules.specs.declared.topics.TheConstants.{MAX_TOPICS}
 use Rattle.channel_session_rules.specs.Script.{Script, done, ask, Plays, Begins}
 use Rattle.channel_session_rules.specs.Delivering.{delivers, then_take, then_told}
-use Rattle.channel_session_laws.specs.Local.{LocalStep}
+use Rattle.channel_session_local.specs.Local.{LocalStep}
 use Rattle.channel_session.specs.Ending.{topics_named, Ended, Leaving, ends, ends_topics, ends_cut_short, then_topics, then_rows, staying, left_with}
 use Rattle.channel_session.specs.Delivery.{failing, CutShort, delivery}
-use Rattle.channel_session.specs.LeftBehind.{is_named}
-use Rattle.channel_session.specs.Naming.{NamesItsTopics, TextsKeepNames, DeliveriesKeepNames, EndsKeepNames}
+use Rattle.channel_session_laws.specs.LeftBehind.{is_named}
+use Rattle.channel_session_laws.specs.Naming.{NamesItsTopics, TextsKeepNames, DeliveriesKeepNames, EndsKeepNames}
 use Rattle.channel_session.specs.Ran.{left_named, failed_at, Faulted, Untouched, MessageRan}
 use Rattle.channel_session.specs.declared.fault.SessionFault.{SessionFault}
 use Rattle.channel_session.specs.declared.fault.SessionFault.TheVariants as faults
@@ -44,7 +44,7 @@ use Rattle.channel_session_rules.specs.declared.stop.Stop.{Stop}
 use Rattle.channel_session_rules.specs.declared.stop.StopKind.{StopKind}
 use Rattle.channel_session_rules.specs.declared.stop.StopKind.TheVariants as kinds
 use Rattle.presence_journal.specs.Table.{is_mine}
-use Rattle.channel_session.proofs.Calls.{Kept, kept_within, and_at, and_not, Within, after_call, Fits, call_keeps}
+use Rattle.channel_session_laws.proofs.Calls.{Kept, kept_within, and_at, and_not, Within, after_call, Fits, call_keeps}
 
 -- ---- truth values
 

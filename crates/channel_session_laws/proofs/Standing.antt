@@ -20,9 +20,9 @@ use Rattle.channel_session_rules.specs.Script.{Script, done, ask, Plays}
 use Rattle.channel_session_rules.specs.Seen.{in_table}
 use Rattle.channel_session_rules.specs.declared.refusal.Refusal.{Refusal}
 use Rattle.channel_session_rules.specs.declared.refusal.Refusal.TheVariants.{OverRation, NotGranted, Table}
-use Rattle.channel_session_laws.specs.Local.{LocalStep, TableStep, IsNext}
-use Rattle.channel_session.specs.Subscribed.{same_sub}
-use Rattle.channel_session.proofs.Behind.{Fewer, unsubscribe_fewer, over_after, over_now, unknown_is_over, either, same_some}
+use Rattle.channel_session_local.specs.Local.{LocalStep, TableStep, IsNext}
+use Rattle.channel_session_laws.specs.Subscribed.{same_sub}
+use Rattle.channel_session_laws.proofs.Behind.{Fewer, unsubscribe_fewer, over_after, over_now, unknown_is_over, either, same_some}
 
 -- the second have all that the first have
 abbrev pub Within : (Sub → Bool) → (Sub → Bool) → Type 0

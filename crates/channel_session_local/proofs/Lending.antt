@@ -8,7 +8,7 @@ use Rattle.channel_session_rules.specs.ShardFault.TheVariants.{AlreadyTracked, N
 use Rattle.channel_session_rules.specs.Asks.{Ask, Given}
 use Rattle.channel_session_rules.specs.Seen.{seen_by, in_table, FromTable}
 use Rattle.channel_session_rules.specs.Shards.{there_of, gives_of, IsStepOf}
-use Rattle.channel_session_laws.specs.Local.{Asked, AskedOr, LocalStep}
+use Rattle.channel_session_local.specs.Local.{Asked, AskedOr, LocalStep}
 
 module _ {A : Type 0} (pid : ℕ) (old new : History) (q : Ask) (view : A → Given q) (step : Step) (there : History → Bool) (Gives : History → A → Type 0) (is : IsStepOf pid q view step there Gives) where
   due : {B : Type 0} (r : Result B ShardFault) → IsDue r (refusal (there old) old step) → IsDue r (refusal (there_of q old) old step)

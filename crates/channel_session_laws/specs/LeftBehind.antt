@@ -10,7 +10,7 @@ use Rattle.presence_journal.specs.Present.{present}
 use Rattle.presence_journal.specs.Table.{IsLegal, is_mine}
 use Rattle.channel_session_rules.specs.Steps.{is_found}
 use Rattle.channel_session_rules.specs.InForce.{Joined, InForce}
-use Rattle.channel_session_laws.specs.Local.{LocalStep}
+use Rattle.channel_session_local.specs.Local.{LocalStep}
 use Rattle.channel_session.specs.Ending.{EndedBy, topics_named}
 
 -- the topic is one of these

@@ -22,8 +22,8 @@ use Rattle.channel_session_rules.specs.ShardFault.TheVariants.{AlreadyTracked, N
 use Rattle.channel_session_rules.specs.Asks.{Ask, Given, Answer, track, update, untrack, untrack_all, list, get, subscribe, take, unsubscribe, waits, shout}
 use Rattle.channel_session_rules.specs.Seen.{in_table}
 use Rattle.channel_session_rules.specs.declared.refusal.Refusal.TheVariants.{OverRation, NotGranted, Table}
-use Rattle.channel_session_laws.specs.Local.{LocalStep, TableStep, IsNew}
-use Rattle.channel_session.proofs.Behind.{AddsNone, was_there, mine_after, mine_is_named, is_accepted, either, untracked_is, untrack_adds, unsubscribe_adds, same_some, no_row, or_true}
+use Rattle.channel_session_local.specs.Local.{LocalStep, TableStep, IsNew}
+use Rattle.channel_session_laws.proofs.Behind.{AddsNone, was_there, mine_after, mine_is_named, is_accepted, either, untracked_is, untrack_adds, unsubscribe_adds, same_some, no_row, or_true}
 use Rattle.presence_journal.proofs.HistoryLemmas.{callers_plain}
 use Rattle.presence_journal.specs.Walk.{is_rebirth}
 
