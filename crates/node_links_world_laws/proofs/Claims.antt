@@ -26,7 +26,7 @@ use Rattle.presence_journal.proofs.PresentLemmas.{shown-row}
 use Rattle.presence_journal.proofs.HistoryLemmas.{after-accepted, known_from, up-own, own-then, own_again}
 use Rattle.presence_journal.proofs.Reborn.{again_of, can_parts, reborn_can}
 use Rattle.presence_journal.proofs.FoldOthers.{accepted_is, refused_stays}
-use Rattle.presence_journal_starts.specs.Checkpoints.{IsCheckpoint}
+use Rattle.presence_journal_cuts.specs.Checkpoints.{IsCheckpoint}
 use Rattle.presence_journal_starts.proofs.Covered.{keeps_status}
 use Rattle.presence_journal_starts.proofs.Shown.{keeps_removed}
 use Rattle.presence_journal_deeds.specs.Deeds.{Deeds, AllDeeds}

@@ -25,7 +25,7 @@ use Rattle.presence_journal.specs.Table.{accepted, after, is_step, next_entry, I
 use Rattle.presence_journal.proofs.Same.{same_replica-true, same_dot-true}
 use Rattle.presence_journal.proofs.HistoryLemmas.{after-accepted, own-then, first_none}
 use Rattle.presence_journal.proofs.FoldOthers.{accepted_is, refused_stays}
-use Rattle.presence_journal_starts.specs.Checkpoints.{IsCheckpoint}
+use Rattle.presence_journal_cuts.specs.Checkpoints.{IsCheckpoint}
 use Rattle.presence_journal_starts.proofs.Covered.{keeps_counts}
 use Rattle.presence_journal_deeds.specs.Deeds.{Deeds, AllDeeds, no_deeds, with_entry, put}
 use Rattle.presence_journal_deeds.specs.Truth.{AreDeeds, TellsTrue, IsTrueOf, DoMore}

@@ -18,7 +18,7 @@ use Rattle.presence_journal.specs.Table.{accepted, after, is_step}
 use Rattle.presence_journal_cuts.specs.Cuts.{IsCut}
 use Rattle.presence_journal_cuts.specs.KeptDeltas.{TellsFrom}
 use Rattle.presence_journal_cuts.specs.ToldParts.{IsPart, HasNoPart}
-use Rattle.presence_journal_starts.specs.Checkpoints.{IsCheckpoint}
+use Rattle.presence_journal_cuts.specs.Checkpoints.{IsCheckpoint}
 use Rattle.node_links_world_laws.specs.Others.{of_others}
 use Rattle.node_links_world_laws.specs.declared.event.Event.{Event}
 use Rattle.node_links_world_laws.specs.declared.event.Event.TheVariants as events_are

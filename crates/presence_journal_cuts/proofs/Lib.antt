@@ -7,7 +7,9 @@ pub mod Vacating
 pub mod Goings
 pub mod KeptLemmas
 mod Joined
+pub mod Runs
 mod PlainLemmas
+pub mod Sound
 pub mod CutShort
 pub mod PartFacts
 pub mod PartRows

@@ -1,12 +1,10 @@
 -- Cuts without chains, and what another node makes of them, computed.
-use Rattle.std.proofs.Common.{◌≡◌, ℕ, zero, suc, ◌≤◌, Bool, true, false, cond, ◌&&◌, ◌||◌, nat_eq, nat_lt, nat_le, List, [], ◌∷◌, Option, Some, None, refl, sym, ◌∙◌, ap, subst, arith}
+use Rattle.std.proofs.Common.{◌≡◌, ℕ, zero, suc, ◌≤◌, true, false, cond, ◌&&◌, ◌||◌, nat_eq, nat_lt, nat_le, List, [], ◌∷◌, Some, None, refl, sym, ◌∙◌, ap, subst, arith}
 use Rattle.std.specs.Prelude.{is_none}
-use Rattle.std.specs.List.{list_all}
 use Rattle.std.specs.List.Sorted.{IsStrictlySortedBy}
-use Rattle.std.proofs.lemmas.Bool.{and_parts, and_from, or_right}
+use Rattle.std.proofs.lemmas.Bool.{and_from, or_right}
 use Rattle.std.proofs.lemmas.Bool.Decides.{nat_tests}
 use Rattle.presence_base.specs.declared.dots.Dot.{Dot}
-use Rattle.presence_base.specs.declared.row.Row.{Row}
 use Rattle.presence_base.specs.Order.{same_replica, same_dot}
 use Rattle.dot_context_runs.specs.Runs.{holds}
 use Rattle.dot_context.specs.Sets.{run_dots}
@@ -15,17 +13,17 @@ use Rattle.orswot_core_told.specs.Telling.{covers, is_among, lies_in, live_row, 
 use Rattle.delta_range.specs.Deltas.{DeltaValue, telling}
 use Rattle.presence_journal_data.specs.declared.step.Step.TheVariants as steps_are
 use Rattle.presence_journal_data.specs.declared.entry.Outcome.TheVariants as outcomes_are
-use Rattle.presence_journal.specs.Steps.{Step, Outcome, Entry}
+use Rattle.presence_journal.specs.Steps.{Step}
 use Rattle.presence_journal.specs.History.{History, Then, start_of, first_some, own, count, last_cut, last_number, entry_count, time, standing, status, hears, known, removed, row, live, shown}
 use Rattle.presence_journal.specs.Present.{dots}
-use Rattle.presence_journal.specs.Table.{IsLegal, is_step, outcome_of, after, accepted}
-use Rattle.presence_journal.specs.Laws.{ran, empty, dot, row_of, here, track, update, untrack}
-use Rattle.presence_journal.proofs.FoldOthers.{stays_legal}
+use Rattle.presence_journal.specs.Table.{IsLegal, outcome_of, after, accepted}
+use Rattle.presence_journal.specs.Laws.{empty, dot, row_of, here, track, update, untrack}
 use Rattle.presence_journal.proofs.WorkedTables.{ran_is}
 use Rattle.presence_journal_cuts.specs.Cuts.{chain, older, recent, IsCut}
 use Rattle.presence_journal_cuts.specs.Handing.{handed}
 use Rattle.presence_journal_cuts.specs.ToldParts.{row_of_count}
 use Rattle.presence_journal_cuts.specs.Plain.{older_plain, IsPlainCut, node_a, tracked, untracked, first_delta, third_delta, hearer, NeedChains}
+use Rattle.presence_journal_cuts.proofs.Runs.{empty_legal, ran_legal, entry, neither}
 use Rattle.presence_journal_cuts.proofs.Starts.{first_none}
 use Rattle.presence_journal_cuts.proofs.Histories.{recent-begin, recent-then}
 
@@ -36,40 +34,6 @@ first_steps = track 1 ∷ []
 
 abbrev all_steps : List Step
 all_steps = track 1 ∷ steps_are.Cut ∷ update 1 ∷ steps_are.Cut ∷ untrack 1 ∷ []
-
-not_counted : (n : ℕ) → (nat_lt 0 n && nat_le n 0) ≡ false
-not_counted n = grind (arith, nat_tests)
-
-none_counted : (b : Bool) (n : ℕ) → false ≡ (b && (nat_lt 0 n && nat_le n 0))
-none_counted true n = sym (not_counted n)
-none_counted false n = refl
-
-empty_legal : IsLegal empty
-empty_legal = record {
-  name = refl;
-  incarnation = (omega arith, omega arith);
-  number = omega arith;
-  count = omega arith;
-  content = refl;
-  own_dots = λ d o. none_counted (same_replica d.replica node_a) d.count;
-  cut = omega arith;
-  older = tt;
-  older_low = refl;
-  chains = tt;
-  kept = λ d next. tt;
-  subscribers = refl;
-  subscribers_once = refl;
-  seated = omega arith;
-}
-
-ran_legal : (h : History) (ss : List Step) → IsLegal h → list_all is_step ss ≡ true → IsLegal (ran h ss)
-ran_legal h [] l s = l
-ran_legal h (x ∷ xs) l s =
-    let parts = and_parts (is_step x) (list_all is_step xs) s in
-    ran_legal (after h x None) xs (stays_legal h l x None parts.0) parts.1
-
-abbrev entry : ℕ → Step → Outcome → Entry
-entry n s o = record { number = n; seat = None; step = s; outcome = o }
 
 abbrev once : History
 once = Then empty (entry 1 (track 1) (outcomes_are.Added (dot 1)))
@@ -107,10 +71,6 @@ recent_once d =
     recent-then empty (entry 1 (track 1) (outcomes_are.Added (dot 1))) d once_legal refl
     ∙ (ap (λ o. first_some (cond (same_dot d (dot 1)) (Some (row_of 1 here None)) None) o) (recent-begin (start_of empty) d)
     ∙ first_none (cond (same_dot d (dot 1)) (Some (row_of 1 here None)) None))
-
-neither : (b : Bool) → cond {A = Option Row} b None None ≡ None
-neither true = refl
-neither false = refl
 
 recent_out : (d : Dot) → recent out d ≡ None
 recent_out d =

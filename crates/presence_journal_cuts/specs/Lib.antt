@@ -7,3 +7,4 @@ pub mod KeptDeltas
 pub mod Parting
 pub mod Reborn
 pub mod ToldParts
+pub mod Checkpoints

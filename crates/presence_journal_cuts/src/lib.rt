@@ -2,7 +2,8 @@
 //!
 //! Its public contracts cite `specs/Cuts`: what a cut tells; `specs/Parting`: how a part is made, which `specs/ToldParts` says;
 //! `specs/Joined`: what a history says once it merged joined deltas; and `specs/Plain`: what goes wrong with less than a cut
-//! tells. `specs/Handing` says how long a chain gets, and `specs/Chains` is of loops and parts.
+//! tells. `specs/Handing` says how long a chain gets, and `specs/Chains` is of loops and parts. `specs/Checkpoints` says when a
+//! Start stands for a history.
 #![tactic(auto)]
 
 mod chain;

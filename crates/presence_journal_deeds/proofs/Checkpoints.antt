@@ -13,7 +13,7 @@ use Rattle.presence_journal.specs.Table.{IsLegal}
 use Rattle.presence_journal.proofs.HistoryLemmas.{status-own}
 use Rattle.presence_journal_cuts.specs.Cuts.{chain, older}
 use Rattle.presence_journal_cuts.proofs.KeptLemmas.{begin-kept}
-use Rattle.presence_journal_starts.specs.Checkpoints.{IsCheckpoint}
+use Rattle.presence_journal_cuts.specs.Checkpoints.{IsCheckpoint}
 use Rattle.presence_journal_starts.proofs.Covered.{begins_alike, keeps_counts}
 use Rattle.presence_journal_starts.proofs.Shown.{keeps_shown, keeps_removed}
 use Rattle.presence_journal_starts.proofs.Sound.{begins_legal}

@@ -26,8 +26,8 @@ use Rattle.presence_journal.proofs.Merges.{removed_is_known, known_is_live_or_re
 use Rattle.presence_journal_cuts.specs.Cuts.{older, recent, IsCut}
 use Rattle.presence_journal_cuts.specs.ToldParts.{row_of_count}
 use Rattle.presence_journal_cuts.proofs.Histories.{last_cut-low}
-use Rattle.presence_journal_starts.specs.Checkpoints.{kept_row}
-use Rattle.presence_journal_starts.proofs.Told.{full_stands}
+use Rattle.presence_journal_cuts.specs.Checkpoints.{kept_row}
+use Rattle.presence_journal_cuts.proofs.Sound.{full_stands}
 use Rattle.presence_journal_deeds.specs.Deeds.{AllDeeds}
 use Rattle.presence_journal_deeds.specs.Truth.{AreDeeds, IsHonest, TellsTrue, IsTrueOf}
 use Rattle.presence_journal_deeds.specs.Laws.{CutsTellTrue, FullsTellTrue, JoinedTellTrue}

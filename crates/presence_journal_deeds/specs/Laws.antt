@@ -15,7 +15,7 @@ use Rattle.presence_journal_sets.specs.Full.{IsFullOf}
 use Rattle.presence_journal_cuts.specs.Cuts.{IsCut}
 use Rattle.presence_journal_cuts.specs.KeptDeltas.{IsToldFrom}
 use Rattle.presence_journal_cuts.specs.ToldParts.{IsPart}
-use Rattle.presence_journal_starts.specs.Checkpoints.{IsCheckpoint}
+use Rattle.presence_journal_cuts.specs.Checkpoints.{IsCheckpoint}
 use Rattle.presence_journal_deeds.specs.Deeds.{AllDeeds, no_deeds, with_entry, put, Deeds}
 use Rattle.presence_journal_deeds.specs.Truth.{AreDeeds, TellsTrue, IsTrueOf, DoMore}
 use Rattle.presence_journal.specs.Walk.{is_rebirth}

@@ -4,7 +4,7 @@ use Rattle.delta_range.specs.Deltas.{DeltaValue}
 use Rattle.presence_journal.specs.Steps.{Start}
 use Rattle.presence_journal.specs.History.{History, Begin}
 use Rattle.presence_journal_cuts.specs.ToldParts.{IsPart, IsPartWhereItFits}
-use Rattle.presence_journal_starts.specs.Checkpoints.{IsCheckpoint}
+use Rattle.presence_journal_cuts.specs.Checkpoints.{IsCheckpoint}
 
 abbrev pub KeepsParts : Type 0
 KeepsParts = (h : History) (s : Start) → IsCheckpoint h s → (n : ℕ) (d : DeltaValue) → IsPart h n d ↔ IsPart (Begin s) n d

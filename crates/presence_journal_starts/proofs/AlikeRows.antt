@@ -9,9 +9,9 @@ use Rattle.presence_journal.specs.Present.{of_topic, present, listed, in_order}
 use Rattle.presence_journal.specs.Table.{IsLegal}
 use Rattle.presence_journal.proofs.Fold.{same_present}
 use Rattle.presence_journal.proofs.Merges.{removed_is_known, known_is_live_or_removed}
-use Rattle.presence_journal_starts.specs.Checkpoints.{kept_row}
+use Rattle.presence_journal_cuts.specs.Checkpoints.{kept_row}
 use Rattle.presence_journal_starts.specs.Later.{IsLike}
-use Rattle.presence_journal_starts.proofs.Beginnings.{one_truth}
+use Rattle.presence_journal_cuts.proofs.Sound.{one_truth}
 use Rattle.presence_journal_starts.proofs.Alikes.{status_same, gone_same, known_same}
 
 -- the row of a removed dot is not live

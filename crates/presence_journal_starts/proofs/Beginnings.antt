@@ -1,5 +1,5 @@
 -- What a history says that has a Start alone.
-use Rattle.std.proofs.Common.{◌≡◌, ℕ, Bool, true, false, cond, ◌&&◌, Option, Some, None, refl, sym}
+use Rattle.std.proofs.Common.{◌≡◌, ℕ, Bool, true, false, cond, ◌&&◌, Option, Some, None, refl}
 use Rattle.std.specs.Prelude.{is_none}
 use Rattle.presence_base.specs.declared.dots.Dot.{Dot}
 use Rattle.presence_base.specs.declared.dots.Replica.{Replica}
@@ -56,9 +56,3 @@ live-begin s d = go (covers s.content d) (live_row s.content d)
     go true None = refl
     go true (Some r) = refl
     go false o = refl
-
--- two tests that pass together are one
-pub one_truth : (a b : Bool) → (a ≡ true → b ≡ true) → (b ≡ true → a ≡ true) → a ≡ b
-one_truth true b f g = sym (f refl)
-one_truth false true f g = g refl
-one_truth false false f g = refl

@@ -9,7 +9,7 @@ use Rattle.presence_journal.specs.History.{History, Begin, own, standing, status
 use Rattle.presence_journal_sets.proofs.StatusLemmas.{own-begin}
 use Rattle.presence_journal_cuts.specs.KeptDeltas.{AreKeptOf}
 use Rattle.presence_journal_cuts.proofs.KeptLemmas.{kept-begin, begin-kept, one_kept}
-use Rattle.presence_journal_starts.specs.Checkpoints.{StandsFor}
+use Rattle.presence_journal_cuts.specs.Checkpoints.{StandsFor}
 use Rattle.presence_journal_starts.specs.Later.{IsLike, BeginsAlike}
 use Rattle.presence_journal_starts.specs.Laws.{KeepsCounts, KeepsStatus, KeepsHearing, KeepsCoveredDots, KeepsTop, KeepsKnown}
 use Rattle.presence_journal_starts.proofs.Beginnings.{count-begin, number-begin, time-begin, standing-begin, last_cut-begin, known-begin, live-begin, chain-begin, older-begin}

@@ -32,7 +32,7 @@ use Rattle.presence_journal_cuts.specs.Handing.{handed}
 use Rattle.dot_context_runs.specs.Runs.{holds}
 use Rattle.presence_journal_cuts.specs.KeptDeltas.{KeepsAfter, AreKeptOf}
 use Rattle.presence_journal_cuts.proofs.KeptLemmas.{kept-then, then-kept}
-use Rattle.presence_journal_starts.specs.Checkpoints.{kept_row}
+use Rattle.presence_journal_cuts.specs.Checkpoints.{kept_row}
 use Rattle.presence_journal_starts.specs.Later.{IsLike}
 use Rattle.presence_journal_starts.proofs.Alikes.{status_from, hears_same, known_same, and_false}
 use Rattle.presence_journal_starts.proofs.AlikeRows.{live_same, shown_same}

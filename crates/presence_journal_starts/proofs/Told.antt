@@ -1,9 +1,8 @@
 -- A checkpoint says what the history says: what is told in full and by a cut, and the subscribers.
 use Rattle.std.proofs.Common.{◌∙◌}
-use Rattle.orswot_core.proofs.OneFullFacts.{covers_full, rows_full}
 use Rattle.presence_journal.specs.History.{Begin}
 use Rattle.presence_journal.proofs.Topics.{topic_of-begin, queue-begin}
-use Rattle.presence_journal_starts.specs.Laws.{KeepsSet, KeepsFull, FullStands, KeepsCut, KeepsOlder, KeepsRecent, KeepsShownChains, KeepsUnusedChains, OneKept, OthersKeep, KeepsKeptDeltas, KeepsToldFrom, KeepsTopics, SubscribersAreBehind}
+use Rattle.presence_journal_starts.specs.Laws.{KeepsSet, KeepsFull, KeepsCut, KeepsOlder, KeepsRecent, KeepsShownChains, KeepsUnusedChains, OneKept, OthersKeep, KeepsKeptDeltas, KeepsToldFrom, KeepsTopics, SubscribersAreBehind}
 use Rattle.presence_journal_cuts.proofs.KeptLemmas.{kept_other, other_kept, one_kept}
 use Rattle.presence_journal_starts.proofs.AlikeTold.{turned, set_of, full_of, cut_of, recent_same, told_from_of}
 use Rattle.presence_journal_starts.proofs.Covered.{begins_alike}
@@ -23,12 +22,6 @@ keeps_full h s c form t =
       full_of form (Begin s) h t a,
       full_of form h (Begin s) t (turned (Begin s) h a),
     )
-
-pub full_stands : FullStands
-full_stands form h t f = (
-  λ d. covers_full form f.0 t f.2 d ∙ f.1.covered d,
-  λ d. rows_full form f.0 t f.2 d ∙ f.1.live d,
-)
 
 -- ---- cuts
 

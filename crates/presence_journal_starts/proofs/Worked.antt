@@ -1,8 +1,7 @@
 -- The worked checkpoint, computed.
 use Rattle.std.proofs.Common.{◌≡◌, ℕ, ◌<◌, ◌≤◌, Bool, true, false, cond, not, ◌&&◌, ◌||◌, nat_eq, nat_lt, nat_le, List, [], ◌∷◌, Option, Some, None, refl, sym, ◌∙◌, ap, subst, arith}
-use Rattle.std.specs.List.{list_all}
 use Rattle.std.specs.Option.{unwrap_or}
-use Rattle.std.proofs.lemmas.Bool.{and_parts, lt-leb}
+use Rattle.std.proofs.lemmas.Bool.{lt-leb}
 use Rattle.std.proofs.lemmas.Bool.Decides.{nat_tests}
 use Rattle.presence_base.specs.declared.dots.Replica.{Replica}
 use Rattle.presence_base.specs.declared.dots.Dot.{Dot}
@@ -17,61 +16,27 @@ use Rattle.replica_status.specs.Table.{status_of}
 use Rattle.replica_status.specs.Boards.{standing_in}
 use Rattle.presence_journal_data.specs.declared.step.Step.TheVariants as steps_are
 use Rattle.presence_journal_data.specs.declared.entry.Outcome.TheVariants as outcomes_are
-use Rattle.presence_journal.specs.Steps.{Step, Outcome, Entry}
+use Rattle.presence_journal.specs.Steps.{Entry}
 use Rattle.presence_journal.specs.History.{History, Then, nothing_kept, own, count, last_number, entry_count, time, standing, status, is_up, is_gone, hears, last_cut, is_counted, told_covers, known, covered, first_some, row_added, row_brought, told_row, removed, row, live, shown}
 use Rattle.presence_journal.specs.Present.{dots}
 use Rattle.presence_journal.specs.Queue.{topic_at, topic_of}
-use Rattle.presence_journal.specs.Table.{IsLegal, is_step, outcome_of, after}
-use Rattle.presence_journal.specs.Laws.{ran, empty, dot, room, row_of, subscribe}
+use Rattle.presence_journal.specs.Table.{IsLegal, outcome_of}
+use Rattle.presence_journal.specs.Laws.{empty, dot, room, row_of, subscribe}
 use Rattle.presence_journal.proofs.HistoryLemmas.{known-then}
 use Rattle.presence_journal.proofs.Same.{same_replica-true, same_dot-true}
-use Rattle.presence_journal.proofs.FoldOthers.{stays_legal}
 use Rattle.presence_journal.proofs.WorkedTables.{ran_is}
 use Rattle.presence_journal_cuts.specs.Chains.{Counts}
 use Rattle.presence_journal_cuts.specs.Cuts.{chain_in, chain, older}
 use Rattle.presence_journal_cuts.specs.Handing.{handed}
 use Rattle.presence_journal_cuts.specs.KeptDeltas.{AreKeptOf}
-use Rattle.presence_journal_starts.specs.Checkpoints.{kept_row, StandsFor, IsCheckpoint}
+use Rattle.presence_journal_cuts.proofs.Runs.{empty_legal, ran_legal, entry, neither}
+use Rattle.presence_journal_cuts.proofs.Sound.{covered_own}
+use Rattle.presence_journal_cuts.specs.Checkpoints.{kept_row, StandsFor, IsCheckpoint}
 use Rattle.presence_journal_starts.specs.Worked.{node_a, node_b, plain, dot_of_b, told_by_b, track_one, update_one, worked_steps, worked_run, worked_start, StartStands}
 use Rattle.presence_journal_starts.proofs.Alikes.{and_false}
 use Rattle.presence_journal_starts.proofs.AlikeRows.{shown-kept}
-use Rattle.presence_journal_starts.proofs.Sound.{covered_own}
 
 -- ---- the run
-
-not_counted : (n : ℕ) → (nat_lt 0 n && nat_le n 0) ≡ false
-not_counted n = grind (arith, nat_tests)
-
-none_counted : (b : Bool) (n : ℕ) → false ≡ (b && (nat_lt 0 n && nat_le n 0))
-none_counted true n = sym (not_counted n)
-none_counted false n = refl
-
-empty_legal : IsLegal empty
-empty_legal = record {
-  name = refl;
-  incarnation = (omega arith, omega arith);
-  number = omega arith;
-  count = omega arith;
-  content = refl;
-  own_dots = λ d o. none_counted (same_replica d.replica node_a) d.count;
-  cut = omega arith;
-  older = tt;
-  older_low = refl;
-  chains = tt;
-  kept = λ d next. tt;
-  subscribers = refl;
-  subscribers_once = refl;
-  seated = omega arith;
-}
-
-ran_legal : (h : History) (ss : List Step) → IsLegal h → list_all is_step ss ≡ true → IsLegal (ran h ss)
-ran_legal h [] l s = l
-ran_legal h (x ∷ xs) l s =
-    let parts = and_parts (is_step x) (list_all is_step xs) s in
-    ran_legal (after h x None) xs (stays_legal h l x None parts.0) parts.1
-
-abbrev entry : ℕ → Step → Outcome → Entry
-entry n s o = record { number = n; seat = None; step = s; outcome = o }
 
 abbrev first : History
 first = Then empty (entry 1 subscribe (outcomes_are.Subscribed 1))
@@ -149,10 +114,6 @@ covered_whole d = go (same_replica d.replica node_a) (same_replica d.replica nod
 rowless_then : (h : History) (e : Entry) (d : Dot) → row h d ≡ None → row_added e.step e.outcome d ≡ None → row_brought e.outcome (row h) (told_row h e.step d) d ≡ None → row (Then h e) d ≡ None
 unfolding row
 rowless_then h e d a b c = λ i. first_some (a i) (first_some (b i) (c i))
-
-neither : (b : Bool) → cond {A = Option Row} b None None ≡ None
-neither true = refl
-neither false = refl
 
 rowless_whole : (d : Dot) → same_dot d (dot 1) ≡ false → same_dot d (dot 2) ≡ false → same_dot d dot_of_b ≡ false → row whole d ≡ None
 unfolding row

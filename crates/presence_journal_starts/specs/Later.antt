@@ -18,7 +18,7 @@ use Rattle.presence_journal_sets.specs.Full.{IsFullOf}
 use Rattle.presence_journal_cuts.specs.Chains.{Counts}
 use Rattle.presence_journal_cuts.specs.Cuts.{chain, older, IsCut}
 use Rattle.presence_journal_cuts.specs.KeptDeltas.{AreKeptOf, IsToldFrom}
-use Rattle.presence_journal_starts.specs.Checkpoints.{kept_row, IsCheckpoint}
+use Rattle.presence_journal_cuts.specs.Checkpoints.{kept_row, IsCheckpoint}
 
 -- They say the same of all that the answers to later steps depend on, but for numbers and subscribers.
 pub record IsLike (g h : History) : Type 0 where

@@ -18,7 +18,7 @@ use Rattle.presence_journal_sets.specs.LeftOut.{HoldsCovered}
 use Rattle.presence_journal_cuts.specs.Chains.{Counts}
 use Rattle.presence_journal_cuts.specs.Cuts.{chain, older, recent, IsCut}
 use Rattle.presence_journal_cuts.specs.KeptDeltas.{renews_kept, AreKeptOf, IsToldFrom}
-use Rattle.presence_journal_starts.specs.Checkpoints.{kept_row, IsCheckpoint}
+use Rattle.presence_journal_cuts.specs.Checkpoints.{kept_row, IsCheckpoint}
 
 -- a checkpoint is a sound Start: a legal history can begin with it, and a journal can
 abbrev pub IsSound : Type 0

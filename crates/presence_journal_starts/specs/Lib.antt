@@ -1,4 +1,3 @@
-pub mod Checkpoints
 pub mod Later
 pub mod Laws
 pub mod Worked

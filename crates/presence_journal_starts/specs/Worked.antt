@@ -9,7 +9,7 @@ use Rattle.presence_journal_data.specs.declared.step.Step.TheVariants as steps_a
 use Rattle.presence_journal.specs.Steps.{Step, Start}
 use Rattle.presence_journal.specs.History.{History, nothing_kept}
 use Rattle.presence_journal.specs.Laws.{ran, empty, dot, room, user, row_of, subscribe}
-use Rattle.presence_journal_starts.specs.Checkpoints.{IsCheckpoint}
+use Rattle.presence_journal_cuts.specs.Checkpoints.{IsCheckpoint}
 
 abbrev pub node_a : Replica
 node_a = record { name = codes "a"; incarnation = 1 }

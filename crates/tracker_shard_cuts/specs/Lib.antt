@@ -6,5 +6,4 @@ pub use Rattle.presence_journal_sets.specs.LeftOut
 pub use Rattle.presence_journal_cuts.specs.Cuts
 pub use Rattle.presence_journal_cuts.specs.KeptDeltas
 pub use Rattle.presence_journal_cuts.specs.ToldParts
-pub use Rattle.presence_journal_starts.specs.Checkpoints
 pub use Rattle.presence_journal_cuts.specs.Reborn

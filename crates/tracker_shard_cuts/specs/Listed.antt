@@ -5,7 +5,7 @@ use Rattle.dot_context_runs.specs.Runs.{holds, AreLong}
 use Rattle.presence_journal.specs.History.{History, last_cut}
 use Rattle.presence_journal_cuts.specs.Chains.{AreUpTo, Counts}
 use Rattle.presence_journal_cuts.specs.Cuts.{older}
-use Rattle.presence_journal_starts.specs.Checkpoints.{ListsChains, ListsUnused}
+use Rattle.presence_journal_cuts.specs.Checkpoints.{ListsChains, ListsUnused}
 
 -- the older counts that went since the last cut
 pub record AreOlder (h : History) (rs : List (ℕ × ℕ)) : Type 0 where

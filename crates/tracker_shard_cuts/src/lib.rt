@@ -2,8 +2,8 @@
 //! cut, the older counts that went since, and the chains of the own rows. A cut costs what it tells. What the cuts told
 //! is kept too, joined, for nodes that missed some.
 //!
-//! Its public contracts cite `specs/Untold`, on presence_journal_cuts' `Cuts` and `KeptDeltas`, and `specs/Listed`, on
-//! presence_journal_starts' `Checkpoints`. `specs/Changes` is of what an entry changes of it.
+//! Its public contracts cite `specs/Untold` and `specs/Listed`, on presence_journal_cuts' `Cuts`, `KeptDeltas` and
+//! `Checkpoints`. `specs/Changes` is of what an entry changes of it.
 #![tactic(auto)]
 
 mod change;

@@ -9,8 +9,7 @@ use Rattle.presence_journal.specs.History.{History, Begin, Then, onto, own, coun
 use Rattle.presence_journal.specs.Table.{IsStart, IsLegal}
 use Rattle.tracker_shard_cuts.specs.Full.{IsFullOf}
 use Rattle.tracker_shard_cuts.specs.KeptDeltas.{AreKeptOf}
-use Rattle.tracker_shard_cuts.proofs.Sound.{is_sound, begins_kept}
-use Rattle.tracker_shard_cuts.proofs.Told.{full_stands}
+use Rattle.presence_journal_cuts.proofs.Sound.{is_sound, begins_kept, full_stands}
 use Rattle.tracker_shard_known.specs.Starts.{ListsStandings}
 use Rattle.tracker_shard_cuts.specs.Listed.{AreOlder, AreListed as AreListedChains}
 use Rattle.tracker_shard_feeds.specs.Fed.{Fed, IsFedBy}

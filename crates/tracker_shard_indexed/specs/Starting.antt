@@ -2,7 +2,7 @@
 use Rattle.std.specs.Prelude.{◌≡◌, ℕ, ◌+◌, Bool, true, false, List, [], ◌∷◌, is_some}
 use Rattle.presence_journal.specs.Steps.{Entry, Start}
 use Rattle.presence_journal.specs.History.{History, Begin, Then}
-use Rattle.tracker_shard_cuts.specs.Checkpoints.{IsCheckpoint}
+use Rattle.presence_journal_cuts.specs.Checkpoints.{IsCheckpoint}
 pub use Rattle.presence_base.specs.Choices.{one_if}
 
 -- how many of these entries were made through seats

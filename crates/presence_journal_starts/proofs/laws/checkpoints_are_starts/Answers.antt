@@ -1,4 +1,5 @@
-use Rattle.presence_journal_starts.proofs.Sound.{is_sound, begins_legal, begins_kept, begins_with_room}
+use Rattle.presence_journal_cuts.proofs.Sound.{is_sound, begins_kept}
+use Rattle.presence_journal_starts.proofs.Sound.{begins_legal, begins_with_room}
 use Rattle.presence_journal_starts.proofs.laws.checkpoints_are_starts.Goals as goal
 
 pub returns-clause-start : goal.returns-clause-start

@@ -1,4 +1,5 @@
-use Rattle.presence_journal_starts.proofs.Told.{keeps_set, keeps_full, full_stands}
+use Rattle.presence_journal_cuts.proofs.Sound.{full_stands}
+use Rattle.presence_journal_starts.proofs.Told.{keeps_set, keeps_full}
 use Rattle.presence_journal_starts.proofs.laws.full_values_stay.Goals as goal
 
 pub returns-clause-set : goal.returns-clause-set
