@@ -61,10 +61,10 @@ told_ref d = object (member (codes "phx_ref") (string (ref_of d)) no_members)
 
 -- ---- refusals of the port, each with the reason that stands for it, where one does
 
--- `full`, at the text's first call only, and `unauthorized`
+-- `full` and `unauthorized`, where the port refuses by itself, and `full` at the text's first call
 abbrev pub full_reason : Bool → Refusal → Option (List ℕ)
+full_reason first OverRation = Some (codes "full")
 full_reason first NotGranted = Some (codes "unauthorized")
-full_reason first OverRation = if first then Some (codes "full") else None
 full_reason first (Table ClockFull) = if first then Some (codes "full") else None
 full_reason first (Table JournalFull) = if first then Some (codes "full") else None
 full_reason first _ = None

@@ -7,13 +7,15 @@ use crate::refusal::Refusal;
 use crate::stop::{Stop, StopKind};
 use tracker_shard::ShardFault;
 
-/// The reason that stands for a refusal: for what is full if the call is the text's first.
+/// The reason that stands for a refusal: for what the port refuses by itself, and for what is full if the call is the
+/// text's first.
 pub fn full_reason(first: bool, refusal: Refusal) -> Option<&'static str>
     ensures { option_map (λ r. r.now) result ≡ full_reason_of first refusal }
 {
     match refusal {
+        Refusal::OverRation => Some("full"),
         Refusal::NotGranted => Some("unauthorized"),
-        Refusal::OverRation | Refusal::Table(ShardFault::ClockFull | ShardFault::JournalFull) => {
+        Refusal::Table(ShardFault::ClockFull | ShardFault::JournalFull) => {
             if first { Some("full") } else { None }
         }
         Refusal::Table(
