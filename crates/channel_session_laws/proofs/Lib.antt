@@ -1,10 +1,7 @@
-pub mod Locals
-pub mod Heeding
 pub mod Shown
 pub mod Proper
 pub mod Mirroring
 pub mod Givings
-pub mod Played
 pub mod SoundValues
 pub mod SoundRows
 pub mod SoundSteps
@@ -23,4 +20,7 @@ pub mod Calls
 pub mod Named
 pub mod Standing
 pub mod Known
-pub mod Lent
+pub mod Playing
+pub mod Alike
+pub mod PieceReading
+pub mod PieceRuns

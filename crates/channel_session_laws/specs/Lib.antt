@@ -5,3 +5,4 @@ pub mod Laws
 pub mod LeftBehind
 pub mod Naming
 pub mod Subscribed
+pub mod Pieces

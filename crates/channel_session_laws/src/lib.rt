@@ -1,10 +1,11 @@
-//! Laws of sessions over one lent shard: what they answer there, and what a client makes of it.
+//! Laws of sessions over one lent shard: what they answer there, and what a client makes of it. No program uses them.
 //!
 //! `specs/Mirrors` has what a client makes of messages, `specs/Keeping` a session's lines, `specs/Turns` what is in force by
 //! turns, `specs/Laws` the laws; `specs/Naming`, that a session names each topic on which a row of its own stands,
 //! `specs/Subscribed`, that it knows each subscriber that it made, and `specs/LeftBehind`, that an accepted end leaves
-//! nothing of it there.
+//! nothing of it there; `specs/Pieces`, that a client makes the same of states in pieces.
 #![tactic(auto)]
 
 pub mod ended;
 pub mod laws;
+pub mod pieces;

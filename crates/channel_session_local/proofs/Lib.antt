@@ -1,1 +1,5 @@
 pub mod Lending
+pub mod Locals
+pub mod Heeding
+pub mod Played
+pub mod Lent

@@ -1,4 +1,1 @@
-pub mod Alike
-pub mod Reading
-pub mod Runs
 pub mod Passing

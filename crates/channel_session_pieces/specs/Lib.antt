@@ -1,2 +1,1 @@
 pub mod Piecewise
-pub mod Laws

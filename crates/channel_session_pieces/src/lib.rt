@@ -1,10 +1,9 @@
 //! A port round a session's own, over which a client is told a long state in pieces, one for each take.
 //!
-//! `specs/Piecewise` says what the port answers, `specs/Laws` that a client makes the same of it as of what the port inside
-//! gives.
+//! `specs/Piecewise` says what the port answers. That a client makes the same of it as of what the port inside gives is a law
+//! (`pieces` of `channel_session_laws`).
 #![tactic(auto)]
 
-pub mod laws;
 mod port;
 
 pub use port::PiecewisePort;

@@ -17,7 +17,7 @@ use Rattle.channel_session.specs.Ran.{EndedSo, texts_in}
 use Rattle.channel_session.specs.Rules.{End, answers, full, memory}
 use Rattle.channel_session.specs.declared.fault.SessionFault.{SessionFault}
 use Rattle.channel_session.specs.declared.fault.SessionFault.TheVariants.{BadMessage, ShardFull, Failed}
-use Rattle.channel_session_laws.proofs.Lent.{Leads, text_leads, full_leads, delivery_leads, full_delivery}
+use Rattle.channel_session_local.proofs.Lent.{Leads, text_leads, full_leads, delivery_leads, full_delivery}
 use Rattle.presence_node_stdio.specs.Session.{State, Speech, silence, and_then, answering, dealing, Answer, answer_to, ruled, delivered, with_delivery, printed, ends, Voice, Says, Tells, AnswersLine, TellsDelivery, Answered, Dealt, Keeps, next_of, answer}
 use Rattle.presence_node_lines.specs.Reading.{line_message}
 use Rattle.presence_node_stdio.specs.declared.local.Output.{Output}
@@ -29,12 +29,12 @@ led : (st : State) (read : Result Message MessageFault) (new : History) (end : E
 led st read new end l = ap (answer_to st) l.is ∙ ap (λ (x : End × History). ruled st.routes x.0 x.1) l.leads
 
 -- what a message is answered, and then a delivery
-texts_follow : (st : State) (read : Result Message MessageFault) (said : List Said) (after : InForce) (new : History) → EndedSo LocalStep st.routes st.session read st.shard new after (Ok said)
+texts_follow : (st : State) (read : Result Message MessageFault) (said : List Said) (after : InForce) (new : History) → EndedSo (LocalStep st.session.pid) st.routes st.session read st.shard new after (Ok said)
     → answer_to st read ≡ with_delivery st.routes (answering said) after new
 texts_follow st read said after new h = led st read new (answers said after) (text_leads st.routes st.session read st.shard new after said h)
 
 -- the shard is full
-full_follows : (st : State) (read : Result Message MessageFault) (after : InForce) (new : History) → EndedSo LocalStep st.routes st.session read st.shard new after (Err ShardFull) → answer_to st read ≡ ends silence (stopped_by ShardFull)
+full_follows : (st : State) (read : Result Message MessageFault) (after : InForce) (new : History) → EndedSo (LocalStep st.session.pid) st.routes st.session read st.shard new after (Err ShardFull) → answer_to st read ≡ ends silence (stopped_by ShardFull)
 full_follows st read after new h = led st read new full (full_leads st.routes st.session read st.shard new after h)
 
 -- the text is no message
@@ -44,13 +44,13 @@ bad_follows st read f e = ap (answer_to st) e
 -- ---- the delivery
 
 module _ (routes : List (List ℕ × ℕ)) (speech : Speech) (s : InForce) (h : History) (new : History) (after : InForce) where
-  played_so : (end : End) → played (delivery MAX_TAKEN s) h ≡ (end, new) → with_delivery routes speech s h ≡ delivered routes speech end new
+  played_so : (end : End) → played s.pid (delivery MAX_TAKEN s) h ≡ (end, new) → with_delivery routes speech s h ≡ delivered routes speech end new
   played_so end e = ap (λ (x : End × History). delivered routes speech x.0 x.1) e
 
-  delivered_so : (said : List Said) → Delivered LocalStep MAX_TAKEN s h new after (Ok said) → with_delivery routes speech s h ≡ delivered routes speech (answers said after) new
+  delivered_so : (said : List Said) → Delivered (LocalStep s.pid) MAX_TAKEN s h new after (Ok said) → with_delivery routes speech s h ≡ delivered routes speech (answers said after) new
   delivered_so said d = rw d.1 (played_so (answers said s) (delivery_leads MAX_TAKEN s h new after said d))
 
-  full_so : Delivered LocalStep MAX_TAKEN s h new after (Err ShardFull) → with_delivery routes speech s h ≡ ends speech (stopped_by ShardFull)
+  full_so : Delivered (LocalStep s.pid) MAX_TAKEN s h new after (Err ShardFull) → with_delivery routes speech s h ≡ ends speech (stopped_by ShardFull)
   full_so d = played_so full (full_delivery MAX_TAKEN s h new after d)
 
 -- ---- what the code tells
@@ -122,7 +122,7 @@ module _ (v : Voice) where
   pub if_kept : {E : Type 0} (st before after : State) (text : List ℕ) (texts : Vec (String Global) Global) (session : InForce) (shard : History) (r : Result Output E) → Answered v st.routes text st.session st.shard shard session (Ok texts)
       → IfOk r (λ o. TellsDelivery v (record { routes = st.routes; session = session; shard = shard }) (printed (texts_in texts)) after o) → IfOk r (λ o. Keeps o.fault before after)
   if_kept st before after text texts session shard (Err e) a told = tt
-  if_kept st before after text texts session shard (Ok o) a told = at_end (answering a.said) (played (delivery MAX_TAKEN session) shard).0 (played (delivery MAX_TAKEN session) shard).1 o.fault (told a.said (texts_in texts) a.writes refl).next
+  if_kept st before after text texts session shard (Ok o) a told = at_end (answering a.said) (played session.pid (delivery MAX_TAKEN session) shard).0 (played session.pid (delivery MAX_TAKEN session) shard).1 o.fault (told a.said (texts_in texts) a.writes refl).next
     where
       no_fault : (x : State) (f : LineFault) → ◌≡◌ {A = Result State LineFault} (Ok x) (Err f) → ⊥
       no_fault x f e = cc

@@ -1,4 +1,3 @@
-pub mod Mirrored
 pub mod Run
 pub mod Outlets
 pub mod Session

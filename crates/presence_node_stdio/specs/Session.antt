@@ -100,7 +100,7 @@ delivered routes speech memory h = ends speech (stopped_by ShardFull)
 
 -- One delivery takes all that ever waits for a topic.
 abbrev pub with_delivery : List (List ℕ × ℕ) → Speech → InForce → History → Answer
-with_delivery routes speech s h = let x = played (delivery MAX_TAKEN s) h in delivered routes speech x.0 x.1
+with_delivery routes speech s h = let x = played s.pid (delivery MAX_TAKEN s) h in delivered routes speech x.0 x.1
 
 -- what the rules answer, and then a delivery
 abbrev pub ruled : List (List ℕ × ℕ) → End → History → Answer
@@ -110,7 +110,7 @@ ruled routes memory h = ends silence (stopped_by ShardFull)
 
 abbrev pub answer_to : State → Result Message MessageFault → Answer
 answer_to s (Err f) = ends silence (no_message f)
-answer_to s (Ok m) = let x = played (rules s.routes s.session m) s.shard in ruled s.routes x.0 x.1
+answer_to s (Ok m) = let x = played s.session.pid (rules s.routes s.session m) s.shard in ruled s.routes x.0 x.1
 
 -- A session that has failed answers nothing further. No line that is answered leaves such a session.
 abbrev pub answer : State → List ℕ → Answer
@@ -139,7 +139,7 @@ Keeps _ s after = Unit {0}
 abbrev pub Answered : Voice → List (List ℕ × ℕ) → List ℕ → InForce → History → History → InForce
     → Result (Vec (String Global) Global) SessionFault → Type 0
 Answered v routes text s old new after r =
-    RanBy v.worded LocalStep routes s (decoded the_limits.CLIENT text) old new after r
+    RanBy v.worded (LocalStep s.pid) routes s (decoded the_limits.CLIENT text) old new after r
 
 -- by the voice of these hooks
 abbrev pub AnsweredBy : {S : Type 0} → Ghosts S → S → List (List ℕ × ℕ) → List ℕ → InForce → History → History → InForce
@@ -148,7 +148,7 @@ AnsweredBy H hooks routes text s old new after r = Answered (voice_of H hooks) r
 
 -- and one delivery
 abbrev pub Dealt : Voice → InForce → History → History → InForce → Result Delivery SessionFault → Type 0
-Dealt v s old new after r = DeliveredBy v.worded v.noted LocalStep MAX_TAKEN s old new after r
+Dealt v s old new after r = DeliveredBy v.worded v.noted (LocalStep s.pid) MAX_TAKEN s old new after r
 
 -- the output is what a delivery behind this text answers, whatever it is a text of
 abbrev pub TellsDelivery : Voice → State → List ℕ → State → Output → Type 0

@@ -3,9 +3,8 @@ ghost use Rattle.std.specs.Prelude.{◌≡◌, ◌++◌, [], map, string_bytes, 
 ghost use Rattle.presence_node_stdio.specs.Session.{printed, voice_of, AnsweredBy, Dealt};
 
 use crate::fault::LineFault;
-use channel_session::{
-    Channels, Delivery, LocalPort, Session, SessionFault, Shard, deliver, run_text,
-};
+use channel_session::{Channels, Delivery, Session, SessionFault, Shard, deliver, run_text};
+use channel_session_local::LocalPort;
 use hook_registry::{Notice, PresenceHooks, Routes};
 use phx_message::Limits;
 use presence_base::Replica;

@@ -1,12 +1,10 @@
 //! The run.
 ghost use Rattle.std.specs.Prelude.{◌≡◌, ◌≤◌, ℕ, List};
-ghost use Rattle.presence_node_stdio.specs.Mirrored.{MirroredBehindLines};
 ghost use Rattle.presence_node_stdio.specs.Session.{start, voice_of};
 ghost use Rattle.presence_node_stdio.specs.Run.{AnswerOf, Writes};
 ghost use Rattle.presence_node_stdio.specs.Outlets.{held, Runs, RunsKnown, Turns};
 
 use crate::fault::{LineFault, StdioFault};
-use crate::laws::joined_topics_are_mirrored;
 use crate::local::{LocalSession, Output};
 use crate::outlets::Outlets;
 use hook_registry::PresenceHooks;
@@ -109,14 +107,6 @@ impl LocalSession {
     }
 }
 
-// What stands behind each answered line, whatever the input is.
-fn mirrored<H: PresenceHooks>(hooks: &H, options: &StdioOptions)
-    ensures { MirroredBehindLines H.PresenceHooks hooks.now options.now }
-{
-    let _name = options.name.as_str();
-    joined_topics_are_mirrored(hooks);
-}
-
 /// Answers each line of the input up to its end, to the first line that is refused or to a fault,
 /// and says how many lines there were. What a line is answered, and what is delivered behind it, is
 /// written before the next one is read; so are the notices of what was delivered.
@@ -134,9 +124,7 @@ pub fn run_stdio<R: Read, W: Write, N: Write, H: PresenceHooks>(
         (start options.now) (R.remaining reader.old) out.old out.new result }
     ensures lines { Runs (voice_of H.PresenceHooks hooks.now) (held W.contents N.contents) R.remaining MAX_LINES
         (start options.now) reader.old reader.new out.old out.new result }
-    ensures mirrors { MirroredBehindLines H.PresenceHooks hooks.now options.now }
 {
-    mirrored(hooks, options);
     let mut local = match LocalSession::new(alloc, options) {
         Ok(local) => local,
         Err(_) => return Err(StdioFault::Memory),

@@ -8,9 +8,9 @@ mod texts;
 
 // What the tests name of the session and its shard, given out here.
 pub use channel_session::{
-    Channels, Delivery, LocalPort, Port, Session, SessionFault, Shard, ShardFault, Sub, deliver,
-    end, run_text,
+    Channels, Delivery, Port, Session, SessionFault, Shard, ShardFault, Sub, deliver, end, run_text,
 };
+pub use channel_session_local::LocalPort;
 pub use channel_session_rules::{Call, Refusal};
 pub use desk::{Desk, are_texts, desk_of, fault_for, joined_desk};
 pub use port::TestPort;

@@ -1,6 +1,7 @@
 //! A port over a shard that refuses one of its calls.
 
-use channel_session::{LocalPort, Port, Shard, ShardFault};
+use channel_session::{Port, Shard, ShardFault};
+use channel_session_local::LocalPort;
 use channel_session_rules::{Call, Refusal};
 use presence_base::{NodeName, Replica, Topic};
 use presence_journal_walks::walk_topic;

@@ -1,6 +1,7 @@
 //! What is timed of a session.
 use crate::making::{ROOM, meta, numbered, replica, topic};
-use channel_session::{Channels, LocalPort, Session, SessionFault, deliver, run_text};
+use channel_session::{Channels, Session, SessionFault, deliver, run_text};
+use channel_session_local::LocalPort;
 use hook_registry::{NoHooks, RouteFault, Routes};
 use presence_base::Topic;
 use std::alloc::{AllocError, Global};

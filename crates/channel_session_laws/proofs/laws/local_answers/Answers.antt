@@ -1,4 +1,4 @@
-use Rattle.channel_session_laws.proofs.Locals.{by_the_table, want_stays}
+use Rattle.channel_session_local.proofs.Locals.{by_the_table, want_stays}
 use Rattle.channel_session_laws.proofs.laws.local_answers.Goals as goal
 
 pub returns-clause-table : goal.returns-clause-table

@@ -1,4 +1,4 @@
-use Rattle.channel_session_laws.proofs.Heeding.{rules_are_played, deliveries_are_played}
+use Rattle.channel_session_laws.proofs.Playing.{rules_are_played, deliveries_are_played}
 use Rattle.channel_session_laws.proofs.laws.local_texts.Goals as goal
 
 pub returns-clause-rules : goal.returns-clause-rules

@@ -1,5 +1,5 @@
 use Rattle.channel_session.specs.Ran.{said_by}
-use Rattle.channel_session_laws.proofs.Lent.{delivered_local, delivered_keeps}
+use Rattle.channel_session_local.proofs.Lent.{delivered_local, delivered_keeps}
 use Rattle.presence_node_stdio.proofs.local.deliver_port.Goals as goal
 
 pub returns-clause-same_reference : goal.returns-clause-same_reference
@@ -12,5 +12,5 @@ returns-clause-dealt g c =
     let dealt = c.deliver.ensures.delivered c.requires in record {
       said = dealt.said;
       carries = dealt.carries;
-      delivered = delivered_local _ (λ p. p.shard.now) (λ old new q a h. h.1) _ _ c.args.port.now c.deliver.new.port _ (said_by dealt.said c.deliver.result) dealt.delivered;
+      delivered = delivered_local c.args.session.now.pid _ (λ p. p.shard.now) (λ old new q a h. h.1) _ _ c.args.port.now c.deliver.new.port _ (said_by dealt.said c.deliver.result) dealt.delivered;
     }

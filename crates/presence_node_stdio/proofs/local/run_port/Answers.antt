@@ -1,5 +1,5 @@
 use Rattle.channel_session.specs.Ran.{said_by}
-use Rattle.channel_session_laws.proofs.Lent.{text_local, text_keeps}
+use Rattle.channel_session_local.proofs.Lent.{text_local, text_keeps}
 use Rattle.presence_node_stdio.proofs.local.run_port.Goals as goal
 
 pub returns-clause-same_reference : goal.returns-clause-same_reference
@@ -12,5 +12,5 @@ returns-clause-answered g c =
     let ran = c.run_text.ensures.ran in record {
       said = ran.said;
       writes = ran.writes;
-      ended = text_local _ (λ p. p.shard.now) (λ old new q a h. h.1) _ _ _ c.args.port.now c.run_text.new.port _ (said_by ran.said c.run_text.result) ran.ended;
+      ended = text_local c.args.session.now.pid _ (λ p. p.shard.now) (λ old new q a h. h.1) _ _ _ c.args.port.now c.run_text.new.port _ (said_by ran.said c.run_text.result) ran.ended;
     }

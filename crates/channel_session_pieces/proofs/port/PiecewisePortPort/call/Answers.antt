@@ -36,7 +36,7 @@ returns-then-is_under_way g c =
     let S : (q : Ask) → Answer q → Type 0 = λ q a. Piecewise step (old.port.now, old.telling.now.untold) q a (old.port.now, old.telling.now.untold) in
     let is = c.is_under_way.ensures in
     let waits = subst (λ w. Waits step old.telling.now.untold c.in-Waits.topic.now c.in-Waits.sub old.port.now (Ok w) old.port.now) (sym c.is_to-waits.ensures)
-        (waits_under_way step c.in-Waits.topic.now c.in-Waits.sub old.port.now old.telling.now.untold (sym is ∙ c.if-is_under_way.true)) in
+    (waits_under_way step c.in-Waits.topic.now c.in-Waits.sub old.port.now old.telling.now.untold (sym is ∙ c.if-is_under_way.true)) in
     (refl, refl, told_so _ _ c.in-Waits.ensures S (told.Waits c.is_to-waits.result) _ _ refl c.told_to-3.ensures (waits, refl))
 
 pub returns-in_default : goal.returns-in_default
@@ -45,6 +45,9 @@ returns-in_default g c =
     let old = c.args.self.now.port.now in
     let new = c.call.new.self in
     let step = g.P.Port.step c.args.pid in
-    let d = c.in_default in
-    (refl, refl, passed_so _ _ d.ensures (λ q a. step old q a new) (λ q a. Piecewise step (old, untold) q a (new, untold))
-    (λ a h. others_pass step (old, untold) (new, untold) c.question.result d.not-List d.not-Take d.not-Waits d.not-Unsubscribe a h refl) _ c.call.ensures)
+    let d = c.in_default in (
+      refl,
+      refl,
+      passed_so _ _ d.ensures (λ q a. step old q a new) (λ q a. Piecewise step (old, untold) q a (new, untold))
+          (λ a h. others_pass step (old, untold) (new, untold) c.question.result d.not-List d.not-Take d.not-Waits d.not-Unsubscribe a h refl) _ c.call.ensures,
+    )

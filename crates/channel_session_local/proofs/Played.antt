@@ -13,8 +13,8 @@ use Rattle.channel_session_rules.specs.Script.{Script}
 use Rattle.channel_session_rules.specs.declared.stop.Stop.{Stop}
 use Rattle.channel_session_rules.specs.declared.stop.StopKind.{StopKind}
 use Rattle.channel_session_rules.specs.declared.stop.StopKind.TheVariants.{OutOfMemory, ShardFull}
-use Rattle.channel_session_laws.proofs.Heeding.{rules_heed, delivers_heed}
-use Rattle.channel_session_laws.proofs.Locals.{played_is}
+use Rattle.channel_session_local.proofs.Heeding.{rules_heed, delivers_heed}
+use Rattle.channel_session_local.proofs.Locals.{played_is}
 
 abbrev pub StopsAt : StopKind → End × History → History → Type 0
 StopsAt ShardFull x new = x ≡ (full, new)

@@ -15,7 +15,7 @@ use Rattle.presence_metas.proofs.Lookups.{Rises}
 use Rattle.presence_metas.proofs.ReadBack.{listing_rises, states_read_back, diffs_read_back}
 use Rattle.channel_session_rules.specs.Frames.{message_of}
 use Rattle.channel_session_laws.specs.Mirrors.{after_reading, mirror_from}
-use Rattle.channel_session_pieces.specs.Laws.{AreAlike}
+use Rattle.channel_session_laws.specs.Pieces.{AreAlike}
 
 -- lists with their keys in order in which the same is found
 pub record Alike (ls ks : Listing) : Type 0 where

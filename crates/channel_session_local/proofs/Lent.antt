@@ -15,7 +15,7 @@ use Rattle.channel_session.specs.declared.fault.SessionFault.TheVariants.{BadMes
 use Rattle.channel_session_rules.specs.declared.stop.Stop.{Stop}
 use Rattle.channel_session_rules.specs.declared.stop.StopKind.{StopKind}
 use Rattle.channel_session_rules.specs.declared.stop.StopKind.TheVariants as kinds_are
-use Rattle.channel_session_laws.proofs.Played.{ComesTo, follows_local, follows_keeps, rules_played, delivery_played}
+use Rattle.channel_session_local.proofs.Played.{ComesTo, follows_local, follows_keeps, rules_played, delivery_played}
 
 -- ---- a port that holds a shard
 

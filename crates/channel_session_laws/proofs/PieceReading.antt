@@ -23,7 +23,7 @@ use Rattle.presence_pieces.specs.declared.piece.TheConstants.{MAX_STATE_BYTES}
 use Rattle.presence_pieces.specs.declared.telling.UntoldState.{UntoldState}
 use Rattle.channel_session_rules.specs.Frames.{message_of}
 use Rattle.channel_session_laws.proofs.Shown.{metas_of, at_listing, first_none}
-use Rattle.channel_session_pieces.proofs.Alike.{Alike, reads, reads_all, read_rises}
+use Rattle.channel_session_laws.proofs.Alike.{Alike, reads, reads_all, read_rises}
 
 -- ---- metas of rows
 

@@ -18,9 +18,7 @@ use Rattle.channel_session_rules.specs.declared.kind.TopicEvent.TheVariants as e
 use Rattle.channel_session_rules.specs.Asked.{asked, key_asked}
 use Rattle.channel_session_rules.specs.Asks.{untrack_all}
 use Rattle.channel_session_rules.specs.Delivering.{then_told, then_take, delivers, delivery}
-use Rattle.channel_session_laws.specs.Laws.{IsPlayed, RulesArePlayed, DeliveriesArePlayed}
 use Rattle.channel_session_local.specs.Local.{Heeds}
-use Rattle.channel_session_laws.proofs.Locals.{played_is}
 use Rattle.channel_session_rules.specs.Rules.{InForce, Joined, End, answers, memory, empty, find, left, then_next, ended, on_track, on_update, on_untrack, on_get, on_leave, then_subscribe, tracks, subscribes, join_asked, on_join, on_event, on_topic, by_kind, kind_of, is_phoenix, by_route, route_of, rules}
 use Rattle.channel_session_rules.specs.Said.{Said, message}
 use Rattle.channel_session_rules.specs.Script.{Script, ask}
@@ -124,17 +122,3 @@ take_heeds max j before next h (Err e) = tt
 pub delivers_heed : (max : ℕ) (s : InForce) (js : List Joined) (before : List Said) → Heeds memory (delivers max s js before)
 delivers_heed max s [] before = tt
 delivers_heed max s (j ∷ js) before = (refl, take_heeds max j before (delivers max s js) (delivers_heed max s js))
-
--- ---- over a lent shard
-
-answers_apart : (said : List Said) (s : InForce) → answers said s ≡ memory → ⊥
-answers_apart said s e = cc
-
-is_played : (script : Script End) → Heeds memory script → IsPlayed script
-is_played script h said s old new follows = played_is memory script follows.made (answers said s) old new h follows.ends follows.calls (answers_apart said s)
-
-pub rules_are_played : RulesArePlayed
-rules_are_played routes s m = is_played (rules routes s m) (rules_heed routes s m)
-
-pub deliveries_are_played : DeliveriesArePlayed
-deliveries_are_played max s = is_played (delivery max s) (delivers_heed max s s.joined [])

@@ -1,5 +1,5 @@
 //! Laws of pieces: functions that do nothing, and whose contracts are the laws.
-ghost use Rattle.channel_session_pieces.specs.Laws.{PiecesLead, PiecesMirror};
+ghost use Rattle.channel_session_laws.specs.Pieces.{PiecesLead, PiecesMirror};
 
 use channel_session_rules::Port;
 

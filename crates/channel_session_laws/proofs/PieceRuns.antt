@@ -23,10 +23,10 @@ use Rattle.channel_session_rules.specs.Asks.{Ask, Answer, ByAnyone, Call, Made, 
 use Rattle.channel_session_local.specs.Local.{LocalStep}
 use Rattle.channel_session_laws.specs.Mirrors.{given_to, given_by}
 use Rattle.channel_session_laws.proofs.Givings.{all_frames_mirror, calls_give}
-use Rattle.channel_session_pieces.specs.Laws.{given_of, given_in, ends, some_ends, untold_of, numbered, AnsweredBy, PiecesLead, PiecesMirror}
+use Rattle.channel_session_laws.specs.Pieces.{given_of, given_in, ends, some_ends, untold_of, numbered, AnsweredBy, PiecesLead, PiecesMirror}
 use Rattle.channel_session_pieces.specs.Piecewise.{lone, left_by, TellsOr, GivesAlone, GivesAnswer, GivesPiece, Asks, Wants, Takes, Waits, Piecewise}
-use Rattle.channel_session_pieces.proofs.Alike.{Alike, alike_refl, alike_trans, reads_all, all_alike, all_rises, reads_more}
-use Rattle.channel_session_pieces.proofs.Reading.{next_read}
+use Rattle.channel_session_laws.proofs.Alike.{Alike, alike_refl, alike_trans, reads_all, all_alike, all_rises, reads_more}
+use Rattle.channel_session_laws.proofs.PieceReading.{next_read}
 
 -- ---- what is untold
 

@@ -142,7 +142,7 @@ module _ {E : Type 0} (out : E) where
       at_end (c ∷ cs) h = absurd h
 
   -- a script that heeds want of memory, and doesn't come to that end, was played against the table
-  pub played_is : (pid : ℕ) (s : Script E) (calls : List Call) (e : E) (old new : History) → Heeds out s → Plays s calls e → Made LocalStep pid old calls new → (e ≡ out → ⊥) → played pid s old ≡ (e, new)
+  pub played_is : (pid : ℕ) (s : Script E) (calls : List Call) (e : E) (old new : History) → Heeds out s → Plays s calls e → Made (LocalStep pid) old calls new → (e ≡ out → ⊥) → played pid s old ≡ (e, new)
   played_is pid (done x) [] e old new heeds plays made apart = rw (plays, made) refl
   played_is pid (done x) (c ∷ cs) e old new heeds plays made apart = absurd plays
   played_is pid (ask q next) [] e old new heeds plays made apart = absurd plays

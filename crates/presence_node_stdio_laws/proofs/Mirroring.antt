@@ -29,8 +29,8 @@ use Rattle.channel_session_laws.proofs.KeptAsks.{all_of}
 use Rattle.channel_session_laws.proofs.KeptWords.{worded_anyhow, worded_plainly}
 use Rattle.channel_session_laws.proofs.SoundValues.{IsFramed, IsHeard}
 use Rattle.presence_node_options.specs.declared.options.StdioOptions.{StdioOptions}
-use Rattle.presence_node_stdio.specs.Mirrored.{goes_on, after_lines, IsReadBack, FetchesOrderly, JoinedAreMirrored}
-use Rattle.presence_node_stdio.proofs.Fetching.{worded_framed}
+use Rattle.presence_node_stdio_laws.specs.Mirrored.{goes_on, after_lines, IsReadBack, FetchesOrderly, JoinedAreMirrored}
+use Rattle.presence_node_stdio_laws.proofs.Fetching.{worded_framed}
 use Rattle.presence_node_lines.specs.Reading.{message_in, line_message}
 use Rattle.presence_node_stdio.specs.Run.{run, run_next}
 use Rattle.presence_node_stdio.specs.Session.{State, Speech, silence, and_then, answering, dealing, Answer, start, ends, delivered, ruled, answer_to, answer}
@@ -69,7 +69,7 @@ module _ (routes : List (List ℕ × ℕ)) (before : List Said) where
   dealt_is said memory g t is = absurd (stopped _ t is)
 
   ruled_is : (e : End) (g : History) (t : State) → (ruled routes e g).next ≡ Ok t → LineIs routes before (then_past (behind before e g) served) (ruled routes e g).speech t
-  ruled_is (answers said s) g t is = dealt_is said (played (delivery MAX_TAKEN s) g).0 (played (delivery MAX_TAKEN s) g).1 t is
+  ruled_is (answers said s) g t is = dealt_is said (played s.pid (delivery MAX_TAKEN s) g).0 (played s.pid (delivery MAX_TAKEN s) g).1 t is
   ruled_is full g t is = absurd (stopped _ t is)
   ruled_is memory g t is = absurd (stopped _ t is)
 
@@ -92,7 +92,7 @@ module _ (s : State) (before : List Said) (t : State) where
   OfLine a = (m : Message) × IsHeard m × LineIs s.routes before (lined s.routes (past before s) m) a.speech t
 
   read_is : (r : Result Message MessageFault) → ((m : Message) → r ≡ Ok m → IsHeard m) → (answer_to s r).next ≡ Ok t → OfLine (answer_to s r)
-  read_is (Ok m) heard is = (m, heard m refl, ruled_is s.routes before (played (rules s.routes s.session m) s.shard).0 (played (rules s.routes s.session m) s.shard).1 t is)
+  read_is (Ok m) heard is = (m, heard m refl, ruled_is s.routes before (played s.session.pid (rules s.routes s.session m) s.shard).0 (played s.session.pid (rules s.routes s.session m) s.shard).1 t is)
   read_is (Err f) heard is = absurd (stopped _ t is)
 
   line_is : (line : List ℕ) → (answer s line).next ≡ Ok t → OfLine (answer s line)
