@@ -6,9 +6,6 @@ pub mod Handings
 pub mod Vacating
 pub mod Goings
 pub mod KeptLemmas
-mod Joined
-pub mod Runs
-mod PlainLemmas
 pub mod Sound
 pub mod CutShort
 pub mod PartFacts

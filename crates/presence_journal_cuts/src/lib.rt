@@ -1,16 +1,14 @@
 //! What a shard's journal tells other nodes of its own replica: a cut, or a part of all.
 //!
-//! Its public contracts cite `specs/Cuts`: what a cut tells; `specs/Parting`: how a part is made, which `specs/ToldParts` says;
-//! `specs/Joined`: what a history says once it merged joined deltas; and `specs/Plain`: what goes wrong with less than a cut
-//! tells. `specs/Handing` says how long a chain gets, and `specs/Chains` is of loops and parts. `specs/Checkpoints` says when a
-//! Start stands for a history.
+//! Its public contracts cite `specs/Cuts`: what a cut tells; and `specs/Parting`: how a part is made, which `specs/ToldParts`
+//! says. `specs/Handing` says how long a chain gets, and `specs/Chains` is of loops and parts. `specs/Checkpoints` says when a
+//! Start stands for a history. What other nodes make of cuts is in presence_journal_starts.
 #![tactic(auto)]
 
 mod chain;
 mod cut;
 mod kept;
 mod last;
-pub mod laws;
 mod older;
 mod part;
 mod recent;

@@ -24,7 +24,7 @@ use Rattle.presence_journal.specs.Present.{of_topic, present}
 use Rattle.presence_journal.specs.Table.{after, outcome_of, next_entry}
 use Rattle.presence_journal.proofs.Fold.{same_present}
 use Rattle.presence_journal.proofs.HistoryLemmas.{after-accepted, known-then}
-use Rattle.presence_journal_cuts.specs.Joined.{merged, SayTheSame, MergesInTurn}
+use Rattle.presence_journal_starts.specs.Joined.{merged, SayTheSame, MergesInTurn}
 use Rattle.presence_journal_deeds.specs.Forms.{FormsTellInTurn, merged_in, FormsMergeInTurn}
 
 -- told values that say the same of each dot

@@ -8,7 +8,7 @@ use Rattle.delta_range.specs.Joining.{joined}
 use Rattle.presence_journal_data.specs.declared.step.Step.TheVariants as steps_are
 use Rattle.presence_journal.specs.History.{History, is_full}
 use Rattle.presence_journal.specs.Table.{after}
-use Rattle.presence_journal_cuts.specs.Joined.{SayTheSame}
+use Rattle.presence_journal_starts.specs.Joined.{SayTheSame}
 
 -- a set that takes in the joined delta ends as one that takes in each in turn
 abbrev pub FormsTellInTurn : Type 0

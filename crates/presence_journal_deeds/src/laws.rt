@@ -9,7 +9,7 @@ ghost use Rattle.presence_journal_deeds.specs.OneDiff.{RebirthTellsOnce};
 ghost use Rattle.presence_journal_deeds.specs.Forms.{FormsTellInTurn, FormsMergeInTurn};
 ghost use Rattle.presence_journal_deeds.specs.PartsStay.{KeepsParts, KeepsLargestParts};
 
-use presence_journal_cuts::laws::joined_deltas_merge_in_turn;
+use presence_journal_starts::laws::joined_deltas_merge_in_turn;
 
 /// Behind a legal entry that tells nothing false, all that was true of a history is true of the longer one, and what its
 /// owner did hangs together. The owner did no less than before, and no count that it had used removes more.

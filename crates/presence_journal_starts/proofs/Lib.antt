@@ -12,4 +12,7 @@ pub mod Silent
 pub mod Next
 pub mod Later
 pub mod Steps
+mod Runs
 mod Worked
+mod Joined
+mod PlainLemmas

@@ -29,7 +29,7 @@ use Rattle.presence_journal_cuts.specs.Chains.{Counts}
 use Rattle.presence_journal_cuts.specs.Cuts.{chain_in, chain, older}
 use Rattle.presence_journal_cuts.specs.Handing.{handed}
 use Rattle.presence_journal_cuts.specs.KeptDeltas.{AreKeptOf}
-use Rattle.presence_journal_cuts.proofs.Runs.{empty_legal, ran_legal, entry, neither}
+use Rattle.presence_journal_starts.proofs.Runs.{empty_legal, ran_legal, entry, neither}
 use Rattle.presence_journal_cuts.proofs.Sound.{covered_own}
 use Rattle.presence_journal_cuts.specs.Checkpoints.{kept_row, StandsFor, IsCheckpoint}
 use Rattle.presence_journal_starts.specs.Worked.{node_a, node_b, plain, dot_of_b, told_by_b, track_one, update_one, worked_steps, worked_run, worked_start, StartStands}

@@ -1,4 +1,4 @@
-//! Laws of checkpoints: functions that do nothing, and whose contracts are the laws.
+//! Laws of checkpoints, and of what other nodes make of cuts: functions that do nothing, and whose contracts are the laws.
 
 ghost use Rattle.presence_journal_starts.specs.Laws.{IsSound, BeginsLegal, BeginsKept, BeginsWithRoom, KeepsCounts};
 ghost use Rattle.presence_journal_starts.specs.Laws.{KeepsStatus, KeepsHearing, KeepsCoveredDots, KeepsTop, KeepsKnown};
@@ -10,6 +10,9 @@ ghost use Rattle.presence_journal_starts.specs.Laws.{KeepsTopics, SubscribersAre
 ghost use Rattle.presence_journal_starts.specs.Later.{BeginsAlike, AlikeTellTheSame, SameOutcomes, StepsLeaveAlike};
 ghost use Rattle.presence_journal_starts.specs.Later.{StaysAlike, GoOnTellingTheSame};
 ghost use Rattle.presence_journal_starts.specs.Worked.{StartStands};
+ghost use Rattle.presence_journal_cuts.specs.Parting.{PartsCutShort};
+ghost use Rattle.presence_journal_starts.specs.Joined.{MergesInTurn, StaysWithinLimits};
+ghost use Rattle.presence_journal_starts.specs.Plain.{NeedChains};
 
 /// A checkpoint is a sound Start: a history that begins with it is legal, and a journal can be one. Entries can
 /// follow it, while numbers are left.
@@ -101,4 +104,23 @@ pub fn later_entries_agree()
 /// A worked Start stands for its run, in which a row was updated and another replica went for good.
 pub fn worked_checkpoint()
     ensures { StartStands }
+{}
+
+/// A joined delta tells a history what its two parts tell it in turn: the same dots are known and removed
+/// then, the same rows are live, and the same are present on each topic. Where both parts are within a
+/// step's limits, so is the joined delta.
+pub fn joined_deltas_merge_in_turn()
+    ensures told { MergesInTurn }
+    ensures limits { StaysWithinLimits }
+{}
+
+/// Cuts that tell the counts that went, but not those that their rows had replaced, are not enough: a node that lost
+/// one of them comes to know every count of the owner, and shows a row that went. What a cut tells takes it out.
+pub fn cuts_need_chains()
+    ensures { NeedChains }
+{}
+
+/// A part that is cut short at any count is a part.
+pub fn parts_cut_short()
+    ensures { PartsCutShort }
 {}

@@ -23,7 +23,7 @@ use Rattle.presence_journal.specs.Present.{of_topic}
 use Rattle.presence_journal.specs.Table.{outcome_of, next_entry}
 use Rattle.presence_journal.proofs.Fold.{same_present}
 use Rattle.presence_journal.proofs.HistoryLemmas.{after-accepted, known-then}
-use Rattle.presence_journal_cuts.specs.Joined.{merge_of, merged, SayTheSame, MergesInTurn, StaysWithinLimits}
+use Rattle.presence_journal_starts.specs.Joined.{merge_of, merged, SayTheSame, MergesInTurn, StaysWithinLimits}
 
 -- ---- one merge
 

@@ -10,7 +10,7 @@ use Rattle.presence_journal_data.specs.declared.step.Step.TheVariants as steps_a
 use Rattle.presence_journal.specs.History.{History, Begin, Then, begun, own, count, last_cut, known, shown}
 use Rattle.presence_journal.specs.Laws.{ran, empty, dot, row_of, here, track, update, untrack}
 use Rattle.presence_journal_cuts.specs.Cuts.{older_after, recent, IsCut}
-use Rattle.presence_journal_cuts.specs.Joined.{merge_of}
+use Rattle.presence_journal_starts.specs.Joined.{merge_of}
 
 -- no count stands for another
 abbrev pub no_chain : ℕ → List (ℕ × ℕ)

@@ -22,8 +22,8 @@ use Rattle.presence_journal.proofs.WorkedTables.{ran_is}
 use Rattle.presence_journal_cuts.specs.Cuts.{chain, older, recent, IsCut}
 use Rattle.presence_journal_cuts.specs.Handing.{handed}
 use Rattle.presence_journal_cuts.specs.ToldParts.{row_of_count}
-use Rattle.presence_journal_cuts.specs.Plain.{older_plain, IsPlainCut, node_a, tracked, untracked, first_delta, third_delta, hearer, NeedChains}
-use Rattle.presence_journal_cuts.proofs.Runs.{empty_legal, ran_legal, entry, neither}
+use Rattle.presence_journal_starts.specs.Plain.{older_plain, IsPlainCut, node_a, tracked, untracked, first_delta, third_delta, hearer, NeedChains}
+use Rattle.presence_journal_starts.proofs.Runs.{empty_legal, ran_legal, entry, neither}
 use Rattle.presence_journal_cuts.proofs.Starts.{first_none}
 use Rattle.presence_journal_cuts.proofs.Histories.{recent-begin, recent-then}
 

@@ -10,7 +10,7 @@ use Rattle.presence_journal.specs.History.{History}
 use Rattle.presence_journal.specs.Table.{IsLegal, is_step, after}
 use Rattle.presence_journal.specs.Laws.{ran, empty}
 use Rattle.presence_journal.proofs.FoldOthers.{stays_legal}
-use Rattle.presence_journal_cuts.specs.Plain.{node_a}
+use Rattle.presence_journal_starts.specs.Plain.{node_a}
 
 not_counted : (n : ℕ) → (nat_lt 0 n && nat_le n 0) ≡ false
 not_counted n = grind (arith, nat_tests)
