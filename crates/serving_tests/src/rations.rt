@@ -3,13 +3,17 @@
 ghost use Rattle.std.specs.Prelude.{IsTrue, IfSome};
 ghost use Rattle.presence_journal.specs.Limits.{is_payload};
 
-use channel_session_rules::{Track, Untrack, UntrackAll, Update};
+use channel_session_rules::{List, Shout, Subscribe, Track, Untrack, UntrackAll, Update};
+use hook_registry::{NoHooks, Routes};
 use presence_base::{Json, Key, Meta, Topic, has_float, is_within_depth};
 use presence_journal::MAX_PAYLOAD_DEPTH;
 use presence_node_rationing::{GuardedPort, RationedPort};
 use presence_node_rations::{Amount, OwnBudgets, Rations, SharedBudgets, TopicBudgets};
 use serde_json::Value;
-use session_desk::{Port, Refusal, ShardFault, TestPort};
+use session_desk::{
+    CLOSE, Channels, JOIN, JOINED, Port, REJOIN, REJOINED, Refusal, Session, ShardFault, TestPort,
+    are_texts, run_text,
+};
 use std::alloc::Global;
 use std::sync::Wait;
 use std::test::Fail;
@@ -389,7 +393,17 @@ fn workers_share_a_topics_budget(rt: HostRuntime) -> Result<(), Fail> {
         refusal(alloc, &mut port, false, &small, (Does::Track, 2)),
         Some(Some(full))
     );
-    assert!(rt; beside.untrack_all(alloc, 2, &small.topic).is_ok());
+    assert!(rt;
+        beside
+            .call(
+                alloc,
+                2,
+                &UntrackAll {
+                    topic: &small.topic
+                }
+            )
+            .is_ok()
+    );
     assert_eq!(rt;
         budgets.taken(&rt, &small.topic),
         Amount { rows: 1, bytes: 24 }
@@ -480,24 +494,106 @@ fn tight_memory_takes_nothing_more(rt: HostRuntime) -> Result<(), Fail> {
     ) else {
         return Err(Fail::new("none was given"));
     };
+    let (topic, key, meta) = (&rows.topic, &key, &rows.meta);
     let mut ample = GuardedPort::new(inner, false);
-    assert_eq!(rt;
-        fault_of(ample.track(alloc, 1, &rows.topic, &key, &rows.meta)),
-        None
-    );
+    assert!(rt; ample.call(alloc, 1, &Track { topic, key, meta }).is_ok());
     let mut tight = GuardedPort::new(ample, true);
     let full = Some(Refusal::OverRation);
+    let shout = Shout {
+        topic,
+        payload: &payload,
+    };
     assert_eq!(rt;
-        fault_of(tight.track(alloc, 2, &rows.topic, &key, &rows.meta)),
+        refusal_of(tight.call(alloc, 2, &Track { topic, key, meta })),
         full
     );
-    assert_eq!(rt; fault_of(tight.subscribe(alloc, &rows.topic)), full);
-    assert_eq!(rt; fault_of(tight.shout(alloc, &rows.topic, &payload)), full);
     assert_eq!(rt;
-        fault_of(tight.update(alloc, 1, &rows.topic, &key, &rows.meta)),
+        refusal_of(tight.call(alloc, 2, &Subscribe { topic })),
+        full
+    );
+    assert_eq!(rt; refusal_of(tight.call(alloc, 2, &shout)), full);
+    assert_eq!(rt;
+        refusal_of(tight.call(alloc, 1, &Update { topic, key, meta })),
         None
     );
-    assert_eq!(rt; fault_of(tight.list(alloc, &rows.topic)), None);
-    assert_eq!(rt; fault_of(tight.untrack_all(alloc, 1, &rows.topic)), None);
+    assert_eq!(rt; refusal_of(tight.call(alloc, 1, &List { topic })), None);
+    assert_eq!(rt;
+        refusal_of(tight.call(alloc, 1, &UntrackAll { topic })),
+        None
+    );
+    Ok(())
+}
+
+// Whether a session is answered by these over this port.
+fn is_answered<P: Port>(
+    alloc: Global,
+    session: &mut Session,
+    port: &mut P,
+    text: &str,
+    wanted: &[&str],
+) -> bool {
+    let mut routes = Routes::new(alloc);
+    if routes.add(alloc, "room:*", 0).is_err() {
+        return false;
+    }
+    let channels = Channels {
+        routes: &routes,
+        hooks: &NoHooks,
+    };
+    match run_text(alloc, session, port, channels, text) {
+        Ok(texts) => are_texts(texts.as_slice(), wanted),
+        Err(_) => false,
+    }
+}
+
+// A second join that is refused, with the reference of its text.
+const FULL: &str =
+    r#"["4","4","room:lobby","phx_reply",{"response":{"reason":"full"},"status":"error"}]"#;
+
+// A second join where memory is tight: the first has ended by then, and the second is refused, with a key and without one.
+// The session goes on.
+#[test]
+fn a_second_join_is_refused_while_memory_is_tight(rt: HostRuntime) -> Result<(), Fail> {
+    let alloc = rt.alloc();
+    let plain = r#"["4","4","room:lobby","phx_join",{}]"#;
+    for second in [REJOIN, plain] {
+        let Some(inner) = TestPort::new(alloc) else {
+            return Err(Fail::new("no port was given"));
+        };
+        let mut session = Session::new(alloc, 1);
+        let mut ample = GuardedPort::new(inner, false);
+        assert!(rt; is_answered(alloc, &mut session, &mut ample, JOIN, &[JOINED]));
+        let mut tight = GuardedPort::new(ample, true);
+        assert!(rt; is_answered(alloc, &mut session, &mut tight, second, &[CLOSE, FULL]));
+        assert!(rt; !session.failed());
+        assert_eq!(rt; session.joined().count(), 0);
+        assert!(rt; is_answered(alloc, &mut session, &mut tight, second, &[FULL]));
+    }
+    Ok(())
+}
+
+// The row of the first join takes 10 bytes of the topic, 2 of the key and 7 of the meta, and that of a second one with a meta
+// of 19 takes 31, where the topic may have 30: it is refused behind the end of the first, which gave its bytes back, and one
+// with a meta of 2 is joined.
+#[test]
+fn a_second_join_beyond_a_topics_budget_is_refused(rt: HostRuntime) -> Result<(), Fail> {
+    let alloc = rt.alloc();
+    let (Some(inner), Some(rows)) = (TestPort::new(alloc), rows_with(alloc, 1)) else {
+        return Err(Fail::new("none was given"));
+    };
+    let budget = Amount {
+        rows: 10,
+        bytes: 30,
+    };
+    let mut rations = Rations::new(alloc);
+    let mut port = RationedPort::new(inner, &mut rations, OwnBudgets::new(alloc, budget));
+    let mut session = Session::new(alloc, 1);
+    let larger = r#"["4","4","room:lobby","phx_join",{"key":"u1","meta":{"x":1234567890123}}]"#;
+    assert!(rt; is_answered(alloc, &mut session, &mut port, JOIN, &[JOINED]));
+    assert_eq!(rt; port.budgets().taken(&rows.topic).bytes, 19);
+    assert!(rt; is_answered(alloc, &mut session, &mut port, larger, &[CLOSE, FULL]));
+    assert_eq!(rt; port.budgets().taken(&rows.topic).bytes, 0);
+    assert!(rt; is_answered(alloc, &mut session, &mut port, REJOIN, &[REJOINED]));
+    assert_eq!(rt; port.budgets().taken(&rows.topic).bytes, 14);
     Ok(())
 }

@@ -28,7 +28,7 @@ returns-in-Ok g c =
     let here = IsOfShardAt old.pool.now.own.name g.L.Lanes.begins in
     let waits = c.in-Waits.ensures in
     let S : (q : Ask) → Answer q → Type 0 = λ q a. PoolStep here old.pool.now.shards c.args.pid old.seat.now q a old.seat.now in
-    let named = c.shard_of.ensures ∙ ap (λ t. shard_of t old.pool.now.shards) (c.topic.ensures ∙ ap topic_asked (c.question.ensures ∙ waits.1)) in
+    let named = c.shard_of.ensures.shard ∙ ap (λ t. shard_of t old.pool.now.shards) (c.topic.ensures ∙ ap topic_asked (c.question.ensures ∙ waits.1)) in
     let behind = subst (λ s. IsBehindOf (here s) (λ h. TellsWaiting h c.in-Waits.sub (Ok c.in-Ok.waits))) named c.in-Ok.ensures.lane in
     ((refl, refl), told_so _ _ (sym waits.1) S (told.Waits c.in-Ok.waits) _ _ refl c.told_to.ensures (refl, behind))
 
@@ -38,6 +38,6 @@ returns-in-Err g c =
     let here = IsOfShardAt old.pool.now.own.name g.L.Lanes.begins in
     let waits = c.in-Waits.ensures in
     let S : (q : Ask) → Answer q → Type 0 = λ q a. PoolStep here old.pool.now.shards c.args.pid old.seat.now q a old.seat.now in
-    let named = c.shard_of.ensures ∙ ap (λ t. shard_of t old.pool.now.shards) (c.topic.ensures ∙ ap topic_asked (c.question.ensures ∙ waits.1)) in
+    let named = c.shard_of.ensures.shard ∙ ap (λ t. shard_of t old.pool.now.shards) (c.topic.ensures ∙ ap topic_asked (c.question.ensures ∙ waits.1)) in
     let behind = subst (λ s. IsBehindOf (here s) (λ h. TellsWaiting h c.in-Waits.sub (Err c.in-Err.fault))) named c.in-Err.ensures.lane in
     ((refl, refl), refused_so _ _ (sym waits.1) S (Table c.in-Err.fault) (refl, behind))
