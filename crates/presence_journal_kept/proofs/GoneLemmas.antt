@@ -1,5 +1,5 @@
 -- One replica, and the lives of one name.
-use Rattle.std.proofs.Common.{◌≡◌, ℕ, Bool, true, false, cond, not, ◌&&◌, ◌||◌, List, [], ◌∷◌, Option, Some, None, IsSome, refl, sym, ◌∙◌, ap, Ordering, Less, Equal, Greater, is_eq}
+use Rattle.std.proofs.Common.{◌≡◌, ℕ, Bool, true, false, cond, not, ◌&&◌, ◌||◌, List, [], ◌∷◌, Option, Some, None, IsSome, is_some, refl, sym, ◌∙◌, ap, Ordering, Less, Equal, Greater, is_eq}
 use Rattle.std.specs.BTreeMap.{get, WritesThrough}
 use Rattle.std.specs.Map.{lookup}
 use Rattle.std.specs.Ordering.{nat_cmp, ordering_then}
@@ -9,7 +9,7 @@ use Rattle.std.proofs.lemmas.Bool.{and_parts}
 use Rattle.presence_base.specs.declared.dots.Replica.{Replica}
 use Rattle.presence_base.specs.Order.{text_cmp, same_text, same_replica}
 use Rattle.presence_journal_kept.specs.Lives.{same_number, is_one_of}
-use Rattle.presence_journal_kept.specs.Standings.{GoneMap, holds_life, is_gone_in}
+use Rattle.presence_journal_kept.specs.Standings.{FirstMap, FurtherMap, is_first, is_first_in, holds_life, is_further_in}
 use Rattle.presence_journal_kept.proofs.LivesLemmas.{same_number-true}
 
 -- one replica
@@ -34,71 +34,153 @@ same_replica-true r q h =
 
 -- the lives of one name
 
-found : (g : GoneMap) (name : List ℕ) (ns : List ℕ) → get text_cmp g name ≡ Some ns → IsSome (get text_cmp g name)
+found : (g : FurtherMap) (name : List ℕ) (ns : List ℕ) → get text_cmp g name ≡ Some ns → IsSome (get text_cmp g name)
 found g name ns e = rw e refl
 
-here : (g : GoneMap) (r q : Replica) (o : Option (List ℕ)) → get text_cmp g r.name ≡ o → same_text r.name q.name ≡ true → is_gone_in g q ≡ holds_life o q.incarnation
+here : (g : FurtherMap) (r q : Replica) (o : Option (List ℕ)) → get text_cmp g r.name ≡ o → same_text r.name q.name ≡ true → is_further_in g q ≡ holds_life o q.incarnation
 here g r q o was same = ap (λ name. holds_life (get text_cmp g name) q.incarnation) (sym (same_text-true r.name q.name same)) ∙ ap (λ l. holds_life l q.incarnation) was
 
 -- one more, where some are gone
-pub added_where : (g h : GoneMap) (r : Replica) (old new : List ℕ) → get text_cmp g r.name ≡ Some old → WritesThrough text_cmp (text_cmp r.name) g new h → ((n : ℕ) → is_one_of new n ≡ (same_number r.incarnation n || is_one_of old n))
-    → (q : Replica) → is_gone_in h q ≡ (same_replica r q || is_gone_in g q)
+pub added_where : (g h : FurtherMap) (r : Replica) (old new : List ℕ) → get text_cmp g r.name ≡ Some old → WritesThrough text_cmp (text_cmp r.name) g new h → ((n : ℕ) → is_one_of new n ≡ (same_number r.incarnation n || is_one_of old n))
+    → (q : Replica) → is_further_in h q ≡ (same_replica r q || is_further_in g q)
 added_where g h r old new was through more q =
     ap (λ o. holds_life o q.incarnation) ((through.3 (found g r.name old was)).0 q.name)
     ∙ (go (same_text r.name q.name) refl
-    ∙ ap (λ b. b || is_gone_in g q) (sym (same_parts r q)))
+    ∙ ap (λ b. b || is_further_in g q) (sym (same_parts r q)))
   where
-    go : (b : Bool) → same_text r.name q.name ≡ b → holds_life (cond b (Some new) (get text_cmp g q.name)) q.incarnation ≡ ((b && same_number r.incarnation q.incarnation) || is_gone_in g q)
+    go : (b : Bool) → same_text r.name q.name ≡ b → holds_life (cond b (Some new) (get text_cmp g q.name)) q.incarnation ≡ ((b && same_number r.incarnation q.incarnation) || is_further_in g q)
     go true same = more q.incarnation ∙ ap (λ b. same_number r.incarnation q.incarnation || b) (sym (here g r q (Some old) was same))
     go false same = refl
 
 -- the first of a name
-pub added_first : (g mid h : GoneMap) (r : Replica) (only : List ℕ) → mid ≡ g → get text_cmp g r.name ≡ None → ((name : List ℕ) → get text_cmp h name ≡ cond (same_text r.name name) (Some only) (get text_cmp mid name)) → only ≡ r.incarnation ∷ []
-    → (q : Replica) → is_gone_in h q ≡ (same_replica r q || is_gone_in g q)
+pub added_first : (g mid h : FurtherMap) (r : Replica) (only : List ℕ) → mid ≡ g → get text_cmp g r.name ≡ None → ((name : List ℕ) → get text_cmp h name ≡ cond (same_text r.name name) (Some only) (get text_cmp mid name)) → only ≡ r.incarnation ∷ []
+    → (q : Replica) → is_further_in h q ≡ (same_replica r q || is_further_in g q)
 added_first g mid h r only same none put one q =
     ap (λ o. holds_life o q.incarnation) (put q.name ∙ (λ i. cond (same_text r.name q.name) (Some (one i)) (get text_cmp (same i) q.name)))
     ∙ (go (same_text r.name q.name) refl
-    ∙ ap (λ b. b || is_gone_in g q) (sym (same_parts r q)))
+    ∙ ap (λ b. b || is_further_in g q) (sym (same_parts r q)))
   where
-    go : (b : Bool) → same_text r.name q.name ≡ b → holds_life (cond b (Some (r.incarnation ∷ [])) (get text_cmp g q.name)) q.incarnation ≡ ((b && same_number r.incarnation q.incarnation) || is_gone_in g q)
+    go : (b : Bool) → same_text r.name q.name ≡ b → holds_life (cond b (Some (r.incarnation ∷ [])) (get text_cmp g q.name)) q.incarnation ≡ ((b && same_number r.incarnation q.incarnation) || is_further_in g q)
     go true e =
         ap (λ b. b || false) ((eq_by_cmp_equiv nat_cmp_total).symm q.incarnation r.incarnation)
         ∙ ap (λ b. same_number r.incarnation q.incarnation || b) (sym (here g r q None none e))
     go false e = refl
 
 -- one less
-pub less_where : (g h : GoneMap) (r : Replica) (old new : List ℕ) → get text_cmp g r.name ≡ Some old → WritesThrough text_cmp (text_cmp r.name) g new h → ((n : ℕ) → is_one_of new n ≡ (not (same_number r.incarnation n) && is_one_of old n))
-    → (q : Replica) → is_gone_in h q ≡ (not (same_replica r q) && is_gone_in g q)
+pub less_where : (g h : FurtherMap) (r : Replica) (old new : List ℕ) → get text_cmp g r.name ≡ Some old → WritesThrough text_cmp (text_cmp r.name) g new h → ((n : ℕ) → is_one_of new n ≡ (not (same_number r.incarnation n) && is_one_of old n))
+    → (q : Replica) → is_further_in h q ≡ (not (same_replica r q) && is_further_in g q)
 less_where g h r old new was through less q =
     ap (λ o. holds_life o q.incarnation) ((through.3 (found g r.name old was)).0 q.name)
     ∙ (go (same_text r.name q.name) refl
-    ∙ ap (λ b. not b && is_gone_in g q) (sym (same_parts r q)))
+    ∙ ap (λ b. not b && is_further_in g q) (sym (same_parts r q)))
   where
-    go : (b : Bool) → same_text r.name q.name ≡ b → holds_life (cond b (Some new) (get text_cmp g q.name)) q.incarnation ≡ (not (b && same_number r.incarnation q.incarnation) && is_gone_in g q)
+    go : (b : Bool) → same_text r.name q.name ≡ b → holds_life (cond b (Some new) (get text_cmp g q.name)) q.incarnation ≡ (not (b && same_number r.incarnation q.incarnation) && is_further_in g q)
     go true same = less q.incarnation ∙ ap (λ b. not (same_number r.incarnation q.incarnation) && b) (sym (here g r q (Some old) was same))
     go false same = refl
 
-pub less_none : (g mid : GoneMap) (r : Replica) → mid ≡ g → get text_cmp g r.name ≡ None → (q : Replica) → is_gone_in mid q ≡ (not (same_replica r q) && is_gone_in g q)
+pub less_none : (g mid : FurtherMap) (r : Replica) → mid ≡ g → get text_cmp g r.name ≡ None → (q : Replica) → is_further_in mid q ≡ (not (same_replica r q) && is_further_in g q)
 less_none g mid r same none q =
-    ap (λ m. is_gone_in m q) same
+    ap (λ m. is_further_in m q) same
     ∙ (go (same_text r.name q.name) refl
-    ∙ ap (λ b. not b && is_gone_in g q) (sym (same_parts r q)))
+    ∙ ap (λ b. not b && is_further_in g q) (sym (same_parts r q)))
   where
     no : (b : Bool) → false ≡ (b && false)
     no true = refl
     no false = refl
 
-    go : (b : Bool) → same_text r.name q.name ≡ b → is_gone_in g q ≡ (not (b && same_number r.incarnation q.incarnation) && is_gone_in g q)
+    go : (b : Bool) → same_text r.name q.name ≡ b → is_further_in g q ≡ (not (b && same_number r.incarnation q.incarnation) && is_further_in g q)
     go true e = here g r q None none e ∙ (no (not (same_number r.incarnation q.incarnation)) ∙ ap (λ b. not (same_number r.incarnation q.incarnation) && b) (sym (here g r q None none e)))
     go false e = refl
 
 -- as they were
-pub same_where : (g h : GoneMap) (r : Replica) (old new : List ℕ) → get text_cmp g r.name ≡ Some old → WritesThrough text_cmp (text_cmp r.name) g new h → new ≡ old → (q : Replica) → is_gone_in h q ≡ is_gone_in g q
+pub same_where : (g h : FurtherMap) (r : Replica) (old new : List ℕ) → get text_cmp g r.name ≡ Some old → WritesThrough text_cmp (text_cmp r.name) g new h → new ≡ old → (q : Replica) → is_further_in h q ≡ is_further_in g q
 same_where g h r old new was through same q = ap (λ o. holds_life o q.incarnation) ((through.3 (found g r.name old was)).0 q.name) ∙ go (same_text r.name q.name) refl
   where
-    go : (b : Bool) → same_text r.name q.name ≡ b → holds_life (cond b (Some new) (get text_cmp g q.name)) q.incarnation ≡ is_gone_in g q
+    go : (b : Bool) → same_text r.name q.name ≡ b → holds_life (cond b (Some new) (get text_cmp g q.name)) q.incarnation ≡ is_further_in g q
     go true e = ap (λ ns. is_one_of ns q.incarnation) same ∙ sym (here g r q (Some old) was e)
     go false e = refl
 
-pub same_entries : (g h : GoneMap) → h.entries ≡ g.entries → (q : Replica) → is_gone_in h q ≡ is_gone_in g q
+pub same_entries : (g h : FurtherMap) → h.entries ≡ g.entries → (q : Replica) → is_further_in h q ≡ is_further_in g q
 same_entries g h same q = ap (λ es. holds_life (lookup (same_text q.name) es) q.incarnation) same
+
+-- the first of each name, and the further ones
+
+pub already : (test : Replica → Bool) (r : Replica) → test r ≡ true → (q : Replica) → test q ≡ (same_replica r q || test q)
+already test r is q = go (same_replica r q) refl
+  where
+    go : (b : Bool) → same_replica r q ≡ b → test q ≡ (b || test q)
+    go true same = ap test (sym (same_replica-true r q same)) ∙ is
+    go false same = refl
+
+at_first : (f : FirstMap) (r q : Replica) (o : Option ℕ) → get text_cmp f r.name ≡ o → same_text r.name q.name ≡ true → is_first_in f q ≡ is_first o q.incarnation
+at_first f r q o was same = ap (λ name. is_first (get text_cmp f name) q.incarnation) (sym (same_text-true r.name q.name same)) ∙ ap (λ l. is_first l q.incarnation) was
+
+or_false : (b : Bool) → b ≡ (b || false)
+or_false true = refl
+or_false false = refl
+
+one_first : (f k : FirstMap) (r : Replica) → get text_cmp f r.name ≡ None → ((name : List ℕ) → get text_cmp k name ≡ cond (same_text r.name name) (Some r.incarnation) (get text_cmp f name))
+    → (q : Replica) → is_first_in k q ≡ (same_replica r q || is_first_in f q)
+one_first f k r none put q =
+    ap (λ o. is_first o q.incarnation) (put q.name)
+    ∙ (go (same_text r.name q.name) refl
+    ∙ ap (λ b. b || is_first_in f q) (sym (same_parts r q)))
+  where
+    go : (b : Bool) → same_text r.name q.name ≡ b → is_first (cond b (Some r.incarnation) (get text_cmp f q.name)) q.incarnation ≡ ((b && same_number r.incarnation q.incarnation) || is_first_in f q)
+    go true e =
+        (eq_by_cmp_equiv nat_cmp_total).symm q.incarnation r.incarnation
+        ∙ (or_false (same_number r.incarnation q.incarnation)
+        ∙ ap (λ b. same_number r.incarnation q.incarnation || b) (sym (at_first f r q None none e)))
+    go false e = refl
+
+or_three : (a b c : Bool) → ((a || b) || c) ≡ (a || (b || c))
+or_three true b c = refl
+or_three false b c = refl
+
+pub more_first : (f k : FirstMap) (g : FurtherMap) (r : Replica) → get text_cmp f r.name ≡ None → ((name : List ℕ) → get text_cmp k name ≡ cond (same_text r.name name) (Some r.incarnation) (get text_cmp f name))
+    → (q : Replica) → (is_first_in k q || is_further_in g q) ≡ (same_replica r q || (is_first_in f q || is_further_in g q))
+more_first f k g r none put q = ap (λ b. b || is_further_in g q) (one_first f k r none put q) ∙ or_three (same_replica r q) (is_first_in f q) (is_further_in g q)
+
+pub none_where : (f : FirstMap) (name : List ℕ) → is_some (get text_cmp f name) ≡ false → get text_cmp f name ≡ None
+none_where f name = go (get text_cmp f name)
+  where
+    go : (o : Option ℕ) → is_some o ≡ false → o ≡ None
+    go None e = refl
+    go (Some x) e = absurd (cc)
+
+-- without one
+
+neither : (s a b : Bool) → ((not s && a) || (not s && b)) ≡ (not s && (a || b))
+neither true a b = refl
+neither false a b = refl
+
+pub less_both : (f k : FirstMap) (g h : FurtherMap) (r : Replica) → ((q : Replica) → is_first_in k q ≡ (not (same_replica r q) && is_first_in f q)) → ((q : Replica) → is_further_in h q ≡ (not (same_replica r q) && is_further_in g q))
+    → (q : Replica) → (is_first_in k q || is_further_in h q) ≡ (not (same_replica r q) && (is_first_in f q || is_further_in g q))
+less_both f k g h r first further q = (λ i. first q i || further q i) ∙ neither (same_replica r q) (is_first_in f q) (is_further_in g q)
+
+is_only : (o : Option ℕ) (n m : ℕ) → is_first o n ≡ true → is_first o m ≡ same_number n m
+is_only None n m e = absurd (cc)
+is_only (Some x) n m e = ap (same_number m) (sym (same_number-true n x e)) ∙ (eq_by_cmp_equiv nat_cmp_total).symm m n
+
+not_both : (b : Bool) → false ≡ (not b && b)
+not_both true = refl
+not_both false = refl
+
+pub one_out : (f k : FirstMap) (r : Replica) → is_first_in f r ≡ true → ((name : List ℕ) → get text_cmp k name ≡ cond (same_text r.name name) None (get text_cmp f name)) → (q : Replica) → is_first_in k q ≡ (not (same_replica r q) && is_first_in f q)
+one_out f k r is out q =
+    ap (λ o. is_first o q.incarnation) (out q.name)
+    ∙ (go (same_text r.name q.name) refl
+    ∙ ap (λ b. not b && is_first_in f q) (sym (same_parts r q)))
+  where
+    go : (b : Bool) → same_text r.name q.name ≡ b → is_first (cond b None (get text_cmp f q.name)) q.incarnation ≡ (not (b && same_number r.incarnation q.incarnation) && is_first_in f q)
+    go true e =
+        not_both (same_number r.incarnation q.incarnation)
+        ∙ ap (λ b. not (same_number r.incarnation q.incarnation) && b) (sym (at_first f r q (get text_cmp f r.name) refl e ∙ is_only (get text_cmp f r.name) r.incarnation q.incarnation is))
+    go false e = refl
+
+pub none_out : (f : FirstMap) (r : Replica) → is_first_in f r ≡ false → (q : Replica) → is_first_in f q ≡ (not (same_replica r q) && is_first_in f q)
+none_out f r is q = go (same_replica r q) refl
+  where
+    go : (b : Bool) → same_replica r q ≡ b → is_first_in f q ≡ (not b && is_first_in f q)
+    go true same = ap (is_first_in f) (sym (same_replica-true r q same)) ∙ is
+    go false same = refl

@@ -3,7 +3,7 @@ use Rattle.std.proofs.Common.{◌≡◌, ℕ, Bool, true, false, cond, not, ◌&
 use Rattle.std.specs.Prelude.{map}
 use Rattle.std.specs.Option.{unwrap_or, option_map}
 use Rattle.std.specs.Map.{lookup, keys_of}
-use Rattle.std.specs.BTreeMap.{get, IsOrdered}
+use Rattle.std.specs.BTreeMap.{get}
 use Rattle.std.specs.List.{AllByRecursion}
 use Rattle.std.specs.List.Sorted.{IsStrictlySortedBy}
 use Rattle.std.specs.Cmp.{eq_by_cmp_equiv}
@@ -19,7 +19,8 @@ use Rattle.replica_status.specs.declared.standing.Standing.TheVariants.{Unheard,
 use Rattle.replica_status.specs.Boards.{standing_in}
 use Rattle.replica_status.specs.Table.{heard_at, ticked_at}
 use Rattle.presence_journal_kept.specs.Lives.{same_number, is_one_of}
-use Rattle.presence_journal_kept.specs.Standings.{GoneMap, StandingMap, gone_life, gone_lives, gone_list, all_of, holds_life, is_gone_in, standing_at, AreKept, TellsOthers, Puts, AllStay, Ticks, is_gone, IsGoneAt}
+use Rattle.presence_journal_kept.specs.declared.gone.GoneReplicas.{GoneReplicas}
+use Rattle.presence_journal_kept.specs.Standings.{StandingMap, gone_life, first_list, gone_lives, gone_list, all_of, is_first, is_first_in, holds_life, is_further_in, is_gone_in, standing_at, AreOrdered, AreKept, TellsOthers, Puts, AllStay, Ticks, is_gone, IsGoneAt}
 use Rattle.presence_journal_kept.proofs.GoneLemmas.{same_parts, same_replica-true}
 
 -- a look-up in those that are gone, and in the others behind them
@@ -70,25 +71,44 @@ lookup-gone r (e ∷ es) ordered =
     go true same = here (is_one_of e.1 r.incarnation) (lookup (same_text r.name) es) (only same)
     go false same = refl
 
-pub standing_split : (g : GoneMap) (m : StandingMap) (r : Replica) → IsOrdered text_cmp g → standing_in (all_of g m) r ≡ cond (is_gone_in g r) Gone (standing_at m r)
-standing_split g m r ordered =
-    ap (λ o. unwrap_or o Unheard) (lookup-both (same_replica r) (gone_list g.entries) m.entries)
-    ∙ (ap (λ o. unwrap_or (first o (lookup (same_replica r) m.entries)) Unheard) (lookup-gone r g.entries ordered)
-    ∙ go (is_gone_in g r))
+lookup-first : (r : Replica) (es : List (List ℕ × ℕ)) → IsStrictlySortedBy text_cmp (keys_of es) → lookup (same_replica r) (first_list es) ≡ cond (is_first (lookup (same_text r.name) es) r.incarnation) (Some Gone) None
+lookup-first r [] ordered = refl
+lookup-first r (e ∷ es) ordered =
+    (λ i. cond (same_parts r (gone_life e.0 e.1).0 i) (Some Gone) (lookup-first r es (sorted_tail text_cmp e.0 (keys_of es) ordered) i))
+    ∙ go (same_text r.name e.0) refl
   where
-    go : (b : Bool) → unwrap_or (first (cond b (Some Gone) None) (lookup (same_replica r) m.entries)) Unheard ≡ cond b Gone (standing_at m r)
-    go true = refl
-    go false = refl
+    only : same_text r.name e.0 ≡ true → lookup (same_text r.name) es ≡ None
+    only same = lookup-none (same_text r.name) es (none_past_head (eq_by_cmp_equiv nat_list_cmp_total) r.name e es (IsDistinct-from_sorted text_cmp (keys_of (e ∷ es)) ordered) same)
+
+    here : (b : Bool) (o : Option ℕ) → o ≡ None → cond b (Some Gone) (cond (is_first o r.incarnation) (Some Gone) None) ≡ cond b (Some Gone) None
+    here b o none = ap (λ l. cond b (Some Gone) (cond (is_first l r.incarnation) (Some Gone) None)) none
+
+    go : (a : Bool) → same_text r.name e.0 ≡ a → cond (a && same_number r.incarnation e.1) (Some Gone) (cond (is_first (lookup (same_text r.name) es) r.incarnation) (Some Gone) None)
+        ≡ cond (is_first (cond a (Some e.1) (lookup (same_text r.name) es)) r.incarnation) (Some Gone) None
+    go true same = here (same_number r.incarnation e.1) (lookup (same_text r.name) es) (only same)
+    go false same = refl
+
+pub standing_split : (g : GoneReplicas) (m : StandingMap) (r : Replica) → AreOrdered g → standing_in (all_of g m) r ≡ cond (is_gone_in g r) Gone (standing_at m r)
+standing_split g m r ordered =
+    ap (λ o. unwrap_or o Unheard) (lookup-both (same_replica r) (first_list g.first.entries) (gone_list g.further.entries ++ m.entries))
+    ∙ (ap (λ o. unwrap_or (first (lookup (same_replica r) (first_list g.first.entries)) o) Unheard) (lookup-both (same_replica r) (gone_list g.further.entries) m.entries)
+    ∙ ((λ i. unwrap_or (first (lookup-first r g.first.entries ordered.first i) (first (lookup-gone r g.further.entries ordered.further i) (lookup (same_replica r) m.entries))) Unheard)
+    ∙ go (is_first_in g.first r) (is_further_in g.further r)))
+  where
+    go : (a b : Bool) → unwrap_or (first (cond a (Some Gone) None) (first (cond b (Some Gone) None) (lookup (same_replica r) m.entries))) Unheard ≡ cond (a || b) Gone (standing_at m r)
+    go true b = refl
+    go false true = refl
+    go false false = refl
 
 -- the standing that is read
 
-pub read_gone : (g : GoneMap) (m : StandingMap) (r : Replica) → AreKept g m → is_gone_in g r ≡ true → Gone ≡ standing_in (all_of g m) r
+pub read_gone : (g : GoneReplicas) (m : StandingMap) (r : Replica) → AreKept g m → is_gone_in g r ≡ true → Gone ≡ standing_in (all_of g m) r
 read_gone g m r k is = sym (standing_split g m r k.ordered ∙ ap (λ b. cond b Gone (standing_at m r)) is)
 
-pub read_other : (g : GoneMap) (m : StandingMap) (r : Replica) → AreKept g m → is_gone_in g r ≡ false → standing_at m r ≡ standing_in (all_of g m) r
+pub read_other : (g : GoneReplicas) (m : StandingMap) (r : Replica) → AreKept g m → is_gone_in g r ≡ false → standing_at m r ≡ standing_in (all_of g m) r
 read_other g m r k is = sym (standing_split g m r k.ordered ∙ ap (λ b. cond b Gone (standing_at m r)) is)
 
-pub tells_others : (g : GoneMap) (m : StandingMap) → AreKept g m → TellsOthers (all_of g m) m
+pub tells_others : (g : GoneReplicas) (m : StandingMap) → AreKept g m → TellsOthers (all_of g m) m
 tells_others g m k passes unheard gone r = go (is_gone_in g r) refl ∙ ap passes (sym (standing_split g m r k.ordered))
   where
     go : (b : Bool) → is_gone_in g r ≡ b → passes (standing_at m r) ≡ passes (cond b Gone (standing_at m r))
@@ -117,7 +137,7 @@ put_at m n r q x is = ap (λ o. unwrap_or o Unheard) is ∙ go (same_replica r q
     go true = refl
     go false = refl
 
-pub heard_kept : (g : GoneMap) (m n : StandingMap) (r : Replica) (x : Standing) → AreKept g m → is_gone_in g r ≡ false → ((q : Replica) → get replica_cmp n q ≡ cond (same_replica r q) (Some x) (get replica_cmp m q)) → AreKept g n
+pub heard_kept : (g : GoneReplicas) (m n : StandingMap) (r : Replica) (x : Standing) → AreKept g m → is_gone_in g r ≡ false → ((q : Replica) → get replica_cmp n q ≡ cond (same_replica r q) (Some x) (get replica_cmp m q)) → AreKept g n
 heard_kept g m n r x k other puts = record { ordered = k.ordered; apart = λ q gone. puts q ∙ go q gone (same_replica r q) refl }
   where
     go : (q : Replica) → is_gone_in g q ≡ true → (b : Bool) → same_replica r q ≡ b → cond b (Some x) (get replica_cmp m q) ≡ None
@@ -126,10 +146,10 @@ heard_kept g m n r x k other puts = record { ordered = k.ordered; apart = λ q g
         absurd (cc)
     go q gone false same = k.apart q gone
 
-pub unchanged_kept : (g : GoneMap) (m n : StandingMap) → AreKept g m → n.entries ≡ m.entries → AreKept g n
+pub unchanged_kept : (g : GoneReplicas) (m n : StandingMap) → AreKept g m → n.entries ≡ m.entries → AreKept g n
 unchanged_kept g m n k same = record { ordered = k.ordered; apart = λ q gone. ap (λ es. lookup (same_replica q) es) same ∙ k.apart q gone }
 
-pub heard_puts : (g : GoneMap) (m n : StandingMap) (r : Replica) (x : Standing) → AreKept g m → is_gone_in g r ≡ false → ((q : Replica) → get replica_cmp n q ≡ cond (same_replica r q) (Some x) (get replica_cmp m q)) → Puts (all_of g m) (all_of g n) r x
+pub heard_puts : (g : GoneReplicas) (m n : StandingMap) (r : Replica) (x : Standing) → AreKept g m → is_gone_in g r ≡ false → ((q : Replica) → get replica_cmp n q ≡ cond (same_replica r q) (Some x) (get replica_cmp m q)) → Puts (all_of g m) (all_of g n) r x
 heard_puts g m n r x k other puts q =
     standing_split g n q k.ordered
     ∙ (ap (λ y. cond (is_gone_in g q) Gone y) (put_at m n r q x (puts q))
@@ -140,7 +160,7 @@ heard_puts g m n r x k other puts q =
     go true same = ap (λ b. cond b Gone x) (ap (is_gone_in g) (sym (same_replica-true r q same)) ∙ other)
     go false same = refl
 
-pub heard_as : (g : GoneMap) (m n : StandingMap) (r : Replica) (time : ℕ) (x : Standing) → AreKept g m → is_gone_in g r ≡ false → x ≡ heard_at time (standing_at m r) → ((q : Replica) → get replica_cmp n q ≡ cond (same_replica r q) (Some x) (get replica_cmp m q))
+pub heard_as : (g : GoneReplicas) (m n : StandingMap) (r : Replica) (time : ℕ) (x : Standing) → AreKept g m → is_gone_in g r ≡ false → x ≡ heard_at time (standing_at m r) → ((q : Replica) → get replica_cmp n q ≡ cond (same_replica r q) (Some x) (get replica_cmp m q))
     → Puts (all_of g m) (all_of g n) r (heard_at time (standing_in (all_of g m) r))
 heard_as g m n r time x k other is puts q =
     heard_puts g m n r x k other puts q
@@ -155,14 +175,14 @@ taken_out m n r q is = ap (λ o. unwrap_or o Unheard) is ∙ go (same_replica r 
     go true = refl
     go false = refl
 
-pub down_kept : (g h : GoneMap) (m n : StandingMap) (r : Replica) → AreKept g m → IsOrdered text_cmp h → ((q : Replica) → is_gone_in h q ≡ (same_replica r q || is_gone_in g q)) → ((q : Replica) → get replica_cmp n q ≡ cond (same_replica r q) None (get replica_cmp m q)) → AreKept h n
+pub down_kept : (g h : GoneReplicas) (m n : StandingMap) (r : Replica) → AreKept g m → AreOrdered h → ((q : Replica) → is_gone_in h q ≡ (same_replica r q || is_gone_in g q)) → ((q : Replica) → get replica_cmp n q ≡ cond (same_replica r q) None (get replica_cmp m q)) → AreKept h n
 down_kept g h m n r k ordered more out = record { ordered = ordered; apart = λ q gone. out q ∙ go q (same_replica r q) (sym (more q) ∙ gone) }
   where
     go : (q : Replica) (b : Bool) → (b || is_gone_in g q) ≡ true → cond b None (get replica_cmp m q) ≡ None
     go q true gone = refl
     go q false gone = k.apart q gone
 
-pub down_puts : (g h : GoneMap) (m n : StandingMap) (r : Replica) → AreKept g m → IsOrdered text_cmp h → ((q : Replica) → is_gone_in h q ≡ (same_replica r q || is_gone_in g q)) → ((q : Replica) → get replica_cmp n q ≡ cond (same_replica r q) None (get replica_cmp m q))
+pub down_puts : (g h : GoneReplicas) (m n : StandingMap) (r : Replica) → AreKept g m → AreOrdered h → ((q : Replica) → is_gone_in h q ≡ (same_replica r q || is_gone_in g q)) → ((q : Replica) → get replica_cmp n q ≡ cond (same_replica r q) None (get replica_cmp m q))
     → Puts (all_of g m) (all_of h n) r Gone
 down_puts g h m n r k ordered more out q =
     standing_split h n q ordered
@@ -174,20 +194,20 @@ down_puts g h m n r k ordered more out q =
     go true = refl
     go false = refl
 
-pub same_kept : (g h : GoneMap) (m : StandingMap) → AreKept g m → IsOrdered text_cmp h → ((q : Replica) → is_gone_in h q ≡ is_gone_in g q) → AreKept h m
+pub same_kept : (g h : GoneReplicas) (m : StandingMap) → AreKept g m → AreOrdered h → ((q : Replica) → is_gone_in h q ≡ is_gone_in g q) → AreKept h m
 same_kept g h m k ordered same = record { ordered = ordered; apart = λ q gone. k.apart q (sym (same q) ∙ gone) }
 
-pub same_stay : (g h : GoneMap) (m : StandingMap) → AreKept g m → IsOrdered text_cmp h → ((q : Replica) → is_gone_in h q ≡ is_gone_in g q) → AllStay (all_of g m) (all_of h m)
+pub same_stay : (g h : GoneReplicas) (m : StandingMap) → AreKept g m → AreOrdered h → ((q : Replica) → is_gone_in h q ≡ is_gone_in g q) → AllStay (all_of g m) (all_of h m)
 same_stay g h m k ordered same q = standing_split h m q ordered ∙ (ap (λ b. cond b Gone (standing_at m q)) (same q) ∙ sym (standing_split g m q k.ordered))
 
-pub out_kept : (g h : GoneMap) (m n : StandingMap) (r : Replica) → AreKept g m → IsOrdered text_cmp h → ((q : Replica) → is_gone_in h q ≡ (not (same_replica r q) && is_gone_in g q)) → ((q : Replica) → get replica_cmp n q ≡ cond (same_replica r q) None (get replica_cmp m q)) → AreKept h n
+pub out_kept : (g h : GoneReplicas) (m n : StandingMap) (r : Replica) → AreKept g m → AreOrdered h → ((q : Replica) → is_gone_in h q ≡ (not (same_replica r q) && is_gone_in g q)) → ((q : Replica) → get replica_cmp n q ≡ cond (same_replica r q) None (get replica_cmp m q)) → AreKept h n
 out_kept g h m n r k ordered less out = record { ordered = ordered; apart = λ q gone. out q ∙ go q (same_replica r q) (sym (less q) ∙ gone) }
   where
     go : (q : Replica) (b : Bool) → (not b && is_gone_in g q) ≡ true → cond b None (get replica_cmp m q) ≡ None
     go q true gone = refl
     go q false gone = k.apart q gone
 
-pub out_puts : (g h : GoneMap) (m n : StandingMap) (r : Replica) → AreKept g m → IsOrdered text_cmp h → ((q : Replica) → is_gone_in h q ≡ (not (same_replica r q) && is_gone_in g q)) → ((q : Replica) → get replica_cmp n q ≡ cond (same_replica r q) None (get replica_cmp m q))
+pub out_puts : (g h : GoneReplicas) (m n : StandingMap) (r : Replica) → AreKept g m → AreOrdered h → ((q : Replica) → is_gone_in h q ≡ (not (same_replica r q) && is_gone_in g q)) → ((q : Replica) → get replica_cmp n q ≡ cond (same_replica r q) None (get replica_cmp m q))
     → Puts (all_of g m) (all_of h n) r Unheard
 out_puts g h m n r k ordered less out q =
     standing_split h n q ordered
@@ -207,10 +227,10 @@ each_ticked t es = map (λ e. (e.0, ticked_at t e.1)) es
 ticked_get : (m n : StandingMap) (t : ℕ) (q : Replica) → n.entries ≡ each_ticked t m.entries → get replica_cmp n q ≡ option_map (ticked_at t) (get replica_cmp m q)
 ticked_get m n t q is = ap (λ es. lookup (same_replica q) es) is ∙ lookup-map_values (ticked_at t) (same_replica q) m.entries
 
-pub tick_kept : (g : GoneMap) (m n : StandingMap) (t : ℕ) → AreKept g m → n.entries ≡ each_ticked t m.entries → AreKept g n
+pub tick_kept : (g : GoneReplicas) (m n : StandingMap) (t : ℕ) → AreKept g m → n.entries ≡ each_ticked t m.entries → AreKept g n
 tick_kept g m n t k is = record { ordered = k.ordered; apart = λ q gone. ticked_get m n t q is ∙ ap (option_map (ticked_at t)) (k.apart q gone) }
 
-pub tick_puts : (g : GoneMap) (m n : StandingMap) (t : ℕ) → AreKept g m → n.entries ≡ each_ticked t m.entries → Ticks t (all_of g m) (all_of g n)
+pub tick_puts : (g : GoneReplicas) (m n : StandingMap) (t : ℕ) → AreKept g m → n.entries ≡ each_ticked t m.entries → Ticks t (all_of g m) (all_of g n)
 tick_puts g m n t k is q =
     standing_split g n q k.ordered
     ∙ (ap (λ o. cond (is_gone_in g q) Gone (unwrap_or o Unheard)) (ticked_get m n t q is)
@@ -224,7 +244,7 @@ tick_puts g m n t k is q =
 
 -- moving those that became gone
 
-pub gone_there : (g : GoneMap) (m : StandingMap) (rs : List Replica) → AreKept g m → AllByRecursion (IsGoneAt m) rs → AllByRecursion (λ r. standing_in (all_of g m) r ≡ Gone) rs
+pub gone_there : (g : GoneReplicas) (m : StandingMap) (rs : List Replica) → AreKept g m → AllByRecursion (IsGoneAt m) rs → AllByRecursion (λ r. standing_in (all_of g m) r ≡ Gone) rs
 gone_there g m [] k all = tt
 gone_there g m (r ∷ rs) k all = (standing_split g m r k.ordered ∙ go (is_gone_in g r), gone_there g m rs k all.1)
   where
@@ -269,3 +289,24 @@ one_gone m rs new r x found is all = subst (AllByRecursion (IsGoneAt m)) (sym is
 
 pub drop_next : {A : Type 0} (es : List A) (i : ℕ) (e : A) → i < length es → e ≡ get_or es i e → drop i es ≡ e ∷ drop (i + 1) es
 drop_next es i e l is = drop-cons es i e l ∙ (λ j. sym is j ∷ drop (sym (add-one i) j) es)
+
+-- a copy
+
+pub same_pair : {A B : Type 0} (p q : A × B) → (q.0 ≡ p.0) × (q.1 ≡ p.1) → q ≡ p
+same_pair p q same i = (same.0 i, same.1 i)
+
+module _ (g h : GoneReplicas) (m n : StandingMap) (one : h.first.entries ≡ g.first.entries) (more : h.further.entries ≡ g.further.entries) (others : n.entries ≡ m.entries) where
+  same_gone : (r : Replica) → is_gone_in h r ≡ is_gone_in g r
+  same_gone r i = is_first (lookup (same_text r.name) (one i)) r.incarnation || holds_life (lookup (same_text r.name) (more i)) r.incarnation
+
+  pub copy_kept : AreKept g m → AreKept h n
+  copy_kept k = record {
+    ordered = record {
+      first = subst (λ es. IsStrictlySortedBy text_cmp (keys_of es)) (sym one) k.ordered.first;
+      further = subst (λ es. IsStrictlySortedBy text_cmp (keys_of es)) (sym more) k.ordered.further;
+    };
+    apart = λ r gone. ap (λ es. lookup (same_replica r) es) others ∙ k.apart r (sym (same_gone r) ∙ gone);
+  }
+
+  pub copy_view : all_of h n ≡ all_of g m
+  copy_view i = first_list (one i) ++ (gone_list (more i) ++ others i)

@@ -1,5 +1,5 @@
 -- The standings of replicas: of one that is gone its name and incarnation are kept, and no more.
-use Rattle.std.specs.Prelude.{◌≡◌, ℕ, Bool, true, false, cond, List, [], ◌∷◌, ◌++◌, map, Option, Some, None}
+use Rattle.std.specs.Prelude.{◌≡◌, ◌||◌, ℕ, Bool, true, false, cond, List, [], ◌∷◌, ◌++◌, map, Option, Some, None}
 use Rattle.std.specs.Option.{unwrap_or}
 use Rattle.std.specs.BTreeMap.{BTreeMap, get, IsOrdered}
 use Rattle.presence_base.specs.declared.dots.Replica.{Replica}
@@ -8,11 +8,16 @@ use Rattle.replica_status.specs.declared.standing.Standing.{Standing}
 use Rattle.replica_status.specs.declared.standing.Standing.TheVariants.{Unheard, Gone}
 use Rattle.replica_status.specs.Boards.{standing_in}
 use Rattle.replica_status.specs.Table.{ticked_at}
-use Rattle.presence_journal_kept.specs.Lives.{is_one_of}
+use Rattle.presence_journal_kept.specs.Lives.{same_number, is_one_of}
+use Rattle.presence_journal_kept.specs.declared.gone.GoneReplicas.{GoneReplicas}
 
--- the incarnations of each name that are gone
-abbrev pub GoneMap : Type 0
-GoneMap = BTreeMap (List ℕ) (List ℕ)
+-- one incarnation of each name that is gone
+abbrev pub FirstMap : Type 0
+FirstMap = BTreeMap (List ℕ) ℕ
+
+-- the further incarnations of each name that are gone
+abbrev pub FurtherMap : Type 0
+FurtherMap = BTreeMap (List ℕ) (List ℕ)
 
 abbrev pub StandingMap : Type 0
 StandingMap = BTreeMap Replica Standing
@@ -20,6 +25,9 @@ StandingMap = BTreeMap Replica Standing
 -- one incarnation of a name, with its standing
 abbrev pub gone_life : List ℕ → ℕ → Replica × Standing
 gone_life name n = (record { name = name; incarnation = n }, Gone)
+
+abbrev pub first_list : List (List ℕ × ℕ) → List (Replica × Standing)
+first_list es = map (λ e. gone_life e.0 e.1) es
 
 abbrev pub gone_lives : List ℕ → List ℕ → List (Replica × Standing)
 gone_lives name ns = map (gone_life name) ns
@@ -29,28 +37,44 @@ gone_list [] = []
 gone_list (e ∷ es) = gone_lives e.0 e.1 ++ gone_list es
 
 -- those that are gone, and the others behind them
-abbrev pub all_of : GoneMap → StandingMap → List (Replica × Standing)
-all_of g m = gone_list g.entries ++ m.entries
+abbrev pub all_of : GoneReplicas → StandingMap → List (Replica × Standing)
+all_of g m = first_list g.first.entries ++ (gone_list g.further.entries ++ m.entries)
+
+abbrev pub is_first : Option ℕ → ℕ → Bool
+is_first None n = false
+is_first (Some first) n = same_number n first
+
+-- the replica is the first of its name
+abbrev pub is_first_in : FirstMap → Replica → Bool
+is_first_in f r = is_first (get text_cmp f r.name) r.incarnation
 
 abbrev pub holds_life : Option (List ℕ) → ℕ → Bool
 holds_life None n = false
 holds_life (Some ns) n = is_one_of ns n
 
+-- the replica is among the further ones of its name
+abbrev pub is_further_in : FurtherMap → Replica → Bool
+is_further_in g r = holds_life (get text_cmp g r.name) r.incarnation
+
 -- the replica is among those that are gone
-abbrev pub is_gone_in : GoneMap → Replica → Bool
-is_gone_in g r = holds_life (get text_cmp g r.name) r.incarnation
+abbrev pub is_gone_in : GoneReplicas → Replica → Bool
+is_gone_in g r = is_first_in g.first r || is_further_in g.further r
 
 -- the standing that is kept, or that of a replica that was never heard
 abbrev pub standing_at : StandingMap → Replica → Standing
 standing_at m r = unwrap_or (get replica_cmp m r) Unheard
 
 -- none of the others is among those that are gone
-abbrev pub AreApart : GoneMap → StandingMap → Type 0
+abbrev pub AreApart : GoneReplicas → StandingMap → Type 0
 AreApart g m = (r : Replica) → is_gone_in g r ≡ true → get replica_cmp m r ≡ None
 
--- how the two maps stand to each other
-pub record AreKept (g : GoneMap) (m : StandingMap) : Type 0 where
-  pub ordered : IsOrdered text_cmp g
+pub record AreOrdered (g : GoneReplicas) : Type 0 where
+  pub first : IsOrdered text_cmp g.first
+  pub further : IsOrdered text_cmp g.further
+
+-- how the maps stand to each other
+pub record AreKept (g : GoneReplicas) (m : StandingMap) : Type 0 where
+  pub ordered : AreOrdered g
   pub apart : AreApart g m
 
 -- the others pass each test that all do, where one that is gone or unheard doesn't

@@ -7,6 +7,7 @@ mod kept;
 mod lives;
 mod standings;
 
+pub use gone::GoneReplicas;
 pub use kept::{Chains, Runs, Subscribers};
 pub use lives::Lives;
 pub use standings::Standings;

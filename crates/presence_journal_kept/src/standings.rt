@@ -5,9 +5,8 @@ ghost use Rattle.replica_status.specs.Boards.{standing_in};
 ghost use Rattle.replica_status.specs.Table.{heard_at, ticked_at};
 ghost use Rattle.presence_journal_kept.specs.Standings.{all_of, standing_at, is_gone, AllStay, IsGoneAt, Puts, TellsOthers, Ticks};
 
-use crate::gone::{add, is_among, take_out};
-use crate::lives::Lives;
-use presence_base::{NodeName, Replica};
+use crate::gone::{GoneReplicas, add, is_among, take_out};
+use presence_base::Replica;
 use replica_status::Standing;
 use std::alloc::{AllocError, Global};
 use std::collections::BTreeMap;
@@ -15,10 +14,11 @@ use std::marker::Model;
 
 /// Replicas with their standings, each replica once. One that is not listed is unheard.
 ///
-/// Of a replica that is gone only its name and its incarnation are kept, 8 to 16 bytes for each incarnation of a name.
+/// Of a replica that is gone only its name and its incarnation are kept: under 100 bytes for the first incarnation of a
+/// name, and 8 to 16 bytes for each beyond the second.
 #[derive(Debug)]
 pub struct Standings {
-    gone: BTreeMap<NodeName, Lives>,
+    gone: GoneReplicas,
     others: BTreeMap<Replica, Standing>,
 }
 
@@ -128,7 +128,10 @@ impl Standings {
         ensures { result ≡ [] }
     {
         Standings {
-            gone: BTreeMap::new(alloc),
+            gone: GoneReplicas {
+                first: BTreeMap::new(alloc),
+                further: BTreeMap::new(alloc),
+            },
             others: BTreeMap::new(alloc),
         }
     }
@@ -144,7 +147,7 @@ impl Standings {
     }
 
     /// The incarnations that are gone, by name, and the other replicas.
-    pub fn parts(&self) -> (&BTreeMap<NodeName, Lives>, &BTreeMap<Replica, Standing>)
+    pub fn parts(&self) -> (&GoneReplicas, &BTreeMap<Replica, Standing>)
         ensures { self.now ≡ all_of result.0.now result.1.now }
     {
         (&self.gone, &self.others)

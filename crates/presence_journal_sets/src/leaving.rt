@@ -2,7 +2,7 @@
 ghost use Rattle.std.specs.Prelude.{◌≡◌, Some, IfOk, option_copied};
 ghost use Rattle.presence_journal.specs.History.{Begin, onto};
 ghost use Rattle.presence_journal.specs.Table.{IsLegal};
-ghost use Rattle.presence_journal_kept.specs.Standings.{gone_list, gone_lives};
+ghost use Rattle.presence_journal_kept.specs.Standings.{first_list, gone_list, gone_lives};
 ghost use Rattle.presence_journal_sets.specs.LeftOut.{HoldsCovered, LeavesListed, LeavesOut, without_gone, named_by, is_named, none_left};
 ghost use Rattle.presence_journal_sets.specs.Walked.{Holds};
 
@@ -43,6 +43,24 @@ fn forget_named(set: &mut Orswot, start: &Start, entries: &[Entry], own: &Replic
 {
     if let Some(replica) = named_by(own, step) {
         forget_gone(set, start, entries, replica);
+    }
+}
+
+// Forgets those of these lives that are gone, one of each name.
+fn leave_out_first(
+    set: &mut Orswot,
+    start: &Start,
+    entries: &[Entry],
+    first: &BTreeMap<NodeName, u64>,
+)
+    ensures { LeavesListed (onto (Begin start.now) entries.now) (first_list first.now.entries) set.old set.new }
+{
+    for (name, life) in first.iter() {
+        let replica = Replica {
+            name: *name,
+            incarnation: *life,
+        };
+        forget_gone(set, start, entries, &replica);
     }
 }
 
@@ -98,8 +116,9 @@ fn leave_out_listed(set: &mut Orswot, start: &Start, entries: &[Entry])
     requires { Holds (onto (Begin start.now) entries.now) set.old }
     ensures { LeavesOut (onto (Begin start.now) entries.now) (is_named start.now.own entries.now) set.new }
 {
-    let (names, others) = start.standings.parts();
-    leave_out_names(set, start, entries, names);
+    let (gone, others) = start.standings.parts();
+    leave_out_first(set, start, entries, &gone.first);
+    leave_out_names(set, start, entries, &gone.further);
     leave_out_others(set, start, entries, others);
 }
 

@@ -19,7 +19,8 @@ use Rattle.replica_status.specs.Table.{status_of}
 use Rattle.presence_journal.specs.Steps.{Start}
 use Rattle.presence_journal.specs.History.{History, Begin, own, count, time, standing, status, is_gone}
 use Rattle.presence_journal.proofs.Same.{replica_total}
-use Rattle.presence_journal_kept.specs.Standings.{GoneMap, StandingMap, gone_life, gone_lives, gone_list, all_of, standing_at, Puts}
+use Rattle.presence_journal_kept.specs.Standings.{StandingMap, gone_life, first_list, gone_lives, gone_list, all_of, standing_at, Puts}
+use Rattle.presence_journal_kept.specs.declared.gone.GoneReplicas.{GoneReplicas}
 use Rattle.presence_journal_sets.specs.LeftOut.{HoldsCovered, is_listed}
 use Rattle.presence_journal_sets.specs.Walked.{Holds}
 use Rattle.tracker_shard_known_others.specs.declared.others.Others.{Others}
@@ -148,8 +149,17 @@ names_gone r (e ∷ es) ys =
     go true b c = refl
     go false b c = refl
 
-pub all_gone : (g : GoneMap) (m : StandingMap) (xs : List (Replica × Standing)) → xs ≡ all_of g m → (r : Replica) → (is_listed (gone_list g.entries) r || is_gone_by (standing_at m r)) ≡ is_gone_by (standing_in xs r)
-all_gone g m xs is r = sym (ap (λ ys. is_gone_by (standing_in ys r)) is ∙ names_gone r g.entries m.entries)
+firsts_gone : (r : Replica) (es : List (List ℕ × ℕ)) (ys : List (Replica × Standing)) → is_gone_by (standing_in (first_list es ++ ys) r) ≡ (is_listed (first_list es) r || is_gone_by (standing_in ys r))
+firsts_gone r [] ys = refl
+firsts_gone r (e ∷ es) ys =
+    one_gone (same_replica r (gone_life e.0 e.1).0) (is_listed (first_list es) r) (is_gone_by (standing_in ys r)) (lookup (same_replica r) (first_list es ++ ys)) (firsts_gone r es ys)
+
+pub all_gone : (g : GoneReplicas) (m : StandingMap) (xs : List (Replica × Standing)) → xs ≡ all_of g m → (r : Replica) → (is_listed (first_list g.first.entries) r || (is_listed (gone_list g.further.entries) r || is_gone_by (standing_at m r))) ≡ is_gone_by (standing_in xs r)
+all_gone g m xs is r =
+    sym
+    (ap (λ ys. is_gone_by (standing_in ys r)) is
+    ∙ (firsts_gone r g.first.entries (gone_list g.further.entries ++ m.entries)
+    ∙ ap (λ b. is_listed (first_list g.first.entries) r || b) (names_gone r g.further.entries m.entries)))
 
 -- a copy has what the other has
 pub copied : {A E : Type 0} (P Q : A → Type 0) (R : E → Type 0) → ((x : A) → P x → Q x) → (r : Result A E) → MatchResult r P R → IfOk r Q

@@ -3,7 +3,7 @@ ghost use Rattle.std.specs.Prelude.{◌≡◌, cond, IfOk};
 ghost use Rattle.orswot_core.specs.Sets.{without_replica};
 ghost use Rattle.replica_status.specs.Boards.{standing_in};
 ghost use Rattle.presence_journal.specs.History.{Begin};
-ghost use Rattle.presence_journal_kept.specs.Standings.{gone_list, gone_lives, standing_at};
+ghost use Rattle.presence_journal_kept.specs.Standings.{first_list, gone_list, gone_lives, standing_at};
 ghost use Rattle.presence_journal_sets.specs.LeftOut.{HoldsCovered, is_listed};
 ghost use Rattle.tracker_shard_known_others.specs.Standings.{AreOthersOf};
 ghost use Rattle.tracker_shard_known.specs.Starts.{is_gone_by};
@@ -37,6 +37,19 @@ fn forget_if_gone(set: &mut Orswot, replica: &Replica, standing: Standing)
 {
     if is_gone(standing.status()) {
         set.forget(replica);
+    }
+}
+
+// Forgets these lives, one of each name.
+fn forget_first(set: &mut Orswot, first: &BTreeMap<NodeName, u64>)
+    ensures { LosesReplicas set.old (is_listed (first_list first.now.entries)) set.new }
+{
+    for (name, life) in first.iter() {
+        let replica = Replica {
+            name: *name,
+            incarnation: *life,
+        };
+        set.forget(&replica);
     }
 }
 
@@ -75,8 +88,9 @@ fn forget_others(set: &mut Orswot, others: &BTreeMap<Replica, Standing>)
 fn forget_gone(set: &mut Orswot, standings: &Standings)
     ensures { LosesReplicas set.old (λ r. is_gone_by (standing_in standings.now r)) set.new }
 {
-    let (names, others) = standings.parts();
-    forget_names(set, names);
+    let (gone, others) = standings.parts();
+    forget_first(set, &gone.first);
+    forget_names(set, &gone.further);
     forget_others(set, others);
 }
 

@@ -18,14 +18,15 @@ fn is_gone(alloc: Global, standings: &Standings, name: &str, incarnation: u64) -
     Some(standings.standing(&replica) == Standing::Gone)
 }
 
-// How many replicas have a whole standing, how many names have incarnations alone, and how many the first of these has.
+// How many replicas have a whole standing, how many names are gone, and how many lives of the first name are, where it
+// has more than one.
 fn places(standings: &Standings) -> (usize, usize, Option<usize>) {
-    let (names, others) = standings.parts();
-    let first = match names.iter().next() {
-        Some((_name, lives)) => Some(lives.as_slice().len()),
+    let (gone, others) = standings.parts();
+    let lives = match gone.further.iter().next() {
+        Some((_name, further)) => Some(further.as_slice().len() + 1),
         None => None,
     };
-    (others.len(), names.len(), first)
+    (others.len(), gone.first.len(), lives)
 }
 
 // `b` ends each 2 s and comes back under the next even incarnation, 900 times in half an hour.

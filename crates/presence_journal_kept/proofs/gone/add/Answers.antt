@@ -1,21 +1,22 @@
-use Rattle.std.proofs.Common.{sym}
-use Rattle.std.proofs.lemmas.Result.{on_ok_weaker, on_err_weaker}
-use Rattle.presence_journal_kept.proofs.GoneLemmas.{added_where, added_first, same_where}
+use Rattle.std.proofs.Common.{sym, ◌∙◌}
+use Rattle.presence_journal_kept.specs.Standings.{is_gone_in}
+use Rattle.presence_journal_kept.proofs.GoneLemmas.{already, more_first, none_where}
 use Rattle.presence_journal_kept.proofs.gone.add.Goals as goal
 
-pub returns-in-Some-clause-ok : goal.returns-in-Some-clause-ok
-returns-in-Some-clause-ok c =
-    let new = c.insert.new.self in
-    on_ok_weaker c.insert.result
-    (added_where c.args.gone.now (c.get_mut.follows.lender new) c.args.replica.now c.in-Some.lives.now new (sym c.in-Some.ensures.value) (c.get_mut.follows.holds new)) c.insert.ensures.ok
+pub returns-then-is_among-clause-ok : goal.returns-then-is_among-clause-ok
+returns-then-is_among-clause-ok c = already (is_gone_in c.args.gone.now) c.args.replica.now (sym c.is_among.ensures ∙ c.if-is_among.true)
 
-pub returns-in-Some-clause-err : goal.returns-in-Some-clause-err
-returns-in-Some-clause-err c =
-    let new = c.insert.new.self in
-    on_err_weaker c.insert.result
-    (same_where c.args.gone.now (c.get_mut.follows.lender new) c.args.replica.now c.in-Some.lives.now new (sym c.in-Some.ensures.value) (c.get_mut.follows.holds new)) c.insert.ensures.err
+pub returns-then-contains_key-clause-ordered : goal.returns-then-contains_key-clause-ordered
+returns-then-contains_key-clause-ordered c = record { first = c.requires.first; further = c.add_further.ensures.ordered }
 
 pub returns-in-Ok-clause-ok : goal.returns-in-Ok-clause-ok
 returns-in-Ok-clause-ok c =
-    added_first c.args.gone.now c.get_mut.follows.lender-at-none c.insert-2.new.self c.args.replica.now c.in_ok-lives.lives c.get_mut.follows.holds-at-none (sym c.in_default.ensures.value)
-    c.in-Ok.ensures.updates.0 c.in_ok-lives.ensures
+    let f = c.args.gone.now.first in
+    let r = c.args.replica.now in
+    more_first f c.insert.new.self c.args.gone.now.further r (none_where f r.name (sym c.contains_key.ensures ∙ c.if-contains_key.false)) c.in-Ok.ensures.updates.0
+
+pub returns-in-Ok-clause-ordered : goal.returns-in-Ok-clause-ordered
+returns-in-Ok-clause-ordered c = record { first = c.in-Ok.ensures.ordered; further = c.requires.further }
+
+pub returns-in-Err-clause-ordered : goal.returns-in-Err-clause-ordered
+returns-in-Err-clause-ordered c = record { first = c.in-Err.ensures.ordered; further = c.requires.further }

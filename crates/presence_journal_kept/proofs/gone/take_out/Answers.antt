@@ -1,11 +1,8 @@
-use Rattle.std.proofs.Common.{sym}
-use Rattle.presence_journal_kept.proofs.GoneLemmas.{less_where, less_none}
+use Rattle.presence_journal_kept.proofs.GoneLemmas.{less_both}
 use Rattle.presence_journal_kept.proofs.gone.take_out.Goals as goal
 
-pub returns-in-Some-clause-out : goal.returns-in-Some-clause-out
-returns-in-Some-clause-out c =
-    let new = c.remove.new.self in
-    less_where c.args.gone.now (c.get_mut.follows.lender new) c.args.replica.now c.in-Some.lives.now new (sym c.in-Some.ensures.value) (c.get_mut.follows.holds new) c.remove.ensures
+pub returns-clause-out : goal.returns-clause-out
+returns-clause-out c = less_both c.args.gone.now.first c.take_out_first.new.first c.args.gone.now.further c.take_out_further.new.further c.args.replica.now c.take_out_first.ensures.out c.take_out_further.ensures.out
 
-pub returns-in_default-clause-out : goal.returns-in_default-clause-out
-returns-in_default-clause-out c = less_none c.args.gone.now c.get_mut.follows.lender-at-none c.args.replica.now c.get_mut.follows.holds-at-none (sym c.in_default.ensures.value)
+pub returns-clause-ordered : goal.returns-clause-ordered
+returns-clause-ordered c = record { first = c.take_out_first.ensures.ordered; further = c.take_out_further.ensures.ordered }
