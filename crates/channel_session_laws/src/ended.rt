@@ -4,7 +4,7 @@ ghost use Rattle.channel_session_laws.specs.LeftBehind.{EndLeavesNothing};
 ghost use Rattle.channel_session_laws.specs.Naming.{TextsKeepNames, DeliveriesKeepNames, EndsKeepNames};
 ghost use Rattle.channel_session_laws.specs.Subscribed.{TextsKeepSubs, DeliveriesKeepSubs, EndsKeepSubs};
 
-use presence_journal::laws::nothing_else_changes;
+use presence_journal_starts::laws::nothing_else_changes;
 
 /// Where a session names each topic on which a row of its number stands, an accepted `end` over a
 /// lent shard leaves none of its rows there, and none of its subscribers.

@@ -9,13 +9,10 @@ pub mod Walking
 pub mod AfterRebirth
 pub mod Diffs
 pub mod Topics
-mod FoldOrder
+pub mod FoldOrder
 pub mod FoldTables
 pub mod FoldPresent
 pub mod Fold
 pub mod FoldOthers
 pub mod Fresh
 pub mod Merges
-pub mod WorkedTables
-mod Worked
-mod Limit

@@ -7,7 +7,7 @@
 //! - `specs/Table`: the sequential presence table, and the histories that keep to it
 //! - `specs/Present`: the rows of a topic, and how two such tables differ
 //! - `specs/Queue`: what waits for a subscriber, what it took, and what a client makes of it
-//! - `specs/Laws` and `specs/Merges`: the laws, each stated by a function of `laws`, and the worked runs
+//! - `specs/Laws` and `specs/Merges`: the laws, each stated by a function of presence_journal_starts' `laws`, and the worked runs
 //! - `specs/Sizes`: how many entries and items there may be
 //!
 //! `specs/Walk` is of tables as lemmas see them.

@@ -12,6 +12,9 @@ pub mod Silent
 pub mod Next
 pub mod Later
 pub mod Steps
+pub mod WorkedTables
+mod WorkedRuns
+mod Limit
 mod Runs
 mod Worked
 mod Joined

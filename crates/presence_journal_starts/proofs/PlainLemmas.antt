@@ -18,7 +18,7 @@ use Rattle.presence_journal.specs.History.{History, Then, start_of, first_some, 
 use Rattle.presence_journal.specs.Present.{dots}
 use Rattle.presence_journal.specs.Table.{IsLegal, outcome_of, after, accepted}
 use Rattle.presence_journal.specs.Laws.{empty, dot, row_of, here, track, update, untrack}
-use Rattle.presence_journal.proofs.WorkedTables.{ran_is}
+use Rattle.presence_journal_starts.proofs.WorkedTables.{ran_is}
 use Rattle.presence_journal_cuts.specs.Cuts.{chain, older, recent, IsCut}
 use Rattle.presence_journal_cuts.specs.Handing.{handed}
 use Rattle.presence_journal_cuts.specs.ToldParts.{row_of_count}

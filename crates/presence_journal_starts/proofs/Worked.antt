@@ -24,7 +24,7 @@ use Rattle.presence_journal.specs.Table.{IsLegal, outcome_of}
 use Rattle.presence_journal.specs.Laws.{empty, dot, room, row_of, subscribe}
 use Rattle.presence_journal.proofs.HistoryLemmas.{known-then}
 use Rattle.presence_journal.proofs.Same.{same_replica-true, same_dot-true}
-use Rattle.presence_journal.proofs.WorkedTables.{ran_is}
+use Rattle.presence_journal_starts.proofs.WorkedTables.{ran_is}
 use Rattle.presence_journal_cuts.specs.Chains.{Counts}
 use Rattle.presence_journal_cuts.specs.Cuts.{chain_in, chain, older}
 use Rattle.presence_journal_cuts.specs.Handing.{handed}

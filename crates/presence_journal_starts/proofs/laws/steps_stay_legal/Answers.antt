@@ -1,5 +1,5 @@
 use Rattle.presence_journal.proofs.FoldOthers.{stays_legal, stays_kept}
-use Rattle.presence_journal.proofs.laws.steps_stay_legal.Goals as goal
+use Rattle.presence_journal_starts.proofs.laws.steps_stay_legal.Goals as goal
 
 pub returns-clause-legal : goal.returns-clause-legal
 returns-clause-legal c = stays_legal

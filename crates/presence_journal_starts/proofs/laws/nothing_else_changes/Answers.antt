@@ -1,6 +1,6 @@
 use Rattle.presence_journal.proofs.FoldOthers.{others_stay, others_hear_nothing, refused_stays}
 use Rattle.presence_journal.proofs.Fresh.{only_named_leave}
-use Rattle.presence_journal.proofs.laws.nothing_else_changes.Goals as goal
+use Rattle.presence_journal_starts.proofs.laws.nothing_else_changes.Goals as goal
 
 pub returns-clause-rows : goal.returns-clause-rows
 returns-clause-rows c = only_named_leave

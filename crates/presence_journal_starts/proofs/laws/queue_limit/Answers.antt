@@ -1,5 +1,5 @@
-use Rattle.presence_journal.proofs.Limit.{holds_most, queues_items, falls_behind, stays_behind}
-use Rattle.presence_journal.proofs.laws.queue_limit.Goals as goal
+use Rattle.presence_journal_starts.proofs.Limit.{holds_most, queues_items, falls_behind, stays_behind}
+use Rattle.presence_journal_starts.proofs.laws.queue_limit.Goals as goal
 
 pub returns-clause-most : goal.returns-clause-most
 returns-clause-most c = holds_most

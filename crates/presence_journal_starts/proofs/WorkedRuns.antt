@@ -8,7 +8,7 @@ use Rattle.presence_journal.specs.Queue.{topic_of, queue, taken}
 use Rattle.presence_journal.specs.Table.{outcome_of}
 use Rattle.presence_journal.specs.Laws.{AsWorked, ran, outcomes, empty, room, attic, user, subscribe, take_all, track, update, untrack, two_topics, shouts}
 use Rattle.presence_journal_data.specs.declared.step.Step.TheVariants as steps_are
-use Rattle.presence_journal.proofs.WorkedTables.{rows_now, listed_now, queue_now, queue_is, taken_now, taken_is, ran_now, ran_is}
+use Rattle.presence_journal_starts.proofs.WorkedTables.{rows_now, listed_now, queue_now, queue_is, taken_now, taken_is, ran_now, ran_is}
 
 outcomes_run : (ss : List Step) → outcomes (ran empty ss) ≡ outcomes (ran_now empty ss)
 outcomes_run ss = ap outcomes (ran_is empty ss)

@@ -1,5 +1,5 @@
 use Rattle.presence_journal.proofs.Fresh.{new_is_unknown, new_is_counted, rows_are_known, refs_are_distinct}
-use Rattle.presence_journal.proofs.laws.new_dots.Goals as goal
+use Rattle.presence_journal_starts.proofs.laws.new_dots.Goals as goal
 
 pub returns-clause-fresh : goal.returns-clause-fresh
 returns-clause-fresh c = new_is_unknown

@@ -1,5 +1,5 @@
 use Rattle.presence_journal.proofs.Merges.{removed_is_known, known_is_live_or_removed}
-use Rattle.presence_journal.proofs.laws.known_is_live_or_removed.Goals as goal
+use Rattle.presence_journal_starts.proofs.laws.known_is_live_or_removed.Goals as goal
 
 pub returns-clause-of_removed : goal.returns-clause-of_removed
 returns-clause-of_removed c = removed_is_known

@@ -1,5 +1,5 @@
 use Rattle.presence_journal.proofs.Merges.{live_stays, shown_stays}
-use Rattle.presence_journal.proofs.laws.touched_dots_change.Goals as goal
+use Rattle.presence_journal_starts.proofs.laws.touched_dots_change.Goals as goal
 
 pub returns-clause-live : goal.returns-clause-live
 returns-clause-live c = live_stays
