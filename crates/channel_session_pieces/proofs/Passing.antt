@@ -1,12 +1,12 @@
 -- Questions that go through to the port inside.
-use Rattle.std.proofs.Common.{◌≡◌, ℕ, Bool, true, false, List, Option, Some, None, Result, Ok, Err, refl}
+use Rattle.std.proofs.Common.{◌≡◌, ℕ, Bool, true, false, List, Option, Some, None, Result, Ok, Err, is_ok, refl, sym, ◌∙◌, ap}
 use Rattle.std.proofs.lemmas.Bool.{false≢true, true≢false}
 use Rattle.std.specs.Prelude.{is_some}
 use Rattle.presence_pieces.specs.Pieces.{is_told_to}
 use Rattle.channel_session_rules.specs.Sub.{Sub}
 use Rattle.channel_session_rules.specs.declared.refusal.Refusal.{Refusal}
 use Rattle.presence_pieces.specs.declared.telling.UntoldState.{UntoldState}
-use Rattle.channel_session_rules.specs.Asks.{Ask, Answer, waits}
+use Rattle.channel_session_rules.specs.Asks.{Ask, Answer, waits, unsubscribe}
 use Rattle.channel_session_rules.specs.Questions.{asks}
 use Rattle.channel_session_rules.specs.declared.calls.List.{List as ListCall}
 use Rattle.channel_session_rules.specs.declared.calls.Take.{Take}
@@ -14,7 +14,7 @@ use Rattle.channel_session_rules.specs.declared.calls.Waits.{Waits as WaitsCall}
 use Rattle.channel_session_rules.specs.declared.calls.Unsubscribe.{Unsubscribe}
 use Rattle.channel_session_rules.specs.declared.question.Question.{Question}
 use Rattle.channel_session_rules.specs.declared.question.Question.TheVariants as questions
-use Rattle.channel_session_pieces.specs.Piecewise.{Piecewise, Waits}
+use Rattle.channel_session_pieces.specs.Piecewise.{left_by, Piecewise, Waits}
 
 module _ {P : Type 0} (step : P → (q : Ask) → Answer q → P → Type 0) (old new : P × Option UntoldState) where
   pub others_pass : (k : Question) → ((x : ListCall) → k ≡ questions.List x → ⊥) → ((x : Take) → k ≡ questions.Take x → ⊥) → ((x : WaitsCall) → k ≡ questions.Waits x → ⊥) → ((x : Unsubscribe) → k ≡ questions.Unsubscribe x → ⊥)
@@ -30,6 +30,10 @@ module _ {P : Type 0} (step : P → (q : Ask) → Answer q → P → Type 0) (ol
   others_pass (questions.Unsubscribe c) nl nt nw nu a h e = absurd (nu c refl)
   others_pass (questions.Waits c) nl nt nw nu a h e = absurd (nw c refl)
   others_pass (questions.Shout c) nl nt nw nu a h e = (h, e)
+
+  -- a subscriber that was ended, or not
+  pub ended_so : (topic : List ℕ) (sub : Sub) (a : Answer (unsubscribe topic sub)) → step old.0 (unsubscribe topic sub) a new.0 → (gone : Bool) → is_ok a ≡ gone → new.1 ≡ left_by gone topic sub.number old.1 → Piecewise step old (unsubscribe topic sub) a new
+  ended_so topic sub a h gone is left = (h, left ∙ ap (λ b. left_by b topic sub.number old.1) (sym is))
 
 -- what waits, while a state is being told and while none is
 module _ {P : Type 0} (step : P → (q : Ask) → Answer q → P → Type 0) (topic : List ℕ) (sub : Sub) (port : P) where
