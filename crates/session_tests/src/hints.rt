@@ -155,7 +155,9 @@ fn change<P: Port>(
             Ok(Answer::Done)
         }
         _ => {
-            let payload = payload.to_json(alloc)?;
+            let Ok(payload) = payload.to_json(alloc) else {
+                return Err(Refusal::Table(ShardFault::OutOfMemory));
+            };
             let payload = &payload;
             port.call(alloc, 1, &Shout { topic, payload })?;
             Ok(Answer::Done)

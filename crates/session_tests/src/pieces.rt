@@ -3,7 +3,7 @@
 
 use crate::client::{routes_of, shard_of};
 use channel_session_pieces::{MAX_STATE_BYTES, PIECE_BYTES, PiecewisePort, Telling};
-use channel_session_rules::{Take, Waits};
+use channel_session_rules::{Subscribe, Take, Waits};
 use hook_registry::NoHooks;
 use presence_base::{Dot, Key, Meta, Row, Topic};
 use presence_journal::Item;
@@ -282,12 +282,13 @@ impl Side {
     fn of(alloc: Global, name: &str) -> Option<Side> {
         let topic = Topic::new(alloc, name).ok()??;
         let mut shard = full_shard(alloc, &topic, 300)?;
-        let sub = LocalPort::new(&mut shard).subscribe(alloc, &topic).ok()?;
+        let subscribe = Subscribe { topic: &topic };
+        let sub = LocalPort::new(&mut shard).call(alloc, 1, &subscribe).ok()?;
         Some(Side { shard, topic, sub })
     }
 
     // Whether something is said to wait.
-    fn waits(&mut self, telling: &mut Telling) -> bool {
+    fn waits(&mut self, alloc: Global, telling: &mut Telling) -> bool {
         is_waiting(alloc, &mut self.shard, telling, &self.topic, &self.sub)
     }
 
@@ -321,18 +322,18 @@ fn rooms_stay_apart(alloc: Global) -> bool {
         return false;
     }
     for _ in 1..9_u32 {
-        if other.waits(&mut telling)
+        if other.waits(alloc, &mut telling)
             || !other.takes(alloc, &mut telling, 0)
-            || !one.waits(&mut telling)
+            || !one.waits(alloc, &mut telling)
             || !one.takes(alloc, &mut telling, 32)
         {
             return false;
         }
     }
     one.takes(alloc, &mut telling, 12)
-        && other.waits(&mut telling)
+        && other.waits(alloc, &mut telling)
         && other.takes(alloc, &mut telling, 32)
-        && !one.waits(&mut telling)
+        && !one.waits(alloc, &mut telling)
 }
 
 #[test]
