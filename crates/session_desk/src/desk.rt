@@ -215,8 +215,13 @@ impl Desk {
 
     // Lets the call after this many be refused, from here on.
     pub fn refuse(&mut self, after: u32, fault: ShardFault) {
+        self.refuse_for(after, Refusal::Table(fault));
+    }
+
+    // So, by the port itself where the refusal is none of the shard's.
+    pub fn refuse_for(&mut self, after: u32, refusal: Refusal) {
         self.port.refused = self.port.calls.saturating_add(after);
-        self.port.refusal = Refusal::Table(fault);
+        self.port.refusal = refusal;
     }
 
     // Ends the session.

@@ -1,7 +1,7 @@
 //! Refusals of the call of an event and of the track of a join, and the reasons that stand for them.
 
 use session_desk::{
-    Desk, JOIN, JOINED, ShardFault, desk_of, error_reply, fault_for, joined_desk, message,
+    Desk, JOIN, JOINED, Refusal, ShardFault, desk_of, error_reply, fault_for, joined_desk, message,
 };
 use std::alloc::Global;
 
@@ -13,6 +13,12 @@ const FAULTS: [ShardFault; 7] = [
     ShardFault::NoSub,
     ShardFault::BadIncarnation,
     ShardFault::OutOfMemory,
+];
+
+// What a port refuses by itself, and the reason that stands for it.
+const OWN_REFUSALS: [(Refusal, &str); 2] = [
+    (Refusal::OverRation, "full"),
+    (Refusal::NotGranted, "unauthorized"),
 ];
 
 // The reason that stands for a refusal of the one call of an event, or of the first call of a join
@@ -98,5 +104,29 @@ fn refusals_of_the_track_of_a_join(rt: HostRuntime) {
     let alloc = rt.alloc();
     for fault in FAULTS {
         assert!(rt; join_tells(alloc, fault), "{fault}");
+    }
+}
+
+#[test]
+fn refusals_of_the_port_itself(rt: HostRuntime) {
+    let alloc = rt.alloc();
+    for (refusal, reason) in OWN_REFUSALS {
+        let (Some(mut desk), Some(mut newcomer)) = (joined_desk(alloc), desk_of(alloc)) else {
+            assert!(rt; false);
+            return;
+        };
+        for event in ["track", "update", "untrack", "get", "list", "shout"] {
+            desk.refuse_for(0, refusal);
+            assert!(rt;
+                desk.refuses(alloc, event, r#"{"key":"u1"}"#, reason),
+                "{event} {reason}"
+            );
+        }
+        newcomer.refuse_for(0, refusal);
+        assert!(rt;
+            refuses_tracked_join(alloc, &mut newcomer, reason),
+            "{reason}"
+        );
+        assert!(rt; newcomer.names(&[]) && newcomer.answers(alloc, JOIN, &[JOINED]));
     }
 }
