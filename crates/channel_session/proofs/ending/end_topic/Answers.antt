@@ -7,8 +7,8 @@ use Rattle.channel_session.proofs.ending.end_topic.Goals as goal
 pub returns-in-Ok : goal.returns-in-Ok
 returns-in-Ok g c = rows_gone _ _ _ _ _ _ _ _ c.in-Ok.ensures c.take_out.ensures
 
-pub returns-in-Err-NoSub : goal.returns-in-Err-NoSub
-returns-in-Err-NoSub g c = rows_gone_unknown _ _ _ _ _ _ _ (rw c.in-Err-NoSub.field-0-is at c.in-Err-NoSub.ensures) c.take_out-in-Err-NoSub.ensures
+pub returns-in-Err-Table-NoSub : goal.returns-in-Err-Table-NoSub
+returns-in-Err-Table-NoSub g c = rows_gone_unknown _ _ _ _ _ _ _ (rw c.in-Err-Table-NoSub.field-0-is at c.in-Err-Table-NoSub.ensures) c.take_out-in-Err-Table-NoSub.ensures
 
 pub returns-in-Err : goal.returns-in-Err
 returns-in-Err g c = let h : c.in-Err.refusal ≡ Table NoSub → ⊥ = search rules in kept _ _ _ _ _ _ h c.in-Err.ensures
