@@ -9,11 +9,11 @@ use Rattle.channel_session_pieces.proofs.port.PiecewisePortPort.call.Goals as go
 pub told_to-requires : goal.told_to-requires
 told_to-requires g c = can_tell _ _ c.in-List.ensures (told.Rows c.in-Ok.rows) _ refl
 
-pub told_to-in-Ok-take-requires : goal.told_to-in-Ok-take-requires
-told_to-in-Ok-take-requires g c = can_tell _ _ c.in-Take.ensures (told.Items c.in-Ok-take.items) _ refl
+pub told_to-requires-in-Ok-take : goal.told_to-requires-in-Ok-take
+told_to-requires-in-Ok-take g c = can_tell _ _ c.in-Take.ensures (told.Items c.in-Ok-take.items) _ refl
 
-pub told_to-then-is_under_way-requires : goal.told_to-then-is_under_way-requires
-told_to-then-is_under_way-requires g c = can_tell _ _ c.in-Waits.ensures (told.Waits c.is_to-waits.result) _ refl
+pub told_to-requires-then-is_under_way : goal.told_to-requires-then-is_under_way
+told_to-requires-then-is_under_way g c = can_tell _ _ c.in-Waits.ensures (told.Waits c.is_to-waits.result) _ refl
 
 pub returns-in-Ok : goal.returns-in-Ok
 returns-in-Ok g c =
@@ -49,12 +49,12 @@ returns-then-is_under_way g c =
     let untold = old.telling.now.untold in
     let step = g.P.Port.step c.args.pid in
     let S : (q : Ask) → Answer q → Type 0 = λ q a. Piecewise step (old.port.now, untold) q a (old.port.now, untold) in
-    let waits = subst (λ w. Waits step untold c.in-Waits.topic.now c.in-Waits.sub old.port.now (Ok w) old.port.now) (sym c.is_to-waits.ensures)
-    (waits_under_way step c.in-Waits.topic.now c.in-Waits.sub old.port.now untold (sym c.is_under_way.ensures ∙ c.if-is_under_way.true)) in
+    let waits = subst (λ w. Waits step untold c.in-Waits.field-0.topic.now c.in-Waits.field-0.sub old.port.now (Ok w) old.port.now) (sym c.is_to-waits.ensures)
+    (waits_under_way step c.in-Waits.field-0.topic.now c.in-Waits.field-0.sub old.port.now untold (sym c.is_under_way.ensures ∙ c.if-is_under_way.true)) in
     (refl, refl, told_so _ _ c.in-Waits.ensures S (told.Waits c.is_to-waits.result) _ _ refl c.told_to-then-is_under_way.ensures (waits, refl))
 
-pub returns-in-Waits : goal.returns-in-Waits
-returns-in-Waits g c =
+pub returns-else-is_under_way : goal.returns-else-is_under_way
+returns-else-is_under_way g c =
     let untold = c.args.self.now.telling.now.untold in
     let old = c.args.self.now.port.now in
     let new = c.call.new.self in
@@ -62,7 +62,7 @@ returns-in-Waits g c =
       refl,
       refl,
       passed_so _ _ c.in-Waits.ensures (λ q a. step old q a new) (λ q a. Piecewise step (old, untold) q a (new, untold))
-          (λ a h. (waits_inside step c.in-Waits.topic.now c.in-Waits.sub old untold (sym c.is_under_way.ensures ∙ c.if-is_under_way.false) a new h, refl)) _ c.call.ensures,
+          (λ a h. (waits_inside step c.in-Waits.field-0.topic.now c.in-Waits.field-0.sub old untold (sym c.is_under_way.ensures ∙ c.if-is_under_way.false) a new h, refl)) _ c.call.ensures,
     )
 
 pub returns-in-Ok-call : goal.returns-in-Ok-call
@@ -75,7 +75,7 @@ returns-in-Ok-call g c =
       refl,
       refl,
       passed_so _ _ c.in-Unsubscribe.ensures (λ q a. step old q a new × (is_ok a ≡ true)) (λ q a. Piecewise step (old, untold) q a (new, left))
-          (λ a h. ended_so step (old, untold) (new, left) c.in-Unsubscribe.topic.now c.in-Unsubscribe.sub a h.0 true h.1 c.forget.ensures) _ (c.in-Ok-call.ensures, refl),
+          (λ a h. ended_so step (old, untold) (new, left) c.in-Unsubscribe.field-0.topic.now c.in-Unsubscribe.field-0.sub a h.0 true h.1 c.forget.ensures) _ (c.in-Ok-call.ensures, refl),
     )
 
 pub returns-in-Err-call : goal.returns-in-Err-call
@@ -87,7 +87,7 @@ returns-in-Err-call g c =
       refl,
       refl,
       passed_so _ _ c.in-Unsubscribe.ensures (λ q a. step old q a new × (is_ok a ≡ false)) (λ q a. Piecewise step (old, untold) q a (new, untold))
-          (λ a h. ended_so step (old, untold) (new, untold) c.in-Unsubscribe.topic.now c.in-Unsubscribe.sub a h.0 false h.1 refl) _ (c.in-Err-call.ensures, refl),
+          (λ a h. ended_so step (old, untold) (new, untold) c.in-Unsubscribe.field-0.topic.now c.in-Unsubscribe.field-0.sub a h.0 false h.1 refl) _ (c.in-Err-call.ensures, refl),
     )
 
 pub returns-in_default : goal.returns-in_default
