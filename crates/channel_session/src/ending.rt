@@ -1,25 +1,14 @@
 //! The end of a session, topic by topic.
 ghost use Rattle.std.specs.Prelude.{◌≡◌, [], OnOk, take, drop};
 ghost use Rattle.channel_session.specs.Ending.{Played, Gone, Keeps, EndedBy, EndsTopics, ends, fault_of_refusal as fault_in, topics_named};
-ghost use Rattle.channel_session_rules.specs.Asks.{untrack_all};
 ghost use Rattle.channel_session_rules.specs.InForce.{joined_in};
 
 use crate::fault::SessionFault;
 use crate::session::Session;
-use channel_session_events::Caller;
-use channel_session_rules::{Join, Port, Refusal, ShardFault, Topics, Unsubscribe, UntrackAll};
+use channel_session_events::{Caller, take_out};
+use channel_session_rules::{Join, Port, Refusal, ShardFault, Topics, Unsubscribe};
 use presence_base::Topic;
 use std::alloc::Global;
-
-// Takes out the session's rows on a topic.
-fn take_out<P: Port>(caller: Caller, topic: &Topic, port: &mut P) -> Result<(), Refusal>
-    ensures { P.step caller.pid port.old (untrack_all topic.now) result port.new }
-{
-    match port.call(caller.alloc, caller.pid, &UntrackAll { topic }) {
-        Ok(_) => Ok(()),
-        Err(refusal) => Err(refusal),
-    }
-}
 
 // Both calls for one topic. An unknown subscriber counts as gone.
 fn end_topic<P: Port>(

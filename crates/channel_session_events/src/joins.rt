@@ -1,6 +1,7 @@
 //! Joins and their ends.
 ghost use Rattle.std.specs.Prelude.{◌≡◌, IfOk, IfErr, option_map, is_ok, false};
 ghost use Rattle.serde_json.specs.Written.{has_float as float_within};
+ghost use Rattle.channel_session_rules.specs.Asks.{untrack_all};
 ghost use Rattle.channel_session_rules.specs.InForce.{joined_of};
 ghost use Rattle.channel_session_events.specs.Joining.{Joins, JoinsAsked, JoinsBehind, Leads, Leaves, JoinRuns, JoinRepliesWith, Rejoins, Subscribed, leave_end};
 ghost use Rattle.channel_session_rules.specs.Replies.{RepliesWith, reply_end};
@@ -16,20 +17,29 @@ use phx_message::{Message, MsgRef};
 use presence_base::{Dot, Json, Key, Meta, Topic};
 use std::alloc::{AllocError, Global};
 
+/// Takes out the caller's rows on a topic.
+pub fn take_out<P: Port>(caller: Caller, topic: &Topic, port: &mut P) -> Result<(), Refusal>
+    ensures { P.step caller.pid port.old (untrack_all topic.now) result port.new }
+{
+    match port.call(caller.alloc, caller.pid, &UntrackAll { topic }) {
+        Ok(_) => Ok(()),
+        Err(refusal) => Err(refusal),
+    }
+}
+
 // The calls that end a join.
 fn end_join<P: Port>(caller: Caller, topic: &Topic, join: &Join, port: &mut P) -> Result<(), Stop>
     ensures { Leads (P.step caller.pid) topic.now join.now.sub port.old port.new result }
 {
-    let Caller { alloc, pid, .. } = caller;
     let unsubscribe = Unsubscribe {
         topic,
         sub: join.sub,
     };
-    match port.call(alloc, pid, &unsubscribe) {
+    match port.call(caller.alloc, caller.pid, &unsubscribe) {
         Err(refusal) => Err(stop_of(refusal, true)),
-        Ok(()) => match port.call(alloc, pid, &UntrackAll { topic }) {
+        Ok(()) => match take_out(caller, topic, port) {
             Err(refusal) => Err(stop_of(refusal, true)),
-            Ok(_) => Ok(()),
+            Ok(()) => Ok(()),
         },
     }
 }

@@ -14,4 +14,6 @@ mod joins;
 pub use asking::{Caller, Incoming};
 pub use dispatch::{heartbeat, topic_event, unmatched};
 pub use frames::Delivery;
-pub use joins::{JoinReply, RejoinReply, join, join_ref_for, leave, leave_nothing, rejoin};
+pub use joins::{
+    JoinReply, RejoinReply, join, join_ref_for, leave, leave_nothing, rejoin, take_out,
+};

@@ -8,7 +8,7 @@ pub returns-in-Ok : goal.returns-in-Ok
 returns-in-Ok g c = rows_gone _ _ _ _ _ _ _ _ c.in-Ok.ensures c.take_out.ensures
 
 pub returns-in-Err-Table-NoSub : goal.returns-in-Err-Table-NoSub
-returns-in-Err-Table-NoSub g c = rows_gone_unknown _ _ _ _ _ _ _ (rw c.in-Err-Table-NoSub.field-0-is at c.in-Err-Table-NoSub.ensures) c.take_out-in-Err-Table-NoSub.ensures
+returns-in-Err-Table-NoSub g c = rows_gone_unknown _ _ _ _ _ _ _ (rw c.in-Err-Table-NoSub.field-0-0-is at (rw c.in-Err-Table-NoSub.field-0-is at c.in-Err-Table-NoSub.ensures)) c.take_out-in-Err-Table-NoSub.ensures
 
 pub returns-in-Err : goal.returns-in-Err
 returns-in-Err g c = let h : c.in-Err.refusal ≡ Table NoSub → ⊥ = search rules in kept _ _ _ _ _ _ h c.in-Err.ensures
