@@ -19,18 +19,26 @@ pub enum CrewFault {
     Memory,
 }
 
-/// What the threads of a server do. Each worker has tools of its own, `T`, the one at the door has `D`, and each further
-/// one a task, `K`.
-pub trait Crew<R, T: Tools, D, K> {
+/// What the threads of a server do.
+pub trait Crew<R> {
+    /// What each worker has of its own.
+    type Tools: Tools;
+
+    /// What the one at the door has.
+    type Door;
+
+    /// What each further one is given.
+    type Task;
+
     /// Works until `stop`, and gives the tools back.
-    fn work(&self, rt: &R, tools: T) -> T
-        ensures { T.returns tools result };
+    fn work(&self, rt: &R, tools: Self::Tools) -> Self::Tools
+        ensures { Self.Tools.returns tools result };
 
     /// Is at the door until `stop`.
-    fn attend(&self, rt: &R, door: D);
+    fn attend(&self, rt: &R, door: Self::Door);
 
     /// Does a task until `stop`.
-    fn tend(&self, rt: &R, task: K);
+    fn tend(&self, rt: &R, task: Self::Task);
 
     /// Lets the others end.
     fn stop(&self, rt: &R);
@@ -55,19 +63,16 @@ pub struct Posts<T, D, K> {
 type Worker<T> = PromisedHandle<T, HandsBack<T>>;
 
 // Starts a worker's thread for each of these tools.
-fn start_workers<'s, E, R, C, T, D, K>(
+fn start_workers<'s, E, R, C>(
     scope: &Scope<'s, E>,
     rt: &'s R,
     alloc: Global,
     crew: &'s C,
-    all: Vec<T>,
-) -> Result<Vec<Worker<T>>, CrewFault>
+    all: Vec<C::Tools>,
+) -> Result<Vec<Worker<C::Tools>>, CrewFault>
 where
     R: Threads + Wait + Sync,
-    C: Crew<R, T, D, K> + Sync,
-    T: Tools + Send + Drop + 's,
-    D: Send + Drop + 's,
-    K: Send + Drop + 's,
+    C: Crew<R, Tools: Send + Drop + 's, Door: Send + Drop + 's, Task: Send + Drop + 's> + Sync,
     ensures { IfOk result (λ workers. given_to workers.items ≡ all.items) }
 {
     let Ok(mut workers) = Vec::with_capacity(alloc, all.len()) else {
@@ -86,18 +91,15 @@ where
 }
 
 // Starts a thread for each of these tasks.
-fn start_tasks<'s, E, R, C, T, D, K>(
+fn start_tasks<'s, E, R, C>(
     scope: &Scope<'s, E>,
     rt: &'s R,
     crew: &'s C,
-    tasks: Vec<K>,
+    tasks: Vec<C::Task>,
 ) -> Result<(), CrewFault>
 where
     R: Threads + Wait + Sync,
-    C: Crew<R, T, D, K> + Sync,
-    T: Tools + Send + Drop + 's,
-    D: Send + Drop + 's,
-    K: Send + Drop + 's,
+    C: Crew<R, Tools: Send + Drop + 's, Door: Send + Drop + 's, Task: Send + Drop + 's> + Sync,
 {
     for task in tasks {
         if scope.spawn(move || crew.tend(rt, task)).is_err() {
@@ -108,24 +110,21 @@ where
 }
 
 // Starts the workers' threads, those of the tasks, and the one at the door.
-fn start_all<'s, E, R, C, T, D, K>(
+fn start_all<'s, E, R, C>(
     scope: &Scope<'s, E>,
     rt: &'s R,
     alloc: Global,
     crew: &'s C,
-    posts: Posts<T, D, K>,
-) -> Result<Vec<Worker<T>>, CrewFault>
+    posts: Posts<C::Tools, C::Door, C::Task>,
+) -> Result<Vec<Worker<C::Tools>>, CrewFault>
 where
     R: Threads + Wait + Sync,
-    C: Crew<R, T, D, K> + Sync,
-    T: Tools + Send + Drop + 's,
-    D: Send + Drop + 's,
-    K: Send + Drop + 's,
+    C: Crew<R, Tools: Send + Drop + 's, Door: Send + Drop + 's, Task: Send + Drop + 's> + Sync,
     ensures { IfOk result (λ workers. given_to workers.items ≡ posts.tools.items) }
 {
     let Posts { tools, door, tasks } = posts;
-    let workers = start_workers::<_, R, C, T, D, K>(scope, rt, alloc, crew, tools)?;
-    start_tasks::<_, R, C, T, D, K>(scope, rt, crew, tasks)?;
+    let workers = start_workers(scope, rt, alloc, crew, tools)?;
+    start_tasks(scope, rt, crew, tasks)?;
     match scope.spawn(move || crew.attend(rt, door)) {
         Ok(_) => Ok(workers),
         Err(_) => Err(CrewFault::NoThread),
@@ -147,29 +146,26 @@ fn join_all<R: Threads, T: Tools + Drop>(
 
 /// Runs the threads until their end has come, and hands the tools back in their order. Where not all can be
 /// started, those that were are stopped.
-pub fn run_crew<R, C, E, T, D, K>(
+pub fn run_crew<R, C, E>(
     rt: &R,
     alloc: Global,
     crew: &C,
     ending: &E,
-    posts: Posts<T, D, K>,
-) -> Result<Vec<T>, CrewFault>
+    posts: Posts<C::Tools, C::Door, C::Task>,
+) -> Result<Vec<C::Tools>, CrewFault>
 where
     R: Threads + Wait + Sync,
-    C: Crew<R, T, D, K> + Sync,
+    C: Crew<R, Tools: Send + Drop, Door: Send + Drop, Task: Send + Drop> + Sync,
     E: AwaitEnd<R>,
-    T: Tools + Send + Drop,
-    D: Send + Drop,
-    K: Send + Drop,
-    ensures { IfOk result (λ backs. AreHandedBack T.returns posts.tools.items backs.items) }
+    ensures { IfOk result (λ backs. AreHandedBack C.Tools.returns posts.tools.items backs.items) }
 {
     thread::scope(
         thread::scope_env(),
         rt,
-        |scope| -> Result<Vec<T>, CrewFault>
-            ensures { IfOk result (λ backs. AreHandedBack T.returns posts.tools.items backs.items) }
+        |scope| -> Result<Vec<C::Tools>, CrewFault>
+            ensures { IfOk result (λ backs. AreHandedBack C.Tools.returns posts.tools.items backs.items) }
         {
-            let started = start_all::<_, R, C, T, D, K>(scope, rt, alloc, crew, posts);
+            let started = start_all(scope, rt, alloc, crew, posts);
             if started.is_err() || ending.await_end(rt) {
                 crew.stop(rt);
             }

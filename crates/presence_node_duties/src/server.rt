@@ -205,12 +205,18 @@ impl<'a, H, L: Lanes> Wakes for Server<'a, H, L> {
     }
 }
 
-impl<R, H, L> Crew<R, Workplace<L>, Door, LinkTask> for Server<'_, H, L>
+impl<R, H, L> Crew<R> for Server<'_, H, L>
 where
     R: LinkRuntime + Files,
     H: PresenceHooks,
     L: Lanes,
 {
+    type Tools = Workplace<L>;
+
+    type Door = Door;
+
+    type Task = LinkTask;
+
     fn work(&self, rt: &R, place: Workplace<L>) -> Workplace<L> {
         let Workplace { number, mut bench } = place;
         bench.work(rt, self, number);

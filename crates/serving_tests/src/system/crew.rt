@@ -68,7 +68,13 @@ impl Halvers {
     }
 }
 
-impl<R: Wait + Clock> Crew<R, Load, u32, u64> for Halvers {
+impl<R: Wait + Clock> Crew<R> for Halvers {
+    type Tools = Load;
+
+    type Door = u32;
+
+    type Task = u64;
+
     fn work(&self, rt: &R, load: Load) -> Load {
         let before = self.at_work.fetch_add(1, Ordering::SeqCst);
         if before.saturating_add(1) == self.workers {
