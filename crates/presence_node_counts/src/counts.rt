@@ -22,7 +22,7 @@ pub enum Dropped {
 pub enum Checkpoint {
     /// The journal was nearly full.
     Due,
-    /// A call found it full.
+    /// A call found it full, or no memory.
     Full,
 }
 
