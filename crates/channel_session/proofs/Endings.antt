@@ -1,5 +1,5 @@
 -- The end of a session, call by call.
-use Rattle.std.proofs.Common.{◌≡◌, ℕ, zero, suc, List, [], ◌∷◌, drop, take, Some, None, Option, Result, Ok, Err, true, refl, sym, ap, ◌∙◌, subst}
+use Rattle.std.proofs.Common.{◌≡◌, ℕ, zero, suc, List, [], ◌∷◌, drop, take, Some, None, Option, Result, Ok, Err, true, false, refl, sym, ap, ◌∙◌, subst}
 use Rattle.std.specs.List.{slice_get, remove}
 use Rattle.channel_session_rules.specs.declared.refusal.Refusal.{Refusal}
 use Rattle.channel_session_rules.specs.declared.refusal.Refusal.TheVariants.{OverRation, NotGranted, Table}
@@ -8,7 +8,7 @@ use Rattle.channel_session_rules.specs.Sub.{Sub}
 use Rattle.channel_session_rules.specs.Asks.{Ask, Answer, unsubscribe, untrack_all}
 use Rattle.channel_session_rules.specs.Script.{Script, done, ask}
 use Rattle.channel_session_rules.specs.InForce.{Joined, InForce}
-use Rattle.channel_session.specs.Ending.{Played, Gone, Keeps, Ended, Leaving, then_rows, ends_topics, ends, left_with, failed_by, then_topics, staying}
+use Rattle.channel_session.specs.Ending.{Played, Gone, Keeps, Ended, Leaving, is_unknown, then_rows, ends_topics, ends, left_with, failed_by, then_topics, staying}
 
 module _ {P E : Type 0} (step : P → (q : Ask) → Answer q → P → Type 0) where
   pub played_now : (e : E) (old : P) → Played step (done e) old old e
@@ -17,13 +17,24 @@ module _ {P E : Type 0} (step : P → (q : Ask) → Answer q → P → Type 0) w
   pub played_on : (q : Ask) (next : Answer q → Script E) (a : Answer q) (old mid new : P) (e : E) → step old q a mid → Played step (next a) mid new e → Played step (ask q next) old new e
   played_on q next a old mid new e h p = record { made = record { ask = q; answer = a } ∷ p.made; calls = (mid, h, p.calls); plays = (a, refl, p.plays) }
 
-pub goes_on_refused : (t : List ℕ) (next : Result (Unit {0}) Refusal → Script Ended) (e : Refusal) → (e ≡ Table NoSub → ⊥) → then_rows t next (Err e) ≡ next (Err e)
+pub unknown_is : (e : Refusal) → is_unknown e ≡ true → e ≡ Table NoSub
+unknown_is (Table NoSub) h = refl
+unknown_is (Table AlreadyTracked) h = absurd (cc)
+unknown_is (Table NoPresence) h = absurd (cc)
+unknown_is (Table ClockFull) h = absurd (cc)
+unknown_is (Table JournalFull) h = absurd (cc)
+unknown_is (Table BadIncarnation) h = absurd (cc)
+unknown_is (Table OutOfMemory) h = absurd (cc)
+unknown_is OverRation h = absurd (cc)
+unknown_is NotGranted h = absurd (cc)
+
+pub goes_on_refused : (t : List ℕ) (next : Result (Unit {0}) Refusal → Script Ended) (e : Refusal) → is_unknown e ≡ false → then_rows t next (Err e) ≡ next (Err e)
 goes_on_refused t next (Table AlreadyTracked) h = refl
 goes_on_refused t next (Table NoPresence) h = refl
 goes_on_refused t next (Table ClockFull) h = refl
 goes_on_refused t next (Table JournalFull) h = refl
 goes_on_refused t next (Table OutOfMemory) h = refl
-goes_on_refused t next (Table NoSub) h = absurd (h refl)
+goes_on_refused t next (Table NoSub) h = absurd (cc)
 goes_on_refused t next OverRation h = refl
 goes_on_refused t next NotGranted h = refl
 goes_on_refused t next (Table BadIncarnation) h = refl
@@ -32,10 +43,12 @@ module _ {P : Type 0} (step : P → (q : Ask) → Answer q → P → Type 0) (to
   pub rows_gone : (u : Unit {0}) (r : Answer (untrack_all topic)) (old mid new : P) → step old (unsubscribe topic sub) (Ok u) mid → step mid (untrack_all topic) r new → Gone step topic sub old new r
   rows_gone u r old mid new h k = λ next last e p. played_on step (unsubscribe topic sub) (then_rows topic next) (Ok u) old mid last e h (played_on step (untrack_all topic) next r mid new last e k p)
 
-  pub rows_gone_unknown : (r : Answer (untrack_all topic)) (old mid new : P) → step old (unsubscribe topic sub) (Err (Table NoSub)) mid → step mid (untrack_all topic) r new → Gone step topic sub old new r
-  rows_gone_unknown r old mid new h k = λ next last e p. played_on step (unsubscribe topic sub) (then_rows topic next) (Err (Table NoSub)) old mid last e h (played_on step (untrack_all topic) next r mid new last e k p)
+  pub rows_gone_unknown : (f : Refusal) (r : Answer (untrack_all topic)) (old mid new : P) → is_unknown f ≡ true → step old (unsubscribe topic sub) (Err f) mid → step mid (untrack_all topic) r new → Gone step topic sub old new r
+  rows_gone_unknown f r old mid new u h k =
+      let here : step old (unsubscribe topic sub) (Err (Table NoSub)) mid = subst (λ (x : Refusal). step old (unsubscribe topic sub) (Err x) mid) (unknown_is f u) h in
+      λ next last e p. played_on step (unsubscribe topic sub) (then_rows topic next) (Err (Table NoSub)) old mid last e here (played_on step (untrack_all topic) next r mid new last e k p)
 
-  pub kept : (e : Refusal) (old new : P) → (e ≡ Table NoSub → ⊥) → step old (unsubscribe topic sub) (Err e) new → Gone step topic sub old new (Err e)
+  pub kept : (e : Refusal) (old new : P) → is_unknown e ≡ false → step old (unsubscribe topic sub) (Err e) new → Gone step topic sub old new (Err e)
   kept e old new other h = λ next last f p. played_on step (unsubscribe topic sub) (then_rows topic next) (Err e) old new last f h (rw (goes_on_refused topic next e other) p)
 
 -- ---- topics from a place on

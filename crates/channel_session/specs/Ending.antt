@@ -1,5 +1,5 @@
 -- The end of a session, topic by topic.
-use Rattle.std.specs.Prelude.{◌≡◌, ◌++◌, ℕ, List, [], ◌∷◌, Bool, true, Option, Some, None, map, option_to_list, Result, Ok, Err}
+use Rattle.std.specs.Prelude.{◌≡◌, ◌++◌, ℕ, List, [], ◌∷◌, Bool, true, false, Option, Some, None, map, option_to_list, Result, Ok, Err}
 use Rattle.channel_session_rules.specs.Sub.{Sub}
 use Rattle.channel_session_rules.specs.ShardFault.TheVariants as faults
 use Rattle.channel_session_rules.specs.declared.refusal.Refusal.{Refusal}
@@ -29,6 +29,11 @@ pub record Ended : Type 0 where
 -- what comes of these topics staying, and of this answer
 abbrev pub Leaving : Type 0
 Leaving = List Joined → Result (Unit {0}) Refusal → Ended
+
+-- whether it tells that the port has no such subscriber
+abbrev pub is_unknown : Refusal → Bool
+is_unknown (Table faults.NoSub) = true
+is_unknown _ = false
 
 -- an unknown subscriber counts as gone
 abbrev pub then_rows : List ℕ → (Result (Unit {0}) Refusal → Script Ended) → Result (Unit {0}) Refusal

@@ -1,6 +1,6 @@
 //! The end of a session, topic by topic.
 ghost use Rattle.std.specs.Prelude.{◌≡◌, [], OnOk, take, drop};
-ghost use Rattle.channel_session.specs.Ending.{Played, Gone, Keeps, EndedBy, EndsTopics, ends, fault_of_refusal as fault_in, topics_named};
+ghost use Rattle.channel_session.specs.Ending.{Played, Gone, Keeps, EndedBy, EndsTopics, ends, fault_of_refusal as fault_in, is_unknown as is_unknown_of, topics_named};
 ghost use Rattle.channel_session_rules.specs.InForce.{joined_in};
 
 use crate::fault::SessionFault;
@@ -9,6 +9,13 @@ use channel_session_events::{Caller, take_out};
 use channel_session_rules::{Join, Port, Refusal, ShardFault, Topics, Unsubscribe};
 use presence_base::Topic;
 use std::alloc::Global;
+
+// Whether the port has no such subscriber.
+fn is_unknown(refusal: Refusal) -> bool
+    ensures { result ≡ is_unknown_of refusal }
+{
+    matches!(refusal, Refusal::Table(ShardFault::NoSub))
+}
 
 // Both calls for one topic. An unknown subscriber counts as gone.
 fn end_topic<P: Port>(
@@ -25,8 +32,12 @@ fn end_topic<P: Port>(
     };
     match port.call(caller.alloc, caller.pid, &unsubscribe) {
         Ok(()) => take_out(caller, topic, port),
-        Err(Refusal::Table(ShardFault::NoSub)) => take_out(caller, topic, port),
-        Err(refusal) => Err(refusal),
+        Err(refusal) => {
+            if is_unknown(refusal) {
+                return take_out(caller, topic, port);
+            }
+            Err(refusal)
+        }
     }
 }
 
