@@ -16,14 +16,14 @@ module _ {A : Type 0} (pid : ℕ) (old new : History) (q : Ask) (view : A → Gi
 
   -- what it gave, as the question is given it
   asked : (r : Result A ShardFault) → Asked (there old) old new step (Gives old) r → FromTable (Asked (there_of q old) old new step (gives_of pid q old)) (seen_by view (in_table r))
-  asked (Ok x) a = record { stepped = a.stepped; given = is.given old x a.given; due = due (Ok x) a.due }
-  asked (Err AlreadyTracked) a = record { stepped = a.stepped; given = a.given; due = due (Err AlreadyTracked) a.due }
-  asked (Err NoPresence) a = record { stepped = a.stepped; given = a.given; due = due (Err NoPresence) a.due }
-  asked (Err ClockFull) a = record { stepped = a.stepped; given = a.given; due = due (Err ClockFull) a.due }
-  asked (Err JournalFull) a = record { stepped = a.stepped; given = a.given; due = due (Err JournalFull) a.due }
-  asked (Err NoSub) a = record { stepped = a.stepped; given = a.given; due = due (Err NoSub) a.due }
-  asked (Err BadIncarnation) a = record { stepped = a.stepped; given = a.given; due = due (Err BadIncarnation) a.due }
-  asked (Err OutOfMemory) a = record { stepped = a.stepped; given = a.given; due = due (Err OutOfMemory) a.due }
+  asked (Ok x) a = record { stepped = a.stepped; given = is.given old x a.given; due = due {B = A} (Ok x) a.due }
+  asked (Err AlreadyTracked) a = record { stepped = a.stepped; given = a.given; due = due {B = Given q} (Err AlreadyTracked) a.due }
+  asked (Err NoPresence) a = record { stepped = a.stepped; given = a.given; due = due {B = Given q} (Err NoPresence) a.due }
+  asked (Err ClockFull) a = record { stepped = a.stepped; given = a.given; due = due {B = Given q} (Err ClockFull) a.due }
+  asked (Err JournalFull) a = record { stepped = a.stepped; given = a.given; due = due {B = Given q} (Err JournalFull) a.due }
+  asked (Err NoSub) a = record { stepped = a.stepped; given = a.given; due = due {B = Given q} (Err NoSub) a.due }
+  asked (Err BadIncarnation) a = record { stepped = a.stepped; given = a.given; due = due {B = Given q} (Err BadIncarnation) a.due }
+  asked (Err OutOfMemory) a = record { stepped = a.stepped; given = a.given; due = due {B = Given q} (Err OutOfMemory) a.due }
 
   pub lent_step : (r : Result A ShardFault) → Asked (there old) old new step (Gives old) r → LocalStep pid old q (seen_by view (in_table r)) new
   lent_step r a =

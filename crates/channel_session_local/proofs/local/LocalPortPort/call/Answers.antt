@@ -16,7 +16,7 @@ told_to-requires g c = can_tell _ _ (sym c.in-Waits.ensures.1) (told.Waits c.in-
 pub returns-in-Step : goal.returns-in-Step
 returns-in-Step g c =
     let G = g.C.Call in
-    let S = G.Step.Call in
+    let S = g.C.Step.Call in
     let made = c.perform.ensures in
     let old = c.args.self.now.shard.now in
     let new = c.perform.new.self in
@@ -24,7 +24,7 @@ returns-in-Step g c =
     let q = G.ask c.args.call.now in
     let view = G.view c.args.call.now in (
       refl,
-      subst (λ (r : Result G.Answer Refusal). LocalStep c.args.pid old q (seen_by view r) new) (sym c.in_table.ensures)
+      subst (λ (r : Result g.C.Answer Refusal). LocalStep c.args.pid old q (seen_by view r) new) (sym c.in_table.ensures)
           (lent_step c.args.pid old new q view (S.step step) (S.there step) (S.gives step) c.in-Step.ensures c.perform.result
           (record { stepped = made.step; given = made.answer; due = made.due })),
     )
