@@ -24,7 +24,7 @@ returns-in-Step g c =
     let q = G.ask c.args.call.now in
     let view = G.view c.args.call.now in (
       refl,
-      subst (λ (r : Result g.C.Answer Refusal). LocalStep c.args.pid old q (seen_by view r) new) (sym c.in_table.ensures)
+      subst (λ r. LocalStep c.args.pid old q (seen_by view r) new) (sym c.in_table.ensures)
           (lent_step c.args.pid old new q view (S.step step) (S.there step) (S.gives step) c.in-Step.ensures c.perform.result
           (record { stepped = made.step; given = made.answer; due = made.due })),
     )
