@@ -38,39 +38,40 @@ last_shard (suc (suc zero)) n less few a b c = absurd (c refl)
 last_shard (suc (suc (suc zero))) n less few a b c = refl
 last_shard (suc (suc (suc (suc s)))) n less few a b c = absurd (omega (arith, less, few))
 
+-- What is known of the call comes first in each: by it a search knows the lane.
 module _ (Begins : ℕ → History → Type 0) (First : History → Type 0) (shard : ℕ) (name node : List ℕ) (Is : History → Type 0) where
-  at_number : (k : ℕ) → ((h : History) → First h → Begins k h) → name ≡ node → shard ≡ k → IsBehindOf (IsOfShard name First) Is → IsBehindAt Begins shard node Is
-  at_number k law named same b =
+  at_number : (k : ℕ) → IsBehindOf (IsOfShard name First) Is → shard ≡ k → name ≡ node → ((h : History) → First h → Begins k h) → IsBehindAt Begins shard node Is
+  at_number k b same named law =
       subst (λ (s : ℕ). IsBehindAt Begins s node Is) (sym same) (behind_of First (Begins k) law name node Is named b)
 
-  pub at_first : ((h : History) → First h → Begins 0 h) → name ≡ node → shard ≡ 0 → IsBehindOf (IsOfShard name First) Is → IsBehindAt Begins shard node Is
+  pub at_first : IsBehindOf (IsOfShard name First) Is → shard ≡ 0 → name ≡ node → ((h : History) → First h → Begins 0 h) → IsBehindAt Begins shard node Is
   at_first = at_number 0
 
-  pub at_second : ((h : History) → First h → Begins 1 h) → name ≡ node → shard ≡ 1 → IsBehindOf (IsOfShard name First) Is → IsBehindAt Begins shard node Is
+  pub at_second : IsBehindOf (IsOfShard name First) Is → shard ≡ 1 → name ≡ node → ((h : History) → First h → Begins 1 h) → IsBehindAt Begins shard node Is
   at_second = at_number 1
 
-  pub at_third : ((h : History) → First h → Begins 2 h) → name ≡ node → shard ≡ 2 → IsBehindOf (IsOfShard name First) Is → IsBehindAt Begins shard node Is
+  pub at_third : IsBehindOf (IsOfShard name First) Is → shard ≡ 2 → name ≡ node → ((h : History) → First h → Begins 2 h) → IsBehindAt Begins shard node Is
   at_third = at_number 2
 
-  pub at_fourth : (n : ℕ) → ((h : History) → First h → Begins 3 h) → name ≡ node → shard < n → n ≤ 4 → (shard ≡ 0 → ⊥) → (shard ≡ 1 → ⊥) → (shard ≡ 2 → ⊥)
-      → IsBehindOf (IsOfShard name First) Is → IsBehindAt Begins shard node Is
-  at_fourth n law named less few a b c = at_number 3 law named (last_shard shard n less few a b c)
+  pub at_fourth : (n : ℕ) → IsBehindOf (IsOfShard name First) Is → shard < n → n ≤ 4 → (shard ≡ 0 → ⊥) → (shard ≡ 1 → ⊥) → (shard ≡ 2 → ⊥) → name ≡ node
+      → ((h : History) → First h → Begins 3 h) → IsBehindAt Begins shard node Is
+  at_fourth n b less few x y z named law = at_number 3 b (last_shard shard n less few x y z) named law
 
 module _ (Begins : ℕ → History → Type 0) (First : History → Type 0) (shard : ℕ) (h : History) where
-  line_at : (k : ℕ) → ((h : History) → First h → Begins k h) → shard ≡ k → IsOfLane First h → IsOfLane (Begins shard) h
-  line_at k law same d = subst (λ (s : ℕ). IsOfLane (Begins s) h) (sym same) (line_of First (Begins k) law h d)
+  line_at : (k : ℕ) → IsOfLane First h → shard ≡ k → ((h : History) → First h → Begins k h) → IsOfLane (Begins shard) h
+  line_at k d same law = subst (λ (s : ℕ). IsOfLane (Begins s) h) (sym same) (line_of First (Begins k) law h d)
 
-  pub line_first : ((h : History) → First h → Begins 0 h) → shard ≡ 0 → IsOfLane First h → IsOfLane (Begins shard) h
+  pub line_first : IsOfLane First h → shard ≡ 0 → ((h : History) → First h → Begins 0 h) → IsOfLane (Begins shard) h
   line_first = line_at 0
 
-  pub line_second : ((h : History) → First h → Begins 1 h) → shard ≡ 1 → IsOfLane First h → IsOfLane (Begins shard) h
+  pub line_second : IsOfLane First h → shard ≡ 1 → ((h : History) → First h → Begins 1 h) → IsOfLane (Begins shard) h
   line_second = line_at 1
 
-  pub line_third : ((h : History) → First h → Begins 2 h) → shard ≡ 2 → IsOfLane First h → IsOfLane (Begins shard) h
+  pub line_third : IsOfLane First h → shard ≡ 2 → ((h : History) → First h → Begins 2 h) → IsOfLane (Begins shard) h
   line_third = line_at 2
 
-  pub line_fourth : (n : ℕ) → ((h : History) → First h → Begins 3 h) → shard < n → n ≤ 4 → (shard ≡ 0 → ⊥) → (shard ≡ 1 → ⊥) → (shard ≡ 2 → ⊥)
-      → IsOfLane First h → IsOfLane (Begins shard) h
-  line_fourth n law less few a b c = line_at 3 law (last_shard shard n less few a b c)
+  pub line_fourth : (n : ℕ) → IsOfLane First h → shard < n → n ≤ 4 → (shard ≡ 0 → ⊥) → (shard ≡ 1 → ⊥) → (shard ≡ 2 → ⊥)
+      → ((h : History) → First h → Begins 3 h) → IsOfLane (Begins shard) h
+  line_fourth n d less few x y z law = line_at 3 d (last_shard shard n less few x y z) law
 
 pub ruleset lanes = (out_of_lane, at_first, at_second, at_third, at_fourth, line_first, line_second, line_third, line_fourth)
