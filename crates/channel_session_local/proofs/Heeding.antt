@@ -1,5 +1,5 @@
 -- Each rule of the channel, and each delivery, ends in want of memory where the port answers it.
-use Rattle.std.proofs.Common.{◌≡◌, ℕ, List, [], ◌∷◌, ◌-◌, Bool, true, false, if◌then◌else◌, nat_le, length, Option, Some, None, Result, Ok, Err, refl}
+use Rattle.std.proofs.Common.{ℕ, List, [], ◌∷◌, ◌-◌, Bool, true, false, if◌then◌else◌, nat_le, length, Option, Some, None, Result, Ok, Err, refl}
 use Rattle.serde_json.specs.Data.{Data}
 use Rattle.presence_base.specs.declared.dots.Dot.{Dot}
 use Rattle.presence_journal_data.specs.declared.rows.Item.{Item}

@@ -1,9 +1,7 @@
-use Rattle.std.proofs.Common.{◌≡◌, Result, Ok, Err, refl, sym, subst}
-use Rattle.channel_session_rules.specs.ShardFault.{ShardFault}
+use Rattle.std.proofs.Common.{Ok, Err, refl, sym, subst}
 use Rattle.channel_session_rules.proofs.Answered.{can_tell, told_so, refused_so}
 use Rattle.channel_session_rules.specs.Asks.{Ask, Answer}
 use Rattle.channel_session_rules.specs.Seen.{seen_by}
-use Rattle.channel_session_rules.specs.declared.refusal.Refusal.{Refusal}
 use Rattle.channel_session_rules.specs.declared.refusal.Refusal.TheVariants.{Table}
 use Rattle.channel_session_rules.specs.declared.question.Told.TheVariants as told
 use Rattle.channel_session_local.specs.Local.{LocalStep}
