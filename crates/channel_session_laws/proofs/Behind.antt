@@ -365,15 +365,15 @@ abbrev IsRefused : Leaving → Type 0
 IsRefused leaving = (js : List Joined) (a : Result (Unit {0}) Refusal) → (leaving js a).answer ≡ Ok tt → ⊥
 
 -- what has nothing more to ask ends so
-at_end : (x e : Ended) (old new : History) → Played (LocalStep pid) (done x) old new e → (x ≡ e) × (new ≡ old)
-at_end x e old new p = go p.made p.calls p.plays
+at_end : (pid : ℕ) (x e : Ended) (old new : History) → Played (LocalStep pid) (done x) old new e → (x ≡ e) × (new ≡ old)
+at_end pid x e old new p = go p.made p.calls p.plays
   where
     go : (cs : List Call) → Chained (LocalStep pid) old cs new → Plays (done x) cs e → (x ≡ e) × (new ≡ old)
     go [] m f = (f, m)
     go (c ∷ cs) m f = absurd f
 
 refused : (leave : OnlyNamedLeave) (pid : ℕ) (js : List Joined) (leaving : Leaving) → IsRefused leaving → (old new : History) (e : Ended) → IsLegal old → Played (LocalStep pid) (ends_topics leaving js) old new e → e.answer ≡ Ok tt → ⊥
-refused leave pid [] leaving r old new e legal p w = r [] (Ok tt) (ap (λ (x : Ended). x.answer) (at_end (leaving [] (Ok tt)) e old new p).0 ∙ w)
+refused leave pid [] leaving r old new e legal p w = r [] (Ok tt) (ap (λ (x : Ended). x.answer) (at_end pid (leaving [] (Ok tt)) e old new p).0 ∙ w)
 refused leave pid (j ∷ js) leaving r old new e legal p w =
     let t = topic_ended leave pid j.topic j.sub (λ a. ends_topics (staying j a leaving) js) old new e legal p in
     go (λ later f mid l q. refused leave pid js later f mid new e l q w) t.mid t.answer t.keeps.legal t.rest
@@ -395,7 +395,7 @@ topics js = each (λ j. j.topic) js
 
 all_ended : (leave : OnlyNamedLeave) (pid : ℕ) (js : List Joined) (leaving : Leaving) → IsHonest leaving → (old new : History) (e : Ended) → IsLegal old → StandsOn (topics js) pid old → Played (LocalStep pid) (ends_topics leaving js) old new e → e.answer ≡ Ok tt → AllEnded pid js old new
 all_ended leave pid [] leaving honest old new e legal on p w =
-    let same = (at_end (leaving [] (Ok tt)) e old new p).1 in
+    let same = (at_end pid (leaving [] (Ok tt)) e old new p).1 in
     subst (λ g. AllEnded pid [] old g) (sym same) (record { keeps = record { legal = legal; rows = λ ts f. f; over = λ slot n f. f }; rows = on; over = tt })
 all_ended leave pid (j ∷ js) leaving honest old new e legal on p w =
     let t = topic_ended leave pid j.topic j.sub (λ a. ends_topics (staying j a leaving) js) old new e legal p in
