@@ -6,6 +6,7 @@ use Rattle.std.proofs.Crossing as heap
 use Rattle.std.proofs.MapsCrossing as maps
 use Rattle.std.specs.declared.sync.ledger.Ledger as Ledger
 use Rattle.shard_pool.specs.Lane as Lane
+use Rattle.shard_pool.specs.declared.lanes.Lanes as Lanes
 use Rattle.shard_pool.proofs.Crossing.{seat_send}
 use Rattle.presence_node_sockets.specs.contracts.watch.Watch as Watch
 use Rattle.presence_node_hints.specs.contracts.followers.Followers as Followers
@@ -77,13 +78,13 @@ received_send = search sendable depth 60 fits 20000
 drain_send : IsSend (Drain.the_field).row
 drain_send = search (heap.crosses, sendable) depth 60 fits 20000
 
-module _ (L A B C D : RattleType) (lane-a : Lane.Ghosts A.Denot) (lane-b : Lane.Ghosts B.Denot) (lane-c : Lane.Ghosts C.Denot) (lane-d : Lane.Ghosts D.Denot)
+module _ (L A B C D : RattleType) (lanes : Lanes.Ghosts L.Denot A.Denot B.Denot C.Denot D.Denot) (lane-a : Lane.Ghosts A.Denot) (lane-b : Lane.Ghosts B.Denot) (lane-c : Lane.Ghosts C.Denot) (lane-d : Lane.Ghosts D.Denot)
     (a : Ledger.Ghosts A.Denot) (b : Ledger.Ghosts B.Denot) (c : Ledger.Ghosts C.Denot) (d : Ledger.Ghosts D.Denot) where
-  bench_send : IsSend (Bench.the_field L A B C D lane-a a lane-b b lane-c c lane-d d).row
+  bench_send : IsSend (Bench.the_field L A B C D lanes lane-a a lane-b b lane-c c lane-d d).row
   bench_send = search (seat_send, worker_send, client_stream_row_send, client_stream_send, watch_send, leavers_send, long_texts_send, followers_send, ends_send, growth_send, received_send, drain_send, rations_send, heap.crosses, sendable) depth 60 fits 20000
 
-  pub place_send : IsSend (Workplace.the_field L A B C D lane-a a lane-b b lane-c c lane-d d).row
+  pub place_send : IsSend (Workplace.the_field L A B C D lanes lane-a a lane-b b lane-c c lane-d d).row
   place_send = search (bench_send, sendable) depth 60 fits 20000
 
-  pub place_row_send : IsSend (Workplace.the_row L A B C D lane-a a lane-b b lane-c c lane-d d)
+  pub place_row_send : IsSend (Workplace.the_row L A B C D lanes lane-a a lane-b b lane-c c lane-d d)
   place_row_send = search (bench_send, sendable) depth 60 fits 20000

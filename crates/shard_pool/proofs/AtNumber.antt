@@ -1,8 +1,9 @@
 -- What is behind a call of one shard, as it is said of the shard of that number.
 use Rattle.std.proofs.Common.{◌≡◌, ◌<◌, ◌≤◌, ℕ, zero, suc, List, refl, sym, subst, arith}
+use Rattle.std.specs.Prelude.{Result, Ok, Err, IfOk}
 use Rattle.presence_journal.specs.History.{History, own}
 use Rattle.shard_pool_locks.specs.Lines.{Comes, Descends, IsOfLane, IsOfShard}
-use Rattle.shard_pool_locks.specs.Unseated.{IsBehind, IsBehindOf}
+use Rattle.shard_pool_locks.specs.Unseated.{IsBehind, IsBehindOf, IsOf}
 use Rattle.shard_pool.specs.Seats.{IsBehindAt}
 
 -- that it is of the lane says more
@@ -38,40 +39,20 @@ last_shard (suc (suc zero)) n less few a b c = absurd (c refl)
 last_shard (suc (suc (suc zero))) n less few a b c = refl
 last_shard (suc (suc (suc (suc s)))) n less few a b c = absurd (omega (arith, less, few))
 
--- What is known of the call comes first in each: by it a search knows the lane.
-module _ (Begins : ℕ → History → Type 0) (First : History → Type 0) (shard : ℕ) (name node : List ℕ) (Is : History → Type 0) where
-  at_number : (k : ℕ) → IsBehindOf (IsOfShard name First) Is → shard ≡ k → name ≡ node → ((h : History) → First h → Begins k h) → IsBehindAt Begins shard node Is
-  at_number k b same named law =
+module _ (Begins : ℕ → History → Type 0) (First : History → Type 0) (shard : ℕ) (name node : List ℕ) where
+  pub at_number : (k : ℕ) (Is : History → Type 0) → shard ≡ k → name ≡ node → ((h : History) → First h → Begins k h) → IsBehindOf (IsOfShard name First) Is → IsBehindAt Begins shard node Is
+  at_number k Is same named law b =
       subst (λ (s : ℕ). IsBehindAt Begins s node Is) (sym same) (behind_of First (Begins k) law name node Is named b)
 
-  pub at_first : IsBehindOf (IsOfShard name First) Is → shard ≡ 0 → name ≡ node → ((h : History) → First h → Begins 0 h) → IsBehindAt Begins shard node Is
-  at_first = at_number 0
+  -- where there is an answer
+  pub ok_at_number : {A E : Type 0} (k : ℕ) (Is : A → History → Type 0) (r : Result A E) → shard ≡ k → name ≡ node → ((h : History) → First h → Begins k h)
+      → IfOk r (λ x. IsBehindOf (IsOfShard name First) (Is x)) → IfOk r (λ x. IsBehindAt Begins shard node (Is x))
+  ok_at_number k Is (Ok x) same named law b = at_number k (Is x) same named law b
+  ok_at_number k Is (Err e) same named law b = b
 
-  pub at_second : IsBehindOf (IsOfShard name First) Is → shard ≡ 1 → name ≡ node → ((h : History) → First h → Begins 1 h) → IsBehindAt Begins shard node Is
-  at_second = at_number 1
+  pub ok_line : {E : Type 0} (k : ℕ) (r : Result History E) → shard ≡ k → ((h : History) → First h → Begins k h)
+      → IfOk r (λ j. IsOf name j × IsOfLane First j) → IfOk r (IsOfLane (Begins shard))
+  ok_line k (Ok j) same law b = subst (λ (s : ℕ). IsOfLane (Begins s) j) (sym same) (line_of First (Begins k) law j b.1)
+  ok_line k (Err e) same law b = b
 
-  pub at_third : IsBehindOf (IsOfShard name First) Is → shard ≡ 2 → name ≡ node → ((h : History) → First h → Begins 2 h) → IsBehindAt Begins shard node Is
-  at_third = at_number 2
-
-  pub at_fourth : (n : ℕ) → IsBehindOf (IsOfShard name First) Is → shard < n → n ≤ 4 → (shard ≡ 0 → ⊥) → (shard ≡ 1 → ⊥) → (shard ≡ 2 → ⊥) → name ≡ node
-      → ((h : History) → First h → Begins 3 h) → IsBehindAt Begins shard node Is
-  at_fourth n b less few x y z named law = at_number 3 b (last_shard shard n less few x y z) named law
-
-module _ (Begins : ℕ → History → Type 0) (First : History → Type 0) (shard : ℕ) (h : History) where
-  line_at : (k : ℕ) → IsOfLane First h → shard ≡ k → ((h : History) → First h → Begins k h) → IsOfLane (Begins shard) h
-  line_at k d same law = subst (λ (s : ℕ). IsOfLane (Begins s) h) (sym same) (line_of First (Begins k) law h d)
-
-  pub line_first : IsOfLane First h → shard ≡ 0 → ((h : History) → First h → Begins 0 h) → IsOfLane (Begins shard) h
-  line_first = line_at 0
-
-  pub line_second : IsOfLane First h → shard ≡ 1 → ((h : History) → First h → Begins 1 h) → IsOfLane (Begins shard) h
-  line_second = line_at 1
-
-  pub line_third : IsOfLane First h → shard ≡ 2 → ((h : History) → First h → Begins 2 h) → IsOfLane (Begins shard) h
-  line_third = line_at 2
-
-  pub line_fourth : (n : ℕ) → IsOfLane First h → shard < n → n ≤ 4 → (shard ≡ 0 → ⊥) → (shard ≡ 1 → ⊥) → (shard ≡ 2 → ⊥)
-      → ((h : History) → First h → Begins 3 h) → IsOfLane (Begins shard) h
-  line_fourth n d less few x y z law = line_at 3 d (last_shard shard n less few x y z) law
-
-pub ruleset lanes = (out_of_lane, at_first, at_second, at_third, at_fourth, line_first, line_second, line_third, line_fourth)
+pub ruleset lanes = (out_of_lane)
