@@ -25,7 +25,7 @@ use Rattle.channel_session_rules.specs.Asks.{Ask, Answer, Call, spoils, some_spo
 use Rattle.channel_session_rules.specs.Asks.{Made as Chained}
 use Rattle.channel_session_rules.specs.InForce.{Joined, InForce, find, without_topic}
 use Rattle.channel_session_rules.specs.Rules
-use Rattle.channel_session_rules.specs.Rules.{End, answers, full, memory, said, unsaid, full_reason, track_reason, update_reason, replied, refuses, subscribes, tracks, within, join_asked, rejoins, on_join, on_leave, ended, left, on_event, on_topic, by_route, by_kind, rules, join_at, is_phoenix, route_of, kind_of, joins, then_next}
+use Rattle.channel_session_rules.specs.Rules.{End, answers, full, memory, said, unsaid, full_reason, track_reason, update_reason, replied, refuses, subscribes, tracks, within, join_asked, on_join, on_leave, ended, left, on_event, on_topic, by_kind, rules, join_at, is_phoenix, route_of, kind_of, joins, then_next}
 use Rattle.channel_session_rules.specs.Said.{Said, message, listed}
 use Rattle.channel_session_rules.specs.declared.topics.TheConstants.{MAX_TOPICS}
 use Rattle.channel_session_rules.specs.Script.{Script, done, ask, Plays, Begins}

@@ -18,7 +18,7 @@ use Rattle.presence_metas.proofs.FoldLaws.{applied_as_map, applied_rises}
 use Rattle.presence_metas.proofs.Lookups.{Rises}
 use Rattle.presence_metas.proofs.ReadBack.{listing_rises, states_read_back, diffs_read_back}
 use Rattle.presence_pieces.specs.Laws.{untold_items}
-use Rattle.presence_pieces.specs.Pieces.{telling, IsPiece, Comes, is_within, left_of, TellsNext}
+use Rattle.presence_pieces.specs.Pieces.{telling, Comes, is_within, left_of, TellsNext}
 use Rattle.presence_pieces.specs.declared.piece.TheConstants.{MAX_STATE_BYTES}
 use Rattle.presence_pieces.specs.declared.telling.UntoldState.{UntoldState}
 use Rattle.channel_session_rules.specs.Frames.{message_of}

@@ -1,5 +1,5 @@
 -- What calls give in pieces leads a client's lists to where what the port inside gives does.
-use Rattle.std.proofs.Common.{◌≡◌, ◌⊎◌, ◌||◌, ◌&&◌, ℕ, nat_eq, nat_lt, length, Bool, true, false, cond, List, [], ◌∷◌, ◌++◌, Option, Some, None, Result, Ok, Err, is_ok, inl, inr, refl, sym, ◌∙◌, ap, subst, append-nil, append_assoc}
+use Rattle.std.proofs.Common.{◌≡◌, ℕ, nat_eq, nat_lt, length, Bool, true, false, cond, List, [], ◌∷◌, ◌++◌, Option, Some, None, Result, Ok, Err, is_ok, inl, inr, refl, sym, ◌∙◌, ap, subst, append-nil, append_assoc}
 use Rattle.std.specs.Str.{bytes_eq}
 use Rattle.std.proofs.lemmas.Bool.{and_parts, eqb-true, or_parts}
 use Rattle.std.proofs.lemmas.Option.{same_Some}
@@ -14,17 +14,16 @@ use Rattle.presence_metas.specs.Fold.{meta_at}
 use Rattle.presence_metas.specs.Listing.{Listing}
 use Rattle.presence_metas.proofs.Lookups.{Rises, none_rises}
 use Rattle.presence_pieces.specs.Laws.{untold_items}
-use Rattle.presence_pieces.specs.Pieces.{begun, is_to, left_of, without, Tells, TellsNext}
+use Rattle.presence_pieces.specs.Pieces.{begun, is_to, left_of, Tells}
 use Rattle.presence_pieces.specs.declared.telling.UntoldState.{UntoldState}
 use Rattle.channel_session_rules.specs.declared.refusal.Refusal.{Refusal}
-use Rattle.channel_session_rules.specs.ShardFault.TheVariants.{OutOfMemory}
 use Rattle.channel_session_rules.specs.Sub.{Sub}
 use Rattle.channel_session_rules.specs.Asks.{Ask, Answer, ByAnyone, Call, Made, track, update, untrack, untrack_all, list, get, subscribe, take, unsubscribe, waits, shout}
 use Rattle.channel_session_local.specs.Local.{LocalStep}
 use Rattle.channel_session_laws.specs.Mirrors.{given_to, given_by}
 use Rattle.channel_session_laws.proofs.Givings.{all_frames_mirror, calls_give}
-use Rattle.channel_session_laws.specs.Pieces.{given_of, given_in, ends, some_ends, untold_of, numbered, AnsweredBy, PiecesLead, PiecesMirror}
-use Rattle.channel_session_pieces.specs.Piecewise.{lone, left_by, TellsOr, GivesAlone, GivesAnswer, GivesPiece, Asks, Wants, Takes, Waits, Piecewise}
+use Rattle.channel_session_laws.specs.Pieces.{given_of, given_in, ends, some_ends, untold_of, numbered, PiecesLead, PiecesMirror}
+use Rattle.channel_session_pieces.specs.Piecewise.{lone, left_by, TellsOr, GivesAlone, GivesAnswer, GivesPiece, Takes, Waits, Piecewise}
 use Rattle.channel_session_laws.proofs.Alike.{Alike, alike_refl, alike_trans, reads_all, all_alike, all_rises, reads_more}
 use Rattle.channel_session_laws.proofs.PieceReading.{next_read}
 

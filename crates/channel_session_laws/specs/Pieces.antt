@@ -1,5 +1,5 @@
 -- The laws of pieces.
-use Rattle.std.specs.Prelude.{◌≡◌, ◌++◌, ◌||◌, ℕ, nat_eq, Bool, true, false, cond, List, [], ◌∷◌, map, Option, Some, None, Result, Ok, Err, is_ok}
+use Rattle.std.specs.Prelude.{◌≡◌, ◌++◌, ◌||◌, ℕ, nat_eq, Bool, false, cond, List, [], ◌∷◌, map, Option, Some, None, Ok, Err, is_ok}
 use Rattle.phx_message.specs.declared.message.MsgRef.{MsgRef}
 use Rattle.presence_journal_data.specs.declared.rows.Item.{Item}
 use Rattle.presence_journal.specs.History.{History}
