@@ -1,8 +1,9 @@
 -- The journals of a pool put together.
 use Rattle.std.proofs.Common.{◌≡◌, ℕ, zero, suc, ◌<◌, ◌≤◌, true, cond, nat_lt, List, [], ◌∷◌, ◌++◌, take, append-nil, refl, sym, ap, subst, ◌∙◌, arith}
-use Rattle.std.specs.Prelude.{All}
+use Rattle.std.specs.Prelude.{All, Result, Ok, Err, IsErrAnd}
 use Rattle.std.proofs.lemmas.List.Elements.{All-push}
 use Rattle.presence_journal.specs.History.{History, own}
+use Rattle.shard_pool_settled.specs.declared.fault.SettleFault.{SettleFault}
 use Rattle.shard_pool_locks.specs.Lines.{IsOfLane}
 use Rattle.shard_pool_locks.specs.Unseated.{IsOf}
 use Rattle.shard_pool.specs.Seats.{IsOfShardAt}
@@ -57,4 +58,11 @@ are_placed node Begins A B C D n a b c d all most law-a law-b law-c law-d order 
     (record { of_node = first; of_lane = line_of A (Begins 0) law-a a one }) (record { of_node = second; of_lane = line_of B (Begins 1) law-b b two })
     (record { of_node = third; of_lane = line_of C (Begins 2) law-c c three }) (record { of_node = fourth; of_lane = line_of D (Begins 3) law-d d four }))
 
-pub ruleset in_places = (are_placed)
+-- the fault of a call is what it hands on
+abbrev fault_in : {A : Type 0} → SettleFault → Result A SettleFault → SettleFault
+fault_in other (Ok x) = other
+fault_in other (Err e) = e
+
+pub handed_on : {A : Type 0} (r : Result A SettleFault) (f k : SettleFault) → IsErrAnd r (λ e. e ≡ f) → r ≡ Err k → f ≡ k
+handed_on (Ok x) f k is same = absurd is
+handed_on (Err e) f k is same = sym is ∙ ap (fault_in k) same

@@ -149,7 +149,6 @@ impl<G: Gate + Drop, L: Lanes> Pool<G, L> {
     ///
     /// It refuses as `check_seats` does, and then hands nothing back: of the journals that it found no
     /// more can be said than that they were legal.
-    #[tactic(auto, using(crate::proofs::Settled::in_places))]
     pub fn settle<R: Wait>(
         self,
         _rt: &R,
