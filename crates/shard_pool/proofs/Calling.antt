@@ -59,5 +59,3 @@ module _ {A : Type 0} (Begins : ℕ → History → Type 0) (First : History →
   called_fourth law named is some few a b c seated called =
       let new : Hands = record { number = old.number; first = old.first; second = old.second; third = old.third; fourth = x } in
       moved 3 new (subst (λ s. s ≡ shard_of t n) (last_shard shard n (below is some) few a b c) is) (record { others = refl; shard = seated.7; call = called_here 3 old.fourth law named called })
-
-pub ruleset calling = (called_first, called_second, called_third, called_fourth)

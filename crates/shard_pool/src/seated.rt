@@ -19,7 +19,6 @@ use std::sync::Wait;
 
 impl<G: Gate, L: Lanes> Pool<G, L> {
     /// Makes a call through a seat, at its topic's shard.
-    #[tactic(auto, using(crate::proofs::Calling::calling))]
     pub fn call<R: Wait, Q: Call>(
         &self,
         rt: &R,
