@@ -9,11 +9,11 @@ use Rattle.presence_node_duties.proofs.Crossing.{links_sync, task_row_send}
 use Rattle.presence_node_duties.proofs.Crossing.{budgets_sync, counts_sync, log_sync, mailbox_sync, memory_sync, place_row_send, routes_sync}
 use Rattle.presence_node_main.proofs.serving.running.run_server.Goals as goal
 
-pub run_crew-requires-send-T : goal.run_crew-requires-send-T
-run_crew-requires-send-T g c = search (place_row_send, sendable) depth 30
+pub run_crew-requires-send-C-Tools : goal.run_crew-requires-send-C-Tools
+run_crew-requires-send-C-Tools g c = search (place_row_send, sendable) depth 30
 
-pub run_crew-requires-send-K : goal.run_crew-requires-send-K
-run_crew-requires-send-K g c = search (task_row_send, sendable) depth 30
+pub run_crew-requires-send-C-Task : goal.run_crew-requires-send-C-Task
+run_crew-requires-send-C-Task g c = search (task_row_send, sendable) depth 30
 
 pub run_crew-requires-sync-C : goal.run_crew-requires-sync-C
 run_crew-requires-sync-C g c κs within =
