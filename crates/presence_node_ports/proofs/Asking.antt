@@ -37,7 +37,12 @@ module _ {A B : Type 0} (f : A → B) (here : ℕ → History → Type 0) (there
         others = c.others;
         shard = c.shard;
         call = record {
-          history = h; left = c.call.left; legal = c.call.legal; here = c.call.here; made = c.call.made; notes = c.call.notes;
+          history = h;
+          left = c.call.left;
+          legal = c.call.legal;
+          here = c.call.here;
+          made = c.call.made;
+          notes = c.call.notes;
           due = due (Ok (record { shard = r.shard; number = r.number; value = f r.value })) h c.call.due;
           answer = (c.call.answer.0, c.call.answer.1, kept h r.value c.call.answer.2);
         };
