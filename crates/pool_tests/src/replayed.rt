@@ -61,7 +61,13 @@ fn tell<G: Gate, L: Lanes, R: Wait>(
 type Done<L> = (Option<Called>, Seat<L>);
 
 // A thread with a seat, and beside it what another replica does is told.
-fn told_beside<G: Gate + Sync, L: Lanes + Send + Sync, R: Threads + Wait + Sync>(
+fn told_beside<
+    G: Gate + Sync,
+    L: Lanes<First: Send + Sync, Second: Send + Sync, Third: Send + Sync, Fourth: Send + Sync>
+        + Send
+        + Sync,
+    R: Threads + Wait + Sync,
+>(
     rt: &R,
     alloc: Global,
     pool: &Pool<G, L>,
@@ -76,7 +82,13 @@ fn told_beside<G: Gate + Sync, L: Lanes + Send + Sync, R: Threads + Wait + Sync>
 }
 
 // Two of them.
-fn two_beside<G: Gate + Sync, L: Lanes + Send + Sync, R: Threads + Wait + Sync>(
+fn two_beside<
+    G: Gate + Sync,
+    L: Lanes<First: Send + Sync, Second: Send + Sync, Third: Send + Sync, Fourth: Send + Sync>
+        + Send
+        + Sync,
+    R: Threads + Wait + Sync,
+>(
     rt: &R,
     alloc: Global,
     pool: &Pool<G, L>,
@@ -94,7 +106,13 @@ fn two_beside<G: Gate + Sync, L: Lanes + Send + Sync, R: Threads + Wait + Sync>(
 // What all three give back, and whether what was told is covered.
 type AllDone<L> = (Done<L>, (Done<L>, (Done<L>, Option<bool>)));
 
-fn at_once<G: Gate + Sync, L: Lanes + Send + Sync, R: Threads + Wait + Sync>(
+fn at_once<
+    G: Gate + Sync,
+    L: Lanes<First: Send + Sync, Second: Send + Sync, Third: Send + Sync, Fourth: Send + Sync>
+        + Send
+        + Sync,
+    R: Threads + Wait + Sync,
+>(
     rt: &R,
     alloc: Global,
     pool: &Pool<G, L>,

@@ -56,7 +56,13 @@ fn work<G: Gate, L: Lanes, R: Wait>(
 }
 
 // Both seats at work, each in a thread of its own.
-fn work_both<G: Gate + Sync, L: Lanes + Send + Sync, R: Threads + Wait + Sync>(
+fn work_both<
+    G: Gate + Sync,
+    L: Lanes<First: Send + Sync, Second: Send + Sync, Third: Send + Sync, Fourth: Send + Sync>
+        + Send
+        + Sync,
+    R: Threads + Wait + Sync,
+>(
     rt: &R,
     alloc: Global,
     pool: &Pool<G, L>,

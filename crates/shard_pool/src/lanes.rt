@@ -8,13 +8,13 @@ use std::marker::PhantomData;
 
 /// The lanes of a pool: one for each shard that there can be.
 pub trait Lanes {
-    type First: Lane + Send + Sync;
+    type First: Lane;
 
-    type Second: Lane + Send + Sync;
+    type Second: Lane;
 
-    type Third: Lane + Send + Sync;
+    type Third: Lane;
 
-    type Fourth: Lane + Send + Sync;
+    type Fourth: Lane;
 
     /// What the shard of a number begins with.
     ghost begins: { ℕ → History → Type 0 };
@@ -29,24 +29,14 @@ pub trait Lanes {
 }
 
 /// These four lanes.
-pub struct Four<
-    A: Lane + Send + Sync,
-    B: Lane + Send + Sync,
-    C: Lane + Send + Sync,
-    D: Lane + Send + Sync,
-> {
+pub struct Four<A: Lane, B: Lane, C: Lane, D: Lane> {
     first: PhantomData<A>,
     second: PhantomData<B>,
     third: PhantomData<C>,
     fourth: PhantomData<D>,
 }
 
-impl<
-    A: Lane + Send + Sync,
-    B: Lane + Send + Sync,
-    C: Lane + Send + Sync,
-    D: Lane + Send + Sync,
-> Lanes for Four<A, B, C, D> {
+impl<A: Lane, B: Lane, C: Lane, D: Lane> Lanes for Four<A, B, C, D> {
     type First = A;
 
     type Second = B;

@@ -249,7 +249,9 @@ fn run_server<R, H, L>(
 where
     R: ServeRuntime,
     H: PresenceHooks + Sync,
-    L: Lanes + Send + Sync,
+    L: Lanes<First: Send + Sync, Second: Send + Sync, Third: Send + Sync, Fourth: Send + Sync>
+        + Send
+        + Sync,
     ensures { IfOk result (λ end. (hs : List Hands)
         × Settles server.entry.pool.own.name server.entry.pool.shards server.entry.pool.seats hs end) }
 {
@@ -277,7 +279,9 @@ fn run_threads<R, H, L>(
 where
     R: ServeRuntime,
     H: PresenceHooks + Sync,
-    L: Lanes + Send + Sync,
+    L: Lanes<First: Send + Sync, Second: Send + Sync, Third: Send + Sync, Fourth: Send + Sync>
+        + Send
+        + Sync,
     requires { setting.now.options.now.shards ≡ pool.shards }
     ensures { IfOk result (λ end. (hs : List Hands) × Settles pool.own.name pool.shards pool.seats hs end) }
 {
