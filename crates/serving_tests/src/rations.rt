@@ -99,6 +99,12 @@ fn refusal<P: Port>(
     })
 }
 
+// Whether all rows of connection 1 or 2 at a topic went.
+fn leaves<P: Port>(alloc: Global, port: &mut P, is_second: bool, topic: &Topic) -> bool {
+    let pid = if is_second { 2 } else { 1 };
+    port.call(alloc, pid, &UntrackAll { topic }).is_ok()
+}
+
 // How many rows of a connection are tracked, from this one on, up to the first that is refused, and why that one is.
 fn tracked_from<P: Port>(
     alloc: Global,
@@ -156,10 +162,7 @@ fn rows_have_a_limit(rt: HostRuntime) -> Result<(), Fail> {
     ] {
         assert_eq!(rt; refusal(alloc, &mut port, false, &rows, row), Some(wanted));
     }
-    assert!(rt;
-        port.call(alloc, 1, &UntrackAll { topic: &rows.topic })
-            .is_ok()
-    );
+    assert!(rt; leaves(alloc, &mut port, false, &rows.topic));
     assert_eq!(rt;
         tracked(alloc, &mut port, false, &rows),
         Some((1_024, full))
@@ -186,16 +189,7 @@ fn a_leave_forgets_one_topic(rt: HostRuntime) -> Result<(), Fail> {
     }
     let full = Refusal::OverRation;
     assert_eq!(rt; tracked(alloc, &mut port, false, &lobby), Some((424, full)));
-    assert!(rt;
-        port.call(
-            alloc,
-            1,
-            &UntrackAll {
-                topic: &lobby.topic
-            }
-        )
-        .is_ok()
-    );
+    assert!(rt; leaves(alloc, &mut port, false, &lobby.topic));
     assert_eq!(rt; tracked(alloc, &mut port, false, &lobby), Some((424, full)));
     Ok(())
 }
@@ -281,28 +275,10 @@ fn a_topic_has_a_budget(rt: HostRuntime) -> Result<(), Fail> {
             Some(wanted)
         );
     }
-    assert!(rt;
-        port.call(
-            alloc,
-            2,
-            &UntrackAll {
-                topic: &lobby.topic
-            }
-        )
-        .is_ok()
-    );
+    assert!(rt; leaves(alloc, &mut port, true, &lobby.topic));
     let (rows, bytes) = (5, 120);
     assert_eq!(rt; port.budgets().taken(&lobby.topic), Amount { rows, bytes });
-    assert!(rt;
-        port.call(
-            alloc,
-            1,
-            &UntrackAll {
-                topic: &lobby.topic
-            }
-        )
-        .is_ok()
-    );
+    assert!(rt; leaves(alloc, &mut port, false, &lobby.topic));
     assert_eq!(rt; port.budgets().taken(&lobby.topic), Amount::NOTHING);
     Ok(())
 }
@@ -393,17 +369,7 @@ fn workers_share_a_topics_budget(rt: HostRuntime) -> Result<(), Fail> {
         refusal(alloc, &mut port, false, &small, (Does::Track, 2)),
         Some(Some(full))
     );
-    assert!(rt;
-        beside
-            .call(
-                alloc,
-                2,
-                &UntrackAll {
-                    topic: &small.topic
-                }
-            )
-            .is_ok()
-    );
+    assert!(rt; leaves(alloc, &mut beside, true, &small.topic));
     assert_eq!(rt;
         budgets.taken(&rt, &small.topic),
         Amount { rows: 1, bytes: 24 }
