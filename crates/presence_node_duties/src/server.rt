@@ -7,17 +7,16 @@ use hook_registry::{PresenceHooks, Routes};
 use presence_node_counts::Counts;
 use presence_node_crew::Crew;
 use presence_node_hints::{Followed, Inbox, Topics};
-use presence_node_link_threads::{LinkTask, Links, Wakes};
+use presence_node_link_threads::{LinkRuntime, LinkTask, Links, Wakes};
 use presence_node_log::Log;
 use presence_node_rations::{MemoryMark, TopicBudgets};
 use presence_node_sockets::Bell;
 use shard_pool::{Lanes, NoGate, Pool};
 use std::alloc::Global;
-use std::net::{IpAddr, Net, TcpListener, TcpStream};
+use std::net::IpAddr;
 use std::rt::Files;
 use std::sync::atomic::{AtomicBool, AtomicU64, Ordering};
 use std::sync::{Arc, Wait};
-use std::time::Clock;
 
 /// What the workers and the links tell a worker, and what wakes it.
 pub struct WorkerMailbox {
