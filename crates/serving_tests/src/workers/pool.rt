@@ -5,7 +5,6 @@ ghost use Rattle.presence_base.specs.Refs.{IsCount};
 ghost use Rattle.shard_pool.specs.Lanes.{AllBegin};
 
 use super::run::{Run, own_replica, play};
-use pool_desk::Blanks;
 use presence_base::Replica;
 use presence_node_ports::PoolPort;
 use shard_pool::{Blanks, Four, Lane, Lanes, NoGate, Pool, Seat, SettleFault};
