@@ -1,3 +1,4 @@
 mod Endings
 pub mod Places
 mod Bracketed
+pub mod Sharing
