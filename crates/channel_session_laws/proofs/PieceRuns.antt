@@ -173,7 +173,7 @@ module _ {P : Type 0} (step : P → (q : Ask) → Answer q → P → Type 0) whe
   call_answered old new (untrack p k) a s = quiet old new (untrack p k) a a s.0 (λ mine. refl) (λ mine. refl) (λ mine e. ap (untold_of mine) s.1)
   call_answered old new (untrack_all p) a s = quiet old new (untrack_all p) a a s.0 (λ mine. refl) (λ mine. refl) (λ mine e. ap (untold_of mine) s.1)
   call_answered old new (list p) a s = quiet old new (list p) a s.0 s.1 (λ mine. refl) (λ mine. refl) (λ mine e. ap (untold_of mine) s.3)
-  call_answered old new (get p k) a s = quiet old new (get p k) a a s.0 (λ mine. refl) (λ mine. refl) (λ mine e. ap (untold_of mine) s.1)
+  call_answered old new (get p k) a s = quiet old new (get p k) a s.0 s.1 (λ mine. refl) (λ mine. refl) (λ mine e. ap (untold_of mine) s.3)
   call_answered old new (subscribe p) a s = quiet old new (subscribe p) a a s.0 (λ mine. refl) (λ mine. refl) (λ mine e. ap (untold_of mine) s.1)
   call_answered old new (take p sub max) a s = take_answered old.1 new.1 old.0 new.0 p sub max a s
   call_answered old new (unsubscribe p sub) a s =
@@ -228,7 +228,7 @@ module _ {P : Type 0} (step : P → (q : Ask) → Answer q → P → Type 0) (wi
   pieces_more old new (untrack p k) a s = (more old.0 new.0 (untrack p k) a s.0, s.1)
   pieces_more old new (untrack_all p) a s = (more old.0 new.0 (untrack_all p) a s.0, s.1)
   pieces_more old new (list p) a s = (s.0, more old.0 new.0 (list p) s.0 s.1, s.2, s.3)
-  pieces_more old new (get p k) a s = (more old.0 new.0 (get p k) a s.0, s.1)
+  pieces_more old new (get p k) a s = (s.0, more old.0 new.0 (get p k) s.0 s.1, s.2, s.3)
   pieces_more old new (subscribe p) a s = (more old.0 new.0 (subscribe p) a s.0, s.1)
   pieces_more old new (take p sub max) a s = takes_more old.1 new.1 old.0 new.0 p sub max a s
   pieces_more old new (unsubscribe p sub) a s = (more old.0 new.0 (unsubscribe p sub) a s.0, s.1)

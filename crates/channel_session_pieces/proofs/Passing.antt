@@ -9,6 +9,7 @@ use Rattle.presence_pieces.specs.declared.telling.UntoldState.{UntoldState}
 use Rattle.channel_session_rules.specs.Asks.{Ask, Answer, waits, unsubscribe}
 use Rattle.channel_session_rules.specs.Questions.{asks}
 use Rattle.channel_session_rules.specs.declared.calls.List.{List as ListCall}
+use Rattle.channel_session_rules.specs.declared.calls.Get.{Get}
 use Rattle.channel_session_rules.specs.declared.calls.Take.{Take}
 use Rattle.channel_session_rules.specs.declared.calls.Waits.{Waits as WaitsCall}
 use Rattle.channel_session_rules.specs.declared.calls.Unsubscribe.{Unsubscribe}
@@ -17,19 +18,19 @@ use Rattle.channel_session_rules.specs.declared.question.Question.TheVariants as
 use Rattle.channel_session_pieces.specs.Piecewise.{left_by, Piecewise, Waits}
 
 module _ {P : Type 0} (step : P → (q : Ask) → Answer q → P → Type 0) (old new : P × Option UntoldState) where
-  pub others_pass : (k : Question) → ((x : ListCall) → k ≡ questions.List x → ⊥) → ((x : Take) → k ≡ questions.Take x → ⊥) → ((x : WaitsCall) → k ≡ questions.Waits x → ⊥) → ((x : Unsubscribe) → k ≡ questions.Unsubscribe x → ⊥)
+  pub others_pass : (k : Question) → ((x : ListCall) → k ≡ questions.List x → ⊥) → ((x : Get) → k ≡ questions.Get x → ⊥) → ((x : Take) → k ≡ questions.Take x → ⊥) → ((x : WaitsCall) → k ≡ questions.Waits x → ⊥) → ((x : Unsubscribe) → k ≡ questions.Unsubscribe x → ⊥)
       → (a : Answer (asks k)) → step old.0 (asks k) a new.0 → new.1 ≡ old.1 → Piecewise step old (asks k) a new
-  others_pass (questions.Track c) nl nt nw nu a h e = (h, e)
-  others_pass (questions.Update c) nl nt nw nu a h e = (h, e)
-  others_pass (questions.Untrack c) nl nt nw nu a h e = (h, e)
-  others_pass (questions.UntrackAll c) nl nt nw nu a h e = (h, e)
-  others_pass (questions.List c) nl nt nw nu a h e = absurd (nl c refl)
-  others_pass (questions.Get c) nl nt nw nu a h e = (h, e)
-  others_pass (questions.Subscribe c) nl nt nw nu a h e = (h, e)
-  others_pass (questions.Take c) nl nt nw nu a h e = absurd (nt c refl)
-  others_pass (questions.Unsubscribe c) nl nt nw nu a h e = absurd (nu c refl)
-  others_pass (questions.Waits c) nl nt nw nu a h e = absurd (nw c refl)
-  others_pass (questions.Shout c) nl nt nw nu a h e = (h, e)
+  others_pass (questions.Track c) nl ng nt nw nu a h e = (h, e)
+  others_pass (questions.Update c) nl ng nt nw nu a h e = (h, e)
+  others_pass (questions.Untrack c) nl ng nt nw nu a h e = (h, e)
+  others_pass (questions.UntrackAll c) nl ng nt nw nu a h e = (h, e)
+  others_pass (questions.List c) nl ng nt nw nu a h e = absurd (nl c refl)
+  others_pass (questions.Get c) nl ng nt nw nu a h e = absurd (ng c refl)
+  others_pass (questions.Subscribe c) nl ng nt nw nu a h e = (h, e)
+  others_pass (questions.Take c) nl ng nt nw nu a h e = absurd (nt c refl)
+  others_pass (questions.Unsubscribe c) nl ng nt nw nu a h e = absurd (nu c refl)
+  others_pass (questions.Waits c) nl ng nt nw nu a h e = absurd (nw c refl)
+  others_pass (questions.Shout c) nl ng nt nw nu a h e = (h, e)
 
   -- a subscriber that was ended, or not
   pub ended_so : (topic : List ℕ) (sub : Sub) (a : Answer (unsubscribe topic sub)) → step old.0 (unsubscribe topic sub) a new.0 → (gone : Bool) → is_ok a ≡ gone → new.1 ≡ left_by gone topic sub.number old.1 → Piecewise step old (unsubscribe topic sub) a new

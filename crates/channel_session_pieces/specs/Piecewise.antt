@@ -7,7 +7,7 @@ use Rattle.presence_journal_data.specs.declared.rows.Item.TheVariants.{State}
 use Rattle.presence_pieces.specs.Pieces.{begun, is_to, is_within, without, Tells}
 use Rattle.presence_pieces.specs.declared.piece.TheConstants.{MAX_LISTED_BYTES}
 use Rattle.presence_pieces.specs.declared.telling.UntoldState.{UntoldState}
-use Rattle.channel_session_rules.specs.Asks.{Ask, Answer, list, take, unsubscribe, waits}
+use Rattle.channel_session_rules.specs.Asks.{Ask, Answer, list, get, take, unsubscribe, waits}
 use Rattle.channel_session_rules.specs.ShardFault.TheVariants.{OutOfMemory}
 use Rattle.channel_session_rules.specs.declared.refusal.Refusal.{Refusal}
 use Rattle.channel_session_rules.specs.declared.refusal.Refusal.TheVariants.{OverRation, Table}
@@ -88,5 +88,8 @@ module _ {P : Type 0} (step : P → (q : Ask) → Answer q → P → Type 0) whe
       step old.0 (unsubscribe topic sub) a new.0 × (new.1 ≡ left_by (is_ok a) topic sub.number old.1)
   Piecewise old (list topic) a new =
       (inner : Result (List (Dot × Row)) Refusal) × step old.0 (list topic) inner new.0 × ListsAnswer inner a
+      × (new.1 ≡ old.1)
+  Piecewise old (get topic key) a new =
+      (inner : Result (List (Dot × Row)) Refusal) × step old.0 (get topic key) inner new.0 × ListsAnswer inner a
       × (new.1 ≡ old.1)
   Piecewise old q a new = step old.0 q a new.0 × (new.1 ≡ old.1)

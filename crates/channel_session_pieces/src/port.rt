@@ -1,20 +1,20 @@
 //! The port that gives a long state in pieces.
 ghost use Rattle.std.specs.Prelude.{◌≡◌, ◌≤◌, ◌^◌, None, Some, is_some, MatchResult};
 ghost use Rattle.channel_session_rules.specs.Seen.{seen_by};
-ghost use Rattle.channel_session_rules.specs.Asks.{list as lists};
+ghost use Rattle.channel_session_rules.specs.Asks.{list as lists, get as gets};
 ghost use Rattle.channel_session_pieces.specs.Piecewise.{lone, GivesOn, Lists, Piecewise, Takes, TellsOr};
 
 use channel_session_rules::{
-    Call, List, Port, Question, Refusal, ShardFault, Take, Told, Unsubscribe, Waits, told_to,
+    Call, Get, List, Port, Question, Refusal, ShardFault, Take, Told, Unsubscribe, Waits, told_to,
 };
-use presence_base::Topic;
+use presence_base::{Dot, Row, Topic};
 use presence_journal::{Item, SharedRows};
-use presence_pieces::{MAX_LISTED_BYTES, Telling, text_within};
+use presence_pieces::{MAX_LISTED_BYTES, Telling, is_text_within, text_within};
 use std::alloc::Global;
 
 /// A port whose calls are those of the port inside, but that a long state that comes alone is given in pieces, one for each
-/// take. Until all of it is given, nothing else is said to wait. A list of too many rows for a reply is refused as
-/// what is more than the caller may have.
+/// take. Until all of it is given, nothing else is said to wait. A list or a get of too many rows for a reply is refused
+/// as what is more than the caller may have.
 #[derive(Drop)]
 pub struct PiecewisePort<'a, P> {
     port: &'a mut P,
@@ -50,6 +50,17 @@ fn listed(alloc: Global, rows: &SharedRows) -> Result<SharedRows, Refusal>
     match text_within(alloc, rows, MAX_LISTED_BYTES) {
         Ok(Some(state)) => Ok(state),
         Ok(None) => Err(Refusal::OverRation),
+        Err(_) => Err(Refusal::Table(ShardFault::OutOfMemory)),
+    }
+}
+
+// The same of the rows under a key.
+fn got(alloc: Global, rows: Vec<(Dot, Row)>) -> Result<Vec<(Dot, Row)>, Refusal>
+    ensures { Lists rows.items (seen_by (λ v. v.items) result) }
+{
+    match is_text_within(alloc, rows.as_slice(), MAX_LISTED_BYTES) {
+        Ok(true) => Ok(rows),
+        Ok(false) => Err(Refusal::OverRation),
         Err(_) => Err(Refusal::Table(ShardFault::OutOfMemory)),
     }
 }
@@ -136,6 +147,21 @@ impl<'a, P: Port> PiecewisePort<'a, P> {
             Err(refusal) => Err(refusal),
         }
     }
+
+    // Gets by the port inside, unless there are too many rows for a reply.
+    fn get(&mut self, alloc: Global, pid: u64, get: &Get<'_>) -> Result<Vec<(Dot, Row)>, Refusal>
+        requires { pid ≤ 2 ^ 62 }
+        ensures same_port { self.new.port.ghost_name ≡ self.old.port.ghost_name }
+        ensures same_telling { self.new.telling ≡ self.old.telling }
+        ensures got { Piecewise (P.step pid) (self.old.port.now, self.old.telling.now.untold)
+            (gets get.now.topic.now get.now.key.now) (seen_by (λ v. v.items) result)
+            (self.new.port.now, self.new.telling.now.untold) }
+    {
+        match self.port.call(alloc, pid, get) {
+            Ok(rows) => got(alloc, rows),
+            Err(refusal) => Err(refusal),
+        }
+    }
 }
 
 impl<P: Port> Port for PiecewisePort<'_, P> {
@@ -147,6 +173,10 @@ impl<P: Port> Port for PiecewisePort<'_, P> {
         match call.question() {
             Question::List(list) => match self.list(alloc, pid, &list) {
                 Ok(rows) => Ok(told_to(call, Told::Rows(rows))),
+                Err(refusal) => Err(refusal),
+            },
+            Question::Get(get) => match self.get(alloc, pid, &get) {
+                Ok(rows) => Ok(told_to(call, Told::Got(rows))),
                 Err(refusal) => Err(refusal),
             },
             Question::Take(take) => match self.take(alloc, pid, &take) {

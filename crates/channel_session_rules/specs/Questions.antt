@@ -22,6 +22,7 @@ asks (questions.Shout c) = shout c.topic.now c.payload.now
 -- this, as what the question is given, where it is such a one
 abbrev pub given_as : (q : Ask) → Told → Option (Given q)
 given_as (list t) (told.Rows rows) = Some rows
+given_as (get t k) (told.Got rows) = Some rows.items
 given_as (take t s n) (told.Items items) = Some items.items
 given_as (waits t s) (told.Waits w) = Some w
 given_as _ x = None

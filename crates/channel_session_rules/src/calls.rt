@@ -195,8 +195,11 @@ impl<'a> Call for Get<'a> {
         Question::Get(*self)
     }
 
-    fn answer(&self, _told: Told) -> Option<Vec<(Dot, Row)>> {
-        None
+    fn answer(&self, told: Told) -> Option<Vec<(Dot, Row)>> {
+        match told {
+            Told::Got(rows) => Some(rows),
+            _ => None,
+        }
     }
 
     fn at_shard(&self, _pid: u64) -> AtShard<shard::Get<'a>> {

@@ -2,7 +2,7 @@
 use crate::calls::{
     Get, List, Shout, Subscribe, Take, Track, Unsubscribe, Untrack, UntrackAll, Update, Waits,
 };
-use presence_base::Topic;
+use presence_base::{Dot, Row, Topic};
 use presence_journal::{Item, SharedRows};
 
 /// What a call asks, for a port that stands before another.
@@ -51,6 +51,8 @@ impl<'a> Question<'a> {
 pub enum Told {
     /// The rows of a list.
     Rows(SharedRows),
+    /// The rows of a get.
+    Got(Vec<(Dot, Row)>),
     /// The items of a take.
     Items(Vec<Item>),
     /// Whether something waits.

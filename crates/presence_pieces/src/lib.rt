@@ -7,5 +7,5 @@ pub mod laws;
 mod piece;
 mod telling;
 
-pub use piece::{MAX_LISTED_BYTES, MAX_STATE_BYTES, PIECE_BYTES, text_within};
+pub use piece::{MAX_LISTED_BYTES, MAX_STATE_BYTES, PIECE_BYTES, is_text_within, text_within};
 pub use telling::Telling;

@@ -118,6 +118,14 @@ fn state_bytes(alloc: Global, rows: &SharedRows) -> Result<usize, AllocError>
     Ok(text.as_str().len())
 }
 
+/// Whether the text that tells these rows as a state has so many bytes at most.
+pub fn is_text_within(alloc: Global, rows: &[(Dot, Row)], most: usize) -> Result<bool, AllocError>
+    ensures { IfOk result (λ b. b ≡ is_within most rows.now) }
+{
+    let state = SharedRows::new(alloc, copied(alloc, rows)?)?;
+    Ok(state_bytes(alloc, &state)? <= most)
+}
+
 /// The rows with the text that tells them as a state, unless it has more bytes than these.
 pub fn text_within(
     alloc: Global,

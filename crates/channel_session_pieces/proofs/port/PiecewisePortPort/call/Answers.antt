@@ -9,6 +9,9 @@ use Rattle.channel_session_pieces.proofs.port.PiecewisePortPort.call.Goals as go
 pub told_to-requires : goal.told_to-requires
 told_to-requires g c = can_tell _ _ c.in-List.ensures (told.Rows c.in-Ok.rows) _ refl
 
+pub told_to-requires-in-Ok-get : goal.told_to-requires-in-Ok-get
+told_to-requires-in-Ok-get g c = can_tell _ _ c.in-Get.ensures (told.Got c.in-Ok-get.rows) _ refl
+
 pub told_to-requires-in-Ok-take : goal.told_to-requires-in-Ok-take
 told_to-requires-in-Ok-take g c = can_tell _ _ c.in-Take.ensures (told.Items c.in-Ok-take.items) _ refl
 
@@ -28,6 +31,20 @@ returns-in-Err g c =
     let new = c.list.new.self in
     let S : (q : Ask) → Answer q → Type 0 = λ q a. Piecewise (g.P.Port.step c.args.pid) (old.port.now, old.telling.now.untold) q a (new.port.now, new.telling.now.untold) in
     (c.in-Err.ensures.same_port, ap (λ t. t.ghost_name) c.in-Err.ensures.same_telling, refused_so _ _ c.in-List.ensures S c.in-Err.refusal c.in-Err.ensures.listed)
+
+pub returns-in-Ok-get : goal.returns-in-Ok-get
+returns-in-Ok-get g c =
+    let old = c.args.self.now in
+    let new = c.get.new.self in
+    let S : (q : Ask) → Answer q → Type 0 = λ q a. Piecewise (g.P.Port.step c.args.pid) (old.port.now, old.telling.now.untold) q a (new.port.now, new.telling.now.untold) in
+    (c.in-Ok-get.ensures.same_port, ap (λ t. t.ghost_name) c.in-Ok-get.ensures.same_telling, told_so _ _ c.in-Get.ensures S (told.Got c.in-Ok-get.rows) _ _ refl c.told_to-in-Ok-get.ensures c.in-Ok-get.ensures.got)
+
+pub returns-in-Err-get : goal.returns-in-Err-get
+returns-in-Err-get g c =
+    let old = c.args.self.now in
+    let new = c.get.new.self in
+    let S : (q : Ask) → Answer q → Type 0 = λ q a. Piecewise (g.P.Port.step c.args.pid) (old.port.now, old.telling.now.untold) q a (new.port.now, new.telling.now.untold) in
+    (c.in-Err-get.ensures.same_port, ap (λ t. t.ghost_name) c.in-Err-get.ensures.same_telling, refused_so _ _ c.in-Get.ensures S c.in-Err-get.refusal c.in-Err-get.ensures.got)
 
 pub returns-in-Ok-take : goal.returns-in-Ok-take
 returns-in-Ok-take g c =
@@ -100,5 +117,5 @@ returns-in_default g c =
       refl,
       refl,
       passed_so _ _ c.question.ensures (λ q a. step old q a new) (λ q a. Piecewise step (old, untold) q a (new, untold))
-          (λ a h. others_pass step (old, untold) (new, untold) c.question.result d.not-List d.not-Take d.not-Waits d.not-Unsubscribe a h refl) _ c.call-in_default.ensures,
+          (λ a h. others_pass step (old, untold) (new, untold) c.question.result d.not-List d.not-Get d.not-Take d.not-Waits d.not-Unsubscribe a h refl) _ c.call-in_default.ensures,
     )
