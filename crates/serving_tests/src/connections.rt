@@ -1,9 +1,7 @@
 //! Tests of connections over streams in memory, and of the queue that they come by.
 
 mod bounds;
-mod closing;
 mod failing;
 mod line;
 mod queue;
 mod sending;
-mod turns;

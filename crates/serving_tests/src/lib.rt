@@ -9,8 +9,6 @@ mod connections;
 #[cfg(test)]
 mod front;
 #[cfg(test)]
-mod rations;
-#[cfg(test)]
 mod served;
 #[cfg(test)]
 mod system;

@@ -5,7 +5,7 @@ mod stream;
 mod texts;
 
 // What the tests name of a connection's turns, given out here.
-pub use presence_node_workers::{Cause, Connection, Progress, Stage, close_code, socket_config};
+pub use presence_node_workers::{Connection, Progress, Stage, socket_config};
 pub use routes::rooms;
-pub use stream::{Wire, add_frame, close_frame, frame, frames, socket_over, wire_of};
+pub use stream::{Wire, add_frame, frames, socket_over, wire_of};
 pub use texts::{REPLIES, TEXTS};

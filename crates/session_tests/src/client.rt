@@ -51,7 +51,7 @@ impl<H: Drop> Drop for Client<H> {
     }
 }
 
-pub(crate) fn shard_of(alloc: Global) -> Option<Shard> {
+fn shard_of(alloc: Global) -> Option<Shard> {
     let Ok(Some(name)) = NodeName::new(alloc, "a") else {
         return None;
     };
@@ -63,7 +63,7 @@ pub(crate) fn shard_of(alloc: Global) -> Option<Shard> {
 }
 
 // Rooms are of kind 7, and `chat` is of kind 1.
-pub(crate) fn routes_of(alloc: Global) -> Option<Routes> {
+fn routes_of(alloc: Global) -> Option<Routes> {
     let mut routes = Routes::new(alloc);
     if routes.add(alloc, "room:*", 7).is_err() || routes.add(alloc, "chat", 1).is_err() {
         return None;
@@ -77,7 +77,7 @@ pub(crate) fn client_of<H: Drop>(alloc: Global, hooks: H) -> Option<Client<H>> {
 }
 
 // A client over this shard.
-pub(crate) fn client_over<H: Drop>(alloc: Global, shard: Shard, hooks: H) -> Option<Client<H>> {
+fn client_over<H: Drop>(alloc: Global, shard: Shard, hooks: H) -> Option<Client<H>> {
     let routes = routes_of(alloc)?;
     Some(Client {
         shard,

@@ -6,11 +6,7 @@
 #[cfg(test)]
 mod client;
 #[cfg(test)]
-mod deliveries;
-#[cfg(test)]
 mod events;
-#[cfg(test)]
-mod hints;
 #[cfg(test)]
 mod hooked;
 #[cfg(test)]
@@ -18,21 +14,13 @@ mod inbox;
 #[cfg(test)]
 mod joins;
 #[cfg(test)]
-mod last_count;
-#[cfg(test)]
 mod lent;
-#[cfg(test)]
-mod limits;
-#[cfg(test)]
-mod pieces;
 #[cfg(test)]
 mod reasons;
 #[cfg(test)]
 mod refusals;
 #[cfg(test)]
 mod refused_deliveries;
-#[cfg(test)]
-mod refused_events;
 #[cfg(test)]
 mod refused_growths;
 #[cfg(test)]

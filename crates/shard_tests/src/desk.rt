@@ -64,15 +64,15 @@ pub(crate) enum Ask {
     LastNumber,
 }
 
-pub(crate) fn topic(alloc: Global, text: &str) -> Result<Topic, AllocError> {
+fn topic(alloc: Global, text: &str) -> Result<Topic, AllocError> {
     Topic::new(alloc, text)?.ok_or(AllocError)
 }
 
-pub(crate) fn key(alloc: Global, text: &str) -> Result<Key, AllocError> {
+fn key(alloc: Global, text: &str) -> Result<Key, AllocError> {
     Key::new(alloc, text)?.ok_or(AllocError)
 }
 
-pub(crate) fn meta(alloc: Global, text: &str) -> Result<Meta, AllocError> {
+fn meta(alloc: Global, text: &str) -> Result<Meta, AllocError> {
     match Value::from_str(alloc, text) {
         Ok(value) => Meta::new(alloc, value)?.ok_or(AllocError),
         Err(_) => Err(AllocError),
@@ -271,7 +271,7 @@ fn item_text(alloc: Global, item: &Item) -> Result<String, AllocError> {
     }
 }
 
-pub(crate) fn changes_text(
+fn changes_text(
     alloc: Global,
     joins: &[(Dot, Row)],
     leaves: &[(Dot, Row)],

@@ -1,5 +1,5 @@
-//! Tests of a shard and its journal by their public calls, of a shard that hears what other nodes tell, of a link between
-//! nodes with shards, and of both bodies of a shard beside each other.
+//! Tests of a shard by its public calls, and of one that hears what other nodes tell: worked rows, whose answers were written
+//! down by hand.
 #![tactic(auto)]
 
 #[cfg(test)]
@@ -11,27 +11,11 @@ mod desk;
 #[cfg(test)]
 mod full_journal;
 #[cfg(test)]
-mod journal;
-#[cfg(test)]
 mod kept_deltas;
-#[cfg(test)]
-mod link_lies;
-#[cfg(test)]
-mod link_node;
-#[cfg(test)]
-mod link_runs;
-#[cfg(test)]
-mod link_telling;
-#[cfg(test)]
-mod link_wire;
 #[cfg(test)]
 mod long_chains;
 #[cfg(test)]
-mod merge_cuts;
-#[cfg(test)]
 mod merge_desk;
-#[cfg(test)]
-mod merge_telling;
 #[cfg(test)]
 mod merging;
 #[cfg(test)]
@@ -44,7 +28,3 @@ mod resuming;
 mod statuses;
 #[cfg(test)]
 mod tops;
-#[cfg(test)]
-mod two_forms;
-#[cfg(test)]
-mod two_ways;

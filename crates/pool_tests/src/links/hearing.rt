@@ -14,15 +14,6 @@ pub(crate) type Hearing = ([u64; 6], Option<bool>, bool);
 
 pub(crate) const HEARING: Hearing = ([0, 1, 1, 0, 0, 0], Some(false), true);
 
-// Where cuts were lost there are three lines, and the later looks are behind their end.
-pub(crate) const HEARING_KEPT: Hearing = ([0, 0, 3, 3, 3, 3], Some(false), true);
-
-pub(crate) const HEARING_OUTGROWN: Hearing = (
-    [0, 0, 10_003, 10_003, 10_003, 10_003],
-    Some(false),
-    true,
-);
-
 // The count of the first row of the room, or 0.
 fn first_row<R: Wait, L: Lanes>(scene: Scene<'_, R, NoGate, L>, seat: &mut Seat<L>) -> Option<u64> {
     let Scene { rt, alloc, pool } = scene;

@@ -4,57 +4,29 @@ ghost use Rattle.std.specs.Prelude.{◌≡◌};
 ghost use Rattle.presence_base.specs.Refs.{IsCount};
 ghost use Rattle.shard_pool.specs.Lanes.{AllBegin};
 
-use super::crowds::{
-    HEARING_MOST, HEARING_OWN, HearingCrowd, HearingOwn, MOST, SAYING_MOST, SAYING_TOO_MANY,
-    SayingCrowd, TOO_MANY, hear_crowd, hear_own, say_crowd,
-};
-use super::hearing::{HEARING, HEARING_KEPT, HEARING_OUTGROWN, Hearing, hear};
-use super::loopback::{ACCEPTED, Accepted, DIALLED, Dialled, accept_over, both_ends, dial_over};
-use super::lost::{KEPT, Lost, OUTGROWN, SAYING_LOST, SayingLost, say_lost};
+use super::hearing::{HEARING, Hearing, hear};
 use super::node::Dialogue;
-use super::parts::{
-    HEAVY, Heavy, LIGHT, MIDDLING, SAYING_HEAVY, SAYING_LIGHT, SAYING_MIDDLING, SayingParts,
-    say_parts,
-};
 use super::saying::{FIRST, SAYING, Saying, say};
 use pool_desk::{Scene, replica};
 use presence_base::Replica;
 use shard_pool::{Blanks, Four, Lane, Lanes, NoGate, Pool, Seat};
 use std::alloc::Global;
 use std::marker::Brand;
-use std::net::TcpStream;
 use std::sync::Wait;
 use std::test::Fail;
-use std::thread;
 
 // What is done over a pool.
-#[derive(Drop)]
+#[derive(Clone, Copy)]
 enum Run {
     Say,
-    SayLost(Lost),
     Hear(Dialogue),
-    // So many rows.
-    SayCrowd(u32),
-    HearCrowd(u32),
-    HearOwn,
-    SayParts(Heavy),
-    // At one end of a connection.
-    Dial(TcpStream),
-    Accept(TcpStream),
 }
 
 // What came of it.
 #[derive(Clone, Copy, Debug, PartialEq)]
 enum Came {
     Said(Saying),
-    SaidLost(SayingLost),
     Heard(Hearing),
-    SaidCrowd(SayingCrowd),
-    HeardCrowd(HearingCrowd),
-    HeardOwn(HearingOwn),
-    SaidParts(SayingParts),
-    Dialled(Dialled),
-    Accepted(Accepted),
 }
 
 fn run_over<L: Lanes, R: Wait>(
@@ -67,14 +39,7 @@ fn run_over<L: Lanes, R: Wait>(
 {
     match run {
         Run::Say => Some(Came::Said(say(scene, seat, own)?)),
-        Run::SayLost(lost) => Some(Came::SaidLost(say_lost(scene, seat, own, lost)?)),
         Run::Hear(dialogue) => Some(Came::Heard(hear(scene, seat, *own, dialogue)?)),
-        Run::SayCrowd(rows) => Some(Came::SaidCrowd(say_crowd(scene, seat, rows)?)),
-        Run::HearCrowd(rows) => Some(Came::HeardCrowd(hear_crowd(scene, rows)?)),
-        Run::HearOwn => Some(Came::HeardOwn(hear_own(scene, own)?)),
-        Run::SayParts(heavy) => Some(Came::SaidParts(say_parts(scene, seat, heavy)?)),
-        Run::Dial(stream) => Some(Came::Dialled(dial_over(scene, seat, own, stream)?)),
-        Run::Accept(stream) => Some(Came::Accepted(accept_over(scene, seat, own, stream)?)),
     }
 }
 
@@ -134,76 +99,5 @@ fn two_pools_over_a_link(rt: HostRuntime) -> Result<(), Fail> {
         came_of(&rt, alloc, "a", Run::Hear(FIRST)),
         Some(Came::Heard(HEARING))
     );
-    Ok(())
-}
-
-// Whether node b says so where these cuts are lost, and node a hears it so.
-fn is_told_of<R: Wait>(
-    rt: &R,
-    alloc: Global,
-    lost: Lost,
-    dialogue: Dialogue,
-    hearing: Hearing,
-) -> bool {
-    came_of(rt, alloc, "b", Run::SayLost(lost)) == Some(Came::SaidLost(SAYING_LOST))
-        && came_of(rt, alloc, "a", Run::Hear(dialogue)) == Some(Came::Heard(hearing))
-}
-
-// Node a asks for what it missed of two cuts, and gets what is kept of them.
-#[test]
-fn kept_cuts_over_a_link(rt: HostRuntime) {
-    assert!(rt; is_told_of(&rt, rt.alloc(), Lost::Kept, KEPT, HEARING_KEPT));
-}
-
-// The first of them told more than is kept, and node a gets all that node b knows.
-#[test]
-fn outgrown_cuts_over_a_link(rt: HostRuntime) {
-    assert!(rt; is_told_of(&rt, rt.alloc(), Lost::Outgrown, OUTGROWN, HEARING_OUTGROWN));
-}
-
-// A beat tells as many rows as another node takes in, and goes out bare where there are more.
-#[test]
-fn a_beat_of_65_536_rows(rt: HostRuntime) {
-    let alloc = rt.alloc();
-    let most = came_of(&rt, alloc, "b", Run::SayCrowd(MOST));
-    assert!(rt; most == Some(Came::SaidCrowd(SAYING_MOST)));
-    let more = came_of(&rt, alloc, "b", Run::SayCrowd(TOO_MANY));
-    assert!(rt; more == Some(Came::SaidCrowd(SAYING_TOO_MANY)));
-}
-
-#[test]
-fn a_merge_of_65_536_rows(rt: HostRuntime) {
-    let heard = came_of(&rt, rt.alloc(), "a", Run::HearCrowd(MOST));
-    assert!(rt; heard == Some(Came::HeardCrowd(HEARING_MOST)));
-}
-
-// What others tell of a node's own name isn't heard: so it can go on as whatever life they tell of.
-#[test]
-fn nobody_tells_a_node_of_its_next_life(rt: HostRuntime) {
-    let heard = came_of(&rt, rt.alloc(), "a", Run::HearOwn);
-    assert!(rt; heard == Some(Came::HeardOwn(HEARING_OWN)));
-}
-
-// What needs a long line is told in as few parts as may be.
-#[test]
-fn a_shard_is_told_in_parts(rt: HostRuntime) {
-    let alloc = rt.alloc();
-    let light = came_of(&rt, alloc, "b", Run::SayParts(LIGHT));
-    assert!(rt; light == Some(Came::SaidParts(SAYING_LIGHT)));
-    let middling = came_of(&rt, alloc, "b", Run::SayParts(MIDDLING));
-    assert!(rt; middling == Some(Came::SaidParts(SAYING_MIDDLING)));
-    let heavy = came_of(&rt, alloc, "b", Run::SayParts(HEAVY));
-    assert!(rt; heavy == Some(Came::SaidParts(SAYING_HEAVY)));
-}
-
-// Each pool is in a thread of its own. The dialling end hangs up once its run is over.
-#[test]
-fn two_pools_over_sockets(rt: HostRuntime) -> Result<(), Fail> {
-    let alloc = rt.alloc();
-    let (dialling, accepting) = both_ends(&rt)?;
-    let dialled = thread::spawn(&rt, move || came_of(&rt, alloc, "b", Run::Dial(dialling)))?;
-    let accepted = came_of(&rt, alloc, "a", Run::Accept(accepting));
-    assert_eq!(rt; dialled.join(&rt), Some(Came::Dialled(DIALLED)));
-    assert_eq!(rt; accepted, Some(Came::Accepted(ACCEPTED)));
     Ok(())
 }

@@ -39,7 +39,7 @@ pub(crate) type Saying = ([bool; 5], bool);
 pub(crate) const SAYING: Saying = ([false, false, false, false, true], true);
 
 // The beat of one period of the first shard.
-pub(crate) fn next_beat<R: Wait, L: Lanes>(scene: Scene<'_, R, NoGate, L>) -> Option<Line>
+fn next_beat<R: Wait, L: Lanes>(scene: Scene<'_, R, NoGate, L>) -> Option<Line>
     requires { scene.pool.now.shards ≡ 2 }
 {
     let Scene { rt, alloc, pool } = scene;
@@ -60,18 +60,12 @@ fn beats<R: Wait, L: Lanes>(
     node.dials(alloc, &beat)
 }
 
-pub(crate) fn comes<R: Wait, L: Lanes>(
-    scene: Scene<'_, R, NoGate, L>,
-    seat: &mut Seat<L>,
-) -> Option<()> {
+fn comes<R: Wait, L: Lanes>(scene: Scene<'_, R, NoGate, L>, seat: &mut Seat<L>) -> Option<()> {
     track(scene, seat, "u2")
 }
 
 // The row goes, and the beat that would say so is lost.
-pub(crate) fn goes_unheard<R: Wait, L: Lanes>(
-    scene: Scene<'_, R, NoGate, L>,
-    seat: &mut Seat<L>,
-) -> Option<()>
+fn goes_unheard<R: Wait, L: Lanes>(scene: Scene<'_, R, NoGate, L>, seat: &mut Seat<L>) -> Option<()>
     requires { scene.pool.now.shards ≡ 2 }
 {
     let Scene { rt, alloc, pool } = scene;

@@ -126,13 +126,6 @@ pub fn add_frame(
     Ok(())
 }
 
-// A client's frame alone.
-pub fn frame(alloc: Global, first: u8, payload: &[u8]) -> Result<Vec<u8>, AllocError> {
-    let mut bytes = Vec::new(alloc);
-    add_frame(&mut bytes, first, true, payload)?;
-    Ok(bytes)
-}
-
 // These texts as frames of a client or of the server.
 pub fn frames(alloc: Global, masked: bool, texts: &str) -> Result<Vec<u8>, AllocError> {
     let mut bytes = Vec::new(alloc);
@@ -140,10 +133,4 @@ pub fn frames(alloc: Global, masked: bool, texts: &str) -> Result<Vec<u8>, Alloc
         add_frame(&mut bytes, 0x81, masked, text.as_bytes())?;
     }
     Ok(bytes)
-}
-
-// The close frame of a server with this code and no reason.
-pub fn close_frame(code: u16) -> [u8; 4] {
-    let [high, low] = code.to_be_bytes();
-    [0x88, 2, high, low]
 }

@@ -4,8 +4,8 @@ ghost use Rattle.std.specs.Prelude.{◌≡◌};
 ghost use Rattle.presence_base.specs.Refs.{IsCount};
 ghost use Rattle.shard_pool.specs.Lanes.{AllBegin};
 
-use super::run::{Run, own_replica, play};
-use super::script::{Part, Says, Turn};
+use super::run::own_replica;
+use super::script::{Part, Says, Turn, play_turns};
 use pool_desk::Crossing;
 use presence_base::Replica;
 use presence_node_ports::PoolPort;
@@ -16,7 +16,6 @@ use std::sync::Wait;
 use std::test::Fail;
 use std::thread;
 use std::thread::Threads;
-use std::time::Clock;
 
 // A client of the first worker joins `room:a`, which of two shards is at shard 0.
 const AT_SHARD_0: &[Turn] = &[Turn {
@@ -43,7 +42,7 @@ const AT_SHARD_1: &[Turn] = &[Turn {
 }];
 
 // How many of these turns of a worker went as they say, with a seat that is not given back.
-fn served<G: Gate, L: Lanes, R: Wait + Clock>(
+fn served<G: Gate, L: Lanes, R: Wait>(
     rt: &R,
     alloc: Global,
     pool: &Pool<G, L>,
@@ -51,12 +50,7 @@ fn served<G: Gate, L: Lanes, R: Wait + Clock>(
     turns: &[Turn],
 ) -> Option<usize> {
     let mut seat = seat;
-    play(
-        rt,
-        alloc,
-        &mut PoolPort::new(rt, pool, &mut seat),
-        Run::Turns(turns),
-    )
+    play_turns(rt, alloc, &mut PoolPort::new(rt, pool, &mut seat), turns)
 }
 
 // How much comes of two workers at once, each at a shard of its own.
@@ -66,7 +60,7 @@ fn two_workers<
     B: Lane + Send + Sync,
     C: Lane + Send + Sync,
     D: Lane + Send + Sync,
-    R: Threads + Wait + Clock + Sync,
+    R: Threads + Wait + Sync,
 >(rt: &R, alloc: Global, own: Replica, gate: G, blanks: Blanks) -> Option<(usize, usize)>
     requires count { IsCount own.incarnation }
     requires first { (blanks.first.name ≡ A.name) × (blanks.first.parts ≡ A.parts) × (blanks.first.parts ≡ 2)
@@ -94,7 +88,7 @@ fn two_workers<
     Some((one?, two?))
 }
 
-fn crossed<G: Gate + Drop + Sync, R: Threads + Wait + Clock + Sync>(
+fn crossed<G: Gate + Drop + Sync, R: Threads + Wait + Sync>(
     rt: &R,
     alloc: Global,
     gate: G,

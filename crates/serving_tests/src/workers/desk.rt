@@ -66,11 +66,6 @@ impl<S: Read + Write + Drop, P: Port> Desk<'_, S, P> {
         }
     }
 
-    // Takes the connections that wait: whether there is a place for no more.
-    pub fn is_full<R: Wait>(&mut self, rt: &R, alloc: Global) -> bool {
-        matches!(self.worker.take_in(rt, alloc, 0), Ok(NoMore::Full))
-    }
-
     // Hands a connection over and takes it: its number.
     pub fn admit<R: Wait>(
         &mut self,
@@ -87,12 +82,6 @@ impl<S: Read + Write + Drop, P: Port> Desk<'_, S, P> {
     pub fn turn(&mut self, alloc: Global) {
         self.worker
             .turn(alloc, &mut *self.port, &self.routes, &NoHooks, 0);
-        self.worker.flush();
-    }
-
-    // A turn that reads nothing, and a flush behind it.
-    pub fn deliver(&mut self, alloc: Global) {
-        self.worker.deliver(alloc, &mut *self.port, &NoHooks);
         self.worker.flush();
     }
 

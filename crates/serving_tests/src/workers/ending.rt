@@ -2,7 +2,6 @@
 
 use super::pool::over_pool;
 use super::rows::FIRST_RUN;
-use super::run::Run;
 use shard_pool::SettleFault;
 use std::test::Fail;
 
@@ -10,7 +9,7 @@ use std::test::Fail;
 #[test]
 fn ends_of_the_first_run(rt: HostRuntime) -> Result<(), Fail> {
     for (leave_out, want) in [(false, Ok(7)), (true, Err(SettleFault::MissingSeat))] {
-        let Some((turns, end)) = over_pool(&rt, rt.alloc(), Run::Turns(FIRST_RUN), leave_out) else {
+        let Some((turns, end)) = over_pool(&rt, rt.alloc(), FIRST_RUN, leave_out) else {
             return Err(Fail::new("the run came to nothing"));
         };
         assert_eq!(rt; turns, FIRST_RUN.len());

@@ -4,32 +4,32 @@ ghost use Rattle.std.specs.Prelude.{◌≡◌};
 ghost use Rattle.presence_base.specs.Refs.{IsCount};
 ghost use Rattle.shard_pool.specs.Lanes.{AllBegin};
 
-use super::run::{Run, own_replica, play};
+use super::run::own_replica;
+use super::script::{Turn, play_turns};
 use presence_base::Replica;
 use presence_node_ports::PoolPort;
 use shard_pool::{Blanks, Four, Lane, Lanes, NoGate, Pool, Seat, SettleFault};
 use std::alloc::Global;
 use std::marker::Brand;
 use std::sync::Wait;
-use std::time::Clock;
 
-// A run, and whether the second seat is left out where the pool settles.
+// The turns of a worker, and whether the second seat is left out where the pool settles.
 #[derive(Clone, Copy)]
 struct Served<'a> {
-    run: Run<'a>,
+    turns: &'a [Turn],
     leave_out: bool,
 }
 
-// How much comes of a run at the first seat.
-fn run_at_first<L: Lanes, R: Wait + Clock>(
+// How many of these turns go as they say at the first seat.
+fn play_at_first<L: Lanes, R: Wait>(
     rt: &R,
     alloc: Global,
     pool: &Pool<NoGate, L>,
     seats: &mut Vec<Seat<L>>,
-    run: Run<'_>,
+    turns: &[Turn],
 ) -> Option<usize> {
     let seat = seats.first_mut()?;
-    play(rt, alloc, &mut PoolPort::new(rt, pool, seat), run)
+    play_turns(rt, alloc, &mut PoolPort::new(rt, pool, seat), turns)
 }
 
 // How many receipts the seats have.
@@ -42,13 +42,13 @@ fn receipts_of<L: Lanes>(alloc: Global, seats: &[Seat<L>]) -> Option<u64> {
     Some(count)
 }
 
-// How much comes of a run over a new pool, and how the pool settles, where the second seat may be left out.
+// How many turns go as they say over a new pool, and how the pool settles, where the second seat may be left out.
 fn settled_run<
     A: Lane + Send + Sync,
     B: Lane + Send + Sync,
     C: Lane + Send + Sync,
     D: Lane + Send + Sync,
-    R: Wait + Clock,
+    R: Wait,
 >(
     rt: &R,
     alloc: Global,
@@ -71,8 +71,8 @@ fn settled_run<
     let Ok((pool, mut seats)) = started else {
         return None;
     };
-    let Served { run, leave_out } = served;
-    let came = run_at_first(rt, alloc, &pool, &mut seats, run);
+    let Served { turns, leave_out } = served;
+    let came = play_at_first(rt, alloc, &pool, &mut seats, turns);
     if leave_out {
         let _second = seats.pop();
     }
@@ -97,11 +97,11 @@ fn settled_as(
     }
 }
 
-// How much comes of a run over a new pool, and how the pool settles: how many receipts stand, or why they don't.
-pub(crate) fn over_pool<R: Wait + Clock>(
+// How many of these turns go as they say over a new pool, and how the pool settles: how many receipts stand, or why they don't.
+pub(crate) fn over_pool<R: Wait>(
     rt: &R,
     alloc: Global,
-    run: Run<'_>,
+    turns: &[Turn],
     leave_out: bool,
 ) -> Option<(usize, Result<u64, SettleFault>)> {
     let own = own_replica(alloc)?;
@@ -109,7 +109,7 @@ pub(crate) fn over_pool<R: Wait + Clock>(
         rt,
         alloc,
         own,
-        Served { run, leave_out },
+        Served { turns, leave_out },
         Blanks::new(2),
     )
 }

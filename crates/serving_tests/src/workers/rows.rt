@@ -1,6 +1,6 @@
 //! The worked rows: one client, over a pool and over a lent shard.
 
-use super::run::{Run, Seen, over_both};
+use super::run::{Seen, over_both};
 use super::script::{Part, Says, Turn};
 use session_desk::{
     CLOSE, JOIN, JOINED, LEAVE, LEFT, NEXT_STATE, REJOIN, REJOINED, STATE, UPDATE, UPDATED,
@@ -179,7 +179,7 @@ fn rows_over_both_ports(rt: HostRuntime) -> Result<(), Fail> {
             pool: Some((turns.len(), Ok(receipts))),
             shard: Some(turns.len()),
         };
-        assert_eq!(rt; over_both(&rt, rt.alloc(), Run::Turns(turns)), wanted);
+        assert_eq!(rt; over_both(&rt, rt.alloc(), turns), wanted);
     }
     Ok(())
 }

@@ -81,7 +81,7 @@ fn bytes_told(alloc: Global, turns: &[Turn], place: usize) -> Result<Vec<u8>, Al
 }
 
 // What the client got so far.
-pub(crate) fn got<'a>(client: &'a Client<Wire<'_>>) -> &'a [u8] {
+fn got<'a>(client: &'a Client<Wire<'_>>) -> &'a [u8] {
     client.connection.socket.get_ref().taken.as_slice()
 }
 
