@@ -15,6 +15,8 @@ pub use ending::{
     Ending, Stream, fold_ending, help_ending, serve_ending, stdio_ending, stopped_ending,
     usage_ending,
 };
+// What a server needs of the system.
+pub use presence_node_duties::ServeRuntime;
 // What an ending is of.
 pub use presence_node_stdio::{
     LocalSession, Outlets, SessionFault, StdioFault, run_stdio, status_of, told_line,
