@@ -1,5 +1,5 @@
 //! Tests of what stands below a shard: names, dots, metas and messages, the presence list as a client keeps it with what a
-//! server adds to it, and contexts, sets, told values, deltas and the board of replicas, all by their public names.
+//! server adds to it, and contexts, sets and told values, all by their public names.
 //!
 //! They have one crate, so that no crate that they test is proved anew with them, and what a program of tests is checked
 //! for anew is checked once.

@@ -1,10 +1,6 @@
-//! Contexts, sets, told values, deltas and the board of replicas.
+//! Contexts, sets and told values, and lives that are gone.
 
-mod boards;
-mod checks;
 mod contexts;
-mod deltas;
-mod fitting;
 mod forms;
 mod listed;
 mod lives;

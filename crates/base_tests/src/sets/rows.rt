@@ -69,15 +69,6 @@ pub(super) fn row(alloc: Global, key: &str) -> Result<Row, AllocError>
     })
 }
 
-pub(super) fn empty(alloc: Global) -> RawTold {
-    RawTold {
-        form: Form::One,
-        ranges: Vec::new(alloc),
-        extras: Vec::new(alloc),
-        live: Vec::new(alloc),
-    }
-}
-
 fn told(alloc: Global, raw: RawTold) -> Result<Told, AllocError> {
     match Told::check(alloc, raw, 0, 2) {
         Ok(told) => Ok(told),
