@@ -1,5 +1,5 @@
-//! Tests of the pool and of links between pools, by outside values alone: that calls stay at their shard, calls of several
-//! threads and calls that cross, a journal that threads made replayed, what two pools say to each other over a link, and
+//! Tests of the pool and of links between pools, by outside values alone: that calls stay at their shard, what is asked of
+//! full journals, calls of several threads and calls that cross, a journal that threads made replayed, what two pools say to each other over a link, and
 //! the lines that tell of links.
 //!
 //! They have one crate, so that what a program is checked for anew, as how a pool is dropped, is checked once.
@@ -12,6 +12,8 @@ mod apart;
 mod calls;
 #[cfg(test)]
 mod crossing;
+#[cfg(test)]
+mod full;
 #[cfg(test)]
 mod links;
 #[cfg(test)]
