@@ -47,9 +47,9 @@ pub trait Call {
         ensures { ComesTo Self.Step.step Self.Step.there Self.Step.gives pid (ask self.now) (view self.now) result };
 }
 
-/// The step of a call that makes none: there is no such step.
+/// The step of a call that makes none: no call comes to it, and a shard does nothing for it.
 #[derive(Clone, Copy)]
-pub enum NoStep {}
+pub struct NoStep;
 
 impl ShardCall for NoStep {
     type Answer = bool;
@@ -61,11 +61,11 @@ impl ShardCall for NoStep {
     ghost gives = { λ c h x. Unit {0} };
 
     fn is_there(&self, _table: &Indexed) -> bool {
-        match *self {}
+        true
     }
 
     fn find(&self, _alloc: Global, _table: &mut Indexed) -> Result<Found<bool>, ShardFault> {
-        match *self {}
+        Err(ShardFault::OutOfMemory)
     }
 }
 
