@@ -41,14 +41,18 @@ returns-else-self-eq0 g c =
     let old = c.args.self.now in
     let new = c.call.new.self in
     let step = g.P.Port.step c.args.pid in
-    let w = c.in-Waits.field-0 in
-    (refl, passed_so _ _ c.in-Waits.ensures (λ q a. step old.port.now q a new) (λ q a. Spares step (old.port.now, old.room) q a (new, old.room))
-    (λ a h. (subst (λ (b : Bool). SparesWaits step b w.topic.now w.sub old.port.now a new) (sym (ne_eqb old.room 0 c.if-self-eq0.false)) h, refl)) _ c.call.ensures)
+    let w = c.in-Waits.field-0 in (
+      refl,
+      passed_so _ _ c.in-Waits.ensures (λ q a. step old.port.now q a new) (λ q a. Spares step (old.port.now, old.room) q a (new, old.room))
+          (λ a h. (subst (λ (b : Bool). SparesWaits step b w.topic.now w.sub old.port.now a new) (sym (ne_eqb old.room 0 c.if-self-eq0.false)) h, refl)) _ c.call.ensures,
+    )
 
 pub returns-in_default : goal.returns-in_default
 returns-in_default g c =
     let old = c.args.self.now in
     let new = c.call-in_default.new.self in
-    let step = g.P.Port.step c.args.pid in
-    (refl, passed_so _ _ c.question.ensures (λ q a. step old.port.now q a new) (λ q a. Spares step (old.port.now, old.room) q a (new, old.room))
-    (λ a h. others_pass step (old.port.now, old.room) (new, old.room) c.question.result c.in_default.not-Take c.in_default.not-Waits a h refl) _ c.call-in_default.ensures)
+    let step = g.P.Port.step c.args.pid in (
+      refl,
+      passed_so _ _ c.question.ensures (λ q a. step old.port.now q a new) (λ q a. Spares step (old.port.now, old.room) q a (new, old.room))
+          (λ a h. others_pass step (old.port.now, old.room) (new, old.room) c.question.result c.in_default.not-Take c.in_default.not-Waits a h refl) _ c.call-in_default.ensures,
+    )
