@@ -3,3 +3,4 @@ pub mod Lines
 pub mod Notes
 pub mod Crossing
 pub mod Tries
+pub mod Rooms

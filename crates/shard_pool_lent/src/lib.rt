@@ -26,7 +26,7 @@ pub use reply::{PoolFault, Reply};
 pub use start::lent_start;
 pub use tracker_shard::{
     Ask, Call, CopyOfJournal, CountOfRows, Cut, EntryCount, Fitting, Full, Get, Heard, Incarnation,
-    KeptBytes, List, ListBytes, Merge, PartFrom, PermDown, Rebirth, RowCounts, SeatCall,
+    KeptBytes, List, ListBytes, Merge, MergeCopy, PartFrom, PermDown, Rebirth, RowCounts, SeatCall,
     ShardFault, Shout, StartNumber, StatusOf, Sub, Subscribe, Take, Tick, ToldFrom, TopOf, Track,
     Unsubscribe, Untrack, UntrackAll, Update, WaitsFor,
 };

@@ -19,6 +19,21 @@ pub struct Tried<T> {
     pub has_begun_again: bool,
 }
 
+impl<T: Drop> Tried<T> {
+    ghost use Rattle.std.specs.Prelude.{◌≡◌};
+
+    /// The answer alone.
+    pub fn into_answer(self) -> T
+        ensures { result ≡ self.answer }
+    {
+        let Tried {
+            answer,
+            has_begun_again: _,
+        } = self;
+        answer
+    }
+}
+
 /// A call of a seat with the guard lent. Where it finds the journal full, or no memory that the journal may give back, the
 /// journal is begun again once, and the call made again there.
 #[tactic(auto, using(crate::proofs::Tries::called))]

@@ -17,11 +17,11 @@ pub use gate::{Gate, NoGate};
 pub use seated::locked_call;
 pub use shard_pool_lent::{
     Ask, Call, CopyOfJournal, CountOfRows, Cut, EntryCount, Fitting, Full, Get, Heard, Incarnation,
-    KeptBytes, Lane, List, ListBytes, Locked, Merge, Part, PartFrom, PermDown, PoolFault, Rebirth,
-    Reply, RowCounts, SeatCall, Shout, StartNumber, StatusOf, Sub, Subscribe, Take, Tick, ToldFrom,
-    TopOf, Track, Tried, Unsubscribe, Untrack, UntrackAll, Update, WaitsFor, lent_get, lent_list,
-    lent_shout, lent_start, lent_subscribe, lent_take, lent_track, lent_unsubscribe, lent_untrack,
-    lent_untrack_all, lent_update,
+    KeptBytes, Lane, List, ListBytes, Locked, Merge, MergeCopy, Part, PartFrom, PermDown,
+    PoolFault, Rebirth, Reply, RowCounts, SeatCall, Shout, StartNumber, StatusOf, Sub, Subscribe,
+    Take, Tick, ToldFrom, TopOf, Track, Tried, Unsubscribe, Untrack, UntrackAll, Update, WaitsFor,
+    lent_get, lent_list, lent_shout, lent_start, lent_subscribe, lent_take, lent_track,
+    lent_unsubscribe, lent_untrack, lent_untrack_all, lent_update,
 };
 pub use unseated::{
     locked_ask, locked_checkpoint, locked_checkpoint_where_quiet, locked_make, locked_trim,

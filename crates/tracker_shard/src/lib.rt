@@ -23,6 +23,6 @@ pub use calls::{
     Get, List, Shout, ShoutShared, Subscribe, Take, Track, Unsubscribe, Untrack, UntrackAll, Update,
 };
 pub use fault::ShardFault;
-pub use others::{Cut, Heard, Merge, PermDown, Rebirth, Tick};
+pub use others::{Cut, Heard, Merge, MergeCopy, PermDown, Rebirth, Tick};
 pub use shard::{Shard, Sub};
 pub use tracker_shard_indexed::RowCounts;

@@ -10,6 +10,7 @@ use crate::answers::cut_outcome;
 use crate::call::{Call, Found};
 use crate::fault::ShardFault;
 use delta_range::Delta;
+use orswot_core::Told;
 use presence_base::Replica;
 use presence_journal::{Outcome, Pairs, SharedTold, Step};
 use std::alloc::Global;
@@ -156,6 +157,36 @@ impl Call for Merge<'_> {
     #[tactic(auto, using(crate::proofs::Tables::tables, crate::proofs::Doors::finding))]
     fn find(&self, _alloc: Global, _table: &mut Indexed) -> Result<Found<()>, ShardFault> {
         let step = Step::merge_shared(self.told)?;
+        Ok(Found {
+            step,
+            outcome: Outcome::Merged,
+            answer: Ok(()),
+        })
+    }
+}
+
+/// The call that takes in a copy of what another node told.
+#[derive(Clone, Copy)]
+pub struct MergeCopy<'a> {
+    pub told: &'a Told,
+}
+
+impl Call for MergeCopy<'_> {
+    type Answer = ();
+
+    ghost step = { λ c. steps_are.Merge c.told.now };
+
+    ghost there = { λ c. always };
+
+    ghost gives = { λ c h _. Unit {0} };
+
+    fn is_there(&self, _table: &Indexed) -> bool {
+        true
+    }
+
+    #[tactic(auto, using(crate::proofs::Tables::tables, crate::proofs::Doors::finding))]
+    fn find(&self, alloc: Global, _table: &mut Indexed) -> Result<Found<()>, ShardFault> {
+        let step = Step::merge(alloc, self.told)?;
         Ok(Found {
             step,
             outcome: Outcome::Merged,

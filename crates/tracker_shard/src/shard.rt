@@ -5,11 +5,11 @@ use crate::calls::{
     Get, List, Shout, ShoutShared, Subscribe, Take, Track, Unsubscribe, Untrack, UntrackAll, Update,
 };
 use crate::fault::ShardFault;
-use crate::others::{Cut, Heard, Merge, PermDown, Rebirth, Tick};
+use crate::others::{Cut, Heard, MergeCopy, PermDown, Rebirth, Tick};
 use delta_range::Delta;
 use orswot_core::{Form, Told};
 use presence_base::{Dot, Json, Key, MAX_COUNT, Meta, Replica, Row, Topic};
-use presence_journal::{Item, Journal, Outcome, Pairs, Payload, SharedRows, SharedTold, Step};
+use presence_journal::{Item, Journal, Outcome, Pairs, Payload, SharedRows, Step};
 use replica_status::Status;
 use std::alloc::{AllocError, Global};
 use std::marker::Model;
@@ -500,8 +500,7 @@ impl Shard {
         ensures due { IsDue result (refusal true self.old (Step.Merge told.now)) }
         ensures room { RefusesForRoom result }
     {
-        let told = SharedTold::new(alloc, told.clone()?)?;
-        self.perform(alloc, None, &Merge { told: &told })
+        self.perform(alloc, None, &MergeCopy { told })
     }
 
     /// The incarnation under which the shard goes on. Takes no memory.
