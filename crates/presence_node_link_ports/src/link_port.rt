@@ -169,6 +169,7 @@ impl<'a, R: Wait, G: Gate, L: Lanes> LinkPort for PoolLinkPort<'a, R, G, L> {
         Ok(status)
     }
 
+    #[tactic(auto, using(crate::proofs::CallLemmas::called))]
     fn heard(
         &mut self,
         alloc: Global,
@@ -180,6 +181,7 @@ impl<'a, R: Wait, G: Gate, L: Lanes> LinkPort for PoolLinkPort<'a, R, G, L> {
         self.make(alloc, shard, &Heard { replica, now })
     }
 
+    #[tactic(auto, using(crate::proofs::CallLemmas::called))]
     fn merge(&mut self, alloc: Global, shard: u32, told: Told) -> Result<(), ActFault> {
         self.looks_at(shard, &told);
         let Ok(shared) = shared_of_others(alloc, &self.own, told) else {
@@ -189,6 +191,7 @@ impl<'a, R: Wait, G: Gate, L: Lanes> LinkPort for PoolLinkPort<'a, R, G, L> {
         self.make(alloc, shard, &Merge { told: &shared })
     }
 
+    #[tactic(auto, using(crate::proofs::CallLemmas::called))]
     fn permdown(&mut self, alloc: Global, shard: u32, replica: Replica) -> Result<(), ActFault> {
         self.has_changed = true;
         self.make(alloc, shard, &PermDown { replica })
