@@ -234,19 +234,19 @@ never_due : (h : History) (s : Step) (o : Outcome) (f : ShardFault) → outcome_
 never_due h s o f table other e = other_stands (is_full h) f other (sym (full_or_none h s o table) ∙ e)
 
 never_refused : (h : History) (s : Step) (o p : Outcome) → outcome_of h s ≡ Some o → is_refusal o ≡ false → outcome_of h s ≡ Some p → is_refusal p ≡ true → ⊥
-never_refused h s o p table no answered is =
+never_refused h s o p table plain answered is =
     let same : p ≡ o = cc in
-    false≢true (sym no ∙ (ap is_refusal (sym same) ∙ is))
+    false≢true (sym plain ∙ (ap is_refusal (sym same) ∙ is))
 
 pub always_room : {A : Type 0} (Gives : A → Type 0) (h : History) (s : Step) (o : Outcome) (r : Result A ShardFault) → outcome_of h s ≡ Some o → is_refusal o ≡ false → Answers Gives (outcome_of h s) r → IsDue r (refusal true h s) → RefusesForRoom r
-always_room Gives h s o (Ok x) table no answer due = tt
-always_room Gives h s o (Err AlreadyTracked) table no answer due = never_refused h s o outcomes_are.AlreadyTracked table no answer refl
-always_room Gives h s o (Err NoPresence) table no answer due = never_refused h s o outcomes_are.NoPresence table no answer refl
-always_room Gives h s o (Err ClockFull) table no answer due = never_due h s o ClockFull table (λ e. absurd (cc)) due
-always_room Gives h s o (Err JournalFull) table no answer due = tt
-always_room Gives h s o (Err NoSub) table no answer due = never_due h s o NoSub table (λ e. absurd (cc)) due
-always_room Gives h s o (Err BadIncarnation) table no answer due = never_due h s o BadIncarnation table (λ e. absurd (cc)) due
-always_room Gives h s o (Err OutOfMemory) table no answer due = tt
+always_room Gives h s o (Ok x) table plain answer due = tt
+always_room Gives h s o (Err AlreadyTracked) table plain answer due = never_refused h s o outcomes_are.AlreadyTracked table plain answer refl
+always_room Gives h s o (Err NoPresence) table plain answer due = never_refused h s o outcomes_are.NoPresence table plain answer refl
+always_room Gives h s o (Err ClockFull) table plain answer due = never_due h s o ClockFull table (λ e. absurd (cc)) due
+always_room Gives h s o (Err JournalFull) table plain answer due = tt
+always_room Gives h s o (Err NoSub) table plain answer due = never_due h s o NoSub table (λ e. absurd (cc)) due
+always_room Gives h s o (Err BadIncarnation) table plain answer due = never_due h s o BadIncarnation table (λ e. absurd (cc)) due
+always_room Gives h s o (Err OutOfMemory) table plain answer due = tt
 
 cut_at : (h : History) → outcome_of h steps_are.Cut ≡ Some (outcomes_are.CutAt (last_cut h) (count h))
 unfolding outcome_of
