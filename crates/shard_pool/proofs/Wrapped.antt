@@ -8,8 +8,7 @@ use Rattle.shard_pool_locks.specs.Lines.{IsOfLane, IsOfShard}
 use Rattle.shard_pool_locks.specs.ShardFault.{ShardFault}
 use Rattle.shard_pool_locks.specs.ShardFault.TheVariants.{OutOfMemory}
 use Rattle.shard_pool_locks.specs.Unseated.{IsBehind, IsBehindOf, IsOf}
-use Rattle.shard_pool_locks.proofs.Done.{at_node, done_heard, done_tick, done_permdown, done_merge, done_cut, done_reborn}
-pub use Rattle.shard_pool_locks.proofs.Done
+pub use Rattle.shard_pool_locks.proofs.Done.{at_node, done_heard, done_tick, done_permdown, done_merge, done_cut, done_reborn}
 
 -- what is told where memory isn't wanting
 module _ {A : Type 0} (node : List ℕ) (Begins : History → Type 0) (Is : History → A → Type 0) where
