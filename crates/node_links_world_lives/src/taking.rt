@@ -30,7 +30,7 @@ fn keep_row(made: &mut Vec<(Dot, Row)>, added: Option<(Dot, Row)>)
     }
 }
 
-// Makes the step that a call was found to come to, and keeps the row that it adds.
+// Makes the step that a call was found to come to, and keeps the row that it adds. The shard refuses it for want of memory alone.
 #[tactic(auto, using(crate::proofs::Taken::entering))]
 fn enter(
     shard: &mut Shard,
