@@ -6,7 +6,7 @@ use Rattle.orswot_core_told.specs.Telling.{ToldValue}
 use Rattle.presence_journal_data.specs.declared.step.Step.{Step}
 use Rattle.presence_journal_data.specs.declared.step.Step.TheVariants as steps_are
 use Rattle.presence_journal.specs.History.{History}
-use Rattle.shard_pool.specs.Calls.{always}
+use Rattle.shard_pool.specs.Seated.{always}
 use Rattle.shard_pool.specs.ShardFault.{ShardFault}
 use Rattle.shard_pool.specs.Unseated.{IsBehindOf, IsDone, IsMade}
 use Rattle.shard_pool.proofs.Wrapped.{done_heard, done_merge, done_permdown}

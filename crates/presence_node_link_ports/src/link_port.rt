@@ -177,7 +177,7 @@ impl<'a, R: Wait, G: Gate, L: Lanes> LinkPort for PoolLinkPort<'a, R, G, L> {
         replica: Replica,
         now: u64,
     ) -> Result<(), ActFault> {
-        self.has_changed = self.has_changed || !self.is_up;
+        self.has_changed |= !self.is_up;
         self.make(alloc, shard, &Heard { replica, now })
     }
 
