@@ -7,4 +7,4 @@ returns-clause-asked g c =
     let old = c.args.self.now in
     let S = g.S.Call in
     let call = c.args.call.now in
-    called_so (IsOfShardAt old.pool.now.own.name g.L.Lanes.begins) (S.there call) old.pool.now.shards old.seat.now c.call.new.seat c.args.topic.now (S.step call) (S.gives call) c.call.result.answer c.value.result c.call.ensures c.value.ensures
+    called_so (IsOfShardAt old.pool.now.own.name g.L.Lanes.begins) (S.there call) old.pool.now.shards old.seat.now c.call-answer.new.seat c.args.topic.now (S.step call) (S.gives call) c.call-answer.result.answer c.value.result c.call-answer.ensures c.value.ensures
