@@ -1,5 +1,5 @@
 -- What a call of a shard leaves: its step and the row that it adds, or all as it was.
-use Rattle.std.proofs.Common.{◌≡◌, ℕ, Bool, true, false, cond, is_some, Option, Some, None, Result, Ok, Err, refl, sym, ◌∙◌, ap, subst, List, ◌&&◌, nat_eq, OnOk}
+use Rattle.std.proofs.Common.{◌≡◌, ℕ, Bool, true, false, cond, is_some, Option, Some, None, Result, Ok, Err, refl, sym, ◌∙◌, ap, subst, List, ◌&&◌, OnOk}
 use Rattle.presence_base.specs.declared.dots.Dot.{Dot}
 use Rattle.presence_base.specs.declared.row.Row.{Row}
 use Rattle.presence_journal_data.specs.declared.step.Step.TheVariants as steps_are
