@@ -6,7 +6,7 @@ ghost use Rattle.channel_session_rules.specs.Questions.{given_as};
 
 use crate::question::{Question, Told};
 use std::alloc::Global;
-use tracker_shard::{Call as ShardCall, Found, ShardFault, Sub};
+use tracker_shard::{Call as ShardCall, Found, SeatCall, ShardFault, Sub};
 use tracker_shard_indexed::Indexed;
 
 /// What a call comes to at the shard that has its topic.
@@ -26,8 +26,8 @@ pub trait Call {
 
     type Answer: Drop;
 
-    /// The call of a shard that it is.
-    type Step: ShardCall<Answer = Self::Answer> + Drop;
+    /// The call of a shard that it is, which a seat makes.
+    type Step: SeatCall<Answer = Self::Answer> + Drop;
 
     ghost ask: { Self → Ask };
 
@@ -54,7 +54,7 @@ pub struct NoStep;
 impl ShardCall for NoStep {
     type Answer = bool;
 
-    ghost step = { λ c. steps_are.Cut };
+    ghost step = { λ c. steps_are.Unsubscribe 0 };
 
     ghost there = { λ c. always };
 
@@ -67,6 +67,12 @@ impl ShardCall for NoStep {
     fn find(&self, _alloc: Global, _table: &mut Indexed) -> Result<Found<bool>, ShardFault> {
         Err(ShardFault::OutOfMemory)
     }
+}
+
+impl SeatCall for NoStep {
+    ghost use Rattle.std.specs.Prelude.{refl};
+
+    ghost callers = { λ c. refl };
 }
 
 /// The answer that this is to a call that asks for such a one.

@@ -225,7 +225,7 @@ impl LinkPort for TestPort {
         self.note(Call::Heard(shard, replica, now))
     }
 
-    fn merge(&mut self, alloc: Global, shard: u32, told: &Told) -> Result<(), ActFault> {
+    fn merge(&mut self, alloc: Global, shard: u32, told: Told) -> Result<(), ActFault> {
         self.note(Call::Merge(shard, told.live().len()))
     }
 

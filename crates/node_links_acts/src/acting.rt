@@ -51,7 +51,7 @@ fn do_one<P: LinkPort>(
             replica,
             now,
         } => next(port.heard(alloc, shard, replica, now), act),
-        LinkAction::Merge { shard, told } => next(port.merge(alloc, shard, &told), act),
+        LinkAction::Merge { shard, told } => next(port.merge(alloc, shard, told), act),
         LinkAction::PermDown { replica } => next(permdown(alloc, port, &replica), act),
         LinkAction::AnswerTop {
             shard,

@@ -43,8 +43,8 @@ pub trait LinkPort {
     ) -> Result<(), ActFault>
         ensures { step self.old (heard shard replica now) result self.new };
 
-    fn merge(&mut self, alloc: Global, shard: u32, told: &Told) -> Result<(), ActFault>
-        ensures { step self.old (merge shard told.now) result self.new };
+    fn merge(&mut self, alloc: Global, shard: u32, told: Told) -> Result<(), ActFault>
+        ensures { step self.old (merge shard told) result self.new };
 
     fn permdown(&mut self, alloc: Global, shard: u32, replica: Replica) -> Result<(), ActFault>
         ensures { step self.old (permdown shard replica) result self.new };

@@ -1,6 +1,5 @@
 -- A life that goes on: the rows that it made, and when it can.
-use Rattle.std.proofs.Common.{◌≡◌, ℕ, ◌+◌, Bool, true, false, cond, is_some, List, [], ◌∷◌, ◌++◌, drop, Option, Some, None, Result, Err, append_assoc, refl, sym, ◌∙◌, ap, subst}
-use Rattle.std.specs.Prelude.{Vec}
+use Rattle.std.proofs.Common.{◌≡◌, ℕ, ◌+◌, Bool, true, false, cond, is_some, List, [], ◌∷◌, ◌++◌, drop, Option, Some, None, Err, append_assoc, refl, sym, ◌∙◌, ap, subst}
 use Rattle.std.specs.FinMap as map
 use Rattle.std.proofs.lemmas.Option.{same_Some}
 use Rattle.presence_base.specs.declared.dots.Replica.{Replica}
@@ -90,19 +89,19 @@ taken h s o some is = go (is_full h) some
     go true k = absurd (cc)
     go false k = is
 
-module _ (A : Type 0) (l : LifeValue) (h new : History) (i : ℕ) (legal : IsLegal h) (here : l.history ≡ h) where
+module _ (l : LifeValue) (h new : History) (i : ℕ) (legal : IsLegal h) (here : l.history ≡ h) where
   abbrev s : Step
   s = steps_are.Rebirth i
 
-  pub goes_on : (pairs : Vec (Dot × Dot) A) (xs : List (Dot × Row)) → Made h new None s → outcome_of h s ≡ Some (outcomes_are.Reborn pairs.items) → AreMade new pairs.items xs
+  pub goes_on : (pairs : List (Dot × Dot)) (xs : List (Dot × Row)) → Made h new None s → outcome_of h s ≡ Some (outcomes_are.Reborn pairs) → AreMade new pairs xs
       → Some (the_life new xs) ≡ going_on i l (accepted l.history s)
   goes_on pairs xs made is rows =
-      ap Some (λ j. record { history = (journal ∙ sym same) j; made = (rows.are ∙ (under ∙ ap (λ g. rows_under (row g) pairs.items) (sym same))) j })
-      ∙ ((λ j. Some (gone_on i pairs.items (record { history = sym here j; made = l.made })))
+      ap Some (λ j. record { history = (journal ∙ sym same) j; made = (rows.are ∙ (under ∙ ap (λ g. rows_under (row g) pairs) (sym same))) j })
+      ∙ ((λ j. Some (gone_on i pairs (record { history = sym here j; made = l.made })))
       ∙ sym (ap (going_on i l) (ap (λ g. accepted g s) here ∙ p)))
     where
       o : Outcome
-      o = outcomes_are.Reborn pairs.items
+      o = outcomes_are.Reborn pairs
 
       p : accepted h s ≡ Some o
       p = taken h s o made.accepted is
@@ -122,8 +121,8 @@ module _ (A : Type 0) (l : LifeValue) (h new : History) (i : ℕ) (legal : IsLeg
       next : IsLegal (Then h e)
       next = (legal, ok.1, refl, ok.0, refl)
 
-      under : rows_under (map.get rows.set.live) pairs.items ≡ rows_under (row (Then h e)) pairs.items
-      under = made_are h e (again_of h e.step e.outcome refl ok.1) next rows.set (subst (λ g. HoldsCovered g rows.set) journal rows.holds) pairs.items refl
+      under : rows_under (map.get rows.set.live) pairs ≡ rows_under (row (Then h e)) pairs
+      under = made_are h e (again_of h e.step e.outcome refl ok.1) next rows.set (subst (λ g. HoldsCovered g rows.set) journal rows.holds) pairs refl
 
   -- ---- where it doesn't
 
@@ -135,7 +134,7 @@ module _ (A : Type 0) (l : LifeValue) (h new : History) (i : ℕ) (legal : IsLeg
       go true k = ap is_reborn (sym (same_Some (outcomes_are.Reborn (reborn_from (reborn (own h) i) 0 (own_dots h))) o k))
       go false k = absurd (cc)
 
-  refused : (f : ShardFault) → (f ≡ OutOfMemory → ⊥) → AnswersPairs {A = A} h i (Err f) → IsDue {A = Vec (Dot × Dot) A} (Err f) (refusal true h s) → accepted h s ≡ None
+  refused : (f : ShardFault) → (f ≡ OutOfMemory → ⊥) → AnswersPairs h i (Err f) → IsDue {A = List (Dot × Dot)} (Err f) (refusal true h s) → accepted h s ≡ None
   refused AlreadyTracked g a d = let k : false ≡ true = outcome_again outcomes_are.AlreadyTracked a in absurd (cc)
   refused NoPresence g a d = let k : false ≡ true = outcome_again outcomes_are.NoPresence a in absurd (cc)
   refused ClockFull g a d = stands h s true ClockFull (λ n. absurd (cc)) d
@@ -144,5 +143,5 @@ module _ (A : Type 0) (l : LifeValue) (h new : History) (i : ℕ) (legal : IsLeg
   refused BadIncarnation g a d = stands h s true BadIncarnation (λ n. absurd (cc)) d
   refused OutOfMemory g a d = absurd (g refl)
 
-  pub stays : (f : ShardFault) → (f ≡ OutOfMemory → ⊥) → AnswersPairs {A = A} h i (Err f) → IsDue {A = Vec (Dot × Dot) A} (Err f) (refusal true h s) → None ≡ going_on i l (accepted l.history s)
+  pub stays : (f : ShardFault) → (f ≡ OutOfMemory → ⊥) → AnswersPairs h i (Err f) → IsDue {A = List (Dot × Dot)} (Err f) (refusal true h s) → None ≡ going_on i l (accepted l.history s)
   stays f g a d = sym (ap (going_on i l) (ap (λ x. accepted x s) here ∙ refused f g a d))

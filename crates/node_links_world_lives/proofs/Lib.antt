@@ -1,6 +1,5 @@
 pub mod Tellings
 pub mod Taken
-pub mod Rows
 pub mod Wholes
 pub mod PartFacts
 pub mod LifeFacts

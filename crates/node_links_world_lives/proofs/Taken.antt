@@ -1,24 +1,43 @@
--- Whether a shard took a step, by what it answered.
-use Rattle.std.proofs.Common.{◌≡◌, ℕ, Bool, true, false, cond, is_some, Option, Some, None, Result, Ok, Err, refl, sym, ◌∙◌, ap, subst, List, ◌&&◌, nat_eq, IfOk, OnErr}
-use Rattle.std.specs.declared.alloc.AllocError.{AllocError}
+-- What a call of a shard leaves: its step and the row that it adds, or all as it was.
+use Rattle.std.proofs.Common.{◌≡◌, ℕ, Bool, true, false, cond, is_some, Option, Some, None, Result, Ok, Err, refl, sym, ◌∙◌, ap, subst, List, ◌&&◌, OnOk}
+use Rattle.presence_base.specs.declared.dots.Dot.{Dot}
+use Rattle.presence_base.specs.declared.row.Row.{Row}
 use Rattle.presence_journal_data.specs.declared.step.Step.TheVariants as steps_are
 use Rattle.presence_journal.specs.Steps.{Step, Outcome}
 use Rattle.presence_journal.specs.History.{History, is_full}
 use Rattle.presence_journal.specs.Queue.{topic_of}
-use Rattle.presence_journal.specs.Table.{outcome_of, accepted, for_present}
+use Rattle.presence_journal.specs.Table.{outcome_of, accepted, after, for_present}
 use Rattle.presence_journal.proofs.FoldOthers.{refused_stays}
 use Rattle.tracker_shard.specs.declared.fault.ShardFault.{ShardFault}
 use Rattle.tracker_shard.specs.declared.fault.ShardFault.TheVariants.{AlreadyTracked, NoPresence, ClockFull, JournalFull, NoSub, BadIncarnation, OutOfMemory}
-use Rattle.tracker_shard.specs.Steps.{Made, Stepped, IsDue, cause, refusal, refusal_at, is_found, slot_of}
-use Rattle.node_links_world_lives.specs.Taken.{Took, taken}
+use Rattle.tracker_shard.specs.declared.call.Found.{Found}
+use Rattle.tracker_shard.specs.Calls.{IsAdmitted, Looks}
+use Rattle.tracker_shard.specs.Steps.{Made, Stepped, cause, refusal, is_found}
+use Rattle.tracker_shard.proofs.Doors.{nobody_may}
+use Rattle.node_links_world_lives.specs.Taken.{Took, AddsRow, RefusesMissing}
+use Rattle.node_links_world_laws.specs.World.{added, with_row}
 
-made_took : (old new : History) (s : Step) → Made old new None s → Took old new s true
+-- ---- a step that is entered
+
+pub made_took : (old new : History) (s : Step) → Made old new None s → Took old new s true
 made_took old new s m = record { is = sym m.accepted; journal = m.journal }
 
-stays : (old new : History) (s : Step) → new ≡ old → accepted old s ≡ None → Took old new s false
-stays old new s same none = record { is = sym (ap is_some none); journal = same ∙ sym (refused_stays old s None none) }
+accepted_here : (h : History) (s : Step) (o : Outcome) → outcome_of h s ≡ Some o → is_full h ≡ false → accepted h s ≡ Some o
+unfolding accepted
+accepted_here h s o table room = rw (room) table
 
--- a refusal that stands against the step
+pub row_kept : (h : History) (s : Step) (o : Outcome) (a : Option (Dot × Row)) (xs ys zs : List (Dot × Row)) → outcome_of h s ≡ Some o → is_full h ≡ false → a ≡ added s (Some o) → ys ≡ xs → zs ≡ with_row ys a → AddsRow h s xs zs
+row_kept h s o a xs ys zs table room is same rows =
+    rows ∙ (ap (λ (ws : List (Dot × Row)). with_row ws a) same ∙ ap (with_row xs) (is ∙ ap (added s) (sym (accepted_here h s o table room))))
+
+-- want of memory leaves all as it was
+pub unmade : (old new : History) (s : Step) (f : ShardFault) → f ≡ OutOfMemory → Stepped {A = Unit {0}} old new None s (Err f) → new ≡ old
+unmade old new s f is m = subst (λ (e : ShardFault). Stepped {A = Unit {0}} old new None s (Err e)) is m
+
+pub ruleset entering = (nobody_may, made_took, row_kept, unmade)
+
+-- ---- a step that is refused by no entry
+
 pub stands : (old : History) (s : Step) (found : Bool) (f : ShardFault) → (found ≡ false → outcome_of old s ≡ None) → refusal found old s ≡ Some f → accepted old s ≡ None
 unfolding accepted
 stands old s false f missing r = go (is_full old) (missing refl)
@@ -33,55 +52,57 @@ stands old s true f missing r = go (is_full old) (outcome_of old s) r
     go false None q = refl
     go false (Some o) q = absurd (cc)
 
-pub took_ok : {A : Type 0} (old new : History) (s : Step) (r : Result A ShardFault) (x : A) → r ≡ Ok x → Stepped old new None s r → Took old new s true
-took_ok {A} old new s r x e m = made_took old new s (subst (λ (y : Result A ShardFault). Stepped old new None s y) e m)
+none_missing : (there : Bool) (o : Option Outcome) → RefusesMissing there o → there ≡ false → o ≡ None
+none_missing true o m e = absurd (cc)
+none_missing false o m e = m
 
-took_err : (A : Type 0) (old new : History) (s : Step) (found : Bool) (f : ShardFault) (b : Bool) → (found ≡ false → outcome_of old s ≡ None) → Stepped {A = A} old new None s (Err f) → IsDue {A = A} (Err f) (refusal found old s) → taken f ≡ Some b → Took old new s b
-took_err A old new s found AlreadyTracked b g m d t = let e : true ≡ b = cc in subst (Took old new s) e (made_took old new s m)
-took_err A old new s found NoPresence b g m d t = let e : true ≡ b = cc in subst (Took old new s) e (made_took old new s m)
-took_err A old new s found ClockFull b g m d t = let e : false ≡ b = cc in subst (Took old new s) e (stays old new s m (stands old s found ClockFull g d))
-took_err A old new s found JournalFull b g m d t = let e : false ≡ b = cc in subst (Took old new s) e (stays old new s m (stands old s found JournalFull g d))
-took_err A old new s found NoSub b g m d t = let e : false ≡ b = cc in subst (Took old new s) e (stays old new s m (stands old s found NoSub g d))
-took_err A old new s found BadIncarnation b g m d t = let e : false ≡ b = cc in subst (Took old new s) e (stays old new s m (stands old s found BadIncarnation g d))
-took_err A old new s found OutOfMemory b g m d t = absurd (cc)
+refused_by : {A : Type 0} (Gives : A → Type 0) (there : Bool) (h : History) (s : Step) (f : ShardFault) → RefusesMissing there (outcome_of h s) → Looks Gives there h s (Err f) → (f ≡ OutOfMemory → ⊥) → accepted h s ≡ None
+refused_by Gives there h s AlreadyTracked m looks good = absurd looks
+refused_by Gives there h s NoPresence m looks good = absurd looks
+refused_by Gives there h s ClockFull m looks good = stands h s there ClockFull (none_missing there (outcome_of h s) m) looks
+refused_by Gives there h s JournalFull m looks good = stands h s there JournalFull (none_missing there (outcome_of h s) m) looks
+refused_by Gives there h s NoSub m looks good = stands h s there NoSub (none_missing there (outcome_of h s) m) looks
+refused_by Gives there h s BadIncarnation m looks good = stands h s there BadIncarnation (none_missing there (outcome_of h s) m) looks
+refused_by Gives there h s OutOfMemory m looks good = absurd (good refl)
 
--- what is made of a refusal
-took_if : {A : Type 0} (old new : History) (s : Step) (found : Bool) (r : Result A ShardFault) (f : ShardFault) (q : Result Bool AllocError) → (found ≡ false → outcome_of old s ≡ None) → r ≡ Err f → Stepped old new None s r → IsDue r (refusal found old s) → IfOk q (λ b. taken f ≡ Some b) → IfOk q (Took old new s)
-took_if {A} old new s found r f (Err e) g is m d t = tt
-took_if {A} old new s found r f (Ok b) g is m d t =
-    took_err A old new s found f b g (subst (λ (y : Result A ShardFault). Stepped old new None s y) is m) (subst (λ (y : Result A ShardFault). IsDue y (refusal found old s)) is d) t
+pub refused_after : {A E : Type 0} (Gives : A → Type 0) (there : Bool) (h g : History) (s : Step) (f : ShardFault) (q : Result (Unit {0}) E) → RefusesMissing there (outcome_of h s) → Looks Gives there h s (Err f) → g ≡ h → OnOk q (f ≡ OutOfMemory → ⊥) → OnOk q (g ≡ after h s None)
+refused_after Gives there h g s f (Ok x) m looks same good = same ∙ sym (refused_stays h s None (refused_by Gives there h s f m looks good))
+refused_after Gives there h g s f (Err e) m looks same good = tt
 
-pub took_refused : {A : Type 0} (old new : History) (s : Step) (r : Result A ShardFault) (f : ShardFault) (q : Result Bool AllocError) → r ≡ Err f → Stepped old new None s r → IsDue r (refusal true old s) → IfOk q (λ b. taken f ≡ Some b) → IfOk q (Took old new s)
-took_refused old new s r f q = took_if old new s true r f q (λ n. absurd (cc))
+pub refused_adds : {A E : Type 0} (Gives : A → Type 0) (there : Bool) (h : History) (s : Step) (f : ShardFault) (xs : List (Dot × Row)) (q : Result (Unit {0}) E) → RefusesMissing there (outcome_of h s) → Looks Gives there h s (Err f) → OnOk q (f ≡ OutOfMemory → ⊥) → OnOk q (AddsRow h s xs xs)
+refused_adds Gives there h s f xs (Ok x) m looks good = ap (λ (o : Option Outcome). with_row xs (added s o)) (sym (refused_by Gives there h s f m looks good))
+refused_adds Gives there h s f xs (Err e) m looks good = tt
 
--- of a step that names a subscriber at its slot
-missing : (h : History) (n : ℕ) (o : Outcome) → is_found h (slot_of n) n ≡ false → for_present (topic_of h n) o ≡ None
-missing h n o f = go (topic_of h n) f
-  where
-    go : (t : Option (List ℕ)) → (is_some t && nat_eq (slot_of n) (slot_of n)) ≡ false → for_present t o ≡ None
-    go None q = refl
-    go (Some x) q = absurd (cc)
+-- ---- what was found
 
-pub took_take : {A : Type 0} (old new : History) (n max : ℕ) (r : Result A ShardFault) (f : ShardFault) (q : Result Bool AllocError) → r ≡ Err f → Stepped old new None (steps_are.Take n max) r → IsDue r (refusal_at 0 n old (steps_are.Take n max)) → IfOk q (λ b. taken f ≡ Some b) → IfOk q (Took old new (steps_are.Take n max))
+pub found_after : {A E : Type 0} (Gives : A → Type 0) (there : Bool) (h mid g : History) (s : Step) (f : Found A) (q : Result (Unit {0}) E) → IsAdmitted Gives there h s f → mid ≡ h → OnOk q (Took mid g f.step true) → OnOk q (g ≡ after h s None)
+found_after Gives there h mid g s f (Ok x) found same took = took.journal ∙ (λ i. after (same i) (found.is.step i) None)
+found_after Gives there h mid g s f (Err e) found same took = tt
+
+pub found_adds : {A E : Type 0} (Gives : A → Type 0) (there : Bool) (h mid : History) (s : Step) (f : Found A) (xs ys : List (Dot × Row)) (q : Result (Unit {0}) E) → IsAdmitted Gives there h s f → mid ≡ h → OnOk q (AddsRow mid f.step xs ys) → OnOk q (AddsRow h s xs ys)
+found_adds Gives there h mid s f xs ys (Ok x) found same adds = adds ∙ (λ i. with_row xs (added (found.is.step i) (accepted (same i) (found.is.step i))))
+found_adds Gives there h mid s f xs ys (Err e) found same adds = tt
+
+pub found_table : {A : Type 0} (Gives : A → Type 0) (there : Bool) (h mid : History) (s : Step) (f : Found A) → IsAdmitted Gives there h s f → mid ≡ h → outcome_of mid f.step ≡ Some f.outcome
+found_table Gives there h mid s f found same = (λ i. outcome_of (same i) (found.is.step i)) ∙ found.is.table
+
+pub found_room : {A : Type 0} (Gives : A → Type 0) (there : Bool) (h mid : History) (s : Step) (f : Found A) → IsAdmitted Gives there h s f → mid ≡ h → is_full mid ≡ false
+found_room Gives there h mid s f found same = ap is_full same ∙ found.room
+
+pub ruleset taking = (refused_after, refused_adds, found_after, found_adds, found_table, found_room)
+
+-- ---- a step that names a subscriber
+
+missing_by : (o : Option (List ℕ)) (p : Outcome) → RefusesMissing (is_some o && true) (for_present o p)
+missing_by None p = refl
+missing_by (Some t) p = tt
+
+pub take_missing : (h : History) (slot n max : ℕ) → slot ≡ 0 → RefusesMissing (is_found h slot n) (outcome_of h (steps_are.Take n max))
 unfolding outcome_of
-took_take old new n max r f q = took_if old new (steps_are.Take n max) (is_found old 0 n) r f q (λ e. missing old n _ e)
+take_missing h slot n max e = subst (λ (k : ℕ). RefusesMissing (is_found h k n) (outcome_of h (steps_are.Take n max))) (sym e) (missing_by (topic_of h n) _)
 
-pub took_end : {A : Type 0} (old new : History) (n : ℕ) (r : Result A ShardFault) (f : ShardFault) (q : Result Bool AllocError) → r ≡ Err f → Stepped old new None (steps_are.Unsubscribe n) r → IsDue r (refusal_at 0 n old (steps_are.Unsubscribe n)) → IfOk q (λ b. taken f ≡ Some b) → IfOk q (Took old new (steps_are.Unsubscribe n))
+pub end_missing : (h : History) (slot n : ℕ) → slot ≡ 0 → RefusesMissing (is_found h slot n) (outcome_of h (steps_are.Unsubscribe n))
 unfolding outcome_of
-took_end old new n r f q = took_if old new (steps_are.Unsubscribe n) (is_found old 0 n) r f q (λ e. missing old n _ e)
+end_missing h slot n e = subst (λ (k : ℕ). RefusesMissing (is_found h k n) (outcome_of h (steps_are.Unsubscribe n))) (sym e) (missing_by (topic_of h n) _)
 
--- where memory runs out the shard is as it was
-pub stays_short : {A : Type 0} (old new : History) (s : Step) (r : Result A ShardFault) (f : ShardFault) (q : Result Bool AllocError) → r ≡ Err f → Stepped old new None s r → OnErr q (taken f ≡ None) → OnErr q (new ≡ old)
-stays_short {A} old new s r f (Ok b) is m t = tt
-stays_short {A} old new s r f (Err e) is m t = go f (subst (λ (y : Result A ShardFault). Stepped old new None s y) is m) t
-  where
-    go : (g : ShardFault) → Stepped {A = A} old new None s (Err g) → taken g ≡ None → new ≡ old
-    go AlreadyTracked k n = absurd (cc)
-    go NoPresence k n = absurd (cc)
-    go ClockFull k n = absurd (cc)
-    go JournalFull k n = absurd (cc)
-    go NoSub k n = absurd (cc)
-    go BadIncarnation k n = absurd (cc)
-    go OutOfMemory k n = k
-
-pub ruleset taking = (took_ok, took_refused, took_take, took_end, stays_short)
+pub ruleset missing = (take_missing, end_missing)

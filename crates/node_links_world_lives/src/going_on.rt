@@ -1,5 +1,5 @@
 // The rows of a life that goes on under a higher incarnation.
-ghost use Rattle.std.specs.Prelude.{◌≡◌, IfOk, OnOk, OnErr};
+ghost use Rattle.std.specs.Prelude.{◌≡◌, IfOk, OnOk};
 ghost use Rattle.std.specs.FinMap as rows_in;
 ghost use Rattle.node_links_world_lives.specs.GoingOn.{AreMade};
 ghost use Rattle.node_links_world_laws.specs.World.{under, rows_under, with_row};
@@ -9,7 +9,6 @@ use presence_base::{Dot, Row};
 use presence_journal::Journal;
 use presence_journal_sets::walk_set;
 use std::alloc::{AllocError, Global};
-use tracker_shard::ShardFault;
 
 // Adds the row of a dot at the end, where there is one.
 fn push_row(rows: &mut Vec<(Dot, Row)>, set: &Orswot, dot: &Dot) -> Result<(), AllocError>
@@ -48,15 +47,4 @@ pub(crate) fn made_rows(
 {
     let set = walk_set(alloc, journal)?;
     rows_under(alloc, &set, pairs)
-}
-
-/// A rebirth that was refused for good; else memory ran out.
-pub(crate) fn refused_rebirth(fault: ShardFault) -> Result<(), AllocError>
-    ensures memory { OnErr result (fault ≡ ShardFault.OutOfMemory) }
-    ensures good { OnOk result (fault ≡ ShardFault.OutOfMemory → ⊥) }
-{
-    match fault {
-        ShardFault::OutOfMemory => Err(AllocError),
-        _ => Ok(()),
-    }
 }

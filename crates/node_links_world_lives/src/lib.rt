@@ -9,7 +9,6 @@
 //! `specs/Taken` is of the shard's calls.
 #![tactic(auto)]
 
-mod client;
 mod going_on;
 mod life;
 mod others;

@@ -1,22 +1,24 @@
 //! One life of a node, with each row that it made.
 ghost use Rattle.std.specs.Prelude.{◌≡◌, true, IfOk, OnOk, OnErr};
 ghost use Rattle.presence_base.specs.Refs.{IsCount};
-ghost use Rattle.presence_journal.specs.Table.{accepted, is_step, IsLegal};
+ghost use Rattle.presence_journal.specs.Table.{accepted, is_step, outcome_of, IsLegal};
 ghost use Rattle.presence_journal.specs.History.{IsTop, count, status};
 ghost use Rattle.node_links_world_lives.specs.GoingOn.{going_on};
 ghost use Rattle.node_links_world_lives.specs.Living.{Cuts, BeginsAgain};
+ghost use Rattle.node_links_world_lives.specs.Taken.{RefusesMissing};
 ghost use Rattle.node_links_world_laws.specs.World.{newborn, stepped, TellsPartIf, TellsWhole};
 
-use crate::going_on::{made_rows, refused_rebirth};
-use crate::taking;
+use crate::going_on::made_rows;
+use crate::refused::refused;
 use crate::telling::Telling;
+use crate::{steps, taking};
 use orswot_core_told::Form;
 use presence_base::{Dot, Replica, Row};
 use presence_journal::{Journal, Step};
 use replica_status::Status;
 use std::alloc::{AllocError, Global};
 use std::marker::Model;
-use tracker_shard::Shard;
+use tracker_shard::{Call, Shard};
 
 /// One life of a node: its shard, and each row that its own steps ever added, with its dot.
 pub struct Life {
@@ -84,13 +86,23 @@ impl Life {
     }
 
     /// A step.
-    #[tactic(auto, using(crate::proofs::LifeFacts::parts_same))]
     pub fn step(&mut self, alloc: Global, step: &Step) -> Result<(), AllocError>
         requires { is_step step.now ≡ true }
         ensures stepped { OnOk result (self.new ≡ stepped step.now self.old) }
         ensures same { OnErr result (self.new ≡ self.old) }
     {
-        taking::take(&mut self.shard, &mut self.made, alloc, step)
+        steps::take(self, alloc, step)
+    }
+
+    /// The step of a call.
+    #[tactic(auto, using(crate::proofs::LifeFacts::parts_same))]
+    pub(crate) fn call<C: Call>(&mut self, alloc: Global, call: &C) -> Result<(), AllocError>
+        requires { RefusesMissing (C.there call.now self.old.history)
+            (outcome_of self.old.history (C.step call.now)) }
+        ensures stepped { OnOk result (self.new ≡ stepped (C.step call.now) self.old) }
+        ensures same { OnErr result (self.new ≡ self.old) }
+    {
+        taking::take(&mut self.shard, &mut self.made, alloc, call)
     }
 
     /// What it did since its last cut, in the form, where there is room for the entry.
@@ -154,7 +166,7 @@ impl Life {
                 Ok(Some(Life { shard, made }))
             }
             Err(fault) => {
-                refused_rebirth(fault)?;
+                refused(fault)?;
                 Ok(None)
             }
         }

@@ -1,5 +1,5 @@
 //! The row that a step adds.
-ghost use Rattle.std.specs.Prelude.{◌≡◌, IfOk};
+ghost use Rattle.std.specs.Prelude.{◌≡◌, Some, IfOk};
 ghost use Rattle.presence_journal.specs.History.{row_made};
 ghost use Rattle.node_links_world_laws.specs.World.{under, added};
 
@@ -49,18 +49,15 @@ fn under_dot(dot: Dot, row: Option<Row>) -> Option<(Dot, Row)>
 }
 
 /// The row that a step adds which comes to this outcome, with its dot.
-pub(crate) fn added_row(
-    step: &Step,
-    outcome: &Option<Outcome>,
-) -> Result<Option<(Dot, Row)>, AllocError>
-    ensures { IfOk result (λ o. o ≡ added step.now outcome.now) }
+pub(crate) fn added_row(step: &Step, outcome: &Outcome) -> Result<Option<(Dot, Row)>, AllocError>
+    ensures { IfOk result (λ o. o ≡ added step.now (Some outcome.now)) }
 {
     match outcome {
-        Some(Outcome::Added(dot)) => {
+        Outcome::Added(dot) => {
             let row = made_row(step, None)?;
             Ok(under_dot(*dot.get(), row))
         }
-        Some(Outcome::Replaced(dot, old)) => {
+        Outcome::Replaced(dot, old) => {
             let row = made_row(step, Some(*old.get()))?;
             Ok(under_dot(*dot.get(), row))
         }

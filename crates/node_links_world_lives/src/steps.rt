@@ -1,16 +1,16 @@
 //! Any step.
-ghost use Rattle.std.specs.Prelude.{◌≡◌, true, IfOk, OnErr};
+ghost use Rattle.std.specs.Prelude.{◌≡◌, true, OnOk, OnErr};
 ghost use Rattle.presence_journal.specs.Table.{is_step};
-ghost use Rattle.node_links_world_lives.specs.Taken.{Took};
-ghost use Rattle.node_links_world_laws.specs.World.{is_client};
+ghost use Rattle.node_links_world_laws.specs.World.{is_client, stepped};
 
-use crate::client;
-use crate::refused::refused;
-use orswot_core_told::Told;
-use presence_base::{MAX_COUNT, Replica};
+use crate::life::Life;
+use presence_base::MAX_COUNT;
 use presence_journal::Step;
 use std::alloc::{AllocError, Global};
-use tracker_shard::Shard;
+use tracker_shard::{
+    Cut, Get, Heard, List, Merge, PermDown, Rebirth, ShoutShared, Sub, Subscribe, Take, Tick,
+    Track, Unsubscribe, Untrack, UntrackAll, Update,
+};
 
 /// Whether a step is one that callers may ask.
 pub fn is_callers(step: &Step) -> bool
@@ -38,11 +38,20 @@ pub fn is_limited(step: &Step) -> bool
     }
 }
 
-/// Takes a step; tells whether it was accepted.
-pub(crate) fn take(shard: &mut Shard, alloc: Global, step: &Step) -> Result<bool, AllocError>
+// The subscriber of a number.
+fn numbered(number: u64) -> Sub
+    ensures number { result.number ≡ number }
+    ensures slot { result.slot ≡ 0 }
+{
+    Sub { slot: 0, number }
+}
+
+/// A step of a life, by its call.
+#[tactic(auto, using(crate::proofs::Taken::missing))]
+pub(crate) fn take(life: &mut Life, alloc: Global, step: &Step) -> Result<(), AllocError>
     requires { is_step step.now ≡ true }
-    ensures took { IfOk result (Took shard.old shard.new step.now) }
-    ensures same { OnErr result (shard.new ≡ shard.old) }
+    ensures stepped { OnOk result (life.new ≡ stepped step.now life.old) }
+    ensures same { OnErr result (life.new ≡ life.old) }
 {
     match step {
         Step::Track {
@@ -50,98 +59,60 @@ pub(crate) fn take(shard: &mut Shard, alloc: Global, step: &Step) -> Result<bool
             topic,
             key,
             meta,
-        } => client::track(shard, alloc, *pid, topic, key, meta),
+        } => life.call(
+            alloc,
+            &Track {
+                pid: *pid,
+                topic,
+                key,
+                meta,
+            },
+        ),
         Step::Update {
             pid,
             topic,
             key,
             meta,
-        } => client::update(shard, alloc, *pid, topic, key, meta),
-        Step::Untrack { pid, topic, key } => client::untrack(shard, alloc, *pid, topic, key),
-        Step::UntrackAll { pid, topic } => client::untrack_all(shard, alloc, *pid, topic),
-        Step::List { topic } => client::list(shard, alloc, topic),
-        Step::Get { topic, key } => client::get(shard, alloc, topic, key),
-        Step::Subscribe { topic } => client::subscribe(shard, alloc, topic),
-        Step::Take { subscriber, max } => client::take(shard, alloc, *subscriber, max.get()),
-        Step::Unsubscribe { subscriber } => client::unsubscribe(shard, alloc, *subscriber),
-        Step::Shout { topic, payload } => client::shout(shard, alloc, topic, payload),
-        Step::Merge { told } => merge(shard, alloc, told.get()),
-        Step::Heard { replica, now } => heard(shard, alloc, *replica.get(), *now),
-        Step::Tick { now } => tick(shard, alloc, *now),
-        Step::PermDown { replica } => permdown(shard, alloc, *replica.get()),
-        Step::Cut => cut(shard, alloc),
-        Step::Rebirth { incarnation } => rebirth(shard, alloc, *incarnation),
-    }
-}
-
-// Cuts; what it tells is dropped.
-#[tactic(auto, using(crate::proofs::Taken::taking))]
-fn cut(shard: &mut Shard, alloc: Global) -> Result<bool, AllocError>
-    ensures took { IfOk result (Took shard.old shard.new Step.Cut) }
-    ensures same { OnErr result (shard.new ≡ shard.old) }
-{
-    match shard.cut(alloc) {
-        Ok(_) => Ok(true),
-        Err(fault) => refused(fault),
-    }
-}
-
-// Goes on under a higher incarnation; the pairs are dropped.
-#[tactic(auto, using(crate::proofs::Taken::taking))]
-fn rebirth(shard: &mut Shard, alloc: Global, incarnation: u64) -> Result<bool, AllocError>
-    ensures took { IfOk result (Took shard.old shard.new (Step.Rebirth incarnation)) }
-    ensures same { OnErr result (shard.new ≡ shard.old) }
-{
-    match shard.rebirth(alloc, incarnation) {
-        Ok(_) => Ok(true),
-        Err(fault) => refused(fault),
-    }
-}
-
-// Takes in what was told.
-#[tactic(auto, using(crate::proofs::Taken::taking))]
-fn merge(shard: &mut Shard, alloc: Global, told: &Told) -> Result<bool, AllocError>
-    ensures took { IfOk result (Took shard.old shard.new (Step.Merge told.now)) }
-    ensures same { OnErr result (shard.new ≡ shard.old) }
-{
-    match shard.merge(alloc, told) {
-        Ok(_) => Ok(true),
-        Err(fault) => refused(fault),
-    }
-}
-
-// Notes that a replica was heard.
-#[tactic(auto, using(crate::proofs::Taken::taking))]
-fn heard(shard: &mut Shard, alloc: Global, replica: Replica, now: u64) -> Result<bool, AllocError>
-    ensures took { IfOk result (Took shard.old shard.new (Step.Heard replica now)) }
-    ensures same { OnErr result (shard.new ≡ shard.old) }
-{
-    match shard.heard(alloc, replica, now) {
-        Ok(_) => Ok(true),
-        Err(fault) => refused(fault),
-    }
-}
-
-// Lets time pass.
-#[tactic(auto, using(crate::proofs::Taken::taking))]
-fn tick(shard: &mut Shard, alloc: Global, now: u64) -> Result<bool, AllocError>
-    ensures took { IfOk result (Took shard.old shard.new (Step.Tick now)) }
-    ensures same { OnErr result (shard.new ≡ shard.old) }
-{
-    match shard.tick(alloc, now) {
-        Ok(_) => Ok(true),
-        Err(fault) => refused(fault),
-    }
-}
-
-// Notes that a replica is gone for good.
-#[tactic(auto, using(crate::proofs::Taken::taking))]
-fn permdown(shard: &mut Shard, alloc: Global, replica: Replica) -> Result<bool, AllocError>
-    ensures took { IfOk result (Took shard.old shard.new (Step.PermDown replica)) }
-    ensures same { OnErr result (shard.new ≡ shard.old) }
-{
-    match shard.permdown(alloc, replica) {
-        Ok(_) => Ok(true),
-        Err(fault) => refused(fault),
+        } => life.call(
+            alloc,
+            &Update {
+                pid: *pid,
+                topic,
+                key,
+                meta,
+            },
+        ),
+        Step::Untrack { pid, topic, key } => {
+            let pid = *pid;
+            life.call(alloc, &Untrack { pid, topic, key })
+        }
+        Step::UntrackAll { pid, topic } => life.call(alloc, &UntrackAll { pid: *pid, topic }),
+        Step::List { topic } => life.call(alloc, &List { topic }),
+        Step::Get { topic, key } => life.call(alloc, &Get { topic, key }),
+        Step::Subscribe { topic } => life.call(alloc, &Subscribe { topic }),
+        Step::Take { subscriber, max } => {
+            let (sub, max) = (numbered(*subscriber), max.get());
+            life.call(alloc, &Take { sub, max })
+        }
+        Step::Unsubscribe { subscriber } => {
+            let sub = numbered(*subscriber);
+            life.call(alloc, &Unsubscribe { sub })
+        }
+        Step::Shout { topic, payload } => life.call(alloc, &ShoutShared { topic, payload }),
+        Step::Heard { replica, now } => {
+            let replica = *replica.get();
+            life.call(alloc, &Heard { replica, now: *now })
+        }
+        Step::Tick { now } => life.call(alloc, &Tick { now: *now }),
+        Step::PermDown { replica } => {
+            let replica = *replica.get();
+            life.call(alloc, &PermDown { replica })
+        }
+        Step::Cut => life.call(alloc, &Cut),
+        Step::Merge { told } => life.call(alloc, &Merge { told }),
+        Step::Rebirth { incarnation } => {
+            let incarnation = *incarnation;
+            life.call(alloc, &Rebirth { incarnation })
+        }
     }
 }

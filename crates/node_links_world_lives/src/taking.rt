@@ -1,23 +1,24 @@
 // What a shard does at an event. Where memory runs out it is as it was.
-ghost use Rattle.std.specs.Prelude.{◌≡◌, ◌<◌, ℕ, true, None, Err, IfOk, OnOk, OnErr, vec_len, vec_capacity};
-ghost use Rattle.presence_journal.specs.History.{History};
+ghost use Rattle.std.specs.Prelude.{◌≡◌, ◌<◌, ℕ, true, false, Some, None, Err, IfOk, OnOk, OnErr, vec_len, vec_capacity};
+ghost use Rattle.presence_journal.specs.History.{History, is_full};
+ghost use Rattle.presence_journal.specs.Limits.{is_within_limits};
 ghost use Rattle.presence_journal_cuts.specs.ToldParts.{IsPart};
-ghost use Rattle.presence_journal.specs.Table.{outcome_of, after, is_step};
+ghost use Rattle.presence_journal.specs.Table.{outcome_of, after};
 ghost use Rattle.tracker_shard.specs.Steps.{RefusesForRoom};
 ghost use Rattle.node_links_world_lives.specs.Living.{Cuts, BeginsAgain};
-ghost use Rattle.node_links_world_lives.specs.Taken.{AddsRow};
-ghost use Rattle.node_links_world_laws.specs.World.{added, with_row, TellsPartIf, TellsWhole};
+ghost use Rattle.node_links_world_lives.specs.Taken.{Took, AddsRow, RefusesMissing};
+ghost use Rattle.node_links_world_laws.specs.World.{with_row, TellsPartIf, TellsWhole};
 
+use crate::refused::refused;
 use crate::row::added_row;
-use crate::steps;
 use crate::telling::Telling;
 use delta_range::Delta;
 use orswot_core_told::Form;
 use presence_base::{Dot, Row};
-use presence_journal::Step;
+use presence_journal::{Outcome, Step};
 use presence_journal_cuts::up_to;
 use std::alloc::{AllocError, Global};
-use tracker_shard::{Shard, ShardFault};
+use tracker_shard::{Call, Found, Shard, ShardFault};
 
 // Puts a row behind those that were made, into the room that there is for it.
 fn keep_row(made: &mut Vec<(Dot, Row)>, added: Option<(Dot, Row)>)
@@ -29,40 +30,52 @@ fn keep_row(made: &mut Vec<(Dot, Row)>, added: Option<(Dot, Row)>)
     }
 }
 
-// The row that a step will add, if it is taken.
-fn foreseen_row(
-    shard: &mut Shard,
-    alloc: Global,
-    step: &Step,
-) -> Result<Option<(Dot, Row)>, AllocError>
-    ensures same { shard.new ≡ shard.old }
-    ensures row { IfOk result (λ o. o ≡ added step.now (outcome_of shard.old step.now)) }
-{
-    let outcome = shard.foresee(alloc, step)?;
-    added_row(step, &outcome)
-}
-
-/// A step, with the row that it adds.
-#[tactic(auto, using(crate::proofs::Rows::rows))]
-pub(crate) fn take(
+// Makes the step that a call was found to come to, and keeps the row that it adds. The shard refuses it for want of memory alone.
+#[tactic(auto, using(crate::proofs::Taken::entering))]
+fn enter(
     shard: &mut Shard,
     made: &mut Vec<(Dot, Row)>,
     alloc: Global,
-    step: &Step,
+    step: Step,
+    outcome: Outcome,
 ) -> Result<(), AllocError>
-    requires { is_step step.now ≡ true }
-    ensures history { OnOk result (shard.new ≡ after shard.old step.now None) }
-    ensures made { OnOk result (AddsRow shard.old step.now made.old.items made.new.items) }
+    requires table { outcome_of shard.old step ≡ Some outcome }
+    requires room { is_full shard.old ≡ false }
+    requires limits { is_within_limits step ≡ true }
+    ensures took { OnOk result (Took shard.old shard.new step true) }
+    ensures made { OnOk result (AddsRow shard.old step made.old.items made.new.items) }
     ensures same { OnErr result (shard.new ≡ shard.old) }
     ensures kept { OnErr result (made.new.items ≡ made.old.items) }
 {
-    let added = foreseen_row(shard, alloc, step)?;
+    let added = added_row(&step, &outcome)?;
     made.reserve(1)?;
-    let is_taken = steps::take(shard, alloc, step)?;
-    if is_taken {
-        keep_row(made, added);
+    match shard.enter(alloc, None, step, outcome) {
+        Ok(()) => {
+            keep_row(made, added);
+            Ok(())
+        }
+        Err(_) => Err(AllocError),
     }
-    Ok(())
+}
+
+/// The step of a call, with the row that it adds, or nothing where the call is refused by no entry.
+#[tactic(auto, using(crate::proofs::Taken::taking))]
+pub(crate) fn take<C: Call>(
+    shard: &mut Shard,
+    made: &mut Vec<(Dot, Row)>,
+    alloc: Global,
+    call: &C,
+) -> Result<(), AllocError>
+    requires { RefusesMissing (C.there call.now shard.old) (outcome_of shard.old (C.step call.now)) }
+    ensures history { OnOk result (shard.new ≡ after shard.old (C.step call.now) None) }
+    ensures made { OnOk result (AddsRow shard.old (C.step call.now) made.old.items made.new.items) }
+    ensures same { OnErr result (shard.new ≡ shard.old) }
+    ensures kept { OnErr result (made.new.items ≡ made.old.items) }
+{
+    match shard.look(alloc, call) {
+        Ok(Found { step, outcome, .. }) => enter(shard, made, alloc, step, outcome),
+        Err(fault) => refused(fault),
+    }
 }
 
 // What a shard wanted that refused for want of room: Ok where its journal is full, and else memory ran out.

@@ -237,6 +237,16 @@ impl Step {
         let told = SharedTold::new(alloc, told.clone()?)?;
         Ok(Step::Merge { told })
     }
+
+    /// A merge of what another node told, which is shared and not copied.
+    pub fn merge_shared(told: &SharedTold) -> Result<Step, AllocError>
+        ensures step { IfOk result (λ s. s ≡ Step.Merge told.now) }
+        ensures limits { IfOk result (λ s. is_within_limits s ≡ true) }
+    {
+        read_rows(told.get().live());
+        let told = told.clone()?;
+        Ok(Step::Merge { told })
+    }
 }
 
 // Reads the names and texts of rows, whose types keep their limits.

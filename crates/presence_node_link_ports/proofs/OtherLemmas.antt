@@ -3,7 +3,7 @@ use Rattle.std.proofs.Common.{◌≡◌, Bool, true, false, not, ◌||◌, cond,
 use Rattle.std.specs.List.{filter, list_any}
 use Rattle.presence_base.specs.declared.dots.Replica.{Replica}
 use Rattle.orswot_core_told.specs.Telling.{ToldValue, cut_to}
-use Rattle.presence_node_link_ports.specs.Others.{is_life_of, is_other, tells_of, of_others, of_others_else}
+use Rattle.presence_node_link_ports.specs.Others.{is_life_of, is_other, tells_of, of_others}
 
 kept : {A : Type 0} (b : Bool) (x : A) (xs ys : List A) (any : Bool) → (b || any) ≡ false → (any ≡ false → ys ≡ xs) → cond (not b) (x ∷ ys) ys ≡ x ∷ xs
 kept true x xs ys any e same = absurd cc
@@ -24,6 +24,6 @@ whole own t true ds xs g d x e = absurd cc
 whole own t false true xs g d x e = absurd cc
 whole own t false false true g d x e = absurd cc
 
-pub all_of_others : (own : Replica) (t : ToldValue) → tells_of own t ≡ false → of_others_else t None ≡ of_others (Some own) t
+pub all_of_others : (own : Replica) (t : ToldValue) → tells_of own t ≡ false → t ≡ of_others (Some own) t
 all_of_others own t e = sym (whole own t (list_any (λ g. is_life_of own g.0) t.ranges) (list_any (λ d. is_life_of own d.replica) t.extras)
     (list_any (λ x. is_life_of own x.0.replica) t.live) refl refl refl e)

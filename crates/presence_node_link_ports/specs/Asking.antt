@@ -1,4 +1,4 @@
--- A port over a pool: the call of the pool that each question of a link is, and what a period asks of a shard.
+-- A port over a pool: the call of the pool that each question of a link is, and the beat of a cut.
 use Rattle.std.specs.Prelude.{◌≡◌, ◌⊎◌, ◌<◌, ◌==◌, ◌&&◌, ◌||◌, Bool, nat_lt, ℕ, List, Option, Some, None, cond, Result, Ok, Err}
 use Rattle.std.specs.List.{list_any}
 use Rattle.presence_base.specs.declared.dots.Dot.{Dot}
@@ -15,7 +15,7 @@ use Rattle.presence_journal.specs.History.{History, IsTop, status as status_in}
 use Rattle.shard_pool.specs.KeptDeltas.{TellsFrom}
 use Rattle.shard_pool.specs.ShardFault.{ShardFault}
 use Rattle.shard_pool.specs.ShardFault.TheVariants as faults
-use Rattle.shard_pool.specs.Unseated.{IsBehindOf, IsMade, IsMadeWhereFull}
+use Rattle.shard_pool.specs.Unseated.{IsBehindOf, IsDone, IsMade}
 use Rattle.node_links_members.specs.declared.hearer.Telling.{Telling}
 use Rattle.node_links_lines.specs.declared.lines.Line.{Line}
 use Rattle.node_links_lines.specs.declared.lines.Line.TheVariants as lines
@@ -47,9 +47,12 @@ pub record Made (Here : History → Type 0) (step : Step) (answer : Result (Unit
   pub behind : IsBehindOf Here (λ h. IsMade h step reply)
   pub told : answer ≡ told_of reply
 
--- there is room at a shard: a checkpoint was made of its full journal, or it isn't full any more
-abbrev pub HasRoom : (History → Type 0) → Type 0
-HasRoom Here = (made : Bool) × IsBehindOf Here (λ h. IsMadeWhereFull h (Ok made))
+-- The same of any call without a seat, and of what it gives. `there` tells whether its subscriber is there.
+pub record Called {A : Type 0} (Here : History → Type 0) (there : History → Bool) (Gives : History → A → Type 0)
+    (step : Step) (answer : Result A ActFault) : Type 0 where
+  pub reply : Result A ShardFault
+  pub behind : IsBehindOf Here (λ h. IsDone there Gives h step reply)
+  pub told : answer ≡ told_of reply
 
 -- what is read without a step, of some legal history of the shard
 abbrev pub Reads : {A : Type 0} → (History → Type 0) → (History → A → Type 0) → Result A ActFault → Type 0
@@ -121,7 +124,7 @@ dots_above r n ds = list_any (dot_above r n) ds
 abbrev pub tells_above : Replica → ℕ → ToldValue → Bool
 tells_above r n t = ranges_above r n t.ranges || dots_above r n t.extras
 
--- ---- a period
+-- ---- a beat
 
 -- what a cut tells, in the form: nothing where there are no new counts
 abbrev pub news_of : Form → DeltaValue → Option Telling

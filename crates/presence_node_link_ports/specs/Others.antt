@@ -33,11 +33,6 @@ abbrev pub of_others : Option Replica → ToldValue → ToldValue
 of_others None t = t
 of_others (Some own) t = cut_to (is_other own) t
 
--- the value in the place of this one, where there is one
-abbrev pub of_others_else : ToldValue → Option ToldValue → ToldValue
-of_others_else t None = t
-of_others_else t (Some cut) = cut
-
 -- the incarnation of a life of this node that is above its own by no more than that, and of any other replica 0
 abbrev pub life_in : Replica → ℕ → Replica → ℕ
 life_in own most r = cond (is_life_of own r && nat_le (r.incarnation - own.incarnation) most) r.incarnation 0

@@ -1,6 +1,5 @@
 //! What a link is told of a refusal.
-ghost use Rattle.std.specs.Prelude.{◌≡◌, true, false, Err};
-ghost use Rattle.shard_pool.specs.ShardFault.TheVariants.{JournalFull};
+ghost use Rattle.std.specs.Prelude.{◌≡◌};
 ghost use Rattle.presence_node_link_ports.specs.Asking.{act_fault, told_of};
 
 use node_links_acts::ActFault;
@@ -23,16 +22,5 @@ pub(crate) fn told<T>(reply: Result<T, PoolFault>) -> Result<T, ActFault>
     match reply {
         Ok(value) => Ok(value),
         Err(fault) => Err(act_fault_of(fault)),
-    }
-}
-
-/// Whether a shard's journal was full.
-pub(crate) fn is_full<T>(reply: &Result<T, PoolFault>) -> bool
-    ensures full { result ≡ true → reply.now ≡ Err JournalFull }
-    ensures only { result ≡ false → reply.now ≡ Err JournalFull → ⊥ }
-{
-    match reply {
-        Err(PoolFault::JournalFull) => true,
-        _ => false,
     }
 }

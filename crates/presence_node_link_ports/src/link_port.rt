@@ -1,22 +1,21 @@
 //! The pool as the port of a link.
-ghost use Rattle.std.specs.Prelude.{◌≡◌, true, Err, Some};
-ghost use Rattle.shard_pool.specs.ShardFault.TheVariants.{JournalFull};
+ghost use Rattle.std.specs.Prelude.{◌≡◌, Some};
 
 use crate::above::tells_above;
 use crate::fault::told;
-use crate::others::{cut_to_others, highest_life};
+use crate::others::{highest_life, shared_of_others};
 use crate::parts::{is_there, is_told_in_parts, part_on_line, shorter_reply};
-use crate::room::room_made;
 use node_links_acts::{ActFault, LinkPort};
 use orswot_core_told::{Form, Told};
 use presence_base::Replica;
+use presence_journal::SharedTold;
 use replica_status::Status;
-use shard_pool::{Gate, Lanes, Pool, PoolFault};
+use shard_pool::{Call, Gate, Heard, Lanes, Merge, PermDown, Pool, Tried};
 use std::alloc::Global;
 use std::sync::Wait;
 
 /// The port of a link over a pool: each of its calls is that call of the pool, without a seat, and waits for the lock of
-/// the shard. One that finds the shard's journal full makes room there by a checkpoint and is tried once more.
+/// the shard.
 #[derive(Drop)]
 pub struct PoolLinkPort<'a, R: Wait, G: Gate, L: Lanes> {
     rt: &'a R,
@@ -40,27 +39,10 @@ pub struct PoolLinkPort<'a, R: Wait, G: Gate, L: Lanes> {
     ghost all: { shards ≡ pool.now.shards },
 }
 
-// What is told of a call of the pool at a shard, where there is such a shard. One that finds the journal full is made
-// once more where a checkpoint makes room.
-macro_rules! tried {
-    ($port:ident, $alloc:ident, $shard:ident, $call:expr) => {{
-        if $shard >= $port.shards {
-            return Err(ActFault::ShardFull);
-        }
-        let reply = $call;
-        if !$port.makes_room($alloc, $shard, &reply) {
-            return told(reply);
-        }
-        let again = $call;
-        told(again)
-    }};
-}
-
 impl<'a, R: Wait, G: Gate, L: Lanes> PoolLinkPort<'a, R, G, L> {
-    ghost use Rattle.std.specs.Prelude.{◌≡◌, ◌<◌, ◌⊎◌};
-    ghost use Rattle.presence_journal_data.specs.declared.step.Step.TheVariants.{Merge};
+    ghost use Rattle.std.specs.Prelude.{◌≡◌, ◌⊎◌};
     ghost use Rattle.shard_pool.specs.Seats.{IsOfShardAt};
-    ghost use Rattle.presence_node_link_ports.specs.Asking.{HasNoShard, HasRoom, Made};
+    ghost use Rattle.presence_node_link_ports.specs.Asking.{Called, HasNoShard};
 
     /// The port of this pool, which has so many shards.
     pub fn new(rt: &'a R, pool: &'a Pool<G, L>, shards: u32) -> PoolLinkPort<'a, R, G, L>
@@ -134,43 +116,28 @@ impl<'a, R: Wait, G: Gate, L: Lanes> PoolLinkPort<'a, R, G, L> {
         }
     }
 
-    // The shard takes in what is told.
-    fn merges(&mut self, alloc: Global, shard: u32, news: &Told) -> Result<(), ActFault>
-        ensures pool { self.new.pool ≡ self.old.pool }
-        ensures own { self.new.own ≡ self.old.own }
-        ensures merged { HasNoShard self.old.pool.now.shards shard result
-            ⊎ Made (IsOfShardAt self.old.pool.now.own.name L.begins shard)
-            (Merge news.now) result }
-    {
-        self.has_changed = true;
-        tried!(
-            self,
-            alloc,
-            shard,
-            self.pool.merge(self.rt, alloc, shard, news)
-        )
-    }
-
     /// Whether the other node told of counts of this node's own incarnation that it never made.
     pub fn has_own_counts(&self) -> bool {
         self.has_own_counts
     }
 
-    // Whether the call found the shard's journal full and there is room now, so that it is worth another try.
-    fn makes_room<T>(&mut self, alloc: Global, shard: u32, reply: &Result<T, PoolFault>) -> bool
-        requires { shard < self.old.shards }
+    // Makes a call of a shard, where there is such a shard, and tells the answer.
+    fn make<C: Call>(&mut self, alloc: Global, shard: u32, call: &C) -> Result<C::Answer, ActFault>
         ensures pool { self.new.pool ≡ self.old.pool }
         ensures own { self.new.own ≡ self.old.own }
-        ensures full { result ≡ true → reply.now ≡ Err JournalFull }
-        ensures room { result ≡ true → HasRoom (IsOfShardAt self.old.pool.now.own.name L.begins shard) }
+        ensures called { HasNoShard self.old.pool.now.shards shard result
+            ⊎ Called (IsOfShardAt self.old.pool.now.own.name L.begins shard) (C.there call.now) (C.gives call.now)
+            (C.step call.now) result }
     {
-        match room_made(self.rt, alloc, self.pool, shard, reply) {
-            Some(made) => {
-                self.has_changed = self.has_changed || made;
-                true
-            }
-            None => false,
+        if shard >= self.shards {
+            return Err(ActFault::ShardFull);
         }
+        let Tried {
+            answer,
+            has_begun_again,
+        } = self.pool.make(self.rt, alloc, shard, call);
+        self.has_changed = self.has_changed || has_begun_again;
+        told(answer)
     }
 }
 
@@ -202,6 +169,7 @@ impl<'a, R: Wait, G: Gate, L: Lanes> LinkPort for PoolLinkPort<'a, R, G, L> {
         Ok(status)
     }
 
+    #[tactic(auto, using(crate::proofs::CallLemmas::called))]
     fn heard(
         &mut self,
         alloc: Global,
@@ -209,36 +177,24 @@ impl<'a, R: Wait, G: Gate, L: Lanes> LinkPort for PoolLinkPort<'a, R, G, L> {
         replica: Replica,
         now: u64,
     ) -> Result<(), ActFault> {
-        self.has_changed = self.has_changed || !self.is_up;
-        let who = &replica;
-        tried!(
-            self,
-            alloc,
-            shard,
-            self.pool.heard(self.rt, alloc, shard, *who, now)
-        )
+        self.has_changed |= !self.is_up;
+        self.make(alloc, shard, &Heard { replica, now })
     }
 
-    fn merge(&mut self, alloc: Global, shard: u32, told: &Told) -> Result<(), ActFault> {
-        self.looks_at(shard, told);
-        let Ok(cut) = cut_to_others(alloc, &self.own, told) else {
+    #[tactic(auto, using(crate::proofs::CallLemmas::called))]
+    fn merge(&mut self, alloc: Global, shard: u32, told: Told) -> Result<(), ActFault> {
+        self.looks_at(shard, &told);
+        let Ok(shared) = shared_of_others(alloc, &self.own, told) else {
             return Err(ActFault::OutOfMemory);
         };
-        match &cut {
-            Some(news) => self.merges(alloc, shard, news),
-            None => self.merges(alloc, shard, told),
-        }
+        self.has_changed = true;
+        self.make(alloc, shard, &Merge { told: &shared })
     }
 
+    #[tactic(auto, using(crate::proofs::CallLemmas::called))]
     fn permdown(&mut self, alloc: Global, shard: u32, replica: Replica) -> Result<(), ActFault> {
         self.has_changed = true;
-        let who = &replica;
-        tried!(
-            self,
-            alloc,
-            shard,
-            self.pool.permdown(self.rt, alloc, shard, *who)
-        )
+        self.make(alloc, shard, &PermDown { replica })
     }
 
     fn top(&mut self, _alloc: Global, shard: u32, replica: &Replica) -> Result<u64, ActFault> {

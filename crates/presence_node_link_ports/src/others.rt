@@ -1,10 +1,11 @@
 //! What is told of other nodes than this one: nobody else tells of its own lives.
 ghost use Rattle.std.specs.Prelude.{◌≡◌, IfOk};
 ghost use Rattle.presence_node_link_ports.specs.Others.{is_in_dots, is_in_ranges, is_in_rows, is_life_of};
-ghost use Rattle.presence_node_link_ports.specs.Others.{highest_in, life_in, of_others, of_others_else, tells_of as has_lives};
+ghost use Rattle.presence_node_link_ports.specs.Others.{highest_in, life_in, of_others, tells_of as has_lives};
 
 use orswot_core_told::{ReplicaTest, Told};
 use presence_base::{Dot, Replica, Row};
+use presence_journal::SharedTold;
 use std::alloc::{AllocError, Global};
 
 // Whether a replica is a life of this node.
@@ -55,23 +56,30 @@ fn tells_of(own: &Replica, told: &Told) -> bool
     in_ranges(own, told.ranges()) || in_dots(own, told.extras()) || in_rows(own, told.live())
 }
 
-/// What is told of other nodes, where something else is: none where all of it is of others, or no node is to be told apart.
+// What is told of other nodes: all of it where nothing else is told, or no node is to be told apart.
 #[tactic(auto, using(crate::proofs::OtherLemmas::all_of_others))]
-pub(crate) fn cut_to_others(
-    alloc: Global,
-    own: &Option<Replica>,
-    told: &Told,
-) -> Result<Option<Told>, AllocError>
-    ensures { IfOk result (λ cut. of_others_else told.now cut ≡ of_others own.now told.now) }
+fn cut_to_others(alloc: Global, own: &Option<Replica>, told: Told) -> Result<Told, AllocError>
+    ensures { IfOk result (λ cut. cut ≡ of_others own.now told) }
 {
     let Some(own) = own else {
-        return Ok(None);
+        return Ok(told);
     };
-    if !tells_of(own, told) {
-        return Ok(None);
+    if !tells_of(own, &told) {
+        return Ok(told);
     }
-    let cut = told.cut_to(alloc, &OtherNodes { own: *own })?;
-    Ok(Some(cut))
+    told.cut_to(alloc, &OtherNodes { own: *own })
+}
+
+/// What is told of other nodes, as an entry shares it.
+pub(crate) fn shared_of_others(
+    alloc: Global,
+    own: &Option<Replica>,
+    told: Told,
+) -> Result<SharedTold, AllocError>
+    ensures { IfOk result (λ shared. shared ≡ of_others own.now told) }
+{
+    let others = cut_to_others(alloc, own, told)?;
+    SharedTold::new(alloc, others)
 }
 
 // The incarnation of a life of this node that is above its own by no more than that, and of any other replica 0.

@@ -1,6 +1,5 @@
 -- What comes of shards that are to go on under a higher incarnation, and of those that could not yet.
-use Rattle.std.specs.Prelude.{◌≡◌, ℕ, zero, suc, Bool, true, false, Option, Some, None, Result, Ok, Err, Vec}
-use Rattle.std.specs.Global.{Global}
+use Rattle.std.specs.Prelude.{◌≡◌, ℕ, zero, suc, Bool, true, false, Option, Some, None, List, Result, Ok, Err}
 use Rattle.presence_base.specs.declared.dots.Dot.{Dot}
 use Rattle.presence_journal.specs.History.{History, own}
 use Rattle.shard_pool.specs.ShardFault.{ShardFault}
@@ -29,7 +28,7 @@ pub record HasCome (Here : History → Type 0) (i : ℕ) (came : Came) : Type 0 
   pub found : ℕ
   pub read : IsBehindOf Here (λ h. found ≡ (own h).incarnation)
   pub due : is_due found i ≡ true
-  pub reply : Result (Vec (Dot × Dot) Global) ShardFault
+  pub reply : Result (List (Dot × Dot)) ShardFault
   pub reborn : IsBehindOf Here (λ h. IsRebornMade h i reply)
   pub is : came ≡ came_of reply
 

@@ -3,7 +3,7 @@ ghost use Rattle.std.specs.Prelude.{◌≡◌, ◌<◌};
 
 use crate::links::Links;
 use delta_range::Delta;
-use presence_node_link_ports::{Gate, Lanes, Pool, cut_off, let_pass};
+use presence_node_link_ports::{Gate, Lanes, Pool};
 use std::sync::{Arc, Wait};
 
 // What a shard did since the last cut. What is refused waits for the next.
@@ -14,7 +14,7 @@ where
     L: Lanes,
     requires { shard < pool.now.shards }
 {
-    let Ok(cut) = cut_off(rt, links.alloc, pool, shard) else {
+    let Ok(cut) = pool.cut(rt, links.alloc, shard) else {
         return None;
     };
     Arc::new(links.alloc, cut).ok()
@@ -46,6 +46,6 @@ where
     requires { links.now.shards ≡ pool.now.shards }
 {
     for shard in 0..links.shards {
-        let _later = let_pass(rt, links.alloc, pool, shard, now);
+        let _later = pool.tick(rt, links.alloc, shard, now);
     }
 }

@@ -8,7 +8,7 @@ use crate::cutting::{cut_all, pass_all};
 use crate::links::{Links, Wakes};
 use node_links::Peer;
 use presence_base::Replica;
-use presence_node_link_ports::{Gate, Lanes, Pool, PoolFault, go_on};
+use presence_node_link_ports::{Gate, Lanes, Pool, PoolFault};
 use presence_node_link_streams::time_behind;
 use presence_node_link_words::{Came, Coming, Course, Life, LinkEnd, is_due};
 use std::sync::Wait;
@@ -42,7 +42,7 @@ where
     if !is_due(pool.incarnation(rt, shard), incarnation) {
         return None;
     }
-    let reply = go_on(rt, links.alloc, pool, shard, incarnation);
+    let reply = pool.rebirth(rt, links.alloc, shard, incarnation);
     Some(came_of(&reply))
 }
 

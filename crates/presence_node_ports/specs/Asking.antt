@@ -1,9 +1,8 @@
 -- A port over a pool and a seat: the call of the pool that each question of a session is.
-use Rattle.std.specs.Prelude.{◌≡◌, ℕ, Bool, true, false, List, Option, Some, None, Result, Ok, Err}
+use Rattle.std.specs.Prelude.{◌≡◌, ℕ, Bool, List, Option, Some, None, Result, Ok, Err}
 use Rattle.presence_journal_data.specs.declared.step.Step.{Step}
 use Rattle.presence_journal.specs.History.{History}
 use Rattle.channel_session_rules.specs.ShardFault.{ShardFault}
-use Rattle.channel_session_rules.specs.ShardFault.TheVariants.{JournalFull, OutOfMemory}
 use Rattle.channel_session_rules.specs.Asks.{Ask, Answer}
 use Rattle.channel_session_rules.specs.Seen.{FromTable}
 use Rattle.channel_session_rules.specs.Shards.{there_of, topic_asked, step_of, gives_of, TellsNow}
@@ -17,12 +16,6 @@ use Rattle.shard_pool.specs.Seats.{Hands, CalledAt, shard_of}
 abbrev pub value_of : {A : Type 0} → Result (Reply A) ShardFault → Result A Refusal
 value_of (Ok reply) = Ok reply.value
 value_of (Err fault) = Err (Table fault)
-
--- A checkpoint may give what the call lacked: room in the journal, or memory.
-abbrev pub lacks_room : {A : Type 0} → Result (Reply A) ShardFault → Bool
-lacks_room (Err JournalFull) = true
-lacks_room (Err OutOfMemory) = true
-lacks_room _ = false
 
 -- the pool is the same, and the seat that is lent
 abbrev pub Keeps : {P N : Type 0} → P → P → N → N → Type 0

@@ -1,29 +1,23 @@
 //! The pool as the port of a session, through a seat.
-ghost use Rattle.std.specs.Prelude.{◌≡◌, true, is_some};
+ghost use Rattle.std.specs.Prelude.{◌≡◌};
 ghost use Rattle.shard_pool.specs.Seats.{IsOfShardAt};
-ghost use Rattle.presence_node_ports.specs.Asking.{Asked, Keeps, lacks_room, value_of};
+ghost use Rattle.presence_node_ports.specs.Asking.{Asked, Keeps, value_of};
 
 use channel_session_rules::{AtShard, Call, Port, Refusal, Told, told_to};
 use presence_base::Topic;
-use shard_pool::{Gate, Lanes, Pool, PoolFault, Reply, Seat};
+use shard_pool::{Gate, Lanes, Pool, PoolFault, Reply, Seat, SeatCall, Tried};
 use std::alloc::Global;
 use std::sync::Wait;
-use tracker_shard::Call as ShardCall;
 
-/// Where memory is wanting a checkpoint is tried of a journal with so many entries, which it gives back.
-const MIN_ENTRIES: u64 = 64;
-
-/// A port over a pool: each of its calls is that call of the pool, through the seat that it is lent.
-/// A call waits for the lock of its topic's shard. One that finds the shard's journal full makes room there by a
-/// checkpoint, if another one hasn't yet, and is tried once more. So does one that finds no memory, once a port.
+/// A port over a pool: each of its calls is that call of the pool, through the seat that it is lent. It waits for the lock
+/// of its topic's shard.
 #[derive(Drop)]
 pub struct PoolPort<'a, R: Wait, G: Gate, L: Lanes> {
     rt: &'a R,
     pool: &'a Pool<G, L>,
     seat: &'a mut Seat<L>,
+    /// Whether a shard's journal was begun again for a call.
     has_made_room: bool,
-    /// Whether a call found no memory, so that its shard was to give some back.
-    has_lacked: bool,
 }
 
 // The value of a reply, without the shard and the number of its entry.
@@ -42,27 +36,8 @@ fn value<T: Drop>(reply: Result<Reply<T>, PoolFault>) -> Result<T, Refusal>
     }
 }
 
-/// What a call lacked that a checkpoint gives.
-#[derive(Clone, Copy, PartialEq, Eq, Debug)]
-enum Lack {
-    /// Its shard's journal was full.
-    Room,
-    Memory,
-}
-
-// What the call lacked.
-fn lack_of<T>(reply: &Result<Reply<T>, PoolFault>) -> Option<Lack>
-    ensures { is_some result ≡ lacks_room reply.now }
-{
-    match reply {
-        Err(PoolFault::JournalFull) => Some(Lack::Room),
-        Err(PoolFault::OutOfMemory) => Some(Lack::Memory),
-        _ => None,
-    }
-}
-
 impl<'a, R: Wait, G: Gate, L: Lanes> PoolPort<'a, R, G, L> {
-    ghost use Rattle.std.specs.Prelude.{◌≡◌, ◌<◌, ◌||◌, false};
+    ghost use Rattle.std.specs.Prelude.{◌≡◌, false};
 
     /// The port of a seat of this pool.
     pub fn new(rt: &'a R, pool: &'a Pool<G, L>, seat: &'a mut Seat<L>) -> PoolPort<'a, R, G, L>
@@ -76,58 +51,19 @@ impl<'a, R: Wait, G: Gate, L: Lanes> PoolPort<'a, R, G, L> {
             pool,
             seat,
             has_made_room: false,
-            has_lacked: false,
         }
     }
 
-    /// Whether a call found a shard's journal full, or no memory, where there is room now, so that receipts from before have no
-    /// entry any more.
+    /// Whether a shard's journal was begun again for a call that found it full, or no memory, so that receipts from before
+    /// have no entry any more.
     pub fn has_made_room(&self) -> bool
         ensures { result ≡ self.now.has_made_room }
     {
         self.has_made_room
     }
 
-    // Whether a journal of some length gave its memory back, if none has been asked to yet.
-    fn gives_memory(&self, alloc: Global, shard: u32) -> bool
-        requires { shard < self.now.pool.now.shards }
-    {
-        !self.has_lacked
-            && self.pool.entry_count(self.rt, shard) >= MIN_ENTRIES
-            && self.pool.checkpoint(self.rt, alloc, shard).is_ok()
-    }
-
-    // Whether the call found its topic's journal full, or no memory, and there is room now, so that it is worth another try.
-    fn makes_room<T>(
-        &mut self,
-        alloc: Global,
-        topic: &Topic,
-        reply: &Result<Reply<T>, PoolFault>,
-    ) -> bool
-        ensures pool { self.new.pool ≡ self.old.pool }
-        ensures seat { self.new.seat ≡ self.old.seat }
-        ensures lack { result ≡ true → lacks_room reply.now ≡ true }
-        ensures room { self.new.has_made_room ≡ (self.old.has_made_room || result) }
-    {
-        let Some(lack) = lack_of(reply) else {
-            return false;
-        };
-        let shard = self.pool.shard_of(topic);
-        let has_room = match lack {
-            Lack::Room => self
-                .pool
-                .checkpoint_where_full(self.rt, alloc, shard)
-                .is_ok(),
-            Lack::Memory => self.gives_memory(alloc, shard),
-        };
-        self.has_lacked = self.has_lacked || lack == Lack::Memory;
-        self.has_made_room = self.has_made_room || has_room;
-        has_room
-    }
-
-    // Makes a call of the topic's shard. One that finds its journal full, or no memory, is made once more where a checkpoint
-    // makes room.
-    fn make<S: ShardCall>(
+    // Makes a call of the topic's shard.
+    fn make<S: SeatCall>(
         &mut self,
         alloc: Global,
         topic: &Topic,
@@ -138,12 +74,12 @@ impl<'a, R: Wait, G: Gate, L: Lanes> PoolPort<'a, R, G, L> {
             self.old.pool.now.shards self.old.seat.now self.new.seat.now topic.now (S.step call.now) (S.gives call.now)
             result }
     {
-        let reply = self.pool.call(self.rt, alloc, &mut *self.seat, topic, call);
-        if !self.makes_room(alloc, topic, &reply) {
-            return value(reply);
-        }
-        let again = self.pool.call(self.rt, alloc, &mut *self.seat, topic, call);
-        value(again)
+        let Tried {
+            answer,
+            has_begun_again,
+        } = self.pool.call(self.rt, alloc, &mut *self.seat, topic, call);
+        self.has_made_room = self.has_made_room || has_begun_again;
+        value(answer)
     }
 }
 

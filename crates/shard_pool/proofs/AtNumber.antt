@@ -1,9 +1,8 @@
 -- What is behind a call of one shard, as it is said of the shard of that number.
 use Rattle.std.proofs.Common.{◌≡◌, ◌<◌, ◌≤◌, ℕ, zero, suc, List, refl, sym, subst, arith}
-use Rattle.std.specs.Prelude.{Result, Ok, Err, IfOk}
 use Rattle.presence_journal.specs.History.{History, own}
 use Rattle.shard_pool_locks.specs.Lines.{Comes, Descends, IsOfLane, IsOfShard}
-use Rattle.shard_pool_locks.specs.Unseated.{IsBehind, IsBehindOf, IsOf}
+use Rattle.shard_pool_locks.specs.Unseated.{IsBehind, IsBehindOf}
 use Rattle.shard_pool.specs.Seats.{IsBehindAt}
 
 -- that it is of the lane says more
@@ -43,16 +42,5 @@ module _ (Begins : ℕ → History → Type 0) (First : History → Type 0) (sha
   pub at_number : (k : ℕ) (Is : History → Type 0) → shard ≡ k → name ≡ node → ((h : History) → First h → Begins k h) → IsBehindOf (IsOfShard name First) Is → IsBehindAt Begins shard node Is
   at_number k Is same named law b =
       subst (λ (s : ℕ). IsBehindAt Begins s node Is) (sym same) (behind_of First (Begins k) law name node Is named b)
-
-  -- where there is an answer
-  pub ok_at_number : {A E : Type 0} (k : ℕ) (Is : A → History → Type 0) (r : Result A E) → shard ≡ k → name ≡ node → ((h : History) → First h → Begins k h)
-      → IfOk r (λ x. IsBehindOf (IsOfShard name First) (Is x)) → IfOk r (λ x. IsBehindAt Begins shard node (Is x))
-  ok_at_number k Is (Ok x) same named law b = at_number k (Is x) same named law b
-  ok_at_number k Is (Err e) same named law b = b
-
-  pub ok_line : {E : Type 0} (k : ℕ) (r : Result History E) → shard ≡ k → ((h : History) → First h → Begins k h)
-      → IfOk r (λ j. IsOf name j × IsOfLane First j) → IfOk r (IsOfLane (Begins shard))
-  ok_line k (Ok j) same law b = subst (λ (s : ℕ). IsOfLane (Begins s) j) (sym same) (line_of First (Begins k) law j b.1)
-  ok_line k (Err e) same law b = b
 
 pub ruleset lanes = (out_of_lane)

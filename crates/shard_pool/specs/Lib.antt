@@ -4,6 +4,7 @@ pub mod Seats
 pub mod Calls
 pub mod Codes
 pub mod Settling
+pub use Rattle.shard_pool_locks.specs.Asks
 pub use Rattle.shard_pool_locks.specs.Reply
 pub use Rattle.shard_pool_locks.specs.Lane
 pub use Rattle.shard_pool_settled.specs.Settled

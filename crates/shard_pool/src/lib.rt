@@ -24,8 +24,11 @@ pub use pool::Pool;
 pub use seat::Seat;
 pub use settling::check_seats;
 pub use shard_pool_locks::{
-    DueFrom, Gate, Lane, Locked, NoGate, Part, PoolFault, Reply, RowCounts, lent_get, lent_list,
-    lent_shout, lent_start, lent_subscribe, lent_take, lent_track, lent_unsubscribe, lent_untrack,
-    lent_untrack_all, lent_update,
+    Ask, Call, CopyOfJournal, CountOfRows, Cut, DueFrom, EntryCount, Fitting, Full, Gate, Get,
+    Heard, Incarnation, KeptBytes, Lane, List, ListBytes, Locked, Merge, MergeCopy, NoGate, Part,
+    PartFrom, PermDown, PoolFault, Rebirth, Reply, RowCounts, SeatCall, Shout, StartNumber,
+    StatusOf, Sub, Subscribe, Take, Tick, ToldFrom, TopOf, Track, Tried, Unsubscribe, Untrack,
+    UntrackAll, Update, WaitsFor, lent_get, lent_list, lent_shout, lent_start, lent_subscribe,
+    lent_take, lent_track, lent_unsubscribe, lent_untrack, lent_untrack_all, lent_update,
 };
 pub use shard_pool_settled::{Receipt, SettleFault, check_receipts};

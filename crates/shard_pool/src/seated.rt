@@ -11,24 +11,26 @@ use crate::seat::Seat;
 use presence_base::{Dot, Json, Key, Meta, Row, Topic, shard_of};
 use presence_journal::{Item, SharedRows};
 use shard_pool_locks::{
-    Call, Gate, Get, List, PoolFault, Reply, Shout, Sub, Subscribe, Take, Track, Unsubscribe,
-    Untrack, UntrackAll, Update, locked_call,
+    Gate, Get, List, PoolFault, Reply, SeatCall, Shout, Sub, Subscribe, Take, Track, Tried,
+    Unsubscribe, Untrack, UntrackAll, Update, locked_call,
 };
 use std::alloc::Global;
 use std::sync::Wait;
 
 impl<G: Gate, L: Lanes> Pool<G, L> {
-    /// Makes a call through a seat, at its topic's shard.
-    pub fn call<R: Wait, Q: Call>(
+    /// Makes a call through a seat, at its topic's shard. Where it finds the shard's journal full, or no memory that the journal
+    /// may give back, the journal is begun again once, under the lock, and the call made again there; so it refuses with
+    /// `JournalFull` only where that is refused.
+    pub fn call<R: Wait, Q: SeatCall>(
         &self,
         rt: &R,
         alloc: Global,
         seat: &mut Seat<L>,
         topic: &Topic,
         call: &Q,
-    ) -> Result<Reply<Q::Answer>, PoolFault>
+    ) -> Tried<Result<Reply<Q::Answer>, PoolFault>>
         ensures { CalledAt (IsOfShardAt self.now.own.name L.begins) (Q.there call.now)
-            seat.old seat.new (shard_of topic.now self.now.shards) (Q.step call.now) (Q.gives call.now) result }
+            seat.old seat.new (shard_of topic.now self.now.shards) (Q.step call.now) (Q.gives call.now) result.answer }
     {
         let shard = shard_of(topic, self.shards);
         let Seat {
@@ -77,6 +79,7 @@ impl<G: Gate, L: Lanes> Pool<G, L> {
                 meta,
             },
         )
+        .into_answer()
     }
 
     /// Replaces what the pid tells under the key on the topic, and answers the dot of the new row.
@@ -106,6 +109,7 @@ impl<G: Gate, L: Lanes> Pool<G, L> {
                 meta,
             },
         )
+        .into_answer()
     }
 
     /// Takes out the pid's row under the key on the topic, and answers its dot, or none.
@@ -122,6 +126,7 @@ impl<G: Gate, L: Lanes> Pool<G, L> {
             self.now.shards seat.old seat.new pid topic.now key.now result }
     {
         self.call(rt, alloc, seat, topic, &Untrack { pid, topic, key })
+            .into_answer()
     }
 
     /// Takes out each row of the pid on the topic, and answers their dots in order of key and then dot.
@@ -137,6 +142,7 @@ impl<G: Gate, L: Lanes> Pool<G, L> {
             self.now.shards seat.old seat.new pid topic.now result }
     {
         self.call(rt, alloc, seat, topic, &UntrackAll { pid, topic })
+            .into_answer()
     }
 
     /// The rows that are present on the topic, in order of key and then dot.
@@ -150,6 +156,7 @@ impl<G: Gate, L: Lanes> Pool<G, L> {
         ensures { Lists (IsOfShardAt self.now.own.name L.begins) self.now.shards seat.old seat.new topic.now result }
     {
         self.call(rt, alloc, seat, topic, &List { topic })
+            .into_answer()
     }
 
     /// The rows that are present under the key on the topic, in order of dot.
@@ -165,6 +172,7 @@ impl<G: Gate, L: Lanes> Pool<G, L> {
             self.now.shards seat.old seat.new topic.now key.now result }
     {
         self.call(rt, alloc, seat, topic, &Get { topic, key })
+            .into_answer()
     }
 
     /// A new subscriber of the topic.
@@ -179,6 +187,7 @@ impl<G: Gate, L: Lanes> Pool<G, L> {
             self.now.shards seat.old seat.new topic.now result }
     {
         self.call(rt, alloc, seat, topic, &Subscribe { topic })
+            .into_answer()
     }
 
     /// Up to `max` of the items that wait for a subscriber of the topic, or the topic's state where it is behind.
@@ -196,6 +205,7 @@ impl<G: Gate, L: Lanes> Pool<G, L> {
             self.now.shards seat.old seat.new topic.now sub.now max result }
     {
         self.call(rt, alloc, seat, topic, &Take { sub: *sub, max })
+            .into_answer()
     }
 
     /// Ends a subscriber of the topic.
@@ -211,6 +221,7 @@ impl<G: Gate, L: Lanes> Pool<G, L> {
             self.now.shards seat.old seat.new topic.now sub.now result }
     {
         self.call(rt, alloc, seat, topic, &Unsubscribe { sub: *sub })
+            .into_answer()
     }
 
     /// Sends the payload to each subscriber of the topic.
@@ -227,5 +238,6 @@ impl<G: Gate, L: Lanes> Pool<G, L> {
             self.now.shards seat.old seat.new topic.now payload.now result }
     {
         self.call(rt, alloc, seat, topic, &Shout { topic, payload })
+            .into_answer()
     }
 }

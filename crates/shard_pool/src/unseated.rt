@@ -8,8 +8,8 @@ ghost use Rattle.orswot_core_told.specs.Checks.{WhereItFits};
 ghost use Rattle.shard_pool_locks.specs.KeptDeltas.{IsToldFrom, TellsFrom};
 ghost use Rattle.shard_pool_locks.specs.ToldParts.{IsPartWhereItFits};
 ghost use Rattle.shard_pool_locks.specs.ShardFault.TheVariants.{OutOfMemory};
-ghost use Rattle.shard_pool_locks.specs.Unseated.{IsOf, IsBehind, IsMade, IsCutMade, IsCheckpointed, TellsWaiting};
-ghost use Rattle.shard_pool_locks.specs.Unseated.{IsMadeWhereFull, IsMadeWhereQuiet, IsRebornMade};
+ghost use Rattle.shard_pool_locks.specs.Asks.{TellsWaiting};
+ghost use Rattle.shard_pool_locks.specs.Unseated.{IsOf, IsBehind, IsDone, IsMade, IsCutMade, IsCheckpointed, IsMadeWhereQuiet, IsRebornMade};
 ghost use Rattle.shard_pool.specs.Seats.{shard_of, IsBehindAt, IsTrimmed};
 ghost use Rattle.shard_pool_locks.specs.Lines.{IsOfLane};
 
@@ -18,15 +18,14 @@ use crate::pool::Pool;
 use crate::seat::Seat;
 use delta_range::Delta;
 use orswot_core_told::{Form, Told};
-use presence_base::{Dot, Replica, Topic, shard_of};
-use presence_journal::{Journal, Step};
+use presence_base::{Replica, Topic, shard_of};
+use presence_journal::{Journal, Pairs, Step};
 use replica_status::Status;
 use shard_pool_locks::{
-    DueFrom, Gate, PoolFault, RowCounts, Sub, locked_checkpoint, locked_checkpoint_where_full,
-    locked_checkpoint_where_quiet, locked_cut, locked_entry_count, locked_fitting, locked_full,
-    locked_heard, locked_incarnation, locked_journal, locked_kept_bytes, locked_list_bytes,
-    locked_merge, locked_part, locked_permdown, locked_rebirth, locked_row_counts, locked_start_of,
-    locked_status, locked_tick, locked_told_from, locked_top, locked_trim, locked_waits,
+    Ask, Call, CopyOfJournal, CountOfRows, Cut, DueFrom, EntryCount, Fitting, Full, Gate, Heard,
+    Incarnation, KeptBytes, ListBytes, MergeCopy, PartFrom, PermDown, PoolFault, Rebirth,
+    RowCounts, StartNumber, StatusOf, Sub, Tick, ToldFrom, TopOf, Tried, WaitsFor, locked_ask,
+    locked_checkpoint, locked_checkpoint_where_quiet, locked_make, locked_trim,
 };
 use std::alloc::Global;
 use std::sync::Wait;
@@ -64,19 +63,44 @@ impl<G: Gate, L: Lanes> Pool<G, L> {
         shard_of(topic, self.shards)
     }
 
+    /// Makes a call without a seat at a shard. Where it finds the shard's journal full, or no memory that the journal may give
+    /// back, the journal is begun again once, under the lock, and the call made again there; so it refuses with `JournalFull`
+    /// only where that is refused.
+    pub fn make<R: Wait, Q: Call>(
+        &self,
+        rt: &R,
+        alloc: Global,
+        shard: u32,
+        call: &Q,
+    ) -> Tried<Result<Q::Answer, PoolFault>>
+        requires { shard < self.now.shards }
+        ensures { IsBehindAt L.begins shard self.now.own.name
+            (λ h. IsDone (Q.there call.now) (Q.gives call.now) h (Q.step call.now) result.answer) }
+    {
+        at!(self, shard, lock => locked_make(rt, alloc, lock, call))
+    }
+
+    /// Asks a shard. It is no step, and takes as long under the lock as what is asked for.
+    pub fn ask<R: Wait, A: Ask>(&self, rt: &R, shard: u32, ask: &A) -> A::Answer
+        requires { shard < self.now.shards }
+        ensures { IsBehindAt L.begins shard self.now.own.name (λ h. A.tells ask.now h result) }
+    {
+        at!(self, shard, lock => locked_ask(rt, lock, ask))
+    }
+
     /// A copy of a shard's journal. It refuses with `OutOfMemory` alone.
-    #[tactic(auto, using(crate::proofs::AtNumber::lanes))]
+    #[tactic(auto, using(crate::proofs::Wrapped::wrapped))]
     pub fn journal<R: Wait>(&self, rt: &R, _alloc: Global, shard: u32) -> Result<Journal, PoolFault>
         requires { shard < self.now.shards }
         ensures journal { IfOk result (λ j. IsOf self.now.own.name j) }
         ensures lane { IfOk result (IsOfLane (L.begins shard)) }
         ensures err { IfErr result (λ e. e ≡ OutOfMemory) }
     {
-        at!(self, shard, lock => locked_journal(rt, lock))
+        self.ask(rt, shard, &CopyOfJournal)
     }
 
     /// Notes at a shard that a replica was heard.
-    #[tactic(auto, using(crate::proofs::AtNumber::lanes))]
+    #[tactic(auto, using(crate::proofs::Wrapped::wrapped))]
     pub fn heard<R: Wait>(
         &self,
         rt: &R,
@@ -89,11 +113,12 @@ impl<G: Gate, L: Lanes> Pool<G, L> {
         ensures some { IsBehind self.now.own.name (λ h. IsMade h (Step.Heard replica now) result) }
         ensures lane { IsBehindAt L.begins shard self.now.own.name (λ h. IsMade h (Step.Heard replica now) result) }
     {
-        at!(self, shard, lock => locked_heard(rt, alloc, lock, replica, now))
+        self.make(rt, alloc, shard, &Heard { replica, now })
+            .into_answer()
     }
 
     /// Lets time pass at a shard.
-    #[tactic(auto, using(crate::proofs::AtNumber::lanes))]
+    #[tactic(auto, using(crate::proofs::Wrapped::wrapped))]
     pub fn tick<R: Wait>(
         &self,
         rt: &R,
@@ -105,11 +130,11 @@ impl<G: Gate, L: Lanes> Pool<G, L> {
         ensures some { IsBehind self.now.own.name (λ h. IsMade h (Step.Tick now) result) }
         ensures lane { IsBehindAt L.begins shard self.now.own.name (λ h. IsMade h (Step.Tick now) result) }
     {
-        at!(self, shard, lock => locked_tick(rt, alloc, lock, now))
+        self.make(rt, alloc, shard, &Tick { now }).into_answer()
     }
 
     /// Notes at a shard that a replica is gone for good.
-    #[tactic(auto, using(crate::proofs::AtNumber::lanes))]
+    #[tactic(auto, using(crate::proofs::Wrapped::wrapped))]
     pub fn permdown<R: Wait>(
         &self,
         rt: &R,
@@ -121,49 +146,51 @@ impl<G: Gate, L: Lanes> Pool<G, L> {
         ensures some { IsBehind self.now.own.name (λ h. IsMade h (Step.PermDown replica) result) }
         ensures lane { IsBehindAt L.begins shard self.now.own.name (λ h. IsMade h (Step.PermDown replica) result) }
     {
-        at!(self, shard, lock => locked_permdown(rt, alloc, lock, replica))
+        self.make(rt, alloc, shard, &PermDown { replica })
+            .into_answer()
     }
 
     /// Makes a shard go on under a higher incarnation: its own rows stand under new dots from then on, each of which is
     /// answered with the old one, and no row is lost. It refuses with `JournalFull`, else with `BadIncarnation` where the
     /// shard can't go on under this one, else with `OutOfMemory`.
-    #[tactic(auto, using(crate::proofs::AtNumber::lanes))]
+    #[tactic(auto, using(crate::proofs::Wrapped::wrapped))]
     pub fn rebirth<R: Wait>(
         &self,
         rt: &R,
         alloc: Global,
         shard: u32,
         incarnation: u64,
-    ) -> Result<Vec<(Dot, Dot)>, PoolFault>
+    ) -> Result<Pairs, PoolFault>
         requires { shard < self.now.shards }
         ensures some { IsBehind self.now.own.name (λ h. IsRebornMade h incarnation result) }
         ensures lane { IsBehindAt L.begins shard self.now.own.name (λ h. IsRebornMade h incarnation result) }
     {
-        at!(self, shard, lock => locked_rebirth(rt, alloc, lock, incarnation))
+        self.make(rt, alloc, shard, &Rebirth { incarnation })
+            .into_answer()
     }
 
     /// The incarnation under which a shard goes on.
-    #[tactic(auto, using(crate::proofs::AtNumber::lanes))]
+    #[tactic(auto, using(crate::proofs::Wrapped::wrapped))]
     pub fn incarnation<R: Wait>(&self, rt: &R, shard: u32) -> u64
         requires { shard < self.now.shards }
         ensures some { IsBehind self.now.own.name (λ h. result ≡ (own h).incarnation) }
         ensures lane { IsBehindAt L.begins shard self.now.own.name (λ h. result ≡ (own h).incarnation) }
     {
-        at!(self, shard, lock => locked_incarnation(rt, lock))
+        self.ask(rt, shard, &Incarnation)
     }
 
     /// What the own replica did at a shard since the last cut there.
-    #[tactic(auto, using(crate::proofs::AtNumber::lanes))]
+    #[tactic(auto, using(crate::proofs::Wrapped::wrapped))]
     pub fn cut<R: Wait>(&self, rt: &R, alloc: Global, shard: u32) -> Result<Delta, PoolFault>
         requires { shard < self.now.shards }
         ensures some { IsBehind self.now.own.name (λ h. IsCutMade h result) }
         ensures lane { IsBehindAt L.begins shard self.now.own.name (λ h. IsCutMade h result) }
     {
-        at!(self, shard, lock => locked_cut(rt, alloc, lock))
+        self.make(rt, alloc, shard, &Cut).into_answer()
     }
 
     /// Takes in at a shard what another node told.
-    #[tactic(auto, using(crate::proofs::AtNumber::lanes))]
+    #[tactic(auto, using(crate::proofs::Wrapped::wrapped))]
     pub fn merge<R: Wait>(
         &self,
         rt: &R,
@@ -175,11 +202,12 @@ impl<G: Gate, L: Lanes> Pool<G, L> {
         ensures some { IsBehind self.now.own.name (λ h. IsMade h (Step.Merge told.now) result) }
         ensures lane { IsBehindAt L.begins shard self.now.own.name (λ h. IsMade h (Step.Merge told.now) result) }
     {
-        at!(self, shard, lock => locked_merge(rt, alloc, lock, told))
+        self.make(rt, alloc, shard, &MergeCopy { told })
+            .into_answer()
     }
 
     /// All that a shard knows, in the form. It is no step, and refuses with `OutOfMemory` alone.
-    #[tactic(auto, using(crate::proofs::AtNumber::lanes))]
+    #[tactic(auto, using(crate::proofs::Wrapped::wrapped))]
     pub fn full<R: Wait>(
         &self,
         rt: &R,
@@ -192,12 +220,12 @@ impl<G: Gate, L: Lanes> Pool<G, L> {
         ensures lane { IfOk result (λ t. IsBehindAt L.begins shard self.now.own.name (λ h. IsFullOf form h t)) }
         ensures err { IfErr result (λ e. e ≡ OutOfMemory) }
     {
-        at!(self, shard, lock => locked_full(rt, alloc, lock, form))
+        self.ask(rt, shard, &Full { alloc, form })
     }
 
     /// What a node is told that knows the shard's own dots up to a count: of the kept deltas that begin at or below it the
     /// shortest, else all that the shard knows. It is no step, and refuses with `OutOfMemory` alone.
-    #[tactic(auto, using(crate::proofs::AtNumber::lanes))]
+    #[tactic(auto, using(crate::proofs::Wrapped::wrapped))]
     pub fn told_from<R: Wait>(
         &self,
         rt: &R,
@@ -211,12 +239,12 @@ impl<G: Gate, L: Lanes> Pool<G, L> {
         ensures lane { IfOk result (λ t. IsBehindAt L.begins shard self.now.own.name (λ h. IsToldFrom form h count t)) }
         ensures err { IfErr result (λ e. e ≡ OutOfMemory) }
     {
-        at!(self, shard, lock => locked_told_from(rt, alloc, lock, count, form))
+        self.ask(rt, shard, &ToldFrom { alloc, count, form })
     }
 
     /// The same for a line of a link: what a node is told that knows the shard's own dots up to a count, or without a count all that
     /// the shard knows, where it has no more in the form than a node takes in. It is no step, and refuses with `OutOfMemory` alone.
-    #[tactic(auto, using(crate::proofs::AtNumber::lanes))]
+    #[tactic(auto, using(crate::proofs::Wrapped::wrapped))]
     pub fn fitting<R: Wait>(
         &self,
         rt: &R,
@@ -231,12 +259,12 @@ impl<G: Gate, L: Lanes> Pool<G, L> {
             (λ h. WhereItFits form (TellsFrom form h from) o)) }
         ensures err { IfErr result (λ e. e ≡ OutOfMemory) }
     {
-        at!(self, shard, lock => locked_fitting(rt, alloc, lock, from, form))
+        self.ask(rt, shard, &Fitting { alloc, from, form })
     }
 
     /// A part of the shard's own rows, for a node that knows its dots up to a count, where neither what it missed nor all that the
     /// shard knows fits a line. It is no step, and refuses with `OutOfMemory` alone.
-    #[tactic(auto, using(crate::proofs::AtNumber::lanes))]
+    #[tactic(auto, using(crate::proofs::Wrapped::wrapped))]
     pub fn part<R: Wait>(
         &self,
         rt: &R,
@@ -250,37 +278,37 @@ impl<G: Gate, L: Lanes> Pool<G, L> {
             (λ h. IsPartWhereItFits h count o)) }
         ensures err { IfErr result (λ e. e ≡ OutOfMemory) }
     {
-        at!(self, shard, lock => locked_part(rt, alloc, lock, count))
+        self.ask(rt, shard, &PartFrom { alloc, count })
     }
 
     /// The count up to which a shard covers all of a replica's dots. It is no step.
-    #[tactic(auto, using(crate::proofs::AtNumber::lanes))]
+    #[tactic(auto, using(crate::proofs::Wrapped::wrapped))]
     pub fn top<R: Wait>(&self, rt: &R, shard: u32, replica: &Replica) -> u64
         requires { shard < self.now.shards }
         ensures some { IsBehind self.now.own.name (λ h. IsTop h replica.now result) }
         ensures lane { IsBehindAt L.begins shard self.now.own.name (λ h. IsTop h replica.now result) }
     {
-        at!(self, shard, lock => locked_top(rt, lock, replica))
+        self.ask(rt, shard, &TopOf { replica })
     }
 
     /// The status of a replica at a shard. It is no step.
-    #[tactic(auto, using(crate::proofs::AtNumber::lanes))]
+    #[tactic(auto, using(crate::proofs::Wrapped::wrapped))]
     pub fn status<R: Wait>(&self, rt: &R, shard: u32, replica: &Replica) -> Status
         requires { shard < self.now.shards }
         ensures some { IsBehind self.now.own.name (λ h. result ≡ status h replica.now) }
         ensures lane { IsBehindAt L.begins shard self.now.own.name (λ h. result ≡ status h replica.now) }
     {
-        at!(self, shard, lock => locked_status(rt, lock, replica))
+        self.ask(rt, shard, &StatusOf { replica })
     }
 
     /// Whether a subscriber of a shard is behind or has something waiting. It is no step.
-    #[tactic(auto, using(crate::proofs::AtNumber::lanes))]
+    #[tactic(auto, using(crate::proofs::Wrapped::wrapped))]
     pub fn waits<R: Wait>(&self, rt: &R, shard: u32, sub: &Sub) -> Result<bool, PoolFault>
         requires { shard < self.now.shards }
         ensures some { IsBehind self.now.own.name (λ h. TellsWaiting h sub.now result) }
         ensures lane { IsBehindAt L.begins shard self.now.own.name (λ h. TellsWaiting h sub.now result) }
     {
-        at!(self, shard, lock => locked_waits(rt, lock, sub))
+        self.ask(rt, shard, &WaitsFor { sub })
     }
 
     /// Puts a Start in the place of a shard's journal, which makes room: the entries go, and all that later ones depend
@@ -295,22 +323,6 @@ impl<G: Gate, L: Lanes> Pool<G, L> {
         ensures lane { IsBehindAt L.begins shard self.now.own.name (λ h. IsCheckpointed h result) }
     {
         at!(self, shard, lock => locked_checkpoint(rt, alloc, lock))
-    }
-
-    /// Makes a checkpoint of a shard where its journal is full once its lock is had, so that of two who found it full one
-    /// makes it. `Ok(false)` means that there was room, and that nothing changed.
-    #[tactic(auto, using(crate::proofs::AtNumber::lanes))]
-    pub fn checkpoint_where_full<R: Wait>(
-        &self,
-        rt: &R,
-        alloc: Global,
-        shard: u32,
-    ) -> Result<bool, PoolFault>
-        requires { shard < self.now.shards }
-        ensures some { IsBehind self.now.own.name (λ h. IsMadeWhereFull h result) }
-        ensures lane { IsBehindAt L.begins shard self.now.own.name (λ h. IsMadeWhereFull h result) }
-    {
-        at!(self, shard, lock => locked_checkpoint_where_full(rt, alloc, lock))
     }
 
     /// Makes a checkpoint of a shard where its journal is due once its lock is had, and no item waits for a subscriber that
@@ -332,24 +344,24 @@ impl<G: Gate, L: Lanes> Pool<G, L> {
     }
 
     /// How many entries a shard's journal has, its Start counted. It is no step, and takes a moment under the lock.
-    #[tactic(auto, using(crate::proofs::AtNumber::lanes))]
+    #[tactic(auto, using(crate::proofs::Wrapped::wrapped))]
     pub fn entry_count<R: Wait>(&self, rt: &R, shard: u32) -> u64
         requires { shard < self.now.shards }
         ensures some { IsBehind self.now.own.name (λ h. result ≡ entry_count h) }
         ensures lane { IsBehindAt L.begins shard self.now.own.name (λ h. result ≡ entry_count h) }
     {
-        at!(self, shard, lock => locked_entry_count(rt, lock))
+        self.ask(rt, shard, &EntryCount)
     }
 
     /// The bytes that a shard's entries keep beside themselves, or the most that a count of 64 bits tells: what a checkpoint may give
     /// back. It is no step, and takes a moment under the lock.
-    #[tactic(auto, using(crate::proofs::AtNumber::lanes))]
+    #[tactic(auto, using(crate::proofs::Wrapped::wrapped))]
     pub fn kept_bytes<R: Wait>(&self, rt: &R, shard: u32) -> u64
         requires { shard < self.now.shards }
         ensures some { IsBehind self.now.own.name (λ h. result ≡ min (kept_bytes h) (2 ^ 64 - 1)) }
         ensures lane { IsBehindAt L.begins shard self.now.own.name (λ h. result ≡ min (kept_bytes h) (2 ^ 64 - 1)) }
     {
-        at!(self, shard, lock => locked_kept_bytes(rt, lock))
+        self.ask(rt, shard, &KeptBytes)
     }
 
     /// What lists took for dots since a shard's journal began, in bytes, as `Shard::list_bytes` tells it: what a checkpoint may
@@ -357,7 +369,7 @@ impl<G: Gate, L: Lanes> Pool<G, L> {
     pub fn list_bytes<R: Wait>(&self, rt: &R, shard: u32) -> u64
         requires { shard < self.now.shards }
     {
-        at!(self, shard, lock => locked_list_bytes(rt, lock))
+        self.ask(rt, shard, &ListBytes)
     }
 
     /// How many rows a shard shows, its own ones and those of others, and how many of its topics have a subscriber, as
@@ -365,17 +377,17 @@ impl<G: Gate, L: Lanes> Pool<G, L> {
     pub fn row_counts<R: Wait>(&self, rt: &R, shard: u32) -> RowCounts
         requires { shard < self.now.shards }
     {
-        at!(self, shard, lock => locked_row_counts(rt, lock))
+        self.ask(rt, shard, &CountOfRows)
     }
 
     /// The number of the Start of a shard's journal. It is no step.
-    #[tactic(auto, using(crate::proofs::AtNumber::lanes))]
+    #[tactic(auto, using(crate::proofs::Wrapped::wrapped))]
     pub fn start_of<R: Wait>(&self, rt: &R, shard: u32) -> u64
         requires { shard < self.now.shards }
         ensures some { IsBehind self.now.own.name (λ h. result ≡ (start_of h).number) }
         ensures lane { IsBehindAt L.begins shard self.now.own.name (λ h. result ≡ (start_of h).number) }
     {
-        at!(self, shard, lock => locked_start_of(rt, lock))
+        self.ask(rt, shard, &StartNumber)
     }
 
     /// Drops a seat's receipts up to the Start of each shard: those that have no entry any more.

@@ -8,9 +8,9 @@ use Rattle.presence_journal.specs.Table.{outcome_of}
 use Rattle.tracker_shard.specs.declared.fault.ShardFault.{ShardFault}
 use Rattle.tracker_shard.specs.declared.fault.ShardFault.TheVariants.{AlreadyTracked, NoPresence, ClockFull, JournalFull, NoSub, BadIncarnation, OutOfMemory}
 use Rattle.tracker_shard.specs.declared.call.Found.{Found}
-use Rattle.tracker_shard.specs.Calls.{AnswersMade, IsAdmitted, Looks}
+use Rattle.tracker_shard.specs.Calls.{AnswersMade, IsAdmitted, Looks, MayMake, is_callers}
 use Rattle.tracker_shard.specs.Steps.{Made, Stepped, Answers, IsDue, refusal}
-use Rattle.tracker_shard.proofs.Doors.{made_steps, made_answers, made_due, refused_steps, refused_answers, refused_due, unmade_due, unmade_steps}
+use Rattle.tracker_shard.proofs.Doors.{callers_may, nobody_may, made_steps, made_answers, made_due, refused_steps, refused_answers, refused_due, unmade_due, unmade_steps}
 use Rattle.shard_pool_settled.specs.declared.receipt.Receipt.{Receipt}
 use Rattle.shard_pool_lent.specs.declared.reply.Reply.{Reply}
 use Rattle.shard_pool_lent.specs.Hands.{Hand, receipt, with_call}
@@ -142,3 +142,12 @@ unmade_notes h p q s BadIncarnation is a b c d = same_hand p q a b c d
 unmade_notes h p q s OutOfMemory is a b c d = same_hand p q a b c d
 
 pub ruleset notes = (entered_step, entered_answer, entered_due, entered_total, entered_notes, refused_steps, refused_answers, refused_due, refused_notes, refused_total, unmade_due, unmade_steps, unmade_notes)
+
+-- who makes a step
+
+pub found_callers : {A : Type 0} (Gives : A → Type 0) (there : Bool) (h : History) (s : Step) (f : Found A) → IsAdmitted Gives there h s f → is_callers s ≡ true → is_callers f.step ≡ true
+found_callers Gives there h s f found is = ap is_callers found.is.step ∙ is
+
+pub ruleset seated = (found_callers, callers_may)
+
+pub ruleset unseated = (nobody_may)

@@ -2,6 +2,7 @@ pub mod Hands
 pub mod Codes
 pub mod Lent
 pub mod Lines
+pub use Rattle.tracker_shard.specs.Asks
 pub use Rattle.tracker_shard.specs.Calls
 pub use Rattle.tracker_shard.specs.Steps
 pub use Rattle.tracker_shard.specs.declared.fault.ShardFault

@@ -18,8 +18,8 @@ use presence_journal::{Item, Outcome, SharedRows, Step};
 use shard_pool_settled::Receipt;
 use std::alloc::{AllocError, Global};
 use tracker_shard::{
-    Call, Found, Get, List, Shout, Sub, Subscribe, Take, Track, Unsubscribe, Untrack, UntrackAll,
-    Update,
+    Found, Get, List, SeatCall, Shout, Sub, Subscribe, Take, Track, Unsubscribe, Untrack,
+    UntrackAll, Update,
 };
 
 /// A list of receipts that is full takes room for so many more at once, and no more, however long it is.
@@ -60,8 +60,8 @@ fn receipt_of(
 }
 
 /// A call with the guard lent: looks up what it comes to, makes its step, and leaves its receipt with the seat.
-#[tactic(auto, using(crate::proofs::Notes::notes))]
-pub fn lent_call<L: Lane, C: Call>(
+#[tactic(auto, using(crate::proofs::Notes::notes, crate::proofs::Notes::seated))]
+pub fn lent_call<L: Lane, C: SeatCall>(
     alloc: Global,
     locked: &mut Locked<L>,
     part: &mut Part<L>,

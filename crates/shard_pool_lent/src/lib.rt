@@ -5,6 +5,7 @@
 //! a seat cite `Cuts`, `KeptDeltas`, `Full`, `Starting` and `Quiet` too, which tracker_shard gives out.
 #![tactic(auto)]
 
+mod lack;
 mod lane;
 mod lent;
 mod locked;
@@ -12,6 +13,7 @@ mod noting;
 mod part;
 mod reply;
 mod start;
+mod tried;
 
 pub use lane::Lane;
 pub use lent::{
@@ -23,6 +25,9 @@ pub use part::Part;
 pub use reply::{PoolFault, Reply};
 pub use start::lent_start;
 pub use tracker_shard::{
-    Call, Get, List, RowCounts, ShardFault, Shout, Sub, Subscribe, Take, Track, Unsubscribe,
-    Untrack, UntrackAll, Update,
+    Ask, Call, CopyOfJournal, CountOfRows, Cut, EntryCount, Fitting, Full, Get, Heard, Incarnation,
+    KeptBytes, List, ListBytes, Merge, MergeCopy, PartFrom, PermDown, Rebirth, RowCounts, SeatCall,
+    ShardFault, Shout, StartNumber, StatusOf, Sub, Subscribe, Take, Tick, ToldFrom, TopOf, Track,
+    Unsubscribe, Untrack, UntrackAll, Update, WaitsFor,
 };
+pub use tried::{Tried, lent_tried, make_tried};

@@ -1,39 +1,35 @@
 //! A shard with its count, and its steps.
 ghost use Rattle.std.specs.Prelude.{◌≡◌, ◌+◌, ◌-◌, ◌≤◌, ◌^◌, min, true, false, Some, None, IfOk, IfErr, OnOk, OnErr};
 ghost use Rattle.presence_base.specs.Refs.{IsCount};
-ghost use Rattle.presence_journal.specs.History.{begun, own, entry_count, is_full, last_number, status, IsTop};
+ghost use Rattle.presence_journal.specs.History.{begun, own, entry_count, is_full, last_number};
 ghost use Rattle.presence_journal.specs.KeptBytes.{kept_bytes};
 ghost use Rattle.presence_journal.specs.Limits.{is_within_limits};
-ghost use Rattle.presence_journal.specs.Queue.{queue, is_waiting};
 ghost use Rattle.presence_journal.specs.Table.{IsLegal, outcome_of};
-ghost use Rattle.tracker_shard.specs.Full.{IsFullOf};
 ghost use Rattle.tracker_shard.specs.Quiet.{TellsQuiet};
-ghost use Rattle.tracker_shard.specs.Cuts.{IsCut};
-ghost use Rattle.orswot_core_told.specs.Checks.{WhereItFits};
-ghost use Rattle.tracker_shard.specs.KeptDeltas.{IsToldFrom, TellsFrom};
-ghost use Rattle.tracker_shard.specs.ToldParts.{IsPartWhereItFits};
-ghost use Rattle.tracker_shard.specs.Calls.{Looks};
-ghost use Rattle.tracker_shard.specs.Steps.{Stepped, Answers, IsDue, refusal, is_found};
-ghost use Rattle.tracker_shard.specs.Steps.{RefusesForRoom, checkpoint_refusal, AnswersPairs, KeepsRows};
+ghost use Rattle.tracker_shard.specs.Calls.{Looks, is_callers};
+ghost use Rattle.tracker_shard.specs.Steps.{Stepped, Answers, IsDue, RefusesForRoom, refusal, checkpoint_refusal};
 ghost use Rattle.tracker_shard.specs.Starting.{seats, IsBegunAgain};
-ghost use Rattle.shard_pool_lent.specs.Lent.{is_step, counted};
+ghost use Rattle.shard_pool_lent.specs.Lent.{is_step, counted, lacks_room};
 ghost use Rattle.shard_pool_lent.specs.Lines.{IsOfLane};
 
+use crate::lack::{Lack, lack_of};
 use crate::lane::Lane;
 use crate::noting::{count_call, is_made};
-use delta_range::Delta;
-use orswot_core_told::{Form, Told};
-use presence_base::{Dot, Replica};
+use presence_base::Replica;
 use presence_journal::{Journal, Outcome, Step};
-use replica_status::Status;
 use std::alloc::{AllocError, Global};
 use std::sync::ledger::{Book, Share};
-use tracker_shard::{Call, Found, RowCounts, Shard, ShardFault, Sub};
+use tracker_shard::{Ask, Call, Found, Shard, ShardFault};
+
+/// Where memory is wanting a checkpoint is tried of a journal with so many entries, which it gives back.
+const MIN_ENTRIES: u64 = 64;
 
 /// A shard with the count of its seated calls: what stands behind a lock of the pool.
 pub struct Locked<L: Lane> {
     shard: Shard,
     calls: Book<L>,
+    // Whether a call found no memory, so that the journal was to give some back, and none has found some since.
+    has_lacked: bool,
     ghost counted: { calls.total ≡ seats shard },
     ghost of_node: { (own shard).name ≡ L.node },
     ghost of_lane: { IsOfLane L.begins shard },
@@ -42,7 +38,11 @@ pub struct Locked<L: Lane> {
 // Written, as the shard's is.
 impl<L: Lane> Drop for Locked<L> {
     fn drop(self) {
-        let Locked { shard, calls } = self;
+        let Locked {
+            shard,
+            calls,
+            has_lacked: _,
+        } = self;
         drop(shard);
         drop(calls);
     }
@@ -61,7 +61,11 @@ impl<L: Lane> Locked<L> {
         let mut shard = Shard::new(alloc, own);
         // Where memory is refused the journal takes more as it grows.
         let _reserved = shard.reserve();
-        Locked { shard, calls }
+        Locked {
+            shard,
+            calls,
+            has_lacked: false,
+        }
     }
 
     /// The shard's journal, which is legal, of the ledger's node, and comes of what the shard began with.
@@ -88,16 +92,6 @@ impl<L: Lane> Locked<L> {
         self.shard.journal().kept_bytes()
     }
 
-    /// What lists took for dots, as `Shard::list_bytes` tells it.
-    pub fn list_bytes(&self) -> u64 {
-        self.shard.list_bytes()
-    }
-
-    /// How many rows the shard shows, as `Shard::row_counts` tells it.
-    pub fn row_counts(&self) -> RowCounts {
-        self.shard.row_counts()
-    }
-
     // The number that the next entry gets.
     pub(crate) fn next_number(&self) -> u64
         ensures { result ≡ last_number self.now.shard + 1 }
@@ -120,7 +114,7 @@ impl<L: Lane> Locked<L> {
     }
 
     // Makes the step that a call was found to come to, and counts it.
-    #[tactic(auto, using(crate::proofs::Counts::counts))]
+    #[tactic(auto, using(crate::proofs::Counts::counts, crate::proofs::Notes::seated))]
     pub(crate) fn enter(
         &mut self,
         alloc: Global,
@@ -132,6 +126,7 @@ impl<L: Lane> Locked<L> {
         requires table { outcome_of self.old.shard step ≡ Some outcome }
         requires room { is_full self.old.shard ≡ false }
         requires limits { is_within_limits step ≡ true }
+        requires callers { is_callers step ≡ true }
         requires share { share.old.parts ≡ 1 }
         ensures step { Stepped self.old.shard self.new.shard (Some seat) step result }
         ensures memory { IfErr result (λ e. e ≡ ShardFault.OutOfMemory) }
@@ -139,93 +134,35 @@ impl<L: Lane> Locked<L> {
         ensures amount { share.new.amount ≡ counted share.old.amount (is_step result) }
         ensures parts { share.new.parts ≡ share.old.parts }
     {
-        let Locked { shard, calls } = self;
+        let Locked {
+            shard,
+            calls,
+            has_lacked: _,
+        } = self;
         let answer = shard.enter(alloc, Some(seat), step, outcome);
         count_call(calls, share, is_made(&answer));
         answer
     }
 
-    /// Notes that a replica was heard, as `Shard::heard` does, without a seat.
-    #[tactic(auto, using(crate::proofs::Counts::counts))]
-    pub fn heard(&mut self, alloc: Global, replica: Replica, now: u64) -> Result<(), ShardFault>
-        ensures step { Stepped self.old.shard self.new.shard None (Step.Heard replica now) result }
-        ensures answer { Answers (λ _. Unit {0}) (outcome_of self.old.shard (Step.Heard replica now)) result }
-        ensures due { IsDue result (refusal true self.old.shard (Step.Heard replica now)) }
-        ensures room { RefusesForRoom result }
+    /// Makes a call without a seat, as `Shard::perform` does.
+    #[tactic(auto, using(crate::proofs::Counts::counts, crate::proofs::Notes::unseated))]
+    pub fn make<C: Call>(&mut self, alloc: Global, call: &C) -> Result<C::Answer, ShardFault>
+        ensures step { Stepped self.old.shard self.new.shard None (C.step call.now) result }
+        ensures answer { Answers (C.gives call.now self.old.shard) (outcome_of self.old.shard (C.step call.now)) result }
+        ensures due { IsDue result (refusal (C.there call.now self.old.shard) self.old.shard (C.step call.now)) }
         ensures total { self.new.calls.total ≡ self.old.calls.total }
     {
-        self.shard.heard(alloc, replica, now)
+        self.shard.perform(alloc, None, call)
     }
 
-    /// Lets time pass, as `Shard::tick` does, without a seat.
+    /// Asks the shard. It is no step.
     #[tactic(auto, using(crate::proofs::Counts::counts))]
-    pub fn tick(&mut self, alloc: Global, now: u64) -> Result<(), ShardFault>
-        ensures step { Stepped self.old.shard self.new.shard None (Step.Tick now) result }
-        ensures answer { Answers (λ _. Unit {0}) (outcome_of self.old.shard (Step.Tick now)) result }
-        ensures due { IsDue result (refusal true self.old.shard (Step.Tick now)) }
-        ensures room { RefusesForRoom result }
+    pub fn ask<A: Ask>(&mut self, ask: &A) -> A::Answer
+        ensures same { self.new.shard ≡ self.old.shard }
         ensures total { self.new.calls.total ≡ self.old.calls.total }
+        ensures told { A.tells ask.now self.old.shard result }
     {
-        self.shard.tick(alloc, now)
-    }
-
-    /// Notes that a replica is gone for good, as `Shard::permdown` does, without a seat.
-    #[tactic(auto, using(crate::proofs::Counts::counts))]
-    pub fn permdown(&mut self, alloc: Global, replica: Replica) -> Result<(), ShardFault>
-        ensures step { Stepped self.old.shard self.new.shard None (Step.PermDown replica) result }
-        ensures answer { Answers (λ _. Unit {0}) (outcome_of self.old.shard (Step.PermDown replica)) result }
-        ensures due { IsDue result (refusal true self.old.shard (Step.PermDown replica)) }
-        ensures room { RefusesForRoom result }
-        ensures total { self.new.calls.total ≡ self.old.calls.total }
-    {
-        self.shard.permdown(alloc, replica)
-    }
-
-    /// What the own replica did since the last cut, as `Shard::cut` tells it, without a seat.
-    #[tactic(auto, using(crate::proofs::Counts::counts))]
-    pub fn cut(&mut self, alloc: Global) -> Result<Delta, ShardFault>
-        ensures step { Stepped self.old.shard self.new.shard None Step.Cut result }
-        ensures answer { Answers (IsCut self.old.shard) (outcome_of self.old.shard Step.Cut) result }
-        ensures due { IsDue result (refusal true self.old.shard Step.Cut) }
-        ensures room { RefusesForRoom result }
-        ensures total { self.new.calls.total ≡ self.old.calls.total }
-    {
-        self.shard.cut(alloc)
-    }
-
-    /// Takes in what another node told, as `Shard::merge` does, without a seat.
-    #[tactic(auto, using(crate::proofs::Counts::counts))]
-    pub fn merge(&mut self, alloc: Global, told: &Told) -> Result<(), ShardFault>
-        ensures step { Stepped self.old.shard self.new.shard None (Step.Merge told.now) result }
-        ensures answer { Answers (λ _. Unit {0}) (outcome_of self.old.shard (Step.Merge told.now)) result }
-        ensures due { IsDue result (refusal true self.old.shard (Step.Merge told.now)) }
-        ensures room { RefusesForRoom result }
-        ensures total { self.new.calls.total ≡ self.old.calls.total }
-    {
-        self.shard.merge(alloc, told)
-    }
-
-    /// Goes on under a higher incarnation, as `Shard::rebirth` does, without a seat.
-    #[tactic(auto, using(crate::proofs::Counts::counts))]
-    pub fn rebirth(
-        &mut self,
-        alloc: Global,
-        incarnation: u64,
-    ) -> Result<Vec<(Dot, Dot)>, ShardFault>
-        ensures step { Stepped self.old.shard self.new.shard None (Step.Rebirth incarnation) result }
-        ensures answer { AnswersPairs self.old.shard incarnation result }
-        ensures due { IsDue result (refusal true self.old.shard (Step.Rebirth incarnation)) }
-        ensures rows { IfOk result (λ pairs. KeepsRows self.old.shard self.new.shard pairs.items) }
-        ensures total { self.new.calls.total ≡ self.old.calls.total }
-    {
-        self.shard.rebirth(alloc, incarnation)
-    }
-
-    /// The incarnation under which the shard goes on. It is no step, and takes no memory.
-    pub fn incarnation(&self) -> u64
-        ensures { result ≡ (own self.now.shard).incarnation }
-    {
-        self.shard.incarnation()
+        ask.read(&mut self.shard)
     }
 
     /// Puts a Start that stands for the journal in its place, as `Shard::checkpoint` does. It is no step.
@@ -243,62 +180,6 @@ impl<L: Lane> Locked<L> {
         made
     }
 
-    /// All that the shard knows, in the form. It is no step.
-    pub fn full(&self, alloc: Global, form: Form) -> Result<Told, AllocError>
-        ensures { IfOk result (λ t. IsFullOf form self.now.shard t) }
-    {
-        self.shard.full(alloc, form)
-    }
-
-    /// What a node is told that knows the own dots up to a count, as `Shard::told_from` tells it. It is no step.
-    #[tactic(auto, using(crate::proofs::Counts::counts))]
-    pub fn told_from(&mut self, alloc: Global, count: u64, form: Form) -> Result<Told, AllocError>
-        ensures told { IfOk result (IsToldFrom form self.old.shard count) }
-        ensures same { self.new.shard ≡ self.old.shard }
-        ensures total { self.new.calls.total ≡ self.old.calls.total }
-    {
-        self.shard.told_from(alloc, count, form)
-    }
-
-    /// The same for a line of a link, as `Shard::fitting` tells it. It is no step.
-    #[tactic(auto, using(crate::proofs::Counts::counts))]
-    pub fn fitting(
-        &mut self,
-        alloc: Global,
-        from: Option<u64>,
-        form: Form,
-    ) -> Result<Option<Told>, AllocError>
-        ensures told { IfOk result (WhereItFits form (TellsFrom form self.old.shard from)) }
-        ensures same { self.new.shard ≡ self.old.shard }
-        ensures total { self.new.calls.total ≡ self.old.calls.total }
-    {
-        self.shard.fitting(alloc, from, form)
-    }
-
-    /// A part for a node that knows the own dots up to a count, as `Shard::part` tells it. It is no step.
-    #[tactic(auto, using(crate::proofs::Counts::counts))]
-    pub fn part(&mut self, alloc: Global, count: u64) -> Result<Option<Delta>, AllocError>
-        ensures part { IfOk result (IsPartWhereItFits self.old.shard count) }
-        ensures same { self.new.shard ≡ self.old.shard }
-        ensures total { self.new.calls.total ≡ self.old.calls.total }
-    {
-        self.shard.part(alloc, count)
-    }
-
-    /// The count up to which all of a replica's dots are covered. It is no step.
-    pub fn top(&self, replica: &Replica) -> u64
-        ensures { IsTop self.now.shard replica.now result }
-    {
-        self.shard.top(replica)
-    }
-
-    /// The status of a replica. It is no step.
-    pub fn status(&self, replica: &Replica) -> Status
-        ensures { result ≡ status self.now.shard replica.now }
-    {
-        self.shard.status(replica)
-    }
-
     /// Whether no item waits for a present subscriber, as `Shard::is_quiet` tells it. It is no step.
     #[tactic(auto, using(crate::proofs::Counts::counts))]
     pub fn is_quiet(&mut self, alloc: Global) -> Result<bool, AllocError>
@@ -309,21 +190,47 @@ impl<L: Lane> Locked<L> {
         self.shard.is_quiet(alloc)
     }
 
-    /// Whether a subscriber is behind or has something waiting. It is no step.
-    pub fn waits(&self, sub: &Sub) -> Result<bool, ShardFault>
-        ensures found { OnOk result (is_found self.now.shard sub.now.slot sub.now.number ≡ true) }
-        ensures value { IfOk result (λ w. w ≡ is_waiting (queue self.now.shard sub.now.number)) }
-        ensures missing { OnErr result (is_found self.now.shard sub.now.slot sub.now.number ≡ false) }
-        ensures refusal { IfErr result (λ e. e ≡ ShardFault.NoSub) }
+    /// Begins the journal again where the answer says that it lacks room, or memory that the journal may give back. Of
+    /// memory that is asked once until a call finds some: it costs a copy of all that the shard keeps.
+    #[tactic(auto, using(crate::proofs::Counts::counts))]
+    pub fn makes_room<A: Drop>(&mut self, alloc: Global, answer: &Result<A, ShardFault>) -> bool
+        ensures lack { result ≡ true → lacks_room answer.now ≡ true }
+        ensures begun { result ≡ true → IsBegunAgain self.old.shard self.new.shard }
+        ensures same { result ≡ false → self.new.shard ≡ self.old.shard }
+        ensures total { self.new.calls.total ≡ self.old.calls.total }
     {
-        self.shard.waits(sub)
+        match lack_of(answer) {
+            Lack::Nothing => {
+                self.has_lacked = false;
+                false
+            }
+            Lack::Room => self.checkpoint(alloc).is_ok(),
+            Lack::Memory => self.gives_memory(alloc),
+        }
+    }
+
+    // Begins a journal of some length again, if none was that gave no memory since a call found some.
+    fn gives_memory(&mut self, alloc: Global) -> bool
+        ensures begun { result ≡ true → IsBegunAgain self.old.shard self.new.shard }
+        ensures same { result ≡ false → self.new.shard ≡ self.old.shard }
+        ensures total { self.new.calls.total ≡ self.old.calls.total }
+    {
+        if self.has_lacked || self.entry_count() < MIN_ENTRIES {
+            return false;
+        }
+        self.has_lacked = true;
+        self.checkpoint(alloc).is_ok()
     }
 
     /// The journal, where the shard is done with.
     pub fn into_journal(self) -> Journal
         ensures { result ≡ self.shard }
     {
-        let Locked { shard, calls: _ } = self;
+        let Locked {
+            shard,
+            calls: _,
+            has_lacked: _,
+        } = self;
         shard.into_journal()
     }
 }

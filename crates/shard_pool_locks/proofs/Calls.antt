@@ -14,12 +14,12 @@ use Rattle.shard_pool_lent.specs.Steps.{Stepped, Answers, IsDue, RefusesForRoom,
 use Rattle.shard_pool_lent.specs.declared.reply.Reply.{Reply}
 use Rattle.shard_pool_lent.specs.Hands.{Hand}
 use Rattle.shard_pool_lent.specs.Lines.{IsOfLane, IsOfShard}
-use Rattle.shard_pool_lent.specs.Lent.{Notes, Replies}
+use Rattle.shard_pool_lent.specs.Lent.{CalledFrom, MadeFrom}
 use Rattle.presence_journal.specs.KeptBytes.{kept_bytes}
 use Rattle.shard_pool_locks.specs.declared.due.DueFrom.{DueFrom}
 use Rattle.shard_pool_locks.specs.Due.{HasMany, TellsMany}
 use Rattle.shard_pool_locks.specs.Seated.{Called, IsDueOnceNoted}
-use Rattle.shard_pool_locks.specs.Unseated.{IsBehindOf, IsMadeWith, IsCheckpointed, IsMadeWhereFull, IsMadeWhereQuiet, IsRebornMade}
+use Rattle.shard_pool_locks.specs.Unseated.{IsBehindOf, IsCheckpointed, IsDone, IsMadeWhereQuiet}
 
 once_noted : {A : Type 0} (r : Result A ShardFault) (stands : Option ShardFault) → IsDue r stands → IsDueOnceNoted r stands
 once_noted (Ok x) stands d = d
@@ -31,56 +31,32 @@ once_noted (Err NoSub) stands d = d
 once_noted (Err BadIncarnation) stands d = d
 once_noted (Err OutOfMemory) stands d = tt
 
-pub called_in : {A : Type 0} (h left : History) (node : List ℕ) (Begins : History → Type 0) (there : History → Bool) (old new : Hand) (step : Step) (Gives : History → A → Type 0) (r : Result (Reply A) ShardFault)
-    → IsLegal h → (own h).name ≡ node → IsOfLane Begins h → Stepped h left (Some old.seat) step r → Notes h old new step r → Replies old.shard h step (Gives h) r → IsDue r (refusal (there h) h step)
-    → Called (IsOfShard node Begins) there old new step Gives r
-called_in h left node Begins there old new step Gives r legal of_node of_lane made notes answer due =
-    record { history = h; left = left; legal = legal; here = record { of_node = of_node; of_lane = of_lane }; made = made; notes = notes; answer = answer; due = once_noted r (refusal (there h) h step) due }
+pub called_in : {A : Type 0} (Here : History → Type 0) (there : History → Bool) (lent left : History) (old new : Hand) (step : Step) (Gives : History → A → Type 0) (r : Result (Reply A) ShardFault)
+    → CalledFrom Here there lent left old new step Gives r → Called Here there old new step Gives r
+called_in Here there lent left old new step Gives r c =
+    record { history = c.history; left = left; legal = c.legal; here = c.here; made = c.made; notes = c.notes; answer = c.answer; due = once_noted r (refusal (there c.history) c.history step) c.due }
 
-pub called_without_room : {A : Type 0} (h : History) (node : List ℕ) (Begins : History → Type 0) (there : History → Bool) (old new : Hand) (step : Step) (Gives : History → A → Type 0)
-    → IsLegal h → (own h).name ≡ node → IsOfLane Begins h → new ≡ old
-    → Called {A = A} (IsOfShard node Begins) there old new step Gives (Err OutOfMemory)
-called_without_room h node Begins there old new step Gives legal of_node of_lane same =
-    record { history = h; left = h; legal = legal; here = record { of_node = of_node; of_lane = of_lane }; made = refl; notes = same; answer = tt; due = tt }
-
-pub ruleset called = (called_in, called_without_room)
+pub ruleset called = (called_in)
 
 pub is_behind_lane : (h : History) (node : List ℕ) (Begins : History → Type 0) (Is : History → Type 0) → IsLegal h
     → (own h).name ≡ node → IsOfLane Begins h → Is h → IsBehindOf (IsOfShard node Begins) Is
 is_behind_lane h node Begins Is legal of_node of_lane is =
     record { history = h; legal = legal; here = record { of_node = of_node; of_lane = of_lane }; is = is }
 
-pub is_made : {A : Type 0} (Gives : A → Type 0) (h left : History) (step : Step) (r : Result A ShardFault) → Stepped h left None step r → Answers Gives (outcome_of h step) r → IsDue r (refusal true h step) → RefusesForRoom r → IsMadeWith Gives h step r
-is_made Gives h left step r made answer due room = record { left = left; step = made; answer = answer; due = due; room = room }
+pub is_done : {A : Type 0} (Here : History → Type 0) (there : History → Bool) (lent left : History) (step : Step) (Gives : History → A → Type 0) (r : Result A ShardFault)
+    → MadeFrom Here there lent left step Gives r → IsBehindOf Here (λ h. IsDone there Gives h step r)
+is_done Here there lent left step Gives r m =
+    record { history = m.history; legal = m.legal; here = m.here; is = record { left = left; step = m.made; answer = m.answer; due = m.due } }
 
 pub is_checkpointed : (h left : History) (r : Result Unit ShardFault) → OnOk r (IsBegunAgain h left) → OnErr r (left ≡ h) → IsDue r (checkpoint_refusal h) → RefusesForRoom r → IsCheckpointed h r
 is_checkpointed h left r again same due room = record { left = left; again = again; same = same; due = due; room = room }
 
-pub is_reborn : {A : Type 0} (h left : History) (incarnation : ℕ) (r : Result (Vec (Dot × Dot) A) ShardFault) → Stepped h left None (steps_are.Rebirth incarnation) r → AnswersPairs h incarnation r → IsDue r (refusal true h (steps_are.Rebirth incarnation))
-    → IfOk r (λ pairs. KeepsRows h left pairs.items) → IsRebornMade h incarnation r
-is_reborn h left incarnation r made answer due rows = record { left = left; step = made; answer = answer; due = due; rows = rows }
-
-pub ruleset unseated = (is_behind_lane, is_made, is_reborn, is_checkpointed)
+pub ruleset unseated = (is_behind_lane, is_done, is_checkpointed)
 
 -- a checkpoint that is made only where it is due
 
-pub not_full : (h : History) → is_full h ≡ false → IsMadeWhereFull h (Ok false)
-not_full h room = record { left = h; leaves = refl; told = sym room; asked = tt; due = λ f e. absurd (cc); room = tt }
-
-pub made_full : (h left : History) → is_full h ≡ true → IsBegunAgain h left → IsMadeWhereFull h (Ok true)
-made_full h left full again = record { left = left; leaves = again; told = sym full; asked = tt; due = λ f e. absurd (cc); room = tt }
-
 abbrev refused : {A : Type 0} → ShardFault → Result A ShardFault
 refused f = Err f
-
-due_of : (f : ShardFault) (stands : Option ShardFault) → IsDue (refused {A = Unit {0}} f) stands → IsDue (refused {A = Bool} f) stands
-due_of AlreadyTracked stands d = d
-due_of NoPresence stands d = d
-due_of ClockFull stands d = d
-due_of JournalFull stands d = d
-due_of NoSub stands d = d
-due_of BadIncarnation stands d = d
-due_of OutOfMemory stands d = d
 
 room_of : (f : ShardFault) → RefusesForRoom (refused {A = Unit {0}} f) → RefusesForRoom (refused {A = Bool} f)
 room_of AlreadyTracked d = d
@@ -90,14 +66,6 @@ room_of JournalFull d = d
 room_of NoSub d = d
 room_of BadIncarnation d = d
 room_of OutOfMemory d = d
-
-pub refused_full : (h left : History) (r : Result Unit ShardFault) (f : ShardFault) → is_full h ≡ true → r ≡ Err f → OnErr r (left ≡ h) → IsDue r (checkpoint_refusal h) → RefusesForRoom r → IsMadeWhereFull h (Err f)
-refused_full h left (Ok x) f full e same due room = absurd (cc)
-refused_full h left (Err g) f full e same due room =
-    let is : g ≡ f = cc in
-    subst (λ k. IsMadeWhereFull h (Err k)) is (record { left = left; leaves = same; told = tt; asked = full; due = λ k p. due_of g (checkpoint_refusal h) due; room = room_of g room })
-
-pub ruleset where_full = (is_behind_lane, not_full, made_full, refused_full)
 
 pub too_few : (h : History) (due : DueFrom) → TellsMany due h false → IsMadeWhereQuiet due h (Ok false)
 too_few h due few = record { left = h; leaves = refl; told = inl few; asked = tt; full = λ e. absurd (cc); room = tt }

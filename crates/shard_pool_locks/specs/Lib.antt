@@ -6,6 +6,8 @@ pub use Rattle.shard_pool_lent.specs.declared.lane.Lane
 pub use Rattle.shard_pool_lent.specs.Hands
 pub use Rattle.shard_pool_lent.specs.Codes
 pub use Rattle.shard_pool_lent.specs.Lines
+pub use Rattle.shard_pool_lent.specs.Asks
+pub use Rattle.shard_pool_lent.specs.Calls
 pub use Rattle.shard_pool_lent.specs.Steps
 pub use Rattle.shard_pool_lent.specs.Sub
 pub use Rattle.shard_pool_lent.specs.ShardFault

@@ -1,21 +1,19 @@
 -- What stands behind the answer of a call without a seat, which has let the lock go.
 use Rattle.presence_base.specs.declared.dots.Dot.{Dot}
-use Rattle.std.specs.Prelude.{◌≡◌, ◌⊎◌, true, false, ℕ, Bool, List, Some, None, Result, Ok, Err, IfOk, OnOk, OnErr, Vec}
+use Rattle.std.specs.Prelude.{◌≡◌, ◌⊎◌, true, false, ℕ, Bool, List, Some, None, Result, Ok, Err, IfOk, OnOk, OnErr}
 use Rattle.delta_range.specs.Deltas.{DeltaValue}
 use Rattle.presence_journal_data.specs.declared.step.Step.{Step}
 use Rattle.presence_journal_data.specs.declared.step.Step.TheVariants as steps_are
-use Rattle.presence_journal.specs.History.{History, own, is_full}
-use Rattle.presence_journal.specs.Queue.{queue, is_waiting}
+use Rattle.presence_journal.specs.History.{History, own}
 use Rattle.presence_journal.specs.Table.{IsLegal, outcome_of}
 use Rattle.shard_pool_lent.specs.Cuts.{IsCut}
 use Rattle.shard_pool_lent.specs.Quiet.{IsQuiet, IsBusy}
-use Rattle.shard_pool_lent.specs.Sub.{Sub}
 use Rattle.shard_pool_locks.specs.declared.due.DueFrom.{DueFrom}
 use Rattle.shard_pool_locks.specs.Due.{HasMany, TellsMany}
 use Rattle.shard_pool_lent.specs.ShardFault.{ShardFault}
-use Rattle.shard_pool_lent.specs.ShardFault.TheVariants.{JournalFull, NoSub}
+use Rattle.shard_pool_lent.specs.ShardFault.TheVariants.{JournalFull}
 use Rattle.shard_pool_lent.specs.Starting.{IsBegunAgain}
-use Rattle.shard_pool_lent.specs.Steps.{Stepped, Answers, IsDue, RefusesForRoom, refusal, is_found, checkpoint_refusal, AnswersPairs, KeepsRows}
+use Rattle.shard_pool_lent.specs.Steps.{Stepped, Answers, IsDue, RefusesForRoom, refusal, checkpoint_refusal, AnswersPairs, KeepsRows}
 
 -- a legal journal of the node
 abbrev pub IsOf : List ℕ → History → Type 0
@@ -35,6 +33,14 @@ pub record IsBehindOf (Here : History → Type 0) (Is : History → Type 0) : Ty
   pub here : Here history
   pub is : Is history
 
+-- The answer is that of a call without a seat at the history's end. `there` tells whether its subscriber is there.
+pub record IsDone {A : Type 0} (there : History → Bool) (Gives : History → A → Type 0) (h : History) (s : Step)
+    (r : Result A ShardFault) : Type 0 where
+  pub left : History
+  pub step : Stepped h left None s r
+  pub answer : Answers (Gives h) (outcome_of h s) r
+  pub due : IsDue r (refusal (there h) h s)
+
 -- The answer is that of the step without a seat at the history's end, and what it gives is such. It is refused at most
 -- for want of room.
 pub record IsMadeWith {A : Type 0} (Gives : A → Type 0) (h : History) (s : Step)
@@ -50,22 +56,16 @@ abbrev pub IsMade : {A : Type 0} → History → Step → Result A ShardFault �
 IsMade h s r = IsMadeWith (λ _. Unit {0}) h s r
 
 -- The answer is that of a rebirth at the history's end: the new dots, each with its old one, and no row is lost by it.
-pub record IsRebornMade {A : Type 0} (h : History) (incarnation : ℕ)
-    (r : Result (Vec (Dot × Dot) A) ShardFault) : Type 0 where
+pub record IsRebornMade (h : History) (incarnation : ℕ) (r : Result (List (Dot × Dot)) ShardFault) : Type 0 where
   pub left : History
   pub step : Stepped h left None (steps_are.Rebirth incarnation) r
   pub answer : AnswersPairs h incarnation r
   pub due : IsDue r (refusal true h (steps_are.Rebirth incarnation))
-  pub rows : IfOk r (λ pairs. KeepsRows h left pairs.items)
+  pub rows : IfOk r (KeepsRows h left)
 
 -- the answer is that of a cut at the history's end, with the delta that it tells
 abbrev pub IsCutMade : History → Result DeltaValue ShardFault → Type 0
 IsCutMade h r = IsMadeWith (IsCut h) h steps_are.Cut r
-
--- whether the subscriber is behind or has something waiting; one that is not there is refused
-abbrev pub TellsWaiting : History → Sub → Result Bool ShardFault → Type 0
-TellsWaiting h sub (Ok w) = (is_found h sub.slot sub.number ≡ true) × (w ≡ is_waiting (queue h sub.number))
-TellsWaiting h sub (Err e) = (is_found h sub.slot sub.number ≡ false) × (e ≡ NoSub)
 
 -- A Start that stands for the journal is put in its place, or it stays as it is where that is refused, at most for want
 -- of room.
@@ -81,15 +81,6 @@ abbrev pub Leaves : History → History → Result Bool ShardFault → Type 0
 Leaves h left (Ok true) = IsBegunAgain h left
 Leaves h left (Ok false) = left ≡ h
 Leaves h left (Err e) = left ≡ h
-
--- A checkpoint is made where the journal is full, and only there. It is refused as a checkpoint is.
-pub record IsMadeWhereFull (h : History) (r : Result Bool ShardFault) : Type 0 where
-  pub left : History
-  pub leaves : Leaves h left r
-  pub told : IfOk r (λ made. made ≡ is_full h)
-  pub asked : OnErr r (is_full h ≡ true)
-  pub due : (f : ShardFault) → r ≡ Err f → IsDue r (checkpoint_refusal h)
-  pub room : RefusesForRoom r
 
 -- the journal is due and no item waits for anybody; or it isn't so
 abbrev pub TellsDue : DueFrom → History → Bool → Type 0

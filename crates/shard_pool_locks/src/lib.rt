@@ -16,15 +16,13 @@ pub use due::DueFrom;
 pub use gate::{Gate, NoGate};
 pub use seated::locked_call;
 pub use shard_pool_lent::{
-    Call, Get, Lane, List, Locked, Part, PoolFault, Reply, RowCounts, Shout, Sub, Subscribe, Take,
-    Track, Unsubscribe, Untrack, UntrackAll, Update, lent_call, lent_get, lent_list, lent_shout,
-    lent_start, lent_subscribe, lent_take, lent_track, lent_unsubscribe, lent_untrack,
-    lent_untrack_all, lent_update,
+    Ask, Call, CopyOfJournal, CountOfRows, Cut, EntryCount, Fitting, Full, Get, Heard, Incarnation,
+    KeptBytes, Lane, List, ListBytes, Locked, Merge, MergeCopy, Part, PartFrom, PermDown,
+    PoolFault, Rebirth, Reply, RowCounts, SeatCall, Shout, StartNumber, StatusOf, Sub, Subscribe,
+    Take, Tick, ToldFrom, TopOf, Track, Tried, Unsubscribe, Untrack, UntrackAll, Update, WaitsFor,
+    lent_get, lent_list, lent_shout, lent_start, lent_subscribe, lent_take, lent_track,
+    lent_unsubscribe, lent_untrack, lent_untrack_all, lent_update,
 };
 pub use unseated::{
-    locked_checkpoint, locked_checkpoint_where_full, locked_checkpoint_where_quiet, locked_cut,
-    locked_entry_count, locked_fitting, locked_full, locked_heard, locked_incarnation,
-    locked_journal, locked_kept_bytes, locked_list_bytes, locked_merge, locked_part,
-    locked_permdown, locked_rebirth, locked_row_counts, locked_start_of, locked_status,
-    locked_tick, locked_told_from, locked_top, locked_trim, locked_waits,
+    locked_ask, locked_checkpoint, locked_checkpoint_where_quiet, locked_make, locked_trim,
 };

@@ -4,35 +4,31 @@ ghost use Rattle.shard_pool_locks.specs.Seated.{Called};
 
 use crate::gate::Gate;
 use crate::locking::lock_of;
-use shard_pool_lent::{Call, Lane, Locked, Part, PoolFault, Reply, lent_call};
+use shard_pool_lent::{Lane, Locked, Part, PoolFault, Reply, SeatCall, Tried, lent_tried};
 use std::alloc::Global;
 use std::sync::{Mutex, Wait};
 
-/// A call behind its shard's lock, with the gate around it: a lent one. The room for its receipt is taken before the lock,
-/// and want of memory for that goes before all other refusals. The journal is read to show that it is legal and of the
-/// shard.
+/// A call behind its shard's lock, with the gate around it: a lent one, which makes room where it lacks some. The room for its
+/// receipt is taken before the lock, so that it is held no longer for that.
 #[tactic(auto, using(crate::proofs::Calls::called))]
-pub fn locked_call<G: Gate, L: Lane, R: Wait, C: Call>(
+pub fn locked_call<G: Gate, L: Lane, R: Wait, C: SeatCall>(
     rt: &R,
     alloc: Global,
     gate: &G,
     shard: &Mutex<Locked<L>>,
     part: &mut Part<L>,
     call: &C,
-) -> Result<Reply<C::Answer>, PoolFault>
+) -> Tried<Result<Reply<C::Answer>, PoolFault>>
     ensures { Called (IsOfShard L.node L.begins) (C.there call.now) part.old part.new (C.step call.now)
-        (C.gives call.now) result }
+        (C.gives call.now) result.answer }
 {
     gate.before(part.seat(), part.shard());
-    let room = part.make_room();
+    // Where there is no memory for it the call finds that once more.
+    let _room = part.make_room();
     let mut guard = lock_of(rt, shard);
     gate.inside(part.seat(), part.shard());
-    let _journal = guard.journal();
-    let answer = match room {
-        Ok(()) => lent_call(alloc, &mut *guard, part, call),
-        Err(_) => Err(PoolFault::OutOfMemory),
-    };
+    let tried = lent_tried(alloc, &mut *guard, part, call);
     drop(guard);
     gate.after(part.seat(), part.shard());
-    answer
+    tried
 }

@@ -327,7 +327,7 @@ fn rebirth(alloc: Global, shard: &mut Shard, incarnation: u64) -> Result<String,
         Err(fault) => return format!(in alloc; "{fault:?}"),
     };
     let mut text = String::new(alloc);
-    for pair in &pairs {
+    for pair in pairs.as_slice() {
         let new = ref_text(alloc, &pair.0)?;
         let old = ref_text(alloc, &pair.1)?;
         let pair = format!(in alloc; "{new} from {old} ")?;

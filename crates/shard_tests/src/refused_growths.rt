@@ -10,7 +10,7 @@ use crate::merge_desk::{Telling, replica, told};
 use delta_range::Delta;
 use orswot_core::{Form, Told};
 use presence_base::Dot;
-use presence_journal::Item;
+use presence_journal::{Item, Pairs};
 use std::alloc::{AllocError, Global};
 use std::test::Fail;
 use tracker_shard::{Shard, ShardFault, Sub};
@@ -162,10 +162,11 @@ fn is_reborn(
     }
 }
 
-fn is_pair(answer: &Result<Vec<(Dot, Dot)>, ShardFault>, incarnation: u64, old: &Dot) -> bool {
+fn is_pair(answer: &Result<Pairs, ShardFault>, incarnation: u64, old: &Dot) -> bool {
     let Ok(pairs) = answer else {
         return false;
     };
+    let pairs = pairs.as_slice();
     match pairs.first() {
         Some((new, was)) => {
             let is_next = new.count == 1 && new.replica.incarnation == incarnation;

@@ -1,20 +1,26 @@
 -- What a call comes to becomes its answer.
-use Rattle.std.proofs.Common.{◌≡◌, Bool, true, false, cond, List, Option, Some, None, ℕ, nat_eq, refl, ◌∙◌, ap, subst}
-use Rattle.std.specs.Prelude.{Result, Ok, Err, OnOk, OnErr, IfErr, is_some}
+use Rattle.std.proofs.Common.{◌≡◌, Bool, true, false, cond, List, Option, Some, None, ℕ, nat_eq, refl, sym, ◌∙◌, ap, subst}
+use Rattle.std.proofs.lemmas.Bool.{false≢true}
+use Rattle.std.specs.Prelude.{Result, Ok, Err, OnOk, OnErr, IfOk, IfErr, is_some}
+use Rattle.presence_base.specs.declared.dots.Replica.{Replica}
+use Rattle.presence_base.specs.declared.dots.Dot.{Dot}
+use Rattle.orswot_core_told.specs.Telling.{ToldValue}
 use Rattle.presence_journal_data.specs.declared.step.Step.{Step}
 use Rattle.presence_journal_data.specs.declared.step.Step.TheVariants as steps_are
 use Rattle.presence_journal_data.specs.declared.entry.Outcome.{Outcome}
 use Rattle.presence_journal_data.specs.declared.entry.Outcome.TheVariants as outcomes_are
-use Rattle.presence_journal.specs.History.{History, is_full}
-use Rattle.presence_journal.specs.Queue.{topic_of}
+use Rattle.presence_journal.specs.History.{History, is_full, count, last_cut}
+use Rattle.presence_journal.specs.Queue.{topic_of, queue, is_waiting}
 use Rattle.presence_journal.specs.Limits.{is_within_limits}
-use Rattle.presence_journal.specs.Table.{outcome_of}
+use Rattle.presence_journal.specs.Table.{IsLegal, outcome_of}
 use Rattle.tracker_shard.specs.declared.call.Found.{Found}
 use Rattle.tracker_shard.specs.declared.fault.ShardFault.{ShardFault}
 use Rattle.tracker_shard.specs.declared.fault.ShardFault.TheVariants.{AlreadyTracked, NoPresence, ClockFull, JournalFull, NoSub, BadIncarnation, OutOfMemory}
-use Rattle.tracker_shard.specs.Calls.{AnswersMade, IsFound, Finds, IsAdmitted, Looks}
-use Rattle.tracker_shard.specs.Steps.{Made, Stepped, Answers, IsDue, MayRunOut, is_found, refusal, cause}
-use Rattle.tracker_shard.proofs.Tables.{ended}
+use Rattle.tracker_shard.specs.Asks.{TellsWaiting}
+use Rattle.tracker_shard.specs.Calls.{AnswersMade, IsFound, Finds, IsAdmitted, Looks, MayMake, is_callers}
+use Rattle.tracker_shard.specs.Steps.{Made, Stepped, Answers, AnswersPairs, IsDue, KeepsRows, MayRunOut, RefusesForRoom, is_found, refusal, cause}
+use Rattle.tracker_shard.specs.declared.shard.Sub.{Sub}
+use Rattle.tracker_shard.proofs.Tables.{ended, heard_noted, tick_noted, permdown_noted, merge_taken_in, rebirth_keeps}
 
 -- what is found
 
@@ -197,4 +203,91 @@ unmade_steps old new seat s t NoSub is m = m
 unmade_steps old new seat s t BadIncarnation is m = m
 unmade_steps old new seat s t OutOfMemory is m = m
 
-pub ruleset performed = (made_steps, made_answers, made_due, refused_steps, refused_answers, refused_due, unmade_due, unmade_steps)
+-- who makes a step
+
+pub found_may : {A : Type 0} (Gives : A → Type 0) (there : Bool) (h : History) (s : Step) (f : Found A) (seat : Option ℕ) → IsAdmitted Gives there h s f → MayMake seat s → MayMake seat f.step
+found_may Gives there h s f seat found may = subst (λ (k : Step). MayMake seat k) (sym found.is.step) may
+
+pub callers_may : (seat : Option ℕ) (s : Step) → is_callers s ≡ true → MayMake seat s
+callers_may seat s is some = is
+
+pub nobody_may : (s : Step) → MayMake None s
+nobody_may s some = absurd (false≢true some)
+
+pub ruleset sitting = (callers_may, nobody_may)
+
+-- a step that the table always accepts is refused for want of room alone
+
+abbrev is_refusal : Outcome → Bool
+is_refusal outcomes_are.AlreadyTracked = true
+is_refusal outcomes_are.NoPresence = true
+is_refusal _ = false
+
+full_or_none : (h : History) (s : Step) (o : Outcome) → outcome_of h s ≡ Some o → refusal true h s ≡ cond (is_full h) (Some JournalFull) None
+full_or_none h s o table = rw table refl
+
+other_stands : (full : Bool) (f : ShardFault) → (f ≡ JournalFull → ⊥) → cond full (Some JournalFull) None ≡ Some f → ⊥
+other_stands true f other e = other (cc)
+other_stands false f other e = absurd (cc)
+
+never_due : (h : History) (s : Step) (o : Outcome) (f : ShardFault) → outcome_of h s ≡ Some o → (f ≡ JournalFull → ⊥) → refusal true h s ≡ Some f → ⊥
+never_due h s o f table other e = other_stands (is_full h) f other (sym (full_or_none h s o table) ∙ e)
+
+never_refused : (h : History) (s : Step) (o p : Outcome) → outcome_of h s ≡ Some o → is_refusal o ≡ false → outcome_of h s ≡ Some p → is_refusal p ≡ true → ⊥
+never_refused h s o p table plain answered is =
+    let same : p ≡ o = cc in
+    false≢true (sym plain ∙ (ap is_refusal (sym same) ∙ is))
+
+pub always_room : {A : Type 0} (Gives : A → Type 0) (h : History) (s : Step) (o : Outcome) (r : Result A ShardFault) → outcome_of h s ≡ Some o → is_refusal o ≡ false → Answers Gives (outcome_of h s) r → IsDue r (refusal true h s) → RefusesForRoom r
+always_room Gives h s o (Ok x) table plain answer due = tt
+always_room Gives h s o (Err AlreadyTracked) table plain answer due = never_refused h s o outcomes_are.AlreadyTracked table plain answer refl
+always_room Gives h s o (Err NoPresence) table plain answer due = never_refused h s o outcomes_are.NoPresence table plain answer refl
+always_room Gives h s o (Err ClockFull) table plain answer due = never_due h s o ClockFull table (λ e. absurd (cc)) due
+always_room Gives h s o (Err JournalFull) table plain answer due = tt
+always_room Gives h s o (Err NoSub) table plain answer due = never_due h s o NoSub table (λ e. absurd (cc)) due
+always_room Gives h s o (Err BadIncarnation) table plain answer due = never_due h s o BadIncarnation table (λ e. absurd (cc)) due
+always_room Gives h s o (Err OutOfMemory) table plain answer due = tt
+
+cut_at : (h : History) → outcome_of h steps_are.Cut ≡ Some (outcomes_are.CutAt (last_cut h) (count h))
+unfolding outcome_of
+cut_at h = refl
+
+pub room_heard : {A : Type 0} (Gives : A → Type 0) (h : History) (replica : Replica) (now : ℕ) (r : Result A ShardFault) → Answers Gives (outcome_of h (steps_are.Heard replica now)) r → IsDue r (refusal true h (steps_are.Heard replica now)) → RefusesForRoom r
+room_heard Gives h replica now r answer due = always_room Gives h (steps_are.Heard replica now) outcomes_are.Noted r (heard_noted h replica now) refl answer due
+
+pub room_tick : {A : Type 0} (Gives : A → Type 0) (h : History) (now : ℕ) (r : Result A ShardFault) → Answers Gives (outcome_of h (steps_are.Tick now)) r → IsDue r (refusal true h (steps_are.Tick now)) → RefusesForRoom r
+room_tick Gives h now r answer due = always_room Gives h (steps_are.Tick now) outcomes_are.Noted r (tick_noted h now) refl answer due
+
+pub room_permdown : {A : Type 0} (Gives : A → Type 0) (h : History) (replica : Replica) (r : Result A ShardFault) → Answers Gives (outcome_of h (steps_are.PermDown replica)) r → IsDue r (refusal true h (steps_are.PermDown replica)) → RefusesForRoom r
+room_permdown Gives h replica r answer due = always_room Gives h (steps_are.PermDown replica) outcomes_are.Noted r (permdown_noted h replica) refl answer due
+
+pub room_cut : {A : Type 0} (Gives : A → Type 0) (h : History) (r : Result A ShardFault) → Answers Gives (outcome_of h steps_are.Cut) r → IsDue r (refusal true h steps_are.Cut) → RefusesForRoom r
+room_cut Gives h r answer due = always_room Gives h steps_are.Cut (outcomes_are.CutAt (last_cut h) (count h)) r (cut_at h) refl answer due
+
+pub room_merge : {A : Type 0} (Gives : A → Type 0) (h : History) (t : ToldValue) (r : Result A ShardFault) → Answers Gives (outcome_of h (steps_are.Merge t)) r → IsDue r (refusal true h (steps_are.Merge t)) → RefusesForRoom r
+room_merge Gives h t r answer due = always_room Gives h (steps_are.Merge t) outcomes_are.Merged r (merge_taken_in h t) refl answer due
+
+pub ruleset noted = (room_heard, room_tick, room_permdown, room_cut, room_merge)
+
+-- a rebirth keeps the rows
+
+room_of_none : (h : History) (s : Step) → refusal true h s ≡ None → is_full h ≡ false
+room_of_none h s e = go (is_full h) (is_some (outcome_of h s)) e
+  where
+    go : (full some : Bool) → cond full (Some JournalFull) (cond some None (Some (cause s))) ≡ None → full ≡ false
+    go true some p = absurd (cc)
+    go false some p = refl
+
+pub kept_rows : (old new : History) (i : ℕ) (r : Result (List (Dot × Dot)) ShardFault) → IsLegal old → Stepped old new None (steps_are.Rebirth i) r → AnswersPairs old i r → IsDue r (refusal true old (steps_are.Rebirth i)) → IfOk r (KeepsRows old new)
+kept_rows old new i (Ok pairs) legal made answer due = rebirth_keeps old i None pairs legal answer (room_of_none old (steps_are.Rebirth i) due) new made.journal
+kept_rows old new i (Err e) legal made answer due = tt
+
+-- whether something waits, of a subscriber that is there
+
+pub waits_told : (h : History) (sub : Sub) (r : Result Bool ShardFault) → OnOk r (is_found h sub.slot sub.number ≡ true) → OnErr r (is_found h sub.slot sub.number ≡ false) → IfErr r (λ e. e ≡ NoSub) → IfOk r (λ w. w ≡ is_waiting (queue h sub.number)) → TellsWaiting h sub r
+waits_told h sub (Ok w) found missing refusal value = (found, value)
+waits_told h sub (Err e) found missing refusal value = (missing, refusal)
+
+pub ruleset waiting = (waits_told)
+
+pub ruleset performed = (found_may, made_steps, made_answers, made_due, refused_steps, refused_answers, refused_due, unmade_due, unmade_steps)

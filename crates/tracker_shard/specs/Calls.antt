@@ -1,6 +1,7 @@
 -- What a call comes to before its step is made.
-use Rattle.std.specs.Prelude.{◌≡◌, Bool, true, false, Some, None, Result, Ok, Err}
+use Rattle.std.specs.Prelude.{◌≡◌, ℕ, Bool, true, false, Option, Some, None, is_some, Result, Ok, Err}
 use Rattle.presence_journal_data.specs.declared.step.Step.{Step}
+use Rattle.presence_journal_data.specs.declared.step.Step.TheVariants as steps_are
 use Rattle.presence_journal_data.specs.declared.entry.Outcome.{Outcome}
 use Rattle.presence_journal_data.specs.declared.entry.Outcome.TheVariants as outcomes_are
 use Rattle.presence_journal.specs.History.{History, is_full}
@@ -65,3 +66,17 @@ always h = true
 -- one that names this subscriber
 abbrev pub finds : Sub → History → Bool
 finds sub h = is_found h sub.slot sub.number
+
+-- a step that a caller asks for; the others are other nodes', or of time and of what is told
+abbrev pub is_callers : Step → Bool
+is_callers (steps_are.Heard r now) = false
+is_callers (steps_are.Tick now) = false
+is_callers (steps_are.PermDown r) = false
+is_callers steps_are.Cut = false
+is_callers (steps_are.Merge t) = false
+is_callers (steps_are.Rebirth i) = false
+is_callers _ = true
+
+-- a seat makes callers' steps alone
+abbrev pub MayMake : Option ℕ → Step → Type 0
+MayMake seat step = is_some seat ≡ true → is_callers step ≡ true

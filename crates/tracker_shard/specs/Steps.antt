@@ -121,9 +121,9 @@ AnswersSub h t r = Answers (λ sub. (sub.number ≡ last_number h + 1) × (sub.s
     (outcome_of h (steps_are.Subscribe t)) r
 
 -- the new dots, each with its old one
-abbrev pub AnswersPairs : {A : Type 0} → History → ℕ → Result (Vec (Dot × Dot) A) ShardFault → Type 0
+abbrev pub AnswersPairs : History → ℕ → Result (List (Dot × Dot)) ShardFault → Type 0
 AnswersPairs h i r =
-    Answers (λ pairs. outcome_of h (steps_are.Rebirth i) ≡ Some (outcomes_are.Reborn pairs.items))
+    Answers (λ pairs. outcome_of h (steps_are.Rebirth i) ≡ Some (outcomes_are.Reborn pairs))
     (outcome_of h (steps_are.Rebirth i)) r
 
 -- no row is lost with the last entry, which is a rebirth of these pairs of a new and an old dot

@@ -1,4 +1,4 @@
-//! What the calls of a shard that a seat can make have in common.
+//! What the calls of a shard have in common.
 use crate::fault::ShardFault;
 use presence_journal::{Outcome, Step};
 use std::alloc::Global;
@@ -42,4 +42,13 @@ pub trait Call {
         requires there { there self.now table.old.history ≡ true }
         ensures same { table.new ≡ table.old }
         ensures found { Finds (gives self.now table.old.history) table.old.history (step self.now) result };
+}
+
+/// A call that a seat makes.
+pub trait SeatCall: Call {
+    ghost use Rattle.std.specs.Prelude.{◌≡◌, true};
+    ghost use Rattle.tracker_shard.specs.Calls.{is_callers};
+
+    /// Its step is one that a caller asks for.
+    ghost callers: { (c : Self) → is_callers (Self.step c) ≡ true };
 }

@@ -1,4 +1,4 @@
-//! The calls: each has its step, what it looks up, and how its answer is read from that.
+//! The calls of callers: each has its step, what it looks up, and how its answer is read from that.
 ghost use Rattle.std.specs.Prelude.{◌≡◌, ◌+◌, ◌≤◌, ◌^◌, true, Some, IsTrue};
 ghost use Rattle.presence_journal.specs.History.{last_number};
 ghost use Rattle.presence_journal.specs.Limits.{is_payload, is_take_limit};
@@ -10,7 +10,7 @@ ghost use Rattle.tracker_shard.specs.Calls.{always, finds};
 ghost use Rattle.tracker_shard.specs.Steps.{new_dot, slot_of};
 
 use crate::answers::{added, own_dot, removal, replaced};
-use crate::call::{Call, Found};
+use crate::call::{Call, Found, SeatCall};
 use crate::fault::ShardFault;
 use crate::shard::Sub;
 use presence_base::{Dot, Json, Key, Meta, Row, Topic};
@@ -63,6 +63,12 @@ impl Call for Track<'_> {
     }
 }
 
+impl SeatCall for Track<'_> {
+    ghost use Rattle.std.specs.Prelude.{refl};
+
+    ghost callers = { λ c. refl };
+}
+
 /// The call that replaces what the pid tells under the key on the topic.
 #[derive(Clone, Copy)]
 pub struct Update<'a> {
@@ -108,6 +114,12 @@ impl Call for Update<'_> {
     }
 }
 
+impl SeatCall for Update<'_> {
+    ghost use Rattle.std.specs.Prelude.{refl};
+
+    ghost callers = { λ c. refl };
+}
+
 /// The call that takes out the pid's row under the key on the topic.
 #[derive(Clone, Copy)]
 pub struct Untrack<'a> {
@@ -143,6 +155,12 @@ impl Call for Untrack<'_> {
             answer: Ok(dots),
         })
     }
+}
+
+impl SeatCall for Untrack<'_> {
+    ghost use Rattle.std.specs.Prelude.{refl};
+
+    ghost callers = { λ c. refl };
 }
 
 /// The call that takes out each row of the pid on the topic.
@@ -181,6 +199,12 @@ impl Call for UntrackAll<'_> {
     }
 }
 
+impl SeatCall for UntrackAll<'_> {
+    ghost use Rattle.std.specs.Prelude.{refl};
+
+    ghost callers = { λ c. refl };
+}
+
 /// The call that answers the rows that are present on the topic.
 #[derive(Clone, Copy)]
 pub struct List<'a> {
@@ -211,6 +235,12 @@ impl Call for List<'_> {
             answer: Ok(rows),
         })
     }
+}
+
+impl SeatCall for List<'_> {
+    ghost use Rattle.std.specs.Prelude.{refl};
+
+    ghost callers = { λ c. refl };
 }
 
 /// The call that answers the rows that are present under the key on the topic.
@@ -251,6 +281,12 @@ impl Call for Get<'_> {
     }
 }
 
+impl SeatCall for Get<'_> {
+    ghost use Rattle.std.specs.Prelude.{refl};
+
+    ghost callers = { λ c. refl };
+}
+
 /// The call that sends the payload to each subscriber of the topic.
 #[derive(Clone, Copy)]
 pub struct Shout<'a> {
@@ -284,6 +320,49 @@ impl Call for Shout<'_> {
     }
 }
 
+impl SeatCall for Shout<'_> {
+    ghost use Rattle.std.specs.Prelude.{refl};
+
+    ghost callers = { λ c. refl };
+}
+
+/// The call that sends the subscribers of the topic what was made a payload before, whose text the entry and the items share.
+#[derive(Clone, Copy)]
+pub struct ShoutShared<'a> {
+    pub topic: &'a Topic,
+    pub payload: &'a Payload,
+}
+
+impl Call for ShoutShared<'_> {
+    type Answer = ();
+
+    ghost step = { λ c. steps_are.Shout c.topic.now c.payload.now };
+
+    ghost there = { λ c. always };
+
+    ghost gives = { λ c h _. Unit {0} };
+
+    fn is_there(&self, _table: &Indexed) -> bool {
+        true
+    }
+
+    #[tactic(auto, using(crate::proofs::Tables::tables, crate::proofs::Doors::finding))]
+    fn find(&self, _alloc: Global, _table: &mut Indexed) -> Result<Found<()>, ShardFault> {
+        let step = Step::shout_shared(self.topic, self.payload)?;
+        Ok(Found {
+            step,
+            outcome: Outcome::Sent,
+            answer: Ok(()),
+        })
+    }
+}
+
+impl SeatCall for ShoutShared<'_> {
+    ghost use Rattle.std.specs.Prelude.{refl};
+
+    ghost callers = { λ c. refl };
+}
+
 /// The call that makes a new subscriber of the topic.
 #[derive(Clone, Copy)]
 pub struct Subscribe<'a> {
@@ -313,6 +392,12 @@ impl Call for Subscribe<'_> {
             answer: Ok(Sub { slot: 0, number }),
         })
     }
+}
+
+impl SeatCall for Subscribe<'_> {
+    ghost use Rattle.std.specs.Prelude.{refl};
+
+    ghost callers = { λ c. refl };
 }
 
 /// The call that takes up to `max` of the items that wait for a subscriber.
@@ -351,6 +436,12 @@ impl Call for Take {
     }
 }
 
+impl SeatCall for Take {
+    ghost use Rattle.std.specs.Prelude.{refl};
+
+    ghost callers = { λ c. refl };
+}
+
 /// The call that ends a subscriber.
 #[derive(Clone, Copy)]
 pub struct Unsubscribe {
@@ -380,4 +471,10 @@ impl Call for Unsubscribe {
             answer: Ok(()),
         })
     }
+}
+
+impl SeatCall for Unsubscribe {
+    ghost use Rattle.std.specs.Prelude.{refl};
+
+    ghost callers = { λ c. refl };
 }

@@ -2,21 +2,27 @@
 //! is told of it, and for the one that begins the journal again.
 //!
 //! Its public contracts cite `specs/Steps`: what a call answers and leaves, and when it refuses; `specs/Calls`: what it
-//! comes to before its step is made; presence_journal's `History`, `Table`, `Present`, `Queue` and `Limits`; and what
+//! comes to before its step is made; `specs/Asks`: what is answered without a step; presence_journal's `History`, `Table`, `Present`, `Queue` and `Limits`; and what
 //! tracker_shard_indexed gives out: `Cuts`, `KeptDeltas`, `Full`, `Starting`, `Resuming` and `Quiet`.
 #![tactic(auto)]
 
 mod answers;
+mod asks;
 mod call;
 mod calls;
 mod fault;
-mod foreseen;
+mod others;
 mod shard;
 
-pub use call::{Call, Found};
+pub use asks::{
+    Ask, CopyOfJournal, CountOfRows, EntryCount, Fitting, Full, Incarnation, KeptBytes, ListBytes,
+    PartFrom, StartNumber, StatusOf, ToldFrom, TopOf, WaitsFor,
+};
+pub use call::{Call, Found, SeatCall};
 pub use calls::{
-    Get, List, Shout, Subscribe, Take, Track, Unsubscribe, Untrack, UntrackAll, Update,
+    Get, List, Shout, ShoutShared, Subscribe, Take, Track, Unsubscribe, Untrack, UntrackAll, Update,
 };
 pub use fault::ShardFault;
+pub use others::{Cut, Heard, Merge, MergeCopy, PermDown, Rebirth, Tick};
 pub use shard::{Shard, Sub};
 pub use tracker_shard_indexed::RowCounts;

@@ -1,15 +1,15 @@
 //! The shard's calls.
-use crate::answers::{cut_outcome, write};
+use crate::answers::write;
 use crate::call::{Call, Found};
 use crate::calls::{
-    Get, List, Shout, Subscribe, Take, Track, Unsubscribe, Untrack, UntrackAll, Update,
+    Get, List, Shout, ShoutShared, Subscribe, Take, Track, Unsubscribe, Untrack, UntrackAll, Update,
 };
 use crate::fault::ShardFault;
-use crate::foreseen::foreseen;
+use crate::others::{Cut, Heard, MergeCopy, PermDown, Rebirth, Tick};
 use delta_range::Delta;
 use orswot_core::{Form, Told};
 use presence_base::{Dot, Json, Key, MAX_COUNT, Meta, Replica, Row, Topic};
-use presence_journal::{Item, Journal, Outcome, Payload, SharedRows, Step};
+use presence_journal::{Item, Journal, Outcome, Pairs, Payload, SharedRows, Step};
 use replica_status::Status;
 use std::alloc::{AllocError, Global};
 use std::marker::Model;
@@ -78,7 +78,7 @@ impl Shard {
     ghost use Rattle.tracker_shard_indexed.specs.ToldParts.{IsPartWhereItFits};
     ghost use Rattle.tracker_shard_indexed.specs.Full.{IsFullOf};
     ghost use Rattle.tracker_shard_indexed.specs.Quiet.{TellsQuiet};
-    ghost use Rattle.tracker_shard.specs.Calls.{Looks};
+    ghost use Rattle.tracker_shard.specs.Calls.{Looks, MayMake};
     ghost use Rattle.tracker_shard.specs.Steps.{Stepped, Answers, IsDue, RefusesForRoom, refusal, refusal_at};
     ghost use Rattle.tracker_shard.specs.Steps.{AnswersDot, AnswersRowsOfKey, AnswersRowsOfPid, AnswersListed};
     ghost use Rattle.tracker_shard.specs.Steps.{AnswersListedKey, AnswersItems, AnswersSub};
@@ -144,16 +144,6 @@ impl Shard {
         self.table.list_bytes()
     }
 
-    /// What a step would come to, `None` where it needs a count and none is left, or names a subscriber that isn't there. It
-    /// is no step, and costs what the step's call looks up.
-    pub fn foresee(&mut self, alloc: Global, step: &Step) -> Result<Option<Outcome>, AllocError>
-        ensures same { self.new ≡ self.old }
-        ensures outcome { IfOk result (λ o. o ≡ outcome_of self.old step.now) }
-    {
-        self.table.ready(alloc)?;
-        foreseen(&mut self.table, alloc, step)
-    }
-
     /// What a call comes to. It is no step. What is found can be entered as long as the shard stays as it is.
     ///
     /// It refuses as the call does, but for what the table itself refuses by an entry, which is found.
@@ -173,7 +163,7 @@ impl Shard {
         call.find(alloc, &mut self.table)
     }
 
-    /// Makes the step that a call was found to come to. It refuses with `OutOfMemory` alone.
+    /// Makes the step that a call was found to come to; a seat makes those of callers alone. It refuses with `OutOfMemory` alone.
     #[tactic(auto, using(crate::proofs::Doors::entered))]
     pub fn enter(
         &mut self,
@@ -185,6 +175,7 @@ impl Shard {
         requires table { outcome_of self.old step ≡ Some outcome }
         requires room { is_full self.old ≡ false }
         requires limits { is_within_limits step ≡ true }
+        requires seat { MayMake seat step }
         ensures step { Stepped self.old self.new seat step result }
         ensures memory { IfErr result (λ e. e ≡ ShardFault.OutOfMemory) }
     {
@@ -192,7 +183,7 @@ impl Shard {
         write(&mut self.table, alloc, seat, step, outcome)
     }
 
-    /// Makes a call: looks up what it comes to, and makes its step.
+    /// Makes a call: looks up what it comes to, and makes its step. A seat makes the calls of callers alone.
     ///
     /// It refuses in this order: `NoSub`, `JournalFull`; what the table refuses; `OutOfMemory` in place of any answer but the
     /// first two.
@@ -203,6 +194,7 @@ impl Shard {
         seat: Option<u32>,
         call: &C,
     ) -> Result<C::Answer, ShardFault>
+        requires { MayMake seat (C.step call.now) }
         ensures step { Stepped self.old self.new seat (C.step call.now) result }
         ensures answer { Answers (C.gives call.now self.old) (outcome_of self.old (C.step call.now)) result }
         ensures due { IsDue result (refusal (C.there call.now self.old) self.old (C.step call.now)) }
@@ -220,6 +212,7 @@ impl Shard {
     ///
     /// It refuses in this order: `JournalFull`; `AlreadyTracked`, which makes an entry; `ClockFull`;
     /// `OutOfMemory` in place of any answer but the first.
+    #[tactic(auto, using(crate::proofs::Doors::sitting))]
     pub fn track(
         &mut self,
         alloc: Global,
@@ -250,6 +243,7 @@ impl Shard {
     ///
     /// It refuses in this order: `JournalFull`; `NoPresence`, which makes an entry; `ClockFull`;
     /// `OutOfMemory` in place of any answer but the first.
+    #[tactic(auto, using(crate::proofs::Doors::sitting))]
     pub fn update(
         &mut self,
         alloc: Global,
@@ -280,6 +274,7 @@ impl Shard {
     ///
     /// It refuses in this order: `JournalFull`; `ClockFull`, where a row would go; `OutOfMemory` in
     /// place of any answer but the first.
+    #[tactic(auto, using(crate::proofs::Doors::sitting))]
     pub fn untrack(
         &mut self,
         alloc: Global,
@@ -299,6 +294,7 @@ impl Shard {
     ///
     /// It refuses in this order: `JournalFull`; `ClockFull`, where a row would go; `OutOfMemory` in
     /// place of any answer but the first.
+    #[tactic(auto, using(crate::proofs::Doors::sitting))]
     pub fn untrack_all(
         &mut self,
         alloc: Global,
@@ -316,6 +312,7 @@ impl Shard {
     /// The rows that are present on the topic, in order of key and then dot.
     ///
     /// It refuses with `JournalFull`, else with `OutOfMemory`.
+    #[tactic(auto, using(crate::proofs::Doors::sitting))]
     pub fn list(
         &mut self,
         alloc: Global,
@@ -332,6 +329,7 @@ impl Shard {
     /// The rows that are present under the key on the topic, in order of dot.
     ///
     /// It refuses with `JournalFull`, else with `OutOfMemory`.
+    #[tactic(auto, using(crate::proofs::Doors::sitting))]
     pub fn get(
         &mut self,
         alloc: Global,
@@ -349,6 +347,7 @@ impl Shard {
     /// Sends the payload to each subscriber of the topic.
     ///
     /// It refuses with `JournalFull`, else with `OutOfMemory`.
+    #[tactic(auto, using(crate::proofs::Doors::sitting))]
     pub fn shout(
         &mut self,
         alloc: Global,
@@ -365,7 +364,7 @@ impl Shard {
     }
 
     /// Shouts as `shout` does what was made a payload before, whose text the entry and the items share.
-    #[tactic(auto, using(crate::proofs::Tables::tables))]
+    #[tactic(auto, using(crate::proofs::Doors::sitting))]
     pub fn shout_shared(
         &mut self,
         alloc: Global,
@@ -377,17 +376,13 @@ impl Shard {
         ensures answer { Answers (λ _. Unit {0}) (outcome_of self.old (Step.Shout topic.now payload.now)) result }
         ensures due { IsDue result (refusal true self.old (Step.Shout topic.now payload.now)) }
     {
-        if self.table.journal().is_full() {
-            return Err(ShardFault::JournalFull);
-        }
-        self.table.ready(alloc)?;
-        let step = Step::shout_shared(topic, payload)?;
-        write(&mut self.table, alloc, seat, step, Outcome::Sent)
+        self.perform(alloc, seat, &ShoutShared { topic, payload })
     }
 
     /// A new subscriber of the topic. It is behind: its first take gives the whole state.
     ///
     /// It refuses with `JournalFull`, else with `OutOfMemory`.
+    #[tactic(auto, using(crate::proofs::Doors::sitting))]
     pub fn subscribe(
         &mut self,
         alloc: Global,
@@ -404,6 +399,7 @@ impl Shard {
     /// Ends a subscriber: what waited for it is dropped.
     ///
     /// It refuses in this order: `NoSub`, `JournalFull`, `OutOfMemory`.
+    #[tactic(auto, using(crate::proofs::Doors::sitting))]
     pub fn unsubscribe(
         &mut self,
         alloc: Global,
@@ -421,6 +417,7 @@ impl Shard {
     /// state as the one item where it is behind.
     ///
     /// It refuses in this order: `NoSub`, `JournalFull`, `OutOfMemory`.
+    #[tactic(auto, using(crate::proofs::Doors::sitting))]
     pub fn take(
         &mut self,
         alloc: Global,
@@ -440,60 +437,40 @@ impl Shard {
     /// greatest so far counts as that one.
     ///
     /// It refuses with `JournalFull`, else with `OutOfMemory`.
-    #[tactic(auto, using(crate::proofs::Tables::tables))]
+    #[tactic(auto, using(crate::proofs::Doors::sitting, crate::proofs::Doors::noted))]
     pub fn heard(&mut self, alloc: Global, replica: Replica, now: u64) -> Result<(), ShardFault>
         ensures step { Stepped self.old self.new None (Step.Heard replica now) result }
         ensures answer { Answers (λ _. Unit {0}) (outcome_of self.old (Step.Heard replica now)) result }
         ensures due { IsDue result (refusal true self.old (Step.Heard replica now)) }
         ensures room { RefusesForRoom result }
     {
-        if self.table.journal().is_full() {
-            return Err(ShardFault::JournalFull);
-        }
-        self.table.ready(alloc)?;
-        let step = Step::heard(alloc, replica, now)?;
-        write(&mut self.table, alloc, None, step, Outcome::Noted)
+        self.perform(alloc, None, &Heard { replica, now })
     }
 
     /// Lets time pass: a replica that was silent for too long is down, or gone.
     ///
     /// It refuses with `JournalFull`, else with `OutOfMemory`.
-    #[tactic(auto, using(crate::proofs::Tables::tables))]
+    #[tactic(auto, using(crate::proofs::Doors::sitting, crate::proofs::Doors::noted))]
     pub fn tick(&mut self, alloc: Global, now: u64) -> Result<(), ShardFault>
         ensures step { Stepped self.old self.new None (Step.Tick now) result }
         ensures answer { Answers (λ _. Unit {0}) (outcome_of self.old (Step.Tick now)) result }
         ensures due { IsDue result (refusal true self.old (Step.Tick now)) }
         ensures room { RefusesForRoom result }
     {
-        if self.table.journal().is_full() {
-            return Err(ShardFault::JournalFull);
-        }
-        self.table.ready(alloc)?;
-        write(
-            &mut self.table,
-            alloc,
-            None,
-            Step::Tick { now },
-            Outcome::Noted,
-        )
+        self.perform(alloc, None, &Tick { now })
     }
 
     /// Notes that a replica is gone for good.
     ///
     /// It refuses with `JournalFull`, else with `OutOfMemory`.
-    #[tactic(auto, using(crate::proofs::Tables::tables))]
+    #[tactic(auto, using(crate::proofs::Doors::sitting, crate::proofs::Doors::noted))]
     pub fn permdown(&mut self, alloc: Global, replica: Replica) -> Result<(), ShardFault>
         ensures step { Stepped self.old self.new None (Step.PermDown replica) result }
         ensures answer { Answers (λ _. Unit {0}) (outcome_of self.old (Step.PermDown replica)) result }
         ensures due { IsDue result (refusal true self.old (Step.PermDown replica)) }
         ensures room { RefusesForRoom result }
     {
-        if self.table.journal().is_full() {
-            return Err(ShardFault::JournalFull);
-        }
-        self.table.ready(alloc)?;
-        let step = Step::permdown(alloc, replica)?;
-        write(&mut self.table, alloc, None, step, Outcome::Noted)
+        self.perform(alloc, None, &PermDown { replica })
     }
 
     /// What the own replica did since the last cut, for other nodes: its rows that came and are live, and the older ones that
@@ -502,40 +479,28 @@ impl Shard {
     /// had been updated so often by turns with others that its chain became one run, it costs a look at each own row below its own.
     ///
     /// It refuses with `JournalFull`, else with `OutOfMemory`.
-    #[tactic(auto, using(crate::proofs::Tables::tables))]
+    #[tactic(auto, using(crate::proofs::Doors::sitting, crate::proofs::Doors::noted))]
     pub fn cut(&mut self, alloc: Global) -> Result<Delta, ShardFault>
         ensures step { Stepped self.old self.new None Step.Cut result }
         ensures answer { Answers (IsCut self.old) (outcome_of self.old Step.Cut) result }
         ensures due { IsDue result (refusal true self.old Step.Cut) }
         ensures room { RefusesForRoom result }
     {
-        if self.table.journal().is_full() {
-            return Err(ShardFault::JournalFull);
-        }
-        self.table.ready(alloc)?;
-        let delta = self.table.cut(alloc)?;
-        let outcome = cut_outcome(&delta);
-        write(&mut self.table, alloc, None, Step::Cut, outcome)?;
-        Ok(delta)
+        self.perform(alloc, None, &Cut)
     }
 
     /// Takes in what another node told: rows that come there and were not known are live here, and what it tells as removed
     /// goes. What is told of the own replica, or of one that is gone, is not heard.
     ///
     /// It refuses with `JournalFull`, else with `OutOfMemory`.
-    #[tactic(auto, using(crate::proofs::Tables::tables))]
+    #[tactic(auto, using(crate::proofs::Doors::sitting, crate::proofs::Doors::noted))]
     pub fn merge(&mut self, alloc: Global, told: &Told) -> Result<(), ShardFault>
         ensures step { Stepped self.old self.new None (Step.Merge told.now) result }
         ensures answer { Answers (λ _. Unit {0}) (outcome_of self.old (Step.Merge told.now)) result }
         ensures due { IsDue result (refusal true self.old (Step.Merge told.now)) }
         ensures room { RefusesForRoom result }
     {
-        if self.table.journal().is_full() {
-            return Err(ShardFault::JournalFull);
-        }
-        self.table.ready(alloc)?;
-        let step = Step::merge(alloc, told)?;
-        write(&mut self.table, alloc, None, step, Outcome::Merged)
+        self.perform(alloc, None, &MergeCopy { told })
     }
 
     /// The incarnation under which the shard goes on. Takes no memory.
@@ -547,33 +512,19 @@ impl Shard {
 
     /// Goes on under a higher incarnation: that of the new replica, which is the own one from then on, and the old one is gone.
     /// The own rows that are shown go on under new dots, counted from 1 in the order of the old ones; all else of them stays,
-    /// but the dot before. It answers each new dot with its old one. What was told and what is kept to be told again is of
+    /// but the dot before. It answers each new dot with its old one, which the journal's entry shares. What was told and what is kept to be told again is of
     /// the old replica, and goes. It costs the own rows, and a look at each other one.
     ///
     /// It refuses in this order: `JournalFull`; `BadIncarnation`; `OutOfMemory` in place of any answer but the first.
-    #[tactic(auto, using(crate::proofs::Tables::tables))]
-    pub fn rebirth(
-        &mut self,
-        alloc: Global,
-        incarnation: u64,
-    ) -> Result<Vec<(Dot, Dot)>, ShardFault>
+    #[tactic(auto, using(crate::proofs::Doors::sitting, crate::proofs::Doors::kept_rows))]
+    pub fn rebirth(&mut self, alloc: Global, incarnation: u64) -> Result<Pairs, ShardFault>
         ensures step { Stepped self.old self.new None (Step.Rebirth incarnation) result }
         ensures answer { AnswersPairs self.old incarnation result }
         ensures due { IsDue result (refusal true self.old (Step.Rebirth incarnation)) }
-        ensures rows { IfOk result (λ pairs. KeepsRows self.old self.new pairs.items) }
+        ensures rows { IfOk result (KeepsRows self.old self.new) }
     {
-        if self.table.journal().is_full() {
-            return Err(ShardFault::JournalFull);
-        }
-        self.table.ready(alloc)?;
-        if !self.table.can_be_reborn(incarnation) {
-            return Err(ShardFault::BadIncarnation);
-        }
-        let pairs = self.table.pairs_of(alloc, incarnation)?;
-        let answer = pairs.as_slice().to_vec(alloc)?;
-        let step = Step::Rebirth { incarnation };
-        write(&mut self.table, alloc, None, step, Outcome::Reborn(pairs))?;
-        Ok(answer)
+        let _journal = self.journal();
+        self.perform(alloc, None, &Rebirth { incarnation })
     }
 
     /// Puts a Start that stands for the journal in its place, and so makes room: the entries go, and what later ones depend

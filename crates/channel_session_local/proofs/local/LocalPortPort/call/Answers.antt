@@ -1,4 +1,5 @@
 use Rattle.std.proofs.Common.{Ok, Err, refl, sym, subst}
+use Rattle.std.proofs.lemmas.Bool.{false≢true}
 use Rattle.channel_session_rules.proofs.Answered.{can_tell, told_so, refused_so}
 use Rattle.channel_session_rules.specs.Asks.{Ask, Answer}
 use Rattle.channel_session_rules.specs.Seen.{seen_by}
@@ -7,6 +8,9 @@ use Rattle.channel_session_rules.specs.declared.question.Told.TheVariants as tol
 use Rattle.channel_session_local.specs.Local.{LocalStep}
 use Rattle.channel_session_local.proofs.Lending.{lent_step}
 use Rattle.channel_session_local.proofs.local.LocalPortPort.call.Goals as goal
+
+pub perform-requires : goal.perform-requires
+perform-requires g c = λ some. absurd (false≢true some)
 
 pub told_to-requires : goal.told_to-requires
 told_to-requires g c = can_tell _ _ (sym c.in-Waits.ensures.1) (told.Waits c.in-Ok.waits) _ refl

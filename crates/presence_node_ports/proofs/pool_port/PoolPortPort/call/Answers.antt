@@ -5,7 +5,8 @@ use Rattle.channel_session_rules.specs.Shards.{topic_asked}
 use Rattle.channel_session_rules.specs.declared.question.Told.TheVariants as told
 use Rattle.channel_session_rules.specs.declared.refusal.Refusal.TheVariants.{Table}
 use Rattle.shard_pool.specs.Seats.{IsOfShardAt, shard_of}
-use Rattle.shard_pool.specs.Unseated.{IsBehindOf, TellsWaiting}
+use Rattle.shard_pool.specs.Asks.{TellsWaiting}
+use Rattle.shard_pool.specs.Unseated.{IsBehindOf}
 use Rattle.presence_node_ports.specs.Asking.{PoolStep}
 use Rattle.presence_node_ports.proofs.Asking.{asked_so}
 use Rattle.presence_node_ports.proofs.pool_port.PoolPortPort.call.Goals as goal

@@ -1,25 +1,14 @@
-use Rattle.std.proofs.Common.{rules}
-use Rattle.shard_pool_locks.specs.Unseated.{IsRebornMade}
-use Rattle.shard_pool.proofs.AtNumber.{at_number, last_shard}
+use Rattle.std.proofs.Common.{sym, subst}
+use Rattle.shard_pool_locks.specs.Unseated.{IsBehindOf, IsRebornMade}
+use Rattle.shard_pool.specs.Seats.{IsOfShardAt}
+use Rattle.shard_pool.proofs.Wrapped.{at_node, done_reborn}
 use Rattle.shard_pool.proofs.pool.Pool.rebirth.Goals as goal
 
-pub returns-in-0-clause-lane : goal.returns-in-0-clause-lane
-returns-in-0-clause-lane g c =
-    let pool = c.args.self.now in
-    at_number g.L.Lanes.begins g.L.First.Lane.begins c.args.shard g.L.First.Lane.node pool.own.name 0 (λ h. IsRebornMade h c.args.incarnation c.locked_rebirth.result) c.in-0.is pool.one_node.0 g.met.L.Lanes.first c.locked_rebirth.ensures
+pub returns-clause-lane : goal.returns-clause-lane
+returns-clause-lane g c =
+    let Here = IsOfShardAt c.args.self.now.own.name g.L.Lanes.begins c.args.shard in
+    subst (λ r. IsBehindOf Here (λ h. IsRebornMade h c.args.incarnation r)) (sym c.into_answer.ensures) (done_reborn Here c.args.incarnation c.make.result.answer c.make.ensures)
 
-pub returns-in-1-clause-lane : goal.returns-in-1-clause-lane
-returns-in-1-clause-lane g c =
-    let pool = c.args.self.now in
-    at_number g.L.Lanes.begins g.L.Second.Lane.begins c.args.shard g.L.Second.Lane.node pool.own.name 1 (λ h. IsRebornMade h c.args.incarnation c.locked_rebirth-in-1.result) c.in-1.is pool.one_node.1 g.met.L.Lanes.second c.locked_rebirth-in-1.ensures
-
-pub returns-in-2-clause-lane : goal.returns-in-2-clause-lane
-returns-in-2-clause-lane g c =
-    let pool = c.args.self.now in
-    at_number g.L.Lanes.begins g.L.Third.Lane.begins c.args.shard g.L.Third.Lane.node pool.own.name 2 (λ h. IsRebornMade h c.args.incarnation c.locked_rebirth-in-2.result) c.in-2.is pool.one_node.2 g.met.L.Lanes.third c.locked_rebirth-in-2.ensures
-
-pub returns-in_default-clause-lane : goal.returns-in_default-clause-lane
-returns-in_default-clause-lane g c =
-    let pool = c.args.self.now in
-    let last = last_shard c.args.shard pool.shards c.requires pool.some.1 (search rules) (search rules) (search rules) in
-    at_number g.L.Lanes.begins g.L.Fourth.Lane.begins c.args.shard g.L.Fourth.Lane.node pool.own.name 3 (λ h. IsRebornMade h c.args.incarnation c.locked_rebirth-in_default.result) last pool.one_node.3 g.met.L.Lanes.fourth c.locked_rebirth-in_default.ensures
+pub returns-clause-some : goal.returns-clause-some
+returns-clause-some g c =
+    at_node c.args.self.now.own.name (g.L.Lanes.begins c.args.shard) (λ h. IsRebornMade h c.args.incarnation c.into_answer.result) (returns-clause-lane g c)
