@@ -9,7 +9,7 @@ use Rattle.presence_journal.specs.Steps.{Start}
 use Rattle.presence_journal.specs.History.{first_some}
 use Rattle.presence_journal.specs.Walk.{row_at}
 use Rattle.presence_journal.proofs.Same.{same_dot-true}
-use Rattle.presence_journal_sets.specs.ByDot.{over}
+use Rattle.presence_journal_known.specs.ByDot.{over}
 use Rattle.presence_journal_cuts.specs.Chains.{is_recent, row_recent, rows_recent}
 
 abbrev Runs : Type 0

@@ -8,8 +8,8 @@ use Rattle.presence_journal.specs.Table.{IsLegal}
 use Rattle.presence_journal.specs.Queue.{diff_at}
 use Rattle.presence_journal.specs.Walk.{shown_of}
 use Rattle.presence_journal.proofs.Diffs.{legal_front, diff_at_place}
-use Rattle.presence_journal_sets.specs.ByDot.{Alike}
-use Rattle.presence_journal_sets.proofs.FrontLemmas.{front_next, entry_at}
+use Rattle.presence_journal_known.specs.ByDot.{Alike}
+use Rattle.presence_journal_known.proofs.FrontLemmas.{front_next, entry_at}
 use Rattle.presence_journal_walks.proofs.diff.walk_diff.Goals as goal
 
 pub rows_of_entries-requires : goal.rows_of_entries-requires
