@@ -1,0 +1,5 @@
+pub mod Pieces
+pub mod Numbers
+pub mod Marks
+pub mod Changes
+pub mod Laws

@@ -1,0 +1,141 @@
+//! Texts that are marked, and unmarked.
+ghost use Rattle.std.specs.Prelude.{◌≡◌, ◌++◌, ◌∷◌, [], true, None, Ok, IfOk, OnOk, string_bytes};
+ghost use Rattle.presence_node_numbers.specs.Marks.{become, has_no_marks, marked_text, needs_no_marks, unmarked_text};
+ghost use Rattle.presence_node_numbers.specs.Changes.{Becomes, IsBehindMark, all_stay, change_text, changed_text};
+
+use crate::numbers::is_marked_number;
+use crate::pieces::{Part, first_part};
+use std::alloc::{AllocError, Global};
+
+/// What a marked text begins with: the character that no other spelling has.
+const MARK: &str = "\\u0000";
+
+/// Which way a text goes: in from a client, or out to one.
+#[derive(Clone, Copy)]
+enum Way {
+    In,
+    Out,
+}
+
+/// What becomes of a part.
+#[derive(Clone, Copy)]
+enum Change<'a> {
+    Kept,
+    /// A quoted text, behind a mark.
+    Marked(&'a str),
+    /// A quoted text.
+    Text(&'a str),
+    Number(&'a str),
+}
+
+// What stands behind the mark that a text begins with.
+fn behind_mark(text: &str) -> Option<&str>
+    ensures { IsBehindMark text.now result }
+{
+    if text.as_bytes().starts_with(MARK.as_bytes()) {
+        Some(&text[6..])
+    } else {
+        None
+    }
+}
+
+// What becomes of a quoted text that goes out.
+fn unmarked_quoted(text: &str) -> Change<'_>
+    ensures { Becomes Way.Out (Part.Quoted text.entry) result }
+{
+    let Some(rest) = behind_mark(text) else {
+        return Change::Kept;
+    };
+    if behind_mark(rest).is_some() {
+        Change::Text(rest)
+    } else if is_marked_number(rest) {
+        Change::Number(rest)
+    } else {
+        Change::Marked(rest)
+    }
+}
+
+// What becomes of a part.
+fn change_of(way: Way, part: Part<'_>) -> Change<'_>
+    ensures { Becomes way part result }
+{
+    match (way, part) {
+        (Way::In, Part::Run(text)) if is_marked_number(text) => Change::Marked(text),
+        (Way::In, Part::Quoted(text)) if behind_mark(text).is_some() => Change::Marked(text),
+        (Way::Out, Part::Quoted(text)) => unmarked_quoted(text),
+        _ => Change::Kept,
+    }
+}
+
+// Whether a text stays as it is.
+fn stays(way: Way, text: &str) -> bool
+    ensures { result ≡ all_stay way text.now }
+{
+    let mut rest = text;
+    while !rest.is_empty() {
+        let split = first_part(rest);
+        let Change::Kept = change_of(way, split.part) else {
+            return false;
+        };
+        rest = split.rest;
+    }
+    true
+}
+
+// Appends a text in quotes, behind what stands before it there.
+fn push_quoted(written: &mut String, front: &str, text: &str) -> Result<(), AllocError>
+    ensures { OnOk result (string_bytes written.new ≡ string_bytes written.old ++ (34 ∷ ((front.now ++ text.now) ++ 34 ∷ []))) }
+{
+    written.push_str("\"")?;
+    written.push_str(front)?;
+    written.push_str(text)?;
+    written.push_str("\"")
+}
+
+// Appends what has become of a part that stands so in a text.
+fn push(written: &mut String, text: &str, change: Change<'_>) -> Result<(), AllocError>
+    ensures { OnOk result (string_bytes written.new ≡ string_bytes written.old ++ change_text text.now change) }
+{
+    match change {
+        Change::Kept => written.push_str(text),
+        Change::Marked(inner) => push_quoted(written, MARK, inner),
+        Change::Text(inner) => push_quoted(written, "", inner),
+        Change::Number(number) => written.push_str(number),
+    }
+}
+
+// What a text becomes.
+fn rewritten(alloc: Global, way: Way, text: &str) -> Result<String, AllocError>
+    ensures { IfOk result (λ t. string_bytes t ≡ changed_text way text.now) }
+{
+    let mut written = String::new(alloc);
+    let mut rest = text;
+    while !rest.is_empty() {
+        let split = first_part(rest);
+        push(&mut written, split.text, change_of(way, split.part))?;
+        rest = split.rest;
+    }
+    Ok(written)
+}
+
+/// What a client's text is once it is marked, or nothing where it stays as it is: then it isn't copied.
+pub fn marked(alloc: Global, text: &str) -> Result<Option<String>, AllocError>
+    ensures marked { IfOk result (λ to. become text.now to ≡ marked_text text.now) }
+    ensures stays { needs_no_marks text.now ≡ true → result ≡ Ok None }
+{
+    if stays(Way::In, text) {
+        return Ok(None);
+    }
+    Ok(Some(rewritten(alloc, Way::In, text)?))
+}
+
+/// What a text for a client is once it is unmarked, or nothing where it stays as it is: then it isn't copied.
+pub fn unmarked(alloc: Global, text: &str) -> Result<Option<String>, AllocError>
+    ensures unmarked { IfOk result (λ to. become text.now to ≡ unmarked_text text.now) }
+    ensures stays { has_no_marks text.now ≡ true → result ≡ Ok None }
+{
+    if stays(Way::Out, text) {
+        return Ok(None);
+    }
+    Ok(Some(rewritten(alloc, Way::Out, text)?))
+}
