@@ -5,7 +5,7 @@ use Rattle.phx_message.specs.declared.message.Message.{Message}
 use Rattle.phx_message.specs.declared.message.MsgRef.{MsgRef}
 use Rattle.channel_session_rules.specs.Sub.{Sub}
 use Rattle.channel_session_rules.specs.Asks.{Ask, Answer}
-use Rattle.channel_session_rules.specs.Rules.{InForce, Joined, End, answers, join_ref_of, join_asked, rejoins, left, without_topic, on_leave, on_topic, says_ok, says_error, empty, unmatched, join_at, join_rule, leave_rule, kind_rule}
+use Rattle.channel_session_rules.specs.Rules.{InForce, Joined, End, answers, join_ref_of, join_asked, rejoins, left, without_topic, on_leave, on_topic, says_ok, says_error, empty, unmatched, join_at, join_meant, join_rule, leave_rule, kind_rule}
 use Rattle.channel_session_rules.specs.InForce.{added}
 use Rattle.channel_session_events.specs.Joining.{joined_by}
 use Rattle.channel_session_rules.specs.Outcome.{Follows}
@@ -24,18 +24,19 @@ pub record Same (s after : InForce) : Type 0 where
   pub pid : after.pid ≡ s.pid
   pub failed : after.failed ≡ s.failed
   pub cut_short : after.cut_short ≡ s.cut_short
+  pub match_joins : after.match_joins ≡ s.match_joins
 
 pub equal_sessions : (s after : InForce) → Same s after → after.joined ≡ s.joined → after ≡ s
-equal_sessions s after h j = λ i. record { pid = h.pid i; failed = h.failed i; joined = j i; cut_short = h.cut_short i }
+equal_sessions s after h j = λ i. record { pid = h.pid i; failed = h.failed i; joined = j i; cut_short = h.cut_short i; match_joins = h.match_joins i }
 
 pub left_so : (s after : InForce) (t : List ℕ) → Same s after → after.joined ≡ without_topic t s.joined → after ≡ left s t
-left_so s after t h j = λ i. record { pid = h.pid i; failed = h.failed i; joined = j i; cut_short = h.cut_short i }
+left_so s after t h j = λ i. record { pid = h.pid i; failed = h.failed i; joined = j i; cut_short = h.cut_short i; match_joins = h.match_joins i }
 
 pub joined_so : (s after : InForce) (m : Message) (t : List ℕ) (kind : ℕ) (r : Option MsgRef) (sub : Option Sub) → Same s after → t ≡ m.topic → r ≡ join_ref_of m → after.joined ≡ added s.joined t kind r sub → after ≡ joined_by kind s m sub
 joined_so s after m t kind r None h e f j = equal_sessions s after h j
 joined_so s after m t kind r (Some sub) h e f j =
     let k : after.joined ≡ s.joined ++ record { topic = m.topic; kind = kind; join_ref = join_ref_of m; sub = sub } ∷ [] = j ∙ (λ i. s.joined ++ record { topic = e i; kind = kind; join_ref = f i; sub = sub } ∷ []) in
-    λ i. record { pid = h.pid i; failed = h.failed i; joined = k i; cut_short = h.cut_short i }
+    λ i. record { pid = h.pid i; failed = h.failed i; joined = k i; cut_short = h.cut_short i; match_joins = h.match_joins i }
 
 module _ {P : Type 0} (steps : ℕ → P → (q : Ask) → Answer q → P → Type 0) (s : InForce) (m : Message) (a : Asked) (kind pid count : ℕ) (pid_is : pid ≡ s.pid) (count_is : count ≡ length s.joined) where
   pub join_script : (old new : P) (r : Result End Stop) → Follows (steps pid) (join_asked count true [] kind s m a) old new r → Follows (steps s.pid) (join_asked (length s.joined) true [] kind s m a) old new r
@@ -54,7 +55,7 @@ module _ {P : Type 0} (steps : ℕ → P → (q : Ask) → Answer q → P → Ty
       → Follows (steps pid) (rejoins others j kind (left s m.topic) m a) old new (Ok (answers (message close ∷ message reply ∷ []) (joined_by kind (left s m.topic) m sub)))
       → Follows (steps s.pid) (rejoins (length s.joined - 1) j kind (left s m.topic) m a) old new (Ok (answers (message close ∷ message reply ∷ []) after))
   rejoin_ran j after t r sub close reply old new h e f k g =
-      let same : Same (left s m.topic) after = record { pid = h.pid; failed = h.failed; cut_short = h.cut_short } in
+      let same : Same (left s m.topic) after = record { pid = h.pid; failed = h.failed; cut_short = h.cut_short; match_joins = h.match_joins } in
       rw (joined_so (left s m.topic) after m t kind r sub same e f k) (rejoin_script j old new _ g)
 
 pub leave_script : {P : Type 0} (steps : ℕ → P → (q : Ask) → Answer q → P → Type 0) (s : InForce) (m : Message) (pid : ℕ) → pid ≡ s.pid → (j : Joined) (old new : P) (r : Result End Stop)
@@ -80,5 +81,5 @@ module _ (fetched : ℕ → List ℕ → List ℕ → Members → Type 0) (plain
     pub join_acted : (kind : ℕ) (new : P) (after : InForce) → event ≡ kinds_are.Join → route ≡ Some kind → Acts step (join_rule kind s (join_at s m) m) old new after r → ActsBy (Worded fetched plain) step (kind_rule phoenix route s m event) old new after r
     join_acted kind new after e q h = rw (e, q) (acted fetched plain step (join_rule kind s (join_at s m) m) old new after r h)
 
-    pub leave_acted : (new : P) (after : InForce) → event ≡ kinds_are.Leave → Acts step (leave_rule s (join_at s m) m) old new after r → ActsBy (Worded fetched plain) step (kind_rule phoenix route s m event) old new after r
-    leave_acted new after e h = rw e (acted fetched plain step (leave_rule s (join_at s m) m) old new after r h)
+    pub leave_acted : (new : P) (after : InForce) → event ≡ kinds_are.Leave → Acts step (leave_rule s (join_meant s m) m) old new after r → ActsBy (Worded fetched plain) step (kind_rule phoenix route s m event) old new after r
+    leave_acted new after e h = rw e (acted fetched plain step (leave_rule s (join_meant s m) m) old new after r h)

@@ -114,9 +114,9 @@ none_ended step leaving js old e = rw e (played_now step (leaving [] (Ok tt)) ol
 
 -- ---- the session
 
-named_end : (s after : InForce) (a : Result (Unit {0}) Refusal) (named : Option (List ℕ)) → after.pid ≡ s.pid → after.failed ≡ failed_by s.failed a → after.cut_short ≡ named
+named_end : (s after : InForce) (a : Result (Unit {0}) Refusal) (named : Option (List ℕ)) → after.pid ≡ s.pid → after.failed ≡ failed_by s.failed a → after.cut_short ≡ named → after.match_joins ≡ s.match_joins
     → left_with s named after.joined a ≡ record { after = after; answer = a }
-named_end s after a named p f n = sym (λ i. record { after = record { pid = p i; failed = f i; joined = after.joined; cut_short = n i }; answer = a })
+named_end s after a named p f n m = sym (λ i. record { after = record { pid = p i; failed = f i; joined = after.joined; cut_short = n i; match_joins = m i }; answer = a })
 
 module _ {P : Type 0} (steps : ℕ → P → (q : Ask) → Answer q → P → Type 0) (s : InForce) where
   -- the topics in force, where the session has come to this one
@@ -128,9 +128,9 @@ module _ {P : Type 0} (steps : ℕ → P → (q : Ask) → Answer q → P → Ty
       → Played (steps s.pid) (ends_topics (left_with s None) s.joined) old new (left_with s None after.joined a) → Played (steps s.pid) (ends s) old new (record { after = after; answer = a })
   nothing_cut_short after a old new none keeps played =
       let p : Played (steps s.pid) (ends s) old new (left_with s None after.joined a) = rw none played in
-      subst (λ e. Played (steps s.pid) (ends s) old new e) (named_end s after a None keeps.pid keeps.failed (keeps.cut_short ∙ none)) p
+      subst (λ e. Played (steps s.pid) (ends s) old new e) (named_end s after a None keeps.pid keeps.failed (keeps.cut_short ∙ none) keeps.match_joins) p
 
-  module _ (t : List ℕ) (named : s.cut_short ≡ Some t) (pid : ℕ) (pid_is : pid ≡ s.pid) (mids : InForce) (p : mids.pid ≡ s.pid) (j : mids.joined ≡ s.joined) where
+  module _ (t : List ℕ) (named : s.cut_short ≡ Some t) (pid : ℕ) (pid_is : pid ≡ s.pid) (mids : InForce) (p : mids.pid ≡ s.pid) (j : mids.joined ≡ s.joined) (m : mids.match_joins ≡ s.match_joins) where
     pub cut_short_gone : (u : Unit {0}) (after : InForce) (a : Result (Unit {0}) Refusal) (old mid new : P) → steps pid old (untrack_all t) (Ok u) mid
         → mids.failed ≡ s.failed → mids.cut_short ≡ None → Keeps mids after a
         → Played (steps mids.pid) (ends_topics (left_with s None) mids.joined) mid new (left_with s None after.joined a) → Played (steps s.pid) (ends s) old new (record { after = after; answer = a })
@@ -138,14 +138,14 @@ module _ {P : Type 0} (steps : ℕ → P → (q : Ask) → Answer q → P → Ty
         let asked : steps s.pid old (untrack_all t) (Ok u) mid = rw pid_is at h in
         let rest : Played (steps s.pid) (then_topics s t (Ok u)) mid new (left_with s None after.joined a) = from_mid mids after (left_with s None) a mid new p j played in
         let all : Played (steps s.pid) (ends s) old new (left_with s None after.joined a) = rw named (played_on (steps s.pid) (untrack_all t) (then_topics s t) (Ok u) old mid new _ asked rest) in
-        subst (λ e. Played (steps s.pid) (ends s) old new e) (named_end s after a None (keeps.pid ∙ p) (keeps.failed ∙ ap (λ x. failed_by x a) f) (keeps.cut_short ∙ n)) all
+        subst (λ e. Played (steps s.pid) (ends s) old new e) (named_end s after a None (keeps.pid ∙ p) (keeps.failed ∙ ap (λ x. failed_by x a) f) (keeps.cut_short ∙ n) (keeps.match_joins ∙ m)) all
 
     pub cut_short_kept : (g : Refusal) (later after : InForce) (old mid new : P) → steps pid old (untrack_all t) (Err g) mid
-        → after.pid ≡ s.pid → after.failed ≡ true → after.joined ≡ later.joined → after.cut_short ≡ s.cut_short
+        → after.pid ≡ s.pid → after.failed ≡ true → after.joined ≡ later.joined → after.cut_short ≡ s.cut_short → after.match_joins ≡ s.match_joins
         → Played (steps mids.pid) (ends_topics (λ js b. left_with s (Some t) js (Err g)) mids.joined) mid new (left_with s (Some t) later.joined (Err g))
         → Played (steps s.pid) (ends s) old new (record { after = after; answer = Err g })
-    cut_short_kept g later after old mid new h q f k n played =
+    cut_short_kept g later after old mid new h q f k n o played =
         let asked : steps s.pid old (untrack_all t) (Err g) mid = rw pid_is at h in
         let rest : Played (steps s.pid) (then_topics s t (Err g)) mid new (left_with s (Some t) later.joined (Err g)) = from_mid mids later (λ js b. left_with s (Some t) js (Err g)) (Ok tt) mid new p j played in
         let all : Played (steps s.pid) (ends s) old new (left_with s (Some t) later.joined (Err g)) = rw named (played_on (steps s.pid) (untrack_all t) (then_topics s t) (Err g) old mid new _ asked rest) in
-        subst (λ e. Played (steps s.pid) (ends s) old new e) (ap (λ ks. left_with s (Some t) ks (Err g)) (sym k) ∙ named_end s after (Err g) (Some t) q f (n ∙ named)) all
+        subst (λ e. Played (steps s.pid) (ends s) old new e) (ap (λ ks. left_with s (Some t) ks (Err g)) (sym k) ∙ named_end s after (Err g) (Some t) q f (n ∙ named) o) all

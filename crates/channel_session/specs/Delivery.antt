@@ -18,7 +18,7 @@ pub use Rattle.channel_session_rules.specs.Delivering.{then_told, then_take, del
 
 -- the session, which has failed
 abbrev pub failing : InForce → InForce
-failing s = record { pid = s.pid; failed = true; joined = s.joined; cut_short = s.cut_short }
+failing s = record s { failed = true }
 
 -- A fault: the calls up to it, and a session that has failed where one of them left something behind, and else is as before.
 pub record CutShort {P : Type 0} (step : P → (q : Ask) → Answer q → P → Type 0) (script : Script End) (s : InForce)

@@ -79,10 +79,11 @@ pub record Keeps (s after : InForce) (a : Result (Unit {0}) Refusal) : Type 0 wh
   pub pid : after.pid ≡ s.pid
   pub failed : after.failed ≡ failed_by s.failed a
   pub cut_short : after.cut_short ≡ s.cut_short
+  pub match_joins : after.match_joins ≡ s.match_joins
 
 abbrev pub left_with : InForce → Option (List ℕ) → Leaving
 left_with s named js a =
-    record { after = record { pid = s.pid; failed = failed_by s.failed a; joined = js; cut_short = named }; answer = a }
+    record { after = record s { failed = failed_by s.failed a; joined = js; cut_short = named }; answer = a }
 
 -- The topic of a join that was cut short stays named where its rows did, and its refusal is the first.
 abbrev pub then_topics : InForce → List ℕ → Result (Unit {0}) Refusal → Script Ended

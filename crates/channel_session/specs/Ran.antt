@@ -25,7 +25,7 @@ left_named None cut_short t = Some t
 
 abbrev pub failed_at : InForce → List ℕ → InForce
 failed_at s t =
-    record { pid = s.pid; failed = true; joined = s.joined; cut_short = left_named (find t s.joined) s.cut_short t }
+    record s { failed = true; cut_short = left_named (find t s.joined) s.cut_short t }
 
 abbrev pub fault_of : StopKind → SessionFault
 fault_of kinds.OutOfMemory = OutOfMemory

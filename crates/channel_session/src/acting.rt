@@ -4,7 +4,7 @@ ghost use Rattle.presence_journal.specs.Limits.{is_payload};
 ghost use Rattle.channel_session_rules.specs.InForce.{joined_of};
 ghost use Rattle.channel_session_rules.specs.Replies.{Acts, ActsBy};
 ghost use Rattle.channel_session_events.specs.Wording.{worded_by};
-ghost use Rattle.channel_session_rules.specs.Rules.{find, join_at, join_rule, leave_rule, topic_rule, kind_rule, kind_of as kind_in, is_phoenix as is_phoenix_of, route_of, rules};
+ghost use Rattle.channel_session_rules.specs.Rules.{find, join_at, join_meant, join_rule, leave_rule, topic_rule, kind_rule, kind_of as kind_in, is_phoenix as is_phoenix_of, route_of, rules};
 
 use crate::channels::Channels;
 use crate::session::Session;
@@ -12,7 +12,9 @@ use channel_session_events::{
     Caller, Incoming, heartbeat, join, join_ref_for, leave, leave_nothing, rejoin, topic_event,
     unmatched,
 };
-use channel_session_rules::{EventKind, Join, Port, Reply, Stop, TopicEvent, is_phoenix, kind_of};
+use channel_session_rules::{
+    EventKind, Join, Port, Reply, Stop, TopicEvent, is_phoenix, is_same_ref, kind_of,
+};
 use hook_registry::{PresenceHooks, Routes};
 use phx_message::Message;
 use std::alloc::{AllocError, Global};
@@ -52,6 +54,33 @@ impl Session {
             option_map (λ s. joined_of (message.now.topic, s)) o ≡ join_at self.now message.now) }
     {
         match self.topics.find(&message.topic) {
+            Some(join) => Ok(Some(join.clone()?)),
+            None => Ok(None),
+        }
+    }
+
+    // The join that a message other than a join is to.
+    fn join_meant(&self, message: &Message) -> Option<&Join>
+        ensures { option_map (λ s. joined_of (message.now.topic, s.now)) result ≡ join_meant self.now message.now }
+    {
+        match self.topics.find(&message.topic) {
+            Some(join) => {
+                if self.match_joins && !is_same_ref(&message.join_ref, &join.join_ref) {
+                    None
+                } else {
+                    Some(join)
+                }
+            }
+            None => None,
+        }
+    }
+
+    // That join, apart from the session.
+    fn join_to_leave(&self, message: &Message) -> Result<Option<Join>, AllocError>
+        ensures { IfOk result (λ o.
+            option_map (λ s. joined_of (message.now.topic, s)) o ≡ join_meant self.now message.now) }
+    {
+        match self.join_meant(message) {
             Some(join) => Ok(Some(join.clone()?)),
             None => Ok(None),
         }
@@ -176,12 +205,12 @@ impl Session {
         message: &Message,
     ) -> Result<Reply, Stop>
         ensures ran { Acts (P.step self.old.pid)
-            (leave_rule self.old (join_at self.old message.now) message.now)
+            (leave_rule self.old (join_meant self.old message.now) message.now)
             port.old port.new self.new result }
         ensures err { OnErr result (self.new ≡ self.old) }
         ensures failed { self.new.failed ≡ self.old.failed }
     {
-        match self.present_join(message)? {
+        match self.join_to_leave(message)? {
             Some(join) => self.run_leave(alloc, port, message, &join),
             None => leave_nothing(alloc, message),
         }
@@ -200,7 +229,7 @@ impl Session {
         ensures { ActsBy (worded_by H.PresenceHooks hooks.now) (P.step self.now.pid)
             (topic_rule self.now message.now event) port.old port.new self.now result }
     {
-        match self.topics.find(&message.topic) {
+        match self.join_meant(message) {
             Some(join) => {
                 let caller = Caller {
                     alloc,

@@ -12,6 +12,8 @@ pub struct Session {
     pub(crate) topics: Topics,
     // The topic of a join that a fault cut short.
     pub(crate) cut_short: Option<Topic>,
+    // Whether a message to a topic counts only under the reference of the topic's present join.
+    pub(crate) match_joins: bool,
 }
 
 impl Drop for Session {
@@ -21,6 +23,7 @@ impl Drop for Session {
             failed: _,
             topics,
             cut_short,
+            match_joins: _,
         } = self;
         drop(topics);
         drop(cut_short);
@@ -33,7 +36,7 @@ impl Model for Session {
 
     ghost Value = { InForce };
 
-    ghost view = { λ s. record { pid = s.pid; failed = s.failed; joined = map joined_of s.topics.joins.entries; cut_short = s.cut_short } };
+    ghost view = { λ s. record { pid = s.pid; failed = s.failed; joined = map joined_of s.topics.joins.entries; cut_short = s.cut_short; match_joins = s.match_joins } };
 
     ghost invariant = { λ s. s.pid ≤ 2 ^ 62 };
 }
@@ -42,16 +45,18 @@ impl Session {
     ghost use Rattle.std.specs.Prelude.{◌≡◌, ◌≤◌, ◌^◌, [], false, None};
     ghost use Rattle.channel_session.specs.Ending.{topics_named};
 
-    /// A session of this number that has joined nothing.
-    pub fn new(alloc: Global, pid: u64) -> Session
+    /// A session of this number that has joined nothing. Where it matches joins, a message to a topic counts only under the
+    /// reference of the topic's present join, and is answered as on a topic that isn't joined under any other.
+    pub fn new(alloc: Global, pid: u64, match_joins: bool) -> Session
         requires { pid ≤ 2 ^ 62 }
-        ensures { result ≡ record { pid = pid; failed = false; joined = []; cut_short = None } }
+        ensures { result ≡ record { pid = pid; failed = false; joined = []; cut_short = None; match_joins = match_joins } }
     {
         Session {
             pid,
             failed: false,
             topics: Topics::new(alloc),
             cut_short: None,
+            match_joins,
         }
     }
 

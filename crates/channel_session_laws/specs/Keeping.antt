@@ -110,7 +110,7 @@ pub record IsMirrored (p : Past) : Type 0 where
 
 -- a session of this number that has joined nothing
 abbrev pub fresh : ℕ → InForce
-fresh pid = record { pid = pid; failed = false; joined = []; cut_short = None }
+fresh pid = record { pid = pid; failed = false; joined = []; cut_short = None; match_joins = false }
 
 -- nothing has been said yet
 abbrev pub begun : InForce → History → Past

@@ -1,7 +1,8 @@
 -- What a session holds.
-use Rattle.std.specs.Prelude.{ℕ, List, [], ◌∷◌, ◌++◌, map, Bool, Option, Some, None, if◌then◌else◌}
+use Rattle.std.specs.Prelude.{ℕ, List, [], ◌∷◌, ◌++◌, map, Bool, true, false, ◌==◌, Option, Some, None, if◌then◌else◌}
 use Rattle.presence_base.specs.Order.{same_text}
 use Rattle.phx_message.specs.declared.message.MsgRef.{MsgRef}
+use Rattle.phx_message.specs.declared.message.MsgRef.TheVariants.{Text, Number}
 use Rattle.tracker_shard.specs.declared.shard.Sub.{Sub}
 use Rattle.channel_session_rules.specs.declared.topics.Join.{Join}
 use Rattle.channel_session_rules.specs.declared.topics.Topics.{Topics}
@@ -27,6 +28,21 @@ pub record InForce : Type 0 where
   pub joined : List Joined
   -- the topic of a join that a fault cut short
   pub cut_short : Option (List ℕ)
+  -- whether a message to a topic counts only under the reference of the topic's present join
+  pub match_joins : Bool
+
+-- two references are the same: the same text, or the same number
+abbrev pub same_msg_ref : MsgRef → MsgRef → Bool
+same_msg_ref (Text a) (Text b) = same_text a b
+same_msg_ref (Number a) (Number b) = a == b
+same_msg_ref (Text a) (Number b) = false
+same_msg_ref (Number a) (Text b) = false
+
+abbrev pub same_ref : Option MsgRef → Option MsgRef → Bool
+same_ref None None = true
+same_ref (Some a) (Some b) = same_msg_ref a b
+same_ref None (Some b) = false
+same_ref (Some a) None = false
 
 abbrev pub find : List ℕ → List Joined → Option Joined
 find t [] = None

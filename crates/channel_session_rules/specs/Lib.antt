@@ -9,6 +9,7 @@ pub mod Asked
 pub mod Frames
 pub mod Said
 pub mod Rules
+pub mod Matching
 pub mod Outcome
 pub mod Replies
 pub mod Delivering

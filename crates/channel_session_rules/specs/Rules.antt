@@ -24,7 +24,7 @@ use Rattle.channel_session_rules.specs.Asks.{track, update, untrack, untrack_all
 use Rattle.channel_session_rules.specs.Script.{Script, done, ask}
 use Rattle.channel_session_rules.specs.Asked.{asked, key_asked}
 use Rattle.channel_session_rules.specs.Said.{Said, message, listed}
-pub use Rattle.channel_session_rules.specs.InForce.{Joined, InForce, find, without_topic}
+pub use Rattle.channel_session_rules.specs.InForce.{Joined, InForce, find, same_ref, without_topic}
 
 -- How a text ends: this is said, or the port refused and no reply stands for that, or the port wants memory.
 pub data End : Type 0 where
@@ -148,7 +148,7 @@ on_unknown s r m = done (says_error r m (codes "unknown event") s)
 -- ---- the end of a join
 
 abbrev pub left : InForce → List ℕ → InForce
-left s t = record { pid = s.pid; failed = s.failed; joined = without_topic t s.joined; cut_short = s.cut_short }
+left s t = record s { joined = without_topic t s.joined }
 
 abbrev pub then_next : Script End → Result (Unit {0}) Refusal → Script End
 then_next next (Ok u) = next
@@ -175,12 +175,8 @@ abbrev pub join_ref_of : Message → Option MsgRef
 join_ref_of m = or_ref m.join_ref m.msg_ref
 
 abbrev pub joins : ℕ → InForce → Message → Sub → InForce
-joins kind s m sub = record {
-  pid = s.pid;
-  failed = s.failed;
-  joined = s.joined ++ record { topic = m.topic; kind = kind; join_ref = join_ref_of m; sub = sub } ∷ [];
-  cut_short = s.cut_short;
-}
+joins kind s m sub =
+    record s { joined = s.joined ++ record { topic = m.topic; kind = kind; join_ref = join_ref_of m; sub = sub } ∷ [] }
 
 abbrev pub answers_join : List Said → Message → InForce → End
 answers_join before reply s = answers (before ++ message reply ∷ []) s
@@ -247,6 +243,13 @@ abbrev pub on_topic : InForce → Option Joined → Message → TopicEvent → S
 on_topic s (Some j) m event = on_event j.kind s j.join_ref m event
 on_topic s None m event = unmatched s m
 
+-- The present join that a message other than a join is to: the topic's, but where joins are matched only under its own
+-- reference. So what a client sent to an earlier join finds none.
+abbrev pub matched : Bool → Option Joined → Message → Option Joined
+matched false j m = j
+matched true None m = None
+matched true (Some j) m = if same_ref m.join_ref j.join_ref then Some j else None
+
 -- a topic without a kind can't be joined
 abbrev pub by_route : ℕ → InForce → Option Joined → Message → Option ℕ → Script End
 by_route count s j m None = unmatched s m
@@ -255,10 +258,10 @@ by_route count s j m (Some kind) = on_join count kind s j m (asked m.payload)
 -- heartbeats on `phoenix`; joins of a topic that can be joined; leaves; everything else
 abbrev pub by_kind : Bool → Option ℕ → ℕ → InForce → Option Joined → Message → EventKind → Script End
 by_kind phoenix route count s j m kinds_are.Heartbeat =
-    if phoenix then on_heartbeat s m else on_topic s j m events_are.Unknown
+    if phoenix then on_heartbeat s m else on_topic s (matched s.match_joins j m) m events_are.Unknown
 by_kind phoenix route count s j m kinds_are.Join = by_route count s j m route
-by_kind phoenix route count s j m kinds_are.Leave = on_leave s j m
-by_kind phoenix route count s j m (kinds_are.Topic event) = on_topic s j m event
+by_kind phoenix route count s j m kinds_are.Leave = on_leave s (matched s.match_joins j m) m
+by_kind phoenix route count s j m (kinds_are.Topic event) = on_topic s (matched s.match_joins j m) m event
 
 -- the topic of heartbeats, which is never joined
 abbrev pub is_phoenix : List ℕ → Bool
@@ -292,6 +295,10 @@ kind_of event =
 abbrev pub join_at : InForce → Message → Option Joined
 join_at s m = find m.topic s.joined
 
+-- the join that a message other than a join is to
+abbrev pub join_meant : InForce → Message → Option Joined
+join_meant s m = matched s.match_joins (join_at s m) m
+
 abbrev pub join_rule : ℕ → InForce → Option Joined → Message → Script End
 join_rule kind s j m = on_join (length s.joined) kind s j m (asked m.payload)
 
@@ -299,7 +306,7 @@ abbrev pub leave_rule : InForce → Option Joined → Message → Script End
 leave_rule s j m = on_leave s j m
 
 abbrev pub topic_rule : InForce → Message → TopicEvent → Script End
-topic_rule s m event = on_topic s (join_at s m) m event
+topic_rule s m event = on_topic s (join_meant s m) m event
 
 abbrev pub kind_rule : Bool → Option ℕ → InForce → Message → EventKind → Script End
 kind_rule phoenix route s m kind = by_kind phoenix route (length s.joined) s (join_at s m) m kind

@@ -4,7 +4,7 @@
 //! contracts see them, `specs/Questions` calls as questions, `specs/Shards` what a question is at its topic's shard,
 //! `specs/Asked` what a payload asks to be tracked, `specs/Outcome` what the function of a rule promises,
 //! `specs/Delivering` the script of a delivery, `specs/Said` what is said and by which messages it is told,
-//! `specs/InForce` what a session holds and `specs/Limits` of how many topics.
+//! `specs/InForce` what a session holds, `specs/Limits` of how many topics and `specs/Matching` the laws of matched joins.
 #![tactic(auto)]
 
 mod asked;
@@ -35,5 +35,5 @@ pub use replies::{
     write_ok,
 };
 pub use stop::{Stop, StopKind, spoil, spoiling};
-pub use topics::{Join, MAX_TOPICS, Topics};
+pub use topics::{Join, MAX_TOPICS, Topics, is_same_ref};
 pub use tracker_shard::{Shard, ShardFault, Sub};

@@ -1,4 +1,7 @@
 //! The topics in force.
+ghost use Rattle.std.specs.Prelude.{◌≡◌};
+ghost use Rattle.channel_session_rules.specs.InForce.{same_msg_ref, same_ref};
+
 use indexmap::IndexMap;
 use phx_message::MsgRef;
 use presence_base::Topic;
@@ -29,6 +32,27 @@ impl Clone for Join {
             join_ref,
             sub: self.sub,
         })
+    }
+}
+
+fn is_same(first: &MsgRef, second: &MsgRef) -> bool
+    ensures { result ≡ same_msg_ref first.now second.now }
+{
+    match (first, second) {
+        (MsgRef::Text(first), MsgRef::Text(second)) => first.as_str() == second.as_str(),
+        (MsgRef::Number(first), MsgRef::Number(second)) => *first == *second,
+        _ => false,
+    }
+}
+
+/// Whether two references are the same: a text is never a number, and none is only none.
+pub fn is_same_ref(first: &Option<MsgRef>, second: &Option<MsgRef>) -> bool
+    ensures { result ≡ same_ref first.now second.now }
+{
+    match (first, second) {
+        (None, None) => true,
+        (Some(first), Some(second)) => is_same(first, second),
+        _ => false,
     }
 }
 

@@ -264,20 +264,20 @@ no_run_if : (m : Bool) (t u : List ℕ) (ps : List Piece) → NoRunFirst ((if m 
 no_run_if true t u ps = tt
 no_run_if false t u ps = tt
 
-still_no_run : (ps : List Piece) → NoRunFirst ps → NoRunFirst (map (marked) ps)
+still_no_run : (ps : List Piece) → NoRunFirst ps → NoRunFirst (map marked ps)
 still_no_run [] none = tt
-still_no_run (quoted t ∷ ps) none = no_run_if (has_mark t) (mark ++ t) t (map (marked) ps)
+still_no_run (quoted t ∷ ps) none = no_run_if (has_mark t) (mark ++ t) t (map marked ps)
 still_no_run (run r ∷ ps) none = absurd none
 still_no_run (other b ∷ ps) none = tt
 still_no_run (open_quote t ∷ ps) none = tt
 
-read_marked : (ps : List Piece) → AreRead ps → AreRead (map (marked) ps)
+read_marked : (ps : List Piece) → AreRead ps → AreRead (map marked ps)
 read_marked [] read = tt
-read_marked (quoted t ∷ ps) read = by_mark (has_mark t) t (map (marked) ps) read.0 (read_marked ps read.1)
+read_marked (quoted t ∷ ps) read = by_mark (has_mark t) t (map marked ps) read.0 (read_marked ps read.1)
 read_marked (run r ∷ ps) read =
-    by_refused (is_marked_number r) r (map (marked) ps) read.0 (still_no_run ps read.1) (read_marked ps read.2)
+    by_refused (is_marked_number r) r (map marked ps) read.0 (still_no_run ps read.1) (read_marked ps read.2)
 read_marked (other b ∷ ps) read = (read.0, read.1, read_marked ps read.2)
-read_marked (open_quote t ∷ ps) read = (read.0, ap (λ x. map (marked) x) read.1)
+read_marked (open_quote t ∷ ps) read = (read.0, ap (λ x. map marked x) read.1)
 
 -- ---- marks come off
 
@@ -301,18 +301,18 @@ quoted_back false t e = rw e refl
 same_more : (p q : Piece) (ps qs : List Piece) → p ≡ q → ps ≡ qs → p ∷ ps ≡ q ∷ qs
 same_more p q ps qs e f = rw (e, f) refl
 
-undone : (ps : List Piece) → AreRead ps → map unmarked (map (marked) ps) ≡ ps
+undone : (ps : List Piece) → AreRead ps → map unmarked (map marked ps) ≡ ps
 undone [] read = refl
 undone (quoted t ∷ ps) read = same_more _ _ _ _ (quoted_back (has_mark t) t refl) (undone ps read.1)
 undone (run r ∷ ps) read = same_more _ _ _ _ (run_back (is_marked_number r) r refl read.0) (undone ps read.2)
 undone (other b ∷ ps) read = ap (λ x. other b ∷ x) (undone ps read.2)
 undone (open_quote t ∷ ps) read = rw read.1 refl
 
-pub marks_back : (s : List ℕ) → unmarked_text (marked_text refused s) ≡ s
+pub marks_back : (s : List ℕ) → unmarked_text (marked_text s) ≡ s
 unfolding marked_text unmarked_text
-marks_back refused s =
+marks_back s =
     let read : AreRead (scan plain s) = read_scan plain s tt in
-    rw (scan_joined (map (marked) (scan plain s)) (read_marked (scan plain s) read), undone (scan plain s) read)
+    rw (scan_joined (map marked (scan plain s)) (read_marked (scan plain s) read), undone (scan plain s) read)
     (joined_scan plain s)
 
 -- ---- where nothing is to be marked, or unmarked, nothing is

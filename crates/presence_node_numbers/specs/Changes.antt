@@ -1,8 +1,8 @@
 -- Pieces as code holds them, and what becomes of each. Only the crate's private clauses cite it.
-use Rattle.std.specs.Prelude.{◌≡◌, ◌<◌, ◌≤◌, ℕ, ◌==◌, Bool, true, false, List, [], ◌∷◌, ◌++◌, drop, map, length, slice_index, option_map, Option, Some, None, suc, cond, IsTrue, IfSome}
+use Rattle.std.specs.Prelude.{◌≡◌, ◌<◌, ◌+◌, ℕ, IsCharBoundary, ◌==◌, Bool, true, false, List, [], ◌∷◌, ◌++◌, drop, map, length, option_map, Option, Some, None, suc, cond, if◌then◌else◌}
 use Rattle.std.specs.List.{list_all}
 use Rattle.presence_node_numbers.specs.Pieces.{Piece, quoted, run, other, open_quote, pieces, joined}
-use Rattle.presence_node_numbers.specs.Marks.{mark, marked, unmarked, needs_no_mark, has_none}
+use Rattle.presence_node_numbers.specs.Marks.{mark, has_mark, marked, unmarked, needs_no_mark, has_none}
 use Rattle.presence_node_numbers.specs.declared.pieces.Part.{Part}
 use Rattle.presence_node_numbers.specs.declared.pieces.Part.TheVariants.{Quoted, Open, Run, Between}
 use Rattle.presence_node_numbers.specs.declared.pieces.Split.{Split}
@@ -24,12 +24,13 @@ close_at e [] = None
 close_at true (b ∷ bs) = option_map suc (close_at false bs)
 close_at false (b ∷ bs) = cond (b == 34) (Some 0) (option_map suc (close_at (b == 92) bs))
 
--- a text is a part, which stands so in it, and what is behind
+-- a text is a part and what is behind
 abbrev pub Splits : List ℕ → Split → Type 0
-Splits s r =
-    (pieces s ≡ part_pieces r.part ++ pieces r.rest.now)
-    × (r.text.now ≡ joined (part_pieces r.part))
-    × (length r.rest.now < length s)
+Splits s r = (pieces s ≡ part_pieces r.part ++ pieces r.rest.now) × (length r.rest.now < length s)
+
+-- a text can be cut before this byte of it and behind
+abbrev pub CutsAt : List ℕ → ℕ → Type 0
+CutsAt s k = (k < length s) × IsCharBoundary s k × IsCharBoundary s (k + 1)
 
 -- what becomes of a piece that goes this way, and whether that is the piece itself
 abbrev pub changed : Way → Piece → Piece
@@ -41,11 +42,11 @@ stays In p = needs_no_mark p
 stays Out p = has_none p
 
 -- the text of a part that has become this
-abbrev pub change_text : List ℕ → Change → List ℕ
-change_text s Kept = s
-change_text s (Marked t) = 34 ∷ ((mark ++ t.now) ++ 34 ∷ [])
-change_text s (Text t) = 34 ∷ (t.now ++ 34 ∷ [])
-change_text s (Number t) = t.now
+abbrev pub change_text : Part → Change → List ℕ
+change_text p Kept = joined (part_pieces p)
+change_text p (Marked t) = 34 ∷ ((mark ++ t.now) ++ 34 ∷ [])
+change_text p (Text t) = 34 ∷ (t.now ++ 34 ∷ [])
+change_text p (Number t) = t.now
 
 abbrev pub is_kept : Change → Bool
 is_kept Kept = true
@@ -53,15 +54,15 @@ is_kept (Marked t) = false
 is_kept (Text t) = false
 is_kept (Number t) = false
 
--- what becomes of a part that stands so in a text
+-- what becomes of a part
 abbrev pub Becomes : Way → Part → Change → Type 0
 Becomes w p c =
-    (joined (map (changed w) (part_pieces p)) ≡ change_text (joined (part_pieces p)) c)
+    (joined (map (changed w) (part_pieces p)) ≡ change_text p c)
     × (is_kept c ≡ list_all (stays w) (part_pieces p))
 
 -- what stands behind the mark that a text begins with
-abbrev pub IsBehindMark : List ℕ → Option (&str) → Type 0
-IsBehindMark t r = MatchOption r (has_mark t ≡ false) (λ rest. (has_mark t ≡ true) × (rest.now ≡ drop 6 t))
+abbrev pub behind_mark : List ℕ → Option (List ℕ)
+behind_mark t = if has_mark t then Some (drop 6 t) else None
 
 abbrev pub changed_text : Way → List ℕ → List ℕ
 changed_text w s = joined (map (changed w) (pieces s))

@@ -1,5 +1,6 @@
 -- Texts that are marked, and unmarked.
 use Rattle.std.specs.Prelude.{ℕ, ◌==◌, ◌&&◌, not, Bool, true, false, List, [], ◌∷◌, ◌++◌, drop, map, if◌then◌else◌, Option, Some, None, String, string_bytes}
+use Rattle.std.specs.Global.{Global}
 use Rattle.std.specs.List.{list_all, starts_with}
 use Rattle.presence_node_numbers.specs.Pieces.{Piece, quoted, run, other, open_quote, pieces, joined}
 use Rattle.presence_node_numbers.specs.Numbers.{is_marked_number}
@@ -57,6 +58,6 @@ unfoldable pub has_no_marks : List ℕ → Bool
 has_no_marks s = list_all has_none (pieces s)
 
 -- what a text has become: nothing where it stays as it is
-abbrev pub become : List ℕ → Option String → List ℕ
+abbrev pub become : List ℕ → Option (String Global) → List ℕ
 become s None = s
 become s (Some t) = string_bytes t

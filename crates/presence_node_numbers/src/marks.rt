@@ -1,7 +1,8 @@
 //! Texts that are marked, and unmarked.
-ghost use Rattle.std.specs.Prelude.{◌≡◌, ◌++◌, ◌∷◌, [], true, None, Ok, IfOk, OnOk, string_bytes};
+ghost use Rattle.std.specs.Prelude.{◌≡◌, ◌++◌, ◌∷◌, [], true, None, Ok, IfOk, OnOk, option_map, string_bytes};
 ghost use Rattle.presence_node_numbers.specs.Marks.{become, has_no_marks, marked_text, needs_no_marks, unmarked_text};
-ghost use Rattle.presence_node_numbers.specs.Changes.{Becomes, IsBehindMark, all_stay, change_text, changed_text};
+ghost use Rattle.presence_node_numbers.specs.Changes.{Becomes, all_stay, behind_mark, change_text, changed_text, part_pieces};
+ghost use Rattle.presence_node_numbers.specs.Pieces.{joined};
 
 use crate::numbers::is_marked_number;
 use crate::pieces::{Part, first_part};
@@ -30,7 +31,7 @@ enum Change<'a> {
 
 // What stands behind the mark that a text begins with.
 fn behind_mark(text: &str) -> Option<&str>
-    ensures { IsBehindMark text.now result }
+    ensures { option_map (λ rest. rest.now) result ≡ behind_mark text.now }
 {
     if text.as_bytes().starts_with(MARK.as_bytes()) {
         Some(&text[6..])
@@ -57,7 +58,7 @@ fn unmarked_quoted(text: &str) -> Change<'_>
 
 // What becomes of a part.
 fn change_of(way: Way, part: Part<'_>) -> Change<'_>
-    ensures { Becomes way part result }
+    ensures { Becomes way part.entry result }
 {
     match (way, part) {
         (Way::In, Part::Run(text)) if is_marked_number(text) => Change::Marked(text),
@@ -92,12 +93,27 @@ fn push_quoted(written: &mut String, front: &str, text: &str) -> Result<(), Allo
     written.push_str("\"")
 }
 
-// Appends what has become of a part that stands so in a text.
-fn push(written: &mut String, text: &str, change: Change<'_>) -> Result<(), AllocError>
-    ensures { OnOk result (string_bytes written.new ≡ string_bytes written.old ++ change_text text.now change) }
+// Appends a part as it is.
+fn push_part(written: &mut String, part: Part<'_>) -> Result<(), AllocError>
+    ensures { OnOk result (string_bytes written.new ≡ string_bytes written.old ++ joined (part_pieces part.entry)) }
+{
+    match part {
+        Part::Quoted(text) => push_quoted(written, "", text),
+        Part::Open(text) => {
+            written.push_str("\"")?;
+            written.push_str(text)
+        }
+        Part::Run(text) => written.push_str(text),
+        Part::Between(text) => written.push_str(text),
+    }
+}
+
+// Appends what has become of a part.
+fn push(written: &mut String, part: Part<'_>, change: Change<'_>) -> Result<(), AllocError>
+    ensures { OnOk result (string_bytes written.new ≡ string_bytes written.old ++ change_text part.entry change.entry) }
 {
     match change {
-        Change::Kept => written.push_str(text),
+        Change::Kept => push_part(written, part),
         Change::Marked(inner) => push_quoted(written, MARK, inner),
         Change::Text(inner) => push_quoted(written, "", inner),
         Change::Number(number) => written.push_str(number),
@@ -112,7 +128,7 @@ fn rewritten(alloc: Global, way: Way, text: &str) -> Result<String, AllocError>
     let mut rest = text;
     while !rest.is_empty() {
         let split = first_part(rest);
-        push(&mut written, split.text, change_of(way, split.part))?;
+        push(&mut written, split.part, change_of(way, split.part))?;
         rest = split.rest;
     }
     Ok(written)

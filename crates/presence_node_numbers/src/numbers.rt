@@ -43,6 +43,7 @@ fn is_whole(text: &str) -> bool
 }
 
 /// Whether a text is a number of JSON that is no whole number of 64 bits.
+#[tactic(auto, using(crate::proofs::Numerals::numbers), unfolding(crate::specs::Numbers::is_marked_number))]
 pub fn is_marked_number(text: &str) -> bool
     ensures { result ≡ is_marked_text text.now }
 {

@@ -1,8 +1,8 @@
 //! The pieces of a text, one after another.
-ghost use Rattle.std.specs.Prelude.{◌≡◌, ◌<◌, length, false, slice_index};
+ghost use Rattle.std.specs.Prelude.{◌≡◌, ◌<◌, ◌∷◌, length, false, IfSome, IsCharBoundary};
 ghost use Rattle.std.specs.List.{prefix_len};
 ghost use Rattle.presence_node_numbers.specs.Pieces.{is_run as is_run_byte, is_other as is_other_byte};
-ghost use Rattle.presence_node_numbers.specs.Changes.{Splits, close_at};
+ghost use Rattle.presence_node_numbers.specs.Changes.{CutsAt, Splits, close_at};
 
 /// A piece of a text, or several between quoted texts and runs.
 #[derive(Clone, Copy)]
@@ -16,11 +16,10 @@ pub(crate) enum Part<'a> {
     Between(&'a str),
 }
 
-/// The first part of a text, with its quotes, and what stands behind it.
+/// The first part of a text, and what stands behind it.
 #[derive(Clone, Copy)]
 pub(crate) struct Split<'a> {
     pub(crate) part: Part<'a>,
-    pub(crate) text: &'a str,
     pub(crate) rest: &'a str,
 }
 
@@ -37,9 +36,12 @@ fn is_other(byte: u8) -> bool
 }
 
 // How many bytes of numbers stand in front.
-fn run_len(bytes: &[u8]) -> usize
-    ensures { result ≡ prefix_len is_run_byte bytes.now }
+#[tactic(auto, using(crate::proofs::Parts::run_boundary))]
+fn run_len(text: &str) -> usize
+    ensures len { result ≡ prefix_len is_run_byte text.now }
+    ensures boundary { IsCharBoundary text.now result }
 {
+    let bytes = text.as_bytes();
     let mut len = 0;
     while len < bytes.len() && is_run(bytes[len]) {
         len += 1;
@@ -48,9 +50,12 @@ fn run_len(bytes: &[u8]) -> usize
 }
 
 // How many bytes stand before the next quoted text or run.
-fn between_len(bytes: &[u8]) -> usize
-    ensures { result ≡ prefix_len is_other_byte bytes.now }
+#[tactic(auto, using(crate::proofs::Parts::between_boundary))]
+fn between_len(text: &str) -> usize
+    ensures len { result ≡ prefix_len is_other_byte text.now }
+    ensures boundary { IsCharBoundary text.now result }
 {
+    let bytes = text.as_bytes();
     let mut len = 0;
     while len < bytes.len() && is_other(bytes[len]) {
         len += 1;
@@ -58,10 +63,12 @@ fn between_len(bytes: &[u8]) -> usize
     len
 }
 
-// Where the quoted text ends whose quote stood before these bytes.
-fn quote_end(bytes: &[u8]) -> Option<usize>
-    ensures { result ≡ close_at false bytes.now }
+// Where a quoted text ends, of which this stands behind the first quote.
+fn quote_end(text: &str) -> Option<usize>
+    ensures end { result ≡ close_at false text.now }
+    ensures cuts { IfSome result (CutsAt text.now) }
 {
+    let bytes = text.as_bytes();
     let mut is_escaped = false;
     let mut at = 0;
     while at < bytes.len() {
@@ -77,21 +84,17 @@ fn quote_end(bytes: &[u8]) -> Option<usize>
     None
 }
 
-// The first part of a text that begins with a quote.
-fn quoted_part(text: &str) -> Split<'_>
-    requires first { slice_index text.now 0 ≡ 34 }
-    requires some { 0 < length text.now }
-    ensures { Splits text.now result }
+// The first part of a text that begins with a quote, of what stands behind that.
+fn quoted_part(inner: &str) -> Split<'_>
+    ensures { Splits (34 ∷ inner.now) result }
 {
-    match quote_end(&text.as_bytes()[1..]) {
+    match quote_end(inner) {
         Some(end) => Split {
-            part: Part::Quoted(&text[1..end + 1]),
-            text: &text[..end + 2],
-            rest: &text[end + 2..],
+            part: Part::Quoted(&inner[..end]),
+            rest: &inner[end + 1..],
         },
         None => Split {
-            part: Part::Open(&text[1..]),
-            text,
+            part: Part::Open(inner),
             rest: "",
         },
     }
@@ -102,22 +105,20 @@ pub(crate) fn first_part(text: &str) -> Split<'_>
     requires { 0 < length text.now }
     ensures { Splits text.now result }
 {
-    let bytes = text.as_bytes();
-    if bytes[0] == b'"' {
-        return quoted_part(text);
+    let first = text.as_bytes()[0];
+    if first == b'"' {
+        return quoted_part(&text[1..]);
     }
-    if is_run(bytes[0]) {
-        let len = run_len(bytes);
+    if is_run(first) {
+        let len = run_len(text);
         return Split {
             part: Part::Run(&text[..len]),
-            text: &text[..len],
             rest: &text[len..],
         };
     }
-    let len = between_len(bytes);
+    let len = between_len(text);
     Split {
         part: Part::Between(&text[..len]),
-        text: &text[..len],
         rest: &text[len..],
     }
 }

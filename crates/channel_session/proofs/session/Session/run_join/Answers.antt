@@ -9,10 +9,11 @@ returns-in-Ok-clause-ran g c =
     let pid : c.self.inside.pid ≡ c.args.self.now.pid = ap (λ (x : InForce). x.pid) c.self.view_is in
     let failed : c.self.inside.failed ≡ c.args.self.now.failed = ap (λ (x : InForce). x.failed) c.self.view_is in
     let cut_short : c.self.inside.cut_short ≡ c.args.self.now.cut_short = ap (λ (x : InForce). x.cut_short) c.self.view_is in
+    let match_joins : c.self.inside.match_joins ≡ c.args.self.now.match_joins = ap (λ (x : InForce). x.match_joins) c.self.view_is in
     let held : joined_in c.make_room.new.self ≡ c.args.self.now.joined = c.make_room.ensures.entries ∙ ap (λ (x : InForce). x.joined) c.self.view_is in
     let topic : c.in_ok-topic.topic ≡ c.args.message.now.topic = search rules in
     let ref : c.in_ok-join_ref.join_ref ≡ join_ref_of c.args.message.now = search rules in
-    join_ran g.P.Port.step c.args.self.now c.args.message.now _ c.args.kind _ _ pid (c.len-count.ensures ∙ ap length held) _ _ _ _ _ _ _ (record { pid = pid; failed = failed; cut_short = cut_short }) topic ref (rw held at c.enter.ensures) (c.in-Ok.ensures c.args.kind c.args.self.now)
+    join_ran g.P.Port.step c.args.self.now c.args.message.now _ c.args.kind _ _ pid (c.len-count.ensures ∙ ap length held) _ _ _ _ _ _ _ (record { pid = pid; failed = failed; cut_short = cut_short; match_joins = match_joins }) topic ref (rw held at c.enter.ensures) (c.in-Ok.ensures c.args.kind c.args.self.now)
 
 pub returns-in-Err-clause-ran : goal.returns-in-Err-clause-ran
 returns-in-Err-clause-ran g c =
