@@ -32,5 +32,6 @@ pub use presence_node_counts::Counts;
 pub use presence_node_hints::Inbox;
 pub use presence_node_leaving::ClientSocket;
 pub use presence_node_link_threads::{LinkNode, LinkTask, LinkTasks, tasks_for};
+pub use presence_node_workers::Settings;
 pub use runtime::ServeRuntime;
 pub use server::{Server, WorkerMailbox};

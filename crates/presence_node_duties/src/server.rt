@@ -11,6 +11,7 @@ use presence_node_link_threads::{LinkRuntime, LinkTask, Links, Wakes};
 use presence_node_log::Log;
 use presence_node_rations::{MemoryMark, TopicBudgets};
 use presence_node_sockets::Bell;
+use presence_node_workers::Settings;
 use shard_pool::{Lanes, NoGate, Pool};
 use std::alloc::Global;
 use std::net::IpAddr;
@@ -72,6 +73,8 @@ pub struct Server<'a, H, L: Lanes> {
     pub pool: Pool<NoGate, L>,
     pub routes: &'a Routes,
     pub hooks: &'a H,
+    /// What clients may do beyond the usual.
+    pub settings: Settings,
     /// Pages of these origins may open a WebSocket, or those of any where none is named.
     pub origins: &'a [String],
     /// What these tell of their clients' addresses is believed.
@@ -100,6 +103,7 @@ impl<'a, H, L: Lanes> Drop for Server<'a, H, L> {
             pool,
             routes: _,
             hooks: _,
+            settings: _,
             origins: _,
             proxies: _,
             budgets,
@@ -171,6 +175,7 @@ impl<'a, H, L: Lanes> Server<'a, H, L> {
             pool,
             routes: _,
             hooks: _,
+            settings: _,
             origins: _,
             proxies: _,
             budgets,

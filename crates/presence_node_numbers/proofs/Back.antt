@@ -14,10 +14,10 @@ before (inside t) = 34 ∷ t
 before (escaped t) = 34 ∷ t
 before (running r) = r
 
-push : (t : List ℕ) (b : ℕ) (bs : List ℕ) → (t ++ b ∷ []) ++ bs ≡ t ++ b ∷ bs
+pub push : (t : List ℕ) (b : ℕ) (bs : List ℕ) → (t ++ b ∷ []) ++ bs ≡ t ++ b ∷ bs
 push t b bs = append_assoc t (b ∷ []) bs
 
-is_same : (b n : ℕ) → (b == n) ≡ true → b ≡ n
+pub is_same : (b n : ℕ) → (b == n) ≡ true → b ≡ n
 is_same b n e = grind arith
 
 is_34 : (b : ℕ) → (b == 34) ≡ true → b ≡ 34
@@ -99,13 +99,13 @@ no_test true b n e none is =
     let there : is_run n ≡ true = subst P same is in
     absurd (cc)
 
-run_not_34 : (b : ℕ) → is_run b ≡ true → (b == 34) ≡ false
+pub run_not_34 : (b : ℕ) → is_run b ≡ true → (b == 34) ≡ false
 run_not_34 b e = no_test (b == 34) b 34 refl refl e
 
 run_not_92 : (b : ℕ) → is_run b ≡ true → (b == 92) ≡ false
 run_not_92 b e = no_test (b == 92) b 92 refl refl e
 
-both : (a b : Bool) → (a && b) ≡ true → (a ≡ true) × (b ≡ true)
+pub both : (a b : Bool) → (a && b) ≡ true → (a ≡ true) × (b ≡ true)
 both true b is = (refl, is)
 both false b is = absurd (cc)
 

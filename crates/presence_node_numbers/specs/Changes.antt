@@ -1,8 +1,8 @@
 -- Pieces as code holds them, and what becomes of each. Only the crate's private clauses cite it.
-use Rattle.std.specs.Prelude.{◌≡◌, ◌<◌, ◌+◌, ℕ, IsCharBoundary, ◌==◌, Bool, true, false, List, [], ◌∷◌, ◌++◌, drop, map, length, option_map, Option, Some, None, suc, cond, if◌then◌else◌}
+use Rattle.std.specs.Prelude.{◌≡◌, ◌<◌, ◌+◌, ℕ, IsCharBoundary, ◌==◌, ◌&&◌, not, Bool, true, false, List, [], ◌∷◌, ◌++◌, map, length, option_map, Option, Some, None, suc, cond}
 use Rattle.std.specs.List.{list_all}
 use Rattle.presence_node_numbers.specs.Pieces.{Piece, quoted, run, other, open_quote, pieces, joined}
-use Rattle.presence_node_numbers.specs.Marks.{mark, has_mark, marked, unmarked, needs_no_mark, has_none}
+use Rattle.presence_node_numbers.specs.Marks.{mark, marked, unmarked, needs_no_mark, has_none}
 use Rattle.presence_node_numbers.specs.declared.pieces.Part.{Part}
 use Rattle.presence_node_numbers.specs.declared.pieces.Part.TheVariants.{Quoted, Open, Run, Between}
 use Rattle.presence_node_numbers.specs.declared.pieces.Split.{Split}
@@ -21,8 +21,7 @@ part_pieces (Between t) = map other t.now
 -- where a quoted text ends, behind a backslash or not
 abbrev pub close_at : Bool → List ℕ → Option ℕ
 close_at e [] = None
-close_at true (b ∷ bs) = option_map suc (close_at false bs)
-close_at false (b ∷ bs) = cond (b == 34) (Some 0) (option_map suc (close_at (b == 92) bs))
+close_at e (b ∷ bs) = cond (not e && (b == 34)) (Some 0) (option_map suc (close_at (not e && (b == 92)) bs))
 
 -- a text is a part and what is behind
 abbrev pub Splits : List ℕ → Split → Type 0
@@ -34,12 +33,12 @@ CutsAt s k = (k < length s) × IsCharBoundary s k × IsCharBoundary s (k + 1)
 
 -- what becomes of a piece that goes this way, and whether that is the piece itself
 abbrev pub changed : Way → Piece → Piece
-changed In p = marked p
-changed Out p = unmarked p
+changed In = marked
+changed Out = unmarked
 
 abbrev pub stays : Way → Piece → Bool
-stays In p = needs_no_mark p
-stays Out p = has_none p
+stays In = needs_no_mark
+stays Out = has_none
 
 -- the text of a part that has become this
 abbrev pub change_text : Part → Change → List ℕ
@@ -59,10 +58,6 @@ abbrev pub Becomes : Way → Part → Change → Type 0
 Becomes w p c =
     (joined (map (changed w) (part_pieces p)) ≡ change_text p c)
     × (is_kept c ≡ list_all (stays w) (part_pieces p))
-
--- what stands behind the mark that a text begins with
-abbrev pub behind_mark : List ℕ → Option (List ℕ)
-behind_mark t = if has_mark t then Some (drop 6 t) else None
 
 abbrev pub changed_text : Way → List ℕ → List ℕ
 changed_text w s = joined (map (changed w) (pieces s))

@@ -1,4 +1,5 @@
 //! Laws of marked texts: functions that do nothing, and whose contracts are the laws.
+ghost use Rattle.presence_node_numbers.specs.Allowed.{TextsComeBack, WholeNumbersStay};
 ghost use Rattle.presence_node_numbers.specs.Laws.{MarksComeOff, UnmarkedStay, MarkedStay};
 
 /// Whatever bytes a text has, once it is marked and unmarked it is as it was.
@@ -14,4 +15,14 @@ pub fn texts_without_such_numbers_stay()
 /// A text stays as it is where it is unmarked, if none of its texts begins with the mark.
 pub fn texts_without_marks_stay()
     ensures { UnmarkedStay }
+{}
+
+/// By default each text stays as it is, as it comes in and as it goes out.
+pub fn whole_numbers_stay()
+    ensures { WholeNumbersStay }
+{}
+
+/// Whichever numbers are allowed, what a client sent comes to clients byte for byte.
+pub fn texts_come_back()
+    ensures { TextsComeBack }
 {}

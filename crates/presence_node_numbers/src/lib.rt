@@ -5,13 +5,16 @@
 //! written, byte for byte, and all between sees texts.
 //!
 //! What its contracts cite: `specs/Pieces` the pieces of a text, `specs/Numbers` which numbers are marked, and
-//! `specs/Marks` a text once it is marked or unmarked; `specs/Laws` the laws. `specs/Changes` is of pieces in code.
+//! `specs/Marks` a text once it is marked or unmarked; `specs/Allowed` what becomes of texts by which numbers are allowed;
+//! `specs/Laws` the laws. `specs/Changes` is of pieces in code.
 #![tactic(auto)]
 
+mod allowed;
 pub mod laws;
 mod marks;
 mod numbers;
 mod pieces;
 
+pub use allowed::Numbers;
 pub use marks::{marked, unmarked};
 pub use numbers::is_marked_number;

@@ -1,7 +1,7 @@
 //! Texts that are marked, and unmarked.
-ghost use Rattle.std.specs.Prelude.{◌≡◌, ◌++◌, ◌∷◌, [], true, None, Ok, IfOk, OnOk, option_map, string_bytes};
-ghost use Rattle.presence_node_numbers.specs.Marks.{become, has_no_marks, marked_text, needs_no_marks, unmarked_text};
-ghost use Rattle.presence_node_numbers.specs.Changes.{Becomes, all_stay, behind_mark, change_text, changed_text, part_pieces};
+ghost use Rattle.std.specs.Prelude.{◌≡◌, ◌++◌, ◌∷◌, [], true, None, Ok, IfOk, OnOk, drop, string_bytes};
+ghost use Rattle.presence_node_numbers.specs.Marks.{become, has_mark, has_no_marks, marked_text, needs_no_marks, unmarked_text};
+ghost use Rattle.presence_node_numbers.specs.Changes.{Becomes, all_stay, change_text, changed_text, part_pieces};
 ghost use Rattle.presence_node_numbers.specs.Pieces.{joined};
 
 use crate::numbers::is_marked_number;
@@ -29,25 +29,29 @@ enum Change<'a> {
     Number(&'a str),
 }
 
-// What stands behind the mark that a text begins with.
-fn behind_mark(text: &str) -> Option<&str>
-    ensures { option_map (λ rest. rest.now) result ≡ behind_mark text.now }
+fn has_mark(text: &str) -> bool
+    ensures { result ≡ has_mark text.now }
 {
-    if text.as_bytes().starts_with(MARK.as_bytes()) {
-        Some(&text[6..])
-    } else {
-        None
-    }
+    text.as_bytes().starts_with(MARK.as_bytes())
+}
+
+// What stands behind the mark that a text begins with.
+fn behind_mark(text: &str) -> &str
+    requires { has_mark text.now ≡ true }
+    ensures { result.now ≡ drop 6 text.now }
+{
+    &text[6..]
 }
 
 // What becomes of a quoted text that goes out.
 fn unmarked_quoted(text: &str) -> Change<'_>
     ensures { Becomes Way.Out (Part.Quoted text.entry) result }
 {
-    let Some(rest) = behind_mark(text) else {
+    if !has_mark(text) {
         return Change::Kept;
-    };
-    if behind_mark(rest).is_some() {
+    }
+    let rest = behind_mark(text);
+    if has_mark(rest) {
         Change::Text(rest)
     } else if is_marked_number(rest) {
         Change::Number(rest)
@@ -56,19 +60,54 @@ fn unmarked_quoted(text: &str) -> Change<'_>
     }
 }
 
+// What becomes of a part that comes in.
+fn change_in(part: Part<'_>) -> Change<'_>
+    ensures { Becomes Way.In part.entry result }
+{
+    match part {
+        Part::Run(text) => {
+            if is_marked_number(text) {
+                Change::Marked(text)
+            } else {
+                Change::Kept
+            }
+        }
+        Part::Quoted(text) => {
+            if has_mark(text) {
+                Change::Marked(text)
+            } else {
+                Change::Kept
+            }
+        }
+        Part::Open(_) => Change::Kept,
+        Part::Between(_) => Change::Kept,
+    }
+}
+
+// What becomes of a part that goes out.
+fn change_out(part: Part<'_>) -> Change<'_>
+    ensures { Becomes Way.Out part.entry result }
+{
+    match part {
+        Part::Quoted(text) => unmarked_quoted(text),
+        Part::Run(_) => Change::Kept,
+        Part::Open(_) => Change::Kept,
+        Part::Between(_) => Change::Kept,
+    }
+}
+
 // What becomes of a part.
 fn change_of(way: Way, part: Part<'_>) -> Change<'_>
     ensures { Becomes way part.entry result }
 {
-    match (way, part) {
-        (Way::In, Part::Run(text)) if is_marked_number(text) => Change::Marked(text),
-        (Way::In, Part::Quoted(text)) if behind_mark(text).is_some() => Change::Marked(text),
-        (Way::Out, Part::Quoted(text)) => unmarked_quoted(text),
-        _ => Change::Kept,
+    match way {
+        Way::In => change_in(part),
+        Way::Out => change_out(part),
     }
 }
 
 // Whether a text stays as it is.
+#[tactic(auto, using(crate::proofs::Changing::stays_on, crate::proofs::Changing::stops_at))]
 fn stays(way: Way, text: &str) -> bool
     ensures { result ≡ all_stay way text.now }
 {
@@ -94,6 +133,7 @@ fn push_quoted(written: &mut String, front: &str, text: &str) -> Result<(), Allo
 }
 
 // Appends a part as it is.
+#[tactic(auto, using(crate::proofs::Changing::joined_others))]
 fn push_part(written: &mut String, part: Part<'_>) -> Result<(), AllocError>
     ensures { OnOk result (string_bytes written.new ≡ string_bytes written.old ++ joined (part_pieces part.entry)) }
 {
@@ -135,6 +175,7 @@ fn rewritten(alloc: Global, way: Way, text: &str) -> Result<String, AllocError>
 }
 
 /// What a client's text is once it is marked, or nothing where it stays as it is: then it isn't copied.
+#[tactic(auto, using(crate::proofs::Back::marked_kept), unfolding(crate::specs::Marks::marked_text, crate::specs::Marks::needs_no_marks))]
 pub fn marked(alloc: Global, text: &str) -> Result<Option<String>, AllocError>
     ensures marked { IfOk result (λ to. become text.now to ≡ marked_text text.now) }
     ensures stays { needs_no_marks text.now ≡ true → result ≡ Ok None }
@@ -146,6 +187,7 @@ pub fn marked(alloc: Global, text: &str) -> Result<Option<String>, AllocError>
 }
 
 /// What a text for a client is once it is unmarked, or nothing where it stays as it is: then it isn't copied.
+#[tactic(auto, using(crate::proofs::Back::unmarked_kept), unfolding(crate::specs::Marks::unmarked_text, crate::specs::Marks::has_no_marks))]
 pub fn unmarked(alloc: Global, text: &str) -> Result<Option<String>, AllocError>
     ensures unmarked { IfOk result (λ to. become text.now to ≡ unmarked_text text.now) }
     ensures stays { has_no_marks text.now ≡ true → result ≡ Ok None }

@@ -1,5 +1,5 @@
 //! The pieces of a text, one after another.
-ghost use Rattle.std.specs.Prelude.{◌≡◌, ◌<◌, ◌∷◌, length, false, IfSome, IsCharBoundary};
+ghost use Rattle.std.specs.Prelude.{◌≡◌, ◌<◌, ◌∷◌, ◌==◌, ◌&&◌, not, length, true, false, slice_index, IfSome, IsCharBoundary};
 ghost use Rattle.std.specs.List.{prefix_len};
 ghost use Rattle.presence_node_numbers.specs.Pieces.{is_run as is_run_byte, is_other as is_other_byte};
 ghost use Rattle.presence_node_numbers.specs.Changes.{CutsAt, Splits, close_at};
@@ -36,12 +36,9 @@ fn is_other(byte: u8) -> bool
 }
 
 // How many bytes of numbers stand in front.
-#[tactic(auto, using(crate::proofs::Parts::run_boundary))]
-fn run_len(text: &str) -> usize
-    ensures len { result ≡ prefix_len is_run_byte text.now }
-    ensures boundary { IsCharBoundary text.now result }
+fn run_len(bytes: &[u8]) -> usize
+    ensures { result ≡ prefix_len is_run_byte bytes.now }
 {
-    let bytes = text.as_bytes();
     let mut len = 0;
     while len < bytes.len() && is_run(bytes[len]) {
         len += 1;
@@ -49,13 +46,18 @@ fn run_len(text: &str) -> usize
     len
 }
 
-// How many bytes stand before the next quoted text or run.
-#[tactic(auto, using(crate::proofs::Parts::between_boundary))]
-fn between_len(text: &str) -> usize
-    ensures len { result ≡ prefix_len is_other_byte text.now }
+// Where the run in front ends.
+fn run_end(text: &str) -> usize
+    ensures end { result ≡ prefix_len is_run_byte text.now }
     ensures boundary { IsCharBoundary text.now result }
 {
-    let bytes = text.as_bytes();
+    run_len(text.as_bytes())
+}
+
+// How many bytes stand before the next quoted text or run.
+fn between_len(bytes: &[u8]) -> usize
+    ensures { result ≡ prefix_len is_other_byte bytes.now }
+{
     let mut len = 0;
     while len < bytes.len() && is_other(bytes[len]) {
         len += 1;
@@ -63,25 +65,51 @@ fn between_len(text: &str) -> usize
     len
 }
 
+// Where they end.
+fn between_end(text: &str) -> usize
+    ensures end { result ≡ prefix_len is_other_byte text.now }
+    ensures boundary { IsCharBoundary text.now result }
+{
+    between_len(text.as_bytes())
+}
+
+// Whether a byte ends a quoted text, behind a backslash or not.
+fn closes(is_escaped: bool, byte: u8) -> bool
+    ensures { result ≡ (not is_escaped && (byte == 34)) }
+{
+    !is_escaped && byte == b'"'
+}
+
+// Whether what follows a byte of a quoted text stands behind a backslash.
+fn escapes(is_escaped: bool, byte: u8) -> bool
+    ensures { result ≡ (not is_escaped && (byte == 92)) }
+{
+    !is_escaped && byte == b'\\'
+}
+
+// Where a quoted text ends, of which these bytes stand behind the first quote.
+#[tactic(auto, using(crate::proofs::Parts::close_here, crate::proofs::Parts::close_next))]
+fn close_of(bytes: &[u8]) -> Option<usize>
+    ensures { result ≡ close_at false bytes.now }
+{
+    let mut is_escaped = false;
+    let mut at = 0;
+    while at < bytes.len() {
+        if closes(is_escaped, bytes[at]) {
+            return Some(at);
+        }
+        is_escaped = escapes(is_escaped, bytes[at]);
+        at += 1;
+    }
+    None
+}
+
 // Where a quoted text ends, of which this stands behind the first quote.
 fn quote_end(text: &str) -> Option<usize>
     ensures end { result ≡ close_at false text.now }
     ensures cuts { IfSome result (CutsAt text.now) }
 {
-    let bytes = text.as_bytes();
-    let mut is_escaped = false;
-    let mut at = 0;
-    while at < bytes.len() {
-        if is_escaped {
-            is_escaped = false;
-        } else if bytes[at] == b'"' {
-            return Some(at);
-        } else {
-            is_escaped = bytes[at] == b'\\';
-        }
-        at += 1;
-    }
-    None
+    close_of(text.as_bytes())
 }
 
 // The first part of a text that begins with a quote, of what stands behind that.
@@ -100,7 +128,35 @@ fn quoted_part(inner: &str) -> Split<'_>
     }
 }
 
+// The first part of a text that begins with a run.
+fn run_part(text: &str) -> Split<'_>
+    requires some { 0 < length text.now }
+    requires run { is_run_byte (slice_index text.now 0) ≡ true }
+    ensures { Splits text.now result }
+{
+    let end = run_end(text);
+    Split {
+        part: Part::Run(&text[..end]),
+        rest: &text[end..],
+    }
+}
+
+// The first part of a text that begins with neither.
+fn between_part(text: &str) -> Split<'_>
+    requires some { 0 < length text.now }
+    requires quote { (slice_index text.now 0 == 34) ≡ false }
+    requires run { is_run_byte (slice_index text.now 0) ≡ false }
+    ensures { Splits text.now result }
+{
+    let end = between_end(text);
+    Split {
+        part: Part::Between(&text[..end]),
+        rest: &text[end..],
+    }
+}
+
 /// The first part of a text that isn't empty.
+#[tactic(auto, using(crate::proofs::Parts::quote_of))]
 pub(crate) fn first_part(text: &str) -> Split<'_>
     requires { 0 < length text.now }
     ensures { Splits text.now result }
@@ -110,15 +166,7 @@ pub(crate) fn first_part(text: &str) -> Split<'_>
         return quoted_part(&text[1..]);
     }
     if is_run(first) {
-        let len = run_len(text);
-        return Split {
-            part: Part::Run(&text[..len]),
-            rest: &text[len..],
-        };
+        return run_part(text);
     }
-    let len = between_len(text);
-    Split {
-        part: Part::Between(&text[..len]),
-        rest: &text[len..],
-    }
+    between_part(text)
 }

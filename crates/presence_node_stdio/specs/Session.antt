@@ -34,7 +34,7 @@ State = LocalSession
 abbrev pub start : StdioOptions → State
 start o = record {
   routes = o.routes;
-  session = record { pid = 1; failed = false; joined = []; cut_short = None };
+  session = record { pid = 1; failed = false; joined = []; cut_short = None; match_joins = o.match_joins };
   shard = begun (record { name = o.name; incarnation = o.incarnation });
 }
 

@@ -144,7 +144,7 @@ impl LocalSession {
         };
         Ok(LocalSession {
             routes,
-            session: Session::new(alloc, PID),
+            session: Session::new(alloc, PID, options.match_joins),
             shard: Shard::new(alloc, own),
         })
     }

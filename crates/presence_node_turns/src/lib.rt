@@ -9,10 +9,12 @@ mod connection;
 mod hearing;
 pub mod laws;
 mod pieces;
+mod settings;
 mod sparing;
 
 pub use cause::{Cause, close_code};
 pub use channel_session::Port;
 pub use connection::{Connection, MAX_SILENCE, PING_SILENCE, Progress, Stage, socket_config};
 pub use hearing::{Heard, hear};
+pub use settings::Settings;
 pub use sparing::MAX_UNSENT;

@@ -12,6 +12,6 @@ mod worker;
 
 pub use client::Client;
 pub use presence_node_turns::{
-    Cause, Connection, MAX_SILENCE, Progress, Stage, close_code, socket_config,
+    Cause, Connection, MAX_SILENCE, Progress, Settings, Stage, close_code, socket_config,
 };
 pub use worker::{MAX_CONNECTIONS, NoMore, Worker};

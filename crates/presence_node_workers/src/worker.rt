@@ -12,7 +12,7 @@ use crate::client::Client;
 use crate::resting::Resting;
 use hook_registry::{PresenceHooks, Routes};
 use presence_node_queue::{NoneWaits, Numbered, Taker};
-use presence_node_turns::{Connection, Port};
+use presence_node_turns::{Connection, Port, Settings};
 use presence_node_web_sockets::WebSocket;
 use slab::Slab;
 use std::alloc::{AllocError, Global};
@@ -414,8 +414,9 @@ impl<S: Read + Write + Drop> Worker<S> {
         rt: &R,
         alloc: Global,
         now: u64,
+        settings: Settings,
     ) -> Result<Option<NoMore>, AllocError>
-        ensures takes { TakesOne now (served_by self.old) (served_by self.new) result }
+        ensures takes { TakesOne settings now (served_by self.old) (served_by self.new) result }
         ensures none_lost { NoneLost (view self.old.taker.pass).pops (view self.new.taker.pass).pops
             (served_by self.old) (served_by self.new) }
     {
@@ -436,7 +437,7 @@ impl<S: Read + Write + Drop> Worker<S> {
             token,
             ready: true,
             unsent: false,
-            connection: Connection::new(alloc, stream, number, now),
+            connection: Connection::new(alloc, stream, number, now, settings),
         });
         self.order.push_reserved(key);
         Ok(None)
@@ -448,14 +449,15 @@ impl<S: Read + Write + Drop> Worker<S> {
         rt: &R,
         alloc: Global,
         now: u64,
+        settings: Settings,
     ) -> Result<NoMore, AllocError>
-        ensures takes { TakesIn now (served_by self.old) (served_by self.new) }
+        ensures takes { TakesIn settings now (served_by self.old) (served_by self.new) }
         ensures none_lost { NoneLost (view self.old.taker.pass).pops (view self.new.taker.pass).pops
             (served_by self.old) (served_by self.new) }
         ensures ends { IfOk result (EndsAt (served_by self.new)) }
     {
         for _ in 0..MAX_CONNECTIONS {
-            if let Some(no_more) = self.take_one(rt, alloc, now)? {
+            if let Some(no_more) = self.take_one(rt, alloc, now, settings)? {
                 return Ok(no_more);
             }
         }

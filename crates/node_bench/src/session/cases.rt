@@ -107,7 +107,7 @@ fn exchange(
 
 /// Joins the room, and answers how many texts the reply and the state are.
 pub fn join(alloc: Global, room: &mut Room, routes: &Routes) -> Result<usize, SessionFault> {
-    let mut session = Session::new(alloc, 1);
+    let mut session = Session::new(alloc, 1, false);
     let text = r#"["1","1","room:a","phx_join",{}]"#;
     exchange(alloc, &mut session, &mut room.shard, routes, text)
 }
@@ -135,7 +135,7 @@ pub fn tracks(
     routes: &Routes,
     count: u32,
 ) -> Result<(), SessionFault> {
-    let mut session = Session::new(alloc, 1);
+    let mut session = Session::new(alloc, 1, false);
     let text = r#"["1","1","room:a","phx_join",{}]"#;
     exchange(alloc, &mut session, &mut room.shard, routes, text)?;
     for n in 0..count {
@@ -151,7 +151,7 @@ pub fn lists(
     routes: &Routes,
     count: u32,
 ) -> Result<(), SessionFault> {
-    let mut session = Session::new(alloc, 1);
+    let mut session = Session::new(alloc, 1, false);
     let text = r#"["1","1","room:a","phx_join",{}]"#;
     exchange(alloc, &mut session, &mut room.shard, routes, text)?;
     for _ in 0..count {
