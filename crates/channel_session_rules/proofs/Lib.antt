@@ -3,3 +3,4 @@ pub mod Objects
 pub mod Once
 pub mod Saying
 pub mod Answered
+pub mod Matched

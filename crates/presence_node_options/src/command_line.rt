@@ -8,11 +8,11 @@ ghost use Rattle.presence_node_options.specs.Limits.{AreBudgets, AreWithin, IsEd
 
 use crate::addresses::{AddressRule, listen_of};
 use crate::arguments::{
-    explain_flag, fractions_flag, handshakes_option, incarnation_option, link_from_option, link_listen_option,
-    link_port_option, link_version_option, listen_option, log_format_option, log_option,
-    match_joins_flag, memory_option, metrics_port_option, name_option, notices_flag, origin_option, peer_option,
-    per_address_option, port_option, proxy_option, route_option, shards_option, topic_bytes_option,
-    topic_rows_option, workers_option,
+    explain_flag, fractions_flag, handshakes_option, incarnation_option, link_from_option,
+    link_listen_option, link_port_option, link_version_option, listen_option, log_format_option,
+    log_option, match_joins_flag, memory_option, metrics_port_option, name_option, notices_flag,
+    origin_option, peer_option, per_address_option, port_option, proxy_option, route_option,
+    shards_option, topic_bytes_option, topic_rows_option, workers_option,
 };
 use crate::fault::{UsageCause, UsageFault};
 use crate::found::{

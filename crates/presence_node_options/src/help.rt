@@ -107,12 +107,12 @@ Each answers at most 1024 of them";
 pub(crate) const EXPLAIN_HELP: &str = "Say in words, on a second line, why a line was refused";
 
 /// What is told by `--fractions` and `--match-joins`.
-pub(crate) const FRACTIONS_HELP: &str = "Allow any number in messages, as 1.50, 1e3 or one beyond 64 bits
+pub(crate) const FRACTIONS_HELP: &str =
+    "Allow any number in messages, as 1.50, 1e3 or one beyond 64 bits
 It comes back as it was written. Give it to all nodes, stdio and fold
 alike: without it such a number is a text behind \\u0000";
 
-pub(crate) const MATCH_JOINS_HELP: &str =
-    "Answer what comes under an earlier join as not joined
+pub(crate) const MATCH_JOINS_HELP: &str = "Answer what comes under an earlier join as not joined
 A message to a topic then counts only under the join reference of the
 topic's present join";
 
