@@ -1,4 +1,6 @@
 //! Lines that are marked as they are read.
+ghost use Rattle.std.specs.Prelude.{◌<◌, ◌^◌};
+
 use phx_message::Limits;
 use presence_node_lines::{StreamFault, read_line};
 use presence_node_numbers::marked;
