@@ -1,0 +1,22 @@
+//! Tokens that a client shows: JSON Web Tokens (RFC 7519) in their compact form (RFC 7515), signed by HMAC with SHA-256 under
+//! one of a server's keys.
+//!
+//! Its contracts cite these definitions:
+//! - `specs/Judging`: what a token grants, or the first thing that is wrong with it
+//! - `specs/Parts`: the three parts of a token, and what they encode
+//! - `specs/Unique`: JSON in which no object has a member twice
+//! - `specs/Claimed`: what a head and claims say
+//! - `specs/Certified`: what stands behind a token that is taken
+#![tactic(auto)]
+
+mod claims;
+mod fault;
+mod judging;
+mod parts;
+mod reading;
+#[cfg(test)]
+mod tests;
+
+pub use claims::Claims;
+pub use fault::TokenFault;
+pub use judging::verify;
