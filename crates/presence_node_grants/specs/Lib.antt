@@ -1,0 +1,3 @@
+pub mod Granting
+pub mod Holding
+pub mod Judged
