@@ -25,7 +25,7 @@ fn both_kinds(rt: HostRuntime) -> Result<(), Fail> {
     assert_eq!(rt; keys.len(), 2);
     assert_eq!(rt; keys[0].len(), 32);
     assert_eq!(rt; keys[0].as_slice()[31], 31);
-    assert!(rt; keys[1].as_slice() == b"plain-key-of-thirty-two-bytes-000");
+    assert!(rt; keys[1].as_slice() == b"plain-key-of-thirty-two-bytes-000".as_slice());
     Ok(())
 }
 

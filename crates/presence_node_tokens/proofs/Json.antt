@@ -8,8 +8,7 @@ use Rattle.json.specs.Strict.{HasUniqueKeys}
 use Rattle.json.specs.declared.error.Error.{Error}
 use Rattle.json.specs.declared.error.Error.TheVariants as error
 use Rattle.presence_node_tokens.specs.Answers.{Fails}
-use Rattle.presence_node_tokens.specs.Unique.{fault_in, is_unique, json_in, unique_in}
-use Rattle.presence_node_tokens.specs.declared.fault.TokenFault.{TokenFault}
+use Rattle.presence_node_tokens.specs.Unique.{fault_in, json_in, unique_in}
 use Rattle.presence_node_tokens.specs.declared.fault.TokenFault.TheVariants.{Malformed}
 use Rattle.presence_node_tokens.proofs.Distinct.{unique_told, not_unique}
 
