@@ -1,5 +1,6 @@
 -- What a grant lets a client ask, and what a port does that asks nothing else.
-use Rattle.std.specs.Prelude.{◌≡◌, ℕ, Bool, true, false, Option, Some, None, Err, Bor}
+use Rattle.std.specs.Prelude.{◌≡◌, ℕ, Bool, true, false, Option, Some, None, Err}
+use Rattle.std.specs.Borrow.{Bor}
 use Rattle.channel_session_rules.specs.Asks.{Ask, Answer, track, update, untrack, untrack_all, list, get, subscribe, take, unsubscribe, waits, shout}
 use Rattle.channel_session_rules.specs.declared.refusal.Refusal.TheVariants.{NotGranted}
 use Rattle.presence_node_grants.specs.Granting.{is_of_topics, lets_join, lets_shout, lets_track}

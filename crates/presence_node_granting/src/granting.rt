@@ -45,17 +45,21 @@ fn gives(grant: &Grant, now: u64, question: Question<'_>) -> bool
 pub struct GrantedPort<'a, P> {
     port: P,
     grants: Option<&'a Grants>,
-    now: u64,
+    second: u64,
 }
 
 impl<'a, P: Port + Drop> GrantedPort<'a, P> {
     /// A port behind these grants at this second; where there are none, because the server has no keys, all may be asked.
-    pub fn new(port: P, grants: Option<&'a Grants>, now: u64) -> GrantedPort<'a, P>
+    pub fn new(port: P, grants: Option<&'a Grants>, second: u64) -> GrantedPort<'a, P>
         ensures port { result.port ≡ port }
-        ensures grants { result.grants ≡ grants }
-        ensures now { result.now ≡ now }
+        ensures grants { result.grants ≡ grants.entry }
+        ensures second { result.second ≡ second }
     {
-        GrantedPort { port, grants, now }
+        GrantedPort {
+            port,
+            grants,
+            second,
+        }
     }
 
     /// The port inside.
@@ -67,21 +71,21 @@ impl<'a, P: Port + Drop> GrantedPort<'a, P> {
 
     // Whether the caller may ask this.
     fn may_ask(&self, pid: u64, question: Question<'_>) -> bool
-        ensures { result ≡ may_ask_in self.now.grants self.now.now pid (asks question.entry) }
+        ensures { result ≡ may_ask_in self.now.grants self.now.second pid (asks question.entry) }
     {
         let Some(grants) = self.grants else {
             return true;
         };
         match grants.of(pid) {
-            Some(grant) => gives(grant, self.now, question),
+            Some(grant) => gives(grant, self.second, question),
             None => takes_away(question),
         }
     }
 }
 
 impl<P: Port + Drop> Port for GrantedPort<'_, P> {
-    ghost step = { λ pid old q a new. (new.grants ≡ old.grants) × (new.now ≡ old.now)
-        × AsksGranted (P.step pid) (may_ask_in old.grants old.now pid q) old.port q a new.port };
+    ghost step = { λ pid old q a new. (new.grants ≡ old.grants) × (new.second ≡ old.second)
+        × AsksGranted (P.step pid) (may_ask_in old.grants old.second pid q) old.port q a new.port };
 
     fn call<C: Call>(&mut self, alloc: Global, pid: u64, call: &C) -> Result<C::Answer, Refusal> {
         if !self.may_ask(pid, call.question()) {
