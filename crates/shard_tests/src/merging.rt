@@ -1,11 +1,8 @@
 //! What a shard shows of another node that tells it of rows, late, twice and in part.
 
-use crate::desk::{Ask, ROOM, answers, shard_of};
-use crate::merge_desk::{Telling, told};
-use presence_journal::SharedTold;
-use std::alloc::{AllocError, Global};
+use crate::desk::{Ask, ROOM, answers};
+use crate::merge_desk::Telling;
 use std::test::Fail;
-use tracker_shard::{Merge, Shard};
 
 // Two rows, and then the first one's removal.
 const TWO_ROWS: Telling = Telling {
@@ -211,40 +208,5 @@ fn worked_merges(rt: HostRuntime) -> Result<(), Fail> {
     ] {
         assert!(rt; answers(rt.alloc(), asks, want)?, "{want}");
     }
-    Ok(())
-}
-
-// The last entry with all that it has.
-fn last_entry(alloc: Global, shard: &Shard) -> Result<String, AllocError> {
-    match shard.journal().entries().last() {
-        Some(entry) => format!(in alloc; "{entry:?}"),
-        None => Err(AllocError),
-    }
-}
-
-// The shard of `a` that takes in a copy of what is told, or shares it with the caller.
-#[tactic(auto, using(tracker_shard::proofs::Doors::sitting))]
-fn taken_in(alloc: Global, telling: &Telling, is_shared: bool) -> Result<String, AllocError> {
-    let mut shard = shard_of(alloc, "a")?;
-    let told = told(alloc, telling)?;
-    let answer = if is_shared {
-        let told = SharedTold::new(alloc, told)?;
-        shard.perform(alloc, None, &Merge { told: &told })
-    } else {
-        shard.merge(alloc, &told)
-    };
-    match answer {
-        Ok(()) => last_entry(alloc, &shard),
-        Err(_) => Err(AllocError),
-    }
-}
-
-// What is told makes the same entry, whether the caller goes on to own it or the entry has a copy.
-#[test]
-fn what_is_shared_is_merged_as_a_copy(rt: HostRuntime) -> Result<(), Fail> {
-    let copied = taken_in(rt.alloc(), &TWO_ROWS, false)?;
-    let shared = taken_in(rt.alloc(), &TWO_ROWS, true)?;
-    assert_eq!(rt; copied.as_str(), shared.as_str());
-    assert!(rt; copied.as_str().contains("Merged"));
     Ok(())
 }
