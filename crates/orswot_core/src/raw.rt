@@ -62,7 +62,7 @@ fn checked_row(alloc: Global, raw: RawRow) -> Result<Option<Row>, AllocError>
         meta,
         prev,
     } = raw;
-    let Some(topic) = Topic::of_string(topic) else {
+    let Some(topic) = Topic::new(alloc, topic.as_str())? else {
         return Ok(None);
     };
     let Some(key) = Key::new(alloc, key.as_str())? else {

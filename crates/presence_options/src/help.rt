@@ -2,7 +2,7 @@
 //! characters; an option's help has its default at the end of its first line.
 
 /// The version of the program, and the day of its sources: the year, the month and the day.
-pub const VERSION: &str = "0.1.0+20261130";
+pub const VERSION: &str = "0.1.0+20261201";
 
 /// How the program is called.
 pub(crate) const USAGES: &str = "presence_node serve [OPTIONS]

@@ -10,7 +10,7 @@ ghost use Rattle.serve_sockets.specs.declared.web_socket.TheConstants.{MAX_WAITI
 pub fn limits_are_these()
     ensures silence { MAX_SILENCE ≡ 60000 }
     ensures ping { PING_SILENCE ≡ 30000 }
-    ensures unsent { MAX_UNSENT ≡ 1048576 }
+    ensures unsent { MAX_UNSENT ≡ 393216 }
     ensures dealt { MAX_DEALT ≡ 16 }
     ensures read { READ_BYTES ≡ 256 }
     ensures gathered { WRITE_BYTES ≡ 1048576 }

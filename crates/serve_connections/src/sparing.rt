@@ -17,7 +17,7 @@ use presence_journal::Item;
 use std::alloc::Global;
 
 /// How many bytes wait for a connection at most before nothing further is taken for it. What a shard has for it waits there.
-pub const MAX_UNSENT: usize = 1_048_576;
+pub const MAX_UNSENT: usize = 393_216;
 
 // How many bytes an item counts. A state whose text isn't written counts as all that a delivery takes.
 fn weight(item: &Item) -> usize
