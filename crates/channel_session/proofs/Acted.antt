@@ -3,21 +3,22 @@ use Rattle.std.proofs.Common.{◌≡◌, ℕ, List, [], ◌∷◌, ◌++◌, ◌
 use Rattle.serde_json.specs.Data.{Members}
 use Rattle.phx_message.specs.declared.message.Message.{Message}
 use Rattle.phx_message.specs.declared.message.MsgRef.{MsgRef}
-use Rattle.channel_session_rules.specs.Sub.{Sub}
-use Rattle.channel_session_rules.specs.Asks.{Ask, Answer}
-use Rattle.channel_session_rules.specs.Rules.{InForce, Joined, End, answers, join_ref_of, join_asked, rejoins, left, without_topic, on_leave, on_topic, says_ok, says_error, empty, unmatched, join_at, join_rule, leave_rule, kind_rule}
-use Rattle.channel_session_rules.specs.InForce.{added}
-use Rattle.channel_session_events.specs.Joining.{joined_by}
-use Rattle.channel_session_rules.specs.Outcome.{Follows}
-use Rattle.channel_session_rules.specs.Replies.{Acts, ActsBy, RepliesWith}
-use Rattle.channel_session_rules.specs.Said.{message, Worded}
-use Rattle.channel_session_rules.specs.declared.asked.Asked.{Asked}
-use Rattle.channel_session_rules.specs.declared.kind.EventKind.{EventKind}
-use Rattle.channel_session_rules.specs.declared.kind.EventKind.TheVariants as kinds_are
-use Rattle.channel_session_rules.specs.declared.kind.TopicEvent.{TopicEvent}
-use Rattle.channel_session_rules.specs.declared.replies.Reply.{Reply}
-use Rattle.channel_session_rules.specs.declared.stop.Stop.{Stop}
-use Rattle.channel_session_rules.proofs.Saying.{acted, replied_acted}
+use Rattle.tracker_shard.specs.declared.shard.Sub.{Sub}
+use Rattle.channel_rules.specs.Asks.{Ask, Answer}
+use Rattle.channel_rules.specs.InForce.{InForce, Joined, without_topic}
+use Rattle.channel_rules.specs.Rules.{End, answers, join_ref_of, join_asked, rejoins, left, on_leave, on_topic, says_ok, says_error, empty, unmatched, join_at, join_rule, leave_rule, kind_rule}
+use Rattle.channel_rules.specs.InForce.{added}
+use Rattle.channel_session.specs.Joining.{joined_by}
+use Rattle.channel_rules.specs.Outcome.{Follows}
+use Rattle.channel_rules.specs.Replies.{Acts, ActsBy, RepliesWith}
+use Rattle.channel_rules.specs.Said.{message, Worded}
+use Rattle.channel_rules.specs.declared.asked.Asked.{Asked}
+use Rattle.channel_rules.specs.declared.kind.EventKind.{EventKind}
+use Rattle.channel_rules.specs.declared.kind.EventKind.TheVariants as kinds_are
+use Rattle.channel_rules.specs.declared.kind.TopicEvent.{TopicEvent}
+use Rattle.channel_rules.specs.declared.replies.Reply.{Reply}
+use Rattle.channel_rules.specs.declared.stop.Stop.{Stop}
+use Rattle.channel_rules.proofs.Saying.{acted, replied_acted}
 
 -- the session but for its topics
 pub record Same (s after : InForce) : Type 0 where

@@ -4,21 +4,21 @@ use Rattle.phx_message.specs.declared.message.Message.{Message}
 use Rattle.std.specs.List.{slice_get}
 use Rattle.std.proofs.lemmas.Option.{slice_get_within, get_or_from_slice_get}
 use Rattle.presence_journal.proofs.Walking.{drop_next}
-use Rattle.presence_journal_data.specs.declared.rows.Item.{Item}
-use Rattle.channel_session_rules.specs.declared.refusal.Refusal.{Refusal}
+use Rattle.presence_journal.specs.declared.rows.Item.{Item}
+use Rattle.channel_rules.specs.declared.refusal.Refusal.{Refusal}
 use Rattle.channel_session.specs.Delivery.{DealsBy, DeliveredBy, failing}
 use Rattle.channel_session.specs.Ran.{fault_of}
 use Rattle.channel_session.specs.declared.fault.SessionFault.{SessionFault}
-use Rattle.channel_session_events.specs.declared.frames.Delivery.{Delivery}
-use Rattle.channel_session_rules.specs.Asks.{Ask, Answer, waits, take}
-use Rattle.channel_session_rules.specs.Delivering.{then_told, then_take, delivers}
-use Rattle.channel_session_rules.specs.InForce.{Joined, InForce}
-use Rattle.channel_session_rules.specs.Outcome.{Follows, GivesEnd, MayWant, spoilt}
-use Rattle.channel_session_rules.specs.Rules.{End, unsaid}
-use Rattle.channel_session_rules.specs.Said.{Said, told}
-use Rattle.channel_session_rules.specs.declared.stop.Stop.{Stop}
-use Rattle.channel_session_rules.specs.declared.stop.StopKind.TheVariants.{OutOfMemory}
-use Rattle.channel_session_rules.proofs.Once.{unasked, once, more, more_clean}
+use Rattle.channel_session.specs.declared.frames.Delivery.{Delivery}
+use Rattle.channel_rules.specs.Asks.{Ask, Answer, waits, take}
+use Rattle.channel_rules.specs.Delivering.{then_told, then_take, delivers}
+use Rattle.channel_rules.specs.InForce.{Joined, InForce}
+use Rattle.channel_rules.specs.Outcome.{Follows, GivesEnd, MayWant, spoilt}
+use Rattle.channel_rules.specs.Rules.{End, unsaid}
+use Rattle.channel_rules.specs.Said.{Said, told}
+use Rattle.channel_rules.specs.declared.stop.Stop.{Stop}
+use Rattle.channel_rules.specs.declared.stop.StopKind.TheVariants.{OutOfMemory}
+use Rattle.channel_rules.proofs.Once.{unasked, once, more, more_clean}
 
 -- the topics from a place on, where one stands there
 pub here : (js : List Joined) (i : ℕ) (j : Joined) → Some j ≡ slice_get js i → drop i js ≡ j ∷ drop (i + 1) js

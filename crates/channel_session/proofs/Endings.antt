@@ -1,13 +1,13 @@
 -- The end of a session, call by call.
 use Rattle.std.proofs.Common.{◌≡◌, ℕ, zero, suc, List, [], ◌∷◌, drop, take, Some, None, Option, Result, Ok, Err, true, false, refl, sym, ap, ◌∙◌, subst}
 use Rattle.std.specs.List.{slice_get, remove}
-use Rattle.channel_session_rules.specs.declared.refusal.Refusal.{Refusal}
-use Rattle.channel_session_rules.specs.declared.refusal.Refusal.TheVariants.{OverRation, NotGranted, Table}
-use Rattle.channel_session_rules.specs.ShardFault.TheVariants.{AlreadyTracked, NoPresence, ClockFull, JournalFull, NoSub, BadIncarnation, OutOfMemory}
-use Rattle.channel_session_rules.specs.Sub.{Sub}
-use Rattle.channel_session_rules.specs.Asks.{Ask, Answer, unsubscribe, untrack_all}
-use Rattle.channel_session_rules.specs.Script.{Script, done, ask}
-use Rattle.channel_session_rules.specs.InForce.{Joined, InForce}
+use Rattle.channel_rules.specs.declared.refusal.Refusal.{Refusal}
+use Rattle.channel_rules.specs.declared.refusal.Refusal.TheVariants.{OverRation, NotGranted, Table}
+use Rattle.tracker_shard.specs.declared.fault.ShardFault.TheVariants.{AlreadyTracked, NoPresence, ClockFull, JournalFull, NoSub, BadIncarnation, OutOfMemory}
+use Rattle.tracker_shard.specs.declared.shard.Sub.{Sub}
+use Rattle.channel_rules.specs.Asks.{Ask, Answer, unsubscribe, untrack_all}
+use Rattle.channel_rules.specs.Script.{Script, done, ask}
+use Rattle.channel_rules.specs.InForce.{Joined, InForce}
 use Rattle.channel_session.specs.Ending.{Played, Gone, Keeps, Ended, Leaving, is_unknown, then_rows, ends_topics, ends, left_with, failed_by, then_topics, staying}
 
 module _ {P E : Type 0} (step : P → (q : Ask) → Answer q → P → Type 0) where

@@ -2,19 +2,19 @@
 use Rattle.std.specs.Prelude.{◌≡◌, ℕ, List, true, if◌then◌else◌, Result, Ok, Err, IfOk}
 use Rattle.phx_message.specs.declared.message.Message.{Message}
 use Rattle.hook_registry.specs.declared.hooks.PresenceHooks.{Ghosts}
-use Rattle.channel_session_events.specs.Carrying.{Carries}
-use Rattle.channel_session_events.specs.Wording.{worded_by, noted_by}
-pub use Rattle.channel_session_events.specs.declared.frames.Delivery.{Delivery}
-use Rattle.channel_session_rules.specs.Asks.{Ask, Answer}
-use Rattle.channel_session_rules.specs.Outcome.{Follows, seen}
-use Rattle.channel_session_rules.specs.Rules.{End, answers}
-use Rattle.channel_session_rules.specs.Said.{Said}
-use Rattle.channel_session_rules.specs.Script.{Script}
-use Rattle.channel_session_rules.specs.declared.stop.Stop.{Stop}
+use Rattle.channel_session.specs.Carrying.{Carries}
+use Rattle.channel_session.specs.Wording.{worded_by, noted_by}
+pub use Rattle.channel_session.specs.declared.frames.Delivery.{Delivery}
+use Rattle.channel_rules.specs.Asks.{Ask, Answer}
+use Rattle.channel_rules.specs.Outcome.{Follows, seen}
+use Rattle.channel_rules.specs.Rules.{End, answers}
+use Rattle.channel_rules.specs.Said.{Said}
+use Rattle.channel_rules.specs.Script.{Script}
+use Rattle.channel_rules.specs.declared.stop.Stop.{Stop}
 use Rattle.channel_session.specs.Ran.{fault_of, said_by}
 use Rattle.channel_session.specs.declared.fault.SessionFault.{SessionFault}
-pub use Rattle.channel_session_rules.specs.InForce.{InForce, Joined}
-pub use Rattle.channel_session_rules.specs.Delivering.{then_told, then_take, delivers, delivery}
+pub use Rattle.channel_rules.specs.InForce.{InForce, Joined}
+pub use Rattle.channel_rules.specs.Delivering.{then_told, then_take, delivers, delivery}
 
 -- the session, which has failed
 abbrev pub failing : InForce → InForce

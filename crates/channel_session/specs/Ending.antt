@@ -1,12 +1,12 @@
 -- The end of a session, topic by topic.
 use Rattle.std.specs.Prelude.{◌≡◌, ◌++◌, ℕ, List, [], ◌∷◌, Bool, true, false, Option, Some, None, map, option_to_list, Result, Ok, Err}
-use Rattle.channel_session_rules.specs.Sub.{Sub}
-use Rattle.channel_session_rules.specs.ShardFault.TheVariants as faults
-use Rattle.channel_session_rules.specs.declared.refusal.Refusal.{Refusal}
-use Rattle.channel_session_rules.specs.declared.refusal.Refusal.TheVariants.{Table}
-use Rattle.channel_session_rules.specs.Asks.{Ask, Answer, Call, Made, unsubscribe, untrack_all}
-use Rattle.channel_session_rules.specs.Script.{Script, done, ask, Plays}
-use Rattle.channel_session_rules.specs.Rules.{InForce, Joined}
+use Rattle.tracker_shard.specs.declared.shard.Sub.{Sub}
+use Rattle.tracker_shard.specs.declared.fault.ShardFault.TheVariants as faults
+use Rattle.channel_rules.specs.declared.refusal.Refusal.{Refusal}
+use Rattle.channel_rules.specs.declared.refusal.Refusal.TheVariants.{Table}
+use Rattle.channel_rules.specs.Asks.{Ask, Answer, Call, Made, unsubscribe, untrack_all}
+use Rattle.channel_rules.specs.Script.{Script, done, ask, Plays}
+use Rattle.channel_rules.specs.InForce.{InForce, Joined}
 use Rattle.channel_session.specs.declared.fault.SessionFault.{SessionFault}
 use Rattle.channel_session.specs.declared.fault.SessionFault.TheVariants.{OutOfMemory, ShardFull}
 

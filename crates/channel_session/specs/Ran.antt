@@ -6,15 +6,16 @@ use Rattle.phx_message.specs.Reading.{decoded}
 use Rattle.phx_message.specs.declared.message.TheConstants.Limits as the_limits
 use Rattle.phx_message.specs.declared.message.Message.{Message}
 use Rattle.phx_message.specs.declared.message.MessageFault.{MessageFault}
-use Rattle.channel_session_events.specs.Wording.{worded_by}
-use Rattle.channel_session_rules.specs.Asks.{Ask, Answer}
-use Rattle.channel_session_rules.specs.Script.{Script}
-use Rattle.channel_session_rules.specs.Rules.{InForce, Joined, End, answers, find, rules}
-use Rattle.channel_session_rules.specs.Outcome.{Follows}
-use Rattle.channel_session_rules.specs.Said.{Said, WritesAll}
-use Rattle.channel_session_rules.specs.declared.stop.Stop.{Stop}
-use Rattle.channel_session_rules.specs.declared.stop.StopKind.{StopKind}
-use Rattle.channel_session_rules.specs.declared.stop.StopKind.TheVariants as kinds
+use Rattle.channel_session.specs.Wording.{worded_by}
+use Rattle.channel_rules.specs.Asks.{Ask, Answer}
+use Rattle.channel_rules.specs.Script.{Script}
+use Rattle.channel_rules.specs.InForce.{InForce, Joined, find}
+use Rattle.channel_rules.specs.Rules.{End, answers, rules}
+use Rattle.channel_rules.specs.Outcome.{Follows}
+use Rattle.channel_rules.specs.Said.{Said, WritesAll}
+use Rattle.channel_rules.specs.declared.stop.Stop.{Stop}
+use Rattle.channel_rules.specs.declared.stop.StopKind.{StopKind}
+use Rattle.channel_rules.specs.declared.stop.StopKind.TheVariants as kinds
 use Rattle.channel_session.specs.declared.fault.SessionFault.{SessionFault}
 use Rattle.channel_session.specs.declared.fault.SessionFault.TheVariants.{BadMessage, OutOfMemory, ShardFull, Failed}
 

@@ -1,18 +1,18 @@
 //! Session events, matched once.
 ghost use Rattle.std.specs.Prelude.{◌≡◌, ◌≤◌, ◌^◌, ◌-◌, length, None, Some, IsTrue, IfOk, OnErr, option_map};
 ghost use Rattle.presence_journal.specs.Limits.{is_payload};
-ghost use Rattle.channel_session_rules.specs.InForce.{joined_of};
-ghost use Rattle.channel_session_rules.specs.Replies.{Acts, ActsBy};
-ghost use Rattle.channel_session_events.specs.Wording.{worded_by};
-ghost use Rattle.channel_session_rules.specs.Rules.{find, join_at, join_rule, leave_rule, topic_rule, kind_rule, kind_of as kind_in, is_phoenix as is_phoenix_of, route_of, rules};
+ghost use Rattle.channel_rules.specs.InForce.{joined_of};
+ghost use Rattle.channel_rules.specs.Replies.{Acts, ActsBy};
+ghost use Rattle.channel_session.specs.Wording.{worded_by};
+ghost use Rattle.channel_rules.specs.InForce.{find};
+ghost use Rattle.channel_rules.specs.Rules.{join_at, join_rule, leave_rule, topic_rule, kind_rule, kind_of as kind_in, is_phoenix as is_phoenix_of, route_of, rules};
 
+use crate::asking::{Caller, Incoming};
 use crate::channels::Channels;
+use crate::dispatch::{heartbeat, topic_event, unmatched};
+use crate::joins::{join, join_ref_for, leave, leave_nothing, rejoin};
 use crate::session::Session;
-use channel_session_events::{
-    Caller, Incoming, heartbeat, join, join_ref_for, leave, leave_nothing, rejoin, topic_event,
-    unmatched,
-};
-use channel_session_rules::{EventKind, Join, Port, Reply, Stop, TopicEvent, is_phoenix, kind_of};
+use channel_rules::{EventKind, Join, Port, Reply, Stop, TopicEvent, is_phoenix, kind_of};
 use hook_registry::{PresenceHooks, Routes};
 use phx_message::Message;
 use std::alloc::{AllocError, Global};
@@ -246,7 +246,7 @@ impl Session {
     }
 
     /// Answers a message by the rules. After an `Err` the session is as before.
-    #[tactic(auto, unfolding(channel_session_rules::specs::Rules::rules))]
+    #[tactic(auto, unfolding(channel_rules::specs::Rules::rules))]
     pub(crate) fn act<P: Port, H: PresenceHooks>(
         &mut self,
         alloc: Global,

@@ -3,12 +3,13 @@ ghost use Rattle.std.specs.Prelude.{◌≡◌, drop, true, false, if◌then◌el
 ghost use Rattle.presence_journal.specs.Limits.{is_take_limit};
 ghost use Rattle.channel_session.specs.Delivery.{DealsFrom, DeliveredTo, failing};
 ghost use Rattle.channel_session.specs.Ran.{fault_of};
-ghost use Rattle.channel_session_rules.specs.InForce.{joined_in};
+ghost use Rattle.channel_rules.specs.InForce.{joined_in};
 
+use crate::asking::Caller;
 use crate::fault::{SessionFault, fault_of_stop};
+use crate::frames::Delivery;
 use crate::session::Session;
-use channel_session_events::{Caller, Delivery};
-use channel_session_rules::{Port, Stop, Take, Topics, Waits, spoil, spoiling, stop_of};
+use channel_rules::{Port, Stop, Take, Topics, Waits, spoil, spoiling, stop_of};
 use hook_registry::PresenceHooks;
 use std::alloc::Global;
 

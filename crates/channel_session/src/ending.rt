@@ -1,14 +1,16 @@
 //! The end of a session, topic by topic.
 ghost use Rattle.std.specs.Prelude.{◌≡◌, [], OnOk, take, drop};
 ghost use Rattle.channel_session.specs.Ending.{Played, Gone, Keeps, EndedBy, EndsTopics, ends, fault_of_refusal as fault_in, is_unknown as is_unknown_of, topics_named};
-ghost use Rattle.channel_session_rules.specs.InForce.{joined_in};
+ghost use Rattle.channel_rules.specs.InForce.{joined_in};
 
+use crate::asking::Caller;
 use crate::fault::SessionFault;
+use crate::joins::take_out;
 use crate::session::Session;
-use channel_session_events::{Caller, take_out};
-use channel_session_rules::{Join, Port, Refusal, ShardFault, Topics, Unsubscribe};
+use channel_rules::{Join, Port, Refusal, Topics, Unsubscribe};
 use presence_base::Topic;
 use std::alloc::Global;
+use tracker_shard::ShardFault;
 
 // Whether the port has no such subscriber.
 fn is_unknown(refusal: Refusal) -> bool

@@ -2,7 +2,7 @@
 ghost use Rattle.std.specs.Prelude.{◌≡◌};
 ghost use Rattle.channel_session.specs.Ran.{fault_of};
 
-use channel_session_rules::{Stop, StopKind};
+use channel_rules::{Stop, StopKind};
 use phx_message::MessageFault;
 use thiserror::Error;
 

@@ -1,6 +1,6 @@
 //! The topics that a session names, handed out without memory.
 
-use channel_session_rules::Join;
+use channel_rules::Join;
 use indexmap::map::Keys;
 use presence_base::Topic;
 use std::iter::Iterator;

@@ -2,16 +2,16 @@
 ghost use Rattle.std.specs.Prelude.{◌≡◌, [], ◌<◌, ◌≤◌, length, map, vec_capacity, false, Err, IsTrue, IfOk, if◌then◌else◌};
 ghost use Rattle.presence_journal.specs.Limits.{is_payload};
 ghost use Rattle.phx_message.specs.declared.message.MessageFault.TheVariants.{TooLong};
-ghost use Rattle.channel_session_rules.specs.Replies.{messages_of};
-ghost use Rattle.channel_session_rules.specs.Said.{text_of};
-ghost use Rattle.channel_session_events.specs.Wording.{worded_by};
+ghost use Rattle.channel_rules.specs.Replies.{messages_of};
+ghost use Rattle.channel_rules.specs.Said.{text_of};
+ghost use Rattle.channel_session.specs.Wording.{worded_by};
 ghost use Rattle.channel_session.specs.declared.fault.SessionFault.TheVariants.{BadMessage};
 ghost use Rattle.channel_session.specs.Ran.{MessageRanBy, TextRan, failed_at, fault_of, texts_in};
 
 use crate::channels::Channels;
 use crate::fault::{SessionFault, fault_of_stop};
 use crate::session::Session;
-use channel_session_rules::{Port, Reply, Stop};
+use channel_rules::{Port, Reply, Stop};
 use hook_registry::PresenceHooks;
 use phx_message::{Limits, Message, MessageFault, decode};
 use presence_base::Topic;

@@ -1,6 +1,6 @@
 //! The session.
 use crate::joined::JoinedTopics;
-use channel_session_rules::Topics;
+use channel_rules::Topics;
 use presence_base::Topic;
 use std::alloc::Global;
 use std::marker::Model;
@@ -29,7 +29,7 @@ impl Drop for Session {
 
 impl Model for Session {
     ghost use Rattle.std.specs.Prelude.{◌≤◌, ◌^◌, map};
-    ghost use Rattle.channel_session_rules.specs.InForce.{InForce, joined_of};
+    ghost use Rattle.channel_rules.specs.InForce.{InForce, joined_of};
 
     ghost Value = { InForce };
 

@@ -7,7 +7,7 @@ use Rattle.presence_base.specs.declared.dots.Dot.{Dot}
 use Rattle.presence_base.specs.declared.row.Row.{Row}
 use Rattle.presence_base.specs.Names.{guarded}
 use Rattle.presence_base.specs.Order.{same_replica, same_dot}
-use Rattle.dot_context_runs.specs.Runs.{in_run, holds, AreLong}
+use Rattle.dot_context.specs.Runs.{in_run, holds, AreLong}
 use Rattle.dot_context.specs.Sets.{run_dots}
 use Rattle.dot_context.proofs.SetFacts.{in_run_dots}
 use Rattle.orswot_core.specs.Limits.{is_count, is_dot, is_range}

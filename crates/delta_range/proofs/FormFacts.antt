@@ -8,9 +8,9 @@ use Rattle.presence_base.specs.declared.dots.Replica.{Replica}
 use Rattle.presence_base.specs.declared.dots.Dot.{Dot}
 use Rattle.presence_base.specs.declared.row.Row.{Row}
 use Rattle.presence_base.specs.Order.{replica_cmp, same_dot}
-use Rattle.dot_context_runs.specs.Runs.{AreRuns}
-use Rattle.orswot_core_told.specs.declared.form.Form.{Form}
-use Rattle.orswot_core_told.specs.declared.form.Form.TheVariants.{One, Two}
+use Rattle.dot_context.specs.Runs.{AreRuns}
+use Rattle.orswot_core.specs.declared.form.Form.{Form}
+use Rattle.orswot_core.specs.declared.form.Form.TheVariants.{One, Two}
 use Rattle.orswot_core.specs.Limits.{is_count, is_range}
 use Rattle.orswot_core.specs.Telling.{Range, ToldValue, range_has, run_ranges, covers}
 use Rattle.orswot_core.specs.Checks.{IsTold, is_forward, may_precede, follow_on, are_in_order}

@@ -8,7 +8,7 @@ use Rattle.presence_base.specs.declared.dots.Replica.{Replica}
 use Rattle.presence_base.specs.declared.dots.Dot.{Dot}
 use Rattle.presence_base.specs.declared.row.Row.{Row}
 use Rattle.presence_base.specs.Order.{same_replica}
-use Rattle.dot_context_runs.specs.Runs.{holds}
+use Rattle.dot_context.specs.Runs.{holds}
 use Rattle.delta_range.specs.declared.growth.Removal.{Removal}
 use Rattle.delta_range.specs.Deltas.{DeltaValue, telling, IsDelta, GoesOn}
 use Rattle.delta_range.specs.Longest.{up_to, longest}

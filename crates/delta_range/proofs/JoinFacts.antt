@@ -6,7 +6,7 @@ use Rattle.std.proofs.lemmas.List.Folds.{list_any-append, list_all-append}
 use Rattle.presence_base.specs.declared.dots.Dot.{Dot}
 use Rattle.presence_base.specs.declared.row.Row.{Row}
 use Rattle.presence_base.specs.Order.{same_replica, same_dot}
-use Rattle.dot_context_runs.specs.Runs.{in_run, holds, AreLong}
+use Rattle.dot_context.specs.Runs.{in_run, holds, AreLong}
 use Rattle.orswot_core.specs.Limits.{is_count, is_dot, is_row, is_range}
 use Rattle.orswot_core.specs.Telling.{range_has, covers}
 use Rattle.orswot_core.specs.Checks.{has_repeat, dots_of}

@@ -4,7 +4,7 @@ use Rattle.std.specs.FinSet as set
 use Rattle.presence_base.specs.declared.dots.Replica.{Replica}
 use Rattle.presence_base.specs.declared.dots.Dot.{Dot}
 use Rattle.presence_base.specs.Order.{same_replica}
-use Rattle.dot_context_runs.specs.Runs.{in_run, holds}
+use Rattle.dot_context.specs.Runs.{in_run, holds}
 use Rattle.dot_context.specs.Sets.{DotSet, span, range}
 use Rattle.dot_context.proofs.SetFacts.{contains-range}
 use Rattle.orswot_core.proofs.OrderFacts.{dot_total}

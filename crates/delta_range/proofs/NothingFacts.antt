@@ -7,7 +7,7 @@ use Rattle.presence_base.specs.declared.dots.Replica.{Replica}
 use Rattle.presence_base.specs.declared.dots.Dot.{Dot}
 use Rattle.presence_base.specs.declared.row.Row.{Row}
 use Rattle.presence_base.specs.Order.{same_replica}
-use Rattle.dot_context_runs.specs.Runs.{holds}
+use Rattle.dot_context.specs.Runs.{holds}
 use Rattle.dot_context.proofs.FormFacts.{same_runs}
 use Rattle.orswot_core.specs.Telling.{covers}
 use Rattle.delta_range.specs.declared.generations.TheConstants.{SHORT_CAP, MIDDLE_CAP, LONG_CAP}

@@ -10,7 +10,7 @@ use Rattle.presence_base.specs.declared.dots.Replica.{Replica}
 use Rattle.presence_base.specs.declared.dots.Dot.{Dot}
 use Rattle.presence_base.specs.declared.row.Row.{Row}
 use Rattle.presence_base.specs.Order.{dot_cmp, replica_cmp, same_replica}
-use Rattle.dot_context_runs.specs.Runs.{AreRuns}
+use Rattle.dot_context.specs.Runs.{AreRuns}
 use Rattle.dot_context.specs.Sets.{span, run_dots}
 use Rattle.orswot_core.specs.Telling.{covers}
 use Rattle.orswot_core.specs.Checks.{dots_of}

@@ -5,7 +5,7 @@ use Rattle.std.specs.List.{list_all, All}
 use Rattle.std.proofs.lemmas.List.Elements.{All-nil, All-cons, All-head, All-tail}
 use Rattle.std.specs.List.Sorted.{IsPermutation, IsNonDecreasingBy}
 use Rattle.std.proofs.lemmas.List.Sorted.{list_any-IsPermutation, All-permutation}
-use Rattle.dot_context_runs.specs.Runs.{in_run, holds, AreRuns, AreLong}
+use Rattle.dot_context.specs.Runs.{in_run, holds, AreRuns, AreLong}
 use Rattle.dot_context.proofs.FormFacts.{same_runs}
 use Rattle.delta_range.specs.Longest.{up_to, with_run, longest, coalesced_from, coalesced}
 use Rattle.delta_range.proofs.BoolFacts.{both, and_both}

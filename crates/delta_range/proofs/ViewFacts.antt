@@ -13,7 +13,7 @@ use Rattle.presence_base.specs.declared.dots.Replica.{Replica}
 use Rattle.presence_base.specs.declared.dots.Dot.{Dot}
 use Rattle.presence_base.specs.declared.row.Row.{Row}
 use Rattle.presence_base.specs.Order.{replica_cmp, same_replica, same_dot}
-use Rattle.dot_context_runs.specs.Runs.{in_run, holds}
+use Rattle.dot_context.specs.Runs.{in_run, holds}
 use Rattle.orswot_core.specs.Limits.{is_count, is_dot}
 use Rattle.orswot_core.specs.Telling.{Range, range_has, covers, live_row}
 use Rattle.orswot_core.specs.Sets.{first_row, joined_row}

@@ -5,11 +5,11 @@ use Rattle.presence_base.specs.declared.dots.Replica.{Replica}
 use Rattle.presence_base.specs.declared.dots.Dot.{Dot}
 use Rattle.presence_base.specs.declared.row.Row.{Row}
 use Rattle.presence_base.specs.Order.{same_replica, same_dot}
-use Rattle.dot_context_runs.specs.Runs.{AreRuns}
+use Rattle.dot_context.specs.Runs.{AreRuns}
 use Rattle.dot_context.specs.Sets.{run_dots}
 use Rattle.orswot_core.specs.Limits.{is_dot, is_row, is_range}
-use Rattle.orswot_core_told.specs.declared.form.Form.{Form}
-use Rattle.orswot_core_told.specs.declared.form.Form.TheVariants.{One, Two}
+use Rattle.orswot_core.specs.declared.form.Form.{Form}
+use Rattle.orswot_core.specs.declared.form.Form.TheVariants.{One, Two}
 use Rattle.orswot_core.specs.Telling.{Range, ToldValue, range_has, run_ranges}
 use Rattle.orswot_core.specs.Checks.{dots_of, has_repeat}
 use Rattle.delta_range.specs.Longest.{longest}

@@ -1,7 +1,7 @@
 -- Fitting: what a delta tells, counted before a dot or a range is made of its older runs.
 use Rattle.std.specs.Prelude.{ℕ, Bool, not, length}
-use Rattle.orswot_core_told.specs.declared.form.Form.{Form}
-use Rattle.orswot_core_told.specs.declared.form.Form.TheVariants.{One, Two}
+use Rattle.orswot_core.specs.declared.form.Form.{Form}
+use Rattle.orswot_core.specs.declared.form.Form.TheVariants.{One, Two}
 use Rattle.orswot_core.specs.Checks.{is_too_many_in}
 pub use Rattle.orswot_core.specs.Full.{counts_in}
 use Rattle.delta_range.specs.Deltas.{DeltaValue, telling_in}

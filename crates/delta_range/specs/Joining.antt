@@ -6,7 +6,7 @@ use Rattle.presence_base.specs.declared.dots.Replica.{Replica}
 use Rattle.presence_base.specs.declared.dots.Dot.{Dot}
 use Rattle.presence_base.specs.declared.row.Row.{Row}
 use Rattle.presence_base.specs.Order.{same_replica}
-use Rattle.dot_context_runs.specs.Runs.{holds}
+use Rattle.dot_context.specs.Runs.{holds}
 use Rattle.dot_context.specs.Sets.{DotSet}
 use Rattle.orswot_core.specs.Telling.{ToldValue, covers, live_row}
 use Rattle.delta_range.specs.Deltas.{DeltaValue, telling}

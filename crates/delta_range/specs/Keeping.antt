@@ -2,7 +2,7 @@
 use Rattle.std.specs.Prelude.{◌≡◌, ℕ, ◌+◌, ◌≤◌, Bool, cond, ◌&&◌, nat_le, nat_eq, length, Option, Some, None}
 use Rattle.presence_base.specs.declared.dots.Replica.{Replica}
 use Rattle.presence_base.specs.Names.{guarded}
-use Rattle.orswot_core_told.specs.declared.form.Form.{Form}
+use Rattle.orswot_core.specs.declared.form.Form.{Form}
 use Rattle.delta_range.specs.declared.generations.TheConstants.{SHORT_CAP, MIDDLE_CAP, LONG_CAP}
 use Rattle.delta_range.specs.Deltas.{DeltaValue, IsDelta, GoesOn}
 use Rattle.delta_range.specs.Fitting.{fits_line}

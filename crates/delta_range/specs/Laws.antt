@@ -3,7 +3,7 @@ use Rattle.std.specs.Prelude.{◌≡◌, ◌+◌, ◌≤◌, true, false}
 use Rattle.std.specs.List.Sorted.{IsStrictlySortedBy}
 use Rattle.presence_base.specs.declared.dots.Dot.{Dot}
 use Rattle.presence_base.specs.Order.{dot_cmp}
-use Rattle.orswot_core_told.specs.declared.form.Form.{Form}
+use Rattle.orswot_core.specs.declared.form.Form.{Form}
 use Rattle.orswot_core.specs.Telling.{ToldValue, covers, live_row}
 use Rattle.orswot_core.specs.Checks.{IsTold, dots_of, has_range_astray}
 use Rattle.orswot_core.specs.Sets.{DotRows}

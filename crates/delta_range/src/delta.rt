@@ -4,7 +4,7 @@ ghost use Rattle.std.specs.List.{list_all};
 ghost use Rattle.presence_base.specs.Names.{guarded};
 ghost use Rattle.presence_base.specs.Order.{same_replica};
 ghost use Rattle.orswot_core.specs.Telling.{range_has};
-ghost use Rattle.orswot_core_told.specs.declared.form.Form.TheVariants.{One, Two};
+ghost use Rattle.orswot_core.specs.declared.form.Form.TheVariants.{One, Two};
 ghost use Rattle.delta_range.specs.Deltas.{DeltaValue, telling, telling_in, delta_of, is_older, is_older_range, is_delta, IsDelta, GoesOn};
 ghost use Rattle.delta_range.specs.Fitting.{older_in, fits_line};
 ghost use Rattle.delta_range.specs.Growing.{IsRemoval};

@@ -1,6 +1,6 @@
 // The lists of a delta.
 ghost use Rattle.std.specs.Prelude.{◌≡◌, ◌++◌, ◌∷◌, [], IfOk, OnOk};
-ghost use Rattle.dot_context_runs.specs.Runs.{AreRuns};
+ghost use Rattle.dot_context.specs.Runs.{AreRuns};
 ghost use Rattle.orswot_core.specs.Telling.{run_ranges};
 ghost use Rattle.delta_range.specs.Longest.{up_to, longest};
 

@@ -1,6 +1,6 @@
 // Runs of counts: each is the count below its first one and its last one.
 ghost use Rattle.std.specs.Prelude.{◌≡◌, ◌-◌, ◌++◌, map, IfOk, OnOk};
-ghost use Rattle.dot_context_runs.specs.Runs.{AreLong};
+ghost use Rattle.dot_context.specs.Runs.{AreLong};
 ghost use Rattle.dot_context.specs.Sets.{span, run_dots};
 ghost use Rattle.delta_range.specs.Deltas.{run_of, ends_of};
 ghost use Rattle.delta_range.specs.Joining.{HasRuns};

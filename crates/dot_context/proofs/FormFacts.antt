@@ -14,7 +14,7 @@ use Rattle.std.specs.BTreeMap.{get}
 use Rattle.presence_base.specs.declared.dots.Replica.{Replica}
 use Rattle.presence_base.specs.declared.dots.Dot.{Dot}
 use Rattle.presence_base.specs.Order.{replica_cmp, same_replica}
-use Rattle.dot_context_runs.specs.Runs.{holds, AreRuns, top_count, above_top}
+use Rattle.dot_context.specs.Runs.{holds, AreRuns, top_count, above_top}
 use Rattle.dot_context.specs.Sets.{DotSet, RunsOf, listed, HasSome, IsCompact}
 use Rattle.dot_context.specs.Forms.{Form, vector_of, cloud_of, HasOneForm}
 use Rattle.dot_context.proofs.SetFacts.{replica_total, replica_antisymmetric, contains-set_of}

@@ -8,11 +8,11 @@ use Rattle.std.specs.BTreeMap.{get, WritesThrough}
 use Rattle.std.specs.Cmp.{eq_by_cmp_equiv}
 use Rattle.presence_base.specs.declared.dots.Replica.{Replica}
 use Rattle.presence_base.specs.Order.{replica_cmp, same_replica}
-use Rattle.dot_context_runs.specs.Runs.{in_run, holds, AreRuns, AreLong, AreApart, has_room, is_hollow, begins, Opens, Fills, Sweeps}
+use Rattle.dot_context.specs.Runs.{in_run, holds, AreRuns, AreLong, AreApart, has_room, is_hollow, begins, Opens, Fills, Sweeps}
 use Rattle.dot_context.specs.Changes.{ChangesAt}
 use Rattle.dot_context.specs.Sets.{RunsOf, listed, runs_at, runs_in, HasSome, IsCompact, HasRoomFor}
 use Rattle.dot_context.proofs.SetFacts.{replica_total, replica_antisymmetric, is_tied, flipped}
-use Rattle.dot_context_runs.proofs.LoopFacts.{either, left_true, opens_none, strict, none_hollow, room_kept, some_room, begins_first, all_proper, key_itself}
+use Rattle.dot_context.proofs.LoopFacts.{either, left_true, opens_none, strict, none_hollow, room_kept, some_room, begins_first, all_proper, key_itself}
 
 pub same_as : (q r : Replica) → same_replica q r ≡ true → q ≡ r
 same_as q r e = replica_antisymmetric q r (is_tied (replica_cmp q r) e)

@@ -5,16 +5,15 @@ use Rattle.std.proofs.lemmas.Bool.Decides.{nat_tests}
 use Rattle.std.specs.List.{list_any}
 use Rattle.std.specs.Ordering.{eq_by_cmp, is_eq, nat_cmp, ordering_then}
 use Rattle.std.specs.declared.cmp.Ordering.TheVariants.{Less, Equal, Greater}
-use Rattle.std.specs.Cmp.{IsTotalOrder, nat_cmp_total, then_total, on_total}
+use Rattle.std.specs.Cmp.{IsTotalOrder, nat_cmp_total, then_total, on_total, eq_by_cmp_equiv}
 use Rattle.std.specs.Cmp.Lexicographic.{nat_list_cmp_total, slice_cmp}
 use Rattle.std.specs.FinSet as set
 use Rattle.std.specs.Map.{lookup}
 use Rattle.presence_base.specs.declared.dots.Replica.{Replica}
 use Rattle.presence_base.specs.declared.dots.Dot.{Dot}
 use Rattle.presence_base.specs.Order.{replica_cmp, dot_cmp, same_replica}
-use Rattle.dot_context_runs.specs.Runs.{holds, in_run, AreRuns, AreApart, top_count}
+use Rattle.dot_context.specs.Runs.{holds, in_run, AreRuns, AreApart, top_count}
 use Rattle.std.specs.BTreeMap.{get}
-use Rattle.std.specs.Cmp.{eq_by_cmp_equiv}
 use Rattle.dot_context.specs.Sets.{DotSet, RunsOf, SomeDot, TellsIfAny, HasSome, IsCompact, span, range, in_range, run_dots, set_of, others_dots, listed, runs_at}
 
 pub replica_total : IsTotalOrder replica_cmp

@@ -4,7 +4,7 @@ use Rattle.std.specs.BTreeMap.{get}
 use Rattle.presence_base.specs.declared.dots.Replica.{Replica}
 use Rattle.presence_base.specs.declared.dots.Dot.{Dot}
 use Rattle.presence_base.specs.Order.{replica_cmp, same_replica}
-use Rattle.dot_context_runs.specs.Runs.{holds, begins, has_room, AreApart, Opens, Fills, Sweeps}
+use Rattle.dot_context.specs.Runs.{holds, begins, has_room, AreApart, Opens, Fills, Sweeps}
 use Rattle.dot_context.specs.Sets.{RunsOf, runs_at, runs_in, HasSome}
 
 -- n has what m has, but `new` at r

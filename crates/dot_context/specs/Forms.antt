@@ -6,7 +6,7 @@ use Rattle.std.specs.Map.{keys_of}
 use Rattle.std.specs.Borrow.{Bor}
 use Rattle.presence_base.specs.declared.dots.Replica.{Replica}
 use Rattle.presence_base.specs.Order.{replica_cmp}
-use Rattle.dot_context_runs.specs.Runs.{AreRuns, top_count, above_top}
+use Rattle.dot_context.specs.Runs.{AreRuns, top_count, above_top}
 use Rattle.dot_context.specs.Sets.{DotSet, set_of}
 
 -- the runs of each replica

@@ -5,7 +5,7 @@ use Rattle.std.specs.BTreeMap.{BTreeMap, get}
 use Rattle.presence_base.specs.declared.dots.Replica.{Replica}
 use Rattle.presence_base.specs.declared.dots.Dot.{Dot}
 use Rattle.presence_base.specs.Order.{dot_cmp, replica_cmp, same_replica}
-use Rattle.dot_context_runs.specs.Runs.{AreRuns, AreApart, has_room, is_hollow, begins}
+use Rattle.dot_context.specs.Runs.{AreRuns, AreApart, has_room, is_hollow, begins}
 
 abbrev pub DotSet : Type 0
 DotSet = set.FinSet dot_cmp

@@ -6,8 +6,8 @@ ghost use Rattle.dot_context.specs.Forms.{vector_of, cloud_of, tops_of, HasOneFo
 
 use crate::plan::ContextPlan;
 use crate::replicas::{covers_dot, has_runs, join_all, put_range, take_out, top_of_replica};
+use crate::runs::Runs;
 use crate::views::{Cloud, Ranges, ReplicaRuns, Tops};
-use dot_context_runs::Runs;
 use presence_base::{Dot, Replica};
 use std::alloc::{AllocError, Global};
 use std::collections::BTreeMap;

@@ -5,7 +5,7 @@ ghost use Rattle.dot_context.specs.Sets.{set_of, IsCompact};
 
 use crate::context::Context;
 use crate::replicas::{close_room, fill_room, open_all};
-use dot_context_runs::Runs;
+use crate::runs::Runs;
 use presence_base::Replica;
 use std::alloc::Global;
 use std::collections::BTreeMap;

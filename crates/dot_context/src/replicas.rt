@@ -2,12 +2,11 @@
 ghost use Rattle.std.specs.Prelude.{◌≡◌, ◌≤◌, ◌<◌, ◌&&◌, ◌+◌, ℕ, true, false, Some, None, is_some, OnOk, OnErr};
 ghost use Rattle.std.specs.BTreeMap.{get, IsUnchanged};
 ghost use Rattle.presence_base.specs.Order.{replica_cmp, same_replica};
-ghost use Rattle.dot_context_runs.specs.Runs.{holds, AreLong};
+ghost use Rattle.dot_context.specs.Runs.{holds, AreLong};
 ghost use Rattle.dot_context.specs.Sets.{in_range, runs_at, IsCompact, HasRoomFor};
-ghost use Rattle.dot_context.specs.Changes.{ChangesAt, has_dot, SameDots, AddsDots, AllApart, AllHaveRuns, OthersHaveRuns, NoneHasRuns};
-ghost use Rattle.dot_context.specs.Changes.{held_by, begun_by, held_in, begun_in, HasRoomAt, OpensAll, FillsAll, SweepsAll};
+ghost use Rattle.dot_context.specs.Changes.{ChangesAt, has_dot, SameDots, AddsDots, AllApart, AllHaveRuns, OthersHaveRuns, NoneHasRuns, held_by, begun_by, held_in, begun_in, HasRoomAt, OpensAll, FillsAll, SweepsAll};
 
-use dot_context_runs::Runs;
+use crate::runs::Runs;
 use presence_base::{Dot, Replica};
 use std::alloc::{AllocError, Global};
 use std::collections::BTreeMap;

@@ -4,7 +4,7 @@ ghost use Rattle.std.specs.Bool.{MatchBool};
 ghost use Rattle.std.specs.Map.Iter.{TakesFirst};
 ghost use Rattle.dot_context.specs.Forms.{vector_of, cloud_of, tops_of, range_shown, runs_shown};
 
-use dot_context_runs::Runs;
+use crate::runs::Runs;
 use presence_base::Replica;
 use std::collections::btree_map::{Iter, Range};
 use std::iter::Iterator;

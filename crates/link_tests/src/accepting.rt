@@ -2,7 +2,8 @@
 use crate::counted::TOO_MANY;
 use crate::desk::{Desk, NEVER, NOW, at_a, replica};
 use crate::port::{Call, Much};
-use node_links::{ActFault, DialFault, LinkFault};
+use link_lines::LinkFault;
+use node_links::{ActFault, DialFault};
 use orswot_core::ToldFault;
 use replica_status::Status;
 use std::alloc::{AllocError, Global};

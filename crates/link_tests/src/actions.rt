@@ -1,7 +1,8 @@
 //! What a peer asks for, line by line, and what comes of actions that no line gives.
 use crate::desk::{Desk, NOW, at_a, at_b, at_late_a, replica};
 use crate::port::Call;
-use node_links::{Act, ActFault, Line, LinkAction, LinkFault, act};
+use link_lines::{Line, LinkFault};
+use node_links::{Act, ActFault, LinkAction, act};
 use presence_base::Replica;
 use std::alloc::Global;
 

@@ -1,5 +1,5 @@
 //! A thread that answers others, one question at a time.
-use presence_node_link_streams::{Clerk, LONG_LINE_BYTES, is_long};
+use link_streams::{Clerk, LONG_LINE_BYTES, is_long};
 use std::sync::{Arc, Wait};
 use std::test::Fail;
 use std::thread;

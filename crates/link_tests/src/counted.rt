@@ -1,6 +1,6 @@
 //! Told values of so many rows and extras.
 use crate::desk::ONE;
-use node_links::{Line, decode_line};
+use link_lines::{Line, decode_line};
 use orswot_core::{Form, Orswot, Told};
 use std::alloc::{AllocError, Global};
 

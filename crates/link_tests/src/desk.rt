@@ -1,10 +1,8 @@
 //! A node at one end of a link: its peer, its port, and a stream that gives it these bytes.
 use crate::port::{Call, Much, TestPort};
 use crate::wire::Wire;
-use node_links::{
-    ActFault, DialFault, End, Hearer, Line, Link, LinkAction, LinkFault, Peer, accept_one,
-    decode_line, dial, hear_bytes,
-};
+use link_lines::{Hearer, Line, LinkFault, decode_line};
+use node_links::{ActFault, DialFault, End, Link, LinkAction, Peer, accept_one, dial, hear_bytes};
 use orswot_core::Form;
 use presence_base::{NodeName, Replica};
 use replica_status::Status;

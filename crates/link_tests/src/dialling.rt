@@ -1,7 +1,8 @@
 //! The end that dialled: node `b`, with two shards, which dialled node `a`.
 use crate::desk::{Desk, at_b, replica};
 use crate::port::{Call, Much, long_told};
-use node_links::{ActFault, DialFault, Line, LinkFault, Telling};
+use link_lines::{Line, LinkFault, Telling};
+use node_links::{ActFault, DialFault};
 use orswot_core::Form;
 use std::alloc::Global;
 

@@ -1,6 +1,7 @@
 //! A whole exchange at either end of a link, over a stream of which each call fails in turn.
 use crate::desk::{Desk, NEVER, at_a, at_b};
-use node_links::{DialFault, LinkFault};
+use link_lines::LinkFault;
+use node_links::DialFault;
 use std::alloc::{AllocError, Global};
 use std::test::Fail;
 

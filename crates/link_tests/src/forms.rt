@@ -5,9 +5,8 @@ ghost use Rattle.std.specs.Prelude.{◌≤◌};
 use crate::counted::{MOST, TOO_MANY, counted_told, rows_told};
 use crate::desk::{ONE, TWO, at_a};
 use crate::faulty::Sink;
-use node_links::{
-    Hearer, Line, LinkFault, Telling, decode_line, encode_line, form_told, next_form, write_line,
-};
+use link_lines::{Hearer, Line, LinkFault, Telling, decode_line, encode_line};
+use node_links::{form_told, next_form, write_line};
 use orswot_core::{Form, Orswot, Told};
 use std::alloc::{AllocError, Global};
 

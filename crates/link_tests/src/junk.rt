@@ -1,6 +1,6 @@
 //! Junk that comes over a link behind the hello, each line with its refusal. It leaves peer and port as they were.
 use crate::accepting::is_line_refused;
-use node_links::{LinkFault, MAX_LINE_BYTES};
+use link_lines::{LinkFault, MAX_LINE_BYTES};
 use orswot_core::ToldFault;
 use std::alloc::{AllocError, Global};
 

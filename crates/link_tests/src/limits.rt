@@ -4,7 +4,8 @@ use crate::counted::{MOST, TOO_MANY, counted_told, rows_told};
 use crate::desk::{Desk, ONE, at_b, replica};
 use crate::faulty::Sink;
 use crate::port::{Call, Much};
-use node_links::{DialFault, Line, LinkFault, Telling, decode_line, write_line};
+use link_lines::{Line, LinkFault, Telling, decode_line};
+use node_links::{DialFault, write_line};
 use orswot_core::{Form, Told};
 use std::alloc::{AllocError, Global};
 

@@ -1,8 +1,8 @@
 //! The lives of a node that others gave up, as its links see them.
 use crate::desk::replica;
-use node_links::Line;
+use link_lines::Line;
+use link_rules::{Came, Coming, Course, Life, known_in, known_line};
 use presence_base::{MAX_COUNT, Replica};
-use presence_node_link_words::{Came, Coming, Course, Life, known_in, known_line};
 
 // Whether the first line behind a hello says that this replica is down for good.
 fn says_first(life: &Life, replica: &Replica) -> bool {

@@ -2,7 +2,7 @@
 //! blanks and escapes count as they are written again.
 use crate::accepting::is_line_refused;
 use crate::desk::line;
-use node_links::{Line, LinkFault};
+use link_lines::{Line, LinkFault};
 use orswot_core::ToldFault;
 use std::alloc::{AllocError, Global};
 use std::test::Fail;

@@ -1,6 +1,7 @@
 //! A port that notes what it was asked, and refuses one of its calls.
 use crate::counted::{counted_told, rows_told};
-use node_links::{ActFault, Hearer, Line, LinkPort, decode_line};
+use link_lines::{Hearer, Line, decode_line};
+use node_links::{ActFault, LinkPort};
 use orswot_core::{Form, RawRow, RawTold, Told};
 use presence_base::{Dot, Meta, NodeName, Replica};
 use replica_status::Status;

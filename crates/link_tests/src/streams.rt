@@ -2,8 +2,8 @@
 use crate::desk::ONE;
 use crate::faulty::{Sink, Source};
 use crate::worked::WORKED;
-use node_links_lines::{Line, LinkFault, MAX_LINE_BYTES, decode_line};
-use node_links_streams::{read_line, write_line};
+use link_lines::{Line, LinkFault, MAX_LINE_BYTES, decode_line};
+use node_links::{read_line, write_line};
 use std::alloc::{AllocError, Global};
 use std::io::ErrorKind;
 use std::test::Fail;

@@ -1,6 +1,6 @@
 //! The time that a node goes by, with a clock that is handed in.
 use crate::desk::replica;
-use presence_node_link_streams::Ticker;
+use link_streams::Ticker;
 use replica_status::{Board, Status};
 use std::alloc::Global;
 use std::io;

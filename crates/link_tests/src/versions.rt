@@ -3,7 +3,8 @@ ghost use Rattle.std.specs.Prelude.{◌≤◌};
 
 use crate::counted::{MOST, TOO_MANY, counted_told};
 use crate::desk::{Desk, ONE, TWO, at_a, at_old_a};
-use node_links::{DialFault, Hearer, Line, LinkFault, Telling, decode_line, encode_line};
+use link_lines::{Hearer, Line, LinkFault, Telling, decode_line, encode_line};
+use node_links::DialFault;
 use orswot_core::{Form, Orswot, ToldFault};
 use std::alloc::{AllocError, Global};
 

@@ -1,6 +1,6 @@
 //! The worked lines of node `b` with two shards, read and written back.
 use crate::desk::ONE;
-use node_links_lines::{Line, decode_line, encode_line};
+use link_lines::{Line, decode_line, encode_line};
 use std::alloc::Global;
 use std::test::Fail;
 

@@ -1,5 +1,5 @@
 // The world of nodes by the lines of standard input: what is asked is answered by a line of standard output.
-use presence_node_lines::{StreamFault, read_line};
+use presence_stdio::{StreamFault, read_line};
 use std::io::{self, BufReader, ErrorKind, Read};
 use world_lines::{LineFault, Lines};
 

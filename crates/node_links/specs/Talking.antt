@@ -1,21 +1,21 @@
 -- What a call for one exchange does to the stream, the peer and the port, at either end of a link.
 use Rattle.std.specs.Prelude.{◌≡◌, ℕ, Bool, true, false, length, Option, Some, None, Result, Ok, Err}
-use Rattle.orswot_core_told.specs.declared.form.Form.{Form}
-use Rattle.orswot_core_told.specs.declared.form.Form.TheVariants.{One, Two}
+use Rattle.orswot_core.specs.declared.form.Form.{Form}
+use Rattle.orswot_core.specs.declared.form.Form.TheVariants.{One, Two}
 use Rattle.orswot_core.specs.Telling.{ToldValue}
-use Rattle.node_links_lines.specs.declared.lines.Line.{Line}
-use Rattle.node_links_lines.specs.declared.lines.Line.TheVariants as lines_are
-use Rattle.node_links_members.specs.declared.hearer.Telling.{Telling}
-use Rattle.node_links_members.specs.declared.fault.LinkFault.{LinkFault}
-use Rattle.node_links_members.specs.declared.fault.LinkFault.TheVariants.{LineTooLong}
-use Rattle.node_links_lines.specs.Results.{Answers}
-use Rattle.node_links_streams.specs.Bytes.{Known}
-use Rattle.node_links_streams.specs.Streams.{ReadsLine, WritesLine}
-use Rattle.node_links_peer.specs.Exchanges.{PeerValue, hearer_of, Actions, actions_of, after, on_bytes}
-use Rattle.node_links_acts.specs.declared.outcome.Act.{Act}
-use Rattle.node_links_acts.specs.declared.port.ActFault.{ActFault}
-use Rattle.node_links_acts.specs.Asks.{Answer, full}
-use Rattle.node_links_acts.specs.Acting.{Steps, Acts}
+use Rattle.link_lines.specs.declared.lines.Line.{Line}
+use Rattle.link_lines.specs.declared.lines.Line.TheVariants as lines_are
+use Rattle.link_lines.specs.declared.hearer.Telling.{Telling}
+use Rattle.link_lines.specs.declared.fault.LinkFault.{LinkFault}
+use Rattle.link_lines.specs.declared.fault.LinkFault.TheVariants.{LineTooLong}
+use Rattle.link_lines.specs.Results.{Answers}
+use Rattle.node_links.specs.Bytes.{Known}
+use Rattle.node_links.specs.Streams.{ReadsLine, WritesLine}
+use Rattle.node_links.specs.Exchanges.{PeerValue, hearer_of, Actions, actions_of, after, on_bytes}
+use Rattle.node_links.specs.declared.act_outcome.Act.{Act}
+use Rattle.node_links.specs.declared.port.ActFault.{ActFault}
+use Rattle.node_links.specs.Asks.{Answer, full}
+use Rattle.node_links.specs.Acting.{Steps, Acts}
 use Rattle.node_links.specs.declared.outcome.Exchanged.{Exchanged}
 use Rattle.node_links.specs.declared.outcome.Exchanged.TheVariants.{Done, GivenUp, Untold}
 use Rattle.node_links.specs.declared.outcome.Untold.{Untold as UntoldValue}

@@ -4,10 +4,10 @@ ghost use Rattle.node_links.specs.Talking.{WritesAnswer, Accepts, AnswersLine, o
 use crate::dialling::write_told;
 use crate::fault::DialFault;
 use crate::hearing::{hear, take_one};
+use crate::lines::write_line;
 use crate::link::Link;
-use node_links_acts::LinkPort;
-use node_links_lines::Line;
-use node_links_streams::write_line;
+use crate::port::LinkPort;
+use link_lines::Line;
 use std::alloc::Global;
 use std::io::{Read, Write};
 

@@ -1,16 +1,15 @@
 //! `dial`: an exchange as the end that dials.
 ghost use Rattle.std.specs.Prelude.{◌≡◌};
-ghost use Rattle.node_links.specs.Talking.{bare as bare_of, outcome_of as outcome, outcome_without as without, beside_in, untold, uncounted as uncounted_of, sent as sent_of, told_in};
-ghost use Rattle.node_links.specs.Talking.{WritesBare, WritesGiven, AsksForAll, WritesTold, Tells, TellsAct};
-ghost use Rattle.node_links.specs.Talking.{Exchanges, Dials, over};
+ghost use Rattle.node_links.specs.Talking.{bare as bare_of, outcome_of as outcome, outcome_without as without, beside_in, untold, uncounted as uncounted_of, sent as sent_of, told_in, WritesBare, WritesGiven, AsksForAll, WritesTold, Tells, TellsAct, Exchanges, Dials, over};
 
+use crate::act_outcome::Act;
 use crate::fault::DialFault;
 use crate::hearing::take_one;
+use crate::lines::write_line;
 use crate::link::Link;
 use crate::outcome::{Exchanged, Untold, UntoldSize};
-use node_links_acts::{Act, LinkPort};
-use node_links_lines::{Line, LinkFault, Telling};
-use node_links_streams::write_line;
+use crate::port::LinkPort;
+use link_lines::{Line, LinkFault, Telling};
 use orswot_core::{Form, Told};
 use std::alloc::Global;
 use std::io::{Read, Write};

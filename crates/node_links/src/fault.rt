@@ -1,6 +1,6 @@
 //! Why an exchange broke off: the link, or the shards.
-use node_links_acts::ActFault;
-use node_links_lines::LinkFault;
+use crate::port::ActFault;
+use link_lines::LinkFault;
 use thiserror::Error;
 
 /// Why an exchange broke off: the link, or the shards.

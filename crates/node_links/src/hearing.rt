@@ -1,12 +1,14 @@
 // Lines that are read and heard.
 ghost use Rattle.node_links.specs.Talking.{Hears, HearsBytes, Takes, over};
 
+use crate::act_outcome::Act;
+use crate::acting::act;
 use crate::fault::DialFault;
+use crate::lines::read_line;
 use crate::link::Link;
-use node_links_acts::{Act, LinkPort, act};
-use node_links_lines::Line;
-use node_links_peer::Peer;
-use node_links_streams::read_line;
+use crate::peer::Peer;
+use crate::port::LinkPort;
+use link_lines::Line;
 use std::alloc::Global;
 use std::io::Read;
 

@@ -1,5 +1,5 @@
 //! A link.
-use node_links_peer::Peer;
+use crate::peer::Peer;
 
 /// A link: the stream of its lines, and the peer that hears and says them at this end.
 #[derive(Drop)]

@@ -9,9 +9,9 @@ use Rattle.presence_base.specs.declared.dots.Replica.{Replica}
 use Rattle.presence_base.specs.declared.dots.Dot.{Dot}
 use Rattle.presence_base.specs.Order.{replica_cmp, same_replica}
 use Rattle.dot_context.proofs.SetFacts.{and_false}
-use Rattle.orswot_core_told.specs.Telling.{Range, range_has}
+use Rattle.orswot_core.specs.Telling.{Range, range_has}
 use Rattle.orswot_core.specs.Full.{dot_of, is_some, is_apart, are_apart_from, are_apart}
-use Rattle.orswot_core_told.proofs.OrderFacts.{replica_total, replica_antisymmetric, replicas_equal}
+use Rattle.orswot_core.proofs.OrderFacts.{replica_total, replica_antisymmetric, replicas_equal}
 use Rattle.orswot_core.proofs.RunFacts.{and_parts, and_from}
 use Rattle.orswot_core.proofs.RunRangeFacts.{same_self, last_within}
 

@@ -5,7 +5,7 @@ use Rattle.std.specs.FinSet as set
 use Rattle.presence_base.specs.declared.dots.Dot.{Dot}
 use Rattle.presence_base.specs.Order.{dot_cmp, same_dot}
 use Rattle.dot_context.specs.Sets.{DotSet}
-use Rattle.orswot_core_told.proofs.OrderFacts.{dot_total, dots_equal}
+use Rattle.orswot_core.proofs.OrderFacts.{dot_total, dots_equal}
 
 -- dots that are covered add nothing
 nothing_more : (s : DotSet) (ds : List Dot) (q : Dot) → list_all (set.contains s) ds ≡ true → (set.contains s q || list_any (same_dot q) ds) ≡ set.contains s q

@@ -7,9 +7,9 @@ use Rattle.presence_base.specs.declared.dots.Replica.{Replica}
 use Rattle.presence_base.specs.declared.dots.Dot.{Dot}
 use Rattle.dot_context.specs.Sets.{span, run_dots}
 use Rattle.dot_context.specs.Forms.{Form, cloud_of, IfFormed}
-use Rattle.orswot_core_told.specs.declared.form.Form.TheVariants.{One, Two}
-use Rattle.orswot_core_told.specs.Telling.{Range, ToldValue, run_ranges}
-use Rattle.orswot_core_told.specs.Checks.{is_too_many_in, WhereItFits}
+use Rattle.orswot_core.specs.declared.form.Form.TheVariants.{One, Two}
+use Rattle.orswot_core.specs.Telling.{Range, ToldValue, run_ranges}
+use Rattle.orswot_core.specs.Checks.{is_too_many_in, WhereItFits}
 use Rattle.orswot_core.specs.Sets.{DotRows}
 use Rattle.orswot_core.specs.Full.{IsFull, IsFullInRuns, IsFullIn, top_ranges, dots_above, dots_of_runs, all_ranges, counts_in, left_behind, Fits}
 use Rattle.orswot_core.proofs.FullFacts.{form_is_full}

@@ -17,18 +17,18 @@ use Rattle.presence_base.specs.declared.dots.TheConstants.{MAX_COUNT}
 use Rattle.presence_base.specs.declared.dots.Dot.{Dot}
 use Rattle.presence_base.specs.declared.row.Row.{Row}
 use Rattle.presence_base.specs.Order.{replica_cmp, dot_cmp, same_replica, same_dot}
-use Rattle.dot_context_runs.specs.Runs.{holds, AreRuns, top_count, above_top}
+use Rattle.dot_context.specs.Runs.{holds, AreRuns, top_count, above_top}
 use Rattle.dot_context.specs.Sets.{DotSet}
 use Rattle.dot_context.specs.Forms.{Form, IsForm, IfFormed, tops_of, cloud_of}
 use Rattle.dot_context.proofs.FormFacts.{held_within, only_form}
 use Rattle.dot_context.proofs.SetFacts.{top_held, next_not_held}
-use Rattle.dot_context_runs.proofs.LoopFacts.{loose}
-use Rattle.orswot_core_told.specs.Limits.{is_count, is_dot, is_row, is_range}
-use Rattle.orswot_core_told.specs.Telling.{Range, ToldValue, range_has, covers, live_row}
-use Rattle.orswot_core_told.specs.Checks.{IsTold, has_repeat, replicas_of, dots_of, is_forward}
+use Rattle.dot_context.proofs.LoopFacts.{loose}
+use Rattle.orswot_core.specs.Limits.{is_count, is_dot, is_row, is_range}
+use Rattle.orswot_core.specs.Telling.{Range, ToldValue, range_has, covers, live_row}
+use Rattle.orswot_core.specs.Checks.{IsTold, has_repeat, replicas_of, dots_of, is_forward}
 use Rattle.orswot_core.specs.Sets.{DotRows, LiveRows, rows_of, is_sound, IsSound}
 use Rattle.orswot_core.specs.Full.{dot_of, up_to_top, top_ranges, dots_of_runs, dots_above, IsTopRange, IsFull}
-use Rattle.orswot_core_told.proofs.OrderFacts.{replica_total, dot_total, dot_antisymmetric, replicas_equal, same_itself}
+use Rattle.orswot_core.proofs.OrderFacts.{replica_total, dot_total, dot_antisymmetric, replicas_equal, same_itself}
 use Rattle.orswot_core.proofs.RowFacts.{find_is}
 use Rattle.orswot_core.proofs.ListedFacts.{found_by, up_to, in_ranges, in_above, in_set, replicas_listed, counts_parted}
 use Rattle.orswot_core.proofs.OrderedFacts.{each_weaker, above_sorted}

@@ -16,11 +16,11 @@ use Rattle.presence_base.specs.declared.dots.Dot.{Dot}
 use Rattle.presence_base.specs.declared.dots.Replica.{Replica}
 use Rattle.presence_base.specs.declared.row.Row.{Row}
 use Rattle.presence_base.specs.Order.{dot_cmp, replica_cmp, same_dot}
-use Rattle.orswot_core_told.specs.Telling.{Range, range_has}
+use Rattle.orswot_core.specs.Telling.{Range, range_has}
 use Rattle.orswot_core.specs.Sets.{Rows, is_left}
 use Rattle.orswot_core.specs.Steps.{left_at}
-use Rattle.orswot_core_told.specs.Checks.{is_forward, dots_of}
-use Rattle.orswot_core_told.proofs.OrderFacts.{dots_equal, replica_total}
+use Rattle.orswot_core.specs.Checks.{is_forward, dots_of}
+use Rattle.orswot_core.proofs.OrderFacts.{dots_equal, replica_total}
 
 any_push : (p : Dot → Bool) (xs : List Dot) (d : Dot) → list_any p (xs ++ d ∷ []) ≡ (list_any p xs || p d)
 any_push p [] d = or_none (p d)

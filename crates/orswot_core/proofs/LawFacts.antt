@@ -4,12 +4,12 @@ use Rattle.std.specs.FinSet as set
 use Rattle.std.specs.FinMap as map
 use Rattle.presence_base.specs.declared.dots.Dot.{Dot}
 use Rattle.presence_base.specs.declared.row.Row.{Row}
-use Rattle.orswot_core_told.specs.Telling.{ToldValue, covers, live_row}
+use Rattle.orswot_core.specs.Telling.{ToldValue, covers, live_row}
 use Rattle.orswot_core.specs.Sets.{DotRows, joined_row}
 use Rattle.orswot_core.specs.Laws.{RemovalsAreHeard, TakesInAll, Knows, Idempotent, Commutative, Associative, RemovedStays, Learns, JoinsKeepKnown, StepsKeepKnown, KnownChangesNothing, OldChangesNothing}
 use Rattle.std.specs.List.{list_any}
 use Rattle.presence_base.specs.Order.{dot_cmp, same_dot}
-use Rattle.orswot_core_told.proofs.OrderFacts.{dot_total, dot_antisymmetric, dots_equal}
+use Rattle.orswot_core.proofs.OrderFacts.{dot_total, dot_antisymmetric, dots_equal}
 use Rattle.orswot_core.proofs.RowFacts.{same_rows}
 use Rattle.orswot_core.proofs.SoundFacts.{only_covered, told_sound, without_rows_at}
 

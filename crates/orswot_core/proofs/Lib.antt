@@ -1,5 +1,7 @@
-pub use Rattle.orswot_core_told.proofs.OrderFacts
-pub use Rattle.orswot_core_told.proofs.LoopFacts
+pub mod OrderFacts
+pub mod LoopFacts
+pub mod CutFacts
+pub mod FitFacts
 pub mod RunFacts
 pub mod RowFacts
 pub mod GatherFacts

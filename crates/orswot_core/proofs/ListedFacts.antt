@@ -11,15 +11,15 @@ use Rattle.std.specs.Map.{lookup, keys_of}
 use Rattle.presence_base.specs.declared.dots.Replica.{Replica}
 use Rattle.presence_base.specs.declared.dots.Dot.{Dot}
 use Rattle.presence_base.specs.Order.{replica_cmp, same_replica, same_dot}
-use Rattle.dot_context_runs.specs.Runs.{holds, AreRuns, top_count, above_top}
+use Rattle.dot_context.specs.Runs.{holds, AreRuns, top_count, above_top}
 use Rattle.dot_context.specs.Sets.{DotSet, span, run_dots, set_of, listed}
 use Rattle.dot_context.specs.Forms.{Form, cloud_of}
 use Rattle.dot_context.proofs.SetFacts.{contains-set_of, any_append, and_false, in_run_dots}
-use Rattle.orswot_core_told.specs.Telling.{range_has}
-use Rattle.orswot_core_told.specs.Checks.{replicas_of}
+use Rattle.orswot_core.specs.Telling.{range_has}
+use Rattle.orswot_core.specs.Checks.{replicas_of}
 use Rattle.orswot_core.specs.Full.{dot_of, top_ranges, dots_of_runs, dots_above}
-use Rattle.orswot_core_told.proofs.LoopFacts.{or_none}
-use Rattle.orswot_core_told.proofs.OrderFacts.{replicas_equal}
+use Rattle.orswot_core.proofs.LoopFacts.{or_none}
+use Rattle.orswot_core.proofs.OrderFacts.{replicas_equal}
 
 -- one more count of a run is listed
 span_step : (r : Replica) (from to : ℕ) → from < to → span r from (to - from) ≡ dot_of r (from + 1) ∷ span r (from + 1) (to - (from + 1))

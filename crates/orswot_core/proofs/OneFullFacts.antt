@@ -14,14 +14,14 @@ use Rattle.presence_base.specs.declared.dots.Replica.{Replica}
 use Rattle.presence_base.specs.declared.dots.Dot.{Dot}
 use Rattle.presence_base.specs.Order.{replica_cmp, same_replica}
 use Rattle.dot_context.specs.Sets.{DotSet}
-use Rattle.orswot_core_told.specs.declared.form.Form.{Form as ToldForm}
-use Rattle.orswot_core_told.specs.declared.form.Form.TheVariants.{One, Two}
-use Rattle.orswot_core_told.specs.Telling.{Range, ToldValue, range_has, covers, live_row}
-use Rattle.orswot_core_told.specs.Checks.{replicas_of}
+use Rattle.orswot_core.specs.declared.form.Form.{Form as ToldForm}
+use Rattle.orswot_core.specs.declared.form.Form.TheVariants.{One, Two}
+use Rattle.orswot_core.specs.Telling.{Range, ToldValue, range_has, covers, live_row}
+use Rattle.orswot_core.specs.Checks.{replicas_of}
 use Rattle.orswot_core.specs.Sets.{DotRows}
 use Rattle.orswot_core.specs.Full.{dot_of, IsTopRange, IsFull, IsFullInRuns, IsFullIn}
 use Rattle.orswot_core.specs.Laws.{OneFull, FormsTellTheSame, FullsAreInOrder}
-use Rattle.orswot_core_told.proofs.OrderFacts.{replica_total, replica_antisymmetric, dot_total, dot_antisymmetric, replicas_equal}
+use Rattle.orswot_core.proofs.OrderFacts.{replica_total, replica_antisymmetric, dot_total, dot_antisymmetric, replicas_equal}
 use Rattle.orswot_core.proofs.FullFacts.{passes, to_test, no_repeat, covers_all, rows_all, rows_listed}
 use Rattle.orswot_core.proofs.RunRangeFacts.{covers_in_runs, runs_not_astray}
 use Rattle.orswot_core.proofs.ApartFacts.{same_ranges_apart}

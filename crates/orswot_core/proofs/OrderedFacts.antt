@@ -10,11 +10,11 @@ use Rattle.std.specs.Map.{keys_of}
 use Rattle.presence_base.specs.declared.dots.Replica.{Replica}
 use Rattle.presence_base.specs.declared.dots.Dot.{Dot}
 use Rattle.presence_base.specs.Order.{replica_cmp, dot_cmp}
-use Rattle.dot_context_runs.specs.Runs.{AreRuns, above_top}
+use Rattle.dot_context.specs.Runs.{AreRuns, above_top}
 use Rattle.dot_context.specs.Sets.{span, run_dots}
 use Rattle.dot_context.specs.Forms.{Form, cloud_of}
 use Rattle.orswot_core.specs.Full.{dot_of, dots_of_runs, dots_above}
-use Rattle.orswot_core_told.proofs.OrderFacts.{replica_total}
+use Rattle.orswot_core.proofs.OrderFacts.{replica_total}
 use Rattle.orswot_core.proofs.ListedFacts.{above_all}
 
 module _ {A : Type 0} where

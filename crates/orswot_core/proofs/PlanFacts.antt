@@ -9,7 +9,7 @@ use Rattle.presence_base.specs.declared.row.Row.{Row}
 use Rattle.presence_base.specs.Order.{dot_cmp, same_dot}
 use Rattle.dot_context.specs.Sets.{DotSet}
 use Rattle.orswot_core.specs.Sets.{Rows, DotRows, rows_of, is_sound, IsSound, is_missing, AreNeeded, IsJoin, joined_row, leaving, without_rows, ArePlanned}
-use Rattle.orswot_core_told.proofs.OrderFacts.{dot_total, dot_antisymmetric}
+use Rattle.orswot_core.proofs.OrderFacts.{dot_total, dot_antisymmetric}
 use Rattle.orswot_core.proofs.RowFacts.{seen_row, same_rows, uncovered_none, told_at}
 use Rattle.orswot_core.proofs.SoundFacts.{live_is_covered, joined_sound, without_rows_at}
 

@@ -12,9 +12,9 @@ use Rattle.presence_base.specs.declared.dots.Replica.{Replica}
 use Rattle.presence_base.specs.declared.row.Row.{Row}
 use Rattle.presence_base.specs.Order.{dot_cmp, same_dot, same_replica}
 use Rattle.dot_context.specs.Sets.{DotSet}
-use Rattle.orswot_core_told.specs.Limits.{is_count, is_dot, is_row}
-use Rattle.orswot_core_told.specs.Telling.{Range, range_has}
-use Rattle.orswot_core_told.proofs.OrderFacts.{same_itself}
+use Rattle.orswot_core.specs.Limits.{is_count, is_dot, is_row}
+use Rattle.orswot_core.specs.Telling.{Range, range_has}
+use Rattle.orswot_core.proofs.OrderFacts.{same_itself}
 use Rattle.orswot_core.specs.Sets.{Rows, LiveRows, rows_of, rows_by, rows_within, is_sound, IsSound}
 use Rattle.orswot_core.proofs.SoundFacts.{sound_at}
 use Rattle.orswot_core.proofs.FullFacts.{entries_are}

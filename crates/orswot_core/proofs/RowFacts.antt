@@ -10,7 +10,7 @@ use Rattle.std.specs.List.{filter, list_any}
 use Rattle.presence_base.specs.declared.dots.Dot.{Dot}
 use Rattle.presence_base.specs.Order.{dot_cmp, same_dot}
 use Rattle.dot_context.specs.Sets.{DotSet}
-use Rattle.orswot_core_told.proofs.OrderFacts.{dot_total, dot_antisymmetric, is_tied, flipped, dots_equal}
+use Rattle.orswot_core.proofs.OrderFacts.{dot_total, dot_antisymmetric, is_tied, flipped, dots_equal}
 use Rattle.presence_base.specs.declared.row.Row.{Row}
 use Rattle.orswot_core.specs.Sets.{Rows, LiveRows, DotRows, rows_of, first_row, joined_row, is_left, is_missing}
 

@@ -4,9 +4,9 @@ use Rattle.std.specs.List.{list_any}
 use Rattle.presence_base.specs.declared.dots.Replica.{Replica}
 use Rattle.presence_base.specs.declared.dots.Dot.{Dot}
 use Rattle.presence_base.specs.Order.{same_replica}
-use Rattle.dot_context_runs.specs.Runs.{in_run, holds}
+use Rattle.dot_context.specs.Runs.{in_run, holds}
 use Rattle.dot_context.proofs.SetFacts.{and_false}
-use Rattle.orswot_core_told.specs.Telling.{range_has, run_ranges}
+use Rattle.orswot_core.specs.Telling.{range_has, run_ranges}
 
 and_or : (a b c : Bool) → ((a && b) || (a && c)) ≡ (a && (b || c))
 and_or true b c = refl

@@ -15,17 +15,17 @@ use Rattle.presence_base.specs.declared.dots.TheConstants.{MAX_COUNT}
 use Rattle.presence_base.specs.declared.dots.Dot.{Dot}
 use Rattle.presence_base.specs.declared.row.Row.{Row}
 use Rattle.presence_base.specs.Order.{replica_cmp, dot_cmp, same_replica, same_dot}
-use Rattle.dot_context_runs.specs.Runs.{holds, AreRuns}
+use Rattle.dot_context.specs.Runs.{holds, AreRuns}
 use Rattle.dot_context.specs.Sets.{DotSet}
 use Rattle.dot_context.specs.Forms.{Form, IsForm, IfFormed}
-use Rattle.orswot_core_told.specs.declared.form.Form.TheVariants.{Two}
-use Rattle.orswot_core_told.specs.Limits.{is_count, is_dot, is_row, is_range}
-use Rattle.orswot_core_told.specs.Telling.{Range, ToldValue, range_has, run_ranges, covers}
-use Rattle.orswot_core_told.specs.Checks.{IsTold, has_repeat, dots_of, is_forward, may_precede, follow_on, are_in_order, has_range_astray}
+use Rattle.orswot_core.specs.declared.form.Form.TheVariants.{Two}
+use Rattle.orswot_core.specs.Limits.{is_count, is_dot, is_row, is_range}
+use Rattle.orswot_core.specs.Telling.{Range, ToldValue, range_has, run_ranges, covers}
+use Rattle.orswot_core.specs.Checks.{IsTold, has_repeat, dots_of, is_forward, may_precede, follow_on, are_in_order, has_range_astray}
 use Rattle.orswot_core.specs.Sets.{DotRows, IsSound}
 use Rattle.orswot_core.specs.Full.{dot_of, all_ranges, is_some, is_apart, are_apart_from, are_apart, IsFullInRuns}
-use Rattle.orswot_core_told.proofs.LoopFacts.{all_weaker, or_none}
-use Rattle.orswot_core_told.proofs.OrderFacts.{replica_total}
+use Rattle.orswot_core.proofs.LoopFacts.{all_weaker, or_none}
+use Rattle.orswot_core.proofs.OrderFacts.{replica_total}
 use Rattle.orswot_core.proofs.RunFacts.{in_run_ranges, any_either_list, and_parts, and_from, or_true}
 use Rattle.orswot_core.proofs.ListedFacts.{any_found, in_set}
 use Rattle.orswot_core.proofs.OrderedFacts.{each_weaker}

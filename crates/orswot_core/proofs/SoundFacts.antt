@@ -13,12 +13,12 @@ use Rattle.presence_base.specs.declared.row.Row.{Row}
 use Rattle.presence_base.specs.Order.{dot_cmp, same_dot, same_replica}
 use Rattle.dot_context.specs.Sets.{DotSet, others_dots}
 use Rattle.dot_context.proofs.SetFacts.{contains-without}
-use Rattle.orswot_core_told.specs.Limits.{is_count, is_dot, is_row, is_range}
-use Rattle.orswot_core_told.specs.Telling.{Range, ToldValue, range_has, covers, live_row}
-use Rattle.orswot_core_told.specs.Checks.{IsTold}
+use Rattle.orswot_core.specs.Limits.{is_count, is_dot, is_row, is_range}
+use Rattle.orswot_core.specs.Telling.{Range, ToldValue, range_has, covers, live_row}
+use Rattle.orswot_core.specs.Checks.{IsTold}
 use Rattle.orswot_core.specs.Sets.{Rows, DotRows, LiveRows, rows_of, seen, is_sound, IsSound, joined_row, IsJoin, without_rows, removed, without_replica}
 use Rattle.orswot_core.specs.Steps.{Removes}
-use Rattle.orswot_core_told.proofs.OrderFacts.{dot_total, dot_antisymmetric, dots_equal, replicas_equal, flipped}
+use Rattle.orswot_core.proofs.OrderFacts.{dot_total, dot_antisymmetric, dots_equal, replicas_equal, flipped}
 use Rattle.orswot_core.proofs.RowFacts.{seen_row, same_rows}
 
 pub sound_at : (s : DotSet) (m : Rows) → IsSound s (rows_of m.entries) → (q : Dot) → is_sound q (set.contains s q) (get dot_cmp m q) ≡ true

@@ -10,10 +10,10 @@ use Rattle.presence_base.specs.declared.dots.Dot.{Dot}
 use Rattle.presence_base.specs.Order.{replica_cmp, dot_cmp, same_replica, same_dot}
 use Rattle.dot_context.specs.Sets.{DotSet, run_dots}
 use Rattle.dot_context.specs.Forms.{Form, tops_of, cloud_of}
-use Rattle.orswot_core_told.specs.declared.form.Form.{Form as ToldForm}
-use Rattle.orswot_core_told.specs.declared.form.Form.TheVariants.{One, Two}
-use Rattle.orswot_core_told.specs.Telling.{Range, ToldValue, range_has, run_ranges}
-use Rattle.orswot_core_told.specs.Checks.{replicas_of, is_too_many_in}
+use Rattle.orswot_core.specs.declared.form.Form.{Form as ToldForm}
+use Rattle.orswot_core.specs.declared.form.Form.TheVariants.{One, Two}
+use Rattle.orswot_core.specs.Telling.{Range, ToldValue, range_has, run_ranges}
+use Rattle.orswot_core.specs.Checks.{replicas_of, is_too_many_in}
 use Rattle.orswot_core.specs.Sets.{DotRows}
 
 abbrev pub dot_of : Replica → ℕ → Dot

@@ -4,9 +4,9 @@ use Rattle.std.specs.FinSet as set
 use Rattle.std.specs.FinMap as map
 use Rattle.presence_base.specs.declared.dots.Dot.{Dot}
 use Rattle.presence_base.specs.declared.row.Row.{Row}
-use Rattle.orswot_core_told.specs.declared.form.Form.{Form}
-use Rattle.orswot_core_told.specs.Telling.{ToldValue, covers, live_row, tells_removed}
-use Rattle.orswot_core_told.specs.Checks.{IsTold, has_range_astray}
+use Rattle.orswot_core.specs.declared.form.Form.{Form}
+use Rattle.orswot_core.specs.Telling.{ToldValue, covers, live_row, tells_removed}
+use Rattle.orswot_core.specs.Checks.{IsTold, has_range_astray}
 use Rattle.orswot_core.specs.Full.{IsFullIn}
 use Rattle.orswot_core.specs.Sets.{DotRows, IsSound, IsJoin, with_dot, removed}
 

@@ -1,6 +1,7 @@
-pub use Rattle.orswot_core_told.specs.Limits
-pub use Rattle.orswot_core_told.specs.Telling
-pub use Rattle.orswot_core_told.specs.Checks
+pub mod Limits
+pub mod Telling
+pub mod ToldCodes
+pub mod Checks
 pub mod Sets
 pub mod Codes
 pub mod Steps

@@ -9,8 +9,8 @@ use Rattle.presence_base.specs.declared.row.Row.{Row}
 use Rattle.presence_base.specs.declared.dots.Replica.{Replica}
 use Rattle.presence_base.specs.Order.{dot_cmp, same_dot, same_replica}
 use Rattle.dot_context.specs.Sets.{DotSet, others_dots}
-use Rattle.orswot_core_told.specs.Limits.{is_dot, is_row}
-use Rattle.orswot_core_told.specs.Telling.{Range, range_has}
+use Rattle.orswot_core.specs.Limits.{is_dot, is_row}
+use Rattle.orswot_core.specs.Telling.{Range, range_has}
 
 abbrev pub Rows : Type 0
 Rows = BTreeMap Dot Row

@@ -1,11 +1,12 @@
 //! Whether all that is told of a set fits a line: runs are counted by their ends, however long they are.
 ghost use Rattle.std.specs.Prelude.{◌≡◌, length, nat_le};
-ghost use Rattle.orswot_core_told.specs.declared.form.Form.TheVariants.{One, Two};
+ghost use Rattle.orswot_core.specs.declared.form.Form.TheVariants.{One, Two};
 ghost use Rattle.orswot_core.specs.Sets.{seen};
 ghost use Rattle.orswot_core.specs.Full.{Fits, IsFullIn, all_ranges, counts_in, dots_of_runs, left_behind};
 
+use crate::form::Form;
+use crate::told::MAX_ROWS;
 use dot_context::{Cloud, Context, ReplicaRuns};
-use orswot_core_told::{Form, MAX_ROWS};
 use presence_base::{Dot, Row};
 use std::collections::BTreeMap;
 use std::collections::btree_map::{Iter, Range};

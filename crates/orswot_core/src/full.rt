@@ -5,12 +5,13 @@ ghost use Rattle.std.specs.Map.{keys_of};
 ghost use Rattle.presence_base.specs.Order.{dot_cmp};
 ghost use Rattle.orswot_core.specs.Sets.{IsSound, rows_of, seen};
 ghost use Rattle.orswot_core.specs.Full.{IsFullIn, up_to_top, dots_of_runs, all_ranges};
-ghost use Rattle.orswot_core_told.specs.declared.form.Form.TheVariants.{One, Two};
-ghost use Rattle.orswot_core_told.specs.Telling.{run_ranges};
+ghost use Rattle.orswot_core.specs.declared.form.Form.TheVariants.{One, Two};
+ghost use Rattle.orswot_core.specs.Telling.{run_ranges};
 ghost use Rattle.dot_context.specs.Sets.{span, run_dots};
 
+use crate::form::Form;
+use crate::told::Told;
 use dot_context::{Cloud, Context, ReplicaRuns, Tops};
-use orswot_core_told::{Form, Told};
 use presence_base::{Dot, Replica, Row};
 use std::alloc::{AllocError, Global};
 use std::collections::BTreeMap;

@@ -4,8 +4,8 @@ ghost use Rattle.std.specs.List.{filter};
 ghost use Rattle.std.specs.List.Sorted.{IsStrictlySortedBy};
 ghost use Rattle.std.specs.Map.{keys_of};
 ghost use Rattle.presence_base.specs.Order.{dot_cmp};
-ghost use Rattle.orswot_core_told.specs.Checks.{is_forward};
-ghost use Rattle.orswot_core_told.specs.Telling.{range_has};
+ghost use Rattle.orswot_core.specs.Checks.{is_forward};
+ghost use Rattle.orswot_core.specs.Telling.{range_has};
 
 use presence_base::{Dot, Replica, Row};
 use std::collections::BTreeMap;

@@ -5,16 +5,14 @@ use Rattle.std.proofs.lemmas.Option.{same_Some}
 use Rattle.presence_base.specs.declared.dots.Dot.{Dot}
 use Rattle.presence_base.specs.declared.row.Row.{Row}
 use Rattle.presence_base.specs.Order.{same_text}
-use Rattle.presence_journal_data.specs.declared.rows.RowDiff.{RowDiff}
+use Rattle.presence_journal.specs.declared.rows.RowDiff.{RowDiff}
 use Rattle.presence_journal.specs.Steps.{Entry, Start}
 use Rattle.presence_journal.specs.History.{History, Begin, Then, onto, entry_count, first_some, has_dot, row_added, shown}
-use Rattle.presence_journal.specs.Present.{RowMap, of_topic, present, missing_in, in_order, changes}
-use Rattle.presence_journal.specs.Queue.{diff_of}
+use Rattle.presence_journal.specs.Present.{RowMap, of_topic, present, missing_in, in_order, changes, dots_taken}
+use Rattle.presence_journal.specs.Queue.{diff_of, diff_at}
 use Rattle.presence_journal.specs.Table.{IsLegal}
 use Rattle.presence_journal.specs.Walk.{joined, without_dots, among, rows_after, shown_of, keyed, IsTableOf}
 use Rattle.presence_journal.specs.Laws.{is_callers}
-use Rattle.presence_journal.specs.Present.{dots_taken}
-use Rattle.presence_journal.specs.Queue.{diff_at}
 use Rattle.presence_journal.proofs.Lookups.{get-missing_in}
 use Rattle.presence_journal.proofs.PresentLemmas.{get-present, of_topic-some, shown-row, row-stays}
 use Rattle.presence_journal.proofs.HistoryLemmas.{kind_of, added_plain, legal_knows, added_fresh, legal_before, onto-append}

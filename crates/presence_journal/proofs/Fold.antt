@@ -7,11 +7,11 @@ use Rattle.std.proofs.lemmas.Option.{same_Some}
 use Rattle.presence_base.specs.declared.dots.Dot.{Dot}
 use Rattle.presence_base.specs.declared.row.Row.{Row}
 use Rattle.presence_base.specs.Order.{same_text}
-use Rattle.presence_journal_data.specs.declared.step.Step.TheVariants as steps_are
-use Rattle.presence_journal_data.specs.declared.entry.Outcome.TheVariants as outcomes_are
-use Rattle.presence_journal_data.specs.declared.rows.Item.{Item}
-use Rattle.presence_journal_data.specs.declared.rows.Item.TheVariants as items_are
-use Rattle.presence_journal_data.specs.declared.rows.RowDiff.{RowDiff}
+use Rattle.presence_journal.specs.declared.step.Step.TheVariants as steps_are
+use Rattle.presence_journal.specs.declared.entry.Outcome.TheVariants as outcomes_are
+use Rattle.presence_journal.specs.declared.rows.Item.{Item}
+use Rattle.presence_journal.specs.declared.rows.Item.TheVariants as items_are
+use Rattle.presence_journal.specs.declared.rows.RowDiff.{RowDiff}
 use Rattle.presence_journal.specs.Steps.{Step, Entry}
 use Rattle.presence_journal.specs.History.{History, Begin, Then, has_dot, first_some, row_added, shown}
 use Rattle.presence_journal.specs.Present.{RowMap, of_topic, present, dots_taken}

@@ -9,9 +9,9 @@ use Rattle.std.proofs.lemmas.List.Elements.{All-nil, All-cons, All-head, All-tai
 use Rattle.presence_base.specs.declared.dots.Dot.{Dot}
 use Rattle.presence_base.specs.declared.row.Row.{Row}
 use Rattle.presence_base.specs.Order.{same_text, same_dot}
-use Rattle.presence_journal_data.specs.declared.step.Step.TheVariants as steps_are
-use Rattle.presence_journal_data.specs.declared.entry.Outcome.TheVariants as outcomes_are
-use Rattle.presence_journal_data.specs.declared.rows.Place.{Place}
+use Rattle.presence_journal.specs.declared.step.Step.TheVariants as steps_are
+use Rattle.presence_journal.specs.declared.entry.Outcome.TheVariants as outcomes_are
+use Rattle.presence_journal.specs.declared.rows.Place.{Place}
 use Rattle.presence_journal.specs.Steps.{Step, Outcome, Entry}
 use Rattle.presence_journal.specs.History.{History, Then, count, next_dot, is_full, has_dot, first_some, row, row_made, row_added, dot_removed, removed, is_up, status, live, shown}
 use Rattle.presence_journal.specs.Present.{of_topic, present, listed, in_order, dots_of}

@@ -10,7 +10,7 @@ use Rattle.std.proofs.lemmas.Option.{same_Some}
 use Rattle.presence_base.specs.declared.dots.Dot.{Dot}
 use Rattle.presence_base.specs.declared.row.Row.{Row}
 use Rattle.presence_base.specs.Order.{text_cmp, dot_cmp, same_text, same_dot}
-use Rattle.presence_journal_data.specs.declared.rows.Place.{Place}
+use Rattle.presence_journal.specs.declared.rows.Place.{Place}
 use Rattle.presence_journal.specs.Steps.{Entry}
 use Rattle.presence_journal.specs.History.{History, Then, has_dot, shown}
 use Rattle.presence_journal.specs.Present.{place_cmp, place_of, of_topic, dots, put, put_all, present}

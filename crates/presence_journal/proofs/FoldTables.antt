@@ -10,7 +10,7 @@ use Rattle.std.specs.FinMap as map
 use Rattle.std.specs.FinMap.Entries.{below_all}
 use Rattle.presence_base.specs.declared.dots.Dot.{Dot}
 use Rattle.presence_base.specs.declared.row.Row.{Row}
-use Rattle.presence_journal_data.specs.declared.rows.Place.{Place}
+use Rattle.presence_journal.specs.declared.rows.Place.{Place}
 use Rattle.presence_journal.specs.Present.{RowMap, place_cmp, place_of, in_order, missing_in, changes}
 use Rattle.presence_journal.specs.Queue.{with_rows, without_rows}
 use Rattle.presence_journal.specs.Laws.{IsPlaced, ChangesLead}

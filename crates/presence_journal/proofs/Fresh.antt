@@ -9,7 +9,7 @@ use Rattle.presence_base.specs.Order.{same_dot}
 use Rattle.presence_base.specs.Refs.{IsCount, IsDot}
 use Rattle.presence_base.specs.Names.{is_node_name}
 use Rattle.presence_base.proofs.Splitting.{one_dot}
-use Rattle.presence_journal_data.specs.declared.entry.Outcome.TheVariants as outcomes_are
+use Rattle.presence_journal.specs.declared.entry.Outcome.TheVariants as outcomes_are
 use Rattle.std.specs.Map.{lookup}
 use Rattle.presence_journal.specs.Steps.{Step, Outcome, Entry, Start}
 use Rattle.presence_journal.specs.History.{History, Begin, Then, own, reborn, is_full, count, counts_used, next_dot, known, told_row, row_again, row_brought, row, has_dot, first_some, row_made, row_added, shown}

@@ -11,26 +11,24 @@ use Rattle.presence_base.specs.declared.row.Row.{Row}
 use Rattle.presence_base.specs.Metas.{is_meta}
 use Rattle.presence_base.specs.Names.{is_short_text}
 use Rattle.presence_base.specs.Order.{same_dot, same_replica}
-use Rattle.orswot_core_told.specs.Telling.{covers, live_row}
+use Rattle.orswot_core.specs.Telling.{covers, live_row}
 use Rattle.serde_json.specs.Data.{Data}
-use Rattle.presence_journal_data.specs.declared.step.Step.TheVariants as steps_are
-use Rattle.presence_journal_data.specs.declared.entry.Outcome.TheVariants as outcomes_are
+use Rattle.presence_journal.specs.declared.step.Step.TheVariants as steps_are
+use Rattle.presence_journal.specs.declared.entry.Outcome.TheVariants as outcomes_are
 use Rattle.replica_status.specs.declared.status.Status.TheVariants as status_is
 use Rattle.replica_status.specs.declared.standing.Standing.{Standing}
 use Rattle.replica_status.specs.Table.{status_of}
 use Rattle.presence_journal.specs.Steps.{Step, Outcome, Entry, Start}
 use Rattle.presence_journal.specs.History.{History, Begin, Then, onto, start_of, own, reborn, own_after, is_full, count, counts_used, count_after, has_dots, row_again, row_brought, last_cut, last_number, entry_count, next_dot, is_counted, known, time, time_of, standing, standing_after, status, is_up, told_covers, told_row, told_removed, first_some, has_dot, row_made, row_added, dot_removed, removed, row, live, shown}
-use Rattle.presence_journal.specs.Present.{listed, dots_of}
+use Rattle.presence_journal.specs.Present.{listed, dots_of, dots_taken}
 use Rattle.presence_journal.specs.Queue.{Waiting, Behind, Queued, queue, topic_of}
-use Rattle.presence_journal.specs.Table.{rows_of_pid, rows_of_key, listed_key, counting, tracked, updated, untracked, take_outcome, for_present, outcome_of, next_entry, accepted, after, is_step, IsStart, IsLegal, AreWithinLimits}
-use Rattle.presence_journal_data.specs.StepLimits.{is_row_made, is_within_limits}
-use Rattle.presence_journal.specs.Present.{dots_taken}
+use Rattle.presence_journal.specs.Table.{rows_of_pid, rows_of_key, listed_key, counting, tracked, updated, untracked, take_outcome, for_present, outcome_of, next_entry, accepted, after, is_step, IsStart, IsLegal, AreWithinLimits, own_dots, reborn_from}
+use Rattle.presence_journal.specs.StepLimits.{is_row_made, is_within_limits}
 use Rattle.presence_journal.specs.Walk.{tells, is_rebirth, is_reborn}
 use Rattle.presence_journal.specs.Laws.{is_callers}
 use Rattle.presence_journal.specs.Merges.{is_of_rows}
 use Rattle.presence_journal.proofs.Same.{same_dot-true, same_replica-true, same_replica-refl}
 use Rattle.presence_journal.proofs.ToldLemmas.{told_other, none_told_row, none_told_removed, callers_tell_none, live_row_covered, row_told_covers, removed_told_covers}
-use Rattle.presence_journal.specs.Table.{own_dots, reborn_from}
 use Rattle.presence_journal.proofs.PresentLemmas.{shown-row, IsOwnListed, own_rows, own_rows_of_key}
 use Rattle.presence_journal.proofs.Reborn.{known_has, length_reborn, again_parts, IsAgain, again_of, own_dots_most}
 

@@ -1,6 +1,6 @@
 -- The bytes that are kept, entry by entry.
 use Rattle.std.proofs.Common.{◌≡◌, ◌∙◌, ◌+◌, ℕ, List, [], ◌∷◌, ◌++◌, arith, refl, sym, ap}
-use Rattle.presence_journal_data.specs.KeptBytes.{entry_bytes}
+use Rattle.presence_journal.specs.EntryBytes.{entry_bytes}
 use Rattle.presence_journal.specs.Steps.{Entry, Start}
 use Rattle.presence_journal.specs.History.{History, Begin, Then, onto}
 use Rattle.presence_journal.specs.KeptBytes.{entries_bytes, kept_bytes}

@@ -1,3 +1,4 @@
+pub mod ListedLemmas
 pub mod Same
 pub mod KeptBytes
 pub mod ToldLemmas

@@ -13,7 +13,7 @@ use Rattle.std.proofs.lemmas.Map.Keys.{IsDistinct-tail}
 use Rattle.presence_base.specs.declared.dots.Dot.{Dot}
 use Rattle.presence_base.specs.declared.row.Row.{Row}
 use Rattle.presence_base.specs.Order.{same_text, same_dot}
-use Rattle.presence_journal_data.specs.declared.rows.Place.{Place}
+use Rattle.presence_journal.specs.declared.rows.Place.{Place}
 use Rattle.presence_journal.specs.History.{first_some, has_dot}
 use Rattle.presence_journal.specs.Present.{place_cmp, RowMap, place_of, put, put_all, missing_in}
 use Rattle.presence_journal.specs.Queue.{with_rows}

@@ -6,14 +6,14 @@ use Rattle.std.proofs.lemmas.Bool.{and_from, or_left, or_right, or_parts, leb-tr
 use Rattle.presence_base.specs.declared.dots.Dot.{Dot}
 use Rattle.presence_base.specs.declared.row.Row.{Row}
 use Rattle.presence_base.specs.Order.{same_dot}
-use Rattle.orswot_core_told.specs.Telling.{ToldValue, covers, live_row}
-use Rattle.presence_journal_data.specs.declared.step.Step.TheVariants as steps_are
-use Rattle.presence_journal_data.specs.declared.entry.Outcome.TheVariants as outcomes_are
+use Rattle.orswot_core.specs.Telling.{ToldValue, covers, live_row}
+use Rattle.presence_journal.specs.declared.step.Step.TheVariants as steps_are
+use Rattle.presence_journal.specs.declared.entry.Outcome.TheVariants as outcomes_are
 use Rattle.presence_journal.specs.Steps.{Step, Outcome, Entry, Start}
 use Rattle.presence_journal.specs.History.{History, Begin, Then, own, reborn, with_prev, row_again, row_brought, count, counts_used, status, is_up, hears, told_covers, told_row, told_removed, is_counted, known, next_dot, has_dot, first_some, row_made, row_added, dot_removed, removed, row, live, shown}
 use Rattle.presence_journal.specs.Present.{dots_added, dots_taken}
 use Rattle.presence_journal.specs.Table.{IsLegal, own_dots, reborn_from, is_step}
-use Rattle.presence_journal_data.specs.StepLimits.{is_heard}
+use Rattle.presence_journal.specs.StepLimits.{is_heard}
 use Rattle.presence_journal.specs.Walk.{tells, is_rebirth}
 use Rattle.presence_journal.specs.Merges.{RemovedIsKnown, KnownIsLiveOrRemoved, row_taken_in, MergeIsKnown, MergeIsLive, LiveStays, ShownStays, is_of_rows, OwnStepsAlone}
 use Rattle.presence_journal.proofs.Same.{same_dot-refl}

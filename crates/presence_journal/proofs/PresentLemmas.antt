@@ -8,10 +8,10 @@ use Rattle.std.proofs.lemmas.Option.{same_Some}
 use Rattle.presence_base.specs.declared.dots.Dot.{Dot}
 use Rattle.presence_base.specs.declared.row.Row.{Row}
 use Rattle.presence_base.specs.Order.{same_text, same_dot, same_replica}
-use Rattle.orswot_core_told.specs.Telling.{live_row}
-use Rattle.presence_journal_data.specs.declared.step.Step.TheVariants as steps_are
-use Rattle.presence_journal_data.specs.declared.entry.Outcome.TheVariants as outcomes_are
-use Rattle.presence_journal_data.specs.declared.rows.Place.{Place}
+use Rattle.orswot_core.specs.Telling.{live_row}
+use Rattle.presence_journal.specs.declared.step.Step.TheVariants as steps_are
+use Rattle.presence_journal.specs.declared.entry.Outcome.TheVariants as outcomes_are
+use Rattle.presence_journal.specs.declared.rows.Place.{Place}
 use Rattle.presence_journal.specs.Steps.{Step, Outcome, Entry}
 use Rattle.presence_journal.specs.History.{History, Begin, Then, own, is_up, status, first_some, has_dot, row_added, row_made, row_again, row_brought, hears, told_row, removed, row, live, shown}
 use Rattle.presence_journal.specs.Present.{of_topic, dots_added, dots_told, dots, present, in_order, listed}

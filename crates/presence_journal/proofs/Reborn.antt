@@ -13,9 +13,9 @@ use Rattle.presence_base.specs.declared.dots.Replica.{Replica}
 use Rattle.presence_base.specs.declared.dots.Dot.{Dot}
 use Rattle.presence_base.specs.declared.row.Row.{Row}
 use Rattle.presence_base.specs.Order.{replica_cmp, dot_cmp, same_dot, same_replica}
-use Rattle.orswot_core_told.specs.Telling.{Range, ToldValue, range_has, lies_in, is_among, covers}
-use Rattle.presence_journal_data.specs.declared.step.Step.TheVariants as steps_are
-use Rattle.presence_journal_data.specs.declared.entry.Outcome.TheVariants as outcomes_are
+use Rattle.orswot_core.specs.Telling.{Range, ToldValue, range_has, lies_in, is_among, covers}
+use Rattle.presence_journal.specs.declared.step.Step.TheVariants as steps_are
+use Rattle.presence_journal.specs.declared.entry.Outcome.TheVariants as outcomes_are
 use Rattle.presence_journal.specs.Steps.{Step, Outcome}
 use Rattle.presence_journal.specs.History.{History, Begin, Then, own, reborn, count, has_dot, first_some, hears, is_counted, tells_of, told_of, told_covers, known, has_dots, status, shown}
 use Rattle.presence_journal.specs.Present.{dots}

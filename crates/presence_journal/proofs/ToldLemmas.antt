@@ -11,11 +11,11 @@ use Rattle.presence_base.specs.declared.row.Row.{Row}
 use Rattle.presence_base.specs.Names.{is_node_name}
 use Rattle.presence_base.specs.Order.{same_dot, same_replica}
 use Rattle.presence_base.specs.Refs.{IsDot}
-use Rattle.orswot_core_told.specs.Limits.{is_count, is_dot, is_row, is_range, are_texts}
-use Rattle.orswot_core_told.specs.Telling.{ToldValue, covers, live_row}
-use Rattle.orswot_core_told.specs.Checks.{are_forward, are_live_covered, has_live_twice}
-use Rattle.presence_journal_data.specs.StepLimits.{is_told, is_named, is_heard}
-use Rattle.presence_journal_data.specs.declared.step.Step.TheVariants as steps_are
+use Rattle.orswot_core.specs.Limits.{is_count, is_dot, is_row, is_range, are_texts}
+use Rattle.orswot_core.specs.Telling.{ToldValue, covers, live_row}
+use Rattle.orswot_core.specs.Checks.{are_forward, are_live_covered, has_live_twice}
+use Rattle.presence_journal.specs.StepLimits.{is_told, is_named, is_heard}
+use Rattle.presence_journal.specs.declared.step.Step.TheVariants as steps_are
 use Rattle.presence_journal.specs.Steps.{Step}
 use Rattle.presence_journal.specs.History.{History, own, status, is_gone, hears, told_covers, told_row, told_removed}
 use Rattle.presence_journal.specs.Table.{is_step}

@@ -5,7 +5,7 @@ use Rattle.std.specs.List.{list_all}
 use Rattle.std.proofs.lemmas.Bool.{and_parts, ne_eqb, eqb-true, leb-true}
 use Rattle.std.proofs.lemmas.Option.{same_Some}
 use Rattle.presence_base.specs.Names.{is_short_text}
-use Rattle.presence_journal_data.specs.declared.step.Step.TheVariants as steps_are
+use Rattle.presence_journal.specs.declared.step.Step.TheVariants as steps_are
 use Rattle.presence_journal.specs.Steps.{Step, Entry, Start}
 use Rattle.presence_journal.specs.History.{History, Begin, Then, onto, last_number}
 use Rattle.presence_journal.specs.Queue.{Waiting, Behind, topic_after, topic_at, topic_of, items_made, made_for, queue_after, queue}

@@ -3,17 +3,15 @@ use Rattle.std.proofs.Common.{◌≡◌, ℕ, ◌+◌, ◌<◌, ◌≤◌, ◌^�
 use Rattle.presence_base.specs.declared.dots.Dot.{Dot}
 use Rattle.presence_base.specs.declared.row.Row.{Row}
 use Rattle.presence_base.specs.Order.{same_text}
-use Rattle.presence_journal_data.specs.declared.entry.Outcome.TheVariants as outcomes_are
+use Rattle.presence_journal.specs.declared.entry.Outcome.TheVariants as outcomes_are
 use Rattle.presence_journal.specs.Steps.{Step, Outcome, Entry, Start}
 use Rattle.presence_journal.specs.History.{History, Begin, Then, onto, count, counts_used, first_some, has_dot, row_added, shown, own, own_after, count_after}
 use Rattle.presence_base.specs.declared.dots.Replica.{Replica}
-use Rattle.presence_journal.specs.Present.{of_topic}
-use Rattle.presence_journal.specs.Walk.{joined, rows_after, shown_of}
+use Rattle.presence_journal.specs.Present.{of_topic, dots_taken}
+use Rattle.presence_journal.specs.Walk.{joined, rows_after, shown_of, is_rebirth}
 use Rattle.presence_journal.specs.Laws.{is_callers}
-use Rattle.presence_journal.specs.Present.{dots_taken}
 use Rattle.presence_journal.specs.Table.{after, IsLegal}
 use Rattle.presence_journal.proofs.HistoryLemmas.{legal_before, Kind, Adds, Replaces, Removes, Quiet, is_quiet, kind_of, kind_plain, callers_plain, legal_knows, again_most, count-then, shown_by, added_fresh}
-use Rattle.presence_journal.specs.Walk.{is_rebirth}
 use Rattle.presence_journal.proofs.Reborn.{again_of}
 
 -- after i entries of `whole`, P holds of the history that they make

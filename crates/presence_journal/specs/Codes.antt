@@ -2,8 +2,8 @@
 use Rattle.std.specs.Prelude.{◌≡◌, List, [], ◌∷◌, refl}
 use Rattle.std.specs.Coded.{Coded, code_by, coded_list, coded×}
 use Rattle.std.proofs.Common.{ap}
-use Rattle.presence_journal_data.specs.contracts.entry.Entry as one_entry
-use Rattle.presence_journal_data.specs.contracts.entry.Start as beginning
+use Rattle.presence_journal.specs.contracts.entry.Entry as one_entry
+use Rattle.presence_journal.specs.contracts.entry.Start as beginning
 use Rattle.presence_journal.specs.Steps.{Entry, Start}
 use Rattle.presence_journal.specs.History.{History, Begin, Then, start_of, newest_first}
 

@@ -11,10 +11,10 @@ use Rattle.presence_base.specs.declared.dots.Replica.{Replica}
 use Rattle.presence_base.specs.declared.dots.Dot.{Dot}
 use Rattle.presence_base.specs.declared.row.Row.{Row}
 use Rattle.presence_base.specs.Order.{same_replica, same_dot}
-use Rattle.orswot_core_told.specs.Telling.{ToldValue, covers, live_row, tells_removed}
-use Rattle.presence_journal_data.specs.Keeping.{Kept}
-use Rattle.presence_journal_data.specs.declared.step.Step.TheVariants as steps_are
-use Rattle.presence_journal_data.specs.declared.entry.Outcome.TheVariants as outcomes_are
+use Rattle.orswot_core.specs.Telling.{ToldValue, covers, live_row, tells_removed}
+use Rattle.delta_range.specs.Keeping.{Kept}
+use Rattle.presence_journal.specs.declared.step.Step.TheVariants as steps_are
+use Rattle.presence_journal.specs.declared.entry.Outcome.TheVariants as outcomes_are
 use Rattle.presence_journal.specs.declared.journal.TheConstants.{MAX_ENTRIES}
 use Rattle.presence_journal.specs.Steps.{Step, Outcome, Entry, Start}
 pub use Rattle.presence_base.specs.Choices.{first_some}

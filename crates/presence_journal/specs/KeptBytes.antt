@@ -1,6 +1,6 @@
 -- How many bytes a history's entries keep beside themselves.
 use Rattle.std.specs.Prelude.{ℕ, ◌+◌, List, [], ◌∷◌}
-use Rattle.presence_journal_data.specs.KeptBytes.{entry_bytes}
+use Rattle.presence_journal.specs.EntryBytes.{entry_bytes}
 use Rattle.presence_journal.specs.Steps.{Entry}
 use Rattle.presence_journal.specs.History.{History, Begin, Then}
 

@@ -9,16 +9,16 @@ use Rattle.presence_base.specs.declared.dots.Dot.{Dot}
 use Rattle.presence_base.specs.declared.row.Row.{Row}
 use Rattle.presence_base.specs.Order.{dot_cmp, same_text, same_replica, same_dot}
 use Rattle.presence_base.specs.Refs.{ref_of}
-use Rattle.presence_journal_data.specs.declared.step.Step.TheVariants as steps_are
-use Rattle.presence_journal_data.specs.declared.entry.Outcome.TheVariants as outcomes_are
-use Rattle.presence_journal_data.specs.declared.rows.Item.{Item}
-use Rattle.presence_journal_data.specs.declared.rows.Item.TheVariants as items_are
-use Rattle.presence_journal_data.specs.declared.rows.Place.{Place}
+use Rattle.presence_journal.specs.declared.step.Step.TheVariants as steps_are
+use Rattle.presence_journal.specs.declared.entry.Outcome.TheVariants as outcomes_are
+use Rattle.presence_journal.specs.declared.rows.Item.{Item}
+use Rattle.presence_journal.specs.declared.rows.Item.TheVariants as items_are
+use Rattle.presence_journal.specs.declared.rows.Place.{Place}
 use Rattle.presence_journal.specs.Steps.{Step, Outcome, Entry}
 use Rattle.presence_journal.specs.History.{History, Then, begun, newest_first, own, known, has_dot, row_again, row, shown}
 use Rattle.presence_journal.specs.Present.{RowMap, of_topic, present, listed, changes, dots_added, dots_taken}
 use Rattle.presence_journal.specs.Queue.{Behind, Queued, most_waiting, topic_of, queue, taken, fold, apply_item, diff_of, items_made}
-use Rattle.presence_journal.specs.Limits.{is_within_limits}
+use Rattle.presence_journal.specs.StepLimits.{is_within_limits}
 use Rattle.presence_journal.specs.Table.{IsLegal, IsKept, is_step, accepted, next_entry, after}
 
 -- what a subscriber took since its last State, followed by what waits for it, folds to the present rows of its topic

@@ -1,5 +1,11 @@
-pub mod Sizes
 pub mod Limits
+pub mod StepLimits
+pub mod HeldDots
+pub mod ListedDots
+pub mod HeldRows
+pub mod RowDots
+pub mod EntryBytes
+pub mod Sizes
 pub mod Steps
 pub mod History
 pub mod KeptBytes

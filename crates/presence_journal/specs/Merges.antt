@@ -2,8 +2,8 @@
 use Rattle.std.specs.Prelude.{◌≡◌, Bool, true, false, cond, ◌&&◌, ◌||◌, Option, Some, None}
 use Rattle.presence_base.specs.declared.dots.Dot.{Dot}
 use Rattle.presence_base.specs.declared.row.Row.{Row}
-use Rattle.orswot_core_told.specs.Telling.{ToldValue, covers, live_row}
-use Rattle.presence_journal_data.specs.declared.step.Step.TheVariants as steps_are
+use Rattle.orswot_core.specs.Telling.{ToldValue, covers, live_row}
+use Rattle.presence_journal.specs.declared.step.Step.TheVariants as steps_are
 use Rattle.presence_journal.specs.Steps.{Step, Entry}
 use Rattle.presence_journal.specs.History.{History, Then, own, count, status, hears, told_covers, known, has_dot, removed, row, live, shown}
 use Rattle.presence_journal.specs.Present.{dots_added, dots_taken}

@@ -1,6 +1,6 @@
 -- How many entries a journal may have, and how many items may wait: the definitions cite them by these names.
 use Rattle.std.specs.Prelude.{◌≡◌}
-use Rattle.presence_journal_data.specs.declared.limits.TheConstants.{MAX_PAYLOAD_DEPTH, MAX_TAKEN}
+use Rattle.presence_journal.specs.declared.limits.TheConstants.{MAX_PAYLOAD_DEPTH, MAX_TAKEN}
 use Rattle.presence_journal.specs.declared.journal.TheConstants.{MAX_ENTRIES}
 use Rattle.presence_journal.specs.declared.waiting.TheConstants.{MAX_WAITING}
 

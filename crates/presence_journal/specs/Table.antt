@@ -9,14 +9,14 @@ use Rattle.std.specs.FinMap as map
 use Rattle.presence_base.specs.Order.{dot_cmp, same_text, same_replica}
 pub use Rattle.replica_status.specs.Table.{is_unheard}
 use Rattle.presence_base.specs.Refs.{IsCount}
-use Rattle.dot_context_runs.specs.Runs.{AreLong}
-use Rattle.orswot_core_told.specs.Checks.{has_repeat}
-use Rattle.orswot_core_told.specs.Telling.{covers}
-use Rattle.presence_journal_data.specs.Deltas.{DeltaValue, GoesOn}
-use Rattle.presence_journal_data.specs.Keeping.{IsNext}
-use Rattle.presence_journal_data.specs.declared.step.Step.TheVariants as steps_are
-use Rattle.presence_journal_data.specs.declared.entry.Outcome.TheVariants as outcomes_are
-use Rattle.presence_journal_data.specs.StepLimits.{is_heard, is_within_limits}
+use Rattle.dot_context.specs.Runs.{AreLong}
+use Rattle.orswot_core.specs.Checks.{has_repeat}
+use Rattle.orswot_core.specs.Telling.{covers}
+use Rattle.delta_range.specs.Deltas.{DeltaValue, GoesOn}
+use Rattle.delta_range.specs.Keeping.{IsNext}
+use Rattle.presence_journal.specs.declared.step.Step.TheVariants as steps_are
+use Rattle.presence_journal.specs.declared.entry.Outcome.TheVariants as outcomes_are
+use Rattle.presence_journal.specs.StepLimits.{is_heard, is_within_limits}
 use Rattle.presence_journal.specs.Steps.{Step, Outcome, Entry, Start}
 use Rattle.presence_journal.specs.History.{History, Begin, Then, own, reborn, count, is_counted, last_cut, next_dot, last_number, is_full, status, shown, has_dots}
 use Rattle.presence_journal.specs.Present.{dots, listed, dots_of}

@@ -5,11 +5,11 @@ use Rattle.std.specs.BTreeMap.{insert_entry}
 use Rattle.presence_base.specs.declared.dots.Dot.{Dot}
 use Rattle.presence_base.specs.declared.row.Row.{Row}
 use Rattle.presence_base.specs.Order.{same_text, same_dot}
-use Rattle.presence_journal_data.specs.declared.step.Step.TheVariants as steps_are
-use Rattle.presence_journal_data.specs.declared.rows.Place.{Place}
+use Rattle.presence_journal.specs.declared.step.Step.TheVariants as steps_are
+use Rattle.presence_journal.specs.declared.rows.Place.{Place}
 use Rattle.presence_journal.specs.History.{History, first_some, has_dot, row_added, shown}
 use Rattle.presence_journal.specs.Present.{place_cmp, RowMap, place_of, of_topic, dots_taken}
-use Rattle.presence_journal_data.specs.declared.entry.Outcome.TheVariants as outcomes_are
+use Rattle.presence_journal.specs.declared.entry.Outcome.TheVariants as outcomes_are
 use Rattle.presence_journal.specs.Steps.{Step, Outcome, Entry}
 
 -- the row of a topic that is added under a dot

@@ -1,5 +1,6 @@
 // The entries of a journal, with the bytes that they keep beside themselves.
-use presence_journal_data::{Entry, count_kept_bytes};
+use crate::entry::Entry;
+use crate::kept_bytes::count_kept_bytes;
 use std::alloc::{AllocError, Global};
 use std::marker::Model;
 
@@ -21,7 +22,7 @@ impl Drop for Entries {
 impl Model for Entries {
     ghost use Rattle.std.specs.Prelude.{◌≡◌, ◌-◌, ◌^◌, List, min};
     ghost use Rattle.std.specs.Coded.{coded_list};
-    ghost use Rattle.presence_journal_data.specs.contracts.entry.Entry as one_entry;
+    ghost use Rattle.presence_journal.specs.contracts.entry.Entry as one_entry;
     ghost use Rattle.presence_journal.specs.Steps.{Entry};
     ghost use Rattle.presence_journal.specs.KeptBytes.{entries_bytes};
 

@@ -3,11 +3,12 @@ ghost use Rattle.std.specs.Prelude.{◌≡◌};
 ghost use Rattle.presence_journal.specs.History.{Begin, onto, own, own_after};
 
 use crate::entries::Entries;
-use orswot_core_told::Told;
+use crate::entry::{Entry, Outcome, Start};
+use crate::step::Step;
+use delta_range::Generations;
+use orswot_core::Told;
 use presence_base::{MAX_COUNT, Replica};
-use presence_journal_data::{
-    Chains, Entry, Generations, Outcome, Runs, Standings, Start, Step, Subscribers,
-};
+use presence_journal_lists::{Chains, Runs, Standings, Subscribers};
 use std::alloc::{AllocError, Global};
 use std::marker::Model;
 
@@ -61,7 +62,7 @@ impl Journal {
     ghost use Rattle.presence_base.specs.Refs.{IsCount};
     ghost use Rattle.presence_journal.specs.History.{Begin, begun, onto, start_of, own, last_number, entry_count, is_full};
     ghost use Rattle.presence_journal.specs.KeptBytes.{kept_bytes};
-    ghost use Rattle.presence_journal.specs.Limits.{is_within_limits};
+    ghost use Rattle.presence_journal.specs.StepLimits.{is_within_limits};
     ghost use Rattle.presence_journal.specs.Table.{IsStart, IsLegal, AreWithinLimits, outcome_of, after};
 
     /// The journal of a new shard: an empty Start with number 0.

@@ -13,9 +13,9 @@ use Rattle.presence_base.specs.declared.dots.Dot.{Dot}
 use Rattle.presence_base.specs.declared.row.Row.{Row}
 use Rattle.presence_base.specs.Order.{dot_cmp, same_dot, same_replica}
 use Rattle.dot_context.specs.Sets.{in_range}
-use Rattle.orswot_core_told.specs.Limits.{is_count, is_dot, is_row}
-use Rattle.orswot_core_told.specs.Checks.{has_repeat, dots_of}
-use Rattle.orswot_core_told.proofs.OrderFacts.{dots_equal}
+use Rattle.orswot_core.specs.Limits.{is_count, is_dot, is_row}
+use Rattle.orswot_core.specs.Checks.{has_repeat, dots_of}
+use Rattle.orswot_core.proofs.OrderFacts.{dots_equal}
 use Rattle.delta_range.specs.Deltas.{DeltaValue, IsDelta}
 use Rattle.presence_journal.specs.History.{History, own, live}
 use Rattle.presence_journal_cuts.specs.ToldParts.{IsPart}

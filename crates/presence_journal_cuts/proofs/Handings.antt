@@ -3,7 +3,7 @@ use Rattle.std.proofs.Common.{◌≡◌, ℕ, zero, suc, ◌-◌, ◌<◌, ◌�
 use Rattle.std.specs.Prelude.{◌⊎◌}
 use Rattle.std.proofs.lemmas.Bool.{false_from_ne_true}
 use Rattle.std.proofs.lemmas.Bool.Decides.{nat_tests}
-use Rattle.dot_context_runs.specs.Runs.{in_run, holds, AreLong}
+use Rattle.dot_context.specs.Runs.{in_run, holds, AreLong}
 use Rattle.presence_journal_cuts.specs.declared.chain.TheConstants.{MAX_CHAIN_RUNS}
 use Rattle.presence_journal_cuts.specs.Handing.{run_between, grown, handed}
 

@@ -8,26 +8,28 @@ use Rattle.presence_base.specs.declared.dots.Dot.{Dot}
 use Rattle.presence_base.specs.declared.row.Row.{Row}
 use Rattle.presence_base.specs.Order.{same_replica, same_dot}
 use Rattle.dot_context.specs.Sets.{in_range}
-use Rattle.orswot_core_told.specs.Telling.{covers, live_row}
-use Rattle.presence_journal_data.specs.declared.step.Step.TheVariants as steps_are
-use Rattle.presence_journal_data.specs.declared.entry.Outcome.TheVariants as outcomes_are
-use Rattle.presence_journal.specs.Steps.{Step, Outcome, Entry, Start}
+use Rattle.orswot_core.specs.Telling.{covers, live_row}
+use Rattle.presence_journal.specs.declared.step.Step.TheVariants as steps_are
+use Rattle.presence_journal.specs.declared.entry.Outcome.TheVariants as outcomes_are
+use Rattle.presence_journal.specs.declared.step.Step.{Step}
+use Rattle.presence_journal.specs.declared.entry.Outcome.{Outcome}
+use Rattle.presence_journal.specs.declared.entry.Entry.{Entry}
+use Rattle.presence_journal.specs.declared.entry.Start.{Start}
 use Rattle.presence_journal.specs.History.{History, Begin, Then, onto, own, count, counts_used, count_after, last_cut, cut_after, next_dot, has_dot, first_some, row_made, row_added, removed, row, live, shown}
 use Rattle.presence_journal.specs.Present.{dots_taken}
 use Rattle.presence_journal.specs.Queue.{Waiting, Behind, Queued, queue, topic_of}
 use Rattle.presence_journal.specs.Table.{IsLegal, rows_of_key, counting, tracked, updated, untracked, take_outcome, for_present, outcome_of}
 use Rattle.presence_journal.specs.Walk.{without_dots, tells, is_reborn}
 use Rattle.presence_journal.proofs.Reborn.{IsAgain, again_of}
-use Rattle.presence_journal_sets.proofs.OwnLemmas.{plain_step, reborn_step}
-use Rattle.presence_journal_sets.proofs.FrontLemmas.{front_next}
-use Rattle.presence_journal_cuts.specs.Chains.{AreNextRecent}
+use Rattle.presence_journal_known.proofs.OwnLemmas.{plain_step, reborn_step}
+use Rattle.presence_journal_known.proofs.FrontLemmas.{front_next}
+use Rattle.presence_journal_cuts.specs.Chains.{AreNextRecent, unless_cut, recent_after, is_recent, rows_recent}
 use Rattle.presence_journal_cuts.specs.Reborn.{own_live as live_of_own}
 use Rattle.presence_journal.specs.Merges.{is_of_rows}
 use Rattle.presence_journal.proofs.PresentLemmas.{shown-row}
 use Rattle.presence_journal.proofs.Same.{same_replica-refl, same_replica-true, same_dot-true}
 use Rattle.presence_journal.proofs.HistoryLemmas.{KnowsItsDots, Kind, Adds, Replaces, Removes, Quiet, kind_of, legal_knows, counted_from, own-then, count-then, is_quiet, quiet_taken, tells_quiet, live_by, shown-live}
 use Rattle.presence_journal.proofs.Merges.{own_steps_alone}
-use Rattle.presence_journal_cuts.specs.Chains.{unless_cut, recent_after, is_recent, rows_recent}
 use Rattle.presence_journal_cuts.specs.Cuts.{recent}
 use Rattle.presence_journal_cuts.proofs.Starts.{recent_found}
 

@@ -13,9 +13,9 @@ use Rattle.presence_base.specs.declared.dots.Dot.{Dot}
 use Rattle.presence_base.specs.declared.row.Row.{Row}
 use Rattle.presence_base.specs.Order.{dot_cmp, same_dot, same_replica}
 use Rattle.dot_context.specs.Sets.{in_range}
-use Rattle.dot_context_runs.specs.Runs.{holds}
-use Rattle.orswot_core_told.specs.Limits.{is_count, is_dot, is_row}
-use Rattle.orswot_core_told.specs.Checks.{has_repeat}
+use Rattle.dot_context.specs.Runs.{holds}
+use Rattle.orswot_core.specs.Limits.{is_count, is_dot, is_row}
+use Rattle.orswot_core.specs.Checks.{has_repeat}
 use Rattle.delta_range.specs.Deltas.{IsDelta}
 use Rattle.delta_range.specs.Longest.{longest}
 use Rattle.delta_range.proofs.RunFacts.{longest_runs, holds_longest, ends_longest}
@@ -26,7 +26,7 @@ use Rattle.presence_journal.proofs.Same.{dot_total, same_replica-true}
 use Rattle.presence_journal.proofs.Walking.{count-limit}
 use Rattle.presence_journal.proofs.HistoryLemmas.{legal_knows, known_parts}
 use Rattle.presence_journal.proofs.Fresh.{own_is}
-use Rattle.presence_journal_sets.proofs.RebornLemmas.{row_limits}
+use Rattle.presence_journal_known.proofs.RebornLemmas.{row_limits}
 use Rattle.presence_journal_cuts.specs.Chains.{AreUpTo, Counts}
 use Rattle.presence_journal_cuts.specs.Cuts.{older, recent, IsCut}
 use Rattle.presence_journal_cuts.specs.Parting.{AreVacant}

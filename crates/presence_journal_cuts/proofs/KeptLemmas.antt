@@ -9,18 +9,20 @@ use Rattle.presence_base.specs.declared.dots.Replica.{Replica}
 use Rattle.presence_base.specs.declared.dots.Dot.{Dot}
 use Rattle.presence_base.specs.declared.row.Row.{Row}
 use Rattle.presence_base.specs.Order.{dot_cmp, same_dot}
-use Rattle.dot_context_runs.specs.Runs.{holds}
+use Rattle.dot_context.specs.Runs.{holds}
 use Rattle.dot_context.proofs.FormFacts.{same_runs}
-use Rattle.orswot_core_told.proofs.OrderFacts.{dot_total, dot_antisymmetric}
+use Rattle.orswot_core.proofs.OrderFacts.{dot_total, dot_antisymmetric}
 use Rattle.orswot_core.proofs.RowFacts.{find_is}
 use Rattle.orswot_core.proofs.FullFacts.{passes, to_test}
 use Rattle.delta_range.specs.Deltas.{DeltaValue, IsDelta, GoesOn}
 use Rattle.delta_range.specs.Keeping.{Kept, pushed, IsNext}
-use Rattle.presence_journal_data.specs.declared.entry.Outcome.TheVariants as outcomes_are
-use Rattle.presence_journal.specs.Steps.{Start, Outcome, Entry}
+use Rattle.presence_journal.specs.declared.entry.Outcome.TheVariants as outcomes_are
+use Rattle.presence_journal.specs.declared.entry.Start.{Start}
+use Rattle.presence_journal.specs.declared.entry.Outcome.{Outcome}
+use Rattle.presence_journal.specs.declared.entry.Entry.{Entry}
 use Rattle.presence_journal.specs.History.{History, Begin, Then, own, last_cut, cut_after, nothing_kept}
 use Rattle.presence_journal.specs.Walk.{is_rebirth, is_reborn}
-use Rattle.presence_journal_sets.proofs.OwnLemmas.{plain_step}
+use Rattle.presence_journal_known.proofs.OwnLemmas.{plain_step}
 use Rattle.presence_journal.specs.Table.{IsLegal}
 use Rattle.presence_journal_cuts.specs.Cuts.{IsCut}
 use Rattle.presence_journal_cuts.specs.KeptDeltas.{renews_kept, IsPushed, KeepsAfter, AreKeptOf}

@@ -1,3 +1,10 @@
+mod FreshLemmas
+mod ChainLemmas
+mod UntoldLemmas
+mod ChangeLemmas
+mod ListingLemmas
+pub mod RebirthLemmas
+pub mod Crossing
 pub mod Starts
 pub mod Histories
 pub mod Keeping

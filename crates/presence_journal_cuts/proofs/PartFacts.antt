@@ -9,10 +9,10 @@ use Rattle.presence_base.specs.declared.dots.TheConstants.{MAX_COUNT}
 use Rattle.presence_base.specs.declared.dots.Dot.{Dot}
 use Rattle.presence_base.specs.declared.row.Row.{Row}
 use Rattle.presence_base.specs.Order.{same_dot, same_replica}
-use Rattle.dot_context_runs.specs.Runs.{holds}
+use Rattle.dot_context.specs.Runs.{holds}
 use Rattle.dot_context.specs.Sets.{in_range}
-use Rattle.orswot_core_told.specs.declared.form.Form.TheVariants.{Two}
-use Rattle.orswot_core_told.specs.Limits.{is_count, is_dot, is_row}
+use Rattle.orswot_core.specs.declared.form.Form.TheVariants.{Two}
+use Rattle.orswot_core.specs.Limits.{is_count, is_dot, is_row}
 use Rattle.orswot_core.specs.Full.{dot_of}
 use Rattle.delta_range.specs.Deltas.{DeltaValue, IsDelta}
 use Rattle.delta_range.specs.Fitting.{fits_line}
@@ -22,7 +22,7 @@ use Rattle.presence_journal.specs.Table.{IsLegal}
 use Rattle.presence_journal.proofs.Same.{same_replica-true, same_replica-refl}
 use Rattle.presence_journal.proofs.Walking.{count-limit}
 use Rattle.presence_journal.proofs.HistoryLemmas.{legal_knows, known_parts}
-use Rattle.presence_journal_sets.proofs.RebornLemmas.{row_limits}
+use Rattle.presence_journal_known.proofs.RebornLemmas.{row_limits}
 use Rattle.presence_journal_cuts.specs.ToldParts.{IsPart, IsLargestPart, HasNoPart, GoesFar, row_of_count, is_vacant}
 use Rattle.presence_journal_cuts.specs.Parting.{AreOwnRows, vacant, rows_above, end_of}
 use Rattle.presence_journal_cuts.proofs.Keeping.{own_limit, known_is_dot, each_found, no_repeat, all_of}

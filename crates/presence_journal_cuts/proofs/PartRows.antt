@@ -13,7 +13,7 @@ use Rattle.presence_base.specs.declared.dots.Replica.{Replica}
 use Rattle.presence_base.specs.declared.dots.Dot.{Dot}
 use Rattle.presence_base.specs.declared.row.Row.{Row}
 use Rattle.presence_base.specs.Order.{replica_cmp, dot_cmp, same_dot}
-use Rattle.dot_context_runs.specs.Runs.{AreRuns, holds, in_run}
+use Rattle.dot_context.specs.Runs.{AreRuns, holds, in_run}
 use Rattle.orswot_core.specs.Full.{dot_of}
 use Rattle.orswot_core.proofs.OrderedFacts.{same_replica_below}
 use Rattle.orswot_core.proofs.RunFacts.{any_either_list}

@@ -1,7 +1,7 @@
 -- Runs of the counts that go.
 use Rattle.std.proofs.Common.{◌≡◌, ℕ, Bool, true, false, ◌&&◌, ◌||◌, nat_eq, nat_le, List, [], ◌∷◌, ◌++◌, length, get_or, set, take, drop, zero, suc, ◌<◌, arith, refl, sym, ◌∙◌, ap, subst}
 use Rattle.std.specs.List.{list_all}
-use Rattle.dot_context_runs.specs.Runs.{in_run, holds, AreLong}
+use Rattle.dot_context.specs.Runs.{in_run, holds, AreLong}
 use Rattle.delta_range.specs.Longest.{up_to}
 use Rattle.delta_range.proofs.RunFacts.{long_append, long_up_to, holds_up_to, ends_up_to}
 use Rattle.presence_journal_cuts.specs.Chains.{AreUpTo}

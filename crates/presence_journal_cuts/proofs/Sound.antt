@@ -6,19 +6,19 @@ use Rattle.presence_base.specs.declared.dots.Replica.{Replica}
 use Rattle.presence_base.specs.declared.dots.Dot.{Dot}
 use Rattle.presence_base.specs.Names.{is_node_name}
 use Rattle.presence_base.specs.Refs.{IsCount}
-use Rattle.orswot_core_told.specs.declared.form.Form.{Form}
-use Rattle.orswot_core_told.specs.Telling.{ToldValue, covers, live_row}
+use Rattle.orswot_core.specs.declared.form.Form.{Form}
+use Rattle.orswot_core.specs.Telling.{ToldValue, covers, live_row}
 use Rattle.orswot_core.proofs.OneFullFacts.{covers_full, rows_full}
 use Rattle.delta_range.specs.Deltas.{DeltaValue, GoesOn}
 use Rattle.delta_range.specs.Keeping.{IsNext}
-use Rattle.presence_journal.specs.Steps.{Start}
+use Rattle.presence_journal.specs.declared.entry.Start.{Start}
 use Rattle.presence_journal.specs.History.{History, Begin, own, count, is_counted, status, is_gone, known, covered}
 use Rattle.presence_journal.specs.Table.{IsStart, IsLegal, IsKept}
 use Rattle.presence_journal.proofs.HistoryLemmas.{counted_parts, counted_from, known_from, known_parts, status-own}
 use Rattle.presence_journal.proofs.Walking.{count-limit}
 use Rattle.presence_journal_cuts.proofs.Histories.{last_cut-low}
 use Rattle.presence_journal.proofs.Fresh.{own_is}
-use Rattle.presence_journal_sets.specs.Full.{IsFullOf}
+use Rattle.presence_journal_known.specs.Full.{IsFullOf}
 use Rattle.presence_journal_cuts.proofs.KeptLemmas.{goes_on_from}
 use Rattle.presence_journal_cuts.specs.Checkpoints.{kept_row, IsCheckpoint}
 

@@ -11,8 +11,8 @@ use Rattle.presence_base.specs.declared.dots.Replica.{Replica}
 use Rattle.presence_base.specs.declared.dots.Dot.{Dot}
 use Rattle.presence_base.specs.declared.row.Row.{Row}
 use Rattle.presence_base.specs.Order.{dot_cmp, same_dot, same_replica}
-use Rattle.dot_context_runs.specs.Runs.{AreRuns, AreLong, holds, in_run}
-use Rattle.orswot_core_told.specs.Telling.{range_has}
+use Rattle.dot_context.specs.Runs.{AreRuns, AreLong, holds, in_run}
+use Rattle.orswot_core.specs.Telling.{range_has}
 use Rattle.orswot_core.specs.Full.{dot_of}
 use Rattle.orswot_core.specs.Sets.{DotRows, LiveRows, rows_within}
 use Rattle.orswot_core.proofs.FullFacts.{live_sorted}
@@ -21,7 +21,7 @@ use Rattle.orswot_core.proofs.RunFacts.{any_either_list}
 use Rattle.presence_journal.specs.History.{History, own, is_gone, live}
 use Rattle.presence_journal.proofs.HistoryLemmas.{status-own}
 use Rattle.presence_journal.proofs.Same.{same_replica-true, same_replica-refl, same_dot-true}
-use Rattle.presence_journal_sets.specs.LeftOut.{HoldsCovered}
+use Rattle.presence_journal_known.specs.LeftOut.{HoldsCovered}
 use Rattle.presence_journal_cuts.specs.Parting.{vacant, row_in, HasOwnRows, AreVacant}
 use Rattle.presence_journal_cuts.specs.ToldParts.{row_of_count}
 use Rattle.presence_journal_cuts.proofs.CutShort.{keys_kept}

@@ -5,12 +5,12 @@ use Rattle.presence_base.specs.declared.dots.Replica.{Replica}
 use Rattle.presence_base.specs.declared.dots.Dot.{Dot}
 use Rattle.presence_base.specs.declared.row.Row.{Row}
 use Rattle.presence_base.specs.Order.{same_replica}
-use Rattle.dot_context_runs.specs.Runs.{holds, AreLong}
-use Rattle.orswot_core_told.specs.Checks.{has_repeat}
-use Rattle.orswot_core_told.specs.Telling.{covers, live_row}
+use Rattle.dot_context.specs.Runs.{holds, AreLong}
+use Rattle.orswot_core.specs.Checks.{has_repeat}
+use Rattle.orswot_core.specs.Telling.{covers, live_row}
 use Rattle.replica_status.specs.Boards.{standing_in}
-use Rattle.presence_journal_data.specs.StepLimits.{is_heard}
-use Rattle.presence_journal.specs.Steps.{Start}
+use Rattle.presence_journal.specs.StepLimits.{is_heard}
+use Rattle.presence_journal.specs.declared.entry.Start.{Start}
 use Rattle.presence_journal.specs.History.{History, own, count, last_number, time, standing, status, is_gone, last_cut, covered, live, shown}
 use Rattle.presence_journal.specs.Queue.{topic_at, topic_of}
 use Rattle.presence_journal.specs.Table.{IsLegal, is_subscriber}

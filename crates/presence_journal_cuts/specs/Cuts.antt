@@ -4,13 +4,13 @@ use Rattle.std.specs.List.{list_any}
 use Rattle.std.specs.Map.{lookup}
 use Rattle.presence_base.specs.declared.dots.Dot.{Dot}
 use Rattle.presence_base.specs.declared.row.Row.{Row}
-use Rattle.dot_context_runs.specs.Runs.{holds}
+use Rattle.dot_context.specs.Runs.{holds}
 use Rattle.dot_context.specs.Sets.{in_range, listed}
-use Rattle.orswot_core_told.specs.Telling.{live_row}
+use Rattle.orswot_core.specs.Telling.{live_row}
 use Rattle.delta_range.specs.Deltas.{DeltaValue, telling}
 use Rattle.delta_range.specs.Laws.{IsInOrder}
-use Rattle.presence_journal_data.specs.declared.entry.Outcome.TheVariants as outcomes_are
-use Rattle.presence_journal.specs.Steps.{Outcome}
+use Rattle.presence_journal.specs.declared.entry.Outcome.TheVariants as outcomes_are
+use Rattle.presence_journal.specs.declared.entry.Outcome.{Outcome}
 use Rattle.presence_journal.specs.History.{History, Begin, Then, own, count, last_cut, shown}
 use Rattle.presence_journal.specs.Present.{dots_taken}
 use Rattle.presence_journal_cuts.specs.Handing.{handed}

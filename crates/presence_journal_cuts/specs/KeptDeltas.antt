@@ -1,13 +1,13 @@
 -- The kept deltas: what the cuts of a history told, joined in three generations, and what is told of them from a count on.
 use Rattle.std.specs.Prelude.{◌≡◌, ℕ, Bool, true, false, Option, Some, None}
-use Rattle.orswot_core_told.specs.declared.form.Form.{Form}
-use Rattle.orswot_core_told.specs.Telling.{ToldValue}
+use Rattle.orswot_core.specs.declared.form.Form.{Form}
+use Rattle.orswot_core.specs.Telling.{ToldValue}
 use Rattle.delta_range.specs.Deltas.{DeltaValue, telling_in, IsDelta}
 use Rattle.delta_range.specs.Keeping.{Kept, pushed, from_count}
-use Rattle.presence_journal_data.specs.declared.entry.Outcome.TheVariants as outcomes_are
-use Rattle.presence_journal.specs.Steps.{Outcome}
+use Rattle.presence_journal.specs.declared.entry.Outcome.TheVariants as outcomes_are
+use Rattle.presence_journal.specs.declared.entry.Outcome.{Outcome}
 use Rattle.presence_journal.specs.History.{History, Begin, Then, nothing_kept}
-use Rattle.presence_journal_sets.specs.Full.{IsFullOf}
+use Rattle.presence_journal_known.specs.Full.{IsFullOf}
 use Rattle.presence_journal_cuts.specs.Cuts.{IsCut}
 
 -- what is kept changes: a cut adds to it, and behind a rebirth nothing is kept

@@ -1,3 +1,6 @@
+pub mod Untold
+pub mod Changes
+pub mod Listed
 pub mod Handing
 pub mod Cuts
 pub mod Chains

@@ -8,7 +8,7 @@ use Rattle.presence_base.specs.declared.dots.Replica.{Replica}
 use Rattle.presence_base.specs.declared.dots.Dot.{Dot}
 use Rattle.presence_base.specs.declared.row.Row.{Row}
 use Rattle.presence_base.specs.Order.{dot_cmp, same_dot, same_replica}
-use Rattle.dot_context_runs.specs.Runs.{AreRuns, holds}
+use Rattle.dot_context.specs.Runs.{AreRuns, holds}
 use Rattle.orswot_core.specs.Full.{dot_of}
 use Rattle.orswot_core.specs.Sets.{DotRows}
 use Rattle.delta_range.specs.Deltas.{DeltaValue, IsDelta}

@@ -2,11 +2,11 @@
 use Rattle.std.specs.Prelude.{◌≡◌, ◌⊎◌, ℕ, suc, ◌+◌, ◌≤◌, min, Bool, true, false, cond, ◌&&◌, nat_le, length, Option, Some, None, is_none, IsSome}
 use Rattle.presence_base.specs.declared.dots.Dot.{Dot}
 use Rattle.presence_base.specs.declared.row.Row.{Row}
-use Rattle.dot_context_runs.specs.Runs.{holds}
+use Rattle.dot_context.specs.Runs.{holds}
 use Rattle.dot_context.specs.Sets.{in_range}
-use Rattle.orswot_core_told.specs.declared.form.Form.TheVariants.{Two}
-use Rattle.orswot_core_told.specs.declared.told.TheConstants.{MAX_ROWS}
-use Rattle.orswot_core_told.specs.Telling.{live_row}
+use Rattle.orswot_core.specs.declared.form.Form.TheVariants.{Two}
+use Rattle.orswot_core.specs.declared.told.TheConstants.{MAX_ROWS}
+use Rattle.orswot_core.specs.Telling.{live_row}
 use Rattle.orswot_core.specs.Full.{dot_of}
 use Rattle.delta_range.specs.Deltas.{DeltaValue, telling, IsDelta}
 use Rattle.delta_range.specs.Fitting.{fits_line}

@@ -4,7 +4,8 @@ ghost use Rattle.presence_journal_cuts.specs.Chains.{GrowsLast, PutsChain, kept_
 ghost use Rattle.presence_journal_cuts.specs.Cuts.{chain_after, left_at};
 ghost use Rattle.presence_journal_cuts.specs.Handing.{grown, handed, run_between};
 
-use presence_journal::{Outcome, Runs};
+use presence_journal::Outcome;
+use presence_journal_lists::Runs;
 use std::alloc::{AllocError, Global};
 use std::collections::BTreeMap;
 use std::marker::Model;

@@ -1,6 +1,6 @@
 //! The cut.
 ghost use Rattle.std.specs.Prelude.{IfOk};
-ghost use Rattle.dot_context_runs.specs.Runs.{AreLong};
+ghost use Rattle.dot_context.specs.Runs.{AreLong};
 ghost use Rattle.presence_journal_cuts.specs.Cuts.{IsCut};
 ghost use Rattle.presence_journal_cuts.specs.Parting.{AreVacant};
 ghost use Rattle.presence_journal_cuts.specs.ToldParts.{row_of_count};
@@ -11,7 +11,7 @@ use crate::part::vacant_of;
 use crate::recent::recent_rows;
 use delta_range::{Delta, longest};
 use presence_journal::Journal;
-use presence_journal_sets::{walk_count, walk_set};
+use presence_journal_known::{walk_count, walk_set};
 use std::alloc::{AllocError, Global};
 
 // The runs without the counts of the own live rows.

@@ -5,13 +5,14 @@ ghost use Rattle.std.specs.Map.{lookup};
 ghost use Rattle.std.specs.Ordering.{nat_cmp};
 ghost use Rattle.presence_base.specs.Order.{dot_cmp};
 ghost use Rattle.presence_journal.specs.Walk.{row_at};
-ghost use Rattle.presence_journal_sets.specs.ByDot.{Alike, over};
+ghost use Rattle.presence_journal_known.specs.ByDot.{Alike, over};
 ghost use Rattle.presence_journal_cuts.specs.Chains.{KeepsChain, is_recent, row_recent, rows_recent};
 
 use crate::chain::{Chain, put_chain};
 use crate::recent::put_row;
 use presence_base::{Dot, Row};
-use presence_journal::{Runs, Start};
+use presence_journal::Start;
+use presence_journal_lists::Runs;
 use std::alloc::{AllocError, Global};
 use std::collections::BTreeMap;
 

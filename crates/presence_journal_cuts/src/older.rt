@@ -1,6 +1,6 @@
 // The older counts that went since the last cut.
 ghost use Rattle.std.specs.Prelude.{◌∷◌, [], IfOk, OnOk};
-ghost use Rattle.dot_context_runs.specs.Runs.{holds};
+ghost use Rattle.dot_context.specs.Runs.{holds};
 ghost use Rattle.presence_journal.specs.History.{last_cut};
 ghost use Rattle.presence_journal_cuts.specs.Chains.{AreChains, AreUpTo, Counts, KeptAfter, OlderAfter, TakesIn, TakesInBy};
 ghost use Rattle.presence_journal_cuts.specs.Cuts.{older};

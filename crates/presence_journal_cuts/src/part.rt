@@ -1,7 +1,7 @@
 //! What a part tells, of the own live rows in order of dot, and runs without their counts.
 ghost use Rattle.std.specs.Prelude.{◌≡◌, ◌++◌, ◌∷◌, [], IfOk, OnOk};
 ghost use Rattle.std.specs.List.{filter};
-ghost use Rattle.dot_context_runs.specs.Runs.{AreLong};
+ghost use Rattle.dot_context.specs.Runs.{AreLong};
 ghost use Rattle.presence_journal_cuts.specs.Handing.{run_between};
 ghost use Rattle.presence_journal_cuts.specs.Parting.{AreVacant, end_of, is_up_to, row_in, rows_above, up_to, vacant};
 

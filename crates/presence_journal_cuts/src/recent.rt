@@ -7,7 +7,7 @@ ghost use Rattle.presence_base.specs.declared.dots.Dot.{Dot};
 ghost use Rattle.presence_base.specs.Order.{dot_cmp, same_dot, same_replica};
 ghost use Rattle.presence_journal.specs.History.{Begin, onto, row_added};
 ghost use Rattle.presence_journal.specs.Walk.{row_at, without_dots};
-ghost use Rattle.presence_journal_sets.specs.ByDot.{Alike, over};
+ghost use Rattle.presence_journal_known.specs.ByDot.{Alike, over};
 ghost use Rattle.presence_journal.specs.Table.{IsLegal};
 ghost use Rattle.presence_journal_cuts.specs.Chains.{recent_after, AreNextRecent};
 ghost use Rattle.presence_journal_cuts.specs.Reborn.{of_replica, own_live};
@@ -18,7 +18,7 @@ use crate::last::dots_out;
 use orswot_core::Orswot;
 use presence_base::{Dot, Replica, Row};
 use presence_journal::{Entry, Journal, Outcome, Start, own_of};
-use presence_journal_sets::{made_row, walk_set_of};
+use presence_journal_known::{made_row, walk_set_of};
 use std::alloc::{AllocError, Global};
 use std::collections::BTreeMap;
 

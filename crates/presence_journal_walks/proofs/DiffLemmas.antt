@@ -2,14 +2,14 @@
 use Rattle.std.proofs.Common.{◌≡◌, ℕ, List, Option, is_some, cond, None, ◌∙◌, ap}
 use Rattle.presence_base.specs.declared.dots.Dot.{Dot}
 use Rattle.presence_base.specs.declared.row.Row.{Row}
-use Rattle.presence_journal_data.specs.declared.rows.RowDiff.{RowDiff}
-use Rattle.presence_journal.specs.Steps.{Entry}
+use Rattle.presence_journal.specs.declared.rows.RowDiff.{RowDiff}
+use Rattle.presence_journal.specs.declared.entry.Entry.{Entry}
 use Rattle.presence_journal.specs.History.{has_dot}
 use Rattle.presence_journal.specs.Present.{RowMap, dots_taken, in_order}
 use Rattle.presence_journal.specs.Walk.{IsTableOf, joined, leaving}
 use Rattle.presence_journal.proofs.Diffs.{diff_is, joins_are, leaves_are}
 use Rattle.presence_journal_walks.specs.Rows.{apart, IsDiffBetween, IsDiffOf}
-use Rattle.presence_journal_sets.specs.ByDot.{Alike}
+use Rattle.presence_journal_known.specs.ByDot.{Alike}
 
 apart_alike : (f f' g g' : Dot → Option Row) → Alike f f' → Alike g g' → Alike (apart f g) (apart f' g')
 apart_alike f f' g g' p q d = λ i. cond (is_some (q d i)) None (p d i)

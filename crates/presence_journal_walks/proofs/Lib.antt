@@ -1,3 +1,9 @@
+pub mod LoopLemmas
+pub mod OthersLemmas
+pub mod ChangesLemmas
+pub mod AgainLemmas
+pub mod CallersLemmas
+pub mod Tallies
 pub mod ShownLemmas
 pub mod DiffLemmas
 pub mod WaitingLemmas

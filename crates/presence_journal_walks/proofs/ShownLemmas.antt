@@ -20,7 +20,7 @@ use Rattle.presence_journal.specs.Present.{of_topic}
 use Rattle.presence_journal.specs.Walk.{row_at, shown_of}
 use Rattle.presence_journal.proofs.Lookups.{cond_none, first_none}
 use Rattle.presence_journal.proofs.Same.{dot_total, same_dot-true}
-use Rattle.presence_journal_sets.specs.Walked.{Holds}
+use Rattle.presence_journal_known.specs.Walked.{Holds}
 
 -- the rows that are picked
 abbrev pub Picks : Type 0

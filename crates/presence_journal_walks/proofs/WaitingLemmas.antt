@@ -2,16 +2,17 @@
 use Rattle.std.proofs.Common.{◌≡◌, ℕ, ◌+◌, ◌<◌, ◌++◌, cond, Bool, List, [], Option, Some, is_some, length, get_or, take, drop, sym, ◌∙◌, ap, subst}
 use Rattle.presence_base.specs.declared.dots.Dot.{Dot}
 use Rattle.presence_base.specs.declared.row.Row.{Row}
-use Rattle.presence_journal_data.specs.declared.rows.Item.{Item}
-use Rattle.presence_journal_data.specs.declared.rows.RowDiff.{RowDiff}
-use Rattle.presence_journal.specs.Steps.{Entry, Start}
+use Rattle.presence_journal.specs.declared.rows.Item.{Item}
+use Rattle.presence_journal.specs.declared.rows.RowDiff.{RowDiff}
+use Rattle.presence_journal.specs.declared.entry.Entry.{Entry}
+use Rattle.presence_journal.specs.declared.entry.Start.{Start}
 use Rattle.presence_journal.specs.History.{History, Begin, onto}
 use Rattle.presence_journal.specs.Queue.{Waiting, topic_after, topic_of, diff_item, shout_item, items_made, queue_after}
 use Rattle.presence_journal.specs.Table.{IsLegal}
 use Rattle.presence_journal.proofs.Topics.{Waits, waits_more}
 use Rattle.presence_journal.proofs.Walking.{ShowsAlike}
 use Rattle.presence_journal_walks.specs.Rows.{AreNext, IsDiffAt, AreMadeAt}
-use Rattle.presence_journal_sets.proofs.FrontLemmas.{front_next, front_rest}
+use Rattle.presence_journal_known.proofs.FrontLemmas.{front_next, front_rest}
 
 -- the items of the difference that an entry makes, and its shout
 pub made_at : (e : Entry) (t : List ℕ) (whole : History) (f : Dot → Option Row) (x : RowDiff) (is : List Item) → IsDiffAt e t whole f x → is ≡ diff_item x ++ shout_item e.step t → AreMadeAt e t whole f is

@@ -1,2 +1,4 @@
+pub mod Changes
+pub mod Waits
 pub mod Rows
 pub mod Pending

@@ -1,10 +1,10 @@
 -- What waits for a subscriber, as the code gives it.
 use Rattle.std.specs.Prelude.{◌≡◌, ℕ, List}
-use Rattle.presence_journal_data.specs.declared.rows.Item.{Item}
+use Rattle.presence_journal.specs.declared.rows.Item.{Item}
 use Rattle.presence_journal_walks.specs.declared.pending.Pending.{Pending}
 use Rattle.presence_journal_walks.specs.declared.pending.Pending.TheVariants as pending_is
 use Rattle.presence_journal.specs.Queue.{Waiting, Behind, Queued, queue_after}
-use Rattle.presence_journal.specs.Steps.{Entry}
+use Rattle.presence_journal.specs.declared.entry.Entry.{Entry}
 
 abbrev pub waiting_of : Pending → Waiting
 waiting_of pending_is.Behind = Behind

@@ -2,12 +2,12 @@
 use Rattle.std.specs.Prelude.{◌≡◌, ℕ, true, cond, List, [], ◌∷◌, Option, None, is_some}
 use Rattle.presence_base.specs.declared.dots.Dot.{Dot}
 use Rattle.presence_base.specs.declared.row.Row.{Row}
-use Rattle.presence_journal_data.specs.declared.rows.Item.{Item}
-use Rattle.presence_journal_data.specs.declared.rows.RowDiff.{RowDiff}
+use Rattle.presence_journal.specs.declared.rows.Item.{Item}
+use Rattle.presence_journal.specs.declared.rows.RowDiff.{RowDiff}
 use Rattle.presence_journal.specs.History.{History, Then}
-use Rattle.presence_journal_sets.specs.ByDot.{over, Alike}
+use Rattle.presence_journal_known.specs.ByDot.{over, Alike}
 use Rattle.presence_journal.specs.Queue.{diff_of, items_made}
-use Rattle.presence_journal.specs.Steps.{Entry}
+use Rattle.presence_journal.specs.declared.entry.Entry.{Entry}
 use Rattle.presence_journal.specs.Laws.{is_callers}
 use Rattle.presence_journal.specs.Table.{IsLegal}
 use Rattle.presence_journal.specs.Walk.{among, shown_of}

@@ -6,12 +6,12 @@ ghost use Rattle.presence_journal.specs.History.{row_made};
 ghost use Rattle.presence_journal.specs.Present.{of_topic, dots_taken};
 ghost use Rattle.presence_journal.specs.Walk.{among, joined, leaving, row_at, rows_after, without_dots};
 ghost use Rattle.presence_journal_walks.specs.Rows.{Moved, IsDiffOf};
-ghost use Rattle.presence_journal_sets.specs.ByDot.{Alike};
+ghost use Rattle.presence_journal_known.specs.ByDot.{Alike};
 
 use crate::rows::{in_place, put_row, under_dot};
 use presence_base::{Dot, Row, Topic};
 use presence_journal::{Entry, Outcome, RowDiff, Rows, Step};
-use presence_journal_sets::row_of;
+use presence_journal_known::row_of;
 use std::alloc::{AllocError, Global};
 use std::collections::BTreeMap;
 

@@ -1,17 +1,24 @@
-//! What a shard's journal answers, each by one walk over its entries.
+//! What a shard's journal answers, each by a walk over its entries; and what it says of a subscriber without taking
+//! memory: its topic, and whether something waits for it.
 //!
-//! Its public contracts cite presence_journal's `Present`, `Queue` and `Table`; `specs/Pending` says what waits, as the
-//! code gives it. `specs/Rows` is of loops.
+//! Its public contracts cite presence_journal's `History`, `Laws`, `Present`, `Queue` and `Table`; `specs/Pending`
+//! says what waits, as the code gives it. `specs/Changes`, `specs/Rows` and `specs/Waits` are of loops.
 #![tactic(auto)]
 
+mod again;
+mod changing;
 mod diff;
 mod entries;
 mod lists;
 mod pending;
 mod rows;
+mod steps;
+mod told;
+mod topics;
+mod waits;
 
 pub use diff::walk_diff;
 pub use lists::{walk_get, walk_list, walk_own_row, walk_own_rows};
 pub use pending::{Pending, walk_pending};
-pub use presence_journal_sets::{walk_count, walk_covers, walk_set, walk_status, walk_top};
-pub use presence_journal_waits::{walk_topic, walk_waits};
+pub use topics::walk_topic;
+pub use waits::walk_waits;

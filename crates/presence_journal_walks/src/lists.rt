@@ -6,12 +6,12 @@ ghost use Rattle.presence_journal.specs.History.{Begin, onto};
 ghost use Rattle.presence_journal.specs.Present.{listed};
 ghost use Rattle.presence_journal.specs.Table.{IsLegal, has_key, rows_of_pid, rows_of_key, listed_key};
 ghost use Rattle.presence_journal.specs.Walk.{shown_of};
-ghost use Rattle.presence_journal_sets.specs.ByDot.{Alike};
+ghost use Rattle.presence_journal_known.specs.ByDot.{Alike};
 
 use crate::rows::{in_place, shown_rows};
 use presence_base::{Dot, Key, Replica, Row, Topic};
 use presence_journal::{Entry, Journal, Start};
-use presence_journal_sets::walk_set_of;
+use presence_journal_known::walk_set_of;
 use std::alloc::{AllocError, Global};
 use std::collections::BTreeMap;
 

@@ -3,8 +3,7 @@ ghost use Rattle.std.specs.Prelude.{◌≡◌, ◌++◌, [], cond, Some, IfOk, O
 ghost use Rattle.std.specs.BTreeMap.{get};
 ghost use Rattle.presence_base.specs.Order.{dot_cmp};
 ghost use Rattle.presence_journal.specs.History.{Begin, onto};
-ghost use Rattle.presence_journal.specs.Queue.{topic_of, diff_item, shout_item, queued, push_items};
-ghost use Rattle.presence_journal.specs.Queue.{left_by, queue};
+ghost use Rattle.presence_journal.specs.Queue.{topic_of, diff_item, shout_item, queued, push_items, left_by, queue};
 ghost use Rattle.presence_journal.specs.Table.{IsLegal};
 ghost use Rattle.presence_journal_walks.specs.Pending.{waiting_of, IsAfter};
 ghost use Rattle.presence_journal_walks.specs.Rows.{AreNext, IsDiffAt, AreMadeAt};
@@ -12,11 +11,12 @@ ghost use Rattle.presence_journal_walks.specs.Rows.{AreNext, IsDiffAt, AreMadeAt
 use crate::diff::diff_rows;
 use crate::entries::diff_entry;
 use crate::lists::rows_of_entries;
+use crate::steps::is_callers;
+use crate::topics::{listed_topic, topic_after_entry};
 use presence_base::{Dot, Row, Topic};
 use presence_journal::{
     Entry, Item, Journal, MAX_WAITING, RowDiff, SharedDiff, SharedShout, Start, Step,
 };
-use presence_journal_waits::{is_callers, listed_topic, topic_after_entry};
 use std::alloc::{AllocError, Global};
 use std::collections::BTreeMap;
 

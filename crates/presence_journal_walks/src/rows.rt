@@ -6,14 +6,14 @@ ghost use Rattle.presence_journal.specs.History.{Begin, onto, is_up, status};
 ghost use Rattle.presence_journal.specs.Present.{RowMap, in_order};
 ghost use Rattle.presence_journal.specs.Walk.{IsTableOf, placed, row_at, shown_of};
 ghost use Rattle.presence_journal_walks.specs.Rows.{apart};
-ghost use Rattle.presence_journal_sets.specs.ByDot.{Alike, over};
-ghost use Rattle.presence_journal_sets.specs.Walked.{Holds};
+ghost use Rattle.presence_journal_known.specs.ByDot.{Alike, over};
+ghost use Rattle.presence_journal_known.specs.Walked.{Holds};
 
+use crate::steps::is_up;
 use orswot_core::Orswot;
 use presence_base::{Dot, Row, Topic};
 use presence_journal::{Entry, Place, Start};
-use presence_journal_sets::status_after;
-use presence_journal_waits::is_up;
+use presence_journal_known::status_after;
 use std::alloc::{AllocError, Global};
 use std::collections::BTreeMap;
 

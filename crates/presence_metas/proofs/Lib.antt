@@ -1,3 +1,6 @@
+pub mod InOrder
+pub mod Listed
+pub mod WithRefs
 pub mod Seen
 pub mod Lookups
 pub mod Kept

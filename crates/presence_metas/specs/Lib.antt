@@ -1,3 +1,6 @@
+pub mod KeyOrder
+pub mod Places
+pub mod Texts
 pub mod Codes
 pub mod Lists
 pub mod Listing

@@ -1,9 +1,9 @@
 -- How a run of the server may end.
 use Rattle.std.specs.Prelude.{ℕ, List}
 use Rattle.shard_pool.specs.Seats.{Hands}
-use Rattle.presence_node_ends.specs.declared.end.ServeEnd.{ServeEnd}
-use Rattle.presence_node_ends.specs.declared.end.ServeEnd.TheVariants.{Stopped, NotSettled, PortTaken, NoPort, LinkPortTaken, NoLinkPort, MetricsPortTaken, NoMetricsPort, NoThreads, Memory}
-use Rattle.presence_node_ends.specs.Ends.{Settles}
+use Rattle.presence_node_main.specs.declared.end.ServeEnd.{ServeEnd}
+use Rattle.presence_node_main.specs.declared.end.ServeEnd.TheVariants.{Stopped, NotSettled, PortTaken, NoPort, LinkPortTaken, NoLinkPort, MetricsPortTaken, NoMetricsPort, NoThreads, Memory}
+use Rattle.presence_node_main.specs.ServeEnds.{Settles}
 use Rattle.presence_node_main.specs.Ends.{IsEndOf, Ports}
 
 -- what settles seats is an end of a run at any port

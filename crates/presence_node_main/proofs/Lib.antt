@@ -1,3 +1,4 @@
+mod Naming
 mod Endings
 pub mod Places
 mod Bracketed

@@ -1,9 +1,9 @@
 -- What is said of ports that can't be had, and of which runs that is an end.
 use Rattle.std.proofs.Common.{◌≡◌, ◌⊎◌, ◌∙◌, inl, inr, ℕ, List, ◌++◌, Option, Some, None, decimal, refl, sym, ap, subst, append_assoc}
-use Rattle.presence_node_options.specs.declared.options.ServeOptions.{ServeOptions}
-use Rattle.presence_node_ends.specs.Ends.{Names}
-use Rattle.presence_node_ends.specs.declared.end.ServeEnd.{ServeEnd}
-use Rattle.presence_node_ends.specs.declared.end.ServeEnd.TheVariants.{Stopped, NotSettled, PortTaken, NoPort, LinkPortTaken, NoLinkPort, MetricsPortTaken, NoMetricsPort, NoThreads, Memory}
+use Rattle.presence_options.specs.declared.options.ServeOptions.{ServeOptions}
+use Rattle.presence_node_main.specs.ServeEnds.{Names}
+use Rattle.presence_node_main.specs.declared.end.ServeEnd.{ServeEnd}
+use Rattle.presence_node_main.specs.declared.end.ServeEnd.TheVariants.{Stopped, NotSettled, PortTaken, NoPort, LinkPortTaken, NoLinkPort, MetricsPortTaken, NoMetricsPort, NoThreads, Memory}
 use Rattle.presence_node_main.specs.Ending.{Shows, ShowsAddress}
 use Rattle.presence_node_main.specs.Ends.{IsEndFor, IsLinkEnd, IsMetricsEnd, IsPortOf}
 

@@ -6,12 +6,11 @@ use denote.Param.Send.{IsSync, sendable}
 use Rattle.std.specs.declared.sync.ledger.Ledger as Ledger
 use Rattle.std.proofs.Crossing as heap
 use Rattle.std.proofs.Crossing.{Vec-sync}
-use Rattle.shard_pool.specs.Lane as Lane
+use Rattle.shard_pool.specs.declared.lane.Lane as Lane
 use Rattle.shard_pool.specs.declared.lanes.Lanes as Lanes
 use Rattle.shard_pool.proofs.Crossing.{pool_sync}
-use Rattle.presence_node_duties.specs.contracts.server.Server as Server
-use Rattle.presence_node_duties.proofs.Crossing.{links_sync}
-use Rattle.presence_node_duties.proofs.Crossing.{budgets_sync, counts_sync, log_sync, mailbox_sync, memory_sync, routes_sync}
+use Rattle.presence_server.specs.contracts.server.Server as Server
+use Rattle.presence_server.proofs.Crossing.{links_sync, budgets_sync, counts_sync, log_sync, mailbox_sync, memory_sync, routes_sync}
 
 module _ (lft : NamedLft) (H L A B C D : RattleType) (lanes : Lanes.Ghosts L.Denot A.Denot B.Denot C.Denot D.Denot) (lane-a : Lane.Ghosts A.Denot) (lane-b : Lane.Ghosts B.Denot) (lane-c : Lane.Ghosts C.Denot) (lane-d : Lane.Ghosts D.Denot)
     (a : Ledger.Ghosts A.Denot) (b : Ledger.Ghosts B.Denot) (c : Ledger.Ghosts C.Denot) (d : Ledger.Ghosts D.Denot) where

@@ -2,17 +2,17 @@
 use Rattle.std.specs.Prelude.{◌≡◌, ℕ, List, ◌∷◌, ◌++◌, Bool, true, false, Option, Some, None, Result, Ok, Err, option_map, string_bytes, codes}
 use Rattle.std.specs.declared.io.ErrorKind.{ErrorKind}
 use Rattle.std.specs.declared.io.ErrorKind.TheVariants.{OutOfMemory, InvalidData}
-use Rattle.presence_node_options.specs.declared.fault.UsageFault.{UsageFault}
-use Rattle.presence_node_options.specs.declared.fault.UsageFault.TheVariants.{Usage, Memory}
-use Rattle.presence_node_options.specs.declared.options.ServeOptions.{ServeOptions}
-use Rattle.presence_node_fold.specs.Told.{told_of_fold, fold_status_number}
-use Rattle.presence_node_fold.specs.declared.fault.FoldFault.{FoldFault}
-use Rattle.presence_node_ends.specs.Ends.{TellsEnd, serve_status}
-use Rattle.presence_node_ends.specs.declared.end.ServeEnd.{ServeEnd}
-use Rattle.presence_node_ends.specs.declared.end.ServeEnd.TheVariants as ends
-use Rattle.presence_node_ends.specs.declared.end.ServeEnd.TheVariants.{Stopped, NotSettled, PortTaken, NoPort, LinkPortTaken, NoLinkPort, MetricsPortTaken, NoMetricsPort, NoThreads}
-use Rattle.presence_node_stdio.specs.Told.{told_of, status_number}
-use Rattle.presence_node_stdio.specs.declared.fault.StdioFault.{StdioFault}
+use Rattle.presence_options.specs.declared.fault.UsageFault.{UsageFault}
+use Rattle.presence_options.specs.declared.fault.UsageFault.TheVariants.{Usage, Memory}
+use Rattle.presence_options.specs.declared.options.ServeOptions.{ServeOptions}
+use Rattle.presence_stdio.specs.FoldTold.{told_of_fold, fold_status_number}
+use Rattle.presence_stdio.specs.declared.fold_fault.FoldFault.{FoldFault}
+use Rattle.presence_node_main.specs.ServeEnds.{TellsEnd, serve_status}
+use Rattle.presence_node_main.specs.declared.end.ServeEnd.{ServeEnd}
+use Rattle.presence_node_main.specs.declared.end.ServeEnd.TheVariants as ends
+use Rattle.presence_node_main.specs.declared.end.ServeEnd.TheVariants.{Stopped, NotSettled, PortTaken, NoPort, LinkPortTaken, NoLinkPort, MetricsPortTaken, NoMetricsPort, NoThreads}
+use Rattle.presence_stdio.specs.Told.{told_of, status_number}
+use Rattle.presence_stdio.specs.declared.fault.StdioFault.{StdioFault}
 use Rattle.presence_node_main.specs.declared.ending.Ending.{Ending}
 use Rattle.presence_node_main.specs.declared.ending.Stream.{Stream}
 use Rattle.presence_node_main.specs.declared.ending.Stream.TheVariants.{Output, Error}

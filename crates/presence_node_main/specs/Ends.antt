@@ -1,10 +1,10 @@
 -- How a run of the server may end.
 use Rattle.std.specs.Prelude.{◌≡◌, ◌⊎◌, ℕ, List, Option, None, Some}
-use Rattle.presence_node_options.specs.declared.options.ServeOptions.{ServeOptions}
+use Rattle.presence_options.specs.declared.options.ServeOptions.{ServeOptions}
 use Rattle.shard_pool.specs.Seats.{Hands}
-use Rattle.presence_node_ends.specs.Ends.{Settles}
-use Rattle.presence_node_ends.specs.declared.end.ServeEnd.{ServeEnd}
-use Rattle.presence_node_ends.specs.declared.end.ServeEnd.TheVariants.{Stopped, NotSettled, PortTaken, NoPort, LinkPortTaken, NoLinkPort, MetricsPortTaken, NoMetricsPort, NoThreads, Memory}
+use Rattle.presence_node_main.specs.ServeEnds.{Settles}
+use Rattle.presence_node_main.specs.declared.end.ServeEnd.{ServeEnd}
+use Rattle.presence_node_main.specs.declared.end.ServeEnd.TheVariants.{Stopped, NotSettled, PortTaken, NoPort, LinkPortTaken, NoLinkPort, MetricsPortTaken, NoMetricsPort, NoThreads, Memory}
 
 -- the ports of a run: of clients, and of links and metrics, if there are such
 pub record Ports : Type 0 where

@@ -1,3 +1,4 @@
+pub mod ServeEnds
 pub mod Ending
 pub mod Ends
 pub mod Ledgers

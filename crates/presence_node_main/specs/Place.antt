@@ -1,6 +1,6 @@
 -- Where a server listens, and how standard error is told of it.
 use Rattle.std.specs.Prelude.{◌≡◌, ◌⊎◌, ℕ, Bool, false, true, cond, ◌==◌, List, [], ◌∷◌, ◌++◌, Option, None, Some, codes, decimal, string_bytes}
-use Rattle.presence_node_options.specs.declared.options.ServeOptions.{ServeOptions}
+use Rattle.presence_options.specs.declared.options.ServeOptions.{ServeOptions}
 
 -- what stands between the brackets of an address, if it has them
 abbrev pub Brackets : List ℕ → Option (List ℕ) → Type 0

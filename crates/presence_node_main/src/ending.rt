@@ -1,12 +1,14 @@
 //! What is said at the end.
 ghost use Rattle.std.specs.Prelude.{◌≡◌, ◌++◌, ◌∷◌, IfOk, Some, None, option_map, string_bytes};
-ghost use Rattle.presence_node_ends.specs.Ends.{Names, TellsEnd};
+ghost use Rattle.presence_node_main.specs.ServeEnds.{Names, TellsEnd};
 ghost use Rattle.presence_node_main.specs.Ending.{EndsFold, EndsServe, EndsStdio, EndsUsage, IsSilent, Prints, Says, Shows, ShowsAddress, serve_stream as serve_stream_in, stopped_status, stopped_words};
 
-use presence_node_ends::{ServeEnd, end_of, serve_status_of};
-use presence_node_fold::{FoldFault, fold_status_of, fold_told_line, fold_words};
-use presence_node_options::{ServeOptions, UsageFault};
-use presence_node_stdio::{StdioFault, status_of, told_line, told_words};
+use crate::end::{ServeEnd, end_of, serve_status_of};
+use presence_options::{ServeOptions, UsageFault};
+use presence_stdio::{
+    FoldFault, StdioFault, fold_status_of, fold_told_line, fold_words, status_of, told_line,
+    told_words,
+};
 use std::alloc::{AllocError, Global};
 use std::io::ErrorKind;
 

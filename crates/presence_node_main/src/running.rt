@@ -1,4 +1,5 @@
 //! The program over the standard streams.
+use crate::end::serve_status_of;
 use crate::ending::{
     Ending, Stream, fold_ending, help_ending, serve_ending, silent, stdio_ending, stopped_ending,
     usage_ending,
@@ -7,14 +8,9 @@ use crate::error_stream::ErrorStream;
 use crate::serving::serve;
 use crate::words::{texts_of, words_of};
 use hook_registry::{NoHooks, PresenceHooks};
-use presence_node_duties::ServeRuntime;
-use presence_node_ends::serve_status_of;
-use presence_node_fold::{fold_status_of, run_fold};
-use presence_node_notices::ReferenceNotices;
-use presence_node_options::{
-    FoldOptions, Options, ServeOptions, StdioOptions, UsageFault, options_of,
-};
-use presence_node_stdio::{Outlets, run_stdio, status_of};
+use presence_options::{FoldOptions, Options, ServeOptions, StdioOptions, UsageFault, options_of};
+use presence_server::ServeRuntime;
+use presence_stdio::{Outlets, ReferenceNotices, fold_status_of, run_fold, run_stdio, status_of};
 use std::env::Env;
 use std::io;
 use std::io::BufReader;

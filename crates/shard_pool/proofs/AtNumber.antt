@@ -1,8 +1,8 @@
 -- What is behind a call of one shard, as it is said of the shard of that number.
 use Rattle.std.proofs.Common.{◌≡◌, ◌<◌, ◌≤◌, ℕ, zero, suc, List, refl, sym, subst, arith}
 use Rattle.presence_journal.specs.History.{History, own}
-use Rattle.shard_pool_locks.specs.Lines.{Comes, Descends, IsOfLane, IsOfShard}
-use Rattle.shard_pool_locks.specs.Unseated.{IsBehind, IsBehindOf}
+use Rattle.shard_pool.specs.Lines.{Comes, Descends, IsOfLane, IsOfShard}
+use Rattle.shard_pool.specs.Unseated.{IsBehind, IsBehindOf}
 use Rattle.shard_pool.specs.Seats.{IsBehindAt}
 
 -- that it is of the lane says more

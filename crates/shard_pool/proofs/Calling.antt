@@ -1,13 +1,13 @@
 -- A call behind the lock of the topic's shard, as the seat sees it.
 use Rattle.std.proofs.Common.{◌≡◌, ◌<◌, ◌≤◌, ℕ, zero, suc, Bool, List, refl, sym, subst, arith}
 use Rattle.std.specs.Prelude.{◌%◌, sum, Result}
-use Rattle.presence_journal_data.specs.declared.step.Step.{Step}
+use Rattle.presence_journal.specs.declared.step.Step.{Step}
 use Rattle.presence_journal.specs.History.{History}
-use Rattle.shard_pool_locks.specs.ShardFault.{ShardFault}
-use Rattle.shard_pool_locks.specs.Reply.{Reply}
-use Rattle.shard_pool_locks.specs.Hands.{Hand}
-use Rattle.shard_pool_locks.specs.Seated.{Called}
-use Rattle.shard_pool_locks.specs.Lines.{IsOfShard}
+use Rattle.tracker_shard.specs.declared.fault.ShardFault.{ShardFault}
+use Rattle.shard_pool.specs.declared.reply.Reply.{Reply}
+use Rattle.shard_pool.specs.Hands.{Hand}
+use Rattle.shard_pool.specs.Seated.{Called}
+use Rattle.shard_pool.specs.Lines.{IsOfShard}
 use Rattle.shard_pool.specs.Seats.{Hands, CalledAt, IsOfShardAt, IsSeated, shard_of}
 use Rattle.shard_pool.proofs.AtNumber.{last_shard, shard_of_name}
 

@@ -3,12 +3,12 @@ use denote.RattleType.{RattleType}
 use denote.Param.Send.{IsSend, IsSync, sendable}
 use Rattle.std.specs.declared.sync.ledger.Ledger as Ledger
 use Rattle.std.proofs.Crossing as heap
-use Rattle.shard_pool_locks.specs.Lane as Lane
-use Rattle.shard_pool_locks.proofs.Crossing.{part_send, locked_send}
+use Rattle.shard_pool.specs.declared.lane.Lane as Lane
+use Rattle.shard_pool.proofs.LockedCrossing.{part_send, locked_send}
 use Rattle.shard_pool.specs.declared.lanes.Lanes as Lanes
 use Rattle.shard_pool.specs.contracts.pool.Pool as Pool
 use Rattle.shard_pool.specs.contracts.seat.Seat as Seat
-pub use Rattle.shard_pool_locks.proofs.Crossing.{receipt_send}
+pub use Rattle.shard_pool.proofs.LockedCrossing.{receipt_send}
 
 module _ (L A B C D : RattleType) (lanes : Lanes.Ghosts L.Denot A.Denot B.Denot C.Denot D.Denot) (lane-a : Lane.Ghosts A.Denot) (lane-b : Lane.Ghosts B.Denot) (lane-c : Lane.Ghosts C.Denot) (lane-d : Lane.Ghosts D.Denot) (a : Ledger.Ghosts A.Denot) (b : Ledger.Ghosts B.Denot) (c : Ledger.Ghosts C.Denot) (d : Ledger.Ghosts D.Denot) where
   pub seat_send : IsSend (Seat.the_field L A B C D lanes lane-a a lane-b b lane-c c lane-d d).row

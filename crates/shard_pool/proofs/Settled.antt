@@ -4,8 +4,8 @@ use Rattle.std.specs.Prelude.{All, Result, Ok, Err, IsErrAnd}
 use Rattle.std.proofs.lemmas.List.Elements.{All-push}
 use Rattle.presence_journal.specs.History.{History, own}
 use Rattle.shard_pool_settled.specs.declared.fault.SettleFault.{SettleFault}
-use Rattle.shard_pool_locks.specs.Lines.{IsOfLane}
-use Rattle.shard_pool_locks.specs.Unseated.{IsOf}
+use Rattle.shard_pool.specs.Lines.{IsOfLane}
+use Rattle.shard_pool.specs.Unseated.{IsOf}
 use Rattle.shard_pool.specs.Seats.{IsOfShardAt}
 use Rattle.shard_pool.specs.Settling.{ArePlaced}
 use Rattle.shard_pool.proofs.AtNumber.{line_of}

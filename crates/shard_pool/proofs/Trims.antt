@@ -1,7 +1,7 @@
 -- A seat that is trimmed shard by shard.
 use Rattle.std.proofs.Common.{◌≡◌, ℕ, List}
 use Rattle.presence_journal.specs.History.{History}
-use Rattle.shard_pool_locks.specs.Hands.{without_receipts}
+use Rattle.shard_pool.specs.Hands.{without_receipts}
 use Rattle.shard_pool.specs.Seats.{Hands, IsStartOf, IsTrimmed}
 
 pub trimmed : (node : List ℕ) (Begins : ℕ → History → Type 0) (old new : Hands) (a b c d : ℕ)

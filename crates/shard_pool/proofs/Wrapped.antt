@@ -3,12 +3,12 @@ use Rattle.std.proofs.Common.{◌≡◌, ℕ, List, sym, subst}
 use Rattle.std.specs.Prelude.{Result, Ok, Err, IfOk, IfErr}
 use Rattle.presence_journal.specs.History.{History, own}
 use Rattle.presence_journal.specs.Table.{IsLegal}
-use Rattle.shard_pool_locks.specs.Asks.{TellsIfOk}
-use Rattle.shard_pool_locks.specs.Lines.{IsOfLane, IsOfShard}
-use Rattle.shard_pool_locks.specs.ShardFault.{ShardFault}
-use Rattle.shard_pool_locks.specs.ShardFault.TheVariants.{OutOfMemory}
-use Rattle.shard_pool_locks.specs.Unseated.{IsBehind, IsBehindOf, IsOf}
-pub use Rattle.shard_pool_locks.proofs.Done.{at_node, done_heard, done_tick, done_permdown, done_merge, done_cut, done_reborn}
+use Rattle.tracker_shard.specs.Asks.{TellsIfOk}
+use Rattle.shard_pool.specs.Lines.{IsOfLane, IsOfShard}
+use Rattle.tracker_shard.specs.declared.fault.ShardFault.{ShardFault}
+use Rattle.tracker_shard.specs.declared.fault.ShardFault.TheVariants.{OutOfMemory}
+use Rattle.shard_pool.specs.Unseated.{IsBehind, IsBehindOf, IsOf}
+pub use Rattle.shard_pool.proofs.Done.{at_node, done_heard, done_tick, done_permdown, done_merge, done_cut, done_reborn}
 
 -- what is told where memory isn't wanting
 module _ {A : Type 0} (node : List ℕ) (Begins : History → Type 0) (Is : History → A → Type 0) where

@@ -4,18 +4,18 @@ use Rattle.std.specs.Global.{Global}
 use Rattle.serde_json.specs.Data.{Data}
 use Rattle.presence_base.specs.declared.dots.Dot.{Dot}
 use Rattle.presence_base.specs.declared.row.Row.{Row}
-use Rattle.presence_journal_data.specs.declared.rows.Item.{Item}
-use Rattle.presence_journal_data.specs.declared.step.Step.{Step}
-use Rattle.presence_journal_data.specs.declared.step.Step.TheVariants as steps_are
+use Rattle.presence_journal.specs.declared.rows.Item.{Item}
+use Rattle.presence_journal.specs.declared.step.Step.{Step}
+use Rattle.presence_journal.specs.declared.step.Step.TheVariants as steps_are
 use Rattle.presence_journal.specs.History.{History, last_number}
 use Rattle.presence_journal.specs.Present.{listed, dots_of}
 use Rattle.presence_journal.specs.Queue.{items_given}
 use Rattle.presence_journal.specs.Table.{outcome_of, rows_of_key, rows_of_pid, listed_key}
-use Rattle.shard_pool_locks.specs.ShardFault.{ShardFault}
-use Rattle.shard_pool_locks.specs.Sub.{Sub}
-use Rattle.shard_pool_locks.specs.Reply.{Reply}
-use Rattle.shard_pool_locks.specs.Steps.{new_dot, slot_of}
-use Rattle.shard_pool_locks.specs.Seated.{always, finds}
+use Rattle.tracker_shard.specs.declared.fault.ShardFault.{ShardFault}
+use Rattle.tracker_shard.specs.declared.shard.Sub.{Sub}
+use Rattle.shard_pool.specs.declared.reply.Reply.{Reply}
+use Rattle.tracker_shard.specs.Steps.{new_dot, slot_of}
+use Rattle.shard_pool.specs.Seated.{always, finds}
 use Rattle.shard_pool.specs.Seats.{Hands, CalledAt, shard_of}
 
 -- a step about a topic whose outcome names the new dot that is answered

@@ -2,8 +2,8 @@
 use Rattle.std.specs.Coded.{Coded, code_by, coded_ℕ, coded×}
 use Rattle.std.specs.Prelude.{refl, ℕ}
 use Rattle.shard_pool.specs.Seats.{Hands}
-use Rattle.shard_pool_locks.specs.Codes.{hand_code}
-use Rattle.shard_pool_locks.specs.Hands.{Hand}
+use Rattle.shard_pool.specs.HandCodes.{hand_code}
+use Rattle.shard_pool.specs.Hands.{Hand}
 
 abbrev pub hands_code : Coded Hands
 hands_code = code_by (ℕ × (Hand × (Hand × (Hand × Hand))))

@@ -1,13 +1,13 @@
 -- What a seat keeps of its calls at all shards, and what a call of the pool does to it.
 use Rattle.std.specs.Prelude.{◌≡◌, ◌==◌, ◌%◌, ℕ, zero, suc, Bool, List, [], ◌∷◌, ◌++◌, cond, sum, Result}
-use Rattle.presence_journal_data.specs.declared.step.Step.{Step}
+use Rattle.presence_journal.specs.declared.step.Step.{Step}
 use Rattle.presence_journal.specs.History.{History, start_of}
-use Rattle.shard_pool_locks.specs.ShardFault.{ShardFault}
-use Rattle.shard_pool_locks.specs.Reply.{Reply}
-use Rattle.shard_pool_locks.specs.Lines.{IsOfShard}
-use Rattle.shard_pool_locks.specs.Hands.{Hand, new_hand, without_receipts}
-use Rattle.shard_pool_locks.specs.Seated.{Called}
-use Rattle.shard_pool_locks.specs.Unseated.{IsBehindOf}
+use Rattle.tracker_shard.specs.declared.fault.ShardFault.{ShardFault}
+use Rattle.shard_pool.specs.declared.reply.Reply.{Reply}
+use Rattle.shard_pool.specs.Lines.{IsOfShard}
+use Rattle.shard_pool.specs.Hands.{Hand, new_hand, without_receipts}
+use Rattle.shard_pool.specs.Seated.{Called}
+use Rattle.shard_pool.specs.Unseated.{IsBehindOf}
 
 -- a seat at each shard
 pub record Hands : Type 0 where

@@ -2,7 +2,7 @@
 use Rattle.std.specs.Prelude.{◌≡◌, ◌==◌, ◌<◌, ℕ, zero, suc, List, [], ◌∷◌, ◌++◌, Bool, true, false, ◌&&◌, ◌||◌, cond, length, All}
 use Rattle.presence_journal.specs.History.{History}
 use Rattle.shard_pool_settled.specs.declared.receipt.Receipt.{Receipt}
-use Rattle.shard_pool_locks.specs.Unseated.{IsOf}
+use Rattle.shard_pool.specs.Unseated.{IsOf}
 use Rattle.shard_pool.specs.Seats.{Hands}
 
 -- the receipts of a seat, shard by shard

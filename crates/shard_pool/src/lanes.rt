@@ -3,7 +3,7 @@ ghost use Rattle.std.specs.Prelude.{ℕ};
 ghost use Rattle.presence_journal.specs.History.{History};
 ghost use Rattle.shard_pool.specs.Lanes.{begins_at};
 
-use shard_pool_locks::Lane;
+use crate::lane::Lane;
 use std::marker::PhantomData;
 
 /// The lanes of a pool: one for each shard that there can be.

@@ -2,15 +2,19 @@
 ghost use Rattle.std.specs.Prelude.{◌≡◌, ◌+◌, ◌<◌, ◌≤◌, IfOk, IfErr};
 ghost use Rattle.presence_base.specs.Refs.{IsCount};
 ghost use Rattle.presence_journal.specs.History.{begun};
-ghost use Rattle.shard_pool_locks.specs.ShardFault.TheVariants.{OutOfMemory};
+ghost use Rattle.tracker_shard.specs.declared.fault.ShardFault.TheVariants.{OutOfMemory};
 ghost use Rattle.shard_pool.specs.Lanes.{AllBegin};
 ghost use Rattle.shard_pool.specs.Seats.{new_seat, new_seats};
 
 use crate::blanks::Blanks;
+use crate::gate::Gate;
+use crate::lane::Lane;
 use crate::lanes::Lanes;
+use crate::locked::Locked;
+use crate::part::Part;
+use crate::reply::PoolFault;
 use crate::seat::Seat;
 use presence_base::Replica;
-use shard_pool_locks::{Gate, Lane, Locked, Part, PoolFault};
 use std::alloc::Global;
 use std::sync::Mutex;
 use std::sync::ledger::{Book, Share};

@@ -2,7 +2,7 @@
 ghost use Rattle.std.specs.Prelude.{◌≡◌, IfOk};
 
 use crate::lanes::Lanes;
-use shard_pool_locks::Part;
+use crate::part::Part;
 use shard_pool_settled::Receipt;
 use std::alloc::{AllocError, Global};
 use std::marker::Model;
@@ -41,7 +41,7 @@ fn copied(alloc: Global, receipts: &[Receipt]) -> Result<Vec<Receipt>, AllocErro
 
 impl<L: Lanes> Seat<L> {
     ghost use Rattle.std.specs.Prelude.{◌≡◌, ◌<◌, IfOk};
-    ghost use Rattle.shard_pool_locks.specs.Hands.{new_hand};
+    ghost use Rattle.shard_pool.specs.Hands.{new_hand};
     ghost use Rattle.shard_pool.specs.Seats.{new_seat, without_receipts_at};
     ghost use Rattle.shard_pool.specs.Settling.{receipts_of};
 

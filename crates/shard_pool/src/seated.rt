@@ -2,20 +2,23 @@
 ghost use Rattle.std.specs.Prelude.{◌≤◌, ◌^◌, IsTrue};
 ghost use Rattle.presence_journal.specs.Limits.{is_payload, is_take_limit};
 ghost use Rattle.shard_pool.specs.Seats.{CalledAt, IsOfShardAt, shard_of};
-ghost use Rattle.shard_pool.specs.Calls.{Tracks, Updates, Untracks, UntracksAll, Lists, Fetches};
-ghost use Rattle.shard_pool.specs.Calls.{Subscribes, Takes, Unsubscribes, Shouts};
+ghost use Rattle.shard_pool.specs.Calls.{Tracks, Updates, Untracks, UntracksAll, Lists, Fetches, Subscribes, Takes, Unsubscribes, Shouts};
 
+use crate::gate::Gate;
 use crate::lanes::Lanes;
+use crate::locked_calls::locked_call;
 use crate::pool::Pool;
+use crate::reply::{PoolFault, Reply};
 use crate::seat::Seat;
+use crate::tried::Tried;
 use presence_base::{Dot, Json, Key, Meta, Row, Topic, shard_of};
 use presence_journal::{Item, SharedRows};
-use shard_pool_locks::{
-    Gate, Get, List, PoolFault, Reply, SeatCall, Shout, Sub, Subscribe, Take, Track, Tried,
-    Unsubscribe, Untrack, UntrackAll, Update, locked_call,
-};
 use std::alloc::Global;
 use std::sync::Wait;
+use tracker_shard::{
+    Get, List, SeatCall, Shout, Sub, Subscribe, Take, Track, Unsubscribe, Untrack, UntrackAll,
+    Update,
+};
 
 impl<G: Gate, L: Lanes> Pool<G, L> {
     /// Makes a call through a seat, at its topic's shard. Where it finds the shard's journal full, or no memory that the journal

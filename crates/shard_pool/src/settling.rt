@@ -3,17 +3,19 @@ ghost use Rattle.std.specs.Prelude.{◌≡◌, All, List, [], ◌∷◌, ◌++�
 ghost use Rattle.presence_journal.specs.History.{History};
 ghost use Rattle.shard_pool_settled.specs.Seated.{one_if};
 ghost use Rattle.shard_pool_settled.specs.Settled.{Agree, CountsDiffer, are_told};
-ghost use Rattle.shard_pool_locks.specs.Lines.{IsOfLane};
-ghost use Rattle.shard_pool_locks.specs.Unseated.{IsOf};
+ghost use Rattle.shard_pool.specs.Lines.{IsOfLane};
+ghost use Rattle.shard_pool.specs.Unseated.{IsOf};
 ghost use Rattle.shard_pool.specs.Seats.{IsOfShardAt};
 ghost use Rattle.shard_pool.specs.Settling.{has_seat, found, by_number, has_seats, IsMissing, AreOf, ArePlaced};
 
+use crate::gate::Gate;
+use crate::lane::Lane;
 use crate::lanes::Lanes;
+use crate::locked::Locked;
 use crate::pool::Pool;
 use crate::seat::Seat;
 use presence_base::Replica;
 use presence_journal::Journal;
-use shard_pool_locks::{Gate, Lane, Locked};
 use shard_pool_settled::{Receipt, SettleFault, check_receipts};
 use std::alloc::Global;
 use std::sync::{Mutex, Wait};

@@ -3,32 +3,39 @@
 ghost use Rattle.std.specs.Prelude.{◌≡◌, ◌<◌, ◌-◌, ◌^◌, min, IfOk, IfErr};
 ghost use Rattle.presence_journal.specs.History.{IsTop, entry_count, own, start_of, status};
 ghost use Rattle.presence_journal.specs.KeptBytes.{kept_bytes};
-ghost use Rattle.shard_pool_locks.specs.Full.{IsFullOf};
-ghost use Rattle.orswot_core_told.specs.Checks.{WhereItFits};
-ghost use Rattle.shard_pool_locks.specs.KeptDeltas.{IsToldFrom, TellsFrom};
-ghost use Rattle.shard_pool_locks.specs.ToldParts.{IsPartWhereItFits};
-ghost use Rattle.shard_pool_locks.specs.ShardFault.TheVariants.{OutOfMemory};
-ghost use Rattle.shard_pool_locks.specs.Asks.{TellsWaiting};
-ghost use Rattle.shard_pool_locks.specs.Unseated.{IsOf, IsBehind, IsDone, IsMade, IsCutMade, IsCheckpointed, IsMadeWhereQuiet, IsRebornMade};
+ghost use Rattle.presence_journal_known.specs.Full.{IsFullOf};
+ghost use Rattle.orswot_core.specs.Checks.{WhereItFits};
+ghost use Rattle.presence_journal_cuts.specs.KeptDeltas.{IsToldFrom, TellsFrom};
+ghost use Rattle.presence_journal_cuts.specs.ToldParts.{IsPartWhereItFits};
+ghost use Rattle.tracker_shard.specs.declared.fault.ShardFault.TheVariants.{OutOfMemory};
+ghost use Rattle.tracker_shard.specs.Asks.{TellsWaiting};
+ghost use Rattle.shard_pool.specs.Unseated.{IsOf, IsBehind, IsDone, IsMade, IsCutMade, IsCheckpointed, IsMadeWhereQuiet, IsRebornMade};
 ghost use Rattle.shard_pool.specs.Seats.{shard_of, IsBehindAt, IsTrimmed};
-ghost use Rattle.shard_pool_locks.specs.Lines.{IsOfLane};
+ghost use Rattle.shard_pool.specs.Lines.{IsOfLane};
 
+use crate::due::DueFrom;
+use crate::gate::Gate;
 use crate::lanes::Lanes;
+use crate::locked_asks::{
+    locked_ask, locked_checkpoint, locked_checkpoint_where_quiet, locked_make, locked_trim,
+};
 use crate::pool::Pool;
+use crate::reply::PoolFault;
 use crate::seat::Seat;
+use crate::tried::Tried;
 use delta_range::Delta;
-use orswot_core_told::{Form, Told};
+use orswot_core::{Form, Told};
 use presence_base::{Replica, Topic, shard_of};
 use presence_journal::{Journal, Pairs, Step};
 use replica_status::Status;
-use shard_pool_locks::{
-    Ask, Call, CopyOfJournal, CountOfRows, Cut, DueFrom, EntryCount, Fitting, Full, Gate, Heard,
-    Incarnation, KeptBytes, ListBytes, MergeCopy, PartFrom, PermDown, PoolFault, Rebirth,
-    RowCounts, StartNumber, StatusOf, Sub, Tick, ToldFrom, TopOf, Tried, WaitsFor, locked_ask,
-    locked_checkpoint, locked_checkpoint_where_quiet, locked_make, locked_trim,
-};
 use std::alloc::Global;
 use std::sync::Wait;
+use tracker_index::RowCounts;
+use tracker_shard::{
+    Ask, Call, CopyOfJournal, CountOfRows, Cut, EntryCount, Fitting, Full, Heard, Incarnation,
+    KeptBytes, ListBytes, MergeCopy, PartFrom, PermDown, Rebirth, StartNumber, StatusOf, Sub, Tick,
+    ToldFrom, TopOf, WaitsFor,
+};
 
 // A call at the shard of a number, whose lock it names.
 macro_rules! at {

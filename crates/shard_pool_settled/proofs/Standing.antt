@@ -12,17 +12,16 @@ use Rattle.serde_json.specs.Data.{null}
 use Rattle.serde_json.specs.Written.{compact_text}
 use Rattle.presence_base.specs.declared.dots.Dot.{Dot}
 use Rattle.presence_base.specs.Order.{same_text, same_replica, same_dot, dot_cmp}
-use Rattle.presence_journal_data.specs.declared.step.Step.{Step}
-use Rattle.presence_journal_data.specs.declared.step.Step.TheVariants as steps_are
-use Rattle.presence_journal_data.specs.declared.entry.Outcome.{Outcome}
-use Rattle.presence_journal_data.specs.declared.entry.Outcome.TheVariants as outcomes_are
-use Rattle.presence_journal.specs.Steps.{Entry}
+use Rattle.presence_journal.specs.declared.step.Step.{Step}
+use Rattle.presence_journal.specs.declared.step.Step.TheVariants as steps_are
+use Rattle.presence_journal.specs.declared.entry.Outcome.{Outcome}
+use Rattle.presence_journal.specs.declared.entry.Outcome.TheVariants as outcomes_are
+use Rattle.presence_journal.specs.declared.entry.Entry.{Entry}
 use Rattle.presence_journal.specs.History.{History}
-use Rattle.presence_journal.proofs.Same.{same_text-true, same_text-refl, same_replica-true, same_replica-refl, same_dot-true, same_dot-refl}
+use Rattle.presence_journal.proofs.Same.{same_text-true, same_text-refl, same_replica-true, same_replica-refl, same_dot-true, same_dot-refl, is_eq-then, dot_total, dot_cmp-IsAntisymmetric}
 use Rattle.std.specs.FinMap.{IsAntisymmetric, slice_cmp-IsAntisymmetric}
-use Rattle.presence_journal.proofs.Same.{is_eq-then, dot_total, dot_cmp-IsAntisymmetric}
 use Rattle.shard_pool_settled.specs.declared.receipt.Receipt.{Receipt}
-use Rattle.presence_journal_data.specs.ListedDots.{same_dots}
+use Rattle.presence_journal.specs.ListedDots.{same_dots}
 use Rattle.shard_pool_settled.specs.Alike.{same_value, pair_cmp, same_pairs, same_step, same_outcome}
 use Rattle.shard_pool_settled.specs.Seated.{entry_at}
 use Rattle.shard_pool_settled.specs.Settled.{is_seat, is_entry, is_in, is_told, all_told, seats_told}

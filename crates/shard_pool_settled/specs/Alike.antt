@@ -9,11 +9,11 @@ use Rattle.serde_json.specs.Written.{compact_text}
 use Rattle.presence_base.specs.declared.dots.Replica.{Replica}
 use Rattle.presence_base.specs.declared.dots.Dot.{Dot}
 use Rattle.presence_base.specs.Order.{same_text, same_replica, same_dot, dot_cmp}
-use Rattle.presence_journal_data.specs.ListedDots.{same_dots}
-use Rattle.presence_journal_data.specs.declared.step.Step.{Step}
-use Rattle.presence_journal_data.specs.declared.step.Step.TheVariants as steps_are
-use Rattle.presence_journal_data.specs.declared.entry.Outcome.{Outcome}
-use Rattle.presence_journal_data.specs.declared.entry.Outcome.TheVariants as outcomes_are
+use Rattle.presence_journal.specs.ListedDots.{same_dots}
+use Rattle.presence_journal.specs.declared.step.Step.{Step}
+use Rattle.presence_journal.specs.declared.step.Step.TheVariants as steps_are
+use Rattle.presence_journal.specs.declared.entry.Outcome.{Outcome}
+use Rattle.presence_journal.specs.declared.entry.Outcome.TheVariants as outcomes_are
 
 abbrev pub same_value : Data → Data → Bool
 same_value a b = same_text (compact_text a) (compact_text b)

@@ -1,10 +1,7 @@
 // Whether two outcomes are the same.
 ghost use Rattle.std.specs.Prelude.{◌≡◌, ◌&&◌};
-ghost use Rattle.presence_journal_data.specs.ListedDots.{same_dots};
-ghost use Rattle.shard_pool_settled.specs.Alike.{same_outcome, is_added, is_already_tracked, is_replaced};
-ghost use Rattle.shard_pool_settled.specs.Alike.{is_no_presence, is_removed, is_shown, is_subscribed, is_taken};
-ghost use Rattle.shard_pool_settled.specs.Alike.{is_ended, is_sent, is_noted, is_cut_at, is_merged};
-ghost use Rattle.shard_pool_settled.specs.Alike.{same_pairs, is_reborn};
+ghost use Rattle.presence_journal.specs.ListedDots.{same_dots};
+ghost use Rattle.shard_pool_settled.specs.Alike.{same_outcome, is_added, is_already_tracked, is_replaced, is_no_presence, is_removed, is_shown, is_subscribed, is_taken, is_ended, is_sent, is_noted, is_cut_at, is_merged, same_pairs, is_reborn};
 
 use presence_base::Dot;
 use presence_journal::{Dots, ListedDots, Outcome, Pairs};

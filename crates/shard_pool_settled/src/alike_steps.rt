@@ -1,9 +1,7 @@
 // Whether two steps are alike. Metas and payloads are compared by their compact text.
 ghost use Rattle.std.specs.Prelude.{◌≡◌};
 ghost use Rattle.presence_base.specs.Order.{same_text};
-ghost use Rattle.shard_pool_settled.specs.Alike.{same_value, same_step, is_track, is_update, is_untrack, is_untrack_all};
-ghost use Rattle.shard_pool_settled.specs.Alike.{is_list, is_get, is_subscribe, is_take, is_unsubscribe, is_shout};
-ghost use Rattle.shard_pool_settled.specs.Alike.{is_heard, is_tick, is_permdown, is_cut};
+ghost use Rattle.shard_pool_settled.specs.Alike.{same_value, same_step, is_track, is_update, is_untrack, is_untrack_all, is_list, is_get, is_subscribe, is_take, is_unsubscribe, is_shout, is_heard, is_tick, is_permdown, is_cut};
 
 use presence_base::{Key, Meta, Replica, Topic};
 use presence_journal::{Payload, Step, TakeLimit};

@@ -1,7 +1,6 @@
 //! `check_receipts`: whether given receipts and journals agree.
 ghost use Rattle.std.specs.Prelude.{◌≡◌, ◌≢◌, ◌<◌, ◌^◌, Some, false, length, map, IfOk, OnOk};
-ghost use Rattle.shard_pool_settled.specs.Settled.{is_entry, is_told, all_told, seats_told, rises, rises_at, seats_rise};
-ghost use Rattle.shard_pool_settled.specs.Settled.{count_at, receipts_at, are_told, are_counted, Agree, CountsDiffer};
+ghost use Rattle.shard_pool_settled.specs.Settled.{is_entry, is_told, all_told, seats_told, rises, rises_at, seats_rise, count_at, receipts_at, are_told, are_counted, Agree, CountsDiffer};
 
 use crate::alike_outcomes::are_outcomes_alike;
 use crate::alike_steps::are_steps_alike;

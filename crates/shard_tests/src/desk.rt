@@ -7,7 +7,7 @@ use presence_base::{
     Dot, Json, Key, Meta, Replica, Row, Topic, has_float, is_within_depth, ref_text,
 };
 use presence_journal::{Item, MAX_PAYLOAD_DEPTH};
-use presence_journal_walks::{walk_status, walk_top};
+use presence_journal_known::{walk_status, walk_top};
 use serde_json::Value;
 use std::alloc::{AllocError, Global};
 use tracker_shard::{Shard, ShardFault, Sub};

@@ -7,7 +7,8 @@ use crate::merge_desk::{Telling, replica};
 use orswot_core::Form;
 use std::alloc::{AllocError, Global};
 use std::test::Fail;
-use tracker_shard::{RowCounts, Shard};
+use tracker_index::RowCounts;
+use tracker_shard::Shard;
 
 // The last count goes to u1. What needs one more is refused, and what removes nothing needs none.
 const AT_THE_LAST_COUNT: &[Ask] = &[

@@ -4,14 +4,14 @@ use Rattle.std.proofs.lemmas.Bool.{false≢true}
 use Rattle.std.specs.Prelude.{Result, Ok, Err, OnOk, OnErr, IfOk, IfErr, is_some}
 use Rattle.presence_base.specs.declared.dots.Replica.{Replica}
 use Rattle.presence_base.specs.declared.dots.Dot.{Dot}
-use Rattle.orswot_core_told.specs.Telling.{ToldValue}
-use Rattle.presence_journal_data.specs.declared.step.Step.{Step}
-use Rattle.presence_journal_data.specs.declared.step.Step.TheVariants as steps_are
-use Rattle.presence_journal_data.specs.declared.entry.Outcome.{Outcome}
-use Rattle.presence_journal_data.specs.declared.entry.Outcome.TheVariants as outcomes_are
+use Rattle.orswot_core.specs.Telling.{ToldValue}
+use Rattle.presence_journal.specs.declared.step.Step.{Step}
+use Rattle.presence_journal.specs.declared.step.Step.TheVariants as steps_are
+use Rattle.presence_journal.specs.declared.entry.Outcome.{Outcome}
+use Rattle.presence_journal.specs.declared.entry.Outcome.TheVariants as outcomes_are
 use Rattle.presence_journal.specs.History.{History, is_full, count, last_cut}
 use Rattle.presence_journal.specs.Queue.{topic_of, queue, is_waiting}
-use Rattle.presence_journal.specs.Limits.{is_within_limits}
+use Rattle.presence_journal.specs.StepLimits.{is_within_limits}
 use Rattle.presence_journal.specs.Table.{IsLegal, outcome_of}
 use Rattle.tracker_shard.specs.declared.call.Found.{Found}
 use Rattle.tracker_shard.specs.declared.fault.ShardFault.{ShardFault}

@@ -5,20 +5,20 @@ use Rattle.serde_json.specs.Data.{Data}
 use Rattle.presence_base.specs.declared.dots.Replica.{Replica}
 use Rattle.presence_base.specs.declared.dots.Dot.{Dot}
 use Rattle.presence_base.specs.declared.row.Row.{Row}
-use Rattle.orswot_core_told.specs.Telling.{ToldValue}
-use Rattle.presence_journal_data.specs.declared.step.Step.{Step}
-use Rattle.presence_journal_data.specs.declared.step.Step.TheVariants as steps_are
-use Rattle.presence_journal_data.specs.declared.entry.Outcome.{Outcome}
-use Rattle.presence_journal_data.specs.declared.entry.Outcome.TheVariants as outcomes_are
+use Rattle.orswot_core.specs.Telling.{ToldValue}
+use Rattle.presence_journal.specs.declared.step.Step.{Step}
+use Rattle.presence_journal.specs.declared.step.Step.TheVariants as steps_are
+use Rattle.presence_journal.specs.declared.entry.Outcome.{Outcome}
+use Rattle.presence_journal.specs.declared.entry.Outcome.TheVariants as outcomes_are
 use Rattle.delta_range.specs.Deltas.{DeltaValue}
-use Rattle.tracker_shard_indexed.specs.Cuts.{IsCut}
+use Rattle.presence_journal_cuts.specs.Cuts.{IsCut}
 use Rattle.presence_journal.specs.History.{History, count, is_full, next_dot, last_number, own, reborn}
 use Rattle.presence_journal.specs.Present.{listed, dots_of}
 use Rattle.presence_journal.specs.Queue.{queue, topic_of, is_waiting}
 use Rattle.presence_journal.specs.Table.{for_present, outcome_of, accepted, after, rows_of_key, rows_of_pid, listed_key, tracked, updated, untracked, counting, can_be_reborn, reborn_rows, own_dots, next_entry, with_outcome, IsLegal, pairs_for}
 use Rattle.tracker_shard.specs.Steps.{Made, cause, refusal, first_dot, new_dot, next_counted, slot_of, is_found, found_topic, KeepsRows}
 use Rattle.tracker_shard.specs.declared.fault.ShardFault.TheVariants.{JournalFull, NoSub, BadIncarnation}
-use Rattle.presence_journal.specs.Limits.{is_within_limits}
+use Rattle.presence_journal.specs.StepLimits.{is_within_limits}
 use Rattle.presence_journal.proofs.Reborn.{can_parts}
 use Rattle.presence_journal.proofs.AfterRebirth.{rebirth_loses_no_row}
 use Rattle.std.proofs.lemmas.Bool.{and_from, le-leb}

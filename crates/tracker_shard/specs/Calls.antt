@@ -1,11 +1,11 @@
 -- What a call comes to before its step is made.
 use Rattle.std.specs.Prelude.{◌≡◌, ℕ, Bool, true, false, Option, Some, None, is_some, Result, Ok, Err}
-use Rattle.presence_journal_data.specs.declared.step.Step.{Step}
-use Rattle.presence_journal_data.specs.declared.step.Step.TheVariants as steps_are
-use Rattle.presence_journal_data.specs.declared.entry.Outcome.{Outcome}
-use Rattle.presence_journal_data.specs.declared.entry.Outcome.TheVariants as outcomes_are
+use Rattle.presence_journal.specs.declared.step.Step.{Step}
+use Rattle.presence_journal.specs.declared.step.Step.TheVariants as steps_are
+use Rattle.presence_journal.specs.declared.entry.Outcome.{Outcome}
+use Rattle.presence_journal.specs.declared.entry.Outcome.TheVariants as outcomes_are
 use Rattle.presence_journal.specs.History.{History, is_full}
-use Rattle.presence_journal.specs.Limits.{is_within_limits}
+use Rattle.presence_journal.specs.StepLimits.{is_within_limits}
 use Rattle.presence_journal.specs.Table.{outcome_of}
 use Rattle.tracker_shard.specs.declared.call.Found.{Found}
 use Rattle.tracker_shard.specs.declared.shard.Sub.{Sub}

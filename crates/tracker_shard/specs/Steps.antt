@@ -2,12 +2,12 @@
 use Rattle.std.specs.Prelude.{◌≡◌, ℕ, ◌+◌, Bool, true, cond, ◌&&◌, nat_eq, nat_lt, nat_le, ◌^◌, List, [], ◌∷◌, Option, Some, None, is_some, Result, Ok, Err, Vec}
 use Rattle.presence_base.specs.declared.dots.Dot.{Dot}
 use Rattle.presence_base.specs.declared.row.Row.{Row}
-use Rattle.presence_journal_data.specs.declared.entry.Outcome.TheVariants as outcomes_are
-use Rattle.presence_journal_data.specs.declared.step.Step.{Step}
-use Rattle.presence_journal_data.specs.declared.entry.Outcome.{Outcome}
-use Rattle.presence_journal_data.specs.declared.step.Step.TheVariants as steps_are
-use Rattle.presence_journal_data.specs.declared.rows.Item.{Item}
-use Rattle.presence_journal.specs.Steps.{Entry}
+use Rattle.presence_journal.specs.declared.entry.Outcome.TheVariants as outcomes_are
+use Rattle.presence_journal.specs.declared.step.Step.{Step}
+use Rattle.presence_journal.specs.declared.entry.Outcome.{Outcome}
+use Rattle.presence_journal.specs.declared.step.Step.TheVariants as steps_are
+use Rattle.presence_journal.specs.declared.rows.Item.{Item}
+use Rattle.presence_journal.specs.declared.entry.Entry.{Entry}
 use Rattle.presence_journal.specs.Laws.{LosesNoRow}
 use Rattle.presence_journal.specs.History.{History, Then, is_full, count, next_dot, last_number}
 use Rattle.presence_journal.specs.Present.{listed, dots_of}

@@ -1,7 +1,7 @@
 // The parts of a call: what it reads, what it comes to, and its entry.
 ghost use Rattle.std.specs.Prelude.{◌≡◌, true, false, Some, None, IfOk, IfErr, OnOk, OnErr};
 ghost use Rattle.presence_journal.specs.History.{is_full};
-ghost use Rattle.presence_journal.specs.Limits.{is_within_limits};
+ghost use Rattle.presence_journal.specs.StepLimits.{is_within_limits};
 ghost use Rattle.presence_journal.specs.Present.{dots_of};
 ghost use Rattle.presence_journal.specs.Table.{outcome_of, rows_of_key, untracked};
 ghost use Rattle.tracker_shard.specs.Steps.{Made, first_dot};
@@ -11,7 +11,7 @@ use delta_range::Delta;
 use presence_base::{Dot, Key, Row, Topic};
 use presence_journal::{Dots, Outcome, SharedDot, Step, dots_of_rows};
 use std::alloc::{AllocError, Global};
-use tracker_shard_indexed::Indexed;
+use tracker_index::Indexed;
 
 // The dot of the first row, where there is one.
 fn first_dot_of(rows: &[(Dot, Row)]) -> Option<Dot>

@@ -2,10 +2,10 @@
 ghost use Rattle.std.specs.Prelude.{◌≡◌, ◌-◌, ◌^◌, min};
 ghost use Rattle.presence_journal.specs.History.{IsTop, entry_count, own, start_of, status};
 ghost use Rattle.presence_journal.specs.KeptBytes.{kept_bytes};
-ghost use Rattle.orswot_core_told.specs.Checks.{WhereItFits};
-ghost use Rattle.tracker_shard_indexed.specs.Full.{IsFullOf};
-ghost use Rattle.tracker_shard_indexed.specs.KeptDeltas.{IsToldFrom, TellsFrom};
-ghost use Rattle.tracker_shard_indexed.specs.ToldParts.{IsPartWhereItFits};
+ghost use Rattle.orswot_core.specs.Checks.{WhereItFits};
+ghost use Rattle.presence_journal_known.specs.Full.{IsFullOf};
+ghost use Rattle.presence_journal_cuts.specs.KeptDeltas.{IsToldFrom, TellsFrom};
+ghost use Rattle.presence_journal_cuts.specs.ToldParts.{IsPartWhereItFits};
 ghost use Rattle.tracker_shard.specs.Asks.{TellsIfOk, TellsWaiting};
 
 use crate::fault::ShardFault;
@@ -16,7 +16,7 @@ use presence_base::Replica;
 use presence_journal::Journal;
 use replica_status::Status;
 use std::alloc::Global;
-use tracker_shard_indexed::RowCounts;
+use tracker_index::RowCounts;
 
 /// What is asked of a shard without a step.
 pub trait Ask {

@@ -2,7 +2,7 @@
 use crate::fault::ShardFault;
 use presence_journal::{Outcome, Step};
 use std::alloc::Global;
-use tracker_shard_indexed::Indexed;
+use tracker_index::Indexed;
 
 /// What a call comes to where no refusal of the shard's stands against it: its entry's step and outcome, and the answer that
 /// is given once the entry is there, which may be a refusal of the table's.
@@ -16,7 +16,7 @@ pub struct Found<A> {
 /// A call of a shard: its step, and how its answer is read from what the table has.
 pub trait Call {
     ghost use Rattle.std.specs.Prelude.{◌≡◌, Bool, true};
-    ghost use Rattle.presence_journal_data.specs.declared.step.Step.{Step as StepValue};
+    ghost use Rattle.presence_journal.specs.declared.step.Step.{Step as StepValue};
     ghost use Rattle.presence_journal.specs.History.{History};
     ghost use Rattle.tracker_shard.specs.Calls.{Finds};
 

@@ -5,7 +5,7 @@ ghost use Rattle.presence_journal.specs.Limits.{is_payload, is_take_limit};
 ghost use Rattle.presence_journal.specs.Present.{listed, dots_of};
 ghost use Rattle.presence_journal.specs.Queue.{items_given};
 ghost use Rattle.presence_journal.specs.Table.{outcome_of, rows_of_key, rows_of_pid, listed_key};
-ghost use Rattle.presence_journal_data.specs.declared.step.Step.TheVariants as steps_are;
+ghost use Rattle.presence_journal.specs.declared.step.Step.TheVariants as steps_are;
 ghost use Rattle.tracker_shard.specs.Calls.{always, finds};
 ghost use Rattle.tracker_shard.specs.Steps.{new_dot, slot_of};
 
@@ -16,7 +16,7 @@ use crate::shard::Sub;
 use presence_base::{Dot, Json, Key, Meta, Row, Topic};
 use presence_journal::{Item, ListedDots, Outcome, Payload, SharedRows, Step, dots_of_rows};
 use std::alloc::Global;
-use tracker_shard_indexed::Indexed;
+use tracker_index::Indexed;
 
 /// The call that tracks the pid under the key on the topic.
 #[derive(Clone, Copy)]

@@ -2,8 +2,9 @@
 //! is told of it, and for the one that begins the journal again.
 //!
 //! Its public contracts cite `specs/Steps`: what a call answers and leaves, and when it refuses; `specs/Calls`: what it
-//! comes to before its step is made; `specs/Asks`: what is answered without a step; presence_journal's `History`, `Table`, `Present`, `Queue` and `Limits`; and what
-//! tracker_shard_indexed gives out: `Cuts`, `KeptDeltas`, `Full`, `Starting`, `Resuming` and `Quiet`.
+//! comes to before its step is made; `specs/Asks`: what is answered without a step; presence_journal's `History`,
+//! `Table`, `Present`, `Queue` and `Limits`; presence_journal_cuts' `Cuts` and `KeptDeltas`; presence_journal_known's
+//! `Full`; tracker_index's `Starting` and `Resuming`; and tracker_feeds' `Quiet`.
 #![tactic(auto)]
 
 mod answers;
@@ -25,4 +26,3 @@ pub use calls::{
 pub use fault::ShardFault;
 pub use others::{Cut, Heard, Merge, MergeCopy, PermDown, Rebirth, Tick};
 pub use shard::{Shard, Sub};
-pub use tracker_shard_indexed::RowCounts;

@@ -1,10 +1,10 @@
 //! The calls that no seat makes: what is heard of other nodes, time that passes, what is told to other nodes, and a rebirth.
 ghost use Rattle.std.specs.Prelude.{◌≡◌, Some};
 ghost use Rattle.presence_journal.specs.Table.{outcome_of};
-ghost use Rattle.presence_journal_data.specs.declared.entry.Outcome.TheVariants as outcomes_are;
-ghost use Rattle.presence_journal_data.specs.declared.step.Step.TheVariants as steps_are;
+ghost use Rattle.presence_journal.specs.declared.entry.Outcome.TheVariants as outcomes_are;
+ghost use Rattle.presence_journal.specs.declared.step.Step.TheVariants as steps_are;
 ghost use Rattle.tracker_shard.specs.Calls.{always};
-ghost use Rattle.tracker_shard_indexed.specs.Cuts.{IsCut};
+ghost use Rattle.presence_journal_cuts.specs.Cuts.{IsCut};
 
 use crate::answers::cut_outcome;
 use crate::call::{Call, Found};
@@ -14,7 +14,7 @@ use orswot_core::Told;
 use presence_base::Replica;
 use presence_journal::{Outcome, Pairs, SharedTold, Step};
 use std::alloc::Global;
-use tracker_shard_indexed::Indexed;
+use tracker_index::Indexed;
 
 /// The call that notes that a replica was heard at a time in milliseconds.
 #[derive(Clone, Copy)]

@@ -13,7 +13,7 @@ use presence_journal::{Item, Journal, Outcome, Pairs, Payload, SharedRows, Step}
 use replica_status::Status;
 use std::alloc::{AllocError, Global};
 use std::marker::Model;
-use tracker_shard_indexed::{Indexed, RowCounts};
+use tracker_index::{Indexed, RowCounts};
 
 /// A subscriber: the number of the entry that made it, which names it, and the slot where it is found.
 #[derive(Clone, Copy, Debug, PartialEq, Eq)]
@@ -69,22 +69,20 @@ impl Shard {
     ghost use Rattle.std.specs.Prelude.{◌≡◌, ◌≤◌, ◌^◌, true, false, Some, None, IfOk, IfErr, OnOk, OnErr, IsTrue};
     ghost use Rattle.presence_base.specs.Refs.{IsCount};
     ghost use Rattle.presence_journal.specs.History.{begun, is_full, own, status, IsTop};
-    ghost use Rattle.presence_journal.specs.Limits.{is_payload, is_take_limit, is_within_limits};
+    ghost use Rattle.presence_journal.specs.Limits.{is_payload, is_take_limit};
+    ghost use Rattle.presence_journal.specs.StepLimits.{is_within_limits};
     ghost use Rattle.presence_journal.specs.Queue.{queue, is_waiting};
     ghost use Rattle.presence_journal.specs.Table.{IsLegal, AreWithinLimits, outcome_of};
-    ghost use Rattle.tracker_shard_indexed.specs.Cuts.{IsCut};
-    ghost use Rattle.orswot_core_told.specs.Checks.{WhereItFits};
-    ghost use Rattle.tracker_shard_indexed.specs.KeptDeltas.{IsToldFrom, TellsFrom};
-    ghost use Rattle.tracker_shard_indexed.specs.ToldParts.{IsPartWhereItFits};
-    ghost use Rattle.tracker_shard_indexed.specs.Full.{IsFullOf};
-    ghost use Rattle.tracker_shard_indexed.specs.Quiet.{TellsQuiet};
+    ghost use Rattle.presence_journal_cuts.specs.Cuts.{IsCut};
+    ghost use Rattle.orswot_core.specs.Checks.{WhereItFits};
+    ghost use Rattle.presence_journal_cuts.specs.KeptDeltas.{IsToldFrom, TellsFrom};
+    ghost use Rattle.presence_journal_cuts.specs.ToldParts.{IsPartWhereItFits};
+    ghost use Rattle.presence_journal_known.specs.Full.{IsFullOf};
+    ghost use Rattle.tracker_feeds.specs.Quiet.{TellsQuiet};
     ghost use Rattle.tracker_shard.specs.Calls.{Looks, MayMake};
-    ghost use Rattle.tracker_shard.specs.Steps.{Stepped, Answers, IsDue, RefusesForRoom, refusal, refusal_at};
-    ghost use Rattle.tracker_shard.specs.Steps.{AnswersDot, AnswersRowsOfKey, AnswersRowsOfPid, AnswersListed};
-    ghost use Rattle.tracker_shard.specs.Steps.{AnswersListedKey, AnswersItems, AnswersSub};
-    ghost use Rattle.tracker_shard.specs.Steps.{is_found, checkpoint_refusal, AnswersPairs, KeepsRows};
-    ghost use Rattle.tracker_shard_indexed.specs.Starting.{IsBegunAgain};
-    ghost use Rattle.tracker_shard_indexed.specs.Resuming.{resumed};
+    ghost use Rattle.tracker_shard.specs.Steps.{Stepped, Answers, IsDue, RefusesForRoom, refusal, refusal_at, AnswersDot, AnswersRowsOfKey, AnswersRowsOfPid, AnswersListed, AnswersListedKey, AnswersItems, AnswersSub, is_found, checkpoint_refusal, AnswersPairs, KeepsRows};
+    ghost use Rattle.tracker_index.specs.Starting.{IsBegunAgain};
+    ghost use Rattle.tracker_index.specs.Resuming.{resumed};
 
     /// A shard of the replica with an empty journal.
     pub fn new(alloc: Global, own: Replica) -> Shard

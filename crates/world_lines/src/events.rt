@@ -4,8 +4,8 @@ use crate::members::{
     are_so_many, key_at, meta_of, number_at, number_or_null_at, position_at, replica_at, text_at,
     topic_at,
 };
-use node_links_world::Event;
-use orswot_core_told::Form;
+use node_world::Event;
+use orswot_core::Form;
 use presence_base::Meta;
 use presence_journal::Step;
 use serde_json::Value;

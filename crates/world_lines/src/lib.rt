@@ -1,7 +1,7 @@
 //! The world of nodes by lines of text, each a JSON array: what happens, and what is asked.
 //!
 //! The first line names the nodes, and each line behind it is an event or asks something. No contract is here: what an event
-//! makes of the world, and what is answered, are those of node_links_world.
+//! makes of the world, and what is answered, are those of node_world.
 //!
 //! | Line | What it is |
 //! |---|---|

@@ -1,6 +1,6 @@
 //! What a line says.
-use node_links_world::Event;
-use orswot_core_told::Form;
+use node_world::Event;
+use orswot_core::Form;
 use presence_base::{NodeName, Replica, Topic};
 
 /// What a line says.

@@ -3,8 +3,8 @@ use crate::answers::{number_text, rows_text, yes_or_no};
 use crate::fault::LineFault;
 use crate::line::Line;
 use crate::reading::line_of;
-use node_links_world::{World, has_name_twice};
-use orswot_core_told::Form;
+use node_world::{World, has_name_twice};
+use orswot_core::Form;
 use presence_base::{NodeName, Topic};
 use std::alloc::{AllocError, Global};
 

@@ -1,6 +1,6 @@
 // The members of a line.
 use crate::fault::LineFault;
-use node_links_members::replica_of;
+use link_lines::replica_of;
 use presence_base::{Key, Meta, NodeName, Replica, Topic};
 use serde_json::Value;
 use std::alloc::Global;

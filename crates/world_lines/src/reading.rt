@@ -3,7 +3,7 @@ use crate::events::{client_of, event_of};
 use crate::fault::LineFault;
 use crate::line::Line;
 use crate::members::{are_so_many, names_at, position_at, replica_at, text_at, topic_at};
-use orswot_core_told::Form;
+use orswot_core::Form;
 use serde_json::{Category, Value};
 use std::alloc::Global;
 

@@ -1,7 +1,7 @@
 //! What is kept of replicas that are gone.
 use super::rows::named;
 use presence_base::Replica;
-use presence_journal::Standings;
+use presence_journal_lists::Standings;
 use replica_status::Standing;
 use std::alloc::Global;
 

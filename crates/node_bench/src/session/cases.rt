@@ -1,9 +1,9 @@
 //! What is timed of a session.
 use crate::making::{ROOM, meta, numbered, replica, topic};
 use channel_session::{Channels, Session, SessionFault, deliver, run_text};
-use channel_session_local::LocalPort;
 use hook_registry::{NoHooks, RouteFault, Routes};
 use presence_base::Topic;
+use presence_stdio::LocalPort;
 use std::alloc::{AllocError, Global};
 use tracker_shard::{Shard, ShardFault};
 

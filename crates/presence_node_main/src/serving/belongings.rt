@@ -1,8 +1,8 @@
 //! What everybody at the server shares by its options: the budgets of topics, the memory, and the log.
-use presence_node_log::{Log, LogFormat, Shown};
-use presence_node_options::{Budgets, LineFormat, Logged, MIN_MEMORY, Reports};
-use presence_node_process::memory_there;
-use presence_node_rations::{Amount, MemoryMark, TopicBudgets};
+use node_log::{Log, LogFormat, Shown};
+use node_system::memory_there;
+use presence_options::{Budgets, LineFormat, Logged, MIN_MEMORY, Reports};
+use serve_rations::{Amount, MemoryMark, TopicBudgets};
 use std::alloc::Global;
 use std::rt::Files;
 use std::time::Clock;

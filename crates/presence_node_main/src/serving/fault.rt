@@ -1,5 +1,5 @@
 //! Why a server that has its port can't begin.
-use presence_node_crew::CrewFault;
+use node_threads::CrewFault;
 use std::alloc::AllocError;
 use std::io;
 use std::io::ErrorKind;

@@ -1,14 +1,15 @@
 //! What the threads of the server are given.
 use super::fault::BeginFault;
-use presence_node_crew::Posts;
-use presence_node_duties::{
-    AddressLimits, Bench, ClientSocket, Door, DoorLimits, Entries, Inbox, LISTENER, LinkTask,
-    METRICS_LISTENER, WorkerMailbox, Workplace,
+use link_threads::LinkTask;
+use node_system::{Bell, Watch};
+use node_threads::{Giver, Posts};
+use presence_options::ServeOptions;
+use presence_server::{
+    AddressLimits, Bench, Door, DoorLimits, Entries, LISTENER, METRICS_LISTENER, WorkerMailbox,
+    Workplace,
 };
-use presence_node_options::ServeOptions;
-use presence_node_queue::Giver;
-use presence_node_sockets::{Bell, Watch};
-use presence_node_web_sockets::WebSocket;
+use serve_ports::Inbox;
+use serve_sockets::{ClientSocket, WebSocket};
 use shard_pool::{Lanes, Seat};
 use std::alloc::Global;
 use std::io;

@@ -2,7 +2,7 @@
 ghost use Rattle.std.specs.Prelude.{◌≡◌, IfOk, option_map, string_bytes};
 ghost use Rattle.presence_node_main.specs.Place.{Brackets, IsBare, has_colon, host_text, links_text, metrics_text, place_text};
 
-use presence_node_options::ServeOptions;
+use presence_options::ServeOptions;
 use std::alloc::{AllocError, Global};
 
 // What stands between the brackets of an address, if it has them.

@@ -2,7 +2,7 @@
 ghost use Rattle.std.specs.Prelude.{◌≡◌, List, IfOk, IfErr, IfSome};
 ghost use Rattle.presence_base.specs.Refs.{IsCount};
 ghost use Rattle.shard_pool.specs.Seats.{Hands};
-ghost use Rattle.presence_node_ends.specs.Ends.{Settles};
+ghost use Rattle.presence_node_main.specs.ServeEnds.{Settles};
 ghost use Rattle.presence_node_main.specs.Ends.{IsEndFor, IsLinkEnd, IsMetricsEnd};
 ghost use Rattle.shard_pool.specs.Blanks.{HaveParts};
 ghost use Rattle.presence_node_main.specs.Ledgers.{AreBegun, IsNameOfAll};
@@ -12,16 +12,16 @@ use super::fault::BeginFault;
 use super::pieces::{Entrance, Stations, limits_of, stations_for};
 use super::place::{bare, place_of};
 use super::stopping::StopLine;
+use crate::end::ServeEnd;
+use crate::settling::settled;
 use hook_registry::PresenceHooks;
+use link_threads::{LinkNode, LinkTask, LinkTasks, tasks_for};
+use node_system::listen;
+use node_threads::{Posts, run_crew};
 use presence_base::{MAX_COUNT, Replica};
-use presence_node_crew::{Posts, run_crew};
-use presence_node_duties::{
-    Counts, Door, Entries, LinkNode, LinkTask, LinkTasks, ServeRuntime, Server, Workplace,
-    seats_of, tasks_for,
-};
-use presence_node_ends::{ServeEnd, settled};
-use presence_node_options::{PeerOption, ServeOptions, VERSION};
-use presence_node_sockets::listen;
+use presence_options::{PeerOption, ServeOptions, VERSION};
+use presence_server::{Door, Entries, ServeRuntime, Server, Workplace, seats_of};
+use serve_metrics::Counts;
 use shard_pool::{Blanks, Four, Lane, Lanes, NoGate, Pool, Seat};
 use std::alloc::{AllocError, Global};
 use std::io::ErrorKind;

@@ -1,7 +1,7 @@
 //! Waiting for the line that stops the server.
-use presence_node_crew::AwaitEnd;
-use presence_node_lines::read_line;
-use presence_node_log::{Level, Log};
+use node_log::{Level, Log};
+use node_threads::AwaitEnd;
+use presence_stdio::read_line;
 use std::alloc::Global;
 use std::io::{Input, Print, Read};
 use std::time::Clock;

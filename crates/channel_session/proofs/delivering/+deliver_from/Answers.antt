@@ -1,8 +1,8 @@
 use Rattle.std.proofs.Common.{◌+◌, ◌++◌, map, drop}
-use Rattle.channel_session_rules.specs.InForce.{joined_of, joined_in}
-use Rattle.channel_session_rules.specs.Said.{told}
-use Rattle.channel_session_events.specs.Carrying.{Carries}
-use Rattle.channel_session_events.specs.Wording.{worded_by, noted_by}
+use Rattle.channel_rules.specs.InForce.{joined_of, joined_in}
+use Rattle.channel_rules.specs.Said.{told}
+use Rattle.channel_session.specs.Carrying.{Carries}
+use Rattle.channel_session.specs.Wording.{worded_by, noted_by}
 use Rattle.channel_session.proofs.Delivered.{here, waits_refused, take_refused, none_waits, took, took_in_vain, if_same}
 use Rattle.channel_session.proofs.delivering.+deliver_from.Goals as goal
 

@@ -1,7 +1,7 @@
 use Rattle.std.proofs.Common.{◌≡◌, [], drop, refl, ap, rules}
-use Rattle.channel_session_rules.specs.InForce.{InForce, joined_in}
-use Rattle.channel_session_rules.specs.Said.{Worded, Noted}
-use Rattle.channel_session_events.specs.Carrying.{Carries}
+use Rattle.channel_rules.specs.InForce.{InForce, joined_in}
+use Rattle.channel_rules.specs.Said.{Worded, Noted}
+use Rattle.channel_session.specs.Carrying.{Carries}
 use Rattle.channel_session.proofs.Delivered.{delivered_ok, delivered_err}
 use Rattle.channel_session.proofs.delivering.deliver_all.Goals as goal
 

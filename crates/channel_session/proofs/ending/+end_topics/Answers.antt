@@ -1,6 +1,6 @@
 use Rattle.std.proofs.Common.{◌≡◌, ◌+◌, ◌∷◌, suc, take, drop, Some, Err, sym, ap, ◌∙◌, arith}
 use Rattle.std.specs.List.{slice_get}
-use Rattle.channel_session_rules.specs.InForce.{joined_of, joined_in}
+use Rattle.channel_rules.specs.InForce.{joined_of, joined_in}
 use Rattle.channel_session.proofs.Endings.{none_from, some_from, drop_removed, take_removed, stays_there, take_less, ended_gone, ended_staying, none_ended}
 use Rattle.channel_session.proofs.ending.+end_topics.Goals as goal
 

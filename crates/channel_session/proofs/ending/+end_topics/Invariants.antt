@@ -1,5 +1,5 @@
 use Rattle.std.proofs.Common.{◌-◌, length}
-use Rattle.channel_session_rules.specs.InForce.{joined_in}
+use Rattle.channel_rules.specs.InForce.{joined_in}
 use Rattle.channel_session.proofs.ending.+end_topics.Given as goal
 
 -- the topics that are left

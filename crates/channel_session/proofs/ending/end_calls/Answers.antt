@@ -1,5 +1,5 @@
 use Rattle.std.proofs.Common.{◌≡◌, None, Some, Err, refl, sym, ap, ◌∙◌, rules}
-use Rattle.channel_session_rules.specs.InForce.{InForce, joined_in}
+use Rattle.channel_rules.specs.InForce.{InForce, joined_in}
 use Rattle.channel_session.specs.Ending.{left_with}
 use Rattle.channel_session.proofs.Endings.{nothing_cut_short, cut_short_gone, cut_short_kept}
 use Rattle.channel_session.proofs.ending.end_calls.Goals as goal

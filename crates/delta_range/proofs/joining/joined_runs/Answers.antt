@@ -1,5 +1,5 @@
 use Rattle.std.proofs.Common.{◌≡◌, ◌++◌, sym, ◌∙◌, ap, subst, IfOk}
-use Rattle.dot_context_runs.specs.Runs.{AreLong}
+use Rattle.dot_context.specs.Runs.{AreLong}
 use Rattle.delta_range.specs.Longest.{up_to, longest}
 use Rattle.delta_range.proofs.RunFacts.{up_to_append, long_up_to, long_append, long_runs}
 use Rattle.delta_range.proofs.joining.joined_runs.Goals as goal

@@ -1,7 +1,7 @@
 use Rattle.std.proofs.Common.{◌||◌, ◌&&◌, ◌+◌, drop, slice_index_or, ◌∷◌, sym, ◌∙◌, ap, add-one, drop-cons}
 use Rattle.std.specs.FinSet as set
 use Rattle.presence_base.specs.Order.{dot_cmp, same_replica}
-use Rattle.dot_context_runs.specs.Runs.{holds}
+use Rattle.dot_context.specs.Runs.{holds}
 use Rattle.delta_range.proofs.LoopFacts.{run_added}
 use Rattle.delta_range.proofs.runs.run_set.Goals as goal
 

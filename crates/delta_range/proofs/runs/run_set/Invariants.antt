@@ -2,7 +2,7 @@ use Rattle.std.proofs.Common.{◌≡◌, ◌||◌, ◌&&◌, drop}
 use Rattle.std.specs.FinSet as set
 use Rattle.presence_base.specs.declared.dots.Dot.{Dot}
 use Rattle.presence_base.specs.Order.{same_replica}
-use Rattle.dot_context_runs.specs.Runs.{holds}
+use Rattle.dot_context.specs.Runs.{holds}
 use Rattle.delta_range.proofs.runs.run_set.Given as goal
 
 abbrev pub invariant-loop-run : goal.invariant-loop-run

@@ -1,9 +1,9 @@
 use Rattle.std.proofs.Common.{ℕ, List, ◌∷◌, ◌∙◌, ◌||◌, ◌&&◌, ap, subst, sym}
 use Rattle.presence_base.specs.declared.dots.Replica.{Replica}
 use Rattle.presence_base.specs.Order.{same_replica}
-use Rattle.dot_context_runs.specs.Runs.{holds, begins, AreLong}
+use Rattle.dot_context.specs.Runs.{holds, begins, AreLong}
 use Rattle.dot_context.specs.Sets.{runs_at, runs_in}
-use Rattle.dot_context_runs.proofs.LoopFacts.{Filling, fill_begins, fill_more, fill_done}
+use Rattle.dot_context.proofs.LoopFacts.{Filling, fill_begins, fill_more, fill_done}
 use Rattle.dot_context.proofs.OuterFacts.{long_in, long_entry, long_entries, holds_parts, begins_parts, in_entries}
 use Rattle.dot_context.proofs.replicas.fill_all.Goals as goal
 

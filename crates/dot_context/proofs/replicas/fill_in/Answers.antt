@@ -1,5 +1,5 @@
 use Rattle.std.proofs.Common.{Some, ap, sym, ◌∙◌, ◌&&◌}
-use Rattle.dot_context_runs.specs.Runs.{begins, holds, has_room}
+use Rattle.dot_context.specs.Runs.{begins, holds, has_room}
 use Rattle.dot_context.specs.Sets.{listed}
 use Rattle.dot_context.proofs.OuterFacts.{stepped, fills_at, fills_nothing, some_at, some_of, same_itself}
 use Rattle.dot_context.proofs.replicas.fill_in.Goals as goal

@@ -1,4 +1,4 @@
-use Rattle.dot_context_runs.specs.Runs.{holds}
+use Rattle.dot_context.specs.Runs.{holds}
 use Rattle.dot_context.specs.Sets.{runs_at}
 use Rattle.dot_context.proofs.OuterFacts.{room_filled}
 use Rattle.dot_context.proofs.replicas.fill_room.Goals as goal

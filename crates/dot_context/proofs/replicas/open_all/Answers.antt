@@ -1,6 +1,6 @@
-use Rattle.dot_context_runs.specs.Runs.{begins}
+use Rattle.dot_context.specs.Runs.{begins}
 use Rattle.dot_context.specs.Sets.{runs_at, runs_in}
-use Rattle.dot_context_runs.proofs.LoopFacts.{loose}
+use Rattle.dot_context.proofs.LoopFacts.{loose}
 use Rattle.dot_context.proofs.OuterFacts.{room_made, compact_swept}
 use Rattle.dot_context.proofs.replicas.open_all.Goals as goal
 

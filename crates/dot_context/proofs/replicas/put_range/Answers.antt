@@ -1,9 +1,9 @@
 use Rattle.std.proofs.Common.{◌≡◌, Some, ap, sym, ◌∙◌, subst, OnOk, OnErr, eqb, ◌&&◌, []}
 use Rattle.presence_base.specs.Order.{same_replica}
-use Rattle.dot_context_runs.specs.Runs.{in_run, holds, has_room, Fills}
+use Rattle.dot_context.specs.Runs.{in_run, holds, has_room, Fills}
 use Rattle.dot_context.specs.Sets.{listed}
 use Rattle.dot_context.proofs.SetFacts.{on_ok, on_err}
-use Rattle.dot_context_runs.proofs.LoopFacts.{loose, some_room}
+use Rattle.dot_context.proofs.LoopFacts.{loose, some_room}
 use Rattle.dot_context.specs.Changes.{ChangesAt}
 use Rattle.dot_context.proofs.OuterFacts.{stepped, fills_at, kept_at, some_at, some_of, either_way, compact_filled, compact_same, some_unchanged, same_entries}
 use Rattle.dot_context.proofs.replicas.put_range.Goals as goal

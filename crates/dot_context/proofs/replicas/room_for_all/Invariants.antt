@@ -2,7 +2,7 @@ use Rattle.std.proofs.Common.{◌≡◌, ℕ, true, ◌||◌}
 use Rattle.std.specs.BTreeMap.{get}
 use Rattle.presence_base.specs.Order.{replica_cmp}
 use Rattle.presence_base.specs.declared.dots.Replica.{Replica}
-use Rattle.dot_context_runs.specs.Runs.{Opens, begins, has_room}
+use Rattle.dot_context.specs.Runs.{Opens, begins, has_room}
 use Rattle.dot_context.specs.Sets.{runs_at, runs_in, HasSome}
 use Rattle.dot_context.proofs.replicas.room_for_all.Given as goal
 

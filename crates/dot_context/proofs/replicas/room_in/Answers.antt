@@ -1,5 +1,5 @@
 use Rattle.std.proofs.Common.{◌≡◌, Some, ap, sym, subst, OnOk, OnErr, []}
-use Rattle.dot_context_runs.specs.Runs.{begins, Opens}
+use Rattle.dot_context.specs.Runs.{begins, Opens}
 use Rattle.dot_context.specs.Sets.{listed}
 use Rattle.dot_context.proofs.SetFacts.{on_ok}
 use Rattle.dot_context.specs.Changes.{ChangesAt}

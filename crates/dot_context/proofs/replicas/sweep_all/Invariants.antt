@@ -2,7 +2,7 @@ use Rattle.std.specs.BTreeMap.{get}
 use Rattle.presence_base.specs.Order.{replica_cmp}
 use Rattle.presence_base.specs.declared.dots.Replica.{Replica}
 use Rattle.dot_context.specs.Sets.{runs_at, runs_in, HasSome}
-use Rattle.dot_context_runs.proofs.LoopFacts.{Sweeping}
+use Rattle.dot_context.proofs.LoopFacts.{Sweeping}
 use Rattle.dot_context.proofs.replicas.sweep_all.Given as goal
 
 abbrev pub invariant-loop-replica : goal.invariant-loop-replica

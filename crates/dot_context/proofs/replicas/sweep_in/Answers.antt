@@ -1,6 +1,6 @@
 use Rattle.std.proofs.Common.{sym, subst, ◌&&◌, refl}
 use Rattle.presence_base.specs.Order.{same_replica}
-use Rattle.dot_context_runs.specs.Runs.{begins, Sweeps}
+use Rattle.dot_context.specs.Runs.{begins, Sweeps}
 use Rattle.dot_context.specs.Sets.{runs_at}
 use Rattle.dot_context.proofs.OuterFacts.{nothing_lost, some_out}
 use Rattle.dot_context.proofs.replicas.sweep_in.Goals as goal

@@ -1,5 +1,5 @@
 use Rattle.std.proofs.Common.{ap, sym}
-use Rattle.dot_context_runs.specs.Runs.{begins}
+use Rattle.dot_context.specs.Runs.{begins}
 use Rattle.dot_context.specs.Sets.{listed}
 use Rattle.dot_context.proofs.OuterFacts.{stepped, sweeps_at, sweeps_nothing, some_left}
 use Rattle.dot_context.proofs.replicas.sweep_runs.Goals as goal

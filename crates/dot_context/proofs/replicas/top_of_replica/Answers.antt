@@ -1,5 +1,5 @@
 use Rattle.std.proofs.Common.{◌+◌, sym, ◌∙◌, ap, arith}
-use Rattle.dot_context_runs.specs.Runs.{holds}
+use Rattle.dot_context.specs.Runs.{holds}
 use Rattle.dot_context.specs.Sets.{listed}
 use Rattle.dot_context.proofs.SetFacts.{top_held, next_not_held}
 use Rattle.dot_context.proofs.replicas.top_of_replica.Goals as goal

@@ -1,5 +1,5 @@
 use Rattle.std.proofs.Common.{◌≡◌, ◌++◌}
-use Rattle.orswot_core_told.specs.Telling.{run_ranges}
+use Rattle.orswot_core.specs.Telling.{run_ranges}
 use Rattle.orswot_core.proofs.full.push_ranges.Given as goal
 
 abbrev pub invariant-loop-from : goal.invariant-loop-from

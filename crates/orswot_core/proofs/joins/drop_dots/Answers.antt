@@ -1,5 +1,5 @@
 use Rattle.std.proofs.Common.{◌+◌, drop, ◌∙◌}
-use Rattle.orswot_core_told.proofs.LoopFacts.{next_rest}
+use Rattle.orswot_core.proofs.LoopFacts.{next_rest}
 use Rattle.orswot_core.proofs.RowFacts.{taken_one}
 use Rattle.orswot_core.proofs.joins.drop_dots.Goals as goal
 

@@ -1,5 +1,5 @@
 use Rattle.std.proofs.Common.{◌+◌, drop, ◌∙◌}
-use Rattle.orswot_core_told.proofs.LoopFacts.{next_rest}
+use Rattle.orswot_core.proofs.LoopFacts.{next_rest}
 use Rattle.orswot_core.specs.Steps.{left_at}
 use Rattle.orswot_core.proofs.GatherFacts.{next_gathered}
 use Rattle.orswot_core.proofs.joins.gather_extras.Goals as goal

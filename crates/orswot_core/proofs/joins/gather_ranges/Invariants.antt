@@ -3,7 +3,7 @@ use Rattle.std.specs.List.{list_any}
 use Rattle.std.specs.BTreeMap.{get}
 use Rattle.presence_base.specs.Order.{dot_cmp, same_dot}
 use Rattle.presence_base.specs.declared.dots.Dot.{Dot}
-use Rattle.orswot_core_told.specs.Telling.{range_has}
+use Rattle.orswot_core.specs.Telling.{range_has}
 use Rattle.orswot_core.specs.Sets.{is_left}
 use Rattle.orswot_core.proofs.joins.gather_ranges.Given as goal
 

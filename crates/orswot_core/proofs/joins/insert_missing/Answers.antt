@@ -2,12 +2,11 @@ use Rattle.std.proofs.Common.{◌≡◌, Some, refl, ◌∙◌, sym}
 use Rattle.std.specs.BTreeMap.{get}
 use Rattle.std.proofs.lemmas.List.Elements.{All-same, All-head, All-rest}
 use Rattle.std.specs.FinSet as set
-use Rattle.orswot_core.specs.Sets.{is_missing}
+use Rattle.orswot_core.specs.Sets.{is_missing, Rows}
 use Rattle.presence_base.specs.Order.{dot_cmp}
 use Rattle.presence_base.specs.declared.dots.Dot.{Dot}
 use Rattle.presence_base.specs.declared.row.Row.{Row}
 use Rattle.orswot_core.proofs.RowFacts.{moved_first, moved_one, skip_one, kept_one, missing_found}
-use Rattle.orswot_core.specs.Sets.{Rows}
 use Rattle.orswot_core.proofs.joins.insert_missing.Goals as goal
 
 abbrev Found : Rows → Dot × Row → Type 0

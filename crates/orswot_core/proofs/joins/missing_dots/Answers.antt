@@ -2,8 +2,8 @@ use Rattle.std.proofs.Common.{◌+◌, ◌&&◌, not, drop, sym, ◌∙◌, ap}
 use Rattle.std.specs.List.{list_any}
 use Rattle.std.specs.FinSet as set
 use Rattle.presence_base.specs.Order.{same_dot}
-use Rattle.orswot_core_told.specs.Checks.{dots_of}
-use Rattle.orswot_core_told.proofs.LoopFacts.{next_rest}
+use Rattle.orswot_core.specs.Checks.{dots_of}
+use Rattle.orswot_core.proofs.LoopFacts.{next_rest}
 use Rattle.orswot_core.proofs.GatherFacts.{next_gathered, none_gathered, told_some}
 use Rattle.orswot_core.proofs.joins.missing_dots.Goals as goal
 

@@ -3,7 +3,7 @@ use Rattle.std.specs.List.{list_any}
 use Rattle.std.specs.FinSet as set
 use Rattle.presence_base.specs.Order.{same_dot}
 use Rattle.presence_base.specs.declared.dots.Dot.{Dot}
-use Rattle.orswot_core_told.specs.Checks.{dots_of}
+use Rattle.orswot_core.specs.Checks.{dots_of}
 use Rattle.orswot_core.proofs.joins.missing_dots.Given as goal
 
 abbrev pub invariant-loop-row : goal.invariant-loop-row

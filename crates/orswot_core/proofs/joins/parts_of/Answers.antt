@@ -5,7 +5,7 @@ use Rattle.std.specs.FinSet as set
 use Rattle.std.specs.BTreeMap.{get}
 use Rattle.presence_base.specs.declared.dots.Dot.{Dot}
 use Rattle.presence_base.specs.Order.{dot_cmp, same_dot}
-use Rattle.orswot_core_told.specs.Telling.{range_has, covers, live_row}
+use Rattle.orswot_core.specs.Telling.{range_has, covers, live_row}
 use Rattle.orswot_core.specs.Sets.{is_sound, is_left}
 use Rattle.orswot_core.proofs.SoundFacts.{told_sound}
 use Rattle.orswot_core.proofs.joins.parts_of.Goals as goal

@@ -1,6 +1,6 @@
 use Rattle.std.proofs.Common.{◌≡◌, ℕ, List, sym, subst, ◌∙◌}
 use Rattle.delta_range.specs.Deltas.{IsDelta}
-use Rattle.dot_context_runs.specs.Runs.{AreLong}
+use Rattle.dot_context.specs.Runs.{AreLong}
 use Rattle.delta_range.specs.Longest.{longest}
 use Rattle.delta_range.proofs.RunFacts.{long_runs, longest_runs}
 use Rattle.presence_journal.specs.History.{History}

@@ -1,6 +1,6 @@
 use Rattle.std.proofs.Common.{◌≡◌, ◌+◌, ◌∷◌, ◌&&◌, ◌||◌, nat_le, List, drop, ap, sym, ◌∙◌}
 use Rattle.presence_base.specs.declared.dots.Dot.{Dot}
-use Rattle.dot_context_runs.specs.Runs.{holds}
+use Rattle.dot_context.specs.Runs.{holds}
 use Rattle.presence_journal_cuts.specs.Chains.{kept_chain}
 use Rattle.presence_journal_cuts.specs.Cuts.{goes}
 use Rattle.presence_journal.proofs.Walking.{drop_next}

@@ -1,5 +1,5 @@
 use Rattle.std.proofs.Common.{◌&&◌, ◌||◌, nat_le, drop}
-use Rattle.dot_context_runs.specs.Runs.{holds}
+use Rattle.dot_context.specs.Runs.{holds}
 use Rattle.presence_journal_cuts.specs.Chains.{AreChains, AreUpTo, Counts, kept_chain}
 use Rattle.presence_journal_cuts.specs.Cuts.{goes}
 use Rattle.presence_journal_cuts.proofs.older.push_all_gone.Given as goal

@@ -2,7 +2,7 @@ use Rattle.std.proofs.Common.{◌++◌, ◌-◌, ℕ, List, refl, ap, sym, subst
 use Rattle.std.specs.BTreeMap.{get}
 use Rattle.std.specs.Ordering.{nat_cmp}
 use Rattle.std.proofs.lemmas.Result.{on_ok_weaker}
-use Rattle.dot_context_runs.specs.Runs.{holds, AreLong}
+use Rattle.dot_context.specs.Runs.{holds, AreLong}
 use Rattle.dot_context.specs.Sets.{listed}
 use Rattle.delta_range.specs.Longest.{up_to}
 use Rattle.presence_journal_cuts.specs.Handing.{grown}

@@ -1,11 +1,11 @@
 use Rattle.std.proofs.Common.{◌+◌, ap, sym, subst, ◌∙◌}
 use Rattle.std.specs.BTreeMap.{get}
 use Rattle.presence_base.specs.Order.{dot_cmp}
-use Rattle.presence_journal.specs.Steps.{Start}
+use Rattle.presence_journal.specs.declared.entry.Start.{Start}
 use Rattle.presence_journal.specs.History.{History, Begin, onto}
 use Rattle.presence_journal.specs.Table.{IsLegal}
 use Rattle.presence_journal.proofs.Diffs.{legal_front}
-use Rattle.presence_journal_sets.proofs.FrontLemmas.{front_all}
+use Rattle.presence_journal_known.proofs.FrontLemmas.{front_all}
 use Rattle.presence_journal_cuts.specs.Cuts.{recent}
 use Rattle.presence_journal_cuts.proofs.Histories.{recent-begin, recent_on}
 use Rattle.presence_journal_cuts.proofs.recent.walk_recent.Goals as goal

@@ -2,14 +2,14 @@ use Rattle.std.proofs.Common.{◌≡◌, ◌<◌, ◌+◌, length, take, ◌∙�
 use Rattle.std.proofs.lemmas.Result.{IfOk-weaker}
 use Rattle.std.specs.BTreeMap.{get}
 use Rattle.presence_base.specs.Order.{dot_cmp}
-use Rattle.presence_journal.specs.Steps.{Start}
+use Rattle.presence_journal.specs.declared.entry.Start.{Start}
 use Rattle.presence_journal.specs.History.{History, Begin, onto}
 use Rattle.presence_journal.specs.Table.{IsLegal}
 use Rattle.presence_journal.specs.Queue.{diff_at}
 use Rattle.presence_journal.specs.Walk.{shown_of}
 use Rattle.presence_journal.proofs.Diffs.{legal_front, diff_at_place}
-use Rattle.presence_journal_sets.specs.ByDot.{Alike}
-use Rattle.presence_journal_sets.proofs.FrontLemmas.{front_next, entry_at}
+use Rattle.presence_journal_known.specs.ByDot.{Alike}
+use Rattle.presence_journal_known.proofs.FrontLemmas.{front_next, entry_at}
 use Rattle.presence_journal_walks.proofs.diff.walk_diff.Goals as goal
 
 pub rows_of_entries-requires : goal.rows_of_entries-requires

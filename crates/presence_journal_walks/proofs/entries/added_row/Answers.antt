@@ -2,7 +2,7 @@ use Rattle.std.proofs.Common.{◌≡◌, ◌∙◌, ℕ, List, Bool, true, false
 use Rattle.presence_base.specs.declared.row.Row.{Row}
 use Rattle.presence_base.specs.Order.{same_dot}
 use Rattle.presence_journal.specs.History.{row_added}
-use Rattle.presence_journal_data.specs.declared.entry.Outcome.TheVariants.{Added, Replaced}
+use Rattle.presence_journal.specs.declared.entry.Outcome.TheVariants.{Added, Replaced}
 use Rattle.presence_journal.specs.Present.{of_topic}
 use Rattle.presence_journal_walks.proofs.entries.added_row.Goals as goal
 

@@ -3,7 +3,7 @@ use Rattle.std.specs.BTreeMap.{get}
 use Rattle.presence_base.specs.Order.{dot_cmp}
 use Rattle.presence_journal.specs.History.{History}
 use Rattle.presence_journal.specs.Walk.{shown_of}
-use Rattle.presence_journal_sets.specs.ByDot.{Alike}
+use Rattle.presence_journal_known.specs.ByDot.{Alike}
 use Rattle.presence_journal_walks.proofs.pending.diff_fresh.Goals as goal
 
 pub returns-clause-rows : goal.returns-clause-rows

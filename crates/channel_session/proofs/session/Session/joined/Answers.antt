@@ -1,7 +1,7 @@
 use Rattle.std.proofs.Common.{◌++◌, ap, ◌∙◌}
 use Rattle.std.specs.Prelude.{option_to_list}
 use Rattle.channel_session.specs.Ending.{topics_named}
-use Rattle.channel_session_rules.proofs.Joins.{map-topics}
+use Rattle.channel_rules.proofs.Joins.{map-topics}
 use Rattle.channel_session.proofs.session.Session.joined.Goals as goal
 
 pub returns : goal.returns

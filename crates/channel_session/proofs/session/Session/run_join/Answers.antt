@@ -1,6 +1,6 @@
 use Rattle.std.proofs.Common.{◌≡◌, length, ap, ◌∙◌, rules}
-use Rattle.channel_session_rules.specs.InForce.{InForce, joined_in}
-use Rattle.channel_session_rules.specs.Rules.{join_ref_of}
+use Rattle.channel_rules.specs.InForce.{InForce, joined_in}
+use Rattle.channel_rules.specs.Rules.{join_ref_of}
 use Rattle.channel_session.proofs.Acted.{join_ran, join_script}
 use Rattle.channel_session.proofs.session.Session.run_join.Goals as goal
 

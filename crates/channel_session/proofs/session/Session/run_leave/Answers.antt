@@ -1,5 +1,5 @@
 use Rattle.std.proofs.Common.{◌≡◌, refl, ap, ◌∙◌}
-use Rattle.channel_session_rules.specs.InForce.{InForce, joined_of, joined_in, without_topic}
+use Rattle.channel_rules.specs.InForce.{InForce, joined_of, joined_in, without_topic}
 use Rattle.channel_session.proofs.Acted.{left_so, leave_script}
 use Rattle.channel_session.proofs.session.Session.run_leave.Goals as goal
 

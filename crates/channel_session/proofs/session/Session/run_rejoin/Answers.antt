@@ -1,6 +1,6 @@
 use Rattle.std.proofs.Common.{◌≡◌, ◌-◌, length, ap, ◌∙◌, rules}
-use Rattle.channel_session_rules.specs.InForce.{InForce, joined_of, joined_in, without_topic}
-use Rattle.channel_session_rules.specs.Rules.{join_ref_of, left as left_of}
+use Rattle.channel_rules.specs.InForce.{InForce, joined_of, joined_in, without_topic}
+use Rattle.channel_rules.specs.Rules.{join_ref_of, left as left_of}
 use Rattle.channel_session.proofs.Acted.{rejoin_ran, rejoin_script}
 use Rattle.channel_session.proofs.session.Session.run_rejoin.Goals as goal
 

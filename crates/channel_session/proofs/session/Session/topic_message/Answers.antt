@@ -1,5 +1,5 @@
 use Rattle.std.proofs.Common.{◌≡◌, None, rules}
-use Rattle.channel_session_rules.specs.Rules.{join_at}
+use Rattle.channel_rules.specs.Rules.{join_at}
 use Rattle.channel_session.proofs.Acted.{unmatched_acted}
 use Rattle.channel_session.proofs.session.Session.topic_message.Goals as goal
 

@@ -1,5 +1,5 @@
 use Rattle.std.proofs.Common.{◌≡◌, ◌++◌, ◌∷◌, [], true, sym, ◌∙◌, subst}
-use Rattle.dot_context_runs.specs.Runs.{AreLong}
+use Rattle.dot_context.specs.Runs.{AreLong}
 use Rattle.delta_range.specs.Deltas.{is_delta, IsDelta, older_told}
 use Rattle.delta_range.proofs.DeltaFacts.{older_long, delta_keeps, runs_made, parts_made, delta_given}
 use Rattle.delta_range.proofs.delta.Delta.of_told.Goals as goal

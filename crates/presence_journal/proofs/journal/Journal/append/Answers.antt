@@ -1,7 +1,7 @@
 use Rattle.std.proofs.Common.{◌≡◌, ◌+◌, Result, Ok, Err, List, [], ◌∷◌, ◌++◌, OnOk, OnErr, Some, true, false, sym, ◌∙◌, ap, subst, arith}
 use Rattle.presence_journal.specs.Steps.{Entry, Start}
 use Rattle.presence_journal.specs.History.{History, Begin, onto, last_number, is_full}
-use Rattle.presence_journal.specs.Limits.{is_within_limits}
+use Rattle.presence_journal.specs.StepLimits.{is_within_limits}
 use Rattle.presence_journal.specs.Table.{IsKept, outcome_of, after}
 use Rattle.presence_journal.proofs.HistoryLemmas.{room_below, within_step, pushed_legal, pushed_within, pushed_after}
 use Rattle.presence_journal.proofs.journal.Journal.append.Goals as goal

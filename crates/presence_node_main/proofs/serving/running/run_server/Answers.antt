@@ -1,8 +1,8 @@
 use Rattle.std.proofs.Common.{subst}
-use Rattle.presence_node_ends.specs.Ends.{Settles}
+use Rattle.presence_node_main.specs.ServeEnds.{Settles}
 use denote.Param.{param}
 use denote.Param.Send.{IsSync, sendable}
-use Rattle.presence_node_duties.proofs.Crossing.{place_row_send, task_row_send}
+use Rattle.presence_server.proofs.Crossing.{place_row_send, task_row_send}
 use Rattle.presence_node_main.proofs.Sharing.{server_row_sync, server_sync}
 use Rattle.presence_node_main.proofs.serving.running.run_server.Goals as goal
 

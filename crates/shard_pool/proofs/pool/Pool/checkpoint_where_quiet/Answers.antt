@@ -1,5 +1,5 @@
 use Rattle.std.proofs.Common.{rules}
-use Rattle.shard_pool_locks.specs.Unseated.{IsMadeWhereQuiet}
+use Rattle.shard_pool.specs.Unseated.{IsMadeWhereQuiet}
 use Rattle.shard_pool.proofs.AtNumber.{at_number, last_shard}
 use Rattle.shard_pool.proofs.pool.Pool.checkpoint_where_quiet.Goals as goal
 

@@ -1,5 +1,5 @@
 use Rattle.std.proofs.Common.{sym, subst}
-use Rattle.shard_pool_locks.specs.Unseated.{IsBehindOf, IsCutMade}
+use Rattle.shard_pool.specs.Unseated.{IsBehindOf, IsCutMade}
 use Rattle.shard_pool.specs.Seats.{IsOfShardAt}
 use Rattle.shard_pool.proofs.Wrapped.{at_node, done_cut}
 use Rattle.shard_pool.proofs.pool.Pool.cut.Goals as goal

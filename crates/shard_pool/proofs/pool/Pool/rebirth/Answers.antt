@@ -1,5 +1,5 @@
 use Rattle.std.proofs.Common.{sym, subst}
-use Rattle.shard_pool_locks.specs.Unseated.{IsBehindOf, IsRebornMade}
+use Rattle.shard_pool.specs.Unseated.{IsBehindOf, IsRebornMade}
 use Rattle.shard_pool.specs.Seats.{IsOfShardAt}
 use Rattle.shard_pool.proofs.Wrapped.{at_node, done_reborn}
 use Rattle.shard_pool.proofs.pool.Pool.rebirth.Goals as goal

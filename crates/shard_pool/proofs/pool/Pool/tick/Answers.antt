@@ -1,6 +1,6 @@
 use Rattle.std.proofs.Common.{sym, subst}
-use Rattle.presence_journal_data.specs.declared.step.Step.TheVariants as steps_are
-use Rattle.shard_pool_locks.specs.Unseated.{IsBehindOf, IsMade}
+use Rattle.presence_journal.specs.declared.step.Step.TheVariants as steps_are
+use Rattle.shard_pool.specs.Unseated.{IsBehindOf, IsMade}
 use Rattle.shard_pool.specs.Seats.{IsOfShardAt}
 use Rattle.shard_pool.proofs.Wrapped.{at_node, done_tick}
 use Rattle.shard_pool.proofs.pool.Pool.tick.Goals as goal

@@ -1,8 +1,8 @@
 use Rattle.std.proofs.Common.{◌≡◌, true, Some, ap, sym, ◌∙◌}
-use Rattle.presence_journal.specs.Limits.{is_within_limits}
+use Rattle.presence_journal.specs.StepLimits.{is_within_limits}
 use Rattle.presence_journal.specs.Table.{outcome_of}
-use Rattle.presence_journal_data.specs.declared.step.Step.TheVariants as steps_are
-use Rattle.presence_journal_data.specs.declared.entry.Outcome.TheVariants as outcomes_are
+use Rattle.presence_journal.specs.declared.step.Step.TheVariants as steps_are
+use Rattle.presence_journal.specs.declared.entry.Outcome.TheVariants as outcomes_are
 use Rattle.tracker_shard.specs.Steps.{new_dot}
 use Rattle.tracker_shard.proofs.Doors.{found_is}
 use Rattle.tracker_shard.proofs.Tables.{pid_limits, update_replaced}

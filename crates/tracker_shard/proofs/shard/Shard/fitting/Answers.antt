@@ -1,7 +1,7 @@
 use Rattle.std.proofs.Common.{IfOk, sym, subst}
-use Rattle.orswot_core_told.specs.Checks.{WhereItFits}
-use Rattle.tracker_shard_indexed.specs.KeptDeltas.{TellsFrom}
-use Rattle.tracker_shard_indexed.specs.Full.{IsFullOf}
+use Rattle.orswot_core.specs.Checks.{WhereItFits}
+use Rattle.presence_journal_cuts.specs.KeptDeltas.{TellsFrom}
+use Rattle.presence_journal_known.specs.Full.{IsFullOf}
 use Rattle.tracker_shard.proofs.shard.Shard.fitting.Goals as goal
 
 pub returns-in-None-clause-told : goal.returns-in-None-clause-told

@@ -1,0 +1,14 @@
+pub mod Limits
+pub mod Asks
+pub mod Script
+pub mod Seen
+pub mod Shards
+pub mod Questions
+pub mod InForce
+pub mod Asked
+pub mod Frames
+pub mod Said
+pub mod Rules
+pub mod Outcome
+pub mod Replies
+pub mod Delivering

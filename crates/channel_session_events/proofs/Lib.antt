@@ -1,4 +1,0 @@
-pub mod Ended
-pub mod Carried
-pub mod Plainly
-pub mod Within

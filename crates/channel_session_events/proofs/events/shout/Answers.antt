@@ -1,7 +1,0 @@
-use Rattle.std.proofs.Common.{refl}
-use Rattle.channel_session_rules.proofs.Once.{once}
-use Rattle.channel_session_rules.proofs.Answered.{seen_same}
-use Rattle.channel_session_events.proofs.events.shout.Goals as goal
-
-pub returns : goal.returns
-returns g c = λ s. once _ _ _ _ _ _ _ _ (rw (seen_same c.call-answer.result) at c.call-answer.ensures) refl refl (c.shouted.ensures s)

@@ -1,4 +1,0 @@
-pub mod Joining
-pub mod Under
-pub mod Wording
-pub mod Carrying

@@ -1,5 +1,0 @@
-use Rattle.channel_session_laws.proofs.PieceRuns.{pieces_mirror}
-use Rattle.channel_session_laws.proofs.pieces.pieces_mirror.Goals as goal
-
-pub returns : goal.returns
-returns c = pieces_mirror

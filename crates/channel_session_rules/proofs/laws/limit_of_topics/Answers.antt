@@ -1,5 +1,0 @@
-use Rattle.std.proofs.Common.{refl}
-use Rattle.channel_session_rules.proofs.laws.limit_of_topics.Goals as goal
-
-pub returns : goal.returns
-returns c = refl

@@ -1,7 +1,0 @@
-//! The limit of topics.
-ghost use Rattle.channel_session_rules.specs.Limits.{LimitOfTopics};
-
-/// How many topics a session may join.
-pub fn limit_of_topics()
-    ensures { LimitOfTopics }
-{}

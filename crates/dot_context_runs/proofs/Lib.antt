@@ -1,3 +1,0 @@
-pub mod RunFacts
-pub mod StepFacts
-pub mod LoopFacts

@@ -1,0 +1,13 @@
+pub mod Arrays
+pub mod Members
+pub mod ReadingMembers
+pub mod Results
+pub mod Rows
+pub mod Taken
+pub mod Telling
+pub mod Told
+pub mod Kinds
+pub mod Limits
+pub mod Reading
+pub mod Values
+pub mod Writing

@@ -1,0 +1,32 @@
+//! The threads of links between nodes: one that makes the beats, one for each node that is dialled, one where links come
+//! in, those that serve them, and those that read their long lines.
+//!
+//! Each node that is dialled has a reader of its own for the long lines that come from there; all others have one together.
+//! Of what they tell each other, and of what goes over a socket, no contract speaks. What each exchange does is
+//! `node_links`', and what it asks of the shards `link_pool_port`'.
+//!
+//! Its contracts cite these definitions:
+//! - `specs/Tasks`: what the threads of links do, and what a node that is dialled adds to it
+//! - `specs/Lives`: what comes of shards that are to go on under a higher incarnation, and of those that could not yet
+#![tactic(auto)]
+
+mod book;
+mod cutting;
+mod dialling;
+mod incoming;
+pub mod laws;
+mod links;
+mod lives;
+mod node;
+mod origin;
+mod reading;
+mod runtime;
+mod serving;
+mod tallies;
+mod tasks;
+mod ticking;
+
+pub use links::{Links, Wakes};
+pub use runtime::LinkRuntime;
+pub use tallies::LinkTallies;
+pub use tasks::{LinkNode, LinkTask, LinkTasks, tasks_for};

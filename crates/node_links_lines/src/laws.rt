@@ -1,8 +1,0 @@
-//! The limits of lines.
-
-ghost use Rattle.node_links_lines.specs.Limits.{LimitsAreThese};
-
-/// How long a line may be, and how many shards a node may have.
-pub fn limits_are_these()
-    ensures { LimitsAreThese }
-{}

@@ -1,5 +1,0 @@
-use Rattle.node_links_members.proofs.Lengths.{not_five}
-use Rattle.node_links_members.proofs.arrays.five_of_items.Goals as goal
-
-pub returns-then-items-ne5 : goal.returns-then-items-ne5
-returns-then-items-ne5 c = not_five c.args.items.now c.if-items-ne5.true

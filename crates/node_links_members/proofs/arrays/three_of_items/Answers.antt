@@ -1,5 +1,0 @@
-use Rattle.node_links_members.proofs.Lengths.{not_three}
-use Rattle.node_links_members.proofs.arrays.three_of_items.Goals as goal
-
-pub returns-then-items-ne3 : goal.returns-then-items-ne3
-returns-then-items-ne3 c = not_three c.args.items.now c.if-items-ne3.true

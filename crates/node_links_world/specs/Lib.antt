@@ -1,4 +1,0 @@
-pub mod Lives
-pub mod Worlds
-pub mod Asked
-pub mod Codes

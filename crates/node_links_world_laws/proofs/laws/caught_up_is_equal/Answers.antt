@@ -1,5 +1,0 @@
-use Rattle.node_links_world_laws.proofs.Claims.{caught_up_is_always_equal}
-use Rattle.node_links_world_laws.proofs.laws.caught_up_is_equal.Goals as goal
-
-pub returns : goal.returns
-returns c = caught_up_is_always_equal

@@ -1,6 +1,0 @@
-pub mod Others
-pub mod World
-pub mod Claims
-pub mod TrueWorlds
-pub mod Facts
-pub mod Needs

@@ -1,6 +1,0 @@
-pub mod Tellings
-pub mod Taken
-pub mod Wholes
-pub mod PartFacts
-pub mod LifeFacts
-pub mod GoneOn

@@ -1,0 +1,3 @@
+mod Risings
+pub mod Crossing
+pub mod HandedBacks

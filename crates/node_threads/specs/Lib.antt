@@ -1,0 +1,4 @@
+pub mod Latest
+pub mod Turns
+pub mod Rising
+pub mod HandedBack

@@ -1,0 +1,15 @@
+pub mod Tellings
+pub mod Taken
+pub mod Living
+pub mod LifeCodes
+pub mod GoingOn
+pub mod Others
+pub mod World
+pub mod Claims
+pub mod TrueWorlds
+pub mod Facts
+pub mod Needs
+pub mod Lives
+pub mod Worlds
+pub mod Asked
+pub mod Codes

@@ -1,4 +1,0 @@
-pub mod OrderFacts
-pub mod LoopFacts
-pub mod CutFacts
-pub mod FitFacts

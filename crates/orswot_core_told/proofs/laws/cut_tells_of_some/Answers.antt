@@ -1,5 +1,0 @@
-use Rattle.orswot_core_told.proofs.CutFacts.{cut_tells}
-use Rattle.orswot_core_told.proofs.laws.cut_tells_of_some.Goals as goal
-
-pub returns : goal.returns
-returns c = cut_tells

@@ -1,6 +1,0 @@
-use Rattle.std.proofs.Common.{◌≡◌, drop}
-use Rattle.orswot_core_told.specs.Checks.{follow_on, are_in_order}
-use Rattle.orswot_core_told.proofs.told.are_in_order.Given as goal
-
-abbrev pub invariant-loop-range : goal.invariant-loop-range
-invariant-loop-range l = follow_on l.last (drop l.range-index l.rest) ≡ are_in_order l.ranges

@@ -1,4 +1,0 @@
-pub mod Limits
-pub mod Telling
-pub mod Codes
-pub mod Checks

@@ -1,9 +1,0 @@
-pub mod Limits
-pub mod StepLimits
-pub mod HeldDots
-pub mod ListedDots
-pub mod HeldRows
-pub mod RowDots
-pub mod KeptBytes
-pub use Rattle.delta_range.specs.Deltas
-pub use Rattle.delta_range.specs.Keeping

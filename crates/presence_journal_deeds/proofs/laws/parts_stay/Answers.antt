@@ -1,8 +1,0 @@
-use Rattle.presence_journal_deeds.proofs.PartsStay.{keeps_parts, keeps_largest_parts}
-use Rattle.presence_journal_deeds.proofs.laws.parts_stay.Goals as goal
-
-pub returns-clause-parts : goal.returns-clause-parts
-returns-clause-parts c = keeps_parts
-
-pub returns-clause-largest : goal.returns-clause-largest
-returns-clause-largest c = keeps_largest_parts

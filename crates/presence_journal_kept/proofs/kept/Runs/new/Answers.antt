@@ -1,5 +1,0 @@
-use Rattle.std.proofs.Common.{refl}
-use Rattle.presence_journal_kept.proofs.kept.Runs.new.Goals as goal
-
-pub returns : goal.returns
-returns c = refl

@@ -1,0 +1,8 @@
+use Rattle.presence_journal_laws.proofs.Told.{keeps_topics, subscribers_are_behind}
+use Rattle.presence_journal_laws.proofs.laws.subscribers_stay.Goals as goal
+
+pub returns-clause-topics : goal.returns-clause-topics
+returns-clause-topics c = keeps_topics
+
+pub returns-clause-behind : goal.returns-clause-behind
+returns-clause-behind c = subscribers_are_behind

@@ -1,0 +1,11 @@
+pub mod Deeds
+pub mod Truth
+pub mod DeedLaws
+pub mod OneDiff
+pub mod Forms
+pub mod PartsStay
+pub mod Later
+pub mod Laws
+pub mod Worked
+pub mod Joined
+pub mod Plain

@@ -1,5 +1,0 @@
-use Rattle.presence_journal_sets.proofs.KnownLemmas.{KnownTo}
-use Rattle.presence_journal_sets.proofs.known.is_known_after.Given as goal
-
-abbrev pub invariant-loop-place : goal.invariant-loop-place
-invariant-loop-place l = KnownTo l.start l.entries l.place l.dot l.is_known l.own l.used

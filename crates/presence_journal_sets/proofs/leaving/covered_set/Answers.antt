@@ -1,6 +1,0 @@
-use Rattle.presence_journal.specs.History.{Begin, onto}
-use Rattle.presence_journal_sets.proofs.LeftLemmas.{left_all}
-use Rattle.presence_journal_sets.proofs.leaving.covered_set.Goals as goal
-
-pub returns : goal.returns
-returns c = left_all (onto (Begin c.args.start.now) c.args.entries.now) c.leave_out_named.new.set c.leave_out_named.ensures

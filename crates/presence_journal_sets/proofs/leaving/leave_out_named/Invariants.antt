@@ -1,7 +1,0 @@
-use Rattle.std.proofs.Common.{drop}
-use Rattle.presence_journal.specs.History.{Begin, onto}
-use Rattle.presence_journal_sets.specs.LeftOut.{LeavesOut, is_named}
-use Rattle.presence_journal_sets.proofs.leaving.leave_out_named.Given as goal
-
-abbrev pub invariant-loop-entry : goal.invariant-loop-entry
-invariant-loop-entry l = LeavesOut (onto (Begin l.start) l.entries) (is_named l.own (drop l.entry-index l.entries)) l.set

@@ -1,7 +1,0 @@
-use Rattle.presence_journal.specs.History.{Begin, onto}
-use Rattle.presence_journal_kept.specs.Standings.{gone_list}
-use Rattle.presence_journal_sets.proofs.LeftLemmas.{LeavesRest}
-use Rattle.presence_journal_sets.proofs.leaving.leave_out_names.Given as goal
-
-abbrev pub invariant-loop-name : goal.invariant-loop-name
-invariant-loop-name l = LeavesRest (onto (Begin l.start) l.entries) (gone_list l.names.entries) (gone_list l.name-iterator) l.fn.set l.set

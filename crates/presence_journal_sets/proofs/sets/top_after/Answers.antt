@@ -1,6 +1,0 @@
-use Rattle.presence_journal.specs.History.{Begin, onto}
-use Rattle.presence_journal_sets.proofs.KnownLemmas.{top_at_limit}
-use Rattle.presence_journal_sets.proofs.sets.top_after.Goals as goal
-
-pub returns : goal.returns
-returns c = top_at_limit (onto (Begin c.args.start.now) c.args.entries.now) c.args.replica.now c.loop-top.top c.requires c.loop-top.invariant c.loop-top-test.false

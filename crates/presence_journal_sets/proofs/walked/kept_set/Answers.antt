@@ -1,5 +1,0 @@
-use Rattle.presence_journal_sets.proofs.WalkedLemmas.{kept}
-use Rattle.presence_journal_sets.proofs.walked.kept_set.Goals as goal
-
-pub returns : goal.returns
-returns c = kept c.args.start.now c.new-set.result c.join.new.self c.new-set.ensures c.in_ok-join.ensures.ok

@@ -1,5 +1,0 @@
-use Rattle.presence_journal_starts.proofs.PlainLemmas.{need_chains}
-use Rattle.presence_journal_starts.proofs.laws.cuts_need_chains.Goals as goal
-
-pub returns : goal.returns
-returns c = need_chains

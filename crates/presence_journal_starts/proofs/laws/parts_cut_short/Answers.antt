@@ -1,5 +1,0 @@
-use Rattle.presence_journal_cuts.proofs.CutShort.{parts_cut_short}
-use Rattle.presence_journal_starts.proofs.laws.parts_cut_short.Goals as goal
-
-pub returns : goal.returns
-returns c = parts_cut_short

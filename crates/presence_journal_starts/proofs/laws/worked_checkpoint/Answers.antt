@@ -1,5 +1,0 @@
-use Rattle.presence_journal_starts.proofs.Worked.{start_stands}
-use Rattle.presence_journal_starts.proofs.laws.worked_checkpoint.Goals as goal
-
-pub returns : goal.returns
-returns c = start_stands

@@ -1,5 +1,0 @@
-use Rattle.presence_node_counts.proofs.metrics.entries_text.Goals as goal
-
--- src/metrics.rt
-pub returns : goal.returns
-returns c = rw c.as_slice.ensures.value at c.numbered_text.ensures

@@ -1,6 +1,0 @@
-use Rattle.presence_node_handshakes.specs.Guests.{readied}
-use Rattle.presence_node_handshakes.proofs.Lists.{MappedTo}
-use Rattle.presence_node_handshakes.proofs.guests.Guests.mark_all.Given as goal
-
-abbrev pub invariant-loop-guest : goal.invariant-loop-guest
-invariant-loop-guest g l = MappedTo readied l.fn.self.guests.items l.guest-items l.guest-index

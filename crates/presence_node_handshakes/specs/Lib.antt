@@ -1,4 +1,0 @@
-pub mod Addresses
-pub mod Greeting
-pub mod Guests
-pub mod Seating

@@ -1,2 +1,0 @@
-pub mod FollowLemmas
-mod FollowerLemmas

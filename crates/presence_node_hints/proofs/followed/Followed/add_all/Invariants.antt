@@ -1,6 +1,0 @@
-use Rattle.std.proofs.Common.{◌||◌}
-use Rattle.presence_node_hints.proofs.FollowLemmas.{Rest}
-use Rattle.presence_node_hints.proofs.followed.Followed.add_all.Given as goal
-
-abbrev pub invariant-loop-topic : goal.invariant-loop-topic
-invariant-loop-topic l = Rest (record { topics = l.fn.self.topics; has_all = l.fn.self.has_all || l.fn.others.has_all }) l.fn.others.topics.keys l.self l.topic-iterator

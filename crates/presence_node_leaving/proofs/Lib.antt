@@ -1,2 +1,0 @@
-pub use Rattle.presence_node_workers.proofs.Crossing
-pub mod Marks

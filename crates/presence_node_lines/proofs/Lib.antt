@@ -1,5 +1,0 @@
-pub mod Known
-pub mod Splits
-pub mod Taken
-pub mod Fronts
-pub mod Messages

@@ -1,6 +1,0 @@
-use Rattle.std.proofs.Common.{rules}
-use Rattle.std.proofs.lemmas.Fn.{filter_same}
-use Rattle.presence_node_mailboxes.proofs.latest.Latest.forget.Goals as goal
-
-pub returns : goal.returns
-returns g c = filter_same _ _ _ (λ x b q k. search rules) _ _ c.retain.ensures.filtered

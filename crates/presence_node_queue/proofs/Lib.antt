@@ -1,2 +1,0 @@
-mod Risings
-pub mod Crossing

@@ -1,5 +1,0 @@
-use Rattle.presence_node_queue.proofs.Risings.{begins}
-use Rattle.presence_node_queue.proofs.queue.line.Goals as goal
-
-pub ruled-requires-clause-rule : goal.ruled-requires-clause-rule
-ruled-requires-clause-rule g c = begins g.row.S.Denot

@@ -1,2 +1,0 @@
-pub mod Guarding
-pub mod Rationing

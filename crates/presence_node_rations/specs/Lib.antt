@@ -1,5 +1,0 @@
-pub mod Amounts
-pub mod Connections
-pub mod Ledgers
-pub mod Memory
-pub mod Rows

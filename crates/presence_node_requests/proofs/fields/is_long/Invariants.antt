@@ -1,8 +1,0 @@
-use Rattle.std.proofs.Common.{◌≡◌, ◌≤◌, drop}
-use Rattle.presence_node_requests.specs.Fields.{is_long_from}
-use Rattle.presence_node_requests.proofs.fields.is_long.Given as goal
-
--- the number so far, and the digits that are left
-abbrev pub invariant-loop-digit : goal.invariant-loop-digit
-invariant-loop-digit l =
-    (is_long_from 0 l.digits ≡ is_long_from l.bytes (drop l.digit-index l.digits)) × (l.bytes ≤ 65537)

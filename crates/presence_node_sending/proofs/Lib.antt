@@ -1,2 +1,0 @@
-mod Sendings
-mod Stopping

@@ -1,6 +1,0 @@
-use Rattle.std.proofs.Common.{map, string_bytes}
-use Rattle.presence_node_sending.specs.Sending.{SentAll}
-use Rattle.presence_node_sending.proofs.sending.queue_all.Given as goal
-
-abbrev pub invariant-loop-text : goal.invariant-loop-text
-invariant-loop-text g l = SentAll g.S.Write.contents l.fn.socket l.socket (map string_bytes l.yielded)

@@ -1,4 +1,0 @@
-pub mod Run
-pub mod Outlets
-pub mod Session
-pub mod Told

@@ -1,4 +1,0 @@
-mod PieceLemmas
-mod Turnings
-mod Sparings
-pub mod Crossing

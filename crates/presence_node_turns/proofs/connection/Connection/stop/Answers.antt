@@ -1,5 +1,0 @@
-use Rattle.presence_node_turns.proofs.Turnings.{stops}
-use Rattle.presence_node_turns.proofs.connection.Connection.stop.Goals as goal
-
-pub returns-in-Open : goal.returns-in-Open
-returns-in-Open g c = stops g.S.Write.contents c.args.self.now.stage c.args.self.now c.close.new.self c.in-Open.is c.close.ensures.closed c.close.ensures.kept

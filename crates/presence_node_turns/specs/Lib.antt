@@ -1,4 +1,0 @@
-pub mod Causes
-pub mod Hearing
-pub mod Sparing
-pub mod Turning

@@ -1,6 +1,0 @@
-use Rattle.std.specs.Prelude.{◌≡◌, false}
-use Rattle.presence_node_workers.proofs.Leaving.{LeftTo}
-use Rattle.presence_node_workers.proofs.worker.let_go.Given as goal
-
-abbrev pub invariant-loop-key : goal.invariant-loop-key
-invariant-loop-key g l = LeftTo l.fn.clients l.clients l.fn.order l.key-index × (l.some ≡ false → l.clients ≡ l.fn.clients)

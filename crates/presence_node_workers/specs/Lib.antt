@@ -1,4 +1,0 @@
-pub mod Working
-pub mod Places
-pub mod Resting
-pub mod Serving

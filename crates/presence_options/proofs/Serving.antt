@@ -1,0 +1,183 @@
+-- Why a server's options are refused, from what was looked at before.
+use Rattle.std.proofs.Common.{◌≡◌, ◌⊎◌, inl, inr, ℕ, List, IsTrue, codes, false, subst, sym}
+use Rattle.clap.specs.Words.{Row}
+use Rattle.presence_options.specs.Given.{AllArePeers, AreFewOrigins, AreFewPatterns, AreHandshakes, AreLinkFrom, AreOtherPeers, AreProxies, IsFrugal, IsUntold, IsWasteful, ArePeers, ArePorts, AreShards, AreWorkers, ChoosesNone, IsEdgeWrong, IsFor, IsLinkVersion, IsNamed, IsNode, IsPerAddress, IsServedWrong, name_given, origins_given, patterns_given, peers_given}
+use Rattle.presence_options.specs.declared.fault.UsageCause.TheVariants.{Words, Name, Incarnation, Route, Port, LinkPort, Shards, Workers, LinkVersion, Peer, Origin, PerAddress, HandshakesPerSecond, PeerName, Proxy, LinkFrom, MemoryLimit, TopicRows, TopicBytes, Log, LogFormat, MetricsPort}
+use Rattle.presence_options.specs.Limits.{AreRoutes, is_peer_name, numbered}
+use Rattle.presence_options.specs.declared.options.PeerOption.{PeerOption}
+use Rattle.presence_options.proofs.Patterns.{few_patterns}
+use Rattle.presence_options.specs.declared.fault.UsageFault.{UsageFault}
+use Rattle.presence_options.specs.declared.fault.UsageFault.TheVariants.{Usage, Memory}
+
+pub too_crowded : (rows : List Row) (fault : UsageFault) → IsNamed rows → ArePorts rows → AreShards rows → AreWorkers rows
+    → IsLinkVersion rows → AllArePeers (peers_given rows) → AreFewOrigins (origins_given rows)
+    → IsFor PerAddress (IsPerAddress rows → ⊥) fault → IsServedWrong rows fault
+too_crowded rows (Usage cause text) named ports shards workers version peers origins crowded =
+    rw crowded.0 (named, ports, shards, workers, version, peers, origins, crowded.1)
+too_crowded rows Memory named ports shards workers version peers origins crowded = tt
+
+pub too_hasty : (rows : List Row) (fault : UsageFault) → IsNamed rows → ArePorts rows → AreShards rows → AreWorkers rows
+    → IsLinkVersion rows → AllArePeers (peers_given rows) → AreFewOrigins (origins_given rows) → IsPerAddress rows
+    → IsFor HandshakesPerSecond (AreHandshakes rows → ⊥) fault → IsServedWrong rows fault
+too_hasty rows (Usage cause text) named ports shards workers version peers origins clients hasty =
+    rw hasty.0 (named, ports, shards, workers, version, peers, origins, clients, hasty.1)
+too_hasty rows Memory named ports shards workers version peers origins clients hasty = tt
+
+-- what was looked at of the node itself
+pub node_of : (rows : List Row) (routes : List (List ℕ × ℕ)) → IsNamed rows → ArePorts rows → AreShards rows → AreWorkers rows
+    → IsLinkVersion rows → AllArePeers (peers_given rows) → AreFewOrigins (origins_given rows) → IsPerAddress rows
+    → AreHandshakes rows → routes ≡ numbered 0 (patterns_given rows) → AreRoutes routes → IsNode rows
+node_of rows routes named ports shards workers version peers origins clients handshakes is within = record {
+  named = named;
+  ports = ports;
+  shards = shards;
+  workers = workers;
+  version = version;
+  peers = peers;
+  origins = origins;
+  per_address = clients;
+  handshakes = handshakes;
+  patterns = few_patterns routes (patterns_given rows) is within;
+}
+
+-- no peer has the node's own name, or one has
+pub others_of : (rows : List Row) (name : List ℕ) (peers : List PeerOption) → name ≡ name_given rows
+    → ArePeers (peers_given rows) peers → is_peer_name name peers ≡ false → AreOtherPeers rows
+others_of rows name peers is are others = (peers, are, subst (λ n. is_peer_name n peers ≡ false) is others)
+
+pub own_peer : (rows : List Row) (name : List ℕ) (peers : List PeerOption) (fault : UsageFault) → IsNode rows
+    → name ≡ name_given rows → ArePeers (peers_given rows) peers → IsFor PeerName (IsTrue (is_peer_name name peers)) fault
+    → IsServedWrong rows fault
+own_peer rows name peers (Usage cause text) node is are twice =
+    rw twice.0 (node, (peers, are, subst (λ n. IsTrue (is_peer_name n peers)) is twice.1))
+own_peer rows name peers Memory node is are twice = tt
+
+-- what stands beside the node itself is wrong for a cause of its own
+none_of : {A : Type 0} → (⊥ ⊎ (A × ⊥)) → ⊥
+none_of (inl h) = h
+none_of (inr h) = h.1
+
+pub edge_wrong : (rows : List Row) (fault : UsageFault) → IsNode rows → AreOtherPeers rows → IsEdgeWrong rows fault
+    → IsServedWrong rows fault
+edge_wrong rows (Usage Words text) node others wrong = absurd (none_of wrong.2)
+edge_wrong rows (Usage Name text) node others wrong = absurd (none_of wrong.2)
+edge_wrong rows (Usage Incarnation text) node others wrong = absurd (none_of wrong.2)
+edge_wrong rows (Usage Route text) node others wrong = absurd (none_of wrong.2)
+edge_wrong rows (Usage Port text) node others wrong = absurd (none_of wrong.2)
+edge_wrong rows (Usage LinkPort text) node others wrong = absurd (none_of wrong.2)
+edge_wrong rows (Usage Shards text) node others wrong = absurd (none_of wrong.2)
+edge_wrong rows (Usage Workers text) node others wrong = absurd (none_of wrong.2)
+edge_wrong rows (Usage LinkVersion text) node others wrong = absurd (none_of wrong.2)
+edge_wrong rows (Usage Peer text) node others wrong = absurd (none_of wrong.2)
+edge_wrong rows (Usage Origin text) node others wrong = absurd (none_of wrong.2)
+edge_wrong rows (Usage PerAddress text) node others wrong = absurd (none_of wrong.2)
+edge_wrong rows (Usage HandshakesPerSecond text) node others wrong = absurd (none_of wrong.2)
+edge_wrong rows (Usage PeerName text) node others wrong = absurd (none_of wrong.2)
+edge_wrong rows (Usage Proxy text) node others wrong = (node, others, wrong)
+edge_wrong rows (Usage LinkFrom text) node others wrong = (node, others, wrong)
+edge_wrong rows (Usage MemoryLimit text) node others wrong = (node, others, wrong)
+edge_wrong rows (Usage TopicRows text) node others wrong = (node, others, wrong)
+edge_wrong rows (Usage TopicBytes text) node others wrong = (node, others, wrong)
+edge_wrong rows (Usage Log text) node others wrong = (node, others, wrong)
+edge_wrong rows (Usage LogFormat text) node others wrong = (node, others, wrong)
+edge_wrong rows (Usage MetricsPort text) node others wrong = (node, others, wrong)
+edge_wrong rows Memory node others wrong = tt
+
+-- the same, from what was looked at of the node itself by parts, and of peers that are these
+pub named_wrong : (rows : List Row) (name : List ℕ) (routes : List (List ℕ × ℕ)) (read peers : List PeerOption) (fault : UsageFault)
+    → read ≡ peers → IsFor PeerName (IsTrue (is_peer_name name read)) fault → name ≡ name_given rows → ArePeers (peers_given rows) peers
+    → routes ≡ numbered 0 (patterns_given rows) → AreRoutes routes → IsNamed rows → ArePorts rows → AreShards rows
+    → AreWorkers rows → IsLinkVersion rows → AllArePeers (peers_given rows) → AreFewOrigins (origins_given rows)
+    → IsPerAddress rows → AreHandshakes rows → IsServedWrong rows fault
+named_wrong rows name routes read peers fault same twice is are routed within named ports shards workers version all origins clients handshakes =
+    own_peer rows name peers fault (node_of rows routes named ports shards workers version all origins clients handshakes routed within) is are
+    (subst (λ ps. IsFor PeerName (IsTrue (is_peer_name name ps)) fault) same twice)
+
+pub edge_refused : (rows : List Row) (name : List ℕ) (routes : List (List ℕ × ℕ)) (read peers : List PeerOption) (fault : UsageFault)
+    → read ≡ peers → IsEdgeWrong rows fault → is_peer_name name read ≡ false → name ≡ name_given rows → ArePeers (peers_given rows) peers
+    → routes ≡ numbered 0 (patterns_given rows) → AreRoutes routes → IsNamed rows → ArePorts rows → AreShards rows
+    → AreWorkers rows → IsLinkVersion rows → AllArePeers (peers_given rows) → AreFewOrigins (origins_given rows)
+    → IsPerAddress rows → AreHandshakes rows → IsServedWrong rows fault
+edge_refused rows name routes read peers fault same wrong others is are routed within named ports shards workers version all origins clients handshakes =
+    edge_wrong rows fault (node_of rows routes named ports shards workers version all origins clients handshakes routed within)
+    (others_of rows name peers is are (subst (λ ps. is_peer_name name ps ≡ false) same others)) wrong
+
+-- what is told, or taken, wrongly is wrong of what stands beside the node itself
+pub untold_edge : (rows : List Row) (fault : UsageFault) → AreProxies rows → AreLinkFrom rows → IsFrugal rows → IsUntold rows fault
+    → IsEdgeWrong rows fault
+untold_edge rows (Usage Words text) proxies links frugal wrong = (proxies, links, inr (frugal, wrong))
+untold_edge rows (Usage Name text) proxies links frugal wrong = (proxies, links, inr (frugal, wrong))
+untold_edge rows (Usage Incarnation text) proxies links frugal wrong = (proxies, links, inr (frugal, wrong))
+untold_edge rows (Usage Route text) proxies links frugal wrong = (proxies, links, inr (frugal, wrong))
+untold_edge rows (Usage Port text) proxies links frugal wrong = (proxies, links, inr (frugal, wrong))
+untold_edge rows (Usage LinkPort text) proxies links frugal wrong = (proxies, links, inr (frugal, wrong))
+untold_edge rows (Usage Shards text) proxies links frugal wrong = (proxies, links, inr (frugal, wrong))
+untold_edge rows (Usage Workers text) proxies links frugal wrong = (proxies, links, inr (frugal, wrong))
+untold_edge rows (Usage LinkVersion text) proxies links frugal wrong = (proxies, links, inr (frugal, wrong))
+untold_edge rows (Usage Peer text) proxies links frugal wrong = (proxies, links, inr (frugal, wrong))
+untold_edge rows (Usage Origin text) proxies links frugal wrong = (proxies, links, inr (frugal, wrong))
+untold_edge rows (Usage PerAddress text) proxies links frugal wrong = (proxies, links, inr (frugal, wrong))
+untold_edge rows (Usage HandshakesPerSecond text) proxies links frugal wrong = (proxies, links, inr (frugal, wrong))
+untold_edge rows (Usage PeerName text) proxies links frugal wrong = (proxies, links, inr (frugal, wrong))
+untold_edge rows (Usage Proxy text) proxies links frugal wrong = absurd wrong
+untold_edge rows (Usage LinkFrom text) proxies links frugal wrong = absurd wrong
+untold_edge rows (Usage MemoryLimit text) proxies links frugal wrong = (proxies, links, inr (frugal, wrong))
+untold_edge rows (Usage TopicRows text) proxies links frugal wrong = (proxies, links, inr (frugal, wrong))
+untold_edge rows (Usage TopicBytes text) proxies links frugal wrong = (proxies, links, inr (frugal, wrong))
+untold_edge rows (Usage Log text) proxies links frugal wrong = (proxies, links, inr (frugal, wrong))
+untold_edge rows (Usage LogFormat text) proxies links frugal wrong = (proxies, links, inr (frugal, wrong))
+untold_edge rows (Usage MetricsPort text) proxies links frugal wrong = (proxies, links, inr (frugal, wrong))
+untold_edge rows Memory proxies links frugal wrong = tt
+
+pub wasteful_edge : (rows : List Row) (fault : UsageFault) → AreProxies rows → AreLinkFrom rows → IsWasteful rows fault → IsEdgeWrong rows fault
+wasteful_edge rows (Usage Words text) proxies links wrong = (proxies, links, inl wrong)
+wasteful_edge rows (Usage Name text) proxies links wrong = (proxies, links, inl wrong)
+wasteful_edge rows (Usage Incarnation text) proxies links wrong = (proxies, links, inl wrong)
+wasteful_edge rows (Usage Route text) proxies links wrong = (proxies, links, inl wrong)
+wasteful_edge rows (Usage Port text) proxies links wrong = (proxies, links, inl wrong)
+wasteful_edge rows (Usage LinkPort text) proxies links wrong = (proxies, links, inl wrong)
+wasteful_edge rows (Usage Shards text) proxies links wrong = (proxies, links, inl wrong)
+wasteful_edge rows (Usage Workers text) proxies links wrong = (proxies, links, inl wrong)
+wasteful_edge rows (Usage LinkVersion text) proxies links wrong = (proxies, links, inl wrong)
+wasteful_edge rows (Usage Peer text) proxies links wrong = (proxies, links, inl wrong)
+wasteful_edge rows (Usage Origin text) proxies links wrong = (proxies, links, inl wrong)
+wasteful_edge rows (Usage PerAddress text) proxies links wrong = (proxies, links, inl wrong)
+wasteful_edge rows (Usage HandshakesPerSecond text) proxies links wrong = (proxies, links, inl wrong)
+wasteful_edge rows (Usage PeerName text) proxies links wrong = (proxies, links, inl wrong)
+wasteful_edge rows (Usage Proxy text) proxies links wrong = absurd wrong
+wasteful_edge rows (Usage LinkFrom text) proxies links wrong = absurd wrong
+wasteful_edge rows (Usage MemoryLimit text) proxies links wrong = (proxies, links, inl wrong)
+wasteful_edge rows (Usage TopicRows text) proxies links wrong = (proxies, links, inl wrong)
+wasteful_edge rows (Usage TopicBytes text) proxies links wrong = (proxies, links, inl wrong)
+wasteful_edge rows (Usage Log text) proxies links wrong = (proxies, links, inl wrong)
+wasteful_edge rows (Usage LogFormat text) proxies links wrong = (proxies, links, inl wrong)
+wasteful_edge rows (Usage MetricsPort text) proxies links wrong = (proxies, links, inl wrong)
+wasteful_edge rows Memory proxies links wrong = tt
+
+-- ---- the command
+
+pub serve_chosen : (name : List ℕ) (rows : List Row) (fault : UsageFault) → name ≡ codes "serve" → IsServedWrong rows fault
+    → ChoosesNone name rows fault
+serve_chosen name rows (Usage Words text) is wrong = absurd wrong
+serve_chosen name rows (Usage Name text) is wrong = inr (is, wrong)
+serve_chosen name rows (Usage Incarnation text) is wrong = inr (is, wrong)
+serve_chosen name rows (Usage Route text) is wrong = inr (is, wrong)
+serve_chosen name rows (Usage Port text) is wrong = inr (is, wrong)
+serve_chosen name rows (Usage LinkPort text) is wrong = inr (is, wrong)
+serve_chosen name rows (Usage Shards text) is wrong = inr (is, wrong)
+serve_chosen name rows (Usage Workers text) is wrong = inr (is, wrong)
+serve_chosen name rows (Usage LinkVersion text) is wrong = inr (is, wrong)
+serve_chosen name rows (Usage Peer text) is wrong = inr (is, wrong)
+serve_chosen name rows (Usage Origin text) is wrong = inr (is, wrong)
+serve_chosen name rows (Usage PerAddress text) is wrong = inr (is, wrong)
+serve_chosen name rows (Usage HandshakesPerSecond text) is wrong = inr (is, wrong)
+serve_chosen name rows (Usage PeerName text) is wrong = inr (is, wrong)
+serve_chosen name rows (Usage Proxy text) is wrong = inr (is, wrong)
+serve_chosen name rows (Usage LinkFrom text) is wrong = inr (is, wrong)
+serve_chosen name rows (Usage MemoryLimit text) is wrong = inr (is, wrong)
+serve_chosen name rows (Usage TopicRows text) is wrong = inr (is, wrong)
+serve_chosen name rows (Usage TopicBytes text) is wrong = inr (is, wrong)
+serve_chosen name rows (Usage Log text) is wrong = inr (is, wrong)
+serve_chosen name rows (Usage LogFormat text) is wrong = inr (is, wrong)
+serve_chosen name rows (Usage MetricsPort text) is wrong = inr (is, wrong)
+serve_chosen name rows Memory is wrong = tt

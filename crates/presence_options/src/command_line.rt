@@ -1,0 +1,447 @@
+//! The words.
+ghost use Rattle.std.specs.Prelude.{◌≡◌, IfOk, IfErr, OnOk, map, option_map};
+ghost use Rattle.std.specs.Option.{ForSome};
+ghost use Rattle.clap.specs.Words.{app_of, found_of, kind_of, rows_of, subcommand_rows_of};
+ghost use Rattle.presence_options.specs.CommandLine.{stdio_app, fold_app, linked_app, serve_app, served_app, program};
+ghost use Rattle.presence_options.specs.Given.{AreBudgetsGiven, AreReportsGiven, AskFor, Chooses, ChoosesNone, HasCause, IsEdge, IsEdgeWrong, IsFor, IsFrugal, IsGiven, IsHelpFor, IsNoHelp, IsServed, IsServedWrong, IsTold, IsUntold, IsWasteful, IsWrong, Refused};
+ghost use Rattle.presence_options.specs.Limits.{AreBudgets, AreWithin, IsEdgeWithin, IsFrom1To, IsServedWithin, IsWithin};
+
+use crate::addresses::{AddressRule, listen_of};
+use crate::arguments::{
+    explain_flag, handshakes_option, incarnation_option, link_from_option, link_listen_option,
+    link_port_option, link_version_option, listen_option, log_format_option, log_option,
+    memory_option, metrics_port_option, name_option, notices_flag, origin_option, peer_option,
+    per_address_option, port_option, proxy_option, route_option, shards_option, topic_bytes_option,
+    topic_rows_option, workers_option,
+};
+use crate::fault::{UsageCause, UsageFault};
+use crate::found::{
+    given_addresses, given_handshakes, given_life, given_link_port, given_metrics_port,
+    given_number, given_origins, given_peers, given_per_address, given_routes, is_flagged,
+    text_given,
+};
+use crate::help::{
+    ALL_OPTIONS, FOLD_REFUSALS, FOLD_TAKES, FOLD_USAGE, INCARNATION_HELP, SERVE_ENDS, SERVE_TAKES,
+    SERVE_USAGE, SERVED_INCARNATION_HELP, STDIO_REFUSALS, STDIO_TAKES, STDIO_USAGE, TO_TRY, USAGES,
+    VERSION,
+};
+use crate::options::{
+    Budgets, FoldOptions, MAX_LINK_FROM, MAX_MEMORY, MAX_PROXIES, MAX_TOPIC_BYTES, MAX_TOPIC_ROWS,
+    MIN_MEMORY, MIN_TOPIC_BYTES, Options, Reports, ServeOptions, StdioOptions, TOPIC_BYTES,
+    TOPIC_ROWS,
+};
+use crate::peer_names::names_checked;
+use crate::reports::{format_of, logged_of};
+use crate::values::{
+    NumberRule, incarnation_of, link_version_of, name_of, port_of, shards_of, usage_of, workers_of,
+};
+use clap::error::ErrorKind;
+use clap::{ArgMatches, Command, Error};
+use std::alloc::{AllocError, Global};
+use std::net::IpAddr;
+
+// The command `stdio` with its options.
+fn stdio_command<'a>(alloc: Global) -> Result<Command<'a>, AllocError>
+    ensures { IfOk result (λ c. app_of c ≡ stdio_app) }
+{
+    Command::new(alloc, "stdio")
+        .about("Answers the messages on standard input, one a line, on standard output")
+        .override_usage(STDIO_USAGE)
+        .after_help(STDIO_REFUSALS)
+        .arg(name_option(alloc))?
+        .arg(incarnation_option(alloc, INCARNATION_HELP))?
+        .arg(route_option(alloc))?
+        .arg(notices_flag(alloc))?
+        .arg(explain_flag(alloc))
+}
+
+// The command `fold`.
+fn fold_command<'a>(alloc: Global) -> Result<Command<'a>, AllocError>
+    ensures { IfOk result (λ c. app_of c ≡ fold_app) }
+{
+    Command::new(alloc, "fold")
+        .about("Folds presence frames, one a line, and prints an object from topic to map")
+        .override_usage(FOLD_USAGE)
+        .after_help(FOLD_REFUSALS)
+        .arg(explain_flag(alloc))
+}
+
+// The command `serve` with the options of the node itself.
+fn served_command<'a>(alloc: Global) -> Result<Command<'a>, AllocError>
+    ensures { IfOk result (λ c. app_of c ≡ served_app) }
+{
+    Command::new(alloc, "serve")
+        .about("Serves clients of Phoenix Channels by WebSocket")
+        .override_usage(SERVE_USAGE)
+        .after_help(SERVE_ENDS)
+        .arg(name_option(alloc))?
+        .arg(incarnation_option(alloc, SERVED_INCARNATION_HELP))?
+        .arg(port_option(alloc))?
+        .arg(link_port_option(alloc))?
+        .arg(shards_option(alloc))?
+        .arg(workers_option(alloc))?
+        .arg(link_version_option(alloc))
+}
+
+// The command `serve` with those of its topics, of links and of addresses too.
+fn linked_command<'a>(alloc: Global) -> Result<Command<'a>, AllocError>
+    ensures { IfOk result (λ c. app_of c ≡ linked_app) }
+{
+    served_command(alloc)?
+        .arg(route_option(alloc))?
+        .arg(peer_option(alloc))?
+        .arg(listen_option(alloc))?
+        .arg(link_listen_option(alloc))?
+        .arg(origin_option(alloc))?
+        .arg(per_address_option(alloc))?
+        .arg(handshakes_option(alloc))
+}
+
+// The command `serve` with all of its options.
+fn serve_command<'a>(alloc: Global) -> Result<Command<'a>, AllocError>
+    ensures { IfOk result (λ c. app_of c ≡ serve_app) }
+{
+    linked_command(alloc)?
+        .arg(proxy_option(alloc))?
+        .arg(link_from_option(alloc))?
+        .arg(memory_option(alloc))?
+        .arg(topic_rows_option(alloc))?
+        .arg(topic_bytes_option(alloc))?
+        .arg(log_option(alloc))?
+        .arg(log_format_option(alloc))?
+        .arg(metrics_port_option(alloc))
+}
+
+// The whole command line.
+fn command_of<'a>(alloc: Global) -> Result<Command<'a>, AllocError>
+    ensures { IfOk result (λ c. app_of c ≡ program) }
+{
+    let stdio = stdio_command(alloc)?;
+    let fold = fold_command(alloc)?;
+    let serve = serve_command(alloc)?;
+    Command::new(alloc, "presence_node")
+        .about("A server of Phoenix Channels with Presence")
+        .version(VERSION)
+        .override_usage(USAGES)
+        .after_help(ALL_OPTIONS)
+        .subcommand_required(true)
+        .subcommand(stdio)?
+        .subcommand(fold)?
+        .subcommand(serve)
+}
+
+// What the parser says in place of matches, without the line feeds behind it.
+fn text_of(alloc: Global, e: &Error) -> Result<String, AllocError> {
+    let text = e.to_string(alloc)?;
+    String::from_str(alloc, text.as_str().trim_end())
+}
+
+// What the command of these words takes, or what each does where they name none.
+fn taken_by(alloc: Global, words: &[&str]) -> Result<String, AllocError> {
+    match words.get(1).copied() {
+        Some("stdio") => String::from_str(alloc, STDIO_TAKES),
+        Some("fold") => String::from_str(alloc, FOLD_TAKES),
+        Some("serve") => String::from_str(alloc, SERVE_TAKES),
+        _ => format!(in alloc; "{STDIO_TAKES}\n{FOLD_TAKES}\n{SERVE_TAKES}"),
+    }
+}
+
+// What the parser says is wrong, and what is allowed where that helps.
+fn wrong_words(alloc: Global, words: &[&str], e: &Error) -> Result<String, AllocError> {
+    let text = text_of(alloc, e)?;
+    match e.kind() {
+        ErrorKind::ArgumentConflict | ErrorKind::TooManyValues => Ok(text),
+        _ => {
+            let allowed = taken_by(alloc, words)?;
+            format!(in alloc; "{text}\n\n{allowed}")
+        }
+    }
+}
+
+// How to call the program, and what to try.
+fn bare_text(alloc: Global) -> Result<String, AllocError> {
+    let mut command = command_of(alloc)?;
+    let help = command.render_long_help()?;
+    let help = help.as_str().trim_end();
+    format!(in alloc; "{help}\n\n{TO_TRY}")
+}
+
+// The help that was asked for.
+fn help_of(alloc: Global, e: &Error) -> Result<Options, UsageFault>
+    requires { kind_of e.now ≡ ErrorKind.DisplayHelp }
+    ensures help { IfOk result (IsHelpFor (kind_of e.now)) }
+    ensures memory { IfErr result (λ fault. fault ≡ UsageFault.Memory) }
+{
+    match text_of(alloc, e) {
+        Ok(text) => Ok(Options::Help(text)),
+        Err(_) => Err(UsageFault::Memory),
+    }
+}
+
+// The version that was asked for.
+fn version_of(alloc: Global, e: &Error) -> Result<Options, UsageFault>
+    requires { kind_of e.now ≡ ErrorKind.DisplayVersion }
+    ensures version { IfOk result (IsHelpFor (kind_of e.now)) }
+    ensures memory { IfErr result (λ fault. fault ≡ UsageFault.Memory) }
+{
+    match text_of(alloc, e) {
+        Ok(text) => Ok(Options::Version(text)),
+        Err(_) => Err(UsageFault::Memory),
+    }
+}
+
+// What is told where no command is named.
+fn bare_of(alloc: Global, e: &Error) -> Result<Options, UsageFault>
+    requires { kind_of e.now ≡ ErrorKind.MissingSubcommand }
+    ensures bare { IfOk result (IsHelpFor (kind_of e.now)) }
+    ensures memory { IfErr result (λ fault. fault ≡ UsageFault.Memory) }
+{
+    match bare_text(alloc) {
+        Ok(text) => Ok(Options::Bare(text)),
+        Err(_) => Err(UsageFault::Memory),
+    }
+}
+
+// The text that was asked for, or what is wrong with the words.
+fn refusal_of(alloc: Global, words: &[&str], e: Error) -> Result<Options, UsageFault>
+    ensures help { IfOk result (IsHelpFor (kind_of e)) }
+    ensures refusal { IfErr result (IsFor UsageCause.Words (IsNoHelp (kind_of e))) }
+{
+    match e.kind() {
+        ErrorKind::OutOfMemory => Err(UsageFault::Memory),
+        ErrorKind::DisplayHelp => help_of(alloc, &e),
+        ErrorKind::DisplayVersion => version_of(alloc, &e),
+        ErrorKind::MissingSubcommand => bare_of(alloc, &e),
+        _ => Err(usage_of(UsageCause::Words, wrong_words(alloc, words, &e))),
+    }
+}
+
+// The options of the words behind `stdio`.
+fn stdio_options(alloc: Global, matches: &ArgMatches<'_>) -> Result<StdioOptions, UsageFault>
+    ensures given { IfOk result (IsGiven (rows_of (found_of matches.now))) }
+    ensures limits { IfOk result IsWithin }
+    ensures cause { IfErr result (IsWrong (rows_of (found_of matches.now))) }
+{
+    let name = name_of(alloc, text_given(matches, "name", "a"))?;
+    let incarnation = incarnation_of(alloc, text_given(matches, "incarnation", "1"))?;
+    let routes = given_routes(alloc, matches)?;
+    Ok(StdioOptions {
+        name,
+        incarnation,
+        routes,
+        notices: is_flagged(matches, "notices"),
+        explain: is_flagged(matches, "explain"),
+    })
+}
+
+// What stands beside the node itself: proxies, the addresses of links, what everybody together may take, and what an
+// operator is told.
+#[derive(Drop)]
+struct Edge {
+    proxies: Vec<IpAddr>,
+    link_from: Vec<IpAddr>,
+    budgets: Budgets,
+    reports: Reports,
+}
+
+// The rules of the options that are numbers or addresses.
+const PROXIES: AddressRule<'static> = AddressRule {
+    cause: UsageCause::Proxy,
+    option: "proxy",
+    most: MAX_PROXIES,
+};
+
+const LINKS_FROM: AddressRule<'static> = AddressRule {
+    cause: UsageCause::LinkFrom,
+    option: "link-from",
+    most: MAX_LINK_FROM,
+};
+
+const MEMORY: NumberRule<'static> = NumberRule {
+    cause: UsageCause::MemoryLimit,
+    option: "memory",
+    low: MIN_MEMORY,
+    high: MAX_MEMORY,
+};
+
+const ROWS: NumberRule<'static> = NumberRule {
+    cause: UsageCause::TopicRows,
+    option: "topic-rows",
+    low: 1,
+    high: MAX_TOPIC_ROWS,
+};
+
+const BYTES: NumberRule<'static> = NumberRule {
+    cause: UsageCause::TopicBytes,
+    option: "topic-bytes",
+    low: MIN_TOPIC_BYTES,
+    high: MAX_TOPIC_BYTES,
+};
+
+// What everybody together may take.
+fn budgets_of(alloc: Global, matches: &ArgMatches<'_>) -> Result<Budgets, UsageFault>
+    ensures given { IfOk result (AreBudgetsGiven (rows_of (found_of matches.now))) }
+    ensures limits { IfOk result AreBudgets }
+    ensures within { OnOk result (IsFrugal (rows_of (found_of matches.now))) }
+    ensures cause { IfErr result (IsWasteful (rows_of (found_of matches.now))) }
+{
+    let memory = given_number(alloc, matches, MEMORY)?;
+    let topic_rows = given_number(alloc, matches, ROWS)?;
+    let topic_bytes = given_number(alloc, matches, BYTES)?;
+    Ok(Budgets {
+        memory,
+        topic_rows: topic_rows.unwrap_or(TOPIC_ROWS),
+        topic_bytes: topic_bytes.unwrap_or(TOPIC_BYTES),
+    })
+}
+
+// What an operator is told.
+fn reports_of(alloc: Global, matches: &ArgMatches<'_>) -> Result<Reports, UsageFault>
+    ensures given { IfOk result (AreReportsGiven (rows_of (found_of matches.now))) }
+    ensures limits { IfOk result (λ r. ForSome r.metrics_port (IsFrom1To 65535)) }
+    ensures within { OnOk result (IsTold (rows_of (found_of matches.now))) }
+    ensures cause { IfErr result (IsUntold (rows_of (found_of matches.now))) }
+{
+    let logged = logged_of(alloc, text_given(matches, "log", "refused"))?;
+    let format = format_of(alloc, text_given(matches, "log-format", "text"))?;
+    let metrics_port = given_metrics_port(alloc, matches)?;
+    Ok(Reports {
+        logged,
+        format,
+        metrics_port,
+    })
+}
+
+// What stands beside the node itself.
+#[tactic(auto, using(crate::proofs::Serving::untold_edge, crate::proofs::Serving::wasteful_edge))]
+fn edge_of(alloc: Global, matches: &ArgMatches<'_>) -> Result<Edge, UsageFault>
+    ensures given { IfOk result (IsEdge (rows_of (found_of matches.now))) }
+    ensures limits { IfOk result IsEdgeWithin }
+    ensures cause { IfErr result (IsEdgeWrong (rows_of (found_of matches.now))) }
+{
+    let proxies = given_addresses(alloc, matches, PROXIES)?;
+    let link_from = given_addresses(alloc, matches, LINKS_FROM)?;
+    let budgets = budgets_of(alloc, matches)?;
+    let reports = reports_of(alloc, matches)?;
+    Ok(Edge {
+        proxies,
+        link_from,
+        budgets,
+        reports,
+    })
+}
+
+// The options of the words behind `serve`.
+fn serve_options(alloc: Global, matches: &ArgMatches<'_>) -> Result<ServeOptions, UsageFault>
+    ensures given { IfOk result (IsServed (rows_of (found_of matches.now))) }
+    ensures limits { IfOk result IsServedWithin }
+    ensures cause { IfErr result (IsServedWrong (rows_of (found_of matches.now))) }
+{
+    let name = name_of(alloc, text_given(matches, "name", "a"))?;
+    let incarnation = given_life(alloc, matches)?;
+    let port = port_of(alloc, text_given(matches, "port", "4000"))?;
+    let link_port = given_link_port(alloc, matches)?;
+    let shards = shards_of(alloc, text_given(matches, "shards", "4"))?;
+    let workers = workers_of(alloc, text_given(matches, "workers", "4"))?;
+    let link_version = link_version_of(alloc, text_given(matches, "link-version", "2"))?;
+    let peers = given_peers(alloc, matches)?;
+    let origins = given_origins(alloc, matches)?;
+    let per_address = given_per_address(alloc, matches)?;
+    let handshakes_per_second = given_handshakes(alloc, matches)?;
+    let routes = given_routes(alloc, matches)?;
+    names_checked(alloc, &name, peers.as_slice())?;
+    let Edge {
+        proxies,
+        link_from,
+        budgets,
+        reports,
+    } = edge_of(alloc, matches)?;
+    Ok(ServeOptions {
+        name,
+        incarnation,
+        routes,
+        port,
+        link_port,
+        shards,
+        workers,
+        link_version,
+        peers,
+        listen: listen_of(alloc, text_given(matches, "listen", "127.0.0.1"))?,
+        link_listen: listen_of(alloc, text_given(matches, "link-listen", "127.0.0.1"))?,
+        origins,
+        per_address,
+        handshakes_per_second,
+        proxies,
+        link_from,
+        budgets,
+        reports,
+    })
+}
+
+// The command that was met, with its own matches.
+#[tactic(auto, using(crate::proofs::Rows::met))]
+fn command_met<'m, 'a>(matches: &'m ArgMatches<'a>) -> Option<(&'a str, &'m ArgMatches<'a>)>
+    ensures { option_map (λ p. (p.0.now, rows_of (found_of p.1.now))) result
+        ≡ subcommand_rows_of matches.now }
+{
+    matches.subcommand()
+}
+
+// No command was named.
+fn no_command(alloc: Global) -> UsageFault
+    ensures { HasCause UsageCause.Words result }
+{
+    let text = String::from_str(
+        alloc,
+        "presence_node: a command is wanted: stdio, fold or serve",
+    );
+    usage_of(UsageCause::Words, text)
+}
+
+// What this command is asked for, by its own matches.
+fn chosen(alloc: Global, name: &str, matches: &ArgMatches<'_>) -> Result<Options, UsageFault>
+    ensures chosen { IfOk result (Chooses name.now (rows_of (found_of matches.now))) }
+    ensures limits { IfOk result AreWithin }
+    ensures refused { IfErr result (ChoosesNone name.now (rows_of (found_of matches.now))) }
+{
+    if name == "stdio" {
+        return match stdio_options(alloc, matches) {
+            Ok(options) => Ok(Options::Stdio(options)),
+            Err(fault) => Err(fault),
+        };
+    }
+    if name == "fold" {
+        return Ok(Options::Fold(FoldOptions {
+            explain: is_flagged(matches, "explain"),
+        }));
+    }
+    if name == "serve" {
+        return match serve_options(alloc, matches) {
+            Ok(options) => Ok(Options::Serve(options)),
+            Err(fault) => Err(fault),
+        };
+    }
+    Err(no_command(alloc))
+}
+
+/// What the words of a command line ask for, the program's own word first.
+///
+/// A usage fault says what is wrong with the words, and what is allowed where that helps.
+pub fn options_of<'a>(alloc: Global, words: &'a [&'a str]) -> Result<Options, UsageFault>
+    ensures asked { IfOk result (AskFor (map (λ w. w.now) words.now)) }
+    ensures limits { IfOk result AreWithin }
+    ensures refused { IfErr result (Refused (map (λ w. w.now) words.now)) }
+{
+    let command = match command_of(alloc) {
+        Ok(command) => command,
+        Err(_) => return Err(UsageFault::Memory),
+    };
+    let matches = match command.try_get_matches_from(words) {
+        Ok(matches) => matches,
+        Err(e) => return refusal_of(alloc, words, e),
+    };
+    match command_met(&matches) {
+        Some((name, inner)) => chosen(alloc, name, inner),
+        None => Err(no_command(alloc)),
+    }
+}

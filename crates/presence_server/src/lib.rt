@@ -1,0 +1,31 @@
+//! What each thread of the server does: a worker at its bench, and the one at the door that greets connections; and what
+//! they share.
+//!
+//! That a thread goes on, or a hint comes through, no contract says: those of a worker's turn are `serve_connections`'.
+//! `specs/Due` says when a journal is due for a checkpoint.
+#![tactic(auto)]
+
+mod bench;
+mod caller;
+mod door;
+mod draining;
+mod ends;
+mod files;
+mod following;
+mod growth;
+pub mod laws;
+mod load;
+mod neighbours;
+mod place;
+mod pulse;
+mod reasons;
+mod received;
+mod runtime;
+mod server;
+
+pub use bench::Bench;
+pub use door::{Door, DoorLimits, Entries, LISTENER, METRICS_LISTENER};
+pub use neighbours::AddressLimits;
+pub use place::{Workplace, seats_of};
+pub use runtime::ServeRuntime;
+pub use server::{Server, WorkerMailbox};

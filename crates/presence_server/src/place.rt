@@ -1,0 +1,42 @@
+//! A worker's place among the workers.
+use crate::bench::Bench;
+use node_threads::Tools;
+use shard_pool::{Lanes, Seat};
+use std::alloc::{AllocError, Global};
+
+/// A place among the workers, and the bench there.
+#[derive(Drop)]
+pub struct Workplace<L: Lanes> {
+    pub number: usize,
+    pub bench: Bench<L>,
+}
+
+impl<L: Lanes> Tools for Workplace<L> {
+    ghost use Rattle.std.specs.Prelude.{◌≡◌};
+
+    ghost returns = { λ given back. back.number ≡ given.number };
+}
+
+impl<L: Lanes> Workplace<L> {
+    ghost use Rattle.std.specs.Prelude.{◌≡◌};
+
+    /// The seat, once the work is over.
+    pub(crate) fn into_seat(self) -> Seat<L>
+        ensures { result ≡ self.bench.seat }
+    {
+        let Workplace { number: _, bench } = self;
+        bench.into_seat()
+    }
+}
+
+/// The seats of all places.
+pub fn seats_of<L: Lanes>(
+    alloc: Global,
+    places: Vec<Workplace<L>>,
+) -> Result<Vec<Seat<L>>, AllocError> {
+    let mut seats = Vec::with_capacity(alloc, places.len())?;
+    for place in places {
+        seats.push(place.into_seat())?;
+    }
+    Ok(seats)
+}

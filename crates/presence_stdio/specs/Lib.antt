@@ -1,0 +1,13 @@
+pub mod Local
+pub mod Notes
+pub mod Folding
+pub mod Mirrors
+pub mod FoldTold
+pub mod Bytes
+pub mod Lines
+pub mod Reading
+pub mod RefusalTold
+pub mod Run
+pub mod Outlets
+pub mod Session
+pub mod Told

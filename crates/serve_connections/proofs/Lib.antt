@@ -1,0 +1,14 @@
+pub mod Marks
+mod PieceLemmas
+mod Turnings
+mod Sparings
+pub mod ConnectionCrossing
+pub mod Lists
+pub mod Numbers
+pub mod Takings
+pub mod Places
+pub mod LeavingLemmas
+pub mod Notes
+pub mod Marking
+pub mod Holding
+pub mod Crossing

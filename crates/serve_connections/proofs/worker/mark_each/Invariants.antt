@@ -1,0 +1,12 @@
+use Rattle.std.specs.Prelude.{◌≡◌}
+use Rattle.serve_connections.specs.Places.{AreKept, served}
+use Rattle.serve_connections.specs.Resting.{AreAtRest}
+use Rattle.serve_connections.specs.Working.{readied}
+use Rattle.serve_connections.proofs.Lists.{PairwiseTo}
+use Rattle.serve_connections.proofs.worker.mark_each.Given as goal
+
+abbrev pub invariant-loop-key : goal.invariant-loop-key
+invariant-loop-key g l =
+    (AreKept l.clients l.fn.order
+    × PairwiseTo (λ old new. new ≡ readied old) (served l.fn.clients l.fn.order) (served l.clients l.fn.order) l.key-index)
+    × AreAtRest l.clients l.resting.notes.items l.fn.order

@@ -1,0 +1,9 @@
+pub mod Marks
+pub mod Causes
+pub mod Hearing
+pub mod Sparing
+pub mod Turning
+pub mod Working
+pub mod Places
+pub mod Resting
+pub mod Serving

@@ -1,0 +1,533 @@
+//! A connection, and its turn.
+ghost use Rattle.std.specs.Prelude.{is_ok, is_some, Some, ◌||◌, ◌≡◌, ◌+◌, ◌≤◌, ◌^◌, [], leb, false, true, map, string_bytes, None, IfOk};
+ghost use Rattle.phx_message.specs.Reading.{decoded};
+ghost use Rattle.tungstenite.specs.Socket.{Flushed};
+ghost use Rattle.serve_connections.specs.Hearing.{is_message};
+ghost use Rattle.serve_connections.specs.Turning.{around, AnswersText, AsksIf, BearsSilence, ClosesFor, Continues, Deals, Delivers, behind_flush, broken_off, EndsSession, GoOut, Responds, Serves, Flushes, Pings, StopsServing, TakesDelivery, TakesTurn, Turns, dealt, dealt_texts, is_owed_ping, may_have_more, patience, progress_of as progress_in};
+ghost use Rattle.channel_session.specs.Delivery.{DeliveredBy};
+ghost use Rattle.channel_session.specs.Ran.{RanBy};
+ghost use Rattle.channel_rules.specs.Said.{Worded, Noted};
+ghost use Rattle.channel_pieces.specs.Piecewise.{Piecewise};
+ghost use Rattle.serve_connections.specs.Sparing.{Spares};
+ghost use Rattle.serve_sockets.specs.declared.web_socket.TheConstants.{MAX_WAITING};
+
+use crate::cause::{Cause, cause_of, close_code, close_reason};
+use crate::hearing::{Heard, hear};
+use crate::pieces::{deliver_over, run_over};
+use crate::sparing::MAX_UNSENT;
+use channel_pieces::{PiecewisePort, Telling};
+use channel_rules::Port;
+use channel_session::{Channels, Delivery, Session, SessionFault, end};
+use hook_registry::{PresenceHooks, Routes};
+use phx_message::Limits;
+use serve_sockets::{MAX_WAITING, WebSocket, is_passing, queue_all};
+use std::alloc::Global;
+use std::io::{Read, Write};
+use tungstenite::{Bytes, CloseFrame, Error, MaskKeys, Message, Utf8Bytes, WebSocketConfig};
+
+/// How long a connection may be without a message, in milliseconds.
+pub const MAX_SILENCE: u64 = 60_000;
+
+/// How long a connection may be without a message before its client is sent a ping, in milliseconds.
+pub const PING_SILENCE: u64 = 30_000;
+
+/// How many items of each topic one turn takes: at most 1 MiB of what clients shout. (presence_journal's `MAX_TAKEN` is the
+/// most that a take may give.)
+pub const MAX_DEALT: u32 = 16;
+
+/// How many bytes one read of a stream asks for: most texts of a client are shorter. Each connection keeps room for so many,
+/// and a buffer for what was read, which holds 4,096 at most while nothing waits in it.
+const READ_BYTES: usize = 256;
+
+/// How many bytes of output gather before they go to the stream by themselves.
+const WRITE_BYTES: usize = 1_048_576;
+
+/// How far a connection has come.
+#[derive(Clone, Copy, PartialEq, Eq, Debug)]
+pub enum Stage {
+    Open,
+    /// It ends for this cause, and its session's end is not yet accepted.
+    Ending(Cause),
+    /// Its session has ended, and it may be given up.
+    Over(Cause),
+}
+
+/// What a turn did.
+#[derive(Clone, Copy, PartialEq, Eq, Debug)]
+pub enum Progress {
+    /// A message came and there may be another, or more may wait for the session.
+    Busy,
+    /// No message came, and all that waited was taken.
+    Idle,
+    /// The session's end was refused, and is asked for again in the next turn.
+    Ending,
+    /// The connection may be given up, once it was flushed: so a client's close frame is answered.
+    Over,
+}
+
+/// A client's connection.
+pub struct Connection<S, K> {
+    pub socket: WebSocket<S, K>,
+    pub session: Session,
+    /// What its client is yet to be told of a long state.
+    pub telling: Telling,
+    /// When the last message came, in milliseconds.
+    pub heard: u64,
+    /// Whether its client was sent a ping since then.
+    pub pinged: bool,
+    /// How many texts came.
+    pub messages: u64,
+    pub stage: Stage,
+}
+
+impl<S: Drop, K: Drop> Drop for Connection<S, K> {
+    fn drop(self) {
+        let Connection {
+            socket,
+            session,
+            telling,
+            heard: _,
+            pinged: _,
+            messages: _,
+            stage: _,
+        } = self;
+        drop(socket);
+        drop(session);
+        drop(telling);
+    }
+}
+
+/// The configuration of a client's socket. A message may have as many bytes as a text of a client.
+pub fn socket_config() -> WebSocketConfig
+    ensures message { result.max_message_size ≡ Some Limits.CLIENT.bytes }
+    ensures frame { result.max_frame_size ≡ Some Limits.CLIENT.bytes }
+    ensures waiting { result.max_write_buffer_size ≡ MAX_WAITING }
+    ensures masked { result.accept_unmasked_frames ≡ false }
+{
+    WebSocketConfig::default()
+        .read_buffer_size(READ_BYTES)
+        .write_buffer_size(WRITE_BYTES)
+        .max_write_buffer_size(MAX_WAITING)
+        .max_message_size(Some(Limits::CLIENT.bytes))
+        .max_frame_size(Some(Limits::CLIENT.bytes))
+}
+
+// What a turn did in which no connection ended, if the next one may find something.
+fn progress_of(came: bool) -> Progress
+    ensures { result ≡ progress_in came }
+{
+    if came { Progress::Busy } else { Progress::Idle }
+}
+
+impl<S: Read + Write + Drop, K: MaskKeys + Drop> Connection<S, K> {
+    /// A connection over a socket whose handshake is done, at this time.
+    pub fn new(alloc: Global, socket: WebSocket<S, K>, pid: u64, now: u64) -> Connection<S, K>
+        requires { pid ≤ 2 ^ 62 }
+        ensures { result ≡ record {
+          socket = socket;
+          session = record { pid = pid; failed = false; joined = []; cut_short = None };
+          telling = record { untold = None };
+          heard = now;
+          pinged = false;
+          messages = 0;
+          stage = Stage.Open;
+        } }
+    {
+        Connection {
+            socket,
+            session: Session::new(alloc, pid),
+            telling: Telling::new(),
+            heard: now,
+            pinged: false,
+            messages: 0,
+            stage: Stage::Open,
+        }
+    }
+
+    // Puts the texts that the session gave in what waits to be sent.
+    fn send(&mut self, texts: Vec<String>) -> Result<(), Cause>
+        ensures sent { GoOut S.contents self.old.socket self.new.socket (Ok (map string_bytes texts.items)) result }
+        ensures kept { self.new ≡ record self.old { socket = self.new.socket } }
+    {
+        match queue_all(&mut self.socket, texts) {
+            Ok(()) => Ok(()),
+            Err(error) => Err(cause_of(&error)),
+        }
+    }
+
+    // What the session answers to a text.
+    fn run<P: Port, H: PresenceHooks>(
+        &mut self,
+        alloc: Global,
+        port: &mut P,
+        channels: Channels<'_, H>,
+        text: &str,
+    ) -> Result<Vec<String>, SessionFault>
+        ensures ran { RanBy (Worded (H.PresenceHooks.fetched channels.entry.hooks.now) (H.PresenceHooks.plain channels.entry.hooks.now))
+            (Piecewise (P.step self.old.session.pid)) channels.entry.routes.now self.old.session (decoded Limits.CLIENT text.now)
+            (port.old, self.old.telling.untold) (port.new, self.new.telling.untold) self.new.session result }
+        ensures kept { self.new ≡ record self.old { session = self.new.session; telling = self.new.telling } }
+    {
+        let mut pieces = PiecewisePort::new(port, &mut self.telling);
+        run_over(alloc, &mut self.session, &mut pieces, channels, text)
+    }
+
+    // Answers a text.
+    fn answer<P: Port, H: PresenceHooks>(
+        &mut self,
+        alloc: Global,
+        port: &mut P,
+        routes: &Routes,
+        hooks: &H,
+        text: &str,
+    ) -> Result<(), Cause>
+        ensures { AnswersText (around S.remaining S.contents P.step H.PresenceHooks hooks.now)
+            routes.now text.now self.old self.new port.old port.new result }
+    {
+        let channels = Channels { routes, hooks };
+        match self.run(alloc, port, channels, text) {
+            Ok(texts) => self.send(texts),
+            Err(fault) => Err(Cause::Fault(fault)),
+        }
+    }
+
+    // Asks the client for a sign: one that is there answers with a pong.
+    fn ping(&mut self)
+        ensures pings { Pings S.contents self.old.socket self.new.socket }
+        ensures kept { self.new ≡ record self.old { socket = self.new.socket; pinged = true } }
+    {
+        let _lost = self.socket.write(Message::Ping(Bytes::from_static(b"")));
+        self.pinged = true;
+    }
+
+    // Whether a ping is owed to it.
+    fn is_owed_ping(&self, now: u64) -> bool
+        ensures { result ≡ is_owed_ping self.now.heard self.now.pinged now }
+    {
+        now >= self.heard && now - self.heard >= PING_SILENCE && !self.pinged
+    }
+
+    // Sends a ping, if one is owed.
+    fn ask(&mut self, now: u64)
+        ensures { AsksIf S.contents (is_owed_ping self.old.heard self.old.pinged now) self.old self.new }
+    {
+        if self.is_owed_ping(now) {
+            self.ping();
+        }
+    }
+
+    // Whether it was silent for too long.
+    fn patience(&self, now: u64) -> Result<(), Cause>
+        ensures { result ≡ patience self.now.heard now }
+    {
+        if now >= self.heard && now - self.heard >= MAX_SILENCE {
+            Err(Cause::Silent)
+        } else {
+            Ok(())
+        }
+    }
+
+    // Ends a connection that was silent for too long, and sends a ping to one that was for half of that.
+    fn bear_silence(&mut self, now: u64) -> Result<(), Cause>
+        ensures { BearsSilence S.contents now self.old self.new result }
+    {
+        match self.patience(now) {
+            Ok(()) => {
+                self.ask(now);
+                Ok(())
+            }
+            Err(cause) => Err(cause),
+        }
+    }
+
+    // Does what was read.
+    fn respond<P: Port, H: PresenceHooks>(
+        &mut self,
+        alloc: Global,
+        port: &mut P,
+        routes: &Routes,
+        hooks: &H,
+        now: u64,
+        heard: &Heard,
+    ) -> Result<(), Cause>
+        ensures { Responds (around S.remaining S.contents P.step H.PresenceHooks hooks.now)
+            routes.now now heard.now self.old self.new port.old port.new result }
+    {
+        match heard {
+            Heard::Text(words) => {
+                self.heard = now;
+                self.pinged = false;
+                self.messages = self.messages.saturating_add(1);
+                self.answer(alloc, port, routes, hooks, words.as_str())
+            }
+            Heard::Sign => {
+                self.heard = now;
+                self.pinged = false;
+                Ok(())
+            }
+            Heard::Nothing => self.bear_silence(now),
+            Heard::Ends(cause) => Err(*cause),
+        }
+    }
+
+    // Puts the texts of a delivery in what waits to be sent, where so many bytes more might have been taken: whether more
+    // may wait, as where a state is being told, or was before, so that nothing else was taken.
+    fn send_dealt(
+        &mut self,
+        delivery: Result<Delivery, SessionFault>,
+        left: usize,
+        telling: bool,
+    ) -> Result<bool, Cause>
+        ensures sent { GoOut S.contents self.old.socket self.new.socket (dealt_texts delivery) (dealt result) }
+        ensures more { IfOk result (λ told. told ≡ may_have_more delivery left (telling || is_some self.old.telling.untold)) }
+        ensures kept { self.new ≡ record self.old { socket = self.new.socket } }
+    {
+        match delivery {
+            Ok(Delivery { texts, notices }) => {
+                drop(notices);
+                let untold = telling || self.telling.is_under_way();
+                let more = texts.len() >= MAX_DEALT as usize || left == 0 || untold;
+                match self.send(texts) {
+                    Ok(()) => Ok(more),
+                    Err(cause) => Err(cause),
+                }
+            }
+            Err(fault) => Err(Cause::Fault(fault)),
+        }
+    }
+
+    // What a delivery gives within so much room, and how much is left of it.
+    fn take<P: Port, H: PresenceHooks>(
+        &mut self,
+        alloc: Global,
+        port: &mut P,
+        hooks: &H,
+        room: usize,
+    ) -> (Result<Delivery, SessionFault>, usize)
+        ensures failed { self.old.session.failed ≡ true → (result.0 ≡ Err SessionFault.Failed)
+            × (self.new.session ≡ self.old.session) × (port.new ≡ port.old) × (self.new.telling ≡ self.old.telling) }
+        ensures delivered { self.old.session.failed ≡ false → DeliveredBy
+            (Worded (H.PresenceHooks.fetched hooks.now) (H.PresenceHooks.plain hooks.now))
+            (Noted (H.PresenceHooks.joined hooks.now) (H.PresenceHooks.left hooks.now) (H.PresenceHooks.quiet hooks.now))
+            (Spares (Piecewise (P.step self.old.session.pid))) MAX_DEALT self.old.session ((port.old, self.old.telling.untold), room)
+            ((port.new, self.new.telling.untold), result.1) self.new.session result.0 }
+        ensures kept { self.new ≡ record self.old { session = self.new.session; telling = self.new.telling } }
+    {
+        let mut pieces = PiecewisePort::new(port, &mut self.telling);
+        deliver_over(alloc, &mut self.session, &mut pieces, hooks, room)
+    }
+
+    // Delivers what waits, once, until so much waits to be sent that nothing further is taken: whether more may wait.
+    fn deal<P: Port, H: PresenceHooks>(
+        &mut self,
+        alloc: Global,
+        port: &mut P,
+        hooks: &H,
+    ) -> Result<bool, Cause>
+        ensures { Deals (around S.remaining S.contents P.step H.PresenceHooks hooks.now)
+            self.old self.new port.old port.new result }
+    {
+        let room = MAX_UNSENT.saturating_sub(self.socket.waiting());
+        let telling = self.telling.is_under_way();
+        let (delivery, left) = self.take(alloc, port, hooks, room);
+        self.send_dealt(delivery, left, telling)
+    }
+
+    // Goes on behind a message with a delivery.
+    fn go_on<P: Port, H: PresenceHooks>(
+        &mut self,
+        alloc: Global,
+        port: &mut P,
+        hooks: &H,
+        came: bool,
+        first: Result<(), Cause>,
+    ) -> Result<bool, Cause>
+        ensures { Continues (around S.remaining S.contents P.step H.PresenceHooks hooks.now)
+            came first self.old self.new port.old port.new result }
+    {
+        match first {
+            Err(cause) => Err(cause),
+            Ok(()) => match self.deal(alloc, port, hooks) {
+                Ok(more) => Ok(came || more),
+                Err(cause) => Err(cause),
+            },
+        }
+    }
+
+    // Reads at most one message, answers it and delivers what waits: whether a message came, or more may wait.
+    fn serve<P: Port, H: PresenceHooks>(
+        &mut self,
+        alloc: Global,
+        port: &mut P,
+        routes: &Routes,
+        hooks: &H,
+        now: u64,
+    ) -> Result<bool, Cause>
+        ensures { Serves (around S.remaining S.contents P.step H.PresenceHooks hooks.now)
+            routes.now now self.old self.new port.old port.new result }
+    {
+        let heard = hear(&mut self.socket);
+        let first = self.respond(alloc, port, routes, hooks, now, &heard);
+        self.go_on(alloc, port, hooks, heard.is_message(), first)
+    }
+
+    // Sends the close frame of a cause, if it has one.
+    fn close(&mut self, cause: Cause)
+        ensures closed { ClosesFor S.contents cause self.old.socket self.new.socket }
+        ensures kept { self.new ≡ record self.old { socket = self.new.socket } }
+    {
+        let Some(code) = close_code(cause) else {
+            return;
+        };
+        let frame = CloseFrame {
+            code,
+            reason: Utf8Bytes::from_static(close_reason(cause)),
+        };
+        let _lost = self.socket.close(Some(frame));
+    }
+
+    // Asks for the session's end.
+    fn end_session<P: Port>(&mut self, alloc: Global, port: &mut P, cause: Cause) -> Progress
+        ensures { EndsSession P.step cause self.old self.new port.old port.new result }
+    {
+        match end(alloc, &mut self.session, port) {
+            Ok(()) => {
+                self.stage = Stage::Over(cause);
+                Progress::Over
+            }
+            Err(_) => {
+                self.stage = Stage::Ending(cause);
+                Progress::Ending
+            }
+        }
+    }
+
+    // A turn of an open connection.
+    fn turn_open<P: Port, H: PresenceHooks>(
+        &mut self,
+        alloc: Global,
+        port: &mut P,
+        routes: &Routes,
+        hooks: &H,
+        now: u64,
+    ) -> Progress
+        ensures { TakesTurn (around S.remaining S.contents P.step H.PresenceHooks hooks.now)
+            routes.now now self.old self.new port.old port.new result }
+    {
+        match self.serve(alloc, port, routes, hooks, now) {
+            Ok(more) => progress_of(more),
+            Err(cause) => {
+                self.close(cause);
+                self.end_session(alloc, port, cause)
+            }
+        }
+    }
+
+    /// One turn, at this time: at most one message is read and answered, and what waits for the
+    /// session is delivered, `MAX_DEALT` items of each topic at most, and nothing further once `MAX_UNSENT` bytes wait to
+    /// be sent. Texts wait in the socket until it is flushed.
+    ///
+    /// One that was silent for `PING_SILENCE` is sent a ping, once. A connection that ends is told its close code and reads
+    /// no more. Its session's end is asked for in that turn and in each later one, until it is accepted.
+    pub fn turn<P: Port, H: PresenceHooks>(
+        &mut self,
+        alloc: Global,
+        port: &mut P,
+        routes: &Routes,
+        hooks: &H,
+        now: u64,
+    ) -> Progress
+        ensures { Turns (around S.remaining S.contents P.step H.PresenceHooks hooks.now)
+            self.old.stage routes.now now self.old self.new port.old port.new result }
+    {
+        match self.stage {
+            Stage::Open => self.turn_open(alloc, port, routes, hooks, now),
+            Stage::Ending(cause) => self.end_session(alloc, port, cause),
+            Stage::Over(_) => Progress::Over,
+        }
+    }
+
+    // A turn of an open connection that reads nothing.
+    fn deliver_open<P: Port, H: PresenceHooks>(
+        &mut self,
+        alloc: Global,
+        port: &mut P,
+        hooks: &H,
+    ) -> Progress
+        ensures { TakesDelivery (around S.remaining S.contents P.step H.PresenceHooks hooks.now)
+            self.old self.new port.old port.new result }
+    {
+        match self.deal(alloc, port, hooks) {
+            Ok(more) => progress_of(more),
+            Err(cause) => {
+                self.close(cause);
+                self.end_session(alloc, port, cause)
+            }
+        }
+    }
+
+    /// A turn in which nothing is read: what waits for the session is delivered, and texts wait in the
+    /// socket until it is flushed. The session's end is asked for as in any other turn.
+    pub fn deliver<P: Port, H: PresenceHooks>(
+        &mut self,
+        alloc: Global,
+        port: &mut P,
+        hooks: &H,
+    ) -> Progress
+        ensures { Delivers (around S.remaining S.contents P.step H.PresenceHooks hooks.now)
+            self.old.stage self.old self.new port.old port.new result }
+    {
+        match self.stage {
+            Stage::Open => self.deliver_open(alloc, port, hooks),
+            Stage::Ending(cause) => self.end_session(alloc, port, cause),
+            Stage::Over(_) => Progress::Over,
+        }
+    }
+
+    // Ends an open connection whose stream failed.
+    fn break_off(&mut self)
+        ensures { self.new ≡ record self.old { stage = broken_off self.old.stage } }
+    {
+        if let Stage::Open = self.stage {
+            self.stage = Stage::Ending(Cause::Stream);
+        }
+    }
+
+    // Does what a flush asks for: whether all went.
+    fn flushed(&mut self, answer: &Result<(), Error>) -> bool
+        ensures told { result ≡ is_ok answer.now }
+        ensures stage { self.new ≡ record self.old { stage = behind_flush self.old.stage answer.now } }
+    {
+        match answer {
+            Ok(()) => true,
+            Err(error) => {
+                if !is_passing(error) {
+                    self.break_off();
+                }
+                false
+            }
+        }
+    }
+
+    /// Hands what waits to be sent to the stream: whether all of it went.
+    ///
+    /// What a stream that would block leaves goes with a later flush. Where the stream fails, an
+    /// open connection ends: its next turn asks for its session's end.
+    pub fn flush(&mut self) -> bool
+        ensures { Flushes S.contents self.old self.new result }
+    {
+        let answer = self.socket.flush();
+        self.flushed(&answer)
+    }
+
+    /// Ends an open connection since the server stops: its client is told by a close frame, which
+    /// waits to be flushed, and its session's end is asked for from its next turn on.
+    pub fn stop(&mut self)
+        ensures { StopsServing S.contents self.old.stage self.old self.new }
+    {
+        if let Stage::Open = self.stage {
+            self.close(Cause::Stopping);
+            self.stage = Stage::Ending(Cause::Stopping);
+        }
+    }
+}

@@ -1,0 +1,4 @@
+pub mod Accepting
+pub mod Hops
+pub mod Lists
+pub mod Looking

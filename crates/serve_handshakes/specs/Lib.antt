@@ -1,0 +1,10 @@
+pub mod Answers
+pub mod Clients
+pub mod Fields
+pub mod Heads
+pub mod Introductions
+pub mod Replies
+pub mod Addresses
+pub mod Greeting
+pub mod Guests
+pub mod Seating

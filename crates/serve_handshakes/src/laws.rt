@@ -1,0 +1,16 @@
+//! Laws of handshakes: functions that do nothing, and whose contracts are the laws.
+ghost use Rattle.std.specs.Prelude.{◌≡◌};
+ghost use Rattle.serve_handshakes.specs.declared.greeting.TheConstants.{MAX_CLOSING_BYTES, MAX_HEAD_BYTES};
+ghost use Rattle.serve_handshakes.specs.declared.guests.TheConstants.{MAX_HANDSHAKES};
+ghost use Rattle.serve_handshakes.specs.declared.party.TheConstants.{MAX_EMPTY_READS};
+ghost use Rattle.serve_handshakes.specs.declared.pace.TheConstants.{BURST_MICROSECONDS};
+
+/// How many handshakes go on at most, how often one may read nothing, how long its head may be, how much is thrown away
+/// behind an answer, and the handshakes of how many microseconds may come at once.
+pub fn limits_are_these()
+    ensures handshakes { MAX_HANDSHAKES ≡ 1024 }
+    ensures empty { MAX_EMPTY_READS ≡ 200 }
+    ensures head { MAX_HEAD_BYTES ≡ 8192 }
+    ensures closing { MAX_CLOSING_BYTES ≡ 1048576 }
+    ensures burst { BURST_MICROSECONDS ≡ 10000000 }
+{}

@@ -1,0 +1,4 @@
+pub mod Counts
+pub mod FollowLemmas
+mod FollowerLemmas
+pub mod Asking

@@ -1,0 +1,4 @@
+mod Sendings
+mod Stopping
+mod BufferSendings
+pub mod Crossing

@@ -1,0 +1,5 @@
+pub mod Passing
+pub mod Sending
+pub mod Kept
+pub mod Budget
+pub mod Stalls

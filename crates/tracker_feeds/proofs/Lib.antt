@@ -1,0 +1,16 @@
+pub mod DiffLemmas
+pub mod AddLemmas
+pub mod CaseLemmas
+pub mod ItemLemmas
+pub mod CursorLemmas
+pub mod FedLemmas
+pub mod Short
+pub mod LawLemmas
+pub mod RingLemmas
+pub mod PutLemmas
+pub mod LoopLemmas
+pub mod FeedsLemmas
+pub mod BegunLemmas
+pub mod Crossing
+pub mod ListingLemmas
+pub mod IdleLemmas

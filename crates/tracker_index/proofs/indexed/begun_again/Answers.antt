@@ -1,0 +1,14 @@
+use Rattle.tracker_index.proofs.StartingLemmas.{sound_start, sound_again}
+use Rattle.tracker_index.proofs.indexed.begun_again.Goals as goal
+
+pub kept_of-requires : goal.kept_of-requires
+kept_of-requires c = sound_start c.args.journal.now c.in_ok-start.start c.in_ok-start.ensures
+
+pub of_start-journal-requires : goal.of_start-journal-requires
+of_start-journal-requires c = sound_start c.args.journal.now c.in_ok-start.start c.in_ok-start.ensures
+
+pub invariant_of-result : goal.invariant_of-result
+invariant_of-result c = sound_again c.args.journal.now c.of_start-journal.result c.in_ok-start.start c.in_ok-parts.parts c.in_ok-start.ensures c.of_start-journal.ensures c.in_ok-parts.ensures.kept
+
+pub returns-clause-begins : goal.returns-clause-begins
+returns-clause-begins c = record { start = c.in_ok-start.start; begins = c.of_start-journal.ensures; stands = c.in_ok-start.ensures }

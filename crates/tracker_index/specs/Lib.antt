@@ -1,0 +1,5 @@
+pub mod Seen
+pub mod Codes
+pub mod Parts
+pub mod Starting
+pub mod Resuming

@@ -1,0 +1,14 @@
+pub mod GatherLemmas
+pub mod MergeLemmas
+pub mod AgainLemmas
+pub mod Results
+pub mod OthersLemmas
+pub mod StandingLemmas
+pub mod SetLemmas
+pub mod FadingLemmas
+pub mod KnownLemmas
+pub mod TurnLemmas
+pub mod ToldAgainLemmas
+pub mod KnownTurns
+pub mod StartLemmas
+pub mod Crossing

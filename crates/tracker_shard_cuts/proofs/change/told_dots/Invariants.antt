@@ -1,6 +1,0 @@
-use Rattle.std.proofs.Common.{◌≡◌, ◌++◌, drop}
-use Rattle.tracker_shard_cuts.specs.Changes.{told_in}
-use Rattle.tracker_shard_cuts.proofs.change.told_dots.Given as goal
-
-abbrev pub invariant-loop-dot : goal.invariant-loop-dot
-invariant-loop-dot l = l.told.items ++ told_in l.unsettled (drop l.dot-index l.dots) ≡ told_in l.unsettled l.dots

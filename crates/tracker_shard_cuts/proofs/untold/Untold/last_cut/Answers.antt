@@ -1,4 +1,0 @@
-use Rattle.tracker_shard_cuts.proofs.untold.Untold.last_cut.Goals as goal
-
-pub returns : goal.returns
-returns c = λ h kept. kept.last

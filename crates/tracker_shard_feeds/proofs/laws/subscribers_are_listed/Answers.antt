@@ -1,5 +1,0 @@
-use Rattle.tracker_shard_feeds.proofs.ListingLemmas.{listed_are_those}
-use Rattle.tracker_shard_feeds.proofs.laws.subscribers_are_listed.Goals as goal
-
-pub returns : goal.returns
-returns c = listed_are_those

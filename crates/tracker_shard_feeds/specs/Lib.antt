@@ -1,6 +1,0 @@
-pub mod Fed
-pub mod Codes
-pub mod Laws
-pub mod Rings
-pub mod Listed
-pub mod Quiet

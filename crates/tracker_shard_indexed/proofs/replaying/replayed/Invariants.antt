@@ -1,5 +1,0 @@
-use Rattle.tracker_shard_indexed.proofs.ReplayLemmas.{KeptTo}
-use Rattle.tracker_shard_indexed.proofs.replaying.replayed.Given as goal
-
-abbrev pub invariant-loop-entry : goal.invariant-loop-entry
-invariant-loop-entry l = KeptTo l.start l.fn.entries l.entry-index l.parts

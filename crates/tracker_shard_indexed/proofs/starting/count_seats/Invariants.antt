@@ -1,6 +1,0 @@
-use Rattle.std.proofs.Common.{◌≡◌, ◌+◌, ◌≤◌, drop}
-use Rattle.tracker_shard_indexed.specs.Starting.{seats_in}
-use Rattle.tracker_shard_indexed.proofs.starting.count_seats.Given as goal
-
-abbrev pub invariant-loop-entry : goal.invariant-loop-entry
-invariant-loop-entry l = (l.count + seats_in (drop l.entry-index l.entries) ≡ seats_in l.entries) × (l.count ≤ l.entry-index)

@@ -1,6 +1,0 @@
-use Rattle.std.proofs.Common.{◌≡◌, take}
-use Rattle.tracker_shard_feeds.specs.Rings.{values}
-use Rattle.tracker_shard_indexed.proofs.taking.copy_items.Given as goal
-
-abbrev pub invariant-loop-item : goal.invariant-loop-item
-invariant-loop-item l = l.copies.items ≡ values (take l.item-index l.items)

@@ -1,4 +1,0 @@
-pub mod DiffLemmas
-pub mod AddLemmas
-pub mod CaseLemmas
-pub mod ItemLemmas

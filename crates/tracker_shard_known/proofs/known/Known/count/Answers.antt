@@ -1,4 +1,0 @@
-use Rattle.tracker_shard_known.proofs.known.Known.count.Goals as goal
-
-pub returns : goal.returns
-returns c = λ h known. known.count

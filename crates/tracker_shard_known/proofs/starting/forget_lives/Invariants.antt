@@ -1,8 +1,0 @@
-use Rattle.std.proofs.Common.{drop}
-use Rattle.presence_journal_kept.specs.Standings.{gone_lives}
-use Rattle.presence_journal_sets.specs.LeftOut.{is_listed}
-use Rattle.tracker_shard_known.proofs.FadingLemmas.{StillLoses}
-use Rattle.tracker_shard_known.proofs.starting.forget_lives.Given as goal
-
-abbrev pub invariant-loop-life : goal.invariant-loop-life
-invariant-loop-life l = StillLoses l.fn.set (is_listed (gone_lives l.name l.lives)) (is_listed (gone_lives l.name (drop l.life-index l.lives))) l.set

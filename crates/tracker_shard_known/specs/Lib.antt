@@ -1,4 +1,0 @@
-pub mod Known
-pub mod Starts
-pub mod Steps
-pub mod Turns

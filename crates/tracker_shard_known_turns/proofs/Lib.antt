@@ -1,3 +1,0 @@
-pub mod GatherLemmas
-pub mod MergeLemmas
-pub mod AgainLemmas

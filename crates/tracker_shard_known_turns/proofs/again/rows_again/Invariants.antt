@@ -1,7 +1,0 @@
-use Rattle.std.proofs.Common.{◌≡◌, ◌++◌, drop}
-use Rattle.std.specs.FinMap as map
-use Rattle.tracker_shard_known_turns.specs.Again.{rows_again}
-use Rattle.tracker_shard_known_turns.proofs.again.rows_again.Given as goal
-
-abbrev pub invariant-loop-pair : goal.invariant-loop-pair
-invariant-loop-pair l = l.rows.items ++ rows_again (map.get l.set.live) (drop l.pair-index l.pairs) ≡ rows_again (map.get l.set.live) l.pairs

@@ -1,5 +1,0 @@
-use Rattle.std.proofs.Common.{◌≡◌, ◌++◌}
-use Rattle.tracker_shard_known_turns.proofs.gather.copies.Given as goal
-
-abbrev pub invariant-loop-dot : goal.invariant-loop-dot
-invariant-loop-dot l = l.list.items ++ l.dot-iterator ≡ l.rows.entries

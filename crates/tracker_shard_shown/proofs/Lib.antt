@@ -1,7 +1,0 @@
-pub mod StandLemmas
-pub mod ListLemmas
-pub mod TurnLemmas
-pub mod PlaceLemmas
-pub mod OpeningLemmas
-pub mod StateLemmas
-pub mod Crossing

@@ -1,5 +1,0 @@
-use Rattle.tracker_shard_shown.proofs.StateLemmas.{ForgotTo}
-use Rattle.tracker_shard_shown.proofs.states.States.forget_all.Given as goal
-
-abbrev pub invariant-loop-row : goal.invariant-loop-row
-invariant-loop-row l = ForgotTo l.rows l.row-index l.fn.self.kept l.self.kept
