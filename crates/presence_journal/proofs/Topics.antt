@@ -8,7 +8,7 @@ use Rattle.presence_base.specs.Names.{is_short_text}
 use Rattle.presence_journal.specs.declared.step.Step.TheVariants as steps_are
 use Rattle.presence_journal.specs.Steps.{Step, Entry, Start}
 use Rattle.presence_journal.specs.History.{History, Begin, Then, onto, last_number}
-use Rattle.presence_journal.specs.Queue.{Waiting, Behind, topic_after, topic_at, topic_of, items_made, made_for, queue_after, queue}
+use Rattle.presence_journal.specs.Queue.{Waiting, Behind, is_current, first_waiting, topic_after, topic_at, topic_of, items_made, made_for, queue_after, queue}
 use Rattle.presence_journal.specs.Table.{is_subscriber, IsLegal}
 use Rattle.presence_journal.proofs.HistoryLemmas.{legal_before}
 
@@ -72,7 +72,7 @@ made_is h es e n t l f = go (topic_of h n) refl
     go None p = refl
     go (Some u) p = ap (items_made h e) (one_topic h es n t u l f p)
 
-pub queue-begin : (s : Start) (n : ℕ) → queue (Begin s) n ≡ Behind
+pub queue-begin : (s : Start) (n : ℕ) → queue (Begin s) n ≡ first_waiting (is_current s.current n)
 unfolding queue
 queue-begin s n = refl
 

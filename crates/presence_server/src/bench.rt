@@ -490,8 +490,9 @@ impl<L: Lanes> Bench<L> {
     }
 
     // The checkpoints that are due, if this worker is the one that makes them: once no worker reads, what waited was
-    // delivered, and nothing waits. Behind them all workers read again once each has delivered the fresh states, since a
-    // subscriber that is owed one is told of nothing that comes before it. Neither is waited for without end.
+    // delivered, and nothing waits: then nobody is owed anything by them, and all workers read again. Where that was waited for
+    // too long, they read again once each has delivered the fresh states, since a subscriber that is owed one is told of
+    // nothing that comes before it. Neither is waited for without end.
     fn make_checkpoints<R: Wait, H>(&mut self, rt: &R, server: &Server<'_, H, L>) {
         let is_over = self.drain.is_over(self.now);
         if !self.drain.leads() || !have_all_delivered(server) && !is_over {
@@ -509,9 +510,15 @@ impl<L: Lanes> Bench<L> {
         if due == Due::Waits {
             return;
         }
+        server.pool.trim(rt, &mut self.seat);
+        if due == Due::Made {
+            self.drain.end(self.now, due);
+            set_draining(server, false);
+            server.look();
+            return;
+        }
         self.drain.make(due);
         count_anew(server);
-        server.pool.trim(rt, &mut self.seat);
     }
 
     // Delivers and sends what waits, and reads nothing.

@@ -15,7 +15,7 @@ use std::sync::atomic::Ordering;
 const LOOK_MILLISECONDS: u64 = 5;
 
 /// So long nothing is read at most before a checkpoint is made though something waits, in milliseconds, and so long at most
-/// behind it, until the fresh states were delivered.
+/// behind one that was made so, until the fresh states were delivered.
 const MAX_DRAIN_MILLISECONDS: u64 = 100;
 
 /// When a worker has ended so many turns that read nothing, one of them was begun since they are counted.
@@ -53,8 +53,10 @@ pub(crate) struct Drain {
 /// What came of a try at the checkpoints that are due.
 #[derive(Clone, Copy, PartialEq, Eq)]
 pub(crate) enum Due {
-    /// None is due any more.
+    /// None is due any more, and nobody is owed anything by that.
     Made,
+    /// None is due any more, and fresh states are owed, since something waited.
+    Owed,
     /// Something waits.
     Waits,
     /// Memory was refused.
@@ -265,7 +267,7 @@ pub(crate) fn make_due<R: Wait, H, L: Lanes>(
     is_tight: bool,
     is_over: bool,
 ) -> Due {
-    let mut due = Due::Made;
+    let mut due = if is_over { Due::Owed } else { Due::Made };
     for shard in 0..server.links.shards() {
         match make_at(rt, server, is_tight, is_over, shard) {
             Ok(true) => {}

@@ -8,7 +8,7 @@ ghost use Rattle.presence_journal.specs.Table.{IsLegal, outcome_of};
 ghost use Rattle.tracker_feeds.specs.Quiet.{TellsQuiet};
 ghost use Rattle.tracker_shard.specs.Calls.{Looks, is_callers};
 ghost use Rattle.tracker_shard.specs.Steps.{Stepped, Answers, IsDue, RefusesForRoom, refusal, checkpoint_refusal};
-ghost use Rattle.tracker_index.specs.Starting.{seats, IsBegunAgain};
+ghost use Rattle.tracker_index.specs.Starting.{seats, IsBegunAgain, AllAreBehind, CurrentStay};
 ghost use Rattle.shard_pool.specs.Lent.{is_step, counted, lacks_room};
 ghost use Rattle.shard_pool.specs.Lines.{IsOfLane};
 
@@ -169,6 +169,7 @@ impl<L: Lane> Locked<L> {
     #[tactic(auto, using(crate::proofs::Counts::counts))]
     pub fn checkpoint(&mut self, alloc: Global) -> Result<(), ShardFault>
         ensures ok { OnOk result (IsBegunAgain self.old.shard self.new.shard) }
+        ensures behind { OnOk result (AllAreBehind self.new.shard) }
         ensures err { OnErr result (self.new.shard ≡ self.old.shard) }
         ensures due { IsDue result (checkpoint_refusal self.old.shard) }
         ensures room { RefusesForRoom result }
@@ -176,6 +177,22 @@ impl<L: Lane> Locked<L> {
     {
         let made = self.shard.checkpoint(alloc);
         // The journal's room went with it. Where memory is refused the new one takes more as it grows.
+        let _reserved = self.shard.reserve();
+        made
+    }
+
+    /// The same, with the subscribers for which nothing waits left as they are, as its namesake does. It
+    /// is no step.
+    #[tactic(auto, using(crate::proofs::Counts::counts))]
+    pub fn checkpoint_keeping_current(&mut self, alloc: Global) -> Result<(), ShardFault>
+        ensures ok { OnOk result (IsBegunAgain self.old.shard self.new.shard) }
+        ensures current { OnOk result (CurrentStay self.old.shard self.new.shard) }
+        ensures err { OnErr result (self.new.shard ≡ self.old.shard) }
+        ensures due { IsDue result (checkpoint_refusal self.old.shard) }
+        ensures room { RefusesForRoom result }
+        ensures total { self.new.calls.total ≡ self.old.calls.total }
+    {
+        let made = self.shard.checkpoint_keeping_current(alloc);
         let _reserved = self.shard.reserve();
         made
     }
