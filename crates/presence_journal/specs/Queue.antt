@@ -129,6 +129,23 @@ is_idle (Queued (i ∷ is)) = false
 abbrev pub IsQuiet : History → Type 0
 IsQuiet h = (n : ℕ) (t : List ℕ) → topic_of h n ≡ Some t → is_idle (queue h n) ≡ true
 
+-- How one history leaves the subscribers of another: what waits for each is as it was, and nobody is owed what it wasn't
+-- owed before;
+abbrev pub QueuesStay : History → History → Type 0
+QueuesStay h g = (n : ℕ) (t : List ℕ) → topic_of h n ≡ Some t → queue g n ≡ queue h n
+
+-- one for which nothing waits stays so, and each other is behind;
+abbrev pub left_waiting : Waiting → Waiting
+left_waiting (Queued []) = Queued []
+left_waiting _ = Behind
+
+abbrev pub CurrentStay : History → History → Type 0
+CurrentStay h g = (n : ℕ) (t : List ℕ) → topic_of h n ≡ Some t → queue g n ≡ left_waiting (queue h n)
+
+-- or each is behind, and owed the state of its topic.
+abbrev pub AllAreBehind : History → Type 0
+AllAreBehind g = (n : ℕ) (t : List ℕ) → topic_of g n ≡ Some t → queue g n ≡ Behind
+
 abbrev pub taken_after : Step → ℕ → List (Dot × Row) → Waiting → List Item → List Item
 taken_after (steps_are.Take m max) n rows w before = cond (nat_eq m n) (took rows max w before) before
 taken_after _ n rows w before = before

@@ -16,10 +16,10 @@ use Rattle.presence_journal_laws.proofs.AlikeRows.{present_same, listed_same}
 use Rattle.presence_journal_laws.proofs.Outcomes.{same_outcomes}
 use Rattle.presence_journal_laws.proofs.Steps.{after_is, legal_next}
 use Rattle.presence_journal_laws.proofs.Next.{alike_next}
-use Rattle.presence_journal_laws.proofs.Told.{keeps_topics, queues_stay}
+use Rattle.presence_journal_laws.proofs.Told.{keeps_topics, quiet_stays}
 
 pub begins_waiting_alike : BeginsWaitingAlike
-begins_waiting_alike h s c quiet counts = record { topics = keeps_topics h s c; queues = queues_stay h s c quiet counts }
+begins_waiting_alike h s c quiet counts = record { topics = keeps_topics h s c; queues = quiet_stays h s c quiet counts }
 
 module _ (g h : History) (a : IsLike g h) (w : WaitAlike g h) where
   rows_for : (o : Option (List ℕ)) → listed_for g o ≡ listed_for h o

@@ -13,7 +13,7 @@ use Rattle.presence_journal.specs.declared.step.Step.TheVariants as steps_are
 use Rattle.presence_journal.specs.Steps.{Step, Outcome, Entry, Start}
 use Rattle.presence_journal.specs.History.{History, Begin, onto, own, count, time, standing, status, hears, last_cut, is_full, covered, IsTop, shown}
 use Rattle.presence_journal.specs.Present.{present, listed}
-use Rattle.presence_journal.specs.Queue.{topic_of, queue, items_given, IsQuiet}
+use Rattle.presence_journal.specs.Queue.{topic_of, items_given, IsQuiet, QueuesStay}
 use Rattle.presence_journal.specs.Table.{IsLegal, is_step, outcome_of, after}
 use Rattle.presence_journal_known.specs.Full.{IsFullOf}
 use Rattle.presence_journal_cuts.specs.Chains.{Counts}
@@ -89,7 +89,7 @@ StepsLeaveAlike = (g h : History) → IsLike g h → IsLegal g → IsLegal h →
 -- the same are present on the same topics, and the same waits for each
 pub record WaitAlike (g h : History) : Type 0 where
   pub topics : (n : ℕ) → topic_of g n ≡ topic_of h n
-  pub queues : (n : ℕ) (t : List ℕ) → topic_of h n ≡ Some t → queue g n ≡ queue h n
+  pub queues : QueuesStay h g
 
 -- where no item waits, a checkpoint that counts as current each for whom nothing waits leaves it so
 abbrev pub BeginsWaitingAlike : Type 0

@@ -11,7 +11,7 @@ use Rattle.delta_range.specs.Keeping.{Kept}
 use Rattle.presence_journal.specs.Steps.{Start, Entry}
 use Rattle.presence_journal.specs.History.{History, Begin, Then, own, count, last_number, time, last_cut, is_full, next_dot, status, is_gone, hears, known, covered, IsTop, removed, live, shown}
 use Rattle.presence_journal.specs.Present.{present, listed}
-use Rattle.presence_journal.specs.Queue.{Behind, Queued, topic_of, is_current, queue, taken, fold, IsQuiet}
+use Rattle.presence_journal.specs.Queue.{Behind, Queued, topic_of, is_current, queue, taken, fold, IsQuiet, QueuesStay, CurrentStay, AllAreBehind}
 use Rattle.presence_journal.specs.Table.{IsStart, IsLegal, IsKept}
 use Rattle.presence_journal_known.specs.Full.{IsFullOf}
 use Rattle.presence_journal_known.specs.LeftOut.{HoldsCovered}
@@ -144,13 +144,12 @@ abbrev pub SubscribersAreBehind : Type 0
 SubscribersAreBehind = (h : History) (s : Start) → IsCheckpoint h s → (n : ℕ) (t : List ℕ) → topic_of h n ≡ Some t
     → is_current s.current n ≡ false → queue (Begin s) n ≡ Behind
 
-abbrev pub AllAreBehind : Type 0
-AllAreBehind = (h : History) (s : Start) → IsCheckpoint h s → s.current ≡ [] → (n : ℕ) (t : List ℕ) → topic_of h n ≡ Some t
-    → queue (Begin s) n ≡ Behind
+abbrev pub NoneIsCurrent : Type 0
+NoneIsCurrent = (h : History) (s : Start) → IsCheckpoint h s → s.current ≡ [] → AllAreBehind (Begin s)
 
 -- for one that it counts as current nothing waits, as before
-abbrev pub CurrentStay : Type 0
-CurrentStay = (h : History) (s : Start) → IsCheckpoint h s → (n : ℕ) → is_current s.current n ≡ true
+abbrev pub CurrentAreServed : Type 0
+CurrentAreServed = (h : History) (s : Start) → IsCheckpoint h s → (n : ℕ) → is_current s.current n ≡ true
     → (queue h n ≡ Queued []) × (queue (Begin s) n ≡ Queued [])
 
 -- and what it took before the Start folds to the rows to which what it is counted to have taken there does
@@ -158,7 +157,10 @@ abbrev pub FoldsStay : Type 0
 FoldsStay = (h : History) (s : Start) → IsCheckpoint h s → (n : ℕ) (t : List ℕ) → topic_of h n ≡ Some t
     → is_current s.current n ≡ true → fold (taken (Begin s) n) ≡ fold (taken h n)
 
--- where no item waits, such a Start leaves what waits for each subscriber as it was: nobody is owed what it wasn't owed before
-abbrev pub QueuesStay : Type 0
-QueuesStay = (h : History) (s : Start) → IsCheckpoint h s → IsQuiet h → CountsCurrent h s → (n : ℕ) (t : List ℕ)
-    → topic_of h n ≡ Some t → queue (Begin s) n ≡ queue h n
+-- where the Start counts as current each for whom nothing waits, each of these stays so, and the others are behind
+abbrev pub OthersFallBehind : Type 0
+OthersFallBehind = (h : History) (s : Start) → IsCheckpoint h s → CountsCurrent h s → CurrentStay h (Begin s)
+
+-- so where no item waits, nobody is owed what it wasn't owed before
+abbrev pub QuietStays : Type 0
+QuietStays = (h : History) (s : Start) → IsCheckpoint h s → IsQuiet h → CountsCurrent h s → QueuesStay h (Begin s)

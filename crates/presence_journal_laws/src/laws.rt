@@ -1,7 +1,7 @@
 //! Laws of the presence table, of checkpoints and of what other nodes make of cuts: functions that do nothing, and whose
 //! contracts are the laws.
 
-ghost use Rattle.presence_journal_laws.specs.Laws.{IsSound, BeginsLegal, BeginsKept, BeginsWithRoom, KeepsCounts, KeepsStatus, KeepsHearing, KeepsCoveredDots, KeepsTop, KeepsKnown, KeepsShown, KeepsLive, KeepsRemoved, LiveIsKept, KeepsPresent, KeepsListed, KeepsSet, KeepsFull, FullStands, KeepsCut, KeepsOlder, KeepsRecent, KeepsShownChains, KeepsUnusedChains, OneKept, OthersKeep, KeepsKeptDeltas, KeepsToldFrom, KeepsTopics, SubscribersAreBehind, AllAreBehind, CurrentStay, FoldsStay, QueuesStay};
+ghost use Rattle.presence_journal_laws.specs.Laws.{IsSound, BeginsLegal, BeginsKept, BeginsWithRoom, KeepsCounts, KeepsStatus, KeepsHearing, KeepsCoveredDots, KeepsTop, KeepsKnown, KeepsShown, KeepsLive, KeepsRemoved, LiveIsKept, KeepsPresent, KeepsListed, KeepsSet, KeepsFull, FullStands, KeepsCut, KeepsOlder, KeepsRecent, KeepsShownChains, KeepsUnusedChains, OneKept, OthersKeep, KeepsKeptDeltas, KeepsToldFrom, KeepsTopics, SubscribersAreBehind, NoneIsCurrent, CurrentAreServed, FoldsStay, OthersFallBehind, QuietStays};
 ghost use Rattle.presence_journal_laws.specs.Later.{BeginsAlike, AlikeTellTheSame, SameOutcomes, StepsLeaveAlike, StaysAlike, GoOnTellingTheSame, BeginsWaitingAlike, TakesAlike, StepsWaitAlike};
 ghost use Rattle.presence_journal_laws.specs.Worked.{StartStands};
 ghost use Rattle.presence_journal.specs.Laws.{FoldsToPresent, PresentIsShown, ChangesLead, DiffsLead, NewIsUnknown, NewIsCounted, RowsAreKnown, RefsAreDistinct, OnlyNamedLeave, OthersStay, OthersHearNothing, RefusedStays, HoldsMost, QueuesItems, FallsBehind, StaysBehind, StaysLegal, StaysKept, RebirthLosesNoRow, AsWorked};
@@ -164,16 +164,17 @@ pub fn kept_deltas_stay()
 pub fn subscribers_stay()
     ensures topics { KeepsTopics }
     ensures behind { SubscribersAreBehind }
-    ensures all { AllAreBehind }
+    ensures all { NoneIsCurrent }
 {}
 
 /// For a subscriber that the Start counts as current nothing waited, and nothing waits; what it took before folds to the rows
-/// of its topic behind the Start. Where no item waits, and each that isn't behind is counted so, what waits for each
-/// subscriber stays as it was.
+/// of its topic behind the Start. Where each for whom nothing waits is counted so, the others are behind; and where no item
+/// waited for anybody, what waits for each subscriber stays as it was.
 pub fn current_subscribers_stay()
-    ensures current { CurrentStay }
+    ensures current { CurrentAreServed }
     ensures folds { FoldsStay }
-    ensures queues { QueuesStay }
+    ensures others { OthersFallBehind }
+    ensures queues { QuietStays }
 {}
 
 /// A checkpoint and the history that it stands for are alike, and histories that are alike say the same.

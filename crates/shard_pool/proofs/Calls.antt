@@ -5,12 +5,13 @@ use Rattle.presence_base.specs.declared.dots.Dot.{Dot}
 use Rattle.presence_journal.specs.declared.step.Step.{Step}
 use Rattle.presence_journal.specs.declared.step.Step.TheVariants as steps_are
 use Rattle.presence_journal.specs.History.{History, own, entry_count, is_full}
-use Rattle.presence_journal.specs.Queue.{Waiting, Behind, Queued, queue, is_idle}
+use Rattle.presence_journal.specs.Queue.{CurrentStay, AllAreBehind}
 use Rattle.presence_journal.specs.Table.{IsLegal, outcome_of}
+use Rattle.presence_journal.proofs.Topics.{queues_stay}
 use Rattle.tracker_feeds.specs.Quiet.{TellsQuiet}
 use Rattle.tracker_shard.specs.declared.fault.ShardFault.{ShardFault}
 use Rattle.tracker_shard.specs.declared.fault.ShardFault.TheVariants.{AlreadyTracked, NoPresence, ClockFull, JournalFull, NoSub, BadIncarnation, OutOfMemory}
-use Rattle.tracker_index.specs.Starting.{IsBegunAgain, AllAreBehind, CurrentStay, left_waiting}
+use Rattle.tracker_index.specs.Starting.{IsBegunAgain}
 use Rattle.tracker_shard.specs.Steps.{Stepped, Answers, IsDue, RefusesForRoom, refusal, checkpoint_refusal, AnswersPairs, KeepsRows}
 use Rattle.shard_pool.specs.declared.reply.Reply.{Reply}
 use Rattle.shard_pool.specs.Hands.{Hand}
@@ -77,14 +78,8 @@ not_quiet h due busy = record { left = h; leaves = refl; queues = λ n t e. refl
 pub no_look : (h : History) (due : DueFrom) → HasMany due h → IsMadeWhereQuiet due h (Err OutOfMemory)
 no_look h due many = record { left = h; leaves = refl; queues = tt; told = tt; asked = many; full = λ e. absurd (cc); room = tt }
 
--- where no item waits, what is left is what was
-left_same : (w : Waiting) → is_idle w ≡ true → left_waiting w ≡ w
-left_same Behind idle = refl
-left_same (Queued []) idle = refl
-left_same (Queued (i ∷ is)) idle = absurd (cc)
-
 pub made_quiet : (h left : History) (due : DueFrom) → HasMany due h → TellsQuiet h true → IsBegunAgain h left → CurrentStay h left → IsMadeWhereQuiet due h (Ok true)
-made_quiet h left due many quiet again stay = record { left = left; leaves = again; queues = λ n t e. stay n t e ∙ left_same (queue h n) (quiet n t e); told = (many, quiet); asked = tt; full = λ e. absurd (cc); room = tt }
+made_quiet h left due many quiet again stay = record { left = left; leaves = again; queues = queues_stay h left quiet stay; told = (many, quiet); asked = tt; full = λ e. absurd (cc); room = tt }
 
 full_due : (r : Result Unit ShardFault) (stands : Option ShardFault) → IsDue r stands → r ≡ Err JournalFull → stands ≡ Some JournalFull
 full_due (Ok x) stands d e = absurd (cc)

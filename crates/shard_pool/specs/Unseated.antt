@@ -5,7 +5,7 @@ use Rattle.delta_range.specs.Deltas.{DeltaValue}
 use Rattle.presence_journal.specs.declared.step.Step.{Step}
 use Rattle.presence_journal.specs.declared.step.Step.TheVariants as steps_are
 use Rattle.presence_journal.specs.History.{History, own}
-use Rattle.presence_journal.specs.Queue.{topic_of, queue}
+use Rattle.presence_journal.specs.Queue.{QueuesStay, AllAreBehind}
 use Rattle.presence_journal.specs.Table.{IsLegal, outcome_of}
 use Rattle.presence_journal_cuts.specs.Cuts.{IsCut}
 use Rattle.tracker_feeds.specs.Quiet.{IsQuiet, IsBusy}
@@ -13,7 +13,7 @@ use Rattle.shard_pool.specs.declared.due.DueFrom.{DueFrom}
 use Rattle.shard_pool.specs.Due.{HasMany, TellsMany}
 use Rattle.tracker_shard.specs.declared.fault.ShardFault.{ShardFault}
 use Rattle.tracker_shard.specs.declared.fault.ShardFault.TheVariants.{JournalFull}
-use Rattle.tracker_index.specs.Starting.{IsBegunAgain, AllAreBehind}
+use Rattle.tracker_index.specs.Starting.{IsBegunAgain}
 use Rattle.tracker_shard.specs.Steps.{Stepped, Answers, IsDue, RefusesForRoom, refusal, checkpoint_refusal, AnswersPairs, KeepsRows}
 
 -- a legal journal of the node
@@ -88,10 +88,6 @@ Leaves h left (Err e) = left ≡ h
 abbrev pub TellsDue : DueFrom → History → Bool → Type 0
 TellsDue due h true = HasMany due h × IsQuiet h
 TellsDue due h false = TellsMany due h false ⊎ IsBusy h
-
--- what waits for each subscriber is as it was: nobody is owed what it wasn't owed before
-abbrev pub QueuesStay : History → History → Type 0
-QueuesStay h left = (n : ℕ) (t : List ℕ) → topic_of h n ≡ Some t → queue left n ≡ queue h n
 
 -- A checkpoint is made where the journal is due and no item waits for anybody, and only there, and nobody feels it. Memory
 -- may be wanting for that look too.

@@ -3,12 +3,13 @@ ghost use Rattle.std.specs.Prelude.{◌≡◌, ◌+◌, ◌-◌, ◌≤◌, ◌^
 ghost use Rattle.presence_base.specs.Refs.{IsCount};
 ghost use Rattle.presence_journal.specs.History.{begun, own, entry_count, is_full, last_number};
 ghost use Rattle.presence_journal.specs.KeptBytes.{kept_bytes};
+ghost use Rattle.presence_journal.specs.Queue.{CurrentStay, AllAreBehind};
 ghost use Rattle.presence_journal.specs.StepLimits.{is_within_limits};
 ghost use Rattle.presence_journal.specs.Table.{IsLegal, outcome_of};
 ghost use Rattle.tracker_feeds.specs.Quiet.{TellsQuiet};
 ghost use Rattle.tracker_shard.specs.Calls.{Looks, is_callers};
 ghost use Rattle.tracker_shard.specs.Steps.{Stepped, Answers, IsDue, RefusesForRoom, refusal, checkpoint_refusal};
-ghost use Rattle.tracker_index.specs.Starting.{seats, IsBegunAgain, AllAreBehind, CurrentStay};
+ghost use Rattle.tracker_index.specs.Starting.{seats, IsBegunAgain};
 ghost use Rattle.shard_pool.specs.Lent.{is_step, counted, lacks_room};
 ghost use Rattle.shard_pool.specs.Lines.{IsOfLane};
 
@@ -213,6 +214,7 @@ impl<L: Lane> Locked<L> {
     pub fn makes_room<A: Drop>(&mut self, alloc: Global, answer: &Result<A, ShardFault>) -> bool
         ensures lack { result ≡ true → lacks_room answer.now ≡ true }
         ensures begun { result ≡ true → IsBegunAgain self.old.shard self.new.shard }
+        ensures behind { result ≡ true → AllAreBehind self.new.shard }
         ensures same { result ≡ false → self.new.shard ≡ self.old.shard }
         ensures total { self.new.calls.total ≡ self.old.calls.total }
     {
@@ -229,6 +231,7 @@ impl<L: Lane> Locked<L> {
     // Begins a journal of some length again, if none was that gave no memory since a call found some.
     fn gives_memory(&mut self, alloc: Global) -> bool
         ensures begun { result ≡ true → IsBegunAgain self.old.shard self.new.shard }
+        ensures behind { result ≡ true → AllAreBehind self.new.shard }
         ensures same { result ≡ false → self.new.shard ≡ self.old.shard }
         ensures total { self.new.calls.total ≡ self.old.calls.total }
     {

@@ -6,12 +6,12 @@ use Rattle.orswot_core.specs.Checks.{has_repeat}
 use Rattle.presence_journal.specs.StepLimits.{is_heard}
 use Rattle.presence_journal.specs.Steps.{Entry, Start}
 use Rattle.presence_journal.specs.History.{History, Begin, Then, onto, own, count, last_number, time, last_cut}
-use Rattle.presence_journal.specs.Queue.{Waiting, Behind, Queued, topic_of, is_current, first_waiting, queue}
+use Rattle.presence_journal.specs.Queue.{Queued, is_current, queue}
 use Rattle.presence_journal.specs.Table.{IsStart, IsLegal}
-use Rattle.presence_journal.proofs.Topics.{queue-begin}
 use Rattle.presence_journal_known.specs.Full.{IsFullOf}
 use Rattle.presence_journal_cuts.specs.KeptDeltas.{AreKeptOf}
 use Rattle.presence_journal_cuts.proofs.Sound.{is_sound, begins_kept, full_stands}
+use Rattle.presence_journal_cuts.proofs.Waiting.{none_current, current_stay}
 use Rattle.tracker_known.specs.Starts.{ListsStandings}
 use Rattle.presence_journal_cuts.specs.Listed.{AreOlder, AreListed as AreListedChains}
 use Rattle.tracker_feeds.specs.Fed.{Fed, IsFedBy}
@@ -21,7 +21,7 @@ use Rattle.tracker_feeds.proofs.LawLemmas as laws
 use Rattle.tracker_feeds.proofs.ListingLemmas.{listed_are_those, current_are_those}
 use Rattle.tracker_index.specs.declared.parts.Parts.{Parts}
 use Rattle.tracker_index.specs.Parts.{IsAt, IsSound}
-use Rattle.tracker_index.specs.Starting.{one_if, seats, seats_in, IsStartOf, CountsCurrent, left_waiting, LeavesQueues}
+use Rattle.tracker_index.specs.Starting.{one_if, seats, seats_in, IsStartOf, CountsWhere, LeavesQueues}
 
 -- Seats.
 
@@ -93,22 +93,13 @@ pub only_current : (h : History) (f : Fed) (s : Start) (stay : Bool) → IsFedBy
 only_current h f s true fed are none n there = (current_are_those h f s.current fed (are refl)).only n there
 only_current h f s false fed are none n there = let bad : is_current s.current n ≡ false = ap (λ (ns : List ℕ). is_current ns n) (none refl) in absurd (cc)
 
-pub counts_current : (h : History) (f : Fed) (s : Start) (stay : Bool) → IsFedBy h f → (stay ≡ true → AreCurrent f s.current) → (stay ≡ false → s.current ≡ []) → CountsCurrent stay h s
-counts_current h f s true fed are none = (current_are_those h f s.current fed (are refl)).all
-counts_current h f s false fed are none = none refl
+pub counts_where : (h : History) (f : Fed) (s : Start) (stay : Bool) → IsFedBy h f → (stay ≡ true → AreCurrent f s.current) → (stay ≡ false → s.current ≡ []) → CountsWhere stay h s
+counts_where h f s true fed are none = (current_are_those h f s.current fed (are refl)).all
+counts_where h f s false fed are none = none refl
 
-pub leaves_queues : (h : History) (s : Start) (stay : Bool) → IsStartOf h s → CountsCurrent stay h s → LeavesQueues stay h (Begin s)
-leaves_queues h s false of none = λ n t e. queue-begin s n ∙ ap (λ (ns : List ℕ). first_waiting (is_current ns n)) none
-leaves_queues h s true of counts = λ n t e. go n t e (queue h n) refl
-  where
-    behind : (n : ℕ) → (queue h n ≡ Queued [] → ⊥) → (b : Bool) → is_current s.current n ≡ b → queue (Begin s) n ≡ Behind
-    behind n other false f = queue-begin s n ∙ ap first_waiting f
-    behind n other true f = absurd (other (of.stands.stands.current n f))
-
-    go : (n : ℕ) (t : List ℕ) → topic_of h n ≡ Some t → (w : Waiting) → queue h n ≡ w → queue (Begin s) n ≡ left_waiting w
-    go n t e Behind is = behind n (λ q. let bad : Behind ≡ Queued [] = sym is ∙ q in cc) (is_current s.current n) refl
-    go n t e (Queued []) is = queue-begin s n ∙ ap first_waiting (counts n t e is)
-    go n t e (Queued (i ∷ is)) q = behind n (λ p. let bad : Queued (i ∷ is) ≡ Queued [] = sym q ∙ p in cc) (is_current s.current n) refl
+pub leaves_queues : (h : History) (s : Start) (stay : Bool) → IsStartOf h s → CountsWhere stay h s → LeavesQueues stay h (Begin s)
+leaves_queues h s true of counts = current_stay h s of.stands counts
+leaves_queues h s false of none = none_current s none
 
 -- What is kept of it.
 

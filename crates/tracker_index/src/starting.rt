@@ -4,11 +4,12 @@ ghost use Rattle.presence_journal.specs.History.{Begin, last_number};
 ghost use Rattle.presence_journal.specs.Table.{IsStart, IsLegal};
 ghost use Rattle.tracker_index.specs.Parts.{IsKeptOf, IsAt};
 ghost use Rattle.tracker_feeds.specs.Listed.{AreListed, AreCurrent};
-ghost use Rattle.tracker_index.specs.Starting.{seats, seats_in, CountsCurrent, IsStartOf};
+ghost use Rattle.tracker_index.specs.Starting.{seats, seats_in, CountsWhere, IsStartOf};
 ghost use Rattle.tracker_index.specs.declared.parts.Stage.TheVariants.{Done};
 
 use crate::parts::{Parts, Stage};
 use presence_journal::{Entry, Journal, Start};
+use presence_journal_lists::{Numbers, Subscribers};
 use presence_journal_cuts::Untold;
 use std::alloc::{AllocError, Global};
 use tracker_feeds::Feeds;
@@ -67,7 +68,7 @@ pub(crate) fn start_of(
     requires legal { IsLegal journal.now }
     requires room { last_number journal.now < 2 ^ 62 }
     ensures stands { IfOk result (IsStartOf journal.now) }
-    ensures current { IfOk result (CountsCurrent stay journal.now) }
+    ensures current { IfOk result (CountsWhere stay journal.now) }
 {
     let content = parts.known.content(alloc)?;
     let standings = parts.known.standings()?;

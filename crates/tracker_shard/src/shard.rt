@@ -71,7 +71,7 @@ impl Shard {
     ghost use Rattle.presence_journal.specs.History.{begun, is_full, own, status, IsTop};
     ghost use Rattle.presence_journal.specs.Limits.{is_payload, is_take_limit};
     ghost use Rattle.presence_journal.specs.StepLimits.{is_within_limits};
-    ghost use Rattle.presence_journal.specs.Queue.{queue, is_waiting};
+    ghost use Rattle.presence_journal.specs.Queue.{queue, is_waiting, CurrentStay, AllAreBehind};
     ghost use Rattle.presence_journal.specs.Table.{IsLegal, AreWithinLimits, outcome_of};
     ghost use Rattle.presence_journal_cuts.specs.Cuts.{IsCut};
     ghost use Rattle.orswot_core.specs.Checks.{WhereItFits};
@@ -81,7 +81,7 @@ impl Shard {
     ghost use Rattle.tracker_feeds.specs.Quiet.{TellsQuiet};
     ghost use Rattle.tracker_shard.specs.Calls.{Looks, MayMake};
     ghost use Rattle.tracker_shard.specs.Steps.{Stepped, Answers, IsDue, RefusesForRoom, refusal, refusal_at, AnswersDot, AnswersRowsOfKey, AnswersRowsOfPid, AnswersListed, AnswersListedKey, AnswersItems, AnswersSub, is_found, checkpoint_refusal, AnswersPairs, KeepsRows};
-    ghost use Rattle.tracker_index.specs.Starting.{IsBegunAgain, AllAreBehind, CurrentStay, LeavesQueues};
+    ghost use Rattle.tracker_index.specs.Starting.{IsBegunAgain, LeavesQueues};
     ghost use Rattle.tracker_index.specs.Resuming.{resumed};
 
     /// A shard of the replica with an empty journal.

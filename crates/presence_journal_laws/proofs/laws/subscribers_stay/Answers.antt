@@ -1,4 +1,4 @@
-use Rattle.presence_journal_laws.proofs.Told.{keeps_topics, subscribers_are_behind, all_are_behind}
+use Rattle.presence_journal_laws.proofs.Told.{keeps_topics, subscribers_are_behind, none_is_current}
 use Rattle.presence_journal_laws.proofs.laws.subscribers_stay.Goals as goal
 
 pub returns-clause-topics : goal.returns-clause-topics
@@ -8,4 +8,4 @@ pub returns-clause-behind : goal.returns-clause-behind
 returns-clause-behind c = subscribers_are_behind
 
 pub returns-clause-all : goal.returns-clause-all
-returns-clause-all c = all_are_behind
+returns-clause-all c = none_is_current

@@ -1,5 +1,5 @@
 use Rattle.std.proofs.Common.{◌+◌, ap}
-use Rattle.tracker_index.proofs.StartingLemmas.{is_start, only_current, counts_current}
+use Rattle.tracker_index.proofs.StartingLemmas.{is_start, only_current, counts_where}
 use Rattle.tracker_index.proofs.starting.start_of.Goals as goal
 
 pub returns-clause-stands : goal.returns-clause-stands
@@ -13,4 +13,4 @@ returns-clause-stands c =
     (only_current h c.args.parts.now.feeds _ c.args.stay kept.feeds c.in_ok-current.ensures.stay c.in_ok-current.ensures.none)
 
 pub returns-clause-current : goal.returns-clause-current
-returns-clause-current c = counts_current c.args.journal.now c.args.parts.now.feeds _ c.args.stay c.requires.kept.feeds c.in_ok-current.ensures.stay c.in_ok-current.ensures.none
+returns-clause-current c = counts_where c.args.journal.now c.args.parts.now.feeds _ c.args.stay c.requires.kept.feeds c.in_ok-current.ensures.stay c.in_ok-current.ensures.none
