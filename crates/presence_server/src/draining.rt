@@ -25,7 +25,7 @@ const WHOLE_TURNS: u64 = 2;
 /// was made since memory was refused to a call.
 const REST_MILLISECONDS: u64 = 1_000;
 
-/// So long behind a checkpoint tight memory makes no journal due, in milliseconds: each gives clients whole states.
+/// So long behind a checkpoint tight memory makes no journal due, in milliseconds: one may give clients whole states.
 const TIGHT_MILLISECONDS: u64 = 30_000;
 
 /// So many bytes are held back for a checkpoint, where there is no other memory.
