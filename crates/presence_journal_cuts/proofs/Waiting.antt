@@ -1,6 +1,6 @@
 -- What waits for subscribers behind a checkpoint, by whom it counts as current.
 use Rattle.std.proofs.Common.{◌≡◌, ℕ, Bool, true, false, List, [], ◌∷◌, Some, refl, sym, ◌∙◌, ap}
-use Rattle.presence_journal.specs.Steps.{Start}
+use Rattle.presence_journal.specs.declared.entry.Start.{Start}
 use Rattle.presence_journal.specs.History.{History, Begin}
 use Rattle.presence_journal.specs.Queue.{Waiting, Behind, Queued, topic_of, is_current, first_waiting, queue, left_waiting, CurrentStay, AllAreBehind}
 use Rattle.presence_journal.proofs.Topics.{queue-begin}

@@ -5,7 +5,9 @@ use Rattle.presence_base.specs.declared.row.Row.{Row}
 use Rattle.presence_journal.specs.declared.rows.Item.{Item}
 use Rattle.presence_journal.specs.declared.step.Step.TheVariants as steps_are
 use Rattle.presence_journal.specs.declared.entry.Outcome.TheVariants as outcomes_are
-use Rattle.presence_journal.specs.Steps.{Step, Outcome, Entry}
+use Rattle.presence_journal.specs.declared.step.Step.{Step}
+use Rattle.presence_journal.specs.declared.entry.Outcome.{Outcome}
+use Rattle.presence_journal.specs.declared.entry.Entry.{Entry}
 use Rattle.presence_journal.specs.History.{History, Then, is_full}
 use Rattle.presence_journal.specs.Present.{present, changes}
 use Rattle.presence_journal.specs.Queue.{Waiting, topic_after, topic_of, diff_item, shout_item, items_made, made_for, push_items, left_by, queue_after, queue, listed_for, given}
