@@ -47,7 +47,7 @@ use Rattle.node_world.specs.World.{LifeValue, Lives, WorldValue, first_life, new
 use Rattle.node_world.specs.Claims.{AreNames}
 use Rattle.node_world.proofs.Lists.{all_at, all_more, set_cases, lookup-append, get-put, one_place}
 use Rattle.node_world.specs.TrueWorlds.{IsTrueLife, IsTrueTold, ArePresent, IsTrueBy, IsTrueWorld}
-use Rattle.node_world.proofs.Others.{others_true}
+use Rattle.node_world.proofs.OthersLemmas.{others_true}
 use Rattle.node_world.proofs.Invariant.{put_true, same_present}
 use Rattle.presence_journal.proofs.Reborn.{IsAgain, again_of, can_parts, reborn_can}
 use Rattle.presence_journal.proofs.AfterRebirth.{no_row_under}

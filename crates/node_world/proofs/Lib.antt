@@ -5,7 +5,7 @@ pub mod PartFacts
 pub mod LifeFacts
 pub mod GoneOn
 pub mod Lists
-pub mod Others
+pub mod OthersLemmas
 pub mod Invariant
 pub mod EventLaws
 pub mod Claims

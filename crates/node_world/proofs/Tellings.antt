@@ -7,7 +7,7 @@ use Rattle.orswot_core.specs.Limits.{are_texts}
 use Rattle.delta_range.specs.Deltas.{DeltaValue, telling_in, IsDelta}
 use Rattle.delta_range.proofs.FormFacts.{delta_told_in}
 use Rattle.presence_journal.specs.StepLimits.{is_heard, is_named}
-use Rattle.node_world.proofs.Others.{heard_told}
+use Rattle.node_world.proofs.OthersLemmas.{heard_told}
 
 pub heard_delta : (form : Form) (d : DeltaValue) → IsDelta d → list_all is_named d.live ≡ true → list_all (λ x. are_texts x.1) d.live ≡ true → is_heard (telling_in form d) ≡ true
 heard_delta One d k n x = heard_told (telling_in One d) (delta_told_in One d k) n x
