@@ -489,18 +489,24 @@ impl<L: Lanes> Bench<L> {
         true
     }
 
-    // The checkpoints that are due, if this worker is the one that makes them: once no worker reads, what waited was
-    // delivered, and nothing waits. Behind them all workers read again once each has delivered the fresh states, since a
-    // subscriber that is owed one is told of nothing that comes before it. Neither is waited for without end.
+    // All workers read again, behind the checkpoints of which this came.
+    fn read_again<H>(&mut self, server: &Server<'_, H, L>, due: Due) {
+        self.drain.end(self.now, due, server.memory.is_tight());
+        set_draining(server, false);
+        server.look();
+    }
+
+    // The checkpoints that are due, if this worker is the one that makes them: once no worker reads, and what waited was
+    // delivered. Where nothing waits nobody is owed anything behind them. Where that was waited for too long, the workers read
+    // again once each has delivered the fresh states, since a subscriber that is owed one is told of nothing that comes before
+    // it. Neither is waited for without end.
     fn make_checkpoints<R: Wait, H>(&mut self, rt: &R, server: &Server<'_, H, L>) {
         let is_over = self.drain.is_over(self.now);
         if !self.drain.leads() || !have_all_delivered(server) && !is_over {
             return;
         }
         if let Some(due) = self.drain.made() {
-            self.drain.end(self.now, due, server.memory.is_tight());
-            set_draining(server, false);
-            server.look();
+            self.read_again(server, due);
             return;
         }
         self.drain.give_reserve(server.alloc);
@@ -509,9 +515,13 @@ impl<L: Lanes> Bench<L> {
         if due == Due::Waits {
             return;
         }
+        server.pool.trim(rt, &mut self.seat);
+        if due == Due::Made {
+            self.read_again(server, due);
+            return;
+        }
         self.drain.make(due);
         count_anew(server);
-        server.pool.trim(rt, &mut self.seat);
     }
 
     // Delivers and sends what waits, and reads nothing.
