@@ -19,3 +19,4 @@ pub mod PartFacts
 pub mod PartRows
 pub mod PickedLemmas
 pub mod Waiting
+pub mod Passing
