@@ -33,6 +33,7 @@ use Rattle.presence_options.specs.declared.options.Logged.TheVariants.{Refusals,
 use Rattle.presence_options.specs.declared.options.PeerOption.{PeerOption}
 use Rattle.presence_options.specs.declared.options.Reports.{Reports}
 use Rattle.presence_options.specs.declared.options.ServeOptions.{ServeOptions}
+use Rattle.presence_options.specs.declared.options.FoldOptions.{FoldOptions}
 use Rattle.presence_options.specs.declared.options.StdioOptions.{StdioOptions}
 use Rattle.presence_options.specs.declared.values.NumberRule.{NumberRule}
 use Rattle.presence_base.specs.declared.names.TheConstants.{MAX_SHARDS}
@@ -164,6 +165,14 @@ explain_given rows = flag_given (codes "explain") rows
 abbrev pub notices_given : List Row → Bool
 notices_given rows = flag_given (codes "notices") rows
 
+-- whether messages may have any number
+abbrev pub fractions_given : List Row → Bool
+fractions_given rows = flag_given (codes "fractions") rows
+
+-- whether joins are matched
+abbrev pub match_joins_given : List Row → Bool
+match_joins_given rows = flag_given (codes "match-joins") rows
+
 -- ---- peers
 
 -- the text is that of a number within these limits, where a plus and zeros may stand in front
@@ -254,6 +263,13 @@ pub record IsGiven (rows : List Row) (o : StdioOptions) : Type 0 where
   pub routes : o.routes ≡ numbered 0 (patterns_given rows)
   pub notices : o.notices ≡ notices_given rows
   pub explain : o.explain ≡ explain_given rows
+  pub fractions : o.fractions ≡ fractions_given rows
+  pub match_joins : o.match_joins ≡ match_joins_given rows
+
+-- the same for a fold
+pub record IsFolding (rows : List Row) (o : FoldOptions) : Type 0 where
+  pub explain : o.explain ≡ explain_given rows
+  pub fractions : o.fractions ≡ fractions_given rows
 
 -- what everybody together may take is what is given, and else the default
 pub record AreBudgetsGiven (rows : List Row) (b : Budgets) : Type 0 where
@@ -287,6 +303,8 @@ pub record IsServed (rows : List Row) (o : ServeOptions) : Type 0 where
   pub link_from : WriteAddresses (link_from_given rows) o.link_from.items
   pub budgets : AreBudgetsGiven rows o.budgets
   pub reports : AreReportsGiven rows o.reports
+  pub fractions : o.fractions ≡ fractions_given rows
+  pub match_joins : o.match_joins ≡ match_joins_given rows
 
 -- the words name this command, with these options
 abbrev pub Calls : List Text → Text → List Row → Type 0
@@ -298,7 +316,7 @@ AskFor words (Help text) = IsAmong DisplayHelp (fault_of program words)
 AskFor words (Version text) = IsAmong DisplayVersion (fault_of program words)
 AskFor words (Bare text) = IsAmong MissingSubcommand (fault_of program words)
 AskFor words (Stdio o) = (rows : List Row) × Calls words (codes "stdio") rows × IsGiven rows o
-AskFor words (Fold o) = (rows : List Row) × Calls words (codes "fold") rows × (o.explain ≡ explain_given rows)
+AskFor words (Fold o) = (rows : List Row) × Calls words (codes "fold") rows × IsFolding rows o
 AskFor words (Serve o) = (rows : List Row) × Calls words (codes "serve") rows × IsServed rows o
 
 -- ---- refusals
@@ -592,7 +610,7 @@ Chooses name rows (Help text) = ⊥
 Chooses name rows (Version text) = ⊥
 Chooses name rows (Bare text) = ⊥
 Chooses name rows (Stdio o) = (name ≡ codes "stdio") × IsGiven rows o
-Chooses name rows (Fold o) = (name ≡ codes "fold") × (o.explain ≡ explain_given rows)
+Chooses name rows (Fold o) = (name ≡ codes "fold") × IsFolding rows o
 Chooses name rows (Serve o) = (name ≡ codes "serve") × IsServed rows o
 
 -- or why it gives nothing

@@ -8,11 +8,11 @@ ghost use Rattle.presence_options.specs.Limits.{AreBudgets, AreWithin, IsEdgeWit
 
 use crate::addresses::{AddressRule, listen_of};
 use crate::arguments::{
-    explain_flag, handshakes_option, incarnation_option, link_from_option, link_listen_option,
-    link_port_option, link_version_option, listen_option, log_format_option, log_option,
-    memory_option, metrics_port_option, name_option, notices_flag, origin_option, peer_option,
-    per_address_option, port_option, proxy_option, route_option, shards_option, topic_bytes_option,
-    topic_rows_option, workers_option,
+    explain_flag, fractions_flag, handshakes_option, incarnation_option, link_from_option,
+    link_listen_option, link_port_option, link_version_option, listen_option, log_format_option,
+    log_option, match_joins_flag, memory_option, metrics_port_option, name_option, notices_flag,
+    origin_option, peer_option, per_address_option, port_option, proxy_option, route_option,
+    shards_option, topic_bytes_option, topic_rows_option, workers_option,
 };
 use crate::fault::{UsageCause, UsageFault};
 use crate::found::{
@@ -52,7 +52,9 @@ fn stdio_command<'a>(alloc: Global) -> Result<Command<'a>, AllocError>
         .arg(incarnation_option(alloc, INCARNATION_HELP))?
         .arg(route_option(alloc))?
         .arg(notices_flag(alloc))?
-        .arg(explain_flag(alloc))
+        .arg(explain_flag(alloc))?
+        .arg(fractions_flag(alloc))?
+        .arg(match_joins_flag(alloc))
 }
 
 // The command `fold`.
@@ -63,7 +65,8 @@ fn fold_command<'a>(alloc: Global) -> Result<Command<'a>, AllocError>
         .about("Folds presence frames, one a line, and prints an object from topic to map")
         .override_usage(FOLD_USAGE)
         .after_help(FOLD_REFUSALS)
-        .arg(explain_flag(alloc))
+        .arg(explain_flag(alloc))?
+        .arg(fractions_flag(alloc))
 }
 
 // The command `serve` with the options of the node itself.
@@ -109,7 +112,9 @@ fn serve_command<'a>(alloc: Global) -> Result<Command<'a>, AllocError>
         .arg(topic_bytes_option(alloc))?
         .arg(log_option(alloc))?
         .arg(log_format_option(alloc))?
-        .arg(metrics_port_option(alloc))
+        .arg(metrics_port_option(alloc))?
+        .arg(fractions_flag(alloc))?
+        .arg(match_joins_flag(alloc))
 }
 
 // The whole command line.
@@ -231,6 +236,8 @@ fn stdio_options(alloc: Global, matches: &ArgMatches<'_>) -> Result<StdioOptions
         routes,
         notices: is_flagged(matches, "notices"),
         explain: is_flagged(matches, "explain"),
+        fractions: is_flagged(matches, "fractions"),
+        match_joins: is_flagged(matches, "match-joins"),
     })
 }
 
@@ -375,6 +382,8 @@ fn serve_options(alloc: Global, matches: &ArgMatches<'_>) -> Result<ServeOptions
         link_from,
         budgets,
         reports,
+        fractions: is_flagged(matches, "fractions"),
+        match_joins: is_flagged(matches, "match-joins"),
     })
 }
 
@@ -413,6 +422,7 @@ fn chosen(alloc: Global, name: &str, matches: &ArgMatches<'_>) -> Result<Options
     if name == "fold" {
         return Ok(Options::Fold(FoldOptions {
             explain: is_flagged(matches, "explain"),
+            fractions: is_flagged(matches, "fractions"),
         }));
     }
     if name == "serve" {

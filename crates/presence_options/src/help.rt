@@ -7,13 +7,13 @@ pub const VERSION: &str = "0.1.0+20261201";
 /// How the program is called.
 pub(crate) const USAGES: &str = "presence_node serve [OPTIONS]
        presence_node stdio [OPTIONS]
-       presence_node fold [--explain]";
+       presence_node fold [OPTIONS]";
 
 /// How `stdio` is called.
 pub(crate) const STDIO_USAGE: &str = "presence_node stdio [OPTIONS]";
 
 /// How `fold` is called.
-pub(crate) const FOLD_USAGE: &str = "presence_node fold [--explain]";
+pub(crate) const FOLD_USAGE: &str = "presence_node fold [OPTIONS]";
 
 /// How `serve` is called.
 pub(crate) const SERVE_USAGE: &str = "presence_node serve [OPTIONS]";
@@ -106,12 +106,26 @@ Each answers at most 1024 of them";
 /// What `stdio` and `fold` are told by `--explain`.
 pub(crate) const EXPLAIN_HELP: &str = "Say in words, on a second line, why a line was refused";
 
+/// What is told by `--fractions` and `--match-joins`.
+pub(crate) const FRACTIONS_HELP: &str =
+    "Allow any number in messages, as 1.50, 1e3 or one beyond 64 bits
+It comes back as it was written. Give it to all nodes, stdio and fold
+alike: without it such a number is a text behind \\u0000";
+
+pub(crate) const MATCH_JOINS_HELP: &str = "Answer what comes under an earlier join as not joined
+A message to a topic then counts only under the join reference of the
+topic's present join";
+
 /// The options of all commands, which stand behind the program's help.
 pub const ALL_OPTIONS: &str = "Options of serve and stdio:
       --name <NAME>            The node's name: 1 to 32 characters of a-z, 0-9 [default: a]
       --incarnation <NUMBER>   Which life of the node this is [default: of serve milliseconds of the
                                clock, of stdio 1]
       --route <PATTERN>        A topic that may be joined; up to 64 times [default: room:*]
+      --match-joins            Answer what comes under an earlier join as not joined
+
+Options of all:
+      --fractions              Allow any number in messages, as 1.50, 1e3 or one beyond 64 bits
 
 Options of serve:
       --port <PORT>            The port of clients, 1 to 65535 [default: 4000]
@@ -225,9 +239,9 @@ A link is closed for these reasons:
 pub(crate) const STDIO_TAKES: &str =
     "stdio takes --name NAME, 1 to 32 characters of a-z, 0-9, --incarnation NUMBER, 1 to
 4611686018427387904, up to 64 times --route PATTERN, a topic or the front of topics with one *
-behind it, of 1 to 255 bytes, --notices and --explain;";
+behind it, of 1 to 255 bytes, --notices, --explain, --fractions and --match-joins;";
 
-pub(crate) const FOLD_TAKES: &str = "fold takes --explain;";
+pub(crate) const FOLD_TAKES: &str = "fold takes --explain and --fractions;";
 
 pub(crate) const SERVE_TAKES: &str =
     "serve takes --name NAME, 1 to 32 characters of a-z, 0-9, --incarnation NUMBER, 1 to
@@ -238,4 +252,4 @@ NAME=HOST:PORT, as often as one likes, --listen ADDRESS, --link-listen ADDRESS, 
 --link-from ADDRESS, up to 16 times --proxy ADDRESS, up to 64 times --origin ORIGIN, scheme://host
 or scheme://host:port, --per-address NUMBER, 1 to 65536, --handshakes NUMBER, 1 to 1000, --memory
 MB, 32 to 16777216, --topic-rows NUMBER, 1 to 1048576, --topic-bytes NUMBER, 1024 to 1073741824,
---log refused, all or none, and --log-format text or json";
+--log refused, all or none, --log-format text or json, --fractions and --match-joins";

@@ -11,7 +11,8 @@ use std::net::IpAddr;
 
 /// What `stdio` runs as: the node's name, its incarnation, from 1 to `MAX_COUNT`, and the routes of
 /// its topics, of which each has its position, from 0, as its kind. `notices` asks for a notice of
-/// each row that joins or leaves, and `explain` for refusals in words too.
+/// each row that joins or leaves, and `explain` for refusals in words too. `fractions` allows any number in messages, and
+/// `match_joins` has a message to a topic count only under the reference of the topic's present join.
 #[derive(Debug, Drop)]
 pub struct StdioOptions {
     pub name: NodeName,
@@ -19,13 +20,16 @@ pub struct StdioOptions {
     pub routes: Routes,
     pub notices: bool,
     pub explain: bool,
+    pub fractions: bool,
+    pub match_joins: bool,
     ghost is_count: { IsCount incarnation },
 }
 
-/// What `fold` runs as: `explain` asks for refusals in words too.
+/// What `fold` runs as: `explain` asks for refusals in words too, and `fractions` allows any number in frames.
 #[derive(Clone, Copy, PartialEq, Eq, Debug)]
 pub struct FoldOptions {
     pub explain: bool,
+    pub fractions: bool,
 }
 
 /// The highest version of links that a server speaks.
@@ -134,7 +138,8 @@ pub struct Reports {
 /// are spoken, the nodes that are linked to, the addresses of both ports, and the origins whose pages may connect, or none
 /// where those of any may. Without an incarnation the node takes that of the clock. How many clients one address may have
 /// at once, and how many handshakes a second, are left to the server where they are none. Links come from any address where
-/// `link_from` is none. What `proxies` tell of their clients' addresses is believed.
+/// `link_from` is none. What `proxies` tell of their clients' addresses is believed. `fractions` and `match_joins` are
+/// those of `stdio`.
 #[derive(Debug, Drop)]
 pub struct ServeOptions {
     pub name: NodeName,
@@ -155,6 +160,8 @@ pub struct ServeOptions {
     pub link_from: Vec<IpAddr>,
     pub budgets: Budgets,
     pub reports: Reports,
+    pub fractions: bool,
+    pub match_joins: bool,
     ghost is_count: { ForSome incarnation IsCount },
     ghost few_origins: { vec_len origins ≤ MAX_ORIGINS },
     ghost few_proxies: { vec_len proxies ≤ MAX_PROXIES },

@@ -8,6 +8,7 @@ use link_threads::{LinkRuntime, LinkTask, Links, Wakes};
 use node_log::Log;
 use node_system::Bell;
 use node_threads::Crew;
+use serve_connections::Settings;
 use serve_metrics::Counts;
 use serve_ports::{Followed, Inbox, Topics};
 use serve_rations::{MemoryMark, TopicBudgets};
@@ -72,6 +73,8 @@ pub struct Server<'a, H, L: Lanes> {
     pub pool: Pool<NoGate, L>,
     pub routes: &'a Routes,
     pub hooks: &'a H,
+    /// What clients may do beyond the usual.
+    pub settings: Settings,
     /// Pages of these origins may open a WebSocket, or those of any where none is named.
     pub origins: &'a [String],
     /// What these tell of their clients' addresses is believed.
@@ -100,6 +103,7 @@ impl<'a, H, L: Lanes> Drop for Server<'a, H, L> {
             pool,
             routes: _,
             hooks: _,
+            settings: _,
             origins: _,
             proxies: _,
             budgets,
@@ -171,6 +175,7 @@ impl<'a, H, L: Lanes> Server<'a, H, L> {
             pool,
             routes: _,
             hooks: _,
+            settings: _,
             origins: _,
             proxies: _,
             budgets,

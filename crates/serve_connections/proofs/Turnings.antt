@@ -12,6 +12,8 @@ use Rattle.channel_session.specs.declared.fault.SessionFault.TheVariants.{Failed
 use Rattle.channel_pieces.specs.Piecewise.{Piecewise}
 use Rattle.channel_pieces.specs.declared.telling.Telling.{Telling}
 use Rattle.serve_connections.specs.Hearing.{Hears, is_message}
+use Rattle.number_texts.specs.Allowed.{all_told, heard_text}
+use Rattle.number_texts.specs.declared.allowed.Numbers.{Numbers}
 use Rattle.serve_connections.specs.Turning.{Around, AnswersText, BearsOut, BearsSilence, ClosesFor, Continues, Deals, EndsSession, GoOut, Responds, Serves, StopsServing, TakesDelivery, TakesTurn, dealt, dealt_texts, is_owed_ping, may_have_more, patience, progress_of, room_in}
 use Rattle.serve_connections.specs.Sparing.{Spares}
 use Rattle.serve_connections.specs.declared.connection.TheConstants.{MAX_DEALT}
@@ -97,20 +99,23 @@ turned {S} {K} old mid new kept held session told =
 -- what was answered goes out
 pub answers : {S K P : Type 0} (w : Around S P) (routes : List (List ℕ × ℕ)) (text : List ℕ) (old mid new : Connection S K) (before after : P)
     (answer : Result (Vec (String Global) Global) SessionFault) (texts : Vec (String Global) Global) (result : Result (Unit {0}) Cause)
-    → RanBy w.worded (Piecewise (w.step old.session.pid)) routes old.session (decoded the_limits.CLIENT text) (before, old.telling.untold) (after, mid.telling.untold) mid.session answer
+    → RanBy w.worded (Piecewise (w.step old.session.pid)) routes old.session (decoded the_limits.CLIENT (heard_text old.numbers text)) (before, old.telling.untold) (after, mid.telling.untold) mid.session answer
     → mid ≡ record old { session = mid.session; telling = mid.telling } → answer ≡ Ok texts
-    → GoOut w.contents mid.socket new.socket (Ok (texts_in texts)) result → new ≡ record mid { socket = new.socket } → AnswersText w routes text old new before after result
+    → GoOut w.contents mid.socket new.socket (Ok (all_told mid.numbers (texts_in texts))) result → new ≡ record mid { socket = new.socket } → AnswersText w routes text old new before after result
 answers {S} {K} {P} w routes text old mid new before after answer texts result ran held is sent kept =
     let session : new.session ≡ mid.session = ap (λ (c : Connection S K). c.session) kept in
     let told : new.telling ≡ mid.telling = ap (λ (c : Connection S K). c.telling) kept in
     let socket : mid.socket ≡ old.socket = ap (λ (c : Connection S K). c.socket) held in
+    let numbers : mid.numbers ≡ old.numbers = ap (λ (c : Connection S K). c.numbers) held in
     record {
       answer = Ok texts;
       ran =
-          subst (λ (r : Result (Vec (String Global) Global) SessionFault). RanBy w.worded (Piecewise (w.step old.session.pid)) routes old.session (decoded the_limits.CLIENT text) (before, old.telling.untold) (after, new.telling.untold) new.session r) is
-          (subst (λ (s : InForce). RanBy w.worded (Piecewise (w.step old.session.pid)) routes old.session (decoded the_limits.CLIENT text) (before, old.telling.untold) (after, new.telling.untold) s answer) (sym session)
-          (subst (λ (u : Telling). RanBy w.worded (Piecewise (w.step old.session.pid)) routes old.session (decoded the_limits.CLIENT text) (before, old.telling.untold) (after, u.untold) mid.session answer) (sym told) ran));
-      sent = subst (λ (s : Socket S). GoOut w.contents s new.socket (Ok (texts_in texts)) result) socket sent;
+          subst (λ (r : Result (Vec (String Global) Global) SessionFault). RanBy w.worded (Piecewise (w.step old.session.pid)) routes old.session (decoded the_limits.CLIENT (heard_text old.numbers text)) (before, old.telling.untold) (after, new.telling.untold) new.session r) is
+          (subst (λ (s : InForce). RanBy w.worded (Piecewise (w.step old.session.pid)) routes old.session (decoded the_limits.CLIENT (heard_text old.numbers text)) (before, old.telling.untold) (after, new.telling.untold) s answer) (sym session)
+          (subst (λ (u : Telling). RanBy w.worded (Piecewise (w.step old.session.pid)) routes old.session (decoded the_limits.CLIENT (heard_text old.numbers text)) (before, old.telling.untold) (after, u.untold) mid.session answer) (sym told) ran));
+      sent =
+          subst (λ (n : Numbers). GoOut w.contents old.socket new.socket (Ok (all_told n (texts_in texts))) result) numbers
+          (subst (λ (s : Socket S). GoOut w.contents s new.socket (Ok (all_told mid.numbers (texts_in texts))) result) socket sent);
       kept = turned old mid new kept held session told;
     }
 
@@ -120,12 +125,13 @@ pub deals : {S K P : Type 0} (w : Around S P) (old mid new : Connection S K) (be
     → (old.session.failed ≡ true → (delivery ≡ Err Failed) × (mid.session ≡ old.session) × (after ≡ before) × (mid.telling ≡ old.telling))
     → (old.session.failed ≡ false → DeliveredBy w.worded w.noted (Spares (Piecewise (w.step old.session.pid))) MAX_DEALT old.session ((before, old.telling.untold), given) ((after, mid.telling.untold), room) mid.session delivery)
     → mid ≡ record old { session = mid.session; telling = mid.telling }
-    → GoOut w.contents mid.socket new.socket (dealt_texts delivery) (dealt result) → IfOk result (λ told. told ≡ may_have_more delivery room (telling || is_some mid.telling.untold))
+    → GoOut w.contents mid.socket new.socket (dealt_texts mid.numbers delivery) (dealt result) → IfOk result (λ told. told ≡ may_have_more delivery room (telling || is_some mid.telling.untold))
     → new ≡ record mid { socket = new.socket } → Deals w old new before after result
 deals {S} {K} {P} w old mid new before after delivery given room telling result is was failed came held sent more kept =
     let session : new.session ≡ mid.session = ap (λ (c : Connection S K). c.session) kept in
     let told : new.telling ≡ mid.telling = ap (λ (c : Connection S K). c.telling) kept in
     let socket : mid.socket ≡ old.socket = ap (λ (c : Connection S K). c.socket) held in
+    let numbers : mid.numbers ≡ old.numbers = ap (λ (c : Connection S K). c.numbers) held in
     record {
       delivery = delivery;
       room = room;
@@ -134,7 +140,9 @@ deals {S} {K} {P} w old mid new before after delivery given room telling result 
           subst (λ (s : InForce). DeliveredBy w.worded w.noted (Spares (Piecewise (w.step old.session.pid))) MAX_DEALT old.session ((before, old.telling.untold), room_in old.socket) ((after, new.telling.untold), room) s delivery) (sym session)
           (subst (λ (u : Telling). DeliveredBy w.worded w.noted (Spares (Piecewise (w.step old.session.pid))) MAX_DEALT old.session ((before, old.telling.untold), room_in old.socket) ((after, u.untold), room) mid.session delivery) (sym told)
           (subst (λ (n : ℕ). DeliveredBy w.worded w.noted (Spares (Piecewise (w.step old.session.pid))) MAX_DEALT old.session ((before, old.telling.untold), n) ((after, mid.telling.untold), room) mid.session delivery) is (came so)));
-      sent = subst (λ (s : Socket S). GoOut w.contents s new.socket (dealt_texts delivery) (dealt result)) socket sent;
+      sent =
+          subst (λ (n : Numbers). GoOut w.contents old.socket new.socket (dealt_texts n delivery) (dealt result)) numbers
+          (subst (λ (s : Socket S). GoOut w.contents s new.socket (dealt_texts mid.numbers delivery) (dealt result)) socket sent);
       more =
           subst (λ (t : Bool). IfOk result (λ b. b ≡ may_have_more delivery room (t || is_some new.telling.untold))) was
           (subst (λ (u : Telling). IfOk result (λ b. b ≡ may_have_more delivery room (telling || is_some u.untold))) (sym told) more);

@@ -13,6 +13,8 @@ use Rattle.hook_registry.specs.declared.hooks.PresenceHooks.{Ghosts}
 use Rattle.phx_message.specs.Reading.{decoded}
 use Rattle.phx_message.specs.declared.message.Message.{Message}
 use Rattle.phx_message.specs.declared.message.TheConstants.Limits as the_limits
+use Rattle.number_texts.specs.Allowed.{all_told, heard_text}
+use Rattle.number_texts.specs.declared.allowed.Numbers.{Numbers}
 use Rattle.serve_sockets.specs.Passing.{is_passing}
 use Rattle.serve_sockets.specs.Sending.{SentAll, Stops}
 use Rattle.tungstenite.specs.Failure.{IsIo, WriteFails}
@@ -59,14 +61,14 @@ around remaining contents step G hooks =
 
 -- ---- sending and closing
 
--- the texts that were given, by their bytes
-abbrev pub ran_texts : Result (Vec (String Global) Global) SessionFault → Result (List (List ℕ)) SessionFault
-ran_texts (Ok texts) = Ok (texts_in texts)
-ran_texts (Err fault) = Err fault
+-- the texts that were given, by their bytes, with the numbers that clients wrote
+abbrev pub ran_texts : Numbers → Result (Vec (String Global) Global) SessionFault → Result (List (List ℕ)) SessionFault
+ran_texts n (Ok texts) = Ok (all_told n (texts_in texts))
+ran_texts n (Err fault) = Err fault
 
-abbrev pub dealt_texts : Result Delivery SessionFault → Result (List (List ℕ)) SessionFault
-dealt_texts (Ok delivery) = Ok (texts_in delivery.texts)
-dealt_texts (Err fault) = Err fault
+abbrev pub dealt_texts : Numbers → Result Delivery SessionFault → Result (List (List ℕ)) SessionFault
+dealt_texts n (Ok delivery) = Ok (all_told n (texts_in delivery.texts))
+dealt_texts n (Err fault) = Err fault
 
 module _ {S : Type 0} (contents : S → Option (List ℕ)) where
   -- The frames of the texts go out, in their order, and nothing else; or the connection ends since one could not be written, or since the session has a fault.
@@ -175,9 +177,10 @@ module _ {S K P : Type 0} (w : Around S P) where
   pub record AnswersText (routes : List (List ℕ × ℕ)) (text : List ℕ) (old new : Connection S K) (before after : P)
       (result : Result (Unit {0}) Cause) : Type 0 where
     pub answer : Result (Vec (String Global) Global) SessionFault
-    pub ran : RanBy w.worded (Piecewise (w.step old.session.pid)) routes old.session (decoded the_limits.CLIENT text)
+    pub ran : RanBy w.worded (Piecewise (w.step old.session.pid)) routes old.session
+        (decoded the_limits.CLIENT (heard_text old.numbers text))
         (before, old.telling.untold) (after, new.telling.untold) new.session answer
-    pub sent : GoOut w.contents old.socket new.socket (ran_texts answer) result
+    pub sent : GoOut w.contents old.socket new.socket (ran_texts old.numbers answer) result
     pub kept : new ≡ record old { socket = new.socket; session = new.session; telling = new.telling }
 
   -- nothing was done, and this comes of it
@@ -214,7 +217,7 @@ module _ {S K P : Type 0} (w : Around S P) where
     pub delivered : old.session.failed ≡ false
         → DeliveredBy w.worded w.noted (Spares (Piecewise (w.step old.session.pid))) MAX_DEALT old.session
         ((before, old.telling.untold), room_in old.socket) ((after, new.telling.untold), room) new.session delivery
-    pub sent : GoOut w.contents old.socket new.socket (dealt_texts delivery) (dealt result)
+    pub sent : GoOut w.contents old.socket new.socket (dealt_texts old.numbers delivery) (dealt result)
     pub more : IfOk result
         (λ told. told ≡ may_have_more delivery room (is_some old.telling.untold || is_some new.telling.untold))
     pub kept : new ≡ record old { socket = new.socket; session = new.session; telling = new.telling }

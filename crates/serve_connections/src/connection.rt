@@ -1,6 +1,7 @@
 //! A connection, and its turn.
-ghost use Rattle.std.specs.Prelude.{is_ok, is_some, Some, ◌||◌, ◌≡◌, ◌+◌, ◌≤◌, ◌^◌, [], leb, false, true, map, string_bytes, None, IfOk};
+ghost use Rattle.std.specs.Prelude.{is_ok, is_some, Some, ◌||◌, ◌≡◌, ◌+◌, ◌≤◌, ◌^◌, [], leb, false, true, map, string_bytes, None, IfOk, if◌then◌else◌};
 ghost use Rattle.phx_message.specs.Reading.{decoded};
+ghost use Rattle.number_texts.specs.Allowed.{all_told, heard_text};
 ghost use Rattle.tungstenite.specs.Socket.{Flushed};
 ghost use Rattle.serve_connections.specs.Hearing.{is_message};
 ghost use Rattle.serve_connections.specs.Turning.{around, AnswersText, AsksIf, BearsSilence, ClosesFor, Continues, Deals, Delivers, behind_flush, broken_off, EndsSession, GoOut, Responds, Serves, Flushes, Pings, StopsServing, TakesDelivery, TakesTurn, Turns, dealt, dealt_texts, is_owed_ping, may_have_more, patience, progress_of as progress_in};
@@ -14,11 +15,13 @@ ghost use Rattle.serve_sockets.specs.declared.web_socket.TheConstants.{MAX_WAITI
 use crate::cause::{Cause, cause_of, close_code, close_reason};
 use crate::hearing::{Heard, hear};
 use crate::pieces::{deliver_over, run_over};
+use crate::settings::Settings;
 use crate::sparing::MAX_UNSENT;
 use channel_pieces::{PiecewisePort, Telling};
 use channel_rules::Port;
 use channel_session::{Channels, Delivery, Session, SessionFault, end};
 use hook_registry::{PresenceHooks, Routes};
+use number_texts::Numbers;
 use phx_message::Limits;
 use serve_sockets::{MAX_WAITING, WebSocket, is_passing, queue_all};
 use std::alloc::Global;
@@ -71,6 +74,8 @@ pub struct Connection<S, K> {
     pub session: Session,
     /// What its client is yet to be told of a long state.
     pub telling: Telling,
+    /// Which numbers its client's messages may have.
+    pub numbers: Numbers,
     /// When the last message came, in milliseconds.
     pub heard: u64,
     /// Whether its client was sent a ping since then.
@@ -86,6 +91,7 @@ impl<S: Drop, K: Drop> Drop for Connection<S, K> {
             socket,
             session,
             telling,
+            numbers: _,
             heard: _,
             pinged: _,
             messages: _,
@@ -121,12 +127,19 @@ fn progress_of(came: bool) -> Progress
 
 impl<S: Read + Write + Drop, K: MaskKeys + Drop> Connection<S, K> {
     /// A connection over a socket whose handshake is done, at this time.
-    pub fn new(alloc: Global, socket: WebSocket<S, K>, pid: u64, now: u64) -> Connection<S, K>
+    pub fn new(
+        alloc: Global,
+        socket: WebSocket<S, K>,
+        pid: u64,
+        now: u64,
+        settings: Settings,
+    ) -> Connection<S, K>
         requires { pid ≤ 2 ^ 62 }
         ensures { result ≡ record {
           socket = socket;
-          session = record { pid = pid; failed = false; joined = []; cut_short = None };
+          session = record { pid = pid; failed = false; joined = []; cut_short = None; match_joins = settings.match_joins };
           telling = record { untold = None };
+          numbers = settings.numbers;
           heard = now;
           pinged = false;
           messages = 0;
@@ -135,8 +148,9 @@ impl<S: Read + Write + Drop, K: MaskKeys + Drop> Connection<S, K> {
     {
         Connection {
             socket,
-            session: Session::new(alloc, pid),
+            session: Session::new(alloc, pid, settings.match_joins),
             telling: Telling::new(),
+            numbers: settings.numbers,
             heard: now,
             pinged: false,
             messages: 0,
@@ -144,19 +158,23 @@ impl<S: Read + Write + Drop, K: MaskKeys + Drop> Connection<S, K> {
         }
     }
 
-    // Puts the texts that the session gave in what waits to be sent.
-    fn send(&mut self, texts: Vec<String>) -> Result<(), Cause>
-        ensures sent { GoOut S.contents self.old.socket self.new.socket (Ok (map string_bytes texts.items)) result }
+    // Puts the texts that the session gave in what waits to be sent, with their numbers as clients wrote them.
+    fn send(&mut self, alloc: Global, texts: Vec<String>) -> Result<(), Cause>
+        ensures sent { GoOut S.contents self.old.socket self.new.socket
+            (Ok (all_told self.old.numbers (map string_bytes texts.items))) result }
         ensures kept { self.new ≡ record self.old { socket = self.new.socket } }
     {
+        let Ok(texts) = self.numbers.told(alloc, texts) else {
+            return Err(cause_of(&Error::OutOfMemory));
+        };
         match queue_all(&mut self.socket, texts) {
             Ok(()) => Ok(()),
             Err(error) => Err(cause_of(&error)),
         }
     }
 
-    // What the session answers to a text.
-    fn run<P: Port, H: PresenceHooks>(
+    // What the session answers to a text that it reads.
+    fn run_read<P: Port, H: PresenceHooks>(
         &mut self,
         alloc: Global,
         port: &mut P,
@@ -170,6 +188,38 @@ impl<S: Read + Write + Drop, K: MaskKeys + Drop> Connection<S, K> {
     {
         let mut pieces = PiecewisePort::new(port, &mut self.telling);
         run_over(alloc, &mut self.session, &mut pieces, channels, text)
+    }
+
+    // Why a session is asked nothing, where memory is wanting.
+    fn no_memory(&self) -> SessionFault
+        ensures { result ≡ (if self.now.session.failed then SessionFault.Failed else SessionFault.OutOfMemory) }
+    {
+        if self.session.failed() {
+            SessionFault::Failed
+        } else {
+            SessionFault::OutOfMemory
+        }
+    }
+
+    // What the session answers to a text, which it reads with its numbers as it may have them.
+    fn run<P: Port, H: PresenceHooks>(
+        &mut self,
+        alloc: Global,
+        port: &mut P,
+        channels: Channels<'_, H>,
+        text: &str,
+    ) -> Result<Vec<String>, SessionFault>
+        ensures ran { RanBy (Worded (H.PresenceHooks.fetched channels.entry.hooks.now) (H.PresenceHooks.plain channels.entry.hooks.now))
+            (Piecewise (P.step self.old.session.pid)) channels.entry.routes.now self.old.session
+            (decoded Limits.CLIENT (heard_text self.old.numbers text.now))
+            (port.old, self.old.telling.untold) (port.new, self.new.telling.untold) self.new.session result }
+        ensures kept { self.new ≡ record self.old { session = self.new.session; telling = self.new.telling } }
+    {
+        match self.numbers.heard(alloc, text) {
+            Ok(None) => self.run_read(alloc, port, channels, text),
+            Ok(Some(marked)) => self.run_read(alloc, port, channels, marked.as_str()),
+            Err(_) => Err(self.no_memory()),
+        }
     }
 
     // Answers a text.
@@ -186,7 +236,7 @@ impl<S: Read + Write + Drop, K: MaskKeys + Drop> Connection<S, K> {
     {
         let channels = Channels { routes, hooks };
         match self.run(alloc, port, channels, text) {
-            Ok(texts) => self.send(texts),
+            Ok(texts) => self.send(alloc, texts),
             Err(fault) => Err(Cause::Fault(fault)),
         }
     }
@@ -274,11 +324,12 @@ impl<S: Read + Write + Drop, K: MaskKeys + Drop> Connection<S, K> {
     // may wait, as where a state is being told, or was before, so that nothing else was taken.
     fn send_dealt(
         &mut self,
+        alloc: Global,
         delivery: Result<Delivery, SessionFault>,
         left: usize,
         telling: bool,
     ) -> Result<bool, Cause>
-        ensures sent { GoOut S.contents self.old.socket self.new.socket (dealt_texts delivery) (dealt result) }
+        ensures sent { GoOut S.contents self.old.socket self.new.socket (dealt_texts self.old.numbers delivery) (dealt result) }
         ensures more { IfOk result (λ told. told ≡ may_have_more delivery left (telling || is_some self.old.telling.untold)) }
         ensures kept { self.new ≡ record self.old { socket = self.new.socket } }
     {
@@ -287,7 +338,7 @@ impl<S: Read + Write + Drop, K: MaskKeys + Drop> Connection<S, K> {
                 drop(notices);
                 let untold = telling || self.telling.is_under_way();
                 let more = texts.len() >= MAX_DEALT as usize || left == 0 || untold;
-                match self.send(texts) {
+                match self.send(alloc, texts) {
                     Ok(()) => Ok(more),
                     Err(cause) => Err(cause),
                 }
@@ -330,7 +381,7 @@ impl<S: Read + Write + Drop, K: MaskKeys + Drop> Connection<S, K> {
         let room = MAX_UNSENT.saturating_sub(self.socket.waiting());
         let telling = self.telling.is_under_way();
         let (delivery, left) = self.take(alloc, port, hooks, room);
-        self.send_dealt(delivery, left, telling)
+        self.send_dealt(alloc, delivery, left, telling)
     }
 
     // Goes on behind a message with a delivery.

@@ -1,7 +1,12 @@
-//! What everybody at the server shares by its options: the budgets of topics, the memory, and the log.
+//! What everybody at the server shares by its options: the budgets of topics, the memory, the log, and what clients may do.
+ghost use Rattle.std.specs.Prelude.{◌≡◌};
+ghost use Rattle.number_texts.specs.Allowed.{numbers_where};
+
 use node_log::{Log, LogFormat, Shown};
+use number_texts::Numbers;
 use node_system::memory_there;
-use presence_options::{Budgets, LineFormat, Logged, MIN_MEMORY, Reports};
+use presence_options::{Budgets, LineFormat, Logged, MIN_MEMORY, Reports, ServeOptions};
+use serve_connections::Settings;
 use serve_rations::{Amount, MemoryMark, TopicBudgets};
 use std::alloc::Global;
 use std::rt::Files;
@@ -58,5 +63,16 @@ pub(crate) fn now_in_seconds<R: Clock>(rt: &R) -> u64 {
     match rt.since_1970() {
         Ok(time) => time.as_secs(),
         Err(_) => 0,
+    }
+}
+
+/// What clients may do beyond the usual.
+pub(crate) fn settings_of(options: &ServeOptions) -> Settings
+    ensures numbers { result.numbers ≡ numbers_where options.now.fractions }
+    ensures joins { result.match_joins ≡ options.now.match_joins }
+{
+    Settings {
+        numbers: Numbers::allowed(options.fractions),
+        match_joins: options.match_joins,
     }
 }

@@ -1,0 +1,5 @@
+pub mod Events
+pub mod Kept
+pub mod Hearing
+pub mod Telling
+pub mod Laws
