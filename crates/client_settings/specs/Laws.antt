@@ -1,5 +1,5 @@
 -- The laws of what clients may do.
-use Rattle.std.specs.Prelude.{◌≡◌, ◌≤◌, ℕ, List, length, Bool, true, false, Option, Some, None, if◌then◌else◌, codes, []}
+use Rattle.std.specs.Prelude.{◌≡◌, ◌≤◌, ℕ, List, [], ◌∷◌, length, true, false, Option, Some, None, if◌then◌else◌, codes}
 use Rattle.serde_json.specs.Data.{Data}
 use Rattle.phx_message.specs.Making.{broadcast_of}
 use Rattle.phx_message.specs.Message.{IsWithin, value_of}
@@ -7,30 +7,29 @@ use Rattle.phx_message.specs.Orderly.{IsOrderly}
 use Rattle.phx_message.specs.declared.message.Message.{Message}
 use Rattle.phx_message.specs.declared.message.TheConstants.Limits as the_limits
 use Rattle.channel_rules.specs.InForce.{InForce, Joined, find}
-use Rattle.channel_rules.specs.Rules.{is_phoenix, kind_of, left, rules, says}
+use Rattle.channel_rules.specs.Rules.{is_phoenix, kind_of, rules, says}
 use Rattle.channel_rules.specs.Said.{text_of}
 use Rattle.channel_rules.specs.Script.{done}
 use Rattle.client_settings.specs.Events.{is_own_by}
-use Rattle.client_settings.specs.Hearing.{IsPlain, heard, is_late, late_reply, reads, same_ref}
+use Rattle.client_settings.specs.Meaning.{IsPlain, meaning, is_late, late_reply, reads, same_ref}
 use Rattle.client_settings.specs.Kept.{is_itself, kept_event, kept_shout, told_of}
 use Rattle.client_settings.specs.Telling.{is_pid, told_by, told_text}
 use Rattle.client_settings.specs.declared.events.EventNames.{EventNames}
 use Rattle.client_settings.specs.declared.settings.Settings.{Settings}
-use Rattle.std.specs.Prelude.{◌∷◌}
 
 -- by default each text stays as it is
 pub record ChangesNothing (given : Settings) : Type 0 where
-  pub heard : (s : InForce) (text : List ℕ) → heard given s text ≡ reads text None
+  pub meaning : (s : InForce) (text : List ℕ) → meaning given s text ≡ reads text []
   pub told : (pid : ℕ) (texts : List (List ℕ)) → told_by given pid texts ≡ texts
 
 abbrev pub PlainChangesNothing : Type 0
 PlainChangesNothing = (given : Settings) → IsPlain given → ChangesNothing given
 
--- what the rules do with it where its topic was left is just that reply
+-- the rules answer it just so in every session that hasn't joined its topic
 abbrev pub LateIsUnjoined : Type 0
 LateIsUnjoined = (given : Settings) (s : InForce) (m : Message) → is_late given s m ≡ true
-    → is_phoenix m.topic ≡ false → (routes : List (List ℕ × ℕ))
-    → rules routes (left s m.topic) m ≡ done (says (late_reply (kind_of m.event) m ∷ []) (left s m.topic))
+    → is_phoenix m.topic ≡ false → (routes : List (List ℕ × ℕ)) (other : InForce) → find m.topic other.joined ≡ None
+    → rules routes other m ≡ done (says (late_reply (kind_of m.event) m ∷ []) other)
 
 abbrev pub PresentJoinsStay : Type 0
 PresentJoinsStay = (given : Settings) (s : InForce) (m : Message) (j : Joined) → find m.topic s.joined ≡ Some j

@@ -1,5 +1,5 @@
 pub mod Events
 pub mod Kept
-pub mod Hearing
+pub mod Meaning
 pub mod Telling
 pub mod Laws

@@ -1,5 +1,5 @@
 -- What a client gets of its session's texts.
-use Rattle.std.specs.Prelude.{ℕ, ◌==◌, ◌&&◌, Bool, true, false, List, [], ◌∷◌, Option, Some, None, if◌then◌else◌, Result, Ok, Err}
+use Rattle.std.specs.Prelude.{ℕ, ◌==◌, ◌&&◌, Bool, true, false, List, [], ◌∷◌, Option, Some, None, if◌then◌else◌, Result, Ok, Err, codes}
 use Rattle.std.specs.List.{ends_with}
 use Rattle.serde_json.specs.Data.{Data}
 use Rattle.phx_message.specs.Making.{broadcast_of}
@@ -11,11 +11,10 @@ use Rattle.number_texts.specs.Allowed.{all_told}
 use Rattle.channel_rules.specs.Rules.{kind_of}
 use Rattle.channel_rules.specs.Said.{text_of}
 use Rattle.client_settings.specs.Events.{is_own_by}
-use Rattle.client_settings.specs.Hearing.{is_shout}
+use Rattle.client_settings.specs.Meaning.{is_shout}
 use Rattle.client_settings.specs.Kept.{Told, itself, shouted, evented, told_of}
 use Rattle.client_settings.specs.declared.events.EventNames.{EventNames}
 use Rattle.client_settings.specs.declared.settings.Settings.{Settings}
-use Rattle.std.specs.Prelude.{codes}
 
 -- `,"\u0000"]]`: so the text ends of each shout whose payload is kept otherwise than sent
 abbrev pub kept_ending : List ℕ

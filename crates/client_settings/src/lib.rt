@@ -5,17 +5,17 @@
 //! shards see texts, shouts and joins as ever. By default each text stays as it is.
 //!
 //! What its contracts cite: `specs/Events` which events are a client's own, `specs/Kept` as what shouts they are kept,
-//! `specs/Hearing` what a session reads of a client's text, `specs/Telling` what a client gets of its session's texts,
+//! `specs/Meaning` what a session reads of a client's text, `specs/Telling` what a client gets of its session's texts,
 //! `specs/Laws` the laws.
 #![tactic(auto)]
 
 mod events;
-mod hearing;
 mod kept;
 pub mod laws;
+mod meaning;
 mod settings;
 mod telling;
 
 pub use events::{EventNames, OwnEvents};
-pub use hearing::{Heard, Read};
+pub use meaning::{Meaning, Reading};
 pub use settings::Settings;

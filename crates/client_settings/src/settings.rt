@@ -1,6 +1,6 @@
 //! What clients may do beyond the usual.
 ghost use Rattle.std.specs.Prelude.{◌≡◌, IfOk};
-ghost use Rattle.client_settings.specs.Hearing.{looks};
+ghost use Rattle.client_settings.specs.Meaning.{looks};
 
 use crate::events::OwnEvents;
 use number_texts::Numbers;

@@ -4,12 +4,12 @@ ghost use Rattle.serde_json.specs.View.{view};
 ghost use Rattle.serde_json.specs.Written.{has_float};
 ghost use Rattle.phx_message.specs.Making.{broadcast_of};
 ghost use Rattle.channel_rules.specs.Said.{text_of};
-ghost use Rattle.client_settings.specs.Hearing.{IsPlain};
+ghost use Rattle.client_settings.specs.Meaning.{IsPlain};
 ghost use Rattle.client_settings.specs.Kept.{seen_told, told_of};
 ghost use Rattle.client_settings.specs.Telling.{all_told_by, events_told, tells, told_by, told_text as told_of_text, with_told};
 
 use crate::events::OwnEvents;
-use crate::hearing::is_shout;
+use crate::meaning::is_shout;
 use crate::kept::{Told, told_by};
 use crate::settings::Settings;
 use phx_message::laws::pushes_are_written;

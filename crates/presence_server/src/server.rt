@@ -3,12 +3,12 @@ ghost use Rattle.std.specs.Prelude.{◌≡◌};
 
 use crate::door::Door;
 use crate::place::Workplace;
+use client_settings::Settings;
 use hook_registry::{PresenceHooks, Routes};
 use link_threads::{LinkRuntime, LinkTask, Links, Wakes};
 use node_log::Log;
 use node_system::Bell;
 use node_threads::Crew;
-use serve_connections::Settings;
 use serve_metrics::Counts;
 use serve_ports::{Followed, Inbox, Topics};
 use serve_rations::{MemoryMark, TopicBudgets};
@@ -74,7 +74,7 @@ pub struct Server<'a, H, L: Lanes> {
     pub routes: &'a Routes,
     pub hooks: &'a H,
     /// What clients may do beyond the usual.
-    pub settings: Settings,
+    pub settings: &'a Settings,
     /// Pages of these origins may open a WebSocket, or those of any where none is named.
     pub origins: &'a [String],
     /// What these tell of their clients' addresses is believed.

@@ -2,7 +2,7 @@
 use Rattle.std.proofs.Common.{◌≡◌, ℕ, ◌+◌, ◌≤◌, List, [], ◌∷◌, ◌++◌, length, refl, sym, ap, ◌∙◌, subst, Option, Some, None, Result, Ok, Err, arith}
 use Rattle.std.specs.declared.alloc.AllocError.{AllocError}
 use Rattle.std.specs.List.{AllByRecursion}
-use Rattle.serve_connections.specs.declared.settings.Settings.{Settings}
+use Rattle.client_settings.specs.declared.settings.Settings.{Settings}
 use Rattle.serve_connections.specs.declared.client.Client.{Client}
 use Rattle.serve_connections.specs.declared.worker.NoMore.{NoMore}
 use Rattle.serve_connections.specs.declared.worker.TheConstants.{MAX_CONNECTIONS}
@@ -62,12 +62,12 @@ lost_not before after cs news c e n =
 -- a look that took one
 pub took_by : {S : Type 0} (settings : Settings) (now : ℕ) (mid new : List (Client S)) (r : Result (Option NoMore) AllocError) → TakesOne settings now mid new r → r ≡ Ok None → length new ≡ length mid + 1
 took_by {S} settings now mid new r one e =
-    let took = subst (λ z. TakesOne {S = S} now mid new z) e one in
+    let took = subst (λ z. TakesOne {S = S} settings now mid new z) e one in
     ap length took.2 ∙ one_longer mid took.0
 
 -- a look that took none tells why
 pub ends_by : {S : Type 0} (settings : Settings) (now : ℕ) (mid new : List (Client S)) (r : Result (Option NoMore) AllocError) (why : NoMore) → TakesOne settings now mid new r → r ≡ Ok (Some why) → EndsAt new why
-ends_by {S} settings now mid new r why one e = (subst (λ z. TakesOne {S = S} now mid new z) e one).1
+ends_by {S} settings now mid new r why one e = (subst (λ z. TakesOne {S = S} settings now mid new z) e one).1
 
 -- one more was taken in each of so many looks
 pub counted : (first mid new i : ℕ) → mid ≡ first + i → new ≡ mid + 1 → new ≡ first + (i + 1)

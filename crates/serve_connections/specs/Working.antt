@@ -5,7 +5,7 @@ use Rattle.std.specs.List.{AllByRecursion}
 use mathlib.Core.HLevel.{×_prop}
 use denote.Struct.Props as logic
 use Rattle.tungstenite.specs.Socket.{Socket}
-use Rattle.serve_connections.specs.declared.settings.Settings.{Settings}
+use Rattle.client_settings.specs.declared.settings.Settings.{Settings}
 use Rattle.serve_connections.specs.Turning.{Around, Turns, Delivers as DeliversAt, Flushes, StopsServing}
 use Rattle.serve_connections.specs.declared.connection.Progress.{Progress}
 use Rattle.serve_connections.specs.declared.connection.Progress.TheVariants as progress
@@ -180,9 +180,9 @@ newcomer settings number token socket now =
       unsent = false;
       connection = record {
         socket = socket;
-        session = record { pid = number; failed = false; joined = []; cut_short = None; match_joins = settings.match_joins };
+        session = record { pid = number; failed = false; joined = []; cut_short = None };
         telling = record { untold = None };
-        numbers = settings.numbers;
+        settings = settings;
         heard = now;
         pinged = false;
         messages = 0;

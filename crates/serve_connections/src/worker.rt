@@ -11,8 +11,8 @@ ghost use Rattle.serve_connections.specs.Working.{DeliversAll, EndsAt, NoneLost,
 use crate::client::Client;
 use crate::connection::Connection;
 use crate::resting::Resting;
-use crate::settings::Settings;
 use channel_rules::Port;
+use client_settings::Settings;
 use hook_registry::{PresenceHooks, Routes};
 use node_threads::{NoneWaits, Numbered, Taker};
 use serve_sockets::WebSocket;
@@ -416,15 +416,16 @@ impl<S: Read + Write + Drop> Worker<S> {
         rt: &R,
         alloc: Global,
         now: u64,
-        settings: Settings,
+        settings: &Settings,
     ) -> Result<Option<NoMore>, AllocError>
-        ensures takes { TakesOne settings now (served_by self.old) (served_by self.new) result }
+        ensures takes { TakesOne settings.now now (served_by self.old) (served_by self.new) result }
         ensures none_lost { NoneLost (view self.old.taker.pass).pops (view self.new.taker.pass).pops
             (served_by self.old) (served_by self.new) }
     {
         if self.order.len() >= MAX_CONNECTIONS {
             return Ok(Some(NoMore::Full));
         }
+        let settings = settings.share()?;
         self.order.reserve(1)?;
         self.clients.reserve(1)?;
         let Numbered { number, stream } = match self.taker.take(rt) {
@@ -451,9 +452,9 @@ impl<S: Read + Write + Drop> Worker<S> {
         rt: &R,
         alloc: Global,
         now: u64,
-        settings: Settings,
+        settings: &Settings,
     ) -> Result<NoMore, AllocError>
-        ensures takes { TakesIn settings now (served_by self.old) (served_by self.new) }
+        ensures takes { TakesIn settings.now now (served_by self.old) (served_by self.new) }
         ensures none_lost { NoneLost (view self.old.taker.pass).pops (view self.new.taker.pass).pops
             (served_by self.old) (served_by self.new) }
         ensures ends { IfOk result (EndsAt (served_by self.new)) }

@@ -12,5 +12,4 @@ returns c =
     let three = c.in_ok-arg-3.ensures.shape c.route_option.ensures.local ∙ ap₂ with_rule two c.route_option.ensures.rule in
     let four = c.in_ok-arg-4.ensures.shape c.notices_flag.ensures.local ∙ ap₂ with_rule three c.notices_flag.ensures.rule in
     let five = c.in_ok-arg-5.ensures.shape c.explain_flag.ensures.local ∙ ap₂ with_rule four c.explain_flag.ensures.rule in
-    let six = c.in_ok-arg-6.ensures.shape c.fractions_flag.ensures.local ∙ ap₂ with_rule five c.fractions_flag.ensures.rule in
-    IfOk-weaker c.arg-7.result _ _ (λ r a. a.shape c.match_joins_flag.ensures.local ∙ ap₂ with_rule six c.match_joins_flag.ensures.rule) c.arg-7.ensures
+    IfOk-weaker c.arg-6.result _ _ (λ r a. a.shape c.fractions_flag.ensures.local ∙ ap₂ with_rule five c.fractions_flag.ensures.rule) c.arg-6.ensures

@@ -1,6 +1,5 @@
 -- What comes of a client's text before its session reads it.
-use Rattle.std.specs.Prelude.{◌≡◌, ℕ, ◌==◌, ◌&&◌, ◌||◌, not, Bool, true, false, List, Option, Some, None, is_some, option_map, if◌then◌else◌, Result, Ok, Err, String, string_bytes, codes}
-use Rattle.std.specs.Global.{Global}
+use Rattle.std.specs.Prelude.{◌≡◌, ℕ, ◌==◌, ◌&&◌, ◌||◌, not, Bool, true, false, List, [], ◌∷◌, map, Option, Some, None, is_some, if◌then◌else◌, Result, Ok, Err, string_bytes, codes}
 use Rattle.std.specs.Str.{bytes_eq}
 use Rattle.serde_json.specs.Data.{Data}
 use Rattle.phx_message.specs.Reading.{decoded}
@@ -23,13 +22,13 @@ use Rattle.client_settings.specs.Events.{goes_to_others, is_answered, is_own}
 use Rattle.client_settings.specs.Kept.{is_itself, kept_event, kept_shout, told_of}
 use Rattle.client_settings.specs.declared.events.EventNames.{EventNames}
 use Rattle.client_settings.specs.declared.settings.Settings.{Settings}
-use Rattle.client_settings.specs.declared.hearing.Heard.{Heard}
-use Rattle.client_settings.specs.declared.hearing.Heard.TheVariants as heard_as
+use Rattle.client_settings.specs.declared.meaning.Meaning.{Meaning}
+use Rattle.client_settings.specs.declared.meaning.Meaning.TheVariants as meaning_is
 
--- The session reads this text, and where it has nothing to say to that, this is said; or this is said, and it reads nothing.
-pub data Hearing : Type 0 where
-  reads : (text : List ℕ) → (ok : Option (List ℕ)) → Hearing
-  answers : (reply : List ℕ) → Hearing
+-- The session reads this text, and where it says nothing to that, this is said; or this is said, and it reads nothing.
+pub data Meant : Type 0 where
+  reads : (text : List ℕ) → (ok : List (List ℕ)) → Meant
+  answers : (texts : List (List ℕ)) → Meant
 
 -- ---- the join that a message is to
 
@@ -78,8 +77,8 @@ shouting m payload =
 abbrev pub as_shout : Settings → ℕ → Message → Message
 as_shout given pid m = shouting m (kept_event m.event (sender_of given pid m.event) m.payload)
 
-abbrev pub answer_to : Settings → Message → Option (List ℕ)
-answer_to given m = if is_answered given.events m.event then Some (text_of (ok m.join_ref m empty)) else None
+abbrev pub answer_to : Settings → Message → List (List ℕ)
+answer_to given m = if is_answered given.events m.event then text_of (ok m.join_ref m empty) ∷ [] else []
 
 abbrev pub is_shout_event : TopicEvent → Bool
 is_shout_event events_are.Shout = true
@@ -94,16 +93,16 @@ abbrev pub is_taken_for_kept : Settings → Message → Bool
 is_taken_for_kept given m =
     is_some given.events && (is_shout (kind_of m.event) && not (is_itself (told_of m.payload)))
 
-abbrev pub hears_in_time : Settings → ℕ → List ℕ → Message → Hearing
-hears_in_time given pid text m =
+abbrev pub meant_in_time : Settings → ℕ → List ℕ → Message → Meant
+meant_in_time given pid text m =
     if is_own given.events m.event then reads (text_of (as_shout given pid m)) (answer_to given m)
-    else if is_taken_for_kept given m then reads (text_of (shouting m (kept_shout m.payload))) None
-    else reads text None
+    else if is_taken_for_kept given m then reads (text_of (shouting m (kept_shout m.payload))) []
+    else reads text []
 
-abbrev pub hears_message : Settings → InForce → List ℕ → Result Message MessageFault → Hearing
-hears_message given s text (Err fault) = reads text None
-hears_message given s text (Ok m) =
-    if is_late given s m then answers (text_of (late_reply (kind_of m.event) m)) else hears_in_time given s.pid text m
+abbrev pub meant_by_message : Settings → InForce → List ℕ → Result Message MessageFault → Meant
+meant_by_message given s text (Err fault) = reads text []
+meant_by_message given s text (Ok m) =
+    if is_late given s m then answers (text_of (late_reply (kind_of m.event) m) ∷ []) else meant_in_time given s.pid text m
 
 -- ---- the whole
 
@@ -112,29 +111,23 @@ abbrev pub looks : Settings → Bool
 looks given = given.match_joins || is_some given.events
 
 -- a failed session is asked nothing
-abbrev pub hears : Settings → InForce → List ℕ → Hearing
-hears given s text =
-    if looks given && not s.failed then hears_message given s text (decoded the_limits.CLIENT text) else reads text None
+abbrev pub meant_by_text : Settings → InForce → List ℕ → Meant
+meant_by_text given s text =
+    if looks given && not s.failed then meant_by_message given s text (decoded the_limits.CLIENT text) else reads text []
 
 -- what comes of a text as it came
-unfoldable pub heard : Settings → InForce → List ℕ → Hearing
-heard given s text = hears given s (heard_text given.numbers text)
+unfoldable pub meaning : Settings → InForce → List ℕ → Meant
+meaning given s text = meant_by_text given s (heard_text given.numbers text)
 
 -- ---- as it is told by code
 
-abbrev pub read_as : List ℕ → Option (String Global) → Option (String Global) → Hearing
-read_as text marked ok = reads (become text marked) (option_map string_bytes ok)
-
-abbrev pub hearing_of : List ℕ → Heard → Hearing
-hearing_of text (heard_as.Reads asked) = read_as text asked.text asked.ok
-hearing_of text (heard_as.Answers reply) = answers (string_bytes reply)
+abbrev pub meant_by : List ℕ → Meaning → Meant
+meant_by text (meaning_is.Reads asked) = reads (become text asked.text) (map string_bytes asked.ok.items)
+meant_by text (meaning_is.Answers texts) = answers (map string_bytes texts.items)
 
 -- whatever text came, this came of it
-abbrev pub IsHeardAs : (List ℕ → Hearing) → Heard → Type 0
-IsHeardAs meant h = (text : List ℕ) → hearing_of text h ≡ meant text
-
-abbrev pub read_as_it_is : Option (String Global) → Heard
-read_as_it_is marked = heard_as.Reads (record { text = marked; ok = None })
+abbrev pub Means : (List ℕ → Meant) → Meaning → Type 0
+Means meant h = (text : List ℕ) → meant_by text h ≡ meant text
 
 -- ---- by default
 
@@ -142,6 +135,3 @@ pub record IsPlain (given : Settings) : Type 0 where
   pub numbers : given.numbers ≡ Whole
   pub joins : given.match_joins ≡ false
   pub events : given.events ≡ None
-
-abbrev pub read_plainly : Heard
-read_plainly = read_as_it_is None

@@ -1,12 +1,12 @@
 //! What comes of a client's text before its session reads it.
-ghost use Rattle.std.specs.Prelude.{◌≡◌, ◌&&◌, not, false, Ok, None, IfOk, option_map, string_bytes};
+ghost use Rattle.std.specs.Prelude.{◌≡◌, ◌&&◌, not, [], true, false, is_ok, Ok, IfOk, map, string_bytes};
 ghost use Rattle.serde_json.specs.Written.{has_float};
 ghost use Rattle.number_texts.specs.Marks.{become};
 ghost use Rattle.phx_message.specs.Reading.{decoded};
 ghost use Rattle.channel_rules.specs.Rules.{kind_of as kind_in};
 ghost use Rattle.channel_rules.specs.Said.{text_of};
 ghost use Rattle.client_settings.specs.Events.{is_own};
-ghost use Rattle.client_settings.specs.Hearing.{IsHeardAs, IsPlain, answer_to, as_shout, heard, hearing_of, hears_in_time, hears_message, is_join, is_late, is_shout as is_shout_kind, is_taken_for_kept as is_taken_in, late_reply, read_as_it_is, read_plainly, reads, same_msg_ref, same_ref, sender_of, shouting};
+ghost use Rattle.client_settings.specs.Meaning.{IsPlain, Means, answer_to, as_shout, is_join, is_late as is_late_in, is_shout as is_shout_kind, is_taken_for_kept as is_taken_in, late_reply, meaning, meant_by, meant_by_message, meant_in_time, reads, same_msg_ref, same_ref, sender_of, shouting};
 
 use crate::kept::{is_taken_for_kept, keep_event, keep_shout};
 use crate::settings::Settings;
@@ -18,20 +18,20 @@ use std::alloc::{AllocError, Global};
 
 /// What a session reads of a text.
 #[derive(Debug, Drop)]
-pub struct Read {
+pub struct Reading {
     /// The text, or none where it is the one that came.
     pub text: Option<String>,
-    /// What is said where the session says nothing, if anything is.
-    pub ok: Option<String>,
+    /// What is said where the session says nothing.
+    pub ok: Vec<String>,
 }
 
 /// What comes of a text.
 #[derive(Debug, Drop)]
-pub enum Heard {
+pub enum Meaning {
     /// The session reads it.
-    Reads(Read),
-    /// It is answered, and the session isn't asked.
-    Answers(String),
+    Reads(Reading),
+    /// This is said, and the session isn't asked.
+    Answers(Vec<String>),
 }
 
 // Whether two references are the same.
@@ -105,16 +105,17 @@ pub(crate) fn is_shout(event: &str) -> bool
 }
 
 // What is read of a text that is read as it is, with its numbers as texts.
-fn as_it_came(text: Option<String>) -> Heard
-    ensures { result ≡ read_as_it_is text }
+fn as_it_came(alloc: Global, text: Option<String>) -> Meaning
+    ensures { Means (λ came. reads (become came text) []) result }
 {
-    Heard::Reads(Read { text, ok: None })
+    let ok = Vec::new(alloc);
+    Meaning::Reads(Reading { text, ok })
 }
 
 impl Settings {
     // Whether a message is to an earlier join of its topic.
     fn is_late(&self, session: &Session, message: &Message) -> bool
-        ensures { result ≡ is_late self.now session.now message.now }
+        ensures { result ≡ is_late_in self.now session.now message.now }
     {
         match session.join_of(&message.topic) {
             Some(join) => self.match_joins && is_under_another_ref(join, message),
@@ -143,28 +144,28 @@ impl Settings {
     }
 
     // What is said to an event of a client's own.
-    fn answer_to(&self, alloc: Global, message: &Message) -> Result<Option<String>, AllocError>
-        ensures { IfOk result (λ o. option_map string_bytes o ≡ answer_to self.now message.now) }
+    fn answer_to(&self, alloc: Global, message: &Message) -> Result<Vec<String>, AllocError>
+        ensures { IfOk result (λ v. map string_bytes v.items ≡ answer_to self.now message.now) }
     {
         match &self.events {
             Some(events) if events.is_answered(message.event.as_str()) => {
                 let reply = write_ok(alloc, &message.join_ref, message, empty_object(alloc))?;
-                Ok(Some(reply.text))
+                Ok(vec![in alloc; reply.text]?)
             }
-            _ => Ok(None),
+            _ => Ok(Vec::new(alloc)),
         }
     }
 
     // What is read of an event of a client's own.
-    fn hear_own(&self, alloc: Global, pid: u64, message: Message) -> Result<Heard, AllocError>
+    fn own_event(&self, alloc: Global, pid: u64, message: Message) -> Result<Meaning, AllocError>
         requires { has_float message.payload ≡ false }
-        ensures { IfOk result (IsHeardAs (λ text. reads (text_of (as_shout self.now pid message)) (answer_to self.now message))) }
+        ensures { IfOk result (Means (λ text. reads (text_of (as_shout self.now pid message)) (answer_to self.now message))) }
     {
         let ok = self.answer_to(alloc, &message)?;
         let sender = self.sender_of(pid, message.event.as_str());
         let payload = keep_event(alloc, message.event.as_str(), sender, &message.payload)?;
         let text = shout_text(alloc, message, payload)?;
-        Ok(Heard::Reads(Read {
+        Ok(Meaning::Reads(Reading {
             text: Some(text),
             ok,
         }))
@@ -180,57 +181,58 @@ impl Settings {
     }
 
     // What is read of a message that isn't late.
-    fn hear_in_time(
+    fn in_time(
         &self,
         alloc: Global,
         pid: u64,
         marked: Option<String>,
         message: Message,
-    ) -> Result<Heard, AllocError>
+    ) -> Result<Meaning, AllocError>
         requires { has_float message.payload ≡ false }
-        ensures { IfOk result (IsHeardAs (λ text. hears_in_time self.now pid (become text marked) message)) }
+        ensures { IfOk result (Means (λ text. meant_in_time self.now pid (become text marked) message)) }
     {
         if self.is_own(message.event.as_str()) {
-            return self.hear_own(alloc, pid, message);
+            return self.own_event(alloc, pid, message);
         }
         if self.is_taken_for_kept(&message) {
             let payload = keep_shout(alloc, &message.payload)?;
             let text = shout_text(alloc, message, payload)?;
-            return Ok(Heard::Reads(Read {
+            return Ok(Meaning::Reads(Reading {
                 text: Some(text),
-                ok: None,
+                ok: Vec::new(alloc),
             }));
         }
-        Ok(as_it_came(marked))
+        Ok(as_it_came(alloc, marked))
     }
 
     // What comes of a message.
-    fn hear_message(
+    fn of_message(
         &self,
         alloc: Global,
         session: &Session,
         marked: Option<String>,
         message: Message,
-    ) -> Result<Heard, AllocError>
+    ) -> Result<Meaning, AllocError>
         requires { has_float message.payload ≡ false }
         ensures { IfOk result
-            (IsHeardAs (λ text. hears_message self.now session.now (become text marked) (Ok message))) }
+            (Means (λ text. meant_by_message self.now session.now (become text marked) (Ok message))) }
     {
         if self.is_late(session, &message) {
-            return Ok(Heard::Answers(late_text(alloc, &message)?));
+            let reply = late_text(alloc, &message)?;
+            return Ok(Meaning::Answers(vec![in alloc; reply]?));
         }
-        self.hear_in_time(alloc, session.pid(), marked, message)
+        self.in_time(alloc, session.pid(), marked, message)
     }
 
     // What comes of a text with its numbers as texts.
-    fn hear_marked(
+    fn of_marked(
         &self,
         alloc: Global,
         session: &Session,
         text: &str,
         marked: Option<String>,
-    ) -> Result<Heard, AllocError>
-        ensures { IfOk result (λ h. hearing_of text.now h ≡ hears_message self.now session.now (become text.now marked)
+    ) -> Result<Meaning, AllocError>
+        ensures { IfOk result (λ h. meant_by text.now h ≡ meant_by_message self.now session.now (become text.now marked)
             (decoded Limits.CLIENT (become text.now marked))) }
     {
         let read = match &marked {
@@ -238,27 +240,27 @@ impl Settings {
             None => text,
         };
         match decode(alloc, read, Limits::CLIENT) {
-            Ok(message) => self.hear_message(alloc, session, marked, message),
+            Ok(message) => self.of_message(alloc, session, marked, message),
             Err(MessageFault::OutOfMemory) => Err(AllocError),
-            Err(_) => Ok(as_it_came(marked)),
+            Err(_) => Ok(as_it_came(alloc, marked)),
         }
     }
 
-    /// What comes of a text that came for this session. By default it is read as it came, and no memory is asked for.
-    #[tactic(auto, unfolding(crate::specs::Hearing::heard))]
-    pub fn hear(
+    /// What comes of a text that came for this session. By default it is read as it came, and no memory is wanted.
+    #[tactic(auto, unfolding(crate::specs::Meaning::meaning))]
+    pub fn meaning(
         &self,
         alloc: Global,
         session: &Session,
         text: &str,
-    ) -> Result<Heard, AllocError>
-        ensures heard { IfOk result (λ h. hearing_of text.now h ≡ heard self.now session.now text.now) }
-        ensures plain { IsPlain self.now → result ≡ Ok read_plainly }
+    ) -> Result<Meaning, AllocError>
+        ensures meaning { IfOk result (λ h. meant_by text.now h ≡ meaning self.now session.now text.now) }
+        ensures plain { IsPlain self.now → is_ok result ≡ true }
     {
         let marked = self.numbers.heard(alloc, text)?;
         if !self.looks() || session.failed() {
-            return Ok(as_it_came(marked));
+            return Ok(as_it_came(alloc, marked));
         }
-        self.hear_marked(alloc, session, text, marked)
+        self.of_marked(alloc, session, text, marked)
     }
 }
