@@ -5,7 +5,8 @@ use Rattle.phx_message.specs.declared.message.Message.{Message}
 use Rattle.phx_message.specs.declared.message.MsgRef.{MsgRef}
 use Rattle.tracker_shard.specs.declared.shard.Sub.{Sub}
 use Rattle.channel_rules.specs.Asks.{Ask, Answer}
-use Rattle.channel_rules.specs.Rules.{InForce, Joined, End, answers, join_ref_of, join_asked, rejoins, left, without_topic, on_leave, on_topic, says_ok, says_error, empty, unmatched, join_at, join_rule, leave_rule, kind_rule}
+use Rattle.channel_rules.specs.InForce.{InForce, Joined, without_topic}
+use Rattle.channel_rules.specs.Rules.{End, answers, join_ref_of, join_asked, rejoins, left, on_leave, on_topic, says_ok, says_error, empty, unmatched, join_at, join_rule, leave_rule, kind_rule}
 use Rattle.channel_rules.specs.InForce.{added}
 use Rattle.channel_session.specs.Joining.{joined_by}
 use Rattle.channel_rules.specs.Outcome.{Follows}

@@ -6,7 +6,8 @@ use Rattle.tracker_shard.specs.declared.shard.Sub.{Sub}
 use Rattle.channel_rules.specs.declared.refusal.Refusal.{Refusal}
 use Rattle.channel_rules.specs.Asks.{Ask, Answer, unsubscribe, untrack_all}
 use Rattle.channel_rules.specs.Script.{ask, done}
-use Rattle.channel_rules.specs.Rules.{InForce, End, Joined, answers, says, ok, empty, rejoins, join_asked, ended, then_next, unsaid, on_leave, left}
+use Rattle.channel_rules.specs.InForce.{InForce, Joined}
+use Rattle.channel_rules.specs.Rules.{End, answers, says, ok, empty, rejoins, join_asked, ended, then_next, unsaid, on_leave, left}
 use Rattle.channel_rules.specs.Said.{message}
 use Rattle.channel_rules.specs.declared.asked.Asked.{Asked}
 use Rattle.channel_rules.specs.Outcome.{Follows, GivesEnd, spoilt}

@@ -16,7 +16,8 @@ use Rattle.hook_registry.proofs.Choosing.{plain_fetched, plain_state}
 use Rattle.channel_rules.specs.InForce.{Joined}
 use Rattle.channel_rules.specs.Outcome.{CanWant, Stops}
 use Rattle.channel_rules.specs.Replies.{RepliesBy, messages_of}
-use Rattle.channel_rules.specs.Rules.{InForce, End, answers}
+use Rattle.channel_rules.specs.InForce.{InForce}
+use Rattle.channel_rules.specs.Rules.{End, answers}
 use Rattle.channel_rules.specs.Said.{Said, listed, told, EachBy, Worded, Writes, text_of}
 use Rattle.channel_rules.specs.declared.replies.Reply.{Reply}
 use Rattle.channel_rules.specs.declared.stop.Stop.{Stop}

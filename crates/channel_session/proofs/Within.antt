@@ -4,7 +4,8 @@ use Rattle.std.proofs.lemmas.Bool.Decides.{nat_tests}
 use Rattle.phx_message.specs.declared.message.Message.{Message}
 use Rattle.channel_rules.specs.Asks.{Ask, Answer}
 use Rattle.channel_rules.specs.Outcome.{Follows, GivesEnd}
-use Rattle.channel_rules.specs.Rules.{InForce, End, refuses, within}
+use Rattle.channel_rules.specs.InForce.{InForce}
+use Rattle.channel_rules.specs.Rules.{End, refuses, within}
 use Rattle.channel_rules.specs.Said.{Said}
 use Rattle.channel_rules.specs.Script.{Script}
 use Rattle.channel_rules.specs.declared.stop.Stop.{Stop}

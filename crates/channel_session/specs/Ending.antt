@@ -6,7 +6,7 @@ use Rattle.channel_rules.specs.declared.refusal.Refusal.{Refusal}
 use Rattle.channel_rules.specs.declared.refusal.Refusal.TheVariants.{Table}
 use Rattle.channel_rules.specs.Asks.{Ask, Answer, Call, Made, unsubscribe, untrack_all}
 use Rattle.channel_rules.specs.Script.{Script, done, ask, Plays}
-use Rattle.channel_rules.specs.Rules.{InForce, Joined}
+use Rattle.channel_rules.specs.InForce.{InForce, Joined}
 use Rattle.channel_session.specs.declared.fault.SessionFault.{SessionFault}
 use Rattle.channel_session.specs.declared.fault.SessionFault.TheVariants.{OutOfMemory, ShardFull}
 

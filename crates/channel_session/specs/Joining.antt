@@ -9,7 +9,8 @@ use Rattle.serde_json.specs.Data.{Data}
 use Rattle.channel_rules.specs.declared.refusal.Refusal.{Refusal}
 use Rattle.channel_rules.specs.Asked.{asked}
 use Rattle.channel_rules.specs.Replies.{Acts}
-use Rattle.channel_rules.specs.Rules.{Joined, InForce, End, after_subscribe, answers, ended, join_asked, join_ref_of, joins, left, ok, on_leave, rejoins, empty}
+use Rattle.channel_rules.specs.InForce.{Joined, InForce}
+use Rattle.channel_rules.specs.Rules.{End, after_subscribe, answers, ended, join_asked, join_ref_of, joins, left, ok, on_leave, rejoins, empty}
 use Rattle.channel_rules.specs.Said.{Said, message}
 use Rattle.channel_rules.specs.Outcome.{Follows, GivesEnd, seen, spoilt}
 use Rattle.channel_rules.specs.declared.asked.Asked.{Asked}

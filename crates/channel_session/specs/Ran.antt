@@ -9,7 +9,8 @@ use Rattle.phx_message.specs.declared.message.MessageFault.{MessageFault}
 use Rattle.channel_session.specs.Wording.{worded_by}
 use Rattle.channel_rules.specs.Asks.{Ask, Answer}
 use Rattle.channel_rules.specs.Script.{Script}
-use Rattle.channel_rules.specs.Rules.{InForce, Joined, End, answers, find, rules}
+use Rattle.channel_rules.specs.InForce.{InForce, Joined, find}
+use Rattle.channel_rules.specs.Rules.{End, answers, rules}
 use Rattle.channel_rules.specs.Outcome.{Follows}
 use Rattle.channel_rules.specs.Said.{Said, WritesAll}
 use Rattle.channel_rules.specs.declared.stop.Stop.{Stop}

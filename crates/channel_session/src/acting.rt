@@ -4,7 +4,8 @@ ghost use Rattle.presence_journal.specs.Limits.{is_payload};
 ghost use Rattle.channel_rules.specs.InForce.{joined_of};
 ghost use Rattle.channel_rules.specs.Replies.{Acts, ActsBy};
 ghost use Rattle.channel_session.specs.Wording.{worded_by};
-ghost use Rattle.channel_rules.specs.Rules.{find, join_at, join_rule, leave_rule, topic_rule, kind_rule, kind_of as kind_in, is_phoenix as is_phoenix_of, route_of, rules};
+ghost use Rattle.channel_rules.specs.InForce.{find};
+ghost use Rattle.channel_rules.specs.Rules.{join_at, join_rule, leave_rule, topic_rule, kind_rule, kind_of as kind_in, is_phoenix as is_phoenix_of, route_of, rules};
 
 use crate::asking::{Caller, Incoming};
 use crate::channels::Channels;

@@ -5,7 +5,8 @@ ghost use Rattle.channel_rules.specs.Asks.{untrack_all};
 ghost use Rattle.channel_rules.specs.InForce.{joined_of};
 ghost use Rattle.channel_session.specs.Joining.{Joins, JoinsAsked, JoinsBehind, Leads, Leaves, JoinRuns, JoinRepliesWith, Rejoins, Subscribed, leave_end};
 ghost use Rattle.channel_rules.specs.Replies.{RepliesWith, reply_end};
-ghost use Rattle.channel_rules.specs.Rules.{InForce, said, refuses, subscribes, tracks, join_ref_of as join_ref_in, told_ref, empty as empty_of, says_ok};
+ghost use Rattle.channel_rules.specs.InForce.{InForce};
+ghost use Rattle.channel_rules.specs.Rules.{said, refuses, subscribes, tracks, join_ref_of as join_ref_in, told_ref, empty as empty_of, says_ok};
 
 use crate::asking::Caller;
 use channel_rules::{

@@ -17,7 +17,10 @@ use Rattle.replica_status.specs.declared.status.Status.TheVariants as status_is
 use Rattle.replica_status.specs.Table.{status_of, is_unheard}
 use Rattle.presence_journal.specs.declared.step.Step.TheVariants as steps_are
 use Rattle.presence_journal.specs.declared.entry.Outcome.TheVariants as outcomes_are
-use Rattle.presence_journal.specs.Steps.{Step, Outcome, Entry, Start}
+use Rattle.presence_journal.specs.declared.step.Step.{Step}
+use Rattle.presence_journal.specs.declared.entry.Outcome.{Outcome}
+use Rattle.presence_journal.specs.declared.entry.Entry.{Entry}
+use Rattle.presence_journal.specs.declared.entry.Start.{Start}
 use Rattle.presence_journal.specs.History.{History, Begin, Then, own, count, last_number, time, time_of, standing, standing_after, status, is_up, is_gone, next_dot, dot_removed, told_removed, known, removed, row, live, shown}
 use Rattle.presence_journal.specs.Table.{accepted, after, next_entry, outcome_of}
 use Rattle.presence_journal.specs.Walk.{is_rebirth}

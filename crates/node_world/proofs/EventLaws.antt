@@ -18,7 +18,10 @@ use Rattle.orswot_core.specs.Full.{dot_of}
 use Rattle.delta_range.specs.Deltas.{telling_in}
 use Rattle.presence_journal.specs.declared.step.Step.TheVariants as steps_are
 use Rattle.presence_journal.specs.declared.entry.Outcome.TheVariants as outcomes_are
-use Rattle.presence_journal.specs.Steps.{Step, Outcome, Entry, Start}
+use Rattle.presence_journal.specs.declared.step.Step.{Step}
+use Rattle.presence_journal.specs.declared.entry.Outcome.{Outcome}
+use Rattle.presence_journal.specs.declared.entry.Entry.{Entry}
+use Rattle.presence_journal.specs.declared.entry.Start.{Start}
 use Rattle.presence_journal.specs.History.{History, Begin, Then, begun, own, last_number, first_some, row_made, row_added, has_dot, row}
 use Rattle.presence_journal.specs.Walk.{row_at, is_rebirth}
 use Rattle.presence_journal.specs.Table.{accepted, after, is_step, next_entry, IsLegal}

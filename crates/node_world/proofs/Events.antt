@@ -8,7 +8,8 @@ use Rattle.presence_journal.specs.declared.entry.Outcome.TheVariants as outcomes
 use Rattle.orswot_core.specs.declared.form.Form.{Form}
 use Rattle.orswot_core.specs.Telling.{ToldValue}
 use Rattle.presence_journal.specs.declared.step.Step.TheVariants as steps_are
-use Rattle.presence_journal.specs.Steps.{Step, Outcome}
+use Rattle.presence_journal.specs.declared.step.Step.{Step}
+use Rattle.presence_journal.specs.declared.entry.Outcome.{Outcome}
 use Rattle.presence_journal.specs.History.{last_number}
 use Rattle.presence_journal.specs.Table.{accepted, is_step}
 use Rattle.node_world.specs.Others.{of_others}

@@ -8,7 +8,9 @@ use Rattle.presence_base.specs.declared.row.Row.{Row}
 use Rattle.orswot_core.specs.Sets.{DotRows}
 use Rattle.presence_journal.specs.declared.step.Step.TheVariants as steps_are
 use Rattle.presence_journal.specs.declared.entry.Outcome.TheVariants as outcomes_are
-use Rattle.presence_journal.specs.Steps.{Step, Outcome, Entry}
+use Rattle.presence_journal.specs.declared.step.Step.{Step}
+use Rattle.presence_journal.specs.declared.entry.Outcome.{Outcome}
+use Rattle.presence_journal.specs.declared.entry.Entry.{Entry}
 use Rattle.presence_journal.specs.History.{History, Then, own, reborn, is_full, is_gone, status, removed, row, live}
 use Rattle.presence_journal.specs.Table.{IsLegal, accepted, after, next_entry, own_dots, reborn_from, reborn_rows, can_be_reborn, outcome_of}
 use Rattle.presence_journal.specs.Walk.{pairs_in, is_reborn}

@@ -2,7 +2,9 @@
 use Rattle.std.proofs.Common.{◌≡◌, ℕ, zero, suc, ◌<◌, ◌≤◌, true, [], ◌∷◌, Some, None, refl, sym, ◌∙◌, ap, arith}
 use Rattle.orswot_core.specs.Full.{dot_of}
 use Rattle.presence_journal.specs.declared.entry.Outcome.TheVariants as outcomes_are
-use Rattle.presence_journal.specs.Steps.{Step, Outcome, Entry}
+use Rattle.presence_journal.specs.declared.step.Step.{Step}
+use Rattle.presence_journal.specs.declared.entry.Outcome.{Outcome}
+use Rattle.presence_journal.specs.declared.entry.Entry.{Entry}
 use Rattle.presence_journal.specs.History.{History, Then, own, count, last_number, entry_count, time, standing, status, hears, known, removed, row, live, shown}
 use Rattle.presence_journal.specs.Present.{dots}
 use Rattle.presence_journal.specs.Table.{outcome_of, after, accepted}

@@ -5,7 +5,7 @@ use Rattle.presence_base.specs.declared.dots.Dot.{Dot}
 use Rattle.presence_base.specs.declared.row.Row.{Row}
 use Rattle.orswot_core.specs.Sets.{DotRows}
 use Rattle.presence_journal.specs.declared.entry.Outcome.TheVariants as outcomes_are
-use Rattle.presence_journal.specs.Steps.{Outcome}
+use Rattle.presence_journal.specs.declared.entry.Outcome.{Outcome}
 use Rattle.presence_journal.specs.History.{History}
 use Rattle.presence_journal_known.specs.LeftOut.{HoldsCovered}
 use Rattle.node_world.specs.World.{LifeValue, gone_on, rows_under}

@@ -7,7 +7,7 @@ use Rattle.presence_base.specs.Order.{replica_cmp}
 use Rattle.orswot_core.specs.declared.form.Form.{Form}
 use Rattle.orswot_core.specs.Telling.{ToldValue}
 use Rattle.presence_journal.specs.declared.step.Step.TheVariants as steps_are
-use Rattle.presence_journal.specs.Steps.{Step}
+use Rattle.presence_journal.specs.declared.step.Step.{Step}
 use Rattle.presence_journal.specs.Table.{accepted}
 use Rattle.node_world.specs.World.{LifeValue, Lives, WorldValue, first_life, next_life, newborn, stepped, TellsWhole, TellsPartIf}
 use Rattle.node_world.specs.Living.{Cuts, BeginsAgain}

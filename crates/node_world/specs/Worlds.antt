@@ -3,7 +3,7 @@ use Rattle.std.specs.Prelude.{◌≡◌, ℕ, cond, List, slice_get, Option, opt
 use Rattle.presence_base.specs.declared.dots.Replica.{Replica}
 use Rattle.orswot_core.specs.declared.form.Form.{Form}
 use Rattle.orswot_core.specs.Telling.{ToldValue}
-use Rattle.presence_journal.specs.Steps.{Step}
+use Rattle.presence_journal.specs.declared.step.Step.{Step}
 use Rattle.node_world.specs.Others.{of_others}
 use Rattle.node_world.specs.World.{Lives, WorldValue, acts, life_at, may_ask, Cuts, Tells, delivered, Begins, restarted, rebirths, TellsInPart}
 

@@ -14,7 +14,8 @@ use Rattle.dot_context.specs.Sets.{listed}
 use Rattle.delta_range.specs.Longest.{up_to}
 use Rattle.delta_range.proofs.RunFacts.{holds_up_to}
 use Rattle.presence_journal.specs.declared.entry.Outcome.TheVariants as outcomes_are
-use Rattle.presence_journal.specs.Steps.{Outcome, Entry}
+use Rattle.presence_journal.specs.declared.entry.Outcome.{Outcome}
+use Rattle.presence_journal.specs.declared.entry.Entry.{Entry}
 use Rattle.presence_journal.specs.History.{History, Then, own, count, counts_used, last_cut, first_some, has_dot, row_added, shown}
 use Rattle.presence_journal.specs.Present.{dots_taken}
 use Rattle.presence_journal.specs.Table.{IsLegal}

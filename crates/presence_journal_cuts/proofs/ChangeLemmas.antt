@@ -8,7 +8,8 @@ use Rattle.dot_context.specs.Runs.{holds, AreLong}
 use Rattle.delta_range.specs.Longest.{up_to}
 use Rattle.delta_range.proofs.RunFacts.{long_append, long_up_to, ends_up_to}
 use Rattle.presence_journal.specs.declared.entry.Outcome.TheVariants as outcomes_are
-use Rattle.presence_journal.specs.Steps.{Outcome, Entry}
+use Rattle.presence_journal.specs.declared.entry.Outcome.{Outcome}
+use Rattle.presence_journal.specs.declared.entry.Entry.{Entry}
 use Rattle.presence_journal.specs.History.{History, Then, count, counts_used, cut_after, first_some, has_dot, row_added}
 use Rattle.presence_journal.specs.Present.{dots_taken}
 use Rattle.presence_journal.specs.Table.{IsLegal}

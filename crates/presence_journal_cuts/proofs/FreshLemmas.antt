@@ -7,7 +7,8 @@ use Rattle.presence_base.specs.declared.dots.Dot.{Dot}
 use Rattle.presence_base.specs.declared.row.Row.{Row}
 use Rattle.presence_base.specs.Order.{dot_cmp, same_replica, same_dot}
 use Rattle.presence_journal.specs.declared.entry.Outcome.TheVariants as outcomes_are
-use Rattle.presence_journal.specs.Steps.{Outcome, Entry}
+use Rattle.presence_journal.specs.declared.entry.Outcome.{Outcome}
+use Rattle.presence_journal.specs.declared.entry.Entry.{Entry}
 use Rattle.presence_journal.specs.History.{History, Then, own, count, last_cut, next_dot, has_dot, row_added, shown}
 use Rattle.presence_journal.specs.Present.{dots_taken}
 use Rattle.presence_journal.specs.Table.{IsLegal}

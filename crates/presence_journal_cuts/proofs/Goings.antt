@@ -8,7 +8,9 @@ use Rattle.presence_base.specs.declared.dots.Dot.{Dot}
 use Rattle.dot_context.specs.Runs.{holds, AreLong}
 use Rattle.dot_context.specs.Sets.{listed}
 use Rattle.presence_journal.specs.declared.entry.Outcome.TheVariants as outcomes_are
-use Rattle.presence_journal.specs.Steps.{Outcome, Entry, Start}
+use Rattle.presence_journal.specs.declared.entry.Outcome.{Outcome}
+use Rattle.presence_journal.specs.declared.entry.Entry.{Entry}
+use Rattle.presence_journal.specs.declared.entry.Start.{Start}
 use Rattle.presence_journal.specs.History.{History, Begin, Then, cut_after, last_cut}
 use Rattle.presence_journal.specs.Table.{IsStart, IsLegal}
 use Rattle.presence_journal_cuts.specs.Chains.{Chains, AreChains, AreUpTo, Counts, kept_chain}

@@ -17,7 +17,9 @@ use Rattle.orswot_core.proofs.FullFacts.{passes, to_test}
 use Rattle.delta_range.specs.Deltas.{DeltaValue, IsDelta, GoesOn}
 use Rattle.delta_range.specs.Keeping.{Kept, pushed, IsNext}
 use Rattle.presence_journal.specs.declared.entry.Outcome.TheVariants as outcomes_are
-use Rattle.presence_journal.specs.Steps.{Start, Outcome, Entry}
+use Rattle.presence_journal.specs.declared.entry.Start.{Start}
+use Rattle.presence_journal.specs.declared.entry.Outcome.{Outcome}
+use Rattle.presence_journal.specs.declared.entry.Entry.{Entry}
 use Rattle.presence_journal.specs.History.{History, Begin, Then, own, last_cut, cut_after, nothing_kept}
 use Rattle.presence_journal.specs.Walk.{is_rebirth, is_reborn}
 use Rattle.presence_journal_known.proofs.OwnLemmas.{plain_step}

@@ -16,7 +16,7 @@ use Rattle.dot_context.specs.Sets.{listed}
 use Rattle.dot_context.specs.Runs.{holds, AreLong}
 use Rattle.delta_range.specs.Keeping.{Kept}
 use Rattle.presence_journal.specs.declared.entry.Outcome.TheVariants as outcomes_are
-use Rattle.presence_journal.specs.Steps.{Outcome}
+use Rattle.presence_journal.specs.declared.entry.Outcome.{Outcome}
 use Rattle.presence_journal.specs.History.{History, cut_after, last_cut, first_some, nothing_kept}
 use Rattle.presence_journal.specs.Walk.{is_reborn, row_at}
 use Rattle.presence_journal.proofs.Same.{dot_total}

@@ -11,7 +11,7 @@ use Rattle.orswot_core.specs.Telling.{ToldValue, covers, live_row}
 use Rattle.orswot_core.proofs.OneFullFacts.{covers_full, rows_full}
 use Rattle.delta_range.specs.Deltas.{DeltaValue, GoesOn}
 use Rattle.delta_range.specs.Keeping.{IsNext}
-use Rattle.presence_journal.specs.Steps.{Start}
+use Rattle.presence_journal.specs.declared.entry.Start.{Start}
 use Rattle.presence_journal.specs.History.{History, Begin, own, count, is_counted, status, is_gone, known, covered}
 use Rattle.presence_journal.specs.Table.{IsStart, IsLegal, IsKept}
 use Rattle.presence_journal.proofs.HistoryLemmas.{counted_parts, counted_from, known_from, known_parts, status-own}

@@ -5,7 +5,7 @@ use Rattle.std.proofs.lemmas.Bool.{eqb-true}
 use Rattle.presence_base.specs.declared.dots.Dot.{Dot}
 use Rattle.presence_base.specs.declared.row.Row.{Row}
 use Rattle.presence_base.specs.Order.{same_dot}
-use Rattle.presence_journal.specs.Steps.{Start}
+use Rattle.presence_journal.specs.declared.entry.Start.{Start}
 use Rattle.presence_journal.specs.History.{first_some}
 use Rattle.presence_journal.specs.Walk.{row_at}
 use Rattle.presence_journal.proofs.Same.{same_dot-true}

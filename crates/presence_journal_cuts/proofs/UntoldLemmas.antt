@@ -20,7 +20,9 @@ use Rattle.delta_range.specs.Deltas.{DeltaValue, telling_in, IsDelta, GoesOn}
 use Rattle.delta_range.specs.Longest.{longest}
 use Rattle.delta_range.specs.Keeping.{Kept as KeptDeltas, pushed, IsNext, from_count}
 use Rattle.presence_journal.specs.declared.entry.Outcome.TheVariants as outcomes_are
-use Rattle.presence_journal.specs.Steps.{Start, Outcome, Entry}
+use Rattle.presence_journal.specs.declared.entry.Start.{Start}
+use Rattle.presence_journal.specs.declared.entry.Outcome.{Outcome}
+use Rattle.presence_journal.specs.declared.entry.Entry.{Entry}
 use Rattle.presence_journal.specs.History.{History, Begin, Then, begun, nothing_kept, start_of, own, count, counts_used, cut_after, last_cut, first_some, has_dot, row_added, live}
 use Rattle.presence_journal.specs.Present.{dots_taken}
 use Rattle.presence_journal.specs.Table.{IsLegal, IsStart}

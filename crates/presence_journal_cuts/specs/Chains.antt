@@ -8,7 +8,9 @@ use Rattle.presence_base.specs.declared.row.Row.{Row}
 use Rattle.dot_context.specs.Runs.{holds, AreLong}
 use Rattle.dot_context.specs.Sets.{in_range, listed}
 use Rattle.presence_journal.specs.declared.entry.Outcome.TheVariants as outcomes_are
-use Rattle.presence_journal.specs.Steps.{Outcome, Entry, Start}
+use Rattle.presence_journal.specs.declared.entry.Outcome.{Outcome}
+use Rattle.presence_journal.specs.declared.entry.Entry.{Entry}
+use Rattle.presence_journal.specs.declared.entry.Start.{Start}
 use Rattle.presence_journal.specs.History.{History, Then, first_some, cut_after, row_added}
 use Rattle.presence_journal.specs.Present.{dots_taken}
 use Rattle.presence_journal.specs.Walk.{row_at, without_dots}

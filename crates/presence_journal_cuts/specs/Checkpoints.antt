@@ -10,7 +10,7 @@ use Rattle.orswot_core.specs.Checks.{has_repeat}
 use Rattle.orswot_core.specs.Telling.{covers, live_row}
 use Rattle.replica_status.specs.Boards.{standing_in}
 use Rattle.presence_journal.specs.StepLimits.{is_heard}
-use Rattle.presence_journal.specs.Steps.{Start}
+use Rattle.presence_journal.specs.declared.entry.Start.{Start}
 use Rattle.presence_journal.specs.History.{History, own, count, last_number, time, standing, status, is_gone, last_cut, covered, live, shown}
 use Rattle.presence_journal.specs.Queue.{topic_at, topic_of}
 use Rattle.presence_journal.specs.Table.{IsLegal, is_subscriber}

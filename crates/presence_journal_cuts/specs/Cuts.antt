@@ -10,7 +10,7 @@ use Rattle.orswot_core.specs.Telling.{live_row}
 use Rattle.delta_range.specs.Deltas.{DeltaValue, telling}
 use Rattle.delta_range.specs.Laws.{IsInOrder}
 use Rattle.presence_journal.specs.declared.entry.Outcome.TheVariants as outcomes_are
-use Rattle.presence_journal.specs.Steps.{Outcome}
+use Rattle.presence_journal.specs.declared.entry.Outcome.{Outcome}
 use Rattle.presence_journal.specs.History.{History, Begin, Then, own, count, last_cut, shown}
 use Rattle.presence_journal.specs.Present.{dots_taken}
 use Rattle.presence_journal_cuts.specs.Handing.{handed}

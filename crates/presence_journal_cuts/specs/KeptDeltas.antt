@@ -5,7 +5,7 @@ use Rattle.orswot_core.specs.Telling.{ToldValue}
 use Rattle.delta_range.specs.Deltas.{DeltaValue, telling_in, IsDelta}
 use Rattle.delta_range.specs.Keeping.{Kept, pushed, from_count}
 use Rattle.presence_journal.specs.declared.entry.Outcome.TheVariants as outcomes_are
-use Rattle.presence_journal.specs.Steps.{Outcome}
+use Rattle.presence_journal.specs.declared.entry.Outcome.{Outcome}
 use Rattle.presence_journal.specs.History.{History, Begin, Then, nothing_kept}
 use Rattle.presence_journal_known.specs.Full.{IsFullOf}
 use Rattle.presence_journal_cuts.specs.Cuts.{IsCut}

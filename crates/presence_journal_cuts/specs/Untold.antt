@@ -10,7 +10,7 @@ use Rattle.orswot_core.specs.Telling.{ToldValue}
 use Rattle.orswot_core.specs.Sets.{DotRows}
 use Rattle.delta_range.specs.Deltas.{telling_in}
 use Rattle.delta_range.specs.Keeping.{Kept, from_count}
-use Rattle.presence_journal.specs.Steps.{Entry}
+use Rattle.presence_journal.specs.declared.entry.Entry.{Entry}
 use Rattle.presence_journal.specs.History.{History, Then, own, count, last_cut, shown}
 use Rattle.presence_journal.specs.Table.{IsLegal}
 use Rattle.presence_journal_known.specs.ByDot.{Alike}

@@ -12,7 +12,9 @@ use Rattle.orswot_core.specs.Telling.{Range, ToldValue, covers, range_has, lies_
 use Rattle.orswot_core.specs.Checks.{are_forward}
 use Rattle.presence_journal.specs.StepLimits.{is_told, is_heard}
 use Rattle.presence_journal.specs.declared.step.Step.TheVariants as steps_are
-use Rattle.presence_journal.specs.Steps.{Step, Entry, Start}
+use Rattle.presence_journal.specs.declared.step.Step.{Step}
+use Rattle.presence_journal.specs.declared.entry.Entry.{Entry}
+use Rattle.presence_journal.specs.declared.entry.Start.{Start}
 use Rattle.presence_journal.specs.History.{History, Begin, Then, onto, own, own_after, count, count_after, is_counted, is_gone, status, hears, told_covers, known, covered, IsTop}
 use Rattle.presence_journal.specs.Table.{IsLegal, is_step}
 use Rattle.presence_journal.proofs.Same.{same_dot-true}

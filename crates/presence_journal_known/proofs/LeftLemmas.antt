@@ -17,7 +17,9 @@ use Rattle.std.proofs.lemmas.Bool.{or_parts}
 use Rattle.replica_status.specs.Table.{status_of, heard_at, put_down}
 use Rattle.replica_status.specs.Boards.{standing_in}
 use Rattle.presence_journal.specs.declared.step.Step.TheVariants as steps_are
-use Rattle.presence_journal.specs.Steps.{Step, Entry, Start}
+use Rattle.presence_journal.specs.declared.step.Step.{Step}
+use Rattle.presence_journal.specs.declared.entry.Entry.{Entry}
+use Rattle.presence_journal.specs.declared.entry.Start.{Start}
 use Rattle.presence_journal.specs.History.{History, Begin, Then, onto, own, own_after, known, live, time, time_of, standing, standing_after, status, is_gone}
 use Rattle.presence_journal.proofs.Same.{same_replica-true, dot_cmp-IsAntisymmetric}
 use Rattle.presence_journal_known.proofs.StatusLemmas.{own-begin}

@@ -19,7 +19,9 @@ use Rattle.orswot_core.proofs.SoundFacts.{without_rows_at}
 use Rattle.std.proofs.lemmas.Option.{same_Some}
 use Rattle.presence_journal.specs.declared.step.Step.TheVariants as steps_are
 use Rattle.presence_journal.specs.declared.entry.Outcome.TheVariants as outcomes_are
-use Rattle.presence_journal.specs.Steps.{Step, Outcome, Entry}
+use Rattle.presence_journal.specs.declared.step.Step.{Step}
+use Rattle.presence_journal.specs.declared.entry.Outcome.{Outcome}
+use Rattle.presence_journal.specs.declared.entry.Entry.{Entry}
 use Rattle.presence_journal.specs.History.{History, Then, own, count, counts_used, is_counted, told_covers, known, next_dot, has_dot, first_some, row_made, row_added, live}
 use Rattle.presence_journal.specs.Present.{dots_taken}
 use Rattle.presence_journal.specs.Walk.{tells, is_rebirth, is_reborn}

@@ -7,7 +7,8 @@ use Rattle.presence_base.specs.declared.dots.Dot.{Dot}
 use Rattle.presence_base.specs.declared.dots.Replica.{Replica}
 use Rattle.presence_base.specs.Order.{same_dot}
 use Rattle.orswot_core.specs.Telling.{Range, range_has, covers}
-use Rattle.presence_journal.specs.Steps.{Entry, Start}
+use Rattle.presence_journal.specs.declared.entry.Entry.{Entry}
+use Rattle.presence_journal.specs.declared.entry.Start.{Start}
 use Rattle.presence_journal.specs.History.{History, Begin, Then, onto, own, own_after, count, count_after, is_counted, told_covers, known}
 use Rattle.presence_journal.specs.Table.{IsLegal}
 use Rattle.presence_journal.proofs.Walking.{IsCounted, counted_start, counted_more, own_more, drop_next}

@@ -18,7 +18,9 @@ use Rattle.orswot_core.proofs.OrderFacts.{dot_total}
 use Rattle.orswot_core.specs.Sets.{DotRows, with_dot}
 use Rattle.presence_journal.specs.declared.step.Step.TheVariants as steps_are
 use Rattle.presence_journal.specs.declared.entry.Outcome.TheVariants as outcomes_are
-use Rattle.presence_journal.specs.Steps.{Step, Outcome, Entry}
+use Rattle.presence_journal.specs.declared.step.Step.{Step}
+use Rattle.presence_journal.specs.declared.entry.Outcome.{Outcome}
+use Rattle.presence_journal.specs.declared.entry.Entry.{Entry}
 use Rattle.presence_journal.specs.History.{History, Begin, Then, own, reborn, has_dots, count, is_counted, hears, told_covers, told_row, known, has_dot, with_prev, row_again, row_brought, row_added, row_made, next_dot, first_some, row, removed, live}
 use Rattle.presence_journal.specs.Table.{IsLegal, is_step, own_dots, reborn_from}
 use Rattle.presence_journal.specs.Walk.{is_rebirth}

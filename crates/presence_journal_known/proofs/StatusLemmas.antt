@@ -7,7 +7,8 @@ use Rattle.replica_status.specs.declared.standing.Standing.{Standing}
 use Rattle.replica_status.specs.declared.status.Status.TheVariants as status_is
 use Rattle.replica_status.specs.Table.{status_of}
 use Rattle.replica_status.specs.Boards.{standing_in}
-use Rattle.presence_journal.specs.Steps.{Entry, Start}
+use Rattle.presence_journal.specs.declared.entry.Entry.{Entry}
+use Rattle.presence_journal.specs.declared.entry.Start.{Start}
 use Rattle.presence_journal.specs.History.{History, Begin, Then, onto, own, own_after, time_of, time, standing_after, standing, status, is_gone, hears}
 use Rattle.presence_journal.proofs.Walking.{Reached, drop_next}
 

@@ -10,7 +10,7 @@ use Rattle.orswot_core.specs.Telling.{ToldValue, covers, live_row, cut_to}
 use Rattle.orswot_core.proofs.CutFacts.{cut_tells}
 use Rattle.orswot_core.specs.Sets.{DotRows, joined_row}
 use Rattle.orswot_core.specs.Laws.{TakesIn}
-use Rattle.presence_journal.specs.Steps.{Start}
+use Rattle.presence_journal.specs.declared.entry.Start.{Start}
 use Rattle.presence_journal.specs.History.{History, Begin, hears, known, row, removed, live}
 use Rattle.presence_journal.specs.Merges.{row_taken_in}
 use Rattle.presence_journal.proofs.Merges.{merge_is_known, merge_is_live}

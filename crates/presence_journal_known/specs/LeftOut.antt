@@ -9,7 +9,8 @@ use Rattle.presence_base.specs.Order.{same_replica}
 use Rattle.orswot_core.specs.Sets.{DotRows, without_replica}
 use Rattle.replica_status.specs.declared.standing.Standing.{Standing}
 use Rattle.presence_journal.specs.declared.step.Step.TheVariants as steps_are
-use Rattle.presence_journal.specs.Steps.{Step, Entry}
+use Rattle.presence_journal.specs.declared.step.Step.{Step}
+use Rattle.presence_journal.specs.declared.entry.Entry.{Entry}
 use Rattle.presence_journal.specs.History.{History, own_after, known, live, covered, status, is_gone}
 
 -- the set of what is covered, with the live rows of the replicas that are not gone

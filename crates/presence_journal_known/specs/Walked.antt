@@ -9,7 +9,8 @@ use Rattle.orswot_core.specs.Limits.{is_row}
 use Rattle.orswot_core.specs.Sets.{DotRows, with_dot}
 use Rattle.presence_journal.specs.declared.step.Step.TheVariants as steps_are
 use Rattle.presence_journal.specs.History.{History, Then, with_prev, known, live}
-use Rattle.presence_journal.specs.Steps.{Step, Entry}
+use Rattle.presence_journal.specs.declared.step.Step.{Step}
+use Rattle.presence_journal.specs.declared.entry.Entry.{Entry}
 use Rattle.presence_journal.specs.Table.{IsLegal}
 
 -- the set covers the known dots, and has the live rows

@@ -7,7 +7,7 @@ use Rattle.presence_base.specs.declared.row.Row.{Row}
 use Rattle.dot_context.specs.Runs.{holds}
 use Rattle.orswot_core.specs.Telling.{covers, live_row, tells_removed}
 use Rattle.replica_status.specs.Boards.{standing_in}
-use Rattle.presence_journal.specs.Steps.{Start}
+use Rattle.presence_journal.specs.declared.entry.Start.{Start}
 use Rattle.presence_journal.specs.History.{Begin, count, last_number, time, standing, last_cut, known, removed, row, live}
 use Rattle.presence_journal_cuts.specs.Cuts.{chain_in, chain, older}
 

@@ -7,7 +7,7 @@ use Rattle.presence_base.specs.Refs.{IsCount}
 use Rattle.presence_base.specs.Order.{same_replica}
 use Rattle.dot_context.specs.Runs.{holds}
 use Rattle.orswot_core.specs.Full.{dot_of}
-use Rattle.presence_journal.specs.Steps.{Start}
+use Rattle.presence_journal.specs.declared.entry.Start.{Start}
 use Rattle.presence_journal.specs.History.{History, Begin, begun, own, count, last_cut, status, is_gone, known, removed, row, shown, is_counted}
 use Rattle.presence_journal.specs.Table.{IsLegal}
 use Rattle.presence_journal.proofs.HistoryLemmas.{status-own}

@@ -8,7 +8,8 @@ use Rattle.presence_base.specs.Order.{same_dot}
 use Rattle.dot_context.specs.Runs.{holds}
 use Rattle.orswot_core.specs.Full.{dot_of}
 use Rattle.presence_journal.specs.declared.entry.Outcome.TheVariants as outcomes_are
-use Rattle.presence_journal.specs.Steps.{Outcome, Entry}
+use Rattle.presence_journal.specs.declared.entry.Outcome.{Outcome}
+use Rattle.presence_journal.specs.declared.entry.Entry.{Entry}
 use Rattle.presence_journal.specs.History.{History, Then, own, count, counts_used, next_dot, has_dot, first_some, row_added, shown, last_cut, cut_after}
 use Rattle.presence_journal.specs.Present.{dots_taken}
 use Rattle.presence_journal.specs.Table.{IsLegal}

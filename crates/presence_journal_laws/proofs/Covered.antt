@@ -4,7 +4,7 @@ use Rattle.presence_base.specs.declared.dots.Replica.{Replica}
 use Rattle.presence_base.specs.declared.row.Row.{Row}
 use Rattle.presence_base.specs.Order.{same_replica}
 use Rattle.delta_range.specs.Keeping.{Kept}
-use Rattle.presence_journal.specs.Steps.{Start}
+use Rattle.presence_journal.specs.declared.entry.Start.{Start}
 use Rattle.presence_journal.specs.History.{History, Begin, own, standing, status, is_gone, known, live}
 use Rattle.presence_journal_known.proofs.StatusLemmas.{own-begin}
 use Rattle.presence_journal_cuts.specs.KeptDeltas.{AreKeptOf}

@@ -9,7 +9,9 @@ use Rattle.presence_base.specs.Order.{same_dot}
 use Rattle.orswot_core.specs.Telling.{ToldValue, covers, live_row, tells_removed}
 use Rattle.presence_journal.specs.declared.step.Step.TheVariants as steps_are
 use Rattle.presence_journal.specs.declared.entry.Outcome.TheVariants as outcomes_are
-use Rattle.presence_journal.specs.Steps.{Step, Outcome, Entry}
+use Rattle.presence_journal.specs.declared.step.Step.{Step}
+use Rattle.presence_journal.specs.declared.entry.Outcome.{Outcome}
+use Rattle.presence_journal.specs.declared.entry.Entry.{Entry}
 use Rattle.presence_journal.specs.History.{History, counts_used, next_dot, has_dot, row_added, dot_removed, hears, told_covers, told_row, told_removed}
 use Rattle.presence_journal.specs.Present.{dots_taken}
 use Rattle.presence_journal.proofs.Same.{same_dot-true}

@@ -10,7 +10,7 @@ use Rattle.delta_range.specs.Joining.{joined}
 use Rattle.delta_range.specs.Keeping.{Kept, size, alone, grown, pushed, IsNext, begun, first_of_both, from_count}
 use Rattle.delta_range.proofs.JoinFacts.{joined_keeps}
 use Rattle.presence_journal.specs.declared.entry.Outcome.TheVariants as outcomes_are
-use Rattle.presence_journal.specs.Steps.{Outcome}
+use Rattle.presence_journal.specs.declared.entry.Outcome.{Outcome}
 use Rattle.presence_journal.specs.History.{History, Then, own, nothing_kept}
 use Rattle.presence_journal.proofs.HistoryLemmas.{own-then}
 use Rattle.presence_journal_cuts.specs.KeptDeltas.{KeepsAfter, AreKeptOf, TellsOrAll}

@@ -3,7 +3,8 @@ use Rattle.std.proofs.Common.{◌≡◌, ℕ, ◌≤◌, Bool, true, false, cond
 use Rattle.std.proofs.lemmas.Bool.{cond-true, cond-false, lt-ltb, le-ltb, ltb-false}
 use Rattle.presence_journal.specs.declared.step.Step.TheVariants as steps_are
 use Rattle.presence_journal.specs.declared.rows.Item.{Item}
-use Rattle.presence_journal.specs.Steps.{Step, Entry}
+use Rattle.presence_journal.specs.declared.step.Step.{Step}
+use Rattle.presence_journal.specs.declared.entry.Entry.{Entry}
 use Rattle.presence_journal.specs.History.{History, Begin, Then}
 use Rattle.presence_journal.specs.Queue.{Waiting, Behind, Queued, most_waiting, queued, push_items, left_by, queue_after, made_for, items_made, topic_of, queue}
 use Rattle.presence_journal.specs.Laws.{HoldsMost, QueuesItems, FallsBehind, StaysBehind, renews}

@@ -7,7 +7,7 @@ use Rattle.presence_base.specs.Order.{same_replica}
 use Rattle.orswot_core.specs.Full.{dot_of}
 use Rattle.delta_range.specs.Deltas.{DeltaValue, telling}
 use Rattle.delta_range.specs.Keeping.{Kept}
-use Rattle.presence_journal.specs.Steps.{Entry}
+use Rattle.presence_journal.specs.declared.entry.Entry.{Entry}
 use Rattle.presence_journal.specs.History.{History, own, count, first_some, row_added, dot_removed, next_dot, has_dot}
 use Rattle.presence_journal.specs.Present.{dots_taken}
 use Rattle.presence_journal.proofs.Same.{same_replica-true, same_replica-refl}

@@ -15,7 +15,9 @@ use Rattle.delta_range.specs.Deltas.{DeltaValue}
 use Rattle.delta_range.specs.Keeping.{Kept}
 use Rattle.presence_journal.specs.declared.step.Step.TheVariants as steps_are
 use Rattle.presence_journal.specs.declared.entry.Outcome.TheVariants as outcomes_are
-use Rattle.presence_journal.specs.Steps.{Step, Outcome, Entry}
+use Rattle.presence_journal.specs.declared.step.Step.{Step}
+use Rattle.presence_journal.specs.declared.entry.Outcome.{Outcome}
+use Rattle.presence_journal.specs.declared.entry.Entry.{Entry}
 use Rattle.presence_journal.specs.History.{History, Then, own, reborn, with_prev, row_again, count, counts_used, time, time_of, standing, standing_after, status, is_gone, last_cut, cut_after, next_dot, is_counted, told_covers, known, covered, first_some, has_dot, row_added, removed, row, live, shown}
 use Rattle.presence_journal.specs.Present.{dots_taken}
 use Rattle.presence_journal.specs.Table.{IsLegal, own_dots, reborn_from}

@@ -10,7 +10,8 @@ use Rattle.presence_journal.specs.declared.rows.Place.{Place}
 use Rattle.presence_journal.specs.declared.rows.RowDiff.{RowDiff}
 use Rattle.presence_journal.specs.declared.step.Step.TheVariants as steps_are
 use Rattle.presence_journal.specs.declared.entry.Outcome.TheVariants as outcomes_are
-use Rattle.presence_journal.specs.Steps.{Step, Entry}
+use Rattle.presence_journal.specs.declared.step.Step.{Step}
+use Rattle.presence_journal.specs.declared.entry.Entry.{Entry}
 use Rattle.presence_journal.specs.History.{History, Then, own}
 use Rattle.presence_journal.specs.Present.{RowMap, of_topic, present, in_order}
 use Rattle.presence_journal.specs.Queue.{Waiting, Queued, topic_of, queue, queue_after, queued, made_for, push_items, items_made, shout_item, diff_item, diff_of}

@@ -13,7 +13,7 @@ use Rattle.orswot_core.specs.Telling.{covers, is_among, lies_in, live_row, tells
 use Rattle.delta_range.specs.Deltas.{DeltaValue, telling}
 use Rattle.presence_journal.specs.declared.step.Step.TheVariants as steps_are
 use Rattle.presence_journal.specs.declared.entry.Outcome.TheVariants as outcomes_are
-use Rattle.presence_journal.specs.Steps.{Step}
+use Rattle.presence_journal.specs.declared.step.Step.{Step}
 use Rattle.presence_journal.specs.History.{History, Then, start_of, first_some, own, count, last_cut, last_number, entry_count, time, standing, status, hears, known, removed, row, live, shown}
 use Rattle.presence_journal.specs.Present.{dots}
 use Rattle.presence_journal.specs.Table.{IsLegal, outcome_of, after, accepted}

@@ -9,7 +9,8 @@ use Rattle.presence_base.specs.Order.{same_replica, same_dot}
 use Rattle.dot_context.specs.Runs.{holds}
 use Rattle.delta_range.specs.Keeping.{Kept}
 use Rattle.presence_journal.specs.declared.entry.Outcome.TheVariants as outcomes_are
-use Rattle.presence_journal.specs.Steps.{Outcome, Entry}
+use Rattle.presence_journal.specs.declared.entry.Outcome.{Outcome}
+use Rattle.presence_journal.specs.declared.entry.Entry.{Entry}
 use Rattle.presence_journal.specs.History.{History, Then, own, reborn, count, is_counted, last_cut, first_some, row_again, known, removed, row, nothing_kept}
 use Rattle.presence_journal.specs.Table.{IsLegal, own_dots, reborn_from}
 use Rattle.presence_journal.specs.Walk.{is_rebirth, is_reborn}

@@ -7,7 +7,9 @@ use Rattle.presence_base.specs.declared.dots.Dot.{Dot}
 use Rattle.replica_status.specs.declared.standing.Standing.{Standing}
 use Rattle.presence_journal.specs.declared.step.Step.TheVariants as steps_are
 use Rattle.presence_journal.specs.declared.entry.Outcome.TheVariants as outcomes_are
-use Rattle.presence_journal.specs.Steps.{Step, Outcome, Entry}
+use Rattle.presence_journal.specs.declared.step.Step.{Step}
+use Rattle.presence_journal.specs.declared.entry.Outcome.{Outcome}
+use Rattle.presence_journal.specs.declared.entry.Entry.{Entry}
 use Rattle.presence_journal.specs.History.{History, Then, own, time, time_of, standing, standing_after, status, is_gone, last_cut, cut_after, known, first_some, has_dot, live}
 use Rattle.presence_journal.specs.Queue.{Waiting, Behind, Queued, queue, topic_of}
 use Rattle.presence_journal.specs.Table.{IsLegal, take_outcome, for_present, outcome_of}

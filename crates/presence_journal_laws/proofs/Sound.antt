@@ -3,7 +3,7 @@ use Rattle.std.proofs.Common.{◌≡◌, ◌+◌, ◌^◌, refl, ◌∙◌, arit
 use Rattle.std.specs.Prelude.{nat_le}
 use Rattle.std.proofs.lemmas.Bool.{or_from, lt-leb}
 use Rattle.presence_journal.specs.declared.journal.TheConstants.{MAX_ENTRIES}
-use Rattle.presence_journal.specs.Steps.{Start}
+use Rattle.presence_journal.specs.declared.entry.Start.{Start}
 use Rattle.presence_journal.specs.History.{Begin, entry_count, last_number}
 use Rattle.presence_journal_cuts.proofs.Sound.{is_sound}
 use Rattle.presence_journal_laws.specs.Laws.{BeginsLegal, BeginsWithRoom}

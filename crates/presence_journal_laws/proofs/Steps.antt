@@ -1,6 +1,7 @@
 -- One step of each of two histories that say the same.
 use Rattle.std.proofs.Common.{◌≡◌, ℕ, Bool, true, false, cond, Option, Some, None, refl, sym, ◌∙◌, ap, subst}
-use Rattle.presence_journal.specs.Steps.{Step, Outcome}
+use Rattle.presence_journal.specs.declared.step.Step.{Step}
+use Rattle.presence_journal.specs.declared.entry.Outcome.{Outcome}
 use Rattle.presence_journal.specs.History.{History, Then, is_full}
 use Rattle.presence_journal.specs.Table.{IsLegal, is_step, outcome_of, next_entry, with_outcome, accepted, after}
 use Rattle.presence_journal.proofs.FoldOthers.{refused_stays}

@@ -16,7 +16,7 @@ use Rattle.replica_status.specs.Table.{status_of}
 use Rattle.replica_status.specs.Boards.{standing_in}
 use Rattle.presence_journal.specs.declared.step.Step.TheVariants as steps_are
 use Rattle.presence_journal.specs.declared.entry.Outcome.TheVariants as outcomes_are
-use Rattle.presence_journal.specs.Steps.{Entry}
+use Rattle.presence_journal.specs.declared.entry.Entry.{Entry}
 use Rattle.presence_journal.specs.History.{History, Then, nothing_kept, own, count, last_number, entry_count, time, standing, status, is_up, is_gone, hears, last_cut, is_counted, told_covers, known, covered, first_some, row_added, row_brought, told_row, removed, row, live, shown}
 use Rattle.presence_journal.specs.Present.{dots}
 use Rattle.presence_journal.specs.Queue.{topic_at, topic_of}

@@ -1,7 +1,7 @@
 -- The worked runs, computed.
 use Rattle.std.proofs.Common.{◌≡◌, ℕ, List, [], ◌∷◌, ◌++◌, ◌∙◌, ap}
 use Rattle.serde_json.specs.Data.{null}
-use Rattle.presence_journal.specs.Steps.{Step}
+use Rattle.presence_journal.specs.declared.step.Step.{Step}
 use Rattle.presence_journal.specs.History.{own, count, status, removed, row, live, shown, last_number, entry_count}
 use Rattle.presence_journal.specs.Present.{dots, listed}
 use Rattle.presence_journal.specs.Queue.{topic_of, queue, taken}

@@ -10,7 +10,9 @@ use Rattle.presence_journal.specs.declared.entry.Outcome.TheVariants as outcomes
 use Rattle.presence_journal.specs.declared.rows.Item.{Item}
 use Rattle.presence_journal.specs.declared.rows.Place.{Place}
 use Rattle.presence_journal.specs.declared.rows.RowDiff.{RowDiff}
-use Rattle.presence_journal.specs.Steps.{Step, Outcome, Entry}
+use Rattle.presence_journal.specs.declared.step.Step.{Step}
+use Rattle.presence_journal.specs.declared.entry.Outcome.{Outcome}
+use Rattle.presence_journal.specs.declared.entry.Entry.{Entry}
 use Rattle.presence_journal.specs.History.{History, Begin, Then, is_full, shown}
 use Rattle.presence_journal.specs.Present.{RowMap, place_cmp, place_of, of_topic, dots, put_all, put as put_row, present, in_order, listed, dots_of, missing_in, changes}
 use Rattle.presence_journal.specs.Queue.{Waiting, Behind, topic_of, diff_item, shout_item, diff_of, items_made, queue, queue_after, made_for, listed_for, taken, taken_after}

@@ -8,7 +8,8 @@ use Rattle.orswot_core.specs.Telling.{ToldValue}
 use Rattle.delta_range.specs.Deltas.{DeltaValue, telling_in, IsDelta, GoesOn}
 use Rattle.delta_range.specs.Joining.{joined}
 use Rattle.presence_journal.specs.declared.step.Step.TheVariants as steps_are
-use Rattle.presence_journal.specs.Steps.{Entry, Start}
+use Rattle.presence_journal.specs.declared.entry.Entry.{Entry}
+use Rattle.presence_journal.specs.declared.entry.Start.{Start}
 use Rattle.presence_journal.specs.History.{History, Begin, Then, begun, own, count, row}
 use Rattle.presence_journal.specs.Table.{IsLegal}
 use Rattle.presence_journal_known.specs.Full.{IsFullOf}

@@ -4,7 +4,8 @@ use Rattle.presence_base.specs.declared.dots.Replica.{Replica}
 use Rattle.presence_base.specs.declared.row.Row.{Row}
 use Rattle.presence_base.specs.Order.{same_replica}
 use Rattle.orswot_core.specs.Full.{dot_of}
-use Rattle.presence_journal.specs.Steps.{Outcome, Entry}
+use Rattle.presence_journal.specs.declared.entry.Outcome.{Outcome}
+use Rattle.presence_journal.specs.declared.entry.Entry.{Entry}
 use Rattle.presence_journal.specs.History.{History, own, count, counts_used, next_dot, has_dot, first_some, row_added, dot_removed}
 use Rattle.presence_journal.specs.Present.{dots_taken}
 

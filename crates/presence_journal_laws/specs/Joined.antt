@@ -4,7 +4,7 @@ use Rattle.presence_base.specs.declared.dots.Dot.{Dot}
 use Rattle.delta_range.specs.Deltas.{DeltaValue, telling, IsDelta, GoesOn}
 use Rattle.delta_range.specs.Joining.{joined}
 use Rattle.presence_journal.specs.declared.step.Step.TheVariants as steps_are
-use Rattle.presence_journal.specs.Steps.{Step}
+use Rattle.presence_journal.specs.declared.step.Step.{Step}
 use Rattle.presence_journal.specs.StepLimits.{is_within_limits}
 use Rattle.presence_journal.specs.History.{History, is_full, known, removed, live}
 use Rattle.presence_journal.specs.Present.{present}

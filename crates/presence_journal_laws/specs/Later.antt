@@ -10,7 +10,10 @@ use Rattle.orswot_core.specs.Telling.{ToldValue}
 use Rattle.delta_range.specs.Deltas.{DeltaValue}
 use Rattle.delta_range.specs.Keeping.{Kept}
 use Rattle.presence_journal.specs.declared.step.Step.TheVariants as steps_are
-use Rattle.presence_journal.specs.Steps.{Step, Outcome, Entry, Start}
+use Rattle.presence_journal.specs.declared.step.Step.{Step}
+use Rattle.presence_journal.specs.declared.entry.Outcome.{Outcome}
+use Rattle.presence_journal.specs.declared.entry.Entry.{Entry}
+use Rattle.presence_journal.specs.declared.entry.Start.{Start}
 use Rattle.presence_journal.specs.History.{History, Begin, onto, own, count, time, standing, status, hears, last_cut, is_full, covered, IsTop, shown}
 use Rattle.presence_journal.specs.Present.{present, listed}
 use Rattle.presence_journal.specs.Table.{IsLegal, is_step, outcome_of, after}

@@ -8,7 +8,8 @@ use Rattle.orswot_core.specs.Telling.{ToldValue, covers, live_row}
 use Rattle.orswot_core.specs.Sets.{DotRows}
 use Rattle.delta_range.specs.Deltas.{DeltaValue}
 use Rattle.delta_range.specs.Keeping.{Kept}
-use Rattle.presence_journal.specs.Steps.{Start, Entry}
+use Rattle.presence_journal.specs.declared.entry.Start.{Start}
+use Rattle.presence_journal.specs.declared.entry.Entry.{Entry}
 use Rattle.presence_journal.specs.History.{History, Begin, Then, own, count, last_number, time, last_cut, is_full, next_dot, status, is_gone, hears, known, covered, IsTop, removed, live, shown}
 use Rattle.presence_journal.specs.Present.{present, listed}
 use Rattle.presence_journal.specs.Queue.{Behind, topic_of, queue}

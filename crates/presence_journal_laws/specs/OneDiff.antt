@@ -7,7 +7,7 @@ use Rattle.presence_base.specs.declared.row.Row.{Row}
 use Rattle.presence_base.specs.Order.{same_replica}
 use Rattle.presence_journal.specs.declared.entry.Outcome.TheVariants as outcomes_are
 use Rattle.presence_journal.specs.declared.rows.Item.{Item}
-use Rattle.presence_journal.specs.Steps.{Entry}
+use Rattle.presence_journal.specs.declared.entry.Entry.{Entry}
 use Rattle.presence_journal.specs.History.{History, Then, own}
 use Rattle.presence_journal.specs.Present.{RowMap, present, in_order}
 use Rattle.presence_journal.specs.Queue.{Queued, topic_of, queue, queued, diff_item, diff_of}

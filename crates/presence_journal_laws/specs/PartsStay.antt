@@ -1,7 +1,7 @@
 -- A checkpoint leaves the parts that are told from a count on as they were.
 use Rattle.std.specs.Prelude.{◌↔◌, ℕ, Option}
 use Rattle.delta_range.specs.Deltas.{DeltaValue}
-use Rattle.presence_journal.specs.Steps.{Start}
+use Rattle.presence_journal.specs.declared.entry.Start.{Start}
 use Rattle.presence_journal.specs.History.{History, Begin}
 use Rattle.presence_journal_cuts.specs.ToldParts.{IsPart, IsPartWhereItFits}
 use Rattle.presence_journal_cuts.specs.Checkpoints.{IsCheckpoint}

@@ -6,7 +6,8 @@ use Rattle.presence_base.specs.declared.dots.Dot.{Dot}
 use Rattle.orswot_core.specs.Telling.{ToldValue}
 use Rattle.replica_status.specs.declared.standing.Standing.TheVariants.{Gone}
 use Rattle.presence_journal.specs.declared.step.Step.TheVariants as steps_are
-use Rattle.presence_journal.specs.Steps.{Step, Start}
+use Rattle.presence_journal.specs.declared.step.Step.{Step}
+use Rattle.presence_journal.specs.declared.entry.Start.{Start}
 use Rattle.presence_journal.specs.History.{History, nothing_kept}
 use Rattle.presence_journal.specs.Laws.{ran, empty, dot, room, user, row_of, subscribe}
 use Rattle.presence_journal_cuts.specs.Checkpoints.{IsCheckpoint}

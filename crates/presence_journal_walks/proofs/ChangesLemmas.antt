@@ -12,7 +12,8 @@ use Rattle.orswot_core.specs.Telling.{live_row}
 use Rattle.presence_journal.specs.declared.step.Step.TheVariants as steps_are
 use Rattle.presence_journal.specs.declared.rows.Item.TheVariants as items_are
 use Rattle.presence_journal.specs.declared.rows.Place.{Place}
-use Rattle.presence_journal.specs.Steps.{Step, Entry}
+use Rattle.presence_journal.specs.declared.step.Step.{Step}
+use Rattle.presence_journal.specs.declared.entry.Entry.{Entry}
 use Rattle.presence_journal.specs.History.{History, Begin, Then, own, hears, first_some, told_row, is_up, is_gone, status, row, live, shown}
 use Rattle.presence_journal.specs.Present.{RowMap, of_topic, present, place_of, changes}
 use Rattle.presence_journal.specs.Queue.{is_empty, diff_item, diff_of, with_rows, without_rows}

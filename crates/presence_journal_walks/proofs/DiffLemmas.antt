@@ -3,7 +3,7 @@ use Rattle.std.proofs.Common.{◌≡◌, ℕ, List, Option, is_some, cond, None,
 use Rattle.presence_base.specs.declared.dots.Dot.{Dot}
 use Rattle.presence_base.specs.declared.row.Row.{Row}
 use Rattle.presence_journal.specs.declared.rows.RowDiff.{RowDiff}
-use Rattle.presence_journal.specs.Steps.{Entry}
+use Rattle.presence_journal.specs.declared.entry.Entry.{Entry}
 use Rattle.presence_journal.specs.History.{has_dot}
 use Rattle.presence_journal.specs.Present.{RowMap, dots_taken, in_order}
 use Rattle.presence_journal.specs.Walk.{IsTableOf, joined, leaving}

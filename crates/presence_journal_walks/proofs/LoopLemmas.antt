@@ -5,7 +5,8 @@ use Rattle.std.specs.List.{list_any}
 use Rattle.presence_base.specs.declared.dots.Dot.{Dot}
 use Rattle.presence_base.specs.declared.row.Row.{Row}
 use Rattle.orswot_core.specs.Telling.{live_row, tells_removed}
-use Rattle.presence_journal.specs.Steps.{Entry, Start}
+use Rattle.presence_journal.specs.declared.entry.Entry.{Entry}
+use Rattle.presence_journal.specs.declared.entry.Start.{Start}
 use Rattle.presence_journal.specs.History.{History, Begin, Then, onto, first_some, row_added, told_row, told_removed}
 use Rattle.presence_journal_known.proofs.FrontLemmas.{front_next, front_all}
 use Rattle.presence_journal_walks.specs.Changes.{topic_in, rows_told, row_kept, first_told, was_told_removed, any_of, any_told, topic_again, dot_before, topic_back}

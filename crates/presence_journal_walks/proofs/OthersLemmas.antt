@@ -16,7 +16,9 @@ use Rattle.presence_base.specs.Order.{same_replica, same_dot, same_text}
 use Rattle.orswot_core.specs.Telling.{live_row}
 use Rattle.presence_journal.specs.declared.step.Step.TheVariants as steps_are
 use Rattle.presence_journal.specs.declared.entry.Outcome.TheVariants as outcomes_are
-use Rattle.presence_journal.specs.Steps.{Step, Outcome, Entry}
+use Rattle.presence_journal.specs.declared.step.Step.{Step}
+use Rattle.presence_journal.specs.declared.entry.Outcome.{Outcome}
+use Rattle.presence_journal.specs.declared.entry.Entry.{Entry}
 use Rattle.presence_journal.specs.History.{History, Begin, Then, own, reborn, next_dot, has_dot, first_some, row_added, row_brought, row_again, dot_removed, told_row, told_removed, time, time_of, standing, standing_after, is_up, is_gone, status, known, removed, row, live, shown}
 use Rattle.presence_journal.specs.Present.{of_topic}
 use Rattle.presence_journal.specs.Table.{IsLegal, own_dots, reborn_from}

@@ -5,7 +5,9 @@ use Rattle.presence_journal.specs.declared.step.Step.TheVariants as steps_are
 use Rattle.presence_journal.specs.declared.rows.Item.{Item}
 use Rattle.presence_journal_walks.specs.declared.waits.Tally.{Tally}
 use Rattle.presence_journal_walks.specs.declared.waits.Tally.TheVariants as tallies_are
-use Rattle.presence_journal.specs.Steps.{Step, Entry, Start}
+use Rattle.presence_journal.specs.declared.step.Step.{Step}
+use Rattle.presence_journal.specs.declared.entry.Entry.{Entry}
+use Rattle.presence_journal.specs.declared.entry.Start.{Start}
 use Rattle.presence_journal.specs.History.{History, Begin, Then, onto}
 use Rattle.presence_journal.specs.Queue.{Waiting, Behind, Queued, topic_after, topic_at, topic_of, most_waiting, queued, push_items, left_by, queue_after, made_for, queue, is_waiting}
 use Rattle.presence_journal.specs.Table.{IsLegal}

@@ -8,7 +8,9 @@ use Rattle.presence_base.specs.Order.{same_text, same_replica, same_dot}
 use Rattle.orswot_core.specs.Telling.{live_row, tells_removed}
 use Rattle.presence_journal.specs.declared.step.Step.TheVariants as steps_are
 use Rattle.presence_journal.specs.declared.entry.Outcome.TheVariants as outcomes_are
-use Rattle.presence_journal.specs.Steps.{Step, Outcome, Start}
+use Rattle.presence_journal.specs.declared.step.Step.{Step}
+use Rattle.presence_journal.specs.declared.entry.Outcome.{Outcome}
+use Rattle.presence_journal.specs.declared.entry.Start.{Start}
 use Rattle.presence_journal.specs.History.{History, Begin, Then, first_some, row_added, told_row, told_removed, is_up, status}
 
 -- the row of a Start, where the dot is of another replica

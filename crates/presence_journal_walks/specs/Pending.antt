@@ -4,7 +4,7 @@ use Rattle.presence_journal.specs.declared.rows.Item.{Item}
 use Rattle.presence_journal_walks.specs.declared.pending.Pending.{Pending}
 use Rattle.presence_journal_walks.specs.declared.pending.Pending.TheVariants as pending_is
 use Rattle.presence_journal.specs.Queue.{Waiting, Behind, Queued, queue_after}
-use Rattle.presence_journal.specs.Steps.{Entry}
+use Rattle.presence_journal.specs.declared.entry.Entry.{Entry}
 
 abbrev pub waiting_of : Pending → Waiting
 waiting_of pending_is.Behind = Behind

@@ -7,7 +7,7 @@ use Rattle.presence_journal.specs.declared.rows.RowDiff.{RowDiff}
 use Rattle.presence_journal.specs.History.{History, Then}
 use Rattle.presence_journal_known.specs.ByDot.{over, Alike}
 use Rattle.presence_journal.specs.Queue.{diff_of, items_made}
-use Rattle.presence_journal.specs.Steps.{Entry}
+use Rattle.presence_journal.specs.declared.entry.Entry.{Entry}
 use Rattle.presence_journal.specs.Laws.{is_callers}
 use Rattle.presence_journal.specs.Table.{IsLegal}
 use Rattle.presence_journal.specs.Walk.{among, shown_of}

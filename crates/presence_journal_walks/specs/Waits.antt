@@ -5,7 +5,9 @@ use Rattle.presence_journal.specs.declared.step.Step.TheVariants as steps_are
 use Rattle.presence_journal.specs.declared.entry.Outcome.TheVariants as outcomes_are
 use Rattle.presence_journal_walks.specs.declared.waits.Tally.{Tally}
 use Rattle.presence_journal_walks.specs.declared.waits.Tally.TheVariants as tallies_are
-use Rattle.presence_journal.specs.Steps.{Step, Outcome, Entry}
+use Rattle.presence_journal.specs.declared.step.Step.{Step}
+use Rattle.presence_journal.specs.declared.entry.Outcome.{Outcome}
+use Rattle.presence_journal.specs.declared.entry.Entry.{Entry}
 use Rattle.presence_journal.specs.History.{History}
 use Rattle.presence_journal.specs.Queue.{Waiting, Behind, Queued, most_waiting}
 use Rattle.presence_journal.specs.Laws.{is_callers}

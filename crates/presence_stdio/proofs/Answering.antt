@@ -7,7 +7,8 @@ use Rattle.phx_message.specs.declared.message.TheConstants.Limits as the_limits
 use Rattle.phx_message.specs.declared.message.Message.{Message}
 use Rattle.phx_message.specs.declared.message.MessageFault.{MessageFault}
 use Rattle.presence_journal.specs.History.{History}
-use Rattle.channel_session.specs.Delivery.{Delivery, Delivered, delivery}
+use Rattle.channel_session.specs.declared.frames.Delivery.{Delivery}
+use Rattle.channel_session.specs.Delivery.{Delivered, delivery}
 use Rattle.channel_rules.specs.InForce.{InForce}
 use Rattle.channel_rules.specs.Said.{Said}
 use Rattle.presence_journal.specs.declared.limits.TheConstants.{MAX_TAKEN}

@@ -19,7 +19,8 @@ use Rattle.channel_rules.specs.Asked.{asked, key_asked}
 use Rattle.channel_rules.specs.Asks.{untrack_all}
 use Rattle.channel_rules.specs.Delivering.{then_told, then_take, delivers, delivery}
 use Rattle.presence_stdio.specs.Local.{Heeds}
-use Rattle.channel_rules.specs.Rules.{InForce, Joined, End, answers, memory, empty, find, left, then_next, ended, on_track, on_update, on_untrack, on_get, on_leave, then_subscribe, tracks, subscribes, join_asked, on_join, on_event, on_topic, by_kind, kind_of, is_phoenix, by_route, route_of, rules}
+use Rattle.channel_rules.specs.InForce.{InForce, Joined, find}
+use Rattle.channel_rules.specs.Rules.{End, answers, memory, empty, left, then_next, ended, on_track, on_update, on_untrack, on_get, on_leave, then_subscribe, tracks, subscribes, join_asked, on_join, on_event, on_topic, by_kind, kind_of, is_phoenix, by_route, route_of, rules}
 use Rattle.channel_rules.specs.Said.{Said, message}
 use Rattle.channel_rules.specs.Script.{Script, ask}
 

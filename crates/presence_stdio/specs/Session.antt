@@ -8,7 +8,8 @@ use Rattle.hook_registry.specs.declared.hooks.PresenceHooks.{Ghosts}
 use Rattle.presence_journal.specs.History.{History, begun}
 use Rattle.phx_message.specs.Reading.{decoded}
 use Rattle.phx_message.specs.declared.message.TheConstants.Limits as the_limits
-use Rattle.channel_session.specs.Delivery.{DeliveredBy, delivery, Delivery}
+use Rattle.channel_session.specs.Delivery.{DeliveredBy, delivery}
+use Rattle.channel_session.specs.declared.frames.Delivery.{Delivery}
 use Rattle.channel_session.specs.Ran.{RanBy}
 use Rattle.channel_session.specs.declared.fault.SessionFault.{SessionFault}
 use Rattle.channel_rules.specs.InForce.{InForce}

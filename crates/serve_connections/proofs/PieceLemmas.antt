@@ -5,7 +5,8 @@ use Rattle.std.specs.Global.{Global}
 use Rattle.phx_message.specs.declared.message.Message.{Message}
 use Rattle.phx_message.specs.declared.message.MessageFault.{MessageFault}
 use Rattle.channel_rules.specs.Asks.{Ask, Answer, track, update, untrack, untrack_all, list, get, subscribe, take, unsubscribe, waits, shout}
-use Rattle.channel_session.specs.Delivery.{DeliveredBy, Delivery, InForce}
+use Rattle.channel_session.specs.Delivery.{DeliveredBy, InForce}
+use Rattle.channel_session.specs.declared.frames.Delivery.{Delivery}
 use Rattle.channel_session.specs.Ran.{Untouched, MessageRan, ReadAs, EndedSo, RanBy, said_by}
 use Rattle.channel_rules.specs.Said.{Said}
 use Rattle.tracker_shard.specs.declared.shard.Sub.{Sub}

@@ -5,7 +5,8 @@ use Rattle.std.specs.Global.{Global}
 use Rattle.tungstenite.specs.Socket.{Socket}
 use Rattle.phx_message.specs.Reading.{decoded}
 use Rattle.phx_message.specs.declared.message.TheConstants.Limits as the_limits
-use Rattle.channel_session.specs.Delivery.{DeliveredBy, Delivery, InForce}
+use Rattle.channel_session.specs.Delivery.{DeliveredBy, InForce}
+use Rattle.channel_session.specs.declared.frames.Delivery.{Delivery}
 use Rattle.channel_session.specs.Ran.{RanBy, texts_in}
 use Rattle.channel_session.specs.declared.fault.SessionFault.{SessionFault}
 use Rattle.channel_session.specs.declared.fault.SessionFault.TheVariants.{Failed}

@@ -1,7 +1,8 @@
 -- One turn of a connection: what was read, what its session said to that, and what went out.
 use Rattle.std.specs.Prelude.{◌≡◌, ◌⊎◌, ◌+◌, ◌^◌, ℕ, min, Bool, true, false, ◌||◌, ◌&&◌, not, ◌-◌, ◌==◌, if◌then◌else◌, leb, List, length, [], ◌∷◌, vec_len, IfOk, IfErr, is_ok, is_some, Option, Some, None, Result, Ok, Err, String, Vec}
 use Rattle.std.specs.Global.{Global}
-use Rattle.channel_session.specs.Delivery.{DeliveredBy, Delivery}
+use Rattle.channel_session.specs.Delivery.{DeliveredBy}
+use Rattle.channel_session.specs.declared.frames.Delivery.{Delivery}
 use Rattle.channel_session.specs.Ending.{EndedBy}
 use Rattle.channel_session.specs.Ran.{RanBy, texts_in}
 use Rattle.channel_session.specs.declared.fault.SessionFault.{SessionFault}

@@ -2,7 +2,8 @@
 ghost use Rattle.std.specs.Prelude.{◌≡◌, ◌≤◌, ◌^◌, true, false};
 ghost use Rattle.channel_rules.specs.Asks.{take as takes};
 ghost use Rattle.channel_rules.specs.Seen.{seen_by};
-ghost use Rattle.channel_session.specs.Delivery.{DeliveredBy, Delivery};
+ghost use Rattle.channel_session.specs.Delivery.{DeliveredBy};
+ghost use Rattle.channel_session.specs.declared.frames.Delivery.{Delivery};
 ghost use Rattle.channel_rules.specs.Said.{Worded, Noted};
 ghost use Rattle.channel_session.specs.declared.fault.SessionFault.TheVariants as faults;
 ghost use Rattle.serve_connections.specs.Sparing.{Leaves, LeavesOf, Spares, Weighs};

@@ -19,7 +19,8 @@ use Rattle.presence_stdio.specs.Local.{LocalStep, answer_in, after_in, played}
 use Rattle.session_laws.specs.Keeping.{fresh}
 use Rattle.session_laws.specs.Turns.{Turn, heard, is_join, answered_ok, joined_by, in_force, Turned, AllTurned}
 use Rattle.channel_rules.specs.Outcome.{Follows}
-use Rattle.channel_rules.specs.Rules.{InForce, End, answers, rules}
+use Rattle.channel_rules.specs.InForce.{InForce}
+use Rattle.channel_rules.specs.Rules.{End, answers, rules}
 use Rattle.channel_rules.specs.Said.{Said}
 use Rattle.channel_rules.specs.Script.{Script}
 

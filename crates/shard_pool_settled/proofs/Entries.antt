@@ -3,7 +3,8 @@ use Rattle.std.proofs.Common.{◌≡◌, ◌<◌, ◌≤◌, ◌-◌, ◌+◌, �
 use Rattle.std.specs.Prelude.{slice_get}
 use Rattle.std.proofs.lemmas.Bool.{eqb-true}
 use Rattle.std.proofs.lemmas.Bool.Decides.{Decides-eqb}
-use Rattle.presence_journal.specs.Steps.{Entry, Start}
+use Rattle.presence_journal.specs.declared.entry.Entry.{Entry}
+use Rattle.presence_journal.specs.declared.entry.Start.{Start}
 use Rattle.presence_journal.specs.History.{History, Begin, Then, onto, start_of, last_number}
 use Rattle.presence_journal.specs.Table.{IsLegal}
 use Rattle.presence_journal.proofs.HistoryLemmas.{legal_before}

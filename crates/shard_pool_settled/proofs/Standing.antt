@@ -16,7 +16,7 @@ use Rattle.presence_journal.specs.declared.step.Step.{Step}
 use Rattle.presence_journal.specs.declared.step.Step.TheVariants as steps_are
 use Rattle.presence_journal.specs.declared.entry.Outcome.{Outcome}
 use Rattle.presence_journal.specs.declared.entry.Outcome.TheVariants as outcomes_are
-use Rattle.presence_journal.specs.Steps.{Entry}
+use Rattle.presence_journal.specs.declared.entry.Entry.{Entry}
 use Rattle.presence_journal.specs.History.{History}
 use Rattle.presence_journal.proofs.Same.{same_text-true, same_text-refl, same_replica-true, same_replica-refl, same_dot-true, same_dot-refl, is_eq-then, dot_total, dot_cmp-IsAntisymmetric}
 use Rattle.std.specs.FinMap.{IsAntisymmetric, slice_cmp-IsAntisymmetric}

@@ -1,6 +1,6 @@
 -- Which entry of a history has a number, and how many have a seat.
 use Rattle.std.specs.Prelude.{ℕ, ◌+◌, Bool, true, false, cond, nat_eq, List, [], ◌∷◌, Option, Some, None, is_some}
-use Rattle.presence_journal.specs.Steps.{Entry}
+use Rattle.presence_journal.specs.declared.entry.Entry.{Entry}
 use Rattle.presence_journal.specs.History.{History, Begin, Then}
 pub use Rattle.presence_base.specs.Choices.{one_if}
 

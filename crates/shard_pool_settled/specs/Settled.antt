@@ -1,6 +1,6 @@
 -- When the receipts of all seats and the journals of all shards agree. The receipts of seat i stand at place i.
 use Rattle.std.specs.Prelude.{◌≡◌, ◌+◌, ℕ, zero, suc, List, [], ◌∷◌, Bool, true, false, ◌&&◌, length, cond, nat_eq, nat_lt, Option, Some, None, slice_get}
-use Rattle.presence_journal.specs.Steps.{Entry}
+use Rattle.presence_journal.specs.declared.entry.Entry.{Entry}
 use Rattle.presence_journal.specs.History.{History}
 use Rattle.shard_pool_settled.specs.declared.receipt.Receipt.{Receipt}
 use Rattle.shard_pool_settled.specs.Alike.{same_step, same_outcome}

@@ -5,7 +5,7 @@ use Rattle.presence_base.specs.declared.dots.Dot.{Dot}
 use Rattle.presence_base.specs.declared.row.Row.{Row}
 use Rattle.presence_base.specs.Order.{same_text}
 use Rattle.presence_journal.specs.declared.rows.Item.{Item}
-use Rattle.presence_journal.specs.Steps.{Entry}
+use Rattle.presence_journal.specs.declared.entry.Entry.{Entry}
 use Rattle.presence_journal.specs.History.{History}
 use Rattle.presence_journal.specs.Queue.{diff_item, diff_of}
 use Rattle.tracker_shown.specs.declared.turn.Turn.{Turn}

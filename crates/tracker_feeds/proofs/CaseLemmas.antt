@@ -8,7 +8,7 @@ use Rattle.presence_journal.proofs.Same.{same_text-true}
 use Rattle.presence_journal.specs.declared.rows.Item.{Item}
 use Rattle.presence_journal.specs.declared.rows.Item.TheVariants as items_are
 use Rattle.presence_journal.specs.declared.rows.RowDiff.{RowDiff}
-use Rattle.presence_journal.specs.Steps.{Entry}
+use Rattle.presence_journal.specs.declared.entry.Entry.{Entry}
 use Rattle.presence_journal.specs.History.{History}
 use Rattle.presence_journal.specs.Queue.{is_empty, diff_item, diff_of}
 use Rattle.tracker_feeds.specs.Fed.{Fed, is_followed, items_for}

@@ -9,7 +9,8 @@ use Rattle.presence_base.specs.Order.{text_cmp, same_text}
 use Rattle.presence_journal.specs.declared.rows.Item.{Item}
 use Rattle.presence_journal.specs.declared.rows.Item.TheVariants as items_are
 use Rattle.presence_journal.specs.declared.step.Step.TheVariants as steps_are
-use Rattle.presence_journal.specs.Steps.{Step, Entry}
+use Rattle.presence_journal.specs.declared.step.Step.{Step}
+use Rattle.presence_journal.specs.declared.entry.Entry.{Entry}
 use Rattle.presence_journal.specs.History.{History, Then}
 use Rattle.presence_journal.specs.Laws.{concerns}
 use Rattle.presence_journal.specs.Present.{present, changes}

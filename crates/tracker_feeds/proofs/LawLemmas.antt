@@ -8,7 +8,9 @@ use Rattle.presence_base.specs.Order.{same_text}
 use Rattle.presence_journal.specs.declared.rows.Item.{Item}
 use Rattle.presence_journal.specs.declared.entry.Outcome.TheVariants as outcomes_are
 use Rattle.presence_journal.specs.declared.step.Step.TheVariants as steps_are
-use Rattle.presence_journal.specs.Steps.{Step, Entry, Outcome}
+use Rattle.presence_journal.specs.declared.step.Step.{Step}
+use Rattle.presence_journal.specs.declared.entry.Entry.{Entry}
+use Rattle.presence_journal.specs.declared.entry.Outcome.{Outcome}
 use Rattle.presence_journal.specs.History.{History, Then, last_number, is_full}
 use Rattle.presence_journal.specs.Queue.{Waiting, Behind, Queued, is_waiting, listed_for, given, items_given, most_waiting, queued, push_items, left_by, queue_after, made_for, items_made, topic_after, topic_of, queue}
 use Rattle.presence_journal.specs.Table.{IsLegal, outcome_of, for_present, take_outcome, accepted, next_entry}

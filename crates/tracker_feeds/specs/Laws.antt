@@ -4,7 +4,9 @@ use Rattle.presence_journal.specs.declared.rows.Item.{Item}
 use Rattle.presence_journal.specs.declared.rows.Item.TheVariants as items_are
 use Rattle.presence_journal.specs.declared.entry.Outcome.TheVariants as outcomes_are
 use Rattle.presence_journal.specs.declared.step.Step.TheVariants as steps_are
-use Rattle.presence_journal.specs.Steps.{Step, Entry, Start}
+use Rattle.presence_journal.specs.declared.step.Step.{Step}
+use Rattle.presence_journal.specs.declared.entry.Entry.{Entry}
+use Rattle.presence_journal.specs.declared.entry.Start.{Start}
 use Rattle.presence_journal.specs.History.{History, Begin, Then, last_number}
 use Rattle.presence_journal.specs.Present.{listed}
 use Rattle.presence_journal.specs.Queue.{topic_at as first_topic, topic_of, queue, items_made, items_given, is_waiting}

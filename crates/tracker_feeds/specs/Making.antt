@@ -10,7 +10,8 @@ use Rattle.presence_base.specs.Order.{same_text}
 use Rattle.presence_journal.specs.declared.rows.Item.{Item}
 use Rattle.presence_journal.specs.declared.rows.Item.TheVariants as items_are
 use Rattle.presence_journal.specs.declared.rows.RowDiff.{RowDiff}
-use Rattle.presence_journal.specs.Steps.{Step, Entry}
+use Rattle.presence_journal.specs.declared.step.Step.{Step}
+use Rattle.presence_journal.specs.declared.entry.Entry.{Entry}
 use Rattle.presence_journal.specs.History.{History, Then}
 use Rattle.presence_journal.specs.Queue.{diff_item, diff_of, items_made}
 use Rattle.presence_journal.specs.Table.{IsLegal}

@@ -4,7 +4,8 @@ use Rattle.std.specs.Prelude.{option_map, is_some, length}
 use Rattle.presence_journal.specs.declared.rows.Item.{Item}
 use Rattle.presence_journal.specs.declared.step.Step.TheVariants as steps_are
 use Rattle.presence_journal.specs.declared.entry.Outcome.TheVariants as outcomes_are
-use Rattle.presence_journal.specs.Steps.{Step, Entry}
+use Rattle.presence_journal.specs.declared.step.Step.{Step}
+use Rattle.presence_journal.specs.declared.entry.Entry.{Entry}
 use Rattle.presence_journal.specs.History.{History}
 use Rattle.presence_journal.specs.Queue.{queue, topic_of, is_waiting}
 use Rattle.presence_journal.specs.Table.{outcome_of}

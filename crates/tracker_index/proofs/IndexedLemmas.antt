@@ -10,7 +10,10 @@ use Rattle.orswot_core.specs.declared.form.Form.{Form}
 use Rattle.orswot_core.specs.Telling.{ToldValue}
 use Rattle.orswot_core.specs.Sets.{DotRows}
 use Rattle.orswot_core.specs.Full.{IsFullIn}
-use Rattle.presence_journal.specs.Steps.{Step, Outcome, Entry, Start}
+use Rattle.presence_journal.specs.declared.step.Step.{Step}
+use Rattle.presence_journal.specs.declared.entry.Outcome.{Outcome}
+use Rattle.presence_journal.specs.declared.entry.Entry.{Entry}
+use Rattle.presence_journal.specs.declared.entry.Start.{Start}
 use Rattle.presence_journal.specs.History.{History, Begin, Then, begun, onto, start_of, own, is_full, is_up, status, removed, row, live, shown}
 use Rattle.presence_journal.specs.StepLimits.{is_within_limits}
 use Rattle.presence_journal.specs.Table.{IsLegal, AreWithinLimits, IsKept, outcome_of, next_entry, after}

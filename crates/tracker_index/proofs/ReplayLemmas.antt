@@ -1,6 +1,7 @@
 -- What is kept, entry by entry.
 use Rattle.std.proofs.Common.{◌≡◌, ℕ, ◌+◌, ◌<◌, ◌≤◌, List, length, get_or, refl, sym, subst}
-use Rattle.presence_journal.specs.Steps.{Entry, Start}
+use Rattle.presence_journal.specs.declared.entry.Entry.{Entry}
+use Rattle.presence_journal.specs.declared.entry.Start.{Start}
 use Rattle.presence_journal.specs.History.{History, Begin, Then, onto}
 use Rattle.presence_journal.specs.Table.{IsLegal}
 use Rattle.presence_journal.proofs.Walking.{Reached, reached_none, reached_more, reached_all}

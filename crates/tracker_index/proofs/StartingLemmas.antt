@@ -4,7 +4,8 @@ use Rattle.std.proofs.Common.{◌≡◌, ℕ, ◌+◌, ◌<◌, ◌≤◌, ◌^�
 use Rattle.std.specs.Prelude.{map as each}
 use Rattle.orswot_core.specs.Checks.{has_repeat}
 use Rattle.presence_journal.specs.StepLimits.{is_heard}
-use Rattle.presence_journal.specs.Steps.{Entry, Start}
+use Rattle.presence_journal.specs.declared.entry.Entry.{Entry}
+use Rattle.presence_journal.specs.declared.entry.Start.{Start}
 use Rattle.presence_journal.specs.History.{History, Begin, Then, onto, own, count, last_number, time, last_cut}
 use Rattle.presence_journal.specs.Table.{IsStart, IsLegal}
 use Rattle.presence_journal_known.specs.Full.{IsFullOf}

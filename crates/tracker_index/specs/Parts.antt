@@ -1,6 +1,6 @@
 -- How what is kept is tied to a journal's history.
 use Rattle.std.specs.Prelude.{◌≡◌, Bool, true, false}
-use Rattle.presence_journal.specs.Steps.{Entry}
+use Rattle.presence_journal.specs.declared.entry.Entry.{Entry}
 use Rattle.presence_base.specs.declared.dots.Replica.{Replica}
 use Rattle.presence_journal.specs.History.{History, Begin, Then, own, own_after}
 use Rattle.presence_journal.specs.Table.{IsLegal, IsKept}

@@ -2,7 +2,7 @@
 use Rattle.std.specs.Prelude.{ℕ, [], ◌∷◌}
 use Rattle.presence_base.specs.declared.dots.Replica.{Replica}
 use Rattle.orswot_core.specs.Telling.{ToldValue}
-use Rattle.presence_journal.specs.Steps.{Start}
+use Rattle.presence_journal.specs.declared.entry.Start.{Start}
 use Rattle.presence_journal.specs.History.{History, Begin, nothing_kept}
 
 -- told: the dots of the replica up to the count

@@ -1,6 +1,7 @@
 -- A journal that begins again, with a Start that stands for its history.
 use Rattle.std.specs.Prelude.{◌≡◌, ℕ, ◌+◌, Bool, true, false, List, [], ◌∷◌, is_some}
-use Rattle.presence_journal.specs.Steps.{Entry, Start}
+use Rattle.presence_journal.specs.declared.entry.Entry.{Entry}
+use Rattle.presence_journal.specs.declared.entry.Start.{Start}
 use Rattle.presence_journal.specs.History.{History, Begin, Then}
 use Rattle.presence_journal_cuts.specs.Checkpoints.{IsCheckpoint}
 pub use Rattle.presence_base.specs.Choices.{one_if}

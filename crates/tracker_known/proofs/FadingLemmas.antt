@@ -17,7 +17,8 @@ use Rattle.replica_status.specs.Boards.{standing_in}
 use Rattle.replica_status.specs.Table.{status_of, heard_at, ticked_at, put_down}
 use Rattle.presence_journal.specs.declared.step.Step.TheVariants as steps_are
 use Rattle.presence_journal.specs.declared.entry.Outcome.TheVariants as outcomes_are
-use Rattle.presence_journal.specs.Steps.{Step, Entry}
+use Rattle.presence_journal.specs.declared.step.Step.{Step}
+use Rattle.presence_journal.specs.declared.entry.Entry.{Entry}
 use Rattle.presence_journal.specs.History.{History, Then, own, counts_used, time, time_of, known, live, standing, standing_after, status, is_gone, has_dot, first_some, row_added, own_after}
 use Rattle.presence_journal.specs.Present.{dots_taken}
 use Rattle.presence_journal.specs.Table.{IsLegal, outcome_of}

@@ -20,7 +20,8 @@ use Rattle.orswot_core.proofs.OrderFacts.{dots_equal, flipped}
 use Rattle.orswot_core.specs.Sets.{Rows, LiveRows, first_row, rows_by, rows_within}
 use Rattle.orswot_core.proofs.RowFacts.{find_is}
 use Rattle.presence_journal.specs.declared.entry.Outcome.TheVariants as outcomes_are
-use Rattle.presence_journal.specs.Steps.{Step, Outcome}
+use Rattle.presence_journal.specs.declared.step.Step.{Step}
+use Rattle.presence_journal.specs.declared.entry.Outcome.{Outcome}
 use Rattle.presence_journal.specs.History.{has_dot, row_added}
 use Rattle.presence_journal.proofs.Walking.{drop_next}
 use Rattle.tracker_known.specs.Picks.{Gathers, picked, one_row}

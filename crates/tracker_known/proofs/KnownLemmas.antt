@@ -20,7 +20,8 @@ use Rattle.orswot_core.specs.Full.{IsFullIn}
 use Rattle.orswot_core.proofs.FullFacts.{live_sorted}
 use Rattle.presence_journal.specs.declared.step.Step.TheVariants as steps_are
 use Rattle.presence_journal.specs.declared.entry.Outcome.TheVariants as outcomes_are
-use Rattle.presence_journal.specs.Steps.{Step, Entry}
+use Rattle.presence_journal.specs.declared.step.Step.{Step}
+use Rattle.presence_journal.specs.declared.entry.Entry.{Entry}
 use Rattle.presence_journal.specs.History.{History, Then, begun, count, counts_used, known, removed, row, live, status, is_gone, next_dot, IsTop}
 use Rattle.presence_journal.specs.Laws.{is_callers}
 use Rattle.presence_journal.specs.Table.{IsLegal}

@@ -9,7 +9,7 @@ use Rattle.orswot_core.specs.Telling.{ToldValue, live_row}
 use Rattle.replica_status.specs.declared.status.Status.{Status}
 use Rattle.replica_status.specs.Boards.{standing_in}
 use Rattle.presence_journal.specs.declared.step.Step.TheVariants as steps_are
-use Rattle.presence_journal.specs.Steps.{Entry}
+use Rattle.presence_journal.specs.declared.entry.Entry.{Entry}
 use Rattle.presence_journal.specs.History.{History, own, is_up, is_gone, row_added, has_dot}
 use Rattle.presence_journal.specs.Laws.{is_callers}
 use Rattle.presence_journal.specs.Present.{dots_taken}

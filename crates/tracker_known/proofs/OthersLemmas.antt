@@ -10,7 +10,8 @@ use Rattle.replica_status.specs.Boards.{standing_in}
 use Rattle.replica_status.specs.Table.{status_of, heard_at, ticked_at, put_down}
 use Rattle.presence_journal_lists.specs.Standings.{Puts, AllStay, Ticks}
 use Rattle.presence_journal.specs.declared.step.Step.TheVariants as steps_are
-use Rattle.presence_journal.specs.Steps.{Step, Entry}
+use Rattle.presence_journal.specs.declared.step.Step.{Step}
+use Rattle.presence_journal.specs.declared.entry.Entry.{Entry}
 use Rattle.presence_journal.specs.History.{History, Then, begun, own, reborn, time, time_of, standing, standing_after, status, is_gone, hears}
 use Rattle.presence_journal.specs.Laws.{is_callers}
 use Rattle.orswot_core.specs.Telling.{ToldValue}

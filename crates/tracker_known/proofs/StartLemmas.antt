@@ -16,7 +16,7 @@ use Rattle.replica_status.specs.declared.standing.Standing.TheVariants.{Unheard,
 use Rattle.replica_status.specs.declared.status.Status.TheVariants as status_is
 use Rattle.replica_status.specs.Boards.{standing_in}
 use Rattle.replica_status.specs.Table.{status_of}
-use Rattle.presence_journal.specs.Steps.{Start}
+use Rattle.presence_journal.specs.declared.entry.Start.{Start}
 use Rattle.presence_journal.specs.History.{History, Begin, own, count, time, standing, status, is_gone}
 use Rattle.presence_journal.proofs.Same.{replica_total}
 use Rattle.presence_journal_lists.specs.Standings.{StandingMap, gone_life, first_list, gone_lives, gone_list, all_of, standing_at, Puts}

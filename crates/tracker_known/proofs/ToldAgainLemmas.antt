@@ -22,7 +22,7 @@ use Rattle.replica_status.specs.declared.status.Status.{Status}
 use Rattle.replica_status.specs.declared.status.Status.TheVariants as status_is
 use Rattle.replica_status.specs.Table.{is_unheard}
 use Rattle.presence_journal.specs.declared.step.Step.TheVariants as steps_are
-use Rattle.presence_journal.specs.Steps.{Entry}
+use Rattle.presence_journal.specs.declared.entry.Entry.{Entry}
 use Rattle.presence_journal.specs.History.{History, Then, own, reborn, count, own_after, is_counted, has_dot, with_prev, row_again, is_gone, status, known, removed, covered, row, live, shown}
 use Rattle.presence_journal.specs.Table.{IsLegal, own_dots, reborn_from, pairs_for, can_be_reborn}
 use Rattle.presence_journal.specs.Walk.{is_rebirth, pairs_in}

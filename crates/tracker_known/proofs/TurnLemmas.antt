@@ -17,7 +17,9 @@ use Rattle.replica_status.specs.Boards.{standing_in}
 use Rattle.replica_status.specs.Table.{is_over, status_of, heard_at, ticked_at, put_down}
 use Rattle.replica_status.specs.declared.standing.TheConstants.{GONE_AFTER_MS}
 use Rattle.presence_journal.specs.declared.step.Step.TheVariants as steps_are
-use Rattle.presence_journal.specs.Steps.{Step, Outcome, Entry}
+use Rattle.presence_journal.specs.declared.step.Step.{Step}
+use Rattle.presence_journal.specs.declared.entry.Outcome.{Outcome}
+use Rattle.presence_journal.specs.declared.entry.Entry.{Entry}
 use Rattle.presence_journal.specs.History.{History, Then, own, known, live, row, removed, shown, status, standing, standing_after, time, time_of, is_up, is_gone, hears, has_dot, first_some, row_added, own_after}
 use Rattle.presence_journal.specs.Present.{dots_taken}
 use Rattle.presence_journal.specs.Laws.{is_callers}

@@ -13,7 +13,7 @@ use Rattle.orswot_core.specs.Sets.{Rows, LiveRows, DotRows, first_row}
 use Rattle.replica_status.specs.declared.standing.Standing.{Standing}
 use Rattle.replica_status.specs.Boards.{standing_in}
 use Rattle.replica_status.specs.Table.{status_of, ticked_at}
-use Rattle.presence_journal.specs.Steps.{Step}
+use Rattle.presence_journal.specs.declared.step.Step.{Step}
 use Rattle.presence_journal.specs.History.{is_up, row_made}
 use Rattle.tracker_known.specs.declared.others.Others.{Others}
 use Rattle.tracker_known.specs.Standings.{status_at}

@@ -1,6 +1,7 @@
 -- How an entry turns what is shown.
 use Rattle.std.specs.Prelude.{◌≡◌}
-use Rattle.presence_journal.specs.Steps.{Step, Entry}
+use Rattle.presence_journal.specs.declared.step.Step.{Step}
+use Rattle.presence_journal.specs.declared.entry.Entry.{Entry}
 use Rattle.presence_journal.specs.History.{History, Then}
 use Rattle.presence_journal.specs.Table.{IsLegal}
 use Rattle.tracker_shown.specs.declared.turn.Turn.{Turn}

@@ -7,7 +7,7 @@ use Rattle.presence_journal.specs.declared.step.Step.{Step}
 use Rattle.presence_journal.specs.declared.entry.Outcome.{Outcome}
 use Rattle.presence_journal.specs.declared.step.Step.TheVariants as steps_are
 use Rattle.presence_journal.specs.declared.rows.Item.{Item}
-use Rattle.presence_journal.specs.Steps.{Entry}
+use Rattle.presence_journal.specs.declared.entry.Entry.{Entry}
 use Rattle.presence_journal.specs.Laws.{LosesNoRow}
 use Rattle.presence_journal.specs.History.{History, Then, is_full, count, next_dot, last_number}
 use Rattle.presence_journal.specs.Present.{listed, dots_of}

@@ -13,7 +13,7 @@ use Rattle.orswot_core.specs.Telling.{covers, live_row}
 use Rattle.orswot_core.specs.Checks.{IsTold}
 use Rattle.orswot_core.proofs.CutFacts.{cut_tells, cut_told}
 use Rattle.presence_journal.specs.declared.rows.Place.{Place}
-use Rattle.presence_journal.specs.Steps.{Start}
+use Rattle.presence_journal.specs.declared.entry.Start.{Start}
 use Rattle.presence_journal.specs.History.{Begin, own, is_up, status, standing, row, live, removed, shown}
 use Rattle.tracker_shown.specs.declared.stand.Holder.{Holder}
 use Rattle.tracker_shown.specs.declared.shown.Shown.{Shown}

@@ -14,7 +14,7 @@ use Rattle.presence_base.specs.declared.dots.Dot.{Dot}
 use Rattle.presence_base.specs.declared.row.Row.{Row}
 use Rattle.presence_base.specs.Order.{same_text, same_dot, same_replica}
 use Rattle.presence_journal.specs.declared.rows.Place.{Place}
-use Rattle.presence_journal.specs.Steps.{Entry}
+use Rattle.presence_journal.specs.declared.entry.Entry.{Entry}
 use Rattle.presence_journal.specs.History.{History, Then, own, shown}
 use Rattle.presence_journal.specs.Present.{of_topic}
 use Rattle.presence_journal.specs.Walk.{keyed, is_rebirth}

@@ -5,7 +5,7 @@ use Rattle.presence_base.specs.declared.dots.Replica.{Replica}
 use Rattle.presence_base.specs.declared.dots.Dot.{Dot}
 use Rattle.presence_base.specs.declared.row.Row.{Row}
 use Rattle.presence_journal.specs.declared.rows.Place.{Place}
-use Rattle.presence_journal.specs.Steps.{Entry}
+use Rattle.presence_journal.specs.declared.entry.Entry.{Entry}
 use Rattle.presence_journal.specs.History.{History, Then, own, shown}
 use Rattle.tracker_shown.specs.declared.stand.Holder.{Holder}
 use Rattle.tracker_shown.specs.declared.shown.Shown.{Shown}

@@ -5,7 +5,7 @@ use Rattle.presence_base.specs.declared.dots.Dot.{Dot}
 use Rattle.presence_base.specs.declared.row.Row.{Row}
 use Rattle.presence_base.specs.Order.{same_dot}
 use Rattle.orswot_core.specs.Checks.{has_repeat, dots_of}
-use Rattle.presence_journal.specs.Steps.{Entry}
+use Rattle.presence_journal.specs.declared.entry.Entry.{Entry}
 use Rattle.presence_journal.specs.History.{History, Then, shown}
 use Rattle.tracker_shown.specs.declared.turn.Turn.{Turn}
 

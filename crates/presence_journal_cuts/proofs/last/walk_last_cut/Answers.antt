@@ -1,5 +1,5 @@
 use Rattle.std.proofs.Common.{◌≡◌, sym, ◌∙◌, ap}
-use Rattle.presence_journal.specs.Steps.{Start}
+use Rattle.presence_journal.specs.declared.entry.Start.{Start}
 use Rattle.presence_journal.specs.History.{start_of, last_cut}
 use Rattle.presence_journal.proofs.Walking.{reached_none, reached_more, reached_all}
 use Rattle.presence_journal_cuts.proofs.Histories.{last_cut-begin, last_more}

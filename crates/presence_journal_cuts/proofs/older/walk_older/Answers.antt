@@ -1,6 +1,6 @@
 use Rattle.std.proofs.Common.{ℕ, nat_eq, List, ap, sym, subst, ◌∙◌}
 use Rattle.std.specs.Map.{lookup}
-use Rattle.presence_journal.specs.Steps.{Start}
+use Rattle.presence_journal.specs.declared.entry.Start.{Start}
 use Rattle.presence_journal.specs.History.{Begin, start_of}
 use Rattle.presence_journal.proofs.Walking.{reached_none, reached_more, reached_all}
 use Rattle.presence_journal_cuts.specs.Chains.{AreUpTo}

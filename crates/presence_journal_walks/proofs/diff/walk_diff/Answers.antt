@@ -2,7 +2,7 @@ use Rattle.std.proofs.Common.{◌≡◌, ◌<◌, ◌+◌, length, take, ◌∙�
 use Rattle.std.proofs.lemmas.Result.{IfOk-weaker}
 use Rattle.std.specs.BTreeMap.{get}
 use Rattle.presence_base.specs.Order.{dot_cmp}
-use Rattle.presence_journal.specs.Steps.{Start}
+use Rattle.presence_journal.specs.declared.entry.Start.{Start}
 use Rattle.presence_journal.specs.History.{History, Begin, onto}
 use Rattle.presence_journal.specs.Table.{IsLegal}
 use Rattle.presence_journal.specs.Queue.{diff_at}

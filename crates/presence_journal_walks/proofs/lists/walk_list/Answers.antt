@@ -1,6 +1,6 @@
 use Rattle.std.proofs.Common.{◌∙◌, ap, sym, subst}
 use Rattle.std.proofs.lemmas.Result.{IfOk-weaker}
-use Rattle.presence_journal.specs.Steps.{Start}
+use Rattle.presence_journal.specs.declared.entry.Start.{Start}
 use Rattle.presence_journal.specs.History.{History, Begin, onto}
 use Rattle.presence_journal.specs.Table.{IsLegal}
 use Rattle.presence_journal.specs.Present.{present}

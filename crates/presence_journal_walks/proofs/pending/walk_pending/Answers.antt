@@ -2,7 +2,7 @@ use Rattle.std.proofs.Common.{◌+◌, ◌∙◌, sym, ap, subst, List, ℕ, opt
 use Rattle.std.specs.BTreeMap.{get}
 use Rattle.presence_base.specs.Order.{dot_cmp}
 use Rattle.presence_journal.specs.declared.rows.Item.{Item}
-use Rattle.presence_journal.specs.Steps.{Start}
+use Rattle.presence_journal.specs.declared.entry.Start.{Start}
 use Rattle.presence_journal.specs.History.{History, Begin, onto}
 use Rattle.presence_journal.specs.Table.{IsLegal}
 use Rattle.presence_journal.specs.Queue.{queue_after, topic_at, topic_of}

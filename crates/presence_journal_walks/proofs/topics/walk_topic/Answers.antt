@@ -1,5 +1,5 @@
 use Rattle.std.proofs.Common.{◌≡◌, ℕ, List, option_copied, sym, ◌∙◌, ap}
-use Rattle.presence_journal.specs.Steps.{Start}
+use Rattle.presence_journal.specs.declared.entry.Start.{Start}
 use Rattle.presence_journal.specs.History.{start_of}
 use Rattle.presence_journal.specs.Queue.{topic_at, topic_of, topic_after}
 use Rattle.presence_journal.proofs.Topics.{topic_of-begin, topic_of-then}

@@ -1,5 +1,5 @@
 use Rattle.std.proofs.Common.{ℕ, List, option_copied, sym, ◌∙◌, ap, subst}
-use Rattle.presence_journal.specs.Steps.{Start}
+use Rattle.presence_journal.specs.declared.entry.Start.{Start}
 use Rattle.presence_journal.specs.History.{Begin, onto}
 use Rattle.presence_journal.specs.Queue.{topic_at}
 use Rattle.presence_journal.specs.Table.{IsLegal}

@@ -1,5 +1,5 @@
 use Rattle.std.proofs.Common.{ap, arith}
-use Rattle.presence_journal.specs.Steps.{Start}
+use Rattle.presence_journal.specs.declared.entry.Start.{Start}
 use Rattle.presence_journal.specs.History.{start_of}
 use Rattle.presence_journal.proofs.HistoryLemmas.{last_number-limit}
 use Rattle.tracker_index.proofs.StartingLemmas.{seats_whole, seats_low}
