@@ -7,7 +7,7 @@ use Rattle.channel_rules.specs.declared.kind.EventKind.{EventKind}
 use Rattle.channel_rules.specs.declared.kind.EventKind.TheVariants as kinds_are
 use Rattle.channel_rules.specs.declared.kind.TopicEvent.{TopicEvent}
 use Rattle.channel_rules.specs.declared.kind.TopicEvent.TheVariants as events_are
-use Rattle.client_settings.specs.declared.events.EventNames.{EventNames}
+use Rattle.client_settings.specs.Names.{Names}
 
 -- an event of which the channel knows nothing
 abbrev pub is_unknown_topic_event : TopicEvent → Bool
@@ -36,21 +36,21 @@ is_named [] event = false
 is_named (name ∷ rest) event = names event name || is_named rest event
 
 -- Each option names events: an event that one of them names is a client's own.
-abbrev pub is_own_by : EventNames → List ℕ → Bool
+abbrev pub is_own_by : Names → List ℕ → Bool
 is_own_by given event = is_free event
-    && (is_named given.sent.items event || (is_named given.answered.items event || is_named given.to_others.items event))
+    && (is_named given.sent event || (is_named given.answered event || is_named given.to_others event))
 
 -- one's own event, where any is
-abbrev pub is_own : Option EventNames → List ℕ → Bool
+abbrev pub is_own : Option Names → List ℕ → Bool
 is_own None event = false
 is_own (Some given) event = is_own_by given event
 
 -- it is answered too
-abbrev pub is_answered : Option EventNames → List ℕ → Bool
+abbrev pub is_answered : Option Names → List ℕ → Bool
 is_answered None event = false
-is_answered (Some given) event = is_named given.answered.items event
+is_answered (Some given) event = is_named given.answered event
 
 -- it doesn't go to who sent it
-abbrev pub goes_to_others : Option EventNames → List ℕ → Bool
+abbrev pub goes_to_others : Option Names → List ℕ → Bool
 goes_to_others None event = false
-goes_to_others (Some given) event = is_named given.to_others.items event
+goes_to_others (Some given) event = is_named given.to_others event

@@ -14,7 +14,7 @@ use Rattle.client_settings.specs.Events.{is_own_by}
 use Rattle.client_settings.specs.Meaning.{IsPlain, meaning, is_late, late_reply, reads, same_ref}
 use Rattle.client_settings.specs.Kept.{is_itself, kept_event, kept_shout, told_of}
 use Rattle.client_settings.specs.Telling.{is_pid, told_by, told_text}
-use Rattle.client_settings.specs.declared.events.EventNames.{EventNames}
+use Rattle.client_settings.specs.Names.{Names}
 use Rattle.client_settings.specs.declared.settings.Settings.{Settings}
 
 -- by default each text stays as it is
@@ -45,7 +45,7 @@ pub record IsTold (m : Message) : Type 0 where
   pub short : length (text_of m) ≤ the_limits.FRAME.bytes
 
 abbrev pub EventsComeThrough : Type 0
-EventsComeThrough = (given : EventNames) (pid : ℕ) (topic event : List ℕ) (sender : Option ℕ) (payload : Data)
+EventsComeThrough = (given : Names) (pid : ℕ) (topic event : List ℕ) (sender : Option ℕ) (payload : Data)
     → is_own_by given event ≡ true → IsTold (shout_of topic (kept_event event sender payload))
     → told_text given pid (text_of (shout_of topic (kept_event event sender payload)))
     ≡ (if is_pid sender pid then None else Some (text_of (broadcast_of topic event payload)))
@@ -55,6 +55,6 @@ abbrev pub kept_by : Data → Data
 kept_by payload = if is_itself (told_of payload) then payload else kept_shout payload
 
 abbrev pub ShoutsComeThrough : Type 0
-ShoutsComeThrough = (given : EventNames) (pid : ℕ) (topic : List ℕ) (payload : Data)
+ShoutsComeThrough = (given : Names) (pid : ℕ) (topic : List ℕ) (payload : Data)
     → IsTold (shout_of topic (kept_by payload))
     → told_text given pid (text_of (shout_of topic (kept_by payload))) ≡ Some (text_of (shout_of topic payload))

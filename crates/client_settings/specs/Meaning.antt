@@ -20,7 +20,7 @@ use Rattle.channel_rules.specs.declared.kind.TopicEvent.{TopicEvent}
 use Rattle.channel_rules.specs.declared.kind.TopicEvent.TheVariants as events_are
 use Rattle.client_settings.specs.Events.{goes_to_others, is_answered, is_own}
 use Rattle.client_settings.specs.Kept.{is_itself, kept_event, kept_shout, told_of}
-use Rattle.client_settings.specs.declared.events.EventNames.{EventNames}
+use Rattle.client_settings.specs.Names.{Names}
 use Rattle.client_settings.specs.declared.settings.Settings.{Settings}
 use Rattle.client_settings.specs.declared.meaning.Meaning.{Meaning}
 use Rattle.client_settings.specs.declared.meaning.Meaning.TheVariants as meaning_is

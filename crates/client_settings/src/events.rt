@@ -35,14 +35,11 @@ impl Drop for OwnEvents {
 
 impl Model for OwnEvents {
     ghost use Rattle.std.specs.Arc.{arc_value};
-    ghost use Rattle.client_settings.specs.contracts.events.EventNames as given_names;
-    ghost use Rattle.client_settings.specs.declared.events.EventNames.{EventNames};
+    ghost use Rattle.client_settings.specs.Names.{Names, names_of};
 
-    ghost Value = { EventNames };
+    ghost Value = { Names };
 
-    ghost coded = { given_names.the_row.coded };
-
-    ghost view = { λ s. arc_value s.names };
+    ghost view = { λ s. names_of (arc_value s.names) };
 }
 
 impl Debug for OwnEvents {
@@ -105,9 +102,10 @@ fn is_named(given: &[Text], event: &str) -> bool
 impl OwnEvents {
     ghost use Rattle.std.specs.Prelude.{◌≡◌, IfOk};
     ghost use Rattle.client_settings.specs.Events.{is_named as is_named_in, is_own_by};
+    ghost use Rattle.client_settings.specs.Names.{names_of};
 
     pub fn new(alloc: Global, names: EventNames) -> Result<OwnEvents, AllocError>
-        ensures { IfOk result (λ events. events ≡ names) }
+        ensures { IfOk result (λ events. events ≡ names_of names) }
     {
         let names = Arc::new(alloc, names)?;
         Ok(OwnEvents { names })
@@ -125,14 +123,14 @@ impl OwnEvents {
 
     /// Whether an event is answered.
     pub(crate) fn is_answered(&self, event: &str) -> bool
-        ensures { result ≡ is_named_in self.now.answered.items event.now }
+        ensures { result ≡ is_named_in self.now.answered event.now }
     {
         is_named(self.names.answered.as_slice(), event)
     }
 
     /// Whether an event doesn't go to who sent it.
     pub(crate) fn goes_to_others(&self, event: &str) -> bool
-        ensures { result ≡ is_named_in self.now.to_others.items event.now }
+        ensures { result ≡ is_named_in self.now.to_others event.now }
     {
         is_named(self.names.to_others.as_slice(), event)
     }

@@ -1,14 +1,14 @@
 //! What everybody at the server shares by its options: the budgets of topics, the memory, the log, and what clients may do.
-ghost use Rattle.std.specs.Prelude.{◌≡◌};
-ghost use Rattle.number_texts.specs.Allowed.{numbers_where};
+ghost use Rattle.std.specs.Prelude.{◌≡◌, IfOk};
+ghost use Rattle.presence_node_main.specs.ClientSettings.{IsSettingOf, events_in};
 
+use client_settings::{EventNames, OwnEvents, Settings};
 use node_log::{Log, LogFormat, Shown};
-use number_texts::Numbers;
 use node_system::memory_there;
-use presence_options::{Budgets, LineFormat, Logged, MIN_MEMORY, Reports, ServeOptions};
-use serve_connections::Settings;
+use number_texts::Numbers;
+use presence_options::{Budgets, ClientOptions, LineFormat, Logged, MIN_MEMORY, Reports};
 use serve_rations::{Amount, MemoryMark, TopicBudgets};
-use std::alloc::Global;
+use std::alloc::{AllocError, Global};
 use std::rt::Files;
 use std::time::Clock;
 
@@ -66,13 +66,29 @@ pub(crate) fn now_in_seconds<R: Clock>(rt: &R) -> u64 {
     }
 }
 
-/// What clients may do beyond the usual.
-pub(crate) fn settings_of(options: &ServeOptions) -> Settings
-    ensures numbers { result.numbers ≡ numbers_where options.now.fractions }
-    ensures joins { result.match_joins ≡ options.now.match_joins }
+// The events of these names, if there is one.
+fn events_of(alloc: Global, options: &ClientOptions) -> Result<Option<OwnEvents>, AllocError>
+    ensures { IfOk result (λ events. events ≡ events_in options.now) }
 {
-    Settings {
+    if options.events.is_empty() && options.answered.is_empty() && options.to_others.is_empty() {
+        return Ok(None);
+    }
+    let names = EventNames {
+        sent: options.events.clone()?,
+        answered: options.answered.clone()?,
+        to_others: options.to_others.clone()?,
+    };
+    Ok(Some(OwnEvents::new(alloc, names)?))
+}
+
+/// What clients may do beyond the usual.
+pub(crate) fn settings_of(alloc: Global, options: &ClientOptions) -> Result<Settings, AllocError>
+    ensures { IfOk result (IsSettingOf options.now) }
+{
+    let events = events_of(alloc, options)?;
+    Ok(Settings {
         numbers: Numbers::allowed(options.fractions),
         match_joins: options.match_joins,
-    }
+        events,
+    })
 }

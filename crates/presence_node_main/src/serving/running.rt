@@ -287,6 +287,7 @@ where
 {
     let alloc = setting.alloc;
     let options = setting.options;
+    let settings = settings_of(alloc, &options.clients)?;
     let (entries, links) = listeners.into_parts();
     let entrance = Entrance {
         entries,
@@ -303,7 +304,7 @@ where
         pool,
         routes: &options.routes,
         hooks: setting.hooks,
-        settings: settings_of(options),
+        settings: &settings,
         origins: options.origins.as_slice(),
         proxies: options.proxies.as_slice(),
         budgets: budgets_of(alloc, &options.budgets),

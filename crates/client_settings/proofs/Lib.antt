@@ -1,0 +1,4 @@
+pub mod Plain
+pub mod Late
+pub mod Endings
+pub mod Through
