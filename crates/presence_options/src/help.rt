@@ -138,7 +138,7 @@ pub const ALL_OPTIONS: &str = "Options of serve and stdio:
                                clock, of stdio 1]
       --route <PATTERN>        A topic that may be joined; up to 64 times [default: room:*]
 
-Options of all:
+Options of serve, stdio and fold:
       --fractions              Allow any number in messages, as 1.50, 1e3 or one beyond 64 bits
 
 Options of serve:

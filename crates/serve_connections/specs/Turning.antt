@@ -2,6 +2,7 @@
 use Rattle.std.specs.Prelude.{◌≡◌, ◌⊎◌, ◌+◌, ◌^◌, ℕ, min, Bool, true, false, ◌||◌, ◌&&◌, not, ◌-◌, ◌==◌, if◌then◌else◌, leb, List, length, [], ◌∷◌, vec_len, IfOk, IfErr, is_ok, is_some, Option, Some, None, Result, Ok, Err, String, Vec}
 use Rattle.std.specs.Global.{Global}
 use Rattle.channel_session.specs.Delivery.{DeliveredBy}
+use Rattle.channel_rules.specs.InForce.{InForce}
 use Rattle.channel_session.specs.declared.frames.Delivery.{Delivery}
 use Rattle.channel_session.specs.Ending.{EndedBy}
 use Rattle.channel_session.specs.Ran.{RanBy, texts_in}
@@ -71,6 +72,10 @@ ran_texts (Err fault) = Err fault
 abbrev pub dealt_texts : Result Delivery SessionFault → Result (List (List ℕ)) SessionFault
 dealt_texts (Ok delivery) = Ok (texts_in delivery.texts)
 dealt_texts (Err fault) = Err fault
+
+-- as what a session ends that is asked nothing for want of memory
+abbrev pub wanting : InForce → SessionFault
+wanting s = if s.failed then Failed else OutOfMemoryFault
 
 -- what a client of this number gets of them
 abbrev pub told_texts : Settings → ℕ → Result (List (List ℕ)) SessionFault → Result (List (List ℕ)) SessionFault
@@ -208,7 +213,7 @@ module _ {S K P : Type 0} (w : Around S P) where
   -- It is asked nothing, and these texts are said, unless memory is wanted.
   pub record Speaks (texts : List (List ℕ)) (old new : Connection S K) (before after : P)
       (result : Result (Vec (String Global) Global) SessionFault) : Type 0 where
-    pub said : (ran_texts result ≡ Ok texts) ⊎ (result ≡ Err OutOfMemoryFault)
+    pub said : (ran_texts result ≡ Ok texts) ⊎ (result ≡ Err (wanting old.session))
     pub session : new.session ≡ old.session
     pub telling : new.telling ≡ old.telling
     pub port : after ≡ before

@@ -1,11 +1,11 @@
 //! A connection, and its turn.
-ghost use Rattle.std.specs.Prelude.{is_ok, is_some, Some, ◌||◌, ◌≡◌, ◌+◌, ◌≤◌, ◌^◌, [], leb, false, true, map, string_bytes, None, IfOk, if◌then◌else◌};
+ghost use Rattle.std.specs.Prelude.{is_ok, is_some, Some, ◌||◌, ◌≡◌, ◌+◌, ◌≤◌, ◌^◌, [], leb, false, true, map, string_bytes, None, IfOk, Ok};
 ghost use Rattle.phx_message.specs.Reading.{decoded};
 ghost use Rattle.number_texts.specs.Marks.{become};
 ghost use Rattle.client_settings.specs.Meaning.{meaning};
 ghost use Rattle.tungstenite.specs.Socket.{Flushed};
 ghost use Rattle.serve_connections.specs.Hearing.{is_message};
-ghost use Rattle.serve_connections.specs.Turning.{around, ActsOn, AnswersText, AsksIf, BearsSilence, ClosesFor, Continues, Deals, Delivers, behind_flush, broken_off, EndsSession, Responds, Runs, Serves, Flushes, Pings, StopsServing, TakesDelivery, TakesTurn, Tells, Turns, dealt, dealt_texts, is_owed_ping, may_have_more, patience, progress_of as progress_in, ran_texts, said_for as said_in_place};
+ghost use Rattle.serve_connections.specs.Turning.{around, ActsOn, AnswersText, AsksIf, BearsSilence, ClosesFor, Continues, Deals, Delivers, behind_flush, broken_off, EndsSession, Responds, Runs, Serves, Flushes, Pings, StopsServing, TakesDelivery, TakesTurn, Tells, Turns, dealt, dealt_texts, is_owed_ping, may_have_more, patience, progress_of as progress_in, ran_texts, said_for as said_in_place, wanting};
 ghost use Rattle.channel_session.specs.Delivery.{DeliveredBy};
 ghost use Rattle.channel_session.specs.Ran.{RanBy};
 ghost use Rattle.channel_rules.specs.Said.{Worded, Noted};
@@ -206,7 +206,7 @@ impl<S: Read + Write + Drop, K: MaskKeys + Drop> Connection<S, K> {
 
     // Why a session is asked nothing, where memory is wanting.
     fn no_memory(&self) -> SessionFault
-        ensures { result ≡ (if self.now.session.failed then SessionFault.Failed else SessionFault.OutOfMemory) }
+        ensures { result ≡ wanting self.now.session }
     {
         if self.session.failed() {
             SessionFault::Failed
