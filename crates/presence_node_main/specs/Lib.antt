@@ -3,3 +3,4 @@ pub mod Ending
 pub mod Ends
 pub mod Ledgers
 pub mod Place
+pub mod ClientSettings

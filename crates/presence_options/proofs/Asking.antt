@@ -10,7 +10,7 @@ use Rattle.clap.proofs.OnLiterals.{clap_on_literals}
 use Rattle.presence_options.specs.CommandLine.{program}
 use Rattle.presence_options.specs.Given.{AskFor, Calls, Chooses, ChoosesNone, HasCause, IsFor, IsHelpFor, IsNoHelp, Refused, RefusedFor, Refuses, ServeRefuses}
 use Rattle.presence_options.specs.declared.fault.UsageCause.{UsageCause}
-use Rattle.presence_options.specs.declared.fault.UsageCause.TheVariants.{Words, Name, Incarnation, Route, Port, LinkPort, Shards, Workers, LinkVersion, Peer, Origin, PerAddress, HandshakesPerSecond, PeerName, Proxy, LinkFrom, MemoryLimit, TopicRows, TopicBytes, Log, LogFormat, MetricsPort}
+use Rattle.presence_options.specs.declared.fault.UsageCause.TheVariants.{Words, Name, Incarnation, Route, Port, LinkPort, Shards, Workers, LinkVersion, Peer, Origin, PerAddress, HandshakesPerSecond, PeerName, Proxy, LinkFrom, MemoryLimit, TopicRows, TopicBytes, Log, LogFormat, MetricsPort, Event}
 use Rattle.presence_options.specs.declared.fault.UsageFault.{UsageFault}
 use Rattle.presence_options.specs.declared.fault.UsageFault.TheVariants.{Usage, Memory}
 use Rattle.presence_options.specs.declared.options.Options.{Options}
@@ -131,6 +131,7 @@ chosen_refused c words m name rows (Err (Usage TopicBytes text)) is h met none =
 chosen_refused c words m name rows (Err (Usage Log text)) is h met none = why_refused c words m name rows Log is h met none
 chosen_refused c words m name rows (Err (Usage LogFormat text)) is h met none = why_refused c words m name rows LogFormat is h met none
 chosen_refused c words m name rows (Err (Usage MetricsPort text)) is h met none = why_refused c words m name rows MetricsPort is h met none
+chosen_refused c words m name rows (Err (Usage Event text)) is h met none = why_refused c words m name rows Event is h met none
 
 -- no command is named
 pub none_named : (c : Command) (words : List Text) (m : ArgMatches) (f : UsageFault) → app_of c ≡ program → HasMatchesOf (app_of c) words m → None ≡ subcommand_rows_of m → HasCause Words f → Refused words f

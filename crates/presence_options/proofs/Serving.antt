@@ -1,8 +1,8 @@
 -- Why a server's options are refused, from what was looked at before.
 use Rattle.std.proofs.Common.{◌≡◌, ◌⊎◌, inl, inr, ℕ, List, IsTrue, codes, false, subst, sym}
 use Rattle.clap.specs.Words.{Row}
-use Rattle.presence_options.specs.Given.{AllArePeers, AreFewOrigins, AreFewPatterns, AreHandshakes, AreLinkFrom, AreOtherPeers, AreProxies, IsFrugal, IsUntold, IsWasteful, ArePeers, ArePorts, AreShards, AreWorkers, ChoosesNone, IsEdgeWrong, IsFor, IsLinkVersion, IsNamed, IsNode, IsPerAddress, IsServedWrong, name_given, origins_given, patterns_given, peers_given}
-use Rattle.presence_options.specs.declared.fault.UsageCause.TheVariants.{Words, Name, Incarnation, Route, Port, LinkPort, Shards, Workers, LinkVersion, Peer, Origin, PerAddress, HandshakesPerSecond, PeerName, Proxy, LinkFrom, MemoryLimit, TopicRows, TopicBytes, Log, LogFormat, MetricsPort}
+use Rattle.presence_options.specs.Given.{AllArePeers, AreAllNames, AreFewOrigins, AreFewPatterns, AreHandshakes, AreLinkFrom, AreOtherPeers, AreProxies, IsFrugal, IsTold, IsUnnamed, IsUntold, IsWasteful, ArePeers, ArePorts, AreShards, AreWorkers, ChoosesNone, IsEdgeWrong, IsFor, IsLinkVersion, IsNamed, IsNode, IsPerAddress, IsServedWrong, name_given, origins_given, patterns_given, peers_given}
+use Rattle.presence_options.specs.declared.fault.UsageCause.TheVariants.{Words, Name, Incarnation, Route, Port, LinkPort, Shards, Workers, LinkVersion, Peer, Origin, PerAddress, HandshakesPerSecond, PeerName, Proxy, LinkFrom, MemoryLimit, TopicRows, TopicBytes, Log, LogFormat, MetricsPort, Event}
 use Rattle.presence_options.specs.Limits.{AreRoutes, is_peer_name, numbered}
 use Rattle.presence_options.specs.declared.options.PeerOption.{PeerOption}
 use Rattle.presence_options.proofs.Patterns.{few_patterns}
@@ -105,28 +105,29 @@ edge_refused rows name routes read peers fault same wrong others is are routed w
 -- what is told, or taken, wrongly is wrong of what stands beside the node itself
 pub untold_edge : (rows : List Row) (fault : UsageFault) → AreProxies rows → AreLinkFrom rows → IsFrugal rows → IsUntold rows fault
     → IsEdgeWrong rows fault
-untold_edge rows (Usage Words text) proxies links frugal wrong = (proxies, links, inr (frugal, wrong))
-untold_edge rows (Usage Name text) proxies links frugal wrong = (proxies, links, inr (frugal, wrong))
-untold_edge rows (Usage Incarnation text) proxies links frugal wrong = (proxies, links, inr (frugal, wrong))
-untold_edge rows (Usage Route text) proxies links frugal wrong = (proxies, links, inr (frugal, wrong))
-untold_edge rows (Usage Port text) proxies links frugal wrong = (proxies, links, inr (frugal, wrong))
-untold_edge rows (Usage LinkPort text) proxies links frugal wrong = (proxies, links, inr (frugal, wrong))
-untold_edge rows (Usage Shards text) proxies links frugal wrong = (proxies, links, inr (frugal, wrong))
-untold_edge rows (Usage Workers text) proxies links frugal wrong = (proxies, links, inr (frugal, wrong))
-untold_edge rows (Usage LinkVersion text) proxies links frugal wrong = (proxies, links, inr (frugal, wrong))
-untold_edge rows (Usage Peer text) proxies links frugal wrong = (proxies, links, inr (frugal, wrong))
-untold_edge rows (Usage Origin text) proxies links frugal wrong = (proxies, links, inr (frugal, wrong))
-untold_edge rows (Usage PerAddress text) proxies links frugal wrong = (proxies, links, inr (frugal, wrong))
-untold_edge rows (Usage HandshakesPerSecond text) proxies links frugal wrong = (proxies, links, inr (frugal, wrong))
-untold_edge rows (Usage PeerName text) proxies links frugal wrong = (proxies, links, inr (frugal, wrong))
+untold_edge rows (Usage Words text) proxies links frugal wrong = (proxies, links, inr (inl (frugal, wrong)))
+untold_edge rows (Usage Name text) proxies links frugal wrong = (proxies, links, inr (inl (frugal, wrong)))
+untold_edge rows (Usage Incarnation text) proxies links frugal wrong = (proxies, links, inr (inl (frugal, wrong)))
+untold_edge rows (Usage Route text) proxies links frugal wrong = (proxies, links, inr (inl (frugal, wrong)))
+untold_edge rows (Usage Port text) proxies links frugal wrong = (proxies, links, inr (inl (frugal, wrong)))
+untold_edge rows (Usage LinkPort text) proxies links frugal wrong = (proxies, links, inr (inl (frugal, wrong)))
+untold_edge rows (Usage Shards text) proxies links frugal wrong = (proxies, links, inr (inl (frugal, wrong)))
+untold_edge rows (Usage Workers text) proxies links frugal wrong = (proxies, links, inr (inl (frugal, wrong)))
+untold_edge rows (Usage LinkVersion text) proxies links frugal wrong = (proxies, links, inr (inl (frugal, wrong)))
+untold_edge rows (Usage Peer text) proxies links frugal wrong = (proxies, links, inr (inl (frugal, wrong)))
+untold_edge rows (Usage Origin text) proxies links frugal wrong = (proxies, links, inr (inl (frugal, wrong)))
+untold_edge rows (Usage PerAddress text) proxies links frugal wrong = (proxies, links, inr (inl (frugal, wrong)))
+untold_edge rows (Usage HandshakesPerSecond text) proxies links frugal wrong = (proxies, links, inr (inl (frugal, wrong)))
+untold_edge rows (Usage PeerName text) proxies links frugal wrong = (proxies, links, inr (inl (frugal, wrong)))
 untold_edge rows (Usage Proxy text) proxies links frugal wrong = absurd wrong
 untold_edge rows (Usage LinkFrom text) proxies links frugal wrong = absurd wrong
-untold_edge rows (Usage MemoryLimit text) proxies links frugal wrong = (proxies, links, inr (frugal, wrong))
-untold_edge rows (Usage TopicRows text) proxies links frugal wrong = (proxies, links, inr (frugal, wrong))
-untold_edge rows (Usage TopicBytes text) proxies links frugal wrong = (proxies, links, inr (frugal, wrong))
-untold_edge rows (Usage Log text) proxies links frugal wrong = (proxies, links, inr (frugal, wrong))
-untold_edge rows (Usage LogFormat text) proxies links frugal wrong = (proxies, links, inr (frugal, wrong))
-untold_edge rows (Usage MetricsPort text) proxies links frugal wrong = (proxies, links, inr (frugal, wrong))
+untold_edge rows (Usage MemoryLimit text) proxies links frugal wrong = (proxies, links, inr (inl (frugal, wrong)))
+untold_edge rows (Usage TopicRows text) proxies links frugal wrong = (proxies, links, inr (inl (frugal, wrong)))
+untold_edge rows (Usage TopicBytes text) proxies links frugal wrong = (proxies, links, inr (inl (frugal, wrong)))
+untold_edge rows (Usage Log text) proxies links frugal wrong = (proxies, links, inr (inl (frugal, wrong)))
+untold_edge rows (Usage LogFormat text) proxies links frugal wrong = (proxies, links, inr (inl (frugal, wrong)))
+untold_edge rows (Usage MetricsPort text) proxies links frugal wrong = (proxies, links, inr (inl (frugal, wrong)))
+untold_edge rows (Usage Event text) proxies links frugal wrong = (proxies, links, inr (inl (frugal, wrong)))
 untold_edge rows Memory proxies links frugal wrong = tt
 
 pub wasteful_edge : (rows : List Row) (fault : UsageFault) → AreProxies rows → AreLinkFrom rows → IsWasteful rows fault → IsEdgeWrong rows fault
@@ -152,7 +153,44 @@ wasteful_edge rows (Usage TopicBytes text) proxies links wrong = (proxies, links
 wasteful_edge rows (Usage Log text) proxies links wrong = (proxies, links, inl wrong)
 wasteful_edge rows (Usage LogFormat text) proxies links wrong = (proxies, links, inl wrong)
 wasteful_edge rows (Usage MetricsPort text) proxies links wrong = (proxies, links, inl wrong)
+wasteful_edge rows (Usage Event text) proxies links wrong = (proxies, links, inl wrong)
 wasteful_edge rows Memory proxies links wrong = tt
+
+-- and so are names that are none
+unnamed : (rows : List Row) (fault : UsageFault) → AreProxies rows → AreLinkFrom rows → IsFrugal rows → IsTold rows → IsUnnamed rows fault
+    → IsEdgeWrong rows fault
+unnamed rows (Usage Words text) proxies links frugal told wrong = absurd wrong
+unnamed rows (Usage Name text) proxies links frugal told wrong = absurd wrong
+unnamed rows (Usage Incarnation text) proxies links frugal told wrong = absurd wrong
+unnamed rows (Usage Route text) proxies links frugal told wrong = absurd wrong
+unnamed rows (Usage Port text) proxies links frugal told wrong = absurd wrong
+unnamed rows (Usage LinkPort text) proxies links frugal told wrong = absurd wrong
+unnamed rows (Usage Shards text) proxies links frugal told wrong = absurd wrong
+unnamed rows (Usage Workers text) proxies links frugal told wrong = absurd wrong
+unnamed rows (Usage LinkVersion text) proxies links frugal told wrong = absurd wrong
+unnamed rows (Usage Peer text) proxies links frugal told wrong = absurd wrong
+unnamed rows (Usage Origin text) proxies links frugal told wrong = absurd wrong
+unnamed rows (Usage PerAddress text) proxies links frugal told wrong = absurd wrong
+unnamed rows (Usage HandshakesPerSecond text) proxies links frugal told wrong = absurd wrong
+unnamed rows (Usage PeerName text) proxies links frugal told wrong = absurd wrong
+unnamed rows (Usage Proxy text) proxies links frugal told wrong = absurd wrong
+unnamed rows (Usage LinkFrom text) proxies links frugal told wrong = absurd wrong
+unnamed rows (Usage MemoryLimit text) proxies links frugal told wrong = absurd wrong
+unnamed rows (Usage TopicRows text) proxies links frugal told wrong = absurd wrong
+unnamed rows (Usage TopicBytes text) proxies links frugal told wrong = absurd wrong
+unnamed rows (Usage Log text) proxies links frugal told wrong = absurd wrong
+unnamed rows (Usage LogFormat text) proxies links frugal told wrong = absurd wrong
+unnamed rows (Usage MetricsPort text) proxies links frugal told wrong = absurd wrong
+unnamed rows (Usage Event text) proxies links frugal told wrong = (proxies, links, inr (inr (frugal, told, wrong)))
+unnamed rows Memory proxies links frugal told wrong = tt
+
+unnamed_by : (rows : List Row) (fault : UsageFault) → IsFor Event (AreAllNames rows → ⊥) fault → IsUnnamed rows fault
+unnamed_by rows (Usage cause text) wrong = rw wrong.0 wrong.1
+unnamed_by rows Memory wrong = tt
+
+pub unnamed_edge : (rows : List Row) (fault : UsageFault) → AreProxies rows → AreLinkFrom rows → IsFrugal rows → IsTold rows
+    → IsFor Event (AreAllNames rows → ⊥) fault → IsEdgeWrong rows fault
+unnamed_edge rows fault proxies links frugal told wrong = unnamed rows fault proxies links frugal told (unnamed_by rows fault wrong)
 
 -- ---- the command
 
@@ -180,4 +218,5 @@ serve_chosen name rows (Usage TopicBytes text) is wrong = inr (is, wrong)
 serve_chosen name rows (Usage Log text) is wrong = inr (is, wrong)
 serve_chosen name rows (Usage LogFormat text) is wrong = inr (is, wrong)
 serve_chosen name rows (Usage MetricsPort text) is wrong = inr (is, wrong)
+serve_chosen name rows (Usage Event text) is wrong = inr (is, wrong)
 serve_chosen name rows Memory is wrong = tt

@@ -15,15 +15,16 @@ flag_rule name = record (new_rule name) { long = Some name; action = Some SetTru
 
 abbrev pub stdio_app : App
 stdio_app =
-    with_rule (with_rule (with_rule (with_rule (with_rule (new_app (codes "stdio"))
+    with_rule (with_rule (with_rule (with_rule (with_rule (with_rule (new_app (codes "stdio"))
     (option_rule (codes "name") Set))
     (option_rule (codes "incarnation") Set))
     (option_rule (codes "route") Append))
     (flag_rule (codes "notices")))
-    (flag_rule (codes "explain"))
+    (flag_rule (codes "explain")))
+    (flag_rule (codes "fractions"))
 
 abbrev pub fold_app : App
-fold_app = with_rule (new_app (codes "fold")) (flag_rule (codes "explain"))
+fold_app = with_rule (with_rule (new_app (codes "fold")) (flag_rule (codes "explain"))) (flag_rule (codes "fractions"))
 
 -- the options of the node itself
 abbrev pub served_app : App
@@ -50,8 +51,8 @@ linked_app =
     (option_rule (codes "handshakes") Set)
 
 -- and those of proxies, of what everybody together may take, and of what an operator is told
-abbrev pub serve_app : App
-serve_app =
+abbrev pub watched_app : App
+watched_app =
     with_rule (with_rule (with_rule (with_rule (with_rule (with_rule (with_rule (with_rule linked_app
     (option_rule (codes "proxy") Append))
     (option_rule (codes "link-from") Append))
@@ -61,6 +62,17 @@ serve_app =
     (option_rule (codes "log") Set))
     (option_rule (codes "log-format") Set))
     (option_rule (codes "metrics-port") Set)
+
+-- and those of what clients may do
+abbrev pub serve_app : App
+serve_app =
+    with_rule (with_rule (with_rule (with_rule (with_rule (with_rule watched_app
+    (flag_rule (codes "phoenix")))
+    (flag_rule (codes "fractions")))
+    (flag_rule (codes "match-joins")))
+    (option_rule (codes "event") Append))
+    (option_rule (codes "answered") Append))
+    (option_rule (codes "to-others") Append)
 
 -- the program itself, which is nothing without a command, and has a version
 abbrev pub top_app : App

@@ -1,5 +1,5 @@
 -- Which options the words of a command line give, and which words are refused.
-use Rattle.std.specs.Prelude.{◌≡◌, ◌⊎◌, ◌≤◌, ◌<◌, ℕ, List, [], ◌∷◌, ◌++◌, Bool, false, true, cond, is_some, IsTrue, length, codes, string_bytes, unwrap_or, map, option_map, Option, Some, None}
+use Rattle.std.specs.Prelude.{◌≡◌, ◌⊎◌, ◌≤◌, ◌<◌, ℕ, List, [], ◌∷◌, ◌++◌, ◌||◌, Bool, false, true, cond, is_some, IsTrue, length, codes, string_bytes, unwrap_or, map, option_map, Option, Some, None}
 use Rattle.std.specs.List.{AllByRecursion}
 use Rattle.std.specs.Net.Addr.{IsCanonicalOf, MatchIp}
 use Rattle.std.specs.Net.Grammar.{IsIpText}
@@ -15,17 +15,18 @@ use Rattle.presence_base.specs.Names.{is_node_name}
 use Rattle.presence_base.specs.Refs.{IsCount}
 use Rattle.presence_options.specs.CommandLine.{program}
 use Rattle.presence_options.specs.Hosts.{is_host}
-use Rattle.presence_options.specs.Limits.{is_peer_name, numbered}
+use Rattle.presence_options.specs.Limits.{AreEventNames, is_peer_name, numbered}
 use Rattle.presence_options.specs.Origins.{AreOrigins}
 use Rattle.presence_options.specs.declared.addresses.AddressRule.{AddressRule}
 use Rattle.presence_options.specs.declared.command_line.Edge.{Edge}
 use Rattle.presence_options.specs.declared.fault.UsageCause.{UsageCause}
-use Rattle.presence_options.specs.declared.fault.UsageCause.TheVariants.{Words, Name, Incarnation, Route, Port, LinkPort, Shards, Workers, LinkVersion, Peer, Origin, PerAddress, HandshakesPerSecond, PeerName, Proxy, LinkFrom, MemoryLimit, TopicRows, TopicBytes, Log, LogFormat, MetricsPort}
+use Rattle.presence_options.specs.declared.fault.UsageCause.TheVariants.{Words, Name, Incarnation, Route, Port, LinkPort, Shards, Workers, LinkVersion, Peer, Origin, PerAddress, HandshakesPerSecond, PeerName, Proxy, LinkFrom, MemoryLimit, TopicRows, TopicBytes, Log, LogFormat, MetricsPort, Event}
 use Rattle.presence_options.specs.declared.fault.UsageFault.{UsageFault}
 use Rattle.presence_options.specs.declared.fault.UsageFault.TheVariants.{Usage, Memory}
 use Rattle.presence_options.specs.declared.options.Options.{Options}
 use Rattle.presence_options.specs.declared.options.Options.TheVariants.{Help, Version, Bare, Stdio, Fold, Serve}
 use Rattle.presence_options.specs.declared.options.Budgets.{Budgets}
+use Rattle.presence_options.specs.declared.options.ClientOptions.{ClientOptions}
 use Rattle.presence_options.specs.declared.options.LineFormat.{LineFormat}
 use Rattle.presence_options.specs.declared.options.LineFormat.TheVariants.{Plain, Json}
 use Rattle.presence_options.specs.declared.options.Logged.{Logged}
@@ -33,10 +34,11 @@ use Rattle.presence_options.specs.declared.options.Logged.TheVariants.{Refusals,
 use Rattle.presence_options.specs.declared.options.PeerOption.{PeerOption}
 use Rattle.presence_options.specs.declared.options.Reports.{Reports}
 use Rattle.presence_options.specs.declared.options.ServeOptions.{ServeOptions}
+use Rattle.presence_options.specs.declared.options.FoldOptions.{FoldOptions}
 use Rattle.presence_options.specs.declared.options.StdioOptions.{StdioOptions}
 use Rattle.presence_options.specs.declared.values.NumberRule.{NumberRule}
 use Rattle.presence_base.specs.declared.names.TheConstants.{MAX_SHARDS}
-use Rattle.presence_options.specs.declared.options.TheConstants.{LINK_PORT, MAX_HANDSHAKES_PER_SECOND, MAX_LINK_FROM, MAX_LINK_VERSION, MAX_MEMORY, MAX_ORIGINS, MAX_PER_ADDRESS, MAX_PROXIES, MAX_TOPIC_BYTES, MAX_TOPIC_ROWS, MAX_WORKERS, MIN_MEMORY, MIN_TOPIC_BYTES, TOPIC_BYTES, TOPIC_ROWS}
+use Rattle.presence_options.specs.declared.options.TheConstants.{LINK_PORT, MAX_EVENT_NAMES, MAX_HANDSHAKES_PER_SECOND, MAX_LINK_FROM, MAX_LINK_VERSION, MAX_MEMORY, MAX_ORIGINS, MAX_PER_ADDRESS, MAX_PROXIES, MAX_TOPIC_BYTES, MAX_TOPIC_ROWS, MAX_WORKERS, MIN_MEMORY, MIN_TOPIC_BYTES, TOPIC_BYTES, TOPIC_ROWS}
 
 -- the number that a text's digits write
 abbrev pub number_in : Text → ℕ
@@ -164,6 +166,39 @@ explain_given rows = flag_given (codes "explain") rows
 abbrev pub notices_given : List Row → Bool
 notices_given rows = flag_given (codes "notices") rows
 
+-- whether messages may have any number
+abbrev pub fractions_given : List Row → Bool
+fractions_given rows = flag_given (codes "fractions") rows
+
+-- whether all is asked for that an application built on Phoenix needs
+abbrev pub phoenix_given : List Row → Bool
+phoenix_given rows = flag_given (codes "phoenix") rows
+
+-- whether joins are matched
+abbrev pub match_joins_given : List Row → Bool
+match_joins_given rows = flag_given (codes "match-joins") rows
+
+-- the names of events that this option is given, in their order
+abbrev pub names_given : Text → List Row → List Text
+names_given option rows = unwrap_or (all_of option rows) []
+
+-- with all that Phoenix needs come all events
+abbrev pub with_all : Bool → List Text → List Text
+with_all false names = names
+with_all true names = names ++ codes "*" ∷ []
+
+abbrev pub events_given : List Row → List Text
+events_given rows = with_all (phoenix_given rows) (names_given (codes "event") rows)
+
+-- these are names of events, and no more than are allowed
+pub record AreNames (texts : List Text) : Type 0 where
+  pub each : AreEventNames texts
+  pub few : length texts ≤ MAX_EVENT_NAMES
+
+abbrev pub AreAllNames : List Row → Type 0
+AreAllNames rows = AreNames (names_given (codes "event") rows) × AreNames (names_given (codes "answered") rows)
+    × AreNames (names_given (codes "to-others") rows)
+
 -- ---- peers
 
 -- the text is that of a number within these limits, where a plus and zeros may stand in front
@@ -254,6 +289,12 @@ pub record IsGiven (rows : List Row) (o : StdioOptions) : Type 0 where
   pub routes : o.routes ≡ numbered 0 (patterns_given rows)
   pub notices : o.notices ≡ notices_given rows
   pub explain : o.explain ≡ explain_given rows
+  pub fractions : o.fractions ≡ fractions_given rows
+
+-- the same for a fold
+pub record IsFolding (rows : List Row) (o : FoldOptions) : Type 0 where
+  pub explain : o.explain ≡ explain_given rows
+  pub fractions : o.fractions ≡ fractions_given rows
 
 -- what everybody together may take is what is given, and else the default
 pub record AreBudgetsGiven (rows : List Row) (b : Budgets) : Type 0 where
@@ -266,6 +307,14 @@ pub record AreReportsGiven (rows : List Row) (r : Reports) : Type 0 where
   pub logged : logged_in (log_given rows) ≡ Some r.logged
   pub format : format_in (log_format_given rows) ≡ Some r.format
   pub metrics_port : r.metrics_port ≡ option_map number_in (metrics_port_given rows)
+
+-- and so is what clients may do
+pub record AreClientsGiven (rows : List Row) (c : ClientOptions) : Type 0 where
+  pub fractions : c.fractions ≡ (phoenix_given rows || fractions_given rows)
+  pub match_joins : c.match_joins ≡ (phoenix_given rows || match_joins_given rows)
+  pub events : c.events.items ≡ events_given rows
+  pub answered : c.answered.items ≡ names_given (codes "answered") rows
+  pub to_others : c.to_others.items ≡ names_given (codes "to-others") rows
 
 -- the same for a server
 pub record IsServed (rows : List Row) (o : ServeOptions) : Type 0 where
@@ -287,6 +336,7 @@ pub record IsServed (rows : List Row) (o : ServeOptions) : Type 0 where
   pub link_from : WriteAddresses (link_from_given rows) o.link_from.items
   pub budgets : AreBudgetsGiven rows o.budgets
   pub reports : AreReportsGiven rows o.reports
+  pub clients : AreClientsGiven rows o.clients
 
 -- the words name this command, with these options
 abbrev pub Calls : List Text → Text → List Row → Type 0
@@ -298,7 +348,7 @@ AskFor words (Help text) = IsAmong DisplayHelp (fault_of program words)
 AskFor words (Version text) = IsAmong DisplayVersion (fault_of program words)
 AskFor words (Bare text) = IsAmong MissingSubcommand (fault_of program words)
 AskFor words (Stdio o) = (rows : List Row) × Calls words (codes "stdio") rows × IsGiven rows o
-AskFor words (Fold o) = (rows : List Row) × Calls words (codes "fold") rows × (o.explain ≡ explain_given rows)
+AskFor words (Fold o) = (rows : List Row) × Calls words (codes "fold") rows × IsFolding rows o
 AskFor words (Serve o) = (rows : List Row) × Calls words (codes "serve") rows × IsServed rows o
 
 -- ---- refusals
@@ -366,6 +416,7 @@ Refuses rows TopicBytes = ⊥
 Refuses rows Log = ⊥
 Refuses rows LogFormat = ⊥
 Refuses rows MetricsPort = ⊥
+Refuses rows Event = ⊥
 
 -- an incarnation, if one is given
 abbrev pub IsLife : Option Text → Type 0
@@ -479,13 +530,22 @@ abbrev pub IsUntold : List Row → UsageFault → Type 0
 IsUntold rows (Usage cause text) = UntoldFor rows cause
 IsUntold rows Memory = Unit {0}
 
+-- what clients may do has names that are none
+abbrev pub UnnamedFor : List Row → UsageCause → Type 0
+UnnamedFor rows Event = AreAllNames rows → ⊥
+UnnamedFor rows cause = ⊥
+
+abbrev pub IsUnnamed : List Row → UsageFault → Type 0
+IsUnnamed rows (Usage cause text) = UnnamedFor rows cause
+IsUnnamed rows Memory = Unit {0}
+
 -- why what stands beside the node itself is refused: the proxies are looked at first, then the addresses of links, what
--- everybody together may take, and what an operator is told
+-- everybody together may take, what an operator is told, and what clients may do
 abbrev pub EdgeRefuses : List Row → UsageCause → Type 0
 EdgeRefuses rows Proxy = AreProxies rows → ⊥
 EdgeRefuses rows LinkFrom = AreProxies rows × (AreLinkFrom rows → ⊥)
 EdgeRefuses rows cause = AreProxies rows × AreLinkFrom rows
-    × (WastefulFor rows cause ⊎ (IsFrugal rows × UntoldFor rows cause))
+    × (WastefulFor rows cause ⊎ ((IsFrugal rows × UntoldFor rows cause) ⊎ (IsFrugal rows × IsTold rows × UnnamedFor rows cause)))
 
 abbrev pub IsEdgeWrong : List Row → UsageFault → Type 0
 IsEdgeWrong rows (Usage cause text) = EdgeRefuses rows cause
@@ -497,6 +557,7 @@ pub record IsEdge (rows : List Row) (e : Edge) : Type 0 where
   pub link_from : WriteAddresses (link_from_given rows) e.link_from.items
   pub budgets : AreBudgetsGiven rows e.budgets
   pub reports : AreReportsGiven rows e.reports
+  pub clients : AreClientsGiven rows e.clients
 
 -- the node itself, its peers and its addresses are within their limits
 pub record IsNode (rows : List Row) : Type 0 where
@@ -592,7 +653,7 @@ Chooses name rows (Help text) = ⊥
 Chooses name rows (Version text) = ⊥
 Chooses name rows (Bare text) = ⊥
 Chooses name rows (Stdio o) = (name ≡ codes "stdio") × IsGiven rows o
-Chooses name rows (Fold o) = (name ≡ codes "fold") × (o.explain ≡ explain_given rows)
+Chooses name rows (Fold o) = (name ≡ codes "fold") × IsFolding rows o
 Chooses name rows (Serve o) = (name ≡ codes "serve") × IsServed rows o
 
 -- or why it gives nothing

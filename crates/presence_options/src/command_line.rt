@@ -1,24 +1,26 @@
 //! The words.
-ghost use Rattle.std.specs.Prelude.{◌≡◌, IfOk, IfErr, OnOk, map, option_map};
+ghost use Rattle.std.specs.Prelude.{◌≡◌, IfOk, IfErr, OnOk, codes, map, option_map};
 ghost use Rattle.std.specs.Option.{ForSome};
 ghost use Rattle.clap.specs.Words.{app_of, found_of, kind_of, rows_of, subcommand_rows_of};
-ghost use Rattle.presence_options.specs.CommandLine.{stdio_app, fold_app, linked_app, serve_app, served_app, program};
-ghost use Rattle.presence_options.specs.Given.{AreBudgetsGiven, AreReportsGiven, AskFor, Chooses, ChoosesNone, HasCause, IsEdge, IsEdgeWrong, IsFor, IsFrugal, IsGiven, IsHelpFor, IsNoHelp, IsServed, IsServedWrong, IsTold, IsUntold, IsWasteful, IsWrong, Refused};
+ghost use Rattle.presence_options.specs.CommandLine.{stdio_app, fold_app, linked_app, serve_app, served_app, watched_app, program};
+ghost use Rattle.presence_options.specs.Given.{AreAllNames, AreBudgetsGiven, AreClientsGiven, AreNames, AreReportsGiven, AskFor, Chooses, ChoosesNone, HasCause, IsEdge, IsEdgeWrong, IsFor, IsFrugal, IsGiven, IsHelpFor, IsNoHelp, IsServed, IsServedWrong, IsTold, IsUntold, IsWasteful, IsWrong, Refused, events_given, names_given};
 ghost use Rattle.presence_options.specs.Limits.{AreBudgets, AreWithin, IsEdgeWithin, IsFrom1To, IsServedWithin, IsWithin};
 
 use crate::addresses::{AddressRule, listen_of};
 use crate::arguments::{
-    explain_flag, handshakes_option, incarnation_option, link_from_option, link_listen_option,
-    link_port_option, link_version_option, listen_option, log_format_option, log_option,
+    answered_option, event_option, explain_flag, fractions_flag, handshakes_option,
+    incarnation_option, link_from_option, link_listen_option, link_port_option,
+    link_version_option, listen_option, log_format_option, log_option, match_joins_flag,
     memory_option, metrics_port_option, name_option, notices_flag, origin_option, peer_option,
-    per_address_option, port_option, proxy_option, route_option, shards_option, topic_bytes_option,
-    topic_rows_option, workers_option,
+    per_address_option, phoenix_flag, port_option, proxy_option, route_option, shards_option,
+    to_others_option, topic_bytes_option, topic_rows_option, workers_option,
 };
+use crate::event_names::with_all;
 use crate::fault::{UsageCause, UsageFault};
 use crate::found::{
     given_addresses, given_handshakes, given_life, given_link_port, given_metrics_port,
-    given_number, given_origins, given_peers, given_per_address, given_routes, is_flagged,
-    text_given,
+    given_names, given_number, given_origins, given_peers, given_per_address, given_routes,
+    is_flagged, text_given,
 };
 use crate::help::{
     ALL_OPTIONS, FOLD_REFUSALS, FOLD_TAKES, FOLD_USAGE, INCARNATION_HELP, SERVE_ENDS, SERVE_TAKES,
@@ -26,9 +28,9 @@ use crate::help::{
     VERSION,
 };
 use crate::options::{
-    Budgets, FoldOptions, MAX_LINK_FROM, MAX_MEMORY, MAX_PROXIES, MAX_TOPIC_BYTES, MAX_TOPIC_ROWS,
-    MIN_MEMORY, MIN_TOPIC_BYTES, Options, Reports, ServeOptions, StdioOptions, TOPIC_BYTES,
-    TOPIC_ROWS,
+    Budgets, ClientOptions, FoldOptions, MAX_LINK_FROM, MAX_MEMORY, MAX_PROXIES, MAX_TOPIC_BYTES,
+    MAX_TOPIC_ROWS, MIN_MEMORY, MIN_TOPIC_BYTES, Options, Reports, ServeOptions, StdioOptions,
+    TOPIC_BYTES, TOPIC_ROWS,
 };
 use crate::peer_names::names_checked;
 use crate::reports::{format_of, logged_of};
@@ -37,6 +39,7 @@ use crate::values::{
 };
 use clap::error::ErrorKind;
 use clap::{ArgMatches, Command, Error};
+use presence_base::Text;
 use std::alloc::{AllocError, Global};
 use std::net::IpAddr;
 
@@ -52,7 +55,8 @@ fn stdio_command<'a>(alloc: Global) -> Result<Command<'a>, AllocError>
         .arg(incarnation_option(alloc, INCARNATION_HELP))?
         .arg(route_option(alloc))?
         .arg(notices_flag(alloc))?
-        .arg(explain_flag(alloc))
+        .arg(explain_flag(alloc))?
+        .arg(fractions_flag(alloc))
 }
 
 // The command `fold`.
@@ -63,7 +67,8 @@ fn fold_command<'a>(alloc: Global) -> Result<Command<'a>, AllocError>
         .about("Folds presence frames, one a line, and prints an object from topic to map")
         .override_usage(FOLD_USAGE)
         .after_help(FOLD_REFUSALS)
-        .arg(explain_flag(alloc))
+        .arg(explain_flag(alloc))?
+        .arg(fractions_flag(alloc))
 }
 
 // The command `serve` with the options of the node itself.
@@ -97,9 +102,9 @@ fn linked_command<'a>(alloc: Global) -> Result<Command<'a>, AllocError>
         .arg(handshakes_option(alloc))
 }
 
-// The command `serve` with all of its options.
-fn serve_command<'a>(alloc: Global) -> Result<Command<'a>, AllocError>
-    ensures { IfOk result (λ c. app_of c ≡ serve_app) }
+// The command `serve` with those of proxies, of what everybody together may take, and of what an operator is told too.
+fn watched_command<'a>(alloc: Global) -> Result<Command<'a>, AllocError>
+    ensures { IfOk result (λ c. app_of c ≡ watched_app) }
 {
     linked_command(alloc)?
         .arg(proxy_option(alloc))?
@@ -110,6 +115,19 @@ fn serve_command<'a>(alloc: Global) -> Result<Command<'a>, AllocError>
         .arg(log_option(alloc))?
         .arg(log_format_option(alloc))?
         .arg(metrics_port_option(alloc))
+}
+
+// The command `serve` with all of its options.
+fn serve_command<'a>(alloc: Global) -> Result<Command<'a>, AllocError>
+    ensures { IfOk result (λ c. app_of c ≡ serve_app) }
+{
+    watched_command(alloc)?
+        .arg(phoenix_flag(alloc))?
+        .arg(fractions_flag(alloc))?
+        .arg(match_joins_flag(alloc))?
+        .arg(event_option(alloc))?
+        .arg(answered_option(alloc))?
+        .arg(to_others_option(alloc))
 }
 
 // The whole command line.
@@ -231,17 +249,19 @@ fn stdio_options(alloc: Global, matches: &ArgMatches<'_>) -> Result<StdioOptions
         routes,
         notices: is_flagged(matches, "notices"),
         explain: is_flagged(matches, "explain"),
+        fractions: is_flagged(matches, "fractions"),
     })
 }
 
-// What stands beside the node itself: proxies, the addresses of links, what everybody together may take, and what an
-// operator is told.
+// What stands beside the node itself: proxies, the addresses of links, what everybody together may take, what an operator
+// is told, and what clients may do.
 #[derive(Drop)]
 struct Edge {
     proxies: Vec<IpAddr>,
     link_from: Vec<IpAddr>,
     budgets: Budgets,
     reports: Reports,
+    clients: ClientOptions,
 }
 
 // The rules of the options that are numbers or addresses.
@@ -312,8 +332,44 @@ fn reports_of(alloc: Global, matches: &ArgMatches<'_>) -> Result<Reports, UsageF
     })
 }
 
+// The names of events that `--event` is given, and that of all where `--phoenix` is.
+fn events_of(alloc: Global, matches: &ArgMatches<'_>) -> Result<Vec<Text>, UsageFault>
+    ensures given { IfOk result (λ names. names.items ≡ events_given (rows_of (found_of matches.now))) }
+    ensures within { OnOk result (AreNames (names_given (codes "event") (rows_of (found_of matches.now)))) }
+    ensures cause { IfErr result (IsFor UsageCause.Event
+        (AreNames (names_given (codes "event") (rows_of (found_of matches.now))) → ⊥)) }
+{
+    let names = given_names(alloc, matches, "event")?;
+    if !is_flagged(matches, "phoenix") {
+        return Ok(names);
+    }
+    match with_all(alloc, names) {
+        Ok(names) => Ok(names),
+        Err(_) => Err(UsageFault::Memory),
+    }
+}
+
+// What clients may do beyond the usual.
+fn clients_of(alloc: Global, matches: &ArgMatches<'_>) -> Result<ClientOptions, UsageFault>
+    ensures given { IfOk result (AreClientsGiven (rows_of (found_of matches.now))) }
+    ensures within { OnOk result (AreAllNames (rows_of (found_of matches.now))) }
+    ensures cause { IfErr result (IsFor UsageCause.Event (AreAllNames (rows_of (found_of matches.now)) → ⊥)) }
+{
+    let events = events_of(alloc, matches)?;
+    let answered = given_names(alloc, matches, "answered")?;
+    let to_others = given_names(alloc, matches, "to-others")?;
+    let phoenix = is_flagged(matches, "phoenix");
+    Ok(ClientOptions {
+        fractions: phoenix || is_flagged(matches, "fractions"),
+        match_joins: phoenix || is_flagged(matches, "match-joins"),
+        events,
+        answered,
+        to_others,
+    })
+}
+
 // What stands beside the node itself.
-#[tactic(auto, using(crate::proofs::Serving::untold_edge, crate::proofs::Serving::wasteful_edge))]
+#[tactic(auto, using(crate::proofs::Serving::untold_edge, crate::proofs::Serving::wasteful_edge, crate::proofs::Serving::unnamed_edge))]
 fn edge_of(alloc: Global, matches: &ArgMatches<'_>) -> Result<Edge, UsageFault>
     ensures given { IfOk result (IsEdge (rows_of (found_of matches.now))) }
     ensures limits { IfOk result IsEdgeWithin }
@@ -323,11 +379,13 @@ fn edge_of(alloc: Global, matches: &ArgMatches<'_>) -> Result<Edge, UsageFault>
     let link_from = given_addresses(alloc, matches, LINKS_FROM)?;
     let budgets = budgets_of(alloc, matches)?;
     let reports = reports_of(alloc, matches)?;
+    let clients = clients_of(alloc, matches)?;
     Ok(Edge {
         proxies,
         link_from,
         budgets,
         reports,
+        clients,
     })
 }
 
@@ -355,6 +413,7 @@ fn serve_options(alloc: Global, matches: &ArgMatches<'_>) -> Result<ServeOptions
         link_from,
         budgets,
         reports,
+        clients,
     } = edge_of(alloc, matches)?;
     Ok(ServeOptions {
         name,
@@ -375,6 +434,7 @@ fn serve_options(alloc: Global, matches: &ArgMatches<'_>) -> Result<ServeOptions
         link_from,
         budgets,
         reports,
+        clients,
     })
 }
 
@@ -413,6 +473,7 @@ fn chosen(alloc: Global, name: &str, matches: &ArgMatches<'_>) -> Result<Options
     if name == "fold" {
         return Ok(Options::Fold(FoldOptions {
             explain: is_flagged(matches, "explain"),
+            fractions: is_flagged(matches, "fractions"),
         }));
     }
     if name == "serve" {

@@ -49,6 +49,8 @@ pub enum UsageCause {
     LogFormat,
     /// The port of metrics is no number from 1 to 65535.
     MetricsPort,
+    /// A name of an event is empty or too long, or there are too many.
+    Event,
 }
 
 /// Why a command line was not taken: a cause with a text for the user, or want of memory.

@@ -7,13 +7,13 @@ pub const VERSION: &str = "0.1.0+20261201";
 /// How the program is called.
 pub(crate) const USAGES: &str = "presence_node serve [OPTIONS]
        presence_node stdio [OPTIONS]
-       presence_node fold [--explain]";
+       presence_node fold [OPTIONS]";
 
 /// How `stdio` is called.
 pub(crate) const STDIO_USAGE: &str = "presence_node stdio [OPTIONS]";
 
 /// How `fold` is called.
-pub(crate) const FOLD_USAGE: &str = "presence_node fold [--explain]";
+pub(crate) const FOLD_USAGE: &str = "presence_node fold [OPTIONS]";
 
 /// How `serve` is called.
 pub(crate) const SERVE_USAGE: &str = "presence_node serve [OPTIONS]";
@@ -106,12 +106,40 @@ Each answers at most 1024 of them";
 /// What `stdio` and `fold` are told by `--explain`.
 pub(crate) const EXPLAIN_HELP: &str = "Say in words, on a second line, why a line was refused";
 
+/// What all are told by `--fractions`.
+pub(crate) const FRACTIONS_HELP: &str =
+    "Allow any number in messages, as 1.50, 1e3 or one beyond 64 bits
+It comes back as it was written. Give it to all nodes alike, to stdio
+and to fold: without it such a number is a text behind \\u0000";
+
+/// What `serve` is told of what its clients may do.
+pub(crate) const MATCH_JOINS_HELP: &str = "Answer what comes under an earlier join as not joined
+A message to a topic counts only under the join reference of the
+topic's present join";
+
+pub(crate) const EVENT_HELP: &str =
+    "An event of clients' own, to all who joined; up to 64 times
+It has 1 to 64 bytes; * stands for all that the channel doesn't have
+itself, but those that begin with phx_, presence_state and presence_diff
+Give it to all nodes alike";
+
+pub(crate) const ANSWERED_HELP: &str = "The same for one that is answered ok too; up to 64 times";
+
+pub(crate) const TO_OTHERS_HELP: &str =
+    "The same for one that its sender doesn't get; up to 64 times";
+
+pub(crate) const PHOENIX_HELP: &str = "The same as --fractions, --match-joins and --event '*'
+What an application built on Phoenix needs";
+
 /// The options of all commands, which stand behind the program's help.
 pub const ALL_OPTIONS: &str = "Options of serve and stdio:
       --name <NAME>            The node's name: 1 to 32 characters of a-z, 0-9 [default: a]
       --incarnation <NUMBER>   Which life of the node this is [default: of serve milliseconds of the
                                clock, of stdio 1]
       --route <PATTERN>        A topic that may be joined; up to 64 times [default: room:*]
+
+Options of serve, stdio and fold:
+      --fractions              Allow any number in messages, as 1.50, 1e3 or one beyond 64 bits
 
 Options of serve:
       --port <PORT>            The port of clients, 1 to 65535 [default: 4000]
@@ -133,6 +161,11 @@ Options of serve:
       --link-listen <ADDRESS>  The address of the port of links [default: 127.0.0.1]
       --link-from <ADDRESS>    Where links may come from; up to 64 times [default: anywhere]
       --link-version <NUMBER>  Up to which version links are spoken, 1 or 2 [default: 2]
+      --phoenix                The same as --fractions, --match-joins and --event '*'
+      --match-joins            Answer what comes under an earlier join as not joined
+      --event <NAME>           An event of clients' own, to all who joined; up to 64 times
+      --answered <NAME>        The same for one that is answered ok too; up to 64 times
+      --to-others <NAME>       The same for one that its sender doesn't get; up to 64 times
 
 Options of stdio:
       --notices                Say on standard error who joins and leaves, as join a.1.2
@@ -225,9 +258,9 @@ A link is closed for these reasons:
 pub(crate) const STDIO_TAKES: &str =
     "stdio takes --name NAME, 1 to 32 characters of a-z, 0-9, --incarnation NUMBER, 1 to
 4611686018427387904, up to 64 times --route PATTERN, a topic or the front of topics with one *
-behind it, of 1 to 255 bytes, --notices and --explain;";
+behind it, of 1 to 255 bytes, --notices, --explain and --fractions;";
 
-pub(crate) const FOLD_TAKES: &str = "fold takes --explain;";
+pub(crate) const FOLD_TAKES: &str = "fold takes --explain and --fractions;";
 
 pub(crate) const SERVE_TAKES: &str =
     "serve takes --name NAME, 1 to 32 characters of a-z, 0-9, --incarnation NUMBER, 1 to
@@ -238,4 +271,5 @@ NAME=HOST:PORT, as often as one likes, --listen ADDRESS, --link-listen ADDRESS, 
 --link-from ADDRESS, up to 16 times --proxy ADDRESS, up to 64 times --origin ORIGIN, scheme://host
 or scheme://host:port, --per-address NUMBER, 1 to 65536, --handshakes NUMBER, 1 to 1000, --memory
 MB, 32 to 16777216, --topic-rows NUMBER, 1 to 1048576, --topic-bytes NUMBER, 1024 to 1073741824,
---log refused, all or none, and --log-format text or json";
+--log refused, all or none, --log-format text or json, --phoenix, --fractions, --match-joins, and up
+to 64 times each --event NAME, --answered NAME and --to-others NAME, of 1 to 64 bytes";

@@ -6,12 +6,12 @@ ghost use Rattle.presence_base.specs.declared.names.TheConstants.{MAX_SHARDS};
 ghost use Rattle.presence_options.specs.declared.options.TheConstants.{MAX_LINK_FROM, MAX_LINK_VERSION, MAX_ORIGINS, MAX_PROXIES, MAX_WORKERS};
 
 use hook_registry::Routes;
-use presence_base::NodeName;
+use presence_base::{NodeName, Text};
 use std::net::IpAddr;
 
 /// What `stdio` runs as: the node's name, its incarnation, from 1 to `MAX_COUNT`, and the routes of
 /// its topics, of which each has its position, from 0, as its kind. `notices` asks for a notice of
-/// each row that joins or leaves, and `explain` for refusals in words too.
+/// each row that joins or leaves, and `explain` for refusals in words too. `fractions` allows any number in messages.
 #[derive(Debug, Drop)]
 pub struct StdioOptions {
     pub name: NodeName,
@@ -19,13 +19,15 @@ pub struct StdioOptions {
     pub routes: Routes,
     pub notices: bool,
     pub explain: bool,
+    pub fractions: bool,
     ghost is_count: { IsCount incarnation },
 }
 
-/// What `fold` runs as: `explain` asks for refusals in words too.
+/// What `fold` runs as: `explain` asks for refusals in words too, and `fractions` allows any number in frames.
 #[derive(Clone, Copy, PartialEq, Eq, Debug)]
 pub struct FoldOptions {
     pub explain: bool,
+    pub fractions: bool,
 }
 
 /// The highest version of links that a server speaks.
@@ -129,6 +131,24 @@ pub struct Reports {
     pub metrics_port: Option<u16>,
 }
 
+/// How many names of events an option is given at most.
+pub const MAX_EVENT_NAMES: usize = 64;
+
+/// How many bytes the name of an event has at most.
+pub const MAX_EVENT_BYTES: usize = 64;
+
+/// What clients may do beyond the usual: send any number in messages, have a message to a topic count only under the reference
+/// of the topic's present join, and send events of these names, `*` being that of all, to all who have joined, with an answer,
+/// and to all but themselves.
+#[derive(Debug, Drop)]
+pub struct ClientOptions {
+    pub fractions: bool,
+    pub match_joins: bool,
+    pub events: Vec<Text>,
+    pub answered: Vec<Text>,
+    pub to_others: Vec<Text>,
+}
+
 /// What `serve` runs as: the node and its routes as those of `stdio`, the ports of its clients and of
 /// links, from 1 on, of which that of links may be none, how many shards and workers there are, up to which version links
 /// are spoken, the nodes that are linked to, the addresses of both ports, and the origins whose pages may connect, or none
@@ -155,6 +175,7 @@ pub struct ServeOptions {
     pub link_from: Vec<IpAddr>,
     pub budgets: Budgets,
     pub reports: Reports,
+    pub clients: ClientOptions,
     ghost is_count: { ForSome incarnation IsCount },
     ghost few_origins: { vec_len origins ≤ MAX_ORIGINS },
     ghost few_proxies: { vec_len proxies ≤ MAX_PROXIES },

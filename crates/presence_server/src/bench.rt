@@ -318,7 +318,9 @@ impl<L: Lanes> Bench<L> {
     // Takes the connections that wait.
     fn take_in<R: Wait, H>(&mut self, rt: &R, server: &Server<'_, H, L>) {
         let served = self.worker.len();
-        let _later = self.worker.take_in(rt, server.alloc, self.now);
+        let _later = self
+            .worker
+            .take_in(rt, server.alloc, self.now, server.settings);
         server
             .counts
             .began(self.worker.len().saturating_sub(served));

@@ -3,6 +3,7 @@ ghost use Rattle.std.specs.Prelude.{◌≡◌};
 
 use crate::door::Door;
 use crate::place::Workplace;
+use client_settings::Settings;
 use hook_registry::{PresenceHooks, Routes};
 use link_threads::{LinkRuntime, LinkTask, Links, Wakes};
 use node_log::Log;
@@ -72,6 +73,8 @@ pub struct Server<'a, H, L: Lanes> {
     pub pool: Pool<NoGate, L>,
     pub routes: &'a Routes,
     pub hooks: &'a H,
+    /// What clients may do beyond the usual.
+    pub settings: &'a Settings,
     /// Pages of these origins may open a WebSocket, or those of any where none is named.
     pub origins: &'a [String],
     /// What these tell of their clients' addresses is believed.
@@ -100,6 +103,7 @@ impl<'a, H, L: Lanes> Drop for Server<'a, H, L> {
             pool,
             routes: _,
             hooks: _,
+            settings: _,
             origins: _,
             proxies: _,
             budgets,
@@ -171,6 +175,7 @@ impl<'a, H, L: Lanes> Server<'a, H, L> {
             pool,
             routes: _,
             hooks: _,
+            settings: _,
             origins: _,
             proxies: _,
             budgets,

@@ -1,5 +1,5 @@
 -- The steps of a turn, put together.
-use Rattle.std.proofs.Common.{◌≡◌, ℕ, List, Bool, true, false, ◌||◌, is_some, Option, Result, Ok, Err, IfOk, refl, sym, ap, ◌∙◌, subst}
+use Rattle.std.proofs.Common.{◌≡◌, ℕ, List, [], Bool, true, false, cond, ◌||◌, is_some, Option, Result, Ok, Err, IfOk, inl, inr, refl, sym, ap, ◌∙◌, subst}
 use Rattle.std.specs.Prelude.{String, Vec}
 use Rattle.std.specs.Global.{Global}
 use Rattle.tungstenite.specs.Socket.{Socket}
@@ -9,15 +9,17 @@ use Rattle.channel_session.specs.Delivery.{DeliveredBy, InForce}
 use Rattle.channel_session.specs.declared.frames.Delivery.{Delivery}
 use Rattle.channel_session.specs.Ran.{RanBy, texts_in}
 use Rattle.channel_session.specs.declared.fault.SessionFault.{SessionFault}
-use Rattle.channel_session.specs.declared.fault.SessionFault.TheVariants.{Failed}
+use Rattle.channel_session.specs.declared.fault.SessionFault.TheVariants.{Failed, OutOfMemory}
 use Rattle.channel_pieces.specs.Piecewise.{Piecewise}
 use Rattle.channel_pieces.specs.declared.telling.Telling.{Telling}
 use Rattle.serve_connections.specs.Hearing.{Hears, is_message}
-use Rattle.serve_connections.specs.Turning.{Around, AnswersText, BearsOut, BearsSilence, ClosesFor, Continues, Deals, EndsSession, GoOut, Responds, Serves, StopsServing, TakesDelivery, TakesTurn, dealt, dealt_texts, is_owed_ping, may_have_more, patience, progress_of, room_in}
+use Rattle.client_settings.specs.Meaning.{Meant, reads, answers, meaning}
+use Rattle.client_settings.specs.declared.settings.Settings.{Settings}
+use Rattle.serve_connections.specs.Turning.{Around, ActsOn, AnswersText, BearsOut, BearsSilence, ClosesFor, Continues, Deals, EndsSession, Responds, Serves, StopsServing, TakesDelivery, TakesTurn, Tells, dealt, dealt_texts, is_owed_ping, may_have_more, patience, progress_of, room_in, wanting}
 use Rattle.serve_connections.specs.Sparing.{Spares}
 use Rattle.serve_connections.specs.declared.connection.TheConstants.{MAX_DEALT}
 use Rattle.serve_connections.specs.declared.cause.Cause.{Cause}
-use Rattle.serve_connections.specs.declared.cause.Cause.TheVariants.{Stopping}
+use Rattle.serve_connections.specs.declared.cause.Cause.TheVariants.{Fault, Stopping}
 use Rattle.serve_connections.specs.declared.connection.Connection.{Connection}
 use Rattle.serve_connections.specs.declared.connection.Progress.{Progress}
 use Rattle.serve_connections.specs.declared.connection.Stage.{Stage}
@@ -95,24 +97,59 @@ turned {S} {K} old mid new kept held session told =
     ∙ (ap (λ (s : InForce). record old { socket = new.socket; session = s; telling = mid.telling }) (sym session)
     ∙ ap (λ (u : Telling). record old { socket = new.socket; session = new.session; telling = u }) (sym told)))
 
--- what was answered goes out
-pub answers : {S K P : Type 0} (w : Around S P) (routes : List (List ℕ × ℕ)) (text : List ℕ) (old mid new : Connection S K) (before after : P)
+-- ---- what a text means
+
+-- a session that is asked nothing for want of memory
+unasked : {S K P : Type 0} (w : Around S P) (routes : List (List ℕ × ℕ)) (text : List ℕ) (old : Connection S K) (before : P) (b : Bool) → old.session.failed ≡ b
+    → RanBy w.worded (Piecewise (w.step old.session.pid)) routes old.session (decoded the_limits.CLIENT text) (before, old.telling.untold) (before, old.telling.untold) old.session (Err (cond b Failed OutOfMemory))
+unasked w routes text old before true e = record { said = []; writes = tt; ended = (e, record { port = refl; session = refl }) }
+unasked w routes text old before false e = record { said = []; writes = tt; ended = (e, inl (record { port = refl; session = refl })) }
+
+pub wants_memory : {S K P : Type 0} (w : Around S P) (routes : List (List ℕ × ℕ)) (meant : Meant) (old : Connection S K) (before : P)
+    → ActsOn w routes meant old old before before (Err (wanting old.session))
+wants_memory w routes (reads text ok) old before = record { answer = Err (wanting old.session); ran = unasked w routes text old before old.session.failed refl; said = refl }
+wants_memory w routes (answers texts) old before = record { said = inr refl; session = refl; telling = refl; port = refl }
+
+-- what comes of a text has nothing to do with the socket
+acts_past : {S K P : Type 0} (w : Around S P) (routes : List (List ℕ × ℕ)) (meant : Meant) (old mid : Connection S K) (socket : Socket S) (before after : P)
+    (answer : Result (Vec (String Global) Global) SessionFault) → ActsOn w routes meant old mid before after answer → ActsOn w routes meant old (record mid { socket = socket }) before after answer
+acts_past w routes (reads text ok) old mid socket before after answer h = record { answer = h.answer; ran = h.ran; said = h.said }
+acts_past w routes (answers texts) old mid socket before after answer h = record { said = h.said; session = h.session; telling = h.telling; port = h.port }
+
+-- what its client gets of what was answered goes out
+pub answers_out : {S K P : Type 0} (w : Around S P) (routes : List (List ℕ × ℕ)) (text : List ℕ) (old mid new : Connection S K) (before after : P)
     (answer : Result (Vec (String Global) Global) SessionFault) (texts : Vec (String Global) Global) (result : Result (Unit {0}) Cause)
-    → RanBy w.worded (Piecewise (w.step old.session.pid)) routes old.session (decoded the_limits.CLIENT text) (before, old.telling.untold) (after, mid.telling.untold) mid.session answer
+    → ActsOn w routes (meaning old.settings old.session text) old mid before after answer
     → mid ≡ record old { session = mid.session; telling = mid.telling } → answer ≡ Ok texts
-    → GoOut w.contents mid.socket new.socket (Ok (texts_in texts)) result → new ≡ record mid { socket = new.socket } → AnswersText w routes text old new before after result
-answers {S} {K} {P} w routes text old mid new before after answer texts result ran held is sent kept =
+    → Tells w.contents mid.settings old.session.pid mid.socket new.socket (Ok (texts_in texts)) result → new ≡ record mid { socket = new.socket } → AnswersText w routes text old new before after result
+answers_out {S} {K} {P} w routes text old mid new before after answer texts result acts held is sent kept =
     let session : new.session ≡ mid.session = ap (λ (c : Connection S K). c.session) kept in
     let told : new.telling ≡ mid.telling = ap (λ (c : Connection S K). c.telling) kept in
     let socket : mid.socket ≡ old.socket = ap (λ (c : Connection S K). c.socket) held in
+    let settings : mid.settings ≡ old.settings = ap (λ (c : Connection S K). c.settings) held in
     record {
       answer = Ok texts;
-      ran =
-          subst (λ (r : Result (Vec (String Global) Global) SessionFault). RanBy w.worded (Piecewise (w.step old.session.pid)) routes old.session (decoded the_limits.CLIENT text) (before, old.telling.untold) (after, new.telling.untold) new.session r) is
-          (subst (λ (s : InForce). RanBy w.worded (Piecewise (w.step old.session.pid)) routes old.session (decoded the_limits.CLIENT text) (before, old.telling.untold) (after, new.telling.untold) s answer) (sym session)
-          (subst (λ (u : Telling). RanBy w.worded (Piecewise (w.step old.session.pid)) routes old.session (decoded the_limits.CLIENT text) (before, old.telling.untold) (after, u.untold) mid.session answer) (sym told) ran));
-      sent = subst (λ (s : Socket S). GoOut w.contents s new.socket (Ok (texts_in texts)) result) socket sent;
+      acts =
+          subst (λ (r : Result (Vec (String Global) Global) SessionFault). ActsOn w routes (meaning old.settings old.session text) old new before after r) is
+          (subst (λ (c : Connection S K). ActsOn w routes (meaning old.settings old.session text) old c before after answer) (sym kept)
+          (acts_past w routes (meaning old.settings old.session text) old mid new.socket before after answer acts));
+      sent =
+          subst (λ (g : Settings). Tells w.contents g old.session.pid old.socket new.socket (Ok (texts_in texts)) result) settings
+          (subst (λ (s : Socket S). Tells w.contents mid.settings old.session.pid s new.socket (Ok (texts_in texts)) result) socket sent);
       kept = turned old mid new kept held session told;
+    }
+
+-- or the connection ends, where the session has a fault
+pub answers_fault : {S K P : Type 0} (w : Around S P) (routes : List (List ℕ × ℕ)) (text : List ℕ) (old new : Connection S K) (before after : P)
+    (answer : Result (Vec (String Global) Global) SessionFault) (fault : SessionFault) → ActsOn w routes (meaning old.settings old.session text) old new before after answer
+    → new ≡ record old { session = new.session; telling = new.telling } → answer ≡ Err fault → AnswersText w routes text old new before after (Err (Fault fault))
+answers_fault {S} {K} {P} w routes text old new before after answer fault acts held is =
+    let socket : new.socket ≡ old.socket = ap (λ (c : Connection S K). c.socket) held in
+    record {
+      answer = Err fault;
+      acts = subst (λ (r : Result (Vec (String Global) Global) SessionFault). ActsOn w routes (meaning old.settings old.session text) old new before after r) is acts;
+      sent = inl (refl, socket);
+      kept = held ∙ ap (λ (s : Socket S). record old { socket = s; session = new.session; telling = new.telling }) (sym socket);
     }
 
 -- what was delivered within the room that there was goes out
@@ -121,12 +158,13 @@ pub deals : {S K P : Type 0} (w : Around S P) (old mid new : Connection S K) (be
     → (old.session.failed ≡ true → (delivery ≡ Err Failed) × (mid.session ≡ old.session) × (after ≡ before) × (mid.telling ≡ old.telling))
     → (old.session.failed ≡ false → DeliveredBy w.worded w.noted (Spares (Piecewise (w.step old.session.pid))) MAX_DEALT old.session ((before, old.telling.untold), given) ((after, mid.telling.untold), room) mid.session delivery)
     → mid ≡ record old { session = mid.session; telling = mid.telling }
-    → GoOut w.contents mid.socket new.socket (dealt_texts delivery) (dealt result) → IfOk result (λ told. told ≡ may_have_more delivery room (telling || is_some mid.telling.untold))
+    → Tells w.contents mid.settings old.session.pid mid.socket new.socket (dealt_texts delivery) (dealt result) → IfOk result (λ told. told ≡ may_have_more delivery room (telling || is_some mid.telling.untold))
     → new ≡ record mid { socket = new.socket } → Deals w old new before after result
 deals {S} {K} {P} w old mid new before after delivery given room telling result is was failed came held sent more kept =
     let session : new.session ≡ mid.session = ap (λ (c : Connection S K). c.session) kept in
     let told : new.telling ≡ mid.telling = ap (λ (c : Connection S K). c.telling) kept in
     let socket : mid.socket ≡ old.socket = ap (λ (c : Connection S K). c.socket) held in
+    let settings : mid.settings ≡ old.settings = ap (λ (c : Connection S K). c.settings) held in
     record {
       delivery = delivery;
       room = room;
@@ -135,7 +173,9 @@ deals {S} {K} {P} w old mid new before after delivery given room telling result 
           subst (λ (s : InForce). DeliveredBy w.worded w.noted (Spares (Piecewise (w.step old.session.pid))) MAX_DEALT old.session ((before, old.telling.untold), room_in old.socket) ((after, new.telling.untold), room) s delivery) (sym session)
           (subst (λ (u : Telling). DeliveredBy w.worded w.noted (Spares (Piecewise (w.step old.session.pid))) MAX_DEALT old.session ((before, old.telling.untold), room_in old.socket) ((after, u.untold), room) mid.session delivery) (sym told)
           (subst (λ (n : ℕ). DeliveredBy w.worded w.noted (Spares (Piecewise (w.step old.session.pid))) MAX_DEALT old.session ((before, old.telling.untold), n) ((after, mid.telling.untold), room) mid.session delivery) is (came so)));
-      sent = subst (λ (s : Socket S). GoOut w.contents s new.socket (dealt_texts delivery) (dealt result)) socket sent;
+      sent =
+          subst (λ (g : Settings). Tells w.contents g old.session.pid old.socket new.socket (dealt_texts delivery) (dealt result)) settings
+          (subst (λ (s : Socket S). Tells w.contents mid.settings old.session.pid s new.socket (dealt_texts delivery) (dealt result)) socket sent);
       more =
           subst (λ (t : Bool). IfOk result (λ b. b ≡ may_have_more delivery room (t || is_some new.telling.untold))) was
           (subst (λ (u : Telling). IfOk result (λ b. b ≡ may_have_more delivery room (telling || is_some u.untold))) (sym told) more);

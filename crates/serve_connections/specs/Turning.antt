@@ -1,12 +1,13 @@
 -- One turn of a connection: what was read, what its session said to that, and what went out.
-use Rattle.std.specs.Prelude.{◌≡◌, ◌⊎◌, ◌+◌, ◌^◌, ℕ, min, Bool, true, false, ◌||◌, ◌&&◌, not, ◌-◌, ◌==◌, if◌then◌else◌, leb, List, length, [], vec_len, IfOk, IfErr, is_ok, is_some, Option, Some, None, Result, Ok, Err, String, Vec}
+use Rattle.std.specs.Prelude.{◌≡◌, ◌⊎◌, ◌+◌, ◌^◌, ℕ, min, Bool, true, false, ◌||◌, ◌&&◌, not, ◌-◌, ◌==◌, if◌then◌else◌, leb, List, length, [], ◌∷◌, vec_len, IfOk, IfErr, is_ok, is_some, Option, Some, None, Result, Ok, Err, String, Vec}
 use Rattle.std.specs.Global.{Global}
 use Rattle.channel_session.specs.Delivery.{DeliveredBy}
+use Rattle.channel_rules.specs.InForce.{InForce}
 use Rattle.channel_session.specs.declared.frames.Delivery.{Delivery}
 use Rattle.channel_session.specs.Ending.{EndedBy}
 use Rattle.channel_session.specs.Ran.{RanBy, texts_in}
 use Rattle.channel_session.specs.declared.fault.SessionFault.{SessionFault}
-use Rattle.channel_session.specs.declared.fault.SessionFault.TheVariants.{Failed}
+use Rattle.channel_session.specs.declared.fault.SessionFault.TheVariants.{Failed, OutOfMemory as OutOfMemoryFault}
 use Rattle.channel_rules.specs.Asks.{Ask, Answer}
 use Rattle.channel_rules.specs.Said.{Said, Worded, Noted}
 use Rattle.channel_pieces.specs.Piecewise.{Piecewise}
@@ -14,6 +15,9 @@ use Rattle.hook_registry.specs.declared.hooks.PresenceHooks.{Ghosts}
 use Rattle.phx_message.specs.Reading.{decoded}
 use Rattle.phx_message.specs.declared.message.Message.{Message}
 use Rattle.phx_message.specs.declared.message.TheConstants.Limits as the_limits
+use Rattle.client_settings.specs.Meaning.{IsPlain, Meant, reads, answers, meaning}
+use Rattle.client_settings.specs.Telling.{told_by}
+use Rattle.client_settings.specs.declared.settings.Settings.{Settings}
 use Rattle.serve_sockets.specs.Passing.{is_passing}
 use Rattle.serve_sockets.specs.Sending.{SentAll, Stops}
 use Rattle.tungstenite.specs.Failure.{IsIo, WriteFails}
@@ -69,6 +73,15 @@ abbrev pub dealt_texts : Result Delivery SessionFault → Result (List (List ℕ
 dealt_texts (Ok delivery) = Ok (texts_in delivery.texts)
 dealt_texts (Err fault) = Err fault
 
+-- as what a session ends that is asked nothing for want of memory
+abbrev pub wanting : InForce → SessionFault
+wanting s = if s.failed then Failed else OutOfMemoryFault
+
+-- what a client of this number gets of them
+abbrev pub told_texts : Settings → ℕ → Result (List (List ℕ)) SessionFault → Result (List (List ℕ)) SessionFault
+told_texts given pid (Ok texts) = Ok (told_by given pid texts)
+told_texts given pid (Err fault) = Err fault
+
 module _ {S : Type 0} (contents : S → Option (List ℕ)) where
   -- The frames of the texts go out, in their order, and nothing else; or the connection ends since one could not be written, or since the session has a fault.
   abbrev pub GoOut : Socket S → Socket S → Result (List (List ℕ)) SessionFault → Result (Unit {0}) Cause → Type 0
@@ -77,6 +90,17 @@ module _ {S : Type 0} (contents : S → Option (List ℕ)) where
       (e : Error) × (cause ≡ cause_of e) × (is_passing e ≡ false) × Stops contents old new texts e
   GoOut old new (Err fault) (Ok u) = ⊥
   GoOut old new (Err fault) (Err cause) = (cause ≡ Fault fault) × (new ≡ old)
+
+  -- Memory is wanted for what a client gets, as it never is by default: nothing goes out.
+  pub record WantsToTell (given : Settings) (old new : Socket S) (result : Result (Unit {0}) Cause) : Type 0 where
+    pub other : IsPlain given → ⊥
+    pub cause : result ≡ Err (cause_of OutOfMemory)
+    pub kept : new ≡ old
+
+  -- what its client gets of these texts goes out
+  abbrev pub Tells : Settings → ℕ → Socket S → Socket S → Result (List (List ℕ)) SessionFault → Result (Unit {0}) Cause
+      → Type 0
+  Tells given pid old new texts result = GoOut old new (told_texts given pid texts) result ⊎ WantsToTell given old new result
 
   -- a frame that could not be written, but for the stream
   pub record LosesFrame (old new : Socket S) (step : Result Effect FrameError) : Type 0 where
@@ -172,13 +196,40 @@ dealt (Err cause) = Err cause
 module _ {S K P : Type 0} (w : Around S P) where
   -- ---- one message
 
-  -- The session answers a text, and its texts go out.
-  pub record AnswersText (routes : List (List ℕ × ℕ)) (text : List ℕ) (old new : Connection S K) (before after : P)
-      (result : Result (Unit {0}) Cause) : Type 0 where
+  -- this is said where the session says nothing
+  abbrev pub said_for : Result (List (List ℕ)) SessionFault → List (List ℕ) → Result (List (List ℕ)) SessionFault
+  said_for (Ok []) ok = Ok ok
+  said_for (Ok (t ∷ ts)) ok = Ok (t ∷ ts)
+  said_for (Err fault) ok = Err fault
+
+  -- The session answers this text.
+  pub record Runs (routes : List (List ℕ × ℕ)) (text : List ℕ) (ok : List (List ℕ)) (old new : Connection S K)
+      (before after : P) (result : Result (Vec (String Global) Global) SessionFault) : Type 0 where
     pub answer : Result (Vec (String Global) Global) SessionFault
     pub ran : RanBy w.worded (Piecewise (w.step old.session.pid)) routes old.session (decoded the_limits.CLIENT text)
         (before, old.telling.untold) (after, new.telling.untold) new.session answer
-    pub sent : GoOut w.contents old.socket new.socket (ran_texts answer) result
+    pub said : ran_texts result ≡ said_for (ran_texts answer) ok
+
+  -- It is asked nothing, and these texts are said, unless memory is wanted.
+  pub record Speaks (texts : List (List ℕ)) (old new : Connection S K) (before after : P)
+      (result : Result (Vec (String Global) Global) SessionFault) : Type 0 where
+    pub said : (ran_texts result ≡ Ok texts) ⊎ (result ≡ Err (wanting old.session))
+    pub session : new.session ≡ old.session
+    pub telling : new.telling ≡ old.telling
+    pub port : after ≡ before
+
+  -- What comes of a text, by what it means.
+  abbrev pub ActsOn : List (List ℕ × ℕ) → Meant → Connection S K → Connection S K → P → P
+      → Result (Vec (String Global) Global) SessionFault → Type 0
+  ActsOn routes (reads text ok) old new before after result = Runs routes text ok old new before after result
+  ActsOn routes (answers texts) old new before after result = Speaks texts old new before after result
+
+  -- A text is answered, and its client gets what it is told.
+  pub record AnswersText (routes : List (List ℕ × ℕ)) (text : List ℕ) (old new : Connection S K) (before after : P)
+      (result : Result (Unit {0}) Cause) : Type 0 where
+    pub answer : Result (Vec (String Global) Global) SessionFault
+    pub acts : ActsOn routes (meaning old.settings old.session text) old new before after answer
+    pub sent : Tells w.contents old.settings old.session.pid old.socket new.socket (ran_texts answer) result
     pub kept : new ≡ record old { socket = new.socket; session = new.session; telling = new.telling }
 
   -- nothing was done, and this comes of it
@@ -215,7 +266,7 @@ module _ {S K P : Type 0} (w : Around S P) where
     pub delivered : old.session.failed ≡ false
         → DeliveredBy w.worded w.noted (Spares (Piecewise (w.step old.session.pid))) MAX_DEALT old.session
         ((before, old.telling.untold), room_in old.socket) ((after, new.telling.untold), room) new.session delivery
-    pub sent : GoOut w.contents old.socket new.socket (dealt_texts delivery) (dealt result)
+    pub sent : Tells w.contents old.settings old.session.pid old.socket new.socket (dealt_texts delivery) (dealt result)
     pub more : IfOk result
         (λ told. told ≡ may_have_more delivery room (is_some old.telling.untold || is_some new.telling.untold))
     pub kept : new ≡ record old { socket = new.socket; session = new.session; telling = new.telling }

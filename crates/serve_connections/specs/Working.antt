@@ -5,6 +5,7 @@ use Rattle.std.specs.List.{AllByRecursion}
 use mathlib.Core.HLevel.{×_prop}
 use denote.Struct.Props as logic
 use Rattle.tungstenite.specs.Socket.{Socket}
+use Rattle.client_settings.specs.declared.settings.Settings.{Settings}
 use Rattle.serve_connections.specs.Turning.{Around, Turns, Delivers as DeliversAt, Flushes, StopsServing}
 use Rattle.serve_connections.specs.declared.connection.Progress.{Progress}
 use Rattle.serve_connections.specs.declared.connection.Progress.TheVariants as progress
@@ -170,8 +171,8 @@ module _ {S : Type 0} (contents : S → Option (List ℕ)) where
 -- ---- new connections
 
 -- a connection that was just taken: its session has joined nothing, and its number is its pid
-abbrev pub newcomer : {S : Type 0} → ℕ → ℕ → Socket S → ℕ → Client S
-newcomer number token socket now =
+abbrev pub newcomer : {S : Type 0} → Settings → ℕ → ℕ → Socket S → ℕ → Client S
+newcomer settings number token socket now =
     record {
       number = number;
       token = token;
@@ -181,6 +182,7 @@ newcomer number token socket now =
         socket = socket;
         session = record { pid = number; failed = false; joined = []; cut_short = None };
         telling = record { untold = None };
+        settings = settings;
         heard = now;
         pinged = false;
         messages = 0;
@@ -188,11 +190,11 @@ newcomer number token socket now =
       };
     }
 
-pub record IsNew {S : Type 0} (now : ℕ) (c : Client S) : Type 0 where
+pub record IsNew {S : Type 0} (settings : Settings) (now : ℕ) (c : Client S) : Type 0 where
   pub number : ℕ
   pub token : ℕ
   pub socket : Socket S
-  pub new : c ≡ newcomer number token socket now
+  pub new : c ≡ newcomer settings number token socket now
 
 -- Why no more are taken: the worker serves as many as it may, or none waited when it looked, of which a look alone makes the token.
 abbrev pub EndsAt : {S : Type 0} → List (Client S) → NoMore → Type 0
@@ -200,15 +202,15 @@ EndsAt cs Full = length cs ≡ MAX_CONNECTIONS
 EndsAt cs (NoneWaits looked) = Unit {0}
 
 -- One was taken and stands behind the others, or none was.
-abbrev pub TakesOne : {S : Type 0} → ℕ → List (Client S) → List (Client S) → Result (Option NoMore) AllocError → Type 0
-TakesOne {S} now old new (Ok None) = (c : Client S) × IsNew now c × (new ≡ old ++ c ∷ [])
-TakesOne now old new (Ok (Some why)) = (new ≡ old) × EndsAt new why
-TakesOne now old new (Err e) = new ≡ old
+abbrev pub TakesOne : {S : Type 0} → Settings → ℕ → List (Client S) → List (Client S) → Result (Option NoMore) AllocError → Type 0
+TakesOne {S} settings now old new (Ok None) = (c : Client S) × IsNew settings now c × (new ≡ old ++ c ∷ [])
+TakesOne settings now old new (Ok (Some why)) = (new ≡ old) × EndsAt new why
+TakesOne settings now old new (Err e) = new ≡ old
 
 -- Those that were taken stand behind the others, each as new.
-pub record TakesIn {S : Type 0} (now : ℕ) (old new : List (Client S)) : Type 0 where
+pub record TakesIn {S : Type 0} (settings : Settings) (now : ℕ) (old new : List (Client S)) : Type 0 where
   pub taken : List (Client S)
-  pub new_ones : AllByRecursion (IsNew now) taken
+  pub new_ones : AllByRecursion (IsNew settings now) taken
   pub behind : new ≡ old ++ taken
 
 -- As many connections stand more at the worker as have left the queue at its end: none that was taken is lost.

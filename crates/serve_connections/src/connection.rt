@@ -1,9 +1,11 @@
 //! A connection, and its turn.
-ghost use Rattle.std.specs.Prelude.{is_ok, is_some, Some, ◌||◌, ◌≡◌, ◌+◌, ◌≤◌, ◌^◌, [], leb, false, true, map, string_bytes, None, IfOk};
+ghost use Rattle.std.specs.Prelude.{is_ok, is_some, Some, ◌||◌, ◌≡◌, ◌+◌, ◌≤◌, ◌^◌, [], leb, false, true, map, string_bytes, None, IfOk, Ok};
 ghost use Rattle.phx_message.specs.Reading.{decoded};
+ghost use Rattle.number_texts.specs.Marks.{become};
+ghost use Rattle.client_settings.specs.Meaning.{meaning};
 ghost use Rattle.tungstenite.specs.Socket.{Flushed};
 ghost use Rattle.serve_connections.specs.Hearing.{is_message};
-ghost use Rattle.serve_connections.specs.Turning.{around, AnswersText, AsksIf, BearsSilence, ClosesFor, Continues, Deals, Delivers, behind_flush, broken_off, EndsSession, GoOut, Responds, Serves, Flushes, Pings, StopsServing, TakesDelivery, TakesTurn, Turns, dealt, dealt_texts, is_owed_ping, may_have_more, patience, progress_of as progress_in};
+ghost use Rattle.serve_connections.specs.Turning.{around, ActsOn, AnswersText, AsksIf, BearsSilence, ClosesFor, Continues, Deals, Delivers, behind_flush, broken_off, EndsSession, Responds, Runs, Serves, Flushes, Pings, StopsServing, TakesDelivery, TakesTurn, Tells, Turns, dealt, dealt_texts, is_owed_ping, may_have_more, patience, progress_of as progress_in, ran_texts, said_for as said_in_place, wanting};
 ghost use Rattle.channel_session.specs.Delivery.{DeliveredBy};
 ghost use Rattle.channel_session.specs.Ran.{RanBy};
 ghost use Rattle.channel_rules.specs.Said.{Worded, Noted};
@@ -18,6 +20,7 @@ use crate::sparing::MAX_UNSENT;
 use channel_pieces::{PiecewisePort, Telling};
 use channel_rules::Port;
 use channel_session::{Channels, Delivery, Session, SessionFault, end};
+use client_settings::{Meaning, Reading, Settings};
 use hook_registry::{PresenceHooks, Routes};
 use phx_message::Limits;
 use serve_sockets::{MAX_WAITING, WebSocket, is_passing, queue_all};
@@ -71,6 +74,8 @@ pub struct Connection<S, K> {
     pub session: Session,
     /// What its client is yet to be told of a long state.
     pub telling: Telling,
+    /// What its client may do beyond the usual.
+    pub settings: Settings,
     /// When the last message came, in milliseconds.
     pub heard: u64,
     /// Whether its client was sent a ping since then.
@@ -86,6 +91,7 @@ impl<S: Drop, K: Drop> Drop for Connection<S, K> {
             socket,
             session,
             telling,
+            settings,
             heard: _,
             pinged: _,
             messages: _,
@@ -94,6 +100,7 @@ impl<S: Drop, K: Drop> Drop for Connection<S, K> {
         drop(socket);
         drop(session);
         drop(telling);
+        drop(settings);
     }
 }
 
@@ -119,14 +126,35 @@ fn progress_of(came: bool) -> Progress
     if came { Progress::Busy } else { Progress::Idle }
 }
 
+// What is said: these texts where the session says nothing.
+fn said_for(
+    answer: Result<Vec<String>, SessionFault>,
+    ok: Vec<String>,
+) -> Result<Vec<String>, SessionFault>
+    ensures { ran_texts result ≡ said_in_place (ran_texts answer) (map string_bytes ok.items) }
+{
+    match answer {
+        Ok(texts) if texts.is_empty() => Ok(ok),
+        Ok(texts) => Ok(texts),
+        Err(fault) => Err(fault),
+    }
+}
+
 impl<S: Read + Write + Drop, K: MaskKeys + Drop> Connection<S, K> {
     /// A connection over a socket whose handshake is done, at this time.
-    pub fn new(alloc: Global, socket: WebSocket<S, K>, pid: u64, now: u64) -> Connection<S, K>
+    pub fn new(
+        alloc: Global,
+        socket: WebSocket<S, K>,
+        pid: u64,
+        now: u64,
+        settings: Settings,
+    ) -> Connection<S, K>
         requires { pid ≤ 2 ^ 62 }
         ensures { result ≡ record {
           socket = socket;
           session = record { pid = pid; failed = false; joined = []; cut_short = None };
           telling = record { untold = None };
+          settings = settings;
           heard = now;
           pinged = false;
           messages = 0;
@@ -137,6 +165,7 @@ impl<S: Read + Write + Drop, K: MaskKeys + Drop> Connection<S, K> {
             socket,
             session: Session::new(alloc, pid),
             telling: Telling::new(),
+            settings,
             heard: now,
             pinged: false,
             messages: 0,
@@ -144,19 +173,22 @@ impl<S: Read + Write + Drop, K: MaskKeys + Drop> Connection<S, K> {
         }
     }
 
-    // Puts the texts that the session gave in what waits to be sent.
-    fn send(&mut self, texts: Vec<String>) -> Result<(), Cause>
-        ensures sent { GoOut S.contents self.old.socket self.new.socket (Ok (map string_bytes texts.items)) result }
+    // Puts what a client of this number gets of its session's texts in what waits to be sent.
+    fn send(&mut self, alloc: Global, pid: u64, texts: Vec<String>) -> Result<(), Cause>
+        ensures sent { Tells S.contents self.old.settings pid self.old.socket self.new.socket (Ok (map string_bytes texts.items)) result }
         ensures kept { self.new ≡ record self.old { socket = self.new.socket } }
     {
+        let Ok(texts) = self.settings.tell(alloc, pid, texts) else {
+            return Err(cause_of(&Error::OutOfMemory));
+        };
         match queue_all(&mut self.socket, texts) {
             Ok(()) => Ok(()),
             Err(error) => Err(cause_of(&error)),
         }
     }
 
-    // What the session answers to a text.
-    fn run<P: Port, H: PresenceHooks>(
+    // What the session answers to a text that it reads.
+    fn run_read<P: Port, H: PresenceHooks>(
         &mut self,
         alloc: Global,
         port: &mut P,
@@ -172,6 +204,57 @@ impl<S: Read + Write + Drop, K: MaskKeys + Drop> Connection<S, K> {
         run_over(alloc, &mut self.session, &mut pieces, channels, text)
     }
 
+    // Why a session is asked nothing, where memory is wanting.
+    fn no_memory(&self) -> SessionFault
+        ensures { result ≡ wanting self.now.session }
+    {
+        if self.session.failed() {
+            SessionFault::Failed
+        } else {
+            SessionFault::OutOfMemory
+        }
+    }
+
+    // What is said to a text of which the session reads this.
+    fn run_as<P: Port, H: PresenceHooks>(
+        &mut self,
+        alloc: Global,
+        port: &mut P,
+        channels: Channels<'_, H>,
+        text: &str,
+        reading: Reading,
+    ) -> Result<Vec<String>, SessionFault>
+        ensures ran { Runs (around S.remaining S.contents P.step H.PresenceHooks channels.entry.hooks.now) channels.entry.routes.now
+            (become text.now reading.text) (map string_bytes reading.ok.items) self.old self.new port.old port.new result }
+        ensures kept { self.new ≡ record self.old { session = self.new.session; telling = self.new.telling } }
+    {
+        let Reading { text: other, ok } = reading;
+        let answer = match &other {
+            Some(other) => self.run_read(alloc, port, channels, other.as_str()),
+            None => self.run_read(alloc, port, channels, text),
+        };
+        said_for(answer, ok)
+    }
+
+    // What is said to a text.
+    fn run<P: Port, H: PresenceHooks>(
+        &mut self,
+        alloc: Global,
+        port: &mut P,
+        channels: Channels<'_, H>,
+        text: &str,
+    ) -> Result<Vec<String>, SessionFault>
+        ensures ran { ActsOn (around S.remaining S.contents P.step H.PresenceHooks channels.entry.hooks.now) channels.entry.routes.now
+            (meaning self.old.settings self.old.session text.now) self.old self.new port.old port.new result }
+        ensures kept { self.new ≡ record self.old { session = self.new.session; telling = self.new.telling } }
+    {
+        match self.settings.meaning(alloc, &self.session, text) {
+            Ok(Meaning::Reads(reading)) => self.run_as(alloc, port, channels, text, reading),
+            Ok(Meaning::Answers(texts)) => Ok(texts),
+            Err(_) => Err(self.no_memory()),
+        }
+    }
+
     // Answers a text.
     fn answer<P: Port, H: PresenceHooks>(
         &mut self,
@@ -185,8 +268,9 @@ impl<S: Read + Write + Drop, K: MaskKeys + Drop> Connection<S, K> {
             routes.now text.now self.old self.new port.old port.new result }
     {
         let channels = Channels { routes, hooks };
+        let pid = self.session.pid();
         match self.run(alloc, port, channels, text) {
-            Ok(texts) => self.send(texts),
+            Ok(texts) => self.send(alloc, pid, texts),
             Err(fault) => Err(Cause::Fault(fault)),
         }
     }
@@ -274,11 +358,13 @@ impl<S: Read + Write + Drop, K: MaskKeys + Drop> Connection<S, K> {
     // may wait, as where a state is being told, or was before, so that nothing else was taken.
     fn send_dealt(
         &mut self,
+        alloc: Global,
+        pid: u64,
         delivery: Result<Delivery, SessionFault>,
         left: usize,
         telling: bool,
     ) -> Result<bool, Cause>
-        ensures sent { GoOut S.contents self.old.socket self.new.socket (dealt_texts delivery) (dealt result) }
+        ensures sent { Tells S.contents self.old.settings pid self.old.socket self.new.socket (dealt_texts delivery) (dealt result) }
         ensures more { IfOk result (λ told. told ≡ may_have_more delivery left (telling || is_some self.old.telling.untold)) }
         ensures kept { self.new ≡ record self.old { socket = self.new.socket } }
     {
@@ -287,7 +373,7 @@ impl<S: Read + Write + Drop, K: MaskKeys + Drop> Connection<S, K> {
                 drop(notices);
                 let untold = telling || self.telling.is_under_way();
                 let more = texts.len() >= MAX_DEALT as usize || left == 0 || untold;
-                match self.send(texts) {
+                match self.send(alloc, pid, texts) {
                     Ok(()) => Ok(more),
                     Err(cause) => Err(cause),
                 }
@@ -327,10 +413,11 @@ impl<S: Read + Write + Drop, K: MaskKeys + Drop> Connection<S, K> {
         ensures { Deals (around S.remaining S.contents P.step H.PresenceHooks hooks.now)
             self.old self.new port.old port.new result }
     {
+        let pid = self.session.pid();
         let room = MAX_UNSENT.saturating_sub(self.socket.waiting());
         let telling = self.telling.is_under_way();
         let (delivery, left) = self.take(alloc, port, hooks, room);
-        self.send_dealt(delivery, left, telling)
+        self.send_dealt(alloc, pid, delivery, left, telling)
     }
 
     // Goes on behind a message with a delivery.

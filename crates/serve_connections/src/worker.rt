@@ -12,6 +12,7 @@ use crate::client::Client;
 use crate::connection::Connection;
 use crate::resting::Resting;
 use channel_rules::Port;
+use client_settings::Settings;
 use hook_registry::{PresenceHooks, Routes};
 use node_threads::{NoneWaits, Numbered, Taker};
 use serve_sockets::WebSocket;
@@ -415,14 +416,16 @@ impl<S: Read + Write + Drop> Worker<S> {
         rt: &R,
         alloc: Global,
         now: u64,
+        settings: &Settings,
     ) -> Result<Option<NoMore>, AllocError>
-        ensures takes { TakesOne now (served_by self.old) (served_by self.new) result }
+        ensures takes { TakesOne settings.now now (served_by self.old) (served_by self.new) result }
         ensures none_lost { NoneLost (view self.old.taker.pass).pops (view self.new.taker.pass).pops
             (served_by self.old) (served_by self.new) }
     {
         if self.order.len() >= MAX_CONNECTIONS {
             return Ok(Some(NoMore::Full));
         }
+        let settings = settings.share()?;
         self.order.reserve(1)?;
         self.clients.reserve(1)?;
         let Numbered { number, stream } = match self.taker.take(rt) {
@@ -437,7 +440,7 @@ impl<S: Read + Write + Drop> Worker<S> {
             token,
             ready: true,
             unsent: false,
-            connection: Connection::new(alloc, stream, number, now),
+            connection: Connection::new(alloc, stream, number, now, settings),
         });
         self.order.push_reserved(key);
         Ok(None)
@@ -449,14 +452,15 @@ impl<S: Read + Write + Drop> Worker<S> {
         rt: &R,
         alloc: Global,
         now: u64,
+        settings: &Settings,
     ) -> Result<NoMore, AllocError>
-        ensures takes { TakesIn now (served_by self.old) (served_by self.new) }
+        ensures takes { TakesIn settings.now now (served_by self.old) (served_by self.new) }
         ensures none_lost { NoneLost (view self.old.taker.pass).pops (view self.new.taker.pass).pops
             (served_by self.old) (served_by self.new) }
         ensures ends { IfOk result (EndsAt (served_by self.new)) }
     {
         for _ in 0..MAX_CONNECTIONS {
-            if let Some(no_more) = self.take_one(rt, alloc, now)? {
+            if let Some(no_more) = self.take_one(rt, alloc, now, settings)? {
                 return Ok(no_more);
             }
         }

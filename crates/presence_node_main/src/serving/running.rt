@@ -7,7 +7,7 @@ ghost use Rattle.presence_node_main.specs.Ends.{IsEndFor, IsLinkEnd, IsMetricsEn
 ghost use Rattle.shard_pool.specs.Blanks.{HaveParts};
 ghost use Rattle.presence_node_main.specs.Ledgers.{AreBegun, IsNameOfAll};
 
-use super::belongings::{budgets_of, format_of, log_of, memory_of, now_in_seconds};
+use super::belongings::{budgets_of, format_of, log_of, memory_of, now_in_seconds, settings_of};
 use super::fault::BeginFault;
 use super::pieces::{Entrance, Stations, limits_of, stations_for};
 use super::place::{bare, place_of};
@@ -287,6 +287,7 @@ where
 {
     let alloc = setting.alloc;
     let options = setting.options;
+    let settings = settings_of(alloc, &options.clients)?;
     let (entries, links) = listeners.into_parts();
     let entrance = Entrance {
         entries,
@@ -303,6 +304,7 @@ where
         pool,
         routes: &options.routes,
         hooks: setting.hooks,
+        settings: &settings,
         origins: options.origins.as_slice(),
         proxies: options.proxies.as_slice(),
         budgets: budgets_of(alloc, &options.budgets),

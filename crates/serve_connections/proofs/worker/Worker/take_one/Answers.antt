@@ -9,8 +9,8 @@ use Rattle.serve_connections.proofs.Takings.{lost_not, just}
 use Rattle.serve_connections.proofs.Places.{kept_length, same_kept, same_served, pushed_kept, pushed_served}
 use Rattle.serve_connections.proofs.worker.Worker.take_one.Goals as goal
 
-pub invariant_of-self-in-Break-branch-2 : goal.invariant_of-self-in-Break-branch-2
-invariant_of-self-in-Break-branch-2 g c =
+pub invariant_of-self-in-Break-branch-3 : goal.invariant_of-self-in-Break-branch-3
+invariant_of-self-in-Break-branch-3 g c =
     let keys : List ℕ = c.args.self.now.order.items in
     let slots = ap (λ s. s.slots) c.reserve-2.ensures.rest_kept in
     let same : served c.reserve-2.new.self keys ≡ served c.args.self.now.clients keys = same_served c.args.self.now.clients c.reserve-2.new.self keys slots in

@@ -1,0 +1,5 @@
+pub mod Plain
+pub mod Late
+pub mod Endings
+pub mod Through
+pub mod Told

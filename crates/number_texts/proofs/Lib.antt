@@ -1,0 +1,5 @@
+pub mod Back
+pub mod Changing
+pub mod Comings
+pub mod Numerals
+pub mod Parts

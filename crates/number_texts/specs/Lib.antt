@@ -1,0 +1,6 @@
+pub mod Pieces
+pub mod Numbers
+pub mod Marks
+pub mod Allowed
+pub mod Changes
+pub mod Laws
