@@ -1,0 +1,4 @@
+pub mod Certifying
+pub mod Cutting
+pub mod Distinct
+pub mod Json

@@ -1,0 +1,10 @@
+pub mod Answers
+pub mod Certified
+pub mod Claimed
+pub mod Granting
+pub mod Held
+pub mod Judged
+pub mod Judging
+pub mod Parts
+pub mod Unique
+pub mod Views
